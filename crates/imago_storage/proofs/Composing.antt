@@ -1,0 +1,217 @@
+-- Lemmas for the crates above: what calls do one behind the other, and a file as a function of its places.
+use Rattle.std.proofs.Common.{◌≡◌, ◌⊎◌, refl, inl, inr, ⊎_elim, ℕ, ◌+◌, ◌-◌, ◌≤◌, List, [], ◌∷◌, ◌++◌, length, get_or, arith, sym, ◌∙◌, ap, subst, append_assoc, length-append}
+use Rattle.std.specs.Prelude.{IsTrue, Result, Ok, Err, OnOk, IsErrOf, slice_index, if◌then◌else◌, ◌&&◌, nat_le, nat_lt}
+use Rattle.std.proofs.lemmas.Bool.{cases_lt}
+use Rattle.std.proofs.lemmas.Bool.Decides.{nat_tests}
+use Rattle.std.proofs.lemmas.List.{get_or_append_left, get_or-append_right, ext_get_or}
+use Rattle.std.proofs.lemmas.List.Elements.{All-nil, All-cons, All-append, All-weaker}
+use Rattle.std.proofs.Math.Path.{fun_ext}
+use Rattle.imago_storage.specs.State.{Shape, StorageState, Rose, InStep}
+use Rattle.imago_storage.specs.Calls.{Spliced, Mixed, Cause, CountsFaults, Kept, Later, RequestsOne, UnlessUnsupported}
+use Rattle.imago_storage.specs.Through.{Stops}
+use Rattle.imago_storage.specs.MemStorage.{mem_state}
+use Rattle.imago_storage.specs.declared.memory.MemStorage.{MemStorage}
+use Rattle.imago_storage.specs.declared.fault.Fault.{Fault}
+use Rattle.imago_storage.specs.declared.fault.Fault.TheVariants.{Unsupported, Memory, Storage}
+
+-- A shape that stays.
+
+-- it still tells its stops
+pub tells_on : (old new : StorageState) → new.shape ≡ old.shape → IsTrue old.shape.tells → IsTrue new.shape.tells
+tells_on old new shape tells = subst (λ (s : Shape). IsTrue s.tells) (sym shape) tells
+
+-- it still keeps what is written
+pub keeps_on : (old new : StorageState) → new.shape ≡ old.shape → IsTrue old.shape.keeps → IsTrue new.shape.keeps
+keeps_on old new shape keeps = subst (λ (s : Shape). IsTrue s.keeps) (sym shape) keeps
+
+-- a state with equal fields is the state
+pub kept_same : (old new : StorageState) → Kept old new → new.faults ≡ old.faults → new ≡ old
+kept_same old new kept faults = λ i. record {
+  shape = kept.shape i;
+  bytes = kept.bytes i;
+  faults = faults i;
+  refusals = kept.refusals i;
+  stop = kept.stop i;
+  past = kept.past i;
+}
+
+-- Stops.
+
+-- a call that makes no request has no stops
+pub no_stops : (P : List ℕ → Type 0) (old new : StorageState) → new.stop ≡ old.stop → new.past ≡ old.past → Stops P old new
+no_stops P old new stop past in_step tells keeps = record { files = []; told = cc; each = All-nil P }
+
+-- one request
+pub one_stop : (P : List ℕ → Type 0) (old new : StorageState) → (IsTrue old.shape.tells → new.past ≡ old.stop ∷ old.past) → (InStep old → IsTrue old.shape.tells → IsTrue old.shape.keeps → P new.stop) → Stops P old new
+one_stop P old new mark here in_step tells keeps = record {
+  files = new.stop ∷ [];
+  told = let m = mark tells in cc;
+  each = All-cons P new.stop [] (here in_step tells keeps) (All-nil P);
+}
+
+-- what is said of each stop may be weakened
+pub stops_weaker : (P Q : List ℕ → Type 0) (a b : StorageState) → (IsTrue a.shape.keeps → (f : List ℕ) → P f → Q f) → Stops P a b → Stops Q a b
+stops_weaker P Q a b weaker stops same tells keeps =
+    let told = stops same tells keeps in
+    record { files = told.files; told = told.told; each = All-weaker P Q (weaker keeps) told.files told.each }
+
+-- the stops of two calls, one behind the other
+pub stops_both : (P Q R : List ℕ → Type 0) (a b c : StorageState) → b.shape ≡ a.shape → (InStep a → InStep b)
+    → (IsTrue a.shape.keeps → (f : List ℕ) → P f → R f) → (IsTrue a.shape.keeps → (f : List ℕ) → Q f → R f) → Stops P a b → Stops Q b c → Stops R a c
+stops_both P Q R a b c shape in_step weaker weaker' first second same tells keeps =
+    let one = first same tells keeps in
+    let two = second (in_step same) (tells_on a b shape tells) (keeps_on a b shape keeps) in
+    record {
+      files = two.files ++ one.files;
+      told = two.told ∙ ap (λ (l : List (List ℕ)). two.files ++ l) one.told ∙ sym (append_assoc two.files one.files (a.stop ∷ a.past));
+      each = All-append R two.files one.files (All-weaker Q R (weaker' keeps) two.files two.each) (All-weaker P R (weaker keeps) one.files one.each);
+    }
+
+-- the stops of a call that makes one request where it succeeds, and none where it is refused
+pub request_stops : {T : Type 0} (P : List ℕ → Type 0) (old new : StorageState) (result : Result T Fault) → new.shape ≡ old.shape → RequestsOne old new result
+    → OnOk result (InStep old → InStep new) → OnOk result (IsTrue old.shape.keeps → P new.bytes) → Stops P old new
+request_stops P old new (Ok x) shape once in_step holds =
+    one_stop P old new once (λ same tells keeps. subst P (sym (in_step same (tells_on old new shape tells) (keeps_on old new shape keeps))) (holds keeps))
+request_stops P old new (Err fault) shape once in_step holds = no_stops P old new once.0 once.1
+
+-- Counts.
+
+-- a state that stays is a later one
+pub later_same : (s : StorageState) → Later s s
+later_same s = record { faults = omega arith; refusals = omega arith }
+
+-- later than a later one
+pub later_both : (a b c : StorageState) → Later a b → Later b c → Later a c
+later_both a b c first second = record { faults = omega (arith, first.faults, second.faults); refusals = omega (arith, first.refusals, second.refusals) }
+
+-- a count that rose has risen still after more calls
+pub rose_before : (a b c : ℕ) → Rose a b → b ≤ c → Rose a c
+rose_before a b c rose later = record { kept = omega (arith, rose.kept); rose = λ fits. omega (arith, rose.rose (omega arith)) }
+
+-- a count that rose in a later call rose
+pub rose_behind : (a b c : ℕ) → a ≤ b → Rose b c → Rose a c
+rose_behind a b c later rose = record {
+  kept = omega (arith, rose.kept);
+  rose = λ fits. omega (arith, rose.rose fits);
+}
+
+-- whatever the cause of a refusal, the count of faults has not fallen
+pub cause_later : (before after : ℕ) (fault : Fault) → Cause before after fault → before ≤ after
+cause_later before after Memory cause = omega (arith, cause)
+cause_later before after Storage cause = cause.kept
+cause_later before after _ cause = absurd cause
+
+-- the same, whatever the answer
+pub counts_later : {T : Type 0} (before after : ℕ) (result : Result T Fault) → CountsFaults before after result → before ≤ after
+counts_later before after (Ok x) counts = omega (arith, counts)
+counts_later before after (Err fault) counts = cause_later before after fault counts
+
+-- a storage whose count of faults stays at 0 doesn't answer `Storage`
+pub no_fault : {T : Type 0} (result : Result T Fault) → CountsFaults 0 0 result → IsErrOf result Storage → ⊥
+no_fault (Ok x) counts storage = absurd (cc storage)
+no_fault (Err fault) counts storage =
+    let is : fault ≡ Storage = cc storage in
+    let rose : Rose 0 0 = subst (Cause 0 0) is counts in
+    absurd (omega (arith, rose.rose (omega arith)))
+
+-- Refusals.
+
+-- a call that may be unsupported either left all as it was, or was refused otherwise
+pub unless_cases : (old new : StorageState) (P : Fault → Type 0) (fault : Fault) → UnlessUnsupported old new P fault → ((fault ≡ Unsupported) × (new ≡ old)) ⊎ P fault
+unless_cases old new P Unsupported h = inl (refl, h)
+unless_cases old new P _ h = inr h
+
+-- Splices.
+
+-- two splices of the same bytes, as long, are one
+pub spliced_same : (old : List ℕ) (at : ℕ) (bytes a b : List ℕ) → Spliced old at bytes a → Spliced old at bytes b → length a ≡ length b → a ≡ b
+spliced_same old at bytes a b first second long =
+    ext_get_or 0 a b long (λ k lt. elim (cases_lt k at) [
+      | inl below ↦ first.before k below ∙ sym (second.before k below)
+      | inr from ↦ elim (cases_lt k (at + length bytes)) [
+        | inl to ↦ first.inside k from to ∙ sym (second.inside k from to)
+        | inr past ↦ first.after k past ∙ sym (second.after k past)
+      ]
+    ])
+
+module _ (at : ℕ) (xs ys : List ℕ) where
+  long : length (xs ++ ys) ≡ length xs + length ys
+  long = length-append xs ys
+
+  pub spliced_both : (a b c : List ℕ) → Spliced a at xs b → Spliced b (at + length xs) ys c → Spliced a at (xs ++ ys) c
+  spliced_both a b c first second = record {
+    before = λ k lt. second.before k (omega arith) ∙ first.before k lt;
+    inside = λ k from to. elim (cases_lt k (at + length xs)) [
+      | inl lt ↦ second.before k lt ∙ first.inside k from lt ∙ sym (get_or_append_left xs ys 0 (k - at) (omega arith))
+      | inr ge ↦ second.inside k ge (omega (arith, long)) ∙ ap (λ (j : ℕ). get_or ys j 0) (omega arith) ∙ sym (get_or-append_right xs ys (length xs) (k - at) 0 refl (omega arith))
+    ];
+    after = λ k from. second.after k (omega (arith, long)) ∙ first.after k (omega (arith, long));
+  }
+
+  -- a range that was spliced in its first part, and mixed in its second
+  pub mixed_behind : (a b c : List ℕ) → Spliced a at xs b → Mixed b (at + length xs) ys c → Mixed a at (xs ++ ys) c
+  mixed_behind a b c first second = record {
+    before = λ k lt. second.before k (omega arith) ∙ first.before k lt;
+    inside = λ k from to. elim (cases_lt k (at + length xs)) [
+      | inl lt ↦ inr (second.before k lt ∙ first.inside k from lt ∙ sym (get_or_append_left xs ys 0 (k - at) (omega arith)))
+      | inr ge ↦
+          let there : get_or ys (k - (at + length xs)) 0 ≡ get_or (xs ++ ys) (k - at) 0 =
+          ap (λ (j : ℕ). get_or ys j 0) (omega arith) ∙ sym (get_or-append_right xs ys (length xs) (k - at) 0 refl (omega arith)) in
+          ⊎_elim (λ old. inl (old ∙ first.after k ge)) (λ new. inr (new ∙ there)) (second.inside k ge (omega (arith, long)))
+    ];
+    after = λ k from. second.after k (omega (arith, long)) ∙ first.after k (omega (arith, long));
+  }
+
+  -- the range may be longer than what was written
+  pub mixed_longer : (a b : List ℕ) → Mixed a at xs b → Mixed a at (xs ++ ys) b
+  mixed_longer a b first = record {
+    before = first.before;
+    inside = λ k from to. elim (cases_lt k (at + length xs)) [
+      | inl lt ↦ ⊎_elim (λ old. inl old) (λ new. inr (new ∙ sym (get_or_append_left xs ys 0 (k - at) (omega arith)))) (first.inside k from lt)
+      | inr ge ↦ inl (first.after k ge)
+    ];
+    after = λ k from. first.after k (omega (arith, long));
+  }
+
+-- new bytes in the whole range
+pub spliced-mixed : (a : List ℕ) (at : ℕ) (xs b : List ℕ) → Spliced a at xs b → Mixed a at xs b
+spliced-mixed a at xs b spliced = record {
+  before = spliced.before;
+  inside = λ k from to. inr (spliced.inside k from to);
+  after = spliced.after;
+}
+
+-- old bytes in the whole range
+pub same-mixed : (a : List ℕ) (at : ℕ) (xs b : List ℕ) → b ≡ a → Mixed a at xs b
+same-mixed a at xs b same = record {
+  before = λ k lt. ap (λ (l : List ℕ). get_or l k 0) same;
+  inside = λ k from to. inl (ap (λ (l : List ℕ). get_or l k 0) same);
+  after = λ k from. ap (λ (l : List ℕ). get_or l k 0) same;
+}
+
+-- a place of a file after a splice
+pub spliced_at : (old : List ℕ) (at : ℕ) (bytes new : List ℕ) → Spliced old at bytes new
+    → (p : ℕ) → slice_index new p ≡ (if nat_le at p && nat_lt p (at + length bytes) then slice_index bytes (p - at) else slice_index old p)
+spliced_at old at bytes new spliced p = elim (cases_lt p at) [
+  | inl below ↦ let same = spliced.before p below in grind (arith, nat_tests)
+  | inr from ↦ elim (cases_lt p (at + length bytes)) [
+    | inl to ↦ let same = spliced.inside p from to in grind (arith, nat_tests)
+    | inr past ↦ let same = spliced.after p past in grind (arith, nat_tests)
+  ]
+]
+
+-- a file after a splice, as a function of its places
+pub spliced_function : (old : List ℕ) (at : ℕ) (bytes new : List ℕ) → Spliced old at bytes new
+    → ◌≡◌ {A = ℕ → ℕ} (λ p. slice_index new p) (λ p. if nat_le at p && nat_lt p (at + length bytes) then slice_index bytes (p - at) else slice_index old p)
+spliced_function old at bytes new spliced = fun_ext (spliced_at old at bytes new spliced)
+
+-- files with equal bytes are one function
+pub bytes_function : (old new : List ℕ) → new ≡ old → ◌≡◌ {A = ℕ → ℕ} (λ p. slice_index new p) (λ p. slice_index old p)
+bytes_function old new same = λ i p. slice_index (same i) p
+
+-- A storage in memory.
+
+-- it never fails, so that by `no_fault` none of its calls answers `Storage`
+pub memory_faults : (m : MemStorage) → (mem_state m).faults ≡ 0
+unfolding mem_state
+memory_faults m = refl

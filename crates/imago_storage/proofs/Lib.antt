@@ -1,0 +1,9 @@
+pub mod Composing
+pub mod Rounding
+pub mod Calls
+pub mod Parts
+pub mod Range
+pub mod Zeroes
+pub mod Replay
+pub mod Marks
+pub mod Powers

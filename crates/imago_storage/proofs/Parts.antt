@@ -1,0 +1,201 @@
+-- Two parts of a padded call, the second behind the first.
+use Rattle.std.proofs.Common.{◌≡◌, ◌⊎◌, inl, inr, ⊎_elim, ℕ, ◌+◌, ◌<◌, ◌≤◌, max, List, ◌∷◌, ◌++◌, length, arith, sym, ◌∙◌, ap, subst, length-append}
+use Rattle.std.specs.Prelude.{Result, Ok, Err, OnOk, IfErr, IsErrAnd}
+use Rattle.std.proofs.lemmas.Result.{on_ok_weaker, IfErr-weaker, err_from_is_err_and}
+use Rattle.std.proofs.lemmas.List.Elements.{All-weaker}
+use Rattle.std.proofs.lemmas.Bool.{cases_eq}
+use Rattle.imago_storage.specs.State.{StorageState, Rose}
+use Rattle.imago_storage.specs.Calls.{Mixed, Cause, Kept, Later}
+use Rattle.imago_storage.specs.Through.{round_up, Stops, Through, NotThrough, OneRequest, NoRequest, UnlessOverflow, NotRead}
+use Rattle.imago_storage.specs.declared.fault.Fault.TheVariants.{RangeOverflow}
+use Rattle.imago_storage.specs.declared.fault.Fault.{Fault}
+use Rattle.imago_storage.proofs.Rounding.{round_up-le}
+use Rattle.imago_storage.proofs.Composing.{tells_on, keeps_on, no_stops, stops_both, later_same, cause_later, spliced_both, mixed_behind, mixed_longer}
+
+module _ (unit : ℕ) (positive : 0 < unit) (a b c : StorageState) (at : ℕ) (xs ys : List ℕ) where
+  both : length (xs ++ ys) ≡ length xs + length ys
+  both = length-append xs ys
+
+  size_both : Through unit a b at xs → Through unit b c (at + length xs) ys → 0 < length (xs ++ ys) → length c.bytes ≡ max (length a.bytes) (round_up unit (at + length (xs ++ ys)))
+  size_both first second some =
+      let long = both in
+      let up = round_up-le unit (at + length xs) (at + length xs + length ys) positive (omega arith) in
+      let end : at + length xs + length ys ≡ at + length (xs ++ ys) = omega arith in
+      let same = ap (λ (n : ℕ). round_up unit n) end in
+      elim (cases_eq (length ys) 0) [
+        | inl none ↦
+            let stays = ap (λ (s : StorageState). length s.bytes) (second.nothing none) in
+            let last : round_up unit (at + length xs) ≡ round_up unit (at + length (xs ++ ys)) = ap (λ (n : ℕ). round_up unit n) (omega arith) in
+            stays ∙ first.size (omega arith) ∙ ap (λ (n : ℕ). max (length a.bytes) n) last
+        | inr some_ys ↦ elim (cases_eq (length xs) 0) [
+          | inl none ↦
+              let stays = ap (λ (s : StorageState). length s.bytes) (first.nothing none) in
+              second.size (omega arith) ∙ omega (arith, stays, same)
+          | inr some_xs ↦ second.size (omega arith) ∙ omega (arith, first.size (omega arith), up, same)
+        ]
+      ]
+
+  pub through_both : Through unit a b at xs → Through unit b c (at + length xs) ys → Through unit a c at (xs ++ ys)
+  through_both first second =
+      let long = both in
+      record {
+        shape = second.shape ∙ first.shape;
+        faults = second.faults ∙ first.faults;
+        refusals = second.refusals ∙ first.refusals;
+        nothing = λ none. second.nothing (omega arith) ∙ first.nothing (omega arith);
+        content = λ keeps. spliced_both at xs ys a.bytes b.bytes c.bytes (first.content keeps) (second.content (keeps_on a b first.shape keeps));
+        size = size_both first second;
+        in_step = λ same. second.in_step (first.in_step same);
+        stops = stops_both (Mixed a.bytes at xs) (Mixed b.bytes (at + length xs) ys) (Mixed a.bytes at (xs ++ ys)) a b c first.shape first.in_step
+            (λ _ f mixed. mixed_longer at xs ys a.bytes f mixed) (λ keeps f mixed. mixed_behind at xs ys a.bytes b.bytes f (first.content keeps) mixed) first.stops second.stops;
+      }
+
+  pub one_both : OneRequest unit a b at xs → OneRequest unit b c (at + length xs) ys → (length xs ≡ 0) ⊎ (length ys ≡ 0) → OneRequest unit a c at (xs ++ ys)
+  one_both first second one =
+      let long = both in
+      record {
+        through = through_both first.through second.through;
+        mark = λ some tells. ⊎_elim
+            (λ none. second.mark (omega arith) (tells_on a b first.through.shape tells) ∙ ap (λ (s : StorageState). s.stop ∷ s.past) (first.through.nothing none))
+            (λ none. ap (λ (s : StorageState). s.past) (second.through.nothing none) ∙ first.mark (omega arith) tells)
+            one;
+      }
+
+  -- refused in the second part
+  pub not_behind : (fault : Fault) → Through unit a b at xs → NotThrough unit b c (at + length xs) ys fault → NotThrough unit a c at (xs ++ ys) fault
+  not_behind fault first second =
+      let long = both in
+      let up = round_up-le unit (at + length xs) (at + length xs + length ys) positive (omega arith) in
+      let end : at + length xs + length ys ≡ at + length (xs ++ ys) = omega arith in
+      let same = ap (λ (n : ℕ). round_up unit n) end in
+      let size : length b.bytes ≤ max (length a.bytes) (round_up unit (at + length xs)) = elim (cases_eq (length xs) 0) [
+        | inl none ↦ let stays = ap (λ (s : StorageState). length s.bytes) (first.nothing none) in omega arith
+        | inr some ↦ omega (arith, first.size (omega arith))
+      ] in
+      let longer : length a.bytes ≤ length b.bytes = elim (cases_eq (length xs) 0) [
+        | inl none ↦ let stays = ap (λ (s : StorageState). length s.bytes) (first.nothing none) in omega arith
+        | inr some ↦ omega (arith, first.size (omega arith))
+      ] in
+      record {
+        shape = second.shape ∙ first.shape;
+        cause = subst (λ (n : ℕ). Cause n c.faults fault) first.faults second.cause;
+        content = λ keeps. mixed_behind at xs ys a.bytes b.bytes c.bytes (first.content keeps) (second.content (keeps_on a b first.shape keeps));
+        no_shorter = omega (arith, second.no_shorter);
+        no_longer = omega (arith, second.no_longer);
+        later = omega (arith, first.refusals, second.later);
+        in_step = ⊎_elim (λ rose. inl (subst (λ (n : ℕ). Rose n c.refusals) first.refusals rose)) (λ on. inr (λ same. on (first.in_step same))) second.in_step;
+        stops = stops_both (Mixed a.bytes at xs) (Mixed b.bytes (at + length xs) ys) (Mixed a.bytes at (xs ++ ys)) a b c first.shape first.in_step
+            (λ _ f mixed. mixed_longer at xs ys a.bytes f mixed) (λ keeps f mixed. mixed_behind at xs ys a.bytes b.bytes f (first.content keeps) mixed) first.stops second.stops;
+      }
+
+  pub none_behind : (fault : Fault) → length xs ≡ 0 → OneRequest unit a b at xs → NoRequest unit b c (at + length xs) ys fault → NoRequest unit a c at (xs ++ ys) fault
+  none_behind fault none first second =
+      let stays = first.through.nothing none in
+      let long = both in
+      record {
+        some = omega (arith, second.some);
+        not_through = not_behind fault first.through second.not_through;
+        stop = second.stop ∙ ap (λ (s : StorageState). s.stop) stays;
+        past = second.past ∙ ap (λ (s : StorageState). s.past) stays;
+      }
+
+module _ (unit : ℕ) (positive : 0 < unit) (a b : StorageState) (at : ℕ) (xs ys : List ℕ) (fault : Fault) where
+  -- refused before the rest
+  pub not_longer : NotThrough unit a b at xs fault → NotThrough unit a b at (xs ++ ys) fault
+  not_longer first =
+      let long = length-append xs ys in
+      let up = round_up-le unit (at + length xs) (at + length (xs ++ ys)) positive (omega arith) in
+      record {
+        shape = first.shape;
+        cause = first.cause;
+        content = λ keeps. mixed_longer at xs ys a.bytes b.bytes (first.content keeps);
+        no_shorter = first.no_shorter;
+        no_longer = omega (arith, first.no_longer);
+        later = first.later;
+        in_step = first.in_step;
+        stops = λ same tells keeps. let told = first.stops same tells keeps in
+            record { files = told.files; told = told.told; each = All-weaker (Mixed a.bytes at xs) (Mixed a.bytes at (xs ++ ys)) (λ f mixed. mixed_longer at xs ys a.bytes f mixed) told.files told.each };
+      }
+
+  pub none_longer : NoRequest unit a b at xs fault → NoRequest unit a b at (xs ++ ys) fault
+  none_longer first = record { some = omega (arith, length-append xs ys, first.some); not_through = not_longer first.not_through; stop = first.stop; past = first.past }
+
+-- three parts
+module _ (unit : ℕ) (positive : 0 < unit) (a b c d : StorageState) (at : ℕ) (head mid tail : List ℕ) where
+  third : (T : ℕ → Type 0) → T (at + length head + length mid) → T (at + length (head ++ mid))
+  third T h = let e : at + length head + length mid ≡ at + length (head ++ mid) = omega (arith, length-append head mid) in subst T e h
+
+  pub parts_through : OneRequest unit a b at head → OneRequest unit b c (at + length head) mid → OneRequest unit c d (at + length head + length mid) tail → Through unit a d at (head ++ mid ++ tail)
+  parts_through one two three =
+      through_both unit positive a c d at (head ++ mid) tail (through_both unit positive a b c at head mid one.through two.through)
+      (third (λ (n : ℕ). Through unit c d n tail) three.through)
+
+  pub parts_not : (fault : Fault) → OneRequest unit a b at head → OneRequest unit b c (at + length head) mid → NoRequest unit c d (at + length head + length mid) tail fault → NotThrough unit a d at (head ++ mid ++ tail) fault
+  parts_not fault one two three =
+      not_behind unit positive a c d at (head ++ mid) tail fault (through_both unit positive a b c at head mid one.through two.through)
+      (third (λ (n : ℕ). NotThrough unit c d n tail fault) three.not_through)
+
+  pub mid_not : (fault : Fault) → OneRequest unit a b at head → NoRequest unit b c (at + length head) mid fault → NotThrough unit a c at (head ++ mid ++ tail) fault
+  mid_not fault one two =
+      not_longer unit positive a c at (head ++ mid) tail fault (not_behind unit positive a b c at head mid fault one.through two.not_through)
+
+  pub head_not : (fault : Fault) → NoRequest unit a b at head fault → NotThrough unit a b at (head ++ mid ++ tail) fault
+  head_not fault one =
+      not_longer unit positive a b at (head ++ mid) tail fault (not_longer unit positive a b at head mid fault one.not_through)
+
+-- what a `?` passes on
+pub passed : {T : Type 0} (result : Result T Fault) (Q : Fault → Type 0) (fault : Fault) → IsErrAnd result (λ e. e ≡ fault) → Q fault → IfErr result Q
+passed result Q fault is_err holds = let p = err_from_is_err_and result is_err in subst (λ r. IfErr r Q) (sym p.1) (subst Q (sym p.2) holds)
+
+-- the last of three parts, over the units that the calls name
+module _ (unit unit_2 unit_3 : ℕ) (same_2 : unit_2 ≡ unit) (same_3 : unit_3 ≡ unit) (positive : 0 < unit) (a b c d : StorageState) (at : ℕ) (head mid tail : List ℕ) where
+  pub parts_ok : {T : Type 0} (result : Result T Fault) → OneRequest unit a b at head → OneRequest unit_2 b c (at + length head) mid → OnOk result (OneRequest unit_3 c d (at + length head + length mid) tail) → OnOk result (Through unit a d at (head ++ mid ++ tail))
+  parts_ok result one two three =
+      on_ok_weaker result (λ third. parts_through unit positive a b c d at head mid tail one (subst (λ (u : ℕ). OneRequest u b c (at + length head) mid) same_2 two) third)
+      (subst (λ (u : ℕ). OnOk result (OneRequest u c d (at + length head + length mid) tail)) same_3 three)
+
+  pub parts_err : {T : Type 0} (result : Result T Fault) → OneRequest unit a b at head → OneRequest unit_2 b c (at + length head) mid → IfErr result (NoRequest unit_3 c d (at + length head + length mid) tail) → IfErr result (NotThrough unit a d at (head ++ mid ++ tail))
+  parts_err result one two three =
+      IfErr-weaker result (NoRequest unit c d (at + length head + length mid) tail) (NotThrough unit a d at (head ++ mid ++ tail))
+      (λ fault third. parts_not unit positive a b c d at head mid tail fault one (subst (λ (u : ℕ). OneRequest u b c (at + length head) mid) same_2 two) third)
+      (subst (λ (u : ℕ). IfErr result (NoRequest u c d (at + length head + length mid) tail)) same_3 three)
+
+  pub mid_err : {T : Type 0} (result : Result T Fault) (fault : Fault) → IsErrAnd result (λ e. e ≡ fault) → OneRequest unit a b at head → NoRequest unit_2 b c (at + length head) mid fault → IfErr result (NotThrough unit a c at (head ++ mid ++ tail))
+  mid_err result fault is_err one two =
+      passed result (NotThrough unit a c at (head ++ mid ++ tail)) fault is_err
+      (mid_not unit positive a b c c at head mid tail fault one (subst (λ (u : ℕ). NoRequest u b c (at + length head) mid fault) same_2 two))
+
+-- the stops of a call, whatever it answered
+refused_stops : (unit : ℕ) (a b : StorageState) (at : ℕ) (xs : List ℕ) (P : Type 0) (fault : Fault) → UnlessOverflow P a b (NotThrough unit a b at xs) fault → Stops (Mixed a.bytes at xs) a b
+refused_stops unit a b at xs P RangeOverflow h = no_stops (Mixed a.bytes at xs) a b (ap (λ (s : StorageState). s.stop) h.1) (ap (λ (s : StorageState). s.past) h.1)
+refused_stops unit a b at xs P _ h = h.stops
+
+pub stops_of : {T : Type 0} (unit : ℕ) (a b : StorageState) (at : ℕ) (xs : List ℕ) (P : Type 0) (result : Result T Fault) → OnOk result (Through unit a b at xs) → IfErr result (UnlessOverflow P a b (NotThrough unit a b at xs)) → Stops (Mixed a.bytes at xs) a b
+stops_of unit a b at xs P (Ok x) ok err = ok.stops
+stops_of unit a b at xs P (Err fault) ok err = refused_stops unit a b at xs P fault err
+
+-- the shape and the counts after a call, whatever it answered
+refused_shape : (unit : ℕ) (a b : StorageState) (at : ℕ) (xs : List ℕ) (P : Type 0) (fault : Fault) → UnlessOverflow P a b (NotThrough unit a b at xs) fault → b.shape ≡ a.shape
+refused_shape unit a b at xs P RangeOverflow h = ap (λ (s : StorageState). s.shape) h.1
+refused_shape unit a b at xs P _ h = h.shape
+
+pub shape_of : {T : Type 0} (unit : ℕ) (a b : StorageState) (at : ℕ) (xs : List ℕ) (P : Type 0) (result : Result T Fault) → OnOk result (Through unit a b at xs) → IfErr result (UnlessOverflow P a b (NotThrough unit a b at xs)) → b.shape ≡ a.shape
+shape_of unit a b at xs P (Ok x) ok err = ok.shape
+shape_of unit a b at xs P (Err fault) ok err = refused_shape unit a b at xs P fault err
+
+refused_later : (unit : ℕ) (a b : StorageState) (at : ℕ) (xs : List ℕ) (P : Type 0) (fault : Fault) → UnlessOverflow P a b (NotThrough unit a b at xs) fault → Later a b
+refused_later unit a b at xs P RangeOverflow h = subst (λ (s : StorageState). Later a s) (sym h.1) (later_same a)
+refused_later unit a b at xs P fault h = record { faults = cause_later a.faults b.faults fault h.cause; refusals = h.later }
+
+pub later_of : {T : Type 0} (unit : ℕ) (a b : StorageState) (at : ℕ) (xs : List ℕ) (P : Type 0) (result : Result T Fault) → OnOk result (Through unit a b at xs) → IfErr result (UnlessOverflow P a b (NotThrough unit a b at xs)) → Later a b
+later_of unit a b at xs P (Ok x) ok err = record { faults = omega (arith, ok.faults); refusals = omega (arith, ok.refusals) }
+later_of unit a b at xs P (Err fault) ok err = refused_later unit a b at xs P fault err
+
+-- the count of faults after a read, whatever it answered
+not_read_later : (old new : StorageState) (at n : ℕ) (fault : Fault) → NotRead old new at n fault → old.faults ≤ new.faults
+not_read_later old new at n RangeOverflow h = omega (arith, ap (λ (s : StorageState). s.faults) h.1)
+not_read_later old new at n fault h = cause_later old.faults new.faults fault h
+
+pub read_later : {T : Type 0} (old new : StorageState) (at n : ℕ) (result : Result T Fault) → Kept old new → OnOk result (new.faults ≡ old.faults) → IfErr result (NotRead old new at n) → Later old new
+read_later old new at n (Ok x) kept ok err = record { faults = omega (arith, ok); refusals = omega (arith, kept.refusals) }
+read_later old new at n (Err fault) kept ok err = record { faults = not_read_later old new at n fault err; refusals = omega (arith, kept.refusals) }

@@ -1,0 +1,11 @@
+use Rattle.imago_storage.proofs.Parts.{stops_of, shape_of, later_of}
+use Rattle.imago_storage.proofs.ext.AnyStorageExt.write.Goals as goal
+
+pub returns-clause-stops : goal.returns-clause-stops
+returns-clause-stops g c = stops_of _ _ _ _ _ _ c.write_padded.result c.write_padded.ensures.ok c.write_padded.ensures.err
+
+pub returns-clause-shape : goal.returns-clause-shape
+returns-clause-shape g c = shape_of _ _ _ _ _ _ c.write_padded.result c.write_padded.ensures.ok c.write_padded.ensures.err
+
+pub returns-clause-later : goal.returns-clause-later
+returns-clause-later g c = later_of _ _ _ _ _ _ c.write_padded.result c.write_padded.ensures.ok c.write_padded.ensures.err

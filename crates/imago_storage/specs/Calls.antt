@@ -1,0 +1,116 @@
+-- What the calls of a storage do. Places past a file's end read as 0.
+use Rattle.std.specs.Prelude.{◌≡◌, ◌⊎◌, ℕ, ◌+◌, ◌-◌, ◌<◌, ◌≤◌, max, List, ◌∷◌, length, slice_index, IsTrue, Result, MatchResult}
+use Rattle.imago_storage.specs.State.{StorageState, Rose, InStep}
+use Rattle.imago_storage.specs.declared.fault.Fault.{Fault}
+use Rattle.imago_storage.specs.declared.fault.Fault.TheVariants.{Unsupported, Memory, Storage}
+
+-- new is old with these bytes at this place
+pub record Spliced (old : List ℕ) (at : ℕ) (bytes new : List ℕ) : Type 0 where
+  pub before : (k : ℕ) → k < at → slice_index new k ≡ slice_index old k
+  pub inside : (k : ℕ) → at ≤ k → k < at + length bytes → slice_index new k ≡ slice_index bytes (k - at)
+  pub after : (k : ℕ) → at + length bytes ≤ k → slice_index new k ≡ slice_index old k
+
+-- the same, but in the range each byte is old or new
+pub record Mixed (old : List ℕ) (at : ℕ) (bytes new : List ℕ) : Type 0 where
+  pub before : (k : ℕ) → k < at → slice_index new k ≡ slice_index old k
+  pub inside : (k : ℕ) → at ≤ k → k < at + length bytes → (slice_index new k ≡ slice_index old k) ⊎ (slice_index new k ≡ slice_index bytes (k - at))
+  pub after : (k : ℕ) → at + length bytes ≤ k → slice_index new k ≡ slice_index old k
+
+-- the same, but in the range any byte
+pub record SameOutside (old : List ℕ) (at n : ℕ) (new : List ℕ) : Type 0 where
+  pub before : (k : ℕ) → k < at → slice_index new k ≡ slice_index old k
+  pub after : (k : ℕ) → at + n ≤ k → slice_index new k ≡ slice_index old k
+
+-- the buffer holds the bytes from that place on
+abbrev pub Reads : List ℕ → ℕ → List ℕ → Type 0
+Reads bytes at buf = (k : ℕ) → k < length buf → slice_index buf k ≡ slice_index bytes (at + k)
+
+-- the cause of a refusal, by the count of faults: no other number comes
+abbrev pub Cause : ℕ → ℕ → Fault → Type 0
+Cause before after Memory = after ≡ before
+Cause before after Storage = Rose before after
+Cause before after fault = ⊥
+
+-- the count of faults after a call
+abbrev pub CountsFaults : {T : Type 0} → ℕ → ℕ → Result T Fault → Type 0
+CountsFaults before after result = MatchResult result (λ _. after ≡ before) (Cause before after)
+
+-- a call that changes nothing but the count of faults
+pub record Kept (old new : StorageState) : Type 0 where
+  pub shape : new.shape ≡ old.shape
+  pub bytes : new.bytes ≡ old.bytes
+  pub refusals : new.refusals ≡ old.refusals
+  pub stop : new.stop ≡ old.stop
+  pub past : new.past ≡ old.past
+
+-- no count of faults or refusals has fallen
+pub record Later (old new : StorageState) : Type 0 where
+  pub faults : old.faults ≤ new.faults
+  pub refusals : old.refusals ≤ new.refusals
+
+-- one request where the call succeeds, and none where it is refused
+abbrev pub RequestsOne : {T : Type 0} → StorageState → StorageState → Result T Fault → Type 0
+RequestsOne old new result = MatchResult result (λ _. IsTrue old.shape.tells → new.past ≡ old.stop ∷ old.past) (λ _. (new.stop ≡ old.stop) × (new.past ≡ old.past))
+
+-- a change: one request
+pub record Changed (old new : StorageState) : Type 0 where
+  pub shape : new.shape ≡ old.shape
+  pub faults : new.faults ≡ old.faults
+  pub refusals : new.refusals ≡ old.refusals
+  pub mark : IsTrue old.shape.tells → new.past ≡ old.stop ∷ old.past
+  pub in_step : InStep old → InStep new
+
+-- a change that was refused: no request
+pub record Refused (old new : StorageState) (fault : Fault) : Type 0 where
+  pub shape : new.shape ≡ old.shape
+  pub cause : Cause old.faults new.faults fault
+  pub refusals : Rose old.refusals new.refusals
+  pub stop : new.stop ≡ old.stop
+  pub past : new.past ≡ old.past
+
+-- the range has these bytes, a gap before it zeroes, and the length reaches its end
+pub record Written (old new : StorageState) (at : ℕ) (bytes : List ℕ) : Type 0 where
+  pub changed : Changed old new
+  pub content : IsTrue old.shape.keeps → Spliced old.bytes at bytes new.bytes
+  pub size : length new.bytes ≡ max (length old.bytes) (at + length bytes)
+
+-- a write that was refused: in the range each byte is old or new
+pub record NotWritten (old new : StorageState) (at : ℕ) (bytes : List ℕ) (fault : Fault) : Type 0 where
+  pub refused : Refused old new fault
+  pub content : IsTrue old.shape.keeps → Mixed old.bytes at bytes new.bytes
+  pub no_shorter : length old.bytes ≤ length new.bytes
+  pub no_longer : length new.bytes ≤ max (length old.bytes) (at + length bytes)
+
+-- the bytes of the range are open, and the length is kept
+pub record Discarded (old new : StorageState) (at n : ℕ) : Type 0 where
+  pub changed : Changed old new
+  pub content : IsTrue old.shape.keeps → SameOutside old.bytes at n new.bytes
+  pub size : length new.bytes ≡ length old.bytes
+
+-- a discard that was refused: the bytes of the range are open too
+pub record NotDiscarded (old new : StorageState) (at n : ℕ) (fault : Fault) : Type 0 where
+  pub refused : Refused old new fault
+  pub content : IsTrue old.shape.keeps → SameOutside old.bytes at n new.bytes
+  pub size : length new.bytes ≡ length old.bytes
+
+-- the bytes below both lengths are kept, and new bytes are 0
+pub record Resized (old new : StorageState) (n : ℕ) : Type 0 where
+  pub changed : Changed old new
+  pub content : IsTrue old.shape.keeps → (k : ℕ) → k < n → slice_index new.bytes k ≡ slice_index old.bytes k
+  pub size : length new.bytes ≡ n
+
+-- a resize that was refused leaves the bytes
+pub record NotResized (old new : StorageState) (fault : Fault) : Type 0 where
+  pub refused : Refused old new fault
+  pub bytes : new.bytes ≡ old.bytes
+
+-- `Unsupported` leaves all as it was, and is not counted
+abbrev pub UnlessUnsupported : StorageState → StorageState → (Fault → Type 0) → Fault → Type 0
+UnlessUnsupported old new P Unsupported = new ≡ old
+UnlessUnsupported old new P fault = P fault
+
+-- a name isn't resolved: a call that can't count a fault has no other refusal
+abbrev pub NotResolved : Fault → Type 0
+NotResolved Unsupported = Unit
+NotResolved Memory = Unit
+NotResolved fault = ⊥

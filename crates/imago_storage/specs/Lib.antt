@@ -1,0 +1,11 @@
+pub mod Fault
+pub mod State
+pub mod Calls
+pub mod MemStorage
+pub mod Through
+pub mod Null
+pub mod Fuse
+pub mod Log
+pub mod Disk
+pub mod Steps
+pub mod Causes

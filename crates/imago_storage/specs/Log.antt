@@ -1,0 +1,70 @@
+-- What a storage with a log is: requests, replayed over the bytes that it was made over.
+use Rattle.std.specs.Prelude.{ℕ, ◌+◌, ◌-◌, List, [], ◌∷◌, ◌++◌, length, take, drop, replicate, true, refl, IsTrue}
+use Rattle.imago_storage.specs.State.{StorageState}
+use Rattle.imago_storage.specs.declared.fault.Fault.{Fault}
+use Rattle.imago_storage.specs.declared.fault.Fault.TheVariants.{Memory, Storage}
+use Rattle.imago_storage.specs.declared.log.Request.{Request}
+use Rattle.imago_storage.specs.declared.log.Request.TheVariants.{Write, Zeroes, Resize}
+use Rattle.imago_storage.specs.declared.log.LogStorage.{LogStorage}
+
+-- a file with bytes written at a place; a gap is 0
+unfoldable pub splice : List ℕ → ℕ → List ℕ → List ℕ
+splice file at bytes = (take at file ++ replicate (at - length file) 0) ++ (bytes ++ drop (at + length bytes) file)
+
+-- a file cut, or with zeroes added
+unfoldable pub resized : List ℕ → ℕ → List ℕ
+resized file n = take n file ++ replicate (n - length file) 0
+
+-- what a request makes of a file
+abbrev pub apply : Request → List ℕ → List ℕ
+apply (Write offset bytes) file = splice file offset bytes.items
+apply (Zeroes offset n) file = splice file offset (replicate n 0)
+apply (Resize n) file = resized file n
+
+-- what the requests make of a file
+abbrev pub replay : List ℕ → List Request → List ℕ
+replay file [] = file
+replay file (request ∷ requests) = replay (apply request file) requests
+
+-- the file before each request, the newest first
+abbrev pub files_before : List ℕ → List Request → List (List ℕ)
+files_before file [] = []
+files_before file (request ∷ requests) = files_before (apply request file) requests ++ file ∷ []
+
+-- the inner storage's state, with the stops that the log tells, and with more refusals
+abbrev pub logged : List ℕ → List Request → ℕ → StorageState → StorageState
+logged base requests refusals s = record {
+  shape = record s.shape { tells = true };
+  bytes = s.bytes;
+  faults = s.faults;
+  refusals = s.refusals + refusals;
+  stop = replay base requests;
+  past = files_before base requests;
+}
+
+-- the bytes that the log was made over
+unfoldable pub log_base : {S : Type 0} → LogStorage S → List ℕ
+log_base log = log.base.items
+
+-- the requests that were passed on and not refused, the oldest first
+unfoldable pub log_requests : {S : Type 0} → LogStorage S → List Request
+log_requests log = log.requests.items
+
+-- what contracts see of a storage with a log
+unfoldable pub log_state : {S : Type 0} → (S → StorageState) → LogStorage S → StorageState
+log_state state log = logged log.base.items log.requests.items log.refusals (state log.inner)
+
+-- a log tells its stops
+pub log_tells : {S : Type 0} (state : S → StorageState) (log : LogStorage S) → IsTrue (log_state state log).shape.tells
+unfolding log_state
+log_tells state log = refl
+
+-- a state that tells its stops from now on
+abbrev pub telling : StorageState → StorageState
+telling s = record s { shape = record s.shape { tells = true }; stop = s.bytes; past = [] }
+
+-- why no log can be made: want of memory, or a storage that failed
+abbrev pub NotLogged : Fault → Type 0
+NotLogged Memory = Unit
+NotLogged Storage = Unit
+NotLogged fault = ⊥

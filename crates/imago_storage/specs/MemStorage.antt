@@ -1,0 +1,35 @@
+-- What a storage in memory is.
+use Rattle.std.specs.Prelude.{◌≡◌, None, [], true, false, ℕ, ◌+◌, ◌<◌, ◌≤◌, List, slice_index}
+use Rattle.imago_storage.specs.State.{Shape, StorageState}
+use Rattle.imago_storage.specs.declared.memory.MemStorage.{MemStorage}
+
+-- the shape of a storage in memory of this alignment
+abbrev pub mem_shape : ℕ → Shape
+mem_shape align = record {
+  keeps = true;
+  tells = false;
+  mem_align = align;
+  req_align = align;
+  zero_align = align;
+  discard_align = align;
+  filename = None;
+}
+
+-- the state of a storage in memory that holds these bytes and has refused so many changes: it never fails
+abbrev pub memory : List ℕ → ℕ → ℕ → StorageState
+memory bytes align refusals = record {
+  shape = mem_shape align;
+  bytes = bytes;
+  faults = 0;
+  refusals = refusals;
+  stop = [];
+  past = [];
+}
+
+-- what contracts see of a storage in memory
+unfoldable pub mem_state : MemStorage → StorageState
+mem_state m = memory m.bytes.items m.align m.refusals
+
+-- the range reads as 0
+abbrev pub Zeroed : List ℕ → ℕ → ℕ → Type 0
+Zeroed bytes at n = (k : ℕ) → at ≤ k → k < at + n → slice_index bytes k ≡ 0

@@ -1,0 +1,31 @@
+-- What a storage that holds nothing is.
+use Rattle.std.specs.Prelude.{None, [], false, replicate, ℕ}
+use Rattle.imago_storage.specs.State.{Shape, StorageState}
+use Rattle.imago_storage.specs.declared.null.Null.{Null}
+
+-- the shape of a storage that keeps nothing
+abbrev pub null_shape : Shape
+null_shape = record {
+  keeps = false;
+  tells = false;
+  mem_align = 1;
+  req_align = 1;
+  zero_align = 1;
+  discard_align = 1;
+  filename = None;
+}
+
+-- a state of this length whose bytes are 0
+abbrev pub zeroes : ℕ → StorageState
+zeroes size = record {
+  shape = null_shape;
+  bytes = replicate size 0;
+  faults = 0;
+  refusals = 0;
+  stop = [];
+  past = [];
+}
+
+-- what contracts see of a storage that holds nothing
+unfoldable pub null_state : Null → StorageState
+null_state n = zeroes n.size

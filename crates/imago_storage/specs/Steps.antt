@@ -1,0 +1,170 @@
+-- What a call that succeeds makes of a disk. A range whose end passes the size of the disk lies inside only where a line says so.
+use Rattle.std.specs.Prelude.{◌≡◌, ◌⊎◌, ℕ, ◌+◌, ◌-◌, ◌<◌, ◌≤◌, Bool, true, false, Option, Some, None, List, length, slice_index, IsTrue}
+use Rattle.imago_storage.specs.Disk.{Value, byte, Hold, free, held, Disk, IsFree, Shows}
+
+-- how a growth fills the new places
+pub data Growth : Type 0 where
+  anything : Growth
+  zeroes : Growth
+
+-- The calls of a disk, with offsets and lengths in bytes. A mapping is spent with whether it has state, and if it has, whether it
+-- was prepared under this chain's number.
+pub data Call : Type 0 where
+  read : (offset n : ℕ) → Call
+  write : (offset : ℕ) (bytes : List ℕ) → Call
+  write_zeroes : (offset n : ℕ) → Call
+  discard_to_zero : (offset n : ℕ) → Call
+  discard_to_any : (offset n : ℕ) → Call
+  discard_to_backing : (offset n : ℕ) → Call
+  prepare : (offset n : ℕ) (overwrite : Bool) → Call
+  commit : (state own : Bool) → Call
+  cancel : (state own : Bool) → Call
+  ensure : (offset n : ℕ) (overwrite : Bool) → Call
+  write_mapped : (offset : ℕ) (bytes : List ℕ) → Call
+  lookup : (offset n : ℕ) → Call
+  flush : Call
+  sync : Call
+  grow : (size : ℕ) (fill : Growth) → Call
+  shrink : (size : ℕ) → Call
+
+-- What a call answers, as far as it speaks of the disk alone: which bytes, how long a run, and whether its mapping has state.
+pub data Answer : Type 0 where
+  done : Answer
+  bytes_read : (bytes : List ℕ) → Answer
+  run : (n : ℕ) → Answer
+  prepared : (n : ℕ) (state : Bool) → Answer
+
+-- the place lies in the range
+abbrev pub IsIn : ℕ → ℕ → ℕ → Type 0
+IsIn offset n p = (offset ≤ p) × (p < offset + n)
+
+-- the place lies outside of it
+abbrev pub IsOut : ℕ → ℕ → ℕ → Type 0
+IsOut offset n p = (p < offset) ⊎ (offset + n ≤ p)
+
+-- the disk stays
+pub record Stays (old new : Disk) : Type 0 where
+  pub size : new.size ≡ old.size
+  pub value : (p : ℕ) → p < old.size → new.value p ≡ old.value p
+  pub hold : (p : ℕ) → p < old.size → new.hold p ≡ old.hold p
+
+-- The range lies inside, each of its places becomes what Becomes allows, from its place and its old value, and nothing else changes.
+pub record Changes (Becomes : ℕ → Value → Value → Type 0) (old new : Disk) (offset n : ℕ) : Type 0 where
+  pub inside : offset + n ≤ old.size
+  pub size : new.size ≡ old.size
+  pub range : (p : ℕ) → IsIn offset n p → Becomes p (old.value p) (new.value p)
+  pub others : (p : ℕ) → p < old.size → IsOut offset n p → new.value p ≡ old.value p
+  pub hold : (p : ℕ) → p < old.size → new.hold p ≡ old.hold p
+
+-- what the places of a range may become
+abbrev pub ToBytes : ℕ → List ℕ → ℕ → Value → Value → Type 0
+ToBytes offset bytes p was is = is ≡ byte (slice_index bytes (p - offset))
+
+abbrev pub ToZero : ℕ → Value → Value → Type 0
+ToZero p was is = is ≡ byte 0
+
+abbrev pub ToAny : ℕ → Value → Value → Type 0
+ToAny p was is = (is ≡ was) ⊎ ((b : ℕ) × (is ≡ byte b))
+
+abbrev pub ToBelow : (ℕ → Value) → ℕ → Value → Value → Type 0
+ToBelow below p was is = (is ≡ was) ⊎ (is ≡ below p)
+
+-- the buffer holds the range's places below the size, which are bytes, and then 0
+pub record HoldsRange (disk : Disk) (offset : ℕ) (buffer : List ℕ) : Type 0 where
+  pub below : (i : ℕ) → i < length buffer → offset + i < disk.size → disk.value (offset + i) ≡ byte (slice_index buffer i)
+  pub past : (i : ℕ) → i < length buffer → disk.size ≤ offset + i → slice_index buffer i ≡ 0
+
+-- values stay
+pub record SameValues (old new : Disk) : Type 0 where
+  pub size : new.size ≡ old.size
+  pub value : (p : ℕ) → p < old.size → new.value p ≡ old.value p
+
+-- A run of 1 byte to the length asked, from the offset on, is prepared: values stay, and some of its places become held, with no
+-- byte written yet; none exactly if the mapping has no state.
+pub record Prepares (old new : Disk) (offset asked : ℕ) (overwrite : Bool) (n : ℕ) (state : Bool) : Type 0 where
+  pub was_free : IsFree old
+  pub values : SameValues old new
+  pub some : 0 < n
+  pub most : n ≤ asked
+  pub inside : offset + n ≤ old.size
+  pub holds : (p : ℕ) → p < old.size → (new.hold p ≡ free) ⊎ (IsIn offset n p × (new.hold p ≡ held None overwrite))
+  pub stateless : state ≡ false → IsFree new
+  pub stateful : state ≡ true → (p : ℕ) × IsIn offset n p × (new.hold p ≡ held None overwrite)
+
+-- What becomes of a place when its mapping is committed: the byte written to it, else its old value or, where that was announced,
+-- any byte.
+abbrev pub Settles : Hold → Value → Value → Type 0
+Settles free was is = is ≡ was
+Settles (held (Some b) announced) was is = is ≡ byte b
+Settles (held None true) was is = (is ≡ was) ⊎ ((b : ℕ) × (is ≡ byte b))
+Settles (held None false) was is = is ≡ was
+
+pub record Commits (old new : Disk) : Type 0 where
+  pub size : new.size ≡ old.size
+  pub value : (p : ℕ) → p < old.size → Settles (old.hold p) (old.value p) (new.value p)
+  pub is_free : IsFree new
+
+pub record Cancels (old new : Disk) : Type 0 where
+  pub values : SameValues old new
+  pub is_free : IsFree new
+
+-- a prepared mapping is written: a held place notes its byte, another takes it
+abbrev pub TakesByte : ℕ → Hold → Value → Hold → Value → Type 0
+TakesByte b free was hold is = (is ≡ byte b) × (hold ≡ free)
+TakesByte b (held written announced) was hold is = (is ≡ was) × (hold ≡ held (Some b) announced)
+
+pub record WritesMapped (old new : Disk) (offset : ℕ) (bytes : List ℕ) : Type 0 where
+  pub inside : offset + length bytes ≤ old.size
+  pub size : new.size ≡ old.size
+  pub range : (i : ℕ) → i < length bytes → TakesByte (slice_index bytes i) (old.hold (offset + i)) (old.value (offset + i)) (new.hold (offset + i)) (new.value (offset + i))
+  pub others : (p : ℕ) → p < old.size → IsOut offset (length bytes) p → (new.value p ≡ old.value p) × (new.hold p ≡ old.hold p)
+
+-- the old values stay; new places are 0, or anything
+abbrev pub IsFilled : Growth → Value → Type 0
+IsFilled anything v = Unit {0}
+IsFilled zeroes v = v ≡ byte 0
+
+pub record Grows (old new : Disk) (size : ℕ) (fill : Growth) : Type 0 where
+  pub new_size : new.size ≡ size
+  pub kept : (p : ℕ) → p < old.size → new.value p ≡ old.value p
+  pub filled : (p : ℕ) → old.size ≤ p → p < size → IsFilled fill (new.value p)
+  pub is_free : IsFree new
+
+pub record Shrinks (old new : Disk) (size : ℕ) : Type 0 where
+  pub new_size : new.size ≡ size
+  pub kept : (p : ℕ) → p < size → new.value p ≡ old.value p
+  pub is_free : IsFree new
+
+-- a resize to a size that lies on the wrong side of the old one does nothing
+abbrev pub Unless : Type 0 → Type 0 → Type 0 → Type 0
+Unless Idle P Q = (Idle × P) ⊎ ((Idle → ⊥) × Q)
+
+-- The length of a run that a lookup answers: none at or past the size, and else at least 1 byte, where any was asked for.
+pub record IsRun (disk : Disk) (offset asked n : ℕ) : Type 0 where
+  pub most : n ≤ asked
+  pub inside : 0 < n → offset + n ≤ disk.size
+  pub some : offset < disk.size → 0 < asked → 0 < n
+
+-- Calls of length 0 leave the disk as it is, and so do those that only look. What a lookup or a prepared run says of the places of
+-- storages is told by the layers of a chain.
+abbrev pub Step : (ℕ → Value) → Disk → Call → Answer → Disk → Type 0
+Step below old (read offset n) (bytes_read buffer) new = (length buffer ≡ n) × HoldsRange old offset buffer × Stays old new
+Step below old (write offset bytes) done new = Unless (length bytes ≡ 0) (Stays old new) (Changes (ToBytes offset bytes) old new offset (length bytes))
+Step below old (write_zeroes offset n) done new = Unless (n ≡ 0) (Stays old new) (Changes ToZero old new offset n)
+Step below old (discard_to_zero offset n) done new = Unless (n ≡ 0) (Stays old new) (Changes ToZero old new offset n)
+Step below old (discard_to_any offset n) done new = Unless (n ≡ 0) (Stays old new) (Changes ToAny old new offset n)
+Step below old (discard_to_backing offset n) done new = Unless (n ≡ 0) (Stays old new) (Changes (ToBelow below) old new offset n)
+Step below old (prepare offset asked overwrite) (prepared n state) new = Unless (asked ≡ 0) (Stays old new × (n ≡ 0) × (state ≡ false)) (Prepares old new offset asked overwrite n state)
+Step below old (commit true own) done new = IsTrue own × Commits old new
+Step below old (commit false own) done new = Stays old new
+Step below old (cancel true own) done new = IsTrue own × Cancels old new
+Step below old (cancel false own) done new = Stays old new
+Step below old (ensure offset asked overwrite) (run n) new =
+    Unless (asked ≡ 0) (Stays old new × (n ≡ 0)) ((mid : Disk) × (state : Bool) × Prepares old mid offset asked overwrite n state × Commits mid new)
+Step below old (write_mapped offset bytes) done new = Unless (length bytes ≡ 0) (Stays old new) (WritesMapped old new offset bytes)
+Step below old (lookup offset asked) (run n) new = IsRun old offset asked n × Stays old new
+Step below old flush done new = Stays old new
+Step below old sync done new = Stays old new
+Step below old (grow size fill) done new = Unless (size ≤ old.size) (Stays old new) (Grows old new size fill)
+Step below old (shrink size) done new = Unless (old.size ≤ size) (Stays old new) (Shrinks old new size)
+Step below old _ _ new = ⊥

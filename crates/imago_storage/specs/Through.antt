@@ -1,0 +1,96 @@
+-- What a padded call does, by any number of requests.
+use Rattle.std.specs.Prelude.{◌≡◌, ◌⊎◌, ℕ, ◌+◌, ◌-◌, ◌*◌, ◌/◌, ◌%◌, ◌<◌, ◌≤◌, ◌^◌, max, List, ◌∷◌, ◌++◌, length, All, IsTrue, Result, MatchResult}
+use Rattle.imago_storage.specs.State.{StorageState, Rose, InStep, unit_of}
+use Rattle.imago_storage.specs.Calls.{Spliced, Mixed, Cause}
+use Rattle.imago_storage.specs.declared.fault.Fault.{Fault}
+use Rattle.imago_storage.specs.declared.fault.Fault.TheVariants.{RangeOverflow}
+
+-- the least multiple of the unit that is not below n
+unfoldable pub round_up : ℕ → ℕ → ℕ
+round_up unit n = (n + (unit - 1)) / unit * unit
+
+-- the padded end passes 64 bits
+abbrev pub Overflows : ℕ → ℕ → ℕ → Type 0
+Overflows unit at n = (0 < n) × (2 ^ 64 ≤ round_up unit (at + n))
+
+-- the range is whole units, or lies in one
+abbrev pub IsAtOnce : ℕ → ℕ → ℕ → Type 0
+IsAtOnce unit at n = ((at % unit ≡ 0) × (n % unit ≡ 0)) ⊎ (at % unit + n ≤ unit)
+
+-- each file that a stop may have left since the old state, that state aside, has P; the newest first
+pub record StopsIn (P : List ℕ → Type 0) (old new : StorageState) : Type 0 where
+  pub files : List (List ℕ)
+  pub told : new.stop ∷ new.past ≡ files ++ (old.stop ∷ old.past)
+  pub each : All P files
+
+-- the same of a storage that tells its stops and keeps what is written, from a state whose file is the bytes
+abbrev pub Stops : (List ℕ → Type 0) → StorageState → StorageState → Type 0
+Stops P old new = InStep old → IsTrue old.shape.tells → IsTrue old.shape.keeps → StopsIn P old new
+
+-- the bytes are written
+pub record Through (unit : ℕ) (old new : StorageState) (at : ℕ) (bytes : List ℕ) : Type 0 where
+  pub shape : new.shape ≡ old.shape
+  pub faults : new.faults ≡ old.faults
+  pub refusals : new.refusals ≡ old.refusals
+  pub nothing : length bytes ≡ 0 → new ≡ old
+  pub content : IsTrue old.shape.keeps → Spliced old.bytes at bytes new.bytes
+  pub size : 0 < length bytes → length new.bytes ≡ max (length old.bytes) (round_up unit (at + length bytes))
+  pub in_step : InStep old → InStep new
+  pub stops : Stops (Mixed old.bytes at bytes) old new
+
+-- the call was refused, and may have written a part
+pub record NotThrough (unit : ℕ) (old new : StorageState) (at : ℕ) (bytes : List ℕ) (fault : Fault) : Type 0 where
+  pub shape : new.shape ≡ old.shape
+  pub cause : Cause old.faults new.faults fault
+  pub content : IsTrue old.shape.keeps → Mixed old.bytes at bytes new.bytes
+  pub no_shorter : length old.bytes ≤ length new.bytes
+  pub no_longer : length new.bytes ≤ max (length old.bytes) (round_up unit (at + length bytes))
+  pub later : old.refusals ≤ new.refusals
+  -- where no change was refused, the file is still the bytes
+  pub in_step : Rose old.refusals new.refusals ⊎ (InStep old → InStep new)
+  pub stops : Stops (Mixed old.bytes at bytes) old new
+
+-- one request, where there is something to write
+pub record OneRequest (unit : ℕ) (old new : StorageState) (at : ℕ) (bytes : List ℕ) : Type 0 where
+  pub through : Through unit old new at bytes
+  pub mark : 0 < length bytes → IsTrue old.shape.tells → new.past ≡ old.stop ∷ old.past
+
+-- no request, though there was something to write
+pub record NoRequest (unit : ℕ) (old new : StorageState) (at : ℕ) (bytes : List ℕ) (fault : Fault) : Type 0 where
+  pub some : 0 < length bytes
+  pub not_through : NotThrough unit old new at bytes fault
+  pub stop : new.stop ≡ old.stop
+  pub past : new.past ≡ old.past
+
+-- `RangeOverflow` comes where P holds, and leaves all as it was
+abbrev pub UnlessOverflow : Type 0 → StorageState → StorageState → (Fault → Type 0) → Fault → Type 0
+UnlessOverflow P old new Q RangeOverflow = P × (new ≡ old)
+UnlessOverflow P old new Q fault = Q fault
+
+-- one request where the call succeeds and has bytes to write, and none where it is refused
+abbrev pub RequestsOnce : {T : Type 0} → StorageState → StorageState → ℕ → Result T Fault → Type 0
+RequestsOnce old new n result = MatchResult result (λ _. 0 < n → IsTrue old.shape.tells → new.past ≡ old.stop ∷ old.past) (λ _. (new.stop ≡ old.stop) × (new.past ≡ old.past))
+
+-- at most one of three parts has bytes
+abbrev pub IsOnePart : ℕ → ℕ → ℕ → Type 0
+IsOnePart head mid tail = ((head ≡ 0) × (mid ≡ 0)) ⊎ (((head ≡ 0) × (tail ≡ 0)) ⊎ ((mid ≡ 0) × (tail ≡ 0)))
+
+-- a range of n bytes in three parts: bytes in one unit, whole units, and bytes in one unit
+pub record Parts (unit at n head mid : ℕ) : Type 0 where
+  pub within : head + mid ≤ n
+  pub first : at % unit + head ≤ unit
+  pub whole : 0 < mid → ((at + head) % unit ≡ 0) × (mid % unit ≡ 0)
+  pub last : (at + head + mid) % unit + (n - head - mid) ≤ unit
+  pub once : IsAtOnce unit at n → IsOnePart head mid (n - head - mid)
+
+-- a `write` that succeeds, by the storage's own unit
+abbrev pub WrittenThrough : StorageState → StorageState → ℕ → List ℕ → Type 0
+WrittenThrough old new at bytes = Through (unit_of old.shape) old new at bytes
+
+-- a refused `write`
+abbrev pub NotWrittenThrough : StorageState → StorageState → ℕ → List ℕ → Fault → Type 0
+NotWrittenThrough old new at bytes = UnlessOverflow (Overflows (unit_of old.shape) at (length bytes)) old new (NotThrough (unit_of old.shape) old new at bytes)
+
+-- the clause of a refused `read`
+abbrev pub NotRead : StorageState → StorageState → ℕ → ℕ → Fault → Type 0
+NotRead old new at n = UnlessOverflow (Overflows (unit_of old.shape) at n) old new (Cause old.faults new.faults)

@@ -1,0 +1,249 @@
+// Calls on any range, padded to whole units.
+ghost use Rattle.std.specs.Prelude.{◌≡◌, ℕ, ◌+◌, ◌-◌, ◌%◌, ◌<◌, ◌≤◌, ◌^◌, max, ◌∷◌, ◌++◌, length, slice_index, OnOk, OnErr, IfErr, IsErrOf, IsTrue};
+ghost use Rattle.std.specs.Option.{SomeIff};
+ghost use Rattle.imago_storage.specs.State.{unit_of, IsAlignment, IsWhole};
+ghost use Rattle.imago_storage.specs.Calls.{Cause, CountsFaults, Kept, Later, Mixed, Reads};
+ghost use Rattle.imago_storage.specs.Through.{round_up, Overflows, IsAtOnce, Through, NotThrough, OneRequest, NoRequest, IsOnePart, Parts, RequestsOnce, Stops, UnlessOverflow, WrittenThrough, NotWrittenThrough, NotRead};
+
+use crate::edits::{copy_in, take_part};
+use crate::{Fault, Storage};
+use std::alloc::Global;
+
+/// The end of a range of `n` bytes, rounded up to a multiple of `unit`, or none where it passes the greatest `u64`.
+///
+/// Calls on ranges are refused with `Fault::RangeOverflow` exactly where there is none.
+#[tactic(auto, using(crate::proofs::Rounding::round_up_whole, crate::proofs::Rounding::round_up_part))]
+pub fn padded_end(offset: u64, n: u64, unit: u64) -> Option<u64>
+    requires { 0 < unit }
+    ensures { SomeIff result (round_up unit (offset + n) < 2 ^ 64) (round_up unit (offset + n)) }
+{
+    let end = offset.checked_add(n)?;
+    let over = end % unit;
+    if over == 0 {
+        Some(end)
+    } else {
+        end.checked_add(unit - over)
+    }
+}
+
+// Writes bytes that lie in one unit, by one request. The buffer holds a unit.
+fn write_unit<S: Storage>(
+    storage: &mut S,
+    buf: &mut [u8],
+    data: &[u8],
+    offset: u64,
+) -> Result<(), Fault>
+    requires unit { length buf.old ≡ unit_of (S.state storage.old).shape }
+    requires positive { 0 < length buf.old }
+    requires inside { offset % length buf.old + length «data».now ≤ length buf.old }
+    requires fits { round_up (length buf.old) (offset + length «data».now) < 2 ^ 64 }
+    ensures ok { OnOk result (OneRequest (length buf.old) (S.state storage.old) (S.state storage.new) offset «data».now) }
+    ensures err { IfErr result (NoRequest (length buf.old) (S.state storage.old) (S.state storage.new) offset «data».now) }
+{
+    if data.is_empty() {
+        return Ok(());
+    }
+    let within = offset % buf.len() as u64;
+    let start = offset - within;
+    storage.pure_read(buf, start)?;
+    copy_in(buf, within as usize, data);
+    storage.pure_write(buf, start)
+}
+
+// Writes whole units, by one request.
+fn write_whole<S: Storage>(storage: &mut S, data: &[u8], offset: u64) -> Result<(), Fault>
+    requires positive { 0 < unit_of (S.state storage.old).shape }
+    requires whole { 0 < length «data».now → IsWhole (unit_of (S.state storage.old).shape) offset (length «data».now) }
+    ensures ok { OnOk result (OneRequest (unit_of (S.state storage.old).shape) (S.state storage.old) (S.state storage.new) offset «data».now) }
+    ensures err { IfErr result (NoRequest (unit_of (S.state storage.old).shape) (S.state storage.old) (S.state storage.new) offset «data».now) }
+{
+    if data.is_empty() {
+        return Ok(());
+    }
+    storage.pure_write(data, offset)
+}
+
+// Writes three parts in a row, each by one request, the lowest first: bytes in one unit, whole units, and bytes in
+// one unit. The buffer holds a unit.
+fn write_parts<S: Storage>(
+    storage: &mut S,
+    buf: &mut [u8],
+    head: &[u8],
+    mid: &[u8],
+    tail: &[u8],
+    offset: u64,
+) -> Result<(), Fault>
+    requires unit { length buf.old ≡ unit_of (S.state storage.old).shape }
+    requires positive { 0 < length buf.old }
+    requires head { offset % length buf.old + length head.now ≤ length buf.old }
+    requires mid { 0 < length mid.now → IsWhole (length buf.old) (offset + length head.now) (length mid.now) }
+    requires tail { (offset + length head.now + length mid.now) % length buf.old + length tail.now ≤ length buf.old }
+    requires fits { round_up (length buf.old) (offset + length head.now + length mid.now + length tail.now) < 2 ^ 64 }
+    ensures ok { OnOk result (Through (length buf.old) (S.state storage.old) (S.state storage.new) offset ((head.now ++ mid.now) ++ tail.now)) }
+    ensures err { IfErr result (NotThrough (length buf.old) (S.state storage.old) (S.state storage.new) offset ((head.now ++ mid.now) ++ tail.now)) }
+    ensures once { IsOnePart (length head.now) (length mid.now) (length tail.now) → RequestsOnce (S.state storage.old) (S.state storage.new) (length head.now + length mid.now + length tail.now) result }
+{
+    write_unit(storage, buf, head, offset)?;
+    let middle = offset + head.len() as u64;
+    write_whole(storage, mid, middle)?;
+    let last = middle + mid.len() as u64;
+    write_unit(storage, buf, tail, last)
+}
+
+// The lengths of the first two of a range's three parts: bytes in one unit, whole units, and bytes in one unit.
+fn parts_of_range(offset: u64, n: usize, unit: usize) -> (usize, usize)
+    requires { 0 < unit }
+    ensures { Parts unit offset n result.0 result.1 }
+{
+    let within = (offset % unit as u64) as usize;
+    let head = if within == 0 {
+        0
+    } else {
+        (unit - within).min(n)
+    };
+    let mid = (n - head) / unit * unit;
+    (head, mid)
+}
+
+// Writes any range, padded to whole units.
+fn write_padded<S: Storage>(
+    storage: &mut S,
+    alloc: Global,
+    data: &[u8],
+    offset: u64,
+) -> Result<(), Fault>
+    ensures ok { OnOk result (Through (unit_of (S.state storage.old).shape) (S.state storage.old) (S.state storage.new) offset «data».now) }
+    ensures err { IfErr result (UnlessOverflow (Overflows (unit_of (S.state storage.old).shape) offset (length «data».now)) (S.state storage.old) (S.state storage.new)
+        (NotThrough (unit_of (S.state storage.old).shape) (S.state storage.old) (S.state storage.new) offset «data».now)) }
+    ensures overflow { Overflows (unit_of (S.state storage.old).shape) offset (length «data».now) → IsErrOf result Fault.RangeOverflow }
+    ensures once { IsAtOnce (unit_of (S.state storage.old).shape) offset (length «data».now) → RequestsOnce (S.state storage.old) (S.state storage.new) (length «data».now) result }
+{
+    let unit = storage.req_align().max(storage.mem_align());
+    if data.is_empty() {
+        return Ok(());
+    }
+    if padded_end(offset, data.len() as u64, unit as u64).is_none() {
+        return Err(Fault::RangeOverflow);
+    }
+    let (first, second) = parts_of_range(offset, data.len(), unit);
+    if first == 0 && second == data.len() {
+        return write_whole(storage, data, offset);
+    }
+    let mut buf = vec![in alloc; 0u8; unit]?;
+    let (head, rest) = data.split_at(first);
+    let (mid, tail) = rest.split_at(second);
+    write_parts(storage, &mut buf, head, mid, tail, offset)
+}
+
+// Reads whole units into the first buffer, and of these the range into the second.
+fn read_around<S: Storage>(
+    storage: &mut S,
+    padded: &mut [u8],
+    buf: &mut [u8],
+    offset: u64,
+    within: u64,
+) -> Result<(), Fault>
+    requires low { within ≤ offset }
+    requires whole { IsWhole (unit_of (S.state storage.old).shape) (offset - within) (length padded.old) }
+    requires inside { within + length buf.old ≤ length padded.old }
+    ensures ok { OnOk result (Reads (S.state storage.old).bytes offset buf.new) }
+    ensures kept { Kept (S.state storage.old) (S.state storage.new) }
+    ensures faults { CountsFaults (S.state storage.old).faults (S.state storage.new).faults result }
+{
+    storage.pure_read(padded, offset - within)?;
+    take_part(padded, within as usize, buf);
+    Ok(())
+}
+
+// Reads any range, padded to whole units.
+fn read_padded<S: Storage>(
+    storage: &mut S,
+    alloc: Global,
+    buf: &mut [u8],
+    offset: u64,
+) -> Result<(), Fault>
+    ensures ok { OnOk result (Reads (S.state storage.old).bytes offset buf.new) }
+    ensures kept { Kept (S.state storage.old) (S.state storage.new) }
+    ensures faults { OnOk result ((S.state storage.new).faults ≡ (S.state storage.old).faults) }
+    ensures err { IfErr result (UnlessOverflow (Overflows (unit_of (S.state storage.old).shape) offset (length buf.old)) (S.state storage.old) (S.state storage.new) (Cause (S.state storage.old).faults (S.state storage.new).faults)) }
+    ensures overflow { Overflows (unit_of (S.state storage.old).shape) offset (length buf.old) → IsErrOf result Fault.RangeOverflow }
+{
+    let unit = storage.req_align().max(storage.mem_align());
+    if buf.is_empty() {
+        return Ok(());
+    }
+    let Some(end) = padded_end(offset, buf.len() as u64, unit as u64) else {
+        return Err(Fault::RangeOverflow);
+    };
+    let (first, second) = parts_of_range(offset, buf.len(), unit);
+    if first == 0 && second == buf.len() {
+        return storage.pure_read(buf, offset);
+    }
+    let within = offset % unit as u64;
+    let start = offset - within;
+    let mut padded = vec![in alloc; 0u8; (end - start) as usize]?;
+    read_around(storage, &mut padded, buf, offset, within)
+}
+
+/// The larger of two alignments, in bytes, which is a multiple of both: what is aligned to it is aligned to each.
+pub fn larger_alignment(a: usize, b: usize) -> usize
+    requires first { IsAlignment a }
+    requires second { IsAlignment b }
+    ensures value { result ≡ max a b }
+    ensures first { result % a ≡ 0 }
+    ensures second { result % b ≡ 0 }
+    ensures alignment { IsAlignment result }
+{
+    if a < b { b } else { a }
+}
+
+/// Reads and writes of any range of bytes, for every storage.
+///
+/// A range is padded to whole units of the storage, where the unit is the larger of `req_align` and `mem_align`. Buffers
+/// that this takes are taken before the first request.
+pub trait StorageExt: Storage {
+    /// Fills the buffer with the bytes from the offset on. Past the end it reads zeroes. A range of whole units takes no
+    /// buffer of its own; an empty one asks nothing of the storage.
+    ///
+    /// It refuses with `Fault::RangeOverflow` where the range's end, rounded up to the unit, passes `u64`, before it asks
+    /// anything of the storage; else with `Fault::Memory` and `Fault::Storage`. A refusal leaves the storage as it was,
+    /// and the buffer open.
+    fn read(&mut self, alloc: Global, buf: &mut [u8], offset: u64) -> Result<(), Fault>
+        ensures ok { OnOk result (Reads (Self.state self.old).bytes offset buf.new) }
+        ensures kept { Kept (Self.state self.old) (Self.state self.new) }
+        ensures faults { OnOk result ((Self.state self.new).faults ≡ (Self.state self.old).faults) }
+        ensures err { IfErr result (NotRead (Self.state self.old) (Self.state self.new) offset (length buf.old)) }
+        ensures overflow { Overflows (unit_of (Self.state self.old).shape) offset (length buf.old) → IsErrOf result Fault.RangeOverflow }
+        ensures later { Later (Self.state self.old) (Self.state self.new) };
+
+    /// Writes the bytes at the offset, padded to whole units by what is there, and by zeroes past the old end. So the
+    /// length reaches the range's end, rounded up to the unit; an empty range changes nothing.
+    ///
+    /// A range of whole units is one request, and so is one in a single unit, which is read before. Any other is up to
+    /// three requests, rising: the rest of its first unit, whole units, and the start of its last unit.
+    ///
+    /// It refuses with `Fault::RangeOverflow` where the range's end, rounded up to the unit, passes `u64`, before it
+    /// changes anything; else with `Fault::Memory` and `Fault::Storage`, which leave each byte of the range old or new,
+    /// and none changed outside.
+    fn write(&mut self, alloc: Global, data: &[u8], offset: u64) -> Result<(), Fault>
+        ensures ok { OnOk result (WrittenThrough (Self.state self.old) (Self.state self.new) offset «data».now) }
+        ensures err { IfErr result (NotWrittenThrough (Self.state self.old) (Self.state self.new) offset «data».now) }
+        ensures overflow { Overflows (unit_of (Self.state self.old).shape) offset (length «data».now) → IsErrOf result Fault.RangeOverflow }
+        ensures shape { (Self.state self.new).shape ≡ (Self.state self.old).shape }
+        ensures later { Later (Self.state self.old) (Self.state self.new) }
+        // Whatever the answer: each file that a stop inside the call leaves has old or new bytes in the range,
+        // and outside what was there.
+        ensures stops { Stops (Mixed (Self.state self.old).bytes offset «data».now) (Self.state self.old) (Self.state self.new) }
+        // A range of whole units, or one in a single unit, is one request.
+        ensures once { IsAtOnce (unit_of (Self.state self.old).shape) offset (length «data».now) → RequestsOnce (Self.state self.old) (Self.state self.new) (length «data».now) result };
+}
+
+impl<S: Storage> StorageExt for S {
+    fn read(&mut self, alloc: Global, buf: &mut [u8], offset: u64) -> Result<(), Fault> {
+        read_padded(self, alloc, buf, offset)
+    }
+
+    fn write(&mut self, alloc: Global, data: &[u8], offset: u64) -> Result<(), Fault> {
+        write_padded(self, alloc, data, offset)
+    }
+}

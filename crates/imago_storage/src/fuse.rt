@@ -1,0 +1,235 @@
+// A storage that fails once.
+ghost use Rattle.std.specs.Prelude.{◌≡◌, ◌≢◌, ◌+◌, ◌^◌, ◌-◌, min, length, replicate, OnOk, IfErr, MatchBool};
+ghost use Rattle.imago_storage.specs.State.{Rose, IsWhole, unit_of};
+ghost use Rattle.imago_storage.specs.Calls.{Reads, Kept, Later, RequestsOne, CountsFaults, Written, NotWritten, Discarded, NotDiscarded, Resized, NotResized, UnlessUnsupported};
+
+use crate::{Fault, PreallocateMode, Storage};
+use std::alloc::Global;
+
+/// A storage that passes calls on to another, but for one call that fails: for tests of what a fault leaves.
+///
+/// Pure calls, `resize`, `flush` and `sync` are counted, whatever they answer. The call whose number was given to
+/// `new` answers `Fault::Storage` and passes nothing on; this happens once.
+#[derive(Drop)]
+pub struct FuseStorage<S> {
+    inner: S,
+    n: u64,
+    count: u64,
+    faults: u64,
+    refusals: u64,
+}
+
+#[tactic(auto, unfolding(crate::specs::Fuse::fuse_state, crate::specs::Fuse::fuse_count, crate::specs::Fuse::fuse_call, crate::specs::Fuse::fuse_faults, crate::specs::Fuse::fuse_inner))]
+impl<S: Storage> FuseStorage<S> {
+    ghost use Rattle.imago_storage.specs.Fuse.{fuse_state, fuse_count, fuse_call, fuse_inner};
+
+    /// A storage over `inner` whose nth counted call fails, counted from 1. None does where `n` is 0.
+    pub fn new(inner: S, n: u64) -> Self
+        ensures state { fuse_state S.state result ≡ S.state inner }
+        ensures inner { fuse_inner result ≡ inner }
+        ensures count { fuse_count result ≡ 0 }
+        ensures call { fuse_call result ≡ n }
+    {
+        FuseStorage {
+            inner,
+            n,
+            count: 0,
+            faults: 0,
+            refusals: 0,
+        }
+    }
+
+    /// How many calls were counted. It stays at the greatest `u64`.
+    pub fn count(&self) -> u64
+        ensures { result ≡ fuse_count self.now }
+    {
+        self.count
+    }
+
+    // Counts a call, and says whether it is the one that fails.
+    fn trips(&mut self) -> bool
+        ensures inner { self.new.inner ≡ self.old.inner }
+        ensures call { self.new.n ≡ self.old.n }
+        ensures count { self.new.count ≡ min (self.old.count + 1) (2 ^ 64 - 1) }
+        ensures nth { MatchBool result (self.old.count + 1 ≡ self.old.n) (self.old.count + 1 ≢ self.old.n) }
+        ensures refusals { self.new.refusals ≡ self.old.refusals }
+        ensures faults { MatchBool result (Rose self.old.faults self.new.faults) (self.new.faults ≡ self.old.faults) }
+    {
+        let trips = self.count < self.n && self.count == self.n - 1;
+        self.count = self.count.saturating_add(1);
+        if trips {
+            self.faults = self.faults.saturating_add(1);
+        }
+        trips
+    }
+
+    // Counts a change, and says whether it is the one that fails, and is refused.
+    fn refuses(&mut self) -> bool
+        ensures inner { self.new.inner ≡ self.old.inner }
+        ensures call { self.new.n ≡ self.old.n }
+        ensures count { self.new.count ≡ min (self.old.count + 1) (2 ^ 64 - 1) }
+        ensures nth { MatchBool result (self.old.count + 1 ≡ self.old.n) (self.old.count + 1 ≢ self.old.n) }
+        ensures refusals { MatchBool result (Rose self.old.refusals self.new.refusals) (self.new.refusals ≡ self.old.refusals) }
+        ensures faults { MatchBool result (Rose self.old.faults self.new.faults) (self.new.faults ≡ self.old.faults) }
+    {
+        let trips = self.trips();
+        if trips {
+            self.refusals = self.refusals.saturating_add(1);
+        }
+        trips
+    }
+}
+
+#[tactic(auto, unfolding(crate::specs::Fuse::fuse_state, crate::specs::Fuse::fuse_count, crate::specs::Fuse::fuse_call, crate::specs::Fuse::fuse_faults, crate::specs::Fuse::fuse_inner))]
+impl<S: Storage> Storage for FuseStorage<S> {
+    ghost use Rattle.imago_storage.specs.Fuse.{fuse_state, Counted};
+
+    ghost state = { fuse_state S.state };
+
+    fn mem_align(&self) -> usize {
+        self.inner.mem_align()
+    }
+
+    fn req_align(&self) -> usize {
+        self.inner.req_align()
+    }
+
+    fn zero_align(&self) -> usize {
+        self.inner.zero_align()
+    }
+
+    fn discard_align(&self) -> usize {
+        self.inner.discard_align()
+    }
+
+    fn size(&self) -> u64 {
+        self.inner.size()
+    }
+
+    fn get_filename(&self) -> Option<&str> {
+        self.inner.get_filename()
+    }
+
+    fn resolve_relative_path(&self, alloc: Global, name: &str) -> Result<String, Fault> {
+        self.inner.resolve_relative_path(alloc, name)
+    }
+
+    fn pure_read(&mut self, buf: &mut [u8], offset: u64) -> Result<(), Fault>
+        requires { IsWhole (unit_of (fuse_state S.state self.old).shape) offset (length buf.old) }
+        ensures read { OnOk result (Reads (fuse_state S.state self.old).bytes offset buf.new) }
+        ensures kept { Kept (fuse_state S.state self.old) (fuse_state S.state self.new) }
+        ensures faults { CountsFaults (fuse_state S.state self.old).faults (fuse_state S.state self.new).faults result }
+        ensures later { Later (fuse_state S.state self.old) (fuse_state S.state self.new) }
+        ensures counted { Counted self.old self.new result }
+    {
+        if self.trips() {
+            return Err(Fault::Storage);
+        }
+        self.inner.pure_read(buf, offset)
+    }
+
+    fn pure_write(&mut self, data: &[u8], offset: u64) -> Result<(), Fault>
+        requires { IsWhole (unit_of (fuse_state S.state self.old).shape) offset (length «data».now) }
+        ensures ok { OnOk result (Written (fuse_state S.state self.old) (fuse_state S.state self.new) offset «data».now) }
+        ensures err { IfErr result (NotWritten (fuse_state S.state self.old) (fuse_state S.state self.new) offset «data».now) }
+        ensures shape { (fuse_state S.state self.new).shape ≡ (fuse_state S.state self.old).shape }
+        ensures later { Later (fuse_state S.state self.old) (fuse_state S.state self.new) }
+        ensures once { RequestsOne (fuse_state S.state self.old) (fuse_state S.state self.new) result }
+        ensures counted { Counted self.old self.new result }
+    {
+        if self.refuses() {
+            return Err(Fault::Storage);
+        }
+        self.inner.pure_write(data, offset)
+    }
+
+    fn pure_write_zeroes(&mut self, offset: u64, length: u64) -> Result<(), Fault>
+        requires whole { IsWhole (unit_of (fuse_state S.state self.old).shape) offset length }
+        requires zeroes { IsWhole (fuse_state S.state self.old).shape.zero_align offset length }
+        ensures ok { OnOk result (Written (fuse_state S.state self.old) (fuse_state S.state self.new) offset (replicate length 0)) }
+        ensures err { IfErr result (UnlessUnsupported (fuse_state S.state self.old) (fuse_state S.state self.new) (NotWritten (fuse_state S.state self.old) (fuse_state S.state self.new) offset (replicate length 0))) }
+        ensures shape { (fuse_state S.state self.new).shape ≡ (fuse_state S.state self.old).shape }
+        ensures later { Later (fuse_state S.state self.old) (fuse_state S.state self.new) }
+        ensures once { RequestsOne (fuse_state S.state self.old) (fuse_state S.state self.new) result }
+        ensures counted { Counted self.old self.new result }
+    {
+        if self.refuses() {
+            return Err(Fault::Storage);
+        }
+        self.inner.pure_write_zeroes(offset, length)
+    }
+
+    fn pure_write_allocated_zeroes(&mut self, offset: u64, length: u64) -> Result<(), Fault>
+        requires whole { IsWhole (unit_of (fuse_state S.state self.old).shape) offset length }
+        requires zeroes { IsWhole (fuse_state S.state self.old).shape.zero_align offset length }
+        ensures ok { OnOk result (Written (fuse_state S.state self.old) (fuse_state S.state self.new) offset (replicate length 0)) }
+        ensures err { IfErr result (UnlessUnsupported (fuse_state S.state self.old) (fuse_state S.state self.new) (NotWritten (fuse_state S.state self.old) (fuse_state S.state self.new) offset (replicate length 0))) }
+        ensures shape { (fuse_state S.state self.new).shape ≡ (fuse_state S.state self.old).shape }
+        ensures later { Later (fuse_state S.state self.old) (fuse_state S.state self.new) }
+        ensures once { RequestsOne (fuse_state S.state self.old) (fuse_state S.state self.new) result }
+        ensures counted { Counted self.old self.new result }
+    {
+        if self.refuses() {
+            return Err(Fault::Storage);
+        }
+        self.inner.pure_write_allocated_zeroes(offset, length)
+    }
+
+    fn pure_discard(&mut self, offset: u64, length: u64) -> Result<(), Fault>
+        requires whole { IsWhole (unit_of (fuse_state S.state self.old).shape) offset length }
+        requires discards { IsWhole (fuse_state S.state self.old).shape.discard_align offset length }
+        ensures ok { OnOk result (Discarded (fuse_state S.state self.old) (fuse_state S.state self.new) offset length) }
+        ensures err { IfErr result (UnlessUnsupported (fuse_state S.state self.old) (fuse_state S.state self.new) (NotDiscarded (fuse_state S.state self.old) (fuse_state S.state self.new) offset length)) }
+        ensures shape { (fuse_state S.state self.new).shape ≡ (fuse_state S.state self.old).shape }
+        ensures later { Later (fuse_state S.state self.old) (fuse_state S.state self.new) }
+        ensures once { RequestsOne (fuse_state S.state self.old) (fuse_state S.state self.new) result }
+        ensures counted { Counted self.old self.new result }
+    {
+        if self.refuses() {
+            return Err(Fault::Storage);
+        }
+        self.inner.pure_discard(offset, length)
+    }
+
+    fn resize(&mut self, size: u64, mode: PreallocateMode) -> Result<(), Fault>
+        ensures ok { OnOk result (Resized (fuse_state S.state self.old) (fuse_state S.state self.new) size) }
+        ensures err { IfErr result (UnlessUnsupported (fuse_state S.state self.old) (fuse_state S.state self.new) (NotResized (fuse_state S.state self.old) (fuse_state S.state self.new))) }
+        ensures shape { (fuse_state S.state self.new).shape ≡ (fuse_state S.state self.old).shape }
+        ensures later { Later (fuse_state S.state self.old) (fuse_state S.state self.new) }
+        ensures once { RequestsOne (fuse_state S.state self.old) (fuse_state S.state self.new) result }
+        ensures counted { Counted self.old self.new result }
+    {
+        if self.refuses() {
+            return Err(Fault::Storage);
+        }
+        self.inner.resize(size, mode)
+    }
+
+    fn flush(&mut self) -> Result<(), Fault>
+        ensures kept { Kept (fuse_state S.state self.old) (fuse_state S.state self.new) }
+        ensures faults { CountsFaults (fuse_state S.state self.old).faults (fuse_state S.state self.new).faults result }
+        ensures later { Later (fuse_state S.state self.old) (fuse_state S.state self.new) }
+        ensures counted { Counted self.old self.new result }
+    {
+        if self.trips() {
+            return Err(Fault::Storage);
+        }
+        self.inner.flush()
+    }
+
+    fn sync(&mut self) -> Result<(), Fault>
+        ensures kept { Kept (fuse_state S.state self.old) (fuse_state S.state self.new) }
+        ensures faults { CountsFaults (fuse_state S.state self.old).faults (fuse_state S.state self.new).faults result }
+        ensures later { Later (fuse_state S.state self.old) (fuse_state S.state self.new) }
+        ensures counted { Counted self.old self.new result }
+    {
+        if self.trips() {
+            return Err(Fault::Storage);
+        }
+        self.inner.sync()
+    }
+
+    fn invalidate_cache(&mut self) -> Result<(), Fault> {
+        self.inner.invalidate_cache()
+    }
+}

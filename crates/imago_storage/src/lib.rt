@@ -1,0 +1,26 @@
+//! Storages: lists of bytes that are read and written by requests of whole, aligned units.
+//!
+//! `Storage` is what a storage promises, and `StorageExt` adds reads and writes of any range. `MemStorage` holds its bytes
+//! in memory, and `Null` holds none. `FuseStorage` and `LogStorage` are for tests of what a fault or a stop of the machine
+//! leaves behind. `Fault` is what every call of this crate, and of those above it, is refused with.
+#![tactic(auto)]
+
+mod edits;
+mod ext;
+mod fault;
+mod fuse;
+mod log;
+mod memory;
+mod null;
+mod storage;
+
+pub use ext::{StorageExt, larger_alignment, padded_end};
+pub use fault::{Fault, FaultKind};
+pub use fuse::FuseStorage;
+pub use log::{LogStorage, Request, StopStorage};
+pub use memory::MemStorage;
+pub use null::Null;
+pub use storage::{PreallocateMode, Storage};
+
+#[cfg(test)]
+mod tests;

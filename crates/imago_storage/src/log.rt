@@ -1,0 +1,306 @@
+// A storage that keeps a log of its requests.
+ghost use Rattle.std.specs.Prelude.{◌≡◌, ◌≤◌, ◌-◌, ◌∷◌, ◌++◌, [], List, length, take, slice_get, true, OnOk, IfOk, IfErr, IsOkUnless, IsTrue};
+ghost use Rattle.imago_storage.specs.State.{InStep, Rose};
+ghost use Rattle.imago_storage.specs.Log.{apply, NotLogged};
+
+use crate::edits::{splice, splice_zeroes};
+use crate::{Fault, PreallocateMode, Storage, StorageExt};
+use std::alloc::Global;
+
+/// A change that a storage was asked for. Offsets, lengths and sizes are in bytes.
+#[derive(Debug, Drop)]
+pub enum Request {
+    /// These bytes were written from the offset on.
+    Write { offset: u64, bytes: Vec<u8> },
+    /// Zeroes were written over the range.
+    Zeroes { offset: u64, length: u64 },
+    /// The length was set.
+    Resize { size: u64 },
+}
+
+/// A storage that passes calls on to another, and keeps a log of the changes: for tests of what a stop leaves.
+///
+/// Room in the log is taken before a change is passed on. Where there is none the call answers `Fault::Memory`, and
+/// passes nothing on. A change that the inner storage refuses isn't kept. A discard is refused with
+/// `Fault::Unsupported`, since the bytes that it leaves are open.
+#[derive(Drop)]
+pub struct LogStorage<S> {
+    inner: S,
+    alloc: Global,
+    base: Vec<u8>,
+    requests: Vec<Request>,
+    refusals: u64,
+}
+
+impl<S: Storage> LogStorage<S> {
+    ghost use Rattle.imago_storage.specs.declared.log.Request.{Request};
+    ghost use Rattle.imago_storage.specs.Log.{log_requests, log_state};
+
+    /// The requests that were not refused, the oldest first.
+    #[tactic(auto, using(crate::proofs::Marks::length_of_past), unfolding(crate::specs::Log::log_requests, crate::specs::Log::log_state))]
+    pub fn requests(&self) -> &[Request]
+        ensures requests { result.now ≡ log_requests self.now }
+        ensures mark { length result.now ≡ length (log_state S.state self.now).past }
+    {
+        self.requests.as_slice()
+    }
+
+    /// The storage that the log was made over, as it is now.
+    #[tactic(auto, unfolding(crate::specs::Log::log_state))]
+    pub fn into_inner(self) -> S
+        ensures shape { (log_state S.state self).shape ≡ record (S.state result).shape { tells = true } }
+        ensures bytes { (S.state result).bytes ≡ (log_state S.state self).bytes }
+        ensures faults { (S.state result).faults ≡ (log_state S.state self).faults }
+    {
+        let LogStorage { inner, .. } = self;
+        inner
+    }
+
+    // Makes a request the last one.
+    fn keep(&mut self, request: Request) -> Result<(), Fault>
+        ensures inner { self.new.inner ≡ self.old.inner }
+        ensures base { self.new.base ≡ self.old.base }
+        ensures ok { OnOk result (self.new.requests.items ≡ self.old.requests.items ++ request ∷ []) }
+        ensures ok_refusals { OnOk result (self.new.refusals ≡ self.old.refusals) }
+        ensures err { IfErr result (λ e. e ≡ Fault.Memory) }
+        ensures err_requests { IfErr result (λ e. self.new.requests.items ≡ self.old.requests.items) }
+        ensures err_refusals { IfErr result (λ e. Rose self.old.refusals self.new.refusals) }
+    {
+        match self.requests.push(request) {
+            Ok(()) => Ok(()),
+            Err(_) => {
+                self.refusals = self.refusals.saturating_add(1);
+                Err(Fault::Memory)
+            }
+        }
+    }
+
+    // A copy of bytes that are to be written.
+    fn copy_of(&mut self, bytes: &[u8]) -> Result<Vec<u8>, Fault>
+        ensures inner { self.new.inner ≡ self.old.inner }
+        ensures base { self.new.base ≡ self.old.base }
+        ensures requests { self.new.requests ≡ self.old.requests }
+        ensures ok { IfOk result (λ copy. copy.items ≡ bytes.now) }
+        ensures ok_refusals { OnOk result (self.new.refusals ≡ self.old.refusals) }
+        ensures err { IfErr result (λ e. e ≡ Fault.Memory) }
+        ensures err_refusals { IfErr result (λ e. Rose self.old.refusals self.new.refusals) }
+    {
+        match bytes.to_vec(self.alloc) {
+            Ok(copy) => Ok(copy),
+            Err(_) => {
+                self.refusals = self.refusals.saturating_add(1);
+                Err(Fault::Memory)
+            }
+        }
+    }
+
+    // Takes the last request away.
+    fn forget(&mut self)
+        ensures inner { self.new.inner ≡ self.old.inner }
+        ensures base { self.new.base ≡ self.old.base }
+        ensures refusals { self.new.refusals ≡ self.old.refusals }
+        ensures requests { (rs : List Request) (r : Request) → self.old.requests.items ≡ rs ++ r ∷ [] → self.new.requests.items ≡ rs }
+    {
+        let _ = self.requests.pop();
+    }
+}
+
+impl<S: Storage> LogStorage<S> {
+    ghost use Rattle.imago_storage.specs.Log.{log_state, log_base, log_requests, telling, replay};
+
+    /// A log over a storage, whose bytes it copies. It has no requests yet.
+    ///
+    /// It refuses with `Fault::Memory` where the copy has no room, and with `Fault::Storage` where the storage failed;
+    /// either drops the storage.
+    #[tactic(auto, unfolding(crate::specs::Log::log_state, crate::specs::Log::log_base, crate::specs::Log::log_requests))]
+    pub fn new(alloc: Global, inner: S) -> Result<Self, Fault>
+        ensures state { IfOk result (λ log. log_state S.state log ≡ telling (S.state inner)) }
+        ensures base { IfOk result (λ log. log_base log ≡ (S.state inner).bytes) }
+        ensures empty { IfOk result (λ log. log_requests log ≡ []) }
+        ensures err { IfErr result NotLogged }
+    {
+        let mut inner = inner;
+        let base = copy_of_bytes(&mut inner, alloc)?;
+        Ok(LogStorage {
+            inner,
+            alloc,
+            base,
+            requests: Vec::new(alloc),
+            refusals: 0,
+        })
+    }
+
+    /// The file that a stop after the first k requests leaves: these requests, over the bytes that the log was made over.
+    ///
+    /// Its only refusal is `Fault::Memory`; the log stays as it is.
+    #[tactic(auto, unfolding(crate::specs::Log::log_state, crate::specs::Log::log_base, crate::specs::Log::log_requests))]
+    pub fn stop_at(&mut self, k: usize) -> Result<Vec<u8>, Fault>
+        requires { k ≤ length (log_requests self.old) }
+        ensures ok { IfOk result (λ file. file.items ≡ replay (log_base self.old) (take k (log_requests self.old))) }
+        ensures first { k ≡ 0 → IfOk result (λ file. file.items ≡ log_base self.old) }
+        ensures last { k ≡ length (log_requests self.old) → IfOk result (λ file. file.items ≡ (log_state S.state self.old).stop) }
+        // While no change was refused, the last stop has the bytes.
+        ensures now { k ≡ length (log_requests self.old) → InStep (log_state S.state self.old) → IsTrue (log_state S.state self.old).shape.keeps → IfOk result (λ file. file.items ≡ (log_state S.state self.old).bytes) }
+        // It is the file that the log's state has for this stop.
+        ensures told { IfOk result (λ file. slice_get ((log_state S.state self.old).stop ∷ (log_state S.state self.old).past) (length (log_requests self.old) - k) ≡ Some file.items) }
+        ensures err { IsOkUnless result Fault.Memory }
+        ensures same { self.new ≡ self.old }
+    {
+        let mut file = self.base.to_vec(self.alloc)?;
+        for request in &self.requests[..k] {
+            apply_request(&mut file, request)?;
+        }
+        Ok(file)
+    }
+}
+
+// A copy of all bytes of a storage.
+#[tactic(auto, using(crate::proofs::Composing::kept_same))]
+fn copy_of_bytes<S: Storage>(storage: &mut S, alloc: Global) -> Result<Vec<u8>, Fault>
+    ensures ok { IfOk result (λ copy. copy.items ≡ (S.state storage.old).bytes) }
+    ensures same { OnOk result (S.state storage.new ≡ S.state storage.old) }
+    ensures err { IfErr result NotLogged }
+{
+    let mut copy = vec![in alloc; 0u8; storage.size() as usize]?;
+    match storage.read(alloc, &mut copy, 0) {
+        Ok(()) => Ok(copy),
+        Err(Fault::Storage) => Err(Fault::Storage),
+        // The range ends where the bytes do, so it can't overflow: this is want of memory.
+        Err(_) => Err(Fault::Memory),
+    }
+}
+
+// Does to a file what a request asks.
+fn apply_request(file: &mut Vec<u8>, request: &Request) -> Result<(), Fault>
+    ensures ok { OnOk result (file.new.items ≡ apply request.now file.old.items) }
+    ensures err { IfErr result (λ e. e ≡ Fault.Memory) }
+{
+    match request {
+        Request::Write { offset, bytes } => splice(file, *offset as usize, bytes)?,
+        Request::Zeroes { offset, length } => {
+            splice_zeroes(file, *offset as usize, *length as usize)?
+        }
+        Request::Resize { size } => file.resize(*size as usize, 0)?,
+    }
+    Ok(())
+}
+
+/// A storage that tells its stops: which file is left where the machine stops after each request.
+pub trait StopStorage: Storage {
+    /// How many requests it has made so far.
+    fn mark(&self) -> usize
+        ensures { result ≡ length (Self.state self.now).past };
+
+    ghost tells: { (s : Self) → IsTrue (Self.state s).shape.tells };
+}
+
+#[tactic(auto, using(crate::proofs::Marks::length_of_past), unfolding(crate::specs::Log::log_state))]
+impl<S: Storage> StopStorage for LogStorage<S> {
+    ghost use Rattle.imago_storage.specs.Log.{log_tells};
+
+    ghost tells = { λ s. log_tells S.state s };
+
+    fn mark(&self) -> usize {
+        self.requests.len()
+    }
+}
+
+#[tactic(auto, unfolding(crate::specs::Log::log_state))]
+impl<S: Storage> Storage for LogStorage<S> {
+    ghost use Rattle.imago_storage.specs.Log.{log_state};
+
+    ghost state = { log_state S.state };
+
+    fn mem_align(&self) -> usize {
+        self.inner.mem_align()
+    }
+
+    fn req_align(&self) -> usize {
+        self.inner.req_align()
+    }
+
+    fn zero_align(&self) -> usize {
+        self.inner.zero_align()
+    }
+
+    fn discard_align(&self) -> usize {
+        self.inner.discard_align()
+    }
+
+    fn size(&self) -> u64 {
+        self.inner.size()
+    }
+
+    fn get_filename(&self) -> Option<&str> {
+        self.inner.get_filename()
+    }
+
+    fn resolve_relative_path(&self, alloc: Global, name: &str) -> Result<String, Fault> {
+        self.inner.resolve_relative_path(alloc, name)
+    }
+
+    fn pure_read(&mut self, buf: &mut [u8], offset: u64) -> Result<(), Fault> {
+        self.inner.pure_read(buf, offset)
+    }
+
+    fn pure_write(&mut self, data: &[u8], offset: u64) -> Result<(), Fault> {
+        let bytes = self.copy_of(data)?;
+        self.keep(Request::Write { offset, bytes })?;
+        match self.inner.pure_write(data, offset) {
+            Ok(()) => Ok(()),
+            Err(e) => {
+                self.forget();
+                Err(e)
+            }
+        }
+    }
+
+    fn pure_write_zeroes(&mut self, offset: u64, length: u64) -> Result<(), Fault> {
+        self.keep(Request::Zeroes { offset, length })?;
+        match self.inner.pure_write_zeroes(offset, length) {
+            Ok(()) => Ok(()),
+            Err(e) => {
+                self.forget();
+                Err(e)
+            }
+        }
+    }
+
+    fn pure_write_allocated_zeroes(&mut self, offset: u64, length: u64) -> Result<(), Fault> {
+        self.keep(Request::Zeroes { offset, length })?;
+        match self.inner.pure_write_allocated_zeroes(offset, length) {
+            Ok(()) => Ok(()),
+            Err(e) => {
+                self.forget();
+                Err(e)
+            }
+        }
+    }
+
+    fn pure_discard(&mut self, _offset: u64, _length: u64) -> Result<(), Fault> {
+        Err(Fault::Unsupported)
+    }
+
+    fn resize(&mut self, size: u64, mode: PreallocateMode) -> Result<(), Fault> {
+        self.keep(Request::Resize { size })?;
+        match self.inner.resize(size, mode) {
+            Ok(()) => Ok(()),
+            Err(e) => {
+                self.forget();
+                Err(e)
+            }
+        }
+    }
+
+    fn flush(&mut self) -> Result<(), Fault> {
+        self.inner.flush()
+    }
+
+    fn sync(&mut self) -> Result<(), Fault> {
+        self.inner.sync()
+    }
+
+    fn invalidate_cache(&mut self) -> Result<(), Fault> {
+        self.inner.invalidate_cache()
+    }
+}

@@ -1,0 +1,183 @@
+// A storage in memory.
+ghost use Rattle.std.specs.Prelude.{◌≡◌, [], OnOk, IfOk, IfErr, IsOkUnless};
+ghost use Rattle.imago_storage.specs.State.{IsAlignment, IsWhole, unit_of};
+ghost use Rattle.imago_storage.specs.Calls.{Later, RequestsOne, Discarded, NotDiscarded, UnlessUnsupported};
+
+use crate::edits::{clear, copy_out, splice, splice_zeroes};
+use crate::{Fault, PreallocateMode, Storage};
+use std::alloc::Global;
+
+/// A storage whose bytes are in memory.
+///
+/// Its only refusal is `Fault::Memory`, where a change needs room that isn't there; the bytes are then as they were. It
+/// counts no faults, so it never answers `Fault::Storage`. A discard makes the bytes of its range 0.
+#[derive(Drop)]
+pub struct MemStorage {
+    bytes: Vec<u8>,
+    align: usize,
+    refusals: u64,
+    ghost aligned: { IsAlignment align },
+}
+
+#[tactic(auto, unfolding(crate::specs::MemStorage::mem_state))]
+impl MemStorage {
+    ghost use Rattle.imago_storage.specs.MemStorage.{memory, mem_shape, mem_state};
+
+    /// An empty storage of alignment 1. It takes no memory.
+    pub fn new(alloc: Global) -> Self
+        ensures { mem_state result ≡ memory [] 1 0 }
+    {
+        MemStorage {
+            bytes: Vec::new(alloc),
+            align: 1,
+            refusals: 0,
+        }
+    }
+
+    /// A storage of these bytes, of alignment 1.
+    ///
+    /// Its only refusal is `Fault::Memory`, which drops the bytes.
+    pub fn from_bytes(bytes: Vec<u8>) -> Result<Self, Fault>
+        ensures ok { IfOk result (λ m. mem_state m ≡ memory bytes.items 1 0) }
+        ensures err { IsOkUnless result Fault.Memory }
+    {
+        let mut storage = MemStorage::new(*bytes.allocator());
+        storage.bytes = bytes;
+        Ok(storage)
+    }
+
+    /// The same storage with all four alignments set, in bytes.
+    pub fn with_align(self, align: usize) -> Self
+        requires { IsAlignment align }
+        ensures { mem_state result ≡ record (mem_state self) { shape = mem_shape align } }
+    {
+        let MemStorage {
+            bytes,
+            align: _,
+            refusals,
+        } = self;
+        MemStorage {
+            bytes,
+            align,
+            refusals,
+        }
+    }
+
+    /// A copy of the bytes. Its only refusal is `Fault::Memory`.
+    pub fn bytes(&self) -> Result<Vec<u8>, Fault>
+        ensures ok { IfOk result (λ copy. copy.items ≡ (mem_state self.now).bytes) }
+        ensures err { IsOkUnless result Fault.Memory }
+        // It never fails: with this, no call's clause on the cause of a refusal allows `Fault::Storage`.
+        ensures faults { (mem_state self.now).faults ≡ 0 }
+    {
+        let mut copy = Vec::new(*self.bytes.allocator());
+        copy.extend_from_slice(&self.bytes)?;
+        Ok(copy)
+    }
+
+    /// The bytes. Its only refusal is `Fault::Memory`, which drops them.
+    pub fn into_bytes(self) -> Result<Vec<u8>, Fault>
+        ensures ok { IfOk result (λ bytes. bytes.items ≡ (mem_state self).bytes) }
+        ensures err { IsOkUnless result Fault.Memory }
+    {
+        let MemStorage { bytes, .. } = self;
+        Ok(bytes)
+    }
+}
+
+#[tactic(auto, unfolding(crate::specs::MemStorage::mem_state))]
+impl Storage for MemStorage {
+    ghost use Rattle.imago_storage.specs.MemStorage.{mem_state, Zeroed};
+
+    ghost state = { mem_state };
+
+    fn mem_align(&self) -> usize {
+        self.align
+    }
+
+    fn req_align(&self) -> usize {
+        self.align
+    }
+
+    fn zero_align(&self) -> usize {
+        self.align
+    }
+
+    fn discard_align(&self) -> usize {
+        self.align
+    }
+
+    fn size(&self) -> u64 {
+        let bytes: &[u8] = &self.bytes;
+        bytes.len() as u64
+    }
+
+    fn get_filename(&self) -> Option<&str> {
+        None
+    }
+
+    fn pure_read(&mut self, buf: &mut [u8], offset: u64) -> Result<(), Fault> {
+        copy_out(&self.bytes, offset as usize, buf);
+        Ok(())
+    }
+
+    fn pure_write(&mut self, data: &[u8], offset: u64) -> Result<(), Fault> {
+        match splice(&mut self.bytes, offset as usize, data) {
+            Ok(()) => Ok(()),
+            Err(_) => {
+                self.refusals = self.refusals.saturating_add(1);
+                Err(Fault::Memory)
+            }
+        }
+    }
+
+    fn pure_write_zeroes(&mut self, offset: u64, length: u64) -> Result<(), Fault> {
+        match splice_zeroes(&mut self.bytes, offset as usize, length as usize) {
+            Ok(()) => Ok(()),
+            Err(_) => {
+                self.refusals = self.refusals.saturating_add(1);
+                Err(Fault::Memory)
+            }
+        }
+    }
+
+    fn pure_write_allocated_zeroes(&mut self, offset: u64, length: u64) -> Result<(), Fault> {
+        self.pure_write_zeroes(offset, length)
+    }
+
+    fn pure_discard(&mut self, offset: u64, length: u64) -> Result<(), Fault>
+        requires whole { IsWhole (unit_of (mem_state self.old).shape) offset length }
+        requires discards { IsWhole (mem_state self.old).shape.discard_align offset length }
+        ensures ok { OnOk result (Discarded (mem_state self.old) (mem_state self.new) offset length) }
+        ensures err { IfErr result (UnlessUnsupported (mem_state self.old) (mem_state self.new) (NotDiscarded (mem_state self.old) (mem_state self.new) offset length)) }
+        ensures shape { (mem_state self.new).shape ≡ (mem_state self.old).shape }
+        ensures later { Later (mem_state self.old) (mem_state self.new) }
+        ensures once { RequestsOne (mem_state self.old) (mem_state self.new) result }
+        ensures zeroes { OnOk result (Zeroed (mem_state self.new).bytes offset length) }
+    {
+        clear(&mut self.bytes, offset as usize, length as usize);
+        Ok(())
+    }
+
+    fn resize(&mut self, size: u64, _mode: PreallocateMode) -> Result<(), Fault> {
+        match self.bytes.resize(size as usize, 0) {
+            Ok(()) => Ok(()),
+            Err(_) => {
+                self.refusals = self.refusals.saturating_add(1);
+                Err(Fault::Memory)
+            }
+        }
+    }
+
+    fn flush(&mut self) -> Result<(), Fault> {
+        Ok(())
+    }
+
+    fn sync(&mut self) -> Result<(), Fault> {
+        Ok(())
+    }
+
+    fn invalidate_cache(&mut self) -> Result<(), Fault> {
+        Ok(())
+    }
+}

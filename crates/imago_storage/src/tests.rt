@@ -1,0 +1,310 @@
+// The answers of each public call, by values from the rules, at alignments 1, 8, 512 and 4096.
+//
+// Where an allocation is refused a body ends with `Fault::Memory`, and its test runs it once more: so each test passes
+// whichever one allocation is refused, and fails where a call gives up with memory left.
+ghost use Rattle.std.specs.Prelude.{◌≡◌};
+ghost use Rattle.imago_storage.specs.State.{IsAlignment, unit_of};
+
+use super::*;
+use std::alloc::Global;
+use std::process::Abort;
+use std::test::Fail;
+
+// Three bytes written over the end of 4,096 bytes, padded at this alignment up to that size.
+fn padded(rt: &impl Abort, alloc: Global, align: usize, size: u64) -> Result<(), Fault>
+    requires { IsAlignment align }
+{
+    let first = [0xaau8; 4096].to_vec(alloc)?;
+    let mut storage = MemStorage::from_bytes(first)?.with_align(align);
+    storage.write(alloc, &[1, 2, 3], 4095)?;
+    assert_eq!(rt; storage.size(), size);
+    let mut buf = [7u8; 6];
+    storage.read(alloc, &mut buf, 4094)?;
+    assert_eq!(rt; buf, [0xaa, 1, 2, 3, 0, 0]);
+    let bytes = storage.bytes()?;
+    assert_eq!(rt; bytes.len() as u64, size);
+    for (i, byte) in bytes.iter().enumerate() {
+        let want = match i {
+            0..4095 => 0xaa,
+            4095..4098 => (i - 4094) as u8,
+            _ => 0,
+        };
+        assert_eq!(rt; *byte, want, "at {i}");
+    }
+    Ok(())
+}
+
+fn padded_at_each(rt: &impl Abort, alloc: Global) -> Result<(), Fault> {
+    padded(rt, alloc, 1, 4098)?;
+    padded(rt, alloc, 8, 4104)?;
+    padded(rt, alloc, 512, 4608)?;
+    padded(rt, alloc, 4096, 8192)
+}
+
+#[test]
+fn a_write_is_padded(rt: HostRuntime) -> Result<(), Fail> {
+    let alloc = rt.alloc();
+    match padded_at_each(&rt, alloc) {
+        Err(Fault::Memory) => padded_at_each(&rt, alloc)?,
+        answer => answer?,
+    }
+    Ok(())
+}
+
+#[test]
+fn a_range_past_u64_is_refused(rt: HostRuntime) {
+    let alloc = rt.alloc();
+    let mut storage = MemStorage::new(alloc).with_align(4096);
+    let mut buf = [0u8; 100];
+    let read = storage.read(alloc, &mut buf, u64::MAX - 10);
+    assert_eq!(rt; read, Err(Fault::RangeOverflow));
+    let write = storage.write(alloc, &buf, u64::MAX - 10);
+    assert_eq!(rt; write, Err(Fault::RangeOverflow));
+    assert_eq!(rt; storage.size(), 0);
+}
+
+// Each call of a storage that is empty and keeps what is written, at a unit of 4, and what a discard answers.
+fn each_call<S: Storage>(
+    rt: &impl Abort,
+    alloc: Global,
+    storage: &mut S,
+    discarded: Result<(), Fault>,
+) -> Result<(), Fault>
+    requires unit { unit_of (S.state storage.old).shape ≡ 4 }
+    requires zeroes { (S.state storage.old).shape.zero_align ≡ 4 }
+    requires discards { (S.state storage.old).shape.discard_align ≡ 4 }
+{
+    storage.pure_write(&[1; 8], 4)?;
+    storage.pure_write_zeroes(4, 4)?;
+    storage.pure_write_allocated_zeroes(12, 4)?;
+    assert_eq!(rt; storage.size(), 16);
+    assert_eq!(rt; storage.pure_discard(12, 4), discarded);
+    storage.resize(10, PreallocateMode::None)?;
+    storage.flush()?;
+    storage.sync()?;
+    storage.invalidate_cache()?;
+    assert_eq!(rt; storage.size(), 10);
+    let mut buf = [7u8; 12];
+    storage.pure_read(&mut buf, 4)?;
+    assert_eq!(rt; buf, [0, 0, 0, 0, 1, 1, 0, 0, 0, 0, 0, 0]);
+    let aligns = [
+        storage.mem_align(),
+        storage.req_align(),
+        storage.zero_align(),
+        storage.discard_align(),
+    ];
+    assert_eq!(rt; aligns, [4, 4, 4, 4]);
+    assert!(rt; storage.get_filename().is_none());
+    let path = storage.resolve_relative_path(alloc, "name");
+    assert!(rt; matches!(path, Err(Fault::Unsupported)));
+    Ok(())
+}
+
+fn calls_of_memory(rt: &impl Abort, alloc: Global) -> Result<(), Fault> {
+    let mut storage = MemStorage::new(alloc).with_align(4);
+    each_call(rt, alloc, &mut storage, Ok(()))?;
+    let bytes = storage.into_bytes()?;
+    assert_eq!(rt; bytes.as_slice(), [0, 0, 0, 0, 0, 0, 0, 0, 1, 1].as_slice());
+    Ok(())
+}
+
+#[test]
+fn memory_answers_each_call(rt: HostRuntime) -> Result<(), Fail> {
+    let alloc = rt.alloc();
+    match calls_of_memory(&rt, alloc) {
+        Err(Fault::Memory) => calls_of_memory(&rt, alloc)?,
+        answer => answer?,
+    }
+    Ok(())
+}
+
+// Eight counted calls, and the ninth, which fails, once.
+fn calls_of_wrappers(rt: &impl Abort, alloc: Global) -> Result<(), Fault> {
+    let log = LogStorage::new(alloc, MemStorage::new(alloc).with_align(4))?;
+    let mut storage = FuseStorage::new(log, 9);
+    each_call(rt, alloc, &mut storage, Err(Fault::Unsupported))?;
+    assert_eq!(rt; storage.count(), 8);
+    let blown = storage.resize(0, PreallocateMode::Zero);
+    assert_eq!(rt; blown, Err(Fault::Storage));
+    assert_eq!(rt; storage.size(), 10);
+    storage.resize(0, PreallocateMode::Zero)?;
+    assert_eq!(rt; storage.size(), 0);
+    assert_eq!(rt; storage.count(), 10);
+    Ok(())
+}
+
+#[test]
+fn wrappers_pass_calls_on(rt: HostRuntime) -> Result<(), Fail> {
+    let alloc = rt.alloc();
+    match calls_of_wrappers(&rt, alloc) {
+        Err(Fault::Memory) => calls_of_wrappers(&rt, alloc)?,
+        answer => answer?,
+    }
+    match passed_on(&rt, alloc) {
+        Err(Fault::Memory) => passed_on(&rt, alloc)?,
+        answer => answer?,
+    }
+    Ok(())
+}
+
+// Three requests for one write, and one that the inner storage refuses, which isn't kept. It is the seventh counted call:
+// making the log reads once, and the write reads its first and last units.
+fn logged(rt: &impl Abort, alloc: Global) -> Result<(), Fault> {
+    let memory = MemStorage::from_bytes([9u8; 4].to_vec(alloc)?)?.with_align(4);
+    let mut log = LogStorage::new(alloc, FuseStorage::new(memory, 7))?;
+    log.write(alloc, &[1; 10], 3)?;
+    let blown = log.pure_write(&[5; 4], 0);
+    if blown == Err(Fault::Memory) {
+        return blown;
+    }
+    assert_eq!(rt; blown, Err(Fault::Storage));
+    assert_eq!(rt; log.mark(), 3);
+    assert_eq!(rt; log.requests().len(), 3);
+    let stops = [
+        [9, 9, 9, 9].as_slice(),
+        [9, 9, 9, 1].as_slice(),
+        [9, 9, 9, 1, 1, 1, 1, 1, 1, 1, 1, 1].as_slice(),
+        [9, 9, 9, 1, 1, 1, 1, 1, 1, 1, 1, 1, 1, 0, 0, 0].as_slice(),
+    ];
+    for (k, want) in stops.iter().enumerate() {
+        if k <= log.requests().len() {
+            let file = log.stop_at(k)?;
+            assert_eq!(rt; file.as_slice(), *want, "at {k}");
+        }
+    }
+    assert_eq!(rt; log.into_inner().size(), 16);
+    Ok(())
+}
+
+// Flushes and syncs reach the storage below, whose fuse they blow.
+fn passed_on(rt: &impl Abort, alloc: Global) -> Result<(), Fault> {
+    let mut log = LogStorage::new(alloc, FuseStorage::new(MemStorage::new(alloc), 1))?;
+    assert_eq!(rt; log.flush(), Err(Fault::Storage));
+    let mut log = LogStorage::new(alloc, FuseStorage::new(MemStorage::new(alloc), 1))?;
+    assert_eq!(rt; log.sync(), Err(Fault::Storage));
+    let mut fuse = FuseStorage::new(FuseStorage::new(MemStorage::new(alloc), 2), 0);
+    assert_eq!(rt; fuse.flush(), Ok(()));
+    assert_eq!(rt; fuse.sync(), Err(Fault::Storage));
+    assert_eq!(rt; fuse.flush(), Ok(()));
+    Ok(())
+}
+
+// Stops after a request of each kind.
+fn replayed(rt: &impl Abort, alloc: Global) -> Result<(), Fault> {
+    let mut log = LogStorage::new(alloc, MemStorage::new(alloc).with_align(4))?;
+    each_call(rt, alloc, &mut log, Err(Fault::Unsupported))?;
+    assert_eq!(rt; log.requests().len(), 4);
+    let second = log.stop_at(2)?;
+    assert_eq!(rt;
+        second.as_slice(),
+        [0, 0, 0, 0, 0, 0, 0, 0, 1, 1, 1, 1].as_slice()
+    );
+    let last = log.stop_at(4)?;
+    assert_eq!(rt; last.as_slice(), [0, 0, 0, 0, 0, 0, 0, 0, 1, 1].as_slice());
+    Ok(())
+}
+
+#[test]
+fn a_log_tells_its_stops(rt: HostRuntime) -> Result<(), Fail> {
+    let alloc = rt.alloc();
+    match logged(&rt, alloc) {
+        Err(Fault::Memory) => logged(&rt, alloc)?,
+        answer => answer?,
+    }
+    match replayed(&rt, alloc) {
+        Err(Fault::Memory) => replayed(&rt, alloc)?,
+        answer => answer?,
+    }
+    Ok(())
+}
+
+fn nothing_kept(rt: &impl Abort, alloc: Global) -> Result<(), Fault> {
+    let mut storage = Null::new(1024);
+    storage.write(alloc, &[1; 4096], 512)?;
+    assert_eq!(rt; storage.size(), 4608);
+    storage.write(alloc, &[1; 16], 0)?;
+    storage.pure_write_zeroes(0, 16)?;
+    storage.pure_write_allocated_zeroes(16, 16)?;
+    storage.pure_discard(0, 16)?;
+    assert_eq!(rt; storage.size(), 4608);
+    let mut buf = [7u8; 4];
+    storage.read(alloc, &mut buf, 4606)?;
+    assert_eq!(rt; buf, [0; 4]);
+    storage.resize(10, PreallocateMode::WriteData)?;
+    storage.flush()?;
+    storage.sync()?;
+    storage.invalidate_cache()?;
+    assert_eq!(rt; storage.size(), 10);
+    Ok(())
+}
+
+#[test]
+fn null_keeps_nothing(rt: HostRuntime) -> Result<(), Fail> {
+    let alloc = rt.alloc();
+    match nothing_kept(&rt, alloc) {
+        Err(Fault::Memory) => nothing_kept(&rt, alloc)?,
+        answer => answer?,
+    }
+    Ok(())
+}
+
+#[test]
+fn the_larger_alignment(rt: HostRuntime) {
+    assert_eq!(rt; larger_alignment(8, 512), 512);
+    assert_eq!(rt; larger_alignment(4096, 1), 4096);
+}
+
+#[test]
+fn an_end_is_rounded_up_where_it_fits(rt: HostRuntime) {
+    assert_eq!(rt; padded_end(510, 3, 512), Some(1024));
+    assert_eq!(rt; padded_end(512, 512, 512), Some(1024));
+    assert_eq!(rt; padded_end(u64::MAX - 10, 10, 1), Some(u64::MAX));
+    assert_eq!(rt; padded_end(u64::MAX - 10, 11, 1), None);
+    assert_eq!(rt; padded_end(u64::MAX - 10, 1, 4096), None);
+}
+
+fn written_out(rt: &impl Abort, alloc: Global) -> Result<(), Fault> {
+    let faults = [
+        (Fault::ReadOnly, "error 1", FaultKind::Other),
+        (Fault::PastEnd, "error 2", FaultKind::UnexpectedEof),
+        (Fault::RangeOverflow, "error 3", FaultKind::InvalidInput),
+        (Fault::DamagedHeader, "error 4", FaultKind::InvalidData),
+        (Fault::DamagedTable, "error 5", FaultKind::InvalidData),
+        (Fault::DamagedDescriptor, "error 6", FaultKind::InvalidData),
+        (Fault::Unsupported, "error 7", FaultKind::Unsupported),
+        (Fault::Barred, "error 8", FaultKind::Unsupported),
+        (Fault::Outdated, "error 9", FaultKind::Other),
+        (Fault::Foreign, "error 10", FaultKind::InvalidInput),
+        (Fault::VersionLimit, "error 11", FaultKind::Unsupported),
+        (Fault::Limit(65537), "error 12", FaultKind::Other),
+        (Fault::MissingBelow, "error 13", FaultKind::Other),
+        (Fault::ExtraLayer, "error 14", FaultKind::InvalidInput),
+        (Fault::MissingData, "error 15", FaultKind::Other),
+        (Fault::CacheFull, "error 16", FaultKind::Other),
+        (Fault::Counter, "error 17", FaultKind::InvalidData),
+        (Fault::BadArgument, "error 18", FaultKind::InvalidInput),
+        (Fault::Failed, "error 19", FaultKind::Other),
+        (Fault::Memory, "error 20", FaultKind::OutOfMemory),
+        (Fault::Storage, "error 21", FaultKind::Other),
+        (Fault::BadCommand, "error 22", FaultKind::InvalidInput),
+    ];
+    for (i, (fault, text, kind)) in faults.iter().enumerate() {
+        let Ok(written) = format!(in alloc; "{fault}") else {
+            return Err(Fault::Memory);
+        };
+        assert_eq!(rt; written.as_str(), *text);
+        assert_eq!(rt; fault.number() as usize, i + 1);
+        assert_eq!(rt; fault.kind(), *kind, "{text}");
+    }
+    Ok(())
+}
+
+#[test]
+fn faults_have_numbers_kinds_and_texts(rt: HostRuntime) -> Result<(), Fail> {
+    let alloc = rt.alloc();
+    match written_out(&rt, alloc) {
+        Err(Fault::Memory) => written_out(&rt, alloc)?,
+        answer => answer?,
+    }
+    Ok(())
+}

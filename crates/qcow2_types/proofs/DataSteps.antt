@@ -1,0 +1,236 @@
+-- A write into a data cluster, or into clusters that nothing names.
+use Rattle.std.proofs.Common.{◌≡◌, ◌≢◌, ℕ, ◌+◌, ◌*◌, ◌<◌, ◌≤◌, refl, arith, sym, ◌∙◌, ap, inl, inr}
+use Rattle.std.specs.Prelude.{Bool, true}
+use Rattle.std.proofs.lemmas.Bool.{cases_lt}
+use Rattle.qcow2_types.specs.Bytes.{Bytes}
+use Rattle.qcow2_types.specs.Words.{Mapping, data_at, is_damaged, l1_word_sound, block_word_sound}
+use Rattle.qcow2_types.specs.Header.{Fields, Header, cluster_size, words_of_cluster}
+use Rattle.qcow2_types.specs.Entries.{l2_table}
+use Rattle.qcow2_types.specs.Counts.{count}
+use Rattle.qcow2_types.specs.Slots.{slot, Live, over_slots, SoundWords}
+use Rattle.qcow2_types.specs.Frames.{Same, Outside, touches, Kept, Skipped, nothing, first_cluster, l1_word, block_word, table, ShowsAs}
+use Rattle.qcow2_types.specs.Versions.{KeepsSlots, named}
+use Rattle.qcow2_types.specs.References.{structure, contents, of_mapping, of_copied, meets, refs}
+use Rattle.qcow2_types.specs.Consistency.{IsConsistent}
+use Rattle.qcow2_types.specs.Steps.{DataWritten, FreeWritten}
+use Rattle.qcow2_types.proofs.Consistent.{header-kept, some-words, meets-own, meets-other, consistent-shaped, structure-named-once, copied-named-once, named-counted, consistent-from}
+use Rattle.qcow2_types.proofs.Slots.{contents-slots, slots-same, slot-le}
+use Rattle.qcow2_types.proofs.Either.{structure-same, tables-same, refs-kept, named-clean}
+use Rattle.qcow2_types.proofs.Parts.{kept-all, touches-none, count-kept}
+use Rattle.qcow2_types.proofs.Sound.{sound-words}
+use Rattle.qcow2_types.proofs.WriteBack.{keeps-slots}
+use Rattle.qcow2_types.proofs.DataWrites.{data-write-elsewhere}
+use Rattle.qcow2_types.proofs.Shows.{guest-kept, shows-outside, shows-by}
+use Rattle.qcow2_types.proofs.Named.{structure-le-refs}
+use Rattle.qcow2_types.proofs.Frames.{untouched, touches-cluster}
+use Rattle.qcow2_types.proofs.Views.{run-untouched}
+use Rattle.std.proofs.Math.Nat.{mul-le-mul_right}
+
+-- what is summed over the mappings is the same where they are
+pub contents-kept : (f x : Bytes) (h : Fields) (of : Mapping → ℕ) → KeepsSlots f x h → contents x h of ≡ contents f h of
+contents-kept f x h of keeps =
+    contents-slots x h of
+    ∙ (tables-same (l2_table f h) (l2_table x h) h _ keeps.places.l1
+    ∙ (slots-same (l2_table f h) h _ _ (λ i j live. ap of (keeps.slots i j live)) ∙ sym (contents-slots f h of)))
+
+-- Where the words of the tables, all mappings and the header are kept, and what is named is counted, the image stays consistent.
+module _ (f g : Bytes) (H : Header) (was : IsConsistent f H) (skip : Skipped) (kept : Kept f g H.fields skip) (no_l1 : (i : ℕ) → skip ≢ l1_word i) (no_block : (i : ℕ) → skip ≢ block_word i)
+    (no_table : (i : ℕ) → skip ≢ table i) (no_start : skip ≢ first_cluster) where
+  -- all mappings are kept
+  pub kept-keeps : KeepsSlots f g H.fields
+  kept-keeps = keeps-slots f g H.fields skip kept no_l1 no_block no_table
+
+  -- each cluster is named as often
+  pub kept-references : (c : ℕ) → refs g H.fields c ≡ refs f H.fields c
+  kept-references c = refs-kept f g H.fields c kept-keeps
+
+  -- the tables stay sound
+  kept-sound : SoundWords g H.fields
+  kept-sound =
+      let sound : SoundWords f H.fields = sound-words f H.fields was.readable.tables in
+      record {
+        l1 = λ i lt. ap (l1_word_sound H.fields.cluster_bits) (kept.l1 i lt (no_l1 i)) ∙ sound.l1 i lt;
+        blocks = λ i lt. ap (block_word_sound H.fields.cluster_bits) (kept.blocks i lt (no_block i)) ∙ sound.blocks i lt;
+        slots = λ i j live.
+            let live' : Live (l2_table f H.fields) H.fields i j = record { in_l1 = live.in_l1; is_there = (λ e. live.is_there (kept-keeps.places.l1 i ∙ e)); in_table = live.in_table } in
+            ap is_damaged (kept-keeps.slots i j live') ∙ sound.slots i j live';
+      }
+
+  -- and the image consistent
+  pub kept-consistent : ((c : ℕ) → refs f H.fields c ≤ count g H.fields c) → IsConsistent g H
+  kept-consistent counted = consistent-from g H (header-kept true f g H was.readable.loads (kept.start no_start)) was.readable.no_snapshots was.readable.data_inside kept-sound
+      (λ c some.
+      let same : structure g H.fields (meets H.fields c) ≡ structure f H.fields (meets H.fields c) = structure-same f g H.fields kept-keeps.places (meets H.fields c) in
+      let once : refs f H.fields c ≡ 1 = structure-named-once f H was c (omega arith) in
+      let r : refs g H.fields c ≡ refs f H.fields c = kept-references c in
+      omega arith)
+      (λ c some.
+      let same : contents g H.fields (of_copied H.fields (meets H.fields c)) ≡ contents f H.fields (of_copied H.fields (meets H.fields c)) = contents-kept f g H.fields (of_copied H.fields (meets H.fields c)) kept-keeps in
+      let once : refs f H.fields c ≡ 1 = copied-named-once f H was c (omega arith) in
+      let r : refs g H.fields c ≡ refs f H.fields c = kept-references c in
+      omega arith)
+      (λ c.
+      let r : refs g H.fields c ≡ refs f H.fields c = kept-references c in
+      let le : refs f H.fields c ≤ count g H.fields c = counted c in
+      omega arith)
+
+  -- and shows the same where the write lies in a cluster that no mapping names
+  pub kept-shows : IsConsistent g H → (c at n : ℕ) → Outside f g at n → c * cluster_size H.fields ≤ at → at + n ≤ (c + 1) * cluster_size H.fields
+      → contents f H.fields (of_mapping H.fields (meets H.fields c)) ≡ 0 → (guest : ℕ) → ShowsAs g f H.fields guest
+  kept-shows after c at n out low high none guest =
+      let some : 0 < words_of_cluster H.fields = some-words H.fields (consistent-shaped f H was) in
+      shows-outside f g H.fields was.readable.tables after.readable.tables some guest (guest-kept f g H.fields kept-keeps some guest) c at n out low high none
+
+-- Where no part of the structure is touched.
+module _ (f g : Bytes) (H : Header) (was : IsConsistent f H) (kept : Kept f g H.fields nothing) where
+  -- all mappings are kept
+  pub untouched-keeps : KeepsSlots f g H.fields
+  untouched-keeps = kept-keeps f g H was nothing kept (λ i e. cc) (λ i e. cc) (λ i e. cc) (λ e. cc)
+
+  -- each cluster is named as often
+  pub untouched-references : (c : ℕ) → refs g H.fields c ≡ refs f H.fields c
+  untouched-references = kept-references f g H was nothing kept (λ i e. cc) (λ i e. cc) (λ i e. cc) (λ e. cc)
+
+  -- and counted as often
+  pub untouched-counts : (c : ℕ) → count g H.fields c ≡ count f H.fields c
+  untouched-counts c = count-kept f g H.fields nothing kept c (consistent-shaped f H was) (λ e. cc) (λ e. cc)
+
+  -- and the image stays consistent
+  pub untouched-consistent : IsConsistent g H
+  untouched-consistent = kept-consistent f g H was nothing kept (λ i e. cc) (λ i e. cc) (λ i e. cc) (λ e. cc)
+      (λ c.
+      let covered : refs f H.fields c ≤ count f H.fields c = named-counted f H was c in
+      let same : count g H.fields c ≡ count f H.fields c = untouched-counts c in
+      omega arith)
+
+-- A cluster that a live word names as copied data is named by it alone.
+module _ (f : Bytes) (H : Header) (was : IsConsistent f H) (c i j : ℕ) (live : Live (l2_table f H.fields) H.fields i j) (names : slot f H.fields i j ≡ data_at c true) where
+  -- it is named once
+  pub data-named-once : refs f H.fields c ≡ 1
+  data-named-once =
+      let here : of_copied H.fields (meets H.fields c) (slot f H.fields i j) ≡ 1 = ap (of_copied H.fields (meets H.fields c)) names ∙ meets-own H.fields c in
+      let one : of_copied H.fields (meets H.fields c) (slot f H.fields i j) ≤ over_slots (l2_table f H.fields) H.fields (λ k m. of_copied H.fields (meets H.fields c) (slot f H.fields k m)) =
+      slot-le (l2_table f H.fields) H.fields (λ k m. of_copied H.fields (meets H.fields c) (slot f H.fields k m)) i j live in
+      let all : contents f H.fields (of_copied H.fields (meets H.fields c)) ≡ over_slots (l2_table f H.fields) H.fields (λ k m. of_copied H.fields (meets H.fields c) (slot f H.fields k m)) =
+      contents-slots f H.fields (of_copied H.fields (meets H.fields c)) in
+      copied-named-once f H was c (omega arith)
+
+  -- by that word
+  data-weighs : of_mapping H.fields (meets H.fields c) (slot f H.fields i j) ≡ 1
+  data-weighs = ap (of_mapping H.fields (meets H.fields c)) names ∙ meets-own H.fields c
+
+  -- and so no table, block or header is in it
+  pub data-apart-from-structure : structure f H.fields (meets H.fields c) ≡ 0
+  unfolding refs
+  data-apart-from-structure =
+      let one : of_mapping H.fields (meets H.fields c) (slot f H.fields i j) ≤ over_slots (l2_table f H.fields) H.fields (λ k m. of_mapping H.fields (meets H.fields c) (slot f H.fields k m)) =
+      slot-le (l2_table f H.fields) H.fields (λ k m. of_mapping H.fields (meets H.fields c) (slot f H.fields k m)) i j live in
+      let all : contents f H.fields (of_mapping H.fields (meets H.fields c)) ≡ over_slots (l2_table f H.fields) H.fields (λ k m. of_mapping H.fields (meets H.fields c) (slot f H.fields k m)) =
+      contents-slots f H.fields (of_mapping H.fields (meets H.fields c)) in
+      let once : structure f H.fields (meets H.fields c) + contents f H.fields (of_mapping H.fields (meets H.fields c)) ≡ 1 = data-named-once in
+      omega (arith, data-weighs)
+
+  -- A write into it.
+  pub data-written : (g : Bytes) (at n : ℕ) → Outside f g at n → c * cluster_size H.fields ≤ at → at + n ≤ (c + 1) * cluster_size H.fields → DataWritten f g H i j
+  data-written g at n out low high =
+      let kept : Kept f g H.fields nothing = kept-all f g H.fields at n out (touches-none f H.fields c at n data-apart-from-structure low high) in
+      let keeps : KeepsSlots f g H.fields = untouched-keeps f g H was kept in
+      let after : IsConsistent g H = untouched-consistent f g H was kept in
+      let some : 0 < words_of_cluster H.fields = some-words H.fields (consistent-shaped f H was) in
+      let clean : named f f H.fields c ≡ refs f H.fields c = named-clean f f H.fields c (λ k m live'. refl) in
+      let once : refs f H.fields c ≡ 1 = data-named-once in
+      let weighs : of_mapping H.fields (meets H.fields c) (slot f H.fields i j) ≡ 1 = data-weighs in
+      record {
+        consistent = after;
+        kept = kept;
+        keeps = keeps;
+        references = untouched-references f g H was kept;
+        counts = untouched-counts f g H was kept;
+        elsewhere = λ guest apart. data-write-elsewhere f f g H.fields c i j at n (omega arith) live (omega arith) out low high was.readable.tables after.readable.tables some guest apart (guest-kept f g H.fields keeps some);
+      }
+
+-- A cluster that nothing names.
+module _ (f : Bytes) (H : Header) (was : IsConsistent f H) (c : ℕ) (unnamed : refs f H.fields c ≡ 0) where
+  -- no table, block or header is in it
+  pub free-apart-from-structure : structure f H.fields (meets H.fields c) ≡ 0
+  unfolding refs
+  free-apart-from-structure = let none : structure f H.fields (meets H.fields c) + contents f H.fields (of_mapping H.fields (meets H.fields c)) ≡ 0 = unnamed in omega arith
+
+  -- and no mapping names it
+  pub free-unmapped : contents f H.fields (of_mapping H.fields (meets H.fields c)) ≡ 0
+  unfolding refs
+  free-unmapped = let none : structure f H.fields (meets H.fields c) + contents f H.fields (of_mapping H.fields (meets H.fields c)) ≡ 0 = unnamed in omega arith
+
+  -- A write into it.
+  pub free-written : (g : Bytes) (at n : ℕ) → Outside f g at n → c * cluster_size H.fields ≤ at → at + n ≤ (c + 1) * cluster_size H.fields → FreeWritten f g H
+  free-written g at n out low high =
+      let kept : Kept f g H.fields nothing = kept-all f g H.fields at n out (touches-none f H.fields c at n free-apart-from-structure low high) in
+      let after : IsConsistent g H = untouched-consistent f g H was kept in
+      record {
+        consistent = after;
+        kept = kept;
+        keeps = untouched-keeps f g H was kept;
+        references = untouched-references f g H was kept;
+        counts = untouched-counts f g H was kept;
+        shows = kept-shows f g H was nothing kept (λ i e. cc) (λ i e. cc) (λ i e. cc) (λ e. cc) after c at n out low high free-unmapped;
+      }
+
+-- A write into a cluster of the structure leaves the bytes of each cluster that nothing names.
+pub free-stays : (f g : Bytes) (H : Header) (d at n : ℕ) → Outside f g at n → d * cluster_size H.fields ≤ at → at + n ≤ (d + 1) * cluster_size H.fields → 1 ≤ structure f H.fields (meets H.fields d)
+    → (c : ℕ) → refs f H.fields c ≡ 0 → Same f g (c * cluster_size H.fields) (cluster_size H.fields)
+free-stays f g H d at n out low high weighs c unnamed = untouched f g at n (c * cluster_size H.fields) (cluster_size H.fields) out off
+  where
+    apart : c ≢ d
+    apart e =
+        let none : refs f H.fields d ≡ 0 = sym (ap (refs f H.fields) e) ∙ unnamed in
+        let le : structure f H.fields (meets H.fields d) ≤ refs f H.fields d = structure-le-refs f H.fields d in
+        absurd (omega arith)
+
+    off : touches at n (c * cluster_size H.fields) (cluster_size H.fields) ≡ 0
+    off =
+        let le : touches at n (c * cluster_size H.fields) (cluster_size H.fields) ≤ meets H.fields d (c * cluster_size H.fields) (cluster_size H.fields) = touches-cluster H.fields d at n low high (c * cluster_size H.fields) (cluster_size H.fields) in
+        let none : meets H.fields d (c * cluster_size H.fields) (cluster_size H.fields) ≡ 0 = meets-other H.fields d c apart in
+        omega arith
+
+-- A write into a run of clusters c to c + k that nothing names.
+module _ (f : Bytes) (H : Header) (was : IsConsistent f H) (c k : ℕ) (unnamed : (d : ℕ) → c ≤ d → d ≤ c + k → refs f H.fields d ≡ 0) (g : Bytes) (at n : ℕ) (out : Outside f g at n)
+    (low : c * cluster_size H.fields ≤ at) (high : at + n ≤ (c + k + 1) * cluster_size H.fields) where
+  -- the write lies in the run
+  run-out : Outside f g (c * cluster_size H.fields) ((k + 1) * cluster_size H.fields)
+  run-out p (inl before) = out p (inl (omega arith))
+  run-out p (inr behind) = out p (inr (omega arith))
+
+  -- no part of the structure is touched
+  run-kept : Kept f g H.fields nothing
+  run-kept = kept-all f g H.fields (c * cluster_size H.fields) ((k + 1) * cluster_size H.fields) run-out (run-untouched f H.fields c k (λ d from upto. free-apart-from-structure f H was d (unnamed d from upto)))
+
+  -- a cluster that a word names isn't in the run, and keeps its bytes
+  run-apart : (i j : ℕ) → Live (l2_table f H.fields) H.fields i j → (d : ℕ) (copied : Bool) → slot f H.fields i j ≡ data_at d copied → Same f g (d * cluster_size H.fields) (cluster_size H.fields)
+  run-apart i j live d copied names = elim (cases_lt d c) [
+    | inl lt ↦ let lt' : d + 1 ≤ c = omega arith in let below : (d + 1) * cluster_size H.fields ≤ c * cluster_size H.fields = mul-le-mul_right (cluster_size H.fields) lt' in (λ m less. out (d * cluster_size H.fields + m) (inl (omega arith)))
+    | inr from ↦ elim (cases_lt (c + k) d) [
+      | inl lt ↦ let lt' : c + k + 1 ≤ d = omega arith in let above : (c + k + 1) * cluster_size H.fields ≤ d * cluster_size H.fields = mul-le-mul_right (cluster_size H.fields) lt' in (λ m less. out (d * cluster_size H.fields + m) (inr (omega arith)))
+      | inr upto ↦
+          let none : contents f H.fields (of_mapping H.fields (meets H.fields d)) ≡ 0 = free-unmapped f H was d (unnamed d from upto) in
+          let all : contents f H.fields (of_mapping H.fields (meets H.fields d)) ≡ over_slots (l2_table f H.fields) H.fields (λ r m. of_mapping H.fields (meets H.fields d) (slot f H.fields r m)) = contents-slots f H.fields (of_mapping H.fields (meets H.fields d)) in
+          let one : of_mapping H.fields (meets H.fields d) (slot f H.fields i j) ≤ over_slots (l2_table f H.fields) H.fields (λ r m. of_mapping H.fields (meets H.fields d) (slot f H.fields r m)) =
+          slot-le (l2_table f H.fields) H.fields (λ r m. of_mapping H.fields (meets H.fields d) (slot f H.fields r m)) i j live in
+          let here : of_mapping H.fields (meets H.fields d) (slot f H.fields i j) ≡ 1 = ap (of_mapping H.fields (meets H.fields d)) names ∙ meets-own H.fields d in
+          absurd (omega arith)
+    ]
+  ]
+
+  -- The image stays as it is, and shows the same.
+  pub free-run-written : FreeWritten f g H
+  free-run-written =
+      let after : IsConsistent g H = untouched-consistent f g H was run-kept in
+      let keeps : KeepsSlots f g H.fields = untouched-keeps f g H was run-kept in
+      let some : 0 < words_of_cluster H.fields = some-words H.fields (consistent-shaped f H was) in
+      record {
+        consistent = after;
+        kept = run-kept;
+        keeps = keeps;
+        references = untouched-references f g H was run-kept;
+        counts = untouched-counts f g H was run-kept;
+        shows = λ guest. shows-by f g H.fields was.readable.tables after.readable.tables some guest (guest-kept f g H.fields keeps some guest) (run-apart _ _);
+      }

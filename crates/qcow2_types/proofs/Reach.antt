@@ -1,0 +1,24 @@
+-- Where clusters and compressed ranges lie.
+use Rattle.std.proofs.Common.{◌≡◌, ℕ, ◌-◌, ◌*◌, ◌/◌, ◌%◌, ◌^◌, ◌<◌, ◌≤◌, arith}
+use Rattle.std.proofs.Math.Nat.{div-mul-le_self, pow-le-pow_right}
+use Rattle.std.proofs.lemmas.Nat.{mod_below, pow_pos, one_shl}
+use Rattle.qcow2_types.specs.Words.{bits_at}
+
+-- the begin of the cluster of a place
+pub cluster_begin : (offset cluster_bits : ℕ) → offset / 2 ^ cluster_bits * 2 ^ cluster_bits ≤ offset
+cluster_begin offset cluster_bits = div-mul-le_self offset (2 ^ cluster_bits)
+
+-- a compressed word counts at most 2 ^ 13 sectors
+pub sectors_fit : (w first cluster_bits : ℕ) → cluster_bits ≤ 21 → bits_at w first (cluster_bits - 8) < 2 ^ 13
+sectors_fit w first cluster_bits few =
+    let less : cluster_bits - 8 ≤ 13 = omega arith in
+    let most : 2 ^ (cluster_bits - 8) ≤ 2 ^ 13 = pow-le-pow_right (omega arith) less in
+    let here : w / 2 ^ first % 2 ^ (cluster_bits - 8) < 2 ^ (cluster_bits - 8) = mod_below (w / 2 ^ first) (2 ^ (cluster_bits - 8)) (pow_pos (cluster_bits - 8)) in
+    omega arith
+
+-- a cluster is no larger than the largest
+pub cluster_small : (k : ℕ) → k ≤ 21 → 1 * 2 ^ k % 2 ^ 64 ≤ 2 ^ 21
+cluster_small k few =
+    let whole : (1 * 2 ^ k) % 2 ^ 64 ≡ 2 ^ k = one_shl k 64 (omega arith) in
+    let most : 2 ^ k ≤ 2 ^ 21 = pow-le-pow_right (omega arith) few in
+    omega arith

@@ -1,0 +1,105 @@
+-- A table moves: an L1 word is switched, or the header is.
+use Rattle.std.proofs.Common.{◌≡◌, ◌≢◌, ℕ, zero, suc, ◌+◌, ◌*◌, ◌<◌, ◌≤◌, refl, arith, ap, ◌∙◌, inl, inr}
+use Rattle.std.specs.Prelude.{false, nat_lt}
+use Rattle.std.proofs.lemmas.Bool.{cases_eq, le-ltb}
+use Rattle.qcow2_types.specs.Bytes.{Bytes, word, sum_below}
+use Rattle.qcow2_types.specs.Words.{Mapping, mapping_of}
+use Rattle.qcow2_types.specs.Header.{Fields, words_of_cluster, refcount_table_entries, layout_of}
+use Rattle.qcow2_types.specs.Entries.{l2_table, l2_mapping}
+use Rattle.qcow2_types.specs.Counts.{block_at}
+use Rattle.qcow2_types.specs.References.{Weight, structure, of_cluster, meets}
+use Rattle.qcow2_types.proofs.Sums.{sum-same, sum-change}
+use Rattle.qcow2_types.specs.Slots.{slot, Live, over_slots, or_none}
+use Rattle.qcow2_types.specs.Versions.{named, of_either}
+
+-- what row i of the tables weighs
+row : Bytes → Bytes → Fields → ℕ → ℕ → ℕ
+row f g h c i = or_none (l2_table f h i) (sum_below (words_of_cluster h) (λ j. of_either h (meets h c) (slot f h i j) (slot g h i j)))
+
+-- L1 word i is switched to another table, whose words name what the old table's did; all else stays.
+pub record SwitchesTable (f g f' g' : Bytes) (h : Fields) (i c : ℕ) : Type 0 where
+  pub in_l1 : i < h.l1_entries
+  pub blocks : (k : ℕ) → block_at f' h k ≡ block_at f h k
+  pub l1 : (k : ℕ) → k < h.l1_entries → k ≢ i → l2_table f' h k ≡ l2_table f h k
+  pub rows : (k : ℕ) → k < h.l1_entries → or_none (l2_table f' h k) (sum_below (words_of_cluster h) (λ j. of_either h (meets h c) (slot f' h k j) (slot g' h k j))) ≡ or_none (l2_table f h k) (sum_below (words_of_cluster h) (λ j. of_either h (meets h c) (slot f h k j) (slot g h k j)))
+
+-- the number changes by the old table and the new one
+pub table-switched : (f g f' g' : Bytes) (h : Fields) (i c : ℕ) → SwitchesTable f g f' g' h i c
+    → named f' g' h c + of_cluster h (meets h c) (l2_table f h i) ≡ named f g h c + of_cluster h (meets h c) (l2_table f' h i)
+unfolding named structure over_slots
+table-switched f g f' g' h i c step =
+    let w : Weight = meets h c in
+    let blocks : sum_below (refcount_table_entries h) (λ k. of_cluster h (meets h c) (block_at f' h k)) ≡ sum_below (refcount_table_entries h) (λ k. of_cluster h (meets h c) (block_at f h k)) =
+    sum-same _ _ _ (λ k lt. ap (of_cluster h (meets h c)) (step.blocks k)) in
+    let tables : sum_below h.l1_entries (λ k. of_cluster h (meets h c) (l2_table f' h k)) + of_cluster h (meets h c) (l2_table f h i) ≡ sum_below h.l1_entries (λ k. of_cluster h (meets h c) (l2_table f h k)) + of_cluster h (meets h c) (l2_table f' h i) =
+    sum-change _ i (λ k. of_cluster h (meets h c) (l2_table f' h k)) (λ k. of_cluster h (meets h c) (l2_table f h k)) step.in_l1 (λ k lt apart. ap (of_cluster h (meets h c)) (step.l1 k lt apart)) in
+    let rows : sum_below h.l1_entries (λ k. or_none (l2_table f' h k) (sum_below (words_of_cluster h) (λ j. of_either h (meets h c) (slot f' h k j) (slot g' h k j))))
+    ≡ sum_below h.l1_entries (λ k. or_none (l2_table f h k) (sum_below (words_of_cluster h) (λ j. of_either h (meets h c) (slot f h k j) (slot g h k j)))) =
+    sum-same _ _ _ step.rows in
+    omega arith
+
+-- The header names another L1 table.
+abbrev pub with_l1 : Fields → ℕ → ℕ → Fields
+with_l1 h offset entries = record {
+  version = h.version;
+  backing_offset = h.backing_offset;
+  backing_length = h.backing_length;
+  cluster_bits = h.cluster_bits;
+  size = h.size;
+  crypt_method = h.crypt_method;
+  l1_entries = entries;
+  l1_offset = offset;
+  refcount_table_offset = h.refcount_table_offset;
+  refcount_table_clusters = h.refcount_table_clusters;
+  snapshots = h.snapshots;
+  snapshots_offset = h.snapshots_offset;
+  incompatible = h.incompatible;
+  compatible = h.compatible;
+  autoclear = h.autoclear;
+  refcount_order = h.refcount_order;
+  header_length = h.header_length;
+}
+
+-- terms of 0 add nothing
+pub sum-longer : (n k : ℕ) (f : ℕ → ℕ) → ((i : ℕ) → n ≤ i → f i ≡ 0) → sum_below (n + k) f ≡ sum_below n f
+unfolding sum_below
+sum-longer n zero f none = let same : n + 0 ≡ n = omega arith in ap (λ m. sum_below m f) same
+sum-longer n (suc k) f none =
+    let here : f (n + k) ≡ 0 = none (n + k) (omega arith) in
+    let below : sum_below (n + k) f ≡ sum_below n f = sum-longer n k f none in
+    let more : n + suc k ≡ suc (n + k) = omega arith in
+    let step : sum_below (n + suc k) f ≡ f (n + k) + sum_below (n + k) f = ap (λ m. sum_below m f) more in
+    omega arith
+
+-- Its words are those of the old one, and then 0.
+pub l1-switched : (f g f' g' : Bytes) (h : Fields) (offset more c : ℕ)
+    → ((i : ℕ) → block_at f' h i ≡ block_at f h i)
+    → ((i : ℕ) → l2_table f' (with_l1 h offset (h.l1_entries + more)) i ≡ l2_table f h i)
+    → ((i j : ℕ) → Live (l2_table f h) h i j → (word f' (l2_table f h i) j ≡ word f (l2_table f h i) j) × (slot g' (with_l1 h offset (h.l1_entries + more)) i j ≡ slot g h i j))
+    → named f' g' (with_l1 h offset (h.l1_entries + more)) c + meets h c h.l1_offset (h.l1_entries * 8) ≡ named f g h c + meets h c offset ((h.l1_entries + more) * 8)
+unfolding named structure over_slots
+l1-switched f g f' g' h offset more c blocks l1 slots =
+    let blocks' : sum_below (refcount_table_entries h) (λ k. of_cluster h (meets h c) (block_at f' h k)) ≡ sum_below (refcount_table_entries h) (λ k. of_cluster h (meets h c) (block_at f h k)) =
+    sum-same _ _ _ (λ k lt. ap (of_cluster h (meets h c)) (blocks k)) in
+    let t : ℕ → ℕ = l2_table f' (with_l1 h offset (h.l1_entries + more)) in
+    let none : (i : ℕ) → h.l1_entries ≤ i → l2_table f h i ≡ 0 = (λ i le. let past : nat_lt i h.l1_entries ≡ false = le-ltb _ _ le in rw past refl) in
+    let none' : (i : ℕ) → h.l1_entries ≤ i → l2_table f' (with_l1 h offset (h.l1_entries + more)) i ≡ 0 = (λ i le. l1 i ∙ none i le) in
+    let tables : sum_below (h.l1_entries + more) (λ k. of_cluster h (meets h c) (l2_table f' (with_l1 h offset (h.l1_entries + more)) k)) ≡ sum_below h.l1_entries (λ k. of_cluster h (meets h c) (l2_table f h k)) =
+    sum-longer h.l1_entries more _ (λ i le. rw (none' i le) refl) ∙ sum-same _ _ _ (λ k lt. ap (of_cluster h (meets h c)) (l1 k)) in
+    let rows : sum_below (h.l1_entries + more) (λ k. or_none (l2_table f' (with_l1 h offset (h.l1_entries + more)) k) (sum_below (words_of_cluster h) (λ j. of_either h (meets h c) (slot f' (with_l1 h offset (h.l1_entries + more)) k j) (slot g' (with_l1 h offset (h.l1_entries + more)) k j))))
+    ≡ sum_below h.l1_entries (λ k. or_none (l2_table f h k) (sum_below (words_of_cluster h) (λ j. of_either h (meets h c) (slot f h k j) (slot g h k j)))) =
+    sum-longer h.l1_entries more _ (λ i le. rw (none' i le) refl)
+    ∙ sum-same _ _ _ (λ k lt. elim (cases_eq (l2_table f h k) 0) [
+      | inl e ↦ rw (l1 k, e) refl
+      | inr there ↦
+          ap (λ z. or_none z (sum_below (words_of_cluster h) (λ j. of_either h (meets h c) (slot f' (with_l1 h offset (h.l1_entries + more)) k j) (slot g' (with_l1 h offset (h.l1_entries + more)) k j)))) (l1 k)
+          ∙ ap (or_none (l2_table f h k)) (sum-same _ _ _ (λ j less.
+          let live : Live (l2_table f h) h k j = record { in_l1 = lt; is_there = there; in_table = less } in
+          let same : slot f' (with_l1 h offset (h.l1_entries + more)) k j ≡ slot f h k j =
+          ap (λ z. l2_mapping f' h z j) (l1 k) ∙ ap (λ (v : ℕ). of_word h v) (slots k j live).0 in
+          rw (same, (slots k j live).1) refl))
+    ]) in
+    omega arith
+  where
+    of_word : Fields → ℕ → Mapping
+    of_word b v = mapping_of (layout_of b) v

@@ -1,0 +1,34 @@
+-- What the worked image shows.
+use Rattle.std.proofs.Common.{◌≡◌, refl, [], ◌∷◌}
+use Rattle.std.specs.Prelude.{map}
+use Rattle.std.specs.Str.{is_utf8, chars}
+use Rattle.std.specs.Char.{encode_utf8}
+use Rattle.qcow2_types.specs.Bytes.{be, word, run, all_below}
+use Rattle.qcow2_types.specs.Words.{mapping_of, packed}
+use Rattle.qcow2_types.specs.WorkedImage.{of_pieces, image, image_fields, with_bytes}
+use Rattle.qcow2_types.specs.Header.{fields_of, header_of, texts_of, extensions_at, extension_at}
+use Rattle.qcow2_types.specs.Entries.{entry, l1_table_sound, l2_table_sound}
+use Rattle.qcow2_types.specs.Disk.{at, qcow2, raw}
+use Rattle.imago_storage.specs.Disk.{byte, barred}
+
+-- the bytes that were written, among zeroes
+pub shown_bytes : map (at (qcow2 (of_pieces image) (λ _. 0) ∷ [])) (508 ∷ 509 ∷ 510 ∷ 511 ∷ 512 ∷ 513 ∷ 514 ∷ 515 ∷ [])
+    ≡ byte 0 ∷ byte 0 ∷ byte 1 ∷ byte 2 ∷ byte 3 ∷ byte 0 ∷ byte 0 ∷ byte 0 ∷ []
+unfolding header_of texts_of extensions_at extension_at fields_of be run of_pieces image is_utf8 chars encode_utf8 entry l1_table_sound l2_table_sound all_below mapping_of word
+shown_bytes = refl
+
+-- over a raw file, an unmapped place shows it, and 0 past its end
+pub below : map (at (qcow2 (of_pieces image) (λ _. 0) ∷ raw (9 ∷ []) ∷ [])) (510 ∷ 1024 ∷ [])
+    ≡ byte 1 ∷ byte 0 ∷ []
+unfolding header_of texts_of extensions_at extension_at fields_of be run of_pieces image is_utf8 chars encode_utf8 entry l1_table_sound l2_table_sound all_below mapping_of word
+below = refl
+
+-- with a compressed word the place is barred
+pub packed_barred : at (qcow2 (with_bytes 2048 (64 ∷ [])) (λ _. 0) ∷ []) 0 ≡ barred
+unfolding header_of texts_of extensions_at extension_at fields_of be run of_pieces image is_utf8 chars encode_utf8 entry l1_table_sound l2_table_sound all_below mapping_of word
+packed_barred = refl
+
+-- and the entry is the compressed range
+pub packed_entry : entry (with_bytes 2048 (64 ∷ [])) image_fields 0 ≡ packed 2560 512
+unfolding entry l1_table_sound l2_table_sound all_below mapping_of word be of_pieces image image_fields
+packed_entry = refl

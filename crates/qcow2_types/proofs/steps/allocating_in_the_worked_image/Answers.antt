@@ -1,0 +1,5 @@
+use Rattle.qcow2_types.proofs.WorkedSteps.{counted, mapped, shown}
+use Rattle.qcow2_types.proofs.steps.allocating_in_the_worked_image.Goals as goal
+
+pub returns : goal.returns
+returns c = record { counted = counted; mapped = mapped; shown = shown }

@@ -1,0 +1,6 @@
+use Rattle.qcow2_types.proofs.WorkedTables.{entries}
+use Rattle.qcow2_types.proofs.WorkedCounts.{counts, references}
+use Rattle.qcow2_types.proofs.worked_image.tables.Goals as goal
+
+pub returns : goal.returns
+returns c = record { entries = entries; counts = counts; references = references }

@@ -1,0 +1,5 @@
+use Rattle.qcow2_types.proofs.WorkedUnder.{verdict}
+use Rattle.qcow2_types.proofs.worked_image.under_counted_cluster.Goals as goal
+
+pub returns : goal.returns
+returns c = verdict

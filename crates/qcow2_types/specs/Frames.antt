@@ -1,0 +1,43 @@
+-- What a change of some bytes of a file leaves of an image.
+use Rattle.std.specs.Prelude.{◌≡◌, ◌≢◌, ℕ, ◌+◌, ◌*◌, ◌<◌, ◌≤◌, Bool, ◌&&◌, nat_lt, if◌then◌else◌, ◌⊎◌}
+use Rattle.qcow2_types.specs.Bytes.{Bytes, word}
+use Rattle.qcow2_types.specs.Words.{data_at}
+use Rattle.qcow2_types.specs.Header.{Fields, cluster_size, refcount_table_entries}
+use Rattle.qcow2_types.specs.Entries.{entry, l2_table}
+use Rattle.qcow2_types.specs.Counts.{block_at}
+use Rattle.qcow2_types.specs.References.{Weight}
+use Rattle.qcow2_types.specs.Slots.{Live}
+
+-- 1 where the range has a byte among the n bytes from this place on, else 0
+unfoldable pub touches : ℕ → ℕ → Weight
+touches at n first length = if nat_lt 0 length && nat_lt first (at + n) && nat_lt at (first + length) then 1 else 0
+
+-- g holds what f does in this range
+abbrev pub Same : Bytes → Bytes → ℕ → ℕ → Type 0
+Same f g first length = (k : ℕ) → k < length → g (first + k) ≡ f (first + k)
+
+-- g is f but for the n bytes from this place on
+abbrev pub Outside : Bytes → Bytes → ℕ → ℕ → Type 0
+Outside f g at n = (p : ℕ) → (p < at) ⊎ (at + n ≤ p) → g p ≡ f p
+
+-- The part of an image in which a change lies. A word of the L1 table or of the refcount table is a part of its own.
+pub data Skipped : Type 0 where
+  nothing : Skipped
+  first_cluster : Skipped
+  l1_word : (i : ℕ) → Skipped
+  block_word : (i : ℕ) → Skipped
+  block : (i : ℕ) → Skipped
+  table : (i : ℕ) → Skipped
+
+-- g has the structure of f as it stands, but for the skipped part.
+pub record Kept (f g : Bytes) (h : Fields) (skip : Skipped) : Type 0 where
+  pub start : skip ≢ first_cluster → Same f g 0 (cluster_size h)
+  pub l1 : (i : ℕ) → i < h.l1_entries → skip ≢ l1_word i → word g h.l1_offset i ≡ word f h.l1_offset i
+  pub blocks : (i : ℕ) → i < refcount_table_entries h → skip ≢ block_word i → word g h.refcount_table_offset i ≡ word f h.refcount_table_offset i
+  pub counters : (i : ℕ) → i < refcount_table_entries h → block_at f h i ≢ 0 → skip ≢ block i → Same f g (block_at f h i) (cluster_size h)
+  pub words : (i j : ℕ) → Live (l2_table f h) h i j → skip ≢ table i → word g (l2_table f h i) j ≡ word f (l2_table f h i) j
+
+-- x shows what f does at a guest cluster: the same mapping, and the bytes of the cluster that it names
+pub record ShowsAs (x f : Bytes) (h : Fields) (guest : ℕ) : Type 0 where
+  pub mapping : entry x h guest ≡ entry f h guest
+  pub bytes : (n : ℕ) (copied : Bool) → entry x h guest ≡ data_at n copied → Same f x (n * cluster_size h) (cluster_size h)

@@ -1,0 +1,81 @@
+-- What one write into a consistent image f leaves in the file g: an image that is consistent under the same header.
+use Rattle.std.specs.Prelude.{true, ◌≡◌, ◌≢◌, ℕ, ◌*◌, ◌/◌, ◌%◌, ◌<◌, ◌⊎◌}
+use Rattle.qcow2_types.specs.Bytes.{Bytes, word}
+use Rattle.qcow2_types.specs.Words.{Mapping, unmapped, data_at}
+use Rattle.qcow2_types.specs.Header.{Header, cluster_size, words_of_cluster}
+use Rattle.qcow2_types.specs.Entries.{l2_table}
+use Rattle.qcow2_types.specs.Counts.{block_at, count, counters_of_block}
+use Rattle.qcow2_types.specs.References.{refs}
+use Rattle.qcow2_types.specs.Consistency.{IsConsistent}
+use Rattle.qcow2_types.specs.Slots.{slot, Live}
+use Rattle.qcow2_types.specs.Frames.{Same, Kept, nothing, block, table, l1_word, ShowsAs}
+use Rattle.qcow2_types.specs.Versions.{KeepsSlots, SamePlaces}
+
+-- A data cluster was written that word j of L2 table i names: what shows changes at no other guest cluster.
+pub record DataWritten (f g : Bytes) (H : Header) (i j : ℕ) : Type 0 where
+  pub consistent : IsConsistent g H
+  pub kept : Kept f g H.fields nothing
+  pub keeps : KeepsSlots f g H.fields
+  pub references : (c : ℕ) → refs g H.fields c ≡ refs f H.fields c
+  pub counts : (c : ℕ) → count g H.fields c ≡ count f H.fields c
+  pub elsewhere : (guest : ℕ) → (guest / words_of_cluster H.fields ≢ i) ⊎ (guest % words_of_cluster H.fields ≢ j) → ShowsAs g f H.fields guest
+
+-- A cluster was written that nothing names: the image stays as it is, and shows the same.
+pub record FreeWritten (f g : Bytes) (H : Header) : Type 0 where
+  pub consistent : IsConsistent g H
+  pub kept : Kept f g H.fields nothing
+  pub keeps : KeepsSlots f g H.fields
+  pub references : (c : ℕ) → refs g H.fields c ≡ refs f H.fields c
+  pub counts : (c : ℕ) → count g H.fields c ≡ count f H.fields c
+  pub shows : (guest : ℕ) → ShowsAs g f H.fields guest
+
+-- Refcount block b was written: no count of another block changes, the image shows the same, and clusters that nothing names keep
+-- their bytes.
+pub record BlockWritten (f g : Bytes) (H : Header) (b : ℕ) : Type 0 where
+  pub consistent : IsConsistent g H
+  pub kept : Kept f g H.fields (block b)
+  pub keeps : KeepsSlots f g H.fields
+  pub references : (c : ℕ) → refs g H.fields c ≡ refs f H.fields c
+  pub counts : (c : ℕ) → c / counters_of_block H.fields ≢ b → count g H.fields c ≡ count f H.fields c
+  pub shows : (guest : ℕ) → ShowsAs g f H.fields guest
+  pub free : (c : ℕ) → refs f H.fields c ≡ 0 → Same f g (c * cluster_size H.fields) (cluster_size H.fields)
+
+-- The counter of cluster c was written, and is this number: no other count changes.
+pub record CounterWritten (f g : Bytes) (H : Header) (c number : ℕ) : Type 0 where
+  pub block : BlockWritten f g H (c / counters_of_block H.fields)
+  pub here : count g H.fields c ≡ number
+  pub others : (d : ℕ) → d ≢ c → count g H.fields d ≡ count f H.fields d
+
+-- Word j of L2 table i was written, and means `new`: no other word and no count changes, and so what other guest clusters show.
+pub record SlotWritten (f g : Bytes) (H : Header) (i j : ℕ) (new : Mapping) : Type 0 where
+  pub consistent : IsConsistent g H
+  pub kept : Kept f g H.fields (table i)
+  pub places : SamePlaces f g H.fields
+  pub here : slot g H.fields i j ≡ new
+  pub row : (m : ℕ) → m ≢ j → word g (l2_table f H.fields i) m ≡ word f (l2_table f H.fields i) m
+  pub others : (k m : ℕ) → Live (l2_table f H.fields) H.fields k m → (k ≢ i) ⊎ (m ≢ j) → slot g H.fields k m ≡ slot f H.fields k m
+  pub counts : (c : ℕ) → count g H.fields c ≡ count f H.fields c
+  pub elsewhere : (guest : ℕ) → (guest / words_of_cluster H.fields ≢ i) ⊎ (guest % words_of_cluster H.fields ≢ j) → ShowsAs g f H.fields guest
+  pub free : (c : ℕ) → refs f H.fields c ≡ 0 → Same f g (c * cluster_size H.fields) (cluster_size H.fields)
+
+-- Word j of L2 table i was written, and names cluster c as copied data, which nothing named: no other cluster's references change.
+pub record ClusterMapped (f g : Bytes) (H : Header) (i j c : ℕ) : Type 0 where
+  pub slot : SlotWritten f g H i j (data_at c true)
+  pub named_once : refs g H.fields c ≡ 1
+  pub references : (d : ℕ) → d ≢ c → refs g H.fields d ≡ refs f H.fields d
+
+-- Word i of the L1 table, which named no table, was written and names one of zeroes in cluster c, at this place.
+pub record TableEntered (f g : Bytes) (H : Header) (i c place : ℕ) : Type 0 where
+  pub consistent : IsConsistent g H
+  pub kept : Kept f g H.fields (l1_word i)
+  pub here : l2_table g H.fields i ≡ place
+  pub tables : (k : ℕ) → k ≢ i → l2_table g H.fields k ≡ l2_table f H.fields k
+  pub blocks : (b : ℕ) → block_at g H.fields b ≡ block_at f H.fields b
+  pub zeroes : (j : ℕ) → j < words_of_cluster H.fields → word g place j ≡ 0
+  pub empty : (j : ℕ) → j < words_of_cluster H.fields → slot g H.fields i j ≡ unmapped
+  pub others : (k m : ℕ) → Live (l2_table f H.fields) H.fields k m → slot g H.fields k m ≡ slot f H.fields k m
+  pub counts : (d : ℕ) → count g H.fields d ≡ count f H.fields d
+  pub named_once : refs g H.fields c ≡ 1
+  pub references : (d : ℕ) → d ≢ c → refs g H.fields d ≡ refs f H.fields d
+  pub shows : (guest : ℕ) → ShowsAs g f H.fields guest
+  pub free : (d : ℕ) → refs f H.fields d ≡ 0 → Same f g (d * cluster_size H.fields) (cluster_size H.fields)

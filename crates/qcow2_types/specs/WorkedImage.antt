@@ -1,0 +1,103 @@
+-- The bytes of an image of 65,536 bytes with clusters of 512, after 01 02 03 at 510: its nonzero words, by their places.
+use Rattle.std.specs.Prelude.{ℕ, ◌+◌, ◌-◌, List, [], ◌∷◌, length, nat_lt, nat_le, slice_index, if◌then◌else◌, ◌&&◌, None, codes}
+use Rattle.imago_storage.specs.Disk.{Value, byte}
+use Rattle.qcow2_types.specs.Bytes.{Bytes}
+use Rattle.qcow2_types.specs.Header.{Fields, Header}
+
+-- a file that is 0 but for these pieces, the first of which that holds a place decides
+abbrev pub Pieces : Type 0
+Pieces = List (ℕ × List ℕ)
+
+-- the bytes of the file that these pieces make
+unfoldable pub of_pieces : Pieces → Bytes
+of_pieces [] i = 0
+of_pieces (piece ∷ rest) i = let later = of_pieces rest i in let here = slice_index piece.1 (i - piece.0) in if nat_le piece.0 i && nat_lt i (piece.0 + length piece.1) then here else later
+
+-- the worked image
+unfoldable pub image : Pieces
+image =
+    (0, 81 ∷ 70 ∷ 73 ∷ 251 ∷ 0 ∷ 0 ∷ 0 ∷ 3 ∷ [])
+    ∷
+    (16, 0 ∷ 0 ∷ 0 ∷ 0 ∷ 0 ∷ 0 ∷ 0 ∷ 9 ∷ 0 ∷ 0 ∷ 0 ∷ 0 ∷ 0 ∷ 1 ∷ 0 ∷ 0 ∷ 0 ∷ 0 ∷ 0 ∷ 0 ∷ 0 ∷ 0 ∷ 0 ∷ 2 ∷ 0 ∷ 0 ∷ 0 ∷ 0 ∷ 0 ∷ 0 ∷ 6 ∷ 0 ∷ 0 ∷ 0 ∷ 0 ∷ 0 ∷ 0 ∷ 0 ∷ 2 ∷ 0 ∷ 0 ∷ 0 ∷ 0 ∷ 1 ∷ 0 ∷ 0 ∷ 0 ∷ 0 ∷ [])
+    ∷
+    (96, 0 ∷ 0 ∷ 0 ∷ 4 ∷ 0 ∷ 0 ∷ 0 ∷ 104 ∷ 104 ∷ 3 ∷ 248 ∷ 87 ∷ 0 ∷ 0 ∷ 0 ∷ 144 ∷ 0 ∷ 0 ∷ 100 ∷ 105 ∷ 114 ∷ 116 ∷ 121 ∷ 32 ∷ 98 ∷ 105 ∷ 116 ∷ 0 ∷ 0 ∷ 0 ∷ 0 ∷ 0 ∷ [])
+    ∷
+    (160, 0 ∷ 1 ∷ 99 ∷ 111 ∷ 114 ∷ 114 ∷ 117 ∷ 112 ∷ 116 ∷ 32 ∷ 98 ∷ 105 ∷ 116 ∷ 0 ∷ 0 ∷ 0 ∷ [])
+    ∷
+    (208, 0 ∷ 2 ∷ 101 ∷ 120 ∷ 116 ∷ 101 ∷ 114 ∷ 110 ∷ 97 ∷ 108 ∷ 32 ∷ 100 ∷ 97 ∷ 116 ∷ 97 ∷ 32 ∷ 102 ∷ 105 ∷ 108 ∷ 101 ∷ 0 ∷ 0 ∷ 0 ∷ 0 ∷ [])
+    ∷
+    (512, 0 ∷ 0 ∷ 0 ∷ 0 ∷ 0 ∷ 0 ∷ 4 ∷ 0 ∷ [])
+    ∷
+    (1024, 0 ∷ 1 ∷ 0 ∷ 1 ∷ 0 ∷ 1 ∷ 0 ∷ 1 ∷ 0 ∷ 1 ∷ 0 ∷ 1 ∷ 0 ∷ 1 ∷ 0 ∷ 0 ∷ [])
+    ∷
+    (1536, 128 ∷ 0 ∷ 0 ∷ 0 ∷ 0 ∷ 0 ∷ 8 ∷ 0 ∷ [])
+    ∷
+    (2048, 128 ∷ 0 ∷ 0 ∷ 0 ∷ 0 ∷ 0 ∷ 10 ∷ 0 ∷ 128 ∷ 0 ∷ 0 ∷ 0 ∷ 0 ∷ 0 ∷ 12 ∷ 0 ∷ [])
+    ∷
+    (3064, 0 ∷ 0 ∷ 0 ∷ 0 ∷ 0 ∷ 0 ∷ 1 ∷ 2 ∷ 3 ∷ 0 ∷ 0 ∷ 0 ∷ 0 ∷ 0 ∷ 0 ∷ 0 ∷ [])
+    ∷
+    []
+
+-- the worked image with these bytes from that place on
+abbrev pub with_bytes : ℕ → List ℕ → Bytes
+with_bytes place bytes = of_pieces ((place, bytes) ∷ image)
+
+-- the fields of its header
+unfoldable pub image_fields : Fields
+image_fields = record {
+  version = 3;
+  backing_offset = 0;
+  backing_length = 0;
+  cluster_bits = 9;
+  size = 65536;
+  crypt_method = 0;
+  l1_entries = 2;
+  l1_offset = 1536;
+  refcount_table_offset = 512;
+  refcount_table_clusters = 1;
+  snapshots = 0;
+  snapshots_offset = 0;
+  incompatible = 0;
+  compatible = 0;
+  autoclear = 0;
+  refcount_order = 4;
+  header_length = 104;
+}
+
+-- its header
+unfoldable pub image_header : Header
+image_header = record {
+  fields = image_fields;
+  backing_name = None;
+  backing_format = None;
+  data_file_name = None;
+  features =
+      record { kind = 0; bit = 0; name = codes "dirty bit" }
+      ∷ record { kind = 0; bit = 1; name = codes "corrupt bit" }
+      ∷ record { kind = 0; bit = 2; name = codes "external data file" }
+      ∷ [];
+}
+
+-- its header with other incompatible feature bits
+abbrev pub header_with_features : ℕ → Header
+header_with_features bits = record image_header { fields = record image_fields { incompatible = bits } }
+
+-- its fields with counters of 2 to this power of bits
+abbrev pub fields_with_order : ℕ → Fields
+fields_with_order order = record image_fields { refcount_order = order }
+
+-- its header with that many snapshots
+abbrev pub header_with_snapshots : ℕ → Header
+header_with_snapshots many = record image_header { fields = record image_fields { snapshots = many } }
+
+-- its header as version 2 reads it: without extensions
+abbrev pub older_fields : Fields
+older_fields = record image_fields { version = 2; header_length = 72 }
+
+-- the header as version 2 reads it
+abbrev pub older_header : Header
+older_header = record image_header { fields = older_fields; features = [] }
+
+-- what the image shows to its guest at 508 to 515
+abbrev pub written_bytes : List Value
+written_bytes = byte 0 ∷ byte 0 ∷ byte 1 ∷ byte 2 ∷ byte 3 ∷ byte 0 ∷ byte 0 ∷ byte 0 ∷ []

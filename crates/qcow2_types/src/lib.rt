@@ -1,0 +1,19 @@
+//! The qcow2 format: its constants, and its meaning as definitions over the bytes of a file.
+#![tactic(auto)]
+
+pub mod laws;
+pub mod steps;
+pub mod worked_image;
+
+/// The number that the first four bytes of an image spell: `QFI` and 0xfb.
+pub const MAGIC: u32 = 0x5146_49fb;
+/// The least size of a cluster, in bytes.
+pub const MIN_CLUSTER_SIZE: usize = 512;
+/// The greatest size of a cluster, in bytes.
+pub const MAX_CLUSTER_SIZE: usize = 2_097_152;
+/// The least number of bits of a counter.
+pub const MIN_REFCOUNT_WIDTH: usize = 1;
+/// The greatest number of bits of a counter.
+pub const MAX_REFCOUNT_WIDTH: usize = 64;
+/// The greatest place of a file that a table's word can name.
+pub const MAX_OFFSET: u64 = 0x00ff_ffff_ffff_fe00;

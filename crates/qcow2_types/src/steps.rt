@@ -1,0 +1,65 @@
+//! What one write into a consistent image leaves. The functions do nothing, and their contracts are the laws: f is the file
+//! before the write, and the image stays consistent under the same header.
+
+ghost use Rattle.std.specs.Prelude.{◌≡◌, ◌≢◌, ◌≤◌, ◌<◌, ◌+◌, ◌*◌, ◌/◌, ◌%◌, ◌^◌, ℕ, List, [], ◌∷◌, length, true, IsTrue};
+ghost use Rattle.std.specs.Int.{w64, to_be_bytes};
+ghost use Rattle.qcow2_types.specs.Bytes.{Bytes, be, bytes_of, word, splice};
+ghost use Rattle.qcow2_types.specs.Words.{data_at, unmapped, mapping_of, l1_word_sound, table_offset};
+ghost use Rattle.qcow2_types.specs.Header.{Header, cluster_size, words_of_cluster, layout_of};
+ghost use Rattle.qcow2_types.specs.Entries.{l2_table};
+ghost use Rattle.qcow2_types.specs.Counts.{block_at, count, counter_bits, counters_of_block};
+ghost use Rattle.qcow2_types.specs.References.{refs};
+ghost use Rattle.qcow2_types.specs.Consistency.{IsConsistent};
+ghost use Rattle.qcow2_types.specs.Slots.{slot, Live};
+ghost use Rattle.qcow2_types.specs.Frames.{Outside};
+ghost use Rattle.qcow2_types.specs.Steps.{DataWritten, FreeWritten, BlockWritten, CounterWritten, ClusterMapped, TableEntered};
+ghost use Rattle.imago_storage.specs.Disk.{byte};
+ghost use Rattle.qcow2_types.specs.Disk.{at, qcow2};
+ghost use Rattle.qcow2_types.specs.WorkedImage.{of_pieces, image, image_header};
+
+/// A write into a cluster that a word of an L2 table names as copied data shows at that word's guest cluster alone.
+pub fn data_write_stays_in_its_cluster()
+    ensures { (f : Bytes) (h : Header) → IsConsistent f h → (c i j : ℕ) → Live (l2_table f h.fields) h.fields i j → slot f h.fields i j ≡ data_at c true
+        → (g : Bytes) (at n : ℕ) → Outside f g at n → c * cluster_size h.fields ≤ at → at + n ≤ (c + 1) * cluster_size h.fields → DataWritten f g h i j }
+{}
+
+/// A write into clusters c to c + k, which nothing names, shows nowhere.
+pub fn free_write_shows_nowhere()
+    ensures { (f : Bytes) (h : Header) → IsConsistent f h → (c k : ℕ) → ((d : ℕ) → c ≤ d → d ≤ c + k → refs f h.fields d ≡ 0)
+        → (g : Bytes) (at n : ℕ) → Outside f g at n → c * cluster_size h.fields ≤ at → at + n ≤ (c + k + 1) * cluster_size h.fields → FreeWritten f g h }
+{}
+
+/// A write into a refcount block that leaves its clusters counted as often as they are named changes no other count, and a
+/// counter of whole bytes can be set to any number that is no less than what names its cluster.
+pub fn counter_write_keeps_other_counts()
+    ensures block { (f : Bytes) (h : Header) → IsConsistent f h → (b : ℕ) → block_at f h.fields b ≢ 0
+        → (g : Bytes) (at n : ℕ) → Outside f g at n → block_at f h.fields b ≤ at → at + n ≤ block_at f h.fields b + cluster_size h.fields
+        → ((c : ℕ) → c / counters_of_block h.fields ≡ b → refs f h.fields c ≤ count g h.fields c) → BlockWritten f g h b }
+    ensures counter { (f : Bytes) (h : Header) → IsConsistent f h → (c : ℕ) → block_at f h.fields (c / counters_of_block h.fields) ≢ 0
+        → (bytes : List ℕ) → 8 ≤ counter_bits h.fields → length bytes ≡ counter_bits h.fields / 8 → refs f h.fields c ≤ be (bytes_of bytes) 0 (length bytes)
+        → CounterWritten f (splice f (block_at f h.fields (c / counters_of_block h.fields) + c % counters_of_block h.fields * (counter_bits h.fields / 8)) bytes) h c (be (bytes_of bytes) 0 (length bytes)) }
+{}
+
+/// A word of an L2 table that left its guest cluster unmapped can name a counted cluster that nothing names.
+pub fn mapping_a_free_cluster()
+    ensures { (f : Bytes) (h : Header) → IsConsistent f h → (i j : ℕ) → Live (l2_table f h.fields) h.fields i j
+        → (w : ℕ) → w < 2 ^ 64 → (c : ℕ) → mapping_of (layout_of h.fields) w ≡ data_at c true
+        → slot f h.fields i j ≡ unmapped → refs f h.fields c ≡ 0 → 1 ≤ count f h.fields c
+        → ClusterMapped f (splice f (l2_table f h.fields i + 8 * j) (to_be_bytes w64 w)) h i j c }
+{}
+
+/// A word of the L1 table that named no table can name a counted cluster of zeroes that nothing names.
+pub fn entering_a_table_of_zeroes()
+    ensures { (f : Bytes) (h : Header) → IsConsistent f h → (i : ℕ) → i < h.fields.l1_entries → l2_table f h.fields i ≡ 0
+        → (w : ℕ) → w < 2 ^ 64 → IsTrue (l1_word_sound h.fields.cluster_bits w)
+        → (c t : ℕ) → table_offset w ≡ t → t ≢ 0 → t ≡ c * cluster_size h.fields → refs f h.fields c ≡ 0 → 1 ≤ count f h.fields c
+        → ((j : ℕ) → j < words_of_cluster h.fields → word f t j ≡ 0)
+        → TableEntered f (splice f (h.fields.l1_offset + 8 * i) (to_be_bytes w64 w)) h i c t }
+{}
+
+/// In the worked image, cluster 7 is counted, and then named by the word of guest cluster 2, after 09 was written to it.
+pub fn allocating_in_the_worked_image()
+    ensures counted { CounterWritten (of_pieces image) (splice (of_pieces image) 1038 (0 ∷ 1 ∷ [])) image_header 7 1 }
+    ensures mapped { IsConsistent (splice (splice (splice (of_pieces image) 1038 (0 ∷ 1 ∷ [])) 3600 (9 ∷ [])) 2064 (to_be_bytes w64 0x8000_0000_0000_0e00)) image_header }
+    ensures shown { at (qcow2 (splice (splice (splice (of_pieces image) 1038 (0 ∷ 1 ∷ [])) 3600 (9 ∷ [])) 2064 (to_be_bytes w64 0x8000_0000_0000_0e00)) (λ _. 0) ∷ []) 1040 ≡ byte 9 }
+{}

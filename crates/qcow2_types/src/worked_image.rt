@@ -1,0 +1,95 @@
+//! What the definitions say of one image, byte for byte: 65,536 bytes in clusters of 512, after a write of 01 02 03 at 510.
+//! Each function does nothing, and its contract is what was computed.
+
+ghost use Rattle.std.specs.Prelude.{◌≡◌, ◌+◌, ◌^◌, [], ◌∷◌, Ok, Err, map, true, false};
+ghost use Rattle.imago_storage.specs.Disk.{byte, barred};
+ghost use Rattle.imago_storage.specs.declared.fault.Fault.TheVariants.{DamagedHeader, Unsupported, Limit};
+ghost use Rattle.qcow2_types.specs.Words.{data_at, unmapped, packed};
+ghost use Rattle.qcow2_types.specs.Header.{header_of};
+ghost use Rattle.qcow2_types.specs.Entries.{entry};
+ghost use Rattle.qcow2_types.specs.Counts.{count};
+ghost use Rattle.qcow2_types.specs.References.{refs};
+ghost use Rattle.qcow2_types.specs.Consistency.{IsConsistent, IsVerdict, leaks};
+ghost use Rattle.qcow2_types.specs.Consistency.Finding.{header, snapshots, external, table, shared_table, under_counted, false_copied};
+ghost use Rattle.qcow2_types.specs.Disk.{at, qcow2, raw};
+ghost use Rattle.qcow2_types.specs.WorkedImage.{of_pieces, image, image_fields, image_header, with_bytes, header_with_features, fields_with_order, older_fields, older_header, written_bytes};
+
+/// The image is consistent and leaks nothing.
+pub fn is_consistent()
+    ensures consistent { IsConsistent (of_pieces image) image_header }
+    ensures leaks { leaks (of_pieces image) image_fields ≡ [] }
+    ensures verdict { IsVerdict (of_pieces image) (Ok []) }
+{}
+
+/// Its tables: where guest clusters 0, 1, 2 and 64 are, and how often host clusters 0 to 7 are counted and named.
+pub fn tables()
+    ensures entries { map (entry (of_pieces image) image_fields) (0 ∷ 1 ∷ 2 ∷ 64 ∷ []) ≡ data_at 5 true ∷ data_at 6 true ∷ unmapped ∷ unmapped ∷ [] }
+    ensures counts { map (count (of_pieces image) image_fields) (0 ∷ 1 ∷ 2 ∷ 3 ∷ 4 ∷ 5 ∷ 6 ∷ 7 ∷ []) ≡ 1 ∷ 1 ∷ 1 ∷ 1 ∷ 1 ∷ 1 ∷ 1 ∷ 0 ∷ [] }
+    ensures references { map (refs (of_pieces image) image_fields) (0 ∷ 1 ∷ 2 ∷ 3 ∷ 4 ∷ 5 ∷ 6 ∷ 7 ∷ []) ≡ 1 ∷ 1 ∷ 1 ∷ 1 ∷ 1 ∷ 1 ∷ 1 ∷ 0 ∷ [] }
+{}
+
+/// What the guest sees at 508 to 515, over a raw file of one byte, and where a word is compressed.
+pub fn shown_bytes()
+    ensures alone { map (at (qcow2 (of_pieces image) (λ _. 0) ∷ [])) (508 ∷ 509 ∷ 510 ∷ 511 ∷ 512 ∷ 513 ∷ 514 ∷ 515 ∷ []) ≡ written_bytes }
+    ensures over_raw { map (at (qcow2 (of_pieces image) (λ _. 0) ∷ raw (9 ∷ []) ∷ [])) (510 ∷ 1024 ∷ []) ≡ byte 1 ∷ byte 0 ∷ [] }
+    ensures compressed { at (qcow2 (with_bytes 2048 (64 ∷ [])) (λ _. 0) ∷ []) 0 ≡ barred }
+    ensures compressed_entry { entry (with_bytes 2048 (64 ∷ [])) image_fields 0 ≡ packed 2560 512 }
+{}
+
+/// With a counter of 0 for cluster 5, that cluster is the first finding.
+pub fn under_counted_cluster()
+    ensures { IsVerdict (with_bytes 1034 (0 ∷ 0 ∷ [])) (Err (under_counted 5)) }
+{}
+
+/// What a checker answers on changed images: two copied words for one cluster; a counter for a cluster that nothing
+/// names; two words that aren't copied for a cluster that is counted twice; a compressed cluster.
+pub fn changed_counts_and_words()
+    ensures false_copied { IsVerdict (with_bytes 2056 (128 ∷ 0 ∷ 0 ∷ 0 ∷ 0 ∷ 0 ∷ 10 ∷ 0 ∷ [])) (Err (false_copied 5)) }
+    ensures counted_only { IsVerdict (with_bytes 1042 (0 ∷ 1 ∷ [])) (Ok ((9, 1) ∷ [])) }
+    ensures shared { IsVerdict (of_pieces ((2048, 0 ∷ 0 ∷ 0 ∷ 0 ∷ 0 ∷ 0 ∷ 10 ∷ 0 ∷ 0 ∷ 0 ∷ 0 ∷ 0 ∷ 0 ∷ 0 ∷ 10 ∷ 0 ∷ []) ∷ (1034, 0 ∷ 2 ∷ []) ∷ image)) (Ok ((6, 1) ∷ [])) }
+    ensures compressed { IsVerdict (with_bytes 2048 (64 ∷ 0 ∷ 0 ∷ 0 ∷ 0 ∷ 0 ∷ 10 ∷ 0 ∷ [])) (Ok []) }
+{}
+
+/// What a checker finds before it looks at clusters, and the L1 table named as an L2 table: a header that doesn't load, a
+/// snapshot, external data, a damaged L2 word, and cluster 3 shared.
+pub fn changed_structure()
+    ensures header { IsVerdict (with_bytes 23 (8 ∷ [])) (Err header) }
+    ensures snapshots { IsVerdict (with_bytes 60 (0 ∷ 0 ∷ 0 ∷ 1 ∷ [])) (Err snapshots) }
+    ensures external { IsVerdict (with_bytes 79 (4 ∷ [])) (Err external) }
+    ensures table { IsVerdict (with_bytes 2055 (2 ∷ [])) (Err table) }
+    ensures shared_table { IsVerdict (with_bytes 1536 (128 ∷ 0 ∷ 0 ∷ 0 ∷ 0 ∷ 0 ∷ 6 ∷ 0 ∷ [])) (Err (shared_table 3)) }
+{}
+
+/// The headers that load: as it stands, as one of version 2, and for reading alone where it is dirty.
+pub fn loaded_headers()
+    ensures newer { header_of true (of_pieces image) ≡ Ok image_header }
+    ensures older { header_of true (with_bytes 4 (0 ∷ 0 ∷ 0 ∷ 2 ∷ [])) ≡ Ok older_header }
+    ensures older_entries { map (entry (with_bytes 4 (0 ∷ 0 ∷ 0 ∷ 2 ∷ [])) older_fields) (0 ∷ 1 ∷ 2 ∷ 64 ∷ []) ≡ data_at 5 true ∷ data_at 6 true ∷ unmapped ∷ unmapped ∷ [] }
+    ensures older_bytes { map (at (qcow2 (with_bytes 4 (0 ∷ 0 ∷ 0 ∷ 2 ∷ [])) (λ _. 0) ∷ [])) (508 ∷ 509 ∷ 510 ∷ 511 ∷ 512 ∷ 513 ∷ 514 ∷ 515 ∷ []) ≡ written_bytes }
+    ensures dirty_read { header_of false (with_bytes 79 (1 ∷ [])) ≡ Ok (header_with_features 1) }
+    ensures dirty_written { header_of true (with_bytes 79 (1 ∷ [])) ≡ Err Unsupported }
+{}
+
+/// The headers that are refused: by version, cluster bits, refcount order, features, size, L1 entries and L1 place.
+pub fn refused_headers()
+    ensures version { header_of false (with_bytes 4 (0 ∷ 0 ∷ 0 ∷ 4 ∷ [])) ≡ Err Unsupported }
+    ensures small_clusters { header_of false (with_bytes 23 (8 ∷ [])) ≡ Err DamagedHeader }
+    ensures large_clusters { header_of false (with_bytes 23 (22 ∷ [])) ≡ Err DamagedHeader }
+    ensures order { header_of false (with_bytes 99 (7 ∷ [])) ≡ Err DamagedHeader }
+    ensures features { header_of false (with_bytes 79 (16 ∷ [])) ≡ Err Unsupported }
+    ensures size { header_of false (with_bytes 24 (128 ∷ [])) ≡ Err (Limit (2 ^ 63 + 65536)) }
+    ensures l1_entries { header_of false (with_bytes 36 (0 ∷ 64 ∷ 0 ∷ 1 ∷ [])) ≡ Err (Limit 4194305) }
+    ensures l1_place { header_of false (with_bytes 47 (1 ∷ [])) ≡ Err DamagedHeader }
+{}
+
+/// Counters of one bit and of four bits, which share bytes.
+pub fn narrow_counters()
+    ensures one_bit { map (count (with_bytes 1024 (127 ∷ 0 ∷ 0 ∷ 0 ∷ 0 ∷ 0 ∷ 0 ∷ 0 ∷ 0 ∷ 0 ∷ 0 ∷ 0 ∷ 0 ∷ 0 ∷ [])) (fields_with_order 0)) (0 ∷ 1 ∷ 6 ∷ 7 ∷ 8 ∷ []) ≡ 1 ∷ 1 ∷ 1 ∷ 0 ∷ 0 ∷ [] }
+    ensures four_bits { map (count (with_bytes 1024 (17 ∷ 17 ∷ 17 ∷ 1 ∷ 0 ∷ 0 ∷ 0 ∷ 0 ∷ 0 ∷ 0 ∷ 0 ∷ 0 ∷ 0 ∷ 0 ∷ [])) (fields_with_order 2)) (0 ∷ 1 ∷ 6 ∷ 7 ∷ 8 ∷ []) ≡ 1 ∷ 1 ∷ 1 ∷ 0 ∷ 0 ∷ [] }
+{}
+
+/// How often clusters 5, 6 and 7 are named where a compressed range begins with the last byte of cluster 5.
+pub fn compressed_ranges()
+    ensures one_sector { map (refs (with_bytes 2048 (64 ∷ 0 ∷ 0 ∷ 0 ∷ 0 ∷ 0 ∷ 11 ∷ 255 ∷ [])) image_fields) (5 ∷ 6 ∷ 7 ∷ []) ≡ 1 ∷ 1 ∷ 0 ∷ [] }
+    ensures two_sectors { map (refs (with_bytes 2048 (96 ∷ 0 ∷ 0 ∷ 0 ∷ 0 ∷ 0 ∷ 11 ∷ 255 ∷ [])) image_fields) (5 ∷ 6 ∷ 7 ∷ []) ≡ 1 ∷ 2 ∷ 0 ∷ [] }
+{}

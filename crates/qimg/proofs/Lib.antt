@@ -1,0 +1,17 @@
+pub mod RequestLemmas
+pub mod Pairs
+pub mod FirstLemmas
+pub mod ClusterLemmas
+pub mod WriteLemmas
+pub mod ReadLemmas
+pub mod Loops
+pub mod OpenedLemmas
+pub mod RunLemmas
+pub mod SizeFrame
+pub mod BlankImage
+pub mod ScanLemmas
+pub mod CreateLemmas
+pub mod OpeningLemmas
+pub mod CreatedImage
+pub mod OpensLemmas
+pub mod WorkedLemmas

@@ -1,0 +1,12 @@
+pub mod View
+pub mod FieldsView
+pub mod First
+pub mod Requests
+pub mod Clusters
+pub mod Pieces
+pub mod Opened
+pub mod Marks
+pub mod Runs
+pub mod Created
+pub mod Opening
+pub mod Opens

@@ -1,0 +1,83 @@
+-- What contracts see of a first disk, and what its calls answer and leave.
+use Rattle.std.specs.Prelude.{◌≡◌, ◌⊎◌, ℕ, ◌+◌, ◌<◌, Bool, true, false, List, length, IsTrue, IsFalse}
+use Rattle.imago_storage.specs.State.{StorageState, Rose, unit_of}
+use Rattle.imago_storage.specs.Calls.{Kept}
+use Rattle.imago_storage.specs.Through.{Overflows}
+use Rattle.imago_storage.specs.Disk.{byte, Disk as Shown}
+use Rattle.imago_storage.specs.Steps.{Step, Call, Answer, write}
+use Rattle.imago_storage.specs.Causes.{PartlyDone}
+use Rattle.imago_storage.specs.declared.fault.Fault.{Fault}
+use Rattle.imago_storage.specs.declared.fault.Fault.TheVariants.{Failed, RangeOverflow, PastEnd, Limit, Memory, Storage}
+use Rattle.qcow2_types.specs.Bytes.{Bytes}
+use Rattle.qcow2_types.specs.Header.{Header}
+use Rattle.qcow2_types.specs.Disk.{disk_of}
+use Rattle.qimg.specs.declared.first.clusters.Places.{Places}
+use Rattle.qimg.specs.declared.first.Disk.{Disk}
+use Rattle.qimg.specs.First.{file, chain_of, Holds, AllCounted}
+
+pub record Opened : Type 0 where
+  -- the image's storage
+  pub state : StorageState
+  -- the size in bytes, and where the tables are
+  pub size : ℕ
+  pub places : Places
+  -- a storage failed, or memory was wanting after a change
+  pub failed : Bool
+
+unfoldable pub opened : {S : Type 0} → (S → StorageState) → Disk S → Opened
+opened state disk = record { state = state disk.image; size = disk.size; places = disk.places; failed = disk.failed }
+
+-- what the bytes of a file mean
+abbrev pub shown : Bytes → Shown
+shown f = disk_of (chain_of f)
+
+-- It stands for a consistent image with this header, in a storage that keeps what is written.
+pub record IsLive (disk : Opened) (H : Header) : Type 0 where
+  pub holds : Holds disk.state H disk.places
+  pub size : disk.size ≡ H.fields.size
+
+-- A step of the disk that the bytes mean, from a live disk to a live one.
+abbrev pub Steps : Opened → Opened → Call → Answer → Type 0
+Steps old new call answer = (H : Header) → IsLive old H → IsLive new H × Step (λ _. byte 0) (shown (file old.state)) call answer (shown (file new.state))
+
+-- nothing changes but the storage's count of faults
+pub record Stays (old new : Opened) : Type 0 where
+  pub state : Kept old.state new.state
+  pub size : new.size ≡ old.size
+  pub places : new.places ≡ old.places
+
+-- Why a read is refused, and what that leaves.
+abbrev pub ReadRefused : Opened → Opened → ℕ → ℕ → Fault → Type 0
+ReadRefused old new offset n Failed = IsTrue old.failed × (new ≡ old)
+ReadRefused old new offset n RangeOverflow = IsFalse old.failed × Overflows (unit_of old.state.shape) offset n × (new ≡ old)
+ReadRefused old new offset n Memory = IsFalse old.failed × Stays old new × (new.state.faults ≡ old.state.faults) × (new.failed ≡ false)
+ReadRefused old new offset n Storage = IsFalse old.failed × Stays old new × Rose old.state.faults new.state.faults × (new.failed ≡ true)
+ReadRefused old new offset n fault = ⊥
+
+-- Why a write is refused, and what that leaves. Where no cluster is free a part of the range may be written.
+abbrev pub WriteRefused : Opened → Opened → ℕ → List ℕ → Fault → Type 0
+WriteRefused old new offset bytes Failed = IsTrue old.failed × (new ≡ old)
+WriteRefused old new offset bytes RangeOverflow = IsFalse old.failed × Overflows (unit_of old.state.shape) offset (length bytes) × (new ≡ old)
+WriteRefused old new offset bytes PastEnd = IsFalse old.failed × (old.size < offset + length bytes) × (new ≡ old)
+WriteRefused old new offset bytes (Limit n) =
+    IsFalse old.failed × (n ≡ 256) × (new.state.faults ≡ old.state.faults) × (new.failed ≡ false)
+    × ((H : Header) → IsLive old H → IsLive new H × PartlyDone (λ _. byte 0) (write offset bytes) (shown (file old.state)) (shown (file new.state)) × AllCounted (file new.state) H.fields)
+WriteRefused old new offset bytes Memory = IsFalse old.failed × (new.state.faults ≡ old.state.faults) × ((new.failed ≡ true) ⊎ (Stays old new × (new.failed ≡ false)))
+WriteRefused old new offset bytes Storage = IsFalse old.failed × Rose old.state.faults new.state.faults × (new.failed ≡ true)
+WriteRefused old new offset bytes fault = ⊥
+
+-- Why a flush is refused, and what that leaves.
+abbrev pub FlushRefused : Opened → Opened → Fault → Type 0
+FlushRefused old new Failed = IsTrue old.failed × (new ≡ old)
+FlushRefused old new Memory = IsFalse old.failed × Stays old new × (new.state.faults ≡ old.state.faults) × (new.failed ≡ false)
+FlushRefused old new Storage = IsFalse old.failed × Stays old new × Rose old.state.faults new.state.faults × (new.failed ≡ true)
+FlushRefused old new fault = ⊥
+
+-- what every call that succeeds leaves
+pub record Succeeds (old new : Opened) : Type 0 where
+  pub was : IsFalse old.failed
+  pub is : new.failed ≡ false
+  pub faults : new.state.faults ≡ old.state.faults
+  pub shape : new.state.shape ≡ old.state.shape
+  pub size : new.size ≡ old.size
+  pub places : new.places ≡ old.places

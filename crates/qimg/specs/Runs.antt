@@ -1,0 +1,60 @@
+-- What a list of calls answers: one flat disk, which begins as what the bytes of a file mean.
+use Rattle.std.specs.Prelude.{◌≡◌, ◌+◌, ◌<◌, true, List, [], ◌∷◌, length, IsFalse, Ok}
+use Rattle.imago_storage.specs.State.{StorageState, Rose, unit_of}
+use Rattle.imago_storage.specs.Through.{Overflows}
+use Rattle.imago_storage.specs.Disk.{byte}
+use Rattle.imago_storage.specs.Steps.{Step, read, write, flush, bytes_read, done, Call as DiskCall, Stays as SameDisk}
+use Rattle.imago_storage.specs.Causes.{PartlyDone, offset_of, length_of}
+use Rattle.imago_storage.specs.declared.fault.Fault.{Fault}
+use Rattle.imago_storage.specs.declared.fault.Fault.TheVariants.{RangeOverflow, PastEnd, Limit, Memory, Storage}
+use Rattle.qcow2_types.specs.Header.{Header, header_of}
+use Rattle.qcow2_types.specs.Consistency.{Consistent}
+use Rattle.qimg.specs.declared.first.calls.Call.{Call}
+use Rattle.qimg.specs.declared.first.calls.Call.TheVariants.{Read, Write, Flush}
+use Rattle.qimg.specs.declared.first.calls.Answer.{Answer}
+use Rattle.qimg.specs.declared.first.calls.Answer.TheVariants.{Done, Bytes, Refused}
+use Rattle.qimg.specs.First.{file, AllCounted}
+use Rattle.qimg.specs.Opened.{Opened, IsLive, Steps, Succeeds, ReadRefused, WriteRefused, FlushRefused, shown}
+
+-- a call as a call of the disk that it is made of
+abbrev pub seen : Call → DiskCall
+seen (Read offset n) = read offset n
+seen (Write offset bytes) = write offset bytes.items
+seen Flush = flush
+
+-- What one call of a disk answers, by its own contract.
+abbrev pub Answered : Opened → Opened → Call → Answer → Type 0
+Answered old new (Read offset n) (Bytes buffer) = Succeeds old new × Steps old new (read offset n) (bytes_read buffer.items)
+Answered old new (Read offset n) (Refused fault) = ReadRefused old new offset n fault
+Answered old new (Write offset bytes) Done = Succeeds old new × Steps old new (write offset bytes.items) done
+Answered old new (Write offset bytes) (Refused fault) = WriteRefused old new offset bytes.items fault
+Answered old new Flush Done = Succeeds old new × Steps old new flush done
+Answered old new Flush (Refused fault) = FlushRefused old new fault
+Answered old new call answer = ⊥
+
+-- Why a call is refused that was neither in want of memory nor failed by its storage, and what it leaves.
+abbrev pub Refuses : StorageState → Call → Fault → StorageState → Type 0
+Refuses old call RangeOverflow new = Overflows (unit_of old.shape) (offset_of (seen call)) (length_of (seen call)) × SameDisk (shown (file old)) (shown (file new))
+Refuses old (Write offset bytes) PastEnd new = ((shown (file old)).size < offset + length bytes.items) × SameDisk (shown (file old)) (shown (file new))
+Refuses old (Write offset bytes) (Limit n) new =
+    (n ≡ 256) × PartlyDone (λ _. byte 0) (write offset bytes.items) (shown (file old)) (shown (file new)) × ((H : Header) → header_of true (file new) ≡ Ok H → AllCounted (file new) H.fields)
+Refuses old call fault new = ⊥
+
+-- What one call does to the disk that the image's bytes mean.
+abbrev pub Moves : StorageState → Call → Answer → StorageState → Type 0
+Moves old call Done new = Step (λ _. byte 0) (shown (file old)) (seen call) done (shown (file new))
+Moves old call (Bytes buffer) new = Step (λ _. byte 0) (shown (file old)) (seen call) (bytes_read buffer.items) (shown (file new))
+Moves old call (Refused fault) new = Refuses old call fault new
+
+-- The calls move from disk to disk, each of them that of a consistent file, up to the first call that was in want of memory, or
+-- during which the storage failed.
+abbrev pub Run : StorageState → List Call → List Answer → StorageState → Type 0
+Run old [] [] new = file new ≡ file old
+Run old (call ∷ calls) (Refused Memory ∷ answers) new = length answers ≡ length calls
+Run old (call ∷ calls) (Refused Storage ∷ answers) new = (mid : StorageState) × Rose old.faults mid.faults × (length answers ≡ length calls)
+Run old (call ∷ calls) (answer ∷ answers) new = (mid : StorageState) × Consistent (file mid) × Moves old call answer mid × Run mid calls answers new
+Run old _ _ new = ⊥
+
+-- the same of the calls of a disk
+abbrev pub LeadsOn : Opened → List Call → List Answer → Opened → Type 0
+LeadsOn old calls answers new = (H : Header) → IsLive old H → IsFalse old.failed → Run old.state calls answers new.state

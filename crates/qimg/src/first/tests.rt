@@ -1,0 +1,289 @@
+// The first disk on worked examples, by values from the format's rules.
+//
+// Where an allocation is refused a body ends with `Fault::Memory`, and its test runs it once more: so each test passes
+// whichever one allocation is refused, and fails where a call gives up with memory left.
+ghost use Rattle.std.specs.Prelude.{◌≡◌};
+ghost use Rattle.imago_storage.specs.State.{IsAlignment};
+
+use super::*;
+use imago_storage::{FuseStorage, LogStorage, MemStorage};
+use std::process::Abort;
+use std::test::Fail;
+
+/// The bytes of an image of 65,536 bytes after 01 02 03 were written at 510: 3,584 of them.
+fn check_worked_image(rt: &impl Abort, bytes: &[u8]) {
+    assert_eq!(rt; bytes.len(), 3584);
+    let table = bytes.get(512..520).unwrap_or(&[]);
+    assert_eq!(rt; table, [0, 0, 0, 0, 0, 0, 4, 0].as_slice());
+    let counts = bytes.get(1024..1040).unwrap_or(&[]);
+    assert_eq!(rt;
+        counts,
+        [0, 1, 0, 1, 0, 1, 0, 1, 0, 1, 0, 1, 0, 1, 0, 0].as_slice()
+    );
+    let l1 = bytes.get(1536..1552).unwrap_or(&[]);
+    assert_eq!(rt;
+        l1,
+        [128, 0, 0, 0, 0, 0, 8, 0, 0, 0, 0, 0, 0, 0, 0, 0].as_slice()
+    );
+    let l2 = bytes.get(2048..2072).unwrap_or(&[]);
+    assert_eq!(rt;
+        l2,
+        [
+            128, 0, 0, 0, 0, 0, 10, 0, 128, 0, 0, 0, 0, 0, 12, 0, 0, 0, 0, 0, 0, 0, 0, 0
+        ]
+        .as_slice()
+    );
+    let first = bytes.get(3068..3072).unwrap_or(&[]);
+    assert_eq!(rt; first, [0, 0, 1, 2].as_slice());
+    let second = bytes.get(3072..3076).unwrap_or(&[]);
+    assert_eq!(rt; second, [3, 0, 0, 0].as_slice());
+}
+
+// Writes at 510, flushes, and reads again what another disk over the same bytes shows.
+fn written_at(rt: &impl Abort, alloc: Global, align: usize) -> Result<Vec<u8>, Fault>
+    requires { IsAlignment align }
+{
+    let image = create(MemStorage::new(alloc).with_align(align), alloc, 65536)?;
+    let mut disk = Disk::open(image, alloc)?;
+    assert_eq!(rt; disk.size(), 65536);
+    disk.write(alloc, &[1, 2, 3], 510)?;
+    disk.flush()?;
+    assert!(rt; !disk.failed());
+    let mut disk = Disk::open(disk.into_image(), alloc)?;
+    let mut buf = [7u8; 8];
+    disk.read(alloc, &mut buf, 508)?;
+    assert_eq!(rt; buf, [0, 0, 1, 2, 3, 0, 0, 0]);
+    let mut bytes = disk.into_image().into_bytes()?;
+    bytes.truncate(3584);
+    Ok(bytes)
+}
+
+fn same_at_each_alignment(rt: &impl Abort, alloc: Global) -> Result<(), Fault> {
+    let bytes = written_at(rt, alloc, 1)?;
+    check_worked_image(rt, &bytes);
+    let other = written_at(rt, alloc, 8)?;
+    assert_eq!(rt; bytes.as_slice(), other.as_slice());
+    let other = written_at(rt, alloc, 512)?;
+    assert_eq!(rt; bytes.as_slice(), other.as_slice());
+    let other = written_at(rt, alloc, 4096)?;
+    assert_eq!(rt; bytes.as_slice(), other.as_slice());
+    Ok(())
+}
+
+#[test]
+fn a_write_has_the_same_bytes_at_each_alignment(rt: HostRuntime) -> Result<(), Fail> {
+    let alloc = rt.alloc();
+    match same_at_each_alignment(&rt, alloc) {
+        Err(Fault::Memory) => same_at_each_alignment(&rt, alloc)?,
+        answer => answer?,
+    }
+    Ok(())
+}
+
+// The end of the disk, ranges that pass 64 bits, and calls of length 0.
+fn ends_of_ranges(rt: &impl Abort, alloc: Global) -> Result<(), Fault> {
+    let image = create(MemStorage::new(alloc), alloc, 65536)?;
+    let mut disk = Disk::open(image, alloc)?;
+    assert_eq!(rt; disk.write(alloc, &[1, 2], 65535), Err(Fault::PastEnd));
+    assert_eq!(rt; disk.write(alloc, &[1], 65536), Err(Fault::PastEnd));
+    assert_eq!(rt; disk.write(alloc, &[], u64::MAX), Ok(()));
+    assert_eq!(rt;
+        disk.write(alloc, &[1, 2], u64::MAX),
+        Err(Fault::RangeOverflow)
+    );
+    let mut two = [7u8; 2];
+    disk.read(alloc, &mut two, 65535)?;
+    assert_eq!(rt; two, [0, 0]);
+    assert_eq!(rt;
+        disk.read(alloc, &mut two, u64::MAX),
+        Err(Fault::RangeOverflow)
+    );
+    let mut none = [0u8; 0];
+    disk.read(alloc, &mut none, u64::MAX)?;
+    disk.write(alloc, &[9], 65535)?;
+    two = [7, 7];
+    disk.read(alloc, &mut two, 65535)?;
+    assert_eq!(rt; two, [9, 0]);
+    let mut past = [7u8; 2];
+    disk.read(alloc, &mut past, 1 << 40)?;
+    assert_eq!(rt; past, [0, 0]);
+    Ok(())
+}
+
+#[test]
+fn ranges_end_where_the_disk_does(rt: HostRuntime) -> Result<(), Fail> {
+    let alloc = rt.alloc();
+    match ends_of_ranges(&rt, alloc) {
+        Err(Fault::Memory) => ends_of_ranges(&rt, alloc)?,
+        answer => answer?,
+    }
+    Ok(())
+}
+
+// A new image of two clusters whose first block counts every cluster but 4 and 5.
+fn nearly_full(alloc: Global) -> Result<MemStorage, Fault> {
+    let mut bytes = create(MemStorage::new(alloc), alloc, 1024)?.into_bytes()?;
+    for (at, byte) in bytes.iter_mut().enumerate() {
+        if at % 2 == 1 && at > 1035 && at < 1536 {
+            *byte = 1;
+        }
+    }
+    MemStorage::from_bytes(bytes)
+}
+
+fn no_cluster_left(rt: &impl Abort, alloc: Global) -> Result<(), Fault> {
+    let mut disk = Disk::open(nearly_full(alloc)?, alloc)?;
+    let data = [5u8; 600];
+    // The first guest cluster takes the two clusters that are left, and the second finds none.
+    assert_eq!(rt; disk.write(alloc, &data, 0), Err(Fault::Limit(256)));
+    assert!(rt; !disk.failed());
+    let mut buf = [7u8; 600];
+    disk.read(alloc, &mut buf, 0)?;
+    for (at, byte) in buf.iter().enumerate() {
+        let want = if at < 512 { 5 } else { 0 };
+        assert_eq!(rt; *byte, want, "at {at}");
+    }
+    disk.write(alloc, &[6; 3], 1)?;
+    Ok(())
+}
+
+#[test]
+fn a_full_image_is_refused_and_stays(rt: HostRuntime) -> Result<(), Fail> {
+    let alloc = rt.alloc();
+    match no_cluster_left(&rt, alloc) {
+        Err(Fault::Memory) => no_cluster_left(&rt, alloc)?,
+        answer => answer?,
+    }
+    Ok(())
+}
+
+// Each call of the storage fails in turn, until a run has no fault: the call answers, and all later ones are refused.
+fn faults_in_turn(rt: &impl Abort, alloc: Global) -> Result<(), Fault> {
+    let mut whole = 0u64;
+    for nth in 1..200u64 {
+        let image = create(MemStorage::new(alloc), alloc, 65536)?;
+        let storage = FuseStorage::new(LogStorage::new(alloc, image)?, nth);
+        let mut disk = match Disk::open(storage, alloc) {
+            Ok(disk) => disk,
+            Err(fault) => {
+                assert_eq!(rt; fault, Fault::Storage);
+                continue;
+            }
+        };
+        match disk.write(alloc, &[1, 2, 3], 510) {
+            Ok(()) => {}
+            Err(Fault::Memory) => return Err(Fault::Memory),
+            Err(fault) => {
+                assert_eq!(rt; fault, Fault::Storage);
+                assert!(rt; disk.failed());
+                let mut buf = [0u8; 1];
+                assert_eq!(rt; disk.read(alloc, &mut buf, 0), Err(Fault::Failed));
+                assert_eq!(rt; disk.write(alloc, &buf, 0), Err(Fault::Failed));
+                assert_eq!(rt; disk.flush(), Err(Fault::Failed));
+                assert_eq!(rt; disk.size(), 65536);
+                continue;
+            }
+        }
+        match disk.flush() {
+            Ok(()) => whole = whole.saturating_add(1),
+            Err(fault) => assert_eq!(rt; fault, Fault::Storage),
+        }
+        if whole == 2 {
+            break;
+        }
+    }
+    assert_eq!(rt; whole, 2);
+    Ok(())
+}
+
+#[test]
+fn a_fault_of_the_storage_fails_the_disk(rt: HostRuntime) -> Result<(), Fail> {
+    let alloc = rt.alloc();
+    match faults_in_turn(&rt, alloc) {
+        Err(Fault::Memory) => faults_in_turn(&rt, alloc)?,
+        answer => answer?,
+    }
+    Ok(())
+}
+
+// A list of calls, over a storage of large alignment.
+fn list_of_calls(rt: &impl Abort, alloc: Global) -> Result<(), Fault> {
+    let image = create(MemStorage::new(alloc).with_align(512), alloc, 1000)?;
+    let data = Vec::from_slice(alloc, &[4, 5])?;
+    let late = Vec::from_slice(alloc, &[4, 5])?;
+    let calls = [
+        Call::Write { offset: 511, data },
+        Call::Flush,
+        Call::Read {
+            offset: 510,
+            length: 4,
+        },
+        Call::Write {
+            offset: 999,
+            data: late,
+        },
+        Call::Read {
+            offset: 998,
+            length: 4,
+        },
+    ];
+    let (image, answers) = serve(image, alloc, &calls)?;
+    match answers.as_slice() {
+        [
+            Answer::Done,
+            Answer::Done,
+            Answer::Bytes(first),
+            Answer::Refused(fault),
+            Answer::Bytes(last),
+        ] => {
+            assert_eq!(rt; first.as_slice(), [0, 4, 5, 0].as_slice());
+            assert_eq!(rt; *fault, Fault::PastEnd);
+            assert_eq!(rt; last.as_slice(), [0, 0, 0, 0].as_slice());
+        }
+        _ => return Err(Fault::Memory),
+    }
+    let mut disk = Disk::open(image, alloc)?;
+    let again = run_calls(&mut disk, alloc, &calls)?;
+    assert_eq!(rt; again.len(), 5);
+    Ok(())
+}
+
+#[test]
+fn calls_are_answered_in_order(rt: HostRuntime) -> Result<(), Fail> {
+    let alloc = rt.alloc();
+    match list_of_calls(&rt, alloc) {
+        Err(Fault::Memory) => list_of_calls(&rt, alloc)?,
+        answer => answer?,
+    }
+    Ok(())
+}
+
+fn first_line(rt: &impl Abort, alloc: Global) -> Result<(), RunFault> {
+    let mut line = Vec::new(alloc);
+    first_run(alloc, &mut line)?;
+    assert_eq!(rt; line.as_slice(), b"0000010203000000\n".as_slice());
+    Ok(())
+}
+
+#[test]
+fn the_first_run_shows_the_bytes(rt: HostRuntime) -> Result<(), Fail> {
+    let alloc = rt.alloc();
+    if first_line(&rt, alloc).is_err() {
+        first_line(&rt, alloc)?;
+    }
+    Ok(())
+}
+
+#[test]
+fn run_faults_have_one_text(rt: HostRuntime) -> Result<(), Fail> {
+    for fault in [
+        RunFault::Read,
+        RunFault::Write,
+        RunFault::Lines,
+        RunFault::Memory,
+    ] {
+        let text = format!(in rt.alloc(); "{fault}")?;
+        assert_eq!(rt; text.as_str(), "input or output failed");
+    }
+    Ok(())
+}

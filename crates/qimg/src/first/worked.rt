@@ -1,0 +1,109 @@
+// The first run: three bytes written and read again, from bytes to bytes.
+ghost use Rattle.std.specs.Prelude.{◌≡◌, [], ◌∷◌, ◌++◌, codes, Some, IsTrue, IfOk, OnOk, MatchOption, ⊤};
+ghost use Rattle.std.specs.Io.KnownBytes.{Appends};
+ghost use Rattle.qcow2_types.specs.Consistency.{Consistent};
+ghost use Rattle.qimg.specs.First.{file};
+ghost use Rattle.qimg.specs.Runs.{Run};
+ghost use Rattle.imago_storage.specs.Disk.{byte};
+
+use super::calls::{Answer, Call, serve};
+use super::create::create;
+use imago_storage::{Fault, MemStorage, Storage};
+use std::alloc::{AllocError, AllocFailed, Global};
+use std::io;
+use thiserror::Error;
+
+/// Why a run of the program ended early.
+#[derive(Clone, Copy, Debug, PartialEq, Eq, Error)]
+pub enum RunFault {
+    /// The reader failed.
+    #[error("input or output failed")]
+    Read,
+    /// The writer failed.
+    #[error("input or output failed")]
+    Write,
+    /// There are more lines than a script may have.
+    #[error("input or output failed")]
+    Lines,
+    /// Want of memory.
+    #[error("input or output failed")]
+    Memory,
+}
+
+impl From<AllocError> for RunFault {
+    fn from(_: AllocError) -> Self {
+        RunFault::Memory
+    }
+}
+
+impl<T: Drop> From<AllocFailed<T>> for RunFault {
+    fn from(_: AllocFailed<T>) -> Self {
+        RunFault::Memory
+    }
+}
+
+// Storages in memory are refused nothing but memory.
+impl From<Fault> for RunFault {
+    fn from(_: Fault) -> Self {
+        RunFault::Memory
+    }
+}
+
+/// The answer, if there is just one.
+fn only_answer(mut answers: Vec<Answer>) -> Option<Answer>
+    ensures { MatchOption result ⊤ (λ answer. answers.items ≡ answer ∷ []) }
+{
+    let answer = answers.pop()?;
+    if answers.is_empty() {
+        Some(answer)
+    } else {
+        None
+    }
+}
+
+/// Makes one call of the disk in the image.
+fn serve_one<S: Storage>(image: S, alloc: Global, call: Call) -> Result<(S, Answer), RunFault>
+    ensures run { IfOk result (λ served. IsTrue (S.state image).shape.keeps → Consistent (file (S.state image)) → Run (S.state image) (call ∷ []) (served.1 ∷ []) (S.state served.0)) }
+    ensures shape { IfOk result (λ served. (S.state served.0).shape ≡ (S.state image).shape) }
+{
+    let (image, answers) = serve(image, alloc, &[call])?;
+    match only_answer(answers) {
+        Some(answer) => Ok((image, answer)),
+        None => Err(RunFault::Memory),
+    }
+}
+
+/// Writes 01 02 03 at 510 into a new image of 65,536 bytes, flushes it, opens it again, and reads 8 bytes at 508.
+fn worked_bytes<S: Storage>(image: S, alloc: Global) -> Result<Vec<u8>, RunFault>
+    ensures { IfOk result (λ bytes. IsTrue (S.state image).shape.keeps → bytes.items ≡ 0 ∷ 0 ∷ 1 ∷ 2 ∷ 3 ∷ 0 ∷ 0 ∷ 0 ∷ []) }
+{
+    let image = create(image, alloc, 65536)?;
+    let data = Vec::from_slice(alloc, &[1, 2, 3])?;
+    let (image, written) = serve_one(image, alloc, Call::Write { offset: 510, data })?;
+    let (image, flushed) = serve_one(image, alloc, Call::Flush)?;
+    let read = Call::Read {
+        offset: 508,
+        length: 8,
+    };
+    let (_, read) = serve_one(image, alloc, read)?;
+    match (written, flushed, read) {
+        (Answer::Done, Answer::Done, Answer::Bytes(bytes)) => Ok(bytes),
+        _ => Err(RunFault::Memory),
+    }
+}
+
+/// Shows what `first` does: writes the 8 bytes at 508 of an image into which 01 02 03 was written at 510, as lower-case
+/// digits, and a line feed.
+///
+/// `RunFault::Memory` for want of memory, which leaves the writer as it was; `RunFault::Write` where the writer fails.
+pub fn first_run<W: io::Write>(alloc: Global, writer: &mut W) -> Result<(), RunFault>
+    ensures { OnOk result (Appends (W.contents writer.old) (W.contents writer.new) (codes "0000010203000000" ++ 10 ∷ [])) }
+{
+    let bytes = worked_bytes(MemStorage::new(alloc), alloc)?;
+    let mut line = hex::encode(alloc, bytes.as_slice())?;
+    line.push('\n')?;
+    match writer.write_all(line.as_bytes()) {
+        Ok(()) => Ok(()),
+        Err(_) => Err(RunFault::Write),
+    }
+}
