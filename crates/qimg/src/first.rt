@@ -1,5 +1,5 @@
 //! The first disk: plain images of at most 65,536 bytes.
-ghost use Rattle.std.specs.Prelude.{◌≡◌, ℕ, ◌+◌, ◌*◌, ◌<◌, ◌≤◌, ◌^◌, length, IsTrue, IsFalse, OnOk, IfOk, IfErr, IsErrOf};
+ghost use Rattle.std.specs.Prelude.{◌≡◌, ℕ, ◌+◌, ◌*◌, ◌<◌, ◌≤◌, ◌^◌, length, IsTrue, IsFalse, IsOk, OnOk, IfOk, IfErr, IsErrOf};
 ghost use Rattle.imago_storage.specs.State.{unit_of};
 ghost use Rattle.imago_storage.specs.Through.{Overflows};
 ghost use Rattle.qimg.specs.Marks.{marks};
@@ -65,7 +65,7 @@ fn marks_failed(fault: Fault, changed: bool) -> bool
 #[tactic(auto, unfolding(crate::specs::Opened::opened))]
 impl<S: Storage> Disk<S> {
     ghost use Rattle.imago_storage.specs.Steps.{read as to_read, write as to_write, flush as to_flush, bytes_read, done};
-    ghost use Rattle.qimg.specs.Opened.{opened, Steps, Succeeds, ReadRefused, WriteRefused, FlushRefused};
+    ghost use Rattle.qimg.specs.Opened.{opened, Steps, Stays, Succeeds, ReadRefused, WriteRefused, FlushRefused};
     ghost use Rattle.qimg.specs.Opens.{Opens, NotOpened};
 
     /// Opens the image in a storage, for reading and writing.
@@ -121,7 +121,8 @@ impl<S: Storage> Disk<S> {
         ensures step { OnOk result (Steps (opened S.state self.old) (opened S.state self.new) (to_read offset (length buf.old)) (bytes_read buf.new)) }
         ensures ok { OnOk result (Succeeds (opened S.state self.old) (opened S.state self.new)) }
         ensures err { IfErr result (ReadRefused (opened S.state self.old) (opened S.state self.new) offset (length buf.old)) }
-        ensures shape { (opened S.state self.new).state.shape ≡ (opened S.state self.old).state.shape }
+        ensures stays { Stays (opened S.state self.old) (opened S.state self.new) }
+        ensures nothing { IsFalse (opened S.state self.old).failed → length buf.old ≡ 0 → IsOk result × (opened S.state self.new ≡ opened S.state self.old) }
         ensures failed { IsTrue (opened S.state self.old).failed → IsErrOf result Fault.Failed }
         ensures overflow { IsFalse (opened S.state self.old).failed → Overflows (unit_of (opened S.state self.old).state.shape) offset (length buf.old) → IsErrOf result Fault.RangeOverflow }
     {
@@ -150,8 +151,10 @@ impl<S: Storage> Disk<S> {
         ensures ok { OnOk result (Succeeds (opened S.state self.old) (opened S.state self.new)) }
         ensures err { IfErr result (WriteRefused (opened S.state self.old) (opened S.state self.new) offset «data».now) }
         ensures shape { (opened S.state self.new).state.shape ≡ (opened S.state self.old).state.shape }
+        ensures nothing { IsFalse (opened S.state self.old).failed → length «data».now ≡ 0 → IsOk result × (opened S.state self.new ≡ opened S.state self.old) }
         ensures failed { IsTrue (opened S.state self.old).failed → IsErrOf result Fault.Failed }
         ensures overflow { IsFalse (opened S.state self.old).failed → Overflows (unit_of (opened S.state self.old).state.shape) offset (length «data».now) → IsErrOf result Fault.RangeOverflow }
+        ensures past { IsFalse (opened S.state self.old).failed → 0 < length «data».now → (Overflows (unit_of (opened S.state self.old).state.shape) offset (length «data».now) → ⊥) → (opened S.state self.old).size < offset + length «data».now → IsErrOf result Fault.PastEnd }
     {
         if self.failed {
             return Err(Fault::Failed);
@@ -188,7 +191,7 @@ impl<S: Storage> Disk<S> {
         ensures step { OnOk result (Steps (opened S.state self.old) (opened S.state self.new) to_flush done) }
         ensures ok { OnOk result (Succeeds (opened S.state self.old) (opened S.state self.new)) }
         ensures err { IfErr result (FlushRefused (opened S.state self.old) (opened S.state self.new)) }
-        ensures shape { (opened S.state self.new).state.shape ≡ (opened S.state self.old).state.shape }
+        ensures stays { Stays (opened S.state self.old) (opened S.state self.new) }
         ensures failed { IsTrue (opened S.state self.old).failed → IsErrOf result Fault.Failed }
     {
         if self.failed {

@@ -7,6 +7,7 @@ ghost use Rattle.imago_storage.specs.State.{IsAlignment};
 
 use super::*;
 use imago_storage::{FuseStorage, LogStorage, MemStorage};
+use std::alloc::AllocError;
 use std::process::Abort;
 use std::test::Fail;
 
@@ -135,7 +136,10 @@ fn no_cluster_left(rt: &impl Abort, alloc: Global) -> Result<(), Fault> {
     let mut disk = Disk::open(nearly_full(alloc)?, alloc)?;
     let data = [5u8; 600];
     // The first guest cluster takes the two clusters that are left, and the second finds none.
-    assert_eq!(rt; disk.write(alloc, &data, 0), Err(Fault::Limit(256)));
+    match disk.write(alloc, &data, 0) {
+        Err(Fault::Memory) => return Err(Fault::Memory),
+        answer => assert_eq!(rt; answer, Err(Fault::Limit(256))),
+    }
     assert!(rt; !disk.failed());
     let mut buf = [7u8; 600];
     disk.read(alloc, &mut buf, 0)?;
@@ -201,6 +205,28 @@ fn a_fault_of_the_storage_fails_the_disk(rt: HostRuntime) -> Result<(), Fail> {
     let alloc = rt.alloc();
     match faults_in_turn(&rt, alloc) {
         Err(Fault::Memory) => faults_in_turn(&rt, alloc)?,
+        answer => answer?,
+    }
+    Ok(())
+}
+
+// A flush reaches the storage: the fuse counts it.
+fn flush_passed_on(rt: &impl Abort, alloc: Global) -> Result<(), Fault> {
+    let image = create(MemStorage::new(alloc), alloc, 512)?;
+    let mut disk = Disk::open(FuseStorage::new(image, 0), alloc)?;
+    disk.flush()?;
+    let flushed = disk.into_image();
+    let image = create(MemStorage::new(alloc), alloc, 512)?;
+    let opened = Disk::open(FuseStorage::new(image, 0), alloc)?.into_image();
+    assert_eq!(rt; flushed.count(), opened.count().saturating_add(1));
+    Ok(())
+}
+
+#[test]
+fn a_flush_reaches_the_storage(rt: HostRuntime) -> Result<(), Fail> {
+    let alloc = rt.alloc();
+    match flush_passed_on(&rt, alloc) {
+        Err(Fault::Memory) => flush_passed_on(&rt, alloc)?,
         answer => answer?,
     }
     Ok(())
@@ -274,16 +300,24 @@ fn the_first_run_shows_the_bytes(rt: HostRuntime) -> Result<(), Fail> {
     Ok(())
 }
 
-#[test]
-fn run_faults_have_one_text(rt: HostRuntime) -> Result<(), Fail> {
+fn texts_of_run_faults(rt: &impl Abort, alloc: Global) -> Result<(), AllocError> {
     for fault in [
         RunFault::Read,
         RunFault::Write,
         RunFault::Lines,
         RunFault::Memory,
     ] {
-        let text = format!(in rt.alloc(); "{fault}")?;
+        let text = format!(in alloc; "{fault}")?;
         assert_eq!(rt; text.as_str(), "input or output failed");
+    }
+    Ok(())
+}
+
+#[test]
+fn run_faults_have_one_text(rt: HostRuntime) -> Result<(), Fail> {
+    let alloc = rt.alloc();
+    if texts_of_run_faults(&rt, alloc).is_err() {
+        texts_of_run_faults(&rt, alloc)?;
     }
     Ok(())
 }
