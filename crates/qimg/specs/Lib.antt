@@ -7,6 +7,7 @@ pub mod Pieces
 pub mod Opened
 pub mod Marks
 pub mod Runs
+pub mod RunFaults
 pub mod Created
 pub mod Opening
 pub mod Opens

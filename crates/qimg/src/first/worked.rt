@@ -1,9 +1,11 @@
 // The first run: three bytes written and read again, from bytes to bytes.
-ghost use Rattle.std.specs.Prelude.{◌≡◌, [], ◌∷◌, ◌++◌, codes, Some, IsTrue, IfOk, OnOk, MatchOption, ⊤};
+ghost use Rattle.std.specs.Prelude.{◌≡◌, [], ◌∷◌, ◌++◌, codes, Some, IsTrue, IfOk, IfErr, OnOk, IsOkUnless, MatchOption, ⊤};
 ghost use Rattle.std.specs.Io.KnownBytes.{Appends};
 ghost use Rattle.qcow2_types.specs.Consistency.{Consistent};
 ghost use Rattle.qimg.specs.First.{file};
+ghost use Rattle.qimg.specs.declared.first.worked.RunFault.TheVariants.{Memory};
 ghost use Rattle.qimg.specs.Runs.{Run};
+ghost use Rattle.qimg.specs.RunFaults.{NotShown};
 ghost use Rattle.imago_storage.specs.Disk.{byte};
 
 use super::calls::{Answer, Call, serve};
@@ -31,12 +33,16 @@ pub enum RunFault {
 }
 
 impl From<AllocError> for RunFault {
+    ghost from_gives = { λ _ e. e ≡ Memory };
+
     fn from(_: AllocError) -> Self {
         RunFault::Memory
     }
 }
 
 impl<T: Drop> From<AllocFailed<T>> for RunFault {
+    ghost from_gives = { λ _ e. e ≡ Memory };
+
     fn from(_: AllocFailed<T>) -> Self {
         RunFault::Memory
     }
@@ -44,6 +50,8 @@ impl<T: Drop> From<AllocFailed<T>> for RunFault {
 
 // Storages in memory are refused nothing but memory.
 impl From<Fault> for RunFault {
+    ghost from_gives = { λ _ e. e ≡ Memory };
+
     fn from(_: Fault) -> Self {
         RunFault::Memory
     }
@@ -65,6 +73,7 @@ fn only_answer(mut answers: Vec<Answer>) -> Option<Answer>
 fn serve_one<S: Storage>(image: S, alloc: Global, call: Call) -> Result<(S, Answer), RunFault>
     ensures run { IfOk result (λ served. IsTrue (S.state image).shape.keeps → Consistent (file (S.state image)) → Run (S.state image) (call ∷ []) (served.1 ∷ []) (S.state served.0)) }
     ensures shape { IfOk result (λ served. (S.state served.0).shape ≡ (S.state image).shape) }
+    ensures err { IsOkUnless result RunFault.Memory }
 {
     let (image, answers) = serve(image, alloc, &[call])?;
     match only_answer(answers) {
@@ -75,7 +84,8 @@ fn serve_one<S: Storage>(image: S, alloc: Global, call: Call) -> Result<(S, Answ
 
 /// Writes 01 02 03 at 510 into a new image of 65,536 bytes, flushes it, opens it again, and reads 8 bytes at 508.
 fn worked_bytes<S: Storage>(image: S, alloc: Global) -> Result<Vec<u8>, RunFault>
-    ensures { IfOk result (λ bytes. IsTrue (S.state image).shape.keeps → bytes.items ≡ 0 ∷ 0 ∷ 1 ∷ 2 ∷ 3 ∷ 0 ∷ 0 ∷ 0 ∷ []) }
+    ensures ok { IfOk result (λ bytes. IsTrue (S.state image).shape.keeps → bytes.items ≡ 0 ∷ 0 ∷ 1 ∷ 2 ∷ 3 ∷ 0 ∷ 0 ∷ 0 ∷ []) }
+    ensures err { IsOkUnless result RunFault.Memory }
 {
     let image = create(image, alloc, 65536)?;
     let data = Vec::from_slice(alloc, &[1, 2, 3])?;
@@ -97,7 +107,8 @@ fn worked_bytes<S: Storage>(image: S, alloc: Global) -> Result<Vec<u8>, RunFault
 ///
 /// `RunFault::Memory` for want of memory, which leaves the writer as it was; `RunFault::Write` where the writer fails.
 pub fn first_run<W: io::Write>(alloc: Global, writer: &mut W) -> Result<(), RunFault>
-    ensures { OnOk result (Appends (W.contents writer.old) (W.contents writer.new) (codes "0000010203000000" ++ 10 ∷ [])) }
+    ensures ok { OnOk result (Appends (W.contents writer.old) (W.contents writer.new) (codes "0000010203000000" ++ 10 ∷ [])) }
+    ensures err { IfErr result (NotShown (W.contents writer.old) (W.contents writer.new)) }
 {
     let bytes = worked_bytes(MemStorage::new(alloc), alloc)?;
     let mut line = hex::encode(alloc, bytes.as_slice())?;

@@ -6,8 +6,8 @@ use Rattle.qimg.proofs.OpenedLemmas.{shown-size, shown-value}
 use Rattle.qimg.proofs.WorkedLemmas.{worked-run}
 use Rattle.qimg.proofs.first.worked.worked_bytes.Goals as goal
 
-pub returns-in-Done-Done-Bytes : goal.returns-in-Done-Done-Bytes
-returns-in-Done-Done-Bytes g c keeps =
+pub returns-in-Done-Done-Bytes-clause-ok : goal.returns-in-Done-Done-Bytes-clause-ok
+returns-in-Done-Done-Bytes-clause-ok g c keeps =
     let kept : IsTrue (g.S.Storage.state c.in_ok-image.image).shape.keeps = subst (λ s. IsTrue s.keeps) (sym c.in_ok-image.ensures.ok.shape) keeps in
     let consistent = c.in_ok-image.ensures.consistent keeps in
     worked-run (g.S.Storage.state c.in_ok-image.image) (g.S.Storage.state c.in_ok-image-2.image) (g.S.Storage.state c.in_ok-image-3.image) (g.S.Storage.state c.in_ok-read.field-0-0) c.in_ok-data.«data» c.in-Done-Done-Bytes.bytes kept (new_header 65536, consistent) (shown-size _ (new_header 65536) consistent)
