@@ -1,11 +1,11 @@
 -- Why a call of a disk may be refused, and what a refusal leaves.
-use Rattle.std.specs.Prelude.{◌≡◌, ◌⊎◌, ℕ, ◌+◌, ◌^◌, ◌<◌, ◌≤◌, ◌≢◌, Bool, true, false, List, length, IsTrue, IsFalse}
+use Rattle.std.specs.Prelude.{◌≡◌, ◌⊎◌, ℕ, ◌+◌, ◌<◌, Bool, true, length, IsTrue, IsFalse}
 use Rattle.imago_storage.specs.State.{Rose}
 use Rattle.imago_storage.specs.Through.{Overflows}
-use Rattle.imago_storage.specs.Disk.{Value, barred, damaged_place, Disk, IsFree}
-use Rattle.imago_storage.specs.Steps.{Growth, anything, zeroes, Call, read, write, write_zeroes, discard_to_zero, discard_to_any, discard_to_backing, prepare, commit, cancel, ensure, write_mapped, lookup, flush, sync, grow, shrink, IsOut, ToBytes, ToZero, ToAny, ToBelow, Stays, SameValues}
+use Rattle.imago_storage.specs.Disk.{Value, Disk}
+use Rattle.imago_storage.specs.Steps.{Call, read, write, write_zeroes, discard_to_zero, discard_to_any, discard_to_backing, prepare, commit, cancel, ensure, write_mapped, lookup, grow, shrink, IsOut, ToBytes, ToZero, ToAny, ToBelow}
 use Rattle.imago_storage.specs.declared.fault.Fault.{Fault}
-use Rattle.imago_storage.specs.declared.fault.Fault.TheVariants.{ReadOnly, PastEnd, RangeOverflow, Foreign, Limit, Memory, Storage}
+use Rattle.imago_storage.specs.declared.fault.Fault.TheVariants.{ReadOnly, PastEnd, RangeOverflow, Foreign, Memory, Storage}
 
 -- the range of a call, in bytes; none for calls that have none
 abbrev pub offset_of : Call → ℕ
@@ -34,32 +34,40 @@ length_of (write_mapped offset bytes) = length bytes
 length_of (lookup offset n) = n
 length_of _ = 0
 
--- the call changes the disk or prepares to
-abbrev pub is_changing : Call → Bool
-is_changing (read offset n) = false
-is_changing (lookup offset n) = false
-is_changing (cancel state own) = false
-is_changing flush = false
-is_changing sync = false
-is_changing _ = true
+-- The call has something to change: its range isn't empty, its mapping has state, its size is another. A call that has nothing to
+-- change is never refused for what the image is.
+abbrev pub Alters : Disk → Call → Type 0
+Alters disk (write offset bytes) = 0 < length bytes
+Alters disk (write_zeroes offset n) = 0 < n
+Alters disk (discard_to_zero offset n) = 0 < n
+Alters disk (discard_to_any offset n) = 0 < n
+Alters disk (discard_to_backing offset n) = 0 < n
+Alters disk (prepare offset n overwrite) = 0 < n
+Alters disk (commit state own) = IsTrue state
+Alters disk (ensure offset n overwrite) = 0 < n
+Alters disk (write_mapped offset bytes) = 0 < length bytes
+Alters disk (grow size fill) = disk.size < size
+Alters disk (shrink size) = size < disk.size
+Alters disk _ = ⊥
+
+-- a mapping with state is spent by a chain of another number
+abbrev pub IsForeign : Call → Type 0
+IsForeign (commit true own) = IsFalse own
+IsForeign (cancel true own) = IsFalse own
+IsForeign _ = ⊥
 
 -- The causes that every kind of image has, with the alignment of its chain, whether it was opened for writing, and its count of
 -- faults before and after. The kinds of images add their own, as a place that can't be read or a limit.
 abbrev pub CommonCause : ℕ → Bool → Disk → Call → ℕ → ℕ → Fault → Type 0
-CommonCause unit writable disk call before after ReadOnly = IsTrue (is_changing call) × IsFalse writable
-CommonCause unit writable disk call before after PastEnd = IsTrue (is_changing call) × (disk.size < offset_of call + length_of call)
+CommonCause unit writable disk call before after ReadOnly = Alters disk call × IsFalse writable
+CommonCause unit writable disk call before after PastEnd = Alters disk call × (disk.size < offset_of call + length_of call)
 CommonCause unit writable disk call before after RangeOverflow = Overflows unit (offset_of call) (length_of call)
+CommonCause unit writable disk call before after Foreign = IsForeign call
 CommonCause unit writable disk call before after Memory = after ≡ before
 CommonCause unit writable disk call before after Storage = Rose before after
 CommonCause unit writable disk call before after fault = ⊥
 
--- neither want of memory nor a storage's fault
-abbrev pub IsMild : Fault → Type 0
-IsMild Memory = ⊥
-IsMild Storage = ⊥
-IsMild fault = Unit {0}
-
--- what a call gives at a place of its range
+-- what a write, a zeroing or a discard gives at a place of its range
 abbrev pub Gives : (ℕ → Value) → Call → ℕ → Value → Value → Type 0
 Gives below (write offset bytes) p was is = ToBytes offset bytes p was is
 Gives below (write_zeroes offset n) p was is = ToZero p was is
@@ -68,7 +76,8 @@ Gives below (discard_to_any offset n) p was is = ToAny p was is
 Gives below (discard_to_backing offset n) p was is = ToBelow below p was is
 Gives below call p was is = ⊥
 
--- A refusal, for another cause than memory or a storage, leaves each place of the range old or as the call gives it, and every other as it was.
+-- A refused write, zeroing or discard, for another cause than memory or a storage, leaves each place of the range old or as the call
+-- gives it, and every other as it was.
 pub record PartlyDone (below : ℕ → Value) (call : Call) (old new : Disk) : Type 0 where
   pub size : new.size ≡ old.size
   pub value : (p : ℕ) → p < old.size → (new.value p ≡ old.value p) ⊎ Gives below call p (old.value p) (new.value p)

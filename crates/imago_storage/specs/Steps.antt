@@ -1,6 +1,6 @@
--- What a call that succeeds makes of a disk. A range whose end passes the size of the disk lies inside only where a line says so.
-use Rattle.std.specs.Prelude.{◌≡◌, ◌⊎◌, ℕ, ◌+◌, ◌-◌, ◌<◌, ◌≤◌, Bool, true, false, Option, Some, None, List, length, slice_index, IsTrue}
-use Rattle.imago_storage.specs.Disk.{Value, byte, Hold, free, held, Disk, IsFree, Shows}
+-- What a call that succeeds makes of a disk.
+use Rattle.std.specs.Prelude.{◌≡◌, ◌⊎◌, ◌↔◌, ℕ, ◌+◌, ◌-◌, ◌<◌, ◌≤◌, Bool, true, false, Some, None, List, length, slice_index, IsTrue}
+use Rattle.imago_storage.specs.Disk.{Value, byte, barred, Hold, free, held, Disk, IsFree}
 
 -- how a growth fills the new places
 pub data Growth : Type 0 where
@@ -27,11 +27,21 @@ pub data Call : Type 0 where
   grow : (size : ℕ) (fill : Growth) → Call
   shrink : (size : ℕ) → Call
 
--- What a call answers, as far as it speaks of the disk alone: which bytes, how long a run, and whether its mapping has state.
+-- What a lookup finds: bytes of a storage, zeroes, a part that can't be read as bytes, the layer below, or the end of the disk.
+pub data Kind : Type 0 where
+  stored : Kind
+  zero_run : Kind
+  special : Kind
+  indirect : Kind
+  at_end : Kind
+
+-- What a call answers, as far as it speaks of the disk alone: which bytes, how long a run and of which kind, and whether its mapping
+-- has state.
 pub data Answer : Type 0 where
   done : Answer
   bytes_read : (bytes : List ℕ) → Answer
   run : (n : ℕ) → Answer
+  found : (kind : Kind) (n : ℕ) → Answer
   prepared : (n : ℕ) (state : Bool) → Answer
 
 -- the place lies in the range
@@ -56,6 +66,10 @@ pub record Changes (Becomes : ℕ → Value → Value → Type 0) (old new : Dis
   pub others : (p : ℕ) → p < old.size → IsOut offset n p → new.value p ≡ old.value p
   pub hold : (p : ℕ) → p < old.size → new.hold p ≡ old.hold p
 
+-- any byte
+abbrev pub IsByte : Value → Type 0
+IsByte v = (b : ℕ) × (b < 256) × (v ≡ byte b)
+
 -- what the places of a range may become
 abbrev pub ToBytes : ℕ → List ℕ → ℕ → Value → Value → Type 0
 ToBytes offset bytes p was is = is ≡ byte (slice_index bytes (p - offset))
@@ -64,7 +78,7 @@ abbrev pub ToZero : ℕ → Value → Value → Type 0
 ToZero p was is = is ≡ byte 0
 
 abbrev pub ToAny : ℕ → Value → Value → Type 0
-ToAny p was is = (is ≡ was) ⊎ ((b : ℕ) × (is ≡ byte b))
+ToAny p was is = (is ≡ was) ⊎ IsByte is
 
 abbrev pub ToBelow : (ℕ → Value) → ℕ → Value → Value → Type 0
 ToBelow below p was is = (is ≡ was) ⊎ (is ≡ below p)
@@ -96,7 +110,7 @@ pub record Prepares (old new : Disk) (offset asked : ℕ) (overwrite : Bool) (n 
 abbrev pub Settles : Hold → Value → Value → Type 0
 Settles free was is = is ≡ was
 Settles (held (Some b) announced) was is = is ≡ byte b
-Settles (held None true) was is = (is ≡ was) ⊎ ((b : ℕ) × (is ≡ byte b))
+Settles (held None true) was is = (is ≡ was) ⊎ IsByte is
 Settles (held None false) was is = is ≡ was
 
 pub record Commits (old new : Disk) : Type 0 where
@@ -135,18 +149,29 @@ pub record Shrinks (old new : Disk) (size : ℕ) : Type 0 where
   pub kept : (p : ℕ) → p < size → new.value p ≡ old.value p
   pub is_free : IsFree new
 
--- a resize to a size that lies on the wrong side of the old one does nothing
+-- P where the call has nothing to do, and else Q
 abbrev pub Unless : Type 0 → Type 0 → Type 0 → Type 0
 Unless Idle P Q = (Idle × P) ⊎ ((Idle → ⊥) × Q)
 
--- The length of a run that a lookup answers: none at or past the size, and else at least 1 byte, where any was asked for.
-pub record IsRun (disk : Disk) (offset asked n : ℕ) : Type 0 where
-  pub most : n ≤ asked
-  pub inside : 0 < n → offset + n ≤ disk.size
-  pub some : offset < disk.size → 0 < asked → 0 < n
+-- what a kind says of a place of its run
+abbrev pub IsOfKind : (ℕ → Value) → Kind → ℕ → Value → Type 0
+IsOfKind below stored p v = IsByte v
+IsOfKind below zero_run p v = v ≡ byte 0
+IsOfKind below special p v = v ≡ barred
+IsOfKind below indirect p v = v ≡ below p
+IsOfKind below at_end p v = ⊥
 
--- Calls of length 0 leave the disk as it is, and so do those that only look. What a lookup or a prepared run says of the places of
--- storages is told by the layers of a chain.
+-- The run that a lookup answers: of no length at or past the size, and else at least 1 byte of one kind.
+pub record IsRun (below : ℕ → Value) (disk : Disk) (offset asked : ℕ) (kind : Kind) (n : ℕ) : Type 0 where
+  pub most : n ≤ asked
+  pub end : (kind ≡ at_end) ↔ (disk.size ≤ offset)
+  pub none : disk.size ≤ offset → n ≡ 0
+  pub some : offset < disk.size → 0 < asked → 0 < n
+  pub inside : offset < disk.size → offset + n ≤ disk.size
+  pub range : (p : ℕ) → IsIn offset n p → IsOfKind below kind p (disk.value p)
+
+-- Calls of length 0 leave the disk as it is, and so do those that only look. Which places of storages a
+-- lookup or a prepared run names is told by the layers of a chain.
 abbrev pub Step : (ℕ → Value) → Disk → Call → Answer → Disk → Type 0
 Step below old (read offset n) (bytes_read buffer) new = (length buffer ≡ n) × HoldsRange old offset buffer × Stays old new
 Step below old (write offset bytes) done new = Unless (length bytes ≡ 0) (Stays old new) (Changes (ToBytes offset bytes) old new offset (length bytes))
@@ -162,7 +187,7 @@ Step below old (cancel false own) done new = Stays old new
 Step below old (ensure offset asked overwrite) (run n) new =
     Unless (asked ≡ 0) (Stays old new × (n ≡ 0)) ((mid : Disk) × (state : Bool) × Prepares old mid offset asked overwrite n state × Commits mid new)
 Step below old (write_mapped offset bytes) done new = Unless (length bytes ≡ 0) (Stays old new) (WritesMapped old new offset bytes)
-Step below old (lookup offset asked) (run n) new = IsRun old offset asked n × Stays old new
+Step below old (lookup offset asked) (found kind n) new = IsRun below old offset asked kind n × Stays old new
 Step below old flush done new = Stays old new
 Step below old sync done new = Stays old new
 Step below old (grow size fill) done new = Unless (size ≤ old.size) (Stays old new) (Grows old new size fill)

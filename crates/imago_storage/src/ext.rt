@@ -1,5 +1,5 @@
 // Calls on any range, padded to whole units.
-ghost use Rattle.std.specs.Prelude.{◌≡◌, ℕ, ◌+◌, ◌-◌, ◌%◌, ◌<◌, ◌≤◌, ◌^◌, max, ◌∷◌, ◌++◌, length, slice_index, OnOk, OnErr, IfErr, IsErrOf, IsTrue};
+ghost use Rattle.std.specs.Prelude.{◌≡◌, ℕ, ◌+◌, ◌-◌, ◌%◌, ◌<◌, ◌≤◌, ◌^◌, max, ◌∷◌, ◌++◌, length, slice_index, IsOk, OnOk, OnErr, IfErr, IsErrOf, IsTrue};
 ghost use Rattle.std.specs.Option.{SomeIff};
 ghost use Rattle.imago_storage.specs.State.{unit_of, IsAlignment, IsWhole};
 ghost use Rattle.imago_storage.specs.Calls.{Cause, CountsFaults, Kept, Later, Mixed, Reads};
@@ -9,9 +9,10 @@ use crate::edits::{copy_in, take_part};
 use crate::{Fault, Storage};
 use std::alloc::Global;
 
-/// The end of a range of `n` bytes, rounded up to a multiple of `unit`, or none where it passes the greatest `u64`.
+/// The end of a range of `n` bytes at an offset in bytes, rounded up to a multiple of `unit` bytes, which is above 0; or none
+/// where that passes the greatest `u64`.
 ///
-/// Calls on ranges are refused with `Fault::RangeOverflow` exactly where there is none.
+/// Calls on ranges that aren't empty are refused with `Fault::RangeOverflow` exactly where there is none.
 #[tactic(auto, using(crate::proofs::Rounding::round_up_whole, crate::proofs::Rounding::round_up_part))]
 pub fn padded_end(offset: u64, n: u64, unit: u64) -> Option<u64>
     requires { 0 < unit }
@@ -117,6 +118,7 @@ fn write_padded<S: Storage>(
         (NotThrough (unit_of (S.state storage.old).shape) (S.state storage.old) (S.state storage.new) offset «data».now)) }
     ensures overflow { Overflows (unit_of (S.state storage.old).shape) offset (length «data».now) → IsErrOf result Fault.RangeOverflow }
     ensures once { IsAtOnce (unit_of (S.state storage.old).shape) offset (length «data».now) → RequestsOnce (S.state storage.old) (S.state storage.new) (length «data».now) result }
+    ensures empty { length «data».now ≡ 0 → IsOk result × (S.state storage.new ≡ S.state storage.old) }
 {
     let unit = storage.req_align().max(storage.mem_align());
     if data.is_empty() {
@@ -167,6 +169,7 @@ fn read_padded<S: Storage>(
     ensures faults { OnOk result ((S.state storage.new).faults ≡ (S.state storage.old).faults) }
     ensures err { IfErr result (UnlessOverflow (Overflows (unit_of (S.state storage.old).shape) offset (length buf.old)) (S.state storage.old) (S.state storage.new) (Cause (S.state storage.old).faults (S.state storage.new).faults)) }
     ensures overflow { Overflows (unit_of (S.state storage.old).shape) offset (length buf.old) → IsErrOf result Fault.RangeOverflow }
+    ensures empty { length buf.old ≡ 0 → IsOk result × (S.state storage.new ≡ S.state storage.old) }
 {
     let unit = storage.req_align().max(storage.mem_align());
     if buf.is_empty() {
@@ -214,7 +217,9 @@ pub trait StorageExt: Storage {
         ensures faults { OnOk result ((Self.state self.new).faults ≡ (Self.state self.old).faults) }
         ensures err { IfErr result (NotRead (Self.state self.old) (Self.state self.new) offset (length buf.old)) }
         ensures overflow { Overflows (unit_of (Self.state self.old).shape) offset (length buf.old) → IsErrOf result Fault.RangeOverflow }
-        ensures later { Later (Self.state self.old) (Self.state self.new) };
+        ensures later { Later (Self.state self.old) (Self.state self.new) }
+        // An empty range is never refused, and nothing is asked of the storage.
+        ensures empty { length buf.old ≡ 0 → IsOk result × (Self.state self.new ≡ Self.state self.old) };
 
     /// Writes the bytes at the offset, padded to whole units by what is there, and by zeroes past the old end. So the
     /// length reaches the range's end, rounded up to the unit; an empty range changes nothing.
@@ -235,7 +240,9 @@ pub trait StorageExt: Storage {
         // and outside what was there.
         ensures stops { Stops (Mixed (Self.state self.old).bytes offset «data».now) (Self.state self.old) (Self.state self.new) }
         // A range of whole units, or one in a single unit, is one request.
-        ensures once { IsAtOnce (unit_of (Self.state self.old).shape) offset (length «data».now) → RequestsOnce (Self.state self.old) (Self.state self.new) (length «data».now) result };
+        ensures once { IsAtOnce (unit_of (Self.state self.old).shape) offset (length «data».now) → RequestsOnce (Self.state self.old) (Self.state self.new) (length «data».now) result }
+        // An empty range is never refused, and nothing is asked of the storage.
+        ensures empty { length «data».now ≡ 0 → IsOk result × (Self.state self.new ≡ Self.state self.old) };
 }
 
 impl<S: Storage> StorageExt for S {

@@ -9,8 +9,8 @@ use std::alloc::Global;
 
 /// A storage whose bytes are in memory.
 ///
-/// Its only refusal is `Fault::Memory`, where a change needs room that isn't there; the bytes are then as they were. It
-/// counts no faults, so it never answers `Fault::Storage`. A discard makes the bytes of its range 0.
+/// Its only refusal is `Fault::Memory`, where a change needs room that isn't there; each byte of the change's range is then old
+/// or new. It counts no faults, so it never answers `Fault::Storage`. A discard makes the bytes of its range 0.
 #[derive(Drop)]
 pub struct MemStorage {
     bytes: Vec<u8>,

@@ -308,3 +308,220 @@ fn faults_have_numbers_kinds_and_texts(rt: HostRuntime) -> Result<(), Fail> {
     }
     Ok(())
 }
+
+// Nothing is asked of three bytes, also where a range that isn't empty would pass u64.
+fn empty_ranges(rt: &impl Abort, alloc: Global, align: usize) -> Result<(), Fault>
+    requires { IsAlignment align }
+{
+    let first = [1u8, 2, 3].to_vec(alloc)?;
+    let mut storage = MemStorage::from_bytes(first)?.with_align(align);
+    let mut empty = [0u8; 0];
+    for offset in [0, 5, u64::MAX] {
+        assert_eq!(rt; storage.read(alloc, &mut empty, offset), Ok(()));
+        assert_eq!(rt; storage.write(alloc, &empty, offset), Ok(()));
+        let bytes = storage.bytes()?;
+        assert_eq!(rt; bytes.as_slice(), [1, 2, 3].as_slice(), "at {offset}");
+    }
+    Ok(())
+}
+
+fn empty_ranges_at_each(rt: &impl Abort, alloc: Global) -> Result<(), Fault> {
+    empty_ranges(rt, alloc, 1)?;
+    empty_ranges(rt, alloc, 4096)
+}
+
+#[test]
+fn an_empty_range_changes_nothing(rt: HostRuntime) -> Result<(), Fail> {
+    let alloc = rt.alloc();
+    match empty_ranges_at_each(&rt, alloc) {
+        Err(Fault::Memory) => empty_ranges_at_each(&rt, alloc)?,
+        answer => answer?,
+    }
+    Ok(())
+}
+
+// Longer, shorter, and longer again, where what was cut off must not come back.
+fn memory_resized(rt: &impl Abort, alloc: Global, mode: PreallocateMode) -> Result<(), Fault> {
+    let mut storage = MemStorage::from_bytes([1u8, 2, 3].to_vec(alloc)?)?;
+    let steps = [
+        (6, [1, 2, 3, 0, 0, 0].as_slice()),
+        (2, [1, 2].as_slice()),
+        (4, [1, 2, 0, 0].as_slice()),
+        (0, [].as_slice()),
+        (1, [0].as_slice()),
+    ];
+    for (size, want) in steps.iter() {
+        storage.resize(*size, mode)?;
+        assert_eq!(rt; storage.size(), *size);
+        let bytes = storage.bytes()?;
+        assert_eq!(rt; bytes.as_slice(), *want, "at {size}");
+    }
+    Ok(())
+}
+
+fn null_resized(rt: &impl Abort, alloc: Global, mode: PreallocateMode) -> Result<(), Fault> {
+    let mut storage = Null::new(3);
+    for size in [6, 2, u64::MAX, 0] {
+        storage.resize(size, mode)?;
+        assert_eq!(rt; storage.size(), size);
+        let mut buf = [7u8; 6];
+        storage.read(alloc, &mut buf, 0)?;
+        assert_eq!(rt; buf, [0; 6]);
+    }
+    Ok(())
+}
+
+fn resized_in_each_mode(rt: &impl Abort, alloc: Global) -> Result<(), Fault> {
+    let modes = [
+        PreallocateMode::None,
+        PreallocateMode::Zero,
+        PreallocateMode::Allocate,
+        PreallocateMode::WriteData,
+    ];
+    for mode in modes.iter() {
+        memory_resized(rt, alloc, *mode)?;
+        null_resized(rt, alloc, *mode)?;
+    }
+    Ok(())
+}
+
+#[test]
+fn each_mode_resizes(rt: HostRuntime) -> Result<(), Fail> {
+    let alloc = rt.alloc();
+    match resized_in_each_mode(&rt, alloc) {
+        Err(Fault::Memory) => resized_in_each_mode(&rt, alloc)?,
+        answer => answer?,
+    }
+    Ok(())
+}
+
+// The first counted call is the read that copies the four bytes.
+fn unread(rt: &impl Abort, alloc: Global) -> Result<(), Fault> {
+    let memory = MemStorage::from_bytes([9u8; 4].to_vec(alloc)?)?;
+    match LogStorage::new(alloc, FuseStorage::new(memory, 1)) {
+        Err(Fault::Memory) => return Err(Fault::Memory),
+        answer => assert!(rt; matches!(answer, Err(Fault::Storage))),
+    }
+    Ok(())
+}
+
+#[test]
+fn no_log_is_made_over_a_storage_that_fails(rt: HostRuntime) -> Result<(), Fail> {
+    let alloc = rt.alloc();
+    match unread(&rt, alloc) {
+        Err(Fault::Memory) => unread(&rt, alloc)?,
+        answer => answer?,
+    }
+    Ok(())
+}
+
+// A change of each kind, of a storage of eight bytes, each 9, at a unit of 1, and a discard, which is refused.
+fn change<S: Storage>(rt: &impl Abort, alloc: Global, storage: &mut S) -> Result<(), Fault>
+    requires unit { unit_of (S.state storage.old).shape ≡ 1 }
+    requires zeroes { (S.state storage.old).shape.zero_align ≡ 1 }
+    requires discards { (S.state storage.old).shape.discard_align ≡ 1 }
+{
+    storage.write(alloc, &[1, 2], 3)?;
+    storage.pure_write_zeroes(1, 2)?;
+    storage.pure_write_allocated_zeroes(6, 1)?;
+    assert_eq!(rt; storage.pure_discard(0, 1), Err(Fault::Unsupported));
+    storage.resize(10, PreallocateMode::None)?;
+    let mut buf = [7u8; 10];
+    storage.read(alloc, &mut buf, 0)?;
+    assert_eq!(rt; buf, [9, 0, 0, 1, 2, 9, 0, 9, 0, 0]);
+    Ok(())
+}
+
+// Of these calls the log keeps the four changes.
+fn changes_kept(rt: &impl Abort, requests: &[Request]) {
+    match requests {
+        [
+            Request::Write { offset: 3, bytes },
+            Request::Zeroes {
+                offset: 1,
+                length: 2,
+            },
+            Request::Zeroes {
+                offset: 6,
+                length: 1,
+            },
+            Request::Resize { size: 10 },
+        ] => assert_eq!(rt; bytes.as_slice(), [1, 2].as_slice()),
+        other => assert!(rt; false, "{other:?}"),
+    }
+}
+
+fn kept(rt: &impl Abort, alloc: Global) -> Result<(), Fault> {
+    let memory = MemStorage::from_bytes([9u8; 8].to_vec(alloc)?)?;
+    let mut log = LogStorage::new(alloc, memory)?;
+    change(rt, alloc, &mut log)?;
+    changes_kept(rt, log.requests());
+    Ok(())
+}
+
+#[test]
+fn a_log_keeps_each_change(rt: HostRuntime) -> Result<(), Fail> {
+    let alloc = rt.alloc();
+    match kept(&rt, alloc) {
+        Err(Fault::Memory) => kept(&rt, alloc)?,
+        answer => answer?,
+    }
+    Ok(())
+}
+
+// The last stop has the bytes that a read gives, of at most 16.
+fn in_step(rt: &impl Abort, alloc: Global, log: &mut LogStorage<MemStorage>) -> Result<(), Fault> {
+    let last = log.requests().len();
+    let file = match log.stop_at(last) {
+        Err(Fault::Memory) => log.stop_at(last)?,
+        answer => answer?,
+    };
+    let mut buf = [7u8; 16];
+    log.read(alloc, &mut buf, 0)?;
+    assert_eq!(rt; log.size(), file.len() as u64);
+    assert_eq!(rt; buf.get(..file.len()), Some(file.as_slice()));
+    Ok(())
+}
+
+// A write that is made once more where it is refused, and then, too, the log is in step.
+fn write_in_step(
+    rt: &impl Abort,
+    alloc: Global,
+    log: &mut LogStorage<MemStorage>,
+    data: &[u8],
+    offset: u64,
+) -> Result<(), Fault> {
+    match log.write(alloc, data, offset) {
+        Err(Fault::Memory) => {
+            in_step(rt, alloc, log)?;
+            log.write(alloc, data, offset)?;
+        }
+        answer => answer?,
+    }
+    in_step(rt, alloc, log)
+}
+
+// Writes of one, three, one, two and one requests.
+fn refused_and_in_step(rt: &impl Abort, alloc: Global) -> Result<(), Fault> {
+    let memory = MemStorage::from_bytes([9u8; 3].to_vec(alloc)?)?.with_align(4);
+    let mut log = LogStorage::new(alloc, memory)?;
+    write_in_step(rt, alloc, &mut log, &[1], 1)?;
+    write_in_step(rt, alloc, &mut log, &[2; 6], 3)?;
+    write_in_step(rt, alloc, &mut log, &[3; 4], 4)?;
+    write_in_step(rt, alloc, &mut log, &[4; 2], 11)?;
+    write_in_step(rt, alloc, &mut log, &[5], 0)?;
+    let file = log.into_inner().into_bytes()?;
+    let want = [5, 1, 9, 2, 3, 3, 3, 3, 2, 0, 0, 4, 4, 0, 0, 0];
+    assert_eq!(rt; file.as_slice(), want.as_slice());
+    Ok(())
+}
+
+#[test]
+fn a_refused_write_leaves_the_log_in_step(rt: HostRuntime) -> Result<(), Fail> {
+    let alloc = rt.alloc();
+    match refused_and_in_step(&rt, alloc) {
+        Err(Fault::Memory) => refused_and_in_step(&rt, alloc)?,
+        answer => answer?,
+    }
+    Ok(())
+}

@@ -1,7 +1,7 @@
 -- Lists of calls, call by call.
-use Rattle.std.proofs.Common.{◌≡◌, ℕ, suc, ◌+◌, ◌<◌, refl, arith, ap, sym, ◌∙◌, List, [], ◌∷◌, ◌++◌, length, drop, inl, inr, subst, append_assoc, append-nil, drop-cons, get_or}
-use Rattle.std.specs.Prelude.{true, ◌⊎◌, IsFalse, Ok}
-use Rattle.imago_storage.specs.State.{StorageState}
+use Rattle.std.proofs.Common.{◌≡◌, ℕ, suc, ◌+◌, ◌<◌, refl, arith, ap, sym, ◌∙◌, List, [], ◌∷◌, ◌++◌, length, drop, inl, inr, subst, append_assoc, append-nil, drop-cons, get_or, replicate}
+use Rattle.std.specs.Prelude.{true, ◌⊎◌, IsTrue, IsFalse, Ok}
+use Rattle.imago_storage.specs.State.{StorageState, Rose}
 use Rattle.imago_storage.specs.Steps.{Stays as SameDisk}
 use Rattle.imago_storage.specs.declared.fault.Fault.TheVariants.{Failed, RangeOverflow, PastEnd, Limit, Memory, Storage}
 use Rattle.qcow2_types.specs.Header.{Header, header_of}
@@ -10,15 +10,55 @@ use Rattle.qimg.specs.declared.first.calls.Call.TheVariants.{Read, Write, Flush}
 use Rattle.qimg.specs.declared.first.calls.Answer.{Answer}
 use Rattle.qimg.specs.declared.first.calls.Answer.TheVariants.{Done, Bytes, Refused}
 use Rattle.qimg.specs.First.{file, AllCounted}
-use Rattle.qimg.specs.Opened.{Opened, IsLive, shown}
-use Rattle.qimg.specs.Runs.{Answered, Run}
+use Rattle.qimg.specs.Opened.{Opened, IsLive, Succeeds, shown}
+use Rattle.qimg.specs.Runs.{Lives, Answered, Run}
 use Rattle.qimg.proofs.OpenedLemmas.{shown-size}
 
--- After this answer the run is cut off, or the disk lives on and the run goes on from it.
+-- that each call is refused by a failed disk
+AllFail : List Call → List Answer → Type 0
+AllFail calls answers = answers ≡ replicate (length calls) (Refused Failed)
+
+-- After this answer the run is cut off for want of memory; or the disk has failed; or it lives on, and the run goes on from it.
 pub Outcome : Header → Opened → Opened → Call → Answer → Type 0
 Outcome H old new call answer =
     ((calls : List Call) (rest : List Answer) (end : StorageState) → length rest ≡ length calls → Run old.state (call ∷ calls) (answer ∷ rest) end)
-    ⊎ (IsLive new H × IsFalse new.failed × ((calls : List Call) (rest : List Answer) (end : StorageState) → Run new.state calls rest end → Run old.state (call ∷ calls) (answer ∷ rest) end))
+    ⊎ ((IsTrue new.failed × ((calls : List Call) (rest : List Answer) (end : StorageState) → AllFail calls rest → end.faults ≡ new.state.faults → Run old.state (call ∷ calls) (answer ∷ rest) end))
+    ⊎ (IsLive new H × IsFalse new.failed × ((calls : List Call) (rest : List Answer) (end : StorageState) → Run new.state calls rest end → Run old.state (call ∷ calls) (answer ∷ rest) end)))
+
+-- a failed disk answers that, and stays
+stuck : (old new : Opened) (call : Call) (answer : Answer) → IsTrue old.failed → Answered old new call answer → (answer ≡ Refused Failed) × (new ≡ old)
+stuck old new (Read offset n) (Refused Failed) fails (was, same) = (refl, same)
+stuck old new (Write offset bytes) (Refused Failed) fails (was, same) = (refl, same)
+stuck old new Flush (Refused Failed) fails (was, same) = (refl, same)
+stuck old new (Read offset n) (Bytes buffer) fails (ok, steps) = let was = ok.was in absurd cc
+stuck old new (Write offset bytes) Done fails (ok, steps) = let was = ok.was in absurd cc
+stuck old new Flush Done fails (ok, steps) = let was = ok.was in absurd cc
+stuck old new (Read offset n) (Refused RangeOverflow) fails why = let was = why.0 in absurd cc
+stuck old new (Read offset n) (Refused Memory) fails why = let was = why.0 in absurd cc
+stuck old new (Read offset n) (Refused Storage) fails why = let was = why.0 in absurd cc
+stuck old new (Write offset bytes) (Refused RangeOverflow) fails why = let was = why.0 in absurd cc
+stuck old new (Write offset bytes) (Refused PastEnd) fails why = let was = why.0 in absurd cc
+stuck old new (Write offset bytes) (Refused (Limit n)) fails why = let was = why.0 in absurd cc
+stuck old new (Write offset bytes) (Refused Memory) fails why = let was = why.0 in absurd cc
+stuck old new (Write offset bytes) (Refused Storage) fails why = let was = why.0 in absurd cc
+stuck old new Flush (Refused Memory) fails why = let was = why.0 in absurd cc
+stuck old new Flush (Refused Storage) fails why = let was = why.0 in absurd cc
+stuck old new call answer fails why = absurd why
+
+-- the disk after a call that succeeds, or leaves it as it was
+lives : (H : Header) (old new : Opened) → Succeeds old new → IsLive new H → Lives old.state new.state
+lives H old new ok live = record { consistent = (H, live.holds.consistent); shape = ok.shape; faults = ok.faults }
+
+lives-on : (H : Header) (old new : Opened) → new ≡ old → IsLive new H → Lives old.state new.state
+lives-on H old new same live = record {
+  consistent = (H, live.holds.consistent);
+  shape = ap (λ (o : Opened). o.state.shape) same;
+  faults = ap (λ (o : Opened). o.state.faults) same;
+}
+
+-- a storage's fault
+fails-at : (before after end : ℕ) → Rose before after → end ≡ after → Rose before end
+fails-at before after end rose same = subst (λ n. Rose before n) (sym same) rose
 
 -- a refusal that leaves all as it was
 stayed : (H : Header) (old new : Opened) → new ≡ old → IsLive old H → IsFalse old.failed → IsLive new H × IsFalse new.failed × SameDisk (shown (file old.state)) (shown (file new.state))
@@ -36,57 +76,76 @@ stayed H old new same live alive = (
 one-header : (f : ℕ → ℕ) (H K : Header) → header_of true f ≡ Ok H → header_of true f ≡ Ok K → H ≡ K
 one-header f H K a b = let e : Ok H ≡ Ok K = sym a ∙ b in cc
 
-pub moved : (H : Header) (old new : Opened) (call : Call) (answer : Answer) → IsLive old H → IsFalse old.failed → Answered old new call answer → Outcome H old new call answer
-unfolding Outcome
-moved H old new (Read offset n) (Bytes buffer) live alive (ok, steps) = let after = steps H live in inr (after.0, ok.is, λ calls rest end run. (new.state, (H, after.0.holds.consistent), after.1, run))
-moved H old new (Read offset n) (Refused Failed) live alive (was, same) = absurd cc
-moved H old new (Read offset n) (Refused RangeOverflow) live alive (was, passes, same) =
-    let kept = stayed H old new same live alive in inr (kept.0, kept.1, λ calls rest end run. (new.state, (H, kept.0.holds.consistent), (passes, kept.2), run))
-moved H old new (Read offset n) (Refused Memory) live alive why = inl (λ calls rest end long. long)
-moved H old new (Read offset n) (Refused Storage) live alive (was, stays, rose, marked) = inl (λ calls rest end long. (new.state, rose, long))
-moved H old new (Write offset bytes) Done live alive (ok, steps) = let after = steps H live in inr (after.0, ok.is, λ calls rest end run. (new.state, (H, after.0.holds.consistent), after.1, run))
-moved H old new (Write offset bytes) (Refused Failed) live alive (was, same) = absurd cc
-moved H old new (Write offset bytes) (Refused RangeOverflow) live alive (was, passes, same) =
-    let kept = stayed H old new same live alive in inr (kept.0, kept.1, λ calls rest end run. (new.state, (H, kept.0.holds.consistent), (passes, kept.2), run))
-moved H old new (Write offset bytes) (Refused PastEnd) live alive (was, past, same) =
+pub moved : (H : Header) (old new : Opened) (call : Call) (answer : Answer) → new.state.shape ≡ old.state.shape → IsLive old H → IsFalse old.failed → Answered old new call answer → Outcome H old new call answer
+unfolding Outcome AllFail
+moved H old new (Read offset n) (Bytes buffer) shape live alive (ok, steps) = let after = steps H live in inr (inr (after.0, ok.is, λ calls rest end run. (new.state, lives H old new ok after.0, after.1, run)))
+moved H old new (Read offset n) (Refused Failed) shape live alive (was, same) = absurd cc
+moved H old new (Read offset n) (Refused RangeOverflow) shape live alive (was, passes, same) =
+    let kept = stayed H old new same live alive in inr (inr (kept.0, kept.1, λ calls rest end run. (new.state, lives-on H old new same kept.0, (passes, kept.2), run)))
+moved H old new (Read offset n) (Refused Memory) shape live alive why = inl (λ calls rest end long. long)
+moved H old new (Read offset n) (Refused Storage) shape live alive (was, stays, rose, marked) = inr (inl (marked, λ calls rest end all same. (fails-at _ _ _ rose same, all)))
+moved H old new (Write offset bytes) Done shape live alive (ok, steps) = let after = steps H live in inr (inr (after.0, ok.is, λ calls rest end run. (new.state, lives H old new ok after.0, after.1, run)))
+moved H old new (Write offset bytes) (Refused Failed) shape live alive (was, same) = absurd cc
+moved H old new (Write offset bytes) (Refused RangeOverflow) shape live alive (was, passes, same) =
+    let kept = stayed H old new same live alive in inr (inr (kept.0, kept.1, λ calls rest end run. (new.state, lives-on H old new same kept.0, (passes, kept.2), run)))
+moved H old new (Write offset bytes) (Refused PastEnd) shape live alive (was, some, past, same) =
     let kept = stayed H old new same live alive in
     let size : (shown (file old.state)).size ≡ old.size = shown-size (file old.state) H live.holds.consistent ∙ sym live.size in
-    inr (kept.0, kept.1, λ calls rest end run. (new.state, (H, kept.0.holds.consistent), (subst (λ s. s < offset + length bytes.items) (sym size) past, kept.2), run))
-moved H old new (Write offset bytes) (Refused (Limit n)) live alive (was, is, faults, marked, partly) =
+    inr (inr (kept.0, kept.1, λ calls rest end run. (new.state, lives-on H old new same kept.0, (some, subst (λ s. s < offset + length bytes.items) (sym size) past, kept.2), run)))
+moved H old new (Write offset bytes) (Refused (Limit n)) shape live alive (was, is, faults, marked, partly) =
     let after = partly H live in
-    inr (after.0, marked, λ calls rest end run. (new.state, (H, after.0.holds.consistent), (is, after.1, λ K loads. subst (λ (h : Header). AllCounted (file new.state) h.fields) (one-header (file new.state) H K after.0.holds.consistent.readable.loads loads) after.2), run))
-moved H old new (Write offset bytes) (Refused Memory) live alive why = inl (λ calls rest end long. long)
-moved H old new (Write offset bytes) (Refused Storage) live alive (was, rose, marked) = inl (λ calls rest end long. (new.state, rose, long))
-moved H old new Flush Done live alive (ok, steps) = let after = steps H live in inr (after.0, ok.is, λ calls rest end run. (new.state, (H, after.0.holds.consistent), after.1, run))
-moved H old new Flush (Refused Failed) live alive (was, same) = absurd cc
-moved H old new Flush (Refused Memory) live alive why = inl (λ calls rest end long. long)
-moved H old new Flush (Refused Storage) live alive (was, stays, rose, marked) = inl (λ calls rest end long. (new.state, rose, long))
-moved H old new call answer live alive why = absurd why
+    inr (inr (
+      after.0,
+      marked,
+      λ calls rest end run. (
+        new.state,
+        record { consistent = (H, after.0.holds.consistent); shape = shape; faults = faults },
+        (is, after.1, λ K loads. subst (λ (h : Header). AllCounted (file new.state) h.fields) (one-header (file new.state) H K after.0.holds.consistent.readable.loads loads) after.2),
+        run,
+      ),
+    ))
+moved H old new (Write offset bytes) (Refused Memory) shape live alive why = inl (λ calls rest end long. long)
+moved H old new (Write offset bytes) (Refused Storage) shape live alive (was, rose, marked) = inr (inl (marked, λ calls rest end all same. (fails-at _ _ _ rose same, all)))
+moved H old new Flush Done shape live alive (ok, steps) = let after = steps H live in inr (inr (after.0, ok.is, λ calls rest end run. (new.state, lives H old new ok after.0, after.1, run)))
+moved H old new Flush (Refused Failed) shape live alive (was, same) = absurd cc
+moved H old new Flush (Refused Memory) shape live alive why = inl (λ calls rest end long. long)
+moved H old new Flush (Refused Storage) shape live alive (was, stays, rose, marked) = inr (inl (marked, λ calls rest end all same. (fails-at _ _ _ rose same, all)))
+moved H old new call answer shape live alive why = absurd why
 
--- after some of the calls: the run was cut off, or goes on from a live disk
+-- After some of the calls: the run was cut off, or the disk has failed, or the run goes on from a live disk.
 pub Going : Header → Opened → List Call → List Call → List Answer → Opened → Type 0
 Going H old calls left answers now =
     ((rest : List Answer) (end : StorageState) → length rest ≡ length left → Run old.state calls (answers ++ rest) end)
-    ⊎ (IsLive now H × IsFalse now.failed × ((rest : List Answer) (end : StorageState) → Run now.state left rest end → Run old.state calls (answers ++ rest) end))
+    ⊎ ((IsTrue now.failed × ((rest : List Answer) (end : StorageState) → AllFail left rest → end.faults ≡ now.state.faults → Run old.state calls (answers ++ rest) end))
+    ⊎ (IsLive now H × IsFalse now.failed × ((rest : List Answer) (end : StorageState) → Run now.state left rest end → Run old.state calls (answers ++ rest) end)))
 
 pub begins : (H : Header) (old : Opened) (calls : List Call) → IsLive old H → IsFalse old.failed → Going H old calls calls [] old
 unfolding Going
-begins H old calls live alive = inr (live, alive, λ rest end run. run)
+begins H old calls live alive = inr (inr (live, alive, λ rest end run. run))
 
-pub goes-on : (H : Header) (old now new : Opened) (calls left : List Call) (answers : List Answer) (call : Call) (answer : Answer) → Going H old calls (call ∷ left) answers now → Answered now new call answer → Going H old calls left (answers ++ answer ∷ []) new
+all-fail : (calls : List Call) (call : Call) (answer : Answer) (rest : List Answer) → answer ≡ Refused Failed → AllFail calls rest → AllFail (call ∷ calls) (answer ∷ rest)
+unfolding AllFail
+all-fail calls call answer rest is all = ap (λ a. a ∷ rest) is ∙ ap (λ r. Refused Failed ∷ r) all
+
+pub goes-on : (H : Header) (old now new : Opened) (calls left : List Call) (answers : List Answer) (call : Call) (answer : Answer) → new.state.shape ≡ now.state.shape → Going H old calls (call ∷ left) answers now → Answered now new call answer → Going H old calls left (answers ++ answer ∷ []) new
 unfolding Going Outcome
-goes-on H old now new calls left answers call answer (inl cut) answered = inl (λ rest end long.
+goes-on H old now new calls left answers call answer shape (inl cut) answered = inl (λ rest end long.
     let more : length (answer ∷ rest) ≡ length (call ∷ left) = ap suc long in
     rw append_assoc (cut (answer ∷ rest) end more))
-goes-on H old now new calls left answers call answer (inr (live, alive, on)) answered = elim (moved H now new call answer live alive answered) [
+goes-on H old now new calls left answers call answer shape (inr (inl (fails, on))) answered =
+    let stays = stuck now new call answer fails answered in
+    inr (inl (subst (λ (o : Opened). IsTrue o.failed) (sym stays.1) fails, λ rest end all same. rw append_assoc (on (answer ∷ rest) end (all-fail left call answer rest stays.0 all) (same ∙ ap (λ (o : Opened). o.state.faults) stays.1))))
+goes-on H old now new calls left answers call answer shape (inr (inr (live, alive, on))) answered = elim (moved H now new call answer shape live alive answered) [
   | inl stops ↦ inl (λ rest end long. rw append_assoc (on (answer ∷ rest) end (stops left rest end long)))
-  | inr goes ↦ inr (goes.0, goes.1, λ rest end run. rw append_assoc (on (answer ∷ rest) end (goes.2 left rest end run)))
+  | inr (inl (fails, ends)) ↦ inr (inl (fails, λ rest end all same. rw append_assoc (on (answer ∷ rest) end (ends left rest end all same))))
+  | inr (inr goes) ↦ inr (inr (goes.0, goes.1, λ rest end run. rw append_assoc (on (answer ∷ rest) end (goes.2 left rest end run))))
 ]
 
 pub ends : (H : Header) (old now : Opened) (calls : List Call) (answers : List Answer) → Going H old calls [] answers now → Run old.state calls answers now.state
-unfolding Going
+unfolding Going AllFail
 ends H old now calls answers (inl cut) = rw append-nil at (cut [] now.state refl)
-ends H old now calls answers (inr (live, alive, on)) = rw append-nil at (on [] now.state refl)
+ends H old now calls answers (inr (inl (fails, on))) = rw append-nil at (on [] now.state refl refl)
+ends H old now calls answers (inr (inr (live, alive, on))) = rw append-nil at (on [] now.state refl)
 
 suc-is : (i : ℕ) → i + 1 ≡ suc i
 suc-is i = omega arith

@@ -47,19 +47,15 @@ read-again d0 d1 d2 bytes buffer is blank size wrote stays long holds =
     let few : i < 8 = omega arith in
     one-byte _ _ (sym (holds.below i lt (omega arith)) ∙ (stays.value (508 + i) (omega arith) ∙ written-value d0 d1 bytes is blank size changes i few)))
 
--- the same of three runs of one call each, over one storage
-pub worked-run : (s0 s1 s2 s3 : StorageState) (written bytes : Vec ℕ Global) → IsTrue s0.shape.keeps → Consistent (file s0) → (shown (file s0)).size ≡ 65536 → ((p : ℕ) → (shown (file s0)).value p ≡ byte 0) → s1.shape ≡ s0.shape → s2.shape ≡ s1.shape
-    → written.items ≡ 1 ∷ 2 ∷ 3 ∷ [] → (IsTrue s0.shape.keeps → Consistent (file s0) → Run s0 (Write 510 written ∷ []) (Done ∷ []) s1) → (IsTrue s1.shape.keeps → Consistent (file s1) → Run s1 (Flush ∷ []) (Done ∷ []) s2)
-    → (IsTrue s2.shape.keeps → Consistent (file s2) → Run s2 (Read 508 8 ∷ []) (Bytes bytes ∷ []) s3) → bytes.items ≡ worked
-worked-run s0 s1 s2 s3 written bytes keeps consistent size blank shape1 shape2 is first second third =
-    let keeps1 : IsTrue s1.shape.keeps = subst (λ s. IsTrue s.keeps) (sym shape1) keeps in
-    let keeps2 : IsTrue s2.shape.keeps = subst (λ s. IsTrue s.keeps) (sym shape2) keeps1 in
+-- the same of a write and a flush, and of a read once the image is opened again
+pub worked-run : (s0 s1 s2 : StorageState) (written bytes : Vec ℕ Global) → IsTrue s0.shape.keeps → Consistent (file s0) → (shown (file s0)).size ≡ 65536 → ((p : ℕ) → (shown (file s0)).value p ≡ byte 0) → s1.shape ≡ s0.shape
+    → written.items ≡ 1 ∷ 2 ∷ 3 ∷ [] → (IsTrue s0.shape.keeps → Consistent (file s0) → Run s0 (Write 510 written ∷ Flush ∷ []) (Done ∷ Done ∷ []) s1)
+    → (IsTrue s1.shape.keeps → Consistent (file s1) → Run s1 (Read 508 8 ∷ []) (Bytes bytes ∷ []) s2) → bytes.items ≡ worked
+worked-run s0 s1 s2 written bytes keeps consistent size blank shape is first second =
+    let keeps1 : IsTrue s1.shape.keeps = subst (λ s. IsTrue s.keeps) (sym shape) keeps in
     let one = first keeps consistent in
-    let same1 : file one.0 ≡ file s1 = sym one.3 in
-    let two = second keeps1 (subst Consistent same1 one.1) in
-    let same2 : file two.0 ≡ file s2 = sym two.3 in
-    let three = third keeps2 (subst Consistent same2 two.1) in
-    let wrote : Unless (length written.items ≡ 0) (Stays (shown (file s0)) (shown (file s1))) (Changes (ToBytes 510 written.items) (shown (file s0)) (shown (file s1)) 510 (length written.items)) =
-    subst (λ (f : ℕ → ℕ). Unless (length written.items ≡ 0) (Stays (shown (file s0)) (shown f)) (Changes (ToBytes 510 written.items) (shown (file s0)) (shown f) 510 (length written.items))) same1 one.2 in
-    let stays : Stays (shown (file s1)) (shown (file s2)) = subst (λ (f : ℕ → ℕ). Stays (shown (file s1)) (shown f)) same2 two.2 in
-    read-again (shown (file s0)) (shown (file s1)) (shown (file s2)) written.items bytes.items is blank size wrote stays three.2.0 three.2.1
+    let two = one.3 in
+    let same : file two.0 ≡ file s1 = sym two.3 in
+    let three = second keeps1 (subst Consistent same two.1.consistent) in
+    let stays : Stays (shown (file one.0)) (shown (file s1)) = subst (λ (f : ℕ → ℕ). Stays (shown (file one.0)) (shown f)) same two.2 in
+    read-again (shown (file s0)) (shown (file one.0)) (shown (file s1)) written.items bytes.items is blank size one.2 stays three.2.0 three.2.1

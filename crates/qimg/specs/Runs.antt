@@ -1,12 +1,12 @@
 -- What a list of calls answers: one flat disk, which begins as what the bytes of a file mean.
-use Rattle.std.specs.Prelude.{◌≡◌, ◌+◌, ◌<◌, true, List, [], ◌∷◌, length, IsFalse, Ok}
+use Rattle.std.specs.Prelude.{◌≡◌, ◌+◌, ◌<◌, true, List, [], ◌∷◌, length, replicate, IsFalse, Ok}
 use Rattle.imago_storage.specs.State.{StorageState, Rose, unit_of}
 use Rattle.imago_storage.specs.Through.{Overflows}
 use Rattle.imago_storage.specs.Disk.{byte}
 use Rattle.imago_storage.specs.Steps.{Step, read, write, flush, bytes_read, done, Call as DiskCall, Stays as SameDisk}
 use Rattle.imago_storage.specs.Causes.{PartlyDone, offset_of, length_of}
 use Rattle.imago_storage.specs.declared.fault.Fault.{Fault}
-use Rattle.imago_storage.specs.declared.fault.Fault.TheVariants.{RangeOverflow, PastEnd, Limit, Memory, Storage}
+use Rattle.imago_storage.specs.declared.fault.Fault.TheVariants.{Failed, RangeOverflow, PastEnd, Limit, Memory, Storage}
 use Rattle.qcow2_types.specs.Header.{Header, header_of}
 use Rattle.qcow2_types.specs.Consistency.{Consistent}
 use Rattle.qimg.specs.declared.first.calls.Call.{Call}
@@ -35,7 +35,7 @@ Answered old new call answer = ⊥
 -- Why a call is refused that was neither in want of memory nor failed by its storage, and what it leaves.
 abbrev pub Refuses : StorageState → Call → Fault → StorageState → Type 0
 Refuses old call RangeOverflow new = Overflows (unit_of old.shape) (offset_of (seen call)) (length_of (seen call)) × SameDisk (shown (file old)) (shown (file new))
-Refuses old (Write offset bytes) PastEnd new = ((shown (file old)).size < offset + length bytes.items) × SameDisk (shown (file old)) (shown (file new))
+Refuses old (Write offset bytes) PastEnd new = (0 < length bytes.items) × ((shown (file old)).size < offset + length bytes.items) × SameDisk (shown (file old)) (shown (file new))
 Refuses old (Write offset bytes) (Limit n) new =
     (n ≡ 256) × PartlyDone (λ _. byte 0) (write offset bytes.items) (shown (file old)) (shown (file new)) × ((H : Header) → header_of true (file new) ≡ Ok H → AllCounted (file new) H.fields)
 Refuses old call fault new = ⊥
@@ -46,13 +46,19 @@ Moves old call Done new = Step (λ _. byte 0) (shown (file old)) (seen call) don
 Moves old call (Bytes buffer) new = Step (λ _. byte 0) (shown (file old)) (seen call) (bytes_read buffer.items) (shown (file new))
 Moves old call (Refused fault) new = Refuses old call fault new
 
+-- what stands between two calls: a consistent file, in a storage that has counted no fault since
+pub record Lives (old mid : StorageState) : Type 0 where
+  pub consistent : Consistent (file mid)
+  pub shape : mid.shape ≡ old.shape
+  pub faults : mid.faults ≡ old.faults
+
 -- The calls move from disk to disk, each of them that of a consistent file, up to the first call that was in want of memory, or
--- during which the storage failed.
+-- during which the storage failed. After a storage's fault each call answers that the disk has failed.
 abbrev pub Run : StorageState → List Call → List Answer → StorageState → Type 0
 Run old [] [] new = file new ≡ file old
 Run old (call ∷ calls) (Refused Memory ∷ answers) new = length answers ≡ length calls
-Run old (call ∷ calls) (Refused Storage ∷ answers) new = (mid : StorageState) × Rose old.faults mid.faults × (length answers ≡ length calls)
-Run old (call ∷ calls) (answer ∷ answers) new = (mid : StorageState) × Consistent (file mid) × Moves old call answer mid × Run mid calls answers new
+Run old (call ∷ calls) (Refused Storage ∷ answers) new = Rose old.faults new.faults × (answers ≡ replicate (length calls) (Refused Failed))
+Run old (call ∷ calls) (answer ∷ answers) new = (mid : StorageState) × Lives old mid × Moves old call answer mid × Run mid calls answers new
 Run old _ _ new = ⊥
 
 -- the same of the calls of a disk

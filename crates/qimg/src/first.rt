@@ -72,8 +72,9 @@ impl<S: Storage> Disk<S> {
     ///
     /// The image has version 3, clusters of 512 bytes, counters of 16 bits, the extensions that `create` writes, no other
     /// feature, backing file or snapshot, at most 65,536 bytes that its L1 table covers, a refcount table of one cluster
-    /// whose first word names a block, and only words of L1 and L2 tables that are 0 or copied. It is refused as a header
-    /// that doesn't load for writing; with `Fault::Unsupported` where it isn't such an image; with `Fault::DamagedTable`
+    /// whose first word names a block, and only words of L1 tables that are 0 or copied, and of L2 tables that are 0 or
+    /// copied data (the qcow2 format, "Header", "Refcount table", "L1 table", "L2 table"). It is refused as a header whose
+    /// fixed fields don't load for writing; with `Fault::Unsupported` where it isn't such an image; with `Fault::DamagedTable`
     /// where a word of a table has no meaning; and with `Fault::Memory` and `Fault::Storage`. A refusal drops the storage.
     pub fn open(image: S, alloc: Global) -> Result<Self, Fault>
         ensures ok { IfOk result (λ disk. Opens (S.state image) (opened S.state disk)) }
@@ -116,7 +117,12 @@ impl<S: Storage> Disk<S> {
         image
     }
 
-    /// Fills the buffer with the bytes from an offset on; past the disk's size with zeroes.
+    /// Fills the buffer with the bytes from an offset, in bytes, on; past the disk's size with zeroes. A read of no bytes
+    /// always succeeds.
+    ///
+    /// It refuses with `Fault::Failed` where the disk has failed; then with `Fault::RangeOverflow` where the range's end,
+    /// rounded up to the storage's unit, passes `u64`; else with `Fault::Memory`, and with `Fault::Storage`, after which
+    /// the disk has failed. A refusal leaves the image as it was, and the buffer open.
     pub fn read(&mut self, alloc: Global, buf: &mut [u8], offset: u64) -> Result<(), Fault>
         ensures step { OnOk result (Steps (opened S.state self.old) (opened S.state self.new) (to_read offset (length buf.old)) (bytes_read buf.new)) }
         ensures ok { OnOk result (Succeeds (opened S.state self.old) (opened S.state self.new)) }
@@ -145,7 +151,13 @@ impl<S: Storage> Disk<S> {
         }
     }
 
-    /// Writes the bytes from an offset on.
+    /// Writes the bytes from an offset, in bytes, on. A write of no bytes always succeeds, and changes nothing.
+    ///
+    /// It refuses with `Fault::Failed` where the disk has failed; then with `Fault::RangeOverflow` where the range's end,
+    /// rounded up to the storage's unit, passes `u64`; then with `Fault::PastEnd` where it passes the disk's size. These
+    /// leave the image as it was. It refuses with `Fault::Limit(256)` where none of the first 256 clusters is free: a part
+    /// of the range may then be written. `Fault::Memory` leaves the image as it was, or the disk has failed, as it has
+    /// after `Fault::Storage`.
     pub fn write(&mut self, alloc: Global, data: &[u8], offset: u64) -> Result<(), Fault>
         ensures step { OnOk result (Steps (opened S.state self.old) (opened S.state self.new) (to_write offset «data».now) done) }
         ensures ok { OnOk result (Succeeds (opened S.state self.old) (opened S.state self.new)) }
@@ -187,6 +199,9 @@ impl<S: Storage> Disk<S> {
     }
 
     /// Waits until the storage has what was written.
+    ///
+    /// It refuses with `Fault::Failed` where the disk has failed; else with `Fault::Memory`, and with `Fault::Storage`,
+    /// after which the disk has failed. A refusal leaves the image as it was.
     pub fn flush(&mut self) -> Result<(), Fault>
         ensures step { OnOk result (Steps (opened S.state self.old) (opened S.state self.new) to_flush done) }
         ensures ok { OnOk result (Succeeds (opened S.state self.old) (opened S.state self.new)) }

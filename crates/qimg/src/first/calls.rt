@@ -26,6 +26,7 @@ pub enum Answer {
     Done,
     /// The bytes that were read.
     Bytes(Vec<u8>),
+    /// Why the call was refused.
     Refused(Fault),
 }
 

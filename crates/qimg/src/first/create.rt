@@ -79,7 +79,12 @@ fn write_new<S: Storage>(image: &mut S, alloc: Global, size: u64) -> Result<(), 
     image.write(alloc, &buffer[..length], 0)
 }
 
-/// Makes a new image of this size in the storage, whose old bytes are cut.
+/// Makes a new image of this size, in bytes, in the storage, whose old bytes are cut.
+///
+/// It has version 3, clusters of 512 bytes and counters of 16 bits, counts just its own clusters, and shows zeroes. It
+/// refuses with `Fault::Limit(size)` where the size is above 65,536, before it asks anything of the storage; with
+/// `Fault::Unsupported` where the storage can't be cut; and with `Fault::Memory` and `Fault::Storage`. A refusal drops the
+/// storage.
 pub fn create<S: Storage>(mut image: S, alloc: Global, size: u64) -> Result<S, Fault>
     ensures ok { IfOk result (λ made. Creates size (S.state image) (S.state made)) }
     ensures consistent { IfOk result (λ made. IsTrue (S.state image).shape.keeps → IsConsistent (file (S.state made)) (new_header size)) }

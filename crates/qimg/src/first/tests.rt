@@ -14,30 +14,52 @@ use std::test::Fail;
 /// The bytes of an image of 65,536 bytes after 01 02 03 were written at 510: 3,584 of them.
 fn check_worked_image(rt: &impl Abort, bytes: &[u8]) {
     assert_eq!(rt; bytes.len(), 3584);
-    let table = bytes.get(512..520).unwrap_or(&[]);
-    assert_eq!(rt; table, [0, 0, 0, 0, 0, 0, 4, 0].as_slice());
-    let counts = bytes.get(1024..1040).unwrap_or(&[]);
-    assert_eq!(rt;
-        counts,
-        [0, 1, 0, 1, 0, 1, 0, 1, 0, 1, 0, 1, 0, 1, 0, 0].as_slice()
-    );
-    let l1 = bytes.get(1536..1552).unwrap_or(&[]);
-    assert_eq!(rt;
-        l1,
-        [128, 0, 0, 0, 0, 0, 8, 0, 0, 0, 0, 0, 0, 0, 0, 0].as_slice()
-    );
-    let l2 = bytes.get(2048..2072).unwrap_or(&[]);
-    assert_eq!(rt;
-        l2,
-        [
-            128, 0, 0, 0, 0, 0, 10, 0, 128, 0, 0, 0, 0, 0, 12, 0, 0, 0, 0, 0, 0, 0, 0, 0
-        ]
-        .as_slice()
-    );
-    let first = bytes.get(3068..3072).unwrap_or(&[]);
-    assert_eq!(rt; first, [0, 0, 1, 2].as_slice());
-    let second = bytes.get(3072..3076).unwrap_or(&[]);
-    assert_eq!(rt; second, [3, 0, 0, 0].as_slice());
+    for (at, byte) in bytes.iter().enumerate() {
+        // From 64 to 512 stand the rest of the header and its extensions.
+        if at < 64 || at >= 512 {
+            assert_eq!(rt; *byte, worked_byte(at), "at {at}");
+        }
+    }
+}
+
+// What stands at a place of that image: its header's first 64 bytes, its tables, and its data.
+fn worked_byte(at: usize) -> u8 {
+    let nonzero = [
+        (0, 0x51),
+        (1, 0x46),
+        (2, 0x49),
+        (3, 0xfb),
+        (7, 3),
+        (23, 9),
+        (29, 1),
+        (39, 2),
+        (46, 6),
+        (54, 2),
+        (59, 1),
+        (518, 4),
+        (1025, 1),
+        (1027, 1),
+        (1029, 1),
+        (1031, 1),
+        (1033, 1),
+        (1035, 1),
+        (1037, 1),
+        (1536, 0x80),
+        (1542, 8),
+        (2048, 0x80),
+        (2054, 10),
+        (2056, 0x80),
+        (2062, 12),
+        (3070, 1),
+        (3071, 2),
+        (3072, 3),
+    ];
+    for (place, byte) in nonzero {
+        if place == at {
+            return byte;
+        }
+    }
+    0
 }
 
 // Writes at 510, flushes, and reads again what another disk over the same bytes shows.
@@ -296,6 +318,28 @@ fn the_first_run_shows_the_bytes(rt: HostRuntime) -> Result<(), Fail> {
     let alloc = rt.alloc();
     if first_line(&rt, alloc).is_err() {
         first_line(&rt, alloc)?;
+    }
+    Ok(())
+}
+
+// A writer with room for 4 bytes.
+fn run_into_little_room(rt: &impl Abort, alloc: Global) -> Result<(), RunFault> {
+    let mut room = [0u8; 4];
+    let mut writer = room.as_mut_slice();
+    match first_run(alloc, &mut writer) {
+        Err(RunFault::Memory) => Err(RunFault::Memory),
+        answer => {
+            assert_eq!(rt; answer, Err(RunFault::Write));
+            Ok(())
+        }
+    }
+}
+
+#[test]
+fn a_writer_that_fails_ends_the_run(rt: HostRuntime) -> Result<(), Fail> {
+    let alloc = rt.alloc();
+    if run_into_little_room(&rt, alloc).is_err() {
+        run_into_little_room(&rt, alloc)?;
     }
     Ok(())
 }

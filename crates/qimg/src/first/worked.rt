@@ -69,6 +69,33 @@ fn only_answer(mut answers: Vec<Answer>) -> Option<Answer>
     }
 }
 
+/// The two answers, if there are just two.
+fn two_answers(mut answers: Vec<Answer>) -> Option<(Answer, Answer)>
+    ensures { MatchOption result ⊤ (λ both. answers.items ≡ both.0 ∷ both.1 ∷ []) }
+{
+    let second = answers.pop()?;
+    let first = only_answer(answers)?;
+    Some((first, second))
+}
+
+/// Makes two calls of the disk in the image.
+fn serve_two<S: Storage>(
+    image: S,
+    alloc: Global,
+    first: Call,
+    second: Call,
+) -> Result<(S, Answer, Answer), RunFault>
+    ensures run { IfOk result (λ served. IsTrue (S.state image).shape.keeps → Consistent (file (S.state image)) → Run (S.state image) (first ∷ second ∷ []) (served.1 ∷ served.2 ∷ []) (S.state served.0)) }
+    ensures shape { IfOk result (λ served. (S.state served.0).shape ≡ (S.state image).shape) }
+    ensures err { IsOkUnless result RunFault.Memory }
+{
+    let (image, answers) = serve(image, alloc, &[first, second])?;
+    match two_answers(answers) {
+        Some((first, second)) => Ok((image, first, second)),
+        None => Err(RunFault::Memory),
+    }
+}
+
 /// Makes one call of the disk in the image.
 fn serve_one<S: Storage>(image: S, alloc: Global, call: Call) -> Result<(S, Answer), RunFault>
     ensures run { IfOk result (λ served. IsTrue (S.state image).shape.keeps → Consistent (file (S.state image)) → Run (S.state image) (call ∷ []) (served.1 ∷ []) (S.state served.0)) }
@@ -89,8 +116,8 @@ fn worked_bytes<S: Storage>(image: S, alloc: Global) -> Result<Vec<u8>, RunFault
 {
     let image = create(image, alloc, 65536)?;
     let data = Vec::from_slice(alloc, &[1, 2, 3])?;
-    let (image, written) = serve_one(image, alloc, Call::Write { offset: 510, data })?;
-    let (image, flushed) = serve_one(image, alloc, Call::Flush)?;
+    let write = Call::Write { offset: 510, data };
+    let (image, written, flushed) = serve_two(image, alloc, write, Call::Flush)?;
     let read = Call::Read {
         offset: 508,
         length: 8,

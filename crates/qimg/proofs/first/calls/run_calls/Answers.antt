@@ -16,7 +16,7 @@ loop-call-preserved g c = (
       let before : Going H (opened g.S.Storage.state c.args.disk.now) c.args.calls.now (c.call-item.result ∷ drop (c.loop-call.call-index + 1) c.args.calls.now) c.loop-call.answers.items (opened g.S.Storage.state c.loop-call.disk) =
       subst (λ left. Going H (opened g.S.Storage.state c.args.disk.now) c.args.calls.now left c.loop-call.answers.items (opened g.S.Storage.state c.loop-call.disk)) cons (c.loop-call.invariant.1 H live alive) in
       let after : Going H (opened g.S.Storage.state c.args.disk.now) c.args.calls.now (drop (c.loop-call.call-index + 1) c.args.calls.now) (c.loop-call.answers.items ++ c.in_ok-make_call.field-0 ∷ []) (opened g.S.Storage.state c.make_call.new.disk) =
-      goes-on H _ _ _ c.args.calls.now _ c.loop-call.answers.items c.call-item.result c.in_ok-make_call.field-0 before c.in_ok-make_call.ensures.answered in
+      goes-on H _ _ _ c.args.calls.now _ c.loop-call.answers.items c.call-item.result c.in_ok-make_call.field-0 c.make_call.ensures.shape before c.in_ok-make_call.ensures.answered in
       subst (λ answers. Going H (opened g.S.Storage.state c.args.disk.now) c.args.calls.now (drop (c.loop-call.call-index + 1) c.args.calls.now) answers (opened g.S.Storage.state c.make_call.new.disk)) (sym c.in_ok-push.ensures.items) after,
 )
 
