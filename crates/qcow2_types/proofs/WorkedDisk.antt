@@ -1,11 +1,11 @@
 -- What the worked image shows.
 use Rattle.std.proofs.Common.{◌≡◌, refl, [], ◌∷◌}
-use Rattle.std.specs.Prelude.{map}
+use Rattle.std.specs.Prelude.{map, None, false}
 use Rattle.std.specs.Str.{is_utf8, chars}
 use Rattle.std.specs.Char.{encode_utf8}
 use Rattle.qcow2_types.specs.Bytes.{be, word, run, all_below}
-use Rattle.qcow2_types.specs.Words.{mapping_of, packed}
-use Rattle.qcow2_types.specs.WorkedImage.{of_pieces, image, image_fields, with_bytes}
+use Rattle.qcow2_types.specs.Words.{mapping_of, zeroes, packed, damaged}
+use Rattle.qcow2_types.specs.WorkedImage.{of_pieces, image, image_fields, older_fields, with_bytes}
 use Rattle.qcow2_types.specs.Header.{fields_of, header_of, texts_of, extensions_at, extension_at}
 use Rattle.qcow2_types.specs.Entries.{entry, l1_table_sound, l2_table_sound}
 use Rattle.qcow2_types.specs.Disk.{at, qcow2, raw}
@@ -32,3 +32,32 @@ packed_barred = refl
 pub packed_entry : entry (with_bytes 2048 (64 ∷ [])) image_fields 0 ≡ packed 2560 512
 unfolding entry l1_table_sound l2_table_sound all_below mapping_of word be of_pieces image image_fields
 packed_entry = refl
+
+-- an unmapped place shows the layer below
+pub unmapped_below : at (qcow2 (with_bytes 2048 (0 ∷ 0 ∷ 0 ∷ 0 ∷ 0 ∷ 0 ∷ 0 ∷ 0 ∷ [])) (λ _. 0) ∷ raw (9 ∷ []) ∷ []) 0 ≡ byte 9
+unfolding header_of texts_of extensions_at extension_at fields_of be run of_pieces image is_utf8 chars encode_utf8 entry l1_table_sound l2_table_sound all_below mapping_of word
+unmapped_below = refl
+
+-- and 0 where there is none
+pub unmapped_alone : at (qcow2 (with_bytes 2048 (0 ∷ 0 ∷ 0 ∷ 0 ∷ 0 ∷ 0 ∷ 0 ∷ 0 ∷ [])) (λ _. 0) ∷ []) 0 ≡ byte 0
+unfolding header_of texts_of extensions_at extension_at fields_of be run of_pieces image is_utf8 chars encode_utf8 entry l1_table_sound l2_table_sound all_below mapping_of word
+unmapped_alone = refl
+
+-- a zero word hides it
+pub zero_above : at (qcow2 (with_bytes 2048 (0 ∷ 0 ∷ 0 ∷ 0 ∷ 0 ∷ 0 ∷ 0 ∷ 1 ∷ [])) (λ _. 0) ∷ raw (9 ∷ []) ∷ []) 0 ≡ byte 0
+unfolding header_of texts_of extensions_at extension_at fields_of be run of_pieces image is_utf8 chars encode_utf8 entry l1_table_sound l2_table_sound all_below mapping_of word
+zero_above = refl
+
+pub zero_entry : entry (with_bytes 2048 (0 ∷ 0 ∷ 0 ∷ 0 ∷ 0 ∷ 0 ∷ 0 ∷ 1 ∷ [])) image_fields 0 ≡ zeroes None false
+unfolding entry l1_table_sound l2_table_sound all_below mapping_of word be of_pieces image image_fields
+zero_entry = refl
+
+-- in version 2 it has no meaning
+pub older_zero : entry (of_pieces ((4, 0 ∷ 0 ∷ 0 ∷ 2 ∷ []) ∷ (2048, 0 ∷ 0 ∷ 0 ∷ 0 ∷ 0 ∷ 0 ∷ 0 ∷ 1 ∷ []) ∷ image)) older_fields 0 ≡ damaged
+unfolding entry l1_table_sound l2_table_sound all_below mapping_of word be of_pieces image image_fields
+older_zero = refl
+
+-- a compressed range of two sectors
+pub packed_in_two : entry (with_bytes 2048 (96 ∷ 0 ∷ 0 ∷ 0 ∷ 0 ∷ 0 ∷ 10 ∷ 1 ∷ [])) image_fields 0 ≡ packed 2561 1023
+unfolding entry l1_table_sound l2_table_sound all_below mapping_of word be of_pieces image image_fields
+packed_in_two = refl

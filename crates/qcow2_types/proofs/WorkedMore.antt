@@ -17,6 +17,26 @@ pub four_bits : map (count (with_bytes 1024 (17 ∷ 17 ∷ 17 ∷ 1 ∷ 0 ∷ 0 
 unfolding count counter word be of_pieces image image_fields
 four_bits = refl
 
+-- counters of two bits
+pub two_bits : map (count (with_bytes 1024 (85 ∷ 21 ∷ 0 ∷ 0 ∷ 0 ∷ 0 ∷ 0 ∷ 0 ∷ 0 ∷ 0 ∷ 0 ∷ 0 ∷ 0 ∷ 0 ∷ [])) (fields_with_order 1)) (0 ∷ 1 ∷ 6 ∷ 7 ∷ 8 ∷ []) ≡ 1 ∷ 1 ∷ 1 ∷ 0 ∷ 0 ∷ []
+unfolding count counter word be of_pieces image image_fields
+two_bits = refl
+
+-- of eight
+pub eight_bits : map (count (with_bytes 1024 (1 ∷ 2 ∷ 3 ∷ 4 ∷ 5 ∷ 6 ∷ 255 ∷ 0 ∷ 0 ∷ 0 ∷ 0 ∷ 0 ∷ 0 ∷ 0 ∷ [])) (fields_with_order 3)) (0 ∷ 1 ∷ 6 ∷ 7 ∷ 8 ∷ []) ≡ 1 ∷ 2 ∷ 255 ∷ 0 ∷ 0 ∷ []
+unfolding count counter word be of_pieces image image_fields
+eight_bits = refl
+
+-- of 32
+pub bits_32 : map (count (with_bytes 1024 (0 ∷ 0 ∷ 0 ∷ 1 ∷ 1 ∷ 0 ∷ 0 ∷ 2 ∷ 0 ∷ 0 ∷ 0 ∷ 0 ∷ 0 ∷ 0 ∷ 0 ∷ 0 ∷ [])) (fields_with_order 5)) (0 ∷ 1 ∷ 2 ∷ []) ≡ 1 ∷ 16777218 ∷ 0 ∷ []
+unfolding count counter word be of_pieces image image_fields
+bits_32 = refl
+
+-- of 64
+pub bits_64 : map (count (with_bytes 1024 (0 ∷ 0 ∷ 0 ∷ 0 ∷ 0 ∷ 0 ∷ 0 ∷ 1 ∷ 0 ∷ 0 ∷ 0 ∷ 1 ∷ 0 ∷ 0 ∷ 0 ∷ 2 ∷ [])) (fields_with_order 6)) (0 ∷ 1 ∷ 2 ∷ []) ≡ 1 ∷ 4294967298 ∷ 0 ∷ []
+unfolding count counter word be of_pieces image image_fields
+bits_64 = refl
+
 -- a range of one sector, from the last byte of a cluster on
 pub one_sector : map (refs (with_bytes 2048 (64 ∷ 0 ∷ 0 ∷ 0 ∷ 0 ∷ 0 ∷ 11 ∷ 255 ∷ [])) image_fields) (5 ∷ 6 ∷ 7 ∷ []) ≡ 1 ∷ 1 ∷ 0 ∷ []
 unfolding refs structure contents of_table sum_below mapping_of word be of_pieces image image_fields

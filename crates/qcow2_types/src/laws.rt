@@ -1,6 +1,6 @@
 //! What the constants say of every image. The functions do nothing, and their contracts are the laws.
 
-ghost use Rattle.std.specs.Prelude.{◌≡◌, ◌≤◌, ℕ, Bool, Ok};
+ghost use Rattle.std.specs.Prelude.{◌≡◌, ◌≤◌, ◌-◌, ◌^◌, ℕ, Bool, Ok};
 ghost use Rattle.qcow2_types.specs.Bytes.{Bytes, be};
 ghost use Rattle.qcow2_types.specs.Words.{table_offset};
 ghost use Rattle.qcow2_types.specs.Header.{Header, header_of, cluster_size};
@@ -23,4 +23,13 @@ pub fn loaded_header_is_within_limits()
 /// No word of an L1 or L2 table names a place past the greatest.
 pub fn place_is_within_limit()
     ensures { (word : ℕ) → table_offset word ≤ MAX_OFFSET }
+{}
+
+/// The limits as the format has them: clusters of 2^9 to 2^21 bytes, counters of 2^0 to 2^6 bits, and places in bits 9 to 55.
+pub fn limits_are_the_formats()
+    ensures least_cluster { MIN_CLUSTER_SIZE ≡ 2 ^ 9 }
+    ensures greatest_cluster { MAX_CLUSTER_SIZE ≡ 2 ^ 21 }
+    ensures least_width { MIN_REFCOUNT_WIDTH ≡ 2 ^ 0 }
+    ensures greatest_width { MAX_REFCOUNT_WIDTH ≡ 2 ^ 6 }
+    ensures place { MAX_OFFSET ≡ 2 ^ 56 - 2 ^ 9 }
 {}

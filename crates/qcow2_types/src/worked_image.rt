@@ -1,10 +1,10 @@
 //! What the definitions say of one image, byte for byte: 65,536 bytes in clusters of 512, after a write of 01 02 03 at 510.
 //! Each function does nothing, and its contract is what was computed.
 
-ghost use Rattle.std.specs.Prelude.{◌≡◌, ◌+◌, ◌^◌, [], ◌∷◌, Ok, Err, map, true, false};
+ghost use Rattle.std.specs.Prelude.{◌≡◌, ◌+◌, ◌^◌, [], ◌∷◌, Ok, Err, None, map, true, false};
 ghost use Rattle.imago_storage.specs.Disk.{byte, barred};
 ghost use Rattle.imago_storage.specs.declared.fault.Fault.TheVariants.{DamagedHeader, Unsupported, Limit};
-ghost use Rattle.qcow2_types.specs.Words.{data_at, unmapped, packed};
+ghost use Rattle.qcow2_types.specs.Words.{data_at, unmapped, zeroes, packed, damaged};
 ghost use Rattle.qcow2_types.specs.Header.{header_of};
 ghost use Rattle.qcow2_types.specs.Entries.{entry};
 ghost use Rattle.qcow2_types.specs.Counts.{count};
@@ -82,9 +82,28 @@ pub fn refused_headers()
     ensures l1_place { header_of false (with_bytes 47 (1 ∷ [])) ≡ Err DamagedHeader }
 {}
 
-/// Counters of one bit and of four bits, which share bytes.
+/// What other words of the first guest cluster mean, over a raw file that begins with 9: unmapped, zero, which version 2
+/// doesn't have, and compressed in two sectors.
+pub fn other_words()
+    ensures unmapped { at (qcow2 (with_bytes 2048 (0 ∷ 0 ∷ 0 ∷ 0 ∷ 0 ∷ 0 ∷ 0 ∷ 0 ∷ [])) (λ _. 0) ∷ raw (9 ∷ []) ∷ []) 0 ≡ byte 9 }
+    ensures unmapped_alone { at (qcow2 (with_bytes 2048 (0 ∷ 0 ∷ 0 ∷ 0 ∷ 0 ∷ 0 ∷ 0 ∷ 0 ∷ [])) (λ _. 0) ∷ []) 0 ≡ byte 0 }
+    ensures zero { at (qcow2 (with_bytes 2048 (0 ∷ 0 ∷ 0 ∷ 0 ∷ 0 ∷ 0 ∷ 0 ∷ 1 ∷ [])) (λ _. 0) ∷ raw (9 ∷ []) ∷ []) 0 ≡ byte 0 }
+    ensures zero_entry { entry (with_bytes 2048 (0 ∷ 0 ∷ 0 ∷ 0 ∷ 0 ∷ 0 ∷ 0 ∷ 1 ∷ [])) image_fields 0 ≡ zeroes None false }
+    ensures older_zero { entry (of_pieces ((4, 0 ∷ 0 ∷ 0 ∷ 2 ∷ []) ∷ (2048, 0 ∷ 0 ∷ 0 ∷ 0 ∷ 0 ∷ 0 ∷ 0 ∷ 1 ∷ []) ∷ image)) older_fields 0 ≡ damaged }
+    ensures compressed { entry (with_bytes 2048 (96 ∷ 0 ∷ 0 ∷ 0 ∷ 0 ∷ 0 ∷ 10 ∷ 1 ∷ [])) image_fields 0 ≡ packed 2561 1023 }
+{}
+
+/// Counters of whole bytes: of 8, 32 and 64 bits.
+pub fn wide_counters()
+    ensures eight_bits { map (count (with_bytes 1024 (1 ∷ 2 ∷ 3 ∷ 4 ∷ 5 ∷ 6 ∷ 255 ∷ 0 ∷ 0 ∷ 0 ∷ 0 ∷ 0 ∷ 0 ∷ 0 ∷ [])) (fields_with_order 3)) (0 ∷ 1 ∷ 6 ∷ 7 ∷ 8 ∷ []) ≡ 1 ∷ 2 ∷ 255 ∷ 0 ∷ 0 ∷ [] }
+    ensures bits_32 { map (count (with_bytes 1024 (0 ∷ 0 ∷ 0 ∷ 1 ∷ 1 ∷ 0 ∷ 0 ∷ 2 ∷ 0 ∷ 0 ∷ 0 ∷ 0 ∷ 0 ∷ 0 ∷ 0 ∷ 0 ∷ [])) (fields_with_order 5)) (0 ∷ 1 ∷ 2 ∷ []) ≡ 1 ∷ 16777218 ∷ 0 ∷ [] }
+    ensures bits_64 { map (count (with_bytes 1024 (0 ∷ 0 ∷ 0 ∷ 0 ∷ 0 ∷ 0 ∷ 0 ∷ 1 ∷ 0 ∷ 0 ∷ 0 ∷ 1 ∷ 0 ∷ 0 ∷ 0 ∷ 2 ∷ [])) (fields_with_order 6)) (0 ∷ 1 ∷ 2 ∷ []) ≡ 1 ∷ 4294967298 ∷ 0 ∷ [] }
+{}
+
+/// Counters of one, two and four bits, which share bytes.
 pub fn narrow_counters()
     ensures one_bit { map (count (with_bytes 1024 (127 ∷ 0 ∷ 0 ∷ 0 ∷ 0 ∷ 0 ∷ 0 ∷ 0 ∷ 0 ∷ 0 ∷ 0 ∷ 0 ∷ 0 ∷ 0 ∷ [])) (fields_with_order 0)) (0 ∷ 1 ∷ 6 ∷ 7 ∷ 8 ∷ []) ≡ 1 ∷ 1 ∷ 1 ∷ 0 ∷ 0 ∷ [] }
+    ensures two_bits { map (count (with_bytes 1024 (85 ∷ 21 ∷ 0 ∷ 0 ∷ 0 ∷ 0 ∷ 0 ∷ 0 ∷ 0 ∷ 0 ∷ 0 ∷ 0 ∷ 0 ∷ 0 ∷ [])) (fields_with_order 1)) (0 ∷ 1 ∷ 6 ∷ 7 ∷ 8 ∷ []) ≡ 1 ∷ 1 ∷ 1 ∷ 0 ∷ 0 ∷ [] }
     ensures four_bits { map (count (with_bytes 1024 (17 ∷ 17 ∷ 17 ∷ 1 ∷ 0 ∷ 0 ∷ 0 ∷ 0 ∷ 0 ∷ 0 ∷ 0 ∷ 0 ∷ 0 ∷ 0 ∷ [])) (fields_with_order 2)) (0 ∷ 1 ∷ 6 ∷ 7 ∷ 8 ∷ []) ≡ 1 ∷ 1 ∷ 1 ∷ 0 ∷ 0 ∷ [] }
 {}
 
