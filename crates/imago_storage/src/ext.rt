@@ -27,6 +27,14 @@ pub fn padded_end(offset: u64, n: u64, unit: u64) -> Option<u64>
     }
 }
 
+// The unit of a storage's requests, in bytes.
+fn unit_size<S: Storage>(storage: &S) -> usize
+    ensures unit { result ≡ unit_of (S.state storage.now).shape }
+    ensures alignment { IsAlignment result }
+{
+    larger_alignment(storage.req_align(), storage.mem_align())
+}
+
 // Writes bytes that lie in one unit, by one request. The buffer holds a unit.
 fn write_unit<S: Storage>(
     storage: &mut S,
@@ -120,7 +128,7 @@ fn write_padded<S: Storage>(
     ensures once { IsAtOnce (unit_of (S.state storage.old).shape) offset (length «data».now) → RequestsOnce (S.state storage.old) (S.state storage.new) (length «data».now) result }
     ensures empty { length «data».now ≡ 0 → IsOk result × (S.state storage.new ≡ S.state storage.old) }
 {
-    let unit = storage.req_align().max(storage.mem_align());
+    let unit = unit_size(storage);
     if data.is_empty() {
         return Ok(());
     }
@@ -171,7 +179,7 @@ fn read_padded<S: Storage>(
     ensures overflow { Overflows (unit_of (S.state storage.old).shape) offset (length buf.old) → IsErrOf result Fault.RangeOverflow }
     ensures empty { length buf.old ≡ 0 → IsOk result × (S.state storage.new ≡ S.state storage.old) }
 {
-    let unit = storage.req_align().max(storage.mem_align());
+    let unit = unit_size(storage);
     if buf.is_empty() {
         return Ok(());
     }

@@ -45,3 +45,4 @@ pub mod TableSteps
 pub mod ShownLemmas
 pub mod WorkedSteps
 pub mod StepValues
+pub mod Surplus

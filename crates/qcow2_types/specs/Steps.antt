@@ -1,8 +1,8 @@
 -- What one write into a consistent image f leaves in the file g: an image that is consistent under the same header.
-use Rattle.std.specs.Prelude.{true, ◌≡◌, ◌≢◌, ℕ, ◌*◌, ◌/◌, ◌%◌, ◌<◌, ◌⊎◌}
+use Rattle.std.specs.Prelude.{true, ◌≡◌, ◌≢◌, ℕ, ◌+◌, ◌*◌, ◌/◌, ◌%◌, ◌<◌, ◌⊎◌}
 use Rattle.qcow2_types.specs.Bytes.{Bytes, word}
 use Rattle.qcow2_types.specs.Words.{Mapping, unmapped, data_at}
-use Rattle.qcow2_types.specs.Header.{Header, cluster_size, words_of_cluster}
+use Rattle.qcow2_types.specs.Header.{Fields, Header, cluster_size, words_of_cluster}
 use Rattle.qcow2_types.specs.Entries.{l2_table}
 use Rattle.qcow2_types.specs.Counts.{block_at, count, counters_of_block}
 use Rattle.qcow2_types.specs.References.{refs}
@@ -10,6 +10,10 @@ use Rattle.qcow2_types.specs.Consistency.{IsConsistent}
 use Rattle.qcow2_types.specs.Slots.{slot, Live}
 use Rattle.qcow2_types.specs.Frames.{Same, Kept, nothing, block, table, l1_word, ShowsAs}
 use Rattle.qcow2_types.specs.Versions.{KeepsSlots, SamePlaces}
+
+-- By how much a cluster is counted more often than it is named stays the same, for each cluster.
+abbrev pub SurplusKept : Bytes → Bytes → Fields → Type 0
+SurplusKept f g h = (c : ℕ) → count g h c + refs f h c ≡ count f h c + refs g h c
 
 -- A data cluster was written that word j of L2 table i names: what shows changes at no other guest cluster.
 pub record DataWritten (f g : Bytes) (H : Header) (i j : ℕ) : Type 0 where

@@ -27,7 +27,8 @@ use Rattle.std.specs.Int.{w64, to_be_bytes}
 use Rattle.qcow2_types.specs.Words.{l1_word_sound}
 use Rattle.qcow2_types.specs.Header.{layout_of}
 use Rattle.qcow2_types.specs.Versions.{KeepsSlots}
-use Rattle.qcow2_types.specs.Steps.{FreeWritten, CounterWritten, TableEntered}
+use Rattle.qcow2_types.specs.Steps.{SurplusKept, FreeWritten, CounterWritten, TableEntered}
+use Rattle.qcow2_types.proofs.Surplus.{surplus-both, surplus-same, surplus-taken}
 use Rattle.qcow2_types.proofs.DataSteps.{free-written}
 use Rattle.qcow2_types.proofs.BlockSteps.{counter-raised}
 use Rattle.qcow2_types.proofs.TableSteps.{table-entered-spliced}
@@ -93,6 +94,7 @@ full-none old new H places kept none holds =
     record {
       holds = holds-kept old new H places kept holds;
       shows = λ p. ap (λ (f : Bytes). value_at f p) (sym same);
+      surplus = subst (λ f. SurplusKept (file old) f H.fields) same (λ c. refl);
       full = subst (λ f. AllCounted f H.fields) same (all-counted (file old) H holds.consistent holds.plain (subst (λ b. NoneFreeAt (file old) b) holds.first_block none));
     }
 
@@ -207,7 +209,8 @@ taken s0 s1 s2 s3 H places c bytes kept free first second long holds0 =
     let e3 : file s3 ≡ splice (file s2) (block_at (file s2) H.fields (c / counters_of_block H.fields) + (c % counters_of_block H.fields) * 2) (0 ∷ 1 ∷ []) = second.file keeps2 ∙ ap (λ a. splice (file s2) a (0 ∷ 1 ∷ [])) (sym place) in
     let there : block_at (file s2) H.fields (c / counters_of_block H.fields) ≢ 0 = subst (λ n. block_at (file s2) H.fields n ≢ 0) (zeroth holds2.plain free.high) holds2.plain.block in
     let raised : CounterWritten (file s2) g3 H c 1 = counter-raised (file s2) H holds2.consistent c holds2.plain.order there counted2 in
-    finish keeps2 same size wrote.keeps wrote.shows e2 e3 raised.block.consistent raised.block.keeps raised.block.references raised.here raised.block.shows unnamed2 holds holds2
+    finish keeps2 same size wrote.keeps wrote.shows e2 e3 raised.block.consistent raised.block.keeps raised.block.references raised.here raised.block.shows unnamed2 holds holds2 counted
+    (λ d apart. raised.others d apart ∙ wrote.counts d) wrote.references
   where
     zeroth : IsPlain (file s2) H.fields → c < 256 → 0 ≡ c / counters_of_block H.fields
     zeroth plain less = let e : c / 256 ≡ 0 = omega arith in sym (rw (counters-256 (file s2) H.fields plain) e)
@@ -223,8 +226,10 @@ taken s0 s1 s2 s3 H places c bytes kept free first second long holds0 =
         → ((d : ℕ) → refs (splice (file s2) (block_at (file s2) H.fields (c / counters_of_block H.fields) + (c % counters_of_block H.fields) * 2) (0 ∷ 1 ∷ [])) H.fields d ≡ refs (file s2) H.fields d)
         → (count (splice (file s2) (block_at (file s2) H.fields (c / counters_of_block H.fields) + (c % counters_of_block H.fields) * 2) (0 ∷ 1 ∷ [])) H.fields c ≡ 1)
         → ((guest : ℕ) → ShowsAs (splice (file s2) (block_at (file s2) H.fields (c / counters_of_block H.fields) + (c % counters_of_block H.fields) * 2) (0 ∷ 1 ∷ [])) (file s2) H.fields guest)
-        → refs (file s2) H.fields c ≡ 0 → Holds s1 H places → Holds s2 H places → Takes s0 s3 H places c bytes
-    finish keeps2 same size tables2 shows2 e2 e3 consistent3 tables3 refs3 count3 shows3 unnamed2 holds holds2 =
+        → refs (file s2) H.fields c ≡ 0 → Holds s1 H places → Holds s2 H places → count (file s1) H.fields c ≡ 0
+        → ((d : ℕ) → d ≢ c → count (splice (file s2) (block_at (file s2) H.fields (c / counters_of_block H.fields) + (c % counters_of_block H.fields) * 2) (0 ∷ 1 ∷ [])) H.fields d ≡ count (file s1) H.fields d)
+        → ((d : ℕ) → refs (file s2) H.fields d ≡ refs (file s1) H.fields d) → Takes s0 s3 H places c bytes
+    finish keeps2 same size tables2 shows2 e2 e3 consistent3 tables3 refs3 count3 shows3 unnamed2 holds holds2 free1 others3 refs2 =
         let back : splice (file s2) (block_at (file s2) H.fields (c / counters_of_block H.fields) + (c % counters_of_block H.fields) * 2) (0 ∷ 1 ∷ []) ≡ file s3 = sym e3 in
         let consistent : IsConsistent (file s3) H = subst (λ e. IsConsistent e H) back consistent3 in
         let tables : KeepsSlots (file s2) (file s3) H.fields = subst (λ e. KeepsSlots (file s2) e H.fields) back tables3 in
@@ -237,7 +242,10 @@ taken s0 s1 s2 s3 H places c bytes kept free first second long holds0 =
           tables = all.places.l1;
           slots = all.slots;
           unnamed = ap (λ e. refs e H.fields c) e3 ∙ (refs3 c ∙ unnamed2);
+          was_free = ap (λ e. count e H.fields c) same ∙ free1;
           counted = ap (λ e. count e H.fields c) e3 ∙ count3;
+          others = λ d apart. ap (λ e. count e H.fields d) e3 ∙ (others3 d apart ∙ ap (λ e. count e H.fields d) (sym same));
+          references = λ d. ap (λ e. refs e H.fields d) e3 ∙ (refs3 d ∙ (refs2 d ∙ ap (λ e. refs e H.fields d) (sym same)));
           content = λ k less.
               ap (λ (e : Bytes). e (c * 512 + k)) (second.file keeps2)
               ∙ (splice-outside (file s2) (places.block + 2 * c) (0 ∷ 1 ∷ []) (c * 512 + k) (beside k less)
@@ -276,6 +284,7 @@ table-found s0 s1 H places i w table kept read is some less holds =
       named = ap (λ e. l2_table e H.fields i) (sym same) ∙ (table-read s0 H places i holds less ∙ (ap table_offset (sym read) ∙ sym is));
       some = some;
       shows = λ p. ap (λ (e : Bytes). value_at e p) (sym same);
+      surplus = subst (λ f. SurplusKept (file s0) f H.fields) same (λ c. refl);
     }
 
 -- the word of a cluster that nothing else names
@@ -359,6 +368,8 @@ linked s0 s1 s2 s3 H places i w table c bytes kept read is none less low high ta
       named = place512;
       some = λ e. absurd (omega arith);
       shows = λ p. shows-same (file s2) (file s3) H holds2.consistent done.consistent done.shows p ∙ (took.shows p ∙ ap (λ (e : Bytes). value_at e p) (sym same));
+      surplus = subst (λ f. SurplusKept f (file s3) H.fields) (sym same)
+          (surplus-taken (file s1) (file s2) (file s3) H.fields c took.was_free took.counted took.others took.references took.unnamed done.counts done.named_once done.references);
     }
 
 -- the word that was written, by its cluster

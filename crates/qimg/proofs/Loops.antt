@@ -13,6 +13,7 @@ use Rattle.imago_storage.specs.declared.fault.Fault.{Fault}
 use Rattle.imago_storage.specs.declared.fault.Fault.TheVariants.{Memory, Storage, Limit}
 use Rattle.qcow2_types.specs.Bytes.{Bytes, bytes_of}
 use Rattle.qcow2_types.specs.Header.{Header}
+use Rattle.qcow2_types.proofs.Surplus.{surplus-both}
 use Rattle.qimg.specs.declared.first.clusters.Places.{Places}
 use Rattle.qimg.specs.First.{file, value_at, Holds, ShowsBytes}
 use Rattle.qimg.specs.Clusters.{Writes, IsFull, NoCluster}
@@ -82,6 +83,7 @@ wrote-more old now new places offset done n guest within bytes piece was is is' 
       record {
         holds = after.holds;
         shows = shows-more (file old) (file now) (file new) offset done n bytes fits before.shows (subst (λ a. ShowsBytes (file now) (file new) a (take n (drop done bytes))) place (subst (ShowsBytes (file now) (file new) (guest * 512 + within)) part after.shows));
+        surplus = surplus-both (file old) (file now) (file new) H.fields before.surplus after.surplus;
       };
   untouched = λ e. kept-both old now new (so.untouched (was-false is is' noted e)) (untouched e);
   noted = λ e. noted (so.noted e);
@@ -113,6 +115,7 @@ stopped-short old now new places offset done bytes was is (Limit n) so why = (
           ];
           outside = λ p out. full.shows p ∙ before.shows.outside p (aside p out);
         };
+        surplus = surplus-both (file old) (file now) (file new) H.fields before.surplus full.surplus;
         full = full.full;
       },
 )

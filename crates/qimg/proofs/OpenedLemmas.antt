@@ -15,7 +15,7 @@ use Rattle.qcow2_types.specs.Consistency.{IsConsistent}
 use Rattle.qimg.specs.First.{file, value_at, Holds}
 use Rattle.qimg.specs.Clusters.{Writes}
 use Rattle.qimg.specs.Pieces.{NotAllWritten, IsFullFor, ShowsRange}
-use Rattle.qimg.specs.Opened.{Opened, IsLive, Steps, shown, WriteRefused}
+use Rattle.qimg.specs.Opened.{Opened, IsLive, Steps, LeaksSame, shown, WriteRefused}
 use Rattle.qimg.specs.Marks.{marks}
 use Rattle.qimg.proofs.FirstLemmas.{loads-reading}
 use Rattle.qimg.proofs.ClusterLemmas.{holds-kept}
@@ -94,6 +94,9 @@ write-step old new offset bytes size places inside some writes H live =
       ),
     )
 
+pub write-leaks : (old new : Opened) (offset : ℕ) (bytes : List ℕ) → ((H : Header) → Holds old.state H old.places → Writes old.state new.state H old.places offset bytes) → LeaksSame old new
+write-leaks old new offset bytes writes H live = let wrote : Writes old.state new.state H old.places offset bytes = writes H live.holds in wrote.surplus
+
 -- a write that was refused on the way
 pub write-refused : (old new : Opened) (offset : ℕ) (bytes : List ℕ) (changed : Bool) (fault : Fault) → IsFalse old.failed → new.size ≡ old.size → new.places ≡ old.places → new.failed ≡ marks fault changed
     → (changed ≡ false → Kept old.state new.state) → NotAllWritten old.state new.state old.places offset bytes fault → WriteRefused old new offset bytes fault
@@ -116,6 +119,7 @@ write-refused old new offset bytes changed (Limit n) was size places marked unto
         },
         full.full,
       ),
+  λ H live. let full : IsFullFor old.state new.state H old.places offset bytes = why.2 H live.holds in full.surplus,
 )
   where
     in-or-out : (p : ℕ) → {H : Header} → IsFullFor old.state new.state H old.places offset bytes → (p < offset) ⊎ (offset ≤ p) → (p < offset + length bytes) ⊎ (offset + length bytes ≤ p)

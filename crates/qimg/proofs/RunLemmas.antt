@@ -10,7 +10,9 @@ use Rattle.qimg.specs.declared.first.calls.Call.TheVariants.{Read, Write, Flush}
 use Rattle.qimg.specs.declared.first.calls.Answer.{Answer}
 use Rattle.qimg.specs.declared.first.calls.Answer.TheVariants.{Done, Bytes, Refused}
 use Rattle.qimg.specs.First.{file, AllCounted}
-use Rattle.qimg.specs.Opened.{Opened, IsLive, Succeeds, shown}
+use Rattle.qcow2_types.specs.Bytes.{bytes_of}
+use Rattle.qcow2_types.specs.Steps.{SurplusKept}
+use Rattle.qimg.specs.Opened.{Opened, IsLive, LeaksSame, Stays, Succeeds, shown}
 use Rattle.qimg.specs.Runs.{Lives, Answered, Run}
 use Rattle.qimg.proofs.OpenedLemmas.{shown-size}
 
@@ -30,9 +32,9 @@ stuck : (old new : Opened) (call : Call) (answer : Answer) → IsTrue old.failed
 stuck old new (Read offset n) (Refused Failed) fails (was, same) = (refl, same)
 stuck old new (Write offset bytes) (Refused Failed) fails (was, same) = (refl, same)
 stuck old new Flush (Refused Failed) fails (was, same) = (refl, same)
-stuck old new (Read offset n) (Bytes buffer) fails (ok, steps) = let was = ok.was in absurd cc
-stuck old new (Write offset bytes) Done fails (ok, steps) = let was = ok.was in absurd cc
-stuck old new Flush Done fails (ok, steps) = let was = ok.was in absurd cc
+stuck old new (Read offset n) (Bytes buffer) fails (ok, stays, steps) = let was = ok.was in absurd cc
+stuck old new (Write offset bytes) Done fails (ok, leaks, steps) = let was = ok.was in absurd cc
+stuck old new Flush Done fails (ok, stays, steps) = let was = ok.was in absurd cc
 stuck old new (Read offset n) (Refused RangeOverflow) fails why = let was = why.0 in absurd cc
 stuck old new (Read offset n) (Refused Memory) fails why = let was = why.0 in absurd cc
 stuck old new (Read offset n) (Refused Storage) fails why = let was = why.0 in absurd cc
@@ -45,13 +47,28 @@ stuck old new Flush (Refused Memory) fails why = let was = why.0 in absurd cc
 stuck old new Flush (Refused Storage) fails why = let was = why.0 in absurd cc
 stuck old new call answer fails why = absurd why
 
--- the disk after a call that succeeds, or leaves it as it was
-lives : (H : Header) (old new : Opened) → Succeeds old new → IsLive new H → Lives old.state new.state
-lives H old new ok live = record { consistent = (H, live.holds.consistent); shape = ok.shape; faults = ok.faults }
+-- a header is one
+one-header : (f : ℕ → ℕ) (H K : Header) → header_of true f ≡ Ok H → header_of true f ≡ Ok K → H ≡ K
+one-header f H K a b = let e : Ok H ≡ Ok K = sym a ∙ b in cc
 
-lives-on : (H : Header) (old new : Opened) → new ≡ old → IsLive new H → Lives old.state new.state
-lives-on H old new same live = record {
+same-header : (H : Header) (old new : Opened) → IsLive old H → IsLive new H → header_of true (file new.state) ≡ header_of true (file old.state)
+same-header H old new was is = is.holds.consistent.readable.loads ∙ sym was.holds.consistent.readable.loads
+
+leaks-of : (H : Header) (old new : Opened) → IsLive old H → LeaksSame old new → (K : Header) → header_of true (file old.state) ≡ Ok K → SurplusKept (file old.state) (file new.state) K.fields
+leaks-of H old new was same K loads = subst (λ (h : Header). SurplusKept (file old.state) (file new.state) h.fields) (one-header (file old.state) H K was.holds.consistent.readable.loads loads) (same H was)
+
+stays-leaks : (old new : Opened) → Stays old new → LeaksSame old new
+stays-leaks old new stays H was = subst (λ f. SurplusKept (file old.state) f H.fields) (ap bytes_of (sym stays.state.bytes)) (λ c. refl)
+
+-- the disk after a call that succeeds, or leaves it as it was
+lives : (H : Header) (old new : Opened) → Succeeds old new → LeaksSame old new → IsLive old H → IsLive new H → Lives old.state new.state
+lives H old new ok leaks was live = record { consistent = (H, live.holds.consistent); header = same-header H old new was live; leaks = leaks-of H old new was leaks; shape = ok.shape; faults = ok.faults }
+
+lives-on : (H : Header) (old new : Opened) → new ≡ old → IsLive old H → IsLive new H → Lives old.state new.state
+lives-on H old new same was live = record {
   consistent = (H, live.holds.consistent);
+  header = same-header H old new was live;
+  leaks = leaks-of H old new was (λ K _. subst (λ (o : Opened). SurplusKept (file old.state) (file o.state) K.fields) (sym same) (λ c. refl));
   shape = ap (λ (o : Opened). o.state.shape) same;
   faults = ap (λ (o : Opened). o.state.faults) same;
 }
@@ -72,41 +89,37 @@ stayed H old new same live alive = (
   },
 )
 
--- a header is one
-one-header : (f : ℕ → ℕ) (H K : Header) → header_of true f ≡ Ok H → header_of true f ≡ Ok K → H ≡ K
-one-header f H K a b = let e : Ok H ≡ Ok K = sym a ∙ b in cc
-
 pub moved : (H : Header) (old new : Opened) (call : Call) (answer : Answer) → new.state.shape ≡ old.state.shape → IsLive old H → IsFalse old.failed → Answered old new call answer → Outcome H old new call answer
 unfolding Outcome AllFail
-moved H old new (Read offset n) (Bytes buffer) shape live alive (ok, steps) = let after = steps H live in inr (inr (after.0, ok.is, λ calls rest end run. (new.state, lives H old new ok after.0, after.1, run)))
+moved H old new (Read offset n) (Bytes buffer) shape live alive (ok, stays, steps) = let after = steps H live in inr (inr (after.0, ok.is, λ calls rest end run. (new.state, lives H old new ok (stays-leaks old new stays) live after.0, after.1, run)))
 moved H old new (Read offset n) (Refused Failed) shape live alive (was, same) = absurd cc
 moved H old new (Read offset n) (Refused RangeOverflow) shape live alive (was, passes, same) =
-    let kept = stayed H old new same live alive in inr (inr (kept.0, kept.1, λ calls rest end run. (new.state, lives-on H old new same kept.0, (passes, kept.2), run)))
+    let kept = stayed H old new same live alive in inr (inr (kept.0, kept.1, λ calls rest end run. (new.state, lives-on H old new same live kept.0, (passes, kept.2), run)))
 moved H old new (Read offset n) (Refused Memory) shape live alive why = inl (λ calls rest end long. long)
 moved H old new (Read offset n) (Refused Storage) shape live alive (was, stays, rose, marked) = inr (inl (marked, λ calls rest end all same. (fails-at _ _ _ rose same, all)))
-moved H old new (Write offset bytes) Done shape live alive (ok, steps) = let after = steps H live in inr (inr (after.0, ok.is, λ calls rest end run. (new.state, lives H old new ok after.0, after.1, run)))
+moved H old new (Write offset bytes) Done shape live alive (ok, leaks, steps) = let after = steps H live in inr (inr (after.0, ok.is, λ calls rest end run. (new.state, lives H old new ok leaks live after.0, after.1, run)))
 moved H old new (Write offset bytes) (Refused Failed) shape live alive (was, same) = absurd cc
 moved H old new (Write offset bytes) (Refused RangeOverflow) shape live alive (was, passes, same) =
-    let kept = stayed H old new same live alive in inr (inr (kept.0, kept.1, λ calls rest end run. (new.state, lives-on H old new same kept.0, (passes, kept.2), run)))
+    let kept = stayed H old new same live alive in inr (inr (kept.0, kept.1, λ calls rest end run. (new.state, lives-on H old new same live kept.0, (passes, kept.2), run)))
 moved H old new (Write offset bytes) (Refused PastEnd) shape live alive (was, some, past, same) =
     let kept = stayed H old new same live alive in
     let size : (shown (file old.state)).size ≡ old.size = shown-size (file old.state) H live.holds.consistent ∙ sym live.size in
-    inr (inr (kept.0, kept.1, λ calls rest end run. (new.state, lives-on H old new same kept.0, (some, subst (λ s. s < offset + length bytes.items) (sym size) past, kept.2), run)))
-moved H old new (Write offset bytes) (Refused (Limit n)) shape live alive (was, is, faults, marked, partly) =
+    inr (inr (kept.0, kept.1, λ calls rest end run. (new.state, lives-on H old new same live kept.0, (some, subst (λ s. s < offset + length bytes.items) (sym size) past, kept.2), run)))
+moved H old new (Write offset bytes) (Refused (Limit n)) shape live alive (was, is, faults, marked, partly, leaks) =
     let after = partly H live in
     inr (inr (
       after.0,
       marked,
       λ calls rest end run. (
         new.state,
-        record { consistent = (H, after.0.holds.consistent); shape = shape; faults = faults },
+        record { consistent = (H, after.0.holds.consistent); header = same-header H old new live after.0; leaks = leaks-of H old new live leaks; shape = shape; faults = faults },
         (is, after.1, λ K loads. subst (λ (h : Header). AllCounted (file new.state) h.fields) (one-header (file new.state) H K after.0.holds.consistent.readable.loads loads) after.2),
         run,
       ),
     ))
 moved H old new (Write offset bytes) (Refused Memory) shape live alive why = inl (λ calls rest end long. long)
 moved H old new (Write offset bytes) (Refused Storage) shape live alive (was, rose, marked) = inr (inl (marked, λ calls rest end all same. (fails-at _ _ _ rose same, all)))
-moved H old new Flush Done shape live alive (ok, steps) = let after = steps H live in inr (inr (after.0, ok.is, λ calls rest end run. (new.state, lives H old new ok after.0, after.1, run)))
+moved H old new Flush Done shape live alive (ok, stays, steps) = let after = steps H live in inr (inr (after.0, ok.is, λ calls rest end run. (new.state, lives H old new ok (stays-leaks old new stays) live after.0, after.1, run)))
 moved H old new Flush (Refused Failed) shape live alive (was, same) = absurd cc
 moved H old new Flush (Refused Memory) shape live alive why = inl (λ calls rest end long. long)
 moved H old new Flush (Refused Storage) shape live alive (was, stays, rose, marked) = inr (inl (marked, λ calls rest end all same. (fails-at _ _ _ rose same, all)))

@@ -29,7 +29,8 @@ use Rattle.qimg.specs.Requests.{Puts}
 use Rattle.qimg.specs.Clusters.{Takes, HasTable, Writes, IsFull, NoCluster}
 use Rattle.qimg.proofs.FirstLemmas.{size-512, words-64, no-external, value-slot, value-shown, loads-reading}
 use Rattle.qimg.proofs.ClusterLemmas.{holds-kept, holds-written, live-back, word-of, word-put}
-use Rattle.qcow2_types.specs.Steps.{DataWritten, ClusterMapped}
+use Rattle.qcow2_types.specs.Steps.{SurplusKept, DataWritten, ClusterMapped}
+use Rattle.qcow2_types.proofs.Surplus.{surplus-both, surplus-same, surplus-taken}
 use Rattle.qcow2_types.proofs.DataSteps.{data-written}
 use Rattle.qcow2_types.proofs.SlotSteps.{cluster-mapped-spliced}
 
@@ -169,6 +170,9 @@ module _ (s0 s1 s2 : StorageState) (H : Header) (places : Places) (guest table w
   pub before : (p : ℕ) → value_at (file s2) p ≡ value_at (file s0) p
   before p = ap (λ (e : Bytes). value_at e p) (sym same) ∙ has.shows p
 
+  pub surplus-before : SurplusKept (file s0) (file s2) H.fields
+  surplus-before = subst (λ f. SurplusKept (file s0) f H.fields) same has.surplus
+
 -- A data cluster is written in place.
 pub written-here : (s0 s1 s2 s3 : StorageState) (H : Header) (places : Places) (guest table w host within : ℕ) (bytes : List ℕ) → HasTable s0 s1 H places (guest / 64) table → Kept s1 s2 → guest / 64 < places.l1_entries
     → w ≡ be (file s1) (table + 8 * (guest % 64)) 8 → host ≡ table_offset w → host ≢ 0 → within + length bytes ≤ 512 → Puts s2 s3 (host + within) bytes → Writes s0 s3 H places (guest * 512 + within) bytes
@@ -202,6 +206,7 @@ written-here s0 s1 s2 s3 H places guest table w host within bytes has kept less 
           ∙ (ap byte (out (table_offset w / 512 * 512 + k) (beside k aside place))
           ∙ (sym (place-data (file s2) H guest k (table_offset w / 512) true holds.consistent holds.plain l.is_there entry lt) ∙ before s0 s1 s2 H places guest table w has kept less read (guest * 512 + k))))
           (λ p apart. other-guests (file s2) (file s3) H guest holds.consistent after.consistent holds.plain wrote.elsewhere p apart ∙ before s0 s1 s2 H places guest table w has kept less read p);
+      surplus = surplus-both (file s0) (file s2) (file s3) H.fields (surplus-before s0 s1 s2 H places guest table w has kept less read) (surplus-same (file s2) (file s3) H.fields wrote.counts wrote.references);
     }
   where
     beside : (k : ℕ) → (k < within) ⊎ (within + length bytes ≤ k) → host + within ≡ table_offset w / 512 * 512 + within → (table_offset w / 512 * 512 + k < host + within) ⊎ (host + within + length bytes ≤ table_offset w / 512 * 512 + k)
@@ -271,6 +276,8 @@ written-fresh s0 s1 s2 s3 s4 H places guest table w within c content bytes has k
           ∙ (ap byte (held k lt ∙ blank k aside)
           ∙ (sym (place-unmapped (file s2) H guest k holds.consistent holds.plain l.is_there old lt) ∙ before s0 s1 s2 H places guest table w has kept less read (guest * 512 + k))))
           (λ p apart. other-guests (file s3) (file s4) H guest holds3.consistent after.consistent holds3.plain names.slot.elsewhere p apart ∙ (took.shows p ∙ before s0 s1 s2 H places guest table w has kept less read p));
+      surplus = surplus-both (file s0) (file s2) (file s4) H.fields (surplus-before s0 s1 s2 H places guest table w has kept less read)
+          (surplus-taken (file s2) (file s3) (file s4) H.fields c took.was_free took.counted took.others took.references took.unnamed names.slot.counts names.named_once names.references);
     }
   where
     blank : (k : ℕ) → (k < within) ⊎ (within + length bytes ≤ k) → slice_index content k ≡ 0
@@ -291,6 +298,7 @@ no-cluster-after s0 s1 s2 s3 places i table (Limit n) has a kept b why = (
       record {
         holds = full.holds;
         shows = λ p. full.shows p ∙ (ap (λ (e : Bytes). value_at e p) (ap bytes_of kept.bytes) ∙ found.shows p);
+        surplus = surplus-both (file s0) (file s2) (file s3) H.fields (subst (λ f. SurplusKept (file s0) f H.fields) (ap bytes_of (sym kept.bytes)) found.surplus) full.surplus;
         full = full.full;
       },
 )

@@ -11,6 +11,7 @@ use Rattle.imago_storage.specs.declared.fault.Fault.TheVariants.{Failed, RangeOv
 use Rattle.qcow2_types.specs.Bytes.{Bytes}
 use Rattle.qcow2_types.specs.Header.{Header}
 use Rattle.qcow2_types.specs.Disk.{disk_of}
+use Rattle.qcow2_types.specs.Steps.{SurplusKept}
 use Rattle.qimg.specs.declared.first.clusters.Places.{Places}
 use Rattle.qimg.specs.declared.first.Disk.{Disk}
 use Rattle.qimg.specs.First.{file, chain_of, Holds, AllCounted}
@@ -40,6 +41,10 @@ pub record IsLive (disk : Opened) (H : Header) : Type 0 where
 abbrev pub Steps : Opened → Opened → Call → Answer → Type 0
 Steps old new call answer = (H : Header) → IsLive old H → IsLive new H × Step (λ _. byte 0) (shown (file old.state)) call answer (shown (file new.state))
 
+-- No cluster of a live disk is counted but to be named: what an image leaks, it leaks before and after.
+abbrev pub LeaksSame : Opened → Opened → Type 0
+LeaksSame old new = (H : Header) → IsLive old H → SurplusKept (file old.state) (file new.state) H.fields
+
 -- nothing changes but the storage's count of faults
 pub record Stays (old new : Opened) : Type 0 where
   pub state : Kept old.state new.state
@@ -62,6 +67,7 @@ WriteRefused old new offset bytes PastEnd = IsFalse old.failed × (0 < length by
 WriteRefused old new offset bytes (Limit n) =
     IsFalse old.failed × (n ≡ 256) × (new.state.faults ≡ old.state.faults) × (new.failed ≡ false)
     × ((H : Header) → IsLive old H → IsLive new H × PartlyDone (λ _. byte 0) (write offset bytes) (shown (file old.state)) (shown (file new.state)) × AllCounted (file new.state) H.fields)
+    × LeaksSame old new
 WriteRefused old new offset bytes Memory = IsFalse old.failed × (new.state.faults ≡ old.state.faults) × ((new.failed ≡ true) ⊎ (Stays old new × (new.failed ≡ false)))
 WriteRefused old new offset bytes Storage = IsFalse old.failed × Rose old.state.faults new.state.faults × (new.failed ≡ true)
 WriteRefused old new offset bytes fault = ⊥

@@ -7,6 +7,7 @@ use Rattle.imago_storage.specs.declared.fault.Fault.{Fault}
 use Rattle.imago_storage.specs.declared.fault.Fault.TheVariants.{Memory, Storage, Limit}
 use Rattle.qcow2_types.specs.Bytes.{Bytes}
 use Rattle.qcow2_types.specs.Header.{Header}
+use Rattle.qcow2_types.specs.Steps.{SurplusKept}
 use Rattle.qimg.specs.declared.first.clusters.Places.{Places}
 use Rattle.qimg.specs.First.{file, value_at, Holds, AllCounted}
 
@@ -19,6 +20,7 @@ pub record PartlyShows (f g : Bytes) (offset : ℕ) (bytes : List ℕ) : Type 0 
 pub record IsFullFor (old new : StorageState) (H : Header) (places : Places) (offset : ℕ) (bytes : List ℕ) : Type 0 where
   pub holds : Holds new H places
   pub shows : PartlyShows (file old) (file new) offset bytes
+  pub surplus : SurplusKept (file old) (file new) H.fields
   pub full : AllCounted (file new) H.fields
 
 -- Why a range could not be written.

@@ -9,12 +9,13 @@ use Rattle.imago_storage.specs.declared.fault.Fault.{Fault}
 use Rattle.imago_storage.specs.declared.fault.Fault.TheVariants.{Failed, RangeOverflow, PastEnd, Limit, Memory, Storage}
 use Rattle.qcow2_types.specs.Header.{Header, header_of}
 use Rattle.qcow2_types.specs.Consistency.{Consistent}
+use Rattle.qcow2_types.specs.Steps.{SurplusKept}
 use Rattle.qimg.specs.declared.first.calls.Call.{Call}
 use Rattle.qimg.specs.declared.first.calls.Call.TheVariants.{Read, Write, Flush}
 use Rattle.qimg.specs.declared.first.calls.Answer.{Answer}
 use Rattle.qimg.specs.declared.first.calls.Answer.TheVariants.{Done, Bytes, Refused}
 use Rattle.qimg.specs.First.{file, AllCounted}
-use Rattle.qimg.specs.Opened.{Opened, IsLive, Steps, Succeeds, ReadRefused, WriteRefused, FlushRefused, shown}
+use Rattle.qimg.specs.Opened.{Opened, IsLive, Steps, LeaksSame, Stays, Succeeds, ReadRefused, WriteRefused, FlushRefused, shown}
 
 -- a call as a call of the disk that it is made of
 abbrev pub seen : Call → DiskCall
@@ -24,11 +25,11 @@ seen Flush = flush
 
 -- What one call of a disk answers, by its own contract.
 abbrev pub Answered : Opened → Opened → Call → Answer → Type 0
-Answered old new (Read offset n) (Bytes buffer) = Succeeds old new × Steps old new (read offset n) (bytes_read buffer.items)
+Answered old new (Read offset n) (Bytes buffer) = Succeeds old new × Stays old new × Steps old new (read offset n) (bytes_read buffer.items)
 Answered old new (Read offset n) (Refused fault) = ReadRefused old new offset n fault
-Answered old new (Write offset bytes) Done = Succeeds old new × Steps old new (write offset bytes.items) done
+Answered old new (Write offset bytes) Done = Succeeds old new × LeaksSame old new × Steps old new (write offset bytes.items) done
 Answered old new (Write offset bytes) (Refused fault) = WriteRefused old new offset bytes.items fault
-Answered old new Flush Done = Succeeds old new × Steps old new flush done
+Answered old new Flush Done = Succeeds old new × Stays old new × Steps old new flush done
 Answered old new Flush (Refused fault) = FlushRefused old new fault
 Answered old new call answer = ⊥
 
@@ -46,9 +47,12 @@ Moves old call Done new = Step (λ _. byte 0) (shown (file old)) (seen call) don
 Moves old call (Bytes buffer) new = Step (λ _. byte 0) (shown (file old)) (seen call) (bytes_read buffer.items) (shown (file new))
 Moves old call (Refused fault) new = Refuses old call fault new
 
--- what stands between two calls: a consistent file, in a storage that has counted no fault since
+-- what stands between two calls: a consistent file with the same header, in which each cluster is counted as often beyond what names
+-- it as before, in a storage that has counted no fault since
 pub record Lives (old mid : StorageState) : Type 0 where
   pub consistent : Consistent (file mid)
+  pub header : header_of true (file mid) ≡ header_of true (file old)
+  pub leaks : (H : Header) → header_of true (file old) ≡ Ok H → SurplusKept (file old) (file mid) H.fields
   pub shape : mid.shape ≡ old.shape
   pub faults : mid.faults ≡ old.faults
 

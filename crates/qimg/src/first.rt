@@ -4,7 +4,7 @@ ghost use Rattle.imago_storage.specs.State.{unit_of};
 ghost use Rattle.imago_storage.specs.Through.{Overflows};
 ghost use Rattle.qimg.specs.Marks.{marks};
 
-use imago_storage::{Fault, Storage, padded_end};
+use imago_storage::{Fault, Storage, larger_alignment, padded_end};
 use std::alloc::Global;
 
 mod calls;
@@ -48,7 +48,7 @@ fn alignment<S: Storage>(image: &S) -> usize
     ensures small { result ≤ 2 ^ 20 }
     ensures some { 0 < result }
 {
-    image.req_align().max(image.mem_align())
+    larger_alignment(image.req_align(), image.mem_align())
 }
 
 /// Whether a disk has failed after a refusal in mid-call.
@@ -65,7 +65,7 @@ fn marks_failed(fault: Fault, changed: bool) -> bool
 #[tactic(auto, unfolding(crate::specs::Opened::opened))]
 impl<S: Storage> Disk<S> {
     ghost use Rattle.imago_storage.specs.Steps.{read as to_read, write as to_write, flush as to_flush, bytes_read, done};
-    ghost use Rattle.qimg.specs.Opened.{opened, Steps, Stays, Succeeds, ReadRefused, WriteRefused, FlushRefused};
+    ghost use Rattle.qimg.specs.Opened.{opened, Steps, LeaksSame, Stays, Succeeds, ReadRefused, WriteRefused, FlushRefused};
     ghost use Rattle.qimg.specs.Opens.{Opens, NotOpened};
 
     /// Opens the image in a storage, for reading and writing.
@@ -161,6 +161,7 @@ impl<S: Storage> Disk<S> {
     pub fn write(&mut self, alloc: Global, data: &[u8], offset: u64) -> Result<(), Fault>
         ensures step { OnOk result (Steps (opened S.state self.old) (opened S.state self.new) (to_write offset «data».now) done) }
         ensures ok { OnOk result (Succeeds (opened S.state self.old) (opened S.state self.new)) }
+        ensures leaks { OnOk result (LeaksSame (opened S.state self.old) (opened S.state self.new)) }
         ensures err { IfErr result (WriteRefused (opened S.state self.old) (opened S.state self.new) offset «data».now) }
         ensures shape { (opened S.state self.new).state.shape ≡ (opened S.state self.old).state.shape }
         ensures nothing { IsFalse (opened S.state self.old).failed → length «data».now ≡ 0 → IsOk result × (opened S.state self.new ≡ opened S.state self.old) }

@@ -10,7 +10,7 @@ ghost use Rattle.imago_storage.specs.Disk.{byte};
 
 use super::calls::{Answer, Call, serve};
 use super::create::create;
-use imago_storage::{Fault, MemStorage, Storage};
+use imago_storage::{MemStorage, Storage};
 use std::alloc::{AllocError, AllocFailed, Global};
 use std::io;
 use thiserror::Error;
@@ -48,15 +48,6 @@ impl<T: Drop> From<AllocFailed<T>> for RunFault {
     }
 }
 
-// Storages in memory are refused nothing but memory.
-impl From<Fault> for RunFault {
-    ghost from_gives = { λ _ e. e ≡ Memory };
-
-    fn from(_: Fault) -> Self {
-        RunFault::Memory
-    }
-}
-
 /// The answer, if there is just one.
 fn only_answer(mut answers: Vec<Answer>) -> Option<Answer>
     ensures { MatchOption result ⊤ (λ answer. answers.items ≡ answer ∷ []) }
@@ -89,7 +80,10 @@ fn serve_two<S: Storage>(
     ensures shape { IfOk result (λ served. (S.state served.0).shape ≡ (S.state image).shape) }
     ensures err { IsOkUnless result RunFault.Memory }
 {
-    let (image, answers) = serve(image, alloc, &[first, second])?;
+    // The image lies in memory: nothing but memory can be wanting.
+    let Ok((image, answers)) = serve(image, alloc, &[first, second]) else {
+        return Err(RunFault::Memory);
+    };
     match two_answers(answers) {
         Some((first, second)) => Ok((image, first, second)),
         None => Err(RunFault::Memory),
@@ -102,7 +96,9 @@ fn serve_one<S: Storage>(image: S, alloc: Global, call: Call) -> Result<(S, Answ
     ensures shape { IfOk result (λ served. (S.state served.0).shape ≡ (S.state image).shape) }
     ensures err { IsOkUnless result RunFault.Memory }
 {
-    let (image, answers) = serve(image, alloc, &[call])?;
+    let Ok((image, answers)) = serve(image, alloc, &[call]) else {
+        return Err(RunFault::Memory);
+    };
     match only_answer(answers) {
         Some(answer) => Ok((image, answer)),
         None => Err(RunFault::Memory),
@@ -114,7 +110,9 @@ fn worked_bytes<S: Storage>(image: S, alloc: Global) -> Result<Vec<u8>, RunFault
     ensures ok { IfOk result (λ bytes. IsTrue (S.state image).shape.keeps → bytes.items ≡ 0 ∷ 0 ∷ 1 ∷ 2 ∷ 3 ∷ 0 ∷ 0 ∷ 0 ∷ []) }
     ensures err { IsOkUnless result RunFault.Memory }
 {
-    let image = create(image, alloc, 65536)?;
+    let Ok(image) = create(image, alloc, 65536) else {
+        return Err(RunFault::Memory);
+    };
     let data = Vec::from_slice(alloc, &[1, 2, 3])?;
     let write = Call::Write { offset: 510, data };
     let (image, written, flushed) = serve_two(image, alloc, write, Call::Flush)?;

@@ -1,7 +1,7 @@
 use Rattle.std.proofs.Common.{◌+◌, ◌<◌, ◌≤◌, refl, length, arith}
 use Rattle.std.proofs.lemmas.Bool.Decides.{nat_tests}
 use Rattle.qimg.specs.Opened.{Opened, opened}
-use Rattle.qimg.proofs.OpenedLemmas.{write-step, write-refused}
+use Rattle.qimg.proofs.OpenedLemmas.{write-step, write-leaks, write-refused}
 use Rattle.qimg.proofs.first.Disk.write.Goals as goal
 
 pub returns-in-Ok-clause-step : goal.returns-in-Ok-clause-step
@@ -17,3 +17,9 @@ unfolding opened
 returns-in-Err-clause-err g c =
     let now : Opened = record { state = g.S.Storage.state c.write_all.new.image; size = c.args.self.now.size; places = c.args.self.now.places; failed = c.marks_failed-self.result } in
     write-refused (opened g.S.Storage.state c.args.self.now) now c.args.offset c.args.«data».now c.write_all.new.changed c.in-Err.fault c.if-self.false refl refl c.marks_failed-self.ensures c.write_all.ensures.untouched c.in-Err.ensures.err
+
+pub returns-in-Ok-clause-leaks : goal.returns-in-Ok-clause-leaks
+unfolding opened
+returns-in-Ok-clause-leaks g c =
+    let now : Opened = record { state = g.S.Storage.state c.write_all.new.image; size = c.args.self.now.size; places = c.args.self.now.places; failed = c.args.self.now.failed } in
+    write-leaks (opened g.S.Storage.state c.args.self.now) now c.args.offset c.args.«data».now c.in-Ok.ensures.ok
