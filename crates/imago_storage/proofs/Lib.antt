@@ -7,3 +7,4 @@ pub mod Zeroes
 pub mod Replay
 pub mod Marks
 pub mod Powers
+pub mod Once

@@ -1,7 +1,7 @@
 -- What a padded call does, by any number of requests.
 use Rattle.std.specs.Prelude.{◌≡◌, ◌⊎◌, ℕ, ◌+◌, ◌-◌, ◌*◌, ◌/◌, ◌%◌, ◌<◌, ◌≤◌, ◌^◌, max, List, ◌∷◌, ◌++◌, length, All, IsTrue, Result, MatchResult}
 use Rattle.imago_storage.specs.State.{StorageState, Rose, InStep, unit_of}
-use Rattle.imago_storage.specs.Calls.{Spliced, Mixed, Cause}
+use Rattle.imago_storage.specs.Calls.{Spliced, Mixed, Cause, Later}
 use Rattle.imago_storage.specs.declared.fault.Fault.{Fault}
 use Rattle.imago_storage.specs.declared.fault.Fault.TheVariants.{RangeOverflow}
 
@@ -94,3 +94,16 @@ NotWrittenThrough old new at bytes = UnlessOverflow (Overflows (unit_of old.shap
 -- the clause of a refused `read`
 abbrev pub NotRead : StorageState → StorageState → ℕ → ℕ → Fault → Type 0
 NotRead old new at n = UnlessOverflow (Overflows (unit_of old.shape) at n) old new (Cause old.faults new.faults)
+
+-- A write of a range that can't overflow, whatever it answered: the bytes are there, or the call was refused; and each file that a
+-- stop inside it leaves has old or new bytes in the range, and outside what was there.
+pub record Put {T : Type 0} (old new : StorageState) (at : ℕ) (bytes : List ℕ) (result : Result T Fault) : Type 0 where
+  pub answer : MatchResult result (λ _. WrittenThrough old new at bytes) (NotThrough (unit_of old.shape) old new at bytes)
+  pub stops : Stops (Mixed old.bytes at bytes) old new
+  pub shape : new.shape ≡ old.shape
+  pub later : Later old new
+
+-- The same, by one request: between two requests the file has all the old bytes, or all the new.
+pub record PutAtOnce {T : Type 0} (old new : StorageState) (at : ℕ) (bytes : List ℕ) (result : Result T Fault) : Type 0 where
+  pub put : Put old new at bytes result
+  pub once : RequestsOnce old new (length bytes) result

@@ -127,6 +127,7 @@ fn write_padded<S: Storage>(
     ensures overflow { Overflows (unit_of (S.state storage.old).shape) offset (length «data».now) → IsErrOf result Fault.RangeOverflow }
     ensures once { IsAtOnce (unit_of (S.state storage.old).shape) offset (length «data».now) → RequestsOnce (S.state storage.old) (S.state storage.new) (length «data».now) result }
     ensures empty { length «data».now ≡ 0 → IsOk result × (S.state storage.new ≡ S.state storage.old) }
+    ensures unit { IsAlignment (unit_of (S.state storage.old).shape) }
 {
     let unit = unit_size(storage);
     if data.is_empty() {
@@ -178,6 +179,7 @@ fn read_padded<S: Storage>(
     ensures err { IfErr result (UnlessOverflow (Overflows (unit_of (S.state storage.old).shape) offset (length buf.old)) (S.state storage.old) (S.state storage.new) (Cause (S.state storage.old).faults (S.state storage.new).faults)) }
     ensures overflow { Overflows (unit_of (S.state storage.old).shape) offset (length buf.old) → IsErrOf result Fault.RangeOverflow }
     ensures empty { length buf.old ≡ 0 → IsOk result × (S.state storage.new ≡ S.state storage.old) }
+    ensures unit { IsAlignment (unit_of (S.state storage.old).shape) }
 {
     let unit = unit_size(storage);
     if buf.is_empty() {
@@ -227,7 +229,9 @@ pub trait StorageExt: Storage {
         ensures overflow { Overflows (unit_of (Self.state self.old).shape) offset (length buf.old) → IsErrOf result Fault.RangeOverflow }
         ensures later { Later (Self.state self.old) (Self.state self.new) }
         // An empty range is never refused, and nothing is asked of the storage.
-        ensures empty { length buf.old ≡ 0 → IsOk result × (Self.state self.new ≡ Self.state self.old) };
+        ensures empty { length buf.old ≡ 0 → IsOk result × (Self.state self.new ≡ Self.state self.old) }
+        // What is known of each storage: so a range below 2^63, say, never overflows.
+        ensures unit { IsAlignment (unit_of (Self.state self.old).shape) };
 
     /// Writes the bytes at the offset, padded to whole units by what is there, and by zeroes past the old end. So the
     /// length reaches the range's end, rounded up to the unit; an empty range changes nothing.
@@ -250,7 +254,9 @@ pub trait StorageExt: Storage {
         // A range of whole units, or one in a single unit, is one request.
         ensures once { IsAtOnce (unit_of (Self.state self.old).shape) offset (length «data».now) → RequestsOnce (Self.state self.old) (Self.state self.new) (length «data».now) result }
         // An empty range is never refused, and nothing is asked of the storage.
-        ensures empty { length «data».now ≡ 0 → IsOk result × (Self.state self.new ≡ Self.state self.old) };
+        ensures empty { length «data».now ≡ 0 → IsOk result × (Self.state self.new ≡ Self.state self.old) }
+        // What is known of each storage: so the range of a power of two bytes at a multiple of it is one request.
+        ensures unit { IsAlignment (unit_of (Self.state self.old).shape) };
 }
 
 impl<S: Storage> StorageExt for S {

@@ -28,9 +28,13 @@ wide_counter f width block i = be f (block + i * (width / 8)) (width / 8)
 abbrev pub narrow_counter : Bytes → ℕ → ℕ → ℕ → ℕ
 narrow_counter f width block i = f (block + i * width / 8) / 2 ^ (i * width % 8) % 2 ^ width
 
--- counter i of the block at this place
+-- counter i, of this many bits, of the block at this place
+abbrev pub counter_of : Bytes → ℕ → ℕ → ℕ → ℕ
+counter_of f width block i = if nat_le 8 width then wide_counter f width block i else narrow_counter f width block i
+
+-- the same, by the header's width
 unfoldable pub counter : Bytes → Fields → ℕ → ℕ → ℕ
-counter f h block i = let width = counter_bits h in if nat_le 8 width then wide_counter f width block i else narrow_counter f width block i
+counter f h block i = counter_of f (counter_bits h) block i
 
 -- how often cluster c is counted: counter c mod k of block c / k, with k counters to a block; 0 where there is no block
 unfoldable pub count : Bytes → Fields → ℕ → ℕ
