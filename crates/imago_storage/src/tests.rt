@@ -525,3 +525,20 @@ fn a_refused_write_leaves_the_log_in_step(rt: HostRuntime) -> Result<(), Fail> {
     }
     Ok(())
 }
+
+// Buffers are taken before the first request: where one is refused, nothing was asked of the storage.
+#[test]
+fn a_write_without_room_asks_nothing(rt: HostRuntime) -> Result<(), Fail> {
+    let alloc = rt.alloc();
+    let memory = match [9u8; 16].to_vec(alloc) {
+        Ok(bytes) => MemStorage::from_bytes(bytes),
+        Err(_) => return Ok(()),
+    };
+    let Ok(memory) = memory else { return Ok(()) };
+    let mut storage = FuseStorage::new(memory.with_align(4), 0);
+    match storage.write(alloc, &[2; 6], 3) {
+        Err(Fault::Memory) => assert_eq!(rt; storage.count(), 0),
+        answer => answer?,
+    }
+    Ok(())
+}

@@ -1,6 +1,6 @@
 -- Lists of calls, call by call.
 use Rattle.std.proofs.Common.{◌≡◌, ℕ, suc, ◌+◌, ◌<◌, refl, arith, ap, sym, ◌∙◌, List, [], ◌∷◌, ◌++◌, length, drop, inl, inr, subst, append_assoc, append-nil, drop-cons, get_or, replicate}
-use Rattle.std.specs.Prelude.{true, ◌⊎◌, IsTrue, IsFalse, Ok}
+use Rattle.std.specs.Prelude.{true, false, ◌⊎◌, IsTrue, IsFalse, Ok}
 use Rattle.imago_storage.specs.State.{StorageState, Rose}
 use Rattle.imago_storage.specs.Steps.{Stays as SameDisk}
 use Rattle.imago_storage.specs.declared.fault.Fault.TheVariants.{Failed, RangeOverflow, PastEnd, Limit, Memory, Storage}
@@ -14,26 +14,25 @@ use Rattle.qcow2_types.specs.Bytes.{bytes_of}
 use Rattle.qcow2_types.specs.Steps.{SurplusKept}
 use Rattle.qimg.specs.Opened.{Opened, IsLive, LeaksSame, Stays, Succeeds, shown}
 use Rattle.qimg.specs.Runs.{Lives, Answered, Run}
-use Rattle.qimg.proofs.OpenedLemmas.{shown-size}
+use Rattle.qimg.proofs.OpenedLemmas.{shown-size, live-kept, kept-disk}
 
 -- that each call is refused by a failed disk
 AllFail : List Call → List Answer → Type 0
 AllFail calls answers = answers ≡ replicate (length calls) (Refused Failed)
 
--- After this answer the run is cut off for want of memory; or the disk has failed; or it lives on, and the run goes on from it.
+-- After this answer the disk has failed; or it lives on, and the run goes on from it.
 pub Outcome : Header → Opened → Opened → Call → Answer → Type 0
 Outcome H old new call answer =
-    ((calls : List Call) (rest : List Answer) (end : StorageState) → length rest ≡ length calls → Run old.state (call ∷ calls) (answer ∷ rest) end)
-    ⊎ ((IsTrue new.failed × ((calls : List Call) (rest : List Answer) (end : StorageState) → AllFail calls rest → end.faults ≡ new.state.faults → Run old.state (call ∷ calls) (answer ∷ rest) end))
-    ⊎ (IsLive new H × IsFalse new.failed × ((calls : List Call) (rest : List Answer) (end : StorageState) → Run new.state calls rest end → Run old.state (call ∷ calls) (answer ∷ rest) end)))
+    (IsTrue new.failed × ((calls : List Call) (rest : List Answer) (end : StorageState) → AllFail calls rest → end.faults ≡ new.state.faults → Run old.state (call ∷ calls) (answer ∷ rest) end))
+    ⊎ (IsLive new H × IsFalse new.failed × ((calls : List Call) (rest : List Answer) (end : StorageState) → Run new.state calls rest end → Run old.state (call ∷ calls) (answer ∷ rest) end))
 
 -- a failed disk answers that, and stays
 stuck : (old new : Opened) (call : Call) (answer : Answer) → IsTrue old.failed → Answered old new call answer → (answer ≡ Refused Failed) × (new ≡ old)
 stuck old new (Read offset n) (Refused Failed) fails (was, same) = (refl, same)
 stuck old new (Write offset bytes) (Refused Failed) fails (was, same) = (refl, same)
 stuck old new Flush (Refused Failed) fails (was, same) = (refl, same)
-stuck old new (Read offset n) (Bytes buffer) fails (ok, stays, steps) = let was = ok.was in absurd cc
-stuck old new (Write offset bytes) Done fails (ok, leaks, steps) = let was = ok.was in absurd cc
+stuck old new (Read offset n) (Bytes buffer) fails (ok, stays, steps, fits) = let was = ok.was in absurd cc
+stuck old new (Write offset bytes) Done fails (ok, leaks, steps, fits) = let was = ok.was in absurd cc
 stuck old new Flush Done fails (ok, stays, steps) = let was = ok.was in absurd cc
 stuck old new (Read offset n) (Refused RangeOverflow) fails why = let was = why.0 in absurd cc
 stuck old new (Read offset n) (Refused Memory) fails why = let was = why.0 in absurd cc
@@ -89,25 +88,47 @@ stayed H old new same live alive = (
   },
 )
 
+-- want of memory that left the disk as it was
+wanting : (H : Header) (old new : Opened) (call : Call) → IsLive old H → Stays old new → new.state.faults ≡ old.state.faults → new.failed ≡ false → Outcome H old new call (Refused Memory)
+unfolding Outcome
+wanting H old new call live stays faults marked =
+    let on : IsLive new H = live-kept old new H stays.state stays.size stays.places live in
+    inr (
+      on,
+      marked,
+      λ calls rest end run. inr (
+        new.state,
+        record {
+          consistent = (H, on.holds.consistent);
+          header = same-header H old new live on;
+          leaks = leaks-of H old new live (stays-leaks old new stays);
+          shape = stays.state.shape;
+          faults = faults;
+        },
+        kept-disk old.state new.state stays.state,
+        run,
+      ),
+    )
+
 pub moved : (H : Header) (old new : Opened) (call : Call) (answer : Answer) → new.state.shape ≡ old.state.shape → IsLive old H → IsFalse old.failed → Answered old new call answer → Outcome H old new call answer
 unfolding Outcome AllFail
-moved H old new (Read offset n) (Bytes buffer) shape live alive (ok, stays, steps) = let after = steps H live in inr (inr (after.0, ok.is, λ calls rest end run. (new.state, lives H old new ok (stays-leaks old new stays) live after.0, after.1, run)))
+moved H old new (Read offset n) (Bytes buffer) shape live alive (ok, stays, steps, fits) = let after = steps H live in inr (after.0, ok.is, λ calls rest end run. (new.state, lives H old new ok (stays-leaks old new stays) live after.0, (fits, after.1), run))
 moved H old new (Read offset n) (Refused Failed) shape live alive (was, same) = absurd cc
 moved H old new (Read offset n) (Refused RangeOverflow) shape live alive (was, passes, same) =
-    let kept = stayed H old new same live alive in inr (inr (kept.0, kept.1, λ calls rest end run. (new.state, lives-on H old new same live kept.0, (passes, kept.2), run)))
-moved H old new (Read offset n) (Refused Memory) shape live alive why = inl (λ calls rest end long. long)
-moved H old new (Read offset n) (Refused Storage) shape live alive (was, stays, rose, marked) = inr (inl (marked, λ calls rest end all same. (fails-at _ _ _ rose same, all)))
-moved H old new (Write offset bytes) Done shape live alive (ok, leaks, steps) = let after = steps H live in inr (inr (after.0, ok.is, λ calls rest end run. (new.state, lives H old new ok leaks live after.0, after.1, run)))
+    let kept = stayed H old new same live alive in inr (kept.0, kept.1, λ calls rest end run. (new.state, lives-on H old new same live kept.0, (passes, kept.2), run))
+moved H old new (Read offset n) (Refused Memory) shape live alive (was, stays, faults, marked) = wanting H old new (Read offset n) live stays faults marked
+moved H old new (Read offset n) (Refused Storage) shape live alive (was, stays, rose, marked) = inl (marked, λ calls rest end all same. (fails-at _ _ _ rose same, all))
+moved H old new (Write offset bytes) Done shape live alive (ok, leaks, steps, fits) = let after = steps H live in inr (after.0, ok.is, λ calls rest end run. (new.state, lives H old new ok leaks live after.0, (fits, after.1), run))
 moved H old new (Write offset bytes) (Refused Failed) shape live alive (was, same) = absurd cc
 moved H old new (Write offset bytes) (Refused RangeOverflow) shape live alive (was, passes, same) =
-    let kept = stayed H old new same live alive in inr (inr (kept.0, kept.1, λ calls rest end run. (new.state, lives-on H old new same live kept.0, (passes, kept.2), run)))
-moved H old new (Write offset bytes) (Refused PastEnd) shape live alive (was, some, past, same) =
+    let kept = stayed H old new same live alive in inr (kept.0, kept.1, λ calls rest end run. (new.state, lives-on H old new same live kept.0, (passes, kept.2), run))
+moved H old new (Write offset bytes) (Refused PastEnd) shape live alive (was, some, fits, past, same) =
     let kept = stayed H old new same live alive in
     let size : (shown (file old.state)).size ≡ old.size = shown-size (file old.state) H live.holds.consistent ∙ sym live.size in
-    inr (inr (kept.0, kept.1, λ calls rest end run. (new.state, lives-on H old new same live kept.0, (some, subst (λ s. s < offset + length bytes.items) (sym size) past, kept.2), run)))
+    inr (kept.0, kept.1, λ calls rest end run. (new.state, lives-on H old new same live kept.0, (some, fits, subst (λ s. s < offset + length bytes.items) (sym size) past, kept.2), run))
 moved H old new (Write offset bytes) (Refused (Limit n)) shape live alive (was, is, faults, marked, partly, leaks) =
     let after = partly H live in
-    inr (inr (
+    inr (
       after.0,
       marked,
       λ calls rest end run. (
@@ -116,25 +137,25 @@ moved H old new (Write offset bytes) (Refused (Limit n)) shape live alive (was, 
         (is, after.1, λ K loads. subst (λ (h : Header). AllCounted (file new.state) h.fields) (one-header (file new.state) H K after.0.holds.consistent.readable.loads loads) after.2),
         run,
       ),
-    ))
-moved H old new (Write offset bytes) (Refused Memory) shape live alive why = inl (λ calls rest end long. long)
-moved H old new (Write offset bytes) (Refused Storage) shape live alive (was, rose, marked) = inr (inl (marked, λ calls rest end all same. (fails-at _ _ _ rose same, all)))
-moved H old new Flush Done shape live alive (ok, stays, steps) = let after = steps H live in inr (inr (after.0, ok.is, λ calls rest end run. (new.state, lives H old new ok (stays-leaks old new stays) live after.0, after.1, run)))
+    )
+moved H old new (Write offset bytes) (Refused Memory) shape live alive (was, faults, inl marked) = inl (marked, λ calls rest end all same. inl (same ∙ faults, all))
+moved H old new (Write offset bytes) (Refused Memory) shape live alive (was, faults, inr kept) = wanting H old new (Write offset bytes) live kept.0 faults kept.1
+moved H old new (Write offset bytes) (Refused Storage) shape live alive (was, rose, marked) = inl (marked, λ calls rest end all same. (fails-at _ _ _ rose same, all))
+moved H old new Flush Done shape live alive (ok, stays, steps) = let after = steps H live in inr (after.0, ok.is, λ calls rest end run. (new.state, lives H old new ok (stays-leaks old new stays) live after.0, (λ over. let some = over.0 in absurd (omega arith), after.1), run))
 moved H old new Flush (Refused Failed) shape live alive (was, same) = absurd cc
-moved H old new Flush (Refused Memory) shape live alive why = inl (λ calls rest end long. long)
-moved H old new Flush (Refused Storage) shape live alive (was, stays, rose, marked) = inr (inl (marked, λ calls rest end all same. (fails-at _ _ _ rose same, all)))
+moved H old new Flush (Refused Memory) shape live alive (was, stays, faults, marked) = wanting H old new Flush live stays faults marked
+moved H old new Flush (Refused Storage) shape live alive (was, stays, rose, marked) = inl (marked, λ calls rest end all same. (fails-at _ _ _ rose same, all))
 moved H old new call answer shape live alive why = absurd why
 
--- After some of the calls: the run was cut off, or the disk has failed, or the run goes on from a live disk.
+-- After some of the calls: the disk has failed, or the run goes on from a live disk.
 pub Going : Header → Opened → List Call → List Call → List Answer → Opened → Type 0
 Going H old calls left answers now =
-    ((rest : List Answer) (end : StorageState) → length rest ≡ length left → Run old.state calls (answers ++ rest) end)
-    ⊎ ((IsTrue now.failed × ((rest : List Answer) (end : StorageState) → AllFail left rest → end.faults ≡ now.state.faults → Run old.state calls (answers ++ rest) end))
-    ⊎ (IsLive now H × IsFalse now.failed × ((rest : List Answer) (end : StorageState) → Run now.state left rest end → Run old.state calls (answers ++ rest) end)))
+    (IsTrue now.failed × ((rest : List Answer) (end : StorageState) → AllFail left rest → end.faults ≡ now.state.faults → Run old.state calls (answers ++ rest) end))
+    ⊎ (IsLive now H × IsFalse now.failed × ((rest : List Answer) (end : StorageState) → Run now.state left rest end → Run old.state calls (answers ++ rest) end))
 
 pub begins : (H : Header) (old : Opened) (calls : List Call) → IsLive old H → IsFalse old.failed → Going H old calls calls [] old
 unfolding Going
-begins H old calls live alive = inr (inr (live, alive, λ rest end run. run))
+begins H old calls live alive = inr (live, alive, λ rest end run. run)
 
 all-fail : (calls : List Call) (call : Call) (answer : Answer) (rest : List Answer) → answer ≡ Refused Failed → AllFail calls rest → AllFail (call ∷ calls) (answer ∷ rest)
 unfolding AllFail
@@ -142,23 +163,18 @@ all-fail calls call answer rest is all = ap (λ a. a ∷ rest) is ∙ ap (λ r. 
 
 pub goes-on : (H : Header) (old now new : Opened) (calls left : List Call) (answers : List Answer) (call : Call) (answer : Answer) → new.state.shape ≡ now.state.shape → Going H old calls (call ∷ left) answers now → Answered now new call answer → Going H old calls left (answers ++ answer ∷ []) new
 unfolding Going Outcome
-goes-on H old now new calls left answers call answer shape (inl cut) answered = inl (λ rest end long.
-    let more : length (answer ∷ rest) ≡ length (call ∷ left) = ap suc long in
-    rw append_assoc (cut (answer ∷ rest) end more))
-goes-on H old now new calls left answers call answer shape (inr (inl (fails, on))) answered =
+goes-on H old now new calls left answers call answer shape (inl (fails, on)) answered =
     let stays = stuck now new call answer fails answered in
-    inr (inl (subst (λ (o : Opened). IsTrue o.failed) (sym stays.1) fails, λ rest end all same. rw append_assoc (on (answer ∷ rest) end (all-fail left call answer rest stays.0 all) (same ∙ ap (λ (o : Opened). o.state.faults) stays.1))))
-goes-on H old now new calls left answers call answer shape (inr (inr (live, alive, on))) answered = elim (moved H now new call answer shape live alive answered) [
-  | inl stops ↦ inl (λ rest end long. rw append_assoc (on (answer ∷ rest) end (stops left rest end long)))
-  | inr (inl (fails, ends)) ↦ inr (inl (fails, λ rest end all same. rw append_assoc (on (answer ∷ rest) end (ends left rest end all same))))
-  | inr (inr goes) ↦ inr (inr (goes.0, goes.1, λ rest end run. rw append_assoc (on (answer ∷ rest) end (goes.2 left rest end run))))
+    inl (subst (λ (o : Opened). IsTrue o.failed) (sym stays.1) fails, λ rest end all same. rw append_assoc (on (answer ∷ rest) end (all-fail left call answer rest stays.0 all) (same ∙ ap (λ (o : Opened). o.state.faults) stays.1)))
+goes-on H old now new calls left answers call answer shape (inr (live, alive, on)) answered = elim (moved H now new call answer shape live alive answered) [
+  | inl (fails, ends) ↦ inl (fails, λ rest end all same. rw append_assoc (on (answer ∷ rest) end (ends left rest end all same)))
+  | inr goes ↦ inr (goes.0, goes.1, λ rest end run. rw append_assoc (on (answer ∷ rest) end (goes.2 left rest end run)))
 ]
 
 pub ends : (H : Header) (old now : Opened) (calls : List Call) (answers : List Answer) → Going H old calls [] answers now → Run old.state calls answers now.state
 unfolding Going AllFail
-ends H old now calls answers (inl cut) = rw append-nil at (cut [] now.state refl)
-ends H old now calls answers (inr (inl (fails, on))) = rw append-nil at (on [] now.state refl refl)
-ends H old now calls answers (inr (inr (live, alive, on))) = rw append-nil at (on [] now.state refl)
+ends H old now calls answers (inl (fails, on)) = rw append-nil at (on [] now.state refl refl)
+ends H old now calls answers (inr (live, alive, on)) = rw append-nil at (on [] now.state (refl, refl))
 
 suc-is : (i : ℕ) → i + 1 ≡ suc i
 suc-is i = omega arith

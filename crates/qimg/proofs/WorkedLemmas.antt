@@ -55,7 +55,7 @@ worked-run s0 s1 s2 written bytes keeps consistent size blank shape is first sec
     let keeps1 : IsTrue s1.shape.keeps = subst (λ s. IsTrue s.keeps) (sym shape) keeps in
     let one = first keeps consistent in
     let two = one.3 in
-    let same : file two.0 ≡ file s1 = sym two.3 in
+    let same : file two.0 ≡ file s1 = sym two.3.0 in
     let three = second keeps1 (subst Consistent same two.1.consistent) in
-    let stays : Stays (shown (file one.0)) (shown (file s1)) = subst (λ (f : ℕ → ℕ). Stays (shown (file one.0)) (shown f)) same two.2 in
-    read-again (shown (file s0)) (shown (file one.0)) (shown (file s1)) written.items bytes.items is blank size one.2 stays three.2.0 three.2.1
+    let stays : Stays (shown (file one.0)) (shown (file s1)) = subst (λ (f : ℕ → ℕ). Stays (shown (file one.0)) (shown f)) same two.2.1 in
+    read-again (shown (file s0)) (shown (file one.0)) (shown (file s1)) written.items bytes.items is blank size one.2.1 stays three.2.1.0 three.2.1.1

@@ -63,7 +63,7 @@ ReadRefused old new offset n fault = ⊥
 abbrev pub WriteRefused : Opened → Opened → ℕ → List ℕ → Fault → Type 0
 WriteRefused old new offset bytes Failed = IsTrue old.failed × (new ≡ old)
 WriteRefused old new offset bytes RangeOverflow = IsFalse old.failed × Overflows (unit_of old.state.shape) offset (length bytes) × (new ≡ old)
-WriteRefused old new offset bytes PastEnd = IsFalse old.failed × (0 < length bytes) × (old.size < offset + length bytes) × (new ≡ old)
+WriteRefused old new offset bytes PastEnd = IsFalse old.failed × (0 < length bytes) × (Overflows (unit_of old.state.shape) offset (length bytes) → ⊥) × (old.size < offset + length bytes) × (new ≡ old)
 WriteRefused old new offset bytes (Limit n) =
     IsFalse old.failed × (n ≡ 256) × (new.state.faults ≡ old.state.faults) × (new.failed ≡ false)
     × ((H : Header) → IsLive old H → IsLive new H × PartlyDone (λ _. byte 0) (write offset bytes) (shown (file old.state)) (shown (file new.state)) × AllCounted (file new.state) H.fields)

@@ -1,5 +1,5 @@
 -- What a list of calls answers: one flat disk, which begins as what the bytes of a file mean.
-use Rattle.std.specs.Prelude.{◌≡◌, ◌+◌, ◌<◌, true, List, [], ◌∷◌, length, replicate, IsFalse, Ok}
+use Rattle.std.specs.Prelude.{◌≡◌, ◌⊎◌, ◌+◌, ◌<◌, true, List, [], ◌∷◌, length, replicate, IsFalse, Ok}
 use Rattle.imago_storage.specs.State.{StorageState, Rose, unit_of}
 use Rattle.imago_storage.specs.Through.{Overflows}
 use Rattle.imago_storage.specs.Disk.{byte}
@@ -25,9 +25,9 @@ seen Flush = flush
 
 -- What one call of a disk answers, by its own contract.
 abbrev pub Answered : Opened → Opened → Call → Answer → Type 0
-Answered old new (Read offset n) (Bytes buffer) = Succeeds old new × Stays old new × Steps old new (read offset n) (bytes_read buffer.items)
+Answered old new (Read offset n) (Bytes buffer) = Succeeds old new × Stays old new × Steps old new (read offset n) (bytes_read buffer.items) × (Overflows (unit_of old.state.shape) offset n → ⊥)
 Answered old new (Read offset n) (Refused fault) = ReadRefused old new offset n fault
-Answered old new (Write offset bytes) Done = Succeeds old new × LeaksSame old new × Steps old new (write offset bytes.items) done
+Answered old new (Write offset bytes) Done = Succeeds old new × LeaksSame old new × Steps old new (write offset bytes.items) done × (Overflows (unit_of old.state.shape) offset (length bytes.items) → ⊥)
 Answered old new (Write offset bytes) (Refused fault) = WriteRefused old new offset bytes.items fault
 Answered old new Flush Done = Succeeds old new × Stays old new × Steps old new flush done
 Answered old new Flush (Refused fault) = FlushRefused old new fault
@@ -36,15 +36,15 @@ Answered old new call answer = ⊥
 -- Why a call is refused that was neither in want of memory nor failed by its storage, and what it leaves.
 abbrev pub Refuses : StorageState → Call → Fault → StorageState → Type 0
 Refuses old call RangeOverflow new = Overflows (unit_of old.shape) (offset_of (seen call)) (length_of (seen call)) × SameDisk (shown (file old)) (shown (file new))
-Refuses old (Write offset bytes) PastEnd new = (0 < length bytes.items) × ((shown (file old)).size < offset + length bytes.items) × SameDisk (shown (file old)) (shown (file new))
+Refuses old (Write offset bytes) PastEnd new = (0 < length bytes.items) × (Overflows (unit_of old.shape) offset (length bytes.items) → ⊥) × ((shown (file old)).size < offset + length bytes.items) × SameDisk (shown (file old)) (shown (file new))
 Refuses old (Write offset bytes) (Limit n) new =
     (n ≡ 256) × PartlyDone (λ _. byte 0) (write offset bytes.items) (shown (file old)) (shown (file new)) × ((H : Header) → header_of true (file new) ≡ Ok H → AllCounted (file new) H.fields)
 Refuses old call fault new = ⊥
 
 -- What one call does to the disk that the image's bytes mean.
 abbrev pub Moves : StorageState → Call → Answer → StorageState → Type 0
-Moves old call Done new = Step (λ _. byte 0) (shown (file old)) (seen call) done (shown (file new))
-Moves old call (Bytes buffer) new = Step (λ _. byte 0) (shown (file old)) (seen call) (bytes_read buffer.items) (shown (file new))
+Moves old call Done new = (Overflows (unit_of old.shape) (offset_of (seen call)) (length_of (seen call)) → ⊥) × Step (λ _. byte 0) (shown (file old)) (seen call) done (shown (file new))
+Moves old call (Bytes buffer) new = (Overflows (unit_of old.shape) (offset_of (seen call)) (length_of (seen call)) → ⊥) × Step (λ _. byte 0) (shown (file old)) (seen call) (bytes_read buffer.items) (shown (file new))
 Moves old call (Refused fault) new = Refuses old call fault new
 
 -- what stands between two calls: a consistent file with the same header, in which each cluster is counted as often beyond what names
@@ -56,11 +56,13 @@ pub record Lives (old mid : StorageState) : Type 0 where
   pub shape : mid.shape ≡ old.shape
   pub faults : mid.faults ≡ old.faults
 
--- The calls move from disk to disk, each of them that of a consistent file, up to the first call that was in want of memory, or
--- during which the storage failed. After a storage's fault each call answers that the disk has failed.
+-- The calls move from disk to disk, each of them that of a consistent file, up to the first call during which the storage failed. A
+-- call that was in want of memory leaves the disk, or fails it. Once it has failed each call answers so.
 abbrev pub Run : StorageState → List Call → List Answer → StorageState → Type 0
-Run old [] [] new = file new ≡ file old
-Run old (call ∷ calls) (Refused Memory ∷ answers) new = length answers ≡ length calls
+Run old [] [] new = (file new ≡ file old) × (new.faults ≡ old.faults)
+Run old (call ∷ calls) (Refused Memory ∷ answers) new =
+    ((new.faults ≡ old.faults) × (answers ≡ replicate (length calls) (Refused Failed)))
+    ⊎ ((mid : StorageState) × Lives old mid × SameDisk (shown (file old)) (shown (file mid)) × Run mid calls answers new)
 Run old (call ∷ calls) (Refused Storage ∷ answers) new = Rose old.faults new.faults × (answers ≡ replicate (length calls) (Refused Failed))
 Run old (call ∷ calls) (answer ∷ answers) new = (mid : StorageState) × Lives old mid × Moves old call answer mid × Run mid calls answers new
 Run old _ _ new = ⊥

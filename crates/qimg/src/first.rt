@@ -19,7 +19,7 @@ mod tests;
 mod words;
 mod worked;
 
-pub use calls::{Answer, Call, run_calls, serve};
+pub use calls::{Answer, Call, serve};
 use clusters::Places;
 pub use create::create;
 use opening::{Accepted, accept};
@@ -76,7 +76,7 @@ impl<S: Storage> Disk<S> {
     /// copied data (the qcow2 format, "Header", "Refcount table", "L1 table", "L2 table"). It is refused as a header whose
     /// fixed fields don't load for writing; with `Fault::Unsupported` where it isn't such an image; with `Fault::DamagedTable`
     /// where a word of a table has no meaning; and with `Fault::Memory` and `Fault::Storage`. A refusal drops the storage.
-    pub fn open(image: S, alloc: Global) -> Result<Self, Fault>
+    pub fn open(alloc: Global, image: S) -> Result<Self, Fault>
         ensures ok { IfOk result (λ disk. Opens (S.state image) (opened S.state disk)) }
         ensures err { IfErr result (NotOpened (S.state image)) }
     {
@@ -164,6 +164,8 @@ impl<S: Storage> Disk<S> {
         ensures leaks { OnOk result (LeaksSame (opened S.state self.old) (opened S.state self.new)) }
         ensures err { IfErr result (WriteRefused (opened S.state self.old) (opened S.state self.new) offset «data».now) }
         ensures shape { (opened S.state self.new).state.shape ≡ (opened S.state self.old).state.shape }
+        ensures size { (opened S.state self.new).size ≡ (opened S.state self.old).size }
+        ensures places { (opened S.state self.new).places ≡ (opened S.state self.old).places }
         ensures nothing { IsFalse (opened S.state self.old).failed → length «data».now ≡ 0 → IsOk result × (opened S.state self.new ≡ opened S.state self.old) }
         ensures failed { IsTrue (opened S.state self.old).failed → IsErrOf result Fault.Failed }
         ensures overflow { IsFalse (opened S.state self.old).failed → Overflows (unit_of (opened S.state self.old).state.shape) offset (length «data».now) → IsErrOf result Fault.RangeOverflow }

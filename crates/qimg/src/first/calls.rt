@@ -58,10 +58,8 @@ fn make_call<S: Storage>(
     }
 }
 
-/// Makes the calls in order, and answers each.
-///
-/// `Fault::Memory` where there was no room for an answer: its call and the later ones were not made.
-pub fn run_calls<S: Storage>(
+/// Makes the calls in order, and answers each; refused where there was no room for an answer.
+pub(super) fn run_calls<S: Storage>(
     disk: &mut Disk<S>,
     alloc: Global,
     calls: &[Call],
@@ -80,7 +78,7 @@ pub fn run_calls<S: Storage>(
 /// Opens the image in a storage, makes the calls in order, and gives the storage back with what they answered.
 ///
 /// Refused as `Disk::open`, and with `Fault::Memory` where there was no room for an answer. A refusal drops the storage.
-pub fn serve<S: Storage>(image: S, alloc: Global, calls: &[Call]) -> Result<(S, Vec<Answer>), Fault>
+pub fn serve<S: Storage>(alloc: Global, image: S, calls: &[Call]) -> Result<(S, Vec<Answer>), Fault>
     // From a consistent file that is taken, the calls read one flat disk: at opening what the file's bytes mean, and after
     // each call what they mean then.
     ensures run { IfOk result (λ served. IsTrue (S.state image).shape.keeps → Consistent (file (S.state image)) → Run (S.state image) calls.now served.1.items (S.state served.0)) }
@@ -88,7 +86,7 @@ pub fn serve<S: Storage>(image: S, alloc: Global, calls: &[Call]) -> Result<(S, 
     ensures shape { IfOk result (λ served. (S.state served.0).shape ≡ (S.state image).shape) }
     ensures err { IfErr result (NotOpened (S.state image)) }
 {
-    let mut disk = Disk::open(image, alloc)?;
+    let mut disk = Disk::open(alloc, image)?;
     let answers = run_calls(&mut disk, alloc, calls)?;
     Ok((disk.into_image(), answers))
 }

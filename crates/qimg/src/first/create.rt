@@ -85,7 +85,7 @@ fn write_new<S: Storage>(image: &mut S, alloc: Global, size: u64) -> Result<(), 
 /// refuses with `Fault::Limit(size)` where the size is above 65,536, before it asks anything of the storage; with
 /// `Fault::Unsupported` where the storage can't be cut; and with `Fault::Memory` and `Fault::Storage`. A refusal drops the
 /// storage.
-pub fn create<S: Storage>(mut image: S, alloc: Global, size: u64) -> Result<S, Fault>
+pub fn create<S: Storage>(alloc: Global, mut image: S, size: u64) -> Result<S, Fault>
     ensures ok { IfOk result (λ made. Creates size (S.state image) (S.state made)) }
     ensures consistent { IfOk result (λ made. IsTrue (S.state image).shape.keeps → IsConsistent (file (S.state made)) (new_header size)) }
     ensures leaks { IfOk result (λ made. IsTrue (S.state image).shape.keeps → leaks (file (S.state made)) (new_header size).fields ≡ []) }
@@ -110,7 +110,7 @@ mod tests {
     use std::test::Fail;
 
     fn new_bytes(alloc: Global, size: u64) -> Result<Vec<u8>, Fault> {
-        create(MemStorage::new(alloc), alloc, size)?.bytes()
+        create(alloc, MemStorage::new(alloc), size)?.bytes()
     }
 
     #[test]
@@ -154,7 +154,7 @@ mod tests {
     #[test]
     fn a_larger_size_is_refused(rt: HostRuntime) -> Result<(), Fail> {
         let alloc = rt.alloc();
-        match create(MemStorage::new(alloc), alloc, 65537) {
+        match create(alloc, MemStorage::new(alloc), 65537) {
             Ok(_) => assert!(rt; false),
             Err(fault) => assert_eq!(rt; fault, Fault::Limit(65537)),
         }

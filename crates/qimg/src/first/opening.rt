@@ -342,14 +342,14 @@ mod tests {
 
     // What a new image of 65,536 bytes is refused with once these bytes are written into it.
     fn refusal(alloc: Global, bytes: &[u8], at: u64) -> Result<Option<Fault>, Fault> {
-        let mut image = create(MemStorage::new(alloc), alloc, 65536)?;
+        let mut image = create(alloc, MemStorage::new(alloc), 65536)?;
         image.write(alloc, bytes, at)?;
         Ok(taken(&mut image, alloc).err())
     }
 
     // The same of an image whose first word of the first L2 table names cluster 5.
     fn refusal_of_entry(alloc: Global, bytes: &[u8], at: u64) -> Result<Option<Fault>, Fault> {
-        let mut image = create(MemStorage::new(alloc), alloc, 65536)?;
+        let mut image = create(alloc, MemStorage::new(alloc), 65536)?;
         image.write(alloc, &[128, 0, 0, 0, 0, 0, 8, 0], 1536)?;
         image.write(alloc, &[128, 0, 0, 0, 0, 0, 10, 0], 2048)?;
         image.write(alloc, bytes, at)?;
@@ -367,7 +367,7 @@ mod tests {
     #[test]
     fn a_new_image_is_taken(rt: HostRuntime) -> Result<(), Fail> {
         let alloc = rt.alloc();
-        match create(MemStorage::new(alloc), alloc, 65536) {
+        match create(alloc, MemStorage::new(alloc), 65536) {
             Ok(mut image) => {
                 let accepted = taken(&mut image, alloc)?;
                 assert_eq!(rt; accepted.size, 65536);

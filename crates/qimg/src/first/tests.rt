@@ -5,6 +5,7 @@
 ghost use Rattle.std.specs.Prelude.{◌≡◌};
 ghost use Rattle.imago_storage.specs.State.{IsAlignment};
 
+use super::calls::run_calls;
 use super::*;
 use imago_storage::{FuseStorage, LogStorage, MemStorage};
 use std::alloc::AllocError;
@@ -66,13 +67,13 @@ fn worked_byte(at: usize) -> u8 {
 fn written_at(rt: &impl Abort, alloc: Global, align: usize) -> Result<Vec<u8>, Fault>
     requires { IsAlignment align }
 {
-    let image = create(MemStorage::new(alloc).with_align(align), alloc, 65536)?;
-    let mut disk = Disk::open(image, alloc)?;
+    let image = create(alloc, MemStorage::new(alloc).with_align(align), 65536)?;
+    let mut disk = Disk::open(alloc, image)?;
     assert_eq!(rt; disk.size(), 65536);
     disk.write(alloc, &[1, 2, 3], 510)?;
     disk.flush()?;
     assert!(rt; !disk.failed());
-    let mut disk = Disk::open(disk.into_image(), alloc)?;
+    let mut disk = Disk::open(alloc, disk.into_image())?;
     let mut buf = [7u8; 8];
     disk.read(alloc, &mut buf, 508)?;
     assert_eq!(rt; buf, [0, 0, 1, 2, 3, 0, 0, 0]);
@@ -105,8 +106,8 @@ fn a_write_has_the_same_bytes_at_each_alignment(rt: HostRuntime) -> Result<(), F
 
 // The end of the disk, ranges that pass 64 bits, and calls of length 0.
 fn ends_of_ranges(rt: &impl Abort, alloc: Global) -> Result<(), Fault> {
-    let image = create(MemStorage::new(alloc), alloc, 65536)?;
-    let mut disk = Disk::open(image, alloc)?;
+    let image = create(alloc, MemStorage::new(alloc), 65536)?;
+    let mut disk = Disk::open(alloc, image)?;
     assert_eq!(rt; disk.write(alloc, &[1, 2], 65535), Err(Fault::PastEnd));
     assert_eq!(rt; disk.write(alloc, &[1], 65536), Err(Fault::PastEnd));
     assert_eq!(rt; disk.write(alloc, &[], u64::MAX), Ok(()));
@@ -145,7 +146,7 @@ fn ranges_end_where_the_disk_does(rt: HostRuntime) -> Result<(), Fail> {
 
 // A new image of two clusters whose first block counts every cluster but 4 and 5.
 fn nearly_full(alloc: Global) -> Result<MemStorage, Fault> {
-    let mut bytes = create(MemStorage::new(alloc), alloc, 1024)?.into_bytes()?;
+    let mut bytes = create(alloc, MemStorage::new(alloc), 1024)?.into_bytes()?;
     for (at, byte) in bytes.iter_mut().enumerate() {
         if at % 2 == 1 && at > 1035 && at < 1536 {
             *byte = 1;
@@ -155,7 +156,7 @@ fn nearly_full(alloc: Global) -> Result<MemStorage, Fault> {
 }
 
 fn no_cluster_left(rt: &impl Abort, alloc: Global) -> Result<(), Fault> {
-    let mut disk = Disk::open(nearly_full(alloc)?, alloc)?;
+    let mut disk = Disk::open(alloc, nearly_full(alloc)?)?;
     let data = [5u8; 600];
     // The first guest cluster takes the two clusters that are left, and the second finds none.
     match disk.write(alloc, &data, 0) {
@@ -187,9 +188,9 @@ fn a_full_image_is_refused_and_stays(rt: HostRuntime) -> Result<(), Fail> {
 fn faults_in_turn(rt: &impl Abort, alloc: Global) -> Result<(), Fault> {
     let mut whole = 0u64;
     for nth in 1..200u64 {
-        let image = create(MemStorage::new(alloc), alloc, 65536)?;
+        let image = create(alloc, MemStorage::new(alloc), 65536)?;
         let storage = FuseStorage::new(LogStorage::new(alloc, image)?, nth);
-        let mut disk = match Disk::open(storage, alloc) {
+        let mut disk = match Disk::open(alloc, storage) {
             Ok(disk) => disk,
             Err(fault) => {
                 assert_eq!(rt; fault, Fault::Storage);
@@ -234,12 +235,12 @@ fn a_fault_of_the_storage_fails_the_disk(rt: HostRuntime) -> Result<(), Fail> {
 
 // A flush reaches the storage: the fuse counts it.
 fn flush_passed_on(rt: &impl Abort, alloc: Global) -> Result<(), Fault> {
-    let image = create(MemStorage::new(alloc), alloc, 512)?;
-    let mut disk = Disk::open(FuseStorage::new(image, 0), alloc)?;
+    let image = create(alloc, MemStorage::new(alloc), 512)?;
+    let mut disk = Disk::open(alloc, FuseStorage::new(image, 0))?;
     disk.flush()?;
     let flushed = disk.into_image();
-    let image = create(MemStorage::new(alloc), alloc, 512)?;
-    let opened = Disk::open(FuseStorage::new(image, 0), alloc)?.into_image();
+    let image = create(alloc, MemStorage::new(alloc), 512)?;
+    let opened = Disk::open(alloc, FuseStorage::new(image, 0))?.into_image();
     assert_eq!(rt; flushed.count(), opened.count().saturating_add(1));
     Ok(())
 }
@@ -256,7 +257,7 @@ fn a_flush_reaches_the_storage(rt: HostRuntime) -> Result<(), Fail> {
 
 // A list of calls, over a storage of large alignment.
 fn list_of_calls(rt: &impl Abort, alloc: Global) -> Result<(), Fault> {
-    let image = create(MemStorage::new(alloc).with_align(512), alloc, 1000)?;
+    let image = create(alloc, MemStorage::new(alloc).with_align(512), 1000)?;
     let data = Vec::from_slice(alloc, &[4, 5])?;
     let late = Vec::from_slice(alloc, &[4, 5])?;
     let calls = [
@@ -275,7 +276,7 @@ fn list_of_calls(rt: &impl Abort, alloc: Global) -> Result<(), Fault> {
             length: 4,
         },
     ];
-    let (image, answers) = serve(image, alloc, &calls)?;
+    let (image, answers) = serve(alloc, image, &calls)?;
     match answers.as_slice() {
         [
             Answer::Done,
@@ -290,7 +291,7 @@ fn list_of_calls(rt: &impl Abort, alloc: Global) -> Result<(), Fault> {
         }
         _ => return Err(Fault::Memory),
     }
-    let mut disk = Disk::open(image, alloc)?;
+    let mut disk = Disk::open(alloc, image)?;
     let again = run_calls(&mut disk, alloc, &calls)?;
     assert_eq!(rt; again.len(), 5);
     Ok(())
@@ -362,6 +363,53 @@ fn run_faults_have_one_text(rt: HostRuntime) -> Result<(), Fail> {
     let alloc = rt.alloc();
     if texts_of_run_faults(&rt, alloc).is_err() {
         texts_of_run_faults(&rt, alloc)?;
+    }
+    Ok(())
+}
+
+// The places of the requests that a write of two new clusters makes: each cluster is filled, then counted, then named.
+fn order_of_requests(rt: &impl Abort, alloc: Global) -> Result<(), Fault> {
+    let image = create(alloc, MemStorage::new(alloc), 65536)?;
+    let mut disk = Disk::open(alloc, LogStorage::new(alloc, image)?)?;
+    disk.write(alloc, &[1, 2, 3], 510)?;
+    let log = disk.into_image();
+    let places = [2048, 1032, 1536, 2560, 1034, 2048, 3072, 1036, 2056];
+    assert_eq!(rt; log.requests().len(), places.len());
+    for (request, place) in log.requests().iter().zip(places.iter()) {
+        match request {
+            imago_storage::Request::Write { offset, .. } => assert_eq!(rt; *offset, *place),
+            other => assert!(rt; false, "{other:?}"),
+        }
+    }
+    Ok(())
+}
+
+#[test]
+fn a_cluster_is_filled_counted_and_named(rt: HostRuntime) -> Result<(), Fail> {
+    let alloc = rt.alloc();
+    match order_of_requests(&rt, alloc) {
+        Err(Fault::Memory) => order_of_requests(&rt, alloc)?,
+        answer => answer?,
+    }
+    Ok(())
+}
+
+// A flush in a list of calls reaches the storage, too.
+fn flush_served(rt: &impl Abort, alloc: Global) -> Result<(), Fault> {
+    let image = create(alloc, MemStorage::new(alloc), 512)?;
+    let (flushed, _) = serve(alloc, FuseStorage::new(image, 0), &[Call::Flush])?;
+    let image = create(alloc, MemStorage::new(alloc), 512)?;
+    let (opened, _) = serve(alloc, FuseStorage::new(image, 0), &[])?;
+    assert_eq!(rt; flushed.count(), opened.count().saturating_add(1));
+    Ok(())
+}
+
+#[test]
+fn a_served_flush_reaches_the_storage(rt: HostRuntime) -> Result<(), Fail> {
+    let alloc = rt.alloc();
+    match flush_served(&rt, alloc) {
+        Err(Fault::Memory) => flush_served(&rt, alloc)?,
+        answer => answer?,
     }
     Ok(())
 }

@@ -1,5 +1,5 @@
 // The first run: three bytes written and read again, from bytes to bytes.
-ghost use Rattle.std.specs.Prelude.{◌≡◌, [], ◌∷◌, ◌++◌, codes, Some, IsTrue, IfOk, IfErr, OnOk, IsOkUnless, MatchOption, ⊤};
+ghost use Rattle.std.specs.Prelude.{◌≡◌, ◌≢◌, [], ◌∷◌, ◌++◌, length, codes, Some, IsTrue, IfOk, IfErr, OnOk, IsOkUnless, MatchOption};
 ghost use Rattle.std.specs.Io.KnownBytes.{Appends};
 ghost use Rattle.qcow2_types.specs.Consistency.{Consistent};
 ghost use Rattle.qimg.specs.First.{file};
@@ -50,7 +50,7 @@ impl<T: Drop> From<AllocFailed<T>> for RunFault {
 
 /// The answer, if there is just one.
 fn only_answer(mut answers: Vec<Answer>) -> Option<Answer>
-    ensures { MatchOption result ⊤ (λ answer. answers.items ≡ answer ∷ []) }
+    ensures { MatchOption result (length answers.items ≢ 1) (λ answer. answers.items ≡ answer ∷ []) }
 {
     let answer = answers.pop()?;
     if answers.is_empty() {
@@ -62,7 +62,7 @@ fn only_answer(mut answers: Vec<Answer>) -> Option<Answer>
 
 /// The two answers, if there are just two.
 fn two_answers(mut answers: Vec<Answer>) -> Option<(Answer, Answer)>
-    ensures { MatchOption result ⊤ (λ both. answers.items ≡ both.0 ∷ both.1 ∷ []) }
+    ensures { MatchOption result (length answers.items ≢ 2) (λ both. answers.items ≡ both.0 ∷ both.1 ∷ []) }
 {
     let second = answers.pop()?;
     let first = only_answer(answers)?;
@@ -81,7 +81,7 @@ fn serve_two<S: Storage>(
     ensures err { IsOkUnless result RunFault.Memory }
 {
     // The image lies in memory: nothing but memory can be wanting.
-    let Ok((image, answers)) = serve(image, alloc, &[first, second]) else {
+    let Ok((image, answers)) = serve(alloc, image, &[first, second]) else {
         return Err(RunFault::Memory);
     };
     match two_answers(answers) {
@@ -96,7 +96,7 @@ fn serve_one<S: Storage>(image: S, alloc: Global, call: Call) -> Result<(S, Answ
     ensures shape { IfOk result (λ served. (S.state served.0).shape ≡ (S.state image).shape) }
     ensures err { IsOkUnless result RunFault.Memory }
 {
-    let Ok((image, answers)) = serve(image, alloc, &[call]) else {
+    let Ok((image, answers)) = serve(alloc, image, &[call]) else {
         return Err(RunFault::Memory);
     };
     match only_answer(answers) {
@@ -110,7 +110,7 @@ fn worked_bytes<S: Storage>(image: S, alloc: Global) -> Result<Vec<u8>, RunFault
     ensures ok { IfOk result (λ bytes. IsTrue (S.state image).shape.keeps → bytes.items ≡ 0 ∷ 0 ∷ 1 ∷ 2 ∷ 3 ∷ 0 ∷ 0 ∷ 0 ∷ []) }
     ensures err { IsOkUnless result RunFault.Memory }
 {
-    let Ok(image) = create(image, alloc, 65536) else {
+    let Ok(image) = create(alloc, image, 65536) else {
         return Err(RunFault::Memory);
     };
     let data = Vec::from_slice(alloc, &[1, 2, 3])?;
