@@ -5,8 +5,8 @@ use Rattle.std.proofs.Math.Nat.{div-mul-le_self}
 use Rattle.std.proofs.lemmas.Bool.{cases_lt}
 use Rattle.std.specs.Prelude.{List, length, Result, Ok, Err, OnOk, IfErr}
 use Rattle.imago_storage.specs.State.{StorageState, IsAlignment, unit_of}
-use Rattle.imago_storage.specs.Calls.{Mixed, Later}
-use Rattle.imago_storage.specs.Through.{round_up, Overflows, IsAtOnce, Stops, UnlessOverflow, WrittenThrough, NotThrough, NotWrittenThrough, RequestsOnce, Put, PutAtOnce}
+use Rattle.imago_storage.specs.Calls.{Mixed, Later, Cause}
+use Rattle.imago_storage.specs.Through.{round_up, Overflows, IsAtOnce, Stops, UnlessOverflow, WrittenThrough, NotThrough, NotWrittenThrough, RequestsOnce, NotRead, Put, PutAtOnce}
 use Rattle.imago_storage.specs.declared.fault.Fault.{Fault}
 use Rattle.imago_storage.specs.declared.fault.Fault.TheVariants.{RangeOverflow}
 use Rattle.imago_storage.proofs.Powers.{alignment_power}
@@ -83,3 +83,7 @@ put-at-once result old new at b bytes alignment low long whole ok err once stops
   put = put-below result old new at bytes alignment low ok err stops shape later;
   once = once (subst (IsAtOnce (unit_of old.shape) at) (sym long) (power-at-once (unit_of old.shape) at b alignment whole));
 }
+
+-- the cause of a refused read of a range well below 2^64
+pub read-below : (old new : StorageState) (at n : ℕ) (fault : Fault) → IsAlignment (unit_of old.shape) → at + n ≤ 2 ^ 63 → NotRead old new at n fault → Cause old.faults new.faults fault
+read-below old new at n fault alignment low why = unless-overflow _ old new (Cause old.faults new.faults) (Cause old.faults new.faults) (overflows-not (unit_of old.shape) at n alignment low) (λ e cause. cause) fault why

@@ -7,7 +7,7 @@ use Rattle.std.proofs.lemmas.Nat.{mod_below, pow_pos, le-div}
 use Rattle.std.proofs.Math.Nat.{div-mul-le_self, mul-le-mul_right, pow-le-pow_right, pow-suc}
 use Rattle.qcow2_types.specs.Bytes.{Bytes}
 use Rattle.qcow2_types.specs.Header.{Fields, cluster_size, Shaped}
-use Rattle.qcow2_types.specs.Counts.{block_at, count, counter, counter_bits, counters_of_block, wide_counter, narrow_counter}
+use Rattle.qcow2_types.specs.Counts.{block_at, count, counter, counter_of, counter_bits, counters_of_block, wide_counter, narrow_counter}
 use Rattle.qcow2_types.proofs.Splices.{be-same}
 use Rattle.qcow2_types.specs.Frames.{Same}
 
@@ -70,3 +70,26 @@ count-same f g h c shaped at same =
       | inl e ↦ rw (at, e) refl
       | inr there ↦ let here : counter g h block (c % k) ≡ counter f h block (c % k) = counter-same f g h block (same there) (c % k) below in rw (at, here) refl
     ]
+
+-- A counter stands where its bytes do: the same n bytes at another place, or in another file, have the same counters.
+pub counter-moved : (f g : Bytes) (order a b n i : ℕ) → i * 2 ^ order + 2 ^ order ≤ n * 8 → ((k : ℕ) → k < n → g (b + k) ≡ f (a + k)) → counter_of g (2 ^ order) b i ≡ counter_of f (2 ^ order) a i
+counter-moved f g order a b n i room same = either (nat_le 8 (2 ^ order)) refl
+  where
+    wide : 8 ≤ 2 ^ order → wide_counter g (2 ^ order) b i ≡ wide_counter f (2 ^ order) a i
+    wide le =
+        let w : 2 ^ order / 8 * 8 ≡ 2 ^ order = whole order le in
+        let d : ℕ = 2 ^ order / 8 in
+        let all : i * (d * 8) + d * 8 ≤ n * 8 = rw w room in
+        be-same g f (b + i * d) (a + i * d) d (λ k less.
+            let here : b + i * d + k ≡ b + (i * d + k) = omega arith in
+            let there : a + i * d + k ≡ a + (i * d + k) = omega arith in
+            rw (here, there) (same (i * d + k) (omega arith)))
+
+    narrow : narrow_counter g (2 ^ order) b i ≡ narrow_counter f (2 ^ order) a i
+    narrow =
+        let pos : 0 < 2 ^ order = pow_pos order in
+        ap (λ x. x / 2 ^ (i * 2 ^ order % 8) % 2 ^ (2 ^ order)) (same (i * 2 ^ order / 8) (omega (arith, room)))
+
+    either : (t : Bool) → nat_le 8 (2 ^ order) ≡ t → cond t (wide_counter g (2 ^ order) b i) (narrow_counter g (2 ^ order) b i) ≡ cond t (wide_counter f (2 ^ order) a i) (narrow_counter f (2 ^ order) a i)
+    either true e = wide (grind (arith, nat_tests))
+    either false e = narrow

@@ -45,4 +45,8 @@ pub mod TableSteps
 pub mod ShownLemmas
 pub mod WorkedSteps
 pub mod StepValues
+pub mod TableSizes
+pub mod NumberBytes
+pub mod HeaderFields
+pub mod HeaderParts
 pub mod Surplus

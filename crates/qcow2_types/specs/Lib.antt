@@ -11,4 +11,8 @@ pub mod Frames
 pub mod Versions
 pub mod WorkedImage
 pub mod Steps
+pub mod Places
+pub mod Pending
+pub mod Features
+pub mod OnDisk
 pub use Rattle.imago_storage.specs.Disk as StorageDisk

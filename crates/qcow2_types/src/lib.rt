@@ -1,9 +1,25 @@
-//! The qcow2 format: its constants, and its meaning as definitions over the bytes of a file.
+//! The qcow2 format: its constants, its meaning as definitions over the bytes of a file, and the small values of its metadata.
 #![tactic(auto)]
 
+pub mod bits;
+mod count;
+mod features;
+mod guest;
+mod host;
 pub mod laws;
+mod on_disk;
+mod pending;
 pub mod steps;
+#[cfg(test)]
+mod tests;
 pub mod worked_image;
+
+pub use count::ClusterCount;
+pub use features::{AutoclearFeatures, CompatibleFeatures, FeatureType, IncompatibleFeatures};
+pub use guest::{GuestCluster, GuestOffset};
+pub use host::{HostCluster, HostOffset};
+pub use on_disk::{OnDiskStruct, V2Header, V3HeaderBase};
+pub use pending::{ClustersToFreeEntry, PendingClusters};
 
 /// The number that the first four bytes of an image spell: `QFI` and 0xfb.
 pub const MAGIC: u32 = 0x5146_49fb;

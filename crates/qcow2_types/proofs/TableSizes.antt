@@ -1,0 +1,28 @@
+-- The sizes of L2 tables are powers of 2.
+use Rattle.std.proofs.Common.{◌≡◌, ℕ, ◌+◌, ◌-◌, ◌*◌, ◌/◌, ◌%◌, ◌^◌, ◌<◌, ◌≤◌, arith, ap, sym, ◌∙◌}
+use Rattle.std.proofs.lemmas.Nat.{shl-shr, pow-add, pow_pos, mod_below, mul-add-lt, shr_below, shr_split}
+use Rattle.qcow2_types.specs.Places.{l2_entries}
+
+-- the words of a table
+pub entries_power : (b : ℕ) → 9 ≤ b → l2_entries b ≡ 2 ^ (b - 3)
+entries_power b low =
+    let apart : b ≡ b - 3 + 3 = omega arith in
+    ap (λ n. 2 ^ n / 8) apart ∙ ap (λ n. n / 8) (pow-add 2 (b - 3) 3) ∙ shl-shr (2 ^ (b - 3)) 3
+
+-- the bytes that a table maps
+pub mapped_power : (b : ℕ) → 9 ≤ b → l2_entries b * 2 ^ b ≡ 2 ^ (2 * b - 3)
+mapped_power b low =
+    let apart : b - 3 + b ≡ 2 * b - 3 = omega arith in
+    ap (λ n. n * 2 ^ b) (entries_power b low) ∙ sym (pow-add 2 (b - 3) b) ∙ ap (λ n. 2 ^ n) apart
+
+-- an index in a table
+pub index_below : (n b : ℕ) → 9 ≤ b → n % l2_entries b < l2_entries b
+index_below n b low = mod_below n (l2_entries b) (rw (entries_power b low) (pow_pos (b - 3)))
+
+-- A number whose lowest k bits are not all ones has a next number of the same width.
+pub next_below : (n k j w : ℕ) → j + k ≡ w → n < 2 ^ w → n % 2 ^ k + 1 < 2 ^ k → n + 1 < 2 ^ w
+next_below n k j w e h r =
+    let whole : n < 2 ^ (j + k) = rw e h in
+    let place : n / 2 ^ k * 2 ^ k + (n % 2 ^ k + 1) < 2 ^ k * 2 ^ j =
+    mul-add-lt (n / 2 ^ k) (2 ^ k) (n % 2 ^ k + 1) (2 ^ j) (shr_below n j k whole) r
+    in rw (← e) (omega (arith, place, shr_split n k, pow-add 2 j k))

@@ -1,0 +1,14 @@
+-- The fields follow one another, and fill all bytes.
+use Rattle.std.proofs.Common.{sym}
+use Rattle.qcow2_types.specs.OnDisk.{v3_bytes}
+use Rattle.qcow2_types.proofs.NumberBytes.{then, whole}
+use Rattle.qcow2_types.proofs.on_disk.V3HeaderBaseOnDiskStruct.from_bytes.Goals as goal
+
+pub returns : goal.returns
+unfolding v3_bytes
+returns c =
+    sym (whole 32 _ _ c.requires.size
+    (then _ _ _ _ c.u32_at-2.ensures
+    (then _ _ _ _ c.u32_at.ensures
+    (then _ _ _ _ c.u64_at-3.ensures
+    (then _ _ _ _ c.u64_at-2.ensures c.u64_at.ensures)))))
