@@ -7,20 +7,20 @@ use Rattle.std.proofs.lemmas.Nat.{mod_below, pow_pos, from_be_bytes-to_be_bytes_
 use Rattle.std.proofs.Math.Nat.{div-mul-le_self, mul-le-mul_right, div-add-mod}
 use Rattle.qcow2_types.specs.Bytes.{Bytes, be, word, splice, bytes_of}
 use Rattle.qcow2_types.specs.Words.{block_word_sound, is_place}
-use Rattle.qcow2_types.specs.Header.{Fields, Header, cluster_size, refcount_table_entries}
-use Rattle.qcow2_types.specs.Counts.{block_at, count, counter, counter_bits, counters_of_block, wide_counter}
+use Rattle.qcow2_types.specs.Header.{Fields, Header, Shaped, cluster_size, refcount_table_entries}
+use Rattle.qcow2_types.specs.Counts.{block_at, count, counter, counter_of, counter_bits, counters_of_block, wide_counter}
 use Rattle.qcow2_types.specs.Slots.{SoundWords}
 use Rattle.qcow2_types.specs.Frames.{Outside, touches, Kept, Skipped, block}
 use Rattle.qcow2_types.specs.References.{structure, meets, refs}
 use Rattle.qcow2_types.specs.Consistency.{IsConsistent}
 use Rattle.qcow2_types.specs.Steps.{BlockWritten, CounterWritten}
 use Rattle.qcow2_types.proofs.Consistent.{meets-own, consistent-shaped, structure-unmapped, named-counted}
-use Rattle.qcow2_types.proofs.Counters.{some-counters, whole}
+use Rattle.qcow2_types.proofs.Counters.{some-counters, whole, counter-moved}
 use Rattle.qcow2_types.proofs.DataSteps.{kept-keeps, kept-references, kept-consistent, kept-shows, free-stays}
 use Rattle.qcow2_types.proofs.Frames.{block-part, splice-is-outside}
 use Rattle.qcow2_types.proofs.Parts.{kept-block, touches-once, count-kept, block_at-kept}
 use Rattle.qcow2_types.proofs.Sound.{sound-words}
-use Rattle.qcow2_types.proofs.Splices.{be-splice-same, be-splice-apart}
+use Rattle.qcow2_types.proofs.Splices.{be-splice-same, be-splice-apart, splice-inside}
 use Rattle.qcow2_types.proofs.WriteBack.{place-whole}
 use Rattle.std.specs.Int.{w16, to_be_bytes, from_be_bytes}
 
@@ -137,6 +137,29 @@ count-there f h c there = choose (block_at f h (c / counters_of_block h)) _ ther
   where
     choose : (t x : ℕ) → t ≢ 0 → (if t == 0 then 0 else x) ≡ x
     choose t x apart = grind (arith, nat_tests)
+
+-- A block was written whole: each cluster that it counts is counted as its bytes say.
+pub block-counts : (f : Bytes) (H : Header) → IsConsistent f H → (b : ℕ) → block_at f H.fields b ≢ 0 → (bytes : List ℕ) → length bytes ≡ cluster_size H.fields → (c : ℕ) → c / counters_of_block H.fields ≡ b
+    → count (splice f (block_at f H.fields b) bytes) H.fields c ≡ counter_of (bytes_of bytes) (counter_bits H.fields) 0 (c % counters_of_block H.fields)
+unfolding counter
+block-counts f H was b there bytes long c e =
+    let g : Bytes = splice f (block_at f H.fields b) bytes in
+    let size : 0 < cluster_size H.fields = pow_pos H.fields.cluster_bits in
+    let shaped : Shaped H.fields = consistent-shaped f H was in
+    let out : Outside f g (block_at f H.fields b) (length bytes) = splice-is-outside f (block_at f H.fields b) bytes in
+    let kept : Kept f g H.fields (block b) = block-kept f H was b there g (block_at f H.fields b) (length bytes) (omega arith) out (omega arith) (omega arith) in
+    let at : block_at g H.fields (c / counters_of_block H.fields) ≡ block_at f H.fields b = ap (block_at g H.fields) e ∙ block_at-kept f g H.fields (block b) kept b (λ e. cc) in
+    let is : block_at g H.fields (c / counters_of_block H.fields) ≢ 0 = λ z. there (sym at ∙ z) in
+    let i : ℕ = c % counters_of_block H.fields in
+    let lt : c % counters_of_block H.fields < counters_of_block H.fields = mod_below c (counters_of_block H.fields) (some-counters H.fields shaped) in
+    let a : suc (c % counters_of_block H.fields) * counter_bits H.fields ≤ counters_of_block H.fields * counter_bits H.fields = mul-le-mul_right (counter_bits H.fields) lt in
+    let all : counters_of_block H.fields * counter_bits H.fields ≤ cluster_size H.fields * 8 = div-mul-le_self (cluster_size H.fields * 8) (counter_bits H.fields) in
+    let room : c % counters_of_block H.fields * 2 ^ H.fields.refcount_order + 2 ^ H.fields.refcount_order ≤ length bytes * 8 = omega arith in
+    count-there g H.fields c is
+    ∙ (ap (λ p. counter g H.fields p (c % counters_of_block H.fields)) at
+    ∙ counter-moved (bytes_of bytes) g H.fields.refcount_order 0 (block_at f H.fields b) (length bytes) (c % counters_of_block H.fields) room (λ k less.
+    let zeroth : 0 + k ≡ k = omega arith in
+    splice-inside f (block_at f H.fields b) bytes k less ∙ ap (bytes_of bytes) (sym zeroth)))
 
 -- a counter of whole bytes lies in its block
 pub counter-room : (h : Fields) (i : ℕ) → i < counters_of_block h → 8 ≤ counter_bits h → i * (counter_bits h / 8) + counter_bits h / 8 ≤ cluster_size h

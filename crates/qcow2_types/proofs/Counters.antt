@@ -81,9 +81,9 @@ counter-moved f g order a b n i room same = either (nat_le 8 (2 ^ order)) refl
         let d : ℕ = 2 ^ order / 8 in
         let all : i * (d * 8) + d * 8 ≤ n * 8 = rw w room in
         be-same g f (b + i * d) (a + i * d) d (λ k less.
-            let here : b + i * d + k ≡ b + (i * d + k) = omega arith in
-            let there : a + i * d + k ≡ a + (i * d + k) = omega arith in
-            rw (here, there) (same (i * d + k) (omega arith)))
+        let here : b + i * d + k ≡ b + (i * d + k) = omega arith in
+        let there : a + i * d + k ≡ a + (i * d + k) = omega arith in
+        rw (here, there) (same (i * d + k) (omega arith)))
 
     narrow : narrow_counter g (2 ^ order) b i ≡ narrow_counter f (2 ^ order) a i
     narrow =

@@ -50,3 +50,4 @@ pub mod NumberBytes
 pub mod HeaderFields
 pub mod HeaderParts
 pub mod Surplus
+pub mod BlockWordSteps

@@ -4,11 +4,11 @@ use Rattle.qcow2_types.specs.Bytes.{Bytes, word}
 use Rattle.qcow2_types.specs.Words.{Mapping, unmapped, data_at}
 use Rattle.qcow2_types.specs.Header.{Fields, Header, cluster_size, words_of_cluster}
 use Rattle.qcow2_types.specs.Entries.{l2_table}
-use Rattle.qcow2_types.specs.Counts.{block_at, count, counters_of_block}
+use Rattle.qcow2_types.specs.Counts.{block_at, count, counter, counters_of_block}
 use Rattle.qcow2_types.specs.References.{refs}
 use Rattle.qcow2_types.specs.Consistency.{IsConsistent}
 use Rattle.qcow2_types.specs.Slots.{slot, Live}
-use Rattle.qcow2_types.specs.Frames.{Same, Kept, nothing, block, table, l1_word, ShowsAs}
+use Rattle.qcow2_types.specs.Frames.{Same, Kept, nothing, block, table, l1_word, block_word, ShowsAs}
 use Rattle.qcow2_types.specs.Versions.{KeepsSlots, SamePlaces}
 
 -- By how much a cluster is counted more often than it is named stays the same, for each cluster.
@@ -79,6 +79,22 @@ pub record TableEntered (f g : Bytes) (H : Header) (i c place : ℕ) : Type 0 wh
   pub empty : (j : ℕ) → j < words_of_cluster H.fields → slot g H.fields i j ≡ unmapped
   pub others : (k m : ℕ) → Live (l2_table f H.fields) H.fields k m → slot g H.fields k m ≡ slot f H.fields k m
   pub counts : (d : ℕ) → count g H.fields d ≡ count f H.fields d
+  pub named_once : refs g H.fields c ≡ 1
+  pub references : (d : ℕ) → d ≢ c → refs g H.fields d ≡ refs f H.fields d
+  pub shows : (guest : ℕ) → ShowsAs g f H.fields guest
+  pub free : (d : ℕ) → refs f H.fields d ≡ 0 → Same f g (d * cluster_size H.fields) (cluster_size H.fields)
+
+-- Word i of the refcount table, which named no block, was written and names the one in cluster c, at this place. The clusters that it
+-- counts, c perhaps among them, are counted as its bytes say.
+pub record BlockEntered (f g : Bytes) (H : Header) (i c place : ℕ) : Type 0 where
+  pub consistent : IsConsistent g H
+  pub kept : Kept f g H.fields (block_word i)
+  pub here : block_at g H.fields i ≡ place
+  pub blocks : (b : ℕ) → b ≢ i → block_at g H.fields b ≡ block_at f H.fields b
+  pub tables : (k : ℕ) → l2_table g H.fields k ≡ l2_table f H.fields k
+  pub slots : (k m : ℕ) → Live (l2_table f H.fields) H.fields k m → slot g H.fields k m ≡ slot f H.fields k m
+  pub counts : (d : ℕ) → d / counters_of_block H.fields ≢ i → count g H.fields d ≡ count f H.fields d
+  pub new_counts : (d : ℕ) → d / counters_of_block H.fields ≡ i → count g H.fields d ≡ counter f H.fields place (d % counters_of_block H.fields)
   pub named_once : refs g H.fields c ≡ 1
   pub references : (d : ℕ) → d ≢ c → refs g H.fields d ≡ refs f H.fields d
   pub shows : (guest : ℕ) → ShowsAs g f H.fields guest

@@ -4,15 +4,15 @@
 ghost use Rattle.std.specs.Prelude.{◌≡◌, ◌≢◌, ◌≤◌, ◌<◌, ◌+◌, ◌*◌, ◌/◌, ◌%◌, ◌^◌, ℕ, List, [], ◌∷◌, length, true, IsTrue};
 ghost use Rattle.std.specs.Int.{w64, to_be_bytes};
 ghost use Rattle.qcow2_types.specs.Bytes.{Bytes, be, bytes_of, word, splice};
-ghost use Rattle.qcow2_types.specs.Words.{data_at, unmapped, mapping_of, l1_word_sound, table_offset};
-ghost use Rattle.qcow2_types.specs.Header.{Header, cluster_size, words_of_cluster, layout_of};
+ghost use Rattle.qcow2_types.specs.Words.{data_at, unmapped, mapping_of, l1_word_sound, table_offset, block_word_sound, block_offset};
+ghost use Rattle.qcow2_types.specs.Header.{Header, cluster_size, words_of_cluster, refcount_table_entries, layout_of};
 ghost use Rattle.qcow2_types.specs.Entries.{l2_table};
-ghost use Rattle.qcow2_types.specs.Counts.{block_at, count, counter_bits, counters_of_block};
+ghost use Rattle.qcow2_types.specs.Counts.{block_at, count, counter, counter_of, counter_bits, counters_of_block};
 ghost use Rattle.qcow2_types.specs.References.{refs};
 ghost use Rattle.qcow2_types.specs.Consistency.{IsConsistent};
 ghost use Rattle.qcow2_types.specs.Slots.{slot, Live};
 ghost use Rattle.qcow2_types.specs.Frames.{Outside};
-ghost use Rattle.qcow2_types.specs.Steps.{DataWritten, FreeWritten, BlockWritten, CounterWritten, ClusterMapped, TableEntered};
+ghost use Rattle.qcow2_types.specs.Steps.{DataWritten, FreeWritten, BlockWritten, BlockEntered, CounterWritten, ClusterMapped, TableEntered};
 ghost use Rattle.imago_storage.specs.Disk.{byte};
 ghost use Rattle.qcow2_types.specs.Disk.{at, qcow2};
 ghost use Rattle.qcow2_types.specs.WorkedImage.{of_pieces, image, image_header};
@@ -55,6 +55,24 @@ pub fn entering_a_table_of_zeroes()
         → (c t : ℕ) → table_offset w ≡ t → t ≢ 0 → t ≡ c * cluster_size h.fields → refs f h.fields c ≡ 0 → 1 ≤ count f h.fields c
         → ((j : ℕ) → j < words_of_cluster h.fields → word f t j ≡ 0)
         → TableEntered f (splice f (h.fields.l1_offset + 8 * i) (to_be_bytes w64 w)) h i c t }
+{}
+
+/// A refcount block that is written whole counts its clusters as its bytes say.
+pub fn block_write_sets_its_counts()
+    ensures { (f : Bytes) (h : Header) → IsConsistent f h → (b : ℕ) → block_at f h.fields b ≢ 0
+        → (bytes : List ℕ) → length bytes ≡ cluster_size h.fields → (c : ℕ) → c / counters_of_block h.fields ≡ b
+        → count (splice f (block_at f h.fields b) bytes) h.fields c ≡ counter_of (bytes_of bytes) (counter_bits h.fields) 0 (c % counters_of_block h.fields) }
+{}
+
+/// A word of the refcount table that named no block can name one in a cluster that nothing names, if that is counted, by its
+/// own block or by the new one.
+pub fn entering_a_block()
+    ensures { (f : Bytes) (h : Header) → IsConsistent f h → (i : ℕ) → i < refcount_table_entries h.fields → block_at f h.fields i ≡ 0
+        → (w : ℕ) → w < 2 ^ 64 → IsTrue (block_word_sound h.fields.cluster_bits w)
+        → (c t : ℕ) → block_offset w ≡ t → t ≢ 0 → t ≡ c * cluster_size h.fields → refs f h.fields c ≡ 0
+        → (c / counters_of_block h.fields ≢ i → 1 ≤ count f h.fields c)
+        → (c / counters_of_block h.fields ≡ i → 1 ≤ counter f h.fields t (c % counters_of_block h.fields))
+        → BlockEntered f (splice f (h.fields.refcount_table_offset + 8 * i) (to_be_bytes w64 w)) h i c t }
 {}
 
 /// In the worked image, cluster 7 is counted, and then named by the word of guest cluster 2, after 09 was written to it.
