@@ -51,3 +51,4 @@ pub mod HeaderFields
 pub mod HeaderParts
 pub mod Surplus
 pub mod BlockWordSteps
+pub mod L1Switch
