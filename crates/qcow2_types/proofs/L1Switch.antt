@@ -1,36 +1,30 @@
 -- The header names another L1 table, whose words are those of the old one, and then 0.
-use Rattle.std.proofs.Common.{◌≡◌, ◌≢◌, ℕ, ◌+◌, ◌-◌, ◌*◌, ◌/◌, ◌%◌, ◌^◌, ◌<◌, ◌≤◌, refl, arith, sym, subst, ◌∙◌, ap, inl, inr}
-use Rattle.std.specs.Prelude.{true, false, cond, ◌&&◌, ◌⊎◌, nat_lt, IsTrue, Ok}
+use Rattle.std.proofs.Common.{◌≡◌, ◌≢◌, ℕ, ◌+◌, ◌*◌, ◌/◌, ◌%◌, ◌^◌, ◌<◌, ◌≤◌, refl, arith, sym, subst, ◌∙◌, ap, inl, inr}
+use Rattle.std.specs.Prelude.{true, false, ◌⊎◌, nat_lt, IsTrue, Ok}
 use Rattle.std.proofs.lemmas.Bool.{cases_eq, cases_lt, lt-ltb, le-ltb}
 use Rattle.std.proofs.lemmas.Bool.Decides.{nat_tests}
-use Rattle.std.proofs.lemmas.Nat.{pow_pos}
-use Rattle.std.proofs.Math.Nat.{pow-le-pow_right, div-add-mod}
+use Rattle.std.proofs.Math.Nat.{pow-le-pow_right}
 use Rattle.qcow2_types.specs.Bytes.{Bytes, word, sum_below}
 use Rattle.qcow2_types.specs.Words.{Mapping, is_damaged, l1_word_sound, block_word_sound, table_offset, mapping_of}
 use Rattle.qcow2_types.proofs.Values.{entry-slot}
 use Rattle.qcow2_types.proofs.Shows.{guest-live, guest-slot-there, guest-slot-none}
 use Rattle.qcow2_types.specs.Header.{Fields, Header, Shaped, header_of, cluster_size, words_of_cluster, refcount_table_entries, layout_of}
-use Rattle.qcow2_types.specs.Entries.{l2_table, l2_mapping, entry}
+use Rattle.qcow2_types.specs.Entries.{l2_table, entry}
 use Rattle.qcow2_types.specs.Counts.{block_at, count, counter}
 use Rattle.qcow2_types.specs.Slots.{slot, Live, over_slots, or_none, guest_slot, SoundWords}
-use Rattle.qcow2_types.specs.Frames.{Outside, Same, touches, Kept, first_cluster}
+use Rattle.qcow2_types.specs.Frames.{Outside, touches, Kept, first_cluster}
 use Rattle.qcow2_types.specs.References.{Weight, structure, of_cluster, contents, of_mapping, of_copied, meets, refs}
 use Rattle.qcow2_types.specs.Consistency.{IsConsistent}
 use Rattle.qcow2_types.proofs.Consistent.{some-words, consistent-shaped, structure-named-once, copied-named-once, named-counted, consistent-from, meets-own}
 use Rattle.qcow2_types.proofs.Frames.{header-part}
-use Rattle.qcow2_types.proofs.HeaderLimits.{header-limited}
-use Rattle.qcow2_types.proofs.Limit.{sum-zero}
 use Rattle.qcow2_types.proofs.Named.{structure-le-refs}
-use Rattle.qcow2_types.proofs.Parts.{kept-start, touches-once, count-kept, l2_table-kept, block_at-kept, slot-kept}
+use Rattle.qcow2_types.proofs.Parts.{kept-start, touches-once, count-kept, block_at-kept}
 use Rattle.qcow2_types.proofs.Slots.{contents-slots}
 use Rattle.qcow2_types.proofs.Sound.{sound-words}
 use Rattle.qcow2_types.proofs.Splices.{be-same}
 use Rattle.qcow2_types.proofs.Sums.{sum-same}
-use Rattle.qcow2_types.proofs.Switches.{with_l1, sum-longer}
-
--- the header with another L1 table
-abbrev pub with_l1_table : Header → ℕ → ℕ → Header
-with_l1_table H offset entries = record H { fields = with_l1 H.fields offset entries }
+use Rattle.qcow2_types.specs.Switched.{with_l1, with_l1_table, L1Switched}
+use Rattle.qcow2_types.proofs.Switches.{sum-longer}
 
 module _ (f g : Bytes) (H : Header) (was : IsConsistent f H) (o more : ℕ) (loads : header_of true g ≡ Ok (with_l1_table H o (H.fields.l1_entries + more))) (out : Outside f g 0 64)
     (old_words : (i : ℕ) → i < H.fields.l1_entries → word f o i ≡ word f H.fields.l1_offset i) (new_words : (i : ℕ) → H.fields.l1_entries ≤ i → i < H.fields.l1_entries + more → word f o i ≡ 0)
@@ -254,3 +248,14 @@ module _ (f g : Bytes) (H : Header) (was : IsConsistent f H) (o more : ℕ) (loa
             guest-slot-there g (with_l1 H.fields o (H.fields.l1_entries + more)) guest (λ z. is (sym (switched-tables (guest / words_of_cluster H.fields)) ∙ z))
             ∙ (switched-slots (guest / words_of_cluster H.fields) (guest % words_of_cluster H.fields) (guest-live f H.fields guest words is) ∙ sym (guest-slot-there f H.fields guest is))
       ]
+
+  pub l1-table-switched : L1Switched f g H o more
+  l1-table-switched = record {
+    consistent = switched-consistent;
+    tables = switched-tables;
+    slots = switched-slots;
+    blocks = switched-blocks;
+    counts = switched-counts;
+    references = switched-references;
+    entries = switched-entry;
+  }

@@ -52,3 +52,4 @@ pub mod HeaderParts
 pub mod Surplus
 pub mod BlockWordSteps
 pub mod L1Switch
+pub mod RefcountTableSwitch

@@ -11,6 +11,7 @@ use Rattle.qcow2_types.specs.References.{Weight, structure, of_cluster, meets}
 use Rattle.qcow2_types.proofs.Sums.{sum-same, sum-change}
 use Rattle.qcow2_types.specs.Slots.{slot, Live, over_slots, or_none}
 use Rattle.qcow2_types.specs.Versions.{named, of_either}
+use Rattle.qcow2_types.specs.Switched.{with_l1}
 
 -- what row i of the tables weighs
 row : Bytes → Bytes → Fields → ℕ → ℕ → ℕ
@@ -37,28 +38,6 @@ table-switched f g f' g' h i c step =
     ≡ sum_below h.l1_entries (λ k. or_none (l2_table f h k) (sum_below (words_of_cluster h) (λ j. of_either h (meets h c) (slot f h k j) (slot g h k j)))) =
     sum-same _ _ _ step.rows in
     omega arith
-
--- The header names another L1 table.
-abbrev pub with_l1 : Fields → ℕ → ℕ → Fields
-with_l1 h offset entries = record {
-  version = h.version;
-  backing_offset = h.backing_offset;
-  backing_length = h.backing_length;
-  cluster_bits = h.cluster_bits;
-  size = h.size;
-  crypt_method = h.crypt_method;
-  l1_entries = entries;
-  l1_offset = offset;
-  refcount_table_offset = h.refcount_table_offset;
-  refcount_table_clusters = h.refcount_table_clusters;
-  snapshots = h.snapshots;
-  snapshots_offset = h.snapshots_offset;
-  incompatible = h.incompatible;
-  compatible = h.compatible;
-  autoclear = h.autoclear;
-  refcount_order = h.refcount_order;
-  header_length = h.header_length;
-}
 
 -- terms of 0 add nothing
 pub sum-longer : (n k : ℕ) (f : ℕ → ℕ) → ((i : ℕ) → n ≤ i → f i ≡ 0) → sum_below (n + k) f ≡ sum_below n f

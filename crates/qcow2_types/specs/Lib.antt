@@ -11,6 +11,7 @@ pub mod Frames
 pub mod Versions
 pub mod WorkedImage
 pub mod Steps
+pub mod Switched
 pub mod Places
 pub mod Pending
 pub mod Features

@@ -1,14 +1,15 @@
 //! What one write into a consistent image leaves. The functions do nothing, and their contracts are the laws: f is the file
 //! before the write, and the image stays consistent under the same header.
 
-ghost use Rattle.std.specs.Prelude.{◌≡◌, ◌≢◌, ◌≤◌, ◌<◌, ◌+◌, ◌*◌, ◌/◌, ◌%◌, ◌^◌, ℕ, List, [], ◌∷◌, length, true, IsTrue};
+ghost use Rattle.std.specs.Prelude.{◌≡◌, ◌≢◌, ◌≤◌, ◌<◌, ◌+◌, ◌*◌, ◌/◌, ◌%◌, ◌^◌, ℕ, List, [], ◌∷◌, length, true, IsTrue, Ok};
 ghost use Rattle.std.specs.Int.{w64, to_be_bytes};
 ghost use Rattle.qcow2_types.specs.Bytes.{Bytes, be, bytes_of, word, splice};
 ghost use Rattle.qcow2_types.specs.Words.{data_at, unmapped, mapping_of, l1_word_sound, table_offset, block_word_sound, block_offset};
-ghost use Rattle.qcow2_types.specs.Header.{Header, cluster_size, words_of_cluster, refcount_table_entries, layout_of};
+ghost use Rattle.qcow2_types.specs.Header.{Header, header_of, cluster_size, words_of_cluster, refcount_table_entries, layout_of};
 ghost use Rattle.qcow2_types.specs.Entries.{l2_table};
 ghost use Rattle.qcow2_types.specs.Counts.{block_at, count, counter, counter_of, counter_bits, counters_of_block};
-ghost use Rattle.qcow2_types.specs.References.{refs};
+ghost use Rattle.qcow2_types.specs.References.{meets, refs};
+ghost use Rattle.qcow2_types.specs.Switched.{with_l1_table, with_reftable, with_refcount_table, newly_named, L1Switched, RefcountTableSwitched};
 ghost use Rattle.qcow2_types.specs.Consistency.{IsConsistent};
 ghost use Rattle.qcow2_types.specs.Slots.{slot, Live};
 ghost use Rattle.qcow2_types.specs.Frames.{Outside};
@@ -73,6 +74,29 @@ pub fn entering_a_block()
         → (c / counters_of_block h.fields ≢ i → 1 ≤ count f h.fields c)
         → (c / counters_of_block h.fields ≡ i → 1 ≤ counter f h.fields t (c % counters_of_block h.fields))
         → BlockEntered f (splice f (h.fields.refcount_table_offset + 8 * i) (to_be_bytes w64 w)) h i c t }
+{}
+
+/// A header that names another L1 table, in counted clusters that nothing names, whose words are the old ones and then 0, leaves
+/// the image as it is, but for the old table, which nothing names then.
+pub fn switching_the_l1_table()
+    ensures { (f g : Bytes) (h : Header) → IsConsistent f h → (offset more : ℕ) → header_of true g ≡ Ok (with_l1_table h offset (h.fields.l1_entries + more)) → Outside f g 0 64
+        → ((i : ℕ) → i < h.fields.l1_entries → word f offset i ≡ word f h.fields.l1_offset i)
+        → ((i : ℕ) → h.fields.l1_entries ≤ i → i < h.fields.l1_entries + more → word f offset i ≡ 0)
+        → ((d : ℕ) → 0 < meets h.fields d offset ((h.fields.l1_entries + more) * 8) → (refs f h.fields d ≡ 0) × (1 ≤ count f h.fields d))
+        → L1Switched f g h offset more }
+{}
+
+/// A header that names another refcount table, whose words are the old ones and then some that may name new blocks, leaves the
+/// image as it is, but for the old table, which nothing names then. The table and the blocks stand apart, in clusters that
+/// nothing named and that are counted then.
+pub fn switching_the_refcount_table()
+    ensures { (f g : Bytes) (h : Header) → IsConsistent f h → (offset more : ℕ) → header_of true g ≡ Ok (with_refcount_table h offset (h.fields.refcount_table_clusters + more)) → Outside f g 0 64
+        → ((i : ℕ) → i < refcount_table_entries h.fields → word f offset i ≡ word f h.fields.refcount_table_offset i)
+        → ((i : ℕ) → refcount_table_entries h.fields ≤ i → i < refcount_table_entries h.fields + more * words_of_cluster h.fields → IsTrue (block_word_sound h.fields.cluster_bits (word f offset i)))
+        → ((d : ℕ) → newly_named f h.fields offset more d ≤ 1)
+        → ((d : ℕ) → 0 < newly_named f h.fields offset more d → (refs f h.fields d ≡ 0) × (1 ≤ count g (with_reftable h.fields offset (h.fields.refcount_table_clusters + more)) d))
+        → ((d : ℕ) → 0 < refs f h.fields d → refs f h.fields d ≤ count g (with_reftable h.fields offset (h.fields.refcount_table_clusters + more)) d)
+        → RefcountTableSwitched f g h offset more }
 {}
 
 /// In the worked image, cluster 7 is counted, and then named by the word of guest cluster 2, after 09 was written to it.
