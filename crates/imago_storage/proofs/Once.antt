@@ -5,7 +5,7 @@ use Rattle.std.proofs.Math.Nat.{div-mul-le_self}
 use Rattle.std.proofs.lemmas.Bool.{cases_lt}
 use Rattle.std.specs.Prelude.{List, length, Result, Ok, Err, OnOk, IfErr}
 use Rattle.imago_storage.specs.State.{StorageState, IsAlignment, unit_of}
-use Rattle.imago_storage.specs.Calls.{Mixed, Later, Cause}
+use Rattle.imago_storage.specs.Calls.{Mixed, Later, Cause, CountsFaults}
 use Rattle.imago_storage.specs.Through.{round_up, Overflows, IsAtOnce, Stops, UnlessOverflow, WrittenThrough, NotThrough, NotWrittenThrough, RequestsOnce, NotRead, Put, PutAtOnce}
 use Rattle.imago_storage.specs.declared.fault.Fault.{Fault}
 use Rattle.imago_storage.specs.declared.fault.Fault.TheVariants.{RangeOverflow}
@@ -87,3 +87,8 @@ put-at-once result old new at b bytes alignment low long whole ok err once stops
 -- the cause of a refused read of a range well below 2^64
 pub read-below : (old new : StorageState) (at n : ℕ) (fault : Fault) → IsAlignment (unit_of old.shape) → at + n ≤ 2 ^ 63 → NotRead old new at n fault → Cause old.faults new.faults fault
 read-below old new at n fault alignment low why = unless-overflow _ old new (Cause old.faults new.faults) (Cause old.faults new.faults) (overflows-not (unit_of old.shape) at n alignment low) (λ e cause. cause) fault why
+
+-- what such a read says of the count of faults
+pub read-counted : (result : Result (Unit {0}) Fault) (old new : StorageState) (at n : ℕ) → IsAlignment (unit_of old.shape) → at + n ≤ 2 ^ 63 → OnOk result (new.faults ≡ old.faults) → IfErr result (NotRead old new at n) → CountsFaults old.faults new.faults result
+read-counted (Ok u) old new at n alignment low same why = same
+read-counted (Err fault) old new at n alignment low same why = read-below old new at n fault alignment low why

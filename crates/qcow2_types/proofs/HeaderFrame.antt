@@ -123,7 +123,7 @@ bind-ok (Ok x) k y e = (x, refl, e)
 bind-ok (Err e') k y e = absurd cc
 
 -- where the backing name is read, the extensions end within the cluster
-end-inside : (f : Bytes) (h : Fields) (name : Option (List ℕ)) → backing_name_read f h ≡ Ok name → extensions_end h ≤ cluster_size h
+pub end-inside : (f : Bytes) (h : Fields) (name : Option (List ℕ)) → backing_name_read f h ≡ Ok name → extensions_end h ≤ cluster_size h
 end-inside f h name read = elim (cases_lt (cluster_size h) (h.backing_offset + h.backing_length)) [
   | inl lt ↦ none (has_backing_name h) (nat_lt 1023 h.backing_length) _ _ (lt-ltb _ _ lt) read
   | inr fits ↦ some (has_backing_name h && nat_le h.header_length h.backing_offset) (omega arith)
@@ -148,6 +148,15 @@ texts-same f g h H same loads =
     let name = bind-ok (backing_name_read f h) _ H loads in
     let end : extensions_end h ≤ cluster_size h = end-inside f h name.0 name.1 in
     rw (backing-same f g (cluster_size h) same h (omega arith), extensions_read-same f g (cluster_size h) same h end) refl
+
+-- They are the same, read or refused, where the first cluster is the same.
+pub texts-alike : (f g : Bytes) (h : Fields) → Same f g 0 (cluster_size h) → texts_of g h ≡ texts_of f h
+unfolding texts_of
+texts-alike f g h same = split (backing_name_read f h) refl
+  where
+    split : (name : Result (Option (List ℕ)) Fault) → backing_name_read f h ≡ name → texts_of g h ≡ texts_of f h
+    split (Ok name) read = rw (backing-same f g (cluster_size h) same h (omega arith), extensions_read-same f g (cluster_size h) same h (end-inside f h name read)) refl
+    split (Err e) read = rw (backing-same f g (cluster_size h) same h (omega arith), read) refl
 
 -- The header of a file that keeps the first cluster's bytes.
 pub header-same : (writing : Bool) (f g : Bytes) (H : Header) → header_of writing f ≡ Ok H → Same f g 0 (cluster_size (fields_of f)) → 104 ≤ cluster_size (fields_of f) → header_of writing g ≡ Ok H

@@ -235,10 +235,24 @@ abbrev pub features_of : ℕ → List ℕ → List Feature
 features_of zero bytes = []
 features_of (suc n) bytes = feature_in (take 48 bytes) ++ features_of n (drop 48 bytes)
 
+-- A header has its names by rising kind, and those of one kind by rising bit.
+abbrev pub comes_before : Feature → Feature → Bool
+comes_before x y = nat_lt x.kind y.kind || ((x.kind == y.kind) && nat_lt x.bit y.bit)
+
+-- the names with one more, which takes the place of one of the same kind and bit
+abbrev pub with_name : Feature → List Feature → List Feature
+with_name x [] = x ∷ []
+with_name x (y ∷ ys) = if comes_before y x then y ∷ with_name x ys else if comes_before x y then x ∷ y ∷ ys else x ∷ ys
+
+-- the same of several, one after the other: of two of the same kind and bit the last counts
+abbrev pub with_names : List Feature → List Feature → List Feature
+with_names known [] = known
+with_names known (x ∷ xs) = with_names (with_name x known) xs
+
 -- the names in the extension, where there is one
 abbrev pub features_read : Option (List ℕ) → List Feature
 features_read None = []
-features_read (Some bytes) = features_of (length bytes / 48) bytes
+features_read (Some bytes) = with_names [] (features_of (length bytes / 48) bytes)
 
 -- Only version 3 has extensions.
 abbrev pub extensions_read : Bytes → Fields → Result (List Extension) Fault

@@ -1,0 +1,10 @@
+use Rattle.std.proofs.Common.{◌≡◌, drop}
+use Rattle.std.specs.Prelude.{map}
+use Rattle.qcow2_types.specs.Features.{kind_of}
+use Rattle.qcow2_metadata.specs.Kinds.{seen_name}
+use Rattle.qcow2_metadata.specs.Features.{name_of}
+use Rattle.qcow2_metadata.proofs.features.name_in.Given as goal
+
+-- The name is not among those before.
+abbrev pub invariant-loop-known : goal.invariant-loop-known
+invariant-loop-known l = name_of (kind_of l.kind) l.bit (map seen_name (drop l.known-index l.names)) ≡ name_of (kind_of l.kind) l.bit (map seen_name l.names)

@@ -1,0 +1,29 @@
+-- A header as contracts see it.
+use Rattle.std.specs.Prelude.{ℕ, List, Option, String, map, IsTrue}
+use Rattle.std.specs.Option.{option_map}
+use Rattle.std.specs.String.{string_bytes}
+use Rattle.std.specs.declared.alloc.Global.{Global}
+use Rattle.qcow2_types.specs.Header.{Header as HeaderRecord}
+use Rattle.qcow2_metadata.specs.FieldsView.{seen_fields, IsHeader}
+use Rattle.qcow2_metadata.specs.Kinds.{seen_name}
+use Rattle.qcow2_metadata.specs.Features.{in_order}
+use Rattle.qcow2_metadata.specs.declared.header.Header.TheInside.{Inside}
+
+-- the bytes of a text, where there is one
+abbrev pub seen_text : Option (String Global) → Option (List ℕ)
+seen_text text = option_map string_bytes text
+
+-- a header
+abbrev pub seen_header : Inside → HeaderRecord
+seen_header h = record {
+  fields = seen_fields h.v2 h.v3;
+  backing_name = seen_text h.backing_filename;
+  backing_format = seen_text h.backing_format;
+  data_file_name = seen_text h.external_data_filename;
+  features = map seen_name h.feature_names.items;
+}
+
+-- what holds of every header, however it was made
+pub record IsKept (h : Inside) : Type 0 where
+  pub parts : IsHeader h.v2 h.v3
+  pub ordered : IsTrue (in_order (map seen_name h.feature_names.items))

@@ -1,0 +1,12 @@
+pub mod Kinds
+pub mod Parts
+pub mod FieldsView
+pub mod HeaderView
+pub mod Extensions
+pub mod Features
+pub mod Loading
+pub mod Updates
+pub mod Cells
+pub mod Places
+pub mod Blocks
+pub mod BlockView

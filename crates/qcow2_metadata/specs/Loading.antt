@@ -1,0 +1,35 @@
+-- Loading a header, and why it is refused.
+use Rattle.std.specs.Prelude.{◌≡◌, Option, Some, None, Result, Err}
+use Rattle.imago_storage.specs.State.{StorageState, Rose}
+use Rattle.imago_storage.specs.declared.fault.Fault.{Fault}
+use Rattle.imago_storage.specs.declared.fault.Fault.TheVariants.{Memory, Storage}
+use Rattle.qcow2_types.specs.Bytes.{Bytes, bytes_of}
+use Rattle.qcow2_types.specs.Header.{Header as HeaderRecord, fields_of, first_fault, rules_of_kind, rules_of_shape, rules_of_size}
+
+-- the bytes of a storage by their places
+abbrev pub file : StorageState → Bytes
+file s = bytes_of s.bytes
+
+-- the first refusal, or else the other
+infixr 10 ◌or-else◌
+abbrev pub ◌or-else◌ : Option Fault → Option Fault → Option Fault
+None or-else r = r
+(Some e) or-else r = Some e
+
+-- the first rule on the fields that is broken, whether they are read or written
+unfoldable pub fields_fault : Bytes → Option Fault
+fields_fault f =
+    let h = fields_of f in
+    let sizes = first_fault (rules_of_shape h) or-else first_fault (rules_of_size h) in
+    first_fault (rules_of_kind f) or-else sizes
+
+-- a refusal is the one that is defined, unless memory was wanting
+abbrev pub RefusedBy : {T : Type 0} → Result T Fault → Fault → Type 0
+RefusedBy defined Memory = Unit {0}
+RefusedBy defined fault = defined ≡ Err fault
+
+-- why a header isn't loaded: want of memory, a fault of the storage, or the first rule that its file breaks
+abbrev pub NotLoaded : Result HeaderRecord Fault → StorageState → StorageState → Fault → Type 0
+NotLoaded defined old new Memory = new.faults ≡ old.faults
+NotLoaded defined old new Storage = Rose old.faults new.faults
+NotLoaded defined old new fault = (defined ≡ Err fault) × (new.faults ≡ old.faults)

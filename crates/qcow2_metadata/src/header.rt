@@ -1,0 +1,202 @@
+// The header of an image.
+ghost use Rattle.std.specs.Prelude.{◌≡◌, ◌+◌, ◌-◌, ◌^◌, ◌≤◌, ◌↔◌, ◌⊎◌, IsOk, IsOkUnless};
+ghost use Rattle.std.specs.Option.{option_copied};
+ghost use Rattle.qcow2_types.specs.Header.{Shaped, cluster_size as cluster_size_of, words_of_cluster, refcount_table_entries, has_external_data};
+ghost use Rattle.qcow2_types.specs.Counts.{counters_of_block};
+ghost use Rattle.qcow2_types.specs.Features.{kind_of};
+ghost use Rattle.qcow2_metadata.specs.Features.{name_of};
+
+mod loading;
+mod updating;
+
+use crate::features::{FeatureName, name_in};
+use imago_storage::Fault;
+use qcow2_types::{ClusterCount, FeatureType, HostOffset, V2Header, V3HeaderBase};
+use std::marker::Model;
+
+/// The header of a qcow2 image.
+///
+/// Contracts see its fields as the file has them, and the bytes of its texts: the backing file's name and format, the
+/// external data file's name, and the names of feature bits. A header of version 2 has no feature bits, and counters of 16
+/// bits.
+#[derive(Drop)]
+pub struct Header {
+    v2: V2Header,
+    v3: V3HeaderBase,
+    backing_filename: Option<String>,
+    backing_format: Option<String>,
+    external_data_filename: Option<String>,
+    // By rising kind, and those of one kind by rising bit.
+    feature_names: Vec<FeatureName>,
+}
+
+impl Model for Header {
+    ghost use Rattle.qcow2_types.specs.Header.{Header as HeaderRecord};
+
+    ghost Value = { HeaderRecord };
+
+    ghost use Rattle.qcow2_metadata.specs.HeaderView.{seen_header, IsKept};
+
+    ghost view = { seen_header };
+
+    ghost invariant = { IsKept };
+}
+
+impl Header {
+    /// The size of the disk, in bytes.
+    pub fn size(&self) -> u64
+        ensures { result ≡ self.now.fields.size }
+    {
+        self.v2.size
+    }
+
+    /// Sets the size of the disk, in bytes. The file is not written.
+    pub fn set_size(&mut self, new_size: u64)
+        ensures { self.new ≡ record self.old { fields = record self.old.fields { size = new_size } } }
+    {
+        self.v2.size = new_size;
+    }
+
+    /// The version of the format, 2 or 3.
+    pub fn version(&self) -> u32
+        ensures value { result ≡ self.now.fields.version }
+        ensures known { (result ≡ 2) ⊎ (result ≡ 3) }
+    {
+        self.v2.version
+    }
+
+    /// Checks that the version is at least `minimum`; else `Fault::VersionLimit`.
+    pub fn require_version(&self, minimum: u32) -> Result<(), Fault>
+        ensures ok { IsOk result ↔ (minimum ≤ self.now.fields.version) }
+        ensures err { IsOkUnless result Fault.VersionLimit }
+    {
+        if self.v2.version < minimum {
+            return Err(Fault::VersionLimit);
+        }
+        Ok(())
+    }
+
+    /// A cluster has 2 to this power of bytes: from 9 to 21.
+    pub fn cluster_bits(&self) -> u32
+        ensures value { result ≡ self.now.fields.cluster_bits }
+        ensures shaped { Shaped self.now.fields }
+    {
+        self.v2.cluster_bits
+    }
+
+    /// The size of a cluster, in bytes: from 512 to 2 MiB.
+    pub fn cluster_size(&self) -> usize
+        ensures value { result ≡ cluster_size_of self.now.fields }
+        ensures bounds { (512 ≤ result) × (result ≤ 2_097_152) }
+    {
+        1 << self.v2.cluster_bits
+    }
+
+    /// The number of words of an L2 table, which fills a cluster.
+    pub fn l2_entries(&self) -> usize
+        ensures { result ≡ words_of_cluster self.now.fields }
+    {
+        self.cluster_size() / 8
+    }
+
+    /// A counter has 2 to this power of bits: from 0 to 6.
+    pub fn refcount_order(&self) -> u32
+        ensures value { result ≡ self.now.fields.refcount_order }
+        ensures shaped { Shaped self.now.fields }
+    {
+        self.v3.refcount_order
+    }
+
+    /// A refcount block, which fills a cluster, has 2 to this power of counters.
+    pub fn rb_bits(&self) -> u32
+        ensures value { result ≡ self.now.fields.cluster_bits + 3 - self.now.fields.refcount_order }
+        ensures entries { 2 ^ result ≡ counters_of_block self.now.fields }
+        ensures bounds { (6 ≤ result) × (result ≤ 24) }
+    {
+        self.v2.cluster_bits + 3 - self.v3.refcount_order
+    }
+
+    /// The number of counters of a refcount block.
+    pub fn rb_entries(&self) -> usize
+        ensures { result ≡ counters_of_block self.now.fields }
+    {
+        1 << self.rb_bits()
+    }
+
+    /// Where the L1 table stands.
+    pub fn l1_table_offset(&self) -> HostOffset
+        ensures { result ≡ self.now.fields.l1_offset }
+    {
+        HostOffset(self.v2.l1_table_offset)
+    }
+
+    /// The number of words of the L1 table.
+    pub fn l1_table_entries(&self) -> usize
+        ensures { result ≡ self.now.fields.l1_entries }
+    {
+        self.v2.l1_size as usize
+    }
+
+    /// Where the refcount table stands.
+    pub fn reftable_offset(&self) -> HostOffset
+        ensures { result ≡ self.now.fields.refcount_table_offset }
+    {
+        HostOffset(self.v2.refcount_table_offset)
+    }
+
+    /// The number of clusters of the refcount table.
+    pub fn reftable_clusters(&self) -> ClusterCount
+        ensures { result ≡ self.now.fields.refcount_table_clusters }
+    {
+        ClusterCount(u64::from(self.v2.refcount_table_clusters))
+    }
+
+    /// The number of words of the refcount table.
+    pub fn reftable_entries(&self) -> usize
+        ensures { result ≡ refcount_table_entries self.now.fields }
+    {
+        self.v2.refcount_table_clusters as usize * self.l2_entries()
+    }
+
+    /// The name of the backing file, where there is one.
+    pub fn backing_filename(&self) -> Option<&str>
+        ensures { option_copied result ≡ self.now.backing_name }
+    {
+        self.backing_filename.as_deref()
+    }
+
+    /// The format of the backing file, where it is named.
+    pub fn backing_format(&self) -> Option<&str>
+        ensures { option_copied result ≡ self.now.backing_format }
+    {
+        self.backing_format.as_deref()
+    }
+
+    /// Whether the data is in an external file: incompatible feature bit 2.
+    pub fn external_data_file(&self) -> bool
+        ensures { result ≡ has_external_data self.now.fields }
+    {
+        self.v3.incompatible_features >> 2 & 1 == 1
+    }
+
+    /// The name of the external data file, where it is given. It may be given where the data isn't in an external file.
+    pub fn external_data_filename(&self) -> Option<&str>
+        ensures { option_copied result ≡ self.now.data_file_name }
+    {
+        self.external_data_filename.as_deref()
+    }
+
+    /// The name of a feature bit, where the image gives one.
+    pub fn feature_name(&self, kind: FeatureType, bit: u32) -> Option<&str>
+        ensures { option_copied result ≡ name_of (kind_of kind) bit self.now.features }
+    {
+        name_in(&self.feature_names, kind, bit)
+    }
+
+    /// The number of snapshots.
+    pub fn snapshots(&self) -> u32
+        ensures { result ≡ self.now.fields.snapshots }
+    {
+        self.v2.nb_snapshots
+    }
+}

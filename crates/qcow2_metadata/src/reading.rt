@@ -1,0 +1,21 @@
+// Reads of an image's file at places that lie well below 2^64.
+ghost use Rattle.std.specs.Prelude.{◌≡◌, ◌+◌, ◌≤◌, ◌^◌, length, OnOk};
+ghost use Rattle.imago_storage.specs.Calls.{CountsFaults, Kept, Reads};
+
+use imago_storage::{Fault, Storage, StorageExt};
+use std::alloc::Global;
+
+/// Fills the buffer with the bytes from an offset on. Past the file's end it reads zeroes.
+pub(crate) fn read_at<S: Storage>(
+    alloc: Global,
+    image: &mut S,
+    buf: &mut [u8],
+    offset: u64,
+) -> Result<(), Fault>
+    requires { offset + length buf.old ≤ 2 ^ 63 }
+    ensures read { OnOk result (Reads (S.state image.old).bytes offset buf.new) }
+    ensures kept { Kept (S.state image.old) (S.state image.new) }
+    ensures faults { CountsFaults (S.state image.old).faults (S.state image.new).faults result }
+{
+    image.read(alloc, buf, offset)
+}
