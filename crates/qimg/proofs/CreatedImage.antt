@@ -13,7 +13,8 @@ use Rattle.qcow2_types.specs.Disk.{shown_by, host_byte, in_qcow2}
 use Rattle.qcow2_types.proofs.Values.{entry-slot}
 use Rattle.qimg.specs.First.{value_at}
 use Rattle.qimg.specs.Created.{blank, blank_fields, blank_header, created, new_header, nothing_in, extension_bytes, l1_entries_of}
-use Rattle.qimg.specs.Opening.{rules_of_form, has_new_extensions, has_plain_words, header_fault, tables_fault, open_fault}
+use Rattle.std.specs.Result.{result_err}
+use Rattle.qimg.specs.Opening.{rules_of_form, has_new_extensions, has_plain_words, own_fault, header_fault, tables_fault, open_fault}
 use Rattle.qimg.proofs.SizeFrame.{resized, sized, IsNameApart, size-fields, size-kind, size-header, size-consistent, size-leaks, size-places}
 use Rattle.qimg.proofs.BlankImage.{blank-fields, blank-loads, blank-consistent, blank-leaks, blank-no_table}
 use Rattle.qimg.proofs.OpeningLemmas.{both-none, open-tables}
@@ -21,14 +22,6 @@ use Rattle.qimg.proofs.OpeningLemmas.{both-none, open-tables}
 -- no backing file is named
 no-name : (h : Fields) → has_backing_name h ≡ false → IsNameApart h
 no-name h none there = absurd cc
-
--- magic and version
-kind-kept : (e : ℕ) → e ≤ 2 → first_fault (rules_of_kind (blank e)) ≡ None
-unfolding be blank splice nothing_in extension_bytes
-kind-kept zero few = refl
-kind-kept (suc zero) few = refl
-kind-kept (suc (suc zero)) few = refl
-kind-kept (suc (suc (suc e))) few = absurd (omega arith)
 
 -- the extensions are those of a new image
 extensions-kept : (e size : ℕ) → e ≤ 2 → has_new_extensions (resized (blank e) size) ≡ true
@@ -45,13 +38,6 @@ plain-kept zero size few = refl
 plain-kept (suc zero) size few = refl
 plain-kept (suc (suc zero)) size few = refl
 plain-kept (suc (suc (suc e))) size few = absurd (omega arith)
-
--- its sizes are small
-sizes-kept : (e size : ℕ) → e ≤ 2 → size ≤ 65536 → first_fault (rules_of_size (sized (blank_fields e) size)) ≡ None
-sizes-kept zero size few small = let low : nat_lt (2 ^ 63 - 1) size ≡ false = le-ltb _ _ (omega arith) in rw low refl
-sizes-kept (suc zero) size few small = let low : nat_lt (2 ^ 63 - 1) size ≡ false = le-ltb _ _ (omega arith) in rw low refl
-sizes-kept (suc (suc zero)) size few small = let low : nat_lt (2 ^ 63 - 1) size ≡ false = le-ltb _ _ (omega arith) in rw low refl
-sizes-kept (suc (suc (suc e))) size few small = absurd (omega arith)
 
 -- it has the first form
 form-kept : (e size : ℕ) → size ≤ 65536 → size ≤ e * 32768 → first_fault (rules_of_form (sized (blank_fields e) size)) ≡ None
@@ -114,15 +100,12 @@ module _ (size : ℕ) (small : size ≤ 65536) where
 
   -- no rule on the header is broken
   created-header : header_fault (created size) ≡ None
-  unfolding header_fault created
+  unfolding header_fault own_fault created
   created-header =
       let fields : fields_of (resized (blank (l1_entries_of size)) size) ≡ sized (blank_fields (l1_entries_of size)) size = created-fields in
-      both-none _ _ (size-kind (blank (l1_entries_of size)) size ∙ kind-kept (l1_entries_of size) few)
-      (both-none _ _ (ap (λ h. first_fault (rules_of_shape h)) fields)
-      (both-none _ _ (ap (λ h. first_fault (rules_of_size h)) fields ∙ sizes-kept (l1_entries_of size) size few small)
-      (both-none _ _ (ap (λ h. first_fault (rules_of_writing true h)) fields)
+      both-none _ _ (ap result_err (created-loads true))
       (both-none _ _ (ap (λ h. first_fault (rules_of_form h)) fields ∙ form-kept (l1_entries_of size) size small covered)
-      (let passed : has_new_extensions (resized (blank (l1_entries_of size)) size) ≡ true = extensions-kept (l1_entries_of size) size few in rw passed refl)))))
+      (let passed : has_new_extensions (resized (blank (l1_entries_of size)) size) ≡ true = extensions-kept (l1_entries_of size) size few in rw passed refl))
 
   -- nor one on the tables
   created-tables : tables_fault (created size) (new_header size).fields ≡ None

@@ -9,18 +9,22 @@ use Rattle.imago_storage.specs.declared.fault.Fault.{Fault}
 use Rattle.imago_storage.specs.declared.fault.Fault.TheVariants.{DamagedHeader, DamagedTable, Unsupported, Limit, Memory, Storage}
 use Rattle.qcow2_types.specs.Bytes.{Bytes, bytes_of, word, all_below}
 use Rattle.qcow2_types.specs.Words.{Mapping, data_at, zeroes, packed, damaged, unmapped, mapping_of, is_damaged, l1_word_sound, block_word_sound, table_offset, block_offset, max_offset, is_place}
-use Rattle.qcow2_types.specs.Header.{Fields, Header, Rule, fields_of, first_fault, rules_of_kind, rules_of_shape, rules_of_size, rules_of_writing, words_of_cluster, refcount_table_entries, layout_of}
+use Rattle.std.specs.Result.{result_err}
+use Rattle.qcow2_types.specs.Header.{Fields, Header, Limited, Rule, fields_of, header_of, first_fault, words_of_cluster, refcount_table_entries, layout_of}
 use Rattle.qcow2_types.specs.Entries.{l2_table, l1_table_sound, l2_table_sound}
 use Rattle.qcow2_types.specs.Counts.{block_at, refcount_table_sound}
 use Rattle.qcow2_types.specs.Consistency.{tables_sound, IsConsistent}
 use Rattle.qcow2_types.proofs.Bounded.{all-below}
-use Rattle.qcow2_types.proofs.HeaderFrame.{header-fields, fields-same, start-be}
+use Rattle.qcow2_types.proofs.HeaderFrame.{header-fields, fields-same}
+use Rattle.qcow2_types.proofs.HeaderLimits.{header-limited}
+use Rattle.qcow2_metadata.specs.Loading.{NotLoaded}
+use Rattle.qcow2_metadata.proofs.Refusals.{IsRefusal, header-refusal}
 use Rattle.qcow2_types.specs.Frames.{Same}
 use Rattle.qcow2_types.proofs.Limit.{blocks-near}
 use Rattle.qimg.specs.View.{layout}
 use Rattle.qimg.specs.Created.{extension_bytes}
 use Rattle.qimg.specs.First.{file, IsPlain, IsPlainMapping, Holds}
-use Rattle.qimg.specs.Opening.{rules_of_form, has_new_extensions, rules_of_extensions, is_plain_table_word, is_plain_entry, is_copied_data, has_plain_words, ◌or-else◌, header_fault, tables_fault, open_fault, Accepts, NotAccepted, verdict, worse, table_sound, table_plain, word_sound, word_plain, tables_verdict}
+use Rattle.qimg.specs.Opening.{rules_of_form, has_new_extensions, rules_of_extensions, is_plain_table_word, is_plain_entry, is_copied_data, has_plain_words, ◌or-else◌, own_fault, header_fault, tables_fault, open_fault, Accepts, NotAccepted, verdict, worse, table_sound, table_plain, word_sound, word_plain, tables_verdict}
 use Rattle.qimg.specs.declared.first.opening.Accepted.{Accepted}
 use Rattle.qimg.specs.declared.first.opening.Found.{Found}
 use Rattle.qimg.specs.declared.first.opening.Found.TheVariants.{Plain, Other, Damaged}
@@ -54,25 +58,19 @@ pub record IsFirstForm (h : Fields) : Type 0 where
   pub l1_offset : h.l1_offset ≤ max_offset
   pub table_offset : h.refcount_table_offset ≤ max_offset
 
--- by the rules on sizes and on the form
-form-passed : (h : Fields) → first_fault (rules_of_size h) ≡ None → first_fault (rules_of_form h) ≡ None → IsFirstForm h
-form-passed h sizes form =
+-- by the limits on sizes and the rules on the form
+form-passed : (h : Fields) → Limited h → first_fault (rules_of_form h) ≡ None → IsFirstForm h
+form-passed h limited form =
     let a = rule-passed (not (h.version == 3) || not (h.cluster_bits == 9) || not (h.refcount_order == 4) || not (h.header_length == 104)) Unsupported (drop 1 (rules_of_form h)) form in
     let b = rule-passed (not (h.incompatible == 0) || not (h.backing_offset == 0) || not (h.snapshots == 0)) Unsupported (drop 2 (rules_of_form h)) a.1 in
     let c = rule-passed (nat_lt 65536 h.size || nat_lt (h.l1_entries * 32768) h.size) Unsupported (drop 3 (rules_of_form h)) b.1 in
     let d = rule-passed (not (h.refcount_table_clusters == 1)) Unsupported [] c.1 in
-    let s = rule-passed (nat_lt (2 ^ 63 - 1) h.size) (Limit h.size) (drop 1 (rules_of_size h)) sizes in
-    let t = rule-passed (nat_lt (2 ^ 22) h.l1_entries) (Limit h.l1_entries) (drop 2 (rules_of_size h)) s.1 in
-    let u = rule-passed (nat_lt (2 ^ 20) (refcount_table_entries h)) (Limit (refcount_table_entries h)) (drop 3 (rules_of_size h)) t.1 in
-    let v = rule-passed (not (is_place h.cluster_bits h.l1_offset)) DamagedHeader (drop 4 (rules_of_size h)) u.1 in
-    let w = rule-passed (not (is_place h.cluster_bits h.refcount_table_offset)) DamagedHeader [] v.1 in
     let first : (not (h.version == 3) || not (h.cluster_bits == 9) || not (h.refcount_order == 4) || not (h.header_length == 104)) ≡ false = a.0 in
     let second : (not (h.incompatible == 0) || not (h.backing_offset == 0) || not (h.snapshots == 0)) ≡ false = b.0 in
     let third : (nat_lt 65536 h.size || nat_lt (h.l1_entries * 32768) h.size) ≡ false = c.0 in
     let fourth : not (h.refcount_table_clusters == 1) ≡ false = d.0 in
-    let fifth : nat_lt (2 ^ 22) h.l1_entries ≡ false = t.0 in
-    let sixth : not (is_place h.cluster_bits h.l1_offset) ≡ false = v.0 in
-    let seventh : not (is_place h.cluster_bits h.refcount_table_offset) ≡ false = w.0 in
+    let sixth : is_place h.cluster_bits h.l1_offset ≡ true = limited.l1_place in
+    let seventh : is_place h.cluster_bits h.refcount_table_offset ≡ true = limited.refcount_place in
     record {
       version = grind (arith, nat_tests);
       bits = grind (arith, nat_tests);
@@ -82,21 +80,24 @@ form-passed h sizes form =
       size = grind (arith, nat_tests);
       covered = grind (arith, nat_tests);
       one_cluster = grind (arith, nat_tests);
-      few = grind (arith, nat_tests);
+      few = limited.l1_entries;
       l1_offset = grind (arith, nat_tests);
       table_offset = grind (arith, nat_tests);
     }
 
+-- a header that no rule of loading breaks
+loaded : (r : Result Header Fault) → result_err r ≡ None → (H : Header) × (r ≡ Ok H)
+loaded (Ok H) none = (H, refl)
+loaded (Err e) none = absurd cc
+
 -- by all rules on a header
 pub header-form : (f : Bytes) → header_fault f ≡ None → IsFirstForm (fields_of f)
-unfolding header_fault
+unfolding header_fault own_fault
 header-form f none =
-    let kind = or-else-none (first_fault (rules_of_kind f)) _ none in
-    let shape = or-else-none (first_fault (rules_of_shape (fields_of f))) _ kind.1 in
-    let sizes = or-else-none (first_fault (rules_of_size (fields_of f))) _ shape.1 in
-    let writing = or-else-none (first_fault (rules_of_writing true (fields_of f))) _ sizes.1 in
-    let form = or-else-none (first_fault (rules_of_form (fields_of f))) _ writing.1 in
-    form-passed (fields_of f) sizes.0 form.0
+    let parts = or-else-none (result_err (header_of true f)) _ none in
+    let form = or-else-none (first_fault (rules_of_form (fields_of f))) _ parts.1 in
+    let header = loaded (header_of true f) parts.0 in
+    form-passed (fields_of f) (subst Limited (header-fields true f header.0 header.1) (header-limited true f header.0 header.1)) form.0
 
 -- In an image of the first form each L2 table has 64 words, and their layout is known.
 module _ (f : Bytes) (h : Fields) (form : IsFirstForm h) where
@@ -348,11 +349,15 @@ start-extensions bytes buf reads long = all_below-same 160 _ _ (λ i lt.
     let here : bytes_of buf (104 + i) ≡ bytes_of bytes (104 + i) = rw none at (reads (104 + i) (omega arith)) in
     ap (λ b. b == slice_index extension_bytes i) here)
 
--- so it breaks the same rule on the header
-pub start-header : (bytes buf : List ℕ) → Reads bytes 0 buf → 512 ≤ length buf → header_fault (bytes_of buf) ≡ header_fault (bytes_of bytes)
+-- so it breaks the same of the disk's own rules
+pub start-own : (bytes buf : List ℕ) → Reads bytes 0 buf → 512 ≤ length buf → own_fault (bytes_of buf) ≡ own_fault (bytes_of bytes)
+unfolding own_fault
+start-own bytes buf reads long = rw (start-fields bytes buf reads long, start-extensions bytes buf reads long) refl
+
+-- a header that loads breaks those alone
+pub own-alone : (f : Bytes) → result_err (header_of true f) ≡ None → header_fault f ≡ own_fault f
 unfolding header_fault
-start-header bytes buf reads long =
-    rw (start-be (bytes_of bytes) (bytes_of buf) 512 (start-same bytes buf reads long) 0 4 (omega arith), start-be (bytes_of bytes) (bytes_of buf) 512 (start-same bytes buf reads long) 4 4 (omega arith), start-fields bytes buf reads long, start-extensions bytes buf reads long) refl
+own-alone f loads = ap (λ r. r or-else own_fault f) loads
 
 -- The rules on a header give no other faults than these.
 abbrev is_rule_fault : Fault → Bool
@@ -393,12 +398,24 @@ or-else-gives : (a b : Option Fault) → IsRule a → IsRule b → IsRule (a or-
 or-else-gives None b first second = second
 or-else-gives (Some e) b first second = first
 
+-- loading gives such faults
+load-gives : (f : Bytes) → IsRule (result_err (header_of true f))
+load-gives f = all (header_of true f) refl
+  where
+    rule-of : (e : Fault) → IsRefusal e → is_rule_fault e ≡ true
+    rule-of DamagedHeader is = refl
+    rule-of Unsupported is = refl
+    rule-of (Limit n) is = refl
+    rule-of _ is = absurd is
+
+    all : (r : Result Header Fault) → header_of true f ≡ r → IsRule (result_err r)
+    all (Ok H) is = tt
+    all (Err e) is = rule-of e (header-refusal true f e is)
+
 -- and the rules on a header
 header-gives : (f : Bytes) → IsRule (header_fault f)
-unfolding header_fault
-header-gives f =
-    or-else-gives _ _ (rules-give (rules_of_kind f) refl) (or-else-gives _ _ (rules-give (rules_of_shape (fields_of f)) refl) (or-else-gives _ _ (rules-give (rules_of_size (fields_of f)) refl)
-    (or-else-gives _ _ (rules-give (rules_of_writing true (fields_of f)) refl) (or-else-gives _ _ (rules-give (rules_of_form (fields_of f)) refl) (rules-give (rules_of_extensions f) refl)))))
+unfolding header_fault own_fault
+header-gives f = or-else-gives _ _ (load-gives f) (or-else-gives _ _ (rules-give (rules_of_form (fields_of f)) refl) (rules-give (rules_of_extensions f) refl))
 
 -- a header's fault is a reason to refuse
 pub header-refused : (old new : StorageState) (e : Fault) → header_fault (file old) ≡ Some e → NotAccepted old new e
@@ -408,6 +425,13 @@ header-refused old new e fault = pick e fault (subst IsRule fault (header-gives 
     pick Memory is rule = absurd cc
     pick Storage is rule = absurd cc
     pick x is rule = open-header (file old) x is
+
+-- a header that doesn't load is one
+pub load-refused : (old new : StorageState) (e : Fault) → NotLoaded (header_of true (file old)) old new e → NotAccepted old new e
+unfolding header_fault
+load-refused old new Memory why = why
+load-refused old new Storage why = why
+load-refused old new e why = header-refused old new e (ap (λ r. result_err r or-else own_fault (file old)) why.0)
 
 -- a refusal of what only follows a read
 pub refused-after : (old mid new : StorageState) (result : Result Accepted Fault) → Kept old mid → mid.faults ≡ old.faults → IfErr result (NotAccepted mid new) → IfErr result (NotAccepted old new)

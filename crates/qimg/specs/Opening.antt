@@ -5,7 +5,8 @@ use Rattle.imago_storage.specs.declared.fault.Fault.{Fault}
 use Rattle.imago_storage.specs.declared.fault.Fault.TheVariants.{DamagedTable, Unsupported, Memory, Storage}
 use Rattle.qcow2_types.specs.Bytes.{Bytes, word, all_below}
 use Rattle.qcow2_types.specs.Words.{Mapping, data_at, is_copied, mapping_of, is_damaged, l1_word_sound, table_offset}
-use Rattle.qcow2_types.specs.Header.{Fields, Rule, fields_of, first_fault, rules_of_kind, rules_of_shape, rules_of_size, rules_of_writing, words_of_cluster, layout_of}
+use Rattle.std.specs.Result.{result_err}
+use Rattle.qcow2_types.specs.Header.{Fields, Rule, fields_of, header_of, first_fault, words_of_cluster, layout_of}
 use Rattle.qcow2_types.specs.Entries.{l2_table}
 use Rattle.qcow2_types.specs.Counts.{block_at}
 use Rattle.qcow2_types.specs.Consistency.{tables_sound}
@@ -61,15 +62,13 @@ abbrev pub ◌or-else◌ : Option Fault → Option Fault → Option Fault
 None or-else r = r
 (Some e) or-else r = Some e
 
--- the first rule on the header that is broken: those of loading for writing but for texts, and then the form
+-- the first of the disk's own rules on the header that is broken: the form, and then the extensions
+unfoldable pub own_fault : Bytes → Option Fault
+own_fault f = first_fault (rules_of_form (fields_of f)) or-else first_fault (rules_of_extensions f)
+
+-- the first rule on the header that is broken: those of loading for writing, and then the disk's own
 unfoldable pub header_fault : Bytes → Option Fault
-header_fault f =
-    let h = fields_of f in
-    let form = first_fault (rules_of_form h) or-else first_fault (rules_of_extensions f) in
-    let writing = first_fault (rules_of_writing true h) or-else form in
-    let sizes = first_fault (rules_of_size h) or-else writing in
-    let shape = first_fault (rules_of_shape h) or-else sizes in
-    first_fault (rules_of_kind f) or-else shape
+header_fault f = result_err (header_of true f) or-else own_fault f
 
 -- the first rule on the tables that is broken
 unfoldable pub tables_fault : Bytes → Fields → Option Fault

@@ -73,9 +73,10 @@ impl<S: Storage> Disk<S> {
     /// The image has version 3, clusters of 512 bytes, counters of 16 bits, the extensions that `create` writes, no other
     /// feature, backing file or snapshot, at most 65,536 bytes that its L1 table covers, a refcount table of one cluster
     /// whose first word names a block, and only words of L1 tables that are 0 or copied, and of L2 tables that are 0 or
-    /// copied data (the qcow2 format, "Header", "Refcount table", "L1 table", "L2 table"). It is refused as a header whose
-    /// fixed fields don't load for writing; with `Fault::Unsupported` where it isn't such an image; with `Fault::DamagedTable`
-    /// where a word of a table has no meaning; and with `Fault::Memory` and `Fault::Storage`. A refusal drops the storage.
+    /// copied data (the qcow2 format, "Header", "Refcount table", "L1 table", "L2 table"). It is refused as
+    /// `qcow2_metadata::Header::load` refuses its header for writing; with `Fault::Unsupported` where it isn't such an image;
+    /// with `Fault::DamagedTable` where a word of a table has no meaning; and with `Fault::Memory` and `Fault::Storage`. A
+    /// refusal drops the storage.
     pub fn open(alloc: Global, image: S) -> Result<Self, Fault>
         ensures ok { IfOk result (λ disk. Opens (S.state image) (opened S.state disk)) }
         ensures err { IfErr result (NotOpened (S.state image)) }

@@ -1,12 +1,11 @@
-// The fields of a header, and the rules on them.
+// The fields of a header.
 
-ghost use Rattle.std.specs.Prelude.{◌≡◌, ◌+◌, ◌<◌, ◌≤◌, ◌^◌, length};
-ghost use Rattle.qcow2_types.specs.Bytes.{be, bytes_of};
-ghost use Rattle.qcow2_types.specs.Header.{fields_of, first_fault, rules_of_kind, rules_of_shape, rules_of_size, rules_of_writing};
+ghost use Rattle.std.specs.Prelude.{◌≡◌};
+ghost use Rattle.qcow2_types.specs.Bytes.{bytes_of};
+ghost use Rattle.qcow2_types.specs.Header.{fields_of};
 ghost use Rattle.qimg.specs.FieldsView.{seen_fields};
 
-use crate::first::words::{MAX_OFFSET, bits, has_bit, u32_at, u64_at};
-use imago_storage::Fault;
+use crate::first::words::{u32_at, u64_at};
 
 /// The fields of fixed size.
 #[derive(Clone, Copy, Debug)]
@@ -56,83 +55,4 @@ pub fn fields_at_start(bytes: &[u8]) -> Fields
         refcount_order: if newer { u32_at(bytes, 96) } else { 4 },
         header_length: if newer { u32_at(bytes, 100) } else { 72 },
     }
-}
-
-/// The first rule on magic and version that is broken.
-pub fn kind_fault(bytes: &[u8]) -> Option<Fault>
-    ensures { result ≡ first_fault (rules_of_kind (bytes_of bytes.now)) }
-{
-    if u32_at(bytes, 0) != 0x5146_49fb {
-        return Some(Fault::DamagedHeader);
-    }
-    let version = u32_at(bytes, 4);
-    if version != 2 && version != 3 {
-        return Some(Fault::Unsupported);
-    }
-    None
-}
-
-/// The first rule on the shape of the image that is broken.
-pub fn shape_fault(header: &Fields) -> Option<Fault>
-    ensures { result ≡ first_fault (rules_of_shape (seen_fields header.now)) }
-{
-    if header.cluster_bits < 9 || header.cluster_bits > 21 {
-        return Some(Fault::DamagedHeader);
-    }
-    if header.refcount_order > 6 {
-        return Some(Fault::DamagedHeader);
-    }
-    if header.version == 3
-        && (header.header_length < 104 || header.header_length > 1 << header.cluster_bits)
-    {
-        return Some(Fault::DamagedHeader);
-    }
-    if header.crypt_method != 0 {
-        return Some(Fault::Unsupported);
-    }
-    if header.incompatible > 15 {
-        return Some(Fault::Unsupported);
-    }
-    None
-}
-
-/// The first rule on sizes and places that is broken.
-pub fn size_fault(header: &Fields) -> Option<Fault>
-    requires low { 9 ≤ header.now.cluster_bits }
-    requires high { header.now.cluster_bits ≤ 21 }
-    ensures { result ≡ first_fault (rules_of_size (seen_fields header.now)) }
-{
-    if header.size > (1 << 63) - 1 {
-        return Some(Fault::Limit(header.size));
-    }
-    if header.l1_entries > 1 << 22 {
-        return Some(Fault::Limit(u64::from(header.l1_entries)));
-    }
-    let entries = u64::from(header.refcount_table_clusters) * ((1 << header.cluster_bits) / 8);
-    if entries > 1 << 20 {
-        return Some(Fault::Limit(entries));
-    }
-    if bits(header.l1_offset, 0, header.cluster_bits) != 0 || header.l1_offset > MAX_OFFSET {
-        return Some(Fault::DamagedHeader);
-    }
-    if bits(header.refcount_table_offset, 0, header.cluster_bits) != 0
-        || header.refcount_table_offset > MAX_OFFSET
-    {
-        return Some(Fault::DamagedHeader);
-    }
-    None
-}
-
-/// The rule on images that are to be written.
-pub fn writing_fault(for_writing: bool, header: &Fields) -> Option<Fault>
-    ensures { result ≡ first_fault (rules_of_writing for_writing (seen_fields header.now)) }
-{
-    if for_writing
-        && (has_bit(header.incompatible, 0)
-            || has_bit(header.incompatible, 1)
-            || header.autoclear != 0)
-    {
-        return Some(Fault::Unsupported);
-    }
-    None
 }

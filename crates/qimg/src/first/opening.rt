@@ -1,22 +1,24 @@
 // Which images the first disk takes.
-ghost use Rattle.std.specs.Prelude.{◌≡◌, ◌+◌, ◌*◌, ◌<◌, ◌≤◌, ◌^◌, not, true, false, IfOk, IfErr, OnOk};
+ghost use Rattle.std.specs.Prelude.{◌≡◌, ◌+◌, ◌*◌, ◌<◌, ◌≤◌, ◌^◌, not, true, false, None, IfOk, IfErr, OnOk};
 ghost use Rattle.imago_storage.specs.State.{unit_of};
 ghost use Rattle.imago_storage.specs.Calls.{CountsFaults, Kept};
 ghost use Rattle.qcow2_types.specs.Bytes.{bytes_of, word, all_below};
 ghost use Rattle.qcow2_types.specs.Words.{mapping_of, is_damaged, l1_word_sound, block_word_sound, block_offset};
-ghost use Rattle.qcow2_types.specs.Header.{fields_of, first_fault};
+ghost use Rattle.std.specs.Result.{result_err};
+ghost use Rattle.qcow2_types.specs.Header.{fields_of, header_of, first_fault};
 ghost use Rattle.qimg.specs.View.{layout};
 ghost use Rattle.qimg.specs.FieldsView.{seen_fields};
 ghost use Rattle.qimg.specs.First.{file};
-ghost use Rattle.qimg.specs.Opening.{has_new_extensions, rules_of_form, header_fault, Accepts, NotAccepted, is_plain_table_word, is_plain_entry, verdict, worse};
+ghost use Rattle.qimg.specs.Opening.{has_new_extensions, rules_of_form, own_fault, header_fault, Accepts, NotAccepted, is_plain_table_word, is_plain_entry, verdict, worse};
 ghost use Rattle.qimg.specs.Opening.{table_sound, table_plain, word_sound, word_plain, tables_verdict};
 
 use super::clusters::Places;
 use super::create::{EXTENSIONS, MAX_SIZE};
-use super::header::{Fields, fields_at_start, kind_fault, shape_fault, size_fault, writing_fault};
+use super::header::{Fields, fields_at_start};
 use super::requests::{read_at, word_at};
 use super::words::{L2Mapping, MAX_OFFSET, bits, byte_at, has_bit, l2_mapping, offset_in, u64_at};
 use imago_storage::{Fault, Storage};
+use qcow2_metadata::Header;
 use std::alloc::Global;
 
 /// What the disk keeps of an image that it takes: size in bytes, and where its tables are.
@@ -93,24 +95,12 @@ fn form_fault(header: &Fields) -> Option<Fault>
     None
 }
 
-/// The first rule on the header that is broken.
-#[tactic(auto, unfolding(crate::specs::Opening::header_fault))]
+/// The first of the disk's own rules on the header that is broken.
+#[tactic(auto, unfolding(crate::specs::Opening::own_fault))]
 fn start_fault(bytes: &[u8], header: &Fields) -> Option<Fault>
     requires { seen_fields header.now ≡ fields_of (bytes_of bytes.now) }
-    ensures { result ≡ header_fault (bytes_of bytes.now) }
+    ensures { result ≡ own_fault (bytes_of bytes.now) }
 {
-    if let Some(fault) = kind_fault(bytes) {
-        return Some(fault);
-    }
-    if let Some(fault) = shape_fault(header) {
-        return Some(fault);
-    }
-    if let Some(fault) = size_fault(header) {
-        return Some(fault);
-    }
-    if let Some(fault) = writing_fault(true, header) {
-        return Some(fault);
-    }
     if let Some(fault) = form_fault(header) {
         return Some(fault);
     }
@@ -304,9 +294,10 @@ fn accept_tables<S: Storage>(
     }
 }
 
-/// Takes an image that the first disk carries, or tells the first rule that it breaks.
-pub fn accept<S: Storage>(image: &mut S, alloc: Global) -> Result<Accepted, Fault>
+/// Takes an image that the first disk carries, whose header loads, or tells the first rule that it breaks.
+fn accept_loaded<S: Storage>(image: &mut S, alloc: Global) -> Result<Accepted, Fault>
     requires unit { unit_of (S.state image.old).shape ≤ 2 ^ 20 }
+    requires loads { result_err (header_of true (file (S.state image.old))) ≡ None }
     ensures kept { Kept (S.state image.old) (S.state image.new) }
     ensures ok { IfOk result (λ accepted. Accepts (file (S.state image.old)) accepted) }
     ensures small { IfOk result (λ accepted. accepted.size ≤ 65536) }
@@ -326,6 +317,25 @@ pub fn accept<S: Storage>(image: &mut S, alloc: Global) -> Result<Accepted, Faul
     accept_tables(image, alloc, &header)
 }
 
+/// Takes an image that the first disk carries, or tells the first rule that it breaks.
+pub fn accept<S: Storage>(image: &mut S, alloc: Global) -> Result<Accepted, Fault>
+    requires unit { unit_of (S.state image.old).shape ≤ 2 ^ 20 }
+    ensures kept { Kept (S.state image.old) (S.state image.new) }
+    ensures ok { IfOk result (λ accepted. Accepts (file (S.state image.old)) accepted) }
+    ensures small { IfOk result (λ accepted. accepted.size ≤ 65536) }
+    ensures covered { IfOk result (λ accepted. accepted.size ≤ accepted.places.l1_entries * 32768) }
+    ensures few { IfOk result (λ accepted. accepted.places.l1_entries ≤ 2 ^ 22) }
+    ensures l1_offset { IfOk result (λ accepted. accepted.places.l1_offset < 2 ^ 58) }
+    ensures block { IfOk result (λ accepted. accepted.places.block < 2 ^ 58) }
+    ensures err { IfErr result (NotAccepted (S.state image.old) (S.state image.new)) }
+    ensures faults { OnOk result ((S.state image.new).faults ≡ (S.state image.old).faults) }
+{
+    if let Err(fault) = Header::load(alloc, image, true) {
+        return Err(fault);
+    }
+    accept_loaded(image, alloc)
+}
+
 #[cfg(test)]
 mod tests {
     use super::super::alignment;
@@ -340,11 +350,19 @@ mod tests {
         accept(image, alloc)
     }
 
+    // Why it is refused, if it is; or memory was wanting.
+    fn found_in(image: &mut MemStorage, alloc: Global) -> Result<Option<Fault>, Fault> {
+        match taken(image, alloc) {
+            Err(Fault::Memory) => Err(Fault::Memory),
+            answer => Ok(answer.err()),
+        }
+    }
+
     // What a new image of 65,536 bytes is refused with once these bytes are written into it.
     fn refusal(alloc: Global, bytes: &[u8], at: u64) -> Result<Option<Fault>, Fault> {
         let mut image = create(alloc, MemStorage::new(alloc), 65536)?;
         image.write(alloc, bytes, at)?;
-        Ok(taken(&mut image, alloc).err())
+        found_in(&mut image, alloc)
     }
 
     // The same of an image whose first word of the first L2 table names cluster 5.
@@ -353,7 +371,7 @@ mod tests {
         image.write(alloc, &[128, 0, 0, 0, 0, 0, 8, 0], 1536)?;
         image.write(alloc, &[128, 0, 0, 0, 0, 0, 10, 0], 2048)?;
         image.write(alloc, bytes, at)?;
-        Ok(taken(&mut image, alloc).err())
+        found_in(&mut image, alloc)
     }
 
     // This is the answer, or memory was wanting.
@@ -367,9 +385,12 @@ mod tests {
     #[test]
     fn a_new_image_is_taken(rt: HostRuntime) -> Result<(), Fail> {
         let alloc = rt.alloc();
-        match create(alloc, MemStorage::new(alloc), 65536) {
-            Ok(mut image) => {
-                let accepted = taken(&mut image, alloc)?;
+        let found = match create(alloc, MemStorage::new(alloc), 65536) {
+            Ok(mut image) => taken(&mut image, alloc),
+            Err(fault) => Err(fault),
+        };
+        match found {
+            Ok(accepted) => {
                 assert_eq!(rt; accepted.size, 65536);
                 assert_eq!(rt; accepted.places.l1_offset, 1536);
                 assert_eq!(rt; accepted.places.l1_entries, 2);
@@ -385,8 +406,9 @@ mod tests {
         let alloc = rt.alloc();
         let other = Some(Fault::Unsupported);
         let table = Some(Fault::DamagedTable);
-        // no magic number, a snapshot, and an odd byte of the extensions
+        // no magic number, an extension that runs past its area, a snapshot, and an odd byte of the extensions
         assert!(rt; is_answer(refusal(alloc, &[0], 0), Some(Fault::DamagedHeader)));
+        assert!(rt; is_answer(refusal(alloc, &[255], 108), Some(Fault::DamagedHeader)));
         assert!(rt; is_answer(refusal(alloc, &[1], 63), other));
         assert!(rt; is_answer(refusal(alloc, &[1], 263), other));
         // words with a reserved bit, one that isn't copied, and no first block
