@@ -18,3 +18,9 @@ pub mod PlaceLemmas
 pub mod Raised
 pub mod Whole
 pub mod Widths
+pub mod Written
+pub mod Extending
+pub mod Fitting
+pub mod NamesRead
+pub mod Reloading
+pub mod NewReloads

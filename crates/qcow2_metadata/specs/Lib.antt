@@ -10,3 +10,5 @@ pub mod Cells
 pub mod Places
 pub mod Blocks
 pub mod BlockView
+pub mod Writing
+pub mod Reloading

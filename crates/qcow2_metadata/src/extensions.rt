@@ -9,11 +9,11 @@ use crate::numbers::u32_at;
 use imago_storage::Fault;
 
 /// The type of the extension that holds the backing file's format.
-const BACKING_FORMAT: u32 = 0xe279_2aca;
+pub(crate) const BACKING_FORMAT: u32 = 0xe279_2aca;
 /// The type of the extension that holds the external data file's name.
-const EXTERNAL_DATA_FILE: u32 = 0x4441_5441;
+pub(crate) const EXTERNAL_DATA_FILE: u32 = 0x4441_5441;
 /// The type of the extension that holds the names of feature bits.
-const FEATURE_NAMES: u32 = 0x6803_f857;
+pub(crate) const FEATURE_NAMES: u32 = 0x6803_f857;
 
 /// An extension: its type and its data.
 #[derive(Clone, Copy, Debug)]

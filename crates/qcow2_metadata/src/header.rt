@@ -7,7 +7,9 @@ ghost use Rattle.qcow2_types.specs.Features.{kind_of};
 ghost use Rattle.qcow2_metadata.specs.Features.{name_of};
 
 mod loading;
+mod making;
 mod updating;
+mod writing;
 
 use crate::features::{FeatureName, name_in};
 use imago_storage::Fault;

@@ -4,6 +4,7 @@
 mod clusters;
 mod counter;
 mod endian;
+mod extension_bytes;
 mod extensions;
 mod features;
 mod header;

@@ -8,7 +8,7 @@ use Rattle.imago_storage.specs.declared.fault.Fault.{Fault}
 use Rattle.imago_storage.specs.declared.fault.Fault.TheVariants.{DamagedHeader, Unsupported, Limit}
 use Rattle.qcow2_types.specs.Bytes.{Bytes, be}
 use Rattle.qcow2_types.specs.Words.{table_offset, is_place}
-use Rattle.qcow2_types.specs.Header.{Header, Shaped, Limited, Rule, header_of, fields_of, cluster_size, refcount_table_entries, first_fault, rules_of_kind, rules_of_shape, rules_of_size}
+use Rattle.qcow2_types.specs.Header.{Fields, Header, Shaped, Limited, Rule, header_of, fields_of, cluster_size, refcount_table_entries, first_fault, rules_of_kind, rules_of_shape, rules_of_size}
 use Rattle.qcow2_types.specs.Counts.{counter_bits}
 use Rattle.qcow2_types.proofs.HeaderFrame.{header-fields, header-shaped, and-then-ok, and-then-none, two-passed}
 
@@ -59,10 +59,22 @@ passed-first : (broken : Bool) (refusal : Fault) (rest : List Rule) → first_fa
 passed-first true refusal rest none = absurd cc
 passed-first false refusal rest none = (refl, none)
 
--- The sizes and the places of the tables are within the limits.
-pub header-limited : (writing : Bool) (f : Bytes) (H : Header) → header_of writing f ≡ Ok H → Limited H.fields
-unfolding header_of
-header-limited writing f H loads = subst Limited (sym (header-fields writing f H loads)) limited
+-- Fields that keep the rules on sizes and places are within the limits.
+pub fields-limited : (h : Fields) → first_fault (rules_of_size h) ≡ None → Limited h
+fields-limited h passed =
+    let a = passed-first (nat_lt (2 ^ 63 - 1) h.size) (Limit h.size) (drop 1 (rules_of_size h)) passed in
+    let b = passed-first (nat_lt (2 ^ 22) h.l1_entries) (Limit h.l1_entries) (drop 2 (rules_of_size h)) a.1 in
+    let c = passed-first (nat_lt (2 ^ 20) (refcount_table_entries h)) (Limit (refcount_table_entries h)) (drop 3 (rules_of_size h)) b.1 in
+    let d = passed-first (not (is_place h.cluster_bits h.l1_offset)) DamagedHeader (drop 4 (rules_of_size h)) c.1 in
+    let e = passed-first (not (is_place h.cluster_bits h.refcount_table_offset)) DamagedHeader (drop 5 (rules_of_size h)) d.1 in
+    let size : h.size ≤ 2 ^ 63 - 1 = at-most (2 ^ 63 - 1) h.size a.0 in
+    record {
+      size = omega arith;
+      l1_entries = at-most (2 ^ 22) h.l1_entries b.0;
+      refcount_entries = at-most (2 ^ 20) (refcount_table_entries h) c.0;
+      l1_place = not-not (is_place h.cluster_bits h.l1_offset) d.0;
+      refcount_place = not-not (is_place h.cluster_bits h.refcount_table_offset) e.0;
+    }
   where
     not-not : (b : Bool) → not b ≡ false → b ≡ true
     not-not true e = refl
@@ -71,21 +83,14 @@ header-limited writing f H loads = subst Limited (sym (header-fields writing f H
     at-most : (m n : ℕ) → nat_lt m n ≡ false → n ≤ m
     at-most m n e = grind (arith, nat_tests)
 
+-- The sizes and the places of the tables are within the limits.
+pub header-limited : (writing : Bool) (f : Bytes) (H : Header) → header_of writing f ≡ Ok H → Limited H.fields
+unfolding header_of
+header-limited writing f H loads = subst Limited (sym (header-fields writing f H loads)) limited
+  where
     limited : Limited (fields_of f)
     limited =
         let shape = and-then-ok (first_fault (rules_of_kind f)) _ H loads in
         let sizes = and-then-ok (first_fault (rules_of_shape (fields_of f))) _ H shape in
         let passed : first_fault (rules_of_size (fields_of f)) ≡ None = and-then-none (first_fault (rules_of_size (fields_of f))) _ H sizes in
-        let a = passed-first (nat_lt (2 ^ 63 - 1) (fields_of f).size) (Limit (fields_of f).size) (drop 1 (rules_of_size (fields_of f))) passed in
-        let b = passed-first (nat_lt (2 ^ 22) (fields_of f).l1_entries) (Limit (fields_of f).l1_entries) (drop 2 (rules_of_size (fields_of f))) a.1 in
-        let c = passed-first (nat_lt (2 ^ 20) (refcount_table_entries (fields_of f))) (Limit (refcount_table_entries (fields_of f))) (drop 3 (rules_of_size (fields_of f))) b.1 in
-        let d = passed-first (not (is_place (fields_of f).cluster_bits (fields_of f).l1_offset)) DamagedHeader (drop 4 (rules_of_size (fields_of f))) c.1 in
-        let e = passed-first (not (is_place (fields_of f).cluster_bits (fields_of f).refcount_table_offset)) DamagedHeader (drop 5 (rules_of_size (fields_of f))) d.1 in
-        let size : (fields_of f).size ≤ 2 ^ 63 - 1 = at-most (2 ^ 63 - 1) (fields_of f).size a.0 in
-        record {
-          size = omega arith;
-          l1_entries = at-most (2 ^ 22) (fields_of f).l1_entries b.0;
-          refcount_entries = at-most (2 ^ 20) (refcount_table_entries (fields_of f)) c.0;
-          l1_place = not-not (is_place (fields_of f).cluster_bits (fields_of f).l1_offset) d.0;
-          refcount_place = not-not (is_place (fields_of f).cluster_bits (fields_of f).refcount_table_offset) e.0;
-        }
+        fields-limited (fields_of f) passed

@@ -53,3 +53,5 @@ pub mod Surplus
 pub mod BlockWordSteps
 pub mod L1Switch
 pub mod RefcountTableSwitch
+pub mod HeaderSwitch
+pub mod HeldBytes

@@ -109,7 +109,7 @@ pub zeroes-behind : (file : List ℕ) (n : ℕ) → bytes_of (file ++ replicate 
 zeroes-behind file n = fun_ext (λ p. grind (arith, common_steps))
 
 -- the number that zeroes spell
-be-zeroes : (f : Bytes) (i n : ℕ) → ((k : ℕ) → k < n → f (i + k) ≡ 0) → be f i n ≡ 0
+pub be-zeroes : (f : Bytes) (i n : ℕ) → ((k : ℕ) → k < n → f (i + k) ≡ 0) → be f i n ≡ 0
 unfolding be
 be-zeroes f i zero none = refl
 be-zeroes f i (suc n) none =

@@ -17,3 +17,5 @@ pub mod Pending
 pub mod Features
 pub mod OnDisk
 pub use Rattle.imago_storage.specs.Disk as StorageDisk
+pub mod HeaderBytes
+pub mod HeaderSwitch

@@ -1,0 +1,207 @@
+// Writing a header.
+ghost use Rattle.std.specs.Prelude.{◌≡◌, ◌+◌, ◌≤◌, ◌++◌, length, drop, replicate, Some, None, OnOk, OnErr, IfOk, IfErr, IsTrue, IsFalse, if◌then◌else◌};
+ghost use Rattle.std.specs.Result.{result_err};
+ghost use Rattle.imago_storage.specs.Through.{Put, PutAtOnce};
+ghost use Rattle.qcow2_types.specs.HeaderBytes.{first_bytes, fields_bytes, fields_length, extensions_bytes, name_bytes, written_fields, written, header_bytes, fits_first_cluster};
+ghost use Rattle.qcow2_metadata.specs.FieldsView.{seen_fields, IsHeader};
+ghost use Rattle.qcow2_metadata.specs.Writing.{IsUnfit, NotAsked};
+
+use super::Header;
+use crate::extension_bytes::{push_names, push_text};
+use crate::extensions::{BACKING_FORMAT, EXTERNAL_DATA_FILE};
+use imago_storage::{Fault, Storage, StorageExt};
+use qcow2_types::{OnDiskStruct, V2Header, V3HeaderBase};
+use std::alloc::{AllocError, Global};
+
+/// The greatest length of a backing file's name, in bytes.
+const MAX_BACKING_NAME: usize = 1023;
+/// How many bytes a pointer write has: those up to the number of snapshots. A power of two, they are one request at every
+/// alignment.
+const FIRST_FIELDS: usize = 64;
+/// How many bytes the fields have in version 2.
+const OLDER_LENGTH: usize = 72;
+/// How many bytes the fields have in version 3.
+const NEWER_LENGTH: usize = 104;
+
+/// Overwrites the first of these bytes with the fields.
+fn put_fields(bytes: &mut [u8], v2: &V2Header, v3: &V3HeaderBase)
+    requires magic { v2.now.magic ≡ 0x5146_49fb }
+    requires room { fields_length (seen_fields v2.now v3.now) ≤ length bytes.old }
+    ensures { bytes.new ≡ fields_bytes (seen_fields v2.now v3.now) ++ drop (fields_length (seen_fields v2.now v3.now)) bytes.old }
+{
+    v2.to_bytes(&mut bytes[..OLDER_LENGTH]);
+    if v2.version == 3 {
+        v3.to_bytes(&mut bytes[OLDER_LENGTH..NEWER_LENGTH]);
+    }
+}
+
+impl Header {
+    // How many bytes the fields have.
+    fn fields_length(&self) -> usize
+        ensures { result ≡ fields_length self.now.fields }
+    {
+        if self.v2.version == 3 {
+            NEWER_LENGTH
+        } else {
+            OLDER_LENGTH
+        }
+    }
+
+    // The backing file's name, empty where there is none.
+    fn name_bytes(&self) -> &[u8]
+        ensures { result.now ≡ name_bytes self.now.backing_name }
+    {
+        match &self.backing_filename {
+            Some(name) => name.as_bytes(),
+            None => &[],
+        }
+    }
+
+    // Appends the extensions.
+    fn push_extensions(&self, bytes: &mut Vec<u8>, alloc: Global) -> Result<(), AllocError>
+        ensures { OnOk result (bytes.new.items ≡ bytes.old.items ++ extensions_bytes self.now) }
+    {
+        if self.v2.version == 3 {
+            push_text(bytes, BACKING_FORMAT, self.backing_format.as_deref())?;
+            push_text(
+                bytes,
+                EXTERNAL_DATA_FILE,
+                self.external_data_filename.as_deref(),
+            )?;
+            push_names(bytes, alloc, &self.feature_names)?;
+        }
+        bytes.extend_from_slice(&[0; 8])
+    }
+
+    // The extensions, behind zeroes in place of the fields.
+    fn behind_fields(&self, alloc: Global) -> Result<Vec<u8>, AllocError>
+        ensures { IfOk result (λ bytes. bytes.items ≡ replicate (fields_length self.now.fields) 0 ++ extensions_bytes self.now) }
+    {
+        let mut bytes = vec![in alloc; 0u8; self.fields_length()]?;
+        self.push_extensions(&mut bytes, alloc)?;
+        Ok(bytes)
+    }
+
+    // Checks that a header of so many bytes fits the first cluster, and that the backing file's name isn't too long.
+    fn check_length(&self, count: usize) -> Result<(), Fault>
+        requires { count ≡ length (header_bytes self.now) }
+        ensures { result_err result ≡ (if fits_first_cluster self.now then None else Some (Fault.Limit count)) }
+    {
+        if count > self.cluster_size() || self.name_bytes().len() > MAX_BACKING_NAME {
+            return Err(Fault::Limit(count as u64));
+        }
+        Ok(())
+    }
+
+    // The fields as they are written, where the backing file's name begins at this place if there is one.
+    fn placed_fields(&self, name_at: usize) -> (V2Header, V3HeaderBase)
+        requires at { name_at ≡ fields_length self.now.fields + length (extensions_bytes self.now) }
+        requires short { length (name_bytes self.now.backing_name) ≤ 1023 }
+        ensures fields { seen_fields result.0 result.1 ≡ written_fields self.now }
+        ensures kept { IsHeader result.0 result.1 }
+    {
+        let place = if self.backing_filename.is_some() {
+            name_at as u64
+        } else {
+            0
+        };
+        let v2 = V2Header {
+            backing_filename_offset: place,
+            backing_filename_size: self.name_bytes().len() as u32,
+            ..self.v2
+        };
+        let v3 = V3HeaderBase {
+            header_length: self.fields_length() as u32,
+            ..self.v3
+        };
+        (v2, v3)
+    }
+
+    // All that is written of the header, and its fields in it; `Fault::Limit` where it doesn't fit.
+    fn prepared(&self, alloc: Global) -> Result<(Vec<u8>, V2Header, V3HeaderBase), Fault>
+        ensures bytes { IfOk result (λ made. made.0.items ≡ header_bytes self.now) }
+        ensures fields { IfOk result (λ made. seen_fields made.1 made.2 ≡ written_fields self.now) }
+        ensures kept { IfOk result (λ made. IsHeader made.1 made.2) }
+        ensures fits { OnOk result (IsTrue (fits_first_cluster self.now)) }
+        ensures err { IfErr result (IsUnfit self.now) }
+    {
+        let mut bytes = self.behind_fields(alloc)?;
+        let name_at = bytes.len();
+        bytes.extend_from_slice(self.name_bytes())?;
+        self.check_length(bytes.len())?;
+        let (v2, v3) = self.placed_fields(name_at);
+        put_fields(&mut bytes, &v2, &v3);
+        Ok((bytes, v2, v3))
+    }
+
+    /// Writes the header: its fields, its extensions and the backing file's name, in one `StorageExt::write` at byte 0 (the
+    /// sections "Header" and "Header extensions" of the format). Version 3 has extensions for the backing file's format, the
+    /// external data file's name and the names of feature bits (each cut to 46 bytes), in this order and each where there is one;
+    /// version 2 has none. Once it is written the header has the name's place and length, and the fields' length, as the file
+    /// does. Fields that the format put behind byte 103 are dropped.
+    ///
+    /// It refuses with `Fault::Limit(n)`, where n is the number of bytes, if they don't fit the first cluster or the backing
+    /// file's name has more than 1,023 bytes, before it asks anything of the image; else with `Fault::Memory` and
+    /// `Fault::Storage`, which leave each of these bytes of the file old or new. A refusal leaves the header as it was.
+    pub fn write<S: Storage>(&mut self, alloc: Global, image: &mut S) -> Result<(), Fault>
+        ensures put { IsTrue (fits_first_cluster self.old) → Put (S.state image.old) (S.state image.new) 0 (header_bytes self.old) result }
+        ensures limit { IsFalse (fits_first_cluster self.old) → NotAsked self.old (S.state image.old) (S.state image.new) result }
+        ensures ok { OnOk result (self.new ≡ written self.old) }
+        ensures err { OnErr result (self.new ≡ self.old) }
+    {
+        let (bytes, v2, v3) = self.prepared(alloc)?;
+        image.write(alloc, &bytes, 0)?;
+        self.v2 = v2;
+        self.v3 = v3;
+        Ok(())
+    }
+
+    // Writes the fields up to the number of snapshots.
+    fn write_first_fields<S: Storage>(&self, alloc: Global, image: &mut S) -> Result<(), Fault>
+        ensures { PutAtOnce (S.state image.old) (S.state image.new) 0 (first_bytes self.now.fields) result }
+    {
+        let mut bytes = [0; OLDER_LENGTH];
+        self.v2.to_bytes(&mut bytes);
+        image.write(alloc, &bytes[..FIRST_FIELDS], 0)
+    }
+
+    /// Writes the size of the disk, and with it all of bytes 0 to 63 of the header, in one request at every alignment.
+    ///
+    /// It refuses with `Fault::Memory` and `Fault::Storage`, which leave each of these bytes of the file old or new.
+    pub fn write_size<S: Storage>(&self, alloc: Global, image: &mut S) -> Result<(), Fault>
+        ensures { PutAtOnce (S.state image.old) (S.state image.new) 0 (first_bytes self.now.fields) result }
+    {
+        self.write_first_fields(alloc, image)
+    }
+
+    /// Writes the place and the number of words of the L1 table, and with them all of bytes 0 to 63 of the header, in one
+    /// request at every alignment.
+    ///
+    /// It refuses with `Fault::Memory` and `Fault::Storage`, which leave each of these bytes of the file old or new.
+    pub fn write_l1_table_pointer<S: Storage>(
+        &self,
+        alloc: Global,
+        image: &mut S,
+    ) -> Result<(), Fault>
+        ensures { PutAtOnce (S.state image.old) (S.state image.new) 0 (first_bytes self.now.fields) result }
+    {
+        self.write_first_fields(alloc, image)
+    }
+
+    /// Writes the place and the number of clusters of the refcount table, and with them all of bytes 0 to 63 of the header, in
+    /// one request at every alignment.
+    ///
+    /// It refuses with `Fault::Memory` and `Fault::Storage`, which leave each of these bytes of the file old or new.
+    pub fn write_reftable_pointer<S: Storage>(
+        &self,
+        alloc: Global,
+        image: &mut S,
+    ) -> Result<(), Fault>
+        ensures { PutAtOnce (S.state image.old) (S.state image.new) 0 (first_bytes self.now.fields) result }
+    {
+        self.write_first_fields(alloc, image)
+    }
+}
+
+#[cfg(test)]
+mod tests;

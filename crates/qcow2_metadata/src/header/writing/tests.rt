@@ -1,0 +1,333 @@
+// Written headers by bytes from the format's rules.
+//
+// Where an allocation is refused a body ends with `Fault::Memory`, and its test runs it once more: so each test passes
+// whichever one allocation is refused, and fails where a call gives up with memory left.
+ghost use Rattle.std.specs.Prelude.{◌≤◌};
+ghost use Rattle.imago_storage.specs.State.{IsAlignment};
+
+use super::*;
+use crate::features::FeatureName;
+use imago_storage::{FuseStorage, LogStorage, MemStorage};
+use qcow2_types::FeatureType;
+use std::process::Abort;
+use std::test::Fail;
+
+/// Bytes and where they stand.
+type Piece = (usize, &'static [u8]);
+
+// The fields of an image of 65,536 bytes in clusters of 512, with two words of the L1 table at 1536 and the refcount table at
+// 512; the first 64 bytes are those before the order.
+static FIELDS: [Piece; 8] = [
+    (0, b"QFI\xfb\x00\x00\x00\x03"),
+    (23, b"\x09"),
+    (29, b"\x01"),
+    (39, b"\x02"),
+    (46, b"\x06"),
+    (54, b"\x02"),
+    (59, b"\x01"),
+    (96, b"\x00\x00\x00\x04\x00\x00\x00\x68"),
+];
+
+fn put(bytes: &mut [u8], from: usize, pieces: &[Piece]) {
+    for (at, piece) in pieces {
+        for (i, byte) in piece.iter().enumerate() {
+            if let Some(place) = bytes.get_mut(from.saturating_add(*at).saturating_add(i)) {
+                *place = *byte;
+            }
+        }
+    }
+}
+
+// Puts the extension that names three features, in 152 bytes.
+fn put_names(bytes: &mut [u8], at: usize) {
+    put(
+        bytes,
+        at,
+        &[
+            (0, b"\x68\x03\xf8\x57\x00\x00\x00\x90"),
+            (8, b"\x00\x00dirty bit"),
+            (56, b"\x00\x01corrupt bit"),
+            (104, b"\x00\x02external data file"),
+        ],
+    );
+}
+
+fn text(alloc: Global, text: &str) -> Result<Option<String>, Fault> {
+    Ok(Some(String::from_str(alloc, text)?))
+}
+
+// A name of so many bytes.
+fn long_name(alloc: Global, length: usize) -> Result<Option<String>, Fault> {
+    let mut name = String::new(alloc);
+    for _ in 0..length {
+        name.push_str("n")?;
+    }
+    Ok(Some(name))
+}
+
+// The header of that image.
+fn filled(mut header: Header) -> Header {
+    header.set_size(65536);
+    header.v2.l1_size = 2;
+    header.v2.l1_table_offset = 1536;
+    header.v2.refcount_table_offset = 512;
+    header.v2.refcount_table_clusters = 1;
+    header
+}
+
+fn plain(alloc: Global) -> Result<Header, Fault> {
+    Ok(filled(Header::new(alloc, 9, 4, None, None, None)?))
+}
+
+// The bytes that the header writes into an empty file.
+fn bytes_written(alloc: Global, header: &mut Header) -> Result<Vec<u8>, Fault> {
+    let mut image = MemStorage::new(alloc);
+    header.write(alloc, &mut image)?;
+    image.into_bytes()
+}
+
+fn new_header(rt: &impl Abort, alloc: Global) -> Result<(), Fault> {
+    let mut expected = [0u8; 264];
+    put(&mut expected, 0, &FIELDS);
+    put_names(&mut expected, 104);
+    let mut header = plain(alloc)?;
+    let first = bytes_written(alloc, &mut header)?;
+    assert_eq!(rt; first.as_slice(), expected.as_slice());
+    let second = bytes_written(alloc, &mut header)?;
+    assert_eq!(rt; second.as_slice(), expected.as_slice());
+    Ok(())
+}
+
+#[test]
+fn a_new_header_has_these_bytes(rt: HostRuntime) -> Result<(), Fail> {
+    let alloc = rt.alloc();
+    match new_header(&rt, alloc) {
+        Err(Fault::Memory) => new_header(&rt, alloc)?,
+        answer => answer?,
+    }
+    Ok(())
+}
+
+fn with_texts(rt: &impl Abort, alloc: Global) -> Result<(), Fault> {
+    let mut expected = [0u8; 284];
+    put(&mut expected, 0, &FIELDS);
+    put(&mut expected, 0, &[(14, b"\x01\x18\x00\x00\x00\x04")]);
+    put(
+        &mut expected,
+        104,
+        &[(0, b"\xe2\x79\x2a\xca\x00\x00\x00\x03raw")],
+    );
+    put_names(&mut expected, 120);
+    put(&mut expected, 280, &[(0, b"base")]);
+    let mut header = filled(Header::new(
+        alloc,
+        9,
+        4,
+        text(alloc, "base")?,
+        text(alloc, "raw")?,
+        None,
+    )?);
+    let bytes = bytes_written(alloc, &mut header)?;
+    assert_eq!(rt; bytes.as_slice(), expected.as_slice());
+    assert_eq!(rt; header.backing_filename().unwrap_or(""), "base");
+    assert_eq!(rt; header.backing_format().unwrap_or(""), "raw");
+    Ok(())
+}
+
+// Both extensions before the names: the format's, filled up with 4 bytes, and the data file's, with none.
+fn with_data_file(rt: &impl Abort, alloc: Global) -> Result<(), Fault> {
+    let mut expected = [0u8; 296];
+    put(&mut expected, 0, &FIELDS);
+    put(&mut expected, 0, &[(79, b"\x04")]);
+    put(
+        &mut expected,
+        104,
+        &[(0, b"\xe2\x79\x2a\xca\x00\x00\x00\x05qcow2")],
+    );
+    put(
+        &mut expected,
+        120,
+        &[(0, b"\x44\x41\x54\x41\x00\x00\x00\x08data.raw")],
+    );
+    put_names(&mut expected, 136);
+    let mut header = filled(Header::new(
+        alloc,
+        9,
+        4,
+        None,
+        text(alloc, "qcow2")?,
+        text(alloc, "data.raw")?,
+    )?);
+    assert!(rt; header.external_data_file());
+    let bytes = bytes_written(alloc, &mut header)?;
+    assert_eq!(rt; bytes.as_slice(), expected.as_slice());
+    Ok(())
+}
+
+// A name of 48 bytes is cut to 46.
+fn with_long_name(rt: &impl Abort, alloc: Global) -> Result<(), Fault> {
+    let text = "a name that has two bytes more than there are..!";
+    let name = FeatureName {
+        kind: FeatureType::Autoclear,
+        bit: 63,
+        name: String::from_str(alloc, text)?,
+    };
+    let mut names = Vec::new(alloc);
+    names.push(name)?;
+    let mut bytes = Vec::new(alloc);
+    push_names(&mut bytes, alloc, &names)?;
+    assert_eq!(rt;
+        bytes.as_slice(),
+        b"\x68\x03\xf8\x57\x00\x00\x00\x30\x02\x3fa name that has two bytes more than there are.".as_slice()
+    );
+    Ok(())
+}
+
+#[test]
+fn texts_are_written(rt: HostRuntime) -> Result<(), Fail> {
+    let alloc = rt.alloc();
+    match with_texts(&rt, alloc) {
+        Err(Fault::Memory) => with_texts(&rt, alloc)?,
+        answer => answer?,
+    }
+    match with_data_file(&rt, alloc) {
+        Err(Fault::Memory) => with_data_file(&rt, alloc)?,
+        answer => answer?,
+    }
+    match with_long_name(&rt, alloc) {
+        Err(Fault::Memory) => with_long_name(&rt, alloc)?,
+        answer => answer?,
+    }
+    Ok(())
+}
+
+// What a write into an empty file answers, where it isn't want of memory, and how long the file is then.
+fn outcome(
+    alloc: Global,
+    cluster_bits: u32,
+    length: usize,
+) -> Result<(Result<(), Fault>, usize), Fault>
+    requires low { 9 ≤ cluster_bits }
+    requires high { cluster_bits ≤ 21 }
+{
+    let mut header = Header::new(
+        alloc,
+        cluster_bits,
+        4,
+        long_name(alloc, length)?,
+        None,
+        None,
+    )?;
+    let mut image = MemStorage::new(alloc);
+    let answer = header.write(alloc, &mut image);
+    if answer == Err(Fault::Memory) {
+        return Err(Fault::Memory);
+    }
+    Ok((answer, image.into_bytes()?.len()))
+}
+
+// 264 bytes and the name.
+fn limits(rt: &impl Abort, alloc: Global) -> Result<(), Fault> {
+    let (answer, written) = outcome(alloc, 12, 1024)?;
+    assert_eq!(rt; answer, Err(Fault::Limit(1288)));
+    assert_eq!(rt; written, 0);
+    let (answer, written) = outcome(alloc, 12, 1023)?;
+    assert_eq!(rt; answer, Ok(()));
+    assert_eq!(rt; written, 1287);
+    let (answer, written) = outcome(alloc, 9, 249)?;
+    assert_eq!(rt; answer, Err(Fault::Limit(513)));
+    assert_eq!(rt; written, 0);
+    let (answer, written) = outcome(alloc, 9, 248)?;
+    assert_eq!(rt; answer, Ok(()));
+    assert_eq!(rt; written, 512);
+    Ok(())
+}
+
+#[test]
+fn a_header_that_does_not_fit_is_refused(rt: HostRuntime) -> Result<(), Fail> {
+    let alloc = rt.alloc();
+    match limits(&rt, alloc) {
+        Err(Fault::Memory) => limits(&rt, alloc)?,
+        answer => answer?,
+    }
+    Ok(())
+}
+
+// One pointer write of three, into a file of 8,192 bytes aa: one request, and every other byte stays.
+fn pointer_write(rt: &impl Abort, alloc: Global, align: usize, which: u8) -> Result<(), Fault>
+    requires { IsAlignment align }
+{
+    let mut expected = vec![in alloc; 0xaau8; 8192]?;
+    for byte in expected.iter_mut().take(64) {
+        *byte = 0;
+    }
+    // All but the order stand in the first 64 bytes.
+    put(&mut expected, 0, &FIELDS[..7]);
+    let file = MemStorage::from_bytes(vec![in alloc; 0xaau8; 8192]?)?.with_align(align);
+    let mut image = LogStorage::new(alloc, file)?;
+    let header = plain(alloc)?;
+    match which {
+        0 => header.write_size(alloc, &mut image)?,
+        1 => header.write_l1_table_pointer(alloc, &mut image)?,
+        _ => header.write_reftable_pointer(alloc, &mut image)?,
+    }
+    assert_eq!(rt; image.requests().len(), 1);
+    let bytes = image.into_inner().into_bytes()?;
+    assert_eq!(rt; bytes.as_slice(), expected.as_slice());
+    Ok(())
+}
+
+fn pointer_writes(rt: &impl Abort, alloc: Global) -> Result<(), Fault> {
+    for which in 0..3u8 {
+        pointer_write(rt, alloc, 1, which)?;
+        pointer_write(rt, alloc, 8, which)?;
+        pointer_write(rt, alloc, 512, which)?;
+        pointer_write(rt, alloc, 4096, which)?;
+    }
+    Ok(())
+}
+
+#[test]
+fn pointer_writes_leave_other_bytes(rt: HostRuntime) -> Result<(), Fail> {
+    let alloc = rt.alloc();
+    match pointer_writes(&rt, alloc) {
+        Err(Fault::Memory) => pointer_writes(&rt, alloc)?,
+        answer => answer?,
+    }
+    Ok(())
+}
+
+// The read of the unit around fails, or the write: the header stays as it was, and the next write succeeds.
+fn faults(rt: &impl Abort, alloc: Global) -> Result<(), Fault> {
+    for n in 1..3u64 {
+        let file = MemStorage::new(alloc).with_align(512);
+        let mut image = FuseStorage::new(file, n);
+        let mut header = Header::new(alloc, 9, 4, text(alloc, "base")?, None, None)?;
+        let refused = header.write(alloc, &mut image);
+        if refused == Err(Fault::Memory) {
+            return Err(Fault::Memory);
+        }
+        assert_eq!(rt; refused, Err(Fault::Storage));
+        assert_eq!(rt; header.v2.backing_filename_offset, 0);
+        header.write(alloc, &mut image)?;
+        assert_eq!(rt; header.v2.backing_filename_offset, 264);
+        let mut image = FuseStorage::new(image, n);
+        let refused = header.write_size(alloc, &mut image);
+        if refused == Err(Fault::Memory) {
+            return Err(Fault::Memory);
+        }
+        assert_eq!(rt; refused, Err(Fault::Storage));
+        header.write_size(alloc, &mut image)?;
+    }
+    Ok(())
+}
+
+#[test]
+fn faults_of_the_storage_are_passed_on(rt: HostRuntime) -> Result<(), Fail> {
+    let alloc = rt.alloc();
+    match faults(&rt, alloc) {
+        Err(Fault::Memory) => faults(&rt, alloc)?,
+        answer => answer?,
+    }
+    Ok(())
+}
