@@ -24,3 +24,11 @@ pub mod Fitting
 pub mod NamesRead
 pub mod Reloading
 pub mod NewReloads
+pub mod WordFacts
+pub mod TableFacts
+pub mod Untouched
+pub mod TableSteps
+pub mod GrowthLemmas
+pub mod L2Words
+pub mod Conservation
+pub mod WrittenBack

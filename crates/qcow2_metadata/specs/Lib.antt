@@ -12,3 +12,11 @@ pub mod Blocks
 pub mod BlockView
 pub mod Writing
 pub mod Reloading
+pub mod Tables
+pub mod LayoutView
+pub mod MappingView
+pub mod L1View
+pub mod Growth
+pub mod Allocations
+pub mod RefTableView
+pub mod L2View

@@ -1,20 +1,35 @@
-//! The metadata of a qcow2 image: its header and its refcount blocks, as they are in memory and in the file.
+//! The metadata of a qcow2 image: its header, tables and refcount blocks, as they are in memory and in the file.
 #![tactic(auto)]
 
 mod clusters;
 mod counter;
 mod endian;
+mod entries;
 mod extension_bytes;
 mod extensions;
 mod features;
 mod header;
+mod l1_table;
+mod l2_table;
 pub mod laws;
+mod layout;
+mod mapping;
 mod numbers;
 mod reading;
+mod ref_table;
 mod refblock;
 mod rules;
+mod table;
+pub mod table_laws;
 #[cfg(test)]
 mod tests;
+mod words;
 
+pub use entries::{L1Entry, L2Entry, RefTableEntry, TableEntry};
 pub use header::Header;
+pub use l1_table::L1Table;
+pub use l2_table::{CompressedClusterReadGuard, L2Table, L2TableWriteGuard};
+pub use mapping::L2Mapping;
+pub use ref_table::RefTable;
 pub use refblock::{RefBlock, RefBlockWriteGuard};
+pub use table::Table;

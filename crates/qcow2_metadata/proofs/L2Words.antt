@@ -1,0 +1,124 @@
+-- The words that are written to L2 tables, and what they mean.
+use Rattle.std.proofs.Common.{◌≡◌, refl, ℕ, zero, suc, ◌+◌, ◌-◌, ◌*◌, ◌/◌, ◌%◌, ◌^◌, ◌<◌, ◌≤◌, ◌∙◌, ap, sym, subst, arith, List, length, map}
+use Rattle.std.specs.Prelude.{Bool, true, false, not, ◌&&◌, ◌||◌, ◌==◌, nat_le, if◌then◌else◌, IsTrue, Option, Some, None, slice_index, replicate}
+use Rattle.std.proofs.lemmas.Nat.{pow_pos}
+use Rattle.std.proofs.Math.Pow.{mod-mod-pow}
+use Rattle.std.proofs.lemmas.List.{length-map, get_or-map}
+use Rattle.qcow2_types.specs.Words.{Layout, unmapped, data_at, zeroes, packed, damaged, mapping_of, is_damaged, is_place, has_bit, max_offset, table_offset, standard_word_sound, names_cluster, packed_place}
+use Rattle.qcow2_types.proofs.WordLemmas.{zero-word}
+use Rattle.qcow2_metadata.specs.Places.{IsInReach}
+use Rattle.qcow2_metadata.specs.Tables.{l2_words, word_sound, AreSound, zero_word, without_mark}
+use Rattle.qcow2_metadata.specs.Allocations.{IsKeptInReach, zeroed_word}
+use Rattle.qcow2_metadata.proofs.TableSteps.{cluster_sectors, cluster_place}
+
+-- a place of sectors, in a word with the mark
+module _ (p : ℕ) (sectors : p % 512 ≡ 0) (near : p ≤ max_offset) (layout : Layout) (place : is_place layout.cluster_bits p ≡ true) where
+  -- data
+  pub mapped_word : mapping_of layout (2 ^ 63 + p) ≡ (if not (p == 0) || (layout.external_data && true) then data_at (p / 2 ^ layout.cluster_bits) true else unmapped)
+  unfolding mapping_of
+  mapped_word =
+      let a : (2 ^ 63 + p) / 2 ^ 62 % 2 ≡ 0 = omega arith in
+      let b : (2 ^ 63 + p) / 2 ^ 1 % 2 ^ 8 ≡ 0 = omega arith in
+      let d : (2 ^ 63 + p) / 2 ^ 56 % 2 ^ 6 ≡ 0 = omega arith in
+      let e : (2 ^ 63 + p) / 2 ^ 0 % 2 ≡ 0 = omega arith in
+      let offset : table_offset (2 ^ 63 + p) ≡ p = omega arith in
+      let one : (2 ^ 63 + p) / 2 ^ 63 % 2 ≡ 1 = omega arith in
+      rw (a, b, d, e, offset, place, one) refl
+
+  -- zeroes with a cluster kept, with the mark and without
+  pub kept_marked_word : layout.version ≡ 3 → mapping_of layout (2 ^ 63 + p + 1) ≡ zeroes (if not (p == 0) || (layout.external_data && true) then Some (p / 2 ^ layout.cluster_bits) else None) true
+  unfolding mapping_of
+  kept_marked_word v =
+      let a : (2 ^ 63 + p + 1) / 2 ^ 62 % 2 ≡ 0 = omega arith in
+      let b : (2 ^ 63 + p + 1) / 2 ^ 1 % 2 ^ 8 ≡ 0 = omega arith in
+      let d : (2 ^ 63 + p + 1) / 2 ^ 56 % 2 ^ 6 ≡ 0 = omega arith in
+      let e : (2 ^ 63 + p + 1) / 2 ^ 0 % 2 ≡ 1 = omega arith in
+      let offset : table_offset (2 ^ 63 + p + 1) ≡ p = omega arith in
+      let one : (2 ^ 63 + p + 1) / 2 ^ 63 % 2 ≡ 1 = omega arith in
+      rw (a, b, d, e, offset, place, one, v) refl
+
+  pub kept_unmarked_word : layout.version ≡ 3 → mapping_of layout (p + 1) ≡ zeroes (if not (p == 0) || (layout.external_data && false) then Some (p / 2 ^ layout.cluster_bits) else None) false
+  unfolding mapping_of
+  kept_unmarked_word v =
+      let a : (p + 1) / 2 ^ 62 % 2 ≡ 0 = omega arith in
+      let b : (p + 1) / 2 ^ 1 % 2 ^ 8 ≡ 0 = omega arith in
+      let d : (p + 1) / 2 ^ 56 % 2 ^ 6 ≡ 0 = omega arith in
+      let e : (p + 1) / 2 ^ 0 % 2 ≡ 1 = omega arith in
+      let offset : table_offset (p + 1) ≡ p = omega arith in
+      let one : (p + 1) / 2 ^ 63 % 2 ≡ 0 = omega arith in
+      rw (a, b, d, e, offset, place, one, v) refl
+
+  -- and so with either
+  pub kept_word : (copied : Bool) → layout.version ≡ 3 → mapping_of layout (zero_word p copied) ≡ zeroes (if not (p == 0) || (layout.external_data && copied) then Some (p / 2 ^ layout.cluster_bits) else None) copied
+  kept_word true v = kept_marked_word v
+  kept_word false v = kept_unmarked_word v
+
+not_damaged_pick : (b : Bool) (c : ℕ) → is_damaged (if b then data_at c true else unmapped) ≡ false
+not_damaged_pick true c = refl
+not_damaged_pick false c = refl
+
+-- the word that names a host cluster is sound
+pub mapped_sound : (layout : Layout) (c : ℕ) → 9 ≤ layout.cluster_bits → IsInReach layout.cluster_bits c → IsTrue (word_sound l2_words layout (2 ^ 63 + c * 2 ^ layout.cluster_bits))
+mapped_sound layout c low near =
+    let p : ℕ = c * 2 ^ layout.cluster_bits in
+    rw (mapped_word (c * 2 ^ layout.cluster_bits) (cluster_sectors layout.cluster_bits c low near) near layout (cluster_place layout.cluster_bits c low near))
+    (rw (not_damaged_pick (not (c * 2 ^ layout.cluster_bits == 0) || (layout.external_data && true)) (c * 2 ^ layout.cluster_bits / 2 ^ layout.cluster_bits)) refl)
+
+-- so is the word of a zeroed guest cluster
+pub zeroed_sound : (layout : Layout) (kept : Option (ℕ × Bool)) → 9 ≤ layout.cluster_bits → layout.version ≡ 3 → IsKeptInReach layout.cluster_bits kept → IsTrue (word_sound l2_words layout (zeroed_word layout.cluster_bits kept))
+zeroed_sound layout None low v near = rw (kept_unmarked_word 0 refl (omega arith) layout (cluster_place_zero layout.cluster_bits) v) refl
+  where
+    cluster_place_zero : (bits : ℕ) → is_place bits 0 ≡ true
+    cluster_place_zero bits = let none : 0 % 2 ^ bits ≡ 0 = let pos : 0 < 2 ^ bits = pow_pos bits in omega arith in rw none refl
+zeroed_sound layout (Some kept) low v near =
+    rw (kept_word (kept.0 * 2 ^ layout.cluster_bits) (cluster_sectors layout.cluster_bits kept.0 low near) near layout (cluster_place layout.cluster_bits kept.0 low near) kept.1 v) refl
+
+-- the words of a new table
+pub cleared_sound : (layout : Layout) (n : ℕ) → AreSound l2_words layout (replicate n 0)
+cleared_sound layout n i inside = rw (zeroes_at n i) (rw (zero-word layout) refl)
+  where
+    zeroes_at : (m j : ℕ) → slice_index (replicate m 0) j ≡ 0
+    zeroes_at zero j = refl
+    zeroes_at (suc m) zero = refl
+    zeroes_at (suc m) (suc j) = zeroes_at m j
+
+pick : (c a n s z p q : Bool) (o l o' l' k k' : ℕ) (x x' : Bool) (y y' : Option ℕ)
+    → is_damaged (if c then (if a || n then damaged else packed o l) else (if not s then damaged else if z then zeroes y x else if p then data_at k x else unmapped)) ≡ false
+    → is_damaged (if c then (if false || n then damaged else packed o' l') else (if not s then damaged else if z then zeroes y' x' else if q then data_at k' x' else unmapped)) ≡ false
+pick true true n s z p q o l o' l' k k' x x' y y' h = cc
+pick true false true s z p q o l o' l' k k' x x' y y' h = cc
+pick true false false s z p q o l o' l' k k' x x' y y' h = refl
+pick false a n false z p q o l o' l' k k' x x' y y' h = cc
+pick false a n true true p q o l o' l' k k' x x' y y' h = refl
+pick false a n true false p true o l o' l' k k' x x' y y' h = refl
+pick false a n true false p false o l o' l' k k' x x' y y' h = refl
+
+-- a word without its mark is as sound
+unmarked : (layout : Layout) (w : ℕ) → 9 ≤ layout.cluster_bits → is_damaged (mapping_of layout w) ≡ false → is_damaged (mapping_of layout (w % 2 ^ 63)) ≡ false
+unfolding mapping_of
+unmarked layout w low h =
+    let k : ℕ = 70 - layout.cluster_bits in
+    let split : 63 - (70 - layout.cluster_bits) + (70 - layout.cluster_bits) ≡ 63 = omega arith in
+    let a : w % 2 ^ 63 / 2 ^ 62 % 2 ≡ w / 2 ^ 62 % 2 = omega arith in
+    let b : w % 2 ^ 63 / 2 ^ 1 % 2 ^ 8 ≡ w / 2 ^ 1 % 2 ^ 8 = omega arith in
+    let d : w % 2 ^ 63 / 2 ^ 56 % 2 ^ 6 ≡ w / 2 ^ 56 % 2 ^ 6 = omega arith in
+    let e : w % 2 ^ 63 / 2 ^ 0 % 2 ≡ w / 2 ^ 0 % 2 = omega arith in
+    let offset : table_offset (w % 2 ^ 63) ≡ table_offset w = omega arith in
+    let none : w % 2 ^ 63 / 2 ^ 63 % 2 ≡ 0 = omega arith in
+    let place : w % 2 ^ 63 % 2 ^ (70 - layout.cluster_bits) ≡ w % 2 ^ (70 - layout.cluster_bits) = ap (λ n. w % 2 ^ n % 2 ^ (70 - layout.cluster_bits)) (sym split) ∙ mod-mod-pow w (63 - (70 - layout.cluster_bits)) (70 - layout.cluster_bits) in
+    rw (a, b, d, e, offset, none, place)
+    (pick (has_bit w 62) (has_bit w 63) (nat_le (2 ^ 56) (packed_place layout.cluster_bits w)) (standard_word_sound layout w) (has_bit w 0) (names_cluster layout w) _ _ _ _ _ _ _ _ _ _ _ h)
+
+is_not : (b : Bool) → IsTrue (not b) → b ≡ false
+is_not true h = cc
+is_not false h = refl
+
+not_is : (b : Bool) → b ≡ false → IsTrue (not b)
+not_is true h = cc
+not_is false h = refl
+
+pub unmarked_sound : (layout : Layout) (words : List ℕ) → 9 ≤ layout.cluster_bits → AreSound l2_words layout words → AreSound l2_words layout (map without_mark words)
+unmarked_sound layout words low old i inside =
+    let there : i < length words = omega (arith, length-map words without_mark, inside) in
+    subst (λ w. IsTrue (word_sound l2_words layout w)) (sym (get_or-map without_mark words i 0 0 there))
+    (not_is (is_damaged (mapping_of layout (without_mark (slice_index words i)))) (unmarked layout (slice_index words i) low (is_not (is_damaged (mapping_of layout (slice_index words i))) (old i there))))

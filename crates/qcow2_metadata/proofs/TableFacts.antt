@@ -1,0 +1,160 @@
+-- Tables of words: how long they are, where they stand, and their bytes.
+use Rattle.std.proofs.Common.{◌≡◌, refl, ℕ, zero, suc, ◌+◌, ◌-◌, ◌*◌, ◌/◌, ◌%◌, ◌^◌, ◌<◌, ◌≤◌, ◌∙◌, ap, sym, subst, arith, List, [], ◌∷◌, ◌++◌, length, take, get_or}
+use Rattle.std.specs.Prelude.{IsTrue, Some, None, Option}
+use Rattle.std.specs.Int.{to_be_bytes, w64}
+use Rattle.std.proofs.Math.Nat.{pow-le-pow_right}
+use Rattle.std.proofs.Math.Seq.{take-suc}
+use Rattle.std.proofs.lemmas.Grind.{flat_map-append}
+use Rattle.std.proofs.lemmas.List.{append-nil, length-append}
+use Rattle.std.proofs.lemmas.Nat.{mod-mul-add, pow-add}
+use Rattle.qcow2_types.specs.Header.{Fields, Shaped, layout_of}
+use Rattle.qcow2_types.specs.Words.{Layout}
+use Rattle.std.specs.Prelude.{slice_index, Bool, true, false}
+use Rattle.std.proofs.lemmas.List.FromFn.{map-range_with_len_more, get_or-map-range_with_len, length-map-range_with_len}
+use Rattle.std.proofs.lemmas.Bool.{cases_lt}
+use Rattle.std.proofs.Common.{inl, inr}
+use Rattle.imago_storage.specs.Calls.{Reads, Cause}
+use Rattle.imago_storage.specs.declared.fault.Fault.{Fault}
+use Rattle.imago_storage.specs.declared.fault.Fault.TheVariants.{Memory, DamagedTable, Storage}
+use Rattle.qcow2_types.specs.Bytes.{Bytes, bytes_of, be, word}
+use Rattle.qcow2_types.proofs.Splices.{be-same}
+use Rattle.qcow2_metadata.specs.Tables.{words_in, AreSound, HasUnsound, WhyNotDecoded, WhyNotLoaded, word_sound}
+use Rattle.qcow2_metadata.specs.Places.{IsPlaced, place_of}
+use Rattle.qcow2_metadata.specs.Tables.{Kind, l1_words, l2_words, block_words, TableValue, IsTable, IsLength, IsAsked, IsPlacedTable, table_place, table_bytes, max_entries}
+
+-- no table has more words than the largest L1 table
+pub few_by_kind : (kind : Kind) (layout : Layout) (n : ℕ) → layout.cluster_bits ≤ 21 → IsLength kind layout n → n ≤ 2 ^ 22
+few_by_kind l1_words layout n high long = long
+few_by_kind block_words layout n high long = let most : n ≤ 2 ^ 20 = long in omega arith
+few_by_kind l2_words layout n high long =
+    let most : 2 ^ layout.cluster_bits ≤ 2 ^ 21 = pow-le-pow_right (omega arith) high in
+    let is : n * 8 ≡ 2 ^ layout.cluster_bits = long in
+    omega arith
+
+pub few_words : (kind : Kind) (table : TableValue) → IsTable kind table → length table.words ≤ 2 ^ 22
+few_words kind table is = few_by_kind kind table.layout (length table.words) is.high is.long
+
+-- the words that were asked for are as many as a table may have
+pub asked_is_length : (kind : Kind) (h : Fields) (n : ℕ) → Shaped h → n ≤ max_entries kind → IsAsked kind h n → IsLength kind (layout_of h) n
+asked_is_length l1_words h n shaped most asked = most
+asked_is_length block_words h n shaped most asked = most
+asked_is_length l2_words h n shaped most asked =
+    let split : h.cluster_bits ≡ h.cluster_bits - 3 + 3 = let low : 9 ≤ h.cluster_bits = shaped.low in omega arith in
+    let power : 2 ^ h.cluster_bits ≡ 2 ^ (h.cluster_bits - 3) * 8 = ap (λ b. 2 ^ b) split ∙ pow-add 2 (h.cluster_bits - 3) 3 in
+    let is : n ≡ 2 ^ h.cluster_bits / 8 = asked in
+    omega (arith, power, is)
+
+-- one word more
+pub bytes_more : (words : List ℕ) (i : ℕ) → i < length words → table_bytes (take (i + 1) words) ≡ table_bytes (take i words) ++ to_be_bytes w64 (get_or words i 0)
+bytes_more words i inside =
+    let next : i + 1 ≡ suc i = omega arith in
+    ap (λ n. table_bytes (take n words)) next
+    ∙ (ap table_bytes (take-suc words i 0 inside)
+    ∙ (flat_map-append (to_be_bytes w64) (take i words) (get_or words i 0 ∷ [])
+    ∙ ap (λ l. table_bytes (take i words) ++ l) (append-nil (to_be_bytes w64 (get_or words i 0)))))
+
+-- words take 8 bytes each
+pub bytes_long : (words : List ℕ) → length (table_bytes words) ≡ 8 * length words
+bytes_long [] = refl
+bytes_long (w ∷ ws) =
+    let own : length (to_be_bytes w64 w) ≡ 8 = refl in
+    length-append (to_be_bytes w64 w) (table_bytes ws) ∙ omega (arith, own, bytes_long ws)
+
+-- a table ends far below 2^64
+pub table_below : (table : TableValue) (kind : Kind) → IsTable kind table → IsPlacedTable table → table_place table + 8 * length table.words ≤ 2 ^ 63
+table_below table kind is placed = below table.cluster placed
+  where
+    below : (cluster : Option ℕ) → IsPlaced table.layout.cluster_bits cluster → place_of table.layout.cluster_bits cluster + 8 * length table.words ≤ 2 ^ 63
+    below None p = absurd p
+    below (Some c) p =
+        let reach : c * 2 ^ table.layout.cluster_bits ≤ 0x00ff_ffff_ffff_fe00 = p in
+        let few : length table.words ≤ 2 ^ 22 = few_words kind table is in
+        omega (arith, reach, few)
+
+-- and a word of it stands at a multiple of 8
+pub word_whole : (bits cluster index : ℕ) → 9 ≤ bits → (cluster * 2 ^ bits + 8 * index) % 8 ≡ 0
+word_whole bits cluster index low =
+    let split : bits ≡ bits - 3 + 3 = omega arith in
+    let power : 2 ^ bits ≡ 2 ^ (bits - 3) * 8 = ap (λ b. 2 ^ b) split ∙ pow-add 2 (bits - 3) 3 in
+    let flat : cluster * 2 ^ bits + 8 * index ≡ (cluster * 2 ^ (bits - 3) + index) * 8 + 0 = ap (λ p. cluster * p + 8 * index) power ∙ omega arith in
+    ap (λ n. n % 8) flat ∙ mod-mul-add (cluster * 2 ^ (bits - 3) + index) 8 0 (omega arith)
+
+pub table_word_whole : (table : TableValue) (index : ℕ) → 9 ≤ table.layout.cluster_bits → IsPlacedTable table → (table_place table + 8 * index) % 2 ^ 3 ≡ 0
+table_word_whole table index low placed = whole table.cluster placed
+  where
+    whole : (cluster : Option ℕ) → IsPlaced table.layout.cluster_bits cluster → (place_of table.layout.cluster_bits cluster + 8 * index) % 2 ^ 3 ≡ 0
+    whole None p = absurd p
+    whole (Some c) p = word_whole table.layout.cluster_bits c index low
+
+-- the words of a file at a place
+pub words_long : (f : Bytes) (p n : ℕ) → length (words_in f p n) ≡ n
+words_long f p n = length-map-range_with_len (word f p) 0 n
+
+pub words_at : (f : Bytes) (p n i : ℕ) → i < n → slice_index (words_in f p n) i ≡ word f p i
+words_at f p n i inside = get_or-map-range_with_len (word f p) 0 n i i 0 inside (omega arith)
+
+pub words_more : (f : Bytes) (p n : ℕ) → words_in f p (n + 1) ≡ words_in f p n ++ word f p n ∷ []
+words_more f p n = map-range_with_len_more (word f p) 0 n n (omega arith)
+
+-- word i of bytes
+pub word_of_bytes : (f : Bytes) (i : ℕ) → word f 0 i ≡ be f (8 * i) 8
+unfolding word
+word_of_bytes f i = let at : 0 + 8 * i ≡ 8 * i = omega arith in ap (λ p. be f p 8) at
+
+-- words read elsewhere
+pub words_same : (f g : Bytes) (p q n : ℕ) → ((i : ℕ) → i < n → word f p i ≡ word g q i) → words_in f p n ≡ words_in g q n
+words_same f g p q zero same = refl
+words_same f g p q (suc n) same =
+    let next : suc n ≡ n + 1 = omega arith in
+    let front : words_in f p n ≡ words_in g q n = words_same f g p q n (λ i lt. same i (omega arith)) in
+    let own : word f p n ≡ word g q n = same n (omega arith) in
+    let fs : words_in f p (n + 1) ≡ words_in f p n ++ word f p n ∷ [] = words_more f p n in
+    let gs : words_in g q (n + 1) ≡ words_in g q n ++ word g q n ∷ [] = words_more g q n in
+    ap (λ k. words_in f p k) next ∙ (fs ∙ (cc (front, own)) ∙ sym gs) ∙ ap (λ k. words_in g q k) (sym next)
+
+-- the words in bytes that were read
+pub words_read : (file bytes : List ℕ) (place n : ℕ) → Reads file place bytes → length bytes ≡ n * 8 → words_in (bytes_of bytes) 0 (length bytes / 8) ≡ words_in (bytes_of file) place n
+unfolding word
+words_read file bytes place n reads long =
+    let count : length bytes / 8 ≡ n = omega arith in
+    ap (λ k. words_in (bytes_of bytes) 0 k) count
+    ∙ words_same (bytes_of bytes) (bytes_of file) 0 place n (λ i lt. one i lt)
+  where
+    one : (i : ℕ) → i < n → word (bytes_of bytes) 0 i ≡ word (bytes_of file) place i
+    one i lt = be-same (bytes_of bytes) (bytes_of file) (0 + 8 * i) (place + 8 * i) 8 (λ k low.
+        let at : place + (0 + 8 * i + k) ≡ place + 8 * i + k = omega arith in
+        reads (0 + 8 * i + k) (omega arith) ∙ ap (λ p. slice_index file p) at)
+
+-- one sound word more
+pub sound_more : (kind : Kind) (layout : Layout) (f : Bytes) (p n : ℕ) → AreSound kind layout (words_in f p n) → IsTrue (word_sound kind layout (word f p n)) → AreSound kind layout (words_in f p (n + 1))
+sound_more kind layout f p n before here i inside =
+    let small : i < n + 1 = omega (arith, words_long f p (n + 1), inside) in
+    elim (cases_lt i n) [
+      | inl lt ↦
+          let old : i < length (words_in f p n) = omega (arith, words_long f p n) in
+          subst (λ w. IsTrue (word_sound kind layout w)) (words_at f p n i lt ∙ sym (words_at f p (n + 1) i small)) (before i old)
+      | inr ge ↦
+          let last : n ≡ i = omega arith in
+          subst (λ w. IsTrue (word_sound kind layout w)) (ap (λ k. word f p k) last ∙ sym (words_at f p (n + 1) i small)) here
+    ]
+
+not_true : (b : Bool) → (IsTrue b → false ≡ true) → b ≡ false
+not_true true h = sym (h refl)
+not_true false h = refl
+
+-- a word that isn't sound
+pub unsound_at : (kind : Kind) (layout : Layout) (f : Bytes) (p n i : ℕ) → i < n → (IsTrue (word_sound kind layout (word f p i)) → false ≡ true) → HasUnsound kind layout (words_in f p n)
+unsound_at kind layout f p n i inside unsound =
+    (i, omega (arith, words_long f p n, inside), ap (λ w. word_sound kind layout w) (words_at f p n i inside) ∙ not_true (word_sound kind layout (word f p i)) unsound)
+
+-- why words that were read aren't decoded is why they aren't loaded
+pub decoded_loaded : (kind : Kind) (layout : Layout) (words : List ℕ) (before after : ℕ) (fault : Fault) → after ≡ before → WhyNotDecoded kind layout words fault → WhyNotLoaded kind layout words before after fault
+decoded_loaded kind layout words before after Memory same why = same
+decoded_loaded kind layout words before after DamagedTable same why = (why, same)
+decoded_loaded kind layout words before after fault same why = absurd why
+
+-- and so is why they aren't read
+pub unread_loaded : (kind : Kind) (layout : Layout) (words : List ℕ) (before after : ℕ) (fault : Fault) → Cause before after fault → WhyNotLoaded kind layout words before after fault
+unread_loaded kind layout words before after Memory why = why
+unread_loaded kind layout words before after Storage why = why
+unread_loaded kind layout words before after fault why = absurd why

@@ -1,0 +1,113 @@
+-- Tables with one word changed, and with words added.
+use Rattle.std.proofs.Common.{◌≡◌, refl, ℕ, zero, suc, ◌+◌, ◌-◌, ◌*◌, ◌/◌, ◌%◌, ◌^◌, ◌<◌, ◌≤◌, ◌∙◌, ap, sym, subst, arith, List, [], ◌∷◌, ◌++◌, length, map, inl, inr}
+use Rattle.std.specs.Prelude.{Bool, true, IsTrue, Option, Some, None, slice_index, slice_set, replicate, nat_le}
+use Rattle.std.specs.List.{range_with_len}
+use Rattle.std.proofs.Math.ListN.{get_or-append}
+use Rattle.std.proofs.lemmas.Bool.{cases_eq, cases_lt}
+use Rattle.std.proofs.lemmas.Bool.Decides.{nat_tests}
+use Rattle.std.proofs.lemmas.Grind.{same_number_lists}
+use Rattle.std.proofs.lemmas.List.{get_or-set_same, get_or-set_other, length-set, length-append, length-replicate, get_or-append_right}
+use Rattle.std.proofs.lemmas.List.FromFn.{length-map-range_with_len, get_or-map-range_with_len, map-range_with_len_more}
+use Rattle.std.proofs.lemmas.Nat.{pow-add}
+use Rattle.std.proofs.Math.Nat.{mul-mod_left}
+use Rattle.qcow2_types.specs.Words.{Layout, is_place, max_offset, block_word_sound, block_offset, l1_word_sound}
+use Rattle.qcow2_types.proofs.WordLemmas.{zero-word, zero-l1-word, fresh-l1-word}
+use Rattle.qcow2_metadata.specs.Places.{IsPlaced, place_of}
+use Rattle.qcow2_metadata.specs.Tables.{Kind, l1_words, l2_words, block_words, IsTable, IsLength, AreSound, word_sound, padded}
+
+-- one word changed
+pub sound_set : (kind : Kind) (layout : Layout) (words : List ℕ) (i w : ℕ) → AreSound kind layout words → IsTrue (word_sound kind layout w) → AreSound kind layout (slice_set words i w)
+sound_set kind layout words i w old new k inside =
+    let there : k < length words = omega (arith, length-set words i w, inside) in
+    elim (cases_eq k i) [
+      | inl e ↦
+          let same : slice_index (slice_set words i w) k ≡ w = ap (λ j. slice_index (slice_set words i w) j) e ∙ get_or-set_same words i w 0 (subst (λ j. j < length words) e there) in
+          subst (λ x. IsTrue (word_sound kind layout x)) (sym same) new
+      | inr ne ↦ subst (λ x. IsTrue (word_sound kind layout x)) (sym (get_or-set_other words i k w 0 ne)) (old k there)
+    ]
+
+pub entered : (kind : Kind) (layout : Layout) (words : List ℕ) (i w : ℕ) (a b : Option ℕ) (m n : Bool) → IsTable kind (record { layout = layout; words = words; cluster = a; modified = m }) → IsTrue (word_sound kind layout w) → IsTable kind (record { layout = layout; words = slice_set words i w; cluster = b; modified = n })
+entered kind layout words i w a b m n is new = record {
+  low = is.low;
+  high = is.high;
+  long = subst (IsLength kind layout) (sym (length-set words i w)) is.long;
+  sound = sound_set kind layout words i w is.sound new;
+}
+
+-- 0 is a word of each kind
+pub zero_sound : (kind : Kind) (layout : Layout) → IsTrue (word_sound kind layout 0)
+zero_sound l1_words layout = zero-l1-word layout.cluster_bits
+zero_sound l2_words layout = rw (zero-word layout) refl
+zero_sound block_words layout = zero-l1-word layout.cluster_bits
+
+-- words and then 0
+pub padded_long : (words : List ℕ) (n : ℕ) → length words ≤ n → length (padded words n) ≡ n
+padded_long words n few = length-append words (replicate (n - length words) 0) ∙ omega (arith, length-replicate {A = ℕ} (n - length words) 0, few)
+
+zeroes_at : (m j : ℕ) → slice_index (replicate m 0) j ≡ 0
+zeroes_at zero j = refl
+zeroes_at (suc m) zero = refl
+zeroes_at (suc m) (suc j) = zeroes_at m j
+
+-- past its end a list reads 0
+pub past_end : (xs : List ℕ) (j : ℕ) → length xs ≤ j → slice_index xs j ≡ 0
+past_end [] j ge = refl
+past_end (x ∷ xs) zero ge = absurd (omega (arith, ge))
+past_end (x ∷ xs) (suc j) ge = past_end xs j (omega (arith, ge))
+
+pub padded_at : (words : List ℕ) (n k : ℕ) → slice_index (padded words n) k ≡ slice_index words k
+padded_at words n k = elim (cases_lt k (length words)) [
+  | inl lt ↦ get_or-append words (replicate (n - length words) 0) 0 k lt
+  | inr ge ↦ get_or-append_right words (replicate (n - length words) 0) (length words) k 0 refl ge ∙ (zeroes_at (n - length words) (k - length words) ∙ sym (past_end words k ge))
+]
+
+pub padded_sound : (kind : Kind) (layout : Layout) (words : List ℕ) (n : ℕ) → AreSound kind layout words → AreSound kind layout (padded words n)
+padded_sound kind layout words n old k inside = subst (λ x. IsTrue (word_sound kind layout x)) (sym (padded_at words n k)) (elim (cases_lt k (length words)) [
+  | inl lt ↦ old k lt
+  | inr ge ↦ subst (λ x. IsTrue (word_sound kind layout x)) (sym (past_end words k ge)) (zero_sound kind layout)
+])
+
+-- the first n words, 0 past the end
+pub copied_words : (words : List ℕ) (n : ℕ) → length words ≤ n → map (λ i. slice_index words i) (range_with_len 0 n) ≡ padded words n
+copied_words words n few =
+    let long : length (map (λ i. slice_index words i) (range_with_len 0 n)) ≡ n = length-map-range_with_len (λ i. slice_index words i) 0 n in
+    same_number_lists (map (λ i. slice_index words i) (range_with_len 0 n)) (padded words n) (long ∙ sym (padded_long words n few))
+    (λ k inside. get_or-map-range_with_len (λ i. slice_index words i) 0 n k k 0 (omega (arith, long, inside)) (omega arith) ∙ sym (padded_at words n k))
+
+pub one_word_more : (words : List ℕ) (n : ℕ) → map (λ i. slice_index words i) (range_with_len 0 (n + 1)) ≡ map (λ i. slice_index words i) (range_with_len 0 n) ++ slice_index words n ∷ []
+one_word_more words n = map-range_with_len_more (λ i. slice_index words i) 0 n n (omega arith)
+
+-- a cluster begins with a sector, and where a cluster can begin
+module _ (bits c : ℕ) (low : 9 ≤ bits) (near : c * 2 ^ bits ≤ max_offset) where
+  pub cluster_sectors : c * 2 ^ bits % 512 ≡ 0
+  cluster_sectors =
+      let split : bits ≡ bits - 9 + 9 = omega arith in
+      let power : 2 ^ bits ≡ 2 ^ (bits - 9) * 2 ^ 9 = ap (λ n. 2 ^ n) split ∙ pow-add 2 (bits - 9) 9 in
+      let flat : c * 2 ^ bits ≡ c * 2 ^ (bits - 9) * 512 = ap (λ x. c * x) power ∙ omega arith in
+      omega arith
+
+  pub cluster_place : is_place bits (c * 2 ^ bits) ≡ true
+  cluster_place =
+      let begin : c * 2 ^ bits % 2 ^ bits ≡ 0 = mul-mod_left c (2 ^ bits) in
+      let below : nat_le (c * 2 ^ bits) max_offset ≡ true = grind (arith, nat_tests) in
+      rw (begin, below) refl
+
+-- the word that names the L2 table in a cluster
+pub l1_word_named : (bits : ℕ) (cluster : Option ℕ) → 9 ≤ bits → IsPlaced bits cluster → IsTrue (l1_word_sound bits (2 ^ 63 + place_of bits cluster))
+l1_word_named bits None low placed = absurd placed
+l1_word_named bits (Some c) low placed = fresh-l1-word bits c low placed
+
+-- the word that names the refcount block in a cluster
+pub block_word_named : (bits : ℕ) (cluster : Option ℕ) → 9 ≤ bits → IsPlaced bits cluster → IsTrue (block_word_sound bits (place_of bits cluster))
+block_word_named bits None low placed = absurd placed
+block_word_named bits (Some c) low placed =
+    let whole : c * 2 ^ bits % 512 ≡ 0 = cluster_sectors bits c low placed in
+    let near : c * 2 ^ bits ≤ max_offset = placed in
+    let clear : c * 2 ^ bits / 2 ^ 0 % 2 ^ 9 ≡ 0 = omega arith in
+    let same : block_offset (c * 2 ^ bits) ≡ c * 2 ^ bits = omega arith in
+    rw (clear, same) (cluster_place bits c low placed)
+
+-- where a placed table or block begins, far below 2^63
+pub placed_below : (bits : ℕ) (cluster : Option ℕ) → IsPlaced bits cluster → place_of bits cluster < 2 ^ 62
+placed_below bits None placed = absurd placed
+placed_below bits (Some c) placed = let near : c * 2 ^ bits ≤ 0x00ff_ffff_ffff_fe00 = placed in omega arith

@@ -1,0 +1,19 @@
+use Rattle.std.proofs.Common.{◌≡◌, ◌∙◌, ap, sym, subst, map, take, length, arith}
+use Rattle.std.proofs.lemmas.List.{length-map, take_all}
+use Rattle.qcow2_metadata.specs.Tables.{l2_words, without_mark, AreSound, IsLength}
+use Rattle.qcow2_metadata.proofs.L2Words.{unmarked_sound}
+use Rattle.qcow2_metadata.proofs.l2_table.L2Table.clone.Goals as goal
+
+pub invariant_of-result : goal.invariant_of-result
+invariant_of-result c =
+    let s = c.self.inside in
+    let n = c.loop-entry.entry-index in
+    let items : c.deref-entry-items.result.now ≡ s.content.items = c.deref-entry-items.ensures.value in
+    let all : take c.loop-entry.entry-index c.deref-entry-items.result.now ≡ s.content.items = take_all c.loop-entry.entry-index c.deref-entry-items.result.now (omega arith) ∙ items in
+    let words : c.loop-entry.content.items ≡ map without_mark s.content.items = c.loop-entry.invariant ∙ ap (map without_mark) all in
+    record {
+      low = c.self.invariant.low;
+      high = c.self.invariant.high;
+      long = subst (IsLength l2_words s.layout) (sym (ap length words ∙ length-map s.content.items without_mark)) c.self.invariant.long;
+      sound = subst (AreSound l2_words s.layout) (sym words) (unmarked_sound s.layout s.content.items c.self.invariant.low c.self.invariant.sound);
+    }

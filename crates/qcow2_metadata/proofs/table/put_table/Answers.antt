@@ -1,0 +1,43 @@
+use Rattle.std.proofs.Common.{◌≡◌, ◌+◌, ◌*◌, ◌%◌, ◌≤◌, ◌^◌, ◌∙◌, ℕ, List, length, ap, subst, arith}
+use Rattle.imago_storage.specs.Through.{Put, PutAtOnce}
+use Rattle.imago_storage.proofs.Once.{put-below, put-at-once}
+use Rattle.qcow2_metadata.specs.Tables.{table_place, table_bytes}
+use Rattle.qcow2_metadata.proofs.PlaceLemmas.{place-whole}
+use Rattle.qcow2_metadata.proofs.TableFacts.{table_below, bytes_long}
+use Rattle.qcow2_metadata.proofs.Untouched.{put_nothing, put_nothing_at_once}
+use Rattle.qcow2_metadata.proofs.table.put_table.Goals as goal
+
+pub returns-in-Err-clause-request : goal.returns-in-Err-clause-request
+returns-in-Err-clause-request g c = rw c.in-Err.ensures.refused (put_nothing _ _ _)
+
+pub returns-in-Err-clause-once : goal.returns-in-Err-clause-once
+returns-in-Err-clause-once g c = λ whole. rw c.in-Err.ensures.refused (put_nothing_at_once _ _ _)
+
+pub returns-clause-request : goal.returns-clause-request
+returns-clause-request g c =
+    let t = g.T.Table.value c.args.table.now in
+    let w = c.write in
+    let place = c.first_byte-place.ensures.place in
+    let bytes : c.deref.result.now ≡ table_bytes t.words = c.deref.ensures.value ∙ c.in-Ok.ensures.bytes in
+    let long : length c.deref.result.now ≡ 8 * length t.words = ap length bytes ∙ bytes_long t.words in
+    let below : table_place t + 8 * length t.words ≤ 2 ^ 63 = table_below t g.T.InternalEntry.TableEntry.kind c.first_byte-place.ensures.table c.requires in
+    let low : c.first_byte-place.result + length c.deref.result.now ≤ 2 ^ 63 = omega (arith, place, long, below) in
+    let put : Put (g.S.Storage.state c.args.image.now) (g.S.Storage.state w.new.self) c.first_byte-place.result c.deref.result.now w.result =
+    put-below w.result _ _ c.first_byte-place.result c.deref.result.now w.ensures.unit low w.ensures.ok w.ensures.err w.ensures.stops w.ensures.shape w.ensures.later in
+    subst (λ p. Put (g.S.Storage.state c.args.image.now) (g.S.Storage.state w.new.self) p (table_bytes t.words) w.result) place
+    (subst (λ (bs : List ℕ). Put (g.S.Storage.state c.args.image.now) (g.S.Storage.state w.new.self) c.first_byte-place.result bs w.result) bytes put)
+
+pub returns-clause-once : goal.returns-clause-once
+returns-clause-once g c = λ full.
+    let t = g.T.Table.value c.args.table.now in
+    let w = c.write in
+    let place = c.first_byte-place.ensures.place in
+    let bytes : c.deref.result.now ≡ table_bytes t.words = c.deref.ensures.value ∙ c.in-Ok.ensures.bytes in
+    let long : length c.deref.result.now ≡ 8 * length t.words = ap length bytes ∙ bytes_long t.words in
+    let below : table_place t + 8 * length t.words ≤ 2 ^ 63 = table_below t g.T.InternalEntry.TableEntry.kind c.first_byte-place.ensures.table c.requires in
+    let low : c.first_byte-place.result + length c.deref.result.now ≤ 2 ^ 63 = omega (arith, place, long, below) in
+    let whole = ap (λ p. p % 2 ^ t.layout.cluster_bits) place ∙ place-whole t.layout.cluster_bits t.cluster c.requires in
+    let put : PutAtOnce (g.S.Storage.state c.args.image.now) (g.S.Storage.state w.new.self) c.first_byte-place.result c.deref.result.now w.result =
+    put-at-once w.result _ _ c.first_byte-place.result t.layout.cluster_bits c.deref.result.now w.ensures.unit low (long ∙ full) whole w.ensures.ok w.ensures.err w.ensures.once w.ensures.stops w.ensures.shape w.ensures.later in
+    subst (λ p. PutAtOnce (g.S.Storage.state c.args.image.now) (g.S.Storage.state w.new.self) p (table_bytes t.words) w.result) place
+    (subst (λ (bs : List ℕ). PutAtOnce (g.S.Storage.state c.args.image.now) (g.S.Storage.state w.new.self) c.first_byte-place.result bs w.result) bytes put)

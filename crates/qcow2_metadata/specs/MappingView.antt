@@ -1,0 +1,44 @@
+-- The mappings of the program, as the format's.
+use Rattle.std.specs.Prelude.{◌≡◌, Bool, false, not, ◌&&◌, ◌==◌, if◌then◌else◌, ◌≤◌, ◌<◌, ◌+◌, ◌*◌, ◌^◌, ⊤, ℕ, Some, None, Result, Ok, Err}
+use Rattle.qcow2_types.specs.Words.{max_offset, Mapping, unmapped, data_at, zeroes, packed, damaged}
+use Rattle.imago_storage.specs.declared.fault.Fault.{Fault}
+use Rattle.qcow2_metadata.specs.declared.mapping.L2Mapping.{L2Mapping}
+use Rattle.qcow2_metadata.specs.declared.mapping.L2Mapping.TheVariants.{DataFile, Backing, Zero, Compressed}
+
+-- what a mapping of the program says
+abbrev pub mapping_seen : L2Mapping → Mapping
+mapping_seen (DataFile cluster copied) = data_at cluster copied
+mapping_seen (Backing offset) = unmapped
+mapping_seen (Zero cluster copied) = zeroes cluster copied
+mapping_seen (Compressed offset length) = packed offset length
+
+-- the same of a decoder's answer, where a refusal is a word with no meaning
+abbrev pub seen : Result L2Mapping Fault → Mapping
+seen (Ok mapping) = mapping_seen mapping
+seen (Err fault) = damaged
+
+-- the layer below is read at this place
+abbrev pub BacksAt : ℕ → L2Mapping → Type 0
+BacksAt place (Backing offset) = offset ≡ place
+BacksAt place mapping = ⊤
+
+-- the host range of a mapping is one that words can name
+abbrev pub IsNamed : ℕ → L2Mapping → Type 0
+IsNamed cluster_bits (DataFile cluster copied) = cluster * 2 ^ cluster_bits ≤ max_offset
+IsNamed cluster_bits (Backing offset) = ⊤
+IsNamed cluster_bits (Zero None copied) = ⊤
+IsNamed cluster_bits (Zero (Some cluster) copied) = cluster * 2 ^ cluster_bits ≤ max_offset
+IsNamed cluster_bits (Compressed offset length) = (0 < length) × (offset + length < 2 ^ 57)
+
+-- whether two marks are the same
+abbrev pub same_mark : Bool → Bool → Bool
+same_mark a b = if a then b else not b
+
+-- Whether a mapping goes on where the one before ends: of the same kind, at the next cluster of the host or the next place of the
+-- layer below, with the same mark. What is compressed never does.
+abbrev pub follows : ℕ → L2Mapping → L2Mapping → Bool
+follows cluster_bits (DataFile a x) (DataFile b y) = (b == a + 1) && same_mark x y
+follows cluster_bits (Backing a) (Backing b) = b == a + 2 ^ cluster_bits
+follows cluster_bits (Zero None x) (Zero None y) = same_mark x y
+follows cluster_bits (Zero (Some a) x) (Zero (Some b) y) = (b == a + 1) && same_mark x y
+follows cluster_bits _ _ = false

@@ -1,0 +1,147 @@
+-- Tables of 64-bit words: the L1 table, L2 tables and the refcount table.
+use Rattle.std.specs.Prelude.{◌≡◌, ⊤, ℕ, ◌+◌, ◌-◌, ◌*◌, ◌%◌, ◌^◌, ◌<◌, ◌≤◌, Bool, false, not, ◌&&◌, ◌||◌, ◌==◌, if◌then◌else◌, List, length, map, slice_index, slice_set, ◌++◌, replicate, max, true, IsTrue, Option, Some, None}
+use Rattle.std.specs.List.{range_with_len, flat_map}
+use Rattle.std.specs.Int.{to_be_bytes, w64}
+use Rattle.qcow2_types.specs.Bytes.{Bytes, word}
+use Rattle.qcow2_types.specs.Header.{Fields, cluster_size, words_of_cluster, layout_of}
+use Rattle.imago_storage.specs.Calls.{Cause}
+use Rattle.imago_storage.specs.declared.fault.Fault.{Fault}
+use Rattle.imago_storage.specs.declared.fault.Fault.TheVariants.{Limit, DamagedTable, Memory}
+use Rattle.qcow2_metadata.specs.Places.{IsPlaced, place_of}
+use Rattle.qcow2_types.specs.Words.{bits_at, has_bit, table_offset, is_copied, packed_place, packed_end, Layout, mapping_of, is_damaged, l1_word_sound, block_word_sound}
+
+-- the reserved bits of a word, in place: of the L1 table, of an L2 table and of the refcount table
+abbrev pub l1_reserved : ℕ → ℕ
+l1_reserved w = bits_at w 0 9 + bits_at w 56 7 * 2 ^ 56
+
+abbrev pub l2_reserved : ℕ → ℕ
+l2_reserved w = if has_bit w 62 then bits_at w 63 1 * 2 ^ 63 else bits_at w 1 8 * 2 + bits_at w 56 6 * 2 ^ 56
+
+abbrev pub block_reserved : ℕ → ℕ
+block_reserved w = bits_at w 0 9
+
+-- a place in a file, where 0 is none
+abbrev pub place_or_none : ℕ → Option ℕ
+place_or_none offset = if offset == 0 then None else Some offset
+
+-- where a standard L2 word points, with the data in an external file or not
+abbrev pub named_place : Bool → ℕ → Option ℕ
+named_place external w = if not (table_offset w == 0) || (external && is_copied w) then Some (table_offset w) else None
+
+-- the range that a compressed word names: its place and its length
+abbrev pub packed_range : ℕ → ℕ → Option (ℕ × ℕ)
+packed_range cluster_bits w = if has_bit w 62 then Some (packed_place cluster_bits w, packed_end cluster_bits w - packed_place cluster_bits w) else None
+
+-- the word of a guest cluster that reads as zeroes, for which the host cluster at this place is kept
+abbrev pub zero_word : ℕ → Bool → ℕ
+zero_word offset copied = if copied then 2 ^ 63 + offset + 1 else offset + 1
+
+-- an L2 word without the mark that its cluster's reference count is 1
+abbrev pub without_mark : ℕ → ℕ
+without_mark w = w % 2 ^ 63
+
+-- the kinds of tables
+pub data Kind : Type 0 where
+  l1_words : Kind
+  l2_words : Kind
+  block_words : Kind
+
+-- what a kind of table asks of each word
+abbrev pub word_sound : Kind → Layout → ℕ → Bool
+word_sound l1_words layout w = l1_word_sound layout.cluster_bits w
+word_sound l2_words layout w = not (is_damaged (mapping_of layout w))
+word_sound block_words layout w = block_word_sound layout.cluster_bits w
+
+-- how many words a table of a kind has at most
+abbrev pub max_entries : Kind → ℕ
+max_entries l1_words = 2 ^ 22
+max_entries l2_words = 2 ^ 18
+max_entries block_words = 2 ^ 20
+
+-- An L2 table fills a cluster; the others have any number of words up to the most.
+abbrev pub IsLength : Kind → Layout → ℕ → Type 0
+IsLength l2_words layout n = n * 8 ≡ 2 ^ layout.cluster_bits
+IsLength kind layout n = n ≤ max_entries kind
+
+-- what contracts see of a table
+pub record TableValue : Type 0 where
+  pub layout : Layout
+  pub words : List ℕ
+  -- the first cluster of the file where it stands, if it has one
+  pub cluster : Option ℕ
+  -- whether the file may hold something else there
+  pub modified : Bool
+
+-- each of these words is one that the kind of table may have
+abbrev pub AreSound : Kind → Layout → List ℕ → Type 0
+AreSound kind layout words = (i : ℕ) → i < length words → IsTrue (word_sound kind layout (slice_index words i))
+
+-- what holds of each table of a kind
+pub record IsTable (kind : Kind) (table : TableValue) : Type 0 where
+  pub low : 9 ≤ table.layout.cluster_bits
+  pub high : table.layout.cluster_bits ≤ 21
+  pub long : IsLength kind table.layout (length table.words)
+  pub sound : AreSound kind table.layout table.words
+
+-- n words of a file, from a place on
+abbrev pub words_in : Bytes → ℕ → ℕ → List ℕ
+words_in f place n = map (word f place) (range_with_len 0 n)
+
+-- the bytes of words
+abbrev pub table_bytes : List ℕ → List ℕ
+table_bytes words = flat_map (to_be_bytes w64) words
+
+-- the table of n words that begins with this cluster of a file
+abbrev pub table_in : Bytes → Fields → ℕ → ℕ → TableValue
+table_in f h cluster n = record {
+  layout = layout_of h;
+  words = words_in f (cluster * cluster_size h) n;
+  cluster = if n == 0 then None else Some cluster;
+  modified = false;
+}
+
+-- how many words are asked for: of an L2 table as many as fill a cluster
+abbrev pub IsAsked : Kind → Fields → ℕ → Type 0
+IsAsked l2_words h n = n ≡ words_of_cluster h
+IsAsked kind h n = ⊤
+
+-- one of these words is none that the kind of table may have
+abbrev pub HasUnsound : Kind → Layout → List ℕ → Type 0
+HasUnsound kind layout words = (i : ℕ) × (i < length words) × (word_sound kind layout (slice_index words i) ≡ false)
+
+-- why a table of these words isn't loaded, with the storage's counts of faults before and after
+abbrev pub WhyNotLoaded : Kind → Layout → List ℕ → ℕ → ℕ → Fault → Type 0
+WhyNotLoaded kind layout words before after (Limit n) = (n ≡ length words) × (max_entries kind < n) × (after ≡ before)
+WhyNotLoaded kind layout words before after DamagedTable = HasUnsound kind layout words × (after ≡ before)
+WhyNotLoaded kind layout words before after fault = Cause before after fault
+
+-- what is known of a table's place: it has one that words can name
+abbrev pub IsPlacedTable : TableValue → Type 0
+IsPlacedTable table = IsPlaced table.layout.cluster_bits table.cluster
+
+-- where it begins, in bytes
+abbrev pub table_place : TableValue → ℕ
+table_place table = place_of table.layout.cluster_bits table.cluster
+
+-- why words aren't decoded
+abbrev pub WhyNotDecoded : Kind → Layout → List ℕ → Fault → Type 0
+WhyNotDecoded kind layout words Memory = ⊤
+WhyNotDecoded kind layout words DamagedTable = HasUnsound kind layout words
+WhyNotDecoded kind layout words fault = ⊥
+
+-- these words and then 0, n in all
+abbrev pub padded : List ℕ → ℕ → List ℕ
+padded words n = words ++ replicate (n - length words) 0
+
+-- The L1 table grown to hold an index.
+abbrev pub grown_l1 : TableValue → ℕ → TableValue
+grown_l1 table at = record table { words = padded table.words (max (length table.words) (at + 1)); cluster = None; modified = true }
+
+-- the table with this word at an index, which the file may not hold yet
+abbrev pub with_word : TableValue → ℕ → ℕ → TableValue
+with_word table i w = record table { words = slice_set table.words i w; modified = true }
+
+-- A table can be named: it has a cluster other than the first, which words can name.
+pub record IsNamable (cluster_bits : ℕ) (cluster : Option ℕ) : Type 0 where
+  pub placed : IsPlaced cluster_bits cluster
+  pub some : 0 < place_of cluster_bits cluster

@@ -1,0 +1,424 @@
+// L2 tables.
+ghost use Rattle.std.specs.Prelude.{◌≡◌, ℕ, ◌+◌, ◌*◌, ◌%◌, ◌^◌, ◌<◌, ◌≤◌, ◌↔◌, ◌⊎◌, IsTrue, IsOk, OnOk, OnErr, IfOk, IsOkUnless, MatchOption, length, map, replicate, slice_index, refl, Some, None, true, false};
+ghost use Rattle.std.specs.Option.{is_some};
+ghost use Rattle.qcow2_types.specs.Header.{layout_of, words_of_cluster};
+ghost use Rattle.qcow2_types.specs.Places.{l2_entries};
+ghost use Rattle.qcow2_types.specs.Words.{mapping_of};
+ghost use Rattle.imago_storage.specs.Through.{PutAtOnce};
+ghost use Rattle.qcow2_metadata.specs.Places.{IsInReach};
+ghost use Rattle.qcow2_metadata.specs.Tables.{IsLength, AreSound, l2_words, with_word, without_mark, table_bytes};
+
+use crate::Header;
+use crate::entries::{L2Entry, TableEntry};
+use crate::layout::TableLayout;
+use crate::mapping::{
+    L2Mapping, allocation, kept_cluster, to_free, to_free_unless, to_free_unless_kept, zero_entry,
+};
+use crate::table::{Table, spend};
+use crate::words::l2_mapping;
+use imago_storage::{Fault, Storage};
+use qcow2_types::{
+    ClusterCount, ClustersToFreeEntry, GuestCluster, GuestOffset, HostCluster, HostOffset,
+    PendingClusters,
+};
+use std::alloc::{AllocFailed, Global};
+use std::marker::Model;
+
+/// An L2 table: each of its words says where the bytes of a guest cluster are. It fills one cluster, and is kept in memory.
+#[derive(Drop)]
+pub struct L2Table {
+    content: Vec<L2Entry>,
+    layout: TableLayout,
+    cluster: Option<HostCluster>,
+    modified: bool,
+}
+
+impl Model for L2Table {
+    ghost use Rattle.qcow2_metadata.specs.Tables.{TableValue};
+
+    ghost Value = { TableValue };
+
+    ghost use Rattle.qcow2_metadata.specs.L2View.{seen_l2, IsL2};
+
+    ghost view = { seen_l2 };
+
+    ghost invariant = { IsL2 };
+}
+
+impl Table for L2Table {
+    type InternalEntry = L2Entry;
+
+    type Entry = L2Entry;
+
+    ghost value = { λ t. t };
+
+    ghost MAX_ENTRIES = { 262144 };
+
+    const NAME: &'static str = "L2 table";
+
+    const MAX_ENTRIES: usize = 262_144;
+
+    fn from_data(content: Vec<L2Entry>, header: &Header) -> L2Table
+        requires long { IsLength l2_words (layout_of header.now.fields) (length content.items) }
+        requires sound { AreSound l2_words (layout_of header.now.fields) content.items }
+        ensures { result ≡ record { layout = layout_of header.now.fields; words = content.items; cluster = None; modified = true } }
+    {
+        L2Table {
+            content,
+            layout: TableLayout::of_header(header),
+            cluster: None,
+            modified: true,
+        }
+    }
+
+    fn entries(&self) -> usize {
+        self.content.len()
+    }
+
+    fn get_ref(&self, index: usize) -> Option<&L2Entry> {
+        self.content.get(index)
+    }
+
+    fn get(&self, index: usize) -> L2Entry {
+        match self.content.get(index) {
+            Some(entry) => *entry,
+            None => L2Entry::empty(),
+        }
+    }
+
+    fn get_cluster(&self) -> Option<HostCluster> {
+        self.cluster
+    }
+
+    fn set_cluster(&mut self, cluster: HostCluster) {
+        self.cluster = Some(cluster);
+        self.modified = true;
+    }
+
+    fn unset_cluster(&mut self) {
+        self.cluster = None;
+    }
+
+    fn cluster_bits(&self) -> u32 {
+        self.layout.cluster_bits()
+    }
+
+    fn is_modified(&self) -> bool {
+        self.modified
+    }
+
+    fn set_modified(&mut self) {
+        self.modified = true;
+    }
+
+    fn clear_modified(&mut self) {
+        self.modified = false;
+    }
+
+    ghost few = { refl };
+}
+
+impl L2Table {
+    ghost use Rattle.qcow2_metadata.specs.MappingView.{mapping_seen, BacksAt, IsNamed};
+    ghost use Rattle.qcow2_metadata.specs.Allocations.{allocation_of, freed, replaced, kept_where, zeroed_word, unkept, newly, packed_part, Conserves, IsKeptInReach};
+
+    /// A table for an image with this header whose words are all 0: each guest cluster is unmapped. It has no cluster, and is
+    /// modified.
+    ///
+    /// Refused with `Fault::Memory` alone.
+    pub fn new_cleared(alloc: Global, header: &Header) -> Result<L2Table, Fault>
+        ensures ok { IfOk result (λ table. table ≡ record { layout = layout_of header.now.fields; words = replicate (words_of_cluster header.now.fields) 0; cluster = None; modified = true }) }
+        ensures err { IsOkUnless result Fault.Memory }
+    {
+        let mut content = Vec::new(alloc);
+        for _word in 0..header.l2_entries() {
+            content.push(L2Entry::empty())?;
+        }
+        Ok(L2Table {
+            content,
+            layout: TableLayout::of_header(header),
+            cluster: None,
+            modified: true,
+        })
+    }
+
+    // What the word at an index means. The layer below is read at `backing_offset`.
+    fn mapping_at(&self, index: usize, backing_offset: u64) -> L2Mapping
+        requires { index < length self.now.words }
+        ensures means { mapping_seen result ≡ mapping_of self.now.layout (slice_index self.now.words index) }
+        ensures named { IsNamed self.now.layout.cluster_bits result }
+        ensures backs { BacksAt backing_offset result }
+    {
+        match l2_mapping(self.content[index].to_plain(), self.layout, backing_offset) {
+            Ok(mapping) => mapping,
+            Err(_) => unreachable!(),
+        }
+    }
+
+    /// Where the bytes of a guest cluster are. Where they are in the layer below, they are there at the cluster's own place.
+    pub fn get_mapping(&self, lookup_cluster: GuestCluster) -> L2Mapping
+        requires { lookup_cluster * 2 ^ self.now.layout.cluster_bits < 2 ^ 64 }
+        ensures means { mapping_seen result ≡ mapping_of self.now.layout (slice_index self.now.words (lookup_cluster % l2_entries self.now.layout.cluster_bits)) }
+        ensures named { IsNamed self.now.layout.cluster_bits result }
+        ensures backs { BacksAt (lookup_cluster * 2 ^ self.now.layout.cluster_bits) result }
+    {
+        let cluster_bits = self.layout.cluster_bits();
+        let GuestOffset(place) = lookup_cluster.offset(cluster_bits);
+        self.mapping_at(lookup_cluster.l2_index(cluster_bits), place)
+    }
+
+    /// Lends the table to one that changes its words.
+    pub fn lock_write(&mut self) -> L2TableWriteGuard<'_>
+        ensures same { result.table.ghost_name ≡ self.entry.ghost_name }
+        ensures value { result.table.now ≡ self.old }
+    {
+        L2TableWriteGuard { table: self }
+    }
+
+    /// Writes the table to its cluster, which is this one, if it is modified.
+    ///
+    /// Refused as `write`. A table that isn't modified asks nothing of the image.
+    pub fn write_if_modified<S: Storage>(
+        &mut self,
+        alloc: Global,
+        image: &mut S,
+        cluster: HostCluster,
+    ) -> Result<(), Fault>
+        requires placed { self.old.cluster ≡ Some cluster }
+        requires reach { IsInReach self.old.layout.cluster_bits cluster }
+        ensures request { IsTrue self.old.modified → PutAtOnce (S.state image.old) (S.state image.new) (cluster * 2 ^ self.old.layout.cluster_bits) (table_bytes self.old.words) result }
+        ensures nothing { self.old.modified ≡ false → IsOk result × (S.state image.new ≡ S.state image.old) }
+        ensures ok { OnOk result (self.new ≡ record self.old { modified = false }) }
+        ensures err { OnErr result (self.new ≡ record self.old { modified = true }) }
+    {
+        let _ = cluster;
+        if self.modified {
+            self.write(alloc, image)
+        } else {
+            Ok(())
+        }
+    }
+
+    /// A copy whose words aren't marked as copied. It has no cluster, and is modified.
+    ///
+    /// Refused with `Fault::Memory` alone.
+    pub fn clone(&self, alloc: Global) -> Result<L2Table, Fault>
+        ensures ok { IfOk result (λ table. table ≡ record self.now { words = map without_mark self.now.words; cluster = None; modified = true }) }
+        ensures err { IsOkUnless result Fault.Memory }
+    {
+        let mut content = Vec::new(alloc);
+        for entry in &self.content {
+            content.push(entry.without_copied())?;
+        }
+        Ok(L2Table {
+            content,
+            layout: self.layout,
+            cluster: None,
+            modified: true,
+        })
+    }
+
+    /// Where the compressed bytes of a guest cluster are, or none where it isn't compressed. Nothing is decompressed.
+    pub fn lock_compressed_read(
+        &self,
+        cluster: GuestCluster,
+    ) -> Option<CompressedClusterReadGuard<'_>>
+        ensures { MatchOption result (packed_part (mapping_of self.now.layout (slice_index self.now.words (cluster % l2_entries self.now.layout.cluster_bits))) ≡ None) (λ guard. packed_part (mapping_of self.now.layout (slice_index self.now.words (cluster % l2_entries self.now.layout.cluster_bits))) ≡ Some (guard.host_offset, guard.length)) }
+    {
+        let index = cluster.l2_index(self.layout.cluster_bits());
+        match self.mapping_at(index, 0) {
+            L2Mapping::Compressed {
+                host_offset,
+                length,
+            } => Some(CompressedClusterReadGuard {
+                _table: self,
+                host_offset,
+                length,
+            }),
+            _ => None,
+        }
+    }
+
+    // The host clusters of the word at an index.
+    fn allocation_at(&self, index: usize) -> Option<(HostCluster, ClusterCount)>
+        requires { index < length self.now.words }
+        ensures { result ≡ allocation_of self.now.layout.cluster_bits (mapping_of self.now.layout (slice_index self.now.words index)) }
+    {
+        allocation(self.mapping_at(index, 0), self.layout.cluster_bits())
+    }
+
+    // The host cluster of the word at an index that is kept when its guest cluster is zeroed, with its copied mark.
+    fn kept_at(&self, index: usize, keep: bool) -> Option<(HostCluster, bool)>
+        requires { index < length self.now.words }
+        ensures kept { result ≡ kept_where keep (mapping_of self.now.layout (slice_index self.now.words index)) }
+        ensures reach { IsKeptInReach self.now.layout.cluster_bits result }
+    {
+        kept_cluster(self.mapping_at(index, 0), keep, self.layout.cluster_bits())
+    }
+
+    fn map_at(
+        &mut self,
+        index: usize,
+        cluster: HostCluster,
+        pending: Option<PendingClusters>,
+    ) -> Option<ClustersToFreeEntry>
+        requires bounds { index < length self.old.words }
+        requires reach { IsInReach self.old.layout.cluster_bits cluster }
+        requires some { (0 < cluster) ⊎ (self.old.layout.external_data ≡ true) }
+        ensures table { self.new ≡ with_word self.old index (2 ^ 63 + cluster * 2 ^ self.old.layout.cluster_bits) }
+        ensures back { result ≡ freed (replaced cluster (allocation_of self.old.layout.cluster_bits (mapping_of self.old.layout (slice_index self.old.words index)))) }
+        ensures conserved { Conserves self.old.layout.cluster_bits (mapping_of self.old.layout (slice_index self.old.words index)) (mapping_of self.old.layout (2 ^ 63 + cluster * 2 ^ self.old.layout.cluster_bits)) result (newly cluster (allocation_of self.old.layout.cluster_bits (mapping_of self.old.layout (slice_index self.old.words index)))) }
+    {
+        let old = self.allocation_at(index);
+        let place = cluster.offset(self.layout.cluster_bits());
+        self.content[index] = L2Entry::naming(place);
+        self.modified = true;
+        spend(pending);
+        to_free_unless(old, cluster)
+    }
+
+    fn discard_at(&mut self, index: usize) -> Option<ClustersToFreeEntry>
+        requires { index < length self.old.words }
+        ensures table { self.new ≡ with_word self.old index 0 }
+        ensures back { result ≡ freed (allocation_of self.old.layout.cluster_bits (mapping_of self.old.layout (slice_index self.old.words index))) }
+        ensures conserved { Conserves self.old.layout.cluster_bits (mapping_of self.old.layout (slice_index self.old.words index)) (mapping_of self.old.layout 0) result (λ c. 0) }
+    {
+        let old = self.allocation_at(index);
+        self.content[index] = L2Entry::empty();
+        self.modified = true;
+        to_free(old)
+    }
+
+    fn zero_at(
+        &mut self,
+        index: usize,
+        keep_allocation: bool,
+    ) -> Result<Option<ClustersToFreeEntry>, Fault>
+        requires { index < length self.old.words }
+        ensures possible { IsOk result ↔ (self.old.layout.version ≡ 3) }
+        ensures refused { IsOkUnless result Fault.VersionLimit }
+        ensures stays { OnErr result (self.new ≡ self.old) }
+        ensures table { OnOk result (self.new ≡ with_word self.old index (zeroed_word self.old.layout.cluster_bits (kept_where keep_allocation (mapping_of self.old.layout (slice_index self.old.words index))))) }
+        ensures back { IfOk result (λ entry. entry ≡ freed (unkept (is_some (kept_where keep_allocation (mapping_of self.old.layout (slice_index self.old.words index)))) (allocation_of self.old.layout.cluster_bits (mapping_of self.old.layout (slice_index self.old.words index))))) }
+        ensures conserved { IfOk result (λ entry. Conserves self.old.layout.cluster_bits (mapping_of self.old.layout (slice_index self.old.words index)) (mapping_of self.old.layout (zeroed_word self.old.layout.cluster_bits (kept_where keep_allocation (mapping_of self.old.layout (slice_index self.old.words index))))) entry (λ c. 0)) }
+    {
+        if self.layout.version() != 3 {
+            return Err(Fault::VersionLimit);
+        }
+        let old = self.allocation_at(index);
+        let kept = self.kept_at(index, keep_allocation);
+        let is_kept = kept.is_some();
+        self.content[index] = zero_entry(kept, self.layout.cluster_bits());
+        self.modified = true;
+        Ok(to_free_unless_kept(old, is_kept))
+    }
+}
+
+/// Where the compressed bytes of a guest cluster are, while its table isn't changed.
+#[derive(Drop)]
+pub struct CompressedClusterReadGuard<'a> {
+    _table: &'a L2Table,
+    host_offset: HostOffset,
+    length: u64,
+}
+
+impl CompressedClusterReadGuard<'_> {
+    /// The place of the first byte.
+    pub fn host_offset(&self) -> HostOffset
+        ensures { result ≡ self.now.host_offset }
+    {
+        self.host_offset
+    }
+
+    /// The bytes from there to the end of the last sector of 512 bytes. The compressed data may end before.
+    pub fn length(&self) -> u64
+        ensures { result ≡ self.now.length }
+    {
+        self.length
+    }
+}
+
+/// An L2 table whose words may be changed.
+#[derive(Drop)]
+pub struct L2TableWriteGuard<'a> {
+    table: &'a mut L2Table,
+}
+
+impl L2TableWriteGuard<'_> {
+    ghost use Rattle.qcow2_metadata.specs.MappingView.{mapping_seen, BacksAt, IsNamed};
+    ghost use Rattle.qcow2_metadata.specs.Allocations.{allocation_of, freed, replaced, kept_where, zeroed_word, unkept, newly, packed_part, Conserves, IsKeptInReach};
+
+    /// Where the bytes of a guest cluster are. Where they are in the layer below, they are there at the cluster's own place.
+    pub fn get_mapping(&self, lookup_cluster: GuestCluster) -> L2Mapping
+        requires { lookup_cluster * 2 ^ self.now.table.now.layout.cluster_bits < 2 ^ 64 }
+        ensures means { mapping_seen result ≡ mapping_of self.now.table.now.layout (slice_index self.now.table.now.words (lookup_cluster % l2_entries self.now.table.now.layout.cluster_bits)) }
+        ensures named { IsNamed self.now.table.now.layout.cluster_bits result }
+        ensures backs { BacksAt (lookup_cluster * 2 ^ self.now.table.now.layout.cluster_bits) result }
+    {
+        self.table.get_mapping(lookup_cluster)
+    }
+
+    /// Where the compressed bytes of a guest cluster are, or none where it isn't compressed. Nothing is decompressed.
+    pub fn compressed_read_guard(
+        &self,
+        cluster: GuestCluster,
+    ) -> Option<CompressedClusterReadGuard<'_>>
+        ensures { MatchOption result (packed_part (mapping_of self.now.table.now.layout (slice_index self.now.table.now.words (cluster % l2_entries self.now.table.now.layout.cluster_bits))) ≡ None) (λ guard. packed_part (mapping_of self.now.table.now.layout (slice_index self.now.table.now.words (cluster % l2_entries self.now.table.now.layout.cluster_bits))) ≡ Some (guard.host_offset, guard.length)) }
+    {
+        self.table.lock_compressed_read(cluster)
+    }
+
+    /// Maps the guest cluster of the word at an index to a host cluster, as one whose reference count is 1: so the table is
+    /// modified. The cluster, which `pending` holds, is named then.
+    ///
+    /// It answers the clusters that the word named before, to be freed; none where that was exactly this cluster.
+    pub fn map_cluster(
+        &mut self,
+        index: usize,
+        cluster: HostCluster,
+        pending: Option<PendingClusters>,
+    ) -> Option<ClustersToFreeEntry>
+        requires bounds { index < length self.old.table.now.words }
+        requires reach { IsInReach self.old.table.now.layout.cluster_bits cluster }
+        requires some { (0 < cluster) ⊎ (self.old.table.now.layout.external_data ≡ true) }
+        ensures table { self.new.table.now ≡ with_word self.old.table.now index (2 ^ 63 + cluster * 2 ^ self.old.table.now.layout.cluster_bits) }
+        ensures back { result ≡ freed (replaced cluster (allocation_of self.old.table.now.layout.cluster_bits (mapping_of self.old.table.now.layout (slice_index self.old.table.now.words index)))) }
+        ensures conserved { Conserves self.old.table.now.layout.cluster_bits (mapping_of self.old.table.now.layout (slice_index self.old.table.now.words index)) (mapping_of self.old.table.now.layout (2 ^ 63 + cluster * 2 ^ self.old.table.now.layout.cluster_bits)) result (newly cluster (allocation_of self.old.table.now.layout.cluster_bits (mapping_of self.old.table.now.layout (slice_index self.old.table.now.words index)))) }
+    {
+        self.table.map_at(index, cluster, pending)
+    }
+
+    /// Makes the guest cluster of the word at an index read as zeroes: so the table is modified. Its host cluster is kept for it
+    /// where `keep_allocation` is set, and where it has one of its own, which a compressed cluster has not.
+    ///
+    /// It answers the clusters that the word named before, to be freed; none where its cluster is kept.
+    ///
+    /// Refused with `Fault::VersionLimit`, with nothing changed, exactly in version 2.
+    pub fn zero_cluster(
+        &mut self,
+        index: usize,
+        keep_allocation: bool,
+    ) -> Result<Option<ClustersToFreeEntry>, Fault>
+        requires { index < length self.old.table.now.words }
+        ensures possible { IsOk result ↔ (self.old.table.now.layout.version ≡ 3) }
+        ensures refused { IsOkUnless result Fault.VersionLimit }
+        ensures stays { OnErr result (self.new.table.now ≡ self.old.table.now) }
+        ensures table { OnOk result (self.new.table.now ≡ with_word self.old.table.now index (zeroed_word self.old.table.now.layout.cluster_bits (kept_where keep_allocation (mapping_of self.old.table.now.layout (slice_index self.old.table.now.words index))))) }
+        ensures back { IfOk result (λ entry. entry ≡ freed (unkept (is_some (kept_where keep_allocation (mapping_of self.old.table.now.layout (slice_index self.old.table.now.words index)))) (allocation_of self.old.table.now.layout.cluster_bits (mapping_of self.old.table.now.layout (slice_index self.old.table.now.words index))))) }
+        ensures conserved { IfOk result (λ entry. Conserves self.old.table.now.layout.cluster_bits (mapping_of self.old.table.now.layout (slice_index self.old.table.now.words index)) (mapping_of self.old.table.now.layout (zeroed_word self.old.table.now.layout.cluster_bits (kept_where keep_allocation (mapping_of self.old.table.now.layout (slice_index self.old.table.now.words index))))) entry (λ c. 0)) }
+    {
+        self.table.zero_at(index, keep_allocation)
+    }
+
+    /// Makes the guest cluster of the word at an index unmapped: so the table is modified.
+    ///
+    /// It answers the clusters that the word named before, to be freed.
+    pub fn discard_cluster(&mut self, index: usize) -> Option<ClustersToFreeEntry>
+        requires { index < length self.old.table.now.words }
+        ensures table { self.new.table.now ≡ with_word self.old.table.now index 0 }
+        ensures back { result ≡ freed (allocation_of self.old.table.now.layout.cluster_bits (mapping_of self.old.table.now.layout (slice_index self.old.table.now.words index))) }
+        ensures conserved { Conserves self.old.table.now.layout.cluster_bits (mapping_of self.old.table.now.layout (slice_index self.old.table.now.words index)) (mapping_of self.old.table.now.layout 0) result (λ c. 0) }
+    {
+        self.table.discard_at(index)
+    }
+}

@@ -1,0 +1,333 @@
+// What the tables of 64-bit words have in common.
+//
+// From the sections "Host cluster management" and "Cluster mapping" of the format: the words of a table are big-endian, and
+// stand in a row from the table's place on.
+ghost use Rattle.std.specs.Prelude.{◌≡◌, ℕ, ◌+◌, ◌-◌, ◌*◌, ◌/◌, ◌%◌, ◌^◌, ◌<◌, ◌≤◌, List, length, map, slice_index, OnOk, OnErr, IfOk, IfErr, IsErrOf, IsOkUnless, MatchOption, Some, None, true, false};
+ghost use Rattle.imago_storage.specs.Calls.{CountsFaults, Kept, Reads};
+ghost use Rattle.imago_storage.specs.Through.{Put, PutAtOnce};
+ghost use Rattle.qcow2_types.specs.Bytes.{bytes_of};
+ghost use Rattle.qcow2_types.specs.Header.{Shaped, cluster_size, layout_of};
+ghost use Rattle.std.specs.Int.{to_be_bytes, w64};
+ghost use Rattle.qcow2_metadata.specs.Places.{IsInReach, IsPlaced, place_of};
+ghost use Rattle.qcow2_metadata.specs.Tables.{TableValue, IsTable, IsLength, IsAsked, AreSound, HasUnsound, WhyNotLoaded, WhyNotDecoded, IsPlacedTable, table_place, max_entries, words_in, table_bytes, table_in, padded};
+
+#[cfg(test)]
+mod tests;
+
+use crate::Header;
+use crate::clusters::{first_byte_of, read_cluster};
+use crate::entries::TableEntry;
+use crate::words::word_at;
+use imago_storage::{Fault, Storage, StorageExt};
+use qcow2_types::{ClusterCount, HostCluster, HostOffset, PendingClusters};
+use std::alloc::{AllocError, Global};
+
+/// A table of 64-bit words, kept in memory. Contracts see a `TableValue`.
+pub trait Table: Sized {
+    /// A word as the table keeps it.
+    type InternalEntry: TableEntry;
+
+    /// A word as `get` answers it.
+    type Entry: TableEntry;
+
+    /// What contracts see of it.
+    ghost value: { Self → TableValue };
+
+    ghost MAX_ENTRIES: { ℕ };
+
+    /// What the table is called.
+    const NAME: &'static str;
+
+    /// The greatest number of its words.
+    const MAX_ENTRIES: usize;
+
+    /// The table of these words, for an image with this header. It has no cluster, and is modified.
+    fn from_data(content: Vec<Self::InternalEntry>, header: &Header) -> Self
+        requires long { IsLength Self.InternalEntry.kind (layout_of header.now.fields) (length (Self.InternalEntry.words content.items)) }
+        requires sound { AreSound Self.InternalEntry.kind (layout_of header.now.fields) (Self.InternalEntry.words content.items) }
+        ensures { value result ≡ record { layout = layout_of header.now.fields; words = Self.InternalEntry.words content.items; cluster = None; modified = true } };
+
+    /// The number of its words.
+    fn entries(&self) -> usize
+        ensures value { result ≡ length (value self.now).words }
+        ensures table { IsTable Self.InternalEntry.kind (value self.now) };
+
+    /// The word at an index, or none past the end.
+    fn get_ref(&self, index: usize) -> Option<&Self::InternalEntry>
+        ensures { MatchOption result (length (value self.now).words ≤ index) (λ entry. (index < length (value self.now).words) × (Self.InternalEntry.word entry.now ≡ slice_index (value self.now).words index)) };
+
+    /// The word at an index, or the empty one past the end.
+    fn get(&self, index: usize) -> Self::Entry
+        ensures { Self.Entry.word result ≡ slice_index (value self.now).words index };
+
+    /// The cluster where it begins, if it has one.
+    fn get_cluster(&self) -> Option<HostCluster>
+        ensures { result ≡ (value self.now).cluster };
+
+    /// Gives it a cluster to begin in, where it is not yet: so it is modified.
+    fn set_cluster(&mut self, cluster: HostCluster)
+        ensures { value self.new ≡ record (value self.old) { cluster = Some cluster; modified = true } };
+
+    /// Takes its cluster from it.
+    fn unset_cluster(&mut self)
+        ensures { value self.new ≡ record (value self.old) { cluster = None } };
+
+    /// A cluster has 2 to this power of bytes: from 9 to 21.
+    fn cluster_bits(&self) -> u32
+        ensures value { result ≡ (value self.now).layout.cluster_bits }
+        ensures bounds { (9 ≤ result) × (result ≤ 21) }
+        ensures table { IsTable Self.InternalEntry.kind (value self.now) };
+
+    /// Whether the file may hold something else.
+    fn is_modified(&self) -> bool
+        ensures { result ≡ (value self.now).modified };
+
+    /// Notes that the file may hold something else.
+    fn set_modified(&mut self)
+        ensures { value self.new ≡ record (value self.old) { modified = true } };
+
+    /// Notes that the file holds the table.
+    fn clear_modified(&mut self)
+        ensures { value self.new ≡ record (value self.old) { modified = false } };
+
+    /// Where it begins, in bytes, if it has a cluster.
+    final fn get_offset(&self) -> Option<HostOffset>
+        requires { table_place (value self.now) < 2 ^ 64 }
+        ensures none { (value self.now).cluster ≡ None → result ≡ None }
+        ensures some { (cluster : ℕ) → (value self.now).cluster ≡ Some cluster → result ≡ Some (cluster * 2 ^ (value self.now).layout.cluster_bits) }
+    {
+        match self.get_cluster() {
+            Some(cluster) => Some(cluster.offset(self.cluster_bits())),
+            None => None,
+        }
+    }
+
+    /// The bytes that its words take: 8 each.
+    final fn byte_size(&self) -> usize
+        ensures { result ≡ 8 * length (value self.now).words }
+    {
+        8 * self.entries()
+    }
+
+    /// The clusters that its words take, of which the last may be filled in part.
+    final fn cluster_count(&self) -> ClusterCount
+        ensures { result ≡ (8 * length (value self.now).words + (2 ^ (value self.now).layout.cluster_bits - 1)) / 2 ^ (value self.now).layout.cluster_bits }
+    {
+        ClusterCount::from_byte_size(self.byte_size() as u64, self.cluster_bits())
+    }
+
+    /// Loads the table of `entries` words that begins with a cluster of an image with this header. It isn't modified; one of
+    /// 0 words has no cluster.
+    ///
+    /// Refused with `Fault::Limit(entries)` exactly where there are more than `MAX_ENTRIES`, before anything is asked of the
+    /// image; with `Fault::DamagedTable` where the format gives one of the words no meaning; with `Fault::Memory` and
+    /// `Fault::Storage`. It changes nothing in the image.
+    final fn load<S: Storage>(
+        alloc: Global,
+        image: &mut S,
+        header: &Header,
+        cluster: HostCluster,
+        entries: usize,
+    ) -> Result<Self, Fault>
+        requires reach { IsInReach header.now.fields.cluster_bits cluster }
+        requires asked { IsAsked Self.InternalEntry.kind header.now.fields entries }
+        ensures ok { IfOk result (λ table. value table ≡ table_in (bytes_of (S.state image.old).bytes) header.now.fields cluster entries) }
+        ensures sound { OnOk result (AreSound Self.InternalEntry.kind (layout_of header.now.fields) (words_in (bytes_of (S.state image.old).bytes) (cluster * cluster_size header.now.fields) entries)) }
+        ensures err { IfErr result (WhyNotLoaded Self.InternalEntry.kind (layout_of header.now.fields) (words_in (bytes_of (S.state image.old).bytes) (cluster * cluster_size header.now.fields) entries) (S.state image.old).faults (S.state image.new).faults) }
+        ensures limit { MAX_ENTRIES < entries → IsErrOf result (Fault.Limit entries) × (S.state image.new ≡ S.state image.old) }
+        ensures kept { Kept (S.state image.old) (S.state image.new) }
+        ensures faults { OnOk result ((S.state image.new).faults ≡ (S.state image.old).faults) }
+    {
+        if entries > Self::MAX_ENTRIES {
+            return Err(Fault::Limit(entries as u64));
+        }
+        let content = match load_entries(alloc, image, header, cluster, entries) {
+            Ok(content) => content,
+            Err(fault) => return Err(fault),
+        };
+        let mut table = Self::from_data(content, header);
+        if entries > 0 {
+            table.set_cluster(cluster);
+        }
+        table.clear_modified();
+        Ok(table)
+    }
+
+    /// Writes the table to its place, by one call of `StorageExt::write` of exactly its bytes. It isn't modified then.
+    ///
+    /// Refused with `Fault::Memory` and `Fault::Storage`, after which the table is modified, and each of its bytes in the
+    /// file old or new.
+    final fn write<S: Storage>(&mut self, alloc: Global, image: &mut S) -> Result<(), Fault>
+        requires { IsPlacedTable (value self.old) }
+        ensures request { Put (S.state image.old) (S.state image.new) (table_place (value self.old)) (table_bytes (value self.old).words) result }
+        ensures once { 8 * length (value self.old).words ≡ 2 ^ (value self.old).layout.cluster_bits → PutAtOnce (S.state image.old) (S.state image.new) (table_place (value self.old)) (table_bytes (value self.old).words) result }
+        ensures ok { OnOk result (value self.new ≡ record (value self.old) { modified = false }) }
+        ensures err { OnErr result (value self.new ≡ record (value self.old) { modified = true }) }
+    {
+        let result = put_table(alloc, self, image);
+        if result.is_ok() {
+            self.clear_modified();
+        } else {
+            self.set_modified();
+        }
+        result
+    }
+
+    /// Writes the word at an index to its place, by one request of its 8 bytes.
+    ///
+    /// Refused with `Fault::Memory` and `Fault::Storage`, after which the table is modified, and each of the bytes old or
+    /// new.
+    final fn write_entry<S: Storage>(
+        &mut self,
+        alloc: Global,
+        image: &mut S,
+        index: usize,
+    ) -> Result<(), Fault>
+        requires bounds { index < length (value self.old).words }
+        requires placed { IsPlacedTable (value self.old) }
+        ensures request { PutAtOnce (S.state image.old) (S.state image.new) (table_place (value self.old) + 8 * index) (to_be_bytes w64 (slice_index (value self.old).words index)) result }
+        ensures ok { OnOk result (value self.new ≡ value self.old) }
+        ensures err { OnErr result (value self.new ≡ record (value self.old) { modified = true }) }
+    {
+        let result = put_word(alloc, self, image, index);
+        if result.is_err() {
+            self.set_modified();
+        }
+        result
+    }
+
+    ghost few: { MAX_ENTRIES ≡ max_entries Self.InternalEntry.kind };
+}
+
+/// The words that bytes represent, in an image with this header.
+fn entries_in<E: TableEntry>(alloc: Global, bytes: &[u8], header: &Header) -> Result<Vec<E>, Fault>
+    ensures words { IfOk result (λ entries. E.words entries.items ≡ words_in (bytes_of bytes.now) 0 (length bytes.now / 8)) }
+    ensures sound { OnOk result (AreSound E.kind (layout_of header.now.fields) (words_in (bytes_of bytes.now) 0 (length bytes.now / 8))) }
+    ensures refused { IfErr result (WhyNotDecoded E.kind (layout_of header.now.fields) (words_in (bytes_of bytes.now) 0 (length bytes.now / 8))) }
+{
+    let mut entries = Vec::new(alloc);
+    for index in 0..bytes.len() / 8 {
+        let entry = match E::try_from_plain(word_at(bytes, 8 * index), header) {
+            Ok(entry) => entry,
+            Err(fault) => return Err(fault),
+        };
+        entries.push(entry)?;
+    }
+    Ok(entries)
+}
+
+/// The `entries` words from the begin of a cluster of an image with this header on.
+fn load_entries<E: TableEntry, S: Storage>(
+    alloc: Global,
+    image: &mut S,
+    header: &Header,
+    cluster: HostCluster,
+    entries: usize,
+) -> Result<Vec<E>, Fault>
+    requires reach { IsInReach header.now.fields.cluster_bits cluster }
+    requires few { entries ≤ max_entries E.kind }
+    ensures words { IfOk result (λ content. E.words content.items ≡ words_in (bytes_of (S.state image.old).bytes) (cluster * cluster_size header.now.fields) entries) }
+    ensures sound { OnOk result (AreSound E.kind (layout_of header.now.fields) (words_in (bytes_of (S.state image.old).bytes) (cluster * cluster_size header.now.fields) entries)) }
+    ensures refused { IfErr result (WhyNotLoaded E.kind (layout_of header.now.fields) (words_in (bytes_of (S.state image.old).bytes) (cluster * cluster_size header.now.fields) entries) (S.state image.old).faults (S.state image.new).faults) }
+    ensures kept { Kept (S.state image.old) (S.state image.new) }
+    ensures faults { OnOk result ((S.state image.new).faults ≡ (S.state image.old).faults) }
+    ensures shaped { Shaped header.now.fields }
+{
+    let HostOffset(place) = cluster.offset(header.cluster_bits());
+    let bytes = match read_cluster(alloc, image, place, entries * 8) {
+        Ok(bytes) => bytes,
+        Err(fault) => return Err(fault),
+    };
+    match entries_in(alloc, &bytes, header) {
+        Ok(content) => Ok(content),
+        Err(fault) => Err(fault),
+    }
+}
+
+/// The word at an index, or the empty one past the end.
+fn entry_or_empty<T: Table>(table: &T, index: usize) -> T::InternalEntry
+    ensures { T.InternalEntry.word result ≡ slice_index (T.value table.now).words index }
+{
+    match table.get_ref(index) {
+        Some(entry) => *entry,
+        None => <T::InternalEntry as TableEntry>::empty(),
+    }
+}
+
+/// The words of a table and then empty ones, `count` in all.
+pub fn longer_content<T: Table>(
+    alloc: Global,
+    table: &T,
+    count: usize,
+) -> Result<Vec<T::InternalEntry>, Fault>
+    requires { length (T.value table.now).words ≤ count }
+    ensures words { IfOk result (λ content. T.InternalEntry.words content.items ≡ padded (T.value table.now).words count) }
+    ensures refused { IsOkUnless result Fault.Memory }
+{
+    let mut content = Vec::new(alloc);
+    for index in 0..count {
+        content.push(entry_or_empty(table, index))?;
+    }
+    Ok(content)
+}
+
+/// Where a table begins that has a cluster.
+pub fn first_byte<T: Table>(table: &T) -> u64
+    requires { IsPlacedTable (T.value table.now) }
+    ensures place { result ≡ table_place (T.value table.now) }
+    ensures table { IsTable T.InternalEntry.kind (T.value table.now) }
+{
+    first_byte_of(table.get_cluster(), table.cluster_bits())
+}
+
+/// Spends the value: its clusters are named now.
+pub fn spend(pending: Option<PendingClusters>) {
+    if let Some(pending) = pending {
+        pending.make_persistent();
+    }
+}
+
+/// The bytes of a table's words.
+fn bytes_in<T: Table>(alloc: Global, table: &T) -> Result<Vec<u8>, Fault>
+    ensures bytes { IfOk result (λ bytes. bytes.items ≡ table_bytes (T.value table.now).words) }
+    ensures refused { IsOkUnless result Fault.Memory }
+{
+    let mut bytes = Vec::new(alloc);
+    for index in 0..table.entries() {
+        let word = table.get(index).to_plain();
+        if bytes.extend_from_slice(&word.to_be_bytes()).is_err() {
+            return Err(Fault::Memory);
+        }
+    }
+    Ok(bytes)
+}
+
+/// Writes a table's bytes to its place.
+fn put_table<T: Table, S: Storage>(alloc: Global, table: &T, image: &mut S) -> Result<(), Fault>
+    requires { IsPlacedTable (T.value table.now) }
+    ensures request { Put (S.state image.old) (S.state image.new) (table_place (T.value table.now)) (table_bytes (T.value table.now).words) result }
+    ensures once { 8 * length (T.value table.now).words ≡ 2 ^ (T.value table.now).layout.cluster_bits → PutAtOnce (S.state image.old) (S.state image.new) (table_place (T.value table.now)) (table_bytes (T.value table.now).words) result }
+{
+    let bytes = match bytes_in(alloc, table) {
+        Ok(bytes) => bytes,
+        Err(fault) => return Err(fault),
+    };
+    let place = first_byte(table);
+    image.write(alloc, &bytes, place)
+}
+
+/// Writes the bytes of a table's word to its place.
+fn put_word<T: Table, S: Storage>(
+    alloc: Global,
+    table: &T,
+    image: &mut S,
+    index: usize,
+) -> Result<(), Fault>
+    requires bounds { index < length (T.value table.now).words }
+    requires placed { IsPlacedTable (T.value table.now) }
+    ensures { PutAtOnce (S.state image.old) (S.state image.new) (table_place (T.value table.now) + 8 * index) (to_be_bytes w64 (slice_index (T.value table.now).words index)) result }
+{
+    let word = table.get(index).to_plain();
+    let place = first_byte(table) + 8 * index as u64;
+    image.write(alloc, &word.to_be_bytes(), place)
+}

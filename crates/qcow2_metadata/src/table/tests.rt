@@ -1,0 +1,487 @@
+// Tables on worked examples, by values from the format's rules.
+//
+// Where an allocation is refused a body ends with `Fault::Memory`, and its test runs it once more: so each test passes
+// whichever one allocation is refused, and fails where a call gives up with memory left.
+ghost use Rattle.std.specs.Prelude.{◌≡◌, ◌≤◌, ◌<◌, length, IfOk};
+ghost use Rattle.qcow2_types.specs.Header.{layout_of};
+
+use crate::table::Table;
+use crate::{
+    Header, L1Entry, L1Table, L2Entry, L2Mapping, L2Table, RefTable, RefTableEntry, TableEntry,
+};
+use imago_storage::{Fault, MemStorage, Storage, StorageExt};
+use qcow2_types::{ClusterCount, ClustersToFreeEntry, GuestCluster, HostCluster, HostOffset};
+use std::alloc::{AllocFailed, Global};
+use std::process::Abort;
+use std::test::Fail;
+
+/// The header of an image with clusters of 2^`cluster_bits` bytes and counters of 2^`refcount_order` bits.
+fn header(
+    alloc: Global,
+    version: u32,
+    cluster_bits: u32,
+    refcount_order: u32,
+) -> Result<Header, Fault> {
+    let mut bytes = [0u8; 104];
+    bytes[..4].copy_from_slice(&[0x51, 0x46, 0x49, 0xfb]);
+    bytes[4..8].copy_from_slice(&version.to_be_bytes());
+    bytes[20..24].copy_from_slice(&cluster_bits.to_be_bytes());
+    bytes[96..100].copy_from_slice(&refcount_order.to_be_bytes());
+    bytes[103] = 104;
+    let mut image = MemStorage::from_bytes(Vec::from_slice(alloc, &bytes)?)?;
+    Header::load(alloc, &mut image, true)
+}
+
+#[tactic(auto, using(crate::proofs::PlaceLemmas::near_reach, crate::proofs::TableFacts::words_long))]
+fn load_l1<S: Storage>(
+    alloc: Global,
+    image: &mut S,
+    header: &Header,
+    cluster: u64,
+    entries: usize,
+) -> Result<L1Table, Fault>
+    requires { cluster ≤ 16 }
+    ensures { IfOk result (λ table. table.layout ≡ layout_of header.now.fields) }
+{
+    let _bits = header.cluster_bits();
+    L1Table::load(alloc, image, header, HostCluster(cluster), entries)
+}
+
+#[tactic(auto, using(crate::proofs::PlaceLemmas::near_reach))]
+fn load_l2<S: Storage>(
+    alloc: Global,
+    image: &mut S,
+    header: &Header,
+    cluster: u64,
+) -> Result<L2Table, Fault>
+    requires { cluster ≤ 16 }
+{
+    let _bits = header.cluster_bits();
+    let entries = header.l2_entries();
+    L2Table::load(alloc, image, header, HostCluster(cluster), entries)
+}
+
+#[tactic(auto, using(crate::proofs::PlaceLemmas::near_reach))]
+fn load_refs<S: Storage>(
+    alloc: Global,
+    image: &mut S,
+    header: &Header,
+    cluster: u64,
+    entries: usize,
+) -> Result<RefTable, Fault>
+    requires { cluster ≤ 16 }
+    ensures { IfOk result (λ table. table.layout ≡ layout_of header.now.fields) }
+{
+    let _bits = header.cluster_bits();
+    RefTable::load(alloc, image, header, HostCluster(cluster), entries)
+}
+
+// What the table says of one of the first guest clusters.
+#[tactic(auto, using(crate::proofs::PlaceLemmas::near_reach))]
+fn mapping(table: &L2Table, cluster: u64) -> L2Mapping
+    requires { cluster ≤ 1000 }
+{
+    let _bits = table.cluster_bits();
+    table.get_mapping(GuestCluster(cluster))
+}
+
+// The first of the clusters to free, and how many.
+fn parts(entry: Option<ClustersToFreeEntry>) -> Option<(u64, u64)> {
+    match entry {
+        Some(entry) => {
+            let (first, count, _) = entry.into_parts();
+            Some((first.0, count.0))
+        }
+        None => None,
+    }
+}
+
+// Maps a guest cluster to one of the first host clusters.
+#[tactic(auto, using(crate::proofs::PlaceLemmas::near_reach))]
+fn map(table: &mut L2Table, index: usize, cluster: u64) -> Result<Option<(u64, u64)>, Fault>
+    requires { cluster ≤ 16 }
+{
+    let _bits = table.cluster_bits();
+    if index >= table.entries() || cluster == 0 {
+        return Err(Fault::BadArgument);
+    }
+    let mut guard = table.lock_write();
+    Ok(parts(guard.map_cluster(index, HostCluster(cluster), None)))
+}
+
+fn zero(table: &mut L2Table, index: usize, keep: bool) -> Result<Option<(u64, u64)>, Fault> {
+    if index >= table.entries() {
+        return Err(Fault::BadArgument);
+    }
+    let mut guard = table.lock_write();
+    match guard.zero_cluster(index, keep) {
+        Ok(entry) => Ok(parts(entry)),
+        Err(fault) => Err(fault),
+    }
+}
+
+fn discard(table: &mut L2Table, index: usize) -> Result<Option<(u64, u64)>, Fault> {
+    if index >= table.entries() {
+        return Err(Fault::BadArgument);
+    }
+    let mut guard = table.lock_write();
+    Ok(parts(guard.discard_cluster(index)))
+}
+
+// So many bytes a5.
+fn filled(alloc: Global, size: usize) -> Result<Vec<u8>, Fault> {
+    let mut bytes = Vec::new(alloc);
+    for _ in 0..size {
+        bytes.push(0xa5)?;
+    }
+    Ok(bytes)
+}
+
+fn words(rt: &impl Abort, alloc: Global) -> Result<(), Fault> {
+    let v3 = header(alloc, 3, 9, 4)?;
+    let entry = L1Entry::try_from_plain(0x8000_0000_0000_0800, &v3)?;
+    assert_eq!(rt; entry.l2_offset(), Some(HostOffset(2048)));
+    assert!(rt; entry.is_copied());
+    assert_eq!(rt; entry.reserved_bits(), 0);
+    let damaged = Err(Fault::DamagedTable);
+    assert_eq!(rt;
+        L1Entry::try_from_plain(0x8000_0000_0000_0801, &v3),
+        damaged
+    );
+    assert_eq!(rt;
+        L1Entry::try_from_plain(0x4000_0000_0000_0800, &v3),
+        damaged
+    );
+    let entry = RefTableEntry::try_from_plain(1024, &v3)?;
+    assert_eq!(rt; entry.refblock_offset(), Some(HostOffset(1024)));
+    assert_eq!(rt; entry.reserved_bits(), 0);
+    assert_eq!(rt;
+        RefTableEntry::try_from_plain(1025, &v3),
+        Err(Fault::DamagedTable)
+    );
+    let entry = L2Entry::try_from_plain(0x8000_0000_0000_0a01, &v3)?;
+    assert!(rt; entry.is_zero() && entry.is_copied() && !entry.is_compressed());
+    assert_eq!(rt; entry.cluster_offset(false), Some(HostOffset(2560)));
+    assert_eq!(rt; entry.without_copied().to_plain(), 0xa01);
+    assert_eq!(rt; entry.reserved_bits(), 0);
+    let v2 = header(alloc, 2, 9, 4)?;
+    let damaged = Err(Fault::DamagedTable);
+    assert_eq!(rt;
+        L2Entry::try_from_plain(0x8000_0000_0000_0a01, &v2),
+        damaged
+    );
+    assert_eq!(rt;
+        L2Entry::try_from_plain(0x8000_0000_0000_0a02, &v3),
+        damaged
+    );
+    Ok(())
+}
+
+#[test]
+fn words_of_each_table(rt: HostRuntime) -> Result<(), Fail> {
+    let alloc = rt.alloc();
+    match words(&rt, alloc) {
+        Err(Fault::Memory) => words(&rt, alloc)?,
+        answer => answer?,
+    }
+    Ok(())
+}
+
+fn ranges(rt: &impl Abort, alloc: Global) -> Result<(), Fault> {
+    let small = header(alloc, 3, 9, 4)?;
+    let entry = L2Entry::try_from_plain(0x6000_0000_0000_0a01, &small)?;
+    assert!(rt; entry.is_compressed());
+    assert_eq!(rt; entry.compressed_range(9), Some((HostOffset(2561), 1023)));
+    assert_eq!(rt; entry.compressed_descriptor(), 0x2000_0000_0000_0a01);
+    let large = header(alloc, 3, 16, 4)?;
+    let entry = L2Entry::try_from_plain(0x4040_0000_0001_0200, &large)?;
+    assert_eq!(rt; entry.compressed_range(16), Some((HostOffset(66048), 1024)));
+    Ok(())
+}
+
+#[test]
+fn ranges_of_compressed_clusters(rt: HostRuntime) -> Result<(), Fail> {
+    let alloc = rt.alloc();
+    match ranges(&rt, alloc) {
+        Err(Fault::Memory) => ranges(&rt, alloc)?,
+        answer => answer?,
+    }
+    Ok(())
+}
+
+// The tables of an image of 65,536 bytes with clusters of 512, after a write at 510, by their nonzero words.
+fn worked_image(alloc: Global) -> Result<MemStorage, Fault> {
+    let mut image = MemStorage::new(alloc);
+    image.write(alloc, &[4, 0], 518)?;
+    image.write(alloc, &[0x80, 0, 0, 0, 0, 0, 8, 0], 1536)?;
+    let first = [0x80, 0, 0, 0, 0, 0, 10, 0];
+    image.write(alloc, &first, 2048)?;
+    let second = [0x80, 0, 0, 0, 0, 0, 12, 0];
+    image.write(alloc, &second, 2056)?;
+    Ok(image)
+}
+
+fn worked_tables(rt: &impl Abort, alloc: Global) -> Result<(), Fault> {
+    let mut image = worked_image(alloc)?;
+    let header = header(alloc, 3, 9, 4)?;
+    let l1_table = load_l1(alloc, &mut image, &header, 3, 2)?;
+    assert_eq!(rt; l1_table.entries(), 2);
+    assert_eq!(rt; l1_table.get(0).l2_offset(), Some(HostOffset(2048)));
+    assert_eq!(rt; l1_table.get(1).l2_offset(), None);
+    assert_eq!(rt; l1_table.get(2).to_plain(), 0);
+    assert!(rt; !l1_table.is_modified() && l1_table.in_bounds(1) && !l1_table.in_bounds(2));
+    let ref_table = load_refs(alloc, &mut image, &header, 1, 64)?;
+    assert_eq!(rt; ref_table.get(0).refblock_offset(), Some(HostOffset(1024)));
+    assert_eq!(rt; ref_table.get(1).refblock_offset(), None);
+    let table = load_l2(alloc, &mut image, &header, 4)?;
+    assert_eq!(rt; table.get_cluster(), Some(HostCluster(4)));
+    assert_eq!(rt; table.byte_size(), 512);
+    assert_eq!(rt; table.cluster_count(), ClusterCount(1));
+    let data = L2Mapping::DataFile {
+        host_cluster: HostCluster(5),
+        copied: true,
+    };
+    assert_eq!(rt; mapping(&table, 0), data);
+    let next = L2Mapping::DataFile {
+        host_cluster: HostCluster(6),
+        copied: true,
+    };
+    assert_eq!(rt; mapping(&table, 65), next);
+    assert!(rt; next.is_consecutive(&data, 9) && !data.is_consecutive(&next, 9));
+    let below = L2Mapping::Backing {
+        backing_offset: 1024,
+    };
+    assert_eq!(rt; mapping(&table, 2), below);
+    let copy = table.clone(alloc)?;
+    let unmarked = L2Mapping::DataFile {
+        host_cluster: HostCluster(5),
+        copied: false,
+    };
+    assert_eq!(rt; mapping(&copy, 0), unmarked);
+    assert_eq!(rt; copy.get_cluster(), None);
+    assert!(rt; copy.is_modified());
+    Ok(())
+}
+
+#[test]
+fn tables_of_the_worked_image(rt: HostRuntime) -> Result<(), Fail> {
+    let alloc = rt.alloc();
+    match worked_tables(&rt, alloc) {
+        Err(Fault::Memory) => worked_tables(&rt, alloc)?,
+        answer => answer?,
+    }
+    Ok(())
+}
+
+fn damaged_and_too_long(rt: &impl Abort, alloc: Global) -> Result<(), Fault> {
+    let mut image = MemStorage::from_bytes(filled(alloc, 2048)?)?;
+    let header = header(alloc, 3, 9, 4)?;
+    match load_l1(alloc, &mut image, &header, 3, 2) {
+        Err(Fault::DamagedTable) => {}
+        Err(Fault::Memory) => return Err(Fault::Memory),
+        _ => return Err(Fault::BadArgument),
+    }
+    match load_l1(alloc, &mut image, &header, 3, 4_194_305) {
+        Err(fault) => assert_eq!(rt; fault, Fault::Limit(4_194_305)),
+        Ok(_) => return Err(Fault::BadArgument),
+    }
+    let none = load_l1(alloc, &mut image, &header, 3, 0)?;
+    assert_eq!(rt; none.get_cluster(), None);
+    Ok(())
+}
+
+#[test]
+fn damaged_tables_and_long_ones(rt: HostRuntime) -> Result<(), Fail> {
+    let alloc = rt.alloc();
+    match damaged_and_too_long(&rt, alloc) {
+        Err(Fault::Memory) => damaged_and_too_long(&rt, alloc)?,
+        answer => answer?,
+    }
+    Ok(())
+}
+
+// An L1 table whose word 300 names the L2 table in cluster 128.
+#[tactic(auto, using(crate::proofs::PlaceLemmas::near_reach, crate::proofs::PlaceLemmas::near_namable))]
+fn entered(alloc: Global, header: &Header) -> Result<L1Table, Fault> {
+    let mut empty = MemStorage::new(alloc);
+    let mut l1_table = load_l1(alloc, &mut empty, header, 8, 320)?;
+    let mut table = L2Table::new_cleared(alloc, header)?;
+    table.set_cluster(HostCluster(128));
+    let _bits = table.cluster_bits();
+    if !l1_table.in_bounds(300) {
+        return Err(Fault::BadArgument);
+    }
+    l1_table.enter_l2_table(300, &table, None);
+    Ok(l1_table)
+}
+
+// Writes one word of a table in cluster 8.
+#[tactic(auto, using(crate::proofs::PlaceLemmas::near_reach))]
+fn write_word<S: Storage>(
+    alloc: Global,
+    table: &mut L1Table,
+    image: &mut S,
+    index: usize,
+) -> Result<(), Fault> {
+    table.set_cluster(HostCluster(8));
+    let _bits = table.cluster_bits();
+    if !table.in_bounds(index) {
+        return Err(Fault::BadArgument);
+    }
+    table.write_entry(alloc, image, index)
+}
+
+fn one_word(rt: &impl Abort, alloc: Global) -> Result<(), Fault> {
+    let header = header(alloc, 3, 9, 4)?;
+    let mut table = entered(alloc, &header)?;
+    assert_eq!(rt; table.get(300).to_plain(), 0x8000_0000_0001_0000);
+    let mut image = MemStorage::from_bytes(filled(alloc, 16384)?)?.with_align(4096);
+    write_word(alloc, &mut table, &mut image, 300)?;
+    let bytes = image.into_bytes()?;
+    assert_eq!(rt; bytes.len(), 16384);
+    let word = [0x80, 0, 0, 0, 0, 1, 0, 0];
+    for (at, byte) in bytes.iter().enumerate() {
+        let wanted = if at < 6496 {
+            0xa5
+        } else {
+            word.get(at - 6496).copied().unwrap_or(0xa5)
+        };
+        assert_eq!(rt; *byte, wanted, "at {at}");
+    }
+    Ok(())
+}
+
+#[test]
+fn one_word_is_written(rt: HostRuntime) -> Result<(), Fail> {
+    let alloc = rt.alloc();
+    match one_word(&rt, alloc) {
+        Err(Fault::Memory) => one_word(&rt, alloc)?,
+        answer => answer?,
+    }
+    Ok(())
+}
+
+// A copy of the table that reaches past an index.
+fn grown(alloc: Global, table: &RefTable, header: &Header, at: usize) -> Result<RefTable, Fault>
+    requires { table.now.layout ≡ layout_of header.now.fields }
+    ensures { IfOk result (λ grown. grown.layout ≡ layout_of header.now.fields) }
+{
+    if table.entries() > at {
+        return Err(Fault::BadArgument);
+    }
+    table.clone_and_grow(alloc, header, at)
+}
+
+fn growth(rt: &impl Abort, alloc: Global) -> Result<(), Fault> {
+    let header = header(alloc, 3, 9, 6)?;
+    let mut empty = MemStorage::new(alloc);
+    let table = load_refs(alloc, &mut empty, &header, 1, 4096)?;
+    let table = grown(alloc, &table, &header, 4096)?;
+    assert_eq!(rt; table.entries(), 4160);
+    assert_eq!(rt; table.cluster_count(), ClusterCount(65));
+    match grown(alloc, &table, &header, 1_048_576) {
+        Err(fault) => assert_eq!(rt; fault, Fault::Limit(1_048_640)),
+        Ok(_) => return Err(Fault::BadArgument),
+    }
+    let table = load_l1(alloc, &mut empty, &header, 1, 2)?;
+    let table = table.clone_and_grow(alloc, 5, &header)?;
+    assert_eq!(rt; table.entries(), 6);
+    match table.clone_and_grow(alloc, 4_194_304, &header) {
+        Err(fault) => assert_eq!(rt; fault, Fault::Limit(4_194_305)),
+        Ok(_) => return Err(Fault::BadArgument),
+    }
+    Ok(())
+}
+
+#[test]
+fn growth_of_tables(rt: HostRuntime) -> Result<(), Fail> {
+    let alloc = rt.alloc();
+    match growth(&rt, alloc) {
+        Err(Fault::Memory) => growth(&rt, alloc)?,
+        answer => answer?,
+    }
+    Ok(())
+}
+
+// Writes the table to cluster 4.
+#[tactic(auto, using(crate::proofs::PlaceLemmas::near_reach))]
+fn write<S: Storage>(alloc: Global, table: &mut L2Table, image: &mut S) -> Result<(), Fault> {
+    table.set_cluster(HostCluster(4));
+    let _bits = table.cluster_bits();
+    table.write_if_modified(alloc, image, HostCluster(4))
+}
+
+fn edits(rt: &impl Abort, alloc: Global) -> Result<(), Fault> {
+    let v3 = header(alloc, 3, 9, 4)?;
+    let mut table = L2Table::new_cleared(alloc, &v3)?;
+    assert_eq!(rt; map(&mut table, 1, 5)?, None);
+    assert_eq!(rt; map(&mut table, 1, 5)?, None);
+    assert_eq!(rt; map(&mut table, 1, 6)?, Some((5, 1)));
+    assert_eq!(rt; zero(&mut table, 1, true)?, None);
+    let kept = L2Mapping::Zero {
+        host_cluster: Some(HostCluster(6)),
+        copied: true,
+    };
+    assert_eq!(rt; mapping(&table, 1), kept);
+    assert_eq!(rt; zero(&mut table, 1, false)?, Some((6, 1)));
+    assert_eq!(rt; map(&mut table, 2, 7)?, None);
+    assert_eq!(rt; discard(&mut table, 2)?, Some((7, 1)));
+    assert_eq!(rt; map(&mut table, 3, 8)?, None);
+    let mut image = MemStorage::new(alloc);
+    write(alloc, &mut table, &mut image)?;
+    assert!(rt; !table.is_modified());
+    let bytes = image.into_bytes()?;
+    assert_eq!(rt; bytes.len(), 2560);
+    for (at, byte) in bytes.iter().enumerate() {
+        let wanted = match at {
+            2063 => 1,
+            2072 => 0x80,
+            2078 => 16,
+            _ => 0,
+        };
+        assert_eq!(rt; *byte, wanted, "at {at}");
+    }
+    let v2 = header(alloc, 2, 9, 4)?;
+    let mut table = L2Table::new_cleared(alloc, &v2)?;
+    assert_eq!(rt; zero(&mut table, 1, true), Err(Fault::VersionLimit));
+    Ok(())
+}
+
+#[test]
+fn edits_of_an_l2_table(rt: HostRuntime) -> Result<(), Fail> {
+    let alloc = rt.alloc();
+    match edits(&rt, alloc) {
+        Err(Fault::Memory) => edits(&rt, alloc)?,
+        answer => answer?,
+    }
+    Ok(())
+}
+
+// An L2 table of an image with clusters of 512 bytes whose first word names compressed bytes.
+fn compressed_reads(rt: &impl Abort, alloc: Global) -> Result<(), Fault> {
+    let mut image = MemStorage::new(alloc);
+    image.write(alloc, &[0x60, 0, 0, 0, 0, 0, 10, 1], 2048)?;
+    let header = header(alloc, 3, 9, 4)?;
+    let mut table = load_l2(alloc, &mut image, &header, 4)?;
+    match table.lock_compressed_read(GuestCluster(0)) {
+        Some(guard) => {
+            assert_eq!(rt; guard.host_offset(), HostOffset(2561));
+            assert_eq!(rt; guard.length(), 1023);
+        }
+        None => return Err(Fault::BadArgument),
+    }
+    assert!(rt; table.lock_compressed_read(GuestCluster(1)).is_none());
+    // Bytes 2561 to 3583 lie in the clusters 5 and 6.
+    assert_eq!(rt; discard(&mut table, 0)?, Some((5, 2)));
+    Ok(())
+}
+
+#[test]
+fn reads_of_compressed_clusters(rt: HostRuntime) -> Result<(), Fail> {
+    let alloc = rt.alloc();
+    match compressed_reads(&rt, alloc) {
+        Err(Fault::Memory) => compressed_reads(&rt, alloc)?,
+        answer => answer?,
+    }
+    Ok(())
+}

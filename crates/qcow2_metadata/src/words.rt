@@ -1,0 +1,168 @@
+// The 64-bit words of tables, decoded.
+//
+// From the sections "Host cluster management" and "Cluster mapping" of the format.
+ghost use Rattle.std.specs.Prelude.{◌≡◌, ℕ, ◌+◌, ◌-◌, ◌*◌, ◌/◌, ◌%◌, ◌^◌, ◌<◌, ◌≤◌, IfOk, IsOkUnless};
+ghost use Rattle.qcow2_types.specs.Bytes.{be, bytes_of};
+ghost use Rattle.qcow2_types.specs.Words.{bits_at, has_bit as has_bit_of, table_offset, block_offset, is_place as is_place_of, packed_place, packed_end, packed_mapping, standard_mapping, mapping_of, l1_word_sound, block_word_sound};
+ghost use Rattle.qcow2_metadata.specs.MappingView.{seen, BacksAt, IsNamed};
+
+use crate::layout::TableLayout;
+use crate::mapping::L2Mapping;
+use imago_storage::Fault;
+use qcow2_types::{HostCluster, HostOffset, MAX_OFFSET};
+
+// The byte at a place, 0 past the end.
+fn byte_at(bytes: &[u8], at: usize) -> u8
+    ensures { result ≡ bytes_of bytes.now at }
+{
+    bytes.get(at).copied().unwrap_or(0)
+}
+
+/// The big-endian number of the 8 bytes from a place on, 0 past the end.
+pub fn word_at(bytes: &[u8], at: usize) -> u64
+    requires { at + 8 < 2 ^ 64 }
+    ensures { result ≡ be (bytes_of bytes.now) at 8 }
+{
+    let mut number = 0u64;
+    for i in 0..8usize {
+        number = number << 8 | u64::from(byte_at(bytes, at + i));
+    }
+    number
+}
+
+/// Whether a bit is set.
+pub fn has_bit(word: u64, bit: u32) -> bool
+    requires { bit < 64 }
+    ensures { result ≡ has_bit_of word bit }
+{
+    word >> bit & 1 == 1
+}
+
+/// The number that `count` bits from `first` on represent.
+pub fn bits(word: u64, first: u32, count: u32) -> u64
+    requires first { first < 64 }
+    requires count { count < 64 }
+    ensures { result ≡ bits_at word first count }
+{
+    word >> first & ((1 << count) - 1)
+}
+
+/// The place in an L1 word or a standard L2 word; 0 is none.
+pub fn offset_in(word: u64) -> u64
+    ensures { result ≡ table_offset word }
+{
+    word & MAX_OFFSET
+}
+
+/// The place in a word of the refcount table; 0 is none.
+pub fn block_offset_in(word: u64) -> u64
+    ensures { result ≡ block_offset word }
+{
+    word >> 9 << 9
+}
+
+/// Whether a cluster can begin at a place.
+pub fn is_place(offset: u64, cluster_bits: u32) -> bool
+    requires { cluster_bits ≤ 21 }
+    ensures { result ≡ is_place_of cluster_bits offset }
+{
+    bits(offset, 0, cluster_bits) == 0 && offset <= MAX_OFFSET
+}
+
+/// Whether a word may stand in the L1 table.
+pub fn is_l1_word(word: u64, cluster_bits: u32) -> bool
+    requires { cluster_bits ≤ 21 }
+    ensures { result ≡ l1_word_sound cluster_bits word }
+{
+    bits(word, 0, 9) == 0 && bits(word, 56, 7) == 0 && is_place(offset_in(word), cluster_bits)
+}
+
+/// Whether a word may stand in the refcount table.
+pub fn is_block_word(word: u64, cluster_bits: u32) -> bool
+    requires { cluster_bits ≤ 21 }
+    ensures { result ≡ block_word_sound cluster_bits word }
+{
+    bits(word, 0, 9) == 0 && is_place(block_offset_in(word), cluster_bits)
+}
+
+/// The place of the first byte that a compressed word names, and the bytes from there to the end of its last sector.
+#[tactic(auto, using(qcow2_types::proofs::Reach::sectors_fit, crate::proofs::WordFacts::packed_fits))]
+pub fn packed_range(word: u64, cluster_bits: u32) -> (u64, u64)
+    requires { (9 ≤ cluster_bits) × (cluster_bits ≤ 21) }
+    ensures place { result.0 ≡ packed_place cluster_bits word }
+    ensures length { result.1 ≡ packed_end cluster_bits word - packed_place cluster_bits word }
+    ensures some { 0 < result.1 }
+    ensures few { result.1 < 2 ^ 23 }
+{
+    let split = 70 - cluster_bits;
+    let place = bits(word, 0, split);
+    let sectors = bits(word, split, cluster_bits - 8);
+    let end = (place / 512 + sectors + 1) * 512;
+    (place, end - place)
+}
+
+/// What a compressed word means, or `Fault::DamagedTable` where it means nothing.
+pub fn compressed(word: u64, cluster_bits: u32) -> Result<L2Mapping, Fault>
+    requires { (9 ≤ cluster_bits) × (cluster_bits ≤ 21) }
+    ensures means { seen result ≡ packed_mapping cluster_bits word }
+    ensures named { IfOk result (IsNamed cluster_bits) }
+    ensures backs { (place : ℕ) → IfOk result (BacksAt place) }
+    ensures refused { IsOkUnless result Fault.DamagedTable }
+{
+    let (place, length) = packed_range(word, cluster_bits);
+    if has_bit(word, 63) || place >= 1 << 56 {
+        return Err(Fault::DamagedTable);
+    }
+    Ok(L2Mapping::Compressed {
+        host_offset: HostOffset(place),
+        length,
+    })
+}
+
+/// What a standard word means, or `Fault::DamagedTable` where it means nothing. The layer below is read at `backing_offset`.
+#[tactic(auto, using(qcow2_types::proofs::Reach::cluster_begin))]
+pub fn standard(word: u64, layout: TableLayout, backing_offset: u64) -> Result<L2Mapping, Fault>
+    ensures means { seen result ≡ standard_mapping layout word }
+    ensures named { IfOk result (IsNamed layout.cluster_bits) }
+    ensures backs { IfOk result (BacksAt backing_offset) }
+    ensures refused { IsOkUnless result Fault.DamagedTable }
+{
+    let offset = offset_in(word);
+    let copied = has_bit(word, 63);
+    let zero = has_bit(word, 0);
+    let reserved = bits(word, 1, 8) != 0 || bits(word, 56, 6) != 0 || zero && layout.version() != 3;
+    let cluster_bits = layout.cluster_bits();
+    if reserved || !is_place(offset, cluster_bits) {
+        return Err(Fault::DamagedTable);
+    }
+    let named = offset != 0 || layout.external_data() && copied;
+    let cluster = HostCluster(offset >> cluster_bits);
+    if zero {
+        Ok(L2Mapping::Zero {
+            host_cluster: if named { Some(cluster) } else { None },
+            copied,
+        })
+    } else if named {
+        Ok(L2Mapping::DataFile {
+            host_cluster: cluster,
+            copied,
+        })
+    } else {
+        Ok(L2Mapping::Backing { backing_offset })
+    }
+}
+
+/// What an L2 word means, or `Fault::DamagedTable` where it means nothing. The layer below is read at `backing_offset`.
+#[tactic(auto, unfolding(qcow2_types::specs::Words::mapping_of))]
+pub fn l2_mapping(word: u64, layout: TableLayout, backing_offset: u64) -> Result<L2Mapping, Fault>
+    ensures means { seen result ≡ mapping_of layout word }
+    ensures named { IfOk result (IsNamed layout.cluster_bits) }
+    ensures backs { IfOk result (BacksAt backing_offset) }
+    ensures refused { IsOkUnless result Fault.DamagedTable }
+{
+    if has_bit(word, 62) {
+        compressed(word, layout.cluster_bits())
+    } else {
+        standard(word, layout, backing_offset)
+    }
+}
