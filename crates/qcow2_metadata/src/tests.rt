@@ -3,8 +3,8 @@
 // Where an allocation is refused a body ends with `Fault::Memory`, and its test runs it once more: so each test passes
 // whichever one allocation is refused, and fails where a call gives up with memory left.
 use super::*;
-use qcow2_types::{ClusterCount, FeatureType, HostOffset};
 use imago_storage::{Fault, FuseStorage, MemStorage};
+use qcow2_types::{ClusterCount, FeatureType, HostOffset};
 use std::alloc::Global;
 use std::process::Abort;
 use std::test::Fail;
