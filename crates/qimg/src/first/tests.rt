@@ -192,6 +192,7 @@ fn faults_in_turn(rt: &impl Abort, alloc: Global) -> Result<(), Fault> {
         let storage = FuseStorage::new(LogStorage::new(alloc, image)?, nth);
         let mut disk = match Disk::open(alloc, storage) {
             Ok(disk) => disk,
+            Err(Fault::Memory) => return Err(Fault::Memory),
             Err(fault) => {
                 assert_eq!(rt; fault, Fault::Storage);
                 continue;
