@@ -7,7 +7,7 @@ use Rattle.std.proofs.lemmas.List.{length-map, get_or-map}
 use Rattle.qcow2_types.specs.Words.{Layout, unmapped, data_at, zeroes, packed, damaged, mapping_of, is_damaged, is_place, has_bit, max_offset, table_offset, standard_word_sound, names_cluster, packed_place}
 use Rattle.qcow2_types.proofs.WordLemmas.{zero-word}
 use Rattle.qcow2_metadata.specs.Places.{IsInReach}
-use Rattle.qcow2_metadata.specs.Tables.{l2_words, word_sound, AreSound, zero_word, without_mark}
+use Rattle.qcow2_metadata.specs.Tables.{l2_words, word_sound, AreSound, zero_word, shared_word, without_mark}
 use Rattle.qcow2_metadata.specs.Allocations.{IsKeptInReach, zeroed_word}
 use Rattle.qcow2_metadata.proofs.TableSteps.{cluster_sectors, cluster_place}
 
@@ -117,8 +117,15 @@ not_is : (b : Bool) → b ≡ false → IsTrue (not b)
 not_is true h = cc
 not_is false h = refl
 
-pub unmarked_sound : (layout : Layout) (words : List ℕ) → 9 ≤ layout.cluster_bits → AreSound l2_words layout words → AreSound l2_words layout (map without_mark words)
-unmarked_sound layout words low old i inside =
-    let there : i < length words = omega (arith, length-map words without_mark, inside) in
-    subst (λ w. IsTrue (word_sound l2_words layout w)) (sym (get_or-map without_mark words i 0 0 there))
-    (not_is (is_damaged (mapping_of layout (without_mark (slice_index words i)))) (unmarked layout (slice_index words i) low (is_not (is_damaged (mapping_of layout (slice_index words i))) (old i there))))
+-- a word of a copy is as sound
+shared_one : (layout : Layout) (w : ℕ) → 9 ≤ layout.cluster_bits → IsTrue (word_sound l2_words layout w) → IsTrue (word_sound l2_words layout (shared_word layout w))
+shared_one layout w low old = go layout.external_data
+  where
+    go : (external : Bool) → IsTrue (word_sound l2_words layout (if external then w else without_mark w))
+    go true = old
+    go false = not_is (is_damaged (mapping_of layout (without_mark w))) (unmarked layout w low (is_not (is_damaged (mapping_of layout w)) old))
+
+pub shared_sound : (layout : Layout) (words : List ℕ) → 9 ≤ layout.cluster_bits → AreSound l2_words layout words → AreSound l2_words layout (map (shared_word layout) words)
+shared_sound layout words low old i inside =
+    let there : i < length words = omega (arith, length-map words (shared_word layout), inside) in
+    subst (λ w. IsTrue (word_sound l2_words layout w)) (sym (get_or-map (shared_word layout) words i 0 0 there)) (shared_one layout (slice_index words i) low (old i there))

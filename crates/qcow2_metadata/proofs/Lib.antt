@@ -32,3 +32,4 @@ pub mod GrowthLemmas
 pub mod L2Words
 pub mod Conservation
 pub mod WrittenBack
+pub mod Placing

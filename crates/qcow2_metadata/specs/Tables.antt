@@ -40,6 +40,11 @@ zero_word offset copied = if copied then 2 ^ 63 + offset + 1 else offset + 1
 abbrev pub without_mark : ℕ → ℕ
 without_mark w = w % 2 ^ 63
 
+-- An L2 word as a copy of its table has it: the clusters are shared then, so its mark is gone. Not so of an external data file,
+-- whose clusters aren't counted, and where the mark may be all that says that a word names one.
+abbrev pub shared_word : Layout → ℕ → ℕ
+shared_word layout w = if layout.external_data then w else without_mark w
+
 -- the kinds of tables
 pub data Kind : Type 0 where
   l1_words : Kind
@@ -133,9 +138,9 @@ WhyNotDecoded kind layout words fault = ⊥
 abbrev pub padded : List ℕ → ℕ → List ℕ
 padded words n = words ++ replicate (n - length words) 0
 
--- The L1 table grown to hold an index.
-abbrev pub grown_l1 : TableValue → ℕ → TableValue
-grown_l1 table at = record table { words = padded table.words (max (length table.words) (at + 1)); cluster = None; modified = true }
+-- the L1 table grown to hold an index, in an image of this layout
+abbrev pub grown_l1 : Layout → TableValue → ℕ → TableValue
+grown_l1 layout t at = record { layout = layout; words = padded t.words (max (length t.words) (at + 1)); cluster = None; modified = true }
 
 -- the table with this word at an index, which the file may not hold yet
 abbrev pub with_word : TableValue → ℕ → ℕ → TableValue

@@ -8,6 +8,7 @@ ghost use Rattle.qcow2_metadata.specs.Features.{name_of};
 
 mod loading;
 mod making;
+mod placing;
 mod updating;
 mod writing;
 

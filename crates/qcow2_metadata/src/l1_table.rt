@@ -1,5 +1,5 @@
 // The L1 table.
-ghost use Rattle.std.specs.Prelude.{◌≡◌, ℕ, ◌+◌, ◌*◌, ◌^◌, ◌<◌, ◌≤◌, ◌↔◌, IsTrue, IsOk, IfOk, IsErrOf, IsOkUnless, length, refl, Some, None, true, false};
+ghost use Rattle.std.specs.Prelude.{◌≡◌, ℕ, ◌+◌, ◌*◌, ◌^◌, ◌<◌, ◌≤◌, ◌-◌, ◌↔◌, IsTrue, IsOk, IfOk, IsErrOf, IsOkUnless, length, min, refl, Some, None, true, false};
 ghost use Rattle.qcow2_types.specs.Header.{layout_of};
 ghost use Rattle.qcow2_metadata.specs.Tables.{IsLength, AreSound, IsNamable, l1_words, grown_l1, with_word, table_place};
 
@@ -115,23 +115,24 @@ impl L1Table {
         index < self.content.len()
     }
 
-    /// A copy that has a word at the index `at`: what is added is 0. It has no cluster, and is modified.
+    /// A copy for the image with this header that has a word at the index `at`: what is added is 0. It has no cluster, and is
+    /// modified.
     ///
-    /// Refused with `Fault::Limit(at + 1)` exactly where that is more than `MAX_ENTRIES`, and else with `Fault::Memory` alone.
+    /// Refused with `Fault::Limit(at + 1)`, or the greatest number, exactly where `at + 1` is more than `MAX_ENTRIES`; and else
+    /// with `Fault::Memory` alone.
     pub fn clone_and_grow(
         &self,
         alloc: Global,
         at: usize,
         header: &Header,
     ) -> Result<L1Table, Fault>
-        requires layout { self.now.layout ≡ layout_of header.now.fields }
-        requires fits { at + 1 < 2 ^ 64 }
-        ensures ok { IfOk result (λ table. table ≡ grown_l1 self.now at) }
-        ensures limit { 2 ^ 22 < at + 1 → IsErrOf result (Fault.Limit (at + 1)) }
+        requires bits { self.now.layout.cluster_bits ≡ header.now.fields.cluster_bits }
+        ensures ok { IfOk result (λ table. table ≡ grown_l1 (layout_of header.now.fields) self.now at) }
+        ensures limit { 2 ^ 22 < at + 1 → IsErrOf result (Fault.Limit (min (at + 1) (2 ^ 64 - 1))) }
         ensures few { at + 1 ≤ 2 ^ 22 → IsOkUnless result Fault.Memory }
     {
         if at >= L1Table::MAX_ENTRIES {
-            return Err(Fault::Limit(at as u64 + 1));
+            return Err(Fault::Limit((at as u64).saturating_add(1)));
         }
         let count = self.entries().max(at + 1);
         match longer_content(alloc, self, count) {
@@ -149,7 +150,7 @@ impl L1Table {
         pending: Option<PendingClusters>,
     )
         requires bounds { index < length self.old.words }
-        requires layout { table.now.layout ≡ self.old.layout }
+        requires bits { table.now.layout.cluster_bits ≡ self.old.layout.cluster_bits }
         requires namable { IsNamable self.old.layout.cluster_bits table.now.cluster }
         ensures { self.new ≡ with_word self.old index (2 ^ 63 + table_place table.now) }
     {

@@ -6,7 +6,7 @@ ghost use Rattle.qcow2_types.specs.Places.{l2_entries};
 ghost use Rattle.qcow2_types.specs.Words.{mapping_of};
 ghost use Rattle.imago_storage.specs.Through.{PutAtOnce};
 ghost use Rattle.qcow2_metadata.specs.Places.{IsInReach};
-ghost use Rattle.qcow2_metadata.specs.Tables.{IsLength, AreSound, l2_words, with_word, without_mark, table_bytes};
+ghost use Rattle.qcow2_metadata.specs.Tables.{IsLength, AreSound, l2_words, with_word, shared_word, table_bytes};
 
 use crate::Header;
 use crate::entries::{L2Entry, TableEntry};
@@ -199,16 +199,22 @@ impl L2Table {
         }
     }
 
-    /// A copy whose words aren't marked as copied. It has no cluster, and is modified.
+    /// A copy whose words aren't marked as copied, since two tables share their clusters now. With an external data file, whose
+    /// clusters aren't counted, the words stay: there the mark may be all that says that one names a cluster. The copy has no
+    /// cluster, and is modified.
     ///
     /// Refused with `Fault::Memory` alone.
     pub fn clone(&self, alloc: Global) -> Result<L2Table, Fault>
-        ensures ok { IfOk result (λ table. table ≡ record self.now { words = map without_mark self.now.words; cluster = None; modified = true }) }
+        ensures ok { IfOk result (λ table. table ≡ record self.now { words = map (shared_word self.now.layout) self.now.words; cluster = None; modified = true }) }
         ensures err { IsOkUnless result Fault.Memory }
     {
         let mut content = Vec::new(alloc);
         for entry in &self.content {
-            content.push(entry.without_copied())?;
+            content.push(if self.layout.external_data() {
+                *entry
+            } else {
+                entry.without_copied()
+            })?;
         }
         Ok(L2Table {
             content,

@@ -149,8 +149,8 @@ impl RefTable {
         index < self.content.len()
     }
 
-    /// A copy that has a word at the index `at`, and room for the blocks that count its own clusters: what is added is 0. It
-    /// has the least such length that fills its clusters, has no cluster, and is modified.
+    /// A copy for the image with this header that has a word at the index `at`, and room for the blocks that count its own
+    /// clusters: what is added is 0. It has the least such length that fills its clusters, has no cluster, and is modified.
     ///
     /// Refused with `Fault::Limit` exactly where that length is more than `MAX_ENTRIES`, with the first length past it that
     /// fills its clusters; and else with `Fault::Memory` alone.
@@ -160,9 +160,9 @@ impl RefTable {
         header: &Header,
         at: usize,
     ) -> Result<RefTable, Fault>
-        requires layout { self.now.layout ≡ layout_of header.now.fields }
+        requires bits { self.now.layout.cluster_bits ≡ header.now.fields.cluster_bits }
         requires past { length self.now.words ≤ at }
-        ensures ok { IfOk result (λ table. table ≡ record self.now { words = padded self.now.words (length table.words); cluster = None; modified = true }) }
+        ensures ok { IfOk result (λ table. table ≡ record { layout = layout_of header.now.fields; words = padded self.now.words (length table.words); cluster = None; modified = true }) }
         ensures length { IfOk result (λ table. IsGrownLength (words_of_cluster header.now.fields) (counters_of_block header.now.fields) at (length table.words)) }
         ensures limit { ((n : ℕ) → IsEnough (words_of_cluster header.now.fields) (counters_of_block header.now.fields) at n → 2 ^ 20 < n) → IsErrOf result (Fault.Limit (2 ^ 20 + words_of_cluster header.now.fields)) }
         ensures few { (n : ℕ) → IsEnough (words_of_cluster header.now.fields) (counters_of_block header.now.fields) at n → n ≤ 2 ^ 20 → IsOkUnless result Fault.Memory }
@@ -188,7 +188,7 @@ impl RefTable {
         pending: Option<PendingClusters>,
     )
         requires bounds { index < length self.old.words }
-        requires layout { block.now.cluster_bits ≡ self.old.layout.cluster_bits }
+        requires bits { block.now.cluster_bits ≡ self.old.layout.cluster_bits }
         requires namable { IsNamable self.old.layout.cluster_bits block.now.cluster }
         ensures { self.new ≡ with_word self.old index (place_of block.now.cluster_bits block.now.cluster) }
     {

@@ -1,6 +1,7 @@
 -- What holds of each header that loads.
 use Rattle.std.proofs.Common.{◌≡◌, ℕ, ◌-◌, ◌/◌, ◌%◌, ◌^◌, ◌<◌, ◌≤◌, refl, arith, sym, subst, Ok, List, [], ◌∷◌}
 use Rattle.std.specs.Prelude.{Bool, true, false, not, ◌==◌, ◌||◌, None, nat_lt, drop}
+use Rattle.std.proofs.lemmas.Bool.{le-ltb}
 use Rattle.std.proofs.lemmas.Bool.Decides.{nat_tests}
 use Rattle.std.proofs.lemmas.Nat.{mod_below, pow_pos}
 use Rattle.std.proofs.Math.Nat.{pow-le-pow_right}
@@ -82,6 +83,15 @@ fields-limited h passed =
 
     at-most : (m n : ℕ) → nat_lt m n ≡ false → n ≤ m
     at-most m n e = grind (arith, nat_tests)
+
+-- And fields within the limits keep these rules.
+pub limited-fields : (h : Fields) → Limited h → first_fault (rules_of_size h) ≡ None
+limited-fields h limited =
+    let n : h.size < 2 ^ 63 = limited.size in
+    let size : nat_lt (2 ^ 63 - 1) h.size ≡ false = le-ltb (2 ^ 63 - 1) h.size (omega arith) in
+    let l1 : nat_lt (2 ^ 22) h.l1_entries ≡ false = le-ltb (2 ^ 22) h.l1_entries limited.l1_entries in
+    let counts : nat_lt (2 ^ 20) (refcount_table_entries h) ≡ false = le-ltb (2 ^ 20) (refcount_table_entries h) limited.refcount_entries in
+    rw (size, l1, counts, limited.l1_place, limited.refcount_place) refl
 
 -- The sizes and the places of the tables are within the limits.
 pub header-limited : (writing : Bool) (f : Bytes) (H : Header) → header_of writing f ≡ Ok H → Limited H.fields

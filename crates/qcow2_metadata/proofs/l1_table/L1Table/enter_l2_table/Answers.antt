@@ -1,6 +1,6 @@
-use Rattle.std.proofs.Common.{◌≡◌, ◌+◌, ◌^◌, ◌∙◌, ap, sym, subst}
+use Rattle.std.proofs.Common.{ℕ, ◌≡◌, ◌+◌, ◌^◌, ◌∙◌, ap, sym, subst}
 use Rattle.std.specs.Prelude.{IsTrue, true}
-use Rattle.qcow2_types.specs.Words.{Layout, l1_word_sound}
+use Rattle.qcow2_types.specs.Words.{l1_word_sound}
 use Rattle.qcow2_metadata.specs.Places.{IsPlaced}
 use Rattle.qcow2_metadata.specs.Tables.{TableValue, l1_words, table_place, word_sound}
 use Rattle.qcow2_metadata.proofs.TableSteps.{entered, l1_word_named}
@@ -10,9 +10,9 @@ pub invariant_of-self : goal.invariant_of-self
 invariant_of-self c =
     let s = c.self.inside in
     let t = c.args.table.now in
-    let layout : s.layout ≡ t.layout = ap (λ (v : TableValue). v.layout) c.self.view_is ∙ sym c.requires.layout in
-    let placed : IsPlaced t.layout.cluster_bits t.cluster = subst (λ (l : Layout). IsPlaced l.cluster_bits t.cluster) (sym c.requires.layout) c.requires.namable.placed in
+    let bits : s.layout.cluster_bits ≡ t.layout.cluster_bits = ap (λ (v : TableValue). v.layout.cluster_bits) c.self.view_is ∙ sym c.requires.bits in
+    let placed : IsPlaced t.layout.cluster_bits t.cluster = subst (λ (b : ℕ). IsPlaced b t.cluster) (sym c.requires.bits) c.requires.namable.placed in
     let named : IsTrue (l1_word_sound t.layout.cluster_bits (2 ^ 63 + table_place t)) = l1_word_named t.layout.cluster_bits t.cluster c.first_byte-place.ensures.table.low placed in
     let word : c.naming.result ≡ 2 ^ 63 + table_place t = c.naming.ensures ∙ ap (λ p. 2 ^ 63 + p) c.first_byte-place.ensures.place in
-    let sound : IsTrue (word_sound l1_words s.layout c.naming.result) = rw (layout, word) named in
+    let sound : IsTrue (word_sound l1_words s.layout c.naming.result) = rw (bits, word) named in
     entered l1_words s.layout s.content.items c.args.index c.naming.result s.cluster s.cluster s.modified true c.self.invariant sound

@@ -1,0 +1,50 @@
+// Where the tables of an image stand, as its header says.
+ghost use Rattle.std.specs.Prelude.{◌≡◌, ◌+◌, ◌-◌, ◌*◌, ◌/◌, ◌%◌, ◌^◌, length, None};
+ghost use Rattle.qcow2_types.specs.Header.{first_fault, refcount_table_entries, rules_of_size};
+ghost use Rattle.qcow2_metadata.specs.Tables.{IsPlacedTable, IsTable, block_words, table_place};
+
+use super::Header;
+use crate::l1_table::L1Table;
+use crate::ref_table::RefTable;
+use crate::table::{Table, first_byte, spend};
+use qcow2_types::PendingClusters;
+
+// The clusters that the words of a refcount table take: few, since it has at most 2^20 words.
+fn clusters_taken(reftable: &RefTable) -> u32
+    ensures value { result ≡ (8 * length reftable.now.words + (2 ^ reftable.now.layout.cluster_bits - 1)) / 2 ^ reftable.now.layout.cluster_bits }
+    ensures table { IsTable block_words reftable.now }
+{
+    let _words = reftable.entries();
+    reftable.cluster_count().0 as u32
+}
+
+impl Header {
+    /// Takes over the place of an L1 table of the image, and its number of words. The table's clusters, which `pending`
+    /// holds, are named then. The file is not written: `write_l1_table_pointer` does that.
+    pub fn set_l1_table(&mut self, l1_table: &L1Table, pending: Option<PendingClusters>)
+        requires bits { l1_table.now.layout.cluster_bits ≡ self.old.fields.cluster_bits }
+        requires placed { IsPlacedTable l1_table.now }
+        ensures fields { self.new ≡ record self.old { fields = record self.old.fields { l1_entries = length l1_table.now.words; l1_offset = table_place l1_table.now } } }
+        ensures sizes { first_fault (rules_of_size self.old.fields) ≡ None → first_fault (rules_of_size self.new.fields) ≡ None }
+    {
+        self.v2.l1_table_offset = first_byte(l1_table);
+        self.v2.l1_size = l1_table.entries() as u32;
+        spend(pending);
+    }
+
+    /// Takes over the place of a refcount table of the image, and the number of clusters that its words take, of which the last
+    /// may be filled in part. The file is not written: `write_reftable_pointer` does that.
+    pub fn set_reftable(&mut self, reftable: &RefTable)
+        requires bits { reftable.now.layout.cluster_bits ≡ self.old.fields.cluster_bits }
+        requires placed { IsPlacedTable reftable.now }
+        ensures fields { self.new ≡ record self.old { fields = record self.old.fields { refcount_table_offset = table_place reftable.now; refcount_table_clusters = (8 * length reftable.now.words + (2 ^ self.old.fields.cluster_bits - 1)) / 2 ^ self.old.fields.cluster_bits } } }
+        ensures whole { 8 * length reftable.now.words % 2 ^ self.old.fields.cluster_bits ≡ 0 → refcount_table_entries self.new.fields ≡ length reftable.now.words }
+        ensures sizes { first_fault (rules_of_size self.old.fields) ≡ None → first_fault (rules_of_size self.new.fields) ≡ None }
+    {
+        self.v2.refcount_table_offset = first_byte(reftable);
+        self.v2.refcount_table_clusters = clusters_taken(reftable);
+    }
+}
+
+#[cfg(test)]
+mod tests;

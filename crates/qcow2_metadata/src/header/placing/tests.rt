@@ -1,0 +1,80 @@
+// Places of tables by bytes from the format's rules.
+//
+// Where an allocation is refused a body ends with `Fault::Memory`, and its test runs it once more: so each test passes
+// whichever one allocation is refused, and fails where a call gives up with memory left.
+ghost use Rattle.std.specs.Prelude.{◌≤◌, ◌<◌};
+
+use super::*;
+use imago_storage::{Fault, MemStorage, Storage};
+use qcow2_types::{ClusterCount, ClustersToFreeEntry, HostCluster, HostOffset};
+use std::alloc::Global;
+use std::process::Abort;
+use std::test::Fail;
+
+// Names an L1 table in one of the first clusters of an image, which was allocated for it.
+#[tactic(auto, using(crate::proofs::PlaceLemmas::near_reach))]
+fn name_l1<S: Storage>(
+    alloc: Global,
+    image: &mut S,
+    header: &mut Header,
+    cluster: u64,
+    entries: usize,
+) -> Result<(), Fault>
+    requires near { cluster ≤ 16 }
+    requires some { 0 < entries }
+{
+    let _bits = header.cluster_bits();
+    let table = L1Table::load(alloc, image, header, HostCluster(cluster), entries)?;
+    let clusters = ClustersToFreeEntry::metadata(HostCluster(cluster), ClusterCount(1));
+    header.set_l1_table(&table, Some(PendingClusters::new(clusters)));
+    Ok(())
+}
+
+// Names a refcount table in one of the first clusters of an image.
+#[tactic(auto, using(crate::proofs::PlaceLemmas::near_reach))]
+fn name_reftable<S: Storage>(
+    alloc: Global,
+    image: &mut S,
+    header: &mut Header,
+    cluster: u64,
+    entries: usize,
+) -> Result<(), Fault>
+    requires near { cluster ≤ 16 }
+    requires some { 0 < entries }
+{
+    let _bits = header.cluster_bits();
+    let table = RefTable::load(alloc, image, header, HostCluster(cluster), entries)?;
+    header.set_reftable(&table);
+    Ok(())
+}
+
+fn places(rt: &impl Abort, alloc: Global) -> Result<(), Fault> {
+    let mut header = Header::new(alloc, 9, 4, None, None, None)?;
+    let mut image = MemStorage::new(alloc);
+    name_l1(alloc, &mut image, &mut header, 3, 65)?;
+    assert_eq!(rt; header.l1_table_offset(), HostOffset(1536));
+    assert_eq!(rt; header.l1_table_entries(), 65);
+    // 65 words of 8 bytes begin a second cluster, of which each has 64 words.
+    name_reftable(alloc, &mut image, &mut header, 5, 65)?;
+    assert_eq!(rt; header.reftable_offset(), HostOffset(2560));
+    assert_eq!(rt; header.reftable_clusters(), ClusterCount(2));
+    assert_eq!(rt; header.reftable_entries(), 128);
+    header.write_reftable_pointer(alloc, &mut image)?;
+    let bytes = image.into_bytes()?;
+    assert_eq!(rt; bytes.len(), 64);
+    assert_eq!(rt;
+        &bytes[36..60],
+        b"\x00\x00\x00\x41\x00\x00\x00\x00\x00\x00\x06\x00\x00\x00\x00\x00\x00\x00\x0a\x00\x00\x00\x00\x02".as_slice()
+    );
+    Ok(())
+}
+
+#[test]
+fn tables_are_named(rt: HostRuntime) -> Result<(), Fail> {
+    let alloc = rt.alloc();
+    match places(&rt, alloc) {
+        Err(Fault::Memory) => places(&rt, alloc)?,
+        answer => answer?,
+    }
+    Ok(())
+}
