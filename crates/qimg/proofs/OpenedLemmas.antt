@@ -1,9 +1,10 @@
 -- What the calls of a first disk answer and leave, from what they do to the image's file.
-use Rattle.std.proofs.Common.{◌≡◌, ℕ, ◌+◌, ◌-◌, ◌<◌, ◌≤◌, refl, arith, ap, sym, ◌∙◌, List, length, inl, inr, subst}
-use Rattle.std.specs.Prelude.{Bool, true, false, ◌⊎◌, slice_index, IsFalse}
+use Rattle.std.proofs.Common.{◌≡◌, ℕ, ◌+◌, ◌-◌, ◌^◌, ◌<◌, ◌≤◌, refl, arith, ap, sym, ◌∙◌, List, length, inl, inr, subst}
+use Rattle.std.specs.Prelude.{Bool, true, false, ◌⊎◌, slice_index, IsFalse, Option, Some, None, SomeIff, is_some}
 use Rattle.std.proofs.lemmas.Bool.{cases_lt}
 use Rattle.imago_storage.specs.State.{StorageState}
 use Rattle.imago_storage.specs.Calls.{Kept}
+use Rattle.imago_storage.specs.Through.{Overflows, round_up}
 use Rattle.imago_storage.specs.Disk.{byte}
 use Rattle.imago_storage.specs.Steps.{read, write, flush, bytes_read, done, Stays as SameDisk}
 use Rattle.imago_storage.specs.declared.fault.Fault.{Fault}
@@ -15,7 +16,7 @@ use Rattle.qcow2_types.specs.Consistency.{IsConsistent}
 use Rattle.qimg.specs.First.{file, value_at, Holds}
 use Rattle.qimg.specs.Clusters.{Writes}
 use Rattle.qimg.specs.Pieces.{NotAllWritten, IsFullFor, ShowsRange}
-use Rattle.qimg.specs.Opened.{Opened, IsLive, Steps, LeaksSame, shown, WriteRefused}
+use Rattle.qimg.specs.Opened.{Opened, IsLive, Steps, LeaksSame, shown, WriteRefused, IsWithin}
 use Rattle.qimg.specs.Marks.{marks}
 use Rattle.qimg.proofs.FirstLemmas.{loads-reading}
 use Rattle.qimg.proofs.ClusterLemmas.{holds-kept}
@@ -97,14 +98,23 @@ write-step old new offset bytes size places inside some writes H live =
 pub write-leaks : (old new : Opened) (offset : ℕ) (bytes : List ℕ) → ((H : Header) → Holds old.state H old.places → Writes old.state new.state H old.places offset bytes) → LeaksSame old new
 write-leaks old new offset bytes writes H live = let wrote : Writes old.state new.state H old.places offset bytes = writes H live.holds in wrote.surplus
 
+-- A range whose padded end there is doesn't overflow.
+pub end-fits : (end : Option ℕ) (unit unit' offset n : ℕ) → unit ≡ unit' → SomeIff end (round_up unit (offset + n) < 2 ^ 64) (round_up unit (offset + n)) → is_some end ≡ true → Overflows unit' offset n → ⊥
+end-fits None unit unit' offset n same iff there over = cc
+end-fits (Some x) unit unit' offset n same iff there over =
+    let low : round_up unit' (offset + n) < 2 ^ 64 = subst (λ u. round_up u (offset + n) < 2 ^ 64) same iff.0 in
+    let high : 2 ^ 64 ≤ round_up unit' (offset + n) = over.1 in
+    omega (arith, low, high)
+
 -- a write that was refused on the way
-pub write-refused : (old new : Opened) (offset : ℕ) (bytes : List ℕ) (changed : Bool) (fault : Fault) → IsFalse old.failed → new.size ≡ old.size → new.places ≡ old.places → new.failed ≡ marks fault changed
+pub write-refused : (old new : Opened) (offset : ℕ) (bytes : List ℕ) (changed : Bool) (fault : Fault) → IsFalse old.failed → IsWithin old offset (length bytes) → new.size ≡ old.size → new.places ≡ old.places → new.failed ≡ marks fault changed
     → (changed ≡ false → Kept old.state new.state) → NotAllWritten old.state new.state old.places offset bytes fault → WriteRefused old new offset bytes fault
-write-refused old new offset bytes true Memory was size places marked untouched why = (was, why, inl marked)
-write-refused old new offset bytes false Memory was size places marked untouched why = (was, why, inr (record { state = untouched refl; size = size; places = places }, marked))
-write-refused old new offset bytes changed Storage was size places marked untouched why = (was, why, marked)
-write-refused old new offset bytes changed (Limit n) was size places marked untouched why = (
+write-refused old new offset bytes true Memory was within size places marked untouched why = (was, within, why, inl marked)
+write-refused old new offset bytes false Memory was within size places marked untouched why = (was, within, why, inr (record { state = untouched refl; size = size; places = places }, marked))
+write-refused old new offset bytes changed Storage was within size places marked untouched why = (was, within, why, marked)
+write-refused old new offset bytes changed (Limit n) was within size places marked untouched why = (
   was,
+  within,
   why.0,
   why.1,
   marked,
@@ -132,4 +142,4 @@ write-refused old new offset bytes changed (Limit n) was size places marked unto
           | inl same ↦ inl (shown-value (file new.state) p ∙ (ap (value_at (file new.state)) (sym place) ∙ (same ∙ (ap (value_at (file old.state)) place ∙ sym (shown-value (file old.state) p)))))
           | inr new' ↦ inr (shown-value (file new.state) p ∙ (ap (value_at (file new.state)) (sym place) ∙ new'))
         ]
-write-refused old new offset bytes changed fault was size places marked untouched why = absurd why
+write-refused old new offset bytes changed fault was within size places marked untouched why = absurd why

@@ -1,5 +1,5 @@
 -- Lists of calls, call by call.
-use Rattle.std.proofs.Common.{◌≡◌, ℕ, suc, ◌+◌, ◌<◌, refl, arith, ap, sym, ◌∙◌, List, [], ◌∷◌, ◌++◌, length, drop, inl, inr, subst, append_assoc, append-nil, drop-cons, get_or, replicate}
+use Rattle.std.proofs.Common.{◌≡◌, ℕ, suc, ◌+◌, ◌<◌, ◌≤◌, refl, arith, ap, sym, ◌∙◌, List, [], ◌∷◌, ◌++◌, length, drop, inl, inr, subst, append_assoc, append-nil, drop-cons, get_or, replicate}
 use Rattle.std.specs.Prelude.{true, false, ◌⊎◌, IsTrue, IsFalse, Ok}
 use Rattle.imago_storage.specs.State.{StorageState, Rose}
 use Rattle.imago_storage.specs.Steps.{Stays as SameDisk}
@@ -12,8 +12,8 @@ use Rattle.qimg.specs.declared.first.calls.Answer.TheVariants.{Done, Bytes, Refu
 use Rattle.qimg.specs.First.{file, AllCounted}
 use Rattle.qcow2_types.specs.Bytes.{bytes_of}
 use Rattle.qcow2_types.specs.Steps.{SurplusKept}
-use Rattle.qimg.specs.Opened.{Opened, IsLive, LeaksSame, Stays, Succeeds, shown}
-use Rattle.qimg.specs.Runs.{Lives, Answered, Run}
+use Rattle.qimg.specs.Opened.{Opened, IsAsked, IsLive, IsWithin, LeaksSame, Stays, Succeeds, shown}
+use Rattle.qimg.specs.Runs.{Asks, Lives, Answered, Run}
 use Rattle.qimg.proofs.OpenedLemmas.{shown-size, live-kept, kept-disk}
 
 -- that each call is refused by a failed disk
@@ -89,26 +89,35 @@ stayed H old new same live alive = (
 )
 
 -- want of memory that left the disk as it was
-wanting : (H : Header) (old new : Opened) (call : Call) → IsLive old H → Stays old new → new.state.faults ≡ old.state.faults → new.failed ≡ false → Outcome H old new call (Refused Memory)
+wanting : (H : Header) (old new : Opened) (call : Call) → IsLive old H → Asks old.state call → Stays old new → new.state.faults ≡ old.state.faults → new.failed ≡ false → Outcome H old new call (Refused Memory)
 unfolding Outcome
-wanting H old new call live stays faults marked =
+wanting H old new call live asks stays faults marked =
     let on : IsLive new H = live-kept old new H stays.state stays.size stays.places live in
     inr (
       on,
       marked,
-      λ calls rest end run. inr (
-        new.state,
-        record {
-          consistent = (H, on.holds.consistent);
-          header = same-header H old new live on;
-          leaks = leaks-of H old new live (stays-leaks old new stays);
-          shape = stays.state.shape;
-          faults = faults;
-        },
-        kept-disk old.state new.state stays.state,
-        run,
+      λ calls rest end run. (
+        asks,
+        inr (
+          new.state,
+          record {
+            consistent = (H, on.holds.consistent);
+            header = same-header H old new live on;
+            leaks = leaks-of H old new live (stays-leaks old new stays);
+            shape = stays.state.shape;
+            faults = faults;
+          },
+          kept-disk old.state new.state stays.state,
+          run,
+        ),
       ),
     )
+
+-- a write inside a disk that stands for an image
+within-asks : (H : Header) (old : Opened) (offset : ℕ) (bytes : List ℕ) → IsLive old H → IsWithin old offset (length bytes) → IsAsked old.state offset (length bytes) × (offset + length bytes ≤ (shown (file old.state)).size)
+within-asks H old offset bytes live within =
+    let size : (shown (file old.state)).size ≡ old.size = shown-size (file old.state) H live.holds.consistent ∙ sym live.size in
+    (within.0, subst (λ s. offset + length bytes ≤ s) (sym size) within.1)
 
 pub moved : (H : Header) (old new : Opened) (call : Call) (answer : Answer) → new.state.shape ≡ old.state.shape → IsLive old H → IsFalse old.failed → Answered old new call answer → Outcome H old new call answer
 unfolding Outcome AllFail
@@ -116,8 +125,8 @@ moved H old new (Read offset n) (Bytes buffer) shape live alive (ok, stays, step
 moved H old new (Read offset n) (Refused Failed) shape live alive (was, same) = absurd cc
 moved H old new (Read offset n) (Refused RangeOverflow) shape live alive (was, passes, same) =
     let kept = stayed H old new same live alive in inr (kept.0, kept.1, λ calls rest end run. (new.state, lives-on H old new same live kept.0, (passes, kept.2), run))
-moved H old new (Read offset n) (Refused Memory) shape live alive (was, stays, faults, marked) = wanting H old new (Read offset n) live stays faults marked
-moved H old new (Read offset n) (Refused Storage) shape live alive (was, stays, rose, marked) = inl (marked, λ calls rest end all same. (fails-at _ _ _ rose same, all))
+moved H old new (Read offset n) (Refused Memory) shape live alive (was, asked, stays, faults, marked) = wanting H old new (Read offset n) live asked stays faults marked
+moved H old new (Read offset n) (Refused Storage) shape live alive (was, asked, stays, rose, marked) = inl (marked, λ calls rest end all same. (asked, fails-at _ _ _ rose same, all))
 moved H old new (Write offset bytes) Done shape live alive (ok, leaks, steps, fits) = let after = steps H live in inr (after.0, ok.is, λ calls rest end run. (new.state, lives H old new ok leaks live after.0, (fits, after.1), run))
 moved H old new (Write offset bytes) (Refused Failed) shape live alive (was, same) = absurd cc
 moved H old new (Write offset bytes) (Refused RangeOverflow) shape live alive (was, passes, same) =
@@ -126,7 +135,7 @@ moved H old new (Write offset bytes) (Refused PastEnd) shape live alive (was, so
     let kept = stayed H old new same live alive in
     let size : (shown (file old.state)).size ≡ old.size = shown-size (file old.state) H live.holds.consistent ∙ sym live.size in
     inr (kept.0, kept.1, λ calls rest end run. (new.state, lives-on H old new same live kept.0, (some, fits, subst (λ s. s < offset + length bytes.items) (sym size) past, kept.2), run))
-moved H old new (Write offset bytes) (Refused (Limit n)) shape live alive (was, is, faults, marked, partly, leaks) =
+moved H old new (Write offset bytes) (Refused (Limit n)) shape live alive (was, within, is, faults, marked, partly, leaks) =
     let after = partly H live in
     inr (
       after.0,
@@ -134,17 +143,17 @@ moved H old new (Write offset bytes) (Refused (Limit n)) shape live alive (was, 
       λ calls rest end run. (
         new.state,
         record { consistent = (H, after.0.holds.consistent); header = same-header H old new live after.0; leaks = leaks-of H old new live leaks; shape = shape; faults = faults },
-        (is, after.1, λ K loads. subst (λ (h : Header). AllCounted (file new.state) h.fields) (one-header (file new.state) H K after.0.holds.consistent.readable.loads loads) after.2),
+        (within-asks H old offset bytes.items live within, is, after.1, λ K loads. subst (λ (h : Header). AllCounted (file new.state) h.fields) (one-header (file new.state) H K after.0.holds.consistent.readable.loads loads) after.2),
         run,
       ),
     )
-moved H old new (Write offset bytes) (Refused Memory) shape live alive (was, faults, inl marked) = inl (marked, λ calls rest end all same. inl (same ∙ faults, all))
-moved H old new (Write offset bytes) (Refused Memory) shape live alive (was, faults, inr kept) = wanting H old new (Write offset bytes) live kept.0 faults kept.1
-moved H old new (Write offset bytes) (Refused Storage) shape live alive (was, rose, marked) = inl (marked, λ calls rest end all same. (fails-at _ _ _ rose same, all))
+moved H old new (Write offset bytes) (Refused Memory) shape live alive (was, within, faults, inl marked) = inl (marked, λ calls rest end all same. (within-asks H old offset bytes.items live within, inl (tt, same ∙ faults, all)))
+moved H old new (Write offset bytes) (Refused Memory) shape live alive (was, within, faults, inr kept) = wanting H old new (Write offset bytes) live (within-asks H old offset bytes.items live within) kept.0 faults kept.1
+moved H old new (Write offset bytes) (Refused Storage) shape live alive (was, within, rose, marked) = inl (marked, λ calls rest end all same. (within-asks H old offset bytes.items live within, fails-at _ _ _ rose same, all))
 moved H old new Flush Done shape live alive (ok, stays, steps) = let after = steps H live in inr (after.0, ok.is, λ calls rest end run. (new.state, lives H old new ok (stays-leaks old new stays) live after.0, (λ over. let some = over.0 in absurd (omega arith), after.1), run))
 moved H old new Flush (Refused Failed) shape live alive (was, same) = absurd cc
-moved H old new Flush (Refused Memory) shape live alive (was, stays, faults, marked) = wanting H old new Flush live stays faults marked
-moved H old new Flush (Refused Storage) shape live alive (was, stays, rose, marked) = inl (marked, λ calls rest end all same. (fails-at _ _ _ rose same, all))
+moved H old new Flush (Refused Memory) shape live alive (was, stays, faults, marked) = wanting H old new Flush live tt stays faults marked
+moved H old new Flush (Refused Storage) shape live alive (was, stays, rose, marked) = inl (marked, λ calls rest end all same. (tt, fails-at _ _ _ rose same, all))
 moved H old new call answer shape live alive why = absurd why
 
 -- After some of the calls: the disk has failed, or the run goes on from a live disk.

@@ -1,5 +1,5 @@
 -- What contracts see of a first disk, and what its calls answer and leave.
-use Rattle.std.specs.Prelude.{◌≡◌, ◌⊎◌, ℕ, ◌+◌, ◌<◌, Bool, true, false, List, length, IsTrue, IsFalse}
+use Rattle.std.specs.Prelude.{◌≡◌, ◌⊎◌, ℕ, ◌+◌, ◌<◌, ◌≤◌, Bool, true, false, List, length, IsTrue, IsFalse}
 use Rattle.imago_storage.specs.State.{StorageState, Rose, unit_of}
 use Rattle.imago_storage.specs.Calls.{Kept}
 use Rattle.imago_storage.specs.Through.{Overflows}
@@ -51,12 +51,20 @@ pub record Stays (old new : Opened) : Type 0 where
   pub size : new.size ≡ old.size
   pub places : new.places ≡ old.places
 
+-- a range that is asked for: some bytes, with a padded end that fits 64 bits
+abbrev pub IsAsked : StorageState → ℕ → ℕ → Type 0
+IsAsked state offset n = (0 < n) × (Overflows (unit_of state.shape) offset n → ⊥)
+
+-- and inside the disk
+abbrev pub IsWithin : Opened → ℕ → ℕ → Type 0
+IsWithin disk offset n = IsAsked disk.state offset n × (offset + n ≤ disk.size)
+
 -- Why a read is refused, and what that leaves.
 abbrev pub ReadRefused : Opened → Opened → ℕ → ℕ → Fault → Type 0
 ReadRefused old new offset n Failed = IsTrue old.failed × (new ≡ old)
 ReadRefused old new offset n RangeOverflow = IsFalse old.failed × Overflows (unit_of old.state.shape) offset n × (new ≡ old)
-ReadRefused old new offset n Memory = IsFalse old.failed × Stays old new × (new.state.faults ≡ old.state.faults) × (new.failed ≡ false)
-ReadRefused old new offset n Storage = IsFalse old.failed × Stays old new × Rose old.state.faults new.state.faults × (new.failed ≡ true)
+ReadRefused old new offset n Memory = IsFalse old.failed × IsAsked old.state offset n × Stays old new × (new.state.faults ≡ old.state.faults) × (new.failed ≡ false)
+ReadRefused old new offset n Storage = IsFalse old.failed × IsAsked old.state offset n × Stays old new × Rose old.state.faults new.state.faults × (new.failed ≡ true)
 ReadRefused old new offset n fault = ⊥
 
 -- Why a write is refused, and what that leaves. Where no cluster is free a part of the range may be written.
@@ -65,11 +73,11 @@ WriteRefused old new offset bytes Failed = IsTrue old.failed × (new ≡ old)
 WriteRefused old new offset bytes RangeOverflow = IsFalse old.failed × Overflows (unit_of old.state.shape) offset (length bytes) × (new ≡ old)
 WriteRefused old new offset bytes PastEnd = IsFalse old.failed × (0 < length bytes) × (Overflows (unit_of old.state.shape) offset (length bytes) → ⊥) × (old.size < offset + length bytes) × (new ≡ old)
 WriteRefused old new offset bytes (Limit n) =
-    IsFalse old.failed × (n ≡ 256) × (new.state.faults ≡ old.state.faults) × (new.failed ≡ false)
+    IsFalse old.failed × IsWithin old offset (length bytes) × (n ≡ 256) × (new.state.faults ≡ old.state.faults) × (new.failed ≡ false)
     × ((H : Header) → IsLive old H → IsLive new H × PartlyDone (λ _. byte 0) (write offset bytes) (shown (file old.state)) (shown (file new.state)) × AllCounted (file new.state) H.fields)
     × LeaksSame old new
-WriteRefused old new offset bytes Memory = IsFalse old.failed × (new.state.faults ≡ old.state.faults) × ((new.failed ≡ true) ⊎ (Stays old new × (new.failed ≡ false)))
-WriteRefused old new offset bytes Storage = IsFalse old.failed × Rose old.state.faults new.state.faults × (new.failed ≡ true)
+WriteRefused old new offset bytes Memory = IsFalse old.failed × IsWithin old offset (length bytes) × (new.state.faults ≡ old.state.faults) × ((new.failed ≡ true) ⊎ (Stays old new × (new.failed ≡ false)))
+WriteRefused old new offset bytes Storage = IsFalse old.failed × IsWithin old offset (length bytes) × Rose old.state.faults new.state.faults × (new.failed ≡ true)
 WriteRefused old new offset bytes fault = ⊥
 
 -- Why a flush is refused, and what that leaves.

@@ -1,5 +1,5 @@
 -- What a list of calls answers: one flat disk, which begins as what the bytes of a file mean.
-use Rattle.std.specs.Prelude.{◌≡◌, ◌⊎◌, ◌+◌, ◌<◌, true, List, [], ◌∷◌, length, replicate, IsFalse, Ok}
+use Rattle.std.specs.Prelude.{◌≡◌, ◌⊎◌, ⊤, ◌+◌, ◌<◌, ◌≤◌, true, List, [], ◌∷◌, length, replicate, IsFalse, Ok}
 use Rattle.imago_storage.specs.State.{StorageState, Rose, unit_of}
 use Rattle.imago_storage.specs.Through.{Overflows}
 use Rattle.imago_storage.specs.Disk.{byte}
@@ -15,7 +15,7 @@ use Rattle.qimg.specs.declared.first.calls.Call.TheVariants.{Read, Write, Flush}
 use Rattle.qimg.specs.declared.first.calls.Answer.{Answer}
 use Rattle.qimg.specs.declared.first.calls.Answer.TheVariants.{Done, Bytes, Refused}
 use Rattle.qimg.specs.First.{file, AllCounted}
-use Rattle.qimg.specs.Opened.{Opened, IsLive, Steps, LeaksSame, Stays, Succeeds, ReadRefused, WriteRefused, FlushRefused, shown}
+use Rattle.qimg.specs.Opened.{Opened, IsAsked, IsLive, Steps, LeaksSame, Stays, Succeeds, ReadRefused, WriteRefused, FlushRefused, shown}
 
 -- a call as a call of the disk that it is made of
 abbrev pub seen : Call → DiskCall
@@ -33,12 +33,24 @@ Answered old new Flush Done = Succeeds old new × Stays old new × Steps old new
 Answered old new Flush (Refused fault) = FlushRefused old new fault
 Answered old new call answer = ⊥
 
+-- a call that asks something of the storage: one of a range that isn't empty and has a padded end that fits 64 bits, if it is a
+-- write inside the disk; and a flush
+abbrev pub Asks : StorageState → Call → Type 0
+Asks old (Read offset n) = IsAsked old offset n
+Asks old (Write offset bytes) = IsAsked old offset (length bytes.items) × (offset + length bytes.items ≤ (shown (file old)).size)
+Asks old Flush = ⊤
+
+-- a call that changes the file
+abbrev pub Changes : Call → Type 0
+Changes (Write offset bytes) = ⊤
+Changes call = ⊥
+
 -- Why a call is refused that was neither in want of memory nor failed by its storage, and what it leaves.
 abbrev pub Refuses : StorageState → Call → Fault → StorageState → Type 0
 Refuses old call RangeOverflow new = Overflows (unit_of old.shape) (offset_of (seen call)) (length_of (seen call)) × SameDisk (shown (file old)) (shown (file new))
 Refuses old (Write offset bytes) PastEnd new = (0 < length bytes.items) × (Overflows (unit_of old.shape) offset (length bytes.items) → ⊥) × ((shown (file old)).size < offset + length bytes.items) × SameDisk (shown (file old)) (shown (file new))
 Refuses old (Write offset bytes) (Limit n) new =
-    (n ≡ 256) × PartlyDone (λ _. byte 0) (write offset bytes.items) (shown (file old)) (shown (file new)) × ((H : Header) → header_of true (file new) ≡ Ok H → AllCounted (file new) H.fields)
+    Asks old (Write offset bytes) × (n ≡ 256) × PartlyDone (λ _. byte 0) (write offset bytes.items) (shown (file old)) (shown (file new)) × ((H : Header) → header_of true (file new) ≡ Ok H → AllCounted (file new) H.fields)
 Refuses old call fault new = ⊥
 
 -- What one call does to the disk that the image's bytes mean.
@@ -57,13 +69,14 @@ pub record Lives (old mid : StorageState) : Type 0 where
   pub faults : mid.faults ≡ old.faults
 
 -- The calls move from disk to disk, each of them that of a consistent file, up to the first call during which the storage failed. A
--- call that was in want of memory leaves the disk, or fails it. Once it has failed each call answers so.
+-- call that was in want of memory leaves the disk, or, if it is a write, fails it. Once it has failed each call answers so.
 abbrev pub Run : StorageState → List Call → List Answer → StorageState → Type 0
 Run old [] [] new = (file new ≡ file old) × (new.faults ≡ old.faults)
 Run old (call ∷ calls) (Refused Memory ∷ answers) new =
-    ((new.faults ≡ old.faults) × (answers ≡ replicate (length calls) (Refused Failed)))
-    ⊎ ((mid : StorageState) × Lives old mid × SameDisk (shown (file old)) (shown (file mid)) × Run mid calls answers new)
-Run old (call ∷ calls) (Refused Storage ∷ answers) new = Rose old.faults new.faults × (answers ≡ replicate (length calls) (Refused Failed))
+    Asks old call
+    × ((Changes call × (new.faults ≡ old.faults) × (answers ≡ replicate (length calls) (Refused Failed)))
+    ⊎ ((mid : StorageState) × Lives old mid × SameDisk (shown (file old)) (shown (file mid)) × Run mid calls answers new))
+Run old (call ∷ calls) (Refused Storage ∷ answers) new = Asks old call × Rose old.faults new.faults × (answers ≡ replicate (length calls) (Refused Failed))
 Run old (call ∷ calls) (answer ∷ answers) new = (mid : StorageState) × Lives old mid × Moves old call answer mid × Run mid calls answers new
 Run old _ _ new = ⊥
 

@@ -103,25 +103,21 @@ pub fn create<S: Storage>(alloc: Global, mut image: S, size: u64) -> Result<S, F
     Ok(image)
 }
 
+// Where an allocation is refused a body ends with `Fault::Memory`, and its test runs it once more: so each test passes
+// whichever one allocation is refused, and fails where a call gives up with memory left.
 #[cfg(test)]
 mod tests {
     use super::*;
-    use imago_storage::MemStorage;
+    use imago_storage::{FuseStorage, MemStorage};
+    use std::process::Abort;
     use std::test::Fail;
 
     fn new_bytes(alloc: Global, size: u64) -> Result<Vec<u8>, Fault> {
         create(alloc, MemStorage::new(alloc), size)?.bytes()
     }
 
-    #[test]
-    fn a_new_image_has_these_bytes(rt: HostRuntime) -> Result<(), Fail> {
-        let bytes = match new_bytes(rt.alloc(), 65536) {
-            Ok(bytes) => bytes,
-            Err(fault) => {
-                assert_eq!(rt; fault, Fault::Memory);
-                return Ok(());
-            }
-        };
+    fn bytes_of_new_image(rt: &impl Abort, alloc: Global) -> Result<(), Fault> {
+        let bytes = new_bytes(alloc, 65536)?;
         let start = bytes.get(..64).unwrap_or(&[]);
         assert_eq!(rt;
             start,
@@ -141,12 +137,29 @@ mod tests {
     }
 
     #[test]
-    fn sizes_have_their_lengths(rt: HostRuntime) -> Result<(), Fail> {
+    fn a_new_image_has_these_bytes(rt: HostRuntime) -> Result<(), Fail> {
+        let alloc = rt.alloc();
+        match bytes_of_new_image(&rt, alloc) {
+            Err(Fault::Memory) => bytes_of_new_image(&rt, alloc)?,
+            answer => answer?,
+        }
+        Ok(())
+    }
+
+    fn lengths(rt: &impl Abort, alloc: Global) -> Result<(), Fault> {
         for (size, length) in [(0, 1536), (1, 2048), (32768, 2048), (32769, 2048)] {
-            match new_bytes(rt.alloc(), size) {
-                Ok(bytes) => assert_eq!(rt; bytes.len(), length),
-                Err(fault) => assert_eq!(rt; fault, Fault::Memory),
-            }
+            let bytes = new_bytes(alloc, size)?;
+            assert_eq!(rt; bytes.len(), length);
+        }
+        Ok(())
+    }
+
+    #[test]
+    fn sizes_have_their_lengths(rt: HostRuntime) -> Result<(), Fail> {
+        let alloc = rt.alloc();
+        match lengths(&rt, alloc) {
+            Err(Fault::Memory) => lengths(&rt, alloc)?,
+            answer => answer?,
         }
         Ok(())
     }
@@ -157,6 +170,41 @@ mod tests {
         match create(alloc, MemStorage::new(alloc), 65537) {
             Ok(_) => assert!(rt; false),
             Err(fault) => assert_eq!(rt; fault, Fault::Limit(65537)),
+        }
+        Ok(())
+    }
+
+    // Makes an image in a storage whose call of this number fails, and answers whether one did.
+    fn fails_at(rt: &impl Abort, alloc: Global, call: u64) -> Result<bool, Fault> {
+        match create(alloc, FuseStorage::new(MemStorage::new(alloc), call), 65536) {
+            Ok(_) => Ok(false),
+            Err(Fault::Memory) => Err(Fault::Memory),
+            Err(fault) => {
+                assert_eq!(rt; fault, Fault::Storage);
+                Ok(true)
+            }
+        }
+    }
+
+    // Two calls change the file: it is cut, and the image, which lies in whole units, is written by one request.
+    fn each_fault(rt: &impl Abort, alloc: Global) -> Result<(), Fault> {
+        let mut failed = 0;
+        for call in 1..10 {
+            if fails_at(rt, alloc, call)? {
+                failed += 1;
+                assert_eq!(rt; failed, call);
+            }
+        }
+        assert_eq!(rt; failed, 2);
+        Ok(())
+    }
+
+    #[test]
+    fn each_fault_of_the_storage_is_answered(rt: HostRuntime) -> Result<(), Fail> {
+        let alloc = rt.alloc();
+        match each_fault(&rt, alloc) {
+            Err(Fault::Memory) => each_fault(&rt, alloc)?,
+            answer => answer?,
         }
         Ok(())
     }
