@@ -23,7 +23,7 @@ mod table;
 pub mod table_laws;
 #[cfg(test)]
 mod tests;
-mod words;
+pub mod words;
 
 pub use entries::{L1Entry, L2Entry, RefTableEntry, TableEntry};
 pub use header::Header;

@@ -3,22 +3,10 @@ ghost use Rattle.std.specs.Prelude.{◌≡◌, ◌+◌, ◌<◌, ◌^◌};
 ghost use Rattle.qcow2_types.specs.Bytes.{be, bytes_of};
 
 /// The byte at a place, 0 past the end.
-fn byte_at(bytes: &[u8], at: usize) -> u8
+pub(crate) fn byte_at(bytes: &[u8], at: usize) -> u8
     ensures { result ≡ bytes_of bytes.now at }
 {
     bytes.get(at).copied().unwrap_or(0)
-}
-
-/// The big-endian number of the 8 bytes from a place on, 0 past the end.
-pub(crate) fn u64_at(bytes: &[u8], at: usize) -> u64
-    requires { at + 8 < 2 ^ 64 }
-    ensures { result ≡ be (bytes_of bytes.now) at 8 }
-{
-    let mut number = 0u64;
-    for i in 0..8usize {
-        number = number << 8 | u64::from(byte_at(bytes, at + i));
-    }
-    number
 }
 
 /// The big-endian number of the 4 bytes from a place on, 0 past the end.

@@ -1,6 +1,7 @@
-// The 64-bit words of tables, decoded.
-//
-// From the sections "Host cluster management" and "Cluster mapping" of the format.
+//! The 64-bit words of tables, decoded.
+//!
+//! From the sections "Host cluster management" and "Cluster mapping" of the format.
+
 ghost use Rattle.std.specs.Prelude.{◌≡◌, ℕ, ◌+◌, ◌-◌, ◌*◌, ◌/◌, ◌%◌, ◌^◌, ◌<◌, ◌≤◌, IfOk, IsOkUnless};
 ghost use Rattle.qcow2_types.specs.Bytes.{be, bytes_of};
 ghost use Rattle.qcow2_types.specs.Words.{bits_at, has_bit as has_bit_of, table_offset, block_offset, is_place as is_place_of, packed_place, packed_end, packed_mapping, standard_mapping, mapping_of, l1_word_sound, block_word_sound};
@@ -8,15 +9,9 @@ ghost use Rattle.qcow2_metadata.specs.MappingView.{seen, BacksAt, IsNamed};
 
 use crate::layout::TableLayout;
 use crate::mapping::L2Mapping;
+use crate::numbers::byte_at;
 use imago_storage::Fault;
 use qcow2_types::{HostCluster, HostOffset, MAX_OFFSET};
-
-// The byte at a place, 0 past the end.
-fn byte_at(bytes: &[u8], at: usize) -> u8
-    ensures { result ≡ bytes_of bytes.now at }
-{
-    bytes.get(at).copied().unwrap_or(0)
-}
 
 /// The big-endian number of the 8 bytes from a place on, 0 past the end.
 pub fn word_at(bytes: &[u8], at: usize) -> u64
@@ -31,7 +26,7 @@ pub fn word_at(bytes: &[u8], at: usize) -> u64
 }
 
 /// Whether a bit is set.
-pub fn has_bit(word: u64, bit: u32) -> bool
+pub(crate) fn has_bit(word: u64, bit: u32) -> bool
     requires { bit < 64 }
     ensures { result ≡ has_bit_of word bit }
 {
@@ -39,7 +34,7 @@ pub fn has_bit(word: u64, bit: u32) -> bool
 }
 
 /// The number that `count` bits from `first` on represent.
-pub fn bits(word: u64, first: u32, count: u32) -> u64
+pub(crate) fn bits(word: u64, first: u32, count: u32) -> u64
     requires first { first < 64 }
     requires count { count < 64 }
     ensures { result ≡ bits_at word first count }
@@ -62,7 +57,7 @@ pub fn block_offset_in(word: u64) -> u64
 }
 
 /// Whether a cluster can begin at a place.
-pub fn is_place(offset: u64, cluster_bits: u32) -> bool
+pub(crate) fn is_place(offset: u64, cluster_bits: u32) -> bool
     requires { cluster_bits ≤ 21 }
     ensures { result ≡ is_place_of cluster_bits offset }
 {
@@ -70,7 +65,7 @@ pub fn is_place(offset: u64, cluster_bits: u32) -> bool
 }
 
 /// Whether a word may stand in the L1 table.
-pub fn is_l1_word(word: u64, cluster_bits: u32) -> bool
+pub(crate) fn is_l1_word(word: u64, cluster_bits: u32) -> bool
     requires { cluster_bits ≤ 21 }
     ensures { result ≡ l1_word_sound cluster_bits word }
 {
@@ -78,7 +73,7 @@ pub fn is_l1_word(word: u64, cluster_bits: u32) -> bool
 }
 
 /// Whether a word may stand in the refcount table.
-pub fn is_block_word(word: u64, cluster_bits: u32) -> bool
+pub(crate) fn is_block_word(word: u64, cluster_bits: u32) -> bool
     requires { cluster_bits ≤ 21 }
     ensures { result ≡ block_word_sound cluster_bits word }
 {
@@ -87,7 +82,7 @@ pub fn is_block_word(word: u64, cluster_bits: u32) -> bool
 
 /// The place of the first byte that a compressed word names, and the bytes from there to the end of its last sector.
 #[tactic(auto, using(qcow2_types::proofs::Reach::sectors_fit, crate::proofs::WordFacts::packed_fits))]
-pub fn packed_range(word: u64, cluster_bits: u32) -> (u64, u64)
+pub(crate) fn packed_range(word: u64, cluster_bits: u32) -> (u64, u64)
     requires { (9 ≤ cluster_bits) × (cluster_bits ≤ 21) }
     ensures place { result.0 ≡ packed_place cluster_bits word }
     ensures length { result.1 ≡ packed_end cluster_bits word - packed_place cluster_bits word }
@@ -102,7 +97,7 @@ pub fn packed_range(word: u64, cluster_bits: u32) -> (u64, u64)
 }
 
 /// What a compressed word means, or `Fault::DamagedTable` where it means nothing.
-pub fn compressed(word: u64, cluster_bits: u32) -> Result<L2Mapping, Fault>
+pub(crate) fn compressed(word: u64, cluster_bits: u32) -> Result<L2Mapping, Fault>
     requires { (9 ≤ cluster_bits) × (cluster_bits ≤ 21) }
     ensures means { seen result ≡ packed_mapping cluster_bits word }
     ensures named { IfOk result (IsNamed cluster_bits) }
@@ -121,7 +116,11 @@ pub fn compressed(word: u64, cluster_bits: u32) -> Result<L2Mapping, Fault>
 
 /// What a standard word means, or `Fault::DamagedTable` where it means nothing. The layer below is read at `backing_offset`.
 #[tactic(auto, using(qcow2_types::proofs::Reach::cluster_begin))]
-pub fn standard(word: u64, layout: TableLayout, backing_offset: u64) -> Result<L2Mapping, Fault>
+pub(crate) fn standard(
+    word: u64,
+    layout: TableLayout,
+    backing_offset: u64,
+) -> Result<L2Mapping, Fault>
     ensures means { seen result ≡ standard_mapping layout word }
     ensures named { IfOk result (IsNamed layout.cluster_bits) }
     ensures backs { IfOk result (BacksAt backing_offset) }
@@ -154,7 +153,11 @@ pub fn standard(word: u64, layout: TableLayout, backing_offset: u64) -> Result<L
 
 /// What an L2 word means, or `Fault::DamagedTable` where it means nothing. The layer below is read at `backing_offset`.
 #[tactic(auto, unfolding(qcow2_types::specs::Words::mapping_of))]
-pub fn l2_mapping(word: u64, layout: TableLayout, backing_offset: u64) -> Result<L2Mapping, Fault>
+pub(crate) fn l2_mapping(
+    word: u64,
+    layout: TableLayout,
+    backing_offset: u64,
+) -> Result<L2Mapping, Fault>
     ensures means { seen result ≡ mapping_of layout word }
     ensures named { IfOk result (IsNamed layout.cluster_bits) }
     ensures backs { IfOk result (BacksAt backing_offset) }
@@ -164,5 +167,25 @@ pub fn l2_mapping(word: u64, layout: TableLayout, backing_offset: u64) -> Result
         compressed(word, layout.cluster_bits())
     } else {
         standard(word, layout, backing_offset)
+    }
+}
+
+#[cfg(test)]
+mod tests {
+    use super::*;
+    use std::test::Fail;
+
+    #[test]
+    fn words_and_their_places_are_read(rt: HostRuntime) -> Result<(), Fail> {
+        let bytes = [128, 0, 0, 0, 0, 0, 14, 0, 0, 0, 0, 0, 0, 0, 4, 1];
+        assert_eq!(rt; word_at(&bytes, 0), 0x8000_0000_0000_0e00);
+        // Past the end there are zeroes.
+        assert_eq!(rt; word_at(&bytes, 12), 0x0000_0401_0000_0000);
+        assert_eq!(rt; offset_in(0x8000_0000_0000_0e01), 0x0e00);
+        assert_eq!(rt;
+            block_offset_in(0x8000_0000_0000_0401),
+            0x8000_0000_0000_0400
+        );
+        Ok(())
     }
 }

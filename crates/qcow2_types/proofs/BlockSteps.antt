@@ -74,10 +74,10 @@ module _ (f : Bytes) (H : Header) (was : IsConsistent f H) (b : ℕ) (there : bl
         record {
           consistent = after;
           kept = kept;
-          keeps = kept-keeps f g H was (block b) kept (λ i e. cc) (λ i e. cc) (λ i e. cc) (λ e. cc);
-          references = kept-references f g H was (block b) kept (λ i e. cc) (λ i e. cc) (λ i e. cc) (λ e. cc);
+          keeps = kept-keeps f g H was (block b) kept (λ i e. cc) (λ i e. cc) (λ i e. cc);
+          references = kept-references f g H was (block b) kept (λ i e. cc) (λ i e. cc) (λ i e. cc);
           counts = counts;
-          shows = kept-shows f g H was (block b) kept (λ i e. cc) (λ i e. cc) (λ i e. cc) (λ e. cc) after (block_at f H.fields b / cluster_size H.fields) at n out (omega arith) (omega arith) (structure-unmapped f H was _ block-weighs);
+          shows = kept-shows f g H was (block b) kept (λ i e. cc) (λ i e. cc) (λ i e. cc) after (block_at f H.fields b / cluster_size H.fields) at n out (omega arith) (omega arith) (structure-unmapped f H was _ block-weighs);
           free = free-stays f g H (block_at f H.fields b / cluster_size H.fields) at n out (omega arith) (omega arith) block-weighs;
         }
       where

@@ -35,7 +35,7 @@ contents-kept f x h of keeps =
 
 -- Where the words of the tables, all mappings and the header are kept, and what is named is counted, the image stays consistent.
 module _ (f g : Bytes) (H : Header) (was : IsConsistent f H) (skip : Skipped) (kept : Kept f g H.fields skip) (no_l1 : (i : ℕ) → skip ≢ l1_word i) (no_block : (i : ℕ) → skip ≢ block_word i)
-    (no_table : (i : ℕ) → skip ≢ table i) (no_start : skip ≢ first_cluster) where
+    (no_table : (i : ℕ) → skip ≢ table i) where
   -- all mappings are kept
   pub kept-keeps : KeepsSlots f g H.fields
   kept-keeps = keeps-slots f g H.fields skip kept no_l1 no_block no_table
@@ -45,7 +45,7 @@ module _ (f g : Bytes) (H : Header) (was : IsConsistent f H) (skip : Skipped) (k
   kept-references c = refs-kept f g H.fields c kept-keeps
 
   -- the tables stay sound
-  kept-sound : SoundWords g H.fields
+  pub kept-sound : SoundWords g H.fields
   kept-sound =
       let sound : SoundWords f H.fields = sound-words f H.fields was.readable.tables in
       record {
@@ -57,8 +57,8 @@ module _ (f g : Bytes) (H : Header) (was : IsConsistent f H) (skip : Skipped) (k
       }
 
   -- and the image consistent
-  pub kept-consistent : ((c : ℕ) → refs f H.fields c ≤ count g H.fields c) → IsConsistent g H
-  kept-consistent counted = consistent-from g H (header-kept true f g H was.readable.loads (kept.start no_start)) was.readable.no_snapshots was.readable.data_inside kept-sound
+  pub kept-consistent : skip ≢ first_cluster → ((c : ℕ) → refs f H.fields c ≤ count g H.fields c) → IsConsistent g H
+  kept-consistent no_start counted = consistent-from g H (header-kept true f g H was.readable.loads (kept.start no_start)) was.readable.no_snapshots was.readable.data_inside kept-sound
       (λ c some.
       let same : structure g H.fields (meets H.fields c) ≡ structure f H.fields (meets H.fields c) = structure-same f g H.fields kept-keeps.places (meets H.fields c) in
       let once : refs f H.fields c ≡ 1 = structure-named-once f H was c (omega arith) in
@@ -85,11 +85,11 @@ module _ (f g : Bytes) (H : Header) (was : IsConsistent f H) (skip : Skipped) (k
 module _ (f g : Bytes) (H : Header) (was : IsConsistent f H) (kept : Kept f g H.fields nothing) where
   -- all mappings are kept
   pub untouched-keeps : KeepsSlots f g H.fields
-  untouched-keeps = kept-keeps f g H was nothing kept (λ i e. cc) (λ i e. cc) (λ i e. cc) (λ e. cc)
+  untouched-keeps = kept-keeps f g H was nothing kept (λ i e. cc) (λ i e. cc) (λ i e. cc)
 
   -- each cluster is named as often
   pub untouched-references : (c : ℕ) → refs g H.fields c ≡ refs f H.fields c
-  untouched-references = kept-references f g H was nothing kept (λ i e. cc) (λ i e. cc) (λ i e. cc) (λ e. cc)
+  untouched-references = kept-references f g H was nothing kept (λ i e. cc) (λ i e. cc) (λ i e. cc)
 
   -- and counted as often
   pub untouched-counts : (c : ℕ) → count g H.fields c ≡ count f H.fields c
@@ -172,7 +172,7 @@ module _ (f : Bytes) (H : Header) (was : IsConsistent f H) (c : ℕ) (unnamed : 
         keeps = untouched-keeps f g H was kept;
         references = untouched-references f g H was kept;
         counts = untouched-counts f g H was kept;
-        shows = kept-shows f g H was nothing kept (λ i e. cc) (λ i e. cc) (λ i e. cc) (λ e. cc) after c at n out low high free-unmapped;
+        shows = kept-shows f g H was nothing kept (λ i e. cc) (λ i e. cc) (λ i e. cc) after c at n out low high free-unmapped;
       }
 
 -- A write into a cluster of the structure leaves the bytes of each cluster that nothing names.

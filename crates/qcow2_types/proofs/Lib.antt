@@ -53,5 +53,6 @@ pub mod Surplus
 pub mod BlockWordSteps
 pub mod L1Switch
 pub mod RefcountTableSwitch
+pub mod SizeSwitch
 pub mod HeaderSwitch
 pub mod HeldBytes

@@ -1,12 +1,14 @@
--- What is left of an image when its header names another L1 table or another refcount table: of f with header H in g.
+-- What is left of an image when its header names another L1 table, another refcount table or another size: of f with header H in g.
 use Rattle.std.specs.Prelude.{◌≡◌, ℕ, ◌+◌, ◌*◌, ◌/◌, ◌<◌}
+use Rattle.imago_storage.specs.Disk.{Value}
 use Rattle.qcow2_types.specs.Bytes.{Bytes, word, sum_below}
 use Rattle.qcow2_types.specs.Words.{block_offset}
 use Rattle.qcow2_types.specs.Header.{Fields, Header, cluster_size, words_of_cluster, refcount_table_entries}
 use Rattle.qcow2_types.specs.Entries.{entry, l2_table}
 use Rattle.qcow2_types.specs.Counts.{block_at, count, counters_of_block}
 use Rattle.qcow2_types.specs.References.{of_cluster, meets, refs}
-use Rattle.qcow2_types.specs.Consistency.{IsConsistent}
+use Rattle.qcow2_types.specs.Consistency.{IsConsistent, leaks}
+use Rattle.qcow2_types.specs.Disk.{shown}
 use Rattle.qcow2_types.specs.Slots.{slot, Live}
 
 -- the fields with another L1 table
@@ -70,3 +72,23 @@ pub record RefcountTableSwitched (f g : Bytes) (H : Header) (offset more : ℕ) 
   -- the new table's clusters and the new blocks are named, and no longer the old table's
   pub references : (d : ℕ) → refs g (with_reftable H.fields offset (H.fields.refcount_table_clusters + more)) d + meets H.fields d H.fields.refcount_table_offset (H.fields.refcount_table_clusters * cluster_size H.fields) ≡ refs f H.fields d + newly_named f H.fields offset more d
   pub entries : (guest : ℕ) → entry g (with_reftable H.fields offset (H.fields.refcount_table_clusters + more)) guest ≡ entry f H.fields guest
+
+-- the fields with another size of the disk
+abbrev pub sized : Fields → ℕ → Fields
+sized h n = record h { size = n }
+
+-- the header with another size
+abbrev pub with_size : Header → ℕ → Header
+with_size H n = record H { fields = sized H.fields n }
+
+-- The disk has another size, and each place shows what it did.
+pub record SizeSwitched (f g : Bytes) (H : Header) (n : ℕ) : Type 0 where
+  pub consistent : IsConsistent g (with_size H n)
+  pub tables : (i : ℕ) → l2_table g (sized H.fields n) i ≡ l2_table f H.fields i
+  pub slots : (i j : ℕ) → Live (l2_table f H.fields) H.fields i j → slot g (sized H.fields n) i j ≡ slot f H.fields i j
+  pub blocks : (i : ℕ) → block_at g (sized H.fields n) i ≡ block_at f H.fields i
+  pub counts : (d : ℕ) → count g (sized H.fields n) d ≡ count f H.fields d
+  pub references : (d : ℕ) → refs g (sized H.fields n) d ≡ refs f H.fields d
+  pub leaks : leaks g (sized H.fields n) ≡ leaks f H.fields
+  pub entries : (guest : ℕ) → entry g (sized H.fields n) guest ≡ entry f H.fields guest
+  pub shows : (external : Bytes) (p : ℕ) (below : Value) → shown g external (sized H.fields n) p below ≡ shown f external H.fields p below

@@ -9,7 +9,7 @@ ghost use Rattle.qcow2_types.specs.Header.{Header, header_of, cluster_size, word
 ghost use Rattle.qcow2_types.specs.Entries.{l2_table};
 ghost use Rattle.qcow2_types.specs.Counts.{block_at, count, counter, counter_of, counter_bits, counters_of_block};
 ghost use Rattle.qcow2_types.specs.References.{meets, refs};
-ghost use Rattle.qcow2_types.specs.Switched.{with_l1_table, with_reftable, with_refcount_table, newly_named, L1Switched, RefcountTableSwitched};
+ghost use Rattle.qcow2_types.specs.Switched.{with_l1_table, with_reftable, with_refcount_table, with_size, newly_named, L1Switched, RefcountTableSwitched, SizeSwitched};
 ghost use Rattle.qcow2_types.specs.Consistency.{IsConsistent};
 ghost use Rattle.qcow2_types.specs.Slots.{slot, Live};
 ghost use Rattle.qcow2_types.specs.Frames.{Outside};
@@ -97,6 +97,12 @@ pub fn switching_the_refcount_table()
         → ((d : ℕ) → 0 < newly_named f h.fields offset more d → (refs f h.fields d ≡ 0) × (1 ≤ count g (with_reftable h.fields offset (h.fields.refcount_table_clusters + more)) d))
         → ((d : ℕ) → 0 < refs f h.fields d → refs f h.fields d ≤ count g (with_reftable h.fields offset (h.fields.refcount_table_clusters + more)) d)
         → RefcountTableSwitched f g h offset more }
+{}
+
+/// A header with another size of the disk leaves the rest of the image as it is: what is counted, named and leaked, and what each
+/// place shows.
+pub fn switching_the_size()
+    ensures { (f g : Bytes) (h : Header) → IsConsistent f h → (n : ℕ) → header_of true g ≡ Ok (with_size h n) → Outside f g 0 64 → SizeSwitched f g h n }
 {}
 
 /// In the worked image, cluster 7 is counted, and then named by the word of guest cluster 2, after 09 was written to it.

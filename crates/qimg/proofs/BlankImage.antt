@@ -1,6 +1,6 @@
 -- A new image of size 0, with at most two entries in its L1 table.
 use Rattle.std.proofs.Common.{◌≡◌, ℕ, zero, suc, ◌/◌, ◌<◌, ◌≤◌, refl, arith, ◌∙◌, [], inl, inr}
-use Rattle.std.specs.Prelude.{Bool, true, false, ◌==◌, ◌||◌, not, Ok, nat_lt}
+use Rattle.std.specs.Prelude.{true, false, ◌==◌, ◌||◌, not, Ok, nat_lt}
 use Rattle.std.specs.Str.{is_utf8, chars}
 use Rattle.std.specs.Char.{encode_utf8}
 use Rattle.std.proofs.lemmas.Bool.{cases_lt, le-ltb}
@@ -17,25 +17,13 @@ use Rattle.qcow2_types.proofs.Bounded.{nowhere-from, all-below, shared-beyond, c
 use Rattle.qcow2_types.proofs.Leaks.{leaks-skip, count-no-block}
 use Rattle.qimg.specs.Created.{blank, blank_fields, blank_header, nothing_in, extension_bytes}
 
--- its fields are read
-pub blank-fields : (e : ℕ) → e ≤ 2 → fields_of (blank e) ≡ blank_fields e
-unfolding fields_of be blank splice nothing_in extension_bytes
-blank-fields zero few = refl
-blank-fields (suc zero) few = refl
-blank-fields (suc (suc zero)) few = refl
-blank-fields (suc (suc (suc e))) few = absurd (omega arith)
-
 -- its header loads
-pub blank-loads : (writing : Bool) (e : ℕ) → e ≤ 2 → header_of writing (blank e) ≡ Ok (blank_header e)
+blank-loads : (e : ℕ) → e ≤ 2 → header_of true (blank e) ≡ Ok (blank_header e)
 unfolding header_of texts_of extensions_at extension_at fields_of be run blank splice nothing_in extension_bytes is_utf8 chars encode_utf8
-blank-loads true zero few = refl
-blank-loads true (suc zero) few = refl
-blank-loads true (suc (suc zero)) few = refl
-blank-loads true (suc (suc (suc e))) few = absurd (omega arith)
-blank-loads false zero few = refl
-blank-loads false (suc zero) few = refl
-blank-loads false (suc (suc zero)) few = refl
-blank-loads false (suc (suc (suc e))) few = absurd (omega arith)
+blank-loads zero few = refl
+blank-loads (suc zero) few = refl
+blank-loads (suc (suc zero)) few = refl
+blank-loads (suc (suc (suc e))) few = absurd (omega arith)
 
 -- none of its tables is damaged
 blank-tables : (e : ℕ) → e ≤ 2 → tables_sound (blank e) (blank_fields e) ≡ true
@@ -80,7 +68,7 @@ counted (suc (suc (suc e))) few = absurd (omega arith)
 -- it is consistent
 pub blank-consistent : (e : ℕ) → e ≤ 2 → IsConsistent (blank e) (blank_header e)
 blank-consistent e few = record {
-  readable = record { loads = blank-loads true e few; no_snapshots = refl; data_inside = refl; tables = blank-tables e few };
+  readable = record { loads = blank-loads e few; no_snapshots = refl; data_inside = refl; tables = blank-tables e few };
   structure_apart = nowhere-from 4 (shares_structure (blank e) (blank_fields e)) (shared e few) (shared-beyond (blank e) (blank_fields e) 4 (within e few));
   copied_apart = nowhere-from 4 (is_false_copied (blank e) (blank_fields e)) (copied e few) (copied-beyond (blank e) (blank_fields e) 4 (within e few));
   counted = nowhere-from 4 (is_under_counted (blank e) (blank_fields e)) (counted e few) (under-beyond (blank e) (blank_fields e) 4 (within e few));

@@ -1,30 +1,87 @@
 -- A new image, whatever its size: consistent, without leaks, taken when it is opened, and 0 everywhere.
-use Rattle.std.proofs.Common.{◌≡◌, ℕ, zero, suc, ◌-◌, ◌*◌, ◌/◌, ◌^◌, ◌≤◌, refl, arith, ap, sym, subst, ◌∙◌, [], None, Ok}
+use Rattle.std.proofs.Common.{◌≡◌, ℕ, zero, suc, ◌-◌, ◌*◌, ◌/◌, ◌^◌, ◌<◌, ◌≤◌, refl, arith, ap, ◌∙◌, [], None, Ok, inl, inr}
 use Rattle.std.specs.Prelude.{Bool, true, false, cond, nat_lt, Result}
+use Rattle.std.specs.Int.{w64, to_be_bytes}
+use Rattle.std.specs.Str.{is_utf8, chars}
+use Rattle.std.specs.Char.{encode_utf8}
 use Rattle.std.proofs.lemmas.Bool.{le-ltb}
 use Rattle.imago_storage.specs.Disk.{Value, byte}
 use Rattle.imago_storage.specs.declared.fault.Fault.{Fault}
-use Rattle.qcow2_types.specs.Bytes.{be, word, splice, all_below}
+use Rattle.qcow2_types.specs.Bytes.{Bytes, be, run, word, splice, all_below}
 use Rattle.qcow2_types.specs.Words.{unmapped, mapping_of}
-use Rattle.qcow2_types.specs.Header.{Fields, Header, fields_of, header_of, first_fault, rules_of_kind, rules_of_shape, rules_of_size, rules_of_writing, cluster_size, words_of_cluster, has_backing_name}
+use Rattle.qcow2_types.specs.Header.{Header, fields_of, header_of, texts_of, extensions_at, extension_at, first_fault, rules_of_kind, rules_of_size, rules_of_writing, cluster_size, words_of_cluster}
 use Rattle.qcow2_types.specs.Entries.{entry, l2_table}
 use Rattle.qcow2_types.specs.Consistency.{IsConsistent, leaks}
 use Rattle.qcow2_types.specs.Disk.{shown_by, host_byte, in_qcow2}
+use Rattle.qcow2_types.specs.Switched.{sized, with_size, SizeSwitched}
+use Rattle.qcow2_types.proofs.HeaderSwitch.{header-made}
+use Rattle.qcow2_types.proofs.SizeSwitch.{size-switched}
+use Rattle.qcow2_types.proofs.Splices.{be-written, splice-outside}
 use Rattle.qcow2_types.proofs.Values.{entry-slot}
 use Rattle.qimg.specs.First.{value_at}
 use Rattle.qimg.specs.Created.{blank, blank_fields, blank_header, created, new_header, nothing_in, extension_bytes, l1_entries_of}
 use Rattle.std.specs.Result.{result_err}
 use Rattle.qimg.specs.Opening.{rules_of_form, has_new_extensions, has_plain_words, own_fault, header_fault, tables_fault, open_fault}
-use Rattle.qimg.proofs.SizeFrame.{resized, sized, IsNameApart, size-fields, size-kind, size-header, size-consistent, size-leaks, size-places}
-use Rattle.qimg.proofs.BlankImage.{blank-fields, blank-loads, blank-consistent, blank-leaks, blank-no_table}
+use Rattle.qimg.proofs.BlankImage.{blank-consistent, blank-leaks, blank-no_table}
 use Rattle.qimg.proofs.OpeningLemmas.{both-none, open-tables}
 
--- no backing file is named
-no-name : (h : Fields) → has_backing_name h ≡ false → IsNameApart h
-no-name h none there = absurd cc
+-- an image of size 0 with another size in its header
+abbrev resized : ℕ → ℕ → Bytes
+resized e size = splice (blank e) 24 (to_be_bytes w64 size)
+
+-- its other fields
+other-fields : (e size : ℕ) → e ≤ 2 → fields_of (resized e size) ≡ sized (blank_fields e) (be (resized e size) 24 8)
+unfolding fields_of be blank splice nothing_in extension_bytes
+other-fields zero size few = refl
+other-fields (suc zero) size few = refl
+other-fields (suc (suc zero)) size few = refl
+other-fields (suc (suc (suc e))) size few = absurd (omega arith)
+
+-- all its fields
+fields-kept : (e size : ℕ) → e ≤ 2 → size < 2 ^ 64 → fields_of (resized e size) ≡ sized (blank_fields e) size
+fields-kept e size few fits = other-fields e size few ∙ ap (sized (blank_fields e)) (be-written (blank e) 24 size fits)
+
+-- the magic number and the version are right
+kind-kept : (e size : ℕ) → e ≤ 2 → first_fault (rules_of_kind (resized e size)) ≡ None
+unfolding be blank splice nothing_in extension_bytes
+kind-kept zero size few = refl
+kind-kept (suc zero) size few = refl
+kind-kept (suc (suc zero)) size few = refl
+kind-kept (suc (suc (suc e))) size few = absurd (omega arith)
+
+-- sizes and places are within their limits
+sizes-kept : (e size : ℕ) → e ≤ 2 → size ≤ 2 ^ 63 - 1 → first_fault (rules_of_size (sized (blank_fields e) size)) ≡ None
+sizes-kept zero size few small = let low : nat_lt (2 ^ 63 - 1) size ≡ false = le-ltb _ _ small in rw low refl
+sizes-kept (suc zero) size few small = let low : nat_lt (2 ^ 63 - 1) size ≡ false = le-ltb _ _ small in rw low refl
+sizes-kept (suc (suc zero)) size few small = let low : nat_lt (2 ^ 63 - 1) size ≡ false = le-ltb _ _ small in rw low refl
+sizes-kept (suc (suc (suc e))) size few small = absurd (omega arith)
+
+-- its texts
+texts-kept : (e size : ℕ) → e ≤ 2 → texts_of (resized e size) (sized (blank_fields e) size) ≡ Ok (with_size (blank_header e) size)
+unfolding texts_of extensions_at extension_at be run blank splice nothing_in extension_bytes is_utf8 chars encode_utf8
+texts-kept zero size few = refl
+texts-kept (suc zero) size few = refl
+texts-kept (suc (suc zero)) size few = refl
+texts-kept (suc (suc (suc e))) size few = absurd (omega arith)
+
+-- the image may be written
+writing-kept : (writing : Bool) (e size : ℕ) → first_fault (rules_of_writing writing (sized (blank_fields e) size)) ≡ None
+writing-kept true e size = refl
+writing-kept false e size = refl
+
+-- so its header loads
+header-kept : (writing : Bool) (e size : ℕ) → e ≤ 2 → size ≤ 2 ^ 63 - 1 → header_of writing (resized e size) ≡ Ok (with_size (blank_header e) size)
+header-kept writing e size few small =
+    header-made writing (resized e size) (sized (blank_fields e) size) (with_size (blank_header e) size) (kind-kept e size few) (fields-kept e size few (omega arith)) refl (sizes-kept e size few small) (texts-kept e size few) (writing-kept writing e size)
+
+-- and what else the image holds stays
+image-kept : (e size : ℕ) → e ≤ 2 → size ≤ 2 ^ 63 - 1 → SizeSwitched (blank e) (resized e size) (blank_header e) size
+image-kept e size few small =
+    size-switched (blank e) (resized e size) (blank_header e) (blank-consistent e few) size (header-kept true e size few small)
+    (λ p apart. splice-outside (blank e) 24 (to_be_bytes w64 size) p (elim apart [ inl low ↦ absurd (omega arith) | inr high ↦ inr (omega arith) ]))
 
 -- the extensions are those of a new image
-extensions-kept : (e size : ℕ) → e ≤ 2 → has_new_extensions (resized (blank e) size) ≡ true
+extensions-kept : (e size : ℕ) → e ≤ 2 → has_new_extensions (resized e size) ≡ true
 unfolding has_new_extensions all_below blank splice nothing_in extension_bytes
 extensions-kept zero size few = refl
 extensions-kept (suc zero) size few = refl
@@ -32,7 +89,7 @@ extensions-kept (suc (suc zero)) size few = refl
 extensions-kept (suc (suc (suc e))) size few = absurd (omega arith)
 
 -- its words are plain
-plain-kept : (e size : ℕ) → e ≤ 2 → has_plain_words (resized (blank e) size) (sized (blank_fields e) size) ≡ true
+plain-kept : (e size : ℕ) → e ≤ 2 → has_plain_words (resized e size) (sized (blank_fields e) size) ≡ true
 unfolding has_plain_words all_below mapping_of word be blank splice nothing_in extension_bytes
 plain-kept zero size few = refl
 plain-kept (suc zero) size few = refl
@@ -55,32 +112,32 @@ module _ (size : ℕ) (small : size ≤ 65536) where
   covered : size ≤ l1_entries_of size * 32768
   covered = omega arith
 
-  -- its fields
-  pub created-fields : fields_of (created size) ≡ (new_header size).fields
+  -- it is the one of size 0, but for its size
+  kept : SizeSwitched (blank (l1_entries_of size)) (created size) (blank_header (l1_entries_of size)) size
   unfolding created
-  created-fields = size-fields (blank (l1_entries_of size)) size (omega arith) ∙ ap (λ h. sized h size) (blank-fields (l1_entries_of size) few)
+  kept = image-kept (l1_entries_of size) size few (omega arith)
+
+  -- its fields
+  created-fields : fields_of (created size) ≡ (new_header size).fields
+  unfolding created
+  created-fields = fields-kept (l1_entries_of size) size few (omega arith)
 
   -- its header loads
-  pub created-loads : (writing : Bool) → header_of writing (created size) ≡ Ok (new_header size)
+  created-loads : (writing : Bool) → header_of writing (created size) ≡ Ok (new_header size)
   unfolding created
-  created-loads writing =
-      size-header writing (blank (l1_entries_of size)) (blank_header (l1_entries_of size)) size (omega arith) (blank-loads writing (l1_entries_of size) few)
-      (subst IsNameApart (sym (blank-fields (l1_entries_of size) few)) (no-name (blank_fields (l1_entries_of size)) refl))
+  created-loads writing = header-kept writing (l1_entries_of size) size few (omega arith)
 
   -- it is consistent
   pub created-consistent : IsConsistent (created size) (new_header size)
-  unfolding created
-  created-consistent = size-consistent (blank (l1_entries_of size)) (blank_header (l1_entries_of size)) size (blank-consistent (l1_entries_of size) few) (omega arith) (no-name (blank_fields (l1_entries_of size)) refl)
+  created-consistent = kept.consistent
 
   -- it leaks nothing
   pub created-leaks : leaks (created size) (new_header size).fields ≡ []
-  unfolding created
-  created-leaks = size-leaks (blank (l1_entries_of size)) (blank_header (l1_entries_of size)) size (blank-consistent (l1_entries_of size) few) ∙ blank-leaks (l1_entries_of size) few
+  created-leaks = kept.leaks ∙ blank-leaks (l1_entries_of size) few
 
   -- no L2 table is named
   created-no_table : (i : ℕ) → l2_table (created size) (new_header size).fields i ≡ 0
-  unfolding created
-  created-no_table i = (size-places (blank (l1_entries_of size)) (blank_header (l1_entries_of size)) size (blank-consistent (l1_entries_of size) few)).l1 i ∙ blank-no_table (l1_entries_of size) few i
+  created-no_table i = kept.tables i ∙ blank-no_table (l1_entries_of size) few i
 
   -- each guest cluster is unmapped
   created-unmapped : (guest : ℕ) → entry (created size) (new_header size).fields guest ≡ unmapped
@@ -102,10 +159,10 @@ module _ (size : ℕ) (small : size ≤ 65536) where
   created-header : header_fault (created size) ≡ None
   unfolding header_fault own_fault created
   created-header =
-      let fields : fields_of (resized (blank (l1_entries_of size)) size) ≡ sized (blank_fields (l1_entries_of size)) size = created-fields in
+      let fields : fields_of (resized (l1_entries_of size) size) ≡ sized (blank_fields (l1_entries_of size)) size = created-fields in
       both-none _ _ (ap result_err (created-loads true))
       (both-none _ _ (ap (λ h. first_fault (rules_of_form h)) fields ∙ form-kept (l1_entries_of size) size small covered)
-      (let passed : has_new_extensions (resized (blank (l1_entries_of size)) size) ≡ true = extensions-kept (l1_entries_of size) size few in rw passed refl))
+      (let passed : has_new_extensions (resized (l1_entries_of size) size) ≡ true = extensions-kept (l1_entries_of size) size few in rw passed refl))
 
   -- nor one on the tables
   created-tables : tables_fault (created size) (new_header size).fields ≡ None

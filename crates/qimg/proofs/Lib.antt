@@ -7,9 +7,9 @@ pub mod ReadLemmas
 pub mod Loops
 pub mod OpenedLemmas
 pub mod RunLemmas
-pub mod SizeFrame
 pub mod BlankImage
 pub mod ScanLemmas
+pub mod HeaderReads
 pub mod CreateLemmas
 pub mod OpeningLemmas
 pub mod CreatedImage

@@ -1,5 +1,5 @@
 -- What holds of an image that is taken, and what is found of one.
-use Rattle.std.proofs.Common.{◌≡◌, ◌≢◌, ℕ, ◌+◌, ◌-◌, ◌*◌, ◌/◌, ◌^◌, ◌<◌, ◌≤◌, refl, arith, ap, sym, subst, ◌∙◌, List, [], ◌∷◌, length, inl, inr, Some, None, Ok, Err}
+use Rattle.std.proofs.Common.{◌≡◌, ◌≢◌, ℕ, ◌+◌, ◌*◌, ◌/◌, ◌^◌, ◌<◌, ◌≤◌, refl, arith, ap, sym, subst, ◌∙◌, List, [], ◌∷◌, length, inl, inr, Some, None, Ok, Err}
 use Rattle.std.specs.Prelude.{Bool, true, false, ◌&&◌, ◌||◌, ◌==◌, not, nat_lt, if◌then◌else◌, Option, Result, IsTrue, IfOk, IfErr, drop, slice_index}
 use Rattle.std.proofs.lemmas.Bool.{cases_eq, lt-ltb}
 use Rattle.std.proofs.lemmas.Bool.Decides.{nat_tests}
@@ -8,7 +8,7 @@ use Rattle.imago_storage.specs.Calls.{Kept, Reads}
 use Rattle.imago_storage.specs.declared.fault.Fault.{Fault}
 use Rattle.imago_storage.specs.declared.fault.Fault.TheVariants.{DamagedHeader, DamagedTable, Unsupported, Limit, Memory, Storage}
 use Rattle.qcow2_types.specs.Bytes.{Bytes, bytes_of, word, all_below}
-use Rattle.qcow2_types.specs.Words.{Mapping, data_at, zeroes, packed, damaged, unmapped, mapping_of, is_damaged, l1_word_sound, block_word_sound, table_offset, block_offset, max_offset, is_place}
+use Rattle.qcow2_types.specs.Words.{Layout, Mapping, data_at, zeroes, packed, damaged, unmapped, mapping_of, is_damaged, l1_word_sound, block_word_sound, table_offset, block_offset, max_offset, is_place}
 use Rattle.std.specs.Result.{result_err}
 use Rattle.qcow2_types.specs.Header.{Fields, Header, Limited, Rule, fields_of, header_of, first_fault, words_of_cluster, refcount_table_entries, layout_of}
 use Rattle.qcow2_types.specs.Entries.{l2_table, l1_table_sound, l2_table_sound}
@@ -21,7 +21,7 @@ use Rattle.qcow2_metadata.specs.Loading.{NotLoaded}
 use Rattle.qcow2_metadata.proofs.Refusals.{IsRefusal, header-refusal}
 use Rattle.qcow2_types.specs.Frames.{Same}
 use Rattle.qcow2_types.proofs.Limit.{blocks-near}
-use Rattle.qimg.specs.View.{layout}
+use Rattle.qcow2_types.proofs.WordLemmas.{zero-word}
 use Rattle.qimg.specs.Created.{extension_bytes}
 use Rattle.qimg.specs.First.{file, IsPlain, IsPlainMapping, Holds}
 use Rattle.qimg.specs.Opening.{rules_of_form, has_new_extensions, rules_of_extensions, is_plain_table_word, is_plain_entry, is_copied_data, has_plain_words, ◌or-else◌, own_fault, header_fault, tables_fault, open_fault, Accepts, NotAccepted, verdict, worse, table_sound, table_plain, word_sound, word_plain, tables_verdict}
@@ -109,64 +109,57 @@ module _ (f : Bytes) (h : Fields) (form : IsFirstForm h) where
   entries-many : refcount_table_entries h ≡ 64
   entries-many = ap (λ c. c * words_of_cluster h) form.one_cluster ∙ ap (λ w. 1 * w) words-many
 
-  -- the layout of words
-  first_layout : layout_of h ≡ layout 9 3 false
-  first_layout = rw (form.bits, form.version, form.features) refl
-
   -- whether an L2 table is damaged
-  table-sound : (t : ℕ) → l2_table_sound f h t ≡ table_sound f t
+  table-sound : (t : ℕ) → l2_table_sound f h t ≡ table_sound (layout_of h) f t
   unfolding l2_table_sound table_sound
-  table-sound t = ap (λ n. all_below n (λ i. not (is_damaged (mapping_of (layout_of h) (word f t i))))) words-many ∙ ap (λ l. all_below 64 (λ i. not (is_damaged (mapping_of l (word f t i))))) first_layout
+  table-sound t = ap (λ n. all_below n (λ i. not (is_damaged (mapping_of (layout_of h) (word f t i))))) words-many
 
   -- whether the words of an L2 table are plain
   abbrev entries_plain : ℕ → Bool
   entries_plain t = all_below (words_of_cluster h) (λ j. is_plain_entry (word f t j) (mapping_of (layout_of h) (word f t j)))
 
   -- it is tested so
-  table-plain : (t : ℕ) → entries_plain t ≡ table_plain f t
+  table-plain : (t : ℕ) → entries_plain t ≡ table_plain (layout_of h) f t
   unfolding table_plain
-  table-plain t = ap (λ n. all_below n (λ j. is_plain_entry (word f t j) (mapping_of (layout_of h) (word f t j)))) words-many ∙ ap (λ l. all_below 64 (λ j. is_plain_entry (word f t j) (mapping_of l (word f t j)))) first_layout
+  table-plain t = ap (λ n. all_below n (λ j. is_plain_entry (word f t j) (mapping_of (layout_of h) (word f t j)))) words-many
 
   -- the table that a word names
   table-here : (i : ℕ) → i < h.l1_entries → l2_table f h i ≡ table_offset (word f h.l1_offset i)
   table-here i lt = let within : nat_lt i h.l1_entries ≡ true = lt-ltb _ _ lt in rw within refl
 
   -- all words of the L1 table and their tables have a meaning
-  words-sound : all_below h.l1_entries (λ i. word_sound f (word f h.l1_offset i)) ≡ (l1_table_sound f h && all_below h.l1_entries (λ i. (l2_table f h i == 0) || l2_table_sound f h (l2_table f h i)))
+  words-sound : all_below h.l1_entries (λ i. word_sound (layout_of h) f (word f h.l1_offset i)) ≡ (l1_table_sound f h && all_below h.l1_entries (λ i. (l2_table f h i == 0) || l2_table_sound f h (l2_table f h i)))
   unfolding l1_table_sound word_sound
   words-sound =
-      all_below-both h.l1_entries (λ i. l1_word_sound 9 (word f h.l1_offset i)) (λ i. (table_offset (word f h.l1_offset i) == 0) || table_sound f (table_offset (word f h.l1_offset i)))
-      ∙ (ap (λ b. all_below h.l1_entries (λ i. l1_word_sound b (word f h.l1_offset i)) && all_below h.l1_entries (λ i. (table_offset (word f h.l1_offset i) == 0) || table_sound f (table_offset (word f h.l1_offset i)))) (sym form.bits)
+      all_below-both h.l1_entries (λ i. l1_word_sound h.cluster_bits (word f h.l1_offset i)) (λ i. (table_offset (word f h.l1_offset i) == 0) || table_sound (layout_of h) f (table_offset (word f h.l1_offset i)))
       ∙ ap (λ b. all_below h.l1_entries (λ i. l1_word_sound h.cluster_bits (word f h.l1_offset i)) && b)
-      (all_below-same h.l1_entries _ _ (λ i lt. ap (λ t. (t == 0) || table_sound f t) (sym (table-here i lt)) ∙ ap (λ b. (l2_table f h i == 0) || b) (sym (table-sound (l2_table f h i))))))
+      (all_below-same h.l1_entries _ _ (λ i lt. ap (λ t. (t == 0) || table_sound (layout_of h) f t) (sym (table-here i lt)) ∙ ap (λ b. (l2_table f h i == 0) || b) (sym (table-sound (l2_table f h i)))))
 
   -- they are plain
-  words-plain : all_below h.l1_entries (λ i. word_plain f (word f h.l1_offset i)) ≡ (all_below h.l1_entries (λ i. is_plain_table_word (word f h.l1_offset i)) && all_below h.l1_entries (λ i. (l2_table f h i == 0) || entries_plain (l2_table f h i)))
+  words-plain : all_below h.l1_entries (λ i. word_plain (layout_of h) f (word f h.l1_offset i)) ≡ (all_below h.l1_entries (λ i. is_plain_table_word (word f h.l1_offset i)) && all_below h.l1_entries (λ i. (l2_table f h i == 0) || entries_plain (l2_table f h i)))
   unfolding word_plain
   words-plain =
-      all_below-both h.l1_entries (λ i. is_plain_table_word (word f h.l1_offset i)) (λ i. (table_offset (word f h.l1_offset i) == 0) || table_plain f (table_offset (word f h.l1_offset i)))
+      all_below-both h.l1_entries (λ i. is_plain_table_word (word f h.l1_offset i)) (λ i. (table_offset (word f h.l1_offset i) == 0) || table_plain (layout_of h) f (table_offset (word f h.l1_offset i)))
       ∙ ap (λ b. all_below h.l1_entries (λ i. is_plain_table_word (word f h.l1_offset i)) && b)
-      (all_below-same h.l1_entries _ _ (λ i lt. ap (λ t. (t == 0) || table_plain f t) (sym (table-here i lt)) ∙ ap (λ b. (l2_table f h i == 0) || b) (sym (table-plain (l2_table f h i)))))
+      (all_below-same h.l1_entries _ _ (λ i lt. ap (λ t. (t == 0) || table_plain (layout_of h) f t) (sym (table-here i lt)) ∙ ap (λ b. (l2_table f h i == 0) || b) (sym (table-plain (l2_table f h i)))))
 
   -- the refcount table's words have a meaning
-  blocks-sound : all_below 64 (λ i. block_word_sound 9 (word f h.refcount_table_offset i)) ≡ refcount_table_sound f h
+  blocks-sound : all_below 64 (λ i. block_word_sound h.cluster_bits (word f h.refcount_table_offset i)) ≡ refcount_table_sound f h
   unfolding refcount_table_sound
-  blocks-sound =
-      ap (λ n. all_below n (λ i. block_word_sound 9 (word f h.refcount_table_offset i))) (sym entries-many)
-      ∙ ap (λ b. all_below (refcount_table_entries h) (λ i. block_word_sound b (word f h.refcount_table_offset i))) (sym form.bits)
+  blocks-sound = ap (λ n. all_below n (λ i. block_word_sound h.cluster_bits (word f h.refcount_table_offset i))) (sym entries-many)
 
   -- the place of the first block
   pub first-block : block_at f h 0 ≡ block_offset (word f h.refcount_table_offset 0)
   first-block = let within : nat_lt 0 (refcount_table_entries h) ≡ true = ap (nat_lt 0) entries-many in rw within refl
 
   -- what is found of all tables and of the first block
-  pub all-found : (blocks tables all r : Found) (block : ℕ) → blocks ≡ verdict (all_below 64 (λ i. block_word_sound 9 (word f h.refcount_table_offset i))) true → tables ≡ tables_verdict f h.l1_offset h.l1_entries
+  pub all-found : (blocks tables all r : Found) (block : ℕ) → blocks ≡ verdict (all_below 64 (λ i. block_word_sound h.cluster_bits (word f h.refcount_table_offset i))) true → tables ≡ tables_verdict (layout_of h) f h.l1_offset h.l1_entries
       → block ≡ block_offset (word f h.refcount_table_offset 0) → all ≡ worse blocks tables → r ≡ worse all (verdict true (not (block == 0))) → r ≡ verdict (tables_sound f h) (has_plain_words f h)
   unfolding tables_verdict tables_sound has_plain_words
   all-found blocks tables all r block is_blocks is_tables is_block is_all is =
       let L : Bool = l1_table_sound f h in
-      let both = both-found (all_below 64 (λ i. block_word_sound 9 (word f h.refcount_table_offset i))) (l1_table_sound f h && all_below h.l1_entries (λ i. (l2_table f h i == 0) || l2_table_sound f h (l2_table f h i))) true (all_below h.l1_entries (λ i. is_plain_table_word (word f h.l1_offset i)) && all_below h.l1_entries (λ i. (l2_table f h i == 0) || entries_plain (l2_table f h i))) blocks tables all is_blocks (is_tables ∙ (ap (λ b. verdict b (all_below h.l1_entries (λ i. word_plain f (word f h.l1_offset i)))) words-sound ∙ ap (verdict (l1_table_sound f h && all_below h.l1_entries (λ i. (l2_table f h i == 0) || l2_table_sound f h (l2_table f h i)))) words-plain)) is_all in
-      let whole = both-found (all_below 64 (λ i. block_word_sound 9 (word f h.refcount_table_offset i)) && (l1_table_sound f h && all_below h.l1_entries (λ i. (l2_table f h i == 0) || l2_table_sound f h (l2_table f h i)))) true (true && (all_below h.l1_entries (λ i. is_plain_table_word (word f h.l1_offset i)) && all_below h.l1_entries (λ i. (l2_table f h i == 0) || entries_plain (l2_table f h i)))) (not (block_at f h 0 == 0)) all (verdict true (not (block == 0))) r both (ap (λ b. verdict true (not (b == 0))) (is_block ∙ sym first-block)) is in
+      let both = both-found (all_below 64 (λ i. block_word_sound h.cluster_bits (word f h.refcount_table_offset i))) (l1_table_sound f h && all_below h.l1_entries (λ i. (l2_table f h i == 0) || l2_table_sound f h (l2_table f h i))) true (all_below h.l1_entries (λ i. is_plain_table_word (word f h.l1_offset i)) && all_below h.l1_entries (λ i. (l2_table f h i == 0) || entries_plain (l2_table f h i))) blocks tables all is_blocks (is_tables ∙ (ap (λ b. verdict b (all_below h.l1_entries (λ i. word_plain (layout_of h) f (word f h.l1_offset i)))) words-sound ∙ ap (verdict (l1_table_sound f h && all_below h.l1_entries (λ i. (l2_table f h i == 0) || l2_table_sound f h (l2_table f h i)))) words-plain)) is_all in
+      let whole = both-found (all_below 64 (λ i. block_word_sound h.cluster_bits (word f h.refcount_table_offset i)) && (l1_table_sound f h && all_below h.l1_entries (λ i. (l2_table f h i == 0) || l2_table_sound f h (l2_table f h i)))) true (true && (all_below h.l1_entries (λ i. is_plain_table_word (word f h.l1_offset i)) && all_below h.l1_entries (λ i. (l2_table f h i == 0) || entries_plain (l2_table f h i)))) (not (block_at f h 0 == 0)) all (verdict true (not (block == 0))) r both (ap (λ b. verdict true (not (b == 0))) (is_block ∙ sym first-block)) is in
       whole ∙ (ap (λ b. verdict ((b && (l1_table_sound f h && all_below h.l1_entries (λ i. (l2_table f h i == 0) || l2_table_sound f h (l2_table f h i)))) && true) ((true && (all_below h.l1_entries (λ i. is_plain_table_word (word f h.l1_offset i)) && all_below h.l1_entries (λ i. (l2_table f h i == 0) || entries_plain (l2_table f h i)))) && not (block_at f h 0 == 0))) blocks-sound
       ∙ order (refcount_table_sound f h) (l1_table_sound f h) (all_below h.l1_entries (λ i. (l2_table f h i == 0) || l2_table_sound f h (l2_table f h i))) (all_below h.l1_entries (λ i. is_plain_table_word (word f h.l1_offset i))) (all_below h.l1_entries (λ i. (l2_table f h i == 0) || entries_plain (l2_table f h i))) (not (block_at f h 0 == 0)))
     where
@@ -244,11 +237,10 @@ unfolding open_fault
 open-none f none = or-else-none (header_fault f) (tables_fault f (fields_of f)) none
 
 -- words that are plain
-plain-mapping : (w : ℕ) → is_plain_entry w (mapping_of (layout 9 3 false) w) ≡ true → IsPlainMapping (mapping_of (layout 9 3 false) w)
-unfolding mapping_of
-plain-mapping w plain = elim (cases_eq w 0) [
-  | inl none ↦ subst (λ v. IsPlainMapping (mapping_of (layout 9 3 false) v)) (sym none) tt
-  | inr there ↦ pick (mapping_of (layout 9 3 false) w) (right (w == 0) _ (not-none there) plain)
+plain-mapping : (layout : Layout) (w : ℕ) → is_plain_entry w (mapping_of layout w) ≡ true → IsPlainMapping (mapping_of layout w)
+plain-mapping layout w plain = elim (cases_eq w 0) [
+  | inl none ↦ subst IsPlainMapping (sym (ap (mapping_of layout) none ∙ zero-word layout)) tt
+  | inr there ↦ pick (mapping_of layout w) (right (w == 0) _ (not-none there) plain)
 ]
   where
     not-none : w ≢ 0 → (w == 0) ≡ false
@@ -289,7 +281,7 @@ accepted-plain f none =
           let row = all-below (fields_of f).l1_entries (λ k. (l2_table f (fields_of f) k == 0) || all_below (words_of_cluster (fields_of f)) (λ m. is_plain_entry (word f (l2_table f (fields_of f) k) m) (mapping_of (layout_of (fields_of f)) (word f (l2_table f (fields_of f) k) m)))) words.2 i live.in_l1 in
           let here : all_below (words_of_cluster (fields_of f)) (λ m. is_plain_entry (word f (l2_table f (fields_of f) i) m) (mapping_of (layout_of (fields_of f)) (word f (l2_table f (fields_of f) i) m))) ≡ true = there _ _ (not-none (l2_table f (fields_of f) i) live.is_there) row in
           let one = all-below (words_of_cluster (fields_of f)) (λ m. is_plain_entry (word f (l2_table f (fields_of f) i) m) (mapping_of (layout_of (fields_of f)) (word f (l2_table f (fields_of f) i) m))) here j live.in_table in
-          subst (λ l. is_plain_entry (word f (l2_table f (fields_of f) i) j) (mapping_of l (word f (l2_table f (fields_of f) i) j)) ≡ true → IsPlainMapping (mapping_of l (word f (l2_table f (fields_of f) i) j))) (sym (first_layout f (fields_of f) form)) (plain-mapping (word f (l2_table f (fields_of f) i) j)) one;
+          plain-mapping (layout_of (fields_of f)) (word f (l2_table f (fields_of f) i) j) one;
     }
   where
     three : (a b c : Bool) → (a && b && c) ≡ true → (a ≡ true) × (b ≡ true) × (c ≡ true)
@@ -324,14 +316,18 @@ accepted-holds s H a keeps consistent accepts =
     )
 
 -- Where the storage is only read, what is found of its tables is found of the file.
-pub tables-scanned : (first second third : StorageState) (h : Fields) (blocks tables all r : Found) (block entries : ℕ) → header_fault (file first) ≡ None → h ≡ fields_of (file first) → Kept first second → Kept second third
-    → blocks ≡ verdict (all_below 64 (λ i. block_word_sound 9 (word (file first) h.refcount_table_offset i))) true → entries ≡ h.l1_entries → tables ≡ tables_verdict (file second) h.l1_offset entries
-    → block ≡ block_offset (word (file third) h.refcount_table_offset 0) → all ≡ worse blocks tables → r ≡ worse all (verdict true (not (block == 0))) → r ≡ verdict (tables_sound (file first) h) (has_plain_words (file first) h)
-tables-scanned first second third h blocks tables all r block entries passed fields read read' is_blocks many is_tables is_block is_all is =
+pub tables-scanned : (first second third : StorageState) (h : Fields) (blocks tables all r : Found) (block reftable l1 entries : ℕ) → header_fault (file first) ≡ None → h ≡ fields_of (file first)
+    → reftable ≡ h.refcount_table_offset → l1 ≡ h.l1_offset → entries ≡ h.l1_entries → Kept first second → Kept second third
+    → blocks ≡ verdict (all_below 64 (λ i. block_word_sound h.cluster_bits (word (file first) reftable i))) true → tables ≡ tables_verdict (layout_of h) (file second) l1 entries
+    → block ≡ block_offset (word (file third) reftable 0) → all ≡ worse blocks tables → r ≡ worse all (verdict true (not (block == 0))) → r ≡ verdict (tables_sound (file first) h) (has_plain_words (file first) h)
+tables-scanned first second third h blocks tables all r block reftable l1 entries passed fields there l1_there many read read' is_blocks is_tables is_block is_all is =
     let form : IsFirstForm h = subst IsFirstForm (sym fields) (header-form (file first) passed) in
     let same : file third ≡ file first = kept-file second third read' ∙ kept-file first second read in
-    all-found (file first) h form blocks tables all r block is_blocks (is_tables ∙ (ap (tables_verdict (file second) h.l1_offset) many ∙ ap (λ f. tables_verdict f h.l1_offset h.l1_entries) (kept-file first second read)))
-    (is_block ∙ ap (λ f. block_offset (word f h.refcount_table_offset 0)) same) is_all is
+    let is_blocks' = rw there at is_blocks in
+    let is_tables' = rw (l1_there, many) at is_tables in
+    let is_block' = rw there at is_block in
+    all-found (file first) h form blocks tables all r block is_blocks' (is_tables' ∙ ap (λ f. tables_verdict (layout_of h) f h.l1_offset h.l1_entries) (kept-file first second read))
+    (is_block' ∙ ap (λ f. block_offset (word f h.refcount_table_offset 0)) same) is_all is
 
 -- the first bytes of a file, in a buffer
 start-same : (bytes buf : List ℕ) → Reads bytes 0 buf → 512 ≤ length buf → Same (bytes_of bytes) (bytes_of buf) 0 512

@@ -1,16 +1,15 @@
 -- What is found of words, one after the other.
-use Rattle.std.proofs.Common.{◌≡◌, ◌≢◌, ℕ, zero, suc, ◌+◌, ◌*◌, ◌<◌, ◌≤◌, refl, arith, ap, sym, ◌∙◌, add-one, List, length}
-use Rattle.std.specs.Prelude.{Bool, true, false, ◌&&◌, ◌||◌, ◌==◌, not}
+use Rattle.std.proofs.Common.{◌≡◌, ◌≢◌, ℕ, zero, suc, ◌+◌, ◌*◌, ◌<◌, ◌≤◌, ◌^◌, refl, arith, ap, sym, ◌∙◌, add-one, List, length}
+use Rattle.std.specs.Prelude.{Bool, true, false, ◌&&◌, ◌||◌, ◌==◌, not, nat_le, if◌then◌else◌, IsTrue, Option}
 use Rattle.std.proofs.lemmas.Bool.Decides.{nat_tests}
 use Rattle.imago_storage.specs.State.{StorageState}
 use Rattle.imago_storage.specs.Calls.{Kept, Reads}
 use Rattle.qcow2_types.specs.Bytes.{Bytes, be, word, bytes_of, all_below}
-use Rattle.qcow2_types.specs.Words.{mapping_of, is_damaged, l1_word_sound, block_word_sound, table_offset}
+use Rattle.qcow2_types.specs.Words.{Layout, mapping_of, is_damaged, l1_word_sound, block_word_sound, table_offset, data_at, unmapped, zeroes, packed, damaged, has_bit, is_copied, names_cluster, standard_word_sound, packed_place}
 use Rattle.qcow2_types.proofs.Splices.{be-same}
 use Rattle.qcow2_types.proofs.Bounded.{all-below}
-use Rattle.qimg.specs.View.{layout}
 use Rattle.qimg.specs.First.{file}
-use Rattle.qimg.specs.Opening.{verdict, worse, is_plain_table_word, is_plain_entry, table_sound, table_plain, word_sound, word_plain, tables_verdict}
+use Rattle.qimg.specs.Opening.{verdict, worse, is_copied_data, is_plain_table_word, is_plain_entry, table_sound, table_plain, word_sound, word_plain, tables_verdict}
 use Rattle.qimg.specs.declared.first.opening.Found.{Found}
 use Rattle.qimg.specs.declared.first.opening.Found.TheVariants.{Plain}
 
@@ -108,21 +107,21 @@ word-read_start bytes buf table i reads fits =
     sym (word-start (bytes_of buf) i) ∙ (word-read bytes buf table 0 i reads' fits ∙ ap (word (bytes_of bytes) table) none')
 
 -- whether a table's words have a meaning
-pub sound-read : (bytes buf : List ℕ) (table : ℕ) → Reads bytes table buf → 512 ≤ length buf → table_sound (bytes_of buf) 0 ≡ table_sound (bytes_of bytes) table
+pub sound-read : (layout : Layout) (bytes buf : List ℕ) (table : ℕ) → Reads bytes table buf → 512 ≤ length buf → table_sound layout (bytes_of buf) 0 ≡ table_sound layout (bytes_of bytes) table
 unfolding table_sound
-sound-read bytes buf table reads long = all_below-same 64 _ _ (λ i lt. ap (λ w. not (is_damaged (mapping_of (layout 9 3 false) w))) (word-read_start bytes buf table i reads (omega arith)))
+sound-read layout bytes buf table reads long = all_below-same 64 _ _ (λ i lt. ap (λ w. not (is_damaged (mapping_of layout w))) (word-read_start bytes buf table i reads (omega arith)))
 
 -- whether they are plain
-pub plain-read : (bytes buf : List ℕ) (table : ℕ) → Reads bytes table buf → 512 ≤ length buf → table_plain (bytes_of buf) 0 ≡ table_plain (bytes_of bytes) table
+pub plain-read : (layout : Layout) (bytes buf : List ℕ) (table : ℕ) → Reads bytes table buf → 512 ≤ length buf → table_plain layout (bytes_of buf) 0 ≡ table_plain layout (bytes_of bytes) table
 unfolding table_plain
-plain-read bytes buf table reads long = all_below-same 64 _ _ (λ i lt. ap (λ w. is_plain_entry w (mapping_of (layout 9 3 false) w)) (word-read_start bytes buf table i reads (omega arith)))
+plain-read layout bytes buf table reads long = all_below-same 64 _ _ (λ i lt. ap (λ w. is_plain_entry w (mapping_of layout w)) (word-read_start bytes buf table i reads (omega arith)))
 
 -- a word of the L1 table that names no L2 table, and one that does
-pub found-alone : (f : Bytes) (w : ℕ) (r : Found) → table_offset w ≡ 0 → r ≡ verdict (l1_word_sound 9 w) (is_plain_table_word w) → r ≡ verdict (word_sound f w) (word_plain f w)
+pub found-alone : (layout : Layout) (f : Bytes) (w : ℕ) (r : Found) → table_offset w ≡ 0 → r ≡ verdict (l1_word_sound layout.cluster_bits w) (is_plain_table_word w) → r ≡ verdict (word_sound layout f w) (word_plain layout f w)
 unfolding word_sound word_plain
-found-alone f w r none is =
+found-alone layout f w r none is =
     let here : (table_offset w == 0) ≡ true = grind (arith, nat_tests) in
-    is ∙ (alone (l1_word_sound 9 w) (is_plain_table_word w) ∙ ap (λ b. verdict (l1_word_sound 9 w && (b || table_sound f (table_offset w))) (is_plain_table_word w && (b || table_plain f (table_offset w)))) (sym here))
+    is ∙ (alone (l1_word_sound layout.cluster_bits w) (is_plain_table_word w) ∙ ap (λ b. verdict (l1_word_sound layout.cluster_bits w && (b || table_sound layout f (table_offset w))) (is_plain_table_word w && (b || table_plain layout f (table_offset w)))) (sym here))
   where
     alone : (a p : Bool) → verdict a p ≡ verdict (a && true) (p && true)
     alone true true = refl
@@ -130,12 +129,12 @@ found-alone f w r none is =
     alone false p = refl
 
 -- the worse of the word and the table that it names
-pub found-table : (f : Bytes) (w : ℕ) (x y r : Found) → table_offset w ≢ 0 → x ≡ verdict (l1_word_sound 9 w) (is_plain_table_word w) → y ≡ verdict (table_sound f (table_offset w)) (table_plain f (table_offset w)) → r ≡ worse x y → r ≡ verdict (word_sound f w) (word_plain f w)
+pub found-table : (layout : Layout) (f : Bytes) (w : ℕ) (x y r : Found) → table_offset w ≢ 0 → x ≡ verdict (l1_word_sound layout.cluster_bits w) (is_plain_table_word w) → y ≡ verdict (table_sound layout f (table_offset w)) (table_plain layout f (table_offset w)) → r ≡ worse x y → r ≡ verdict (word_sound layout f w) (word_plain layout f w)
 unfolding word_sound word_plain
-found-table f w x y r there first second is =
+found-table layout f w x y r there first second is =
     let here : (table_offset w == 0) ≡ false = grind (arith, nat_tests) in
-    both-found (l1_word_sound 9 w) (table_sound f (table_offset w)) (is_plain_table_word w) (table_plain f (table_offset w)) x y r first second is
-    ∙ ap (λ b. verdict (l1_word_sound 9 w && (b || table_sound f (table_offset w))) (is_plain_table_word w && (b || table_plain f (table_offset w)))) (sym here)
+    both-found (l1_word_sound layout.cluster_bits w) (table_sound layout f (table_offset w)) (is_plain_table_word w) (table_plain layout f (table_offset w)) x y r first second is
+    ∙ ap (λ b. verdict (l1_word_sound layout.cluster_bits w && (b || table_sound layout f (table_offset w))) (is_plain_table_word w && (b || table_plain layout f (table_offset w)))) (sym here)
 
 -- calls that keep the storage's bytes
 pub kept-both : (a b c : StorageState) → Kept a b → Kept b c → Kept a c
@@ -154,25 +153,46 @@ pub not-same : (a b : ℕ) → a ≢ b → (a == b) ≡ false
 not-same a b apart = grind (arith, nat_tests)
 
 -- what is found of a buffer is found of the file
-pub table-found_read : (bytes buf : List ℕ) (at table : ℕ) (r : Found) → Reads bytes at buf → 512 ≤ length buf → at ≡ table → r ≡ verdict (table_sound (bytes_of buf) 0) (table_plain (bytes_of buf) 0)
-    → r ≡ verdict (table_sound (bytes_of bytes) table) (table_plain (bytes_of bytes) table)
-table-found_read bytes buf at table r reads long same is =
-    is ∙ (ap (λ b. verdict b (table_plain (bytes_of buf) 0)) (sound-read bytes buf at reads long) ∙ (ap (verdict (table_sound (bytes_of bytes) at)) (plain-read bytes buf at reads long)
-    ∙ ap (λ t. verdict (table_sound (bytes_of bytes) t) (table_plain (bytes_of bytes) t)) same))
+pub table-found_read : (layout : Layout) (bytes buf : List ℕ) (at table : ℕ) (r : Found) → Reads bytes at buf → 512 ≤ length buf → at ≡ table → r ≡ verdict (table_sound layout (bytes_of buf) 0) (table_plain layout (bytes_of buf) 0)
+    → r ≡ verdict (table_sound layout (bytes_of bytes) table) (table_plain layout (bytes_of bytes) table)
+table-found_read layout bytes buf at table r reads long same is =
+    is ∙ (ap (λ b. verdict b (table_plain layout (bytes_of buf) 0)) (sound-read layout bytes buf at reads long) ∙ (ap (verdict (table_sound layout (bytes_of bytes) at)) (plain-read layout bytes buf at reads long)
+    ∙ ap (λ t. verdict (table_sound layout (bytes_of bytes) t) (table_plain layout (bytes_of bytes) t)) same))
 
 -- the same of the refcount table
-pub blocks-found_read : (bytes buf : List ℕ) (table : ℕ) (r : Found) → Reads bytes table buf → 512 ≤ length buf → r ≡ verdict (all_below 64 (λ i. block_word_sound 9 (word (bytes_of buf) 0 i))) true
-    → r ≡ verdict (all_below 64 (λ i. block_word_sound 9 (word (bytes_of bytes) table i))) true
-blocks-found_read bytes buf table r reads long is =
-    is ∙ ap (λ b. verdict b true) (all_below-same 64 _ _ (λ i lt. ap (block_word_sound 9) (word-read_start bytes buf table i reads (omega arith))))
+pub blocks-found_read : (bits : ℕ) (bytes buf : List ℕ) (table : ℕ) (r : Found) → Reads bytes table buf → 512 ≤ length buf → r ≡ verdict (all_below 64 (λ i. block_word_sound bits (word (bytes_of buf) 0 i))) true
+    → r ≡ verdict (all_below 64 (λ i. block_word_sound bits (word (bytes_of bytes) table i))) true
+blocks-found_read bits bytes buf table r reads long is =
+    is ∙ ap (λ b. verdict b true) (all_below-same 64 _ _ (λ i lt. ap (block_word_sound bits) (word-read_start bytes buf table i reads (omega arith))))
 
 -- the words of the L1 table
-pub tables-none : (f : Bytes) (table : ℕ) → Plain ≡ tables_verdict f table 0
+pub tables-none : (layout : Layout) (f : Bytes) (table : ℕ) → Plain ≡ tables_verdict layout f table 0
 unfolding tables_verdict
-tables-none f table = found-none _ _
+tables-none layout f table = found-none _ _
 
 -- one word more of the L1 table
-pub tables-more : (f : Bytes) (table n w : ℕ) (x y r : Found) → w ≡ word f table n → x ≡ verdict (word_sound f w) (word_plain f w) → y ≡ tables_verdict f table n → r ≡ worse x y → r ≡ tables_verdict f table (n + 1)
+pub tables-more : (layout : Layout) (f : Bytes) (table n w : ℕ) (x y r : Found) → w ≡ word f table n → x ≡ verdict (word_sound layout f w) (word_plain layout f w) → y ≡ tables_verdict layout f table n → r ≡ worse x y → r ≡ tables_verdict layout f table (n + 1)
 unfolding tables_verdict
-tables-more f table n w x y r at here before is =
-    found-more n (λ i. word_sound f (word f table i)) (λ i. word_plain f (word f table i)) x y r (here ∙ ap (λ v. verdict (word_sound f v) (word_plain f v)) at) before is
+tables-more layout f table n w x y r at here before is =
+    found-more n (λ i. word_sound layout f (word f table i)) (λ i. word_plain layout f (word f table i)) x y r (here ∙ ap (λ v. verdict (word_sound layout f v) (word_plain layout f v)) at) before is
+
+-- A word of an L2 table that has a meaning names copied data where it names a cluster with the mark, and neither zeroes nor a
+-- compressed range.
+pub copied_data : (layout : Layout) (w : ℕ) → IsTrue (not (is_damaged (mapping_of layout w))) → is_copied_data (mapping_of layout w) ≡ (names_cluster layout w && is_copied w && not (has_bit w 62 || has_bit w 0))
+unfolding mapping_of
+copied_data layout w sound = pick (has_bit w 62) (has_bit w 63 || nat_le (2 ^ 56) (packed_place layout.cluster_bits w)) (standard_word_sound layout w) (has_bit w 0) (names_cluster layout w) (is_copied w) _ _ _ _ sound
+  where
+    neither : (n x : Bool) → false ≡ (n && x && false)
+    neither true true = refl
+    neither true false = refl
+    neither false x = refl
+
+    pick : (c a s z n x : Bool) (k o l : ℕ) (y : Option ℕ) → not (is_damaged (if c then (if a then damaged else packed o l) else if not s then damaged else if z then zeroes y x else if n then data_at k x else unmapped)) ≡ true
+        → is_copied_data (if c then (if a then damaged else packed o l) else if not s then damaged else if z then zeroes y x else if n then data_at k x else unmapped) ≡ (n && x && not (c || z))
+    pick true true s z n x k o l y h = absurd cc
+    pick true false s z n x k o l y h = neither n x
+    pick false a false z n x k o l y h = absurd cc
+    pick false a true true n x k o l y h = neither n x
+    pick false a true false true true k o l y h = refl
+    pick false a true false true false k o l y h = refl
+    pick false a true false false x k o l y h = refl

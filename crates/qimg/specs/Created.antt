@@ -7,6 +7,7 @@ use Rattle.imago_storage.specs.declared.fault.Fault.{Fault}
 use Rattle.imago_storage.specs.declared.fault.Fault.TheVariants.{Limit, Unsupported, Memory, Storage}
 use Rattle.qcow2_types.specs.Bytes.{Bytes, splice}
 use Rattle.qcow2_types.specs.Header.{Fields, Header}
+use Rattle.qcow2_types.specs.Switched.{with_size}
 use Rattle.qimg.specs.First.{file}
 
 -- how many words of the L1 table cover a disk of this size: each covers 64 clusters of 512 bytes
@@ -113,10 +114,6 @@ blank_header entries = record {
       ∷ record { kind = 0; bit = 2; name = codes "external data file" }
       ∷ [];
 }
-
--- a header with another size
-abbrev pub with_size : Header → ℕ → Header
-with_size h n = record h { fields = record h.fields { size = n } }
 
 -- the header of a new image of this size
 abbrev pub new_header : ℕ → Header

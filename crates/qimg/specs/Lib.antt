@@ -1,5 +1,3 @@
-pub mod View
-pub mod FieldsView
 pub mod First
 pub mod Requests
 pub mod Clusters

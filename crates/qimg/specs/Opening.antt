@@ -4,14 +4,13 @@ use Rattle.imago_storage.specs.State.{StorageState, Rose}
 use Rattle.imago_storage.specs.declared.fault.Fault.{Fault}
 use Rattle.imago_storage.specs.declared.fault.Fault.TheVariants.{DamagedTable, Unsupported, Memory, Storage}
 use Rattle.qcow2_types.specs.Bytes.{Bytes, word, all_below}
-use Rattle.qcow2_types.specs.Words.{Mapping, data_at, is_copied, mapping_of, is_damaged, l1_word_sound, table_offset}
+use Rattle.qcow2_types.specs.Words.{Layout, Mapping, data_at, is_copied, mapping_of, is_damaged, l1_word_sound, table_offset}
 use Rattle.std.specs.Result.{result_err}
 use Rattle.qcow2_types.specs.Header.{Fields, Rule, fields_of, header_of, first_fault, words_of_cluster, layout_of}
 use Rattle.qcow2_types.specs.Entries.{l2_table}
 use Rattle.qcow2_types.specs.Counts.{block_at}
 use Rattle.qcow2_types.specs.Consistency.{tables_sound}
 use Rattle.qimg.specs.First.{file}
-use Rattle.qimg.specs.View.{layout}
 use Rattle.qimg.specs.Created.{extension_bytes}
 use Rattle.qimg.specs.declared.first.opening.Accepted.{Accepted}
 use Rattle.qimg.specs.declared.first.opening.Found.{Found}
@@ -103,22 +102,22 @@ worse Other Damaged = Damaged
 worse Other _ = Other
 worse Plain found = found
 
--- The same of one L2 table, and of a word of the L1 table with the table that it names, in an image of the first form.
-unfoldable pub table_sound : Bytes → ℕ → Bool
-table_sound f table = all_below 64 (λ j. not (is_damaged (mapping_of (layout 9 3 false) (word f table j))))
+-- The same of one L2 table of 64 words, and of a word of the L1 table with the table that it names.
+unfoldable pub table_sound : Layout → Bytes → ℕ → Bool
+table_sound layout f table = all_below 64 (λ j. not (is_damaged (mapping_of layout (word f table j))))
 
 -- whether all its words are plain
-unfoldable pub table_plain : Bytes → ℕ → Bool
-table_plain f table = all_below 64 (λ j. is_plain_entry (word f table j) (mapping_of (layout 9 3 false) (word f table j)))
+unfoldable pub table_plain : Layout → Bytes → ℕ → Bool
+table_plain layout f table = all_below 64 (λ j. is_plain_entry (word f table j) (mapping_of layout (word f table j)))
 
 -- whether the word has a meaning, and all words of the table
-unfoldable pub word_sound : Bytes → ℕ → Bool
-word_sound f w = l1_word_sound 9 w && ((table_offset w == 0) || table_sound f (table_offset w))
+unfoldable pub word_sound : Layout → Bytes → ℕ → Bool
+word_sound layout f w = l1_word_sound layout.cluster_bits w && ((table_offset w == 0) || table_sound layout f (table_offset w))
 
 -- whether the word is plain, and all words of the table
-unfoldable pub word_plain : Bytes → ℕ → Bool
-word_plain f w = is_plain_table_word w && ((table_offset w == 0) || table_plain f (table_offset w))
+unfoldable pub word_plain : Layout → Bytes → ℕ → Bool
+word_plain layout f w = is_plain_table_word w && ((table_offset w == 0) || table_plain layout f (table_offset w))
 
 -- what is found of the first n words of the L1 table at this place, and of the L2 tables that they name
-unfoldable pub tables_verdict : Bytes → ℕ → ℕ → Found
-tables_verdict f table n = verdict (all_below n (λ i. word_sound f (word f table i))) (all_below n (λ i. word_plain f (word f table i)))
+unfoldable pub tables_verdict : Layout → Bytes → ℕ → ℕ → Found
+tables_verdict layout f table n = verdict (all_below n (λ i. word_sound layout f (word f table i))) (all_below n (λ i. word_plain layout f (word f table i)))

@@ -10,13 +10,11 @@ use std::alloc::Global;
 mod calls;
 mod clusters;
 mod create;
-mod header;
 mod opening;
 mod pieces;
 mod requests;
 #[cfg(test)]
 mod tests;
-mod words;
 mod worked;
 
 pub use calls::{Answer, Call, serve};

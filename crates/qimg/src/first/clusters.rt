@@ -9,8 +9,8 @@ ghost use Rattle.qimg.specs.Pieces.{ShowsBuffer};
 ghost use Rattle.qimg.specs.Clusters.{IsFreeAt, NoneFreeAt, Takes, HasTable, Writes, NoCluster};
 
 use super::requests::{put, read_at, word_at};
-use super::words::offset_in;
 use imago_storage::{Fault, Storage};
+use qcow2_metadata::words::offset_in;
 use std::alloc::Global;
 
 /// Where an image has its L1 table and its first refcount block, in bytes.

@@ -6,8 +6,8 @@ ghost use Rattle.qcow2_types.specs.Bytes.{be, splice};
 ghost use Rattle.qimg.specs.First.{file};
 ghost use Rattle.qimg.specs.Requests.{Puts, NotPut};
 
-use super::words::u64_at;
 use imago_storage::{Fault, Storage, StorageExt};
+use qcow2_metadata::words;
 use std::alloc::Global;
 
 /// Fills the buffer from a place on.
@@ -36,7 +36,7 @@ pub fn word_at<S: Storage>(image: &mut S, alloc: Global, at: u64) -> Result<u64,
 {
     let mut bytes = [0u8; 8];
     read_at(image, alloc, &mut bytes, at)?;
-    Ok(u64_at(&bytes, 0))
+    Ok(words::word_at(&bytes, 0))
 }
 
 /// Writes the bytes at a place, and notes that the call has changed the image.

@@ -1,5 +1,7 @@
-use Rattle.std.proofs.Common.{◌≤◌, ◌∙◌, ap, sym, length, arith}
+use Rattle.std.proofs.Common.{◌≤◌, ◌∙◌, ap, sym, length, arith, true}
+use Rattle.std.specs.Result.{result_err}
 use Rattle.qcow2_types.specs.Header.{fields_of}
+use Rattle.qcow2_types.proofs.HeaderFrame.{header-fields}
 use Rattle.qimg.specs.First.{file}
 use Rattle.qimg.specs.Opening.{header_fault}
 use Rattle.qimg.proofs.ScanLemmas.{kept-file}
@@ -10,19 +12,21 @@ pub returns-in-Some-clause-err : goal.returns-in-Some-clause-err
 returns-in-Some-clause-err g c =
     let long : 512 ≤ length c.read_at.new.buf = omega arith in
     header-refused (g.S.Storage.state c.args.image.now) (g.S.Storage.state c.read_at.new.image) c.in-Some.fault
-    (own-alone (file (g.S.Storage.state c.args.image.now)) c.requires.loads ∙ (sym (start-own (g.S.Storage.state c.args.image.now).bytes c.read_at.new.buf c.in_ok-read_at.ensures.read long) ∙ (sym c.start_fault.ensures ∙ c.in-Some.is)))
+    (own-alone (file (g.S.Storage.state c.args.image.now)) (ap result_err c.requires.loads) ∙ (sym (start-own (g.S.Storage.state c.args.image.now).bytes c.read_at.new.buf c.in_ok-read_at.ensures.read long) ∙ (sym c.start_fault.ensures ∙ c.in-Some.is)))
+
+pub start_fault-requires-clause-fields : goal.start_fault-requires-clause-fields
+start_fault-requires-clause-fields g c =
+    let long : 512 ≤ length c.read_at.new.buf = omega arith in
+    header-fields true (file (g.S.Storage.state c.args.image.now)) c.args.header.now c.requires.loads ∙ sym (start-fields (g.S.Storage.state c.args.image.now).bytes c.read_at.new.buf c.in_ok-read_at.ensures.read long)
 
 pub accept_tables-requires-clause-fields : goal.accept_tables-requires-clause-fields
-accept_tables-requires-clause-fields g c =
-    let long : 512 ≤ length c.read_at.new.buf = omega arith in
-    c.fields_at_start-header.ensures
-    ∙ (start-fields (g.S.Storage.state c.args.image.now).bytes c.read_at.new.buf c.in_ok-read_at.ensures.read long ∙ ap fields_of (sym (kept-file _ _ c.in_ok-read_at.ensures.kept)))
+accept_tables-requires-clause-fields g c = header-fields true (file (g.S.Storage.state c.args.image.now)) c.args.header.now c.requires.loads ∙ ap fields_of (sym (kept-file _ _ c.in_ok-read_at.ensures.kept))
 
 pub accept_tables-requires-clause-passed : goal.accept_tables-requires-clause-passed
 accept_tables-requires-clause-passed g c =
     let long : 512 ≤ length c.read_at.new.buf = omega arith in
     ap header_fault (kept-file _ _ c.in_ok-read_at.ensures.kept)
-    ∙ (own-alone (file (g.S.Storage.state c.args.image.now)) c.requires.loads
+    ∙ (own-alone (file (g.S.Storage.state c.args.image.now)) (ap result_err c.requires.loads)
     ∙ (sym (start-own (g.S.Storage.state c.args.image.now).bytes c.read_at.new.buf c.in_ok-read_at.ensures.read long) ∙ (sym c.start_fault.ensures ∙ c.in_default.is)))
 
 pub returns-clause-small : goal.returns-clause-small

@@ -10,4 +10,4 @@ loop-i-init c = found-none_sound _
 
 pub loop-i-preserved : goal.loop-i-preserved
 loop-i-preserved c =
-    found-more_sound c.loop-i.i _ _ _ _ (c.block_word.ensures ∙ ap (λ w. verdict (block_word_sound 9 w) true) (c.u64_at.ensures ∙ word-start _ _)) c.loop-i.invariant c.worse_of-found.ensures
+    found-more_sound c.loop-i.i _ _ _ _ (c.block_word.ensures ∙ ap (λ w. verdict (block_word_sound c.args.header.now.fields.cluster_bits w) true) (c.word_at.ensures ∙ word-start _ _)) c.loop-i.invariant c.worse_of-found.ensures

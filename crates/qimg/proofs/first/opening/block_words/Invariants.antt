@@ -7,4 +7,4 @@ use Rattle.qimg.proofs.first.opening.block_words.Given as goal
 
 -- what is found of the words so far
 abbrev pub invariant-loop-i : goal.invariant-loop-i
-invariant-loop-i l = l.found ≡ verdict (all_below l.i (λ k. block_word_sound 9 (word (bytes_of l.bytes) 0 k))) true
+invariant-loop-i l = l.found ≡ verdict (all_below l.i (λ k. block_word_sound l.header.fields.cluster_bits (word (bytes_of l.bytes) 0 k))) true

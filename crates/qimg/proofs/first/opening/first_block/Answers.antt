@@ -8,4 +8,4 @@ pub returns-clause-block : goal.returns-clause-block
 unfolding word
 returns-clause-block g c =
     let none : c.args.table + 8 * 0 ≡ c.args.table = omega arith in
-    c.block_in.ensures ∙ (ap block_offset c.in_ok-word_at.ensures.value ∙ ap (λ p. block_offset (be (file (g.S.Storage.state c.args.image.now)) p 8)) (sym none))
+    c.block_offset_in.ensures ∙ (ap block_offset c.in_ok-word_at.ensures.value ∙ ap (λ p. block_offset (be (file (g.S.Storage.state c.args.image.now)) p 8)) (sym none))

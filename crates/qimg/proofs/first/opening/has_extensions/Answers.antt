@@ -1,4 +1,4 @@
-use Rattle.std.proofs.Common.{◌≡◌, ◌+◌, ◌∙◌, arith, sym, subst, eq-eqb}
+use Rattle.std.proofs.Common.{◌≡◌, ◌+◌, arith, sym, subst, eq-eqb}
 use Rattle.std.specs.Prelude.{◌==◌, true, slice_index}
 use Rattle.qcow2_types.specs.Bytes.{bytes_of, all_below}
 use Rattle.qimg.specs.Created.{extension_bytes}
@@ -9,17 +9,16 @@ use Rattle.qimg.proofs.first.opening.has_extensions.Goals as goal
 pub loop-i-init : goal.loop-i-init
 loop-i-init c = all_below-none _
 
-pub returns-then-byte_at-i : goal.returns-then-byte_at-i
+pub returns-then-start-i : goal.returns-then-start-i
 unfolding has_new_extensions extension_bytes
-returns-then-byte_at-i c =
-    sym (tests-miss 160 c.loop-i.i (λ k. bytes_of c.args.bytes.now (104 + k) == slice_index extension_bytes k) c.loop-i-test.true (not-same _ _ (λ e. c.if-byte_at-i.true (c.byte_at.ensures ∙ e))))
+returns-then-start-i c = sym (tests-miss 160 c.loop-i.i (λ k. bytes_of c.args.start.now (104 + k) == slice_index extension_bytes k) c.loop-i-test.true (not-same _ _ c.if-start-i.true))
 
 pub loop-i-preserved : goal.loop-i-preserved
 unfolding extension_bytes
-loop-i-preserved c = tests-more c.loop-i.i _ (eq-eqb _ _ (sym c.byte_at.ensures ∙ c.if-byte_at-i.false)) c.loop-i.invariant
+loop-i-preserved c = tests-more c.loop-i.i _ (eq-eqb _ _ c.if-start-i.false) c.loop-i.invariant
 
 pub returns : goal.returns
 unfolding has_new_extensions
 returns c =
     let all : c.loop-i.i ≡ 160 = omega arith in
-    sym (subst (λ n. all_below n (λ k. bytes_of c.args.bytes.now (104 + k) == slice_index extension_bytes k) ≡ true) all c.loop-i.invariant)
+    sym (subst (λ n. all_below n (λ k. bytes_of c.args.start.now (104 + k) == slice_index extension_bytes k) ≡ true) all c.loop-i.invariant)

@@ -6,4 +6,4 @@ use Rattle.qimg.proofs.first.opening.has_extensions.Given as goal
 
 -- The bytes so far are those of a new image.
 abbrev pub invariant-loop-i : goal.invariant-loop-i
-invariant-loop-i l = all_below l.i (λ k. bytes_of l.bytes (104 + k) == slice_index extension_bytes k) ≡ true
+invariant-loop-i l = all_below l.i (λ k. bytes_of l.start (104 + k) == slice_index extension_bytes k) ≡ true

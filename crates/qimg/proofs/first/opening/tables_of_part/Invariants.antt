@@ -1,5 +1,6 @@
 use Rattle.std.proofs.Common.{◌≡◌, ◌+◌}
 use Rattle.imago_storage.specs.Calls.{Kept}
+use Rattle.qcow2_types.specs.Header.{layout_of}
 use Rattle.qimg.specs.First.{file}
 use Rattle.qimg.specs.Opening.{tables_verdict}
 use Rattle.qimg.proofs.first.opening.tables_of_part.Given as goal
@@ -9,5 +10,5 @@ abbrev pub invariant-loop-i : goal.invariant-loop-i
 invariant-loop-i g l = record {
   kept : Kept (g.S.Storage.state l.fn.image) (g.S.Storage.state l.image);
   faults : (g.S.Storage.state l.image).faults ≡ (g.S.Storage.state l.fn.image).faults;
-  found : l.found ≡ tables_verdict (file (g.S.Storage.state l.fn.image)) l.fn.table (l.fn.first + l.i);
+  found : l.found ≡ tables_verdict (layout_of l.header.fields) (file (g.S.Storage.state l.fn.image)) l.fn.table (l.fn.first + l.i);
 }

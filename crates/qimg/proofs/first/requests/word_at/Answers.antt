@@ -5,4 +5,4 @@ use Rattle.qimg.proofs.first.requests.word_at.Goals as goal
 pub returns-clause-value : goal.returns-clause-value
 returns-clause-value g c =
     let long : 8 ≤ length c.read_at.new.buf = omega arith in
-    c.u64_at.ensures ∙ number-read _ c.read_at.new.buf c.args.at 8 (c.in_ok-read_at.ensures.read) long
+    c.word_at.ensures ∙ number-read _ c.read_at.new.buf c.args.at 8 (c.in_ok-read_at.ensures.read) long

@@ -1,0 +1,5 @@
+use Rattle.qcow2_types.proofs.SizeSwitch.{size-switched}
+use Rattle.qcow2_types.proofs.steps.switching_the_size.Goals as goal
+
+pub returns : goal.returns
+returns c = size-switched

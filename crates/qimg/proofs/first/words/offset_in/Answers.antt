@@ -1,5 +1,0 @@
-use Rattle.std.proofs.lemmas.Nat.Bits.{and_high}
-use Rattle.qimg.proofs.first.words.offset_in.Goals as goal
-
-pub returns : goal.returns
-returns c = and_high c.args.word 47 9
