@@ -384,12 +384,16 @@ pub fn accept<S: Storage>(image: &mut S, alloc: Global) -> Result<Accepted, Faul
     }
 }
 
+// Where an allocation is refused a body ends with `Fault::Memory`, and its test runs it once more: so each test passes
+// whichever one allocation is refused, and fails where a call gives up with memory left.
 #[cfg(test)]
 mod tests {
-    use super::super::alignment;
+    use super::super::calls::serve;
     use super::super::create::create;
+    use super::super::{Disk, alignment};
     use super::*;
     use imago_storage::{MemStorage, StorageExt};
+    use std::process::Abort;
     use std::test::Fail;
 
     // A storage in memory has a small unit, so `accept` can be asked.
@@ -398,19 +402,25 @@ mod tests {
         accept(image, alloc)
     }
 
-    // Why it is refused, if it is; or memory was wanting.
-    fn found_in(image: &mut MemStorage, alloc: Global) -> Result<Option<Fault>, Fault> {
-        match taken(image, alloc) {
+    // Why an image is refused, if it is; or memory was wanting.
+    fn refused(alloc: Global, image: MemStorage) -> Result<Option<Fault>, Fault> {
+        match Disk::open(alloc, image) {
             Err(Fault::Memory) => Err(Fault::Memory),
             answer => Ok(answer.err()),
         }
     }
 
-    // What a new image of 65,536 bytes is refused with once these bytes are written into it.
-    fn refusal(alloc: Global, bytes: &[u8], at: u64) -> Result<Option<Fault>, Fault> {
+    // A new image of 65,536 bytes with these bytes written into it.
+    fn changed(alloc: Global, bytes: &[u8], at: u64) -> Result<MemStorage, Fault> {
         let mut image = create(alloc, MemStorage::new(alloc), 65536)?;
         image.write(alloc, bytes, at)?;
-        found_in(&mut image, alloc)
+        Ok(image)
+    }
+
+    // What such an image is refused with.
+    fn refusal(alloc: Global, bytes: &[u8], at: u64) -> Result<Option<Fault>, Fault> {
+        let image = changed(alloc, bytes, at)?;
+        refused(alloc, image)
     }
 
     // The same of an image whose first word of the first L2 table names cluster 5.
@@ -419,62 +429,90 @@ mod tests {
         image.write(alloc, &[128, 0, 0, 0, 0, 0, 8, 0], 1536)?;
         image.write(alloc, &[128, 0, 0, 0, 0, 0, 10, 0], 2048)?;
         image.write(alloc, bytes, at)?;
-        found_in(&mut image, alloc)
+        refused(alloc, image)
     }
 
-    // This is the answer, or memory was wanting.
-    fn is_answer(answer: Result<Option<Fault>, Fault>, wanted: Option<Fault>) -> bool {
-        match answer {
-            Ok(found) => found == wanted,
-            Err(fault) => fault == Fault::Memory,
+    // What a list of calls of such an image is refused with.
+    fn refusal_of_calls(alloc: Global, bytes: &[u8], at: u64) -> Result<Option<Fault>, Fault> {
+        let image = changed(alloc, bytes, at)?;
+        match serve(alloc, image, &[]) {
+            Err(Fault::Memory) => Err(Fault::Memory),
+            answer => Ok(answer.err()),
         }
+    }
+
+    fn new_image(rt: &impl Abort, alloc: Global) -> Result<(), Fault> {
+        let mut image = create(alloc, MemStorage::new(alloc), 65536)?;
+        let accepted = taken(&mut image, alloc)?;
+        assert_eq!(rt; accepted.size, 65536);
+        assert_eq!(rt; accepted.places.l1_offset, 1536);
+        assert_eq!(rt; accepted.places.l1_entries, 2);
+        assert_eq!(rt; accepted.places.block, 1024);
+        assert_eq!(rt; Disk::open(alloc, image)?.size(), 65536);
+        Ok(())
     }
 
     #[test]
     fn a_new_image_is_taken(rt: HostRuntime) -> Result<(), Fail> {
         let alloc = rt.alloc();
-        let found = match create(alloc, MemStorage::new(alloc), 65536) {
-            Ok(mut image) => taken(&mut image, alloc),
-            Err(fault) => Err(fault),
-        };
-        match found {
-            Ok(accepted) => {
-                assert_eq!(rt; accepted.size, 65536);
-                assert_eq!(rt; accepted.places.l1_offset, 1536);
-                assert_eq!(rt; accepted.places.l1_entries, 2);
-                assert_eq!(rt; accepted.places.block, 1024);
-            }
-            Err(fault) => assert_eq!(rt; fault, Fault::Memory),
+        match new_image(&rt, alloc) {
+            Err(Fault::Memory) => new_image(&rt, alloc)?,
+            answer => answer?,
         }
+        Ok(())
+    }
+
+    fn refusals(rt: &impl Abort, alloc: Global) -> Result<(), Fault> {
+        let header = Some(Fault::DamagedHeader);
+        let other = Some(Fault::Unsupported);
+        let table = Some(Fault::DamagedTable);
+        // no magic number, an extension that runs past its area, a snapshot, and an odd byte of the extensions
+        assert_eq!(rt; refusal(alloc, &[0], 0)?, header);
+        assert_eq!(rt; refusal(alloc, &[255], 108)?, header);
+        assert_eq!(rt; refusal(alloc, &[1], 63)?, other);
+        assert_eq!(rt; refusal(alloc, &[1], 263)?, other);
+        // a size above 2^63 - 1
+        assert_eq!(rt;
+            refusal(alloc, &[128], 24)?,
+            Some(Fault::Limit((1 << 63) + 65536))
+        );
+        // words with a reserved bit, one that isn't copied, and no first block
+        assert_eq!(rt; refusal(alloc, &[1], 1543)?, table);
+        assert_eq!(rt; refusal(alloc, &[1], 1023)?, table);
+        assert_eq!(rt; refusal(alloc, &[8], 1542)?, other);
+        assert_eq!(rt; refusal(alloc, &[0], 518)?, other);
+        assert_eq!(rt; refusal_of_calls(alloc, &[0], 0)?, header);
+        assert_eq!(rt; refusal_of_calls(alloc, &[1], 63)?, other);
+        assert_eq!(rt; refusal_of_calls(alloc, &[1], 1543)?, table);
         Ok(())
     }
 
     #[test]
     fn others_are_refused(rt: HostRuntime) -> Result<(), Fail> {
         let alloc = rt.alloc();
-        let other = Some(Fault::Unsupported);
-        let table = Some(Fault::DamagedTable);
-        // no magic number, an extension that runs past its area, a snapshot, and an odd byte of the extensions
-        assert!(rt; is_answer(refusal(alloc, &[0], 0), Some(Fault::DamagedHeader)));
-        assert!(rt; is_answer(refusal(alloc, &[255], 108), Some(Fault::DamagedHeader)));
-        assert!(rt; is_answer(refusal(alloc, &[1], 63), other));
-        assert!(rt; is_answer(refusal(alloc, &[1], 263), other));
-        // words with a reserved bit, one that isn't copied, and no first block
-        assert!(rt; is_answer(refusal(alloc, &[1], 1543), table));
-        assert!(rt; is_answer(refusal(alloc, &[1], 1023), table));
-        assert!(rt; is_answer(refusal(alloc, &[8], 1542), other));
-        assert!(rt; is_answer(refusal(alloc, &[0], 518), other));
+        match refusals(&rt, alloc) {
+            Err(Fault::Memory) => refusals(&rt, alloc)?,
+            answer => answer?,
+        }
+        Ok(())
+    }
+
+    fn entries(rt: &impl Abort, alloc: Global) -> Result<(), Fault> {
+        assert_eq!(rt; refusal_of_entry(alloc, &[128], 2048)?, None);
+        let other = refusal_of_entry(alloc, &[0], 2048)?;
+        assert_eq!(rt; other, Some(Fault::Unsupported));
+        let damaged = refusal_of_entry(alloc, &[2], 2055)?;
+        assert_eq!(rt; damaged, Some(Fault::DamagedTable));
         Ok(())
     }
 
     #[test]
     fn entries_are_judged(rt: HostRuntime) -> Result<(), Fail> {
         let alloc = rt.alloc();
-        assert!(rt; is_answer(refusal_of_entry(alloc, &[128], 2048), None));
-        let other = refusal_of_entry(alloc, &[0], 2048);
-        assert!(rt; is_answer(other, Some(Fault::Unsupported)));
-        let damaged = refusal_of_entry(alloc, &[2], 2055);
-        assert!(rt; is_answer(damaged, Some(Fault::DamagedTable)));
+        match entries(&rt, alloc) {
+            Err(Fault::Memory) => entries(&rt, alloc)?,
+            answer => answer?,
+        }
         Ok(())
     }
 }
