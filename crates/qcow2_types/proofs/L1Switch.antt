@@ -1,30 +1,27 @@
 -- The header names another L1 table, whose words are those of the old one, and then 0.
-use Rattle.std.proofs.Common.{◌≡◌, ◌≢◌, ℕ, ◌+◌, ◌*◌, ◌/◌, ◌%◌, ◌^◌, ◌<◌, ◌≤◌, refl, arith, sym, subst, ◌∙◌, ap, inl, inr}
+use Rattle.std.proofs.Common.{◌≡◌, ◌≢◌, ℕ, ◌+◌, ◌*◌, ◌/◌, ◌%◌, ◌<◌, ◌≤◌, refl, arith, sym, subst, ◌∙◌, ap, inl, inr}
 use Rattle.std.specs.Prelude.{true, false, ◌⊎◌, nat_lt, IsTrue, Ok}
 use Rattle.std.proofs.lemmas.Bool.{cases_eq, cases_lt, lt-ltb, le-ltb}
 use Rattle.std.proofs.lemmas.Bool.Decides.{nat_tests}
-use Rattle.std.proofs.Math.Nat.{pow-le-pow_right}
 use Rattle.qcow2_types.specs.Bytes.{Bytes, word, sum_below}
 use Rattle.qcow2_types.specs.Words.{Mapping, is_damaged, l1_word_sound, block_word_sound, table_offset, mapping_of}
 use Rattle.qcow2_types.proofs.Values.{entry-slot}
 use Rattle.qcow2_types.proofs.Shows.{guest-live, guest-slot-there, guest-slot-none}
-use Rattle.qcow2_types.specs.Header.{Fields, Header, Shaped, header_of, cluster_size, words_of_cluster, refcount_table_entries, layout_of}
+use Rattle.qcow2_types.specs.Header.{Fields, Header, header_of, cluster_size, words_of_cluster, refcount_table_entries, layout_of}
 use Rattle.qcow2_types.specs.Entries.{l2_table, entry}
 use Rattle.qcow2_types.specs.Counts.{block_at, count, counter}
 use Rattle.qcow2_types.specs.Slots.{slot, Live, over_slots, or_none, guest_slot, SoundWords}
-use Rattle.qcow2_types.specs.Frames.{Outside, touches, Kept, first_cluster}
+use Rattle.qcow2_types.specs.Frames.{Outside, Kept, first_cluster}
 use Rattle.qcow2_types.specs.References.{Weight, structure, of_cluster, contents, of_mapping, of_copied, meets, refs}
 use Rattle.qcow2_types.specs.Consistency.{IsConsistent}
-use Rattle.qcow2_types.proofs.Consistent.{some-words, consistent-shaped, structure-named-once, copied-named-once, named-counted, consistent-from, meets-own}
-use Rattle.qcow2_types.proofs.Frames.{header-part}
-use Rattle.qcow2_types.proofs.Named.{structure-le-refs}
-use Rattle.qcow2_types.proofs.Parts.{kept-start, touches-once, count-kept, block_at-kept}
+use Rattle.qcow2_types.proofs.Consistent.{some-words, consistent-shaped, structure-named-once, copied-named-once, named-counted, consistent-from}
+use Rattle.qcow2_types.proofs.Parts.{count-kept, block_at-kept}
 use Rattle.qcow2_types.proofs.Slots.{contents-slots}
 use Rattle.qcow2_types.proofs.Sound.{sound-words}
 use Rattle.qcow2_types.proofs.Splices.{be-same}
 use Rattle.qcow2_types.proofs.Sums.{sum-same}
 use Rattle.qcow2_types.specs.Switched.{with_l1, with_l1_table, L1Switched}
-use Rattle.qcow2_types.proofs.Switches.{sum-longer}
+use Rattle.qcow2_types.proofs.Switches.{sum-longer, cluster-long, first-named, start-kept}
 
 module _ (f g : Bytes) (H : Header) (was : IsConsistent f H) (o more : ℕ) (loads : header_of true g ≡ Ok (with_l1_table H o (H.fields.l1_entries + more))) (out : Outside f g 0 64)
     (old_words : (i : ℕ) → i < H.fields.l1_entries → word f o i ≡ word f H.fields.l1_offset i) (new_words : (i : ℕ) → H.fields.l1_entries ≤ i → i < H.fields.l1_entries + more → word f o i ≡ 0)
@@ -40,25 +37,11 @@ module _ (f g : Bytes) (H : Header) (was : IsConsistent f H) (o more : ℕ) (loa
   new = with_l1 H.fields o (H.fields.l1_entries + more)
 
   size : 512 ≤ cluster_size H.fields
-  size = let shaped : Shaped H.fields = consistent-shaped f H was in let low : 2 ^ 9 ≤ 2 ^ H.fields.cluster_bits = pow-le-pow_right (omega arith) shaped.low in omega arith
+  size = cluster-long f H was
 
   -- the structure beside the header is kept
   kept : Kept f g H.fields first_cluster
-  kept =
-      let s : 512 ≤ cluster_size H.fields = size in
-      let once : structure f H.fields (touches 0 64) ≤ 1 = touches-once f H.fields 0 0 64 (was.structure_apart 0) (omega arith) (omega arith) in
-      kept-start f g H.fields 0 64 out (omega arith) once (omega arith)
-
-  -- the first cluster is named
-  first-named : 1 ≤ refs f H.fields 0
-  first-named =
-      let s : 512 ≤ cluster_size H.fields = size in
-      let own : meets H.fields 0 (0 * cluster_size H.fields) (cluster_size H.fields) ≡ 1 = meets-own H.fields 0 in
-      let zeroth : 0 * cluster_size H.fields ≡ 0 = omega arith in
-      let own' : meets H.fields 0 0 (cluster_size H.fields) ≡ 1 = ap (λ p. meets H.fields 0 p (cluster_size H.fields)) (sym zeroth) ∙ own in
-      let part : meets H.fields 0 0 (cluster_size H.fields) ≤ structure f H.fields (meets H.fields 0) = header-part f H.fields (meets H.fields 0) in
-      let all : structure f H.fields (meets H.fields 0) ≤ refs f H.fields 0 = structure-le-refs f H.fields 0 in
-      omega arith
+  kept = start-kept f g H was out
 
   -- so a new table with words stands behind it
   behind : 0 < H.fields.l1_entries + more → cluster_size H.fields ≤ o
@@ -68,7 +51,7 @@ module _ (f g : Bytes) (H : Header) (was : IsConsistent f H) (o more : ℕ) (loa
         let s : 512 ≤ cluster_size H.fields = size in
         let met : meets H.fields 0 o ((H.fields.l1_entries + more) * 8) ≡ 1 = grind (arith, nat_tests) in
         let none : refs f H.fields 0 ≡ 0 = (free 0 (omega arith)).0 in
-        let one : 1 ≤ refs f H.fields 0 = first-named in
+        let one : 1 ≤ refs f H.fields 0 = first-named f H was in
         absurd (omega arith)
   ]
 

@@ -1,26 +1,25 @@
 -- The header has another size of the disk, on which nothing else depends.
-use Rattle.std.proofs.Common.{◌≡◌, ℕ, zero, suc, ◌*◌, ◌/◌, ◌^◌, ◌<◌, ◌≤◌, refl, arith, ap, sym, ◌∙◌, Ok}
+use Rattle.std.proofs.Common.{◌≡◌, ℕ, zero, suc, ◌*◌, ◌/◌, ◌<◌, ◌≤◌, refl, arith, ap, sym, ◌∙◌, Ok}
 use Rattle.std.specs.Prelude.{true, IsTrue}
-use Rattle.std.proofs.Math.Nat.{pow-le-pow_right}
 use Rattle.qcow2_types.specs.Bytes.{Bytes}
 use Rattle.qcow2_types.specs.Words.{Mapping}
-use Rattle.qcow2_types.specs.Header.{Fields, Header, Shaped, header_of, cluster_size, words_of_cluster, refcount_table_entries}
+use Rattle.qcow2_types.specs.Header.{Fields, Header, header_of, cluster_size, words_of_cluster, refcount_table_entries}
 use Rattle.qcow2_types.specs.Entries.{entry, l1_table_sound, l2_table_sound}
 use Rattle.qcow2_types.specs.Counts.{count, counter, counters_of_block}
 use Rattle.qcow2_types.specs.References.{Weight, structure, contents, of_table, of_mapping, of_copied, meets, refs}
 use Rattle.qcow2_types.specs.Consistency.{IsConsistent, tables_sound, leaks_below, leak_at}
 use Rattle.qcow2_types.specs.Disk.{shown_by, host_byte}
 use Rattle.qcow2_types.specs.Slots.{SoundWords}
-use Rattle.qcow2_types.specs.Frames.{Outside, Kept, ShowsAs, first_cluster, touches}
+use Rattle.qcow2_types.specs.Frames.{Outside, Kept, ShowsAs, first_cluster}
 use Rattle.qcow2_types.specs.Versions.{KeepsSlots}
 use Rattle.qcow2_types.specs.Switched.{sized, with_size, SizeSwitched}
-use Rattle.qcow2_types.proofs.Consistent.{some-words, consistent-shaped, structure-named-once, structure-unmapped, copied-named-once, named-counted, consistent-from, meets-own}
+use Rattle.qcow2_types.proofs.Consistent.{some-words, consistent-shaped, structure-named-once, structure-unmapped, copied-named-once, named-counted, consistent-from}
 use Rattle.qcow2_types.proofs.DataSteps.{contents-kept, kept-keeps, kept-sound}
 use Rattle.qcow2_types.proofs.Either.{structure-same, refs-kept}
-use Rattle.qcow2_types.proofs.Frames.{header-part}
-use Rattle.qcow2_types.proofs.Parts.{kept-start, touches-once, count-kept}
+use Rattle.qcow2_types.proofs.Parts.{count-kept}
 use Rattle.qcow2_types.proofs.Shows.{guest-kept, shows-outside}
 use Rattle.qcow2_types.proofs.Sound.{words-sound}
+use Rattle.qcow2_types.proofs.Switches.{cluster-long, first-weighs, start-kept}
 use Rattle.qcow2_types.proofs.Values.{entry-slot, value-same}
 
 -- what the structure weighs
@@ -49,15 +48,9 @@ unfolding entry l1_table_sound l2_table_sound
 sized-entry f h n guest = refl
 
 module _ (f g : Bytes) (H : Header) (was : IsConsistent f H) (n : ℕ) (loads : header_of true g ≡ Ok (with_size H n)) (out : Outside f g 0 64) where
-  size : 512 ≤ cluster_size H.fields
-  size = let shaped : Shaped H.fields = consistent-shaped f H was in let low : 2 ^ 9 ≤ 2 ^ H.fields.cluster_bits = pow-le-pow_right (omega arith) shaped.low in omega arith
-
   -- the structure beside the header is kept
   kept : Kept f g H.fields first_cluster
-  kept =
-      let s : 512 ≤ cluster_size H.fields = size in
-      let once : structure f H.fields (touches 0 64) ≤ 1 = touches-once f H.fields 0 0 64 (was.structure_apart 0) (omega arith) (omega arith) in
-      kept-start f g H.fields 0 64 out (omega arith) once (omega arith)
+  kept = start-kept f g H was out
 
   -- and so are all mappings,
   keeps : KeepsSlots f g H.fields
@@ -115,17 +108,12 @@ module _ (f g : Bytes) (H : Header) (was : IsConsistent f H) (n : ℕ) (loads : 
 
   -- the first cluster is the header's alone
   start-unmapped : contents f H.fields (of_mapping H.fields (meets H.fields 0)) ≡ 0
-  start-unmapped =
-      let own : meets H.fields 0 (0 * cluster_size H.fields) (cluster_size H.fields) ≡ 1 = meets-own H.fields 0 in
-      let zeroth : 0 * cluster_size H.fields ≡ 0 = omega arith in
-      let own' : meets H.fields 0 0 (cluster_size H.fields) ≡ 1 = ap (λ p. meets H.fields 0 p (cluster_size H.fields)) (sym zeroth) ∙ own in
-      let part : meets H.fields 0 0 (cluster_size H.fields) ≤ structure f H.fields (meets H.fields 0) = header-part f H.fields (meets H.fields 0) in
-      structure-unmapped f H was 0 (omega arith)
+  start-unmapped = structure-unmapped f H was 0 (first-weighs f H was)
 
   -- and shows what it did.
   shows : (guest : ℕ) → ShowsAs g f H.fields guest
   shows guest =
-      let s : 512 ≤ cluster_size H.fields = size in
+      let s : 512 ≤ cluster_size H.fields = cluster-long f H was in
       let some : 0 < words_of_cluster H.fields = some-words H.fields (consistent-shaped f H was) in
       shows-outside f g H.fields was.readable.tables tables some guest (guest-kept f g H.fields keeps some guest) 0 0 64 out (omega arith) (omega arith) start-unmapped
 

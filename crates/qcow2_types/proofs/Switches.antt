@@ -1,17 +1,52 @@
 -- A table moves: an L1 word is switched, or the header is.
-use Rattle.std.proofs.Common.{◌≡◌, ◌≢◌, ℕ, zero, suc, ◌+◌, ◌*◌, ◌<◌, ◌≤◌, refl, arith, ap, ◌∙◌, inl, inr}
+use Rattle.std.proofs.Common.{◌≡◌, ◌≢◌, ℕ, zero, suc, ◌+◌, ◌*◌, ◌^◌, ◌<◌, ◌≤◌, refl, arith, ap, sym, ◌∙◌, inl, inr}
 use Rattle.std.specs.Prelude.{false, nat_lt}
 use Rattle.std.proofs.lemmas.Bool.{cases_eq, le-ltb}
 use Rattle.qcow2_types.specs.Bytes.{Bytes, word, sum_below}
 use Rattle.qcow2_types.specs.Words.{Mapping, mapping_of}
-use Rattle.qcow2_types.specs.Header.{Fields, words_of_cluster, refcount_table_entries, layout_of}
+use Rattle.std.proofs.Math.Nat.{pow-le-pow_right}
+use Rattle.qcow2_types.specs.Header.{Fields, Header, Shaped, cluster_size, words_of_cluster, refcount_table_entries, layout_of}
 use Rattle.qcow2_types.specs.Entries.{l2_table, l2_mapping}
 use Rattle.qcow2_types.specs.Counts.{block_at}
-use Rattle.qcow2_types.specs.References.{Weight, structure, of_cluster, meets}
+use Rattle.qcow2_types.specs.References.{Weight, structure, of_cluster, meets, refs}
+use Rattle.qcow2_types.specs.Consistency.{IsConsistent}
+use Rattle.qcow2_types.specs.Frames.{Outside, touches, Kept, first_cluster}
+use Rattle.qcow2_types.proofs.Consistent.{consistent-shaped, meets-own}
+use Rattle.qcow2_types.proofs.Frames.{header-part}
+use Rattle.qcow2_types.proofs.Named.{structure-le-refs}
+use Rattle.qcow2_types.proofs.Parts.{kept-start, touches-once}
 use Rattle.qcow2_types.proofs.Sums.{sum-same, sum-change}
 use Rattle.qcow2_types.specs.Slots.{slot, Live, over_slots, or_none}
 use Rattle.qcow2_types.specs.Versions.{named, of_either}
 use Rattle.qcow2_types.specs.Switched.{with_l1}
+
+module _ (f : Bytes) (H : Header) (was : IsConsistent f H) where
+  -- a cluster is as long as the least
+  pub cluster-long : 512 ≤ cluster_size H.fields
+  cluster-long = let shaped : Shaped H.fields = consistent-shaped f H was in let low : 2 ^ 9 ≤ 2 ^ H.fields.cluster_bits = pow-le-pow_right (omega arith) shaped.low in omega arith
+
+  -- the header fills the first cluster,
+  pub first-weighs : 1 ≤ structure f H.fields (meets H.fields 0)
+  first-weighs =
+      let own : meets H.fields 0 (0 * cluster_size H.fields) (cluster_size H.fields) ≡ 1 = meets-own H.fields 0 in
+      let zeroth : 0 * cluster_size H.fields ≡ 0 = omega arith in
+      let own' : meets H.fields 0 0 (cluster_size H.fields) ≡ 1 = ap (λ p. meets H.fields 0 p (cluster_size H.fields)) (sym zeroth) ∙ own in
+      let part : meets H.fields 0 0 (cluster_size H.fields) ≤ structure f H.fields (meets H.fields 0) = header-part f H.fields (meets H.fields 0) in
+      omega arith
+
+  -- so that is named
+  pub first-named : 1 ≤ refs f H.fields 0
+  first-named =
+      let some : 1 ≤ structure f H.fields (meets H.fields 0) = first-weighs in
+      let all : structure f H.fields (meets H.fields 0) ≤ refs f H.fields 0 = structure-le-refs f H.fields 0 in
+      omega arith
+
+-- Where a header's first 64 bytes change, the structure beside the header is kept.
+pub start-kept : (f g : Bytes) (H : Header) → IsConsistent f H → Outside f g 0 64 → Kept f g H.fields first_cluster
+start-kept f g H was out =
+    let s : 512 ≤ cluster_size H.fields = cluster-long f H was in
+    let once : structure f H.fields (touches 0 64) ≤ 1 = touches-once f H.fields 0 0 64 (was.structure_apart 0) (omega arith) (omega arith) in
+    kept-start f g H.fields 0 64 out (omega arith) once (omega arith)
 
 -- what row i of the tables weighs
 row : Bytes → Bytes → Fields → ℕ → ℕ → ℕ

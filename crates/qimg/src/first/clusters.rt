@@ -11,6 +11,8 @@ ghost use Rattle.qimg.specs.Clusters.{IsFreeAt, NoneFreeAt, Takes, HasTable, Wri
 use super::requests::{put, read_at, word_at};
 use imago_storage::{Fault, Storage};
 use qcow2_metadata::words::offset_in;
+use qcow2_metadata::{L2Entry, TableEntry};
+use qcow2_types::HostOffset;
 use std::alloc::Global;
 
 /// Where an image has its L1 table and its first refcount block, in bytes.
@@ -22,15 +24,12 @@ pub struct Places {
     pub block: u64,
 }
 
-/// The copied mark of an L1 or L2 word.
-const COPIED: u64 = 1 << 63;
-
-/// The word that names a cluster which nothing else names.
+/// The word of an L1 or L2 table that names a cluster which nothing else names.
 fn copied_word(cluster: u64) -> u64
     requires { cluster < 256 }
     ensures { result ≡ 2 ^ 63 + cluster * 512 }
 {
-    COPIED + cluster * 512
+    L2Entry::naming(HostOffset(cluster * 512)).to_plain()
 }
 
 /// The least cluster from 1 on whose counter, of two bytes, is 0.
