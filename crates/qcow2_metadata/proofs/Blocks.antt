@@ -4,7 +4,7 @@ use Rattle.std.proofs.lemmas.Bool.{cases_eq}
 use Rattle.std.proofs.lemmas.Nat.{div_below, div-add-mod', pow_pos}
 use Rattle.std.proofs.lemmas.List.{same_lists, length-set, get_or-set_same, get_or-set_other}
 use Rattle.std.proofs.lemmas.List.FromFn.{length-map-range_with_len, get_or-map-range_with_len}
-use Rattle.std.proofs.Common.{Bool, true}
+use Rattle.std.proofs.Common.{true}
 use Rattle.qcow2_metadata.specs.Cells.{cell_bytes, cell_counters, counter, counter_count, counters_of, HasCounter}
 use Rattle.qcow2_metadata.specs.Blocks.{Block, block_of, with_counter}
 use Rattle.qcow2_metadata.specs.BlockView.{seen_block}

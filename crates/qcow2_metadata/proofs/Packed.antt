@@ -1,23 +1,20 @@
 -- Counters in the bytes of a cluster: the cells of the program and the format's counters are the same.
-use Rattle.std.proofs.Common.{◌≡◌, ℕ, zero, suc, ◌+◌, ◌-◌, ◌*◌, ◌/◌, ◌%◌, ◌^◌, ◌<◌, ◌≤◌, ◌∙◌, refl, arith, ap, sym, List, ◌++◌, ◌∷◌, [], length, get_or, take, drop, map}
-use Rattle.std.specs.List.{range_with_len}
-use Rattle.std.specs.Prelude.{slice_index}
+use Rattle.std.proofs.Common.{◌≡◌, ℕ, zero, suc, ◌+◌, ◌-◌, ◌*◌, ◌/◌, ◌%◌, ◌^◌, ◌<◌, ◌≤◌, ◌∙◌, refl, arith, ap, sym, List, ◌++◌, ◌∷◌, [], length, get_or, take, drop}
 use Rattle.std.specs.Prelude.{Bool, true, false, cond, nat_le, replicate}
-use Rattle.std.proofs.Math.Nat.{mod-eq_of_lt, mod-one, zero-mul, pow-suc, div-mul-le_self, div-eq_of_lt}
+use Rattle.std.proofs.Math.Nat.{mod-eq_of_lt, mod-one, zero-mul, pow-suc, div-eq_of_lt}
 use Rattle.std.proofs.Math.Seq.{take-add}
-use Rattle.std.proofs.lemmas.Nat.{div-add-mod', mod_below, div-mul-add, pow_pos, pow-add}
+use Rattle.std.proofs.lemmas.Nat.{div-add-mod', div-mul-add, pow_pos, pow-add}
 use Rattle.std.proofs.lemmas.List.{get_or-drop, length-drop, same_lists, get_or-replicate, length-replicate}
 use Rattle.std.proofs.lemmas.List.FromFn.{length-map-range_with_len, get_or-map-range_with_len}
-use Rattle.std.proofs.lemmas.Int.Digits.{number_push, number_lt}
+use Rattle.std.proofs.lemmas.Int.Digits.{number_push}
 use Rattle.qcow2_types.specs.Bytes.{Bytes, bytes_of, be}
 use Rattle.qcow2_types.specs.Header.{Fields, Shaped, cluster_size}
 use Rattle.qcow2_types.specs.Counts.{counter_of, wide_counter, narrow_counter, counters_of_block}
 use Rattle.qcow2_types.specs.Counts.{counter as counter_in}
 use Rattle.qcow2_types.proofs.Counters.{counter-moved}
 use Rattle.imago_storage.specs.Calls.{Reads}
-use Rattle.qcow2_metadata.specs.Cells.{big_endian, cell, cell_bytes, cell_counters, cell_start, bit_start, counter, counter_count, counters_of, HasCounter}
+use Rattle.qcow2_metadata.specs.Cells.{big_endian, cell_bytes, cell_counters, counter, counter_count, counters_of, HasCounter}
 use Rattle.qcow2_metadata.specs.Blocks.{counters_in, Packs}
-use Rattle.qcow2_metadata.proofs.BigEndian.{all_bytes, all_bytes_take}
 use Rattle.qcow2_metadata.proofs.Whole.{same_bytes}
 use Rattle.qcow2_metadata.proofs.Blocks.{counters_at, counters_length, has_counter}
 use Rattle.qcow2_metadata.proofs.Widths.{cell_filled, place_ends}

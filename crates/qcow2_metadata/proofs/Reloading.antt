@@ -1,5 +1,5 @@
 -- A header that was written loads again.
-use Rattle.std.proofs.Common.{◌≡◌, ℕ, ◌+◌, ◌/◌, ◌^◌, ◌<◌, ◌≤◌, refl, arith, ap, sym, subst, ◌∙◌, List, [], ◌∷◌, ◌++◌, length, drop, replicate, length-append, inl, inr, Some, None, Ok, Err}
+use Rattle.std.proofs.Common.{◌≡◌, ℕ, ◌+◌, ◌/◌, ◌^◌, ◌<◌, ◌≤◌, refl, arith, ap, sym, subst, ◌∙◌, List, [], ◌∷◌, ◌++◌, length, replicate, length-append, inl, inr, Some, None, Ok, Err}
 use Rattle.std.specs.Prelude.{flat_map, Bool, true, false, ◌&&◌, ◌||◌, ◌==◌, not, nat_lt, nat_le, ◌⊎◌, if◌then◌else◌, Option, Result}
 use Rattle.std.specs.List.{list_all}
 use Rattle.std.specs.Str.{is_utf8}
@@ -12,13 +12,13 @@ use Rattle.imago_storage.specs.declared.fault.Fault.{Fault}
 use Rattle.imago_storage.specs.declared.fault.Fault.TheVariants.{DamagedHeader}
 use Rattle.qcow2_types.specs.Bytes.{Bytes, be, run, splice}
 use Rattle.qcow2_types.specs.OnDisk.{Holds}
-use Rattle.qcow2_types.specs.Header.{Feature, Fields, Header, Extension, Shaped, fields_of, header_of, texts_of, cluster_size, is_version_3, has_backing_name, backing_name_read, extensions_read, extensions_end, extensions_at, text_read, last_of, features_read, first_fault, rules_of_shape}
+use Rattle.qcow2_types.specs.Header.{Feature, Fields, Header, Extension, Shaped, fields_of, header_of, texts_of, cluster_size, is_version_3, has_backing_name, backing_name_read, extensions_read, extensions_end, extensions_at, text_read, last_of, features_read}
 use Rattle.qcow2_types.specs.HeaderBytes.{first_bytes, newer_bytes, fields_bytes, fields_length, extension_bytes, extension_of, extensions_of, extensions_bytes, names_data, name_bytes, name_place, written_fields, written, header_bytes}
 use Rattle.qcow2_types.specs.HeaderSwitch.{FirstFieldsFit}
 use Rattle.qcow2_types.proofs.HeldBytes.{holds-front, holds-back, holds-as, held_4, held_8, run-held, ArePlain, extensions-held, length-extension_bytes}
 use Rattle.qcow2_types.proofs.HeaderSwitch.{header-made, kind-kept, splice-holds, first-magic, first-version, first-backing_offset, first-backing_length, first-cluster_bits, first-size, first-crypt_method, first-l1_entries, first-l1_offset, first-refcount_table_offset, first-refcount_table_clusters, first-snapshots}
-use Rattle.qcow2_types.proofs.HeaderFrame.{two-passed}
 use Rattle.qcow2_metadata.specs.Reloading.{is_text, LaterFieldsFit, HasNothingNewer, IsReloadable}
+use Rattle.qcow2_metadata.proofs.RuleLemmas.{shape-passed}
 use Rattle.qcow2_metadata.proofs.Written.{length-fields_bytes, length-header_bytes, fields-long}
 use Rattle.qcow2_metadata.proofs.NamesRead.{names-read}
 
@@ -275,14 +275,6 @@ no-extensions h none =
     ap (λ (a : Option (List ℕ)). three a h.data_file_name (names_data h.features)) none.backing_format
     ∙ (ap (λ (b : Option (List ℕ)). three None b (names_data h.features)) none.data_file_name ∙ ap (λ (xs : List Feature). three None None (names_data xs)) none.features)
 
--- the bounds on widths, where the rules on them are kept
-shaped-by-rules : (h : Fields) → first_fault (rules_of_shape h) ≡ None → Shaped h
-shaped-by-rules h passed =
-    let tests = two-passed (nat_lt h.cluster_bits 9 || nat_lt 21 h.cluster_bits) (nat_lt 6 h.refcount_order) DamagedHeader DamagedHeader (drop 2 (rules_of_shape h)) passed in
-    let b : (nat_lt h.cluster_bits 9 || nat_lt 21 h.cluster_bits) ≡ false = tests.0 in
-    let o : nat_lt 6 h.refcount_order ≡ false = tests.1 in
-    record { order = grind (arith, nat_tests); low = grind (arith, nat_tests); high = grind (arith, nat_tests) }
-
 module _ (f : Bytes) (h : Header) where
   -- the fields, ..
   fields-there : Holds (over f h) 0 (fields_bytes (written_fields h))
@@ -421,6 +413,6 @@ header-reloads writing f h ok =
     let g : Bytes = over f h in
     let start : Holds (splice f 0 (header_bytes h)) 0 (first_bytes (written_fields h)) = first-held (over f h) (written_fields h) (fields-there f h) ok.first (written-later h ok.later) in
     let version : h.fields.version ≡ be (splice f 0 (header_bytes h)) 4 4 = sym (first-version g (written_fields h) start ok.first ∙ (written-fields h).0) in
-    let shaped : Shaped (written_fields h) = shaped-by-rules (written_fields h) ok.shape in
+    let shaped : Shaped (written_fields h) = shape-passed (written_fields h) (sym ok.shape) in
     header-made writing g (written_fields h) (written h) (kind-kept g (first-magic g (written_fields h) start ok.first) (subst (λ (v : ℕ). (v ≡ 2) ⊎ (v ≡ 3)) version ok.version))
     (fields-again f h writing ok shaped) ok.shape ok.sizes (texts-again f h writing ok shaped) ok.allowed

@@ -1,5 +1,5 @@
 -- A refcount block as the program keeps it.
-use Rattle.std.specs.Prelude.{◌≡◌, ℕ, ◌^◌, ◌≤◌, length}
+use Rattle.std.specs.Prelude.{◌≡◌, ◌^◌, ◌≤◌, length}
 use Rattle.qcow2_metadata.specs.Cells.{counters_of}
 use Rattle.qcow2_metadata.specs.Blocks.{Block}
 use Rattle.qcow2_metadata.specs.declared.refblock.RefBlock.TheInside.{Inside}

@@ -17,6 +17,9 @@ use imago_storage::Fault;
 use qcow2_types::{ClusterCount, FeatureType, HostOffset, V2Header, V3HeaderBase};
 use std::marker::Model;
 
+/// The greatest length of a backing file's name, in bytes.
+const MAX_BACKING_NAME: u32 = 1023;
+
 /// The header of a qcow2 image.
 ///
 /// Contracts see its fields as the file has them, and the bytes of its texts: the backing file's name and format, the

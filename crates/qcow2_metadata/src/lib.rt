@@ -20,7 +20,6 @@ mod ref_table;
 mod refblock;
 mod rules;
 mod table;
-pub mod table_laws;
 #[cfg(test)]
 mod tests;
 pub mod words;

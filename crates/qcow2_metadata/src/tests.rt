@@ -2,9 +2,11 @@
 //
 // Where an allocation is refused a body ends with `Fault::Memory`, and its test runs it once more: so each test passes
 // whichever one allocation is refused, and fails where a call gives up with memory left.
+ghost use Rattle.imago_storage.specs.State.{IsAlignment};
+
 use super::*;
 use imago_storage::{Fault, FuseStorage, MemStorage};
-use qcow2_types::{ClusterCount, FeatureType, HostOffset};
+use qcow2_types::{ClusterCount, FeatureType, HostCluster, HostOffset};
 use std::alloc::Global;
 use std::process::Abort;
 use std::test::Fail;
@@ -164,16 +166,25 @@ fn short_files_are_damaged(rt: HostRuntime) -> Result<(), Fail> {
     Ok(())
 }
 
-// The first read fails, or the second.
-fn faults_of_storage(rt: &impl Abort, alloc: Global) -> Result<(), Fault> {
+// The first read fails, or the second; in units of 4,096 bytes, too.
+fn load_faults(rt: &impl Abort, alloc: Global, align: usize) -> Result<(), Fault>
+    requires { IsAlignment align }
+{
     for n in 1..3u64 {
-        let mut image = FuseStorage::new(changed(alloc, &[])?, n);
+        let mut image = FuseStorage::new(changed(alloc, &[])?.with_align(align), n);
         let refused = Header::load(alloc, &mut image, true);
         assert_eq!(rt; outcome(refused)?, Err(Fault::Storage));
+        assert_eq!(rt; image.count(), n);
         let again = Header::load(alloc, &mut image, true);
         assert_eq!(rt; outcome(again)?, Ok(()));
+        assert_eq!(rt; image.count(), n + 2);
     }
     Ok(())
+}
+
+fn faults_of_storage(rt: &impl Abort, alloc: Global) -> Result<(), Fault> {
+    load_faults(rt, alloc, 1)?;
+    load_faults(rt, alloc, 4096)
 }
 
 #[test]
@@ -385,6 +396,33 @@ fn sizes_and_places_are_taken_over(rt: HostRuntime) -> Result<(), Fail> {
     let alloc = rt.alloc();
     match updates(&rt, alloc) {
         Err(Fault::Memory) => updates(&rt, alloc)?,
+        answer => answer?,
+    }
+    Ok(())
+}
+
+// A law that no program can call says nothing.
+#[tactic(auto, using(crate::proofs::PlaceLemmas::near_reach))]
+fn call_laws(header: &Header) {
+    let _bits = header.cluster_bits();
+    laws::counters_have_one_form();
+    laws::loaded_table_is_written_back(&[0; 24], 8, 2);
+    laws::mapped_cluster_is_decoded(header, HostCluster(5));
+    laws::pointer_write_switches_the_header();
+    laws::writing_twice_writes_the_same();
+    laws::written_header_loads_again();
+}
+
+fn laws_of_a_header(alloc: Global) -> Result<(), Fault> {
+    call_laws(&loaded(alloc, &[])?);
+    Ok(())
+}
+
+#[test]
+fn laws_can_be_called(rt: HostRuntime) -> Result<(), Fail> {
+    let alloc = rt.alloc();
+    match laws_of_a_header(alloc) {
+        Err(Fault::Memory) => laws_of_a_header(alloc)?,
         answer => answer?,
     }
     Ok(())

@@ -9,16 +9,13 @@ ghost use Rattle.qcow2_metadata.specs.Loading.{file, fields_fault, RefusedBy, No
 ghost use Rattle.qcow2_metadata.specs.Extensions.{known_of, seen_known};
 ghost use Rattle.qcow2_metadata.specs.HeaderView.{seen_text};
 
-use super::Header;
+use super::{Header, MAX_BACKING_NAME};
 use crate::extensions::{KnownExtensions, known_extensions};
 use crate::features::names_in;
 use crate::reading::read_at;
 use crate::rules::{check_kind, check_shape, check_sizes, fields_at_start};
 use imago_storage::{Fault, Storage};
 use std::alloc::Global;
-
-/// The greatest length of a backing file's name, in bytes.
-const MAX_BACKING_NAME: u32 = 1023;
 
 /// The text of these bytes, where there are some. Bytes that aren't UTF-8 are `Fault::DamagedHeader`.
 fn text(alloc: Global, bytes: Option<&[u8]>) -> Result<Option<String>, Fault>

@@ -6,15 +6,13 @@ ghost use Rattle.qcow2_types.specs.HeaderBytes.{first_bytes, fields_bytes, field
 ghost use Rattle.qcow2_metadata.specs.FieldsView.{seen_fields, IsHeader};
 ghost use Rattle.qcow2_metadata.specs.Writing.{IsUnfit, NotAsked};
 
-use super::Header;
+use super::{Header, MAX_BACKING_NAME};
 use crate::extension_bytes::{push_names, push_text};
 use crate::extensions::{BACKING_FORMAT, EXTERNAL_DATA_FILE};
 use imago_storage::{Fault, Storage, StorageExt};
 use qcow2_types::{OnDiskStruct, V2Header, V3HeaderBase};
 use std::alloc::{AllocError, Global};
 
-/// The greatest length of a backing file's name, in bytes.
-const MAX_BACKING_NAME: usize = 1023;
 /// How many bytes a pointer write has: those up to the number of snapshots. A power of two, they are one request at every
 /// alignment.
 const FIRST_FIELDS: usize = 64;
@@ -87,7 +85,7 @@ impl Header {
         requires { count ≡ length (header_bytes self.now) }
         ensures { result_err result ≡ (if fits_first_cluster self.now then None else Some (Fault.Limit count)) }
     {
-        if count > self.cluster_size() || self.name_bytes().len() > MAX_BACKING_NAME {
+        if count > self.cluster_size() || self.name_bytes().len() > MAX_BACKING_NAME as usize {
             return Err(Fault::Limit(count as u64));
         }
         Ok(())

@@ -7,7 +7,7 @@ ghost use Rattle.imago_storage.specs.State.{IsAlignment};
 ghost use Rattle.qcow2_metadata.specs.Places.{IsPlaced};
 
 use super::*;
-use imago_storage::{FuseStorage, LogStorage, MemStorage};
+use imago_storage::{FuseStorage, LogStorage, MemStorage, StorageExt};
 use std::process::Abort;
 use std::test::Fail;
 
@@ -272,23 +272,59 @@ fn a_block_is_written_at_once(rt: HostRuntime) -> Result<(), Fail> {
     Ok(())
 }
 
-/// A write that the storage fails leaves the block modified; the next one may do.
-fn failed(rt: &impl Abort, alloc: Global) -> Result<(), Fault> {
+/// Each call that a write asks for fails: that leaves the block modified and the file as it was, and the next write succeeds.
+fn write_faults(rt: &impl Abort, alloc: Global, align: usize, calls: u64) -> Result<(), Fault>
+    requires align { IsAlignment align }
+    requires few { calls ≤ 2 }
+{
     let header = header(alloc, 9, 4)?;
     let mut block = RefBlock::new_cleared(alloc, &header)?;
-    place(&mut block, 1);
-    block.clear_modified();
-    let mut image = FuseStorage::new(MemStorage::new(alloc), 1);
-    assert_eq!(rt; block.write(alloc, &mut image), Err(Fault::Storage));
-    assert!(rt; block.is_modified());
-    block.write(alloc, &mut image)?;
-    assert!(rt; !block.is_modified());
-    let mut image = FuseStorage::new(MemStorage::new(alloc), 1);
-    match load(alloc, &mut image, &header, 1) {
-        Err(Fault::Storage) => Ok(()),
-        Err(fault) => Err(fault),
-        Ok(_) => Err(Fault::BadArgument),
+    for n in 1..calls + 1 {
+        place(&mut block, 1);
+        block.clear_modified();
+        let file = MemStorage::from_bytes(Vec::from_slice(alloc, &[0xa5; 4096])?)?;
+        let mut image = FuseStorage::new(file.with_align(align), n);
+        let refused = block.write(alloc, &mut image);
+        if refused == Err(Fault::Memory) {
+            return Err(Fault::Memory);
+        }
+        assert_eq!(rt; refused, Err(Fault::Storage), "of call {n}");
+        assert!(rt; block.is_modified());
+        let mut bytes = [0; 4096];
+        image.read(alloc, &mut bytes, 0)?;
+        assert!(rt; bytes.iter().all(|byte| *byte == 0xa5));
+        write(alloc, &mut block, &mut image, 1)?;
+        assert!(rt; !block.is_modified());
+        image.read(alloc, &mut bytes, 0)?;
+        assert!(rt; bytes[512..1024].iter().all(|byte| *byte == 0));
+        assert_eq!(rt; image.count(), n + calls + 2);
     }
+    Ok(())
+}
+
+/// A load that the storage fails; the next one succeeds. It asks for one read at each alignment.
+fn load_faults(rt: &impl Abort, alloc: Global, align: usize) -> Result<(), Fault>
+    requires { IsAlignment align }
+{
+    let header = header(alloc, 9, 4)?;
+    let mut image = FuseStorage::new(MemStorage::new(alloc).with_align(align), 1);
+    match load(alloc, &mut image, &header, 1) {
+        Err(Fault::Storage) => {}
+        Err(fault) => return Err(fault),
+        Ok(_) => return Err(Fault::BadArgument),
+    }
+    let block = load(alloc, &mut image, &header, 1)?;
+    assert_eq!(rt; count(&block, 255), Ok(0));
+    assert_eq!(rt; image.count(), 2);
+    Ok(())
+}
+
+fn failed(rt: &impl Abort, alloc: Global) -> Result<(), Fault> {
+    write_faults(rt, alloc, 1, 1)?;
+    write_faults(rt, alloc, 512, 1)?;
+    write_faults(rt, alloc, 4096, 2)?;
+    load_faults(rt, alloc, 1)?;
+    load_faults(rt, alloc, 4096)
 }
 
 #[test]

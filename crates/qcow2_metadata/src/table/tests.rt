@@ -9,11 +9,17 @@ use crate::table::Table;
 use crate::{
     Header, L1Entry, L1Table, L2Entry, L2Mapping, L2Table, RefTable, RefTableEntry, TableEntry,
 };
-use imago_storage::{Fault, MemStorage, Storage, StorageExt};
+use imago_storage::{Fault, LogStorage, MemStorage, Storage, StorageExt};
 use qcow2_types::{ClusterCount, ClustersToFreeEntry, GuestCluster, HostCluster, HostOffset};
 use std::alloc::{AllocFailed, Global};
 use std::process::Abort;
 use std::test::Fail;
+
+mod entering;
+mod guards;
+mod made_words;
+mod state;
+mod writing;
 
 /// The header of an image with clusters of 2^`cluster_bits` bytes and counters of 2^`refcount_order` bits.
 fn header(
@@ -335,9 +341,11 @@ fn one_word(rt: &impl Abort, alloc: Global) -> Result<(), Fault> {
     let header = header(alloc, 3, 9, 4)?;
     let mut table = entered(alloc, &header)?;
     assert_eq!(rt; table.get(300).to_plain(), 0x8000_0000_0001_0000);
-    let mut image = MemStorage::from_bytes(filled(alloc, 16384)?)?.with_align(4096);
+    let file = MemStorage::from_bytes(filled(alloc, 16384)?)?.with_align(4096);
+    let mut image = LogStorage::new(alloc, file)?;
     write_word(alloc, &mut table, &mut image, 300)?;
-    let bytes = image.into_bytes()?;
+    assert_eq!(rt; image.requests().len(), 1);
+    let bytes = image.into_inner().into_bytes()?;
     assert_eq!(rt; bytes.len(), 16384);
     let word = [0x80, 0, 0, 0, 0, 1, 0, 0];
     for (at, byte) in bytes.iter().enumerate() {

@@ -1,4 +1,4 @@
-use Rattle.std.proofs.Common.{rules, ◌≡◌, ℕ, ◌+◌, ◌^◌, ◌<◌, ◌≤◌, length, get_or, arith, Fits, w8}
+use Rattle.std.proofs.Common.{rules, ℕ, ◌+◌, ◌^◌, ◌≤◌, length, get_or, arith, Fits, w8}
 use Rattle.imago_storage.proofs.Once.{put-at-once}
 use Rattle.qcow2_metadata.proofs.clusters.write_cluster.Goals as goal
 

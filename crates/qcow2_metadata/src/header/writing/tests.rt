@@ -164,6 +164,29 @@ fn with_data_file(rt: &impl Abort, alloc: Global) -> Result<(), Fault> {
     Ok(())
 }
 
+// A header of version 2: 72 bytes of fields, the end of the extensions, and the name, which stood at 384 before.
+fn older(rt: &impl Abort, alloc: Global) -> Result<(), Fault> {
+    let older: Piece = (7, b"\x02");
+    let mut file = vec![in alloc; 0u8; 512]?;
+    put(&mut file, 0, &FIELDS[..7]);
+    put(
+        &mut file,
+        0,
+        &[older, (14, b"\x01\x80\x00\x00\x00\x04"), (384, b"base")],
+    );
+    let mut header = Header::load(alloc, &mut MemStorage::from_bytes(file)?, true)?;
+    let mut expected = [0u8; 84];
+    put(&mut expected, 0, &FIELDS[..7]);
+    put(
+        &mut expected,
+        0,
+        &[older, (14, b"\x00\x50\x00\x00\x00\x04"), (80, b"base")],
+    );
+    let bytes = bytes_written(alloc, &mut header)?;
+    assert_eq!(rt; bytes.as_slice(), expected.as_slice());
+    Ok(())
+}
+
 // A name of 48 bytes is cut to 46.
 fn with_long_name(rt: &impl Abort, alloc: Global) -> Result<(), Fault> {
     let text = "a name that has two bytes more than there are..!";
@@ -192,6 +215,10 @@ fn texts_are_written(rt: HostRuntime) -> Result<(), Fail> {
     }
     match with_data_file(&rt, alloc) {
         Err(Fault::Memory) => with_data_file(&rt, alloc)?,
+        answer => answer?,
+    }
+    match older(&rt, alloc) {
+        Err(Fault::Memory) => older(&rt, alloc)?,
         answer => answer?,
     }
     match with_long_name(&rt, alloc) {
@@ -253,7 +280,21 @@ fn a_header_that_does_not_fit_is_refused(rt: HostRuntime) -> Result<(), Fail> {
     Ok(())
 }
 
-// One pointer write of three, into a file of 8,192 bytes aa: one request, and every other byte stays.
+// One pointer write of three.
+fn write_pointer<S: Storage>(
+    alloc: Global,
+    header: &Header,
+    image: &mut S,
+    which: u8,
+) -> Result<(), Fault> {
+    match which {
+        0 => header.write_size(alloc, image),
+        1 => header.write_l1_table_pointer(alloc, image),
+        _ => header.write_reftable_pointer(alloc, image),
+    }
+}
+
+// One into a file of 8,192 bytes aa: one request, and every other byte stays.
 fn pointer_write(rt: &impl Abort, alloc: Global, align: usize, which: u8) -> Result<(), Fault>
     requires { IsAlignment align }
 {
@@ -266,11 +307,7 @@ fn pointer_write(rt: &impl Abort, alloc: Global, align: usize, which: u8) -> Res
     let file = MemStorage::from_bytes(vec![in alloc; 0xaau8; 8192]?)?.with_align(align);
     let mut image = LogStorage::new(alloc, file)?;
     let header = plain(alloc)?;
-    match which {
-        0 => header.write_size(alloc, &mut image)?,
-        1 => header.write_l1_table_pointer(alloc, &mut image)?,
-        _ => header.write_reftable_pointer(alloc, &mut image)?,
-    }
+    write_pointer(alloc, &header, &mut image, which)?;
     assert_eq!(rt; image.requests().len(), 1);
     let bytes = image.into_inner().into_bytes()?;
     assert_eq!(rt; bytes.as_slice(), expected.as_slice());
@@ -297,27 +334,62 @@ fn pointer_writes_leave_other_bytes(rt: HostRuntime) -> Result<(), Fail> {
     Ok(())
 }
 
-// The read of the unit around fails, or the write: the header stays as it was, and the next write succeeds.
-fn faults(rt: &impl Abort, alloc: Global) -> Result<(), Fault> {
-    for n in 1..3u64 {
-        let file = MemStorage::new(alloc).with_align(512);
-        let mut image = FuseStorage::new(file, n);
+// Each call that a write asks for fails: the header stays as it was, and the next write succeeds.
+fn write_faults(rt: &impl Abort, alloc: Global, align: usize, calls: u64) -> Result<(), Fault>
+    requires align { IsAlignment align }
+    requires few { calls ≤ 8 }
+{
+    for n in 1..calls + 1 {
+        let mut image = FuseStorage::new(MemStorage::new(alloc).with_align(align), n);
         let mut header = Header::new(alloc, 9, 4, text(alloc, "base")?, None, None)?;
         let refused = header.write(alloc, &mut image);
         if refused == Err(Fault::Memory) {
             return Err(Fault::Memory);
         }
-        assert_eq!(rt; refused, Err(Fault::Storage));
+        assert_eq!(rt; refused, Err(Fault::Storage), "of call {n}");
+        assert_eq!(rt; image.count(), n);
         assert_eq!(rt; header.v2.backing_filename_offset, 0);
         header.write(alloc, &mut image)?;
+        assert_eq!(rt; image.count(), n + calls);
         assert_eq!(rt; header.v2.backing_filename_offset, 264);
-        let mut image = FuseStorage::new(image, n);
-        let refused = header.write_size(alloc, &mut image);
+    }
+    Ok(())
+}
+
+// Each call that a pointer write of three asks for fails, and the next write succeeds.
+fn pointer_faults(
+    rt: &impl Abort,
+    alloc: Global,
+    align: usize,
+    calls: u64,
+    which: u8,
+) -> Result<(), Fault>
+    requires align { IsAlignment align }
+    requires few { calls ≤ 8 }
+{
+    let header = plain(alloc)?;
+    for n in 1..calls + 1 {
+        let mut image = FuseStorage::new(MemStorage::new(alloc).with_align(align), n);
+        let refused = write_pointer(alloc, &header, &mut image, which);
         if refused == Err(Fault::Memory) {
             return Err(Fault::Memory);
         }
-        assert_eq!(rt; refused, Err(Fault::Storage));
-        header.write_size(alloc, &mut image)?;
+        assert_eq!(rt; refused, Err(Fault::Storage), "of call {n}");
+        write_pointer(alloc, &header, &mut image, which)?;
+        assert_eq!(rt; image.count(), n + calls);
+    }
+    Ok(())
+}
+
+// The header has 268 bytes: in units of 512 one is read and written; in units of 64 four are written, and then one is read
+// and written. A pointer write has 64 bytes.
+fn faults(rt: &impl Abort, alloc: Global) -> Result<(), Fault> {
+    write_faults(rt, alloc, 1, 1)?;
+    write_faults(rt, alloc, 512, 2)?;
+    write_faults(rt, alloc, 64, 3)?;
+    for which in 0..3u8 {
+        pointer_faults(rt, alloc, 64, 1, which)?;
+        pointer_faults(rt, alloc, 512, 2, which)?;
     }
     Ok(())
 }

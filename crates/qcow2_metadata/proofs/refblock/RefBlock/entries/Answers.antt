@@ -1,4 +1,4 @@
-use Rattle.std.proofs.Common.{◌≡◌, ℕ, ◌*◌, ◌/◌, ◌^◌, ◌∙◌, ap, sym, List, length, arith}
+use Rattle.std.proofs.Common.{◌≡◌, ◌*◌, ◌/◌, ◌^◌, ◌∙◌, ap, sym, length, arith}
 use Rattle.qcow2_metadata.specs.Blocks.{Block}
 use Rattle.qcow2_metadata.proofs.Blocks.{counters_length}
 use Rattle.qcow2_metadata.proofs.Packed.{count-of-cells, whole-counters}

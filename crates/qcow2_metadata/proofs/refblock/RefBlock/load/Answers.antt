@@ -1,4 +1,4 @@
-use Rattle.std.proofs.Common.{◌≡◌, ℕ, ◌*◌, ◌^◌, ◌∙◌, ap, false, Some}
+use Rattle.std.proofs.Common.{◌≡◌, ◌*◌, ◌^◌, ◌∙◌, ap, false, Some}
 use Rattle.qcow2_types.specs.Header.{cluster_size}
 use Rattle.qcow2_metadata.specs.Blocks.{block_of}
 use Rattle.qcow2_metadata.proofs.Packed.{counters-read}

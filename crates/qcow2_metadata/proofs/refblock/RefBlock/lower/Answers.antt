@@ -1,4 +1,4 @@
-use Rattle.std.proofs.Common.{◌≡◌, ℕ, List, ◌+◌, ◌-◌, ◌∙◌, ap, sym, length, arith, true}
+use Rattle.std.proofs.Common.{◌≡◌, ℕ, List, ◌-◌, ◌∙◌, ap, length, arith, true}
 use Rattle.std.proofs.lemmas.List.{with_items_is, get_or-set_same}
 use Rattle.std.specs.Vec.{with_items}
 use Rattle.qcow2_metadata.specs.Cells.{counters_of}

@@ -1,4 +1,4 @@
-use Rattle.std.proofs.Common.{◌≡◌, ℕ, ◌^◌, ◌∙◌, ap, get_or, length, replicate, true, None}
+use Rattle.std.proofs.Common.{◌≡◌, ℕ, ◌∙◌, ap, get_or, length, true, None}
 use Rattle.imago_storage.proofs.Zeroes.{zero_at}
 use Rattle.std.proofs.lemmas.List.{length-replicate}
 use Rattle.qcow2_metadata.specs.Blocks.{block_of}

@@ -1,5 +1,4 @@
-use Rattle.std.proofs.Common.{◌≡◌, ℕ, ◌+◌, ◌%◌, ◌^◌, ◌≤◌, ◌∙◌, ap, sym, subst}
-use Rattle.imago_storage.specs.Through.{PutAtOnce}
+use Rattle.std.proofs.Common.{◌≡◌, ◌%◌, ◌^◌, ◌∙◌, ap, sym, subst}
 use Rattle.qcow2_metadata.specs.Blocks.{Block, Packs}
 use Rattle.qcow2_metadata.specs.Places.{IsPlaced, place_of}
 use Rattle.qcow2_metadata.proofs.Packed.{block-packs}

@@ -1,0 +1,107 @@
+// Tables and blocks that are named: the pending clusters, which can't be dropped, are spent.
+ghost use Rattle.std.specs.Prelude.{◌≡◌, ◌≤◌};
+ghost use Rattle.qcow2_types.specs.Header.{layout_of};
+
+use super::*;
+use crate::RefBlock;
+use qcow2_types::PendingClusters;
+
+// One cluster of metadata that nothing names yet.
+fn pending(cluster: u64) -> Option<PendingClusters> {
+    let entry = ClustersToFreeEntry::metadata(HostCluster(cluster), ClusterCount(1));
+    Some(PendingClusters::new(entry))
+}
+
+// Names a new block in cluster 5 at an index, and writes that word of the table, which stands in cluster 1.
+#[tactic(auto, using(crate::proofs::PlaceLemmas::near_reach, crate::proofs::PlaceLemmas::near_namable))]
+fn enter_block<S: Storage>(
+    alloc: Global,
+    table: &mut RefTable,
+    header: &Header,
+    image: &mut S,
+    index: usize,
+) -> Result<(), Fault>
+    requires { table.old.layout ≡ layout_of header.now.fields }
+{
+    let mut block = RefBlock::new_cleared(alloc, header)?;
+    block.set_cluster(HostCluster(5));
+    let _bits = table.cluster_bits();
+    if !table.in_bounds(index) {
+        return Err(Fault::BadArgument);
+    }
+    table.enter_refblock(index, &block, pending(5));
+    table.set_cluster(HostCluster(1));
+    table.write_entry(alloc, image, index)
+}
+
+// Byte 2560, where cluster 5 begins, is 0xa00; word 3 stands at 536.
+fn entered_block(rt: &impl Abort, alloc: Global) -> Result<(), Fault> {
+    let mut image = worked_image(alloc)?;
+    let header = header(alloc, 3, 9, 4)?;
+    let mut table = load_refs(alloc, &mut image, &header, 1, 64)?;
+    assert!(rt; !table.is_modified());
+    let before = image.bytes()?;
+    let mut image = LogStorage::new(alloc, image)?;
+    enter_block(alloc, &mut table, &header, &mut image, 3)?;
+    assert!(rt; table.is_modified());
+    assert_eq!(rt; table.get(3).to_plain(), 2560);
+    assert_eq!(rt; table.get(3).refblock_offset(), Some(HostOffset(2560)));
+    assert_eq!(rt; table.get(0).to_plain(), 1024);
+    assert_eq!(rt; table.get(2).to_plain(), 0);
+    assert_eq!(rt; table.get(4).to_plain(), 0);
+    assert_eq!(rt; image.requests().len(), 1);
+    let after = image.into_inner().into_bytes()?;
+    assert_eq!(rt; after.len(), before.len());
+    for (at, byte) in after.iter().enumerate() {
+        let wanted = if at == 542 { 10 } else { before[at] };
+        assert_eq!(rt; *byte, wanted, "at {at}");
+    }
+    Ok(())
+}
+
+#[test]
+fn a_block_is_entered(rt: HostRuntime) -> Result<(), Fail> {
+    let alloc = rt.alloc();
+    match entered_block(&rt, alloc) {
+        Err(Fault::Memory) => entered_block(&rt, alloc)?,
+        answer => answer?,
+    }
+    Ok(())
+}
+
+// Names a new L2 table in cluster 9 at index 1.
+#[tactic(auto, using(crate::proofs::PlaceLemmas::near_reach, crate::proofs::PlaceLemmas::near_namable))]
+fn enter_table(alloc: Global, table: &mut L1Table, header: &Header) -> Result<(), Fault>
+    requires { table.old.layout ≡ layout_of header.now.fields }
+{
+    let mut l2_table = L2Table::new_cleared(alloc, header)?;
+    l2_table.set_cluster(HostCluster(9));
+    let _bits = l2_table.cluster_bits();
+    if !table.in_bounds(1) {
+        return Err(Fault::BadArgument);
+    }
+    table.enter_l2_table(1, &l2_table, pending(9));
+    Ok(())
+}
+
+// Byte 4608, where cluster 9 begins, is 0x1200.
+fn entered_table(rt: &impl Abort, alloc: Global) -> Result<(), Fault> {
+    let mut image = worked_image(alloc)?;
+    let header = header(alloc, 3, 9, 4)?;
+    let mut table = load_l1(alloc, &mut image, &header, 3, 2)?;
+    enter_table(alloc, &mut table, &header)?;
+    assert!(rt; table.is_modified());
+    assert_eq!(rt; table.get(0).to_plain(), 0x8000_0000_0000_0800);
+    assert_eq!(rt; table.get(1).to_plain(), 0x8000_0000_0000_1200);
+    Ok(())
+}
+
+#[test]
+fn a_table_is_entered(rt: HostRuntime) -> Result<(), Fail> {
+    let alloc = rt.alloc();
+    match entered_table(&rt, alloc) {
+        Err(Fault::Memory) => entered_table(&rt, alloc)?,
+        answer => answer?,
+    }
+    Ok(())
+}

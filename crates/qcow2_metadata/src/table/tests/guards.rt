@@ -1,0 +1,129 @@
+// What the guards of an L2 table answer.
+ghost use Rattle.std.specs.Prelude.{◌≤◌};
+
+use super::*;
+use qcow2_types::PendingClusters;
+
+// The table in cluster 4 of an image with clusters of 512 bytes. Its first four words: compressed bytes from 2561 on, in two
+// sectors; zeroes, with cluster 5 kept; data in cluster 6; and nothing.
+fn table_of_each_kind(alloc: Global) -> Result<L2Table, Fault> {
+    let mut image = MemStorage::new(alloc);
+    image.write(alloc, &[0x60, 0, 0, 0, 0, 0, 10, 1], 2048)?;
+    image.write(alloc, &[0x80, 0, 0, 0, 0, 0, 10, 1], 2056)?;
+    image.write(alloc, &[0x80, 0, 0, 0, 0, 0, 12, 0], 2064)?;
+    let header = header(alloc, 3, 9, 4)?;
+    load_l2(alloc, &mut image, &header, 4)
+}
+
+// What the guard says of one of the first guest clusters.
+#[tactic(auto, using(crate::proofs::PlaceLemmas::near_reach))]
+fn guarded_mapping(table: &mut L2Table, cluster: u64) -> L2Mapping
+    requires { cluster ≤ 1000 }
+{
+    let _bits = table.cluster_bits();
+    let guard = table.lock_write();
+    guard.get_mapping(GuestCluster(cluster))
+}
+
+// Where the guard says that the compressed bytes of a guest cluster are.
+fn guarded_range(table: &mut L2Table, cluster: u64) -> Option<(HostOffset, u64)> {
+    let guard = table.lock_write();
+    match guard.compressed_read_guard(GuestCluster(cluster)) {
+        Some(read) => Some((read.host_offset(), read.length())),
+        None => None,
+    }
+}
+
+// Maps a guest cluster to one of the first host clusters, which is pending until then.
+#[tactic(auto, using(crate::proofs::PlaceLemmas::near_reach))]
+fn map_pending(table: &mut L2Table, index: usize, cluster: u64) -> Result<Option<(u64, u64)>, Fault>
+    requires { cluster ≤ 16 }
+{
+    let _bits = table.cluster_bits();
+    if index >= table.entries() || cluster == 0 {
+        return Err(Fault::BadArgument);
+    }
+    let entry = ClustersToFreeEntry::data(HostCluster(cluster), ClusterCount(1));
+    let pending = PendingClusters::new(entry);
+    let mut guard = table.lock_write();
+    Ok(parts(guard.map_cluster(index, HostCluster(cluster), Some(pending))))
+}
+
+// Guest cluster 64 has word 0 of its table, as cluster 0 has.
+fn mappings(rt: &impl Abort, alloc: Global) -> Result<(), Fault> {
+    let mut table = table_of_each_kind(alloc)?;
+    let packed = L2Mapping::Compressed {
+        host_offset: HostOffset(2561),
+        length: 1023,
+    };
+    assert_eq!(rt; guarded_mapping(&mut table, 64), packed);
+    let zeroes = L2Mapping::Zero {
+        host_cluster: Some(HostCluster(5)),
+        copied: true,
+    };
+    assert_eq!(rt; guarded_mapping(&mut table, 65), zeroes);
+    let data = L2Mapping::DataFile {
+        host_cluster: HostCluster(6),
+        copied: true,
+    };
+    assert_eq!(rt; guarded_mapping(&mut table, 2), data);
+    // 67 times 512.
+    let below = L2Mapping::Backing {
+        backing_offset: 34_304,
+    };
+    assert_eq!(rt; guarded_mapping(&mut table, 67), below);
+    assert_eq!(rt;
+        guarded_range(&mut table, 64),
+        Some((HostOffset(2561), 1023))
+    );
+    assert_eq!(rt; guarded_range(&mut table, 65), None);
+    assert_eq!(rt; guarded_range(&mut table, 2), None);
+    assert!(rt; !table.is_modified());
+    Ok(())
+}
+
+#[test]
+fn mappings_by_the_guard(rt: HostRuntime) -> Result<(), Fail> {
+    let alloc = rt.alloc();
+    match mappings(&rt, alloc) {
+        Err(Fault::Memory) => mappings(&rt, alloc)?,
+        answer => answer?,
+    }
+    Ok(())
+}
+
+// Bytes 2561 to 3583 lie in the clusters 5 and 6.
+fn replaced_words(rt: &impl Abort, alloc: Global) -> Result<(), Fault> {
+    let mut table = table_of_each_kind(alloc)?;
+    assert_eq!(rt; map_pending(&mut table, 0, 7)?, Some((5, 2)));
+    assert!(rt; table.is_modified());
+    assert_eq!(rt; table.get(0).to_plain(), 0x8000_0000_0000_0e00);
+    assert_eq!(rt; guarded_range(&mut table, 0), None);
+    assert_eq!(rt; map_pending(&mut table, 1, 5)?, None);
+    assert_eq!(rt; table.get(1).to_plain(), 0x8000_0000_0000_0a00);
+    assert_eq!(rt; map_pending(&mut table, 3, 8)?, None);
+    assert_eq!(rt; discard(&mut table, 4)?, None);
+    // A compressed cluster keeps none.
+    let mut table = table_of_each_kind(alloc)?;
+    assert_eq!(rt; zero(&mut table, 0, true)?, Some((5, 2)));
+    assert_eq!(rt; table.get(0).to_plain(), 1);
+    assert_eq!(rt; zero(&mut table, 3, true)?, None);
+    assert_eq!(rt; table.get(3).to_plain(), 1);
+    // A copy has no copied marks, and compressed words stay.
+    let copy = table_of_each_kind(alloc)?.clone(alloc)?;
+    assert_eq!(rt; copy.get(0).to_plain(), 0x6000_0000_0000_0a01);
+    assert_eq!(rt; copy.get(1).to_plain(), 0xa01);
+    assert_eq!(rt; copy.get(2).to_plain(), 0xc00);
+    assert_eq!(rt; copy.get(3).to_plain(), 0);
+    Ok(())
+}
+
+#[test]
+fn clusters_of_replaced_words(rt: HostRuntime) -> Result<(), Fail> {
+    let alloc = rt.alloc();
+    match replaced_words(&rt, alloc) {
+        Err(Fault::Memory) => replaced_words(&rt, alloc)?,
+        answer => answer?,
+    }
+    Ok(())
+}

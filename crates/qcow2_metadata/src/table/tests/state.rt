@@ -1,0 +1,181 @@
+// What a table says of itself.
+ghost use Rattle.std.specs.Prelude.{◌≡◌, ◌≤◌};
+ghost use Rattle.qcow2_types.specs.Header.{layout_of};
+
+use super::*;
+use crate::table::longer_content;
+
+// The word itself, where there is one.
+fn plain<E: TableEntry>(entry: Option<&E>) -> Option<u64> {
+    match entry {
+        Some(entry) => Some(entry.to_plain()),
+        None => None,
+    }
+}
+
+// Where the table begins when it begins with cluster 3, and when it has no cluster.
+#[tactic(auto, using(crate::proofs::PlaceLemmas::near_reach))]
+fn offsets<T: Table>(table: &mut T) -> (Option<HostOffset>, Option<HostOffset>) {
+    let _bits = table.cluster_bits();
+    table.set_cluster(HostCluster(3));
+    let placed = table.get_offset();
+    table.unset_cluster();
+    (placed, table.get_offset())
+}
+
+fn places(rt: &impl Abort, alloc: Global) -> Result<(), Fault> {
+    let mut image = worked_image(alloc)?;
+    let small = header(alloc, 3, 9, 4)?;
+    let mut l1_table = load_l1(alloc, &mut image, &small, 3, 2)?;
+    assert_eq!(rt; offsets(&mut l1_table), (Some(HostOffset(1536)), None));
+    assert_eq!(rt; l1_table.get_cluster(), None);
+    // A new place has to be written, and one that is taken away hasn't.
+    assert!(rt; l1_table.is_modified());
+    l1_table.clear_modified();
+    l1_table.unset_cluster();
+    assert!(rt; !l1_table.is_modified());
+    l1_table.set_modified();
+    assert!(rt; l1_table.is_modified());
+    let mut ref_table = load_refs(alloc, &mut image, &small, 1, 64)?;
+    assert_eq!(rt; offsets(&mut ref_table), (Some(HostOffset(1536)), None));
+    let large = header(alloc, 3, 21, 4)?;
+    let mut l2_table = L2Table::new_cleared(alloc, &large)?;
+    assert_eq!(rt; l2_table.cluster_bits(), 21);
+    // 3 times 2 MiB.
+    assert_eq!(rt; offsets(&mut l2_table), (Some(HostOffset(6_291_456)), None));
+    Ok(())
+}
+
+#[test]
+fn places_of_tables(rt: HostRuntime) -> Result<(), Fail> {
+    let alloc = rt.alloc();
+    match places(&rt, alloc) {
+        Err(Fault::Memory) => places(&rt, alloc)?,
+        answer => answer?,
+    }
+    Ok(())
+}
+
+fn single_words(rt: &impl Abort, alloc: Global) -> Result<(), Fault> {
+    let mut image = worked_image(alloc)?;
+    let header = header(alloc, 3, 9, 4)?;
+    let l1_table = load_l1(alloc, &mut image, &header, 3, 2)?;
+    assert_eq!(rt; plain(l1_table.get_ref(0)), Some(0x8000_0000_0000_0800));
+    assert_eq!(rt; plain(l1_table.get_ref(1)), Some(0));
+    assert_eq!(rt; plain(l1_table.get_ref(2)), None);
+    let ref_table = load_refs(alloc, &mut image, &header, 1, 64)?;
+    assert_eq!(rt; plain(ref_table.get_ref(0)), Some(1024));
+    assert_eq!(rt; plain(ref_table.get_ref(63)), Some(0));
+    assert_eq!(rt; plain(ref_table.get_ref(64)), None);
+    assert_eq!(rt; ref_table.get(64).to_plain(), 0);
+    assert!(rt; ref_table.in_bounds(63) && !ref_table.in_bounds(64));
+    let l2_table = load_l2(alloc, &mut image, &header, 4)?;
+    assert_eq!(rt; plain(l2_table.get_ref(1)), Some(0x8000_0000_0000_0c00));
+    assert_eq!(rt; plain(l2_table.get_ref(64)), None);
+    assert_eq!(rt; l2_table.get(0).to_plain(), 0x8000_0000_0000_0a00);
+    assert_eq!(rt; l2_table.get(64).to_plain(), 0);
+    assert_eq!(rt; l2_table.entries(), 64);
+    Ok(())
+}
+
+#[test]
+fn words_at_an_index(rt: HostRuntime) -> Result<(), Fail> {
+    let alloc = rt.alloc();
+    match single_words(&rt, alloc) {
+        Err(Fault::Memory) => single_words(&rt, alloc)?,
+        answer => answer?,
+    }
+    Ok(())
+}
+
+// The bytes and clusters of L1 tables of so many words, in clusters of 512 bytes: 64 words fill one.
+fn sizes(rt: &impl Abort, alloc: Global) -> Result<(), Fault> {
+    let small = header(alloc, 3, 9, 4)?;
+    let mut empty = MemStorage::new(alloc);
+    let wanted = [
+        (0usize, 0usize, 0u64),
+        (1, 8, 1),
+        (64, 512, 1),
+        (65, 520, 2),
+        (128, 1024, 2),
+        (129, 1032, 3),
+    ];
+    for (entries, bytes, clusters) in wanted {
+        let table = load_l1(alloc, &mut empty, &small, 3, entries)?;
+        assert_eq!(rt; table.entries(), entries);
+        assert_eq!(rt; table.byte_size(), bytes, "of {entries}");
+        assert_eq!(rt;
+            table.cluster_count(),
+            ClusterCount(clusters),
+            "of {entries}"
+        );
+    }
+    let large = header(alloc, 3, 16, 4)?;
+    let table = load_refs(alloc, &mut empty, &large, 3, 8193)?;
+    assert_eq!(rt; table.byte_size(), 65_544);
+    assert_eq!(rt; table.cluster_count(), ClusterCount(2));
+    let table = L2Table::new_cleared(alloc, &large)?;
+    assert_eq!(rt; table.entries(), 8192);
+    assert_eq!(rt; table.byte_size(), 65_536);
+    assert_eq!(rt; table.cluster_count(), ClusterCount(1));
+    Ok(())
+}
+
+#[test]
+fn sizes_of_tables(rt: HostRuntime) -> Result<(), Fail> {
+    let alloc = rt.alloc();
+    match sizes(&rt, alloc) {
+        Err(Fault::Memory) => sizes(&rt, alloc)?,
+        answer => answer?,
+    }
+    Ok(())
+}
+
+#[test]
+fn names_and_limits_of_tables(rt: HostRuntime) {
+    assert_eq!(rt; L1Table::NAME, "L1 table");
+    assert_eq!(rt; L2Table::NAME, "L2 table");
+    assert_eq!(rt; RefTable::NAME, "refcount table");
+    // 2^22 words, as many as fill the greatest cluster, and 2^20.
+    assert_eq!(rt; L1Table::MAX_ENTRIES, 4_194_304);
+    assert_eq!(rt; L2Table::MAX_ENTRIES, 262_144);
+    assert_eq!(rt; RefTable::MAX_ENTRIES, 1_048_576);
+}
+
+// The table of the same words.
+fn made_again(alloc: Global, table: &L1Table, header: &Header) -> Result<L1Table, Fault>
+    requires { table.now.layout ≡ layout_of header.now.fields }
+{
+    let count = table.entries();
+    match longer_content(alloc, table, count) {
+        Ok(content) => Ok(L1Table::from_data(content, header)),
+        Err(fault) => Err(fault),
+    }
+}
+
+fn from_words(rt: &impl Abort, alloc: Global) -> Result<(), Fault> {
+    let mut image = worked_image(alloc)?;
+    let header = header(alloc, 3, 9, 4)?;
+    let loaded = load_l1(alloc, &mut image, &header, 3, 2)?;
+    let table = made_again(alloc, &loaded, &header)?;
+    assert_eq!(rt; table.entries(), 2);
+    assert_eq!(rt; table.get(0).to_plain(), 0x8000_0000_0000_0800);
+    assert_eq!(rt; table.get(1).to_plain(), 0);
+    assert_eq!(rt; table.get_cluster(), None);
+    assert!(rt; table.is_modified());
+    assert_eq!(rt; table.cluster_bits(), 9);
+    let none = RefTable::from_data(Vec::new(alloc), &header);
+    assert_eq!(rt; none.entries(), 0);
+    assert!(rt; none.is_modified() && none.get_cluster().is_none());
+    Ok(())
+}
+
+#[test]
+fn tables_are_made_of_words(rt: HostRuntime) -> Result<(), Fail> {
+    let alloc = rt.alloc();
+    match from_words(&rt, alloc) {
+        Err(Fault::Memory) => from_words(&rt, alloc)?,
+        answer => answer?,
+    }
+    Ok(())
+}
