@@ -165,7 +165,7 @@ fn copy_of_bytes<S: Storage>(storage: &mut S, alloc: Global) -> Result<Vec<u8>, 
     match storage.read(alloc, &mut copy, 0) {
         Ok(()) => Ok(copy),
         Err(Fault::Storage) => Err(Fault::Storage),
-        // The range ends where the bytes do, so it can't overflow: this is want of memory.
+        // The range ends where the bytes of a buffer do that is in memory: so this is want of memory.
         Err(_) => Err(Fault::Memory),
     }
 }

@@ -345,6 +345,9 @@ impl CompressedClusterReadGuard<'_> {
 }
 
 /// An L2 table whose words may be changed.
+///
+/// Its calls answer the clusters that a word named before. With an external data file these are clusters of that file, which
+/// aren't counted: they are handed back all the same, and there is nothing to free.
 #[derive(Drop)]
 pub struct L2TableWriteGuard<'a> {
     table: &'a mut L2Table,

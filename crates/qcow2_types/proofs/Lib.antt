@@ -54,5 +54,6 @@ pub mod BlockWordSteps
 pub mod L1Switch
 pub mod RefcountTableSwitch
 pub mod SizeSwitch
+pub mod TableRewrites
 pub mod HeaderSwitch
 pub mod HeldBytes

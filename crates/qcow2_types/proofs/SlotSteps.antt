@@ -253,3 +253,20 @@ pub cluster-mapped-spliced : (f : Bytes) (H : Header) → IsConsistent f H → (
 cluster-mapped-spliced f H was i j live w fits c means old unnamed counted =
     cluster-mapped f (splice f (l2_table f H.fields i + 8 * j) (to_be_bytes w64 w)) H was i j live (splice-is-outside f (l2_table f H.fields i + 8 * j) (to_be_bytes w64 w)) w
     (word-written f (l2_table f H.fields i) j w fits) c means old unnamed counted
+
+-- Any word that has a meaning, by its bytes.
+module _ (f : Bytes) (H : Header) (was : IsConsistent f H) (i j : ℕ) (live : Live (l2_table f H.fields) H.fields i j) (w : ℕ) (fits : w < 2 ^ 64) where
+  abbrev spliced : Bytes
+  spliced = splice f (l2_table f H.fields i + 8 * j) (to_be_bytes w64 w)
+
+  -- The image stays consistent with the new word in place of the old one.
+  pub slot-rewritten-spliced : IsFalse (is_damaged (mapping_of (layout_of H.fields) w))
+      → ((c : ℕ) → refs f H.fields c + of_mapping H.fields (meets H.fields c) (mapping_of (layout_of H.fields) w) ≤ count f H.fields c + of_mapping H.fields (meets H.fields c) (slot f H.fields i j))
+      → ((c : ℕ) → 0 < structure f H.fields (meets H.fields c) + contents f H.fields (of_copied H.fields (meets H.fields c)) + of_copied H.fields (meets H.fields c) (mapping_of (layout_of H.fields) w)
+      → refs f H.fields c + of_mapping H.fields (meets H.fields c) (mapping_of (layout_of H.fields) w) ≤ 1 + of_mapping H.fields (meets H.fields c) (slot f H.fields i j))
+      → SlotWritten f (splice f (l2_table f H.fields i + 8 * j) (to_be_bytes w64 w)) H i j (mapping_of (layout_of H.fields) w)
+  slot-rewritten-spliced = slot-rewritten f spliced H was i j live (splice-is-outside f (l2_table f H.fields i + 8 * j) (to_be_bytes w64 w)) w (word-written f (l2_table f H.fields i) j w fits)
+
+  -- what the old word named is named no more, and what the new one names is
+  pub slot-references-spliced : (c : ℕ) → refs (splice f (l2_table f H.fields i + 8 * j) (to_be_bytes w64 w)) H.fields c + of_mapping H.fields (meets H.fields c) (slot f H.fields i j) ≡ refs f H.fields c + of_mapping H.fields (meets H.fields c) (mapping_of (layout_of H.fields) w)
+  slot-references-spliced = slot-references f spliced H was i j live (splice-is-outside f (l2_table f H.fields i + 8 * j) (to_be_bytes w64 w)) w (word-written f (l2_table f H.fields i) j w fits)

@@ -1,11 +1,11 @@
 -- What one write into a consistent image f leaves in the file g: an image that is consistent under the same header.
-use Rattle.std.specs.Prelude.{true, ◌≡◌, ◌≢◌, ℕ, ◌+◌, ◌*◌, ◌/◌, ◌%◌, ◌<◌, ◌⊎◌}
-use Rattle.qcow2_types.specs.Bytes.{Bytes, word}
+use Rattle.std.specs.Prelude.{true, Ok, ◌≡◌, ◌≢◌, ℕ, ◌+◌, ◌*◌, ◌/◌, ◌%◌, ◌<◌, ◌⊎◌}
+use Rattle.qcow2_types.specs.Bytes.{Bytes, word, sum_below}
 use Rattle.qcow2_types.specs.Words.{Mapping, unmapped, data_at}
-use Rattle.qcow2_types.specs.Header.{Fields, Header, cluster_size, words_of_cluster}
+use Rattle.qcow2_types.specs.Header.{Fields, Header, header_of, cluster_size, words_of_cluster}
 use Rattle.qcow2_types.specs.Entries.{l2_table}
 use Rattle.qcow2_types.specs.Counts.{block_at, count, counter, counters_of_block}
-use Rattle.qcow2_types.specs.References.{refs}
+use Rattle.qcow2_types.specs.References.{Weight, structure as structure_sum, contents as contents_sum, of_mapping, meets, refs}
 use Rattle.qcow2_types.specs.Consistency.{IsConsistent}
 use Rattle.qcow2_types.specs.Slots.{slot, Live}
 use Rattle.qcow2_types.specs.Frames.{Same, Kept, nothing, block, table, l1_word, block_word, ShowsAs}
@@ -61,6 +61,29 @@ pub record SlotWritten (f g : Bytes) (H : Header) (i j : ℕ) (new : Mapping) : 
   pub counts : (c : ℕ) → count g H.fields c ≡ count f H.fields c
   pub elsewhere : (guest : ℕ) → (guest / words_of_cluster H.fields ≢ i) ⊎ (guest % words_of_cluster H.fields ≢ j) → ShowsAs g f H.fields guest
   pub free : (c : ℕ) → refs f H.fields c ≡ 0 → Same f g (c * cluster_size H.fields) (cluster_size H.fields)
+
+-- summed over what the words of L2 table i mean
+abbrev pub table_sum : Bytes → Fields → (Mapping → ℕ) → ℕ → ℕ
+table_sum f h of i = sum_below (words_of_cluster h) (λ j. of (slot f h i j))
+
+-- L2 table i was written, whole or in part: no word of another table and no count changes. What is named changes by what the words of
+-- the table name, and clusters that nothing names keep their bytes.
+pub record TableWritten (f g : Bytes) (H : Header) (i : ℕ) : Type 0 where
+  pub header : header_of true g ≡ Ok H
+  pub kept : Kept f g H.fields (table i)
+  pub places : SamePlaces f g H.fields
+  pub others : (k m : ℕ) → Live (l2_table f H.fields) H.fields k m → k ≢ i → slot g H.fields k m ≡ slot f H.fields k m
+  pub counts : (c : ℕ) → count g H.fields c ≡ count f H.fields c
+  pub structure : (weight : Weight) → structure_sum g H.fields weight ≡ structure_sum f H.fields weight
+  pub contents : (of : Mapping → ℕ) → contents_sum g H.fields of + table_sum f H.fields of i ≡ contents_sum f H.fields of + table_sum g H.fields of i
+  pub references : (c : ℕ) → refs g H.fields c + table_sum f H.fields (of_mapping H.fields (meets H.fields c)) i ≡ refs f H.fields c + table_sum g H.fields (of_mapping H.fields (meets H.fields c)) i
+  pub free : (c : ℕ) → refs f H.fields c ≡ 0 → Same f g (c * cluster_size H.fields) (cluster_size H.fields)
+
+-- The same, and the image is consistent: guest clusters of other tables show what they did.
+pub record TableRewritten (f g : Bytes) (H : Header) (i : ℕ) : Type 0 where
+  pub written : TableWritten f g H i
+  pub consistent : IsConsistent g H
+  pub elsewhere : (guest : ℕ) → guest / words_of_cluster H.fields ≢ i → ShowsAs g f H.fields guest
 
 -- Word j of L2 table i was written, and names cluster c as copied data, which nothing named: no other cluster's references change.
 pub record ClusterMapped (f g : Bytes) (H : Header) (i j c : ℕ) : Type 0 where

@@ -1,19 +1,19 @@
 //! What one write into a consistent image leaves. The functions do nothing, and their contracts are the laws: f is the file
 //! before the write, and the image stays consistent under the same header.
 
-ghost use Rattle.std.specs.Prelude.{◌≡◌, ◌≢◌, ◌≤◌, ◌<◌, ◌+◌, ◌*◌, ◌/◌, ◌%◌, ◌^◌, ℕ, List, [], ◌∷◌, length, true, IsTrue, Ok};
+ghost use Rattle.std.specs.Prelude.{◌≡◌, ◌≢◌, ◌≤◌, ◌<◌, ◌+◌, ◌*◌, ◌/◌, ◌%◌, ◌^◌, ℕ, List, [], ◌∷◌, length, true, IsTrue, IsFalse, Ok};
 ghost use Rattle.std.specs.Int.{w64, to_be_bytes};
 ghost use Rattle.qcow2_types.specs.Bytes.{Bytes, be, bytes_of, word, splice};
-ghost use Rattle.qcow2_types.specs.Words.{data_at, unmapped, mapping_of, l1_word_sound, table_offset, block_word_sound, block_offset};
+ghost use Rattle.qcow2_types.specs.Words.{data_at, unmapped, is_damaged, mapping_of, l1_word_sound, table_offset, block_word_sound, block_offset};
 ghost use Rattle.qcow2_types.specs.Header.{Header, header_of, cluster_size, words_of_cluster, refcount_table_entries, layout_of};
 ghost use Rattle.qcow2_types.specs.Entries.{l2_table};
 ghost use Rattle.qcow2_types.specs.Counts.{block_at, count, counter, counter_of, counter_bits, counters_of_block};
-ghost use Rattle.qcow2_types.specs.References.{meets, refs};
+ghost use Rattle.qcow2_types.specs.References.{structure, contents, of_mapping, of_copied, meets, refs};
 ghost use Rattle.qcow2_types.specs.Switched.{with_l1_table, with_reftable, with_refcount_table, with_size, newly_named, L1Switched, RefcountTableSwitched, SizeSwitched};
 ghost use Rattle.qcow2_types.specs.Consistency.{IsConsistent};
 ghost use Rattle.qcow2_types.specs.Slots.{slot, Live};
 ghost use Rattle.qcow2_types.specs.Frames.{Outside};
-ghost use Rattle.qcow2_types.specs.Steps.{DataWritten, FreeWritten, BlockWritten, BlockEntered, CounterWritten, ClusterMapped, TableEntered};
+ghost use Rattle.qcow2_types.specs.Steps.{DataWritten, FreeWritten, BlockWritten, BlockEntered, CounterWritten, ClusterMapped, SlotWritten, TableEntered, TableRewritten, TableWritten};
 ghost use Rattle.imago_storage.specs.Disk.{byte};
 ghost use Rattle.qcow2_types.specs.Disk.{at, qcow2};
 ghost use Rattle.qcow2_types.specs.WorkedImage.{of_pieces, image, image_header};
@@ -47,6 +47,34 @@ pub fn mapping_a_free_cluster()
         → (w : ℕ) → w < 2 ^ 64 → (c : ℕ) → mapping_of (layout_of h.fields) w ≡ data_at c true
         → slot f h.fields i j ≡ unmapped → refs f h.fields c ≡ 0 → 1 ≤ count f h.fields c
         → ClusterMapped f (splice f (l2_table f h.fields i + 8 * j) (to_be_bytes w64 w)) h i j c }
+{}
+
+/// A word of an L2 table can be any other that has a meaning, if then each cluster that is named is counted, and each that the
+/// structure or a copied word names is named once. What the old word named it names no more.
+pub fn rewriting_a_word()
+    ensures written { (f : Bytes) (h : Header) → IsConsistent f h → (i j : ℕ) → Live (l2_table f h.fields) h.fields i j
+        → (w : ℕ) → w < 2 ^ 64 → IsFalse (is_damaged (mapping_of (layout_of h.fields) w))
+        → ((c : ℕ) → refs f h.fields c + of_mapping h.fields (meets h.fields c) (mapping_of (layout_of h.fields) w) ≤ count f h.fields c + of_mapping h.fields (meets h.fields c) (slot f h.fields i j))
+        → ((c : ℕ) → 0 < structure f h.fields (meets h.fields c) + contents f h.fields (of_copied h.fields (meets h.fields c)) + of_copied h.fields (meets h.fields c) (mapping_of (layout_of h.fields) w)
+        → refs f h.fields c + of_mapping h.fields (meets h.fields c) (mapping_of (layout_of h.fields) w) ≤ 1 + of_mapping h.fields (meets h.fields c) (slot f h.fields i j))
+        → SlotWritten f (splice f (l2_table f h.fields i + 8 * j) (to_be_bytes w64 w)) h i j (mapping_of (layout_of h.fields) w) }
+    ensures references { (f : Bytes) (h : Header) → IsConsistent f h → (i j : ℕ) → Live (l2_table f h.fields) h.fields i j → (w : ℕ) → w < 2 ^ 64 → (c : ℕ)
+        → refs (splice f (l2_table f h.fields i + 8 * j) (to_be_bytes w64 w)) h.fields c + of_mapping h.fields (meets h.fields c) (slot f h.fields i j)
+        ≡ refs f h.fields c + of_mapping h.fields (meets h.fields c) (mapping_of (layout_of h.fields) w) }
+{}
+
+/// A write into an L2 table, of one word, of some, or of the whole, changes no count and no word of another table; what is named
+/// changes by what the table's words name. Where they have a meaning, each cluster that is named is counted, and each that the
+/// structure or a copied word names is named once, the image stays consistent, and other tables' guest clusters show the same.
+pub fn writing_into_a_table()
+    ensures written { (f : Bytes) (h : Header) → IsConsistent f h → (i : ℕ) → l2_table f h.fields i ≢ 0
+        → (g : Bytes) (at n : ℕ) → Outside f g at n → 0 < n → l2_table f h.fields i ≤ at → at + n ≤ l2_table f h.fields i + cluster_size h.fields → TableWritten f g h i }
+    ensures rewritten { (f : Bytes) (h : Header) → IsConsistent f h → (i : ℕ) → l2_table f h.fields i ≢ 0
+        → (g : Bytes) (at n : ℕ) → Outside f g at n → 0 < n → l2_table f h.fields i ≤ at → at + n ≤ l2_table f h.fields i + cluster_size h.fields
+        → ((j : ℕ) → j < words_of_cluster h.fields → IsFalse (is_damaged (mapping_of (layout_of h.fields) (word g (l2_table f h.fields i) j))))
+        → ((c : ℕ) → refs g h.fields c ≤ count f h.fields c)
+        → ((c : ℕ) → 0 < structure f h.fields (meets h.fields c) + contents g h.fields (of_copied h.fields (meets h.fields c)) → refs g h.fields c ≤ 1)
+        → TableRewritten f g h i }
 {}
 
 /// A word of the L1 table that named no table can name a counted cluster of zeroes that nothing names.
