@@ -55,5 +55,6 @@ pub mod L1Switch
 pub mod RefcountTableSwitch
 pub mod SizeSwitch
 pub mod TableRewrites
+pub mod TableReplaces
 pub mod HeaderSwitch
 pub mod HeldBytes

@@ -5,7 +5,7 @@ use Rattle.qcow2_types.specs.Words.{Mapping, unmapped, data_at}
 use Rattle.qcow2_types.specs.Header.{Fields, Header, header_of, cluster_size, words_of_cluster}
 use Rattle.qcow2_types.specs.Entries.{l2_table}
 use Rattle.qcow2_types.specs.Counts.{block_at, count, counter, counters_of_block}
-use Rattle.qcow2_types.specs.References.{Weight, structure as structure_sum, contents as contents_sum, of_mapping, meets, refs}
+use Rattle.qcow2_types.specs.References.{Weight, structure as structure_sum, contents as contents_sum, of_cluster, of_mapping, of_table, of_table_or_none, meets, refs}
 use Rattle.qcow2_types.specs.Consistency.{IsConsistent}
 use Rattle.qcow2_types.specs.Slots.{slot, Live}
 use Rattle.qcow2_types.specs.Frames.{Same, Kept, nothing, block, table, l1_word, block_word, ShowsAs}
@@ -106,6 +106,29 @@ pub record TableEntered (f g : Bytes) (H : Header) (i c place : ℕ) : Type 0 wh
   pub references : (d : ℕ) → d ≢ c → refs g H.fields d ≡ refs f H.fields d
   pub shows : (guest : ℕ) → ShowsAs g f H.fields guest
   pub free : (d : ℕ) → refs f H.fields d ≡ 0 → Same f g (d * cluster_size H.fields) (cluster_size H.fields)
+
+-- Word i of the L1 table was written and names the L2 table at this place: no word of another table and no count changes. What is
+-- named changes by the old table, with what its words name, and the new one with what its words name.
+pub record TableReplaced (f g : Bytes) (H : Header) (i place : ℕ) : Type 0 where
+  pub header : header_of true g ≡ Ok H
+  pub kept : Kept f g H.fields (l1_word i)
+  pub here : l2_table g H.fields i ≡ place
+  pub tables : (k : ℕ) → k ≢ i → l2_table g H.fields k ≡ l2_table f H.fields k
+  pub blocks : (b : ℕ) → block_at g H.fields b ≡ block_at f H.fields b
+  pub words : (j : ℕ) → j < words_of_cluster H.fields → word g place j ≡ word f place j
+  pub others : (k m : ℕ) → Live (l2_table f H.fields) H.fields k m → k ≢ i → slot g H.fields k m ≡ slot f H.fields k m
+  pub counts : (d : ℕ) → count g H.fields d ≡ count f H.fields d
+  pub structure : (weight : Weight) → structure_sum g H.fields weight + of_cluster H.fields weight (l2_table f H.fields i) ≡ structure_sum f H.fields weight + weight place (cluster_size H.fields)
+  pub contents : (of : Mapping → ℕ) → contents_sum g H.fields of + of_table_or_none f H.fields of (l2_table f H.fields i) ≡ contents_sum f H.fields of + of_table f H.fields of place
+  pub references : (d : ℕ) → refs g H.fields d + (of_cluster H.fields (meets H.fields d) (l2_table f H.fields i) + of_table_or_none f H.fields (of_mapping H.fields (meets H.fields d)) (l2_table f H.fields i))
+      ≡ refs f H.fields d + (meets H.fields d place (cluster_size H.fields) + of_table f H.fields (of_mapping H.fields (meets H.fields d)) place)
+  pub free : (d : ℕ) → refs f H.fields d ≡ 0 → Same f g (d * cluster_size H.fields) (cluster_size H.fields)
+
+-- The same, and the image is consistent: guest clusters of other tables show what they did.
+pub record TableSwapped (f g : Bytes) (H : Header) (i place : ℕ) : Type 0 where
+  pub replaced : TableReplaced f g H i place
+  pub consistent : IsConsistent g H
+  pub elsewhere : (guest : ℕ) → guest / words_of_cluster H.fields ≢ i → ShowsAs g f H.fields guest
 
 -- Word i of the refcount table, which named no block, was written and names the one in cluster c, at this place. The clusters that it
 -- counts, c perhaps among them, are counted as its bytes say.

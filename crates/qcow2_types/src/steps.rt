@@ -6,14 +6,14 @@ ghost use Rattle.std.specs.Int.{w64, to_be_bytes};
 ghost use Rattle.qcow2_types.specs.Bytes.{Bytes, be, bytes_of, word, splice};
 ghost use Rattle.qcow2_types.specs.Words.{data_at, unmapped, is_damaged, mapping_of, l1_word_sound, table_offset, block_word_sound, block_offset};
 ghost use Rattle.qcow2_types.specs.Header.{Header, header_of, cluster_size, words_of_cluster, refcount_table_entries, layout_of};
-ghost use Rattle.qcow2_types.specs.Entries.{l2_table};
+ghost use Rattle.qcow2_types.specs.Entries.{l2_table, l2_mapping};
 ghost use Rattle.qcow2_types.specs.Counts.{block_at, count, counter, counter_of, counter_bits, counters_of_block};
 ghost use Rattle.qcow2_types.specs.References.{structure, contents, of_mapping, of_copied, meets, refs};
 ghost use Rattle.qcow2_types.specs.Switched.{with_l1_table, with_reftable, with_refcount_table, with_size, newly_named, L1Switched, RefcountTableSwitched, SizeSwitched};
 ghost use Rattle.qcow2_types.specs.Consistency.{IsConsistent};
 ghost use Rattle.qcow2_types.specs.Slots.{slot, Live};
 ghost use Rattle.qcow2_types.specs.Frames.{Outside};
-ghost use Rattle.qcow2_types.specs.Steps.{DataWritten, FreeWritten, BlockWritten, BlockEntered, CounterWritten, ClusterMapped, SlotWritten, TableEntered, TableRewritten, TableWritten};
+ghost use Rattle.qcow2_types.specs.Steps.{DataWritten, FreeWritten, BlockWritten, BlockEntered, CounterWritten, ClusterMapped, SlotWritten, TableEntered, TableReplaced, TableRewritten, TableSwapped, TableWritten};
 ghost use Rattle.imago_storage.specs.Disk.{byte};
 ghost use Rattle.qcow2_types.specs.Disk.{at, qcow2};
 ghost use Rattle.qcow2_types.specs.WorkedImage.{of_pieces, image, image_header};
@@ -84,6 +84,25 @@ pub fn entering_a_table_of_zeroes()
         → (c t : ℕ) → table_offset w ≡ t → t ≢ 0 → t ≡ c * cluster_size h.fields → refs f h.fields c ≡ 0 → 1 ≤ count f h.fields c
         → ((j : ℕ) → j < words_of_cluster h.fields → word f t j ≡ 0)
         → TableEntered f (splice f (h.fields.l1_offset + 8 * i) (to_be_bytes w64 w)) h i c t }
+{}
+
+/// A word of the L1 table can name another table in a cluster that nothing names: no count and no word of another table changes, and
+/// what is named changes by the old table, with what its words name, and the new one with what its words name. Where these have a
+/// meaning, each cluster that is named is counted, and each that the structure or a copied word names is named once, the image stays
+/// consistent, and other tables' guest clusters show the same.
+pub fn naming_another_table()
+    ensures replaced { (f : Bytes) (h : Header) → IsConsistent f h → (i : ℕ) → i < h.fields.l1_entries
+        → (w : ℕ) → w < 2 ^ 64 → IsTrue (l1_word_sound h.fields.cluster_bits w)
+        → (c t : ℕ) → table_offset w ≡ t → t ≢ 0 → t ≡ c * cluster_size h.fields → refs f h.fields c ≡ 0
+        → TableReplaced f (splice f (h.fields.l1_offset + 8 * i) (to_be_bytes w64 w)) h i t }
+    ensures swapped { (f : Bytes) (h : Header) → IsConsistent f h → (i : ℕ) → i < h.fields.l1_entries
+        → (w : ℕ) → w < 2 ^ 64 → IsTrue (l1_word_sound h.fields.cluster_bits w)
+        → (c t : ℕ) → table_offset w ≡ t → t ≢ 0 → t ≡ c * cluster_size h.fields → refs f h.fields c ≡ 0
+        → ((j : ℕ) → j < words_of_cluster h.fields → IsFalse (is_damaged (l2_mapping f h.fields t j)))
+        → ((d : ℕ) → refs (splice f (h.fields.l1_offset + 8 * i) (to_be_bytes w64 w)) h.fields d ≤ count f h.fields d)
+        → ((d : ℕ) → 0 < structure (splice f (h.fields.l1_offset + 8 * i) (to_be_bytes w64 w)) h.fields (meets h.fields d) + contents (splice f (h.fields.l1_offset + 8 * i) (to_be_bytes w64 w)) h.fields (of_copied h.fields (meets h.fields d))
+        → refs (splice f (h.fields.l1_offset + 8 * i) (to_be_bytes w64 w)) h.fields d ≤ 1)
+        → TableSwapped f (splice f (h.fields.l1_offset + 8 * i) (to_be_bytes w64 w)) h i t }
 {}
 
 /// A refcount block that is written whole counts its clusters as its bytes say.
