@@ -10,6 +10,8 @@ use std::alloc::Global;
 use std::process::Abort;
 use std::test::Fail;
 
+mod passing;
+
 // Three bytes written over the end of 4,096 bytes, padded at this alignment up to that size.
 fn padded(rt: &impl Abort, alloc: Global, align: usize, size: u64) -> Result<(), Fault>
     requires { IsAlignment align }

@@ -12,6 +12,8 @@ use std::alloc::AllocError;
 use std::process::Abort;
 use std::test::Fail;
 
+mod flushes;
+
 /// The bytes of an image of 65,536 bytes after 01 02 03 were written at 510: 3,584 of them.
 fn check_worked_image(rt: &impl Abort, bytes: &[u8]) {
     assert_eq!(rt; bytes.len(), 3584);
