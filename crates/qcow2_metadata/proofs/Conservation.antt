@@ -234,7 +234,7 @@ whole_offset bits p place =
     omega (arith, div-add-mod' p (2 ^ bits), none)
 
 -- A word that keeps the cluster of another means zeroes with that cluster.
-kept_means : (layout : Layout) (w : ℕ) (kept : ℕ × Bool) → 9 ≤ layout.cluster_bits → layout.version ≡ 3 → IsInReach layout.cluster_bits kept.0 → kept_for_zero (mapping_of layout w) ≡ Some kept → mapping_of layout (zero_word (kept.0 * 2 ^ layout.cluster_bits) kept.1) ≡ zeroes (Some kept.0) kept.1
+pub kept_means : (layout : Layout) (w : ℕ) (kept : ℕ × Bool) → 9 ≤ layout.cluster_bits → layout.version ≡ 3 → IsInReach layout.cluster_bits kept.0 → kept_for_zero (mapping_of layout w) ≡ Some kept → mapping_of layout (zero_word (kept.0 * 2 ^ layout.cluster_bits) kept.1) ≡ zeroes (Some kept.0) kept.1
 unfolding mapping_of
 kept_means layout w kept low v near e =
     let size : ℕ = 2 ^ layout.cluster_bits in
@@ -251,7 +251,7 @@ kept_means layout w kept low v near e =
     ∙ ap (λ k. zeroes (Some k) kept.1) (mul-div_cancel kept.0 pos))
 
 -- a word that is zeroed and keeps no cluster names none
-zero_means : (layout : Layout) → layout.version ≡ 3 → mapping_of layout 1 ≡ zeroes None false
+pub zero_means : (layout : Layout) → layout.version ≡ 3 → mapping_of layout 1 ≡ zeroes None false
 zero_means layout v = kept_unmarked_word 0 refl (omega arith) layout (place_zero layout.cluster_bits) v ∙ ap (λ (b : Bool). zeroes (if b then Some (0 / 2 ^ layout.cluster_bits) else None) false) (neither layout.external_data)
   where
     place_zero : (bits : ℕ) → is_place bits 0 ≡ true

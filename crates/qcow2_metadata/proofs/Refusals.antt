@@ -108,7 +108,7 @@ only-header writing f =
     (only-then (first_fault (rules_of_shape (fields_of f))) _ (only-rules (rules_of_shape (fields_of f)) (tt, (tt, (tt, (tt, (tt, tt))))))
     (only-then (first_fault (rules_of_size (fields_of f))) _ (only-rules (rules_of_size (fields_of f)) (tt, (tt, (tt, (tt, (tt, tt))))))
     (only-bind (texts_of f (fields_of f)) _ (only-texts f (fields_of f)) (λ header.
-    only-then (first_fault (rules_of_writing writing (fields_of f))) (Ok header) (only-rules (rules_of_writing writing (fields_of f)) (tt, tt)) tt))))
+    only-then (first_fault (rules_of_writing writing (fields_of f))) (Ok header) (only-rules (rules_of_writing writing (fields_of f)) (tt, (tt, tt))) tt))))
 
 -- a header that is refused
 pub header-refusal : (writing : Bool) (f : Bytes) (e : Fault) → header_of writing f ≡ Err e → IsRefusal e

@@ -10,7 +10,7 @@ use Rattle.std.proofs.lemmas.List.{get_or-set_same, get_or-set_other, length-set
 use Rattle.std.proofs.lemmas.List.FromFn.{length-map-range_with_len, get_or-map-range_with_len, map-range_with_len_more}
 use Rattle.std.proofs.lemmas.Nat.{pow-add}
 use Rattle.std.proofs.Math.Nat.{mul-mod_left}
-use Rattle.qcow2_types.specs.Words.{Layout, is_place, max_offset, block_word_sound, block_offset, l1_word_sound}
+use Rattle.qcow2_types.specs.Words.{Layout, is_place, max_offset, block_word_sound, block_offset, l1_word_sound, table_offset}
 use Rattle.qcow2_types.proofs.WordLemmas.{zero-word, zero-l1-word, fresh-l1-word}
 use Rattle.qcow2_metadata.specs.Places.{IsPlaced, place_of}
 use Rattle.qcow2_metadata.specs.Tables.{Kind, l1_words, l2_words, block_words, IsTable, IsLength, AreSound, word_sound, padded}
@@ -91,6 +91,13 @@ module _ (bits c : ℕ) (low : 9 ≤ bits) (near : c * 2 ^ bits ≤ max_offset) 
       let begin : c * 2 ^ bits % 2 ^ bits ≡ 0 = mul-mod_left c (2 ^ bits) in
       let below : nat_le (c * 2 ^ bits) max_offset ≡ true = grind (arith, nat_tests) in
       rw (begin, below) refl
+
+-- the places that words name, of an L2 table and of a refcount block
+pub table_named : (bits c : ℕ) → 9 ≤ bits → c * 2 ^ bits ≤ max_offset → table_offset (2 ^ 63 + c * 2 ^ bits) ≡ c * 2 ^ bits
+table_named bits c low near = let whole : c * 2 ^ bits % 512 ≡ 0 = cluster_sectors bits c low near in omega arith
+
+pub block_named : (bits c : ℕ) → 9 ≤ bits → c * 2 ^ bits ≤ max_offset → block_offset (c * 2 ^ bits) ≡ c * 2 ^ bits
+block_named bits c low near = let whole : c * 2 ^ bits % 512 ≡ 0 = cluster_sectors bits c low near in omega arith
 
 -- the word that names the L2 table in a cluster
 pub l1_word_named : (bits : ℕ) (cluster : Option ℕ) → 9 ≤ bits → IsPlaced bits cluster → IsTrue (l1_word_sound bits (2 ^ 63 + place_of bits cluster))

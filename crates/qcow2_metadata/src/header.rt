@@ -20,6 +20,10 @@ use std::marker::Model;
 /// The greatest length of a backing file's name, in bytes.
 const MAX_BACKING_NAME: u32 = 1023;
 
+/// How many bytes a pointer write has: those up to the number of snapshots. A power of two, they are one request at every
+/// alignment.
+const FIRST_FIELDS: usize = 64;
+
 /// The header of a qcow2 image.
 ///
 /// Contracts see its fields as the file has them, and the bytes of its texts: the backing file's name and format, the

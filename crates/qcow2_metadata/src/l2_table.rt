@@ -392,6 +392,8 @@ impl L2TableWriteGuard<'_> {
         requires some { (0 < cluster) ⊎ (self.old.table.now.layout.external_data ≡ true) }
         ensures table { self.new.table.now ≡ with_word self.old.table.now index (2 ^ 63 + cluster * 2 ^ self.old.table.now.layout.cluster_bits) }
         ensures back { result ≡ freed (replaced cluster (allocation_of self.old.table.now.layout.cluster_bits (mapping_of self.old.table.now.layout (slice_index self.old.table.now.words index)))) }
+        // It is the same table, so that what calls do to it adds up.
+        ensures same { self.new.table.ghost_name ≡ self.old.table.ghost_name }
         ensures conserved { Conserves self.old.table.now.layout.cluster_bits (mapping_of self.old.table.now.layout (slice_index self.old.table.now.words index)) (mapping_of self.old.table.now.layout (2 ^ 63 + cluster * 2 ^ self.old.table.now.layout.cluster_bits)) result (newly cluster (allocation_of self.old.table.now.layout.cluster_bits (mapping_of self.old.table.now.layout (slice_index self.old.table.now.words index)))) }
     {
         self.table.map_at(index, cluster, pending)
@@ -412,6 +414,7 @@ impl L2TableWriteGuard<'_> {
         ensures possible { IsOk result ↔ (self.old.table.now.layout.version ≡ 3) }
         ensures refused { IsOkUnless result Fault.VersionLimit }
         ensures stays { OnErr result (self.new.table.now ≡ self.old.table.now) }
+        ensures same { self.new.table.ghost_name ≡ self.old.table.ghost_name }
         ensures table { OnOk result (self.new.table.now ≡ with_word self.old.table.now index (zeroed_word self.old.table.now.layout.cluster_bits (kept_where keep_allocation (mapping_of self.old.table.now.layout (slice_index self.old.table.now.words index))))) }
         ensures back { IfOk result (λ entry. entry ≡ freed (unkept (is_some (kept_where keep_allocation (mapping_of self.old.table.now.layout (slice_index self.old.table.now.words index)))) (allocation_of self.old.table.now.layout.cluster_bits (mapping_of self.old.table.now.layout (slice_index self.old.table.now.words index))))) }
         ensures conserved { IfOk result (λ entry. Conserves self.old.table.now.layout.cluster_bits (mapping_of self.old.table.now.layout (slice_index self.old.table.now.words index)) (mapping_of self.old.table.now.layout (zeroed_word self.old.table.now.layout.cluster_bits (kept_where keep_allocation (mapping_of self.old.table.now.layout (slice_index self.old.table.now.words index))))) entry (λ c. 0)) }
@@ -425,6 +428,7 @@ impl L2TableWriteGuard<'_> {
     pub fn discard_cluster(&mut self, index: usize) -> Option<ClustersToFreeEntry>
         requires { index < length self.old.table.now.words }
         ensures table { self.new.table.now ≡ with_word self.old.table.now index 0 }
+        ensures same { self.new.table.ghost_name ≡ self.old.table.ghost_name }
         ensures back { result ≡ freed (allocation_of self.old.table.now.layout.cluster_bits (mapping_of self.old.table.now.layout (slice_index self.old.table.now.words index))) }
         ensures conserved { Conserves self.old.table.now.layout.cluster_bits (mapping_of self.old.table.now.layout (slice_index self.old.table.now.words index)) (mapping_of self.old.table.now.layout 0) result (λ c. 0) }
     {

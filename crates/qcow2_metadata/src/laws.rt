@@ -1,11 +1,12 @@
 //! What callers may rest on beside the contract of each call. The functions do nothing, and their contracts are the laws.
 
-ghost use Rattle.std.specs.Prelude.{◌≡◌, ◌⊎◌, ◌≤◌, ◌+◌, ◌*◌, ◌^◌, ◌<◌, ◌-◌, ℕ, Bool, true, None, Ok, List, length, slice_index, slice_set};
-ghost use Rattle.qcow2_types.specs.Bytes.{Bytes, bytes_of, run, splice};
+ghost use Rattle.std.specs.Prelude.{◌≡◌, ◌⊎◌, ◌≤◌, ◌+◌, ◌*◌, ◌^◌, ◌<◌, ◌-◌, ℕ, Bool, true, false, None, Some, Ok, List, length, slice_index, slice_set};
+ghost use Rattle.qcow2_types.specs.Bytes.{Bytes, run, splice};
 ghost use Rattle.qcow2_types.specs.Header.{Header as HeaderRecord, header_of, first_fault, layout_of, rules_of_size};
 ghost use Rattle.qcow2_types.specs.HeaderBytes.{first_bytes, header_bytes, written, new_header};
 ghost use Rattle.qcow2_types.specs.HeaderSwitch.{OnlyPlaces, IsNameBehind};
-ghost use Rattle.qcow2_types.specs.Words.{data_at, mapping_of};
+ghost use Rattle.qcow2_types.specs.Words.{Layout, block_offset, data_at, mapping_of, table_offset, unmapped, zeroes};
+ghost use Rattle.qcow2_metadata.specs.Allocations.{kept_for_zero, zeroed_word};
 ghost use Rattle.qcow2_metadata.specs.Blocks.{Packs};
 ghost use Rattle.qcow2_metadata.specs.Places.{IsInReach};
 ghost use Rattle.qcow2_metadata.specs.Reloading.{IsReloadable};
@@ -22,16 +23,11 @@ pub fn counters_have_one_form()
     ensures undone { (counters : List ℕ) (i : ℕ) → i < length counters → slice_set (slice_set counters i (slice_index counters i + 1)) i (slice_index counters i + 1 - 1) ≡ counters }
 {}
 
-/// A table that is loaded and not edited writes the bytes that were read: those of the words in a file, from its place on, are the
-/// file's.
-pub fn loaded_table_is_written_back(file: &[u8], place: usize, entries: usize)
-    requires { place + 8 * entries ≤ length file.now }
-    ensures { table_bytes (words_in (bytes_of file.now) place entries) ≡ run (bytes_of file.now) place (8 * entries) }
-{
-    let _ = place;
-    let _ = entries;
-    let _length = file.len();
-}
+/// A table that is loaded and not edited writes the bytes that were read: those of n words of a file, from a place on, are the
+/// file's, and 0 past its end.
+pub fn loaded_table_is_written_back()
+    ensures { (f : Bytes) (place n : ℕ) → ((p : ℕ) → f p < 256) → table_bytes (words_in f place n) ≡ run f place (8 * n) }
+{}
 
 /// The word that `L2TableWriteGuard::map_cluster` writes for a host cluster other than 0, or for any in an external data file, means
 /// the data in that cluster, with its copied mark.
@@ -44,11 +40,29 @@ pub fn mapped_cluster_is_decoded(header: &Header, cluster: HostCluster)
     let _layout = TableLayout::of_header(header);
 }
 
-/// A pointer write changes the size and the tables' places in the file, and nothing else: where an image's header loads, and one
-/// that differs from it in these alone keeps the rules on them, bytes 0 to 63 of the second over those of the file make a file
-/// that loads it. The backing file's name, where there is one, has to stand behind these bytes.
+/// The word that `L2TableWriteGuard::zero_cluster` writes means zeroes, with the cluster that it keeps and that cluster's mark; the
+/// one that `discard_cluster` writes means that nothing is mapped.
+pub fn zeroed_and_discarded_clusters_are_decoded()
+    ensures zeroed { (layout : Layout) → layout.version ≡ 3 → mapping_of layout (zeroed_word layout.cluster_bits None) ≡ zeroes None false }
+    ensures kept { (layout : Layout) (w : ℕ) (kept : ℕ × Bool) → 9 ≤ layout.cluster_bits → layout.version ≡ 3 → IsInReach layout.cluster_bits kept.0
+        → kept_for_zero (mapping_of layout w) ≡ Some kept → mapping_of layout (zeroed_word layout.cluster_bits (Some kept)) ≡ zeroes (Some kept.0) kept.1 }
+    ensures discarded { (layout : Layout) → mapping_of layout 0 ≡ unmapped }
+{}
+
+/// The words that `L1Table::enter_l2_table` and `RefTable::enter_refblock` write name the places that they were given.
+pub fn entered_places_are_named()
+    ensures table { (bits cluster : ℕ) → 9 ≤ bits → IsInReach bits cluster → table_offset (2 ^ 63 + cluster * 2 ^ bits) ≡ cluster * 2 ^ bits }
+    ensures block { (bits cluster : ℕ) → 9 ≤ bits → IsInReach bits cluster → block_offset (cluster * 2 ^ bits) ≡ cluster * 2 ^ bits }
+{}
+
+/// A pointer write changes the size and the tables' places in the file, and nothing else: where an image's header loads for
+/// writing, and one that differs from it in these alone keeps the rules on them, bytes 0 to 63 of the second over those of the
+/// file make a file that loads it. It is so of a header that loads for reading if the backing file's name, where there is one,
+/// stands behind these bytes.
 pub fn pointer_write_switches_the_header()
-    ensures { (writing : Bool) (f : Bytes) (old new : HeaderRecord) → ((p : ℕ) → f p < 256) → header_of writing f ≡ Ok old → OnlyPlaces old new
+    ensures writing { (f : Bytes) (old new : HeaderRecord) → ((p : ℕ) → f p < 256) → header_of true f ≡ Ok old → OnlyPlaces old new
+        → first_fault (rules_of_size new.fields) ≡ None → header_of true (splice f 0 (first_bytes new.fields)) ≡ Ok new }
+    ensures any { (writing : Bool) (f : Bytes) (old new : HeaderRecord) → ((p : ℕ) → f p < 256) → header_of writing f ≡ Ok old → OnlyPlaces old new
         → first_fault (rules_of_size new.fields) ≡ None → IsNameBehind old.fields → header_of writing (splice f 0 (first_bytes new.fields)) ≡ Ok new }
 {}
 

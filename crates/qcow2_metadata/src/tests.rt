@@ -133,6 +133,16 @@ fn each_refusal(rt: &impl Abort, alloc: Global) -> Result<(), Fault> {
         assert_eq!(rt; answer(alloc, &[change], false)?, Ok(()));
         assert_eq!(rt; answer(alloc, &[change], true)?, Err(Fault::Unsupported));
     }
+    // So is one whose backing file's name begins in bytes 0 to 63; from byte 64 on it is also written.
+    for place in [b"\x18" as &[u8], b"\x3f"] {
+        let named = [(15, place), (19, b"\x08")];
+        assert_eq!(rt; answer(alloc, &named, false)?, Ok(()));
+        assert_eq!(rt; answer(alloc, &named, true)?, Err(Fault::Unsupported));
+    }
+    assert_eq!(rt;
+        answer(alloc, &[(15, b"\x40"), (19, b"\x08")], true)?,
+        Ok(())
+    );
     Ok(())
 }
 
@@ -406,11 +416,13 @@ fn sizes_and_places_are_taken_over(rt: HostRuntime) -> Result<(), Fail> {
 fn call_laws(header: &Header) {
     let _bits = header.cluster_bits();
     laws::counters_have_one_form();
-    laws::loaded_table_is_written_back(&[0; 24], 8, 2);
+    laws::entered_places_are_named();
+    laws::loaded_table_is_written_back();
     laws::mapped_cluster_is_decoded(header, HostCluster(5));
     laws::pointer_write_switches_the_header();
     laws::writing_twice_writes_the_same();
     laws::written_header_loads_again();
+    laws::zeroed_and_discarded_clusters_are_decoded();
 }
 
 fn laws_of_a_header(alloc: Global) -> Result<(), Fault> {

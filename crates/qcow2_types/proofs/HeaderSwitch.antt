@@ -17,7 +17,7 @@ use Rattle.qcow2_types.proofs.HeaderFields.{number-there_4, number-there_8}
 use Rattle.qcow2_types.proofs.HeaderFrame.{header-fields, header-shaped, two-passed}
 use Rattle.qcow2_types.proofs.HeaderLimits.{fields-limited}
 use Rattle.qcow2_types.proofs.BytesLemmas.{pow-more}
-use Rattle.qcow2_types.specs.Words.{is_place, max_offset}
+use Rattle.qcow2_types.specs.Words.{has_bit, is_place, max_offset}
 use Rattle.std.proofs.lemmas.Nat.{mul-le, le-div}
 use Rattle.std.proofs.Math.Nat.{pow-le-pow_right}
 
@@ -361,3 +361,13 @@ first-fields-fit writing f H H' bytes loads only sizes =
   where
     stays : (now was there n : ℕ) → now ≡ was → there ≡ was → there < n → now < n
     stays now was there n a b fits = omega arith
+
+-- A header that loads for writing has its backing file's name, if there is one, behind the bytes that a pointer write writes.
+pub name-behind : (f : Bytes) (H : Header) → header_of true f ≡ Ok H → IsNameBehind H.fields
+name-behind f H loads = subst IsNameBehind (sym (header-fields true f H loads)) (λ named. behind (fields_of f) named (loaded-parts true f H loads).writing_allowed)
+  where
+    behind : (h : Fields) → has_backing_name h ≡ true → first_fault (rules_of_writing true h) ≡ None → 64 ≤ h.backing_offset
+    behind h named passed =
+        let tests = two-passed (has_bit h.incompatible 0 || has_bit h.incompatible 1 || not (h.autoclear == 0)) (has_backing_name h && nat_lt h.backing_offset 64) Unsupported Unsupported [] passed in
+        let apart : nat_lt h.backing_offset 64 ≡ false = rw named at tests.1 in
+        grind (arith, nat_tests)

@@ -144,17 +144,19 @@ rules_of_size h =
     ∷ (not (is_place h.cluster_bits h.refcount_table_offset), DamagedHeader)
     ∷ []
 
--- The dirty bit, the corrupt bit and the autoclear bits are in nobody's way who only reads.
-abbrev pub rules_of_writing : Bool → Fields → List Rule
-rules_of_writing for_writing h =
-    (for_writing && (has_bit h.incompatible 0 || has_bit h.incompatible 1 || not (h.autoclear == 0)), Unsupported)
-    ∷ []
-
--- The backing file's name lies inside the first cluster and is UTF-8. There is none where its offset or its length is 0.
+-- There is no name of a backing file where its offset or its length is 0.
 abbrev pub has_backing_name : Fields → Bool
 has_backing_name h = not (h.backing_offset == 0) && not (h.backing_length == 0)
 
--- the bytes of the backing file's name
+-- The dirty bit, the corrupt bit and the autoclear bits are in nobody's way who only reads, nor is a backing file's name that begins
+-- in bytes 0 to 63, which are written whole where the size or a table's place changes.
+abbrev pub rules_of_writing : Bool → Fields → List Rule
+rules_of_writing for_writing h =
+    (for_writing && (has_bit h.incompatible 0 || has_bit h.incompatible 1 || not (h.autoclear == 0)), Unsupported)
+    ∷ (for_writing && has_backing_name h && nat_lt h.backing_offset 64, Unsupported)
+    ∷ []
+
+-- The backing file's name lies inside the first cluster and is UTF-8: its bytes.
 abbrev pub backing_name_of : Bytes → Fields → List ℕ
 backing_name_of f h = let name = run f h.backing_offset h.backing_length in name
 

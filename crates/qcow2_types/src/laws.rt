@@ -3,21 +3,23 @@
 ghost use Rattle.std.specs.Prelude.{◌≡◌, ◌≤◌, ◌-◌, ◌^◌, ℕ, Bool, Ok};
 ghost use Rattle.qcow2_types.specs.Bytes.{Bytes, be};
 ghost use Rattle.qcow2_types.specs.Words.{table_offset};
-ghost use Rattle.qcow2_types.specs.Header.{Header, header_of, cluster_size};
+ghost use Rattle.qcow2_types.specs.Header.{Header, Limited, header_of, cluster_size};
 ghost use Rattle.qcow2_types.specs.Counts.{counter_bits};
 
 use crate::{
     MAGIC, MAX_CLUSTER_SIZE, MAX_OFFSET, MAX_REFCOUNT_WIDTH, MIN_CLUSTER_SIZE, MIN_REFCOUNT_WIDTH,
 };
 
-/// A header that loads begins with the magic number, and its clusters and counters have sizes between the least and the
-/// greatest.
+/// A header that loads begins with the magic number, its clusters and counters have sizes between the least and the greatest, and
+/// the disk and its tables keep the limits on sizes and places.
 pub fn loaded_header_is_within_limits()
     ensures magic { (writing : Bool) (f : Bytes) (h : Header) → header_of writing f ≡ Ok h → be f 0 4 ≡ MAGIC }
     ensures least_cluster { (writing : Bool) (f : Bytes) (h : Header) → header_of writing f ≡ Ok h → MIN_CLUSTER_SIZE ≤ cluster_size h.fields }
     ensures greatest_cluster { (writing : Bool) (f : Bytes) (h : Header) → header_of writing f ≡ Ok h → cluster_size h.fields ≤ MAX_CLUSTER_SIZE }
     ensures least_width { (writing : Bool) (f : Bytes) (h : Header) → header_of writing f ≡ Ok h → MIN_REFCOUNT_WIDTH ≤ counter_bits h.fields }
     ensures greatest_width { (writing : Bool) (f : Bytes) (h : Header) → header_of writing f ≡ Ok h → counter_bits h.fields ≤ MAX_REFCOUNT_WIDTH }
+    // The sizes of the disk and of the tables, and the tables' places.
+    ensures limited { (writing : Bool) (f : Bytes) (h : Header) → header_of writing f ≡ Ok h → Limited h.fields }
 {}
 
 /// No word of an L1 or L2 table names a place past the greatest.

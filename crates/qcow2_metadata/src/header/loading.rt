@@ -9,7 +9,7 @@ ghost use Rattle.qcow2_metadata.specs.Loading.{file, fields_fault, RefusedBy, No
 ghost use Rattle.qcow2_metadata.specs.Extensions.{known_of, seen_known};
 ghost use Rattle.qcow2_metadata.specs.HeaderView.{seen_text};
 
-use super::{Header, MAX_BACKING_NAME};
+use super::{FIRST_FIELDS, Header, MAX_BACKING_NAME};
 use crate::extensions::{KnownExtensions, known_extensions};
 use crate::features::names_in;
 use crate::reading::read_at;
@@ -164,13 +164,18 @@ impl Header {
         })
     }
 
-    // The rule on images that are to be written: none that is dirty or corrupt, or has an autoclear bit.
+    // The rules on images that are to be written: none that is dirty or corrupt, or has an autoclear bit; and no backing file's
+    // name in the bytes that each change of the size or of a table's place writes.
     fn check_writing(&self, writable: bool) -> Result<(), Fault>
         ensures { result_err result ≡ first_fault (rules_of_writing writable self.now.fields) }
     {
         let dirty = self.v3.incompatible_features & 1 == 1;
         let corrupt = self.v3.incompatible_features >> 1 & 1 == 1;
         if writable && (dirty || corrupt || self.v3.autoclear_features != 0) {
+            return Err(Fault::Unsupported);
+        }
+        let named = self.v2.backing_filename_offset != 0 && self.v2.backing_filename_size != 0;
+        if writable && named && self.v2.backing_filename_offset < FIRST_FIELDS as u64 {
             return Err(Fault::Unsupported);
         }
         Ok(())

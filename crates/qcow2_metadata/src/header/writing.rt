@@ -6,16 +6,13 @@ ghost use Rattle.qcow2_types.specs.HeaderBytes.{first_bytes, fields_bytes, field
 ghost use Rattle.qcow2_metadata.specs.FieldsView.{seen_fields, IsHeader};
 ghost use Rattle.qcow2_metadata.specs.Writing.{IsUnfit, NotAsked};
 
-use super::{Header, MAX_BACKING_NAME};
+use super::{FIRST_FIELDS, Header, MAX_BACKING_NAME};
 use crate::extension_bytes::{push_names, push_text};
 use crate::extensions::{BACKING_FORMAT, EXTERNAL_DATA_FILE};
 use imago_storage::{Fault, Storage, StorageExt};
 use qcow2_types::{OnDiskStruct, V2Header, V3HeaderBase};
 use std::alloc::{AllocError, Global};
 
-/// How many bytes a pointer write has: those up to the number of snapshots. A power of two, they are one request at every
-/// alignment.
-const FIRST_FIELDS: usize = 64;
 /// How many bytes the fields have in version 2.
 const OLDER_LENGTH: usize = 72;
 /// How many bytes the fields have in version 3.
