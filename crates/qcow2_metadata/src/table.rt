@@ -4,7 +4,8 @@
 // stand in a row from the table's place on.
 ghost use Rattle.std.specs.Prelude.{◌≡◌, ℕ, ◌+◌, ◌-◌, ◌*◌, ◌/◌, ◌%◌, ◌^◌, ◌<◌, ◌≤◌, List, length, map, slice_index, OnOk, OnErr, IfOk, IfErr, IsErrOf, IsOkUnless, MatchOption, Some, None, true, false};
 ghost use Rattle.imago_storage.specs.Calls.{CountsFaults, Kept, Reads};
-ghost use Rattle.imago_storage.specs.Through.{Put, PutAtOnce};
+ghost use Rattle.imago_storage.specs.State.{unit_of};
+ghost use Rattle.imago_storage.specs.Through.{IsAtOnce, Put, PutAtOnce};
 ghost use Rattle.qcow2_types.specs.Bytes.{bytes_of};
 ghost use Rattle.qcow2_types.specs.Header.{Shaped, cluster_size, layout_of};
 ghost use Rattle.std.specs.Int.{to_be_bytes, w64};
@@ -160,6 +161,8 @@ pub trait Table: Sized {
     final fn write<S: Storage>(&mut self, alloc: Global, image: &mut S) -> Result<(), Fault>
         requires { IsPlacedTable (value self.old) }
         ensures request { Put (S.state image.old) (S.state image.new) (table_place (value self.old)) (table_bytes (value self.old).words) result }
+        // Where the storage's unit allows it, it is one request; and so is a table that fills one cluster, at every alignment.
+        ensures at_once { IsAtOnce (unit_of (S.state image.old).shape) (table_place (value self.old)) (8 * length (value self.old).words) → PutAtOnce (S.state image.old) (S.state image.new) (table_place (value self.old)) (table_bytes (value self.old).words) result }
         ensures once { 8 * length (value self.old).words ≡ 2 ^ (value self.old).layout.cluster_bits → PutAtOnce (S.state image.old) (S.state image.new) (table_place (value self.old)) (table_bytes (value self.old).words) result }
         ensures ok { OnOk result (value self.new ≡ record (value self.old) { modified = false }) }
         ensures err { OnErr result (value self.new ≡ record (value self.old) { modified = true }) }
@@ -306,6 +309,7 @@ fn bytes_in<T: Table>(alloc: Global, table: &T) -> Result<Vec<u8>, Fault>
 fn put_table<T: Table, S: Storage>(alloc: Global, table: &T, image: &mut S) -> Result<(), Fault>
     requires { IsPlacedTable (T.value table.now) }
     ensures request { Put (S.state image.old) (S.state image.new) (table_place (T.value table.now)) (table_bytes (T.value table.now).words) result }
+    ensures at_once { IsAtOnce (unit_of (S.state image.old).shape) (table_place (T.value table.now)) (8 * length (T.value table.now).words) → PutAtOnce (S.state image.old) (S.state image.new) (table_place (T.value table.now)) (table_bytes (T.value table.now).words) result }
     ensures once { 8 * length (T.value table.now).words ≡ 2 ^ (T.value table.now).layout.cluster_bits → PutAtOnce (S.state image.old) (S.state image.new) (table_place (T.value table.now)) (table_bytes (T.value table.now).words) result }
 {
     let bytes = match bytes_in(alloc, table) {

@@ -1,7 +1,8 @@
 // Writing a header.
 ghost use Rattle.std.specs.Prelude.{◌≡◌, ◌+◌, ◌≤◌, ◌++◌, length, drop, replicate, Some, None, OnOk, OnErr, IfOk, IfErr, IsTrue, IsFalse, if◌then◌else◌};
 ghost use Rattle.std.specs.Result.{result_err};
-ghost use Rattle.imago_storage.specs.Through.{Put, PutAtOnce};
+ghost use Rattle.imago_storage.specs.State.{unit_of};
+ghost use Rattle.imago_storage.specs.Through.{IsAtOnce, Put, PutAtOnce};
 ghost use Rattle.qcow2_types.specs.HeaderBytes.{first_bytes, fields_bytes, fields_length, extensions_bytes, name_bytes, written_fields, written, header_bytes, fits_first_cluster};
 ghost use Rattle.qcow2_metadata.specs.FieldsView.{seen_fields, IsHeader};
 ghost use Rattle.qcow2_metadata.specs.Writing.{IsUnfit, NotAsked};
@@ -140,6 +141,8 @@ impl Header {
     /// `Fault::Storage`, which leave each of these bytes of the file old or new. A refusal leaves the header as it was.
     pub fn write<S: Storage>(&mut self, alloc: Global, image: &mut S) -> Result<(), Fault>
         ensures put { IsTrue (fits_first_cluster self.old) → Put (S.state image.old) (S.state image.new) 0 (header_bytes self.old) result }
+        // Where the storage's unit allows it, it is one request.
+        ensures at_once { IsTrue (fits_first_cluster self.old) → IsAtOnce (unit_of (S.state image.old).shape) 0 (length (header_bytes self.old)) → PutAtOnce (S.state image.old) (S.state image.new) 0 (header_bytes self.old) result }
         ensures limit { IsFalse (fits_first_cluster self.old) → NotAsked self.old (S.state image.old) (S.state image.new) result }
         ensures ok { OnOk result (self.new ≡ written self.old) }
         ensures err { OnErr result (self.new ≡ self.old) }

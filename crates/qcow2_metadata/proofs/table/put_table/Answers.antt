@@ -1,5 +1,6 @@
 use Rattle.std.proofs.Common.{◌≡◌, ◌+◌, ◌*◌, ◌%◌, ◌≤◌, ◌^◌, ◌∙◌, ℕ, List, length, ap, subst, arith}
-use Rattle.imago_storage.specs.Through.{Put, PutAtOnce}
+use Rattle.imago_storage.specs.State.{unit_of}
+use Rattle.imago_storage.specs.Through.{IsAtOnce, Put, PutAtOnce}
 use Rattle.imago_storage.proofs.Once.{put-below, put-at-once}
 use Rattle.qcow2_metadata.specs.Tables.{table_place, table_bytes}
 use Rattle.qcow2_metadata.proofs.PlaceLemmas.{place-whole}
@@ -26,6 +27,24 @@ returns-clause-request g c =
     put-below w.result _ _ c.first_byte-place.result c.deref.result.now w.ensures.unit low w.ensures.ok w.ensures.err w.ensures.stops w.ensures.shape w.ensures.later in
     subst (λ p. Put (g.S.Storage.state c.args.image.now) (g.S.Storage.state w.new.self) p (table_bytes t.words) w.result) place
     (subst (λ (bs : List ℕ). Put (g.S.Storage.state c.args.image.now) (g.S.Storage.state w.new.self) c.first_byte-place.result bs w.result) bytes put)
+
+pub returns-in-Err-clause-at_once : goal.returns-in-Err-clause-at_once
+returns-in-Err-clause-at_once g c = λ range. rw c.in-Err.ensures.refused (put_nothing_at_once _ _ _)
+
+pub returns-clause-at_once : goal.returns-clause-at_once
+returns-clause-at_once g c = λ range.
+    let t = g.T.Table.value c.args.table.now in
+    let w = c.write in
+    let place = c.first_byte-place.ensures.place in
+    let bytes : c.deref.result.now ≡ table_bytes t.words = c.deref.ensures.value ∙ c.in-Ok.ensures.bytes in
+    let long : length c.deref.result.now ≡ 8 * length t.words = ap length bytes ∙ bytes_long t.words in
+    let below : table_place t + 8 * length t.words ≤ 2 ^ 63 = table_below t g.T.InternalEntry.TableEntry.kind c.first_byte-place.ensures.table c.requires in
+    let low : c.first_byte-place.result + length c.deref.result.now ≤ 2 ^ 63 = omega (arith, place, long, below) in
+    let here : IsAtOnce (unit_of (g.S.Storage.state c.args.image.now).shape) c.first_byte-place.result (length c.deref.result.now) = rw (place, long) range in
+    let put : PutAtOnce (g.S.Storage.state c.args.image.now) (g.S.Storage.state w.new.self) c.first_byte-place.result c.deref.result.now w.result =
+    record { put = put-below w.result _ _ c.first_byte-place.result c.deref.result.now w.ensures.unit low w.ensures.ok w.ensures.err w.ensures.stops w.ensures.shape w.ensures.later; once = w.ensures.once here } in
+    subst (λ p. PutAtOnce (g.S.Storage.state c.args.image.now) (g.S.Storage.state w.new.self) p (table_bytes t.words) w.result) place
+    (subst (λ (bs : List ℕ). PutAtOnce (g.S.Storage.state c.args.image.now) (g.S.Storage.state w.new.self) c.first_byte-place.result bs w.result) bytes put)
 
 pub returns-clause-once : goal.returns-clause-once
 returns-clause-once g c = λ full.
