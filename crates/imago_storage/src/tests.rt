@@ -544,3 +544,19 @@ fn a_write_without_room_asks_nothing(rt: HostRuntime) -> Result<(), Fail> {
     }
     Ok(())
 }
+
+// A range of whole units takes no buffer: so it is read also where there is no memory left.
+#[test]
+fn a_read_of_whole_units_takes_no_memory(rt: HostRuntime) -> Result<(), Fail> {
+    let alloc = rt.alloc();
+    let memory = match [9u8; 16].to_vec(alloc) {
+        Ok(bytes) => MemStorage::from_bytes(bytes),
+        Err(_) => return Ok(()),
+    };
+    let Ok(memory) = memory else { return Ok(()) };
+    let mut storage = memory.with_align(4);
+    let mut buf = [0u8; 8];
+    storage.read(alloc, &mut buf, 4)?;
+    assert_eq!(rt; buf.as_slice(), [9u8; 8].as_slice());
+    Ok(())
+}

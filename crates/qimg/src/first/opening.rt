@@ -392,7 +392,7 @@ mod tests {
     use super::super::create::create;
     use super::super::{Disk, alignment};
     use super::*;
-    use imago_storage::{MemStorage, StorageExt};
+    use imago_storage::{FuseStorage, MemStorage, StorageExt};
     use std::process::Abort;
     use std::test::Fail;
 
@@ -441,6 +441,15 @@ mod tests {
         }
     }
 
+    // What a list of calls of a new image is refused with where the storage's first call fails.
+    fn refusal_of_a_fault(alloc: Global) -> Result<Option<Fault>, Fault> {
+        let image = create(alloc, MemStorage::new(alloc), 65536)?;
+        match serve(alloc, FuseStorage::new(image, 1), &[]) {
+            Err(Fault::Memory) => Err(Fault::Memory),
+            answer => Ok(answer.err()),
+        }
+    }
+
     fn new_image(rt: &impl Abort, alloc: Global) -> Result<(), Fault> {
         let mut image = create(alloc, MemStorage::new(alloc), 65536)?;
         let accepted = taken(&mut image, alloc)?;
@@ -484,6 +493,7 @@ mod tests {
         assert_eq!(rt; refusal_of_calls(alloc, &[0], 0)?, header);
         assert_eq!(rt; refusal_of_calls(alloc, &[1], 63)?, other);
         assert_eq!(rt; refusal_of_calls(alloc, &[1], 1543)?, table);
+        assert_eq!(rt; refusal_of_a_fault(alloc)?, Some(Fault::Storage));
         Ok(())
     }
 

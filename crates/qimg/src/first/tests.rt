@@ -263,6 +263,7 @@ fn list_of_calls(rt: &impl Abort, alloc: Global) -> Result<(), Fault> {
     let image = create(alloc, MemStorage::new(alloc).with_align(512), 1000)?;
     let data = Vec::from_slice(alloc, &[4, 5])?;
     let late = Vec::from_slice(alloc, &[4, 5])?;
+    let nothing = Vec::new(alloc);
     let calls = [
         Call::Write { offset: 511, data },
         Call::Flush,
@@ -278,6 +279,15 @@ fn list_of_calls(rt: &impl Abort, alloc: Global) -> Result<(), Fault> {
             offset: 998,
             length: 4,
         },
+        // Nothing is written and nothing read, wherever that is.
+        Call::Write {
+            offset: u64::MAX,
+            data: nothing,
+        },
+        Call::Read {
+            offset: u64::MAX,
+            length: 0,
+        },
     ];
     let (image, answers) = serve(alloc, image, &calls)?;
     match answers.as_slice() {
@@ -287,16 +297,19 @@ fn list_of_calls(rt: &impl Abort, alloc: Global) -> Result<(), Fault> {
             Answer::Bytes(first),
             Answer::Refused(fault),
             Answer::Bytes(last),
+            Answer::Done,
+            Answer::Bytes(none),
         ] => {
             assert_eq!(rt; first.as_slice(), [0, 4, 5, 0].as_slice());
             assert_eq!(rt; *fault, Fault::PastEnd);
             assert_eq!(rt; last.as_slice(), [0, 0, 0, 0].as_slice());
+            assert!(rt; none.is_empty());
         }
         _ => return Err(Fault::Memory),
     }
     let mut disk = Disk::open(alloc, image)?;
     let again = run_calls(&mut disk, alloc, &calls)?;
-    assert_eq!(rt; again.len(), 5);
+    assert_eq!(rt; again.len(), 7);
     Ok(())
 }
 
