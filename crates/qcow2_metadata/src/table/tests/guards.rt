@@ -127,3 +127,49 @@ fn clusters_of_replaced_words(rt: HostRuntime) -> Result<(), Fail> {
     }
     Ok(())
 }
+
+// The header of an image of version 3 with clusters of 512 bytes whose data is in an external file: incompatible feature bit 2.
+fn external_header(alloc: Global) -> Result<Header, Fault> {
+    let mut bytes = [0u8; 104];
+    bytes[..8].copy_from_slice(b"QFI\xfb\x00\x00\x00\x03");
+    bytes[23] = 9;
+    bytes[79] = 4;
+    bytes[99] = 4;
+    bytes[103] = 104;
+    let mut image = MemStorage::from_bytes(Vec::from_slice(alloc, &bytes)?)?;
+    Header::load(alloc, &mut image, true)
+}
+
+// Cluster 0 of an external data file is named by the copied mark alone: as data, and as kept for zeroes. A copy keeps both.
+fn words_for_an_external_file(rt: &impl Abort, alloc: Global) -> Result<(), Fault> {
+    let mut image = MemStorage::new(alloc);
+    image.write(alloc, &[0x80, 0, 0, 0, 0, 0, 0, 0], 2048)?;
+    image.write(alloc, &[0x80, 0, 0, 0, 0, 0, 0, 1], 2056)?;
+    let header = external_header(alloc)?;
+    let table = load_l2(alloc, &mut image, &header, 4)?;
+    let data = L2Mapping::DataFile {
+        host_cluster: HostCluster(0),
+        copied: true,
+    };
+    let kept = L2Mapping::Zero {
+        host_cluster: Some(HostCluster(0)),
+        copied: true,
+    };
+    assert_eq!(rt; mapping(&table, 0), data);
+    assert_eq!(rt; mapping(&table, 1), kept);
+    let copy = table.clone(alloc)?;
+    assert_eq!(rt; mapping(&copy, 0), data);
+    assert_eq!(rt; mapping(&copy, 1), kept);
+    assert_eq!(rt; copy.get(2).to_plain(), 0);
+    Ok(())
+}
+
+#[test]
+fn external_data_is_named_by_its_mark(rt: HostRuntime) -> Result<(), Fail> {
+    let alloc = rt.alloc();
+    match words_for_an_external_file(&rt, alloc) {
+        Err(Fault::Memory) => words_for_an_external_file(&rt, alloc)?,
+        answer => answer?,
+    }
+    Ok(())
+}
