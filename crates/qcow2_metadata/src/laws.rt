@@ -1,15 +1,15 @@
 //! What callers may rest on beside the contract of each call. The functions do nothing, and their contracts are the laws.
 
-ghost use Rattle.std.specs.Prelude.{◌≡◌, ◌⊎◌, ◌≤◌, ◌+◌, ◌*◌, ◌^◌, ◌<◌, ◌-◌, ℕ, Bool, true, false, None, Some, Ok, List, length, slice_index, slice_set};
+ghost use Rattle.std.specs.Prelude.{◌≡◌, ◌≢◌, ◌⊎◌, ◌≤◌, ◌+◌, ◌*◌, ◌^◌, ◌<◌, ◌-◌, ℕ, Bool, true, false, IsTrue, Option, None, Some, Ok, List, [], length, slice_index, slice_set};
 ghost use Rattle.qcow2_types.specs.Bytes.{Bytes, run, splice};
 ghost use Rattle.qcow2_types.specs.Header.{Header as HeaderRecord, header_of, first_fault, layout_of, rules_of_size};
-ghost use Rattle.qcow2_types.specs.HeaderBytes.{first_bytes, header_bytes, written, new_header};
+ghost use Rattle.qcow2_types.specs.HeaderBytes.{first_bytes, fits_first_cluster, header_bytes, written, new_header};
 ghost use Rattle.qcow2_types.specs.HeaderSwitch.{OnlyPlaces, IsNameBehind};
 ghost use Rattle.qcow2_types.specs.Words.{Layout, block_offset, data_at, mapping_of, table_offset, unmapped, zeroes};
 ghost use Rattle.qcow2_metadata.specs.Allocations.{kept_for_zero, zeroed_word};
 ghost use Rattle.qcow2_metadata.specs.Blocks.{Packs};
 ghost use Rattle.qcow2_metadata.specs.Places.{IsInReach};
-ghost use Rattle.qcow2_metadata.specs.Reloading.{IsReloadable};
+ghost use Rattle.qcow2_metadata.specs.Reloading.{is_text, IsReloadable};
 ghost use Rattle.qcow2_metadata.specs.Tables.{table_bytes, words_in};
 
 use crate::Header;
@@ -73,8 +73,10 @@ pub fn writing_twice_writes_the_same()
 {}
 
 /// What was written of a header loads as the header that it is then: `Header::write` writes these bytes at byte 0 of the file. A
-/// new header without texts is one that loads.
+/// new header that fits its first cluster is one that loads, where its texts are UTF-8 and a backing file's name isn't empty.
 pub fn written_header_loads_again()
-    ensures new { (bits order : ℕ) → 9 ≤ bits → bits ≤ 21 → order ≤ 6 → IsReloadable true (new_header bits order None None None) }
+    ensures new { (bits order : ℕ) (name format data_file : Option (List ℕ)) → 9 ≤ bits → bits ≤ 21 → order ≤ 6
+        → IsTrue (fits_first_cluster (new_header bits order name format data_file)) → name ≢ Some [] → IsTrue (is_text name) → IsTrue (is_text format) → IsTrue (is_text data_file)
+        → IsReloadable true (new_header bits order name format data_file) }
     ensures loads { (writing : Bool) (f : Bytes) (h : HeaderRecord) → IsReloadable writing h → header_of writing (splice f 0 (header_bytes h)) ≡ Ok (written h) }
 {}
