@@ -1,13 +1,13 @@
 -- The words that are written to L2 tables, and what they mean.
 use Rattle.std.proofs.Common.{◌≡◌, refl, ℕ, zero, suc, ◌+◌, ◌-◌, ◌*◌, ◌/◌, ◌%◌, ◌^◌, ◌<◌, ◌≤◌, ◌∙◌, ap, sym, subst, arith, List, length, map}
 use Rattle.std.specs.Prelude.{Bool, true, false, not, ◌&&◌, ◌||◌, ◌==◌, nat_le, if◌then◌else◌, IsTrue, Option, Some, None, slice_index, replicate}
-use Rattle.std.proofs.lemmas.Nat.{pow_pos}
+use Rattle.std.proofs.lemmas.Nat.{div-mul-add, mod-pow-add, mod_below, pow_pos}
 use Rattle.std.proofs.Math.Pow.{mod-mod-pow}
 use Rattle.std.proofs.lemmas.List.{length-map, get_or-map}
-use Rattle.qcow2_types.specs.Words.{Layout, unmapped, data_at, zeroes, packed, damaged, mapping_of, is_damaged, is_place, has_bit, max_offset, table_offset, standard_word_sound, names_cluster, packed_place}
+use Rattle.qcow2_types.specs.Words.{Layout, unmapped, data_at, zeroes, packed, damaged, mapping_of, is_damaged, is_copied, is_place, has_bit, max_offset, table_offset, standard_word_sound, names_cluster, packed_place}
 use Rattle.qcow2_types.proofs.WordLemmas.{zero-word}
 use Rattle.qcow2_metadata.specs.Places.{IsInReach}
-use Rattle.qcow2_metadata.specs.Tables.{l2_words, word_sound, AreSound, zero_word, shared_word, without_mark}
+use Rattle.qcow2_metadata.specs.Tables.{l2_words, word_sound, AreSound, zero_word, shared_word, unmarked_mapping, without_mark}
 use Rattle.qcow2_metadata.specs.Allocations.{IsKeptInReach, zeroed_word}
 use Rattle.qcow2_metadata.proofs.TableSteps.{cluster_sectors, cluster_place}
 
@@ -116,6 +116,49 @@ is_not false h = refl
 not_is : (b : Bool) → b ≡ false → IsTrue (not b)
 not_is true h = cc
 not_is false h = refl
+
+-- A part of a word below its mark stays.
+part_same : (w x k : ℕ) → x + k ≤ 63 → w % 2 ^ 63 / 2 ^ x % 2 ^ k ≡ w / 2 ^ x % 2 ^ k
+part_same w x k le =
+    let whole : 63 ≡ 63 - x + x = omega arith in
+    let rest : 63 - x ≡ 63 - x - k + k = omega arith in
+    let parts : w % 2 ^ 63 ≡ w / 2 ^ x % 2 ^ (63 - x) * 2 ^ x + w % 2 ^ x = ap (λ n. w % 2 ^ n) whole ∙ mod-pow-add w (63 - x) x in
+    let upper : w % 2 ^ 63 / 2 ^ x ≡ w / 2 ^ x % 2 ^ (63 - x) = ap (λ n. n / 2 ^ x) parts ∙ div-mul-add (w / 2 ^ x % 2 ^ (63 - x)) (2 ^ x) (w % 2 ^ x) (mod_below w (2 ^ x) (pow_pos x)) in
+    ap (λ n. n % 2 ^ k) upper ∙ (ap (λ n. w / 2 ^ x % 2 ^ n % 2 ^ k) rest ∙ mod-mod-pow (w / 2 ^ x) (63 - x - k) k)
+
+pick_unmarked : (c a n s z p : Bool) (o l k : ℕ) (x : Bool) (y : Option ℕ)
+    → is_damaged (if c then (if a || n then damaged else packed o l) else (if not s then damaged else if z then zeroes y x else if p then data_at k x else unmapped)) ≡ false
+    → (if c then (if false || n then damaged else packed o l) else (if not s then damaged else if z then zeroes y false else if p then data_at k false else unmapped))
+    ≡ unmarked_mapping (if c then (if a || n then damaged else packed o l) else (if not s then damaged else if z then zeroes y x else if p then data_at k x else unmapped))
+pick_unmarked true true n s z p o l k x y h = cc
+pick_unmarked true false true s z p o l k x y h = refl
+pick_unmarked true false false s z p o l k x y h = refl
+pick_unmarked false a n false z p o l k x y h = refl
+pick_unmarked false a n true true p o l k x y h = refl
+pick_unmarked false a n true false true o l k x y h = refl
+pick_unmarked false a n true false false o l k x y h = refl
+
+unmarked_means : (layout : Layout) (v : ℕ) → 9 ≤ layout.cluster_bits → layout.cluster_bits ≤ 21 → layout.external_data ≡ false → is_damaged (mapping_of layout v) ≡ false
+    → mapping_of layout (v % 2 ^ 63) ≡ unmarked_mapping (mapping_of layout v)
+unfolding mapping_of
+unmarked_means layout v low high inside sound =
+    let split : 63 - (70 - layout.cluster_bits) + (70 - layout.cluster_bits) ≡ 63 = omega arith in
+    let a : v % 2 ^ 63 / 2 ^ 62 % 2 ≡ v / 2 ^ 62 % 2 = omega arith in
+    let b : v % 2 ^ 63 / 2 ^ 1 % 2 ^ 8 ≡ v / 2 ^ 1 % 2 ^ 8 = omega arith in
+    let d : v % 2 ^ 63 / 2 ^ 56 % 2 ^ 6 ≡ v / 2 ^ 56 % 2 ^ 6 = omega arith in
+    let e : v % 2 ^ 63 / 2 ^ 0 % 2 ≡ v / 2 ^ 0 % 2 = omega arith in
+    let offset : table_offset (v % 2 ^ 63) ≡ table_offset v = omega arith in
+    let none : v % 2 ^ 63 / 2 ^ 63 % 2 ≡ 0 = omega arith in
+    let place : v % 2 ^ 63 % 2 ^ (70 - layout.cluster_bits) ≡ v % 2 ^ (70 - layout.cluster_bits) = ap (λ n. v % 2 ^ n % 2 ^ (70 - layout.cluster_bits)) (sym split) ∙ mod-mod-pow v (63 - (70 - layout.cluster_bits)) (70 - layout.cluster_bits) in
+    let sectors : v % 2 ^ 63 / 2 ^ (70 - layout.cluster_bits) % 2 ^ (layout.cluster_bits - 8) ≡ v / 2 ^ (70 - layout.cluster_bits) % 2 ^ (layout.cluster_bits - 8) = part_same v (70 - layout.cluster_bits) (layout.cluster_bits - 8) (omega arith) in
+    rw (a, b, d, e, offset, none, place, sectors, inside)
+    (pick_unmarked (has_bit v 62) (has_bit v 63) (nat_le (2 ^ 56) (packed_place layout.cluster_bits v)) (standard_word_sound layout v) (has_bit v 0) (not (table_offset v == 0) || (false && is_copied v)) _ _ _ _ _ (rw inside at sound))
+
+-- A word of a copy means what it did, without the mark.
+pub shared_means : (layout : Layout) (w : ℕ) → 9 ≤ layout.cluster_bits → layout.cluster_bits ≤ 21 → layout.external_data ≡ false → is_damaged (mapping_of layout w) ≡ false
+    → mapping_of layout (shared_word layout w) ≡ unmarked_mapping (mapping_of layout w)
+shared_means layout w low high inside sound =
+    ap (λ (b : Bool). mapping_of layout (if b then w else without_mark w)) inside ∙ unmarked_means layout w low high inside sound
 
 -- a word of a copy is as sound
 shared_one : (layout : Layout) (w : ℕ) → 9 ≤ layout.cluster_bits → IsTrue (word_sound l2_words layout w) → IsTrue (word_sound l2_words layout (shared_word layout w))

@@ -5,12 +5,12 @@ ghost use Rattle.qcow2_types.specs.Bytes.{Bytes, run, splice};
 ghost use Rattle.qcow2_types.specs.Header.{Header as HeaderRecord, header_of, first_fault, layout_of, rules_of_size};
 ghost use Rattle.qcow2_types.specs.HeaderBytes.{first_bytes, fits_first_cluster, header_bytes, written, new_header};
 ghost use Rattle.qcow2_types.specs.HeaderSwitch.{OnlyPlaces, IsNameBehind};
-ghost use Rattle.qcow2_types.specs.Words.{Layout, block_offset, data_at, mapping_of, table_offset, unmapped, zeroes};
+ghost use Rattle.qcow2_types.specs.Words.{Layout, block_offset, data_at, is_damaged, mapping_of, table_offset, unmapped, zeroes};
 ghost use Rattle.qcow2_metadata.specs.Allocations.{kept_for_zero, zeroed_word};
 ghost use Rattle.qcow2_metadata.specs.Blocks.{Packs};
 ghost use Rattle.qcow2_metadata.specs.Places.{IsInReach};
 ghost use Rattle.qcow2_metadata.specs.Reloading.{is_text, IsReloadable};
-ghost use Rattle.qcow2_metadata.specs.Tables.{table_bytes, words_in};
+ghost use Rattle.qcow2_metadata.specs.Tables.{shared_word, table_bytes, unmarked_mapping, words_in};
 
 use crate::Header;
 use crate::layout::TableLayout;
@@ -47,6 +47,14 @@ pub fn zeroed_and_discarded_clusters_are_decoded()
     ensures kept { (layout : Layout) (w : ℕ) (kept : ℕ × Bool) → 9 ≤ layout.cluster_bits → layout.version ≡ 3 → IsInReach layout.cluster_bits kept.0
         → kept_for_zero (mapping_of layout w) ≡ Some kept → mapping_of layout (zeroed_word layout.cluster_bits (Some kept)) ≡ zeroes (Some kept.0) kept.1 }
     ensures discarded { (layout : Layout) → mapping_of layout 0 ≡ unmapped }
+{}
+
+/// A word of a copy that `L2Table::clone` makes means what the word did, without the copied mark; with an external data file it is
+/// the word.
+pub fn copied_words_are_decoded()
+    ensures inside { (layout : Layout) (w : ℕ) → 9 ≤ layout.cluster_bits → layout.cluster_bits ≤ 21 → layout.external_data ≡ false → is_damaged (mapping_of layout w) ≡ false
+        → mapping_of layout (shared_word layout w) ≡ unmarked_mapping (mapping_of layout w) }
+    ensures external { (layout : Layout) (w : ℕ) → layout.external_data ≡ true → shared_word layout w ≡ w }
 {}
 
 /// The words that `L1Table::enter_l2_table` and `RefTable::enter_refblock` write name the places that they were given.

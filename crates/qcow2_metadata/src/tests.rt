@@ -416,6 +416,7 @@ fn sizes_and_places_are_taken_over(rt: HostRuntime) -> Result<(), Fail> {
 fn call_laws(header: &Header) {
     let _bits = header.cluster_bits();
     laws::counters_have_one_form();
+    laws::copied_words_are_decoded();
     laws::entered_places_are_named();
     laws::loaded_table_is_written_back();
     laws::mapped_cluster_is_decoded(header, HostCluster(5));
