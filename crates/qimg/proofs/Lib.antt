@@ -15,3 +15,7 @@ pub mod OpeningLemmas
 pub mod CreatedImage
 pub mod OpensLemmas
 pub mod WorkedLemmas
+pub mod PlainReads
+pub mod PlainTables
+pub mod PlainImage
+pub mod PlainFiles

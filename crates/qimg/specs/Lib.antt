@@ -9,3 +9,4 @@ pub mod RunFaults
 pub mod Created
 pub mod Opening
 pub mod Opens
+pub mod Plain

@@ -4,6 +4,7 @@
 ghost use Rattle.std.specs.Prelude.{◌≡◌, IsOk, IsErr};
 
 pub mod first;
+pub mod plain;
 
 use first::RunFault;
 use std::io;

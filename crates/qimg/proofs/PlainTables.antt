@@ -1,0 +1,278 @@
+-- What plain reads show by the tables that are loaded.
+use Rattle.std.proofs.Common.{◌≡◌, ◌≢◌, ℕ, ◌+◌, ◌-◌, ◌*◌, ◌/◌, ◌%◌, ◌^◌, ◌<◌, ◌≤◌, refl, arith, ap, sym, ◌∙◌, List, [], length, inl, inr}
+use Rattle.std.specs.Prelude.{Bool, true, false, not, cond, ◌&&◌, ◌==◌, nat_le, nat_lt, slice_index, IsTrue, IsFalse, Result, Ok, Err, OnOk, IfOk, IfErr, Some, None}
+use Rattle.std.proofs.lemmas.Bool.{cases_lt, le-ltb}
+use Rattle.std.proofs.lemmas.Bool.Decides.{nat_tests}
+use Rattle.std.proofs.lemmas.List.{get_or_past}
+use Rattle.std.proofs.lemmas.Nat.{mod_below, pow_pos}
+use Rattle.std.proofs.Math.Nat.{div-add-mod, div-div-eq-div-mul, pow-le-pow_right}
+use Rattle.imago_storage.specs.State.{StorageState}
+use Rattle.imago_storage.specs.Calls.{Kept}
+use Rattle.imago_storage.specs.Disk.{Value, byte, damaged_place, Shows}
+use Rattle.imago_storage.specs.declared.fault.Fault.{Fault}
+use Rattle.imago_storage.specs.declared.fault.Fault.TheVariants.{Memory, Storage, Limit, DamagedTable}
+use Rattle.qcow2_types.specs.Bytes.{Bytes, word}
+use Rattle.qcow2_types.specs.Words.{Mapping, data_at, zeroes, packed, unmapped, damaged, is_place, max_offset, mapping_of, is_damaged, l1_word_sound, table_offset}
+use Rattle.qcow2_types.specs.Header.{Fields, Header, header_of, cluster_size, words_of_cluster, layout_of, has_external_data, Limited}
+use Rattle.qcow2_types.specs.Entries.{entry, entry_through, l2_table, l2_mapping, l1_table_sound, l2_table_sound}
+use Rattle.qcow2_types.specs.Disk.{shown_by, host_byte}
+use Rattle.qcow2_types.specs.Places.{l2_entries}
+use Rattle.qcow2_types.proofs.Bounded.{all-below}
+use Rattle.qcow2_types.proofs.Sound.{all-below-holds}
+use Rattle.qcow2_types.proofs.HeaderLimits.{header-limited}
+use Rattle.qcow2_types.proofs.TableSizes.{entries_power}
+use Rattle.qcow2_metadata.specs.Tables.{TableValue, AreSound, HasUnsound, WhyNotLoaded, words_in, table_in, place_or_none, l1_words, l2_words}
+use Rattle.qcow2_metadata.proofs.TableFacts.{words_long, words_at}
+use Rattle.qimg.specs.First.{file}
+use Rattle.qimg.specs.Plain.{IsFirstFault, NotShown, NoL1, mapped_value, table_value, image_value, value_fault}
+use Rattle.qimg.proofs.ScanLemmas.{tests-miss}
+use Rattle.qimg.proofs.PlainReads.{ShownSoFar, shown-short, div-near}
+
+-- a place that a cluster begins at
+pub place-whole : (bits offset : ℕ) → is_place bits offset ≡ true → (offset / 2 ^ bits * 2 ^ bits ≡ offset) × (offset ≤ max_offset)
+place-whole bits offset is =
+    let both = parts (offset % 2 ^ bits == 0) (nat_le offset max_offset) is in
+    let zeroth : (offset % 2 ^ bits == 0) ≡ true = both.0 in
+    let low : nat_le offset max_offset ≡ true = both.1 in
+    let whole : offset % 2 ^ bits ≡ 0 = grind (arith, nat_tests) in
+    (omega (arith, div-add-mod offset (2 ^ bits)), grind (arith, nat_tests))
+  where
+    parts : (a b : Bool) → (a && b) ≡ true → (a ≡ true) × (b ≡ true)
+    parts true true e = (refl, refl)
+    parts true false e = absurd cc
+    parts false b e = absurd cc
+
+-- a place, or none
+pub none-place : (offset : ℕ) → None ≡ place_or_none offset → offset ≡ 0
+none-place offset is = pick (offset == 0) refl is
+  where
+    pick : (b : Bool) → (offset == 0) ≡ b → None ≡ cond b None (Some offset) → offset ≡ 0
+    pick true e is = grind (arith, nat_tests)
+    pick false e is = absurd cc
+
+pub some-place : (offset place : ℕ) → Some place ≡ place_or_none offset → (place ≡ offset) × (offset ≢ 0)
+some-place offset place is = pick (offset == 0) refl is
+  where
+    pick : (b : Bool) → (offset == 0) ≡ b → Some place ≡ cond b None (Some offset) → (place ≡ offset) × (offset ≢ 0)
+    pick true e is = absurd cc
+    pick false e is = (cc, λ none. grind (arith, nat_tests))
+
+module _ (f : Bytes) (H : Header) (loads : header_of false f ≡ Ok H) where
+  -- the L1 table begins with a cluster that words can name
+  pub l1-place : (cluster : ℕ) → cluster ≡ H.fields.l1_offset / 2 ^ H.fields.cluster_bits → (cluster * 2 ^ H.fields.cluster_bits ≡ H.fields.l1_offset) × (cluster * 2 ^ H.fields.cluster_bits ≤ max_offset)
+  l1-place cluster is =
+      let limited : Limited H.fields = header-limited false f H loads in
+      let here = place-whole H.fields.cluster_bits H.fields.l1_offset limited.l1_place in
+      let at : cluster * 2 ^ H.fields.cluster_bits ≡ H.fields.l1_offset = ap (λ c. c * 2 ^ H.fields.cluster_bits) is ∙ here.0 in
+      (at, omega (arith, here.1))
+
+  -- its words
+  pub l1-words : (result : Result TableValue Fault) (cluster : ℕ) → cluster ≡ H.fields.l1_offset / 2 ^ H.fields.cluster_bits → IfOk result (λ table. table ≡ table_in f H.fields cluster H.fields.l1_entries)
+      → IfOk result (λ table. table.words ≡ words_in f H.fields.l1_offset H.fields.l1_entries)
+  l1-words (Err _) cluster is found = tt
+  l1-words (Ok table) cluster is found = ap (λ t. t.words) found ∙ ap (λ p. words_in f p H.fields.l1_entries) (l1-place cluster is).0
+
+  -- all of them have a meaning
+  all-sound : (cluster : ℕ) → cluster ≡ H.fields.l1_offset / 2 ^ H.fields.cluster_bits → AreSound l1_words (layout_of H.fields) (words_in f (cluster * cluster_size H.fields) H.fields.l1_entries) → l1_table_sound f H.fields ≡ true
+  unfolding l1_table_sound
+  all-sound cluster is sound = all-below-holds H.fields.l1_entries (λ i. l1_word_sound H.fields.cluster_bits (word f H.fields.l1_offset i)) (λ i lt.
+      let same : slice_index (words_in f (cluster * cluster_size H.fields) H.fields.l1_entries) i ≡ word f H.fields.l1_offset i = words_at f _ _ i lt ∙ ap (λ p. word f p i) (l1-place cluster is).0 in
+      let inside : i < length (words_in f (cluster * cluster_size H.fields) H.fields.l1_entries) = omega (arith, words_long f (cluster * cluster_size H.fields) H.fields.l1_entries) in
+      ap (l1_word_sound H.fields.cluster_bits) (sym same) ∙ sound i inside)
+
+  pub l1-sound : (result : Result TableValue Fault) (cluster : ℕ) → cluster ≡ H.fields.l1_offset / 2 ^ H.fields.cluster_bits → OnOk result (AreSound l1_words (layout_of H.fields) (words_in f (cluster * cluster_size H.fields) H.fields.l1_entries))
+      → OnOk result (IsTrue (l1_table_sound f H.fields))
+  l1-sound (Err _) cluster is sound = tt
+  l1-sound (Ok _) cluster is sound = all-sound cluster is sound
+
+  -- one of them has none
+  one-unsound : (cluster : ℕ) → cluster ≡ H.fields.l1_offset / 2 ^ H.fields.cluster_bits → HasUnsound l1_words (layout_of H.fields) (words_in f (cluster * cluster_size H.fields) H.fields.l1_entries) → l1_table_sound f H.fields ≡ false
+  unfolding l1_table_sound
+  one-unsound cluster is unsound =
+      let i : ℕ = unsound.0 in
+      let lt : i < H.fields.l1_entries = omega (arith, words_long f (cluster * cluster_size H.fields) H.fields.l1_entries, unsound.1) in
+      let same : slice_index (words_in f (cluster * cluster_size H.fields) H.fields.l1_entries) i ≡ word f H.fields.l1_offset i = words_at f _ _ i lt ∙ ap (λ p. word f p i) (l1-place cluster is).0 in
+      tests-miss H.fields.l1_entries i (λ k. l1_word_sound H.fields.cluster_bits (word f H.fields.l1_offset k)) lt (ap (l1_word_sound H.fields.cluster_bits) (sym same) ∙ unsound.2)
+
+-- why the L1 table isn't loaded
+l1-why : (old new : StorageState) (H : Header) → header_of false (file old) ≡ Ok H → (cluster : ℕ) → cluster ≡ H.fields.l1_offset / 2 ^ H.fields.cluster_bits → (fault : Fault)
+    → WhyNotLoaded l1_words (layout_of H.fields) (words_in (file old) (cluster * cluster_size H.fields) H.fields.l1_entries) old.faults new.faults fault → NoL1 old new H.fields fault
+l1-why old new H loads cluster is Memory why = why
+l1-why old new H loads cluster is Storage why = why
+l1-why old new H loads cluster is DamagedTable why = (one-unsound (file old) H loads cluster is why.0, why.1)
+l1-why old new H loads cluster is (Limit n) why =
+    let limited : Limited H.fields = header-limited false (file old) H loads in
+    absurd (omega (arith, why.0, why.1, words_long (file old) (cluster * cluster_size H.fields) H.fields.l1_entries, limited.l1_entries))
+l1-why old new H loads cluster is fault why = absurd why
+
+pub l1-refused : (result : Result TableValue Fault) (old new : StorageState) (H : Header) → header_of false (file old) ≡ Ok H → (cluster : ℕ) → cluster ≡ H.fields.l1_offset / 2 ^ H.fields.cluster_bits
+    → IfErr result (WhyNotLoaded l1_words (layout_of H.fields) (words_in (file old) (cluster * cluster_size H.fields) H.fields.l1_entries) old.faults new.faults) → IfErr result (NoL1 old new H.fields)
+l1-refused (Ok _) old new H loads cluster is why = tt
+l1-refused (Err fault) old new H loads cluster is why = l1-why old new H loads cluster is fault why
+
+-- the L2 table by a word of the L1 table, past whose end there is none
+pub l2-found : (f : Bytes) (h : Fields) (words : List ℕ) (i : ℕ) → words ≡ words_in f h.l1_offset h.l1_entries → l2_table f h i ≡ table_offset (slice_index words i)
+l2-found f h words i is = elim (cases_lt i h.l1_entries) [
+  | inl lt ↦
+      let inside : nat_lt i h.l1_entries ≡ true = grind (arith, nat_tests) in
+      ap (λ b. cond b (table_offset (word f h.l1_offset i)) 0) inside ∙ ap table_offset (sym (ap (λ ws. slice_index ws i) is ∙ words_at f h.l1_offset h.l1_entries i lt))
+  | inr le ↦
+      let past : nat_lt i h.l1_entries ≡ false = le-ltb _ _ le in
+      let none : slice_index words i ≡ 0 = ap (λ ws. slice_index ws i) is ∙ get_or_past (words_in f h.l1_offset h.l1_entries) i 0 (omega (arith, words_long f h.l1_offset h.l1_entries)) in
+      ap (λ b. cond b (table_offset (word f h.l1_offset i)) 0) past ∙ ap table_offset (sym none)
+]
+
+-- where it begins with a cluster
+pub l2-place : (f : Bytes) (h : Fields) (i : ℕ) → IsTrue (l1_table_sound f h) → l2_table f h i ≢ 0 → (l2_table f h i / 2 ^ h.cluster_bits * 2 ^ h.cluster_bits ≡ l2_table f h i) × (l2_table f h i ≤ max_offset)
+unfolding l1_table_sound
+l2-place f h i sound there = elim (cases_lt i h.l1_entries) [
+  | inl lt ↦
+      let inside : nat_lt i h.l1_entries ≡ true = grind (arith, nat_tests) in
+      let same : l2_table f h i ≡ table_offset (word f h.l1_offset i) = ap (λ b. cond b (table_offset (word f h.l1_offset i)) 0) inside in
+      let here : l1_word_sound h.cluster_bits (word f h.l1_offset i) ≡ true = all-below h.l1_entries (λ k. l1_word_sound h.cluster_bits (word f h.l1_offset k)) sound i lt in
+      place-whole h.cluster_bits (l2_table f h i) (ap (is_place h.cluster_bits) same ∙ last _ _ here)
+  | inr le ↦ let past : nat_lt i h.l1_entries ≡ false = le-ltb _ _ le in absurd (there (ap (λ b. cond b (table_offset (word f h.l1_offset i)) 0) past))
+]
+  where
+    last : (a b : Bool) → (a && b) ≡ true → b ≡ true
+    last true b e = e
+    last false b e = absurd cc
+
+-- the value by the mapping, where the data is in the image
+by-mapping : (f : Bytes) (h : Fields) (p : ℕ) (m : Mapping) → has_external_data h ≡ false → shown_by m (host_byte f (λ _. 0) h p) (byte 0) ≡ mapped_value f h.cluster_bits m p
+by-mapping f h p (data_at c copied) inside = rw inside refl
+by-mapping f h p (zeroes c copied) inside = refl
+by-mapping f h p (packed o l) inside = refl
+by-mapping f h p unmapped inside = refl
+by-mapping f h p damaged inside = refl
+
+module _ (f : Bytes) (h : Fields) (sound : IsTrue (l1_table_sound f h)) (inside : IsFalse (has_external_data h)) (p : ℕ) where
+  -- the value by the guest cluster's entry
+  by-entry : (m : Mapping) → entry_through f h (l2_table f h (p / cluster_size h / words_of_cluster h)) (p / cluster_size h % words_of_cluster h) ≡ m → image_value f h p ≡ mapped_value f h.cluster_bits m p
+  unfolding image_value entry
+  by-entry m is =
+      let here : entry f h (p / cluster_size h) ≡ m = ap (λ b. cond b (entry_through f h (l2_table f h (p / cluster_size h / words_of_cluster h)) (p / cluster_size h % words_of_cluster h)) damaged) sound ∙ is in
+      ap (λ x. shown_by x (host_byte f (λ _. 0) h p) (byte 0)) here ∙ by-mapping f h p m (inside)
+
+  -- where there is no L2 table
+  pub value-none : l2_table f h (p / cluster_size h / words_of_cluster h) ≡ 0 → image_value f h p ≡ byte 0
+  value-none none = by-entry unmapped (through (l2_table f h (p / cluster_size h / words_of_cluster h)) none)
+    where
+      through : (t : ℕ) → t ≡ 0 → entry_through f h t (p / cluster_size h % words_of_cluster h) ≡ unmapped
+      through t e = rw e refl
+
+  -- where there is one, with a meaning
+  pub value-there : (t : ℕ) → l2_table f h (p / cluster_size h / words_of_cluster h) ≡ t → t ≢ 0 → l2_table_sound f h t ≡ true → image_value f h p ≡ mapped_value f h.cluster_bits (mapping_of (layout_of h) (word f t (p / cluster_size h % words_of_cluster h))) p
+  value-there t is there sound' =
+      let some : (t == 0) ≡ false = grind (arith, nat_tests) in
+      by-entry (mapping_of (layout_of h) (word f t (p / cluster_size h % words_of_cluster h)))
+      (ap (λ k. entry_through f h k (p / cluster_size h % words_of_cluster h)) is ∙ (rw (some, sound') refl))
+
+  -- where there is one without
+  pub value-damaged : (t : ℕ) → l2_table f h (p / cluster_size h / words_of_cluster h) ≡ t → t ≢ 0 → l2_table_sound f h t ≡ false → image_value f h p ≡ damaged_place
+  value-damaged t is there unsound =
+      let some : (t == 0) ≡ false = grind (arith, nat_tests) in
+      by-entry damaged (ap (λ k. entry_through f h k (p / cluster_size h % words_of_cluster h)) is ∙ (rw (some, unsound) refl))
+
+-- places that one L2 table maps
+pub same-table : (bits at i : ℕ) → let mapped = l2_entries bits * 2 ^ bits in at % mapped + i < mapped → (at + i) / 2 ^ bits / l2_entries bits ≡ at / 2 ^ bits / l2_entries bits
+same-table bits at i near =
+    let turned : 2 ^ bits * l2_entries bits ≡ l2_entries bits * 2 ^ bits = omega arith in
+    div-div-eq-div-mul (at + i) (2 ^ bits) (l2_entries bits)
+    ∙ (ap (λ n. (at + i) / n) turned ∙ (div-near at i (l2_entries bits * 2 ^ bits) near ∙ (ap (λ n. at / n) (sym turned) ∙ sym (div-div-eq-div-mul at (2 ^ bits) (l2_entries bits)))))
+
+-- the two indices of a place, by the numbers that the code has them as
+module _ (f : Bytes) (h : Fields) (sound : IsTrue (l1_table_sound f h)) (inside : IsFalse (has_external_data h)) (words : List ℕ) (are : words ≡ words_in f h.l1_offset h.l1_entries)
+    (at n index : ℕ) (is : index ≡ at / 2 ^ h.cluster_bits / l2_entries h.cluster_bits) (one : at % (l2_entries h.cluster_bits * 2 ^ h.cluster_bits) + n ≤ l2_entries h.cluster_bits * 2 ^ h.cluster_bits) where
+  -- the L2 table of each place of the range
+  its-table : (i : ℕ) → i < n → l2_table f h ((at + i) / cluster_size h / words_of_cluster h) ≡ table_offset (slice_index words index)
+  its-table i lt =
+      let near : (at + i) / 2 ^ h.cluster_bits / l2_entries h.cluster_bits ≡ at / 2 ^ h.cluster_bits / l2_entries h.cluster_bits = same-table h.cluster_bits at i (omega arith) in
+      ap (l2_table f h) (near ∙ sym is) ∙ l2-found f h words index are
+
+  -- without an L2 table the range is zeroes
+  pub none-shown : None ≡ place_or_none (table_offset (slice_index words index)) → (buffer : List ℕ) → length buffer ≡ n → ((i : ℕ) → slice_index buffer i ≡ 0) → Shows (image_value f h) at buffer
+  none-shown none buffer long blank i lt =
+      let less : i < n = omega arith in
+      value-none f h sound inside (at + i) (its-table i less ∙ none-place (table_offset (slice_index words index)) none) ∙ ap byte (sym (blank i))
+
+  -- the place of the table
+  pub table-place : (place : ℕ) → Some place ≡ place_or_none (table_offset (slice_index words index)) → (place / 2 ^ h.cluster_bits * 2 ^ h.cluster_bits ≡ place) × (place ≤ max_offset)
+  table-place place some =
+      let there = some-place (table_offset (slice_index words index)) place some in
+      let named : l2_table f h index ≡ place = l2-found f h words index are ∙ sym there.0 in
+      let whole = l2-place f h index sound (λ e. there.1 (sym (l2-found f h words index are) ∙ e)) in
+      (ap (λ p. p / 2 ^ h.cluster_bits * 2 ^ h.cluster_bits) (sym named) ∙ (whole.0 ∙ named), omega (arith, whole.1))
+
+  module _ (place cluster : ℕ) (some : Some place ≡ place_or_none (table_offset (slice_index words index))) (begins : cluster ≡ place / 2 ^ h.cluster_bits) where
+    begin : cluster * cluster_size h ≡ place
+    begin = ap (λ k. k * 2 ^ h.cluster_bits) begins ∙ (table-place place some).0
+
+    there : place ≢ 0
+    there e =
+        let found = some-place (table_offset (slice_index words index)) place some in
+        found.1 (sym found.0 ∙ e)
+
+    named-here : (i : ℕ) → i < n → l2_table f h ((at + i) / cluster_size h / words_of_cluster h) ≡ place
+    named-here i lt = its-table i lt ∙ sym (some-place (table_offset (slice_index words index)) place some).0
+
+    -- its words are sound as they are loaded
+    loaded-sound : AreSound l2_words (layout_of h) (words_in f (cluster * cluster_size h) (words_of_cluster h)) → l2_table_sound f h place ≡ true
+    unfolding l2_table_sound
+    loaded-sound sound' = all-below-holds (words_of_cluster h) (λ j. not (is_damaged (l2_mapping f h place j))) (λ j lt.
+        let same : slice_index (words_in f (cluster * cluster_size h) (words_of_cluster h)) j ≡ word f place j = words_at f _ _ j lt ∙ ap (λ p. word f p j) begin in
+        let inside' : j < length (words_in f (cluster * cluster_size h) (words_of_cluster h)) = omega (arith, words_long f (cluster * cluster_size h) (words_of_cluster h)) in
+        ap (λ w. not (is_damaged (mapping_of (layout_of h) w))) (sym same) ∙ sound' j inside')
+
+    loaded-unsound : HasUnsound l2_words (layout_of h) (words_in f (cluster * cluster_size h) (words_of_cluster h)) → l2_table_sound f h place ≡ false
+    unfolding l2_table_sound
+    loaded-unsound unsound =
+        let j : ℕ = unsound.0 in
+        let lt : j < words_of_cluster h = omega (arith, words_long f (cluster * cluster_size h) (words_of_cluster h), unsound.1) in
+        let same : slice_index (words_in f (cluster * cluster_size h) (words_of_cluster h)) j ≡ word f place j = words_at f _ _ j lt ∙ ap (λ p. word f p j) begin in
+        tests-miss (words_of_cluster h) j (λ k. not (is_damaged (l2_mapping f h place k))) lt (ap (λ w. not (is_damaged (mapping_of (layout_of h) w))) (sym same) ∙ unsound.2)
+
+    -- the values of the loaded table are those of the image
+    pub loaded-values : 9 ≤ h.cluster_bits → (g : Bytes) (table : TableValue) → g ≡ f → table ≡ table_in f h cluster (words_of_cluster h) → AreSound l2_words (layout_of h) (words_in f (cluster * cluster_size h) (words_of_cluster h))
+        → (i : ℕ) → i < n → image_value f h (at + i) ≡ table_value g table (at + i)
+    loaded-values low g table same loaded sound' i lt =
+        let j : ℕ = (at + i) / cluster_size h % words_of_cluster h in
+        let some' : 0 < words_of_cluster h = rw (entries_power h.cluster_bits low) (pow_pos (h.cluster_bits - 3)) in
+        let less : j < words_of_cluster h = mod_below ((at + i) / cluster_size h) (words_of_cluster h) some' in
+        let own : slice_index (words_in f (cluster * cluster_size h) (words_of_cluster h)) j ≡ word f place j = words_at f _ _ j less ∙ ap (λ p. word f p j) begin in
+        value-there f h sound inside (at + i) place (named-here i lt) there (loaded-sound sound')
+        ∙ (ap (λ w. mapped_value f h.cluster_bits (mapping_of (layout_of h) w) (at + i)) (sym own)
+        ∙ (ap (λ t. table_value f t (at + i)) (sym loaded) ∙ ap (λ (x : Bytes). table_value x table (at + i)) (sym same)))
+
+    -- where the table is damaged the first of them is
+    pub damaged-first : 0 < n → HasUnsound l2_words (layout_of h) (words_in f (cluster * cluster_size h) (words_of_cluster h)) → IsFirstFault (image_value f h) at n DamagedTable
+    damaged-first some' unsound = record {
+      place = 0;
+      inside = some';
+      faulty = ap value_fault (value-damaged f h sound inside (at + 0) place (named-here 0 some') there (loaded-unsound unsound));
+      before = λ i less. absurd (omega arith);
+    }
+
+    -- why the table isn't loaded is why the range isn't read
+    pub table-refused : (old new : StorageState) → h.cluster_bits ≤ 21 → 0 < n → (fault : Fault) → WhyNotLoaded l2_words (layout_of h) (words_in f (cluster * cluster_size h) (words_of_cluster h)) old.faults new.faults fault → NotShown (image_value f h) old new at n fault
+    table-refused old new high some' Memory why = why
+    table-refused old new high some' Storage why = why
+    table-refused old new high some' DamagedTable why = (damaged-first some' why.0, why.1)
+    table-refused old new high some' (Limit k) why =
+        let most : 2 ^ h.cluster_bits ≤ 2 ^ 21 = pow-le-pow_right (omega arith) high in
+        absurd (omega (arith, why.0, why.1, words_long f (cluster * cluster_size h) (words_of_cluster h)))
+    table-refused old new high some' fault why = absurd why
+
+-- nothing is read yet
+pub shown-none : (value : ℕ → Value) (old now : StorageState) (offset : ℕ) (buffer : List ℕ) → Kept old now → now.faults ≡ old.faults → ShownSoFar value old now offset 0 buffer
+shown-none value old now offset buffer kept faults = record { kept = kept; faults = faults; most = omega arith; read = λ i lt. absurd (omega arith) }
+
+-- the same values in other words
+pub shown-as : (result : Result (Unit {0}) Fault) (value value' : ℕ → Value) (at : ℕ) (buffer : List ℕ) → ((i : ℕ) → i < length buffer → value (at + i) ≡ value' (at + i)) → OnOk result (Shows value' at buffer) → OnOk result (Shows value at buffer)
+shown-as (Err _) value value' at buffer same shows = tt
+shown-as (Ok _) value value' at buffer same shows = λ i lt. same i lt ∙ shows i lt
+
+pub unshown-as : (result : Result (Unit {0}) Fault) (value value' : ℕ → Value) (old now new : StorageState) (at n : ℕ) → Kept old now → now.faults ≡ old.faults → ((i : ℕ) → i < n → value (at + i) ≡ value' (at + i)) → IfErr result (NotShown value' now new at n)
+    → IfErr result (NotShown value old new at n)
+unshown-as (Ok _) value value' old now new at n kept faults same why = tt
+unshown-as (Err fault) value value' old now new at n kept faults same why = shown-short value value' old now new at 0 n at n [] fault (shown-none value old now at [] kept faults) (omega arith) (omega arith) same why

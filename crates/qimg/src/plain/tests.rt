@@ -1,0 +1,197 @@
+// Plain reads of the bytes of a worked image, by values from the format's rules.
+//
+// Where an allocation is refused a body ends with `Fault::Memory`, and its test runs it once more: so each test passes
+// whichever one allocation is refused, and fails where a call gives up with memory left.
+use super::*;
+use crate::first::{Disk, create};
+use imago_storage::{FuseStorage, MemStorage, StorageExt};
+use std::process::Abort;
+use std::test::Fail;
+
+// An image of 65,536 bytes after 01 02 03 were written at 510, with these bytes written over its own.
+fn worked(alloc: Global, changes: &[(u64, &[u8])]) -> Result<MemStorage, Fault> {
+    let image = create(alloc, MemStorage::new(alloc), 65536)?;
+    let mut disk = Disk::open(alloc, image)?;
+    disk.write(alloc, &[1, 2, 3], 510)?;
+    let mut image = disk.into_image();
+    for (at, bytes) in changes {
+        image.write(alloc, bytes, *at)?;
+    }
+    Ok(image)
+}
+
+// That image as the only file of a chain.
+fn alone<S>(alloc: Global, format: Format, image: S) -> [ChainFile<S>; 1] {
+    [ChainFile {
+        format,
+        image,
+        extras: Vec::new(alloc),
+    }]
+}
+
+// What a read of so many bytes from an offset on answers.
+fn answer(
+    alloc: Global,
+    changes: &[(u64, &[u8])],
+    offset: u64,
+    buf: &mut [u8],
+) -> Result<Result<(), Fault>, Fault> {
+    let mut files = alone(alloc, Format::Qcow2, worked(alloc, changes)?);
+    match plain_read(alloc, &mut files, offset, buf) {
+        Err(Fault::Memory) => Err(Fault::Memory),
+        answer => Ok(answer),
+    }
+}
+
+fn bytes_shown(rt: &impl Abort, alloc: Global) -> Result<(), Fault> {
+    let mut eight = [7u8; 8];
+    assert_eq!(rt; answer(alloc, &[], 508, &mut eight)?, Ok(()));
+    assert_eq!(rt; eight, [0, 0, 1, 2, 3, 0, 0, 0]);
+    // a word of zeroes, without a cluster
+    let zero: [u8; 8] = [0, 0, 0, 0, 0, 0, 0, 1];
+    let mut three = [7u8; 3];
+    assert_eq!(rt; answer(alloc, &[(2048, &zero)], 510, &mut three)?, Ok(()));
+    assert_eq!(rt; three, [0, 0, 3]);
+    // an L2 table that isn't there, the disk's end, and places past it
+    let mut four = [7u8; 4];
+    assert_eq!(rt; answer(alloc, &[], 40000, &mut four)?, Ok(()));
+    assert_eq!(rt; four, [0, 0, 0, 0]);
+    four = [7; 4];
+    assert_eq!(rt; answer(alloc, &[], 65534, &mut four)?, Ok(()));
+    assert_eq!(rt; four, [0, 0, 0, 0]);
+    four = [7; 4];
+    assert_eq!(rt; answer(alloc, &[], 1 << 40, &mut four)?, Ok(()));
+    assert_eq!(rt; four, [0, 0, 0, 0]);
+    // a range over two L2 tables
+    let mut long = [7u8; 1000];
+    assert_eq!(rt; answer(alloc, &[], 32300, &mut long)?, Ok(()));
+    assert_eq!(rt; long, [0; 1000]);
+    Ok(())
+}
+
+#[test]
+fn an_image_shows_its_bytes(rt: HostRuntime) -> Result<(), Fail> {
+    let alloc = rt.alloc();
+    match bytes_shown(&rt, alloc) {
+        Err(Fault::Memory) => bytes_shown(&rt, alloc)?,
+        answer => answer?,
+    }
+    Ok(())
+}
+
+fn values_refused(rt: &impl Abort, alloc: Global) -> Result<(), Fault> {
+    let mut three = [7u8; 3];
+    let zero: [u8; 8] = [0, 0, 0, 0, 0, 0, 0, 1];
+    let older: [u8; 4] = [0, 0, 0, 2];
+    // a word of zeroes in version 2: its whole table is damaged, but not what another table maps
+    let changes: [(u64, &[u8]); 2] = [(2048, &zero), (4, &older)];
+    let damaged = Err(Fault::DamagedTable);
+    assert_eq!(rt; answer(alloc, &changes, 510, &mut three)?, damaged);
+    assert_eq!(rt; answer(alloc, &changes, 5120, &mut three)?, damaged);
+    assert_eq!(rt; answer(alloc, &changes, 32768, &mut three)?, Ok(()));
+    // a compressed word: a range that ends before it is read, and one that meets it isn't
+    let packed: [u8; 8] = [64, 0, 0, 0, 0, 0, 12, 0];
+    let barred = Err(Fault::Barred);
+    assert_eq!(rt; answer(alloc, &[(2056, &packed)], 510, &mut three)?, barred);
+    assert_eq!(rt; answer(alloc, &[(2056, &packed)], 509, &mut three)?, Ok(()));
+    assert_eq!(rt; three, [0, 1, 2]);
+    // no more is asked of a range past the size
+    assert_eq!(rt; answer(alloc, &changes, 65536, &mut three)?, Ok(()));
+    Ok(())
+}
+
+#[test]
+fn the_first_value_that_cannot_be_read_refuses(rt: HostRuntime) -> Result<(), Fail> {
+    let alloc = rt.alloc();
+    match values_refused(&rt, alloc) {
+        Err(Fault::Memory) => values_refused(&rt, alloc)?,
+        answer => answer?,
+    }
+    Ok(())
+}
+
+fn images_refused(rt: &impl Abort, alloc: Global) -> Result<(), Fault> {
+    let mut two = [7u8; 2];
+    let range = Err(Fault::RangeOverflow);
+    assert_eq!(rt; answer(alloc, &[], u64::MAX, &mut two)?, range);
+    let header = Err(Fault::DamagedHeader);
+    assert_eq!(rt; answer(alloc, &[(0, &[0])], 0, &mut two)?, header);
+    // a reserved bit in a word of the L1 table, before data in an external file, before the range
+    let table = Err(Fault::DamagedTable);
+    let changes: [(u64, &[u8]); 2] = [(1551, &[1]), (79, &[4])];
+    assert_eq!(rt; answer(alloc, &changes, u64::MAX, &mut two)?, table);
+    let other = Err(Fault::Unsupported);
+    assert_eq!(rt; answer(alloc, &[(79, &[4])], u64::MAX, &mut two)?, other);
+    // a backing file with the name "a", at 510
+    let changes: [(u64, &[u8]); 3] = [(14, &[1, 254]), (19, &[1]), (510, &[97])];
+    let below = Err(Fault::MissingBelow);
+    assert_eq!(rt; answer(alloc, &changes, u64::MAX, &mut two)?, below);
+    Ok(())
+}
+
+#[test]
+fn an_image_is_refused_by_its_first_fault(rt: HostRuntime) -> Result<(), Fail> {
+    let alloc = rt.alloc();
+    match images_refused(&rt, alloc) {
+        Err(Fault::Memory) => images_refused(&rt, alloc)?,
+        answer => answer?,
+    }
+    Ok(())
+}
+
+fn lists_refused(rt: &impl Abort, alloc: Global) -> Result<(), Fault> {
+    let mut two = [7u8; 2];
+    let mut none: [ChainFile<MemStorage>; 0] = [];
+    let answer = plain_read(alloc, &mut none, u64::MAX, &mut two);
+    assert_eq!(rt; answer, Err(Fault::MissingBelow));
+    let other = Err(Fault::Unsupported);
+    let mut raw = alone(alloc, Format::Raw, worked(alloc, &[])?);
+    assert_eq!(rt; plain_read(alloc, &mut raw, 0, &mut two), other);
+    let mut vmdk = alone(alloc, Format::Vmdk, worked(alloc, &[])?);
+    assert_eq!(rt; plain_read(alloc, &mut vmdk, 0, &mut two), other);
+    let [first] = raw;
+    let [second] = vmdk;
+    let mut both = [first, second];
+    assert_eq!(rt; plain_read(alloc, &mut both, 0, &mut two), other);
+    Ok(())
+}
+
+#[test]
+fn a_list_that_is_no_one_image_is_refused(rt: HostRuntime) -> Result<(), Fail> {
+    let alloc = rt.alloc();
+    match lists_refused(&rt, alloc) {
+        Err(Fault::Memory) => lists_refused(&rt, alloc)?,
+        answer => answer?,
+    }
+    Ok(())
+}
+
+// Each read of the storage fails in turn, until none does.
+fn faults_in_turn(rt: &impl Abort, alloc: Global) -> Result<(), Fault> {
+    for nth in 1..20u64 {
+        let storage = FuseStorage::new(worked(alloc, &[])?, nth);
+        let mut files = alone(alloc, Format::Qcow2, storage);
+        let mut eight = [7u8; 8];
+        match plain_read(alloc, &mut files, 508, &mut eight) {
+            Ok(()) => {
+                assert_eq!(rt; eight, [0, 0, 1, 2, 3, 0, 0, 0]);
+                assert!(rt; nth > 5);
+                return Ok(());
+            }
+            Err(Fault::Memory) => return Err(Fault::Memory),
+            Err(fault) => assert_eq!(rt; fault, Fault::Storage),
+        }
+    }
+    assert!(rt; false);
+    Ok(())
+}
+
+#[test]
+fn a_fault_of_the_storage_is_told(rt: HostRuntime) -> Result<(), Fail> {
+    let alloc = rt.alloc();
+    match faults_in_turn(&rt, alloc) {
+        Err(Fault::Memory) => faults_in_turn(&rt, alloc)?,
+        answer => answer?,
+    }
+    Ok(())
+}
