@@ -28,7 +28,7 @@ use Rattle.qcow2_types.specs.Words.{l1_word_sound}
 use Rattle.qcow2_types.specs.Header.{layout_of}
 use Rattle.qcow2_types.specs.Versions.{KeepsSlots}
 use Rattle.qcow2_types.specs.Steps.{SurplusKept, FreeWritten, CounterWritten, TableEntered}
-use Rattle.qcow2_types.proofs.Surplus.{surplus-both, surplus-same, surplus-taken}
+use Rattle.qcow2_types.proofs.Surplus.{surplus-taken}
 use Rattle.qcow2_types.proofs.DataSteps.{free-written}
 use Rattle.qcow2_types.proofs.BlockSteps.{counter-raised}
 use Rattle.qcow2_types.proofs.TableSteps.{table-entered-spliced}

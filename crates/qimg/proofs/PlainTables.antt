@@ -1,6 +1,6 @@
 -- What plain reads show by the tables that are loaded.
 use Rattle.std.proofs.Common.{◌≡◌, ◌≢◌, ℕ, ◌+◌, ◌-◌, ◌*◌, ◌/◌, ◌%◌, ◌^◌, ◌<◌, ◌≤◌, refl, arith, ap, sym, ◌∙◌, List, [], length, inl, inr}
-use Rattle.std.specs.Prelude.{Bool, true, false, not, cond, ◌&&◌, ◌==◌, nat_le, nat_lt, slice_index, IsTrue, IsFalse, Result, Ok, Err, OnOk, IfOk, IfErr, Some, None}
+use Rattle.std.specs.Prelude.{Bool, true, false, cond, ◌&&◌, ◌==◌, nat_le, nat_lt, slice_index, IsTrue, IsFalse, Result, Ok, Err, OnOk, IfOk, IfErr, Some, None}
 use Rattle.std.proofs.lemmas.Bool.{cases_lt, le-ltb}
 use Rattle.std.proofs.lemmas.Bool.Decides.{nat_tests}
 use Rattle.std.proofs.lemmas.List.{get_or_past}
@@ -12,9 +12,9 @@ use Rattle.imago_storage.specs.Disk.{Value, byte, damaged_place, Shows}
 use Rattle.imago_storage.specs.declared.fault.Fault.{Fault}
 use Rattle.imago_storage.specs.declared.fault.Fault.TheVariants.{Memory, Storage, Limit, DamagedTable}
 use Rattle.qcow2_types.specs.Bytes.{Bytes, word}
-use Rattle.qcow2_types.specs.Words.{Mapping, data_at, zeroes, packed, unmapped, damaged, is_place, max_offset, mapping_of, is_damaged, l1_word_sound, table_offset}
+use Rattle.qcow2_types.specs.Words.{Mapping, data_at, zeroes, packed, unmapped, damaged, is_place, max_offset, mapping_of, l1_word_sound, table_offset}
 use Rattle.qcow2_types.specs.Header.{Fields, Header, header_of, cluster_size, words_of_cluster, layout_of, has_external_data, Limited}
-use Rattle.qcow2_types.specs.Entries.{entry, entry_through, l2_table, l2_mapping, l1_table_sound, l2_table_sound}
+use Rattle.qcow2_types.specs.Entries.{entry, entry_through, l2_table, l1_table_sound, l2_table_sound}
 use Rattle.qcow2_types.specs.Disk.{shown_by, host_byte}
 use Rattle.qcow2_types.specs.Places.{l2_entries}
 use Rattle.qcow2_types.proofs.Bounded.{all-below}
@@ -25,6 +25,7 @@ use Rattle.qcow2_metadata.specs.Tables.{TableValue, AreSound, HasUnsound, WhyNot
 use Rattle.qcow2_metadata.proofs.TableFacts.{words_long, words_at}
 use Rattle.qimg.specs.First.{file}
 use Rattle.qimg.specs.Plain.{IsFirstFault, NotShown, NoL1, mapped_value, table_value, image_value, value_fault}
+use Rattle.qimg.proofs.L2Words.{l2-word, l2-sound, l2-unsound}
 use Rattle.qimg.proofs.ScanLemmas.{tests-miss}
 use Rattle.qimg.proofs.PlainReads.{ShownSoFar, shown-short, div-near}
 
@@ -216,22 +217,6 @@ module _ (f : Bytes) (h : Fields) (sound : IsTrue (l1_table_sound f h)) (inside 
     named-here : (i : ℕ) → i < n → l2_table f h ((at + i) / cluster_size h / words_of_cluster h) ≡ place
     named-here i lt = its-table i lt ∙ sym (some-place (table_offset (slice_index words index)) place some).0
 
-    -- its words are sound as they are loaded
-    loaded-sound : AreSound l2_words (layout_of h) (words_in f (cluster * cluster_size h) (words_of_cluster h)) → l2_table_sound f h place ≡ true
-    unfolding l2_table_sound
-    loaded-sound sound' = all-below-holds (words_of_cluster h) (λ j. not (is_damaged (l2_mapping f h place j))) (λ j lt.
-        let same : slice_index (words_in f (cluster * cluster_size h) (words_of_cluster h)) j ≡ word f place j = words_at f _ _ j lt ∙ ap (λ p. word f p j) begin in
-        let inside' : j < length (words_in f (cluster * cluster_size h) (words_of_cluster h)) = omega (arith, words_long f (cluster * cluster_size h) (words_of_cluster h)) in
-        ap (λ w. not (is_damaged (mapping_of (layout_of h) w))) (sym same) ∙ sound' j inside')
-
-    loaded-unsound : HasUnsound l2_words (layout_of h) (words_in f (cluster * cluster_size h) (words_of_cluster h)) → l2_table_sound f h place ≡ false
-    unfolding l2_table_sound
-    loaded-unsound unsound =
-        let j : ℕ = unsound.0 in
-        let lt : j < words_of_cluster h = omega (arith, words_long f (cluster * cluster_size h) (words_of_cluster h), unsound.1) in
-        let same : slice_index (words_in f (cluster * cluster_size h) (words_of_cluster h)) j ≡ word f place j = words_at f _ _ j lt ∙ ap (λ p. word f p j) begin in
-        tests-miss (words_of_cluster h) j (λ k. not (is_damaged (l2_mapping f h place k))) lt (ap (λ w. not (is_damaged (mapping_of (layout_of h) w))) (sym same) ∙ unsound.2)
-
     -- the values of the loaded table are those of the image
     pub loaded-values : 9 ≤ h.cluster_bits → (g : Bytes) (table : TableValue) → g ≡ f → table ≡ table_in f h cluster (words_of_cluster h) → AreSound l2_words (layout_of h) (words_in f (cluster * cluster_size h) (words_of_cluster h))
         → (i : ℕ) → i < n → image_value f h (at + i) ≡ table_value g table (at + i)
@@ -239,8 +224,8 @@ module _ (f : Bytes) (h : Fields) (sound : IsTrue (l1_table_sound f h)) (inside 
         let j : ℕ = (at + i) / cluster_size h % words_of_cluster h in
         let some' : 0 < words_of_cluster h = rw (entries_power h.cluster_bits low) (pow_pos (h.cluster_bits - 3)) in
         let less : j < words_of_cluster h = mod_below ((at + i) / cluster_size h) (words_of_cluster h) some' in
-        let own : slice_index (words_in f (cluster * cluster_size h) (words_of_cluster h)) j ≡ word f place j = words_at f _ _ j less ∙ ap (λ p. word f p j) begin in
-        value-there f h sound inside (at + i) place (named-here i lt) there (loaded-sound sound')
+        let own : slice_index (words_in f (cluster * cluster_size h) (words_of_cluster h)) j ≡ word f place j = l2-word f h place cluster begin j less in
+        value-there f h sound inside (at + i) place (named-here i lt) there (l2-sound f h place cluster begin sound')
         ∙ (ap (λ w. mapped_value f h.cluster_bits (mapping_of (layout_of h) w) (at + i)) (sym own)
         ∙ (ap (λ t. table_value f t (at + i)) (sym loaded) ∙ ap (λ (x : Bytes). table_value x table (at + i)) (sym same)))
 
@@ -249,7 +234,7 @@ module _ (f : Bytes) (h : Fields) (sound : IsTrue (l1_table_sound f h)) (inside 
     damaged-first some' unsound = record {
       place = 0;
       inside = some';
-      faulty = ap value_fault (value-damaged f h sound inside (at + 0) place (named-here 0 some') there (loaded-unsound unsound));
+      faulty = ap value_fault (value-damaged f h sound inside (at + 0) place (named-here 0 some') there (l2-unsound f h place cluster begin unsound));
       before = λ i less. absurd (omega arith);
     }
 

@@ -10,3 +10,5 @@ pub mod Created
 pub mod Opening
 pub mod Opens
 pub mod Plain
+pub mod Names
+pub mod Check

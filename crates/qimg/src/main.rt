@@ -3,6 +3,7 @@
 
 ghost use Rattle.std.specs.Prelude.{◌≡◌, IsOk, IsErr};
 
+pub mod check;
 pub mod first;
 pub mod plain;
 

@@ -1,0 +1,90 @@
+-- Adding up all entries, cluster by cluster.
+use Rattle.std.proofs.Common.{◌≡◌, ℕ, ◌+◌, ◌<◌, ◌≤◌, refl, arith, ap, sym, ◌∙◌, List, [], ◌∷◌, ◌++◌, length, take, subst}
+use Rattle.std.specs.Prelude.{slice_index_or}
+use Rattle.std.specs.List.Sorted.{IsPermutation, IsNonDecreasingBy}
+use Rattle.std.proofs.lemmas.List.{take_more, take_all, get_or_default}
+use Rattle.std.proofs.lemmas.List.Sums.{sum_by-take-le}
+use Rattle.std.proofs.lemmas.List.Sorted.{sum_by-IsPermutation}
+use Rattle.qimg.specs.declared.check.names.Naming.{Naming}
+use Rattle.qimg.specs.Names.{part_at, named_by, structure_part, mapped_part, copied_part, named, IsRising, IsFew, EndsBy, Fits, SameParts}
+use Rattle.qimg.proofs.NameLemmas.{named-push}
+use Rattle.qimg.proofs.MergeLemmas.{at-own}
+
+-- another order holds the same
+named-order : (part : Naming → ℕ) (c : ℕ) (xs ys : List Naming) → IsPermutation xs ys → named_by part c ys ≡ named_by part c xs
+unfolding named_by
+named-order part c xs ys moved = sum_by-IsPermutation (part_at part c) xs ys moved
+
+pub order-same : (xs ys : List Naming) → IsPermutation xs ys → SameParts xs ys
+order-same xs ys moved = record {
+  structure = λ c. named-order structure_part c xs ys moved;
+  mapped = λ c. named-order mapped_part c xs ys moved;
+  copied = λ c. named-order copied_part c xs ys moved;
+}
+
+-- the first entries hold no more than all
+named-take : (part : Naming → ℕ) (c i : ℕ) (xs : List Naming) → named_by part c (take i xs) ≤ named_by part c xs
+unfolding named_by
+named-take part c i xs = sum_by-take-le (part_at part c) xs i
+
+pub same-both : (a b c : List Naming) → SameParts a b → SameParts b c → SameParts a c
+same-both a b d p q = record {
+  structure = λ c. q.structure c ∙ p.structure c;
+  mapped = λ c. q.mapped c ∙ p.mapped c;
+  copied = λ c. q.copied c ∙ p.copied c;
+}
+
+-- the entries before this one are added up
+pub record AddedUp (names merged : List Naming) (i : ℕ) : Type 0 where
+  pub rising : IsRising merged
+  pub same : SameParts (take i names) merged
+  pub behind : (j : ℕ) (d : Naming) → i ≤ j → j < length names → EndsBy merged (slice_index_or names j d).cluster
+
+-- one more entry at the back of two lists that hold the same
+push-same : (a b : List Naming) (n : Naming) → SameParts a b → SameParts (a ++ n ∷ []) (b ++ n ∷ [])
+push-same a b n p = record {
+  structure = λ c. named-push structure_part c b n ∙ ap (λ x. x + part_at structure_part c n) (p.structure c) ∙ sym (named-push structure_part c a n);
+  mapped = λ c. named-push mapped_part c b n ∙ ap (λ x. x + part_at mapped_part c n) (p.mapped c) ∙ sym (named-push mapped_part c a n);
+  copied = λ c. named-push copied_part c b n ∙ ap (λ x. x + part_at copied_part c n) (p.copied c) ∙ sym (named-push copied_part c a n);
+}
+
+-- the next entry
+next-take : (xs : List Naming) (i : ℕ) (n : Naming) → i < length xs → n ≡ slice_index_or xs i n → take (i + 1) xs ≡ take i xs ++ n ∷ []
+next-take xs i n lt is = take_more xs i n lt ∙ ap (λ m. take i xs ++ m ∷ []) (sym is)
+
+-- so its sums fit
+pub next-fits : (old xs merged : List Naming) (i : ℕ) (n : Naming) → IsFew old → IsPermutation old xs → i < length xs → n ≡ slice_index_or xs i n → AddedUp xs merged i → Fits merged n
+unfolding named
+next-fits old xs merged i n few moved lt is added =
+    let all : named_by structure_part n.cluster old + named_by mapped_part n.cluster old < 0x8000_0000_0000_0000 = few.all n.cluster in
+    let some : named_by copied_part n.cluster old < 0x8000_0000_0000_0000 = few.copied n.cluster in
+    let s = fit structure_part (added.same.structure n.cluster) in
+    let m = fit mapped_part (added.same.mapped n.cluster) in
+    let p = fit copied_part (added.same.copied n.cluster) in
+    record { structure = omega (arith, s, all); mapped = omega (arith, m, all); copied = omega (arith, p, some) }
+  where
+    fit : (part : Naming → ℕ) → named_by part n.cluster merged ≡ named_by part n.cluster (take i xs) → named_by part n.cluster merged + part n ≤ named_by part n.cluster old
+    fit part same =
+        let a : named_by part n.cluster (take (i + 1) xs) ≡ named_by part n.cluster (take i xs) + part_at part n.cluster n = ap (named_by part n.cluster) (next-take xs i n lt is) ∙ named-push part n.cluster (take i xs) n in
+        let b : part_at part n.cluster n ≡ part n = at-own part n.cluster n refl in
+        let d : named_by part n.cluster (take (i + 1) xs) ≤ named_by part n.cluster xs = named-take part n.cluster (i + 1) xs in
+        let e : named_by part n.cluster xs ≡ named_by part n.cluster old = named-order part n.cluster old xs moved in
+        omega arith
+
+-- and it is added up too
+pub next-added : (xs merged new : List Naming) (i : ℕ) (n : Naming) → IsNonDecreasingBy (λ (m : Naming). m.cluster) xs → i < length xs → n ≡ slice_index_or xs i n → AddedUp xs merged i → IsRising new → EndsBy new n.cluster → SameParts (merged ++ n ∷ []) new → AddedUp xs new (i + 1)
+next-added xs merged new i n up lt is added rising ends same = record {
+  rising = rising;
+  same = subst (λ ys. SameParts ys new) (sym (next-take xs i n lt is)) (same-both (take i xs ++ n ∷ []) (merged ++ n ∷ []) new (push-same (take i xs) merged n added.same) same);
+  behind = λ j d le less m e inside. later j d le less (ends m e inside);
+}
+  where
+    later : (j : ℕ) (d : Naming) → i + 1 ≤ j → j < length xs → {x : ℕ} → x ≤ n.cluster → x ≤ (slice_index_or xs j d).cluster
+    later j d le less {x} small =
+        let a : (slice_index_or xs i d).cluster ≤ (slice_index_or xs j d).cluster = up i j d (omega arith) less in
+        let b : n.cluster ≡ (slice_index_or xs i d).cluster = ap (λ (m : Naming). m.cluster) (is ∙ get_or_default xs i n d lt) in
+        omega arith
+
+-- all are added up
+pub all-same : (xs merged : List Naming) → AddedUp xs merged (length xs) → SameParts xs merged
+all-same xs merged added = subst (λ ys. SameParts ys merged) (take_all (length xs) xs (omega arith)) added.same

@@ -1,0 +1,6 @@
+use Rattle.qimg.proofs.SharedLemmas.{NoneBefore, lies}
+use Rattle.qimg.proofs.check.names.first_false.Given as goal
+
+-- no entry before this one passes
+abbrev pub invariant-loop-i : goal.invariant-loop-i
+invariant-loop-i l = NoneBefore lies l.names l.i

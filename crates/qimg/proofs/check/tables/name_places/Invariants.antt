@@ -1,0 +1,7 @@
+use Rattle.std.proofs.Common.{take}
+use Rattle.qimg.proofs.PlacesNamed.{AddsPlaces}
+use Rattle.qimg.proofs.check.tables.name_places.Given as goal
+
+-- the clusters at the places before this one are entered
+abbrev pub invariant-loop-i : goal.invariant-loop-i
+invariant-loop-i l = AddsPlaces l.header.fields l.fn.names.items l.names.items (take l.i l.places)

@@ -1,0 +1,155 @@
+// How often each host cluster is named.
+ghost use Rattle.std.specs.Prelude.{◌≡◌, ℕ, ◌+◌, ◌*◌, ◌<◌, ◌≤◌, ◌^◌, ◌++◌, [], ◌∷◌, OnOk, IfOk, IsOkUnless, MatchOption};
+ghost use Rattle.std.specs.List.Sorted.{IsNonDecreasingBy};
+ghost use Rattle.qcow2_types.specs.Consistency.{Nowhere, IsLeast};
+ghost use Rattle.qimg.specs.Names.{Adds, AddsClusters, EndsBy, Fits, SameParts, IsRising, IsFew, named as named_of, is_shared, is_false};
+
+use super::CheckFault;
+use qcow2_metadata::Header;
+use qcow2_types::{HostCluster, HostOffset};
+use std::alloc::Global;
+
+/// How often a cluster is named: as a part of the structure, by words of L2 tables, and by those that are marked as copied.
+#[derive(Clone, Copy, Debug)]
+pub struct Naming {
+    pub cluster: u64,
+    pub structure: u64,
+    pub mapped: u64,
+    /// These are counted in `mapped` too.
+    pub copied: u64,
+}
+
+/// How often a range is named, and how.
+#[derive(Clone, Copy, Debug)]
+pub struct Times {
+    pub structure: u64,
+    pub mapped: u64,
+    pub copied: u64,
+}
+
+/// Enters a range of bytes: one entry for each cluster that it meets.
+pub fn name_range(
+    names: &mut Vec<Naming>,
+    header: &Header,
+    first: u64,
+    length: u64,
+    times: Times,
+) -> Result<(), CheckFault>
+    requires { first + length < 2 ^ 63 }
+    ensures ok { OnOk result (Adds header.now.fields names.old.items names.new.items (λ w. times.structure * w first length) (λ w. times.mapped * w first length) (λ w. times.copied * w first length)) }
+    ensures err { IsOkUnless result CheckFault.Memory }
+{
+    if length == 0 {
+        return Ok(());
+    }
+    let cluster_bits = header.cluster_bits();
+    let HostCluster(low) = HostOffset(first).cluster(cluster_bits);
+    let HostCluster(high) = HostOffset(first + (length - 1)).cluster(cluster_bits);
+    name_clusters(names, low, high + 1, times)
+}
+
+/// Enters the clusters from `low` up to `end`, which isn't one of them.
+fn name_clusters(
+    names: &mut Vec<Naming>,
+    low: u64,
+    end: u64,
+    times: Times,
+) -> Result<(), CheckFault>
+    requires { low ≤ end }
+    ensures ok { OnOk result (AddsClusters names.old.items names.new.items low end times) }
+    ensures err { IsOkUnless result CheckFault.Memory }
+{
+    for cluster in low..end {
+        names.push(Naming {
+            cluster,
+            structure: times.structure,
+            mapped: times.mapped,
+            copied: times.copied,
+        })?;
+    }
+    Ok(())
+}
+
+/// Adds the entry to the last one, if that is for its cluster, or puts it behind it.
+fn merge(merged: &mut Vec<Naming>, naming: Naming) -> Result<(), CheckFault>
+    requires rising { IsRising merged.old.items }
+    requires last { EndsBy merged.old.items naming.cluster }
+    requires fits { Fits merged.old.items naming }
+    ensures rising { OnOk result (IsRising merged.new.items) }
+    ensures last { OnOk result (EndsBy merged.new.items naming.cluster) }
+    ensures same { OnOk result (SameParts (merged.old.items ++ naming ∷ []) merged.new.items) }
+    ensures err { IsOkUnless result CheckFault.Memory }
+{
+    let count = merged.len();
+    if count > 0 && merged[count - 1].cluster == naming.cluster {
+        let last = merged[count - 1];
+        merged[count - 1] = Naming {
+            cluster: naming.cluster,
+            structure: last.structure + naming.structure,
+            mapped: last.mapped + naming.mapped,
+            copied: last.copied + naming.copied,
+        };
+        return Ok(());
+    }
+    merged.push(naming)?;
+    Ok(())
+}
+
+/// Sorts the entries by cluster, and adds up those of one cluster.
+pub fn add_up(alloc: Global, mut names: Vec<Naming>) -> Result<Vec<Naming>, CheckFault>
+    requires { IsFew names.items }
+    ensures rising { IfOk result (λ added. IsRising added.items) }
+    ensures same { IfOk result (λ added. SameParts names.items added.items) }
+    ensures err { IsOkUnless result CheckFault.Memory }
+{
+    names.sort_by_key(|naming| naming.cluster)?;
+    let mut merged = Vec::new(alloc);
+    for i in 0..names.len() {
+        merge(&mut merged, names[i])?;
+    }
+    Ok(merged)
+}
+
+/// How often the entries name a cluster.
+pub fn named(names: &[Naming], cluster: u64) -> u64
+    requires rising { IsRising names.now }
+    requires few { IsFew names.now }
+    ensures { result ≡ named_of names.now cluster }
+{
+    let at = names.partition_point(|naming| naming.cluster < cluster);
+    if at < names.len() && names[at].cluster == cluster {
+        names[at].structure + names[at].mapped
+    } else {
+        0
+    }
+}
+
+/// The least cluster of the structure that is named more than once.
+pub fn first_shared(names: &[Naming]) -> Option<u64>
+    requires rising { IsRising names.now }
+    requires few { IsFew names.now }
+    ensures { MatchOption result (Nowhere (is_shared names.now)) (IsLeast (is_shared names.now)) }
+{
+    for i in 0..names.len() {
+        let naming = names[i];
+        if naming.structure > 0 && naming.structure + naming.mapped != 1 {
+            return Some(naming.cluster);
+        }
+    }
+    None
+}
+
+/// The least cluster that is named as copied, and named more than once.
+pub fn first_false(names: &[Naming]) -> Option<u64>
+    requires rising { IsRising names.now }
+    requires few { IsFew names.now }
+    ensures { MatchOption result (Nowhere (is_false names.now)) (IsLeast (is_false names.now)) }
+{
+    for i in 0..names.len() {
+        let naming = names[i];
+        if naming.copied > 0 && naming.structure + naming.mapped != 1 {
+            return Some(naming.cluster);
+        }
+    }
+    None
+}
