@@ -1,15 +1,13 @@
 -- The words that are written to L2 tables, and what they mean.
-use Rattle.std.proofs.Common.{◌≡◌, refl, ℕ, zero, suc, ◌+◌, ◌-◌, ◌*◌, ◌/◌, ◌%◌, ◌^◌, ◌<◌, ◌≤◌, ◌∙◌, ap, sym, subst, arith, List, length, map}
+use Rattle.std.proofs.Common.{◌≡◌, refl, ℕ, zero, suc, ◌+◌, ◌-◌, ◌*◌, ◌/◌, ◌%◌, ◌^◌, ◌<◌, ◌≤◌, ◌∙◌, ap, sym, subst, arith, List, length, map, lit<}
 use Rattle.std.specs.Prelude.{Bool, true, false, not, ◌&&◌, ◌||◌, ◌==◌, nat_le, if◌then◌else◌, IsTrue, Option, Some, None, slice_index, replicate}
 use Rattle.std.proofs.lemmas.Nat.{div-mul-add, mod-pow-add, mod_below, pow_pos}
 use Rattle.std.proofs.Math.Pow.{mod-mod-pow}
-use Rattle.std.proofs.lemmas.List.{length-map, get_or-map}
 use Rattle.qcow2_types.specs.Words.{Layout, unmapped, data_at, zeroes, packed, damaged, mapping_of, is_damaged, is_copied, is_place, has_bit, max_offset, table_offset, standard_word_sound, names_cluster, packed_place}
-use Rattle.qcow2_types.proofs.WordLemmas.{zero-word}
 use Rattle.qcow2_metadata.specs.Places.{IsInReach}
-use Rattle.qcow2_metadata.specs.Tables.{l2_words, word_sound, AreSound, zero_word, shared_word, unmarked_mapping, without_mark}
+use Rattle.qcow2_metadata.specs.Tables.{l2_words, word_sound, AreSound, AreFit, zero_word, shared_word, unmarked_mapping, without_mark}
 use Rattle.qcow2_metadata.specs.Allocations.{IsKeptInReach, zeroed_word}
-use Rattle.qcow2_metadata.proofs.TableSteps.{cluster_sectors, cluster_place}
+use Rattle.qcow2_metadata.proofs.TableSteps.{each_mapped, each_zero, zero_sound, cluster_sectors, cluster_place}
 
 -- a place of sectors, in a word with the mark
 module _ (p : ℕ) (sectors : p % 512 ≡ 0) (near : p ≤ max_offset) (layout : Layout) (place : is_place layout.cluster_bits p ≡ true) where
@@ -73,14 +71,27 @@ zeroed_sound layout None low v near = rw (kept_unmarked_word 0 refl (omega arith
 zeroed_sound layout (Some kept) low v near =
     rw (kept_word (kept.0 * 2 ^ layout.cluster_bits) (cluster_sectors layout.cluster_bits kept.0 low near) near layout (cluster_place layout.cluster_bits kept.0 low near) kept.1 v) refl
 
+-- both have 64 bits
+pub mapped_fits : (bits c : ℕ) → IsInReach bits c → 2 ^ 63 + c * 2 ^ bits < 2 ^ 64
+mapped_fits bits c near = let place : c * 2 ^ bits ≤ 0x00ff_ffff_ffff_fe00 = near in omega arith
+
+pub zeroed_fits : (bits : ℕ) (kept : Option (ℕ × Bool)) → IsKeptInReach bits kept → zeroed_word bits kept < 2 ^ 64
+zeroed_fits bits None near = lit< tt
+zeroed_fits bits (Some kept) near = fits kept.1
+  where
+    place : kept.0 * 2 ^ bits ≤ 0x00ff_ffff_ffff_fe00
+    place = near
+
+    fits : (copied : Bool) → zero_word (kept.0 * 2 ^ bits) copied < 2 ^ 64
+    fits true = omega (arith, place)
+    fits false = omega (arith, place)
+
 -- the words of a new table
 pub cleared_sound : (layout : Layout) (n : ℕ) → AreSound l2_words layout (replicate n 0)
-cleared_sound layout n i inside = rw (zeroes_at n i) (rw (zero-word layout) refl)
-  where
-    zeroes_at : (m j : ℕ) → slice_index (replicate m 0) j ≡ 0
-    zeroes_at zero j = refl
-    zeroes_at (suc m) zero = refl
-    zeroes_at (suc m) (suc j) = zeroes_at m j
+cleared_sound layout n = each_zero (λ w. IsTrue (word_sound l2_words layout w)) n (zero_sound l2_words layout)
+
+pub cleared_fit : (n : ℕ) → AreFit (replicate n 0)
+cleared_fit n = each_zero (λ w. w < 2 ^ 64) n (lit< tt)
 
 pick : (c a n s z p q : Bool) (o l o' l' k k' : ℕ) (x x' : Bool) (y y' : Option ℕ)
     → is_damaged (if c then (if a || n then damaged else packed o l) else (if not s then damaged else if z then zeroes y x else if p then data_at k x else unmapped)) ≡ false
@@ -169,6 +180,11 @@ shared_one layout w low old = go layout.external_data
     go false = not_is (is_damaged (mapping_of layout (without_mark w))) (unmarked layout w low (is_not (is_damaged (mapping_of layout w)) old))
 
 pub shared_sound : (layout : Layout) (words : List ℕ) → 9 ≤ layout.cluster_bits → AreSound l2_words layout words → AreSound l2_words layout (map (shared_word layout) words)
-shared_sound layout words low old i inside =
-    let there : i < length words = omega (arith, length-map words (shared_word layout), inside) in
-    subst (λ w. IsTrue (word_sound l2_words layout w)) (sym (get_or-map (shared_word layout) words i 0 0 there)) (shared_one layout (slice_index words i) low (old i there))
+shared_sound layout words low = each_mapped (λ w. IsTrue (word_sound l2_words layout w)) (shared_word layout) words (λ w. shared_one layout w low)
+
+pub shared_fit : (layout : Layout) (words : List ℕ) → AreFit words → AreFit (map (shared_word layout) words)
+shared_fit layout words = each_mapped (λ w. w < 2 ^ 64) (shared_word layout) words (λ w. smaller layout.external_data w)
+  where
+    smaller : (external : Bool) (w : ℕ) → w < 2 ^ 64 → (if external then w else without_mark w) < 2 ^ 64
+    smaller true w fits = fits
+    smaller false w fits = omega (arith, fits)

@@ -20,6 +20,7 @@ use Rattle.qcow2_types.specs.Bytes.{Bytes, bytes_of, be, word}
 use Rattle.qcow2_types.proofs.Splices.{be-same}
 use Rattle.qcow2_metadata.specs.Tables.{words_in, AreSound, HasUnsound, WhyNotDecoded, WhyNotLoaded, word_sound}
 use Rattle.qcow2_metadata.specs.Places.{IsPlaced, place_of}
+use Rattle.qcow2_metadata.proofs.TableSteps.{EachWord}
 use Rattle.qcow2_metadata.specs.Tables.{Kind, l1_words, l2_words, block_words, TableValue, IsTable, IsLength, IsAsked, IsPlacedTable, table_place, table_bytes, max_entries}
 
 -- no table has more words than the largest L1 table
@@ -125,18 +126,21 @@ words_read file bytes place n reads long =
         let at : place + (0 + 8 * i + k) ≡ place + 8 * i + k = omega arith in
         reads (0 + 8 * i + k) (omega arith) ∙ ap (λ p. slice_index file p) at)
 
--- one sound word more
-pub sound_more : (kind : Kind) (layout : Layout) (f : Bytes) (p n : ℕ) → AreSound kind layout (words_in f p n) → IsTrue (word_sound kind layout (word f p n)) → AreSound kind layout (words_in f p (n + 1))
-sound_more kind layout f p n before here i inside =
+-- one word more of which a fact holds
+pub each_more : (P : ℕ → Type 0) (f : Bytes) (p n : ℕ) → EachWord P (words_in f p n) → P (word f p n) → EachWord P (words_in f p (n + 1))
+each_more P f p n before here i inside =
     let small : i < n + 1 = omega (arith, words_long f p (n + 1), inside) in
     elim (cases_lt i n) [
       | inl lt ↦
           let old : i < length (words_in f p n) = omega (arith, words_long f p n) in
-          subst (λ w. IsTrue (word_sound kind layout w)) (words_at f p n i lt ∙ sym (words_at f p (n + 1) i small)) (before i old)
+          subst P (words_at f p n i lt ∙ sym (words_at f p (n + 1) i small)) (before i old)
       | inr ge ↦
           let last : n ≡ i = omega arith in
-          subst (λ w. IsTrue (word_sound kind layout w)) (ap (λ k. word f p k) last ∙ sym (words_at f p (n + 1) i small)) here
+          subst P (ap (λ k. word f p k) last ∙ sym (words_at f p (n + 1) i small)) here
     ]
+
+pub sound_more : (kind : Kind) (layout : Layout) (f : Bytes) (p n : ℕ) → AreSound kind layout (words_in f p n) → IsTrue (word_sound kind layout (word f p n)) → AreSound kind layout (words_in f p (n + 1))
+sound_more kind layout = each_more (λ w. IsTrue (word_sound kind layout w))
 
 not_true : (b : Bool) → (IsTrue b → false ≡ true) → b ≡ false
 not_true true h = sym (h refl)

@@ -1,37 +1,43 @@
 -- Tables with one word changed, and with words added.
-use Rattle.std.proofs.Common.{◌≡◌, refl, ℕ, zero, suc, ◌+◌, ◌-◌, ◌*◌, ◌/◌, ◌%◌, ◌^◌, ◌<◌, ◌≤◌, ◌∙◌, ap, sym, subst, arith, List, [], ◌∷◌, ◌++◌, length, map, inl, inr}
+use Rattle.std.proofs.Common.{◌≡◌, refl, ℕ, zero, suc, ◌+◌, ◌-◌, ◌*◌, ◌/◌, ◌%◌, ◌^◌, ◌<◌, ◌≤◌, ◌∙◌, ap, sym, subst, arith, List, [], ◌∷◌, ◌++◌, length, map, inl, inr, lit<}
 use Rattle.std.specs.Prelude.{Bool, true, IsTrue, Option, Some, None, slice_index, slice_set, replicate, nat_le}
 use Rattle.std.specs.List.{range_with_len}
 use Rattle.std.proofs.Math.ListN.{get_or-append}
 use Rattle.std.proofs.lemmas.Bool.{cases_eq, cases_lt}
 use Rattle.std.proofs.lemmas.Bool.Decides.{nat_tests}
 use Rattle.std.proofs.lemmas.Grind.{same_number_lists}
-use Rattle.std.proofs.lemmas.List.{get_or-set_same, get_or-set_other, length-set, length-append, length-replicate, get_or-append_right}
+use Rattle.std.proofs.lemmas.List.{get_or-set_same, get_or-set_other, length-set, length-append, length-replicate, get_or-append_right, length-map, get_or-map}
 use Rattle.std.proofs.lemmas.List.FromFn.{length-map-range_with_len, get_or-map-range_with_len, map-range_with_len_more}
 use Rattle.std.proofs.lemmas.Nat.{pow-add}
 use Rattle.std.proofs.Math.Nat.{mul-mod_left}
 use Rattle.qcow2_types.specs.Words.{Layout, is_place, max_offset, block_word_sound, block_offset, l1_word_sound, table_offset}
 use Rattle.qcow2_types.proofs.WordLemmas.{zero-word, zero-l1-word, fresh-l1-word}
 use Rattle.qcow2_metadata.specs.Places.{IsPlaced, place_of}
-use Rattle.qcow2_metadata.specs.Tables.{Kind, l1_words, l2_words, block_words, IsTable, IsLength, AreSound, word_sound, padded}
+use Rattle.qcow2_metadata.specs.Tables.{Kind, l1_words, l2_words, block_words, IsTable, IsLength, AreSound, AreFit, word_sound, padded}
 
--- one word changed
-pub sound_set : (kind : Kind) (layout : Layout) (words : List ℕ) (i w : ℕ) → AreSound kind layout words → IsTrue (word_sound kind layout w) → AreSound kind layout (slice_set words i w)
-sound_set kind layout words i w old new k inside =
+-- a fact of each of these words
+abbrev pub EachWord : (ℕ → Type 0) → List ℕ → Type 0
+EachWord P words = (i : ℕ) → i < length words → P (slice_index words i)
+
+-- It holds still where one word is changed for another that it holds of.
+pub each_set : (P : ℕ → Type 0) (words : List ℕ) (i w : ℕ) → EachWord P words → P w → EachWord P (slice_set words i w)
+each_set P words i w old new k inside =
     let there : k < length words = omega (arith, length-set words i w, inside) in
     elim (cases_eq k i) [
       | inl e ↦
           let same : slice_index (slice_set words i w) k ≡ w = ap (λ j. slice_index (slice_set words i w) j) e ∙ get_or-set_same words i w 0 (subst (λ j. j < length words) e there) in
-          subst (λ x. IsTrue (word_sound kind layout x)) (sym same) new
-      | inr ne ↦ subst (λ x. IsTrue (word_sound kind layout x)) (sym (get_or-set_other words i k w 0 ne)) (old k there)
+          subst P (sym same) new
+      | inr ne ↦ subst P (sym (get_or-set_other words i k w 0 ne)) (old k there)
     ]
 
-pub entered : (kind : Kind) (layout : Layout) (words : List ℕ) (i w : ℕ) (a b : Option ℕ) (m n : Bool) → IsTable kind (record { layout = layout; words = words; cluster = a; modified = m }) → IsTrue (word_sound kind layout w) → IsTable kind (record { layout = layout; words = slice_set words i w; cluster = b; modified = n })
-entered kind layout words i w a b m n is new = record {
+-- one word changed
+pub entered : (kind : Kind) (layout : Layout) (words : List ℕ) (i w : ℕ) (a b : Option ℕ) (m n : Bool) → IsTable kind (record { layout = layout; words = words; cluster = a; modified = m }) → IsTrue (word_sound kind layout w) → w < 2 ^ 64 → IsTable kind (record { layout = layout; words = slice_set words i w; cluster = b; modified = n })
+entered kind layout words i w a b m n is sound fits = record {
   low = is.low;
   high = is.high;
   long = subst (IsLength kind layout) (sym (length-set words i w)) is.long;
-  sound = sound_set kind layout words i w is.sound new;
+  sound = each_set (λ x. IsTrue (word_sound kind layout x)) words i w is.sound sound;
+  fit = each_set (λ x. x < 2 ^ 64) words i w is.fit fits;
 }
 
 -- 0 is a word of each kind
@@ -44,7 +50,7 @@ zero_sound block_words layout = zero-l1-word layout.cluster_bits
 pub padded_long : (words : List ℕ) (n : ℕ) → length words ≤ n → length (padded words n) ≡ n
 padded_long words n few = length-append words (replicate (n - length words) 0) ∙ omega (arith, length-replicate {A = ℕ} (n - length words) 0, few)
 
-zeroes_at : (m j : ℕ) → slice_index (replicate m 0) j ≡ 0
+pub zeroes_at : (m j : ℕ) → slice_index (replicate m 0) j ≡ 0
 zeroes_at zero j = refl
 zeroes_at (suc m) zero = refl
 zeroes_at (suc m) (suc j) = zeroes_at m j
@@ -61,11 +67,28 @@ padded_at words n k = elim (cases_lt k (length words)) [
   | inr ge ↦ get_or-append_right words (replicate (n - length words) 0) (length words) k 0 refl ge ∙ (zeroes_at (n - length words) (k - length words) ∙ sym (past_end words k ge))
 ]
 
-pub padded_sound : (kind : Kind) (layout : Layout) (words : List ℕ) (n : ℕ) → AreSound kind layout words → AreSound kind layout (padded words n)
-padded_sound kind layout words n old k inside = subst (λ x. IsTrue (word_sound kind layout x)) (sym (padded_at words n k)) (elim (cases_lt k (length words)) [
+-- What holds of words and of 0 holds of them with 0 behind them.
+pub each_padded : (P : ℕ → Type 0) (words : List ℕ) (n : ℕ) → EachWord P words → P 0 → EachWord P (padded words n)
+each_padded P words n old none k inside = subst P (sym (padded_at words n k)) (elim (cases_lt k (length words)) [
   | inl lt ↦ old k lt
-  | inr ge ↦ subst (λ x. IsTrue (word_sound kind layout x)) (sym (past_end words k ge)) (zero_sound kind layout)
+  | inr ge ↦ subst P (sym (past_end words k ge)) none
 ])
+
+pub padded_sound : (kind : Kind) (layout : Layout) (words : List ℕ) (n : ℕ) → AreSound kind layout words → AreSound kind layout (padded words n)
+padded_sound kind layout words n old = each_padded (λ x. IsTrue (word_sound kind layout x)) words n old (zero_sound kind layout)
+
+pub padded_fit : (words : List ℕ) (n : ℕ) → AreFit words → AreFit (padded words n)
+padded_fit words n old = each_padded (λ x. x < 2 ^ 64) words n old (lit< tt)
+
+-- What each word keeps as it is copied, copies have.
+pub each_mapped : (P : ℕ → Type 0) (f : ℕ → ℕ) (words : List ℕ) → ((w : ℕ) → P w → P (f w)) → EachWord P words → EachWord P (map f words)
+each_mapped P f words keeps old i inside =
+    let there : i < length words = omega (arith, length-map words f, inside) in
+    subst P (sym (get_or-map f words i 0 0 there)) (keeps (slice_index words i) (old i there))
+
+-- What holds of 0 holds of each word of a new table.
+pub each_zero : (P : ℕ → Type 0) (n : ℕ) → P 0 → EachWord P (replicate n 0)
+each_zero P n none k inside = subst P (sym (zeroes_at n k)) none
 
 -- the first n words, 0 past the end
 pub copied_words : (words : List ℕ) (n : ℕ) → length words ≤ n → map (λ i. slice_index words i) (range_with_len 0 n) ≡ padded words n

@@ -87,12 +87,17 @@ pub record TableValue : Type 0 where
 abbrev pub AreSound : Kind → Layout → List ℕ → Type 0
 AreSound kind layout words = (i : ℕ) → i < length words → IsTrue (word_sound kind layout (slice_index words i))
 
+-- each of these words has 64 bits
+abbrev pub AreFit : List ℕ → Type 0
+AreFit words = (i : ℕ) → i < length words → slice_index words i < 2 ^ 64
+
 -- what holds of each table of a kind
 pub record IsTable (kind : Kind) (table : TableValue) : Type 0 where
   pub low : 9 ≤ table.layout.cluster_bits
   pub high : table.layout.cluster_bits ≤ 21
   pub long : IsLength kind table.layout (length table.words)
   pub sound : AreSound kind table.layout table.words
+  pub fit : AreFit table.words
 
 -- n words of a file, from a place on
 abbrev pub words_in : Bytes → ℕ → ℕ → List ℕ

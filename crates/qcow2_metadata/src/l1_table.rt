@@ -1,7 +1,7 @@
 // The L1 table.
 ghost use Rattle.std.specs.Prelude.{◌≡◌, ℕ, ◌+◌, ◌*◌, ◌^◌, ◌<◌, ◌≤◌, ◌-◌, ◌↔◌, IsTrue, IsOk, IfOk, IsErrOf, IsOkUnless, length, min, refl, Some, None, true, false};
 ghost use Rattle.qcow2_types.specs.Header.{layout_of};
-ghost use Rattle.qcow2_metadata.specs.Tables.{IsLength, AreSound, IsNamable, l1_words, grown_l1, with_word, table_place};
+ghost use Rattle.qcow2_metadata.specs.Tables.{IsLength, AreSound, AreFit, IsNamable, l1_words, grown_l1, with_word, table_place};
 
 use crate::Header;
 use crate::entries::{L1Entry, TableEntry};
@@ -50,6 +50,7 @@ impl Table for L1Table {
     fn from_data(content: Vec<L1Entry>, header: &Header) -> L1Table
         requires long { IsLength l1_words (layout_of header.now.fields) (length content.items) }
         requires sound { AreSound l1_words (layout_of header.now.fields) content.items }
+        requires fit { AreFit content.items }
         ensures { result ≡ record { layout = layout_of header.now.fields; words = content.items; cluster = None; modified = true } }
     {
         L1Table {

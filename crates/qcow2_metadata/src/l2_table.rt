@@ -6,7 +6,7 @@ ghost use Rattle.qcow2_types.specs.Places.{l2_entries};
 ghost use Rattle.qcow2_types.specs.Words.{mapping_of};
 ghost use Rattle.imago_storage.specs.Through.{PutAtOnce};
 ghost use Rattle.qcow2_metadata.specs.Places.{IsInReach};
-ghost use Rattle.qcow2_metadata.specs.Tables.{IsLength, AreSound, l2_words, with_word, shared_word, table_bytes};
+ghost use Rattle.qcow2_metadata.specs.Tables.{IsLength, AreSound, AreFit, l2_words, with_word, shared_word, table_bytes};
 
 use crate::Header;
 use crate::entries::{L2Entry, TableEntry};
@@ -61,6 +61,7 @@ impl Table for L2Table {
     fn from_data(content: Vec<L2Entry>, header: &Header) -> L2Table
         requires long { IsLength l2_words (layout_of header.now.fields) (length content.items) }
         requires sound { AreSound l2_words (layout_of header.now.fields) content.items }
+        requires fit { AreFit content.items }
         ensures { result ≡ record { layout = layout_of header.now.fields; words = content.items; cluster = None; modified = true } }
     {
         L2Table {

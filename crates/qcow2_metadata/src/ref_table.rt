@@ -4,7 +4,7 @@ ghost use Rattle.qcow2_types.specs.Header.{Shaped, layout_of, words_of_cluster};
 ghost use Rattle.qcow2_types.specs.Counts.{counters_of_block};
 ghost use Rattle.qcow2_metadata.specs.Growth.{IsEnough, IsGrownLength};
 ghost use Rattle.qcow2_metadata.specs.Places.{place_of};
-ghost use Rattle.qcow2_metadata.specs.Tables.{IsLength, AreSound, IsNamable, block_words, padded, with_word};
+ghost use Rattle.qcow2_metadata.specs.Tables.{IsLength, AreSound, AreFit, IsNamable, block_words, padded, with_word};
 
 use crate::Header;
 use crate::clusters::first_byte_of;
@@ -54,6 +54,7 @@ impl Table for RefTable {
     fn from_data(content: Vec<RefTableEntry>, header: &Header) -> RefTable
         requires long { IsLength block_words (layout_of header.now.fields) (length content.items) }
         requires sound { AreSound block_words (layout_of header.now.fields) content.items }
+        requires fit { AreFit content.items }
         ensures { result ≡ record { layout = layout_of header.now.fields; words = content.items; cluster = None; modified = true } }
     {
         RefTable {

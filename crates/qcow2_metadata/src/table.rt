@@ -10,7 +10,7 @@ ghost use Rattle.qcow2_types.specs.Bytes.{bytes_of};
 ghost use Rattle.qcow2_types.specs.Header.{Shaped, cluster_size, layout_of};
 ghost use Rattle.std.specs.Int.{to_be_bytes, w64};
 ghost use Rattle.qcow2_metadata.specs.Places.{IsInReach, IsPlaced, place_of};
-ghost use Rattle.qcow2_metadata.specs.Tables.{TableValue, IsTable, IsLength, IsAsked, AreSound, HasUnsound, WhyNotLoaded, WhyNotDecoded, IsPlacedTable, table_place, max_entries, words_in, table_bytes, table_in, padded};
+ghost use Rattle.qcow2_metadata.specs.Tables.{TableValue, IsTable, IsLength, IsAsked, AreSound, AreFit, HasUnsound, WhyNotLoaded, WhyNotDecoded, IsPlacedTable, table_place, max_entries, words_in, table_bytes, table_in, padded};
 
 #[cfg(test)]
 mod tests;
@@ -47,6 +47,7 @@ pub trait Table: Sized {
     fn from_data(content: Vec<Self::InternalEntry>, header: &Header) -> Self
         requires long { IsLength Self.InternalEntry.kind (layout_of header.now.fields) (length (Self.InternalEntry.words content.items)) }
         requires sound { AreSound Self.InternalEntry.kind (layout_of header.now.fields) (Self.InternalEntry.words content.items) }
+        requires fit { AreFit (Self.InternalEntry.words content.items) }
         ensures { value result ≡ record { layout = layout_of header.now.fields; words = Self.InternalEntry.words content.items; cluster = None; modified = true } };
 
     /// The number of its words.
@@ -207,6 +208,7 @@ pub trait Table: Sized {
 fn entries_in<E: TableEntry>(alloc: Global, bytes: &[u8], header: &Header) -> Result<Vec<E>, Fault>
     ensures words { IfOk result (λ entries. E.words entries.items ≡ words_in (bytes_of bytes.now) 0 (length bytes.now / 8)) }
     ensures sound { OnOk result (AreSound E.kind (layout_of header.now.fields) (words_in (bytes_of bytes.now) 0 (length bytes.now / 8))) }
+    ensures fit { OnOk result (AreFit (words_in (bytes_of bytes.now) 0 (length bytes.now / 8))) }
     ensures refused { IfErr result (WhyNotDecoded E.kind (layout_of header.now.fields) (words_in (bytes_of bytes.now) 0 (length bytes.now / 8))) }
 {
     let mut entries = Vec::new(alloc);
@@ -232,6 +234,7 @@ fn load_entries<E: TableEntry, S: Storage>(
     requires few { entries ≤ max_entries E.kind }
     ensures words { IfOk result (λ content. E.words content.items ≡ words_in (bytes_of (S.state image.old).bytes) (cluster * cluster_size header.now.fields) entries) }
     ensures sound { OnOk result (AreSound E.kind (layout_of header.now.fields) (words_in (bytes_of (S.state image.old).bytes) (cluster * cluster_size header.now.fields) entries)) }
+    ensures fit { OnOk result (AreFit (words_in (bytes_of (S.state image.old).bytes) (cluster * cluster_size header.now.fields) entries)) }
     ensures refused { IfErr result (WhyNotLoaded E.kind (layout_of header.now.fields) (words_in (bytes_of (S.state image.old).bytes) (cluster * cluster_size header.now.fields) entries) (S.state image.old).faults (S.state image.new).faults) }
     ensures kept { Kept (S.state image.old) (S.state image.new) }
     ensures faults { OnOk result ((S.state image.new).faults ≡ (S.state image.old).faults) }

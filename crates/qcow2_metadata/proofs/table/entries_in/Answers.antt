@@ -1,9 +1,9 @@
-use Rattle.std.proofs.Common.{◌≡◌, refl, ◌/◌, ◌∙◌, sym, subst, length, true, false}
+use Rattle.std.proofs.Common.{◌≡◌, refl, ◌/◌, ◌^◌, ◌<◌, ◌∙◌, sym, subst, arith, length, true, false}
 use Rattle.std.specs.Prelude.{IsTrue}
 use Rattle.qcow2_types.specs.Bytes.{bytes_of, word}
 use Rattle.qcow2_types.specs.Header.{layout_of}
 use Rattle.qcow2_metadata.specs.Tables.{word_sound}
-use Rattle.qcow2_metadata.proofs.TableFacts.{word_of_bytes, words_more, sound_more, unsound_at}
+use Rattle.qcow2_metadata.proofs.TableFacts.{word_of_bytes, words_more, sound_more, each_more, unsound_at}
 use Rattle.qcow2_metadata.proofs.table.entries_in.Goals as goal
 
 pub returns-in-Err-clause-refused : goal.returns-in-Err-clause-refused
@@ -26,4 +26,5 @@ loop-index-preserved g c =
     record {
       words = rw c.in_ok-push.ensures.items (g.met.E.TableEntry.pushed c.loop-index.entries.items c.in-Ok.entry ∙ (cc (c.loop-index.invariant.words, value)) ∙ sym (words_more f 0 i));
       sound = sound_more kind layout f 0 i c.loop-index.invariant.sound (subst (λ w. IsTrue (word_sound kind layout w)) is (c.in-Ok.ensures.possible.0 refl));
+      fit = each_more (λ w. w < 2 ^ 64) f 0 i c.loop-index.invariant.fit (subst (λ w. w < 2 ^ 64) is (omega arith));
     }

@@ -1,7 +1,7 @@
 use Rattle.std.proofs.Common.{◌≡◌, ◌*◌, ◌/◌, ◌^◌, ◌∙◌, ℕ, List, ap, subst, length}
 use Rattle.qcow2_types.specs.Bytes.{bytes_of}
 use Rattle.qcow2_types.specs.Header.{cluster_size, layout_of}
-use Rattle.qcow2_metadata.specs.Tables.{words_in, AreSound, WhyNotDecoded}
+use Rattle.qcow2_metadata.specs.Tables.{words_in, AreSound, AreFit, WhyNotDecoded}
 use Rattle.qcow2_metadata.proofs.TableFacts.{words_read, decoded_loaded, unread_loaded}
 use Rattle.qcow2_metadata.proofs.table.load_entries.Goals as goal
 
@@ -25,6 +25,15 @@ returns-in-Ok-entries_in-clause-sound g c =
     let bytes : c.deref.result.now ≡ c.in-Ok.bytes.items = c.deref.ensures.value in
     let read = words_read file c.in-Ok.bytes.items (c.args.cluster * cluster_size h) c.args.entries (rw place at c.in-Ok.ensures.read) c.in-Ok.ensures.whole in
     subst (AreSound g.E.TableEntry.kind (layout_of h)) (ap (λ (bs : List ℕ). words_in (bytes_of bs) 0 (length bs / 8)) bytes ∙ read) c.in-Ok-entries_in.ensures.sound
+
+pub returns-in-Ok-entries_in-clause-fit : goal.returns-in-Ok-entries_in-clause-fit
+returns-in-Ok-entries_in-clause-fit g c =
+    let h = c.args.header.now.fields in
+    let place : c.place.inside.0 ≡ c.args.cluster * cluster_size h = c.place.view_is ∙ (c.offset.ensures ∙ ap (λ b. c.args.cluster * 2 ^ b) c.cluster_bits.ensures.value) in
+    let file = (g.S.Storage.state c.args.image.now).bytes in
+    let bytes : c.deref.result.now ≡ c.in-Ok.bytes.items = c.deref.ensures.value in
+    let read = words_read file c.in-Ok.bytes.items (c.args.cluster * cluster_size h) c.args.entries (rw place at c.in-Ok.ensures.read) c.in-Ok.ensures.whole in
+    subst AreFit (ap (λ (bs : List ℕ). words_in (bytes_of bs) 0 (length bs / 8)) bytes ∙ read) c.in-Ok-entries_in.ensures.fit
 
 pub returns-clause-refused : goal.returns-clause-refused
 returns-clause-refused g c =

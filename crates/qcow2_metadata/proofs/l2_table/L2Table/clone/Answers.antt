@@ -1,8 +1,8 @@
 use Rattle.std.proofs.Common.{◌≡◌, ◌∙◌, ap, sym, subst, map, take, length, arith}
 use Rattle.std.proofs.lemmas.List.{length-map, take_all}
 use Rattle.qcow2_types.specs.Words.{Layout}
-use Rattle.qcow2_metadata.specs.Tables.{TableValue, l2_words, shared_word, AreSound, IsLength}
-use Rattle.qcow2_metadata.proofs.L2Words.{shared_sound}
+use Rattle.qcow2_metadata.specs.Tables.{TableValue, l2_words, shared_word, AreSound, AreFit, IsLength}
+use Rattle.qcow2_metadata.proofs.L2Words.{shared_sound, shared_fit}
 use Rattle.qcow2_metadata.proofs.l2_table.L2Table.clone.Goals as goal
 
 pub invariant_of-result : goal.invariant_of-result
@@ -19,4 +19,5 @@ invariant_of-result c =
       high = c.self.invariant.high;
       long = subst (IsLength l2_words s.layout) (sym (ap length words ∙ length-map s.content.items (shared_word s.layout))) c.self.invariant.long;
       sound = subst (AreSound l2_words s.layout) (sym words) (shared_sound s.layout s.content.items c.self.invariant.low c.self.invariant.sound);
+      fit = subst AreFit (sym words) (shared_fit s.layout s.content.items c.self.invariant.fit);
     }

@@ -1,7 +1,7 @@
 use Rattle.std.specs.Prelude.{true}
 use Rattle.qcow2_metadata.specs.Tables.{l2_words}
 use Rattle.qcow2_metadata.proofs.TableSteps.{entered, zero_sound}
-use Rattle.std.proofs.Common.{◌≡◌, ◌∙◌, ap}
+use Rattle.std.proofs.Common.{◌≡◌, ◌∙◌, ap, lit<}
 use Rattle.std.specs.Prelude.{slice_index}
 use Rattle.qcow2_types.specs.Words.{mapping_of}
 use Rattle.qcow2_metadata.specs.Allocations.{freed, allocation_of}
@@ -11,7 +11,7 @@ use Rattle.qcow2_metadata.proofs.l2_table.L2Table.discard_at.Goals as goal
 pub invariant_of-self : goal.invariant_of-self
 invariant_of-self c =
     let s = c.self.inside in
-    entered l2_words s.layout s.content.items c.args.index c.empty.result s.cluster s.cluster s.modified true c.self.invariant (rw c.empty.ensures (zero_sound l2_words s.layout))
+    entered l2_words s.layout s.content.items c.args.index c.empty.result s.cluster s.cluster s.modified true c.self.invariant (rw c.empty.ensures (zero_sound l2_words s.layout)) (rw c.empty.ensures (lit< tt))
 
 pub returns-clause-conserved : goal.returns-clause-conserved
 returns-clause-conserved c =

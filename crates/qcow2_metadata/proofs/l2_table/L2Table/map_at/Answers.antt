@@ -3,7 +3,7 @@ use Rattle.std.specs.Prelude.{true}
 use Rattle.qcow2_metadata.specs.Places.{IsInReach}
 use Rattle.qcow2_metadata.specs.Tables.{TableValue, l2_words}
 use Rattle.qcow2_metadata.proofs.TableSteps.{entered}
-use Rattle.qcow2_metadata.proofs.L2Words.{mapped_sound}
+use Rattle.qcow2_metadata.proofs.L2Words.{mapped_sound, mapped_fits}
 use Rattle.std.proofs.Common.{◌≤◌, arith}
 use Rattle.std.specs.Prelude.{slice_index}
 use Rattle.qcow2_types.specs.Words.{mapping_of}
@@ -17,7 +17,7 @@ invariant_of-self c =
     let bits : s.layout.cluster_bits ≡ c.args.self.now.layout.cluster_bits = ap (λ (v : TableValue). v.layout.cluster_bits) c.self.view_is in
     let reach : IsInReach s.layout.cluster_bits c.args.cluster = rw bits c.requires.reach in
     let word : c.naming.result ≡ 2 ^ 63 + c.args.cluster * 2 ^ s.layout.cluster_bits = c.naming.ensures ∙ ap (λ p. 2 ^ 63 + p) (c.offset-place.ensures ∙ ap (λ b. c.args.cluster * 2 ^ b) c.cluster_bits.ensures.value) in
-    entered l2_words s.layout s.content.items c.args.index c.naming.result s.cluster s.cluster s.modified true c.self.invariant (rw word (mapped_sound s.layout c.args.cluster c.self.invariant.low reach))
+    entered l2_words s.layout s.content.items c.args.index c.naming.result s.cluster s.cluster s.modified true c.self.invariant (rw word (mapped_sound s.layout c.args.cluster c.self.invariant.low reach)) (rw word (mapped_fits s.layout.cluster_bits c.args.cluster reach))
 
 pub returns-clause-conserved : goal.returns-clause-conserved
 returns-clause-conserved c =

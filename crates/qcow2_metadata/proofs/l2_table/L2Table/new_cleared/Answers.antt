@@ -2,10 +2,10 @@ use Rattle.std.proofs.Common.{◌≡◌, ◌≤◌, ◌∙◌, refl, ap, sym, su
 use Rattle.std.specs.Prelude.{replicate}
 use Rattle.std.proofs.lemmas.List.{length-replicate}
 use Rattle.qcow2_types.specs.Header.{layout_of, words_of_cluster}
-use Rattle.qcow2_metadata.specs.Tables.{l2_words, AreSound, IsLength, max_entries}
+use Rattle.qcow2_metadata.specs.Tables.{l2_words, AreSound, AreFit, IsLength, max_entries}
 use Rattle.qcow2_metadata.proofs.TableFacts.{asked_is_length}
 use Rattle.qcow2_metadata.proofs.GrowthLemmas.{cluster_words_bounds}
-use Rattle.qcow2_metadata.proofs.L2Words.{cleared_sound}
+use Rattle.qcow2_metadata.proofs.L2Words.{cleared_sound, cleared_fit}
 use Rattle.qcow2_metadata.proofs.l2_table.L2Table.new_cleared.Goals as goal
 
 pub invariant_of-result : goal.invariant_of-result
@@ -22,4 +22,5 @@ invariant_of-result c =
       high = rw layout shaped.high;
       long = rw layout (subst (IsLength l2_words (layout_of h)) (sym count) (asked_is_length l2_words h (words_of_cluster h) shaped few refl));
       sound = subst (AreSound l2_words c.of_header.result) (sym words) (cleared_sound c.of_header.result (words_of_cluster h));
+      fit = subst AreFit (sym words) (cleared_fit (words_of_cluster h));
     }

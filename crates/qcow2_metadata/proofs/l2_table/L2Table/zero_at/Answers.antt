@@ -3,7 +3,7 @@ use Rattle.std.specs.Prelude.{true}
 use Rattle.qcow2_metadata.specs.Tables.{TableValue, l2_words}
 use Rattle.qcow2_metadata.specs.Allocations.{IsKeptInReach, zeroed_word}
 use Rattle.qcow2_metadata.proofs.TableSteps.{entered}
-use Rattle.qcow2_metadata.proofs.L2Words.{zeroed_sound}
+use Rattle.qcow2_metadata.proofs.L2Words.{zeroed_sound, zeroed_fits}
 use Rattle.std.proofs.Common.{◌≤◌}
 use Rattle.std.specs.Prelude.{slice_index}
 use Rattle.std.specs.Option.{is_some}
@@ -19,7 +19,7 @@ invariant_of-self c =
     let reach : IsKeptInReach s.layout.cluster_bits c.kept_at-kept.result = rw bits c.kept_at-kept.ensures.reach in
     let three : s.layout.version ≡ 3 = omega (arith, c.version.ensures) in
     let word : c.zero_entry.result ≡ zeroed_word s.layout.cluster_bits c.kept_at-kept.result = c.zero_entry.ensures ∙ ap (λ b. zeroed_word b c.kept_at-kept.result) c.cluster_bits.ensures.value in
-    entered l2_words s.layout s.content.items c.args.index c.zero_entry.result s.cluster s.cluster s.modified true c.self.invariant (rw word (zeroed_sound s.layout c.kept_at-kept.result c.self.invariant.low three reach))
+    entered l2_words s.layout s.content.items c.args.index c.zero_entry.result s.cluster s.cluster s.modified true c.self.invariant (rw word (zeroed_sound s.layout c.kept_at-kept.result c.self.invariant.low three reach)) (rw word (zeroed_fits s.layout.cluster_bits c.kept_at-kept.result reach))
 
 pub returns-clause-conserved : goal.returns-clause-conserved
 returns-clause-conserved c =
