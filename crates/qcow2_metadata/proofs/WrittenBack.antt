@@ -1,15 +1,16 @@
--- The bytes of words that were read are the bytes read.
+-- The bytes of words that were read are the bytes read, and words are read again from their bytes.
 use Rattle.std.proofs.Common.{◌≡◌, refl, ℕ, zero, suc, ◌+◌, ◌*◌, ◌<◌, ◌∙◌, ap, sym, arith, List, [], ◌∷◌, ◌++◌, length, inl, inr}
 use Rattle.std.specs.Prelude.{slice_index}
 use Rattle.std.specs.Int.{to_be_bytes, w64}
 use Rattle.std.proofs.lemmas.Nat.{be_bytes_8}
-use Rattle.std.proofs.lemmas.Grind.{flat_map-append}
+use Rattle.std.proofs.lemmas.Grind.{flat_map-append, same_number_lists}
 use Rattle.std.proofs.lemmas.List.{append-nil}
 use Rattle.std.proofs.lemmas.Bool.{cases_lt}
-use Rattle.qcow2_types.specs.Bytes.{Bytes, bytes_of, be, word, run}
+use Rattle.qcow2_types.specs.Bytes.{Bytes, bytes_of, be, word, run, splice}
+use Rattle.qcow2_types.proofs.Over.{table-over}
 use Rattle.qcow2_types.proofs.Splices.{be-same, be-of-bytes}
-use Rattle.qcow2_metadata.specs.Tables.{table_bytes, words_in}
-use Rattle.qcow2_metadata.proofs.TableFacts.{words_more}
+use Rattle.qcow2_metadata.specs.Tables.{AreFit, table_bytes, words_in}
+use Rattle.qcow2_metadata.proofs.TableFacts.{words_long, words_at, words_more}
 use Rattle.qcow2_metadata.proofs.TableSteps.{past_end}
 
 -- the bytes of a run
@@ -58,3 +59,10 @@ written_back f p (suc n) fits =
     ∙ (ap table_bytes (words_more f p n)
     ∙ (flat_map-append (to_be_bytes w64) (words_in f p n) (word f p n ∷ [])
     ∙ ((cc (before, one)) ∙ (sym (run_more f p (8 * n) 8) ∙ ap (λ k. run f p k) size))))
+
+-- Words are read again where their bytes were written.
+pub read_back : (f : Bytes) (p : ℕ) (words : List ℕ) → AreFit words → words_in (splice f p (table_bytes words)) p (length words) ≡ words
+read_back f p words fit =
+    let g : Bytes = splice f p (table_bytes words) in
+    same_number_lists (words_in (splice f p (table_bytes words)) p (length words)) words (words_long g p (length words))
+    (λ k inside. let lt : k < length words = omega (arith, words_long g p (length words), inside) in words_at g p (length words) k lt ∙ table-over f p words k fit lt)

@@ -10,7 +10,7 @@ ghost use Rattle.qcow2_metadata.specs.Allocations.{kept_for_zero, zeroed_word};
 ghost use Rattle.qcow2_metadata.specs.Blocks.{Packs};
 ghost use Rattle.qcow2_metadata.specs.Places.{IsInReach};
 ghost use Rattle.qcow2_metadata.specs.Reloading.{is_text, IsReloadable};
-ghost use Rattle.qcow2_metadata.specs.Tables.{shared_word, table_bytes, unmarked_mapping, words_in};
+ghost use Rattle.qcow2_metadata.specs.Tables.{AreFit, shared_word, table_bytes, unmarked_mapping, words_in};
 
 use crate::Header;
 use crate::layout::TableLayout;
@@ -27,6 +27,11 @@ pub fn counters_have_one_form()
 /// file's, and 0 past its end.
 pub fn loaded_table_is_written_back()
     ensures { (f : Bytes) (place n : ℕ) → ((p : ℕ) → f p < 256) → table_bytes (words_in f place n) ≡ run f place (8 * n) }
+{}
+
+/// A table that is written is loaded with the same words: those in the file at its place are its own, since each has 64 bits.
+pub fn written_table_is_read_back()
+    ensures { (f : Bytes) (place : ℕ) (words : List ℕ) → AreFit words → words_in (splice f place (table_bytes words)) place (length words) ≡ words }
 {}
 
 /// The word that `L2TableWriteGuard::map_cluster` writes for a host cluster other than 0, or for any in an external data file, means

@@ -6,7 +6,7 @@ ghost use Rattle.imago_storage.specs.State.{IsAlignment};
 
 use super::*;
 use imago_storage::{Fault, FuseStorage, MemStorage};
-use qcow2_types::{ClusterCount, FeatureType, HostCluster, HostOffset};
+use qcow2_types::{ClusterCount, FeatureType, HostOffset};
 use std::alloc::Global;
 use std::process::Abort;
 use std::test::Fail;
@@ -272,7 +272,11 @@ fn damaged_texts(rt: &impl Abort, alloc: Global) -> Result<(), Fault> {
     for changes in damaged {
         assert_eq!(rt; answer(alloc, changes, false)?, Err(Fault::DamagedHeader));
     }
-    // The first two names and the same extensions where they just fit.
+    Ok(())
+}
+
+// The first two of these names, and the same extensions, where they just fit.
+fn texts_that_fit(rt: &impl Abort, alloc: Global) -> Result<(), Fault> {
     let fits: [&[Piece]; 4] = [
         &[
             BACKING,
@@ -295,11 +299,16 @@ fn damaged_texts(rt: &impl Abort, alloc: Global) -> Result<(), Fault> {
     Ok(())
 }
 
+fn texts_at_their_limits(rt: &impl Abort, alloc: Global) -> Result<(), Fault> {
+    damaged_texts(rt, alloc)?;
+    texts_that_fit(rt, alloc)
+}
+
 #[test]
 fn damaged_texts_are_refused(rt: HostRuntime) -> Result<(), Fail> {
     let alloc = rt.alloc();
-    match damaged_texts(&rt, alloc) {
-        Err(Fault::Memory) => damaged_texts(&rt, alloc)?,
+    match texts_at_their_limits(&rt, alloc) {
+        Err(Fault::Memory) => texts_at_their_limits(&rt, alloc)?,
         answer => answer?,
     }
     Ok(())
@@ -406,36 +415,6 @@ fn sizes_and_places_are_taken_over(rt: HostRuntime) -> Result<(), Fail> {
     let alloc = rt.alloc();
     match updates(&rt, alloc) {
         Err(Fault::Memory) => updates(&rt, alloc)?,
-        answer => answer?,
-    }
-    Ok(())
-}
-
-// A law that no program can call says nothing.
-#[tactic(auto, using(crate::proofs::PlaceLemmas::near_reach))]
-fn call_laws(header: &Header) {
-    let _bits = header.cluster_bits();
-    laws::counters_have_one_form();
-    laws::copied_words_are_decoded();
-    laws::entered_places_are_named();
-    laws::loaded_table_is_written_back();
-    laws::mapped_cluster_is_decoded(header, HostCluster(5));
-    laws::pointer_write_switches_the_header();
-    laws::writing_twice_writes_the_same();
-    laws::written_header_loads_again();
-    laws::zeroed_and_discarded_clusters_are_decoded();
-}
-
-fn laws_of_a_header(alloc: Global) -> Result<(), Fault> {
-    call_laws(&loaded(alloc, &[])?);
-    Ok(())
-}
-
-#[test]
-fn laws_can_be_called(rt: HostRuntime) -> Result<(), Fail> {
-    let alloc = rt.alloc();
-    match laws_of_a_header(alloc) {
-        Err(Fault::Memory) => laws_of_a_header(alloc)?,
         answer => answer?,
     }
     Ok(())

@@ -17,6 +17,7 @@ use std::test::Fail;
 
 mod entering;
 mod guards;
+mod lawful;
 mod made_words;
 mod state;
 mod writing;
@@ -227,7 +228,7 @@ fn worked_image(alloc: Global) -> Result<MemStorage, Fault> {
     Ok(image)
 }
 
-fn worked_tables(rt: &impl Abort, alloc: Global) -> Result<(), Fault> {
+fn worked_upper_tables(rt: &impl Abort, alloc: Global) -> Result<(), Fault> {
     let mut image = worked_image(alloc)?;
     let header = header(alloc, 3, 9, 4)?;
     let l1_table = load_l1(alloc, &mut image, &header, 3, 2)?;
@@ -239,19 +240,27 @@ fn worked_tables(rt: &impl Abort, alloc: Global) -> Result<(), Fault> {
     let ref_table = load_refs(alloc, &mut image, &header, 1, 64)?;
     assert_eq!(rt; ref_table.get(0).refblock_offset(), Some(HostOffset(1024)));
     assert_eq!(rt; ref_table.get(1).refblock_offset(), None);
+    Ok(())
+}
+
+// The mapping to the data in a host cluster.
+fn data_in(cluster: u64, copied: bool) -> L2Mapping {
+    L2Mapping::DataFile {
+        host_cluster: HostCluster(cluster),
+        copied,
+    }
+}
+
+fn worked_l2_table(rt: &impl Abort, alloc: Global) -> Result<(), Fault> {
+    let mut image = worked_image(alloc)?;
+    let header = header(alloc, 3, 9, 4)?;
     let table = load_l2(alloc, &mut image, &header, 4)?;
     assert_eq!(rt; table.get_cluster(), Some(HostCluster(4)));
     assert_eq!(rt; table.byte_size(), 512);
     assert_eq!(rt; table.cluster_count(), ClusterCount(1));
-    let data = L2Mapping::DataFile {
-        host_cluster: HostCluster(5),
-        copied: true,
-    };
+    let data = data_in(5, true);
     assert_eq!(rt; mapping(&table, 0), data);
-    let next = L2Mapping::DataFile {
-        host_cluster: HostCluster(6),
-        copied: true,
-    };
+    let next = data_in(6, true);
     assert_eq!(rt; mapping(&table, 65), next);
     assert!(rt; next.is_consecutive(&data, 9) && !data.is_consecutive(&next, 9));
     let below = L2Mapping::Backing {
@@ -259,14 +268,15 @@ fn worked_tables(rt: &impl Abort, alloc: Global) -> Result<(), Fault> {
     };
     assert_eq!(rt; mapping(&table, 2), below);
     let copy = table.clone(alloc)?;
-    let unmarked = L2Mapping::DataFile {
-        host_cluster: HostCluster(5),
-        copied: false,
-    };
-    assert_eq!(rt; mapping(&copy, 0), unmarked);
+    assert_eq!(rt; mapping(&copy, 0), data_in(5, false));
     assert_eq!(rt; copy.get_cluster(), None);
     assert!(rt; copy.is_modified());
     Ok(())
+}
+
+fn worked_tables(rt: &impl Abort, alloc: Global) -> Result<(), Fault> {
+    worked_upper_tables(rt, alloc)?;
+    worked_l2_table(rt, alloc)
 }
 
 #[test]
