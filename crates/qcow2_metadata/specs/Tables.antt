@@ -83,6 +83,10 @@ pub record TableValue : Type 0 where
   -- whether the file may hold something else there
   pub modified : Bool
 
+-- what the word at an index of an L2 table means
+abbrev pub mapping_in : TableValue → ℕ → Mapping
+mapping_in table i = mapping_of table.layout (slice_index table.words i)
+
 -- each of these words is one that the kind of table may have
 abbrev pub AreSound : Kind → Layout → List ℕ → Type 0
 AreSound kind layout words = (i : ℕ) → i < length words → IsTrue (word_sound kind layout (slice_index words i))

@@ -1,12 +1,12 @@
 // L2 tables.
-ghost use Rattle.std.specs.Prelude.{◌≡◌, ℕ, ◌+◌, ◌*◌, ◌%◌, ◌^◌, ◌<◌, ◌≤◌, ◌↔◌, ◌⊎◌, IsTrue, IsOk, OnOk, OnErr, IfOk, IsOkUnless, MatchOption, length, map, replicate, slice_index, refl, Some, None, true, false};
+ghost use Rattle.std.specs.Prelude.{◌≡◌, ℕ, ◌+◌, ◌*◌, ◌%◌, ◌^◌, ◌<◌, ◌≤◌, ◌↔◌, ◌⊎◌, IsTrue, IsOk, OnOk, OnErr, IfOk, IsOkUnless, MatchOption, length, map, replicate, refl, Some, None, true, false};
 ghost use Rattle.std.specs.Option.{is_some};
 ghost use Rattle.qcow2_types.specs.Header.{layout_of, words_of_cluster};
 ghost use Rattle.qcow2_types.specs.Places.{l2_entries};
 ghost use Rattle.qcow2_types.specs.Words.{mapping_of};
 ghost use Rattle.imago_storage.specs.Through.{PutAtOnce};
 ghost use Rattle.qcow2_metadata.specs.Places.{IsInReach};
-ghost use Rattle.qcow2_metadata.specs.Tables.{IsLength, AreSound, AreFit, l2_words, with_word, shared_word, table_bytes};
+ghost use Rattle.qcow2_metadata.specs.Tables.{IsLength, AreSound, AreFit, l2_words, mapping_in, with_word, shared_word, table_bytes};
 
 use crate::Header;
 use crate::entries::{L2Entry, TableEntry};
@@ -146,7 +146,7 @@ impl L2Table {
     // What the word at an index means. The layer below is read at `backing_offset`.
     fn mapping_at(&self, index: usize, backing_offset: u64) -> L2Mapping
         requires { index < length self.now.words }
-        ensures means { mapping_seen result ≡ mapping_of self.now.layout (slice_index self.now.words index) }
+        ensures means { mapping_seen result ≡ mapping_in self.now index }
         ensures named { IsNamed self.now.layout.cluster_bits result }
         ensures backs { BacksAt backing_offset result }
     {
@@ -159,7 +159,7 @@ impl L2Table {
     /// Where the bytes of a guest cluster are. Where they are in the layer below, they are there at the cluster's own place.
     pub fn get_mapping(&self, lookup_cluster: GuestCluster) -> L2Mapping
         requires { lookup_cluster * 2 ^ self.now.layout.cluster_bits < 2 ^ 64 }
-        ensures means { mapping_seen result ≡ mapping_of self.now.layout (slice_index self.now.words (lookup_cluster % l2_entries self.now.layout.cluster_bits)) }
+        ensures means { mapping_seen result ≡ mapping_in self.now (lookup_cluster % l2_entries self.now.layout.cluster_bits) }
         ensures named { IsNamed self.now.layout.cluster_bits result }
         ensures backs { BacksAt (lookup_cluster * 2 ^ self.now.layout.cluster_bits) result }
     {
@@ -230,7 +230,7 @@ impl L2Table {
         &self,
         cluster: GuestCluster,
     ) -> Option<CompressedClusterReadGuard<'_>>
-        ensures { MatchOption result (packed_part (mapping_of self.now.layout (slice_index self.now.words (cluster % l2_entries self.now.layout.cluster_bits))) ≡ None) (λ guard. packed_part (mapping_of self.now.layout (slice_index self.now.words (cluster % l2_entries self.now.layout.cluster_bits))) ≡ Some (guard.host_offset, guard.length)) }
+        ensures { MatchOption result (packed_part (mapping_in self.now (cluster % l2_entries self.now.layout.cluster_bits)) ≡ None) (λ guard. packed_part (mapping_in self.now (cluster % l2_entries self.now.layout.cluster_bits)) ≡ Some (guard.host_offset, guard.length)) }
     {
         let index = cluster.l2_index(self.layout.cluster_bits());
         match self.mapping_at(index, 0) {
@@ -249,7 +249,7 @@ impl L2Table {
     // The host clusters of the word at an index.
     fn allocation_at(&self, index: usize) -> Option<(HostCluster, ClusterCount)>
         requires { index < length self.now.words }
-        ensures { result ≡ allocation_of self.now.layout.cluster_bits (mapping_of self.now.layout (slice_index self.now.words index)) }
+        ensures { result ≡ allocation_of self.now.layout.cluster_bits (mapping_in self.now index) }
     {
         allocation(self.mapping_at(index, 0), self.layout.cluster_bits())
     }
@@ -257,12 +257,14 @@ impl L2Table {
     // The host cluster of the word at an index that is kept when its guest cluster is zeroed, with its copied mark.
     fn kept_at(&self, index: usize, keep: bool) -> Option<(HostCluster, bool)>
         requires { index < length self.now.words }
-        ensures kept { result ≡ kept_where keep (mapping_of self.now.layout (slice_index self.now.words index)) }
+        ensures kept { result ≡ kept_where keep (mapping_in self.now index) }
         ensures reach { IsKeptInReach self.now.layout.cluster_bits result }
     {
         kept_cluster(self.mapping_at(index, 0), keep, self.layout.cluster_bits())
     }
 
+    // Makes the word at an index name a host cluster, as one whose reference count is 1. It answers the clusters that the word named
+    // before, to be freed; none where that was exactly this cluster.
     fn map_at(
         &mut self,
         index: usize,
@@ -273,8 +275,8 @@ impl L2Table {
         requires reach { IsInReach self.old.layout.cluster_bits cluster }
         requires some { (0 < cluster) ⊎ (self.old.layout.external_data ≡ true) }
         ensures table { self.new ≡ with_word self.old index (2 ^ 63 + cluster * 2 ^ self.old.layout.cluster_bits) }
-        ensures back { result ≡ freed (replaced cluster (allocation_of self.old.layout.cluster_bits (mapping_of self.old.layout (slice_index self.old.words index)))) }
-        ensures conserved { Conserves self.old.layout.cluster_bits (mapping_of self.old.layout (slice_index self.old.words index)) (mapping_of self.old.layout (2 ^ 63 + cluster * 2 ^ self.old.layout.cluster_bits)) result (newly cluster (allocation_of self.old.layout.cluster_bits (mapping_of self.old.layout (slice_index self.old.words index)))) }
+        ensures back { result ≡ freed (replaced cluster (allocation_of self.old.layout.cluster_bits (mapping_in self.old index))) }
+        ensures conserved { Conserves self.old.layout.cluster_bits (mapping_in self.old index) (mapping_of self.old.layout (2 ^ 63 + cluster * 2 ^ self.old.layout.cluster_bits)) result (newly cluster (allocation_of self.old.layout.cluster_bits (mapping_in self.old index))) }
     {
         let old = self.allocation_at(index);
         let place = cluster.offset(self.layout.cluster_bits());
@@ -284,11 +286,12 @@ impl L2Table {
         to_free_unless(old, cluster)
     }
 
+    // Makes the word at an index 0. It answers the clusters that the word named before, to be freed.
     fn discard_at(&mut self, index: usize) -> Option<ClustersToFreeEntry>
         requires { index < length self.old.words }
         ensures table { self.new ≡ with_word self.old index 0 }
-        ensures back { result ≡ freed (allocation_of self.old.layout.cluster_bits (mapping_of self.old.layout (slice_index self.old.words index))) }
-        ensures conserved { Conserves self.old.layout.cluster_bits (mapping_of self.old.layout (slice_index self.old.words index)) (mapping_of self.old.layout 0) result (λ c. 0) }
+        ensures back { result ≡ freed (allocation_of self.old.layout.cluster_bits (mapping_in self.old index)) }
+        ensures conserved { Conserves self.old.layout.cluster_bits (mapping_in self.old index) (mapping_of self.old.layout 0) result (λ c. 0) }
     {
         let old = self.allocation_at(index);
         self.content[index] = L2Entry::empty();
@@ -296,6 +299,9 @@ impl L2Table {
         to_free(old)
     }
 
+    // Makes the word at an index mean zeroes, with its own cluster kept where `keep_allocation` is set and it has one. It answers
+    // the clusters that the word named before, to be freed; none where its cluster is kept. Refused, with nothing changed, exactly
+    // in version 2.
     fn zero_at(
         &mut self,
         index: usize,
@@ -305,9 +311,9 @@ impl L2Table {
         ensures possible { IsOk result ↔ (self.old.layout.version ≡ 3) }
         ensures refused { IsOkUnless result Fault.VersionLimit }
         ensures stays { OnErr result (self.new ≡ self.old) }
-        ensures table { OnOk result (self.new ≡ with_word self.old index (zeroed_word self.old.layout.cluster_bits (kept_where keep_allocation (mapping_of self.old.layout (slice_index self.old.words index))))) }
-        ensures back { IfOk result (λ entry. entry ≡ freed (unkept (is_some (kept_where keep_allocation (mapping_of self.old.layout (slice_index self.old.words index)))) (allocation_of self.old.layout.cluster_bits (mapping_of self.old.layout (slice_index self.old.words index))))) }
-        ensures conserved { IfOk result (λ entry. Conserves self.old.layout.cluster_bits (mapping_of self.old.layout (slice_index self.old.words index)) (mapping_of self.old.layout (zeroed_word self.old.layout.cluster_bits (kept_where keep_allocation (mapping_of self.old.layout (slice_index self.old.words index))))) entry (λ c. 0)) }
+        ensures table { OnOk result (self.new ≡ with_word self.old index (zeroed_word self.old.layout.cluster_bits (kept_where keep_allocation (mapping_in self.old index)))) }
+        ensures back { IfOk result (λ entry. entry ≡ freed (unkept (is_some (kept_where keep_allocation (mapping_in self.old index))) (allocation_of self.old.layout.cluster_bits (mapping_in self.old index)))) }
+        ensures conserved { IfOk result (λ entry. Conserves self.old.layout.cluster_bits (mapping_in self.old index) (mapping_of self.old.layout (zeroed_word self.old.layout.cluster_bits (kept_where keep_allocation (mapping_in self.old index)))) entry (λ c. 0)) }
     {
         if self.layout.version() != 3 {
             return Err(Fault::VersionLimit);
@@ -361,7 +367,7 @@ impl L2TableWriteGuard<'_> {
     /// Where the bytes of a guest cluster are. Where they are in the layer below, they are there at the cluster's own place.
     pub fn get_mapping(&self, lookup_cluster: GuestCluster) -> L2Mapping
         requires { lookup_cluster * 2 ^ self.now.table.now.layout.cluster_bits < 2 ^ 64 }
-        ensures means { mapping_seen result ≡ mapping_of self.now.table.now.layout (slice_index self.now.table.now.words (lookup_cluster % l2_entries self.now.table.now.layout.cluster_bits)) }
+        ensures means { mapping_seen result ≡ mapping_in self.now.table.now (lookup_cluster % l2_entries self.now.table.now.layout.cluster_bits) }
         ensures named { IsNamed self.now.table.now.layout.cluster_bits result }
         ensures backs { BacksAt (lookup_cluster * 2 ^ self.now.table.now.layout.cluster_bits) result }
     {
@@ -373,7 +379,7 @@ impl L2TableWriteGuard<'_> {
         &self,
         cluster: GuestCluster,
     ) -> Option<CompressedClusterReadGuard<'_>>
-        ensures { MatchOption result (packed_part (mapping_of self.now.table.now.layout (slice_index self.now.table.now.words (cluster % l2_entries self.now.table.now.layout.cluster_bits))) ≡ None) (λ guard. packed_part (mapping_of self.now.table.now.layout (slice_index self.now.table.now.words (cluster % l2_entries self.now.table.now.layout.cluster_bits))) ≡ Some (guard.host_offset, guard.length)) }
+        ensures { MatchOption result (packed_part (mapping_in self.now.table.now (cluster % l2_entries self.now.table.now.layout.cluster_bits)) ≡ None) (λ guard. packed_part (mapping_in self.now.table.now (cluster % l2_entries self.now.table.now.layout.cluster_bits)) ≡ Some (guard.host_offset, guard.length)) }
     {
         self.table.lock_compressed_read(cluster)
     }
@@ -392,10 +398,10 @@ impl L2TableWriteGuard<'_> {
         requires reach { IsInReach self.old.table.now.layout.cluster_bits cluster }
         requires some { (0 < cluster) ⊎ (self.old.table.now.layout.external_data ≡ true) }
         ensures table { self.new.table.now ≡ with_word self.old.table.now index (2 ^ 63 + cluster * 2 ^ self.old.table.now.layout.cluster_bits) }
-        ensures back { result ≡ freed (replaced cluster (allocation_of self.old.table.now.layout.cluster_bits (mapping_of self.old.table.now.layout (slice_index self.old.table.now.words index)))) }
+        ensures back { result ≡ freed (replaced cluster (allocation_of self.old.table.now.layout.cluster_bits (mapping_in self.old.table.now index))) }
         // It is the same table, so that what calls do to it adds up.
         ensures same { self.new.table.ghost_name ≡ self.old.table.ghost_name }
-        ensures conserved { Conserves self.old.table.now.layout.cluster_bits (mapping_of self.old.table.now.layout (slice_index self.old.table.now.words index)) (mapping_of self.old.table.now.layout (2 ^ 63 + cluster * 2 ^ self.old.table.now.layout.cluster_bits)) result (newly cluster (allocation_of self.old.table.now.layout.cluster_bits (mapping_of self.old.table.now.layout (slice_index self.old.table.now.words index)))) }
+        ensures conserved { Conserves self.old.table.now.layout.cluster_bits (mapping_in self.old.table.now index) (mapping_of self.old.table.now.layout (2 ^ 63 + cluster * 2 ^ self.old.table.now.layout.cluster_bits)) result (newly cluster (allocation_of self.old.table.now.layout.cluster_bits (mapping_in self.old.table.now index))) }
     {
         self.table.map_at(index, cluster, pending)
     }
@@ -416,9 +422,9 @@ impl L2TableWriteGuard<'_> {
         ensures refused { IsOkUnless result Fault.VersionLimit }
         ensures stays { OnErr result (self.new.table.now ≡ self.old.table.now) }
         ensures same { self.new.table.ghost_name ≡ self.old.table.ghost_name }
-        ensures table { OnOk result (self.new.table.now ≡ with_word self.old.table.now index (zeroed_word self.old.table.now.layout.cluster_bits (kept_where keep_allocation (mapping_of self.old.table.now.layout (slice_index self.old.table.now.words index))))) }
-        ensures back { IfOk result (λ entry. entry ≡ freed (unkept (is_some (kept_where keep_allocation (mapping_of self.old.table.now.layout (slice_index self.old.table.now.words index)))) (allocation_of self.old.table.now.layout.cluster_bits (mapping_of self.old.table.now.layout (slice_index self.old.table.now.words index))))) }
-        ensures conserved { IfOk result (λ entry. Conserves self.old.table.now.layout.cluster_bits (mapping_of self.old.table.now.layout (slice_index self.old.table.now.words index)) (mapping_of self.old.table.now.layout (zeroed_word self.old.table.now.layout.cluster_bits (kept_where keep_allocation (mapping_of self.old.table.now.layout (slice_index self.old.table.now.words index))))) entry (λ c. 0)) }
+        ensures table { OnOk result (self.new.table.now ≡ with_word self.old.table.now index (zeroed_word self.old.table.now.layout.cluster_bits (kept_where keep_allocation (mapping_in self.old.table.now index)))) }
+        ensures back { IfOk result (λ entry. entry ≡ freed (unkept (is_some (kept_where keep_allocation (mapping_in self.old.table.now index))) (allocation_of self.old.table.now.layout.cluster_bits (mapping_in self.old.table.now index)))) }
+        ensures conserved { IfOk result (λ entry. Conserves self.old.table.now.layout.cluster_bits (mapping_in self.old.table.now index) (mapping_of self.old.table.now.layout (zeroed_word self.old.table.now.layout.cluster_bits (kept_where keep_allocation (mapping_in self.old.table.now index)))) entry (λ c. 0)) }
     {
         self.table.zero_at(index, keep_allocation)
     }
@@ -430,8 +436,8 @@ impl L2TableWriteGuard<'_> {
         requires { index < length self.old.table.now.words }
         ensures table { self.new.table.now ≡ with_word self.old.table.now index 0 }
         ensures same { self.new.table.ghost_name ≡ self.old.table.ghost_name }
-        ensures back { result ≡ freed (allocation_of self.old.table.now.layout.cluster_bits (mapping_of self.old.table.now.layout (slice_index self.old.table.now.words index))) }
-        ensures conserved { Conserves self.old.table.now.layout.cluster_bits (mapping_of self.old.table.now.layout (slice_index self.old.table.now.words index)) (mapping_of self.old.table.now.layout 0) result (λ c. 0) }
+        ensures back { result ≡ freed (allocation_of self.old.table.now.layout.cluster_bits (mapping_in self.old.table.now index)) }
+        ensures conserved { Conserves self.old.table.now.layout.cluster_bits (mapping_in self.old.table.now index) (mapping_of self.old.table.now.layout 0) result (λ c. 0) }
     {
         self.table.discard_at(index)
     }

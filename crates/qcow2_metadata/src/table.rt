@@ -42,8 +42,8 @@ pub trait Table: Sized {
     /// The greatest number of its words.
     const MAX_ENTRIES: usize;
 
-    /// The table of these words, for an image with this header: each has a meaning there, and there are at most `MAX_ENTRIES`, of
-    /// an L2 table as many as fill a cluster. It has no cluster, and is modified.
+    /// The table of these words, for an image with this header: each has 64 bits and a meaning there, and there are at most
+    /// `MAX_ENTRIES`, of an L2 table as many as fill a cluster. It has no cluster, and is modified.
     fn from_data(content: Vec<Self::InternalEntry>, header: &Header) -> Self
         requires long { IsLength Self.InternalEntry.kind (layout_of header.now.fields) (length (Self.InternalEntry.words content.items)) }
         requires sound { AreSound Self.InternalEntry.kind (layout_of header.now.fields) (Self.InternalEntry.words content.items) }
