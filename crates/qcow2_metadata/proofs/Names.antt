@@ -1,19 +1,18 @@
 -- Names of feature bits in order, and in an entry of their extension.
-use Rattle.std.proofs.Common.{◌≡◌, ℕ, suc, ◌+◌, ◌-◌, ◌*◌, ◌<◌, ◌≤◌, refl, arith, ap, sym, ◌∙◌, List, [], ◌∷◌, ◌++◌, length, get_or, take, drop}
+use Rattle.std.proofs.Common.{◌≡◌, ℕ, suc, ◌+◌, ◌-◌, ◌*◌, ◌<◌, ◌≤◌, refl, arith, ap, sym, ◌∙◌, List, [], ◌∷◌, ◌++◌, length, get_or, take, drop, lit<, le-ltb}
 use Rattle.std.specs.Prelude.{Bool, true, false, not, ◌&&◌, ◌==◌, nat_lt, if◌then◌else◌, Option, Some, None, unwrap_or, map, take_while, slice_set}
 use Rattle.std.specs.List.{insert, position, position_or_len}
 use Rattle.std.specs.Option.{option_to_list}
 use Rattle.std.specs.Str.{is_utf8, IsUtf8}
 use Rattle.std.proofs.lemmas.Str.{IsUtf8-from_is_utf8, is_utf8-from_IsUtf8}
 use Rattle.std.proofs.lemmas.Bool.{lt-ltb}
-use Rattle.std.proofs.lemmas.Bool.Decides.{nat_tests}
 use Rattle.std.proofs.lemmas.List.{take_rest, drop-drop}
 use Rattle.qcow2_types.specs.Header.{Feature, comes_before, with_name, with_names, feature_in, features_of}
 use Rattle.qcow2_metadata.specs.declared.features.FeatureName.{FeatureName}
 use Rattle.qcow2_types.specs.declared.features.FeatureType.{FeatureType}
 use Rattle.qcow2_types.specs.declared.features.FeatureType.TheVariants.{Incompatible, Compatible, Autoclear}
 use Rattle.qcow2_types.specs.Features.{kind_of}
-use Rattle.qcow2_metadata.specs.Kinds.{kind_with, seen_name}
+use Rattle.qcow2_metadata.specs.Kinds.{seen_name}
 use Rattle.qcow2_metadata.proofs.Places.{place-or-end}
 
 module _ (x d : FeatureName) where
@@ -82,15 +81,17 @@ text-cut e found at searched chosen =
     let spot : at ≡ position_or_len (λ b. b == 0) (take (length e - 2) (drop 2 e)) = rw (chosen, searched) (place-or-end (λ b. b == 0) (take (length e - 2) (drop 2 e))) in
     rw (spot, text) refl
 
--- a kind by its number
-kind-known : (n : ℕ) (kind : FeatureType) → kind_with n ≡ Some kind → (n < 3) × (n ≡ kind_of kind)
-kind-known n kind known = split (n == 0) (n == 1) (n == 2) (λ e. grind (arith, nat_tests)) (λ e. grind (arith, nat_tests)) (λ e. grind (arith, nat_tests)) known
-  where
-    split : (a b c : Bool) → (a ≡ true → n ≡ 0) → (b ≡ true → n ≡ 1) → (c ≡ true → n ≡ 2) → (if a then Some Incompatible else if b then Some Compatible else if c then Some Autoclear else None) ≡ Some kind → (n < 3) × (n ≡ kind_of kind)
-    split true b c x y z e = let same : Incompatible ≡ kind = cc in let zero' : n ≡ 0 = x refl in (omega arith, x refl ∙ ap kind_of same)
-    split false true c x y z e = let same : Compatible ≡ kind = cc in let one : n ≡ 1 = y refl in (omega arith, y refl ∙ ap kind_of same)
-    split false false true x y z e = let same : Autoclear ≡ kind = cc in let two : n ≡ 2 = z refl in (omega arith, z refl ∙ ap kind_of same)
-    split false false false x y z e = absurd cc
+-- there are three kinds
+kinds-few : (kind : FeatureType) → kind_of kind < 3
+kinds-few Incompatible = lit< tt
+kinds-few Compatible = lit< tt
+kinds-few Autoclear = lit< tt
+
+-- an entry of another kind
+pub entry-unknown : (e : List ℕ) → 2 ≤ length e → 2 < get_or e 0 0 → feature_in e ≡ []
+entry-unknown e long past =
+    let high : nat_lt (get_or e 0 0) 3 ≡ false = le-ltb _ _ (omega (arith, past)) in
+    feature-parts e long ∙ rw high refl
 
 module _ (e name : List ℕ) (long : 2 ≤ length e) (text : name ≡ take_while (λ x. not (x == 0)) (drop 2 e)) where
   named : feature_in e ≡ (if nat_lt (get_or e 0 0) 3 && is_utf8 name then record { kind = get_or e 0 0; bit = get_or e 1 0; name = name } ∷ [] else [])
@@ -106,11 +107,11 @@ module _ (e name : List ℕ) (long : 2 ≤ length e) (text : name ≡ take_while
       split false false x is = refl
 
   -- an entry that says something
-  pub entry-named : (kind : FeatureType) → kind_with (get_or e 0 0) ≡ Some kind → IsUtf8 name → feature_in e ≡ record { kind = kind_of kind; bit = get_or e 1 0; name = name } ∷ []
+  pub entry-named : (kind : FeatureType) → kind_of kind ≡ get_or e 0 0 → IsUtf8 name → feature_in e ≡ record { kind = kind_of kind; bit = get_or e 1 0; name = name } ∷ []
   entry-named kind known is_text =
-      let k = kind-known (get_or e 0 0) kind known in
-      let low : nat_lt (get_or e 0 0) 3 ≡ true = lt-ltb _ _ k.0 in
-      named ∙ rw (low, is_utf8-from_IsUtf8 name is_text, k.1) refl
+      let few : get_or e 0 0 < 3 = omega (arith, known, kinds-few kind) in
+      let low : nat_lt (get_or e 0 0) 3 ≡ true = lt-ltb _ _ few in
+      named ∙ rw (low, is_utf8-from_IsUtf8 name is_text, known) refl
 
 -- a first entry that says nothing, or gives a name
 with_names-entry : (known rest : List Feature) (found : Option Feature) → with_names known (option_to_list found ++ rest) ≡ with_names (with_names known (option_to_list found)) rest

@@ -4,7 +4,7 @@ ghost use Rattle.std.specs.List.{position};
 ghost use Rattle.std.specs.Option.{option_copied, option_map, option_to_list};
 ghost use Rattle.qcow2_types.specs.Header.{comes_before as is_before, with_name, feature_in, features_read};
 ghost use Rattle.qcow2_types.specs.Features.{kind_of};
-ghost use Rattle.qcow2_metadata.specs.Kinds.{kind_with, seen_name};
+ghost use Rattle.qcow2_metadata.specs.Kinds.{seen_name};
 ghost use Rattle.qcow2_metadata.specs.Features.{name_of, in_order};
 
 use qcow2_types::FeatureType;
@@ -61,24 +61,12 @@ fn place_of_zero(text: &[u8]) -> Option<usize>
     text.iter().position(|b| *b == 0)
 }
 
-/// The kind of this number in a file.
-fn kind_of(number: u8) -> Option<FeatureType>
-    ensures { kind_with number ≡ result }
-{
-    match number {
-        0 => Some(FeatureType::Incompatible),
-        1 => Some(FeatureType::Compatible),
-        2 => Some(FeatureType::Autoclear),
-        _ => None,
-    }
-}
-
 /// The name in an entry of the extension. One of another kind, or that isn't UTF-8, is skipped.
 fn name_in_entry(alloc: Global, entry: &[u8]) -> Result<Option<FeatureName>, AllocError>
     requires { length entry.now ≡ ENTRY_LENGTH }
     ensures { IfOk result (λ found. feature_in entry.now ≡ option_to_list (option_map seen_name found)) }
 {
-    let Some(kind) = kind_of(entry[0]) else {
+    let Some(kind) = FeatureType::from_kind(entry[0]) else {
         return Ok(None);
     };
     let text = &entry[2..];

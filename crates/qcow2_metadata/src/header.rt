@@ -126,9 +126,10 @@ impl Header {
         self.v2.cluster_bits + 3 - self.v3.refcount_order
     }
 
-    /// The number of counters of a refcount block.
+    /// The number of counters of a refcount block: from 2^6 to 2^24.
     pub fn rb_entries(&self) -> usize
-        ensures { result ≡ counters_of_block self.now.fields }
+        ensures value { result ≡ counters_of_block self.now.fields }
+        ensures bounds { (64 ≤ result) × (result ≤ 2 ^ 24) }
     {
         1 << self.rb_bits()
     }

@@ -129,7 +129,7 @@ fn grown_length(cluster_words: usize, counters: usize, at: usize) -> Option<usiz
     None
 }
 
-// The words of a cluster, and the counters of a refcount block.
+/// The words of a cluster, and the counters of a refcount block.
 fn sizes(header: &Header) -> (usize, usize)
     ensures words { result.0 ≡ words_of_cluster header.now.fields }
     ensures counters { result.1 ≡ counters_of_block header.now.fields }
@@ -137,9 +137,8 @@ fn sizes(header: &Header) -> (usize, usize)
     ensures counter_bounds { (64 ≤ result.1) × (result.1 ≤ 2 ^ 24) }
     ensures shaped { Shaped header.now.fields }
 {
-    let counters = 1usize << header.rb_bits();
     let _layout = TableLayout::of_header(header);
-    (header.l2_entries(), counters)
+    (header.l2_entries(), header.rb_entries())
 }
 
 impl RefTable {

@@ -3,12 +3,12 @@ ghost use Rattle.std.specs.Prelude.{◌≡◌, ◌≤◌, length};
 ghost use Rattle.std.specs.Result.{result_err};
 ghost use Rattle.qcow2_types.specs.Bytes.{be, bytes_of};
 ghost use Rattle.qcow2_types.specs.Header.{fields_of, first_fault, rules_of_kind, rules_of_shape, rules_of_size};
-ghost use Rattle.qcow2_types.specs.Words.{is_place};
 ghost use Rattle.qcow2_metadata.specs.FieldsView.{seen_fields, older_base};
 ghost use Rattle.qcow2_metadata.specs.Parts.{IsV2At, IsV3At};
 
+use crate::words::is_place;
 use imago_storage::Fault;
-use qcow2_types::{MAGIC, MAX_OFFSET, OnDiskStruct, V2Header, V3HeaderBase};
+use qcow2_types::{MAGIC, OnDiskStruct, V2Header, V3HeaderBase};
 
 /// The greatest incompatible feature bits that are carried.
 const KNOWN_FEATURES: u64 = 0xf;
@@ -89,15 +89,6 @@ pub(crate) fn check_shape(v2: &V2Header, v3: &V3HeaderBase) -> Result<(), Fault>
     Ok(())
 }
 
-/// Whether a cluster of 2^`cluster_bits` bytes can begin at the place.
-fn is_cluster_place(cluster_bits: u32, offset: u64) -> bool
-    requires low { 9 ≤ cluster_bits }
-    requires high { cluster_bits ≤ 21 }
-    ensures { result ≡ is_place cluster_bits offset }
-{
-    offset % (1 << cluster_bits) == 0 && offset <= MAX_OFFSET
-}
-
 /// The rules on sizes, and on the places of the tables.
 pub(crate) fn check_sizes(v2: &V2Header, v3: &V3HeaderBase) -> Result<(), Fault>
     requires low { 9 ≤ v2.now.cluster_bits }
@@ -114,8 +105,8 @@ pub(crate) fn check_sizes(v2: &V2Header, v3: &V3HeaderBase) -> Result<(), Fault>
     if entries > 1 << 20 {
         return Err(Fault::Limit(entries));
     }
-    if !is_cluster_place(v2.cluster_bits, v2.l1_table_offset)
-        || !is_cluster_place(v2.cluster_bits, v2.refcount_table_offset)
+    if !is_place(v2.l1_table_offset, v2.cluster_bits)
+        || !is_place(v2.refcount_table_offset, v2.cluster_bits)
     {
         return Err(Fault::DamagedHeader);
     }
