@@ -29,7 +29,7 @@ use Rattle.qcow2_types.proofs.Slots.{contents-slots}
 use Rattle.qcow2_types.proofs.Sound.{sound-words}
 use Rattle.qcow2_types.proofs.Splices.{word-written}
 use Rattle.qcow2_types.proofs.Sums.{sum-same, sum-change}
-use Rattle.qcow2_types.proofs.TableSteps.{word-in-cluster}
+use Rattle.qcow2_types.proofs.TableSizes.{word-in-cluster}
 
 module _ (f g : Bytes) (H : Header) (was : IsConsistent f H) (i : ℕ) (lt : i < refcount_table_entries H.fields) (empty : block_at f H.fields i ≡ 0) (out : Outside f g (H.fields.refcount_table_offset + 8 * i) 8) (w : ℕ)
     (written : word g H.fields.refcount_table_offset i ≡ w) (sane : IsTrue (block_word_sound H.fields.cluster_bits w)) (c t : ℕ) (names : block_offset w ≡ t) (there : t ≢ 0) (begins : t ≡ c * cluster_size H.fields)

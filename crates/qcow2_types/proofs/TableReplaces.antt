@@ -1,6 +1,6 @@
 -- A word of the L1 table is written, and names another L2 table.
 use Rattle.std.proofs.Common.{◌≡◌, ◌≢◌, ℕ, ◌+◌, ◌*◌, ◌/◌, ◌%◌, ◌^◌, ◌<◌, ◌≤◌, refl, arith, sym, subst, ◌∙◌, ap, inl, inr, Ok}
-use Rattle.std.specs.Prelude.{true, cond, ◌&&◌, ◌==◌, ◌⊎◌, nat_lt, IsTrue, IsFalse}
+use Rattle.std.specs.Prelude.{true, cond, ◌==◌, ◌⊎◌, nat_lt, IsTrue, IsFalse}
 use Rattle.std.specs.Int.{w64, to_be_bytes}
 use Rattle.std.proofs.lemmas.Bool.{cases_eq, lt-ltb}
 use Rattle.std.proofs.lemmas.Bool.Decides.{nat_tests}
@@ -11,7 +11,7 @@ use Rattle.qcow2_types.specs.Header.{Header, Shaped, header_of, cluster_size, wo
 use Rattle.qcow2_types.specs.Entries.{l2_table, l2_mapping}
 use Rattle.qcow2_types.specs.Counts.{block_at, count}
 use Rattle.qcow2_types.specs.Slots.{slot, Live, over_slots, or_none, guest_slot, SoundWords}
-use Rattle.qcow2_types.specs.Frames.{Outside, Same, touches, Kept, Skipped, l1_word}
+use Rattle.qcow2_types.specs.Frames.{Outside, Same, Kept, Skipped, l1_word}
 use Rattle.qcow2_types.specs.References.{Weight, structure, of_cluster, of_table, of_table_or_none, contents, of_mapping, of_copied, meets, refs}
 use Rattle.qcow2_types.specs.Consistency.{IsConsistent}
 use Rattle.qcow2_types.specs.Steps.{TableReplaced, TableSwapped}
@@ -21,12 +21,12 @@ use Rattle.qcow2_types.proofs.DataSteps.{free-stays}
 use Rattle.qcow2_types.proofs.Frames.{l1-part, word-same, splice-is-outside}
 use Rattle.qcow2_types.proofs.HeaderLimits.{header-limited}
 use Rattle.qcow2_types.proofs.Parts.{kept-l1, touches-once, count-kept, l2_table-kept, block_at-kept, slot-kept, words-fit}
-use Rattle.qcow2_types.proofs.Shows.{table-inside, guest-live, guest-slot-there, guest-slot-none, shows-outside}
+use Rattle.qcow2_types.proofs.Shows.{guest-live, guest-slot-there, guest-slot-none, shows-outside}
 use Rattle.qcow2_types.proofs.Slots.{contents-slots}
 use Rattle.qcow2_types.proofs.Sound.{sound-words}
 use Rattle.qcow2_types.proofs.Splices.{word-written}
 use Rattle.qcow2_types.proofs.Sums.{sum-same, sum-change}
-use Rattle.qcow2_types.proofs.TableSteps.{word-in-cluster}
+use Rattle.qcow2_types.proofs.TableSizes.{word-in-cluster}
 
 -- the number of a word of the L1 table, or else this one
 abbrev l1_number : ℕ → Skipped → ℕ
@@ -38,11 +38,11 @@ module _ (f g : Bytes) (H : Header) (was : IsConsistent f H) (i : ℕ) (lt : i <
     (written : word g H.fields.l1_offset i ≡ w) (sane : IsTrue (l1_word_sound H.fields.cluster_bits w)) (c t : ℕ) (names : table_offset w ≡ t) (there : t ≢ 0) (begins : t ≡ c * cluster_size H.fields)
     (unnamed : refs f H.fields c ≡ 0) where
   -- the cluster in which the word lies begins before it
-  low : (H.fields.l1_offset + 8 * i) / cluster_size H.fields * cluster_size H.fields ≤ H.fields.l1_offset + 8 * i
+  pub low : (H.fields.l1_offset + 8 * i) / cluster_size H.fields * cluster_size H.fields ≤ H.fields.l1_offset + 8 * i
   low = div-mul-le_self (H.fields.l1_offset + 8 * i) (cluster_size H.fields)
 
   -- and ends behind it
-  high : H.fields.l1_offset + 8 * i + 8 ≤ ((H.fields.l1_offset + 8 * i) / cluster_size H.fields + 1) * cluster_size H.fields
+  pub high : H.fields.l1_offset + 8 * i + 8 ≤ ((H.fields.l1_offset + 8 * i) / cluster_size H.fields + 1) * cluster_size H.fields
   high =
       let shaped : Shaped H.fields = consistent-shaped f H was in
       let size : 2 ^ 9 ≤ 2 ^ H.fields.cluster_bits = pow-le-pow_right (omega arith) shaped.low in
@@ -51,7 +51,7 @@ module _ (f g : Bytes) (H : Header) (was : IsConsistent f H) (i : ℕ) (lt : i <
       word-in-cluster H.fields.l1_offset (cluster_size H.fields) (words_of_cluster H.fields) i (omega arith) (whole H.fields.cluster_bits (omega arith)) multiple
 
   -- the structure is in that cluster
-  l1-weighs : 1 ≤ structure f H.fields (meets H.fields ((H.fields.l1_offset + 8 * i) / cluster_size H.fields))
+  pub l1-weighs : 1 ≤ structure f H.fields (meets H.fields ((H.fields.l1_offset + 8 * i) / cluster_size H.fields))
   l1-weighs =
       let part : meets H.fields ((H.fields.l1_offset + 8 * i) / cluster_size H.fields) H.fields.l1_offset (H.fields.l1_entries * 8) ≤ structure f H.fields (meets H.fields ((H.fields.l1_offset + 8 * i) / cluster_size H.fields)) =
       l1-part f H.fields (meets H.fields ((H.fields.l1_offset + 8 * i) / cluster_size H.fields)) in

@@ -1,5 +1,6 @@
--- The sizes of L2 tables are powers of 2.
+-- The sizes of L2 tables are powers of 2, and words of tables lie in one cluster.
 use Rattle.std.proofs.Common.{◌≡◌, ℕ, ◌+◌, ◌-◌, ◌*◌, ◌/◌, ◌%◌, ◌^◌, ◌<◌, ◌≤◌, arith, ap, sym, ◌∙◌}
+use Rattle.std.proofs.Math.Nat.{div-add-mod}
 use Rattle.std.proofs.lemmas.Nat.{shl-shr, pow-add, pow_pos, mod_below, mul-add-lt, shr_below, shr_split}
 use Rattle.qcow2_types.specs.Places.{l2_entries}
 
@@ -26,3 +27,14 @@ next_below n k j w e h r =
     let place : n / 2 ^ k * 2 ^ k + (n % 2 ^ k + 1) < 2 ^ k * 2 ^ j =
     mul-add-lt (n / 2 ^ k) (2 ^ k) (n % 2 ^ k + 1) (2 ^ j) (shr_below n j k whole) r
     in rw (← e) (omega (arith, place, shr_split n k, pow-add 2 j k))
+
+-- a word of a table that begins with a cluster lies in one cluster
+pub word-in-cluster : (offset size words i : ℕ) → 0 < size → words * 8 ≡ size → offset % size ≡ 0 → offset + 8 * i + 8 ≤ ((offset + 8 * i) / size + 1) * size
+word-in-cluster offset size words i pos whole-words begins =
+    let q : ℕ = (offset + 8 * i) / size in
+    let rest : (offset + 8 * i) % size < size = mod_below (offset + 8 * i) size pos in
+    let split : size * ((offset + 8 * i) / size) + (offset + 8 * i) % size ≡ offset + 8 * i = div-add-mod (offset + 8 * i) size in
+    let begin : size * (offset / size) + offset % size ≡ offset = div-add-mod offset size in
+    let a : ((offset + 8 * i) / size) * (words * 8) ≡ ((offset + 8 * i) / size) * size = ap (λ x. (offset + 8 * i) / size * x) whole-words in
+    let b : offset / size * (words * 8) ≡ offset / size * size = ap (λ x. offset / size * x) whole-words in
+    omega arith

@@ -113,6 +113,7 @@ impl GuestCluster {
     {
         GuestOffset(self.0 << cluster_bits)
     }
+
     /// The index of its word in the L2 table.
     #[tactic(auto, using(crate::proofs::TableSizes::entries_power))]
     pub fn l2_index(self, cluster_bits: u32) -> usize

@@ -79,6 +79,7 @@ impl HostCluster {
     {
         HostOffset(self.0 << cluster_bits)
     }
+
     /// The place in this cluster that `guest_offset` has in its own.
     pub fn relative_offset(self, guest_offset: GuestOffset, cluster_bits: u32) -> HostOffset
         requires bits { (9 ≤ cluster_bits) × (cluster_bits ≤ 21) }
