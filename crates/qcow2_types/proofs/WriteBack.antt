@@ -5,7 +5,7 @@ use Rattle.std.proofs.lemmas.Bool.{lt-ltb}
 use Rattle.std.proofs.lemmas.Bool.Decides.{nat_tests}
 use Rattle.std.proofs.Math.Nat.{pow-le-pow_right, div-add-mod}
 use Rattle.qcow2_types.specs.Bytes.{Bytes, word, splice}
-use Rattle.qcow2_types.specs.Words.{bits_at, is_damaged, l1_word_sound, is_place, table_offset}
+use Rattle.qcow2_types.specs.Words.{bits_at, is_damaged, l1_word_sound, is_place, max_offset, table_offset}
 use Rattle.qcow2_types.specs.Header.{Fields, Header, header_of, fields_of, cluster_size, Shaped}
 use Rattle.qcow2_types.specs.Entries.{l2_table}
 use Rattle.qcow2_types.specs.Counts.{count}
@@ -22,6 +22,10 @@ use Rattle.qcow2_types.proofs.Sound.{sound-words, stop-consistent}
 -- a place that a cluster can begin at is the begin of its cluster
 pub place-whole : (bits offset : ℕ) → IsTrue (is_place bits offset) → offset / 2 ^ bits * 2 ^ bits ≡ offset
 place-whole bits offset sound = let rest : offset % 2 ^ bits ≡ 0 = grind (arith, nat_tests) in omega (arith, div-add-mod offset (2 ^ bits))
+
+-- and one that words can name
+pub place-near : (bits offset : ℕ) → IsTrue (is_place bits offset) → offset ≤ max_offset
+place-near bits offset sound = grind (arith, nat_tests)
 
 -- an L2 table begins with a cluster
 pub table-place : (f : Bytes) (h : Fields) (i : ℕ) → SoundWords f h → i < h.l1_entries → IsTrue (is_place h.cluster_bits (l2_table f h i))

@@ -22,7 +22,7 @@ use Rattle.qcow2_metadata.proofs.TableFacts.{words_long, words_at}
 use Rattle.qimg.specs.First.{file}
 use Rattle.qimg.specs.Check.{Found, IsUnsound, IsBlocks, fault_of_table}
 use Rattle.qimg.proofs.FewerWords.{past-word}
-use Rattle.qimg.proofs.PlainTables.{place-whole}
+use Rattle.qcow2_types.proofs.WriteBack.{place-whole, place-near}
 use Rattle.qimg.proofs.ScanLemmas.{tests-miss}
 
 -- a place of 0
@@ -43,9 +43,10 @@ module _ (f : Bytes) (H : Header) (loads : header_of true f ≡ Ok H) (cluster :
   pub blocks-place : (cluster * 2 ^ H.fields.cluster_bits ≡ H.fields.refcount_table_offset) × (cluster * 2 ^ H.fields.cluster_bits ≤ max_offset)
   blocks-place =
       let limited : Limited H.fields = header-limited true f H loads in
-      let here = place-whole H.fields.cluster_bits H.fields.refcount_table_offset limited.refcount_place in
-      let at : cluster * 2 ^ H.fields.cluster_bits ≡ H.fields.refcount_table_offset = ap (λ c. c * 2 ^ H.fields.cluster_bits) is ∙ here.0 in
-      (at, omega (arith, here.1))
+      let whole = place-whole H.fields.cluster_bits H.fields.refcount_table_offset limited.refcount_place in
+      let near = place-near H.fields.cluster_bits H.fields.refcount_table_offset limited.refcount_place in
+      let at : cluster * 2 ^ H.fields.cluster_bits ≡ H.fields.refcount_table_offset = ap (λ c. c * 2 ^ H.fields.cluster_bits) is ∙ whole in
+      (at, omega (arith, near))
 
   -- word i of it, by the words that were loaded
   word-loaded : (n i : ℕ) → i < n → slice_index (words_in f (cluster * cluster_size H.fields) n) i ≡ word f H.fields.refcount_table_offset i

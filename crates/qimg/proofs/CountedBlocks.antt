@@ -12,7 +12,7 @@ use Rattle.qcow2_types.proofs.Splices.{be-zeroes}
 use Rattle.qcow2_metadata.specs.Blocks.{Block, block_in, counters_in}
 use Rattle.qcow2_metadata.proofs.TableSteps.{past_end}
 use Rattle.qimg.specs.Check.{IsBlocks, HoldsCounters}
-use Rattle.qimg.proofs.PlainTables.{place-whole}
+use Rattle.qcow2_types.proofs.WriteBack.{place-whole}
 
 -- a counter past the file's end
 counter-past : (f : Bytes) (h : Fields) (block j : ℕ) → ((p : ℕ) → block ≤ p → f p ≡ 0) → counter f h block j ≡ 0
@@ -71,7 +71,7 @@ holds-loaded f h blocks index cluster block are there is loaded = record {
 }
   where
     place : cluster * cluster_size h ≡ slice_index blocks index
-    place = ap (λ c. c * cluster_size h) is ∙ (place-whole h.cluster_bits (slice_index blocks index) (are.placed index)).0
+    place = ap (λ c. c * cluster_size h) is ∙ place-whole h.cluster_bits (slice_index blocks index) (are.placed index)
 
     words : block.counters ≡ counters_in f h (slice_index blocks index)
     words = ap (λ (b : Block). b.counters) loaded ∙ ap (counters_in f h) place

@@ -1,11 +1,11 @@
 -- What plain reads show by the tables that are loaded.
 use Rattle.std.proofs.Common.{◌≡◌, ◌≢◌, ℕ, ◌+◌, ◌-◌, ◌*◌, ◌/◌, ◌%◌, ◌^◌, ◌<◌, ◌≤◌, refl, arith, ap, sym, ◌∙◌, List, [], length, inl, inr}
-use Rattle.std.specs.Prelude.{Bool, true, false, cond, ◌&&◌, ◌==◌, nat_le, nat_lt, slice_index, IsTrue, IsFalse, Result, Ok, Err, OnOk, IfOk, IfErr, Some, None}
+use Rattle.std.specs.Prelude.{Bool, true, false, not, cond, ◌&&◌, ◌==◌, nat_lt, slice_index, IsTrue, IsFalse, Result, Ok, Err, OnOk, IfOk, IfErr, Some, None}
 use Rattle.std.proofs.lemmas.Bool.{cases_lt, le-ltb}
 use Rattle.std.proofs.lemmas.Bool.Decides.{nat_tests}
 use Rattle.std.proofs.lemmas.List.{get_or_past}
 use Rattle.std.proofs.lemmas.Nat.{mod_below, pow_pos}
-use Rattle.std.proofs.Math.Nat.{div-add-mod, div-div-eq-div-mul, pow-le-pow_right}
+use Rattle.std.proofs.Math.Nat.{div-div-eq-div-mul, pow-le-pow_right}
 use Rattle.imago_storage.specs.State.{StorageState}
 use Rattle.imago_storage.specs.Calls.{Kept}
 use Rattle.imago_storage.specs.Disk.{Value, byte, damaged_place, Shows}
@@ -21,6 +21,7 @@ use Rattle.qcow2_types.proofs.Bounded.{all-below}
 use Rattle.qcow2_types.proofs.Sound.{all-below-holds}
 use Rattle.qcow2_types.proofs.HeaderLimits.{header-limited}
 use Rattle.qcow2_types.proofs.TableSizes.{entries_power}
+use Rattle.qcow2_types.proofs.WriteBack.{place-whole, place-near}
 use Rattle.qcow2_metadata.specs.Tables.{TableValue, AreSound, HasUnsound, WhyNotLoaded, words_in, table_in, place_or_none, l1_words, l2_words}
 use Rattle.qcow2_metadata.proofs.TableFacts.{words_long, words_at}
 use Rattle.qimg.specs.First.{file}
@@ -28,20 +29,6 @@ use Rattle.qimg.specs.Plain.{IsFirstFault, NotShown, NoL1, mapped_value, table_v
 use Rattle.qimg.proofs.L2Words.{l2-word, l2-sound, l2-unsound}
 use Rattle.qimg.proofs.ScanLemmas.{tests-miss}
 use Rattle.qimg.proofs.PlainReads.{ShownSoFar, shown-short, div-near}
-
--- a place that a cluster begins at
-pub place-whole : (bits offset : ℕ) → is_place bits offset ≡ true → (offset / 2 ^ bits * 2 ^ bits ≡ offset) × (offset ≤ max_offset)
-place-whole bits offset is =
-    let both = parts (offset % 2 ^ bits == 0) (nat_le offset max_offset) is in
-    let zeroth : (offset % 2 ^ bits == 0) ≡ true = both.0 in
-    let low : nat_le offset max_offset ≡ true = both.1 in
-    let whole : offset % 2 ^ bits ≡ 0 = grind (arith, nat_tests) in
-    (omega (arith, div-add-mod offset (2 ^ bits)), grind (arith, nat_tests))
-  where
-    parts : (a b : Bool) → (a && b) ≡ true → (a ≡ true) × (b ≡ true)
-    parts true true e = (refl, refl)
-    parts true false e = absurd cc
-    parts false b e = absurd cc
 
 -- a place, or none
 pub none-place : (offset : ℕ) → None ≡ place_or_none offset → offset ≡ 0
@@ -63,9 +50,10 @@ module _ (f : Bytes) (H : Header) (loads : header_of false f ≡ Ok H) where
   pub l1-place : (cluster : ℕ) → cluster ≡ H.fields.l1_offset / 2 ^ H.fields.cluster_bits → (cluster * 2 ^ H.fields.cluster_bits ≡ H.fields.l1_offset) × (cluster * 2 ^ H.fields.cluster_bits ≤ max_offset)
   l1-place cluster is =
       let limited : Limited H.fields = header-limited false f H loads in
-      let here = place-whole H.fields.cluster_bits H.fields.l1_offset limited.l1_place in
-      let at : cluster * 2 ^ H.fields.cluster_bits ≡ H.fields.l1_offset = ap (λ c. c * 2 ^ H.fields.cluster_bits) is ∙ here.0 in
-      (at, omega (arith, here.1))
+      let whole = place-whole H.fields.cluster_bits H.fields.l1_offset limited.l1_place in
+      let near = place-near H.fields.cluster_bits H.fields.l1_offset limited.l1_place in
+      let at : cluster * 2 ^ H.fields.cluster_bits ≡ H.fields.l1_offset = ap (λ c. c * 2 ^ H.fields.cluster_bits) is ∙ whole in
+      (at, omega (arith, near))
 
   -- its words
   pub l1-words : (result : Result TableValue Fault) (cluster : ℕ) → cluster ≡ H.fields.l1_offset / 2 ^ H.fields.cluster_bits → IfOk result (λ table. table ≡ table_in f H.fields cluster H.fields.l1_entries)
@@ -131,7 +119,8 @@ l2-place f h i sound there = elim (cases_lt i h.l1_entries) [
       let inside : nat_lt i h.l1_entries ≡ true = grind (arith, nat_tests) in
       let same : l2_table f h i ≡ table_offset (word f h.l1_offset i) = ap (λ b. cond b (table_offset (word f h.l1_offset i)) 0) inside in
       let here : l1_word_sound h.cluster_bits (word f h.l1_offset i) ≡ true = all-below h.l1_entries (λ k. l1_word_sound h.cluster_bits (word f h.l1_offset k)) sound i lt in
-      place-whole h.cluster_bits (l2_table f h i) (ap (is_place h.cluster_bits) same ∙ last _ _ here)
+      let begins : is_place h.cluster_bits (l2_table f h i) ≡ true = ap (is_place h.cluster_bits) same ∙ last _ _ here in
+      (place-whole h.cluster_bits (l2_table f h i) begins, place-near h.cluster_bits (l2_table f h i) begins)
   | inr le ↦ let past : nat_lt i h.l1_entries ≡ false = le-ltb _ _ le in absurd (there (ap (λ b. cond b (table_offset (word f h.l1_offset i)) 0) past))
 ]
   where

@@ -23,7 +23,7 @@ use Rattle.qimg.specs.Names.{Adds, nothing_named, named_by, mapped_part, copied_
 use Rattle.qimg.specs.Check.{Found, IsDamagedTable, words_over, fault_of_table}
 use Rattle.qimg.proofs.FewerWords.{past-word}
 use Rattle.qimg.proofs.L2Words.{l2-unsound}
-use Rattle.qimg.proofs.PlainTables.{place-whole}
+use Rattle.qcow2_types.proofs.WriteBack.{place-whole}
 
 -- what an L2 table names is added, so often
 abbrev pub AddsTable : Bytes → Fields → ℕ → List Naming → List Naming → ℕ → Type 0
@@ -90,7 +90,7 @@ module _ (bytes : List ℕ) (h : Fields) (place : ℕ) (past : length bytes ≤ 
 module _ (f : Bytes) (h : Fields) (place cluster : ℕ) (is : IsTrue (is_place h.cluster_bits place)) (begins : cluster ≡ place / 2 ^ h.cluster_bits) where
   -- it begins with a cluster
   pub l2-begin : cluster * cluster_size h ≡ place
-  l2-begin = ap (λ k. k * 2 ^ h.cluster_bits) begins ∙ (place-whole h.cluster_bits place is).0
+  l2-begin = ap (λ k. k * 2 ^ h.cluster_bits) begins ∙ place-whole h.cluster_bits place is
 
   -- its words as they are loaded
   pub l2-words : (n : ℕ) → n ≡ words_of_cluster h → (table : TableValue) → table ≡ table_in f h cluster n → table.words ≡ words_in f place (words_of_cluster h)

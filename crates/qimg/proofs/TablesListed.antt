@@ -24,7 +24,7 @@ use Rattle.qimg.specs.declared.check.CheckFault.{CheckFault}
 use Rattle.qimg.specs.declared.check.CheckFault.TheVariants.{Header, Snapshots, External, Table, SharedTable, FalseCopied, UnderCounted, Memory, Storage}
 use Rattle.qimg.specs.First.{file}
 use Rattle.qimg.specs.Check.{tables_of, sum_over, AreTables, Found, IsUnsound, IsOneDamaged}
-use Rattle.qimg.proofs.PlainTables.{place-whole}
+use Rattle.qcow2_types.proofs.WriteBack.{place-near}
 use Rattle.qimg.proofs.TablePlaces.{tables_to, tables-more, tables-skip}
 use Rattle.qimg.proofs.ScanLemmas.{tests-miss, not-same}
 
@@ -171,7 +171,7 @@ sum-list each none xs n all = sum-first each none xs n ∙ ap (sum_by each) (tak
 -- the places of clusters are small
 pub places-bounded : (xs ys : List ℕ) (bits : ℕ) → xs ≡ ys → AreTables bits ys → (i : ℕ) → slice_index xs i ≤ max_offset
 places-bounded xs ys bits same placed i = elim (cases_lt i (length xs)) [
-  | inl lt ↦ (place-whole bits (slice_index xs i) (subst (AreTables bits) (sym same) placed i 0 lt)).1
+  | inl lt ↦ place-near bits (slice_index xs i) (subst (AreTables bits) (sym same) placed i 0 lt)
   | inr ge ↦ let past : slice_index xs i ≡ 0 = past_end xs i ge in omega arith
 ]
 

@@ -7,7 +7,7 @@ use Rattle.qcow2_types.specs.Entries.{l2_table_sound}
 use Rattle.qcow2_types.proofs.HeaderLimits.{header-limited, fields-shaped}
 use Rattle.qimg.specs.First.{file}
 use Rattle.qimg.specs.Check.{AreTables}
-use Rattle.qimg.proofs.PlainTables.{place-whole}
+use Rattle.qcow2_types.proofs.WriteBack.{place-near}
 use Rattle.qimg.proofs.TablesListed.{tables-placed, places-bounded, table-bytes, sound-by-list, damaged-finding}
 use Rattle.qimg.proofs.ImageNamed.{few-tables, given-few, added-tells, added-few}
 use Rattle.qimg.proofs.check.names_of.Goals as goal
@@ -15,12 +15,12 @@ use Rattle.qimg.proofs.check.names_of.Goals as goal
 pub name_structure-requires-clause-l1 : goal.name_structure-requires-clause-l1
 name_structure-requires-clause-l1 g c =
     let limited : Limited c.args.header.now.fields = header-limited true _ c.args.header.now c.requires.loads in
-    omega (arith, limited.l1_entries, (place-whole c.args.header.now.fields.cluster_bits c.args.header.now.fields.l1_offset limited.l1_place).1)
+    omega (arith, limited.l1_entries, place-near c.args.header.now.fields.cluster_bits c.args.header.now.fields.l1_offset limited.l1_place)
 
 pub name_structure-requires-clause-refcounts : goal.name_structure-requires-clause-refcounts
 name_structure-requires-clause-refcounts g c =
     let limited : Limited c.args.header.now.fields = header-limited true _ c.args.header.now c.requires.loads in
-    omega (arith, limited.refcount_entries, table-bytes c.args.header.now.fields (fields-shaped true _ c.args.header.now c.requires.loads), (place-whole c.args.header.now.fields.cluster_bits c.args.header.now.fields.refcount_table_offset limited.refcount_place).1)
+    omega (arith, limited.refcount_entries, table-bytes c.args.header.now.fields (fields-shaped true _ c.args.header.now c.requires.loads), place-near c.args.header.now.fields.cluster_bits c.args.header.now.fields.refcount_table_offset limited.refcount_place)
 
 pub name_structure-requires-clause-tables : goal.name_structure-requires-clause-tables
 name_structure-requires-clause-tables g c = places-bounded _ _ c.args.header.now.fields.cluster_bits c.requires.places.in_order (tables-placed (file (g.S.Storage.state c.args.image.now)) c.args.header.now.fields c.requires.places.l1_sound)
