@@ -1,6 +1,6 @@
 -- The words that are written to L2 tables, and what they mean.
-use Rattle.std.proofs.Common.{◌≡◌, refl, ℕ, zero, suc, ◌+◌, ◌-◌, ◌*◌, ◌/◌, ◌%◌, ◌^◌, ◌<◌, ◌≤◌, ◌∙◌, ap, sym, subst, arith, List, length, map, lit<}
-use Rattle.std.specs.Prelude.{Bool, true, false, not, ◌&&◌, ◌||◌, ◌==◌, nat_le, if◌then◌else◌, IsTrue, Option, Some, None, slice_index, replicate}
+use Rattle.std.proofs.Common.{◌≡◌, refl, ℕ, ◌+◌, ◌-◌, ◌*◌, ◌/◌, ◌%◌, ◌^◌, ◌<◌, ◌≤◌, ◌∙◌, ap, sym, arith, List, map, lit<}
+use Rattle.std.specs.Prelude.{Bool, true, false, not, ◌&&◌, ◌||◌, ◌==◌, nat_le, if◌then◌else◌, IsTrue, Option, Some, None, replicate}
 use Rattle.std.proofs.lemmas.Nat.{div-mul-add, mod-pow-add, mod_below, pow_pos}
 use Rattle.std.proofs.Math.Pow.{mod-mod-pow}
 use Rattle.qcow2_types.specs.Words.{Layout, unmapped, data_at, zeroes, packed, damaged, mapping_of, is_damaged, is_copied, is_place, has_bit, max_offset, table_offset, standard_word_sound, names_cluster, packed_place}

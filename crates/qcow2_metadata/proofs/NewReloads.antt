@@ -1,5 +1,5 @@
 -- A new header can be written, where it fits its first cluster, and loads again.
-use Rattle.std.proofs.Common.{◌≡◌, ◌≢◌, ℕ, ◌+◌, ◌*◌, ◌/◌, ◌%◌, ◌^◌, ◌<◌, ◌≤◌, refl, arith, ◌∙◌, ap, List, [], length, inr, None, Some}
+use Rattle.std.proofs.Common.{◌≡◌, ◌≢◌, ℕ, ◌+◌, ◌*◌, ◌/◌, ◌%◌, ◌^◌, ◌<◌, ◌≤◌, refl, arith, List, [], length, inr, None, Some}
 use Rattle.std.specs.Prelude.{Bool, true, false, not, ◌&&◌, ◌==◌, if◌then◌else◌, nat_lt, nat_le, IsTrue, Option, is_some}
 use Rattle.std.specs.List.{list_all}
 use Rattle.std.specs.Str.{is_utf8, chars}
@@ -7,7 +7,7 @@ use Rattle.std.specs.Char.{encode_utf8}
 use Rattle.std.proofs.lemmas.Bool.Decides.{nat_tests}
 use Rattle.std.proofs.Math.Nat.{pow-le-pow_right, zero-mod}
 use Rattle.qcow2_types.specs.Words.{has_bit}
-use Rattle.qcow2_types.specs.Header.{Header, first_fault, rules_of_shape, rules_of_size, rules_of_writing}
+use Rattle.qcow2_types.specs.Header.{first_fault, rules_of_shape, rules_of_size, rules_of_writing}
 use Rattle.qcow2_types.specs.HeaderBytes.{new_header, first_features, written_fields, name_bytes, name_place, extensions_bytes, header_bytes, fits_first_cluster}
 use Rattle.qcow2_types.specs.HeaderSwitch.{FirstFieldsFit}
 use Rattle.qcow2_metadata.specs.Reloading.{is_plain_name, is_text, IsReloadable}

@@ -1,9 +1,9 @@
 -- An L2 table is written, whole or in part.
 use Rattle.std.proofs.Common.{◌≡◌, ◌≢◌, ℕ, ◌+◌, ◌*◌, ◌/◌, ◌%◌, ◌<◌, ◌≤◌, arith, sym, ◌∙◌, ap, refl, inl, inr, Ok}
-use Rattle.std.specs.Prelude.{true, ◌==◌, ◌⊎◌, IsFalse}
+use Rattle.std.specs.Prelude.{true, ◌⊎◌, IsFalse}
 use Rattle.std.proofs.lemmas.Bool.{cases_eq}
 use Rattle.std.proofs.lemmas.Bool.Decides.{nat_tests}
-use Rattle.qcow2_types.specs.Bytes.{Bytes, word, sum_below}
+use Rattle.qcow2_types.specs.Bytes.{Bytes, word}
 use Rattle.qcow2_types.specs.Words.{Mapping, is_damaged, mapping_of, l1_word_sound, block_word_sound}
 use Rattle.qcow2_types.specs.Header.{Header, header_of, cluster_size, words_of_cluster, layout_of}
 use Rattle.qcow2_types.specs.Entries.{l2_table, l2_mapping}
@@ -11,7 +11,7 @@ use Rattle.qcow2_types.specs.Counts.{count}
 use Rattle.qcow2_types.specs.Slots.{slot, Live, or_none, over_slots, guest_slot, SoundWords}
 use Rattle.qcow2_types.specs.Frames.{Outside, touches, Kept, Skipped, table}
 use Rattle.qcow2_types.specs.Versions.{SamePlaces}
-use Rattle.qcow2_types.specs.References.{Weight, structure, contents, of_mapping, of_copied, meets, refs}
+use Rattle.qcow2_types.specs.References.{structure, contents, of_mapping, of_copied, meets, refs}
 use Rattle.qcow2_types.specs.Consistency.{IsConsistent}
 use Rattle.qcow2_types.specs.Steps.{TableWritten, TableRewritten, table_sum}
 use Rattle.qcow2_types.proofs.Consistent.{header-kept, some-words, consistent-shaped, structure-unmapped, consistent-from}

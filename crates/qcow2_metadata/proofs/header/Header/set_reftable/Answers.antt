@@ -1,4 +1,4 @@
-use Rattle.std.proofs.Common.{◌≡◌, ◌≤◌, ◌*◌, ◌%◌, ◌^◌, ◌∙◌, ap, subst, sym, arith, length, None, ℕ}
+use Rattle.std.proofs.Common.{◌≡◌, ◌≤◌, ◌*◌, ◌%◌, ◌^◌, ◌∙◌, ap, subst, sym, length, None, ℕ}
 use Rattle.qcow2_types.specs.Header.{Fields, Header as HeaderRecord, first_fault, rules_of_size, words_of_cluster}
 use Rattle.qcow2_metadata.specs.FieldsView.{seen_fields}
 use Rattle.qcow2_metadata.specs.Places.{IsPlaced, place_of}
