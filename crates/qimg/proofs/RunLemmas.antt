@@ -23,7 +23,7 @@ AllFail calls answers = answers ≡ replicate (length calls) (Refused Failed)
 -- After this answer the disk has failed; or it lives on, and the run goes on from it.
 pub Outcome : Header → Opened → Opened → Call → Answer → Type 0
 Outcome H old new call answer =
-    (IsTrue new.failed × ((calls : List Call) (rest : List Answer) (end : StorageState) → AllFail calls rest → end.faults ≡ new.state.faults → Run old.state (call ∷ calls) (answer ∷ rest) end))
+    (IsTrue new.failed × ((calls : List Call) (rest : List Answer) (end : StorageState) → AllFail calls rest → end.faults ≡ new.state.faults → file end ≡ file new.state → Run old.state (call ∷ calls) (answer ∷ rest) end))
     ⊎ (IsLive new H × IsFalse new.failed × ((calls : List Call) (rest : List Answer) (end : StorageState) → Run new.state calls rest end → Run old.state (call ∷ calls) (answer ∷ rest) end))
 
 -- a failed disk answers that, and stays
@@ -76,6 +76,10 @@ lives-on H old new same was live = record {
 fails-at : (before after end : ℕ) → Rose before after → end ≡ after → Rose before end
 fails-at before after end rose same = subst (λ n. Rose before n) (sym same) rose
 
+-- a file that is still what a call left as it was
+same-file : (old new : Opened) → Stays old new → (end : StorageState) → file end ≡ file new.state → file end ≡ file old.state
+same-file old new stays end bytes = bytes ∙ ap bytes_of stays.state.bytes
+
 -- a refusal that leaves all as it was
 stayed : (H : Header) (old new : Opened) → new ≡ old → IsLive old H → IsFalse old.failed → IsLive new H × IsFalse new.failed × SameDisk (shown (file old.state)) (shown (file new.state))
 stayed H old new same live alive = (
@@ -126,7 +130,7 @@ moved H old new (Read offset n) (Refused Failed) shape live alive (was, same) = 
 moved H old new (Read offset n) (Refused RangeOverflow) shape live alive (was, passes, same) =
     let kept = stayed H old new same live alive in inr (kept.0, kept.1, λ calls rest end run. (new.state, lives-on H old new same live kept.0, (passes, kept.2), run))
 moved H old new (Read offset n) (Refused Memory) shape live alive (was, asked, stays, faults, marked) = wanting H old new (Read offset n) live asked stays faults marked
-moved H old new (Read offset n) (Refused Storage) shape live alive (was, asked, stays, rose, marked) = inl (marked, λ calls rest end all same. (asked, fails-at _ _ _ rose same, all))
+moved H old new (Read offset n) (Refused Storage) shape live alive (was, asked, stays, rose, marked) = inl (marked, λ calls rest end all same bytes. (asked, fails-at _ _ _ rose same, all, λ _. same-file old new stays end bytes))
 moved H old new (Write offset bytes) Done shape live alive (ok, leaks, steps, fits) = let after = steps H live in inr (after.0, ok.is, λ calls rest end run. (new.state, lives H old new ok leaks live after.0, (fits, after.1), run))
 moved H old new (Write offset bytes) (Refused Failed) shape live alive (was, same) = absurd cc
 moved H old new (Write offset bytes) (Refused RangeOverflow) shape live alive (was, passes, same) =
@@ -147,19 +151,19 @@ moved H old new (Write offset bytes) (Refused (Limit n)) shape live alive (was, 
         run,
       ),
     )
-moved H old new (Write offset bytes) (Refused Memory) shape live alive (was, within, faults, inl marked) = inl (marked, λ calls rest end all same. (within-asks H old offset bytes.items live within, inl (tt, same ∙ faults, all)))
+moved H old new (Write offset bytes) (Refused Memory) shape live alive (was, within, faults, inl marked) = inl (marked, λ calls rest end all same left. (within-asks H old offset bytes.items live within, inl (tt, same ∙ faults, all)))
 moved H old new (Write offset bytes) (Refused Memory) shape live alive (was, within, faults, inr kept) = wanting H old new (Write offset bytes) live (within-asks H old offset bytes.items live within) kept.0 faults kept.1
-moved H old new (Write offset bytes) (Refused Storage) shape live alive (was, within, rose, marked) = inl (marked, λ calls rest end all same. (within-asks H old offset bytes.items live within, fails-at _ _ _ rose same, all))
+moved H old new (Write offset bytes) (Refused Storage) shape live alive (was, within, rose, marked) = inl (marked, λ calls rest end all same left. (within-asks H old offset bytes.items live within, fails-at _ _ _ rose same, all, λ unchanging. absurd (unchanging tt)))
 moved H old new Flush Done shape live alive (ok, stays, steps) = let after = steps H live in inr (after.0, ok.is, λ calls rest end run. (new.state, lives H old new ok (stays-leaks old new stays) live after.0, (λ over. let some = over.0 in absurd (omega arith), after.1), run))
 moved H old new Flush (Refused Failed) shape live alive (was, same) = absurd cc
 moved H old new Flush (Refused Memory) shape live alive (was, stays, faults, marked) = wanting H old new Flush live tt stays faults marked
-moved H old new Flush (Refused Storage) shape live alive (was, stays, rose, marked) = inl (marked, λ calls rest end all same. (tt, fails-at _ _ _ rose same, all))
+moved H old new Flush (Refused Storage) shape live alive (was, stays, rose, marked) = inl (marked, λ calls rest end all same bytes. (tt, fails-at _ _ _ rose same, all, λ _. same-file old new stays end bytes))
 moved H old new call answer shape live alive why = absurd why
 
 -- After some of the calls: the disk has failed, or the run goes on from a live disk.
 pub Going : Header → Opened → List Call → List Call → List Answer → Opened → Type 0
 Going H old calls left answers now =
-    (IsTrue now.failed × ((rest : List Answer) (end : StorageState) → AllFail left rest → end.faults ≡ now.state.faults → Run old.state calls (answers ++ rest) end))
+    (IsTrue now.failed × ((rest : List Answer) (end : StorageState) → AllFail left rest → end.faults ≡ now.state.faults → file end ≡ file now.state → Run old.state calls (answers ++ rest) end))
     ⊎ (IsLive now H × IsFalse now.failed × ((rest : List Answer) (end : StorageState) → Run now.state left rest end → Run old.state calls (answers ++ rest) end))
 
 pub begins : (H : Header) (old : Opened) (calls : List Call) → IsLive old H → IsFalse old.failed → Going H old calls calls [] old
@@ -174,15 +178,15 @@ pub goes-on : (H : Header) (old now new : Opened) (calls left : List Call) (answ
 unfolding Going Outcome
 goes-on H old now new calls left answers call answer shape (inl (fails, on)) answered =
     let stays = stuck now new call answer fails answered in
-    inl (subst (λ (o : Opened). IsTrue o.failed) (sym stays.1) fails, λ rest end all same. rw append_assoc (on (answer ∷ rest) end (all-fail left call answer rest stays.0 all) (same ∙ ap (λ (o : Opened). o.state.faults) stays.1)))
+    inl (subst (λ (o : Opened). IsTrue o.failed) (sym stays.1) fails, λ rest end all same bytes. rw append_assoc (on (answer ∷ rest) end (all-fail left call answer rest stays.0 all) (same ∙ ap (λ (o : Opened). o.state.faults) stays.1) (bytes ∙ ap (λ (o : Opened). file o.state) stays.1)))
 goes-on H old now new calls left answers call answer shape (inr (live, alive, on)) answered = elim (moved H now new call answer shape live alive answered) [
-  | inl (fails, ends) ↦ inl (fails, λ rest end all same. rw append_assoc (on (answer ∷ rest) end (ends left rest end all same)))
+  | inl (fails, ends) ↦ inl (fails, λ rest end all same bytes. rw append_assoc (on (answer ∷ rest) end (ends left rest end all same bytes)))
   | inr goes ↦ inr (goes.0, goes.1, λ rest end run. rw append_assoc (on (answer ∷ rest) end (goes.2 left rest end run)))
 ]
 
 pub ends : (H : Header) (old now : Opened) (calls : List Call) (answers : List Answer) → Going H old calls [] answers now → Run old.state calls answers now.state
 unfolding Going AllFail
-ends H old now calls answers (inl (fails, on)) = rw append-nil at (on [] now.state refl refl)
+ends H old now calls answers (inl (fails, on)) = rw append-nil at (on [] now.state refl refl refl)
 ends H old now calls answers (inr (live, alive, on)) = rw append-nil at (on [] now.state (refl, refl))
 
 suc-is : (i : ℕ) → i + 1 ≡ suc i

@@ -69,14 +69,19 @@ pub record Lives (old mid : StorageState) : Type 0 where
   pub faults : mid.faults ≡ old.faults
 
 -- The calls move from disk to disk, each of them that of a consistent file, up to the first call during which the storage failed. A
--- call that was in want of memory leaves the disk, or, if it is a write, fails it. Once it has failed each call answers so.
+-- call that was in want of memory leaves the disk, or, if it is a write, fails it. Once it has failed each call answers so, and where
+-- no write failed it, the file stays as it was then.
 abbrev pub Run : StorageState → List Call → List Answer → StorageState → Type 0
 Run old [] [] new = (file new ≡ file old) × (new.faults ≡ old.faults)
 Run old (call ∷ calls) (Refused Memory ∷ answers) new =
     Asks old call
     × ((Changes call × (new.faults ≡ old.faults) × (answers ≡ replicate (length calls) (Refused Failed)))
     ⊎ ((mid : StorageState) × Lives old mid × SameDisk (shown (file old)) (shown (file mid)) × Run mid calls answers new))
-Run old (call ∷ calls) (Refused Storage ∷ answers) new = Asks old call × Rose old.faults new.faults × (answers ≡ replicate (length calls) (Refused Failed))
+Run old (call ∷ calls) (Refused Storage ∷ answers) new =
+    Asks old call
+    × Rose old.faults new.faults
+    × (answers ≡ replicate (length calls) (Refused Failed))
+    × ((Changes call → ⊥) → file new ≡ file old)
 Run old (call ∷ calls) (answer ∷ answers) new = (mid : StorageState) × Lives old mid × Moves old call answer mid × Run mid calls answers new
 Run old _ _ new = ⊥
 

@@ -77,10 +77,13 @@ pub(super) fn run_calls<S: Storage>(
 
 /// Opens the image in a storage, makes the calls in order, and gives the storage back with what they answered.
 ///
+/// A call that the storage failed fails the disk, and each later one answers so; a read or a flush that was failed leaves the file
+/// as it was.
+///
 /// Refused as `Disk::open`, and with `Fault::Memory` where there was no room for an answer. A refusal drops the storage.
 pub fn serve<S: Storage>(alloc: Global, image: S, calls: &[Call]) -> Result<(S, Vec<Answer>), Fault>
     // From a consistent file that is taken, the calls read one flat disk: at opening what the file's bytes mean, and after
-    // each call what they mean then.
+    // each call what they mean then. A read or a flush that the storage failed leaves the file, and so do the calls behind it.
     ensures run { IfOk result (λ served. IsTrue (S.state image).shape.keeps → Consistent (file (S.state image)) → Run (S.state image) calls.now served.1.items (S.state served.0)) }
     ensures taken { IfOk result (λ served. open_fault (file (S.state image)) ≡ None) }
     ensures shape { IfOk result (λ served. (S.state served.0).shape ≡ (S.state image).shape) }
