@@ -12,7 +12,7 @@ use std::alloc::AllocError;
 use std::process::Abort;
 use std::test::Fail;
 
-mod flushes;
+mod asked;
 
 /// The bytes of an image of 65,536 bytes after 01 02 03 were written at 510: 3,584 of them.
 fn check_worked_image(rt: &impl Abort, bytes: &[u8]) {
@@ -258,13 +258,12 @@ fn a_flush_reaches_the_storage(rt: HostRuntime) -> Result<(), Fail> {
     Ok(())
 }
 
-// A list of calls, over a storage of large alignment.
-fn list_of_calls(rt: &impl Abort, alloc: Global) -> Result<(), Fault> {
-    let image = create(alloc, MemStorage::new(alloc).with_align(512), 1000)?;
+// Calls of a disk of 1,000 bytes: one write and one read in its middle, and others at its end and past it.
+fn calls_to_the_end(alloc: Global) -> Result<[Call; 7], Fault> {
     let data = Vec::from_slice(alloc, &[4, 5])?;
     let late = Vec::from_slice(alloc, &[4, 5])?;
     let nothing = Vec::new(alloc);
-    let calls = [
+    Ok([
         Call::Write { offset: 511, data },
         Call::Flush,
         Call::Read {
@@ -288,7 +287,13 @@ fn list_of_calls(rt: &impl Abort, alloc: Global) -> Result<(), Fault> {
             offset: u64::MAX,
             length: 0,
         },
-    ];
+    ])
+}
+
+// A list of calls, over a storage of large alignment.
+fn list_of_calls(rt: &impl Abort, alloc: Global) -> Result<(), Fault> {
+    let image = create(alloc, MemStorage::new(alloc).with_align(512), 1000)?;
+    let calls = calls_to_the_end(alloc)?;
     let (image, answers) = serve(alloc, image, &calls)?;
     match answers.as_slice() {
         [

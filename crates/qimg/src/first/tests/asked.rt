@@ -1,25 +1,32 @@
-// That a flush of a disk asks its storage for a flush and for no sync.
+// What a disk asks of its storage: a flush and no sync for a flush; and what a storage is refused with that can't be cut.
 ghost use Rattle.imago_storage.specs.MemStorage.{mem_state};
 
 use super::*;
 use imago_storage::PreallocateMode;
 
-// A storage in memory that counts its flushes and its syncs apart.
+// A storage in memory that counts its flushes and its syncs apart, and may have a length that can't be set.
 #[derive(Drop)]
 struct Counting {
     below: MemStorage,
     flushes: u64,
     syncs: u64,
+    fixed: bool,
 }
 
 impl Counting {
-    // Over a new image of one cluster.
-    fn over_image(alloc: Global) -> Result<Self, Fault> {
-        Ok(Counting {
-            below: create(alloc, MemStorage::new(alloc), 512)?,
+    fn over(below: MemStorage, fixed: bool) -> Self {
+        Counting {
+            below,
             flushes: 0,
             syncs: 0,
-        })
+            fixed,
+        }
+    }
+
+    // Over a new image of one cluster.
+    fn over_image(alloc: Global) -> Result<Self, Fault> {
+        let image = create(alloc, MemStorage::new(alloc), 512)?;
+        Ok(Counting::over(image, false))
     }
 }
 
@@ -71,6 +78,9 @@ impl Storage for Counting {
     }
 
     fn resize(&mut self, size: u64, mode: PreallocateMode) -> Result<(), Fault> {
+        if self.fixed {
+            return Err(Fault::Unsupported);
+        }
         self.below.resize(size, mode)
     }
 
@@ -107,6 +117,29 @@ fn a_flush_asks_for_no_sync(rt: HostRuntime) -> Result<(), Fail> {
     let alloc = rt.alloc();
     match asked_for_flushes(&rt, alloc) {
         Err(Fault::Memory) => asked_for_flushes(&rt, alloc)?,
+        answer => answer?,
+    }
+    Ok(())
+}
+
+// A storage that can't be cut says so, and one that can takes the image.
+fn cut_or_refused(rt: &impl Abort, alloc: Global) -> Result<(), Fault> {
+    let whole = create(alloc, Counting::over(MemStorage::new(alloc), false), 512)?;
+    assert_eq!(rt; whole.size(), 2048);
+    match create(alloc, Counting::over(MemStorage::new(alloc), true), 512) {
+        Err(Fault::Memory) => Err(Fault::Memory),
+        answer => {
+            assert_eq!(rt; answer.err(), Some(Fault::Unsupported));
+            Ok(())
+        }
+    }
+}
+
+#[test]
+fn a_storage_that_cannot_be_cut_is_refused(rt: HostRuntime) -> Result<(), Fail> {
+    let alloc = rt.alloc();
+    match cut_or_refused(&rt, alloc) {
+        Err(Fault::Memory) => cut_or_refused(&rt, alloc)?,
         answer => answer?,
     }
     Ok(())
