@@ -258,6 +258,34 @@ fn a_flush_reaches_the_storage(rt: HostRuntime) -> Result<(), Fail> {
     Ok(())
 }
 
+// Where memory is wanting before anything was asked of the storage, the write can be made once more.
+fn written_once_more(rt: &impl Abort, alloc: Global) -> Result<(), Fault> {
+    let image = create(alloc, MemStorage::new(alloc).with_align(512), 512)?;
+    let mut disk = Disk::open(alloc, FuseStorage::new(image, 0))?;
+    let before = disk.image.count();
+    match disk.write(alloc, &[1, 2], 3) {
+        Err(Fault::Memory) if disk.image.count() == before => {
+            assert!(rt; !disk.failed());
+            disk.write(alloc, &[1, 2], 3)?;
+        }
+        answer => answer?,
+    }
+    let mut buf = [7u8; 4];
+    disk.read(alloc, &mut buf, 2)?;
+    assert_eq!(rt; buf, [0, 1, 2, 0]);
+    Ok(())
+}
+
+#[test]
+fn a_write_in_want_of_memory_is_made_again(rt: HostRuntime) -> Result<(), Fail> {
+    let alloc = rt.alloc();
+    match written_once_more(&rt, alloc) {
+        Err(Fault::Memory) => written_once_more(&rt, alloc)?,
+        answer => answer?,
+    }
+    Ok(())
+}
+
 // Calls of a disk of 1,000 bytes: one write and one read in its middle, and others at its end and past it.
 fn calls_to_the_end(alloc: Global) -> Result<[Call; 7], Fault> {
     let data = Vec::from_slice(alloc, &[4, 5])?;
