@@ -1,14 +1,14 @@
 // Finding, taking and naming clusters, and writes and reads inside one guest cluster.
 ghost use Rattle.std.specs.Prelude.{◌≡◌, ℕ, ◌+◌, ◌*◌, ◌/◌, ◌%◌, ◌<◌, ◌≤◌, ◌^◌, length, slice_index, true, false, OnOk, IfOk, IfErr, MatchOption};
 ghost use Rattle.imago_storage.specs.State.{unit_of};
-ghost use Rattle.imago_storage.specs.Calls.{CountsFaults, Kept, Spliced};
+ghost use Rattle.imago_storage.specs.Calls.{CountsFaults, Kept};
 ghost use Rattle.qcow2_types.specs.Bytes.{bytes_of};
 ghost use Rattle.qcow2_types.specs.Header.{Header};
 ghost use Rattle.qimg.specs.First.{file, Holds};
 ghost use Rattle.qimg.specs.Pieces.{ShowsBuffer};
 ghost use Rattle.qimg.specs.Clusters.{IsFreeAt, NoneFreeAt, Takes, HasTable, Writes, NoCluster};
 
-use super::requests::{put, read_at, word_at};
+use super::requests::{put, put_in, read_at, word_at};
 use imago_storage::{Fault, Storage};
 use qcow2_metadata::words::offset_in;
 use qcow2_metadata::{L2Entry, TableEntry};
@@ -154,7 +154,7 @@ pub fn write_within<S: Storage>(
         return put(image, alloc, changed, data, host + within as u64);
     }
     let mut content = [0u8; 512];
-    fill_part(&mut content, within, data);
+    put_in(&mut content, within, data);
     match take_cluster(image, alloc, changed, places, &content) {
         Ok(cluster) => put(
             image,
@@ -165,14 +165,6 @@ pub fn write_within<S: Storage>(
         ),
         Err(fault) => Err(fault),
     }
-}
-
-/// Writes over a part of the bytes.
-fn fill_part(bytes: &mut [u8], at: usize, data: &[u8])
-    requires { at + length «data».now ≤ length bytes.old }
-    ensures { Spliced bytes.old at «data».now bytes.new }
-{
-    bytes[at..at + data.len()].copy_from_slice(data);
 }
 
 /// Fills the buffer with zeroes.

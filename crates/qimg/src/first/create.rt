@@ -2,13 +2,14 @@
 ghost use Rattle.std.specs.Prelude.{◌≡◌, ℕ, ◌+◌, ◌<◌, ◌≤◌, ◌^◌, None, [], length, IfOk, IfErr, IsErrOf, OnOk, IsTrue};
 ghost use Rattle.imago_storage.specs.State.{unit_of};
 ghost use Rattle.imago_storage.specs.Disk.{byte};
-ghost use Rattle.qcow2_types.specs.Bytes.{bytes_of, splice};
+ghost use Rattle.qcow2_types.specs.Bytes.{bytes_of};
 ghost use Rattle.qcow2_types.specs.Consistency.{IsConsistent, leaks};
 ghost use Rattle.qimg.specs.First.{file, value_at};
 ghost use Rattle.qimg.specs.Opening.{open_fault};
 ghost use Rattle.qimg.specs.Created.{Creates, NotCreated, new_header, nothing_in, blank};
 
 use super::alignment;
+use super::requests::put_in;
 use imago_storage::{Fault, PreallocateMode, Storage, StorageExt};
 use std::alloc::Global;
 
@@ -31,15 +32,6 @@ pub const EXTENSIONS: [u8; 160] = [
     // the end
     0, 0, 0, 0, 0, 0, 0, 0,
 ];
-
-/// Writes bytes over what is there.
-fn put_in(buffer: &mut [u8], at: usize, bytes: &[u8])
-    requires { at + length bytes.now ≤ length buffer.old }
-    ensures bytes { bytes_of buffer.new ≡ splice (bytes_of buffer.old) at bytes.now }
-    ensures length { length buffer.new ≡ length buffer.old }
-{
-    buffer[at..at + bytes.len()].copy_from_slice(bytes);
-}
 
 /// Writes a new image of size 0, with so many entries in its L1 table.
 fn put_blank(buffer: &mut [u8], entries: u32)

@@ -1,8 +1,8 @@
-// Reads and writes of an image's file at places that lie well below 2^64.
+// Reads and writes of an image's file at places that lie well below 2^64, and of bytes in memory.
 ghost use Rattle.std.specs.Prelude.{◌≡◌, ◌+◌, ◌<◌, ◌≤◌, ◌^◌, length, true, OnOk, IfOk, IfErr, IsTrue};
 ghost use Rattle.imago_storage.specs.State.{unit_of};
-ghost use Rattle.imago_storage.specs.Calls.{Cause, CountsFaults, Kept, Reads};
-ghost use Rattle.qcow2_types.specs.Bytes.{be, splice};
+ghost use Rattle.imago_storage.specs.Calls.{Cause, CountsFaults, Kept, Reads, Spliced};
+ghost use Rattle.qcow2_types.specs.Bytes.{be, bytes_of, splice};
 ghost use Rattle.qimg.specs.First.{file};
 ghost use Rattle.qimg.specs.Requests.{Puts, NotPut};
 
@@ -56,4 +56,14 @@ pub fn put<S: Storage>(
 {
     *changed = true;
     image.write(alloc, bytes, at)
+}
+
+/// Writes bytes over those that stand in a buffer.
+pub fn put_in(buffer: &mut [u8], at: usize, bytes: &[u8])
+    requires { at + length bytes.now ≤ length buffer.old }
+    ensures spliced { Spliced buffer.old at bytes.now buffer.new }
+    ensures bytes { bytes_of buffer.new ≡ splice (bytes_of buffer.old) at bytes.now }
+    ensures length { length buffer.new ≡ length buffer.old }
+{
+    buffer[at..at + bytes.len()].copy_from_slice(bytes);
 }

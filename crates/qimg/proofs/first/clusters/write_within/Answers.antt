@@ -9,8 +9,8 @@ returns-then-host-ne0-clause-ok g c =
 
 pub returns-in-Ok-clause-ok : goal.returns-in-Ok-clause-ok
 returns-in-Ok-clause-ok g c =
-    written-fresh-ok c.put-in-Ok.result _ _ _ _ _ c.args.places c.args.guest c.in_ok-table.table c.in_ok-word_at.field-0 c.args.within c.in-Ok.cluster c.copied_word.result c.fill_part.new.bytes c.args.«data».now c.to_be_bytes.result
-    c.in_ok-table.ensures.ok c.word_at.ensures.kept c.requires.guest c.in_ok-word_at.ensures.value (sym c.offset_in-host.ensures ∙ c.if-host-ne0.false) c.requires.inside c.fill_part.ensures c.in-Ok.ensures.low c.in-Ok.ensures.high c.in-Ok.ensures.ok
+    written-fresh-ok c.put-in-Ok.result _ _ _ _ _ c.args.places c.args.guest c.in_ok-table.table c.in_ok-word_at.field-0 c.args.within c.in-Ok.cluster c.copied_word.result c.put_in.new.buffer c.args.«data».now c.to_be_bytes.result
+    c.in_ok-table.ensures.ok c.word_at.ensures.kept c.requires.guest c.in_ok-word_at.ensures.value (sym c.offset_in-host.ensures ∙ c.if-host-ne0.false) c.requires.inside c.put_in.ensures.spliced c.in-Ok.ensures.low c.in-Ok.ensures.high c.in-Ok.ensures.ok
     c.copied_word.ensures c.to_be_bytes.ensures c.put-in-Ok.ensures.ok
 
 pub returns-in-Err-clause-err : goal.returns-in-Err-clause-err

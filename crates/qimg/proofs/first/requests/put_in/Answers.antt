@@ -2,7 +2,7 @@ use Rattle.std.proofs.Common.{◌+◌, ◌-◌, length, rules}
 use Rattle.std.proofs.lemmas.List.{places}
 use Rattle.imago_storage.specs.Calls.{Spliced}
 use Rattle.qimg.proofs.RequestLemmas.{spliced-bytes}
-use Rattle.qimg.proofs.first.create.put_in.Goals as goal
+use Rattle.qimg.proofs.first.requests.put_in.Goals as goal
 use borrow.Rule.Slice.PartMut.{put_mid}
 
 pub returns-clause-bytes : goal.returns-clause-bytes
