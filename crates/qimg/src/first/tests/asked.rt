@@ -1,4 +1,4 @@
-// What a disk asks of its storage: a flush and no sync for a flush; and what a storage is refused with that can't be cut.
+// What is asked of a storage: for a flush of a disk a flush and no sync, and for a new image that it can be cut.
 ghost use Rattle.imago_storage.specs.MemStorage.{mem_state};
 
 use super::*;
