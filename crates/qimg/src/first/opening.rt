@@ -235,6 +235,9 @@ fn tables_of_part<S: Storage>(
     ensures kept { Kept (S.state image.old) (S.state image.new) }
     ensures faults { CountsFaults (S.state image.old).faults (S.state image.new).faults result }
 {
+    if count == 0 {
+        return Ok(before);
+    }
     let mut bytes = [0u8; 512];
     read_at(image, alloc, &mut bytes, table + 8 * first)?;
     let mut found = before;
