@@ -8,6 +8,15 @@ use imago_storage::{FuseStorage, MemStorage, StorageExt};
 use std::process::Abort;
 use std::test::Fail;
 
+mod contents;
+mod ends;
+mod findings;
+mod images;
+mod sizes;
+mod storages;
+mod structure;
+mod widths;
+
 // An image of 65,536 bytes after 01 02 03 were written at 510.
 fn worked(alloc: Global) -> Result<MemStorage, Fault> {
     let image = create(alloc, MemStorage::new(alloc), 65536)?;
