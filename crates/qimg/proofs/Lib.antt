@@ -39,3 +39,4 @@ pub mod SurplusLemmas
 pub mod TablesListed
 pub mod ImageNamed
 pub mod Verdicts
+pub mod ReadsAgree

@@ -5,6 +5,7 @@ ghost use Rattle.std.specs.Prelude.{◌≡◌, IsOk, IsErr};
 
 pub mod check;
 pub mod first;
+pub mod laws;
 pub mod plain;
 
 use first::RunFault;

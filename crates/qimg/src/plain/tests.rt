@@ -4,6 +4,7 @@
 // whichever one allocation is refused, and fails where a call gives up with memory left.
 use super::*;
 use crate::first::{Disk, create};
+use crate::laws::plain_reads_agree_with_the_disk;
 use imago_storage::{FuseStorage, MemStorage, StorageExt};
 use std::process::Abort;
 use std::test::Fail;
@@ -191,6 +192,50 @@ fn a_fault_of_the_storage_is_told(rt: HostRuntime) -> Result<(), Fail> {
     let alloc = rt.alloc();
     match faults_in_turn(&rt, alloc) {
         Err(Fault::Memory) => faults_in_turn(&rt, alloc)?,
+        answer => answer?,
+    }
+    Ok(())
+}
+
+// A read of a disk, and a plain read of its image, of so many bytes from an offset on.
+fn both_reads(
+    rt: &impl Abort,
+    alloc: Global,
+    offset: u64,
+    ours: &mut [u8],
+    plain: &mut [u8],
+) -> Result<(), Fault> {
+    plain_reads_agree_with_the_disk();
+    let mut disk = Disk::open(alloc, worked(alloc, &[])?)?;
+    disk.read(alloc, ours, offset)?;
+    let mut files = alone(alloc, Format::Qcow2, disk.into_image());
+    plain_read(alloc, &mut files, offset, plain)?;
+    assert_eq!(rt; &*ours, &*plain, "at {offset}");
+    Ok(())
+}
+
+fn reads_agree(rt: &impl Abort, alloc: Global) -> Result<(), Fault> {
+    let mut ours = [7u8; 8];
+    let mut plain = [9u8; 8];
+    both_reads(rt, alloc, 508, &mut ours, &mut plain)?;
+    assert_eq!(rt; plain, [0, 0, 1, 2, 3, 0, 0, 0]);
+    let mut ours = [7u8; 1000];
+    let mut plain = [9u8; 1000];
+    both_reads(rt, alloc, 0, &mut ours, &mut plain)?;
+    assert_eq!(rt; plain[511], 2);
+    // over both L2 tables, the disk's end, and past it
+    both_reads(rt, alloc, 32300, &mut ours, &mut plain)?;
+    both_reads(rt, alloc, 65000, &mut ours, &mut plain)?;
+    both_reads(rt, alloc, 1 << 40, &mut ours, &mut plain)?;
+    assert_eq!(rt; plain[511], 0);
+    Ok(())
+}
+
+#[test]
+fn a_plain_read_agrees_with_the_disk(rt: HostRuntime) -> Result<(), Fail> {
+    let alloc = rt.alloc();
+    match reads_agree(&rt, alloc) {
+        Err(Fault::Memory) => reads_agree(&rt, alloc)?,
         answer => answer?,
     }
     Ok(())
