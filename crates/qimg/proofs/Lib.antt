@@ -14,7 +14,6 @@ pub mod CreateLemmas
 pub mod OpeningLemmas
 pub mod CreatedImage
 pub mod OpensLemmas
-pub mod WorkedLemmas
 pub mod PlainReads
 pub mod L2Words
 pub mod PlainTables
@@ -40,3 +39,5 @@ pub mod TablesListed
 pub mod ImageNamed
 pub mod Verdicts
 pub mod ReadsAgree
+pub mod LeaksKept
+pub mod WorkedLemmas

@@ -2,7 +2,7 @@
 use Rattle.std.proofs.Common.{◌≡◌, ℕ, ◌+◌, ◌<◌, arith, sym, ◌∙◌, List, [], ◌∷◌, length, inl, inr, subst}
 use Rattle.std.proofs.lemmas.Bool.{cases_lt}
 use Rattle.std.proofs.lemmas.Grind.{same_number_lists}
-use Rattle.imago_storage.specs.Disk.{byte}
+use Rattle.imago_storage.specs.Disk.{byte, Disk}
 use Rattle.imago_storage.specs.Steps.{HoldsRange, read, bytes_read}
 use Rattle.qcow2_types.specs.Bytes.{Bytes}
 use Rattle.qcow2_types.specs.Header.{Header}
@@ -16,24 +16,33 @@ use Rattle.qimg.proofs.OpenedLemmas.{shown-value}
 one-byte : (a b : ℕ) → byte a ≡ byte b → a ≡ b
 one-byte a b e = cc
 
--- both buffers hold what the places below the size show, and then 0
-same-buffer : (f : Bytes) (offset : ℕ) (plain buffer : List ℕ) → IsImageRead f offset plain → length buffer ≡ length plain → HoldsRange (shown f) offset buffer → plain ≡ buffer
-same-buffer f offset plain buffer image long holds = same_number_lists plain buffer (sym long) (λ i lt.
-    let few : i < length buffer = omega arith in
-    elim (cases_lt (offset + i) (shown f).size) [
-      | inl below ↦ one-byte _ _ (sym (image.shows.below i lt below) ∙ (sym (shown-value f (offset + i)) ∙ holds.below i few below))
-      | inr past ↦ image.shows.past i lt past ∙ sym (holds.past i few past)
-    ])
-
 -- only an image is read
 file-is-image : (format : Format) (f : Bytes) (offset : ℕ) (plain : List ℕ) → IsFileRead format f offset plain → IsImageRead f offset plain
 file-is-image Qcow2 f offset plain is = is
 file-is-image Raw f offset plain is = absurd is
 file-is-image Vmdk f offset plain is = absurd is
 
+-- what a plain read holds
+pub plain-holds : (top : SeenFile) (offset : ℕ) (plain : List ℕ) → IsPlainRead (top ∷ []) offset plain → HoldsRange (shown (file top.state)) offset plain
+plain-holds top offset plain is =
+    let image : IsImageRead (file top.state) offset plain = file-is-image top.format (file top.state) offset plain is in
+    record {
+      below = λ i lt below. shown-value (file top.state) (offset + i) ∙ image.shows.below i lt below;
+      past = λ i lt past. image.shows.past i lt past;
+    }
+
+-- both buffers hold what the places below the size show, and then 0
+same-range : (disk : Disk) (offset : ℕ) (plain buffer : List ℕ) → length buffer ≡ length plain → HoldsRange disk offset plain → HoldsRange disk offset buffer → plain ≡ buffer
+same-range disk offset plain buffer long first second = same_number_lists plain buffer (sym long) (λ i lt.
+    let few : i < length buffer = omega arith in
+    elim (cases_lt (offset + i) disk.size) [
+      | inl below ↦ one-byte _ _ (sym (first.below i lt below) ∙ second.below i few below)
+      | inr past ↦ first.past i lt past ∙ sym (second.past i few past)
+    ])
+
 pub reads-agree : (disk new : Opened) (H : Header) (top : SeenFile) (offset : ℕ) (plain buffer : List ℕ) → IsLive disk H → file top.state ≡ file disk.state
     → IsPlainRead (top ∷ []) offset plain → Steps disk new (read offset (length plain)) (bytes_read buffer) → plain ≡ buffer
 reads-agree disk new H top offset plain buffer live same is steps =
     let step = (steps H live).1 in
-    let image : IsImageRead (file disk.state) offset plain = subst (λ (f : Bytes). IsImageRead f offset plain) same (file-is-image top.format (file top.state) offset plain is) in
-    same-buffer (file disk.state) offset plain buffer image step.0 step.1
+    let holds : HoldsRange (shown (file disk.state)) offset plain = subst (λ (f : Bytes). HoldsRange (shown f) offset plain) same (plain-holds top offset plain is) in
+    same-range (shown (file disk.state)) offset plain buffer step.0 holds step.1

@@ -47,7 +47,7 @@ stuck old new Flush (Refused Storage) fails why = let was = why.0 in absurd cc
 stuck old new call answer fails why = absurd why
 
 -- a header is one
-one-header : (f : ℕ → ℕ) (H K : Header) → header_of true f ≡ Ok H → header_of true f ≡ Ok K → H ≡ K
+pub one-header : (f : ℕ → ℕ) (H K : Header) → header_of true f ≡ Ok H → header_of true f ≡ Ok K → H ≡ K
 one-header f H K a b = let e : Ok H ≡ Ok K = sym a ∙ b in cc
 
 same-header : (H : Header) (old new : Opened) → IsLive old H → IsLive new H → header_of true (file new.state) ≡ header_of true (file old.state)

@@ -12,3 +12,4 @@ pub mod Opens
 pub mod Plain
 pub mod Names
 pub mod Check
+pub mod Worked

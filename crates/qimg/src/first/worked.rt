@@ -1,15 +1,19 @@
 // The first run: three bytes written and read again, from bytes to bytes.
-ghost use Rattle.std.specs.Prelude.{◌≡◌, ◌≢◌, [], ◌∷◌, ◌++◌, length, codes, Some, IsTrue, IfOk, IfErr, OnOk, IsOkUnless, MatchOption};
+ghost use Rattle.std.specs.Prelude.{◌≡◌, ◌≢◌, [], ◌∷◌, ◌++◌, length, codes, decimal, string_bytes, Some, IsTrue, IfOk, IfErr, OnOk, IsOkUnless, MatchOption};
 ghost use Rattle.std.specs.Io.KnownBytes.{Appends};
+ghost use Rattle.hex.specs.Hex.{encode_lower};
+ghost use Rattle.imago_storage.specs.Calls.{Kept};
 ghost use Rattle.qcow2_types.specs.Consistency.{Consistent};
 ghost use Rattle.qimg.specs.First.{file};
 ghost use Rattle.qimg.specs.declared.first.worked.RunFault.TheVariants.{Memory};
 ghost use Rattle.qimg.specs.Runs.{Run};
 ghost use Rattle.qimg.specs.RunFaults.{NotShown};
-ghost use Rattle.imago_storage.specs.Disk.{byte};
+ghost use Rattle.qimg.specs.Worked.{IsWorked, worked_bytes, worked_text};
 
 use super::calls::{Answer, Call, serve};
 use super::create::create;
+use crate::check::check;
+use crate::plain::{ChainFile, Format, plain_read};
 use imago_storage::{MemStorage, Storage};
 use std::alloc::{AllocError, AllocFailed, Global};
 use std::io;
@@ -105,9 +109,9 @@ fn serve_one<S: Storage>(image: S, alloc: Global, call: Call) -> Result<(S, Answ
     }
 }
 
-/// Writes 01 02 03 at 510 into a new image of 65,536 bytes, flushes it, opens it again, and reads 8 bytes at 508.
-fn worked_bytes<S: Storage>(image: S, alloc: Global) -> Result<Vec<u8>, RunFault>
-    ensures ok { IfOk result (λ bytes. IsTrue (S.state image).shape.keeps → bytes.items ≡ 0 ∷ 0 ∷ 1 ∷ 2 ∷ 3 ∷ 0 ∷ 0 ∷ 0 ∷ []) }
+/// Writes 01 02 03 at 510 into a new image of 65,536 bytes, and flushes it.
+fn worked_image<S: Storage>(image: S, alloc: Global) -> Result<S, RunFault>
+    ensures ok { IfOk result (λ made. IsTrue (S.state image).shape.keeps → IsWorked (S.state made)) }
     ensures err { IsOkUnless result RunFault.Memory }
 {
     let Ok(image) = create(alloc, image, 65536) else {
@@ -116,29 +120,93 @@ fn worked_bytes<S: Storage>(image: S, alloc: Global) -> Result<Vec<u8>, RunFault
     let data = Vec::from_slice(alloc, &[1, 2, 3])?;
     let write = Call::Write { offset: 510, data };
     let (image, written, flushed) = serve_two(image, alloc, write, Call::Flush)?;
-    let read = Call::Read {
-        offset: 508,
-        length: 8,
-    };
-    let (_, read) = serve_one(image, alloc, read)?;
-    match (written, flushed, read) {
-        (Answer::Done, Answer::Done, Answer::Bytes(bytes)) => Ok(bytes),
+    match (written, flushed) {
+        (Answer::Done, Answer::Done) => Ok(image),
         _ => Err(RunFault::Memory),
     }
 }
 
-/// Shows what `first` does: writes the 8 bytes at 508 of an image into which 01 02 03 was written at 510, as lower-case
-/// digits, and a line feed.
+/// How many clusters the image leaks.
+fn leaks_counted<S: Storage>(image: &mut S, alloc: Global) -> Result<usize, RunFault>
+    ensures ok { IfOk result (λ leaks. IsWorked (S.state image.old) → leaks ≡ 0) }
+    ensures err { IsOkUnless result RunFault.Memory }
+    ensures kept { Kept (S.state image.old) (S.state image.new) }
+{
+    match check(alloc, image) {
+        Ok(leaks) => Ok(leaks.len()),
+        Err(_) => Err(RunFault::Memory),
+    }
+}
+
+/// Opens the disk in the image again, and reads 8 bytes at 508.
+fn disk_bytes<S: Storage>(image: S, alloc: Global) -> Result<(S, Vec<u8>), RunFault>
+    ensures image { IfOk result (λ read. IsWorked (S.state image) → IsWorked (S.state read.0)) }
+    ensures bytes { IfOk result (λ read. IsWorked (S.state image) → read.1.items ≡ worked_bytes) }
+    ensures err { IsOkUnless result RunFault.Memory }
+{
+    let read = Call::Read {
+        offset: 508,
+        length: 8,
+    };
+    let (image, read) = serve_one(image, alloc, read)?;
+    match read {
+        Answer::Bytes(bytes) => Ok((image, bytes)),
+        _ => Err(RunFault::Memory),
+    }
+}
+
+/// Reads 8 bytes at 508 from the bytes of the image alone.
+fn plain_bytes<S: Storage>(image: S, alloc: Global) -> Result<[u8; 8], RunFault>
+    ensures ok { IfOk result (λ bytes. IsWorked (S.state image) → bytes ≡ worked_bytes) }
+    ensures err { IsOkUnless result RunFault.Memory }
+{
+    let mut files = Vec::new(alloc);
+    files.push(ChainFile {
+        format: Format::Qcow2,
+        image,
+        extras: Vec::new(alloc),
+    })?;
+    let mut bytes = [0; 8];
+    match plain_read(alloc, files.as_mut_slice(), 508, &mut bytes) {
+        Ok(()) => Ok(bytes),
+        Err(_) => Err(RunFault::Memory),
+    }
+}
+
+/// The lines that the run writes: bytes that a disk has read, how many clusters its image leaks, and bytes that a plain read has.
+fn lines(alloc: Global, disk: &[u8], leaks: usize, plain: &[u8]) -> Result<String, RunFault>
+    ensures ok { IfOk result (λ text. string_bytes text ≡ encode_lower disk.now ++ 10 ∷ decimal leaks ++ 10 ∷ encode_lower plain.now ++ 10 ∷ []) }
+    ensures err { IsOkUnless result RunFault.Memory }
+{
+    let disk = hex::encode(alloc, disk)?;
+    let plain = hex::encode(alloc, plain)?;
+    let text = format!(in alloc; "{disk}\n{leaks}\n{plain}\n")?;
+    Ok(text)
+}
+
+/// What the run writes, of an image that it makes in a storage.
+fn worked_lines<S: Storage>(image: S, alloc: Global) -> Result<String, RunFault>
+    ensures ok { IfOk result (λ text. IsTrue (S.state image).shape.keeps → string_bytes text ≡ worked_text) }
+    ensures err { IsOkUnless result RunFault.Memory }
+{
+    let mut image = worked_image(image, alloc)?;
+    let leaks = leaks_counted(&mut image, alloc)?;
+    let (image, disk) = disk_bytes(image, alloc)?;
+    let plain = plain_bytes(image, alloc)?;
+    lines(alloc, &disk, leaks, &plain)
+}
+
+/// Shows what `first`, `check` and `plain` do, on an image into which 01 02 03 was written at 510: the 8 bytes at 508 that the disk
+/// reads once it is opened again, as lower-case digits; how many clusters the image leaks; and those bytes again, by a plain read.
+/// Each is a line, which ends with a line feed.
 ///
 /// `RunFault::Memory` for want of memory, which leaves the writer as it was; `RunFault::Write` where the writer fails.
 pub fn first_run<W: io::Write>(alloc: Global, writer: &mut W) -> Result<(), RunFault>
-    ensures ok { OnOk result (Appends (W.contents writer.old) (W.contents writer.new) (codes "0000010203000000" ++ 10 ∷ [])) }
+    ensures ok { OnOk result (Appends (W.contents writer.old) (W.contents writer.new) (codes "0000010203000000" ++ 10 ∷ codes "0" ++ 10 ∷ codes "0000010203000000" ++ 10 ∷ [])) }
     ensures err { IfErr result (NotShown (W.contents writer.old) (W.contents writer.new)) }
 {
-    let bytes = worked_bytes(MemStorage::new(alloc), alloc)?;
-    let mut line = hex::encode(alloc, bytes.as_slice())?;
-    line.push('\n')?;
-    match writer.write_all(line.as_bytes()) {
+    let text = worked_lines(MemStorage::new(alloc), alloc)?;
+    match writer.write_all(text.as_bytes()) {
         Ok(()) => Ok(()),
         Err(_) => Err(RunFault::Write),
     }
