@@ -190,12 +190,30 @@ fn the_first_finding_is_told(rt: HostRuntime) -> Result<(), Fail> {
     Ok(())
 }
 
+fn texts_of_faults(rt: &impl Abort, alloc: Global) -> Result<(), AllocError> {
+    let texts = [
+        (CheckFault::Header, "error 4"),
+        (CheckFault::Table, "error 5"),
+        (CheckFault::Memory, "error 20"),
+        (CheckFault::Storage, "error 21"),
+        (CheckFault::Snapshots, "error 23"),
+        (CheckFault::External, "error 24"),
+        (CheckFault::SharedTable(3), "error 25"),
+        (CheckFault::FalseCopied(5), "error 26"),
+        (CheckFault::UnderCounted(5), "error 27"),
+    ];
+    for (fault, wanted) in texts {
+        let text = format!(in alloc; "{fault}")?;
+        assert_eq!(rt; text.as_str(), wanted);
+    }
+    Ok(())
+}
+
 #[test]
 fn faults_are_displayed(rt: HostRuntime) -> Result<(), Fail> {
     let alloc = rt.alloc();
-    let shared = format!(in alloc; "{}", CheckFault::SharedTable(3))?;
-    assert_eq!(rt; shared.as_str(), "error 25");
-    let header = format!(in alloc; "{}", CheckFault::Header)?;
-    assert_eq!(rt; header.as_str(), "error 4");
+    if texts_of_faults(&rt, alloc).is_err() {
+        texts_of_faults(&rt, alloc)?;
+    }
     Ok(())
 }
