@@ -22,14 +22,16 @@ file-is-image Qcow2 f offset plain is = is
 file-is-image Raw f offset plain is = absurd is
 file-is-image Vmdk f offset plain is = absurd is
 
--- what a plain read holds
-pub plain-holds : (top : SeenFile) (offset : ℕ) (plain : List ℕ) → IsPlainRead (top ∷ []) offset plain → HoldsRange (shown (file top.state)) offset plain
-plain-holds top offset plain is =
-    let image : IsImageRead (file top.state) offset plain = file-is-image top.format (file top.state) offset plain is in
-    record {
-      below = λ i lt below. shown-value (file top.state) (offset + i) ∙ image.shows.below i lt below;
-      past = λ i lt past. image.shows.past i lt past;
-    }
+-- what a plain read of an image holds
+pub image-holds : (f : Bytes) (offset : ℕ) (plain : List ℕ) → IsImageRead f offset plain → HoldsRange (shown f) offset plain
+image-holds f offset plain image = record {
+  below = λ i lt below. shown-value f (offset + i) ∙ image.shows.below i lt below;
+  past = λ i lt past. image.shows.past i lt past;
+}
+
+-- and one of a file
+plain-holds : (top : SeenFile) (offset : ℕ) (plain : List ℕ) → IsPlainRead (top ∷ []) offset plain → HoldsRange (shown (file top.state)) offset plain
+plain-holds top offset plain is = image-holds (file top.state) offset plain (file-is-image top.format (file top.state) offset plain is)
 
 -- both buffers hold what the places below the size show, and then 0
 same-range : (disk : Disk) (offset : ℕ) (plain buffer : List ℕ) → length buffer ≡ length plain → HoldsRange disk offset plain → HoldsRange disk offset buffer → plain ≡ buffer

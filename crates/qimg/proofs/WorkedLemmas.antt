@@ -17,11 +17,11 @@ use Rattle.qimg.specs.declared.first.calls.Answer.TheVariants.{Done, Bytes}
 use Rattle.qimg.specs.First.{file}
 use Rattle.qimg.specs.Opened.{shown}
 use Rattle.qimg.specs.Runs.{Run}
-use Rattle.qimg.specs.Plain.{SeenFile, IsPlainRead}
+use Rattle.qimg.specs.Plain.{IsImageRead}
 use Rattle.qimg.specs.Worked.{IsWorked, worked_bytes}
 use Rattle.qimg.proofs.LeaksKept.{leaks-kept}
 use Rattle.qimg.proofs.RunLemmas.{one-header}
-use Rattle.qimg.proofs.ReadsAgree.{plain-holds}
+use Rattle.qimg.proofs.ReadsAgree.{image-holds}
 
 one-byte : (a b : ℕ) → byte a ≡ byte b → a ≡ b
 one-byte a b e = cc
@@ -114,8 +114,8 @@ pub worked-checked : (s : StorageState) (found : List (ℕ × ℕ)) → IsVerdic
 worked-checked s found verdict worked = verdict.2 ∙ worked.no_leaks verdict.0 verdict.1.readable.loads
 
 -- what a plain read of it shows
-pub worked-plain : (top : SeenFile) (bytes : List ℕ) → length bytes ≡ 8 → IsPlainRead (top ∷ []) 508 bytes → IsWorked top.state → bytes ≡ worked_bytes
-worked-plain top bytes long is worked = holds-worked (shown (file top.state)) bytes worked.size worked.shows long (plain-holds top 508 bytes is)
+pub worked-plain : (s : StorageState) (bytes : List ℕ) → length bytes ≡ 8 → IsImageRead (file s) 508 bytes → IsWorked s → bytes ≡ worked_bytes
+worked-plain s bytes long is worked = holds-worked (shown (file s)) bytes worked.size worked.shows long (image-holds (file s) 508 bytes is)
 
 -- what holds of a value holds further
 pub ok-further : {T E : Type 0} (r : Result T E) (P Q : T → Type 0) → ((t : T) → P t → Q t) → IfOk r P → IfOk r Q

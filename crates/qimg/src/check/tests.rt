@@ -157,26 +157,6 @@ fn order_of_findings(rt: &impl Abort, alloc: Global) -> Result<(), Fault> {
         &[(1036, &[0, 0]), (1034, &[0, 0])],
         CheckFault::UnderCounted(5),
     )?;
-    // a cluster far past the blocks and the file's end, and an L2 table and a block there
-    let far = [0u8, 255, 255, 255, 255, 255, 254, 0];
-    finds(
-        rt,
-        alloc,
-        &[(2064, &far)],
-        CheckFault::UnderCounted((1 << 47) - 1),
-    )?;
-    finds(
-        rt,
-        alloc,
-        &[(1544, &far)],
-        CheckFault::UnderCounted((1 << 47) - 1),
-    )?;
-    finds(
-        rt,
-        alloc,
-        &[(520, &far)],
-        CheckFault::UnderCounted((1 << 47) - 1),
-    )?;
     Ok(())
 }
 

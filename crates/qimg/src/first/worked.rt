@@ -1,13 +1,14 @@
 // The first run: three bytes written and read again, from bytes to bytes.
-ghost use Rattle.std.specs.Prelude.{◌≡◌, ◌≢◌, [], ◌∷◌, ◌++◌, length, codes, decimal, string_bytes, Some, IsTrue, IfOk, IfErr, OnOk, IsOkUnless, MatchOption};
+ghost use Rattle.std.specs.Prelude.{◌≡◌, ◌≢◌, ℕ, List, [], ◌∷◌, ◌++◌, length, codes, decimal, string_bytes, Some, Ok, IsTrue, IfOk, IfErr, OnOk, IsOkUnless, MatchOption};
 ghost use Rattle.std.specs.Io.KnownBytes.{Appends};
 ghost use Rattle.hex.specs.Hex.{encode_lower};
 ghost use Rattle.imago_storage.specs.Calls.{Kept};
-ghost use Rattle.qcow2_types.specs.Consistency.{Consistent};
+ghost use Rattle.qcow2_types.specs.Consistency.{Consistent, IsVerdict};
 ghost use Rattle.qimg.specs.First.{file};
 ghost use Rattle.qimg.specs.declared.first.worked.RunFault.TheVariants.{Memory};
 ghost use Rattle.qimg.specs.Runs.{Run};
 ghost use Rattle.qimg.specs.RunFaults.{NotShown};
+ghost use Rattle.qimg.specs.Plain.{IsImageRead};
 ghost use Rattle.qimg.specs.Worked.{IsWorked, worked_bytes, worked_text};
 
 use super::calls::{Answer, Call, serve};
@@ -128,7 +129,7 @@ fn worked_image<S: Storage>(image: S, alloc: Global) -> Result<S, RunFault>
 
 /// How many clusters the image leaks.
 fn leaks_counted<S: Storage>(image: &mut S, alloc: Global) -> Result<usize, RunFault>
-    ensures ok { IfOk result (λ leaks. IsWorked (S.state image.old) → leaks ≡ 0) }
+    ensures ok { IfOk result (λ count. (found : List (ℕ × ℕ)) × IsVerdict (file (S.state image.old)) (Ok found) × (count ≡ length found)) }
     ensures err { IsOkUnless result RunFault.Memory }
     ensures kept { Kept (S.state image.old) (S.state image.new) }
 {
@@ -157,7 +158,8 @@ fn disk_bytes<S: Storage>(image: S, alloc: Global) -> Result<(S, Vec<u8>), RunFa
 
 /// Reads 8 bytes at 508 from the bytes of the image alone.
 fn plain_bytes<S: Storage>(image: S, alloc: Global) -> Result<[u8; 8], RunFault>
-    ensures ok { IfOk result (λ bytes. IsWorked (S.state image) → bytes ≡ worked_bytes) }
+    ensures ok { IfOk result (λ bytes. IsImageRead (file (S.state image)) 508 bytes) }
+    ensures length { IfOk result (λ bytes. length bytes ≡ 8) }
     ensures err { IsOkUnless result RunFault.Memory }
 {
     let mut files = Vec::new(alloc);

@@ -84,7 +84,12 @@ const GREATEST: u64 = 0x00ff_ffff_ffff_fe00;
 
 fn far_references(rt: &impl Abort, alloc: Global) -> Result<(), Fault> {
     let last = CheckFault::UnderCounted((1 << 47) - 1);
-    let image = small(alloc, &[(2064, GREATEST | 1)])?;
+    // data and zeroes, an L2 table, and a block
+    let words = [(2064, GREATEST), (2064, GREATEST | 1), (1544, GREATEST)];
+    for word in words {
+        finds_in(rt, alloc, small(alloc, &[word])?, last)?;
+    }
+    let image = small(alloc, &[(520, GREATEST)])?;
     finds_in(rt, alloc, image, last)?;
     // a compressed range that ends with the last cluster, and one that goes on
     let range = COMPRESSED | GREATEST | 0x1ff;

@@ -1,5 +1,3 @@
-use Rattle.qimg.specs.Worked.{IsWorked, worked_bytes}
-use Rattle.std.specs.Prelude.{◌≡◌}
 use Rattle.qimg.proofs.WorkedLemmas.{worked-read}
 use Rattle.qimg.proofs.first.worked.disk_bytes.Goals as goal
 

@@ -1,9 +1,9 @@
-use Rattle.std.proofs.Common.{◌≡◌, ◌∙◌, refl, sym, subst, [], ◌∷◌, ◌++◌}
-use Rattle.std.specs.Prelude.{IsTrue, codes, string_bytes}
+use Rattle.std.proofs.Common.{◌≡◌, ◌∙◌, refl, sym, subst}
+use Rattle.std.specs.Prelude.{IsTrue}
 use Rattle.std.specs.Io.KnownBytes.{Appends}
 use Rattle.std.specs.Fmt.{digits}
 use lib.Utf8 as utf8
-use Rattle.hex.specs.Hex.{encode_lower, encode_with}
+use Rattle.hex.specs.Hex.{encode_with}
 use Rattle.imago_storage.specs.State.{StorageState}
 use Rattle.imago_storage.specs.MemStorage.{mem_state}
 use Rattle.qimg.specs.Worked.{worked_text}

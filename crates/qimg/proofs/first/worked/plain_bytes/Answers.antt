@@ -1,12 +1,10 @@
-use Rattle.std.proofs.Common.{◌≡◌, ◌∙◌, ap, subst, [], ◌∷◌, ◌++◌}
+use Rattle.std.proofs.Common.{◌∙◌, ap, subst, ◌∷◌, [], ◌++◌}
 use Rattle.qimg.specs.declared.plain.Format.TheVariants.{Qcow2}
 use Rattle.qimg.specs.Plain.{IsPlainRead, seen_files}
-use Rattle.qimg.proofs.WorkedLemmas.{worked-plain}
 use Rattle.qimg.proofs.first.worked.plain_bytes.Goals as goal
 
 pub returns-in-Ok-clause-ok : goal.returns-in-Ok-clause-ok
 unfolding seen_files
-returns-in-Ok-clause-ok g c worked =
+returns-in-Ok-clause-ok g c =
     let one = c.as_mut_slice.ensures.value ∙ (c.in_ok-push.ensures.items ∙ ap (λ files. files ++ record { format = Qcow2; image = c.args.image; extras = c.new.result } ∷ []) c.new-files.ensures.items) in
-    worked-plain (record { format = Qcow2; state = g.S.Storage.state c.args.image }) c.plain_read.new.buf c.plain_read.auto.buf
-    (subst (λ files. IsPlainRead (seen_files g.S.Storage.state files) 508 c.plain_read.new.buf) one c.in-Ok.ensures.ok) worked
+    subst (λ files. IsPlainRead (seen_files g.S.Storage.state files) 508 c.plain_read.new.buf) one c.in-Ok.ensures.ok
