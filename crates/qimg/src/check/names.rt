@@ -102,7 +102,7 @@ pub fn add_up(alloc: Global, mut names: Vec<Naming>) -> Result<Vec<Naming>, Chec
     ensures same { IfOk result (λ added. SameParts names.items added.items) }
     ensures err { IsOkUnless result CheckFault.Memory }
 {
-    names.sort_by_key(|naming| naming.cluster)?;
+    names.sort_unstable_by_key(|naming| naming.cluster);
     let mut merged = Vec::new(alloc);
     for i in 0..names.len() {
         merge(&mut merged, names[i])?;

@@ -296,7 +296,7 @@ pub fn name_contents<S: Storage>(
     ensures kept { Kept (S.state image.old) (S.state image.new) }
     ensures faults { OnOk result ((S.state image.new).faults ≡ (S.state image.old).faults) }
 {
-    places.sort()?;
+    places.sort_unstable();
     let mut times = 0;
     for i in 0..places.len() {
         times += 1;

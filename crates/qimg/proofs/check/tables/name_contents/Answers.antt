@@ -15,49 +15,49 @@ read places i place inside is = is ∙ get_or_default_zero places i place inside
 
 pub name_table-requires : goal.name_table-requires
 name_table-requires g c =
-    let inside : c.loop-i.i < length c.sort.new.self.items = omega (arith, c.len-i-end.ensures, c.loop-i-test.true) in
-    let here = placed-at c.args.header.now.fields.cluster_bits c.args.places.items c.sort.new.self.items c.loop-i.i c.in_ok-sort.ensures.permutation inside c.requires.places in
-    record { place = ap (is_place c.args.header.now.fields.cluster_bits) (read c.sort.new.self.items c.loop-i.i c.index-then-i-len.result.now inside c.index-then-i-len.ensures) ∙ here }
+    let inside : c.loop-i.i < length c.sort_unstable.new.self.items = omega (arith, c.len-i-end.ensures, c.loop-i-test.true) in
+    let here = placed-at c.args.header.now.fields.cluster_bits c.args.places.items c.sort_unstable.new.self.items c.loop-i.i c.sort_unstable.ensures.permutation inside c.requires.places in
+    record { place = ap (is_place c.args.header.now.fields.cluster_bits) (read c.sort_unstable.new.self.items c.loop-i.i c.index-then-i-len.result.now inside c.index-then-i-len.ensures) ∙ here }
 
 pub returns-in_err-name_table-clause-err : goal.returns-in_err-name_table-clause-err
 returns-in_err-name_table-clause-err g c =
-    let p = err_from_is_err_and c.from_residual-in_err-name_table.result c.from_residual-in_err-name_table.ensures.1 in
+    let p = err_from_is_err_and c.from_residual.result c.from_residual.ensures.1 in
     let old = g.S.Storage.state c.args.image.now in
     let now = g.S.Storage.state c.loop-i.image in
     let new = g.S.Storage.state c.name_table.new.image in
-    let inside : c.loop-i.i < length c.sort.new.self.items = omega (arith, c.len-i-end.ensures, c.loop-i-test.true) in
-    let here : c.index-then-i-len.result.now ≡ slice_index c.sort.new.self.items c.loop-i.i = read c.sort.new.self.items c.loop-i.i c.index-then-i-len.result.now inside c.index-then-i-len.ensures in
+    let inside : c.loop-i.i < length c.sort_unstable.new.self.items = omega (arith, c.len-i-end.ensures, c.loop-i-test.true) in
+    let here : c.index-then-i-len.result.now ≡ slice_index c.sort_unstable.new.self.items c.loop-i.i = read c.sort_unstable.new.self.items c.loop-i.i c.index-then-i-len.result.now inside c.index-then-i-len.ensures in
     let found = subst (λ (place : ℕ). Found now new (IsDamagedTable (file now) c.args.header.now.fields place) c.in_err-name_table.field-0.0) here c.in_err-name_table.ensures.err in
-    rw (p.1, p.2) (one-damaged old now c.args.header.now.fields c.args.names.now.items c.loop-i.names.items c.sort.new.self.items c.loop-i.times c.loop-i.i c.loop-i.invariant new c.args.places.items c.in_ok-sort.ensures.permutation inside c.in_err-name_table.field-0.0 found)
+    rw (p.1, p.2) (one-damaged old now c.args.header.now.fields c.args.names.now.items c.loop-i.names.items c.sort_unstable.new.self.items c.loop-i.times c.loop-i.i c.loop-i.invariant new c.args.places.items c.sort_unstable.ensures.permutation inside c.in_err-name_table.field-0.0 found)
 
 pub loop-i-preserved : goal.loop-i-preserved
 loop-i-preserved g c =
     let old = g.S.Storage.state c.args.image.now in
     let now = g.S.Storage.state c.loop-i.image in
-    let inside : c.loop-i.i < length c.sort.new.self.items = omega (arith, c.len-i-end.ensures, c.loop-i-test.true) in
+    let inside : c.loop-i.i < length c.sort_unstable.new.self.items = omega (arith, c.len-i-end.ensures, c.loop-i-test.true) in
     elim c.if-i-len.branch [
       | then-i-len+in_ok-name_table w ↦
-          let here : w.index-then-i-len.result.now ≡ slice_index c.sort.new.self.items c.loop-i.i = read c.sort.new.self.items c.loop-i.i w.index-then-i-len.result.now inside w.index-then-i-len.ensures in
-          rw (w.times-is, w.image-is, w.names-is) (named-now old now c.args.header.now.fields c.args.names.now.items c.loop-i.names.items c.sort.new.self.items c.loop-i.times c.loop-i.i c.loop-i.invariant
+          let here : w.index-then-i-len.result.now ≡ slice_index c.sort_unstable.new.self.items c.loop-i.i = read c.sort_unstable.new.self.items c.loop-i.i w.index-then-i-len.result.now inside w.index-then-i-len.ensures in
+          rw (w.times-is, w.image-is, w.names-is) (named-now old now c.args.header.now.fields c.args.names.now.items c.loop-i.names.items c.sort_unstable.new.self.items c.loop-i.times c.loop-i.i c.loop-i.invariant
           (g.S.Storage.state w.name_table.new.image) w.name_table.new.names.items inside w.in_ok-name_table.ensures.kept w.in_ok-name_table.ensures.faults (rw (← here) w.in_ok-name_table.ensures.ok) (rw (← here) w.in_ok-name_table.ensures.sound))
       | else-i-len+else-index w ↦
-          let next : c.loop-i.i + 1 < length c.sort.new.self.items = omega (arith, inside, c.len.ensures, w.if-i-len.false) in
-          let here : w.index-else-i-len.result.now ≡ slice_index c.sort.new.self.items c.loop-i.i = read c.sort.new.self.items c.loop-i.i w.index-else-i-len.result.now inside w.index-else-i-len.ensures in
-          let there : w.index.result.now ≡ slice_index c.sort.new.self.items (c.loop-i.i + 1) = read c.sort.new.self.items (c.loop-i.i + 1) w.index.result.now next w.index.ensures in
-          let same : slice_index c.sort.new.self.items (c.loop-i.i + 1) ≡ slice_index c.sort.new.self.items c.loop-i.i = sym there ∙ (w.if-index.false ∙ here) in
-          rw (w.times-is, w.image-is, w.names-is) (named-later old now c.args.header.now.fields c.args.names.now.items c.loop-i.names.items c.sort.new.self.items c.loop-i.times c.loop-i.i c.loop-i.invariant next same)
+          let next : c.loop-i.i + 1 < length c.sort_unstable.new.self.items = omega (arith, inside, c.len.ensures, w.if-i-len.false) in
+          let here : w.index-else-i-len.result.now ≡ slice_index c.sort_unstable.new.self.items c.loop-i.i = read c.sort_unstable.new.self.items c.loop-i.i w.index-else-i-len.result.now inside w.index-else-i-len.ensures in
+          let there : w.index.result.now ≡ slice_index c.sort_unstable.new.self.items (c.loop-i.i + 1) = read c.sort_unstable.new.self.items (c.loop-i.i + 1) w.index.result.now next w.index.ensures in
+          let same : slice_index c.sort_unstable.new.self.items (c.loop-i.i + 1) ≡ slice_index c.sort_unstable.new.self.items c.loop-i.i = sym there ∙ (w.if-index.false ∙ here) in
+          rw (w.times-is, w.image-is, w.names-is) (named-later old now c.args.header.now.fields c.args.names.now.items c.loop-i.names.items c.sort_unstable.new.self.items c.loop-i.times c.loop-i.i c.loop-i.invariant next same)
     ]
 
 pub returns-clause-ok : goal.returns-clause-ok
 returns-clause-ok g c =
     let old = g.S.Storage.state c.args.image.now in
     let now = g.S.Storage.state c.loop-i.image in
-    let all : c.loop-i.i ≡ length c.sort.new.self.items = omega (arith, c.len-i-end.ensures, c.loop-i-test.false, c.loop-i.auto.i-end) in
-    named-all old now c.args.header.now.fields c.args.names.now.items c.loop-i.names.items c.sort.new.self.items c.loop-i.times c.loop-i.i c.loop-i.invariant all c.args.places.items c.in_ok-sort.ensures.permutation
+    let all : c.loop-i.i ≡ length c.sort_unstable.new.self.items = omega (arith, c.len-i-end.ensures, c.loop-i-test.false, c.loop-i.auto.i-end) in
+    named-all old now c.args.header.now.fields c.args.names.now.items c.loop-i.names.items c.sort_unstable.new.self.items c.loop-i.times c.loop-i.i c.loop-i.invariant all c.args.places.items c.sort_unstable.ensures.permutation
 
 pub returns-clause-sound : goal.returns-clause-sound
 returns-clause-sound g c =
     let old = g.S.Storage.state c.args.image.now in
     let now = g.S.Storage.state c.loop-i.image in
-    let all : c.loop-i.i ≡ length c.sort.new.self.items = omega (arith, c.len-i-end.ensures, c.loop-i-test.false, c.loop-i.auto.i-end) in
-    all-sound old now c.args.header.now.fields c.args.names.now.items c.loop-i.names.items c.sort.new.self.items c.loop-i.times c.loop-i.i c.loop-i.invariant all c.args.places.items c.in_ok-sort.ensures.permutation
+    let all : c.loop-i.i ≡ length c.sort_unstable.new.self.items = omega (arith, c.len-i-end.ensures, c.loop-i-test.false, c.loop-i.auto.i-end) in
+    all-sound old now c.args.header.now.fields c.args.names.now.items c.loop-i.names.items c.sort_unstable.new.self.items c.loop-i.times c.loop-i.i c.loop-i.invariant all c.args.places.items c.sort_unstable.ensures.permutation
