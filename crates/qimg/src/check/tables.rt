@@ -26,9 +26,10 @@ const STRUCTURE: Times = Times {
 };
 
 /// How many of the words from a place on begin before the file's end: those behind are 0.
-pub fn words_before(end: u64, place: u64, words: usize) -> usize
+fn words_before(end: u64, place: u64, words: usize) -> usize
     requires { words < 2 ^ 32 }
     ensures few { result ≤ words }
+    ensures inside { (i : ℕ) → i < result → place + 8 * i < end }
     ensures rest { (i : ℕ) → result ≤ i → i < words → end ≤ place + 8 * i }
 {
     if end <= place {
@@ -176,7 +177,7 @@ pub fn name_structure(
     name_places(names, header, &places.tables)
 }
 
-/// What a word of an L2 table names, so often.
+/// Enters what a word of an L2 table names, so often.
 fn name_mapping(
     names: &mut Vec<Naming>,
     header: &Header,

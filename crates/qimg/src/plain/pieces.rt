@@ -70,6 +70,7 @@ fn in_cluster(at: u64, left: usize, cluster_bits: u32) -> usize
     ensures one_cluster { at % 2 ^ cluster_bits + result ≤ 2 ^ cluster_bits }
     ensures some { 0 < result }
     ensures most { result ≤ left }
+    ensures whole { result < left → at % 2 ^ cluster_bits + result ≡ 2 ^ cluster_bits }
 {
     (GuestOffset(at).remaining_in_cluster(cluster_bits) as usize).min(left)
 }
@@ -81,6 +82,7 @@ fn in_table(at: u64, left: usize, cluster_bits: u32) -> usize
     ensures one_table { let mapped = l2_entries cluster_bits * 2 ^ cluster_bits in at % mapped + result ≤ mapped }
     ensures some { 0 < result }
     ensures most { result ≤ left }
+    ensures whole { let mapped = l2_entries cluster_bits * 2 ^ cluster_bits in result < left → at % mapped + result ≡ mapped }
 {
     GuestOffset(at)
         .remaining_in_l2_table(cluster_bits)

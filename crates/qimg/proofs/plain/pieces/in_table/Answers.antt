@@ -18,3 +18,9 @@ returns-clause-some c =
     let mapped : ℕ = l2_entries c.args.cluster_bits * 2 ^ c.args.cluster_bits in
     let less : c.args.at % mapped < mapped = mod_below c.args.at mapped (some-mapped c.args.cluster_bits c.requires.bits.0) in
     omega (arith, c.remaining_in_l2_table.ensures, c.min.ensures)
+
+pub returns-clause-whole : goal.returns-clause-whole
+returns-clause-whole c less_than_left =
+    let mapped : ℕ = l2_entries c.args.cluster_bits * 2 ^ c.args.cluster_bits in
+    let less : c.args.at % mapped < mapped = mod_below c.args.at mapped (some-mapped c.args.cluster_bits c.requires.bits.0) in
+    omega (arith, c.remaining_in_l2_table.ensures, c.min.ensures)
