@@ -17,13 +17,6 @@ use Rattle.qimg.specs.declared.check.names.Naming.{Naming}
 use Rattle.qimg.specs.declared.check.CheckFault.{CheckFault}
 use Rattle.qimg.specs.declared.check.CheckFault.TheVariants.{Header, Snapshots, External, Table, SharedTable, FalseCopied, UnderCounted, Memory, Storage}
 
--- what the words of an image name, and what those marked as copied do
-abbrev pub mapped_total : Bytes → Fields → Total
-mapped_total f h w = contents f h (of_mapping h w)
-
-abbrev pub copied_total : Bytes → Fields → Total
-copied_total f h w = contents f h (of_copied h w)
-
 -- a list holds what the image names, for each cluster
 pub record Tells (f : Bytes) (h : Fields) (names : List Naming) : Type 0 where
   pub structure : (c : ℕ) → named_by structure_part c names ≡ structure f h (meets h c)

@@ -171,11 +171,13 @@ fn check_shared(names: &[Naming]) -> Result<(), CheckFault>
 ///
 /// The image is consistent where its header loads for writing, it has no snapshots and no external data file, each word of its
 /// tables has a meaning, each cluster of the header, a table or a block and each that an L2 word names as copied is named
-/// once, and each cluster is counted at least as often as it is named. The answer are the leaks then: the clusters that are
-/// counted more often than they are named, by rising cluster, each with the difference.
+/// once, and each cluster is counted at least as often as it is named. The answer is its leaks then: the clusters that are
+/// counted more often than they are named, by rising cluster, each with the difference. A cluster is told by its number, which
+/// is its place in the file divided by the size of a cluster.
 ///
 /// Else the first finding is answered, in the order of `CheckFault`, with the least such cluster. `CheckFault::Memory` and
-/// `CheckFault::Storage` come whenever memory is wanting or the storage fails. Nothing is written.
+/// `CheckFault::Storage` come whenever memory is wanting or the storage fails. Nothing is written, so the file stays as it was.
+/// The rules are those of the format's sections "Header", "Host cluster management" and "Cluster mapping".
 ///
 /// What lies past the file's end is 0, and isn't read.
 pub fn check<S: Storage>(alloc: Global, image: &mut S) -> Result<Vec<(u64, u64)>, CheckFault>
