@@ -58,3 +58,4 @@ pub mod TableRewrites
 pub mod TableReplaces
 pub mod HeaderSwitch
 pub mod HeldBytes
+pub mod OneVerdict

@@ -1,10 +1,11 @@
-//! What the constants say of every image. The functions do nothing, and their contracts are the laws.
+//! What the constants and the definitions say of every image. The functions do nothing, and their contracts are the laws.
 
-ghost use Rattle.std.specs.Prelude.{◌≡◌, ◌≤◌, ◌-◌, ◌^◌, ℕ, Bool, Ok};
+ghost use Rattle.std.specs.Prelude.{◌≡◌, ◌≤◌, ◌-◌, ◌^◌, ℕ, Bool, List, Result, Ok};
 ghost use Rattle.qcow2_types.specs.Bytes.{Bytes, be};
 ghost use Rattle.qcow2_types.specs.Words.{table_offset};
 ghost use Rattle.qcow2_types.specs.Header.{Header, Limited, header_of, cluster_size};
 ghost use Rattle.qcow2_types.specs.Counts.{counter_bits};
+ghost use Rattle.qcow2_types.specs.Consistency.{Finding, IsVerdict};
 
 use crate::{
     MAGIC, MAX_CLUSTER_SIZE, MAX_OFFSET, MAX_REFCOUNT_WIDTH, MIN_CLUSTER_SIZE, MIN_REFCOUNT_WIDTH,
@@ -25,6 +26,12 @@ pub fn loaded_header_is_within_limits()
 /// No word of an L1 or L2 table names a place past the greatest.
 pub fn place_is_within_limit()
     ensures { (word : ℕ) → table_offset word ≤ MAX_OFFSET }
+{}
+
+/// An image has one verdict at most: what a checker answers by it is the one answer that there is. So a consistent image is never
+/// answered with a finding, nor any other with leaks.
+pub fn image_has_one_verdict()
+    ensures { (f : Bytes) (a b : Result (List (ℕ × ℕ)) Finding) → IsVerdict f a → IsVerdict f b → a ≡ b }
 {}
 
 /// The limits as the format has them: clusters of 2^9 to 2^21 bytes, counters of 2^0 to 2^6 bits, and places in bits 9 to 55.
