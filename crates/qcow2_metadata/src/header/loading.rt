@@ -46,7 +46,8 @@ impl Header {
     ///   `Fault::DamagedHeader`;
     /// - a backing file's name of more than 1,023 bytes, past the first cluster, or that isn't UTF-8; an extension that runs
     ///   past its area; a backing format or an external data file's name that isn't UTF-8: `Fault::DamagedHeader`;
-    /// - for writing, a dirty or corrupt image, or one with an autoclear bit: `Fault::Unsupported`.
+    /// - for writing, a dirty or corrupt image, one with an autoclear bit, or one whose backing file's name begins in bytes 0
+    ///   to 63: `Fault::Unsupported`.
     ///
     /// Else it is refused with `Fault::Memory` and `Fault::Storage`. Of extensions of one type the last counts, and of names
     /// of one feature bit; a header of version 2 has no extensions. Nothing is written, so a refusal leaves the file as it was.
