@@ -32,9 +32,12 @@ pub count-no-block : (f : Bytes) (h : Fields) (c : ℕ) → block_at f h (c / co
 unfolding count
 count-no-block f h c none = rw none refl
 
--- nor where the refcount table doesn't reach
-pub count-beyond : (f : Bytes) (h : Fields) (c : ℕ) → 0 < counters_of_block h → refcount_table_entries h * counters_of_block h ≤ c → count f h c ≡ 0
-count-beyond f h c some far =
-    let le : refcount_table_entries h ≤ c / counters_of_block h = le-div (refcount_table_entries h) c (counters_of_block h) some far in
+-- nor where the refcount table has no word for the block
+pub count-past : (f : Bytes) (h : Fields) (c : ℕ) → refcount_table_entries h ≤ c / counters_of_block h → count f h c ≡ 0
+count-past f h c le =
     let past : nat_lt (c / counters_of_block h) (refcount_table_entries h) ≡ false = le-ltb _ _ le in
     count-no-block f h c (rw past refl)
+
+-- nor where the refcount table doesn't reach
+pub count-beyond : (f : Bytes) (h : Fields) (c : ℕ) → 0 < counters_of_block h → refcount_table_entries h * counters_of_block h ≤ c → count f h c ≡ 0
+count-beyond f h c some far = count-past f h c (le-div (refcount_table_entries h) c (counters_of_block h) some far)

@@ -14,10 +14,11 @@ use Rattle.qcow2_types.specs.Slots.{slot, Live, over_slots, or_none, guest_slot,
 use Rattle.qcow2_types.specs.Frames.{Outside, Kept, first_cluster}
 use Rattle.qcow2_types.specs.References.{Weight, structure, of_cluster, contents, of_mapping, of_copied, meets, refs}
 use Rattle.qcow2_types.specs.Consistency.{IsConsistent}
-use Rattle.qcow2_types.proofs.Consistent.{some-words, consistent-shaped, structure-named-once, copied-named-once, consistent-from}
+use Rattle.qcow2_types.proofs.Consistent.{some-words, consistent-shaped, structure-named-once, copied-named-once, named-counted, consistent-from}
 use Rattle.qcow2_types.proofs.Parts.{count-kept, l2_table-kept, block_at-kept, slot-kept}
 use Rattle.qcow2_types.proofs.Slots.{contents-slots}
 use Rattle.qcow2_types.proofs.Sound.{sound-words}
+use Rattle.qcow2_types.proofs.Leaks.{count-past}
 use Rattle.qcow2_types.proofs.Splices.{be-same}
 use Rattle.qcow2_types.proofs.Sums.{sum-same}
 use Rattle.qcow2_types.proofs.Switches.{cluster-long, first-named, start-kept}
@@ -38,7 +39,7 @@ sum-parts n (suc k) f =
 module _ (f g : Bytes) (H : Header) (was : IsConsistent f H) (o more : ℕ) (loads : header_of true g ≡ Ok (with_refcount_table H o (H.fields.refcount_table_clusters + more))) (out : Outside f g 0 64)
     (old_words : (i : ℕ) → i < refcount_table_entries H.fields → word f o i ≡ word f H.fields.refcount_table_offset i)
     (new_sound : (i : ℕ) → refcount_table_entries H.fields ≤ i → i < refcount_table_entries H.fields + more * words_of_cluster H.fields → IsTrue (block_word_sound H.fields.cluster_bits (word f o i)))
-    (apart : (d : ℕ) → newly_named f H.fields o more d ≤ 1) (free : (d : ℕ) → 0 < newly_named f H.fields o more d → (refs f H.fields d ≡ 0) × (1 ≤ count g (with_reftable H.fields o (H.fields.refcount_table_clusters + more)) d)) (grown : (d : ℕ) → 0 < refs f H.fields d → refs f H.fields d ≤ count g (with_reftable H.fields o (H.fields.refcount_table_clusters + more)) d) where
+    (apart : (d : ℕ) → newly_named f H.fields o more d ≤ 1) (free : (d : ℕ) → 0 < newly_named f H.fields o more d → (refs f H.fields d ≡ 0) × (1 ≤ count g (with_reftable H.fields o (H.fields.refcount_table_clusters + more)) d)) where
   -- the entries of the new table
   entries : refcount_table_entries (with_reftable H.fields o (H.fields.refcount_table_clusters + more)) ≡ refcount_table_entries H.fields + more * words_of_cluster H.fields
   entries = omega arith
@@ -113,6 +114,15 @@ module _ (f g : Bytes) (H : Header) (was : IsConsistent f H) (o more : ℕ) (loa
       let same : count g H.fields d ≡ count f H.fields d = count-kept f g H.fields first_cluster kept d shaped (λ e. cc) (λ e. cc) in
       let at : block_at g (with_reftable H.fields o (H.fields.refcount_table_clusters + more)) (d / counters_of_block H.fields) ≡ block_at g H.fields (d / counters_of_block H.fields) = switched-blocks (d / counters_of_block H.fields) lt ∙ sym (block_at-kept f g H.fields first_cluster kept (d / counters_of_block H.fields) (λ e. cc)) in
       ap (λ p. if p == 0 then 0 else counter_of g (2 ^ H.fields.refcount_order) p (d % counters_of_block H.fields)) at ∙ same
+
+  -- So each cluster is counted as often as it is named by the old header: the old table reached each that it names.
+  switched-counted : (d : ℕ) → refs f H.fields d ≤ count g (with_reftable H.fields o (H.fields.refcount_table_clusters + more)) d
+  switched-counted d =
+      let le : refs f H.fields d ≤ count f H.fields d = named-counted f H was d in
+      elim (cases_lt (d / counters_of_block H.fields) (refcount_table_entries H.fields)) [
+        | inl lt ↦ let same : count g (with_reftable H.fields o (H.fields.refcount_table_clusters + more)) d ≡ count f H.fields d = switched-counts d lt in omega arith
+        | inr far ↦ let none : count f H.fields d ≡ 0 = count-past f H.fields d far in omega arith
+      ]
 
   -- the structure, by the old table, the new one, and the new blocks
   switched-structure : (v : Weight) → structure g (with_reftable H.fields o (H.fields.refcount_table_clusters + more)) v + v H.fields.refcount_table_offset (H.fields.refcount_table_clusters * cluster_size H.fields) ≡ structure f H.fields v + (v o ((H.fields.refcount_table_clusters + more) * cluster_size H.fields) + sum_below (more * words_of_cluster H.fields) (λ i. of_cluster H.fields v (block_offset (word f o (refcount_table_entries H.fields + i)))))
@@ -208,10 +218,7 @@ module _ (f g : Bytes) (H : Header) (was : IsConsistent f H) (o more : ℕ) (loa
           let sum : refs g (with_reftable H.fields o (H.fields.refcount_table_clusters + more)) d + meets H.fields d H.fields.refcount_table_offset (H.fields.refcount_table_clusters * cluster_size H.fields) ≡ refs f H.fields d + newly_named f H.fields o more d = switched-references d in
           let most : newly_named f H.fields o more d ≤ 1 = apart d in
           elim (cases_eq (newly_named f H.fields o more d) 0) [
-            | inl none ↦ elim (cases_eq (refs f H.fields d) 0) [
-              | inl nowhere ↦ omega arith
-              | inr is ↦ let there : refs f H.fields d ≢ 0 = is in let le : refs f H.fields d ≤ count g (with_reftable H.fields o (H.fields.refcount_table_clusters + more)) d = grown d (omega arith) in omega arith
-            ]
+            | inl none ↦ let le : refs f H.fields d ≤ count g (with_reftable H.fields o (H.fields.refcount_table_clusters + more)) d = switched-counted d in omega arith
             | inr met ↦
                 let is : newly_named f H.fields o more d ≢ 0 = met in
                 let there = free d (omega arith) in

@@ -142,7 +142,6 @@ pub fn switching_the_refcount_table()
         → ((i : ℕ) → refcount_table_entries h.fields ≤ i → i < refcount_table_entries h.fields + more * words_of_cluster h.fields → IsTrue (block_word_sound h.fields.cluster_bits (word f offset i)))
         → ((d : ℕ) → newly_named f h.fields offset more d ≤ 1)
         → ((d : ℕ) → 0 < newly_named f h.fields offset more d → (refs f h.fields d ≡ 0) × (1 ≤ count g (with_reftable h.fields offset (h.fields.refcount_table_clusters + more)) d))
-        → ((d : ℕ) → 0 < refs f h.fields d → refs f h.fields d ≤ count g (with_reftable h.fields offset (h.fields.refcount_table_clusters + more)) d)
         → RefcountTableSwitched f g h offset more }
 {}
 
