@@ -13,7 +13,7 @@ use Rattle.qcow2_types.specs.Versions.{KeepsSlots, named}
 use Rattle.qcow2_types.specs.References.{structure, contents, of_mapping, of_copied, meets, refs}
 use Rattle.qcow2_types.specs.Consistency.{IsConsistent}
 use Rattle.qcow2_types.specs.Steps.{DataWritten, FreeWritten}
-use Rattle.qcow2_types.proofs.Consistent.{header-kept, some-words, meets-own, meets-other, consistent-shaped, structure-named-once, copied-named-once, named-counted, consistent-from}
+use Rattle.qcow2_types.proofs.Consistent.{header-kept, some-words, meets-own, meets-other, consistent-shaped, structure-named-once, structure-unmapped, copied-named-once, named-counted, consistent-from}
 use Rattle.qcow2_types.proofs.Slots.{contents-slots, slots-same, slot-le}
 use Rattle.qcow2_types.proofs.Either.{structure-same, tables-same, refs-kept, named-clean}
 use Rattle.qcow2_types.proofs.Parts.{kept-all, touches-none, count-kept}
@@ -175,10 +175,20 @@ module _ (f : Bytes) (H : Header) (was : IsConsistent f H) (c : ℕ) (unnamed : 
         shows = kept-shows f g H was nothing kept (λ i e. cc) (λ i e. cc) (λ i e. cc) after c at n out low high free-unmapped;
       }
 
+-- A write into one cluster leaves the bytes of each other.
+pub other-stays : (f g : Bytes) (h : Fields) (d at n : ℕ) → Outside f g at n → d * cluster_size h ≤ at → at + n ≤ (d + 1) * cluster_size h → (c : ℕ) → c ≢ d → Same f g (c * cluster_size h) (cluster_size h)
+other-stays f g h d at n out low high c apart = untouched f g at n (c * cluster_size h) (cluster_size h) out off
+  where
+    off : touches at n (c * cluster_size h) (cluster_size h) ≡ 0
+    off =
+        let le : touches at n (c * cluster_size h) (cluster_size h) ≤ meets h d (c * cluster_size h) (cluster_size h) = touches-cluster h d at n low high (c * cluster_size h) (cluster_size h) in
+        let none : meets h d (c * cluster_size h) (cluster_size h) ≡ 0 = meets-other h d c apart in
+        omega arith
+
 -- A write into a cluster of the structure leaves the bytes of each cluster that nothing names.
 pub free-stays : (f g : Bytes) (H : Header) (d at n : ℕ) → Outside f g at n → d * cluster_size H.fields ≤ at → at + n ≤ (d + 1) * cluster_size H.fields → 1 ≤ structure f H.fields (meets H.fields d)
     → (c : ℕ) → refs f H.fields c ≡ 0 → Same f g (c * cluster_size H.fields) (cluster_size H.fields)
-free-stays f g H d at n out low high weighs c unnamed = untouched f g at n (c * cluster_size H.fields) (cluster_size H.fields) out off
+free-stays f g H d at n out low high weighs c unnamed = other-stays f g H.fields d at n out low high c apart
   where
     apart : c ≢ d
     apart e =
@@ -186,11 +196,16 @@ free-stays f g H d at n out low high weighs c unnamed = untouched f g at n (c * 
         let le : structure f H.fields (meets H.fields d) ≤ refs f H.fields d = structure-le-refs f H.fields d in
         absurd (omega arith)
 
-    off : touches at n (c * cluster_size H.fields) (cluster_size H.fields) ≡ 0
-    off =
-        let le : touches at n (c * cluster_size H.fields) (cluster_size H.fields) ≤ meets H.fields d (c * cluster_size H.fields) (cluster_size H.fields) = touches-cluster H.fields d at n low high (c * cluster_size H.fields) (cluster_size H.fields) in
-        let none : meets H.fields d (c * cluster_size H.fields) (cluster_size H.fields) ≡ 0 = meets-other H.fields d c apart in
-        omega arith
+-- and of each that a mapping names
+pub data-stays : (f g : Bytes) (H : Header) → IsConsistent f H → (d at n : ℕ) → Outside f g at n → d * cluster_size H.fields ≤ at → at + n ≤ (d + 1) * cluster_size H.fields → 1 ≤ structure f H.fields (meets H.fields d)
+    → (c : ℕ) → 0 < contents f H.fields (of_mapping H.fields (meets H.fields c)) → Same f g (c * cluster_size H.fields) (cluster_size H.fields)
+data-stays f g H was d at n out low high weighs c named = other-stays f g H.fields d at n out low high c apart
+  where
+    apart : c ≢ d
+    apart e =
+        let none : contents f H.fields (of_mapping H.fields (meets H.fields d)) ≡ 0 = structure-unmapped f H was d weighs in
+        let same : contents f H.fields (of_mapping H.fields (meets H.fields c)) ≡ 0 = ap (λ k. contents f H.fields (of_mapping H.fields (meets H.fields k))) e ∙ none in
+        absurd (omega arith)
 
 -- A write into a run of clusters c to c + k that nothing names.
 module _ (f : Bytes) (H : Header) (was : IsConsistent f H) (c k : ℕ) (unnamed : (d : ℕ) → c ≤ d → d ≤ c + k → refs f H.fields d ≡ 0) (g : Bytes) (at n : ℕ) (out : Outside f g at n)

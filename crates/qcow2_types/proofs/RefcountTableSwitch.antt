@@ -21,7 +21,7 @@ use Rattle.qcow2_types.proofs.Sound.{sound-words}
 use Rattle.qcow2_types.proofs.Leaks.{count-past}
 use Rattle.qcow2_types.proofs.Splices.{be-same}
 use Rattle.qcow2_types.proofs.Sums.{sum-same}
-use Rattle.qcow2_types.proofs.Switches.{cluster-long, first-named, start-kept}
+use Rattle.qcow2_types.proofs.Switches.{cluster-long, first-named, start-kept, start-values}
 use Rattle.qcow2_types.specs.Words.{block_offset}
 use Rattle.qcow2_types.specs.Switched.{with_reftable, with_refcount_table, newly_named, RefcountTableSwitched}
 use Rattle.qcow2_types.proofs.Counters.{whole}
@@ -252,4 +252,5 @@ module _ (f g : Bytes) (H : Header) (was : IsConsistent f H) (o more : ℕ) (loa
     counts = switched-counts;
     references = switched-references;
     entries = switched-entry;
+    shows = start-values f g H (with_reftable H.fields o (H.fields.refcount_table_clusters + more)) was out refl refl switched-entry;
   }

@@ -1,26 +1,25 @@
 -- The header has another size of the disk, on which nothing else depends.
-use Rattle.std.proofs.Common.{◌≡◌, ℕ, zero, suc, ◌*◌, ◌/◌, ◌<◌, ◌≤◌, refl, arith, ap, sym, ◌∙◌, Ok}
+use Rattle.std.proofs.Common.{◌≡◌, ℕ, zero, suc, ◌*◌, ◌≤◌, refl, arith, sym, ◌∙◌, Ok}
 use Rattle.std.specs.Prelude.{true, IsTrue}
 use Rattle.qcow2_types.specs.Bytes.{Bytes}
 use Rattle.qcow2_types.specs.Words.{Mapping}
-use Rattle.qcow2_types.specs.Header.{Fields, Header, header_of, cluster_size, words_of_cluster, refcount_table_entries}
+use Rattle.qcow2_types.specs.Header.{Fields, Header, header_of, refcount_table_entries}
 use Rattle.qcow2_types.specs.Entries.{entry, l1_table_sound, l2_table_sound}
 use Rattle.qcow2_types.specs.Counts.{count, counter, counters_of_block}
-use Rattle.qcow2_types.specs.References.{Weight, structure, contents, of_table, of_mapping, of_copied, meets, refs}
+use Rattle.qcow2_types.specs.References.{Weight, structure, contents, of_table, of_copied, meets, refs}
 use Rattle.qcow2_types.specs.Consistency.{IsConsistent, tables_sound, leaks_below, leak_at}
-use Rattle.qcow2_types.specs.Disk.{shown_by, host_byte}
 use Rattle.qcow2_types.specs.Slots.{SoundWords}
-use Rattle.qcow2_types.specs.Frames.{Outside, Kept, ShowsAs, first_cluster}
+use Rattle.qcow2_types.specs.Frames.{Outside, Kept, first_cluster}
 use Rattle.qcow2_types.specs.Versions.{KeepsSlots}
 use Rattle.qcow2_types.specs.Switched.{sized, with_size, SizeSwitched}
-use Rattle.qcow2_types.proofs.Consistent.{some-words, consistent-shaped, structure-named-once, structure-unmapped, copied-named-once, named-counted, consistent-from}
+use Rattle.qcow2_types.proofs.Consistent.{some-words, consistent-shaped, structure-named-once, copied-named-once, named-counted, consistent-from}
 use Rattle.qcow2_types.proofs.DataSteps.{contents-kept, kept-keeps, kept-sound}
 use Rattle.qcow2_types.proofs.Either.{structure-same, refs-kept}
 use Rattle.qcow2_types.proofs.Parts.{count-kept}
-use Rattle.qcow2_types.proofs.Shows.{guest-kept, shows-outside}
+use Rattle.qcow2_types.proofs.Shows.{guest-kept}
 use Rattle.qcow2_types.proofs.Sound.{words-sound}
-use Rattle.qcow2_types.proofs.Switches.{cluster-long, first-weighs, start-kept}
-use Rattle.qcow2_types.proofs.Values.{entry-slot, value-same}
+use Rattle.qcow2_types.proofs.Switches.{start-kept, start-values}
+use Rattle.qcow2_types.proofs.Values.{entry-slot}
 
 -- what the structure weighs
 sized-structure : (f : Bytes) (h : Fields) (n : ℕ) (w : Weight) → structure f (sized h n) w ≡ structure f h w
@@ -100,22 +99,11 @@ module _ (f g : Bytes) (H : Header) (was : IsConsistent f H) (n : ℕ) (loads : 
   tables : IsTrue (tables_sound g H.fields)
   tables = words-sound g H.fields sound
 
-  -- Each guest cluster has the mapping that it had,
+  -- Each guest cluster has the mapping that it had.
   entries : (guest : ℕ) → entry g (sized H.fields n) guest ≡ entry f H.fields guest
   entries guest =
       sized-entry g H.fields n guest
       ∙ (entry-slot g H.fields guest tables ∙ (guest-kept f g H.fields keeps (some-words H.fields (consistent-shaped f H was)) guest ∙ sym (entry-slot f H.fields guest was.readable.tables)))
-
-  -- the first cluster is the header's alone
-  start-unmapped : contents f H.fields (of_mapping H.fields (meets H.fields 0)) ≡ 0
-  start-unmapped = structure-unmapped f H was 0 (first-weighs f H was)
-
-  -- and shows what it did.
-  shows : (guest : ℕ) → ShowsAs g f H.fields guest
-  shows guest =
-      let s : 512 ≤ cluster_size H.fields = cluster-long f H was in
-      let some : 0 < words_of_cluster H.fields = some-words H.fields (consistent-shaped f H was) in
-      shows-outside f g H.fields was.readable.tables tables some guest (guest-kept f g H.fields keeps some guest) 0 0 64 out (omega arith) (omega arith) start-unmapped
 
   pub size-switched : SizeSwitched f g H n
   size-switched = record {
@@ -127,5 +115,5 @@ module _ (f g : Bytes) (H : Header) (was : IsConsistent f H) (n : ℕ) (loads : 
     references = references;
     leaks = leaks-same (refcount_table_entries H.fields * counters_of_block H.fields);
     entries = entries;
-    shows = λ external p below. ap (λ m. shown_by m (host_byte g external H.fields p) below) (sized-entry g H.fields n (p / cluster_size H.fields)) ∙ value-same g f external H.fields p below (shows (p / cluster_size H.fields));
+    shows = start-values f g H (sized H.fields n) was out refl refl entries;
   }

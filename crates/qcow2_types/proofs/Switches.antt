@@ -1,22 +1,28 @@
 -- A table moves: an L1 word is switched, or the header is.
 use Rattle.std.proofs.Common.{◌≡◌, ◌≢◌, ℕ, zero, suc, ◌+◌, ◌*◌, ◌^◌, ◌<◌, ◌≤◌, refl, arith, ap, sym, ◌∙◌, inl, inr}
-use Rattle.std.specs.Prelude.{false, nat_lt}
+use Rattle.std.specs.Prelude.{◌/◌, false, nat_lt, IsTrue}
+use Rattle.imago_storage.specs.Disk.{Value}
 use Rattle.std.proofs.lemmas.Bool.{cases_eq, le-ltb}
 use Rattle.qcow2_types.specs.Bytes.{Bytes, word, sum_below}
 use Rattle.qcow2_types.specs.Words.{Mapping, mapping_of}
 use Rattle.std.proofs.Math.Nat.{pow-le-pow_right}
 use Rattle.qcow2_types.specs.Header.{Fields, Header, Shaped, cluster_size, words_of_cluster, refcount_table_entries, layout_of}
-use Rattle.qcow2_types.specs.Entries.{l2_table, l2_mapping}
+use Rattle.qcow2_types.specs.Entries.{entry, l2_table, l2_mapping}
+use Rattle.qcow2_types.specs.Disk.{shown, shown_by, host_byte}
 use Rattle.qcow2_types.specs.Counts.{block_at}
 use Rattle.qcow2_types.specs.References.{Weight, structure, of_cluster, meets, refs}
-use Rattle.qcow2_types.specs.Consistency.{IsConsistent}
-use Rattle.qcow2_types.specs.Frames.{Outside, touches, Kept, first_cluster}
-use Rattle.qcow2_types.proofs.Consistent.{consistent-shaped, meets-own}
+use Rattle.qcow2_types.specs.Consistency.{IsConsistent, tables_sound}
+use Rattle.qcow2_types.specs.Frames.{Outside, touches, Kept, ShowsAs, first_cluster}
+use Rattle.qcow2_types.proofs.Consistent.{some-words, consistent-shaped, structure-unmapped, meets-own}
+use Rattle.qcow2_types.proofs.DataSteps.{kept-keeps, kept-sound}
 use Rattle.qcow2_types.proofs.Frames.{header-part}
 use Rattle.qcow2_types.proofs.Named.{structure-le-refs}
 use Rattle.qcow2_types.proofs.Parts.{kept-start, touches-once}
+use Rattle.qcow2_types.proofs.Shows.{guest-kept, shows-outside}
+use Rattle.qcow2_types.proofs.Sound.{words-sound}
+use Rattle.qcow2_types.proofs.Values.{value-same}
 use Rattle.qcow2_types.proofs.Sums.{sum-same, sum-change}
-use Rattle.qcow2_types.specs.Slots.{slot, Live, over_slots, or_none}
+use Rattle.qcow2_types.specs.Slots.{slot, Live, over_slots, or_none, guest_slot}
 use Rattle.qcow2_types.specs.Versions.{named, of_either}
 use Rattle.qcow2_types.specs.Switched.{with_l1}
 
@@ -47,6 +53,27 @@ start-kept f g H was out =
     let s : 512 ≤ cluster_size H.fields = cluster-long f H was in
     let once : structure f H.fields (touches 0 64) ≤ 1 = touches-once f H.fields 0 0 64 (was.structure_apart 0) (omega arith) (omega arith) in
     kept-start f g H.fields 0 64 out (omega arith) once (omega arith)
+
+-- So each guest cluster shows what it did, by the old fields.
+pub start-shows : (f g : Bytes) (H : Header) → IsConsistent f H → Outside f g 0 64 → (guest : ℕ) → ShowsAs g f H.fields guest
+start-shows f g H was out guest =
+    let kept : Kept f g H.fields first_cluster = start-kept f g H was out in
+    let s : 512 ≤ cluster_size H.fields = cluster-long f H was in
+    let some : 0 < words_of_cluster H.fields = some-words H.fields (consistent-shaped f H was) in
+    let sound : IsTrue (tables_sound g H.fields) = words-sound g H.fields (kept-sound f g H was first_cluster kept (λ i e. cc) (λ i e. cc) (λ i e. cc)) in
+    let same : guest_slot g H.fields guest ≡ guest_slot f H.fields guest = guest-kept f g H.fields (kept-keeps f g H was first_cluster kept (λ i e. cc) (λ i e. cc) (λ i e. cc)) some guest in
+    shows-outside f g H.fields was.readable.tables sound some guest same 0 0 64 out (omega arith) (omega arith) (structure-unmapped f H was 0 (first-weighs f H was))
+
+-- and so does each place, under a header that leaves the mappings of guest clusters
+pub start-values : (f g : Bytes) (H : Header) (new : Fields) → IsConsistent f H → Outside f g 0 64 → new.cluster_bits ≡ H.fields.cluster_bits → new.incompatible ≡ H.fields.incompatible
+    → ((guest : ℕ) → entry g new guest ≡ entry f H.fields guest) → (external : Bytes) (p : ℕ) (below : Value) → shown g external new p below ≡ shown f external H.fields p below
+start-values f g H new was out size features entries external p below =
+    let like : ShowsAs g f H.fields (p / cluster_size H.fields) = start-shows f g H was out (p / cluster_size H.fields) in
+    let guest : p / cluster_size new ≡ p / cluster_size H.fields = ap (λ k. p / 2 ^ k) size in
+    let mapping : entry g new (p / cluster_size new) ≡ entry g H.fields (p / cluster_size H.fields) = ap (entry g new) guest ∙ (entries (p / cluster_size H.fields) ∙ sym like.mapping) in
+    let byte : host_byte g external new p ≡ host_byte g external H.fields p = rw (size, features) refl in
+    ap (λ m. shown_by m (host_byte g external new p) below) mapping
+    ∙ (ap (λ b. shown_by (entry g H.fields (p / cluster_size H.fields)) b below) byte ∙ value-same g f external H.fields p below like)
 
 -- what row i of the tables weighs
 row : Bytes → Bytes → Fields → ℕ → ℕ → ℕ

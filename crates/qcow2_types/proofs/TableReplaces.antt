@@ -4,11 +4,12 @@ use Rattle.std.specs.Prelude.{true, cond, ◌==◌, ◌⊎◌, nat_lt, IsTrue, I
 use Rattle.std.specs.Int.{w64, to_be_bytes}
 use Rattle.std.proofs.lemmas.Bool.{cases_eq, lt-ltb}
 use Rattle.std.proofs.lemmas.Bool.Decides.{nat_tests}
+use Rattle.std.proofs.lemmas.Nat.{mod_below}
 use Rattle.std.proofs.Math.Nat.{div-mul-le_self, pow-le-pow_right}
 use Rattle.qcow2_types.specs.Bytes.{Bytes, word, splice, sum_below}
 use Rattle.qcow2_types.specs.Words.{Mapping, is_damaged, mapping_of, l1_word_sound, block_word_sound, is_place, table_offset}
 use Rattle.qcow2_types.specs.Header.{Header, Shaped, header_of, cluster_size, words_of_cluster, refcount_table_entries, layout_of}
-use Rattle.qcow2_types.specs.Entries.{l2_table, l2_mapping}
+use Rattle.qcow2_types.specs.Entries.{entry, l2_table, l2_mapping}
 use Rattle.qcow2_types.specs.Counts.{block_at, count}
 use Rattle.qcow2_types.specs.Slots.{slot, Live, over_slots, or_none, guest_slot, SoundWords}
 use Rattle.qcow2_types.specs.Frames.{Outside, Same, Kept, Skipped, l1_word}
@@ -17,7 +18,7 @@ use Rattle.qcow2_types.specs.Consistency.{IsConsistent}
 use Rattle.qcow2_types.specs.Steps.{TableReplaced, TableSwapped}
 use Rattle.qcow2_types.proofs.Consistent.{header-kept, some-words, consistent-shaped, structure-unmapped, consistent-from}
 use Rattle.qcow2_types.proofs.Counters.{whole}
-use Rattle.qcow2_types.proofs.DataSteps.{free-stays}
+use Rattle.qcow2_types.proofs.DataSteps.{free-stays, data-stays}
 use Rattle.qcow2_types.proofs.Frames.{l1-part, word-same, splice-is-outside}
 use Rattle.qcow2_types.proofs.HeaderLimits.{header-limited}
 use Rattle.qcow2_types.proofs.Parts.{kept-l1, touches-once, count-kept, l2_table-kept, block_at-kept, slot-kept, words-fit}
@@ -27,6 +28,7 @@ use Rattle.qcow2_types.proofs.Sound.{sound-words}
 use Rattle.qcow2_types.proofs.Splices.{word-written}
 use Rattle.qcow2_types.proofs.Sums.{sum-same, sum-change}
 use Rattle.qcow2_types.proofs.TableSizes.{word-in-cluster}
+use Rattle.qcow2_types.proofs.Values.{entry-slot}
 
 -- the number of a word of the L1 table, or else this one
 abbrev l1_number : ℕ → Skipped → ℕ
@@ -167,6 +169,7 @@ module _ (f g : Bytes) (H : Header) (was : IsConsistent f H) (i : ℕ) (lt : i <
     contents = sums;
     references = references;
     free = free;
+    mapped = data-stays f g H was _ (H.fields.l1_offset + 8 * i) 8 out low high l1-weighs;
   }
 
   -- the tables stay sound
@@ -205,13 +208,27 @@ module _ (f g : Bytes) (H : Header) (was : IsConsistent f H) (i : ℕ) (lt : i <
         elsewhere = λ guest off. shows-outside f g H.fields was.readable.tables after.readable.tables words guest (guest-same words guest off) _ (H.fields.l1_offset + 8 * i) 8 out low high (structure-unmapped f H was _ l1-weighs);
       }
     where
-      guest-same : 0 < words_of_cluster H.fields → (guest : ℕ) → guest / words_of_cluster H.fields ≢ i → guest_slot g H.fields guest ≡ guest_slot f H.fields guest
-      guest-same words guest off = elim (cases_eq (l2_table f H.fields (guest / words_of_cluster H.fields)) 0) [
-        | inl e ↦ guest-slot-none g H.fields guest (tables (guest / words_of_cluster H.fields) off ∙ e) ∙ sym (guest-slot-none f H.fields guest e)
-        | inr is ↦
-            guest-slot-there g H.fields guest (λ e. is (sym (tables (guest / words_of_cluster H.fields) off) ∙ e))
-            ∙ (others (guest / words_of_cluster H.fields) (guest % words_of_cluster H.fields) (guest-live f H.fields guest words is) off ∙ sym (guest-slot-there f H.fields guest is))
-      ]
+      guest-same : 0 < words_of_cluster H.fields → (guest : ℕ) → (guest / words_of_cluster H.fields ≢ i) ⊎ (l2_mapping f H.fields t (guest % words_of_cluster H.fields) ≡ entry f H.fields guest)
+          → guest_slot g H.fields guest ≡ guest_slot f H.fields guest
+      guest-same words guest off = by off (cases_eq (guest / words_of_cluster H.fields) i)
+        where
+          apart-same : guest / words_of_cluster H.fields ≢ i → guest_slot g H.fields guest ≡ guest_slot f H.fields guest
+          apart-same off = elim (cases_eq (l2_table f H.fields (guest / words_of_cluster H.fields)) 0) [
+            | inl e ↦ guest-slot-none g H.fields guest (tables (guest / words_of_cluster H.fields) off ∙ e) ∙ sym (guest-slot-none f H.fields guest e)
+            | inr is ↦
+                guest-slot-there g H.fields guest (λ e. is (sym (tables (guest / words_of_cluster H.fields) off) ∙ e))
+                ∙ (others (guest / words_of_cluster H.fields) (guest % words_of_cluster H.fields) (guest-live f H.fields guest words is) off ∙ sym (guest-slot-there f H.fields guest is))
+          ]
+
+          by : (guest / words_of_cluster H.fields ≢ i) ⊎ (l2_mapping f H.fields t (guest % words_of_cluster H.fields) ≡ entry f H.fields guest)
+              → (guest / words_of_cluster H.fields ≡ i) ⊎ (guest / words_of_cluster H.fields ≢ i) → guest_slot g H.fields guest ≡ guest_slot f H.fields guest
+          by (inl apart) case = apart-same apart
+          by (inr same) (inr apart) = apart-same apart
+          by (inr same) (inl at) =
+              let place : l2_table g H.fields (guest / words_of_cluster H.fields) ≡ t = ap (l2_table g H.fields) at ∙ here in
+              guest-slot-there g H.fields guest (λ e. there (sym place ∙ e))
+              ∙ (ap (λ p. l2_mapping g H.fields p (guest % words_of_cluster H.fields)) place
+              ∙ (ap (mapping_of (layout_of H.fields)) (new-words (guest % words_of_cluster H.fields) (mod_below guest (words_of_cluster H.fields) words)) ∙ (same ∙ entry-slot f H.fields guest was.readable.tables)))
 
 -- By the bytes of the word.
 module _ (f : Bytes) (H : Header) (was : IsConsistent f H) (i : ℕ) (lt : i < H.fields.l1_entries) (w : ℕ) (fits : w < 2 ^ 64) (sane : IsTrue (l1_word_sound H.fields.cluster_bits w))

@@ -15,7 +15,7 @@ use Rattle.qcow2_types.specs.References.{structure, contents, of_mapping, of_cop
 use Rattle.qcow2_types.specs.Consistency.{IsConsistent}
 use Rattle.qcow2_types.specs.Steps.{TableWritten, TableRewritten, table_sum}
 use Rattle.qcow2_types.proofs.Consistent.{header-kept, some-words, consistent-shaped, structure-unmapped, consistent-from}
-use Rattle.qcow2_types.proofs.DataSteps.{free-stays}
+use Rattle.qcow2_types.proofs.DataSteps.{free-stays, data-stays}
 use Rattle.qcow2_types.proofs.Either.{structure-same, tables-same}
 use Rattle.qcow2_types.proofs.Parts.{kept-table, touches-once, count-kept, l2_table-kept, block_at-kept, slot-kept}
 use Rattle.qcow2_types.proofs.Shows.{table-inside, guest-live, guest-slot-there, guest-slot-none, shows-outside}
@@ -109,6 +109,7 @@ module _ (f g : Bytes) (H : Header) (was : IsConsistent f H) (i : ℕ) (there : 
     contents = sums;
     references = references;
     free = free-stays f g H (l2_table f H.fields i / cluster_size H.fields) at n out begins ends (table-weighs f H was i there);
+    mapped = data-stays f g H was (l2_table f H.fields i / cluster_size H.fields) at n out begins ends (table-weighs f H was i there);
   }
 
   -- the tables stay sound
@@ -147,10 +148,19 @@ module _ (f g : Bytes) (H : Header) (was : IsConsistent f H) (i : ℕ) (there : 
             (structure-unmapped f H was _ (table-weighs f H was i there));
       }
     where
-      guest-same : 0 < words_of_cluster H.fields → (guest : ℕ) → guest / words_of_cluster H.fields ≢ i → guest_slot g H.fields guest ≡ guest_slot f H.fields guest
+      guest-same : 0 < words_of_cluster H.fields → (guest : ℕ) → (guest / words_of_cluster H.fields ≢ i) ⊎ (slot g H.fields i (guest % words_of_cluster H.fields) ≡ slot f H.fields i (guest % words_of_cluster H.fields))
+          → guest_slot g H.fields guest ≡ guest_slot f H.fields guest
       guest-same words guest off = elim (cases_eq (l2_table f H.fields (guest / words_of_cluster H.fields)) 0) [
         | inl e ↦ guest-slot-none g H.fields guest (places.l1 (guest / words_of_cluster H.fields) ∙ e) ∙ sym (guest-slot-none f H.fields guest e)
         | inr is ↦
             guest-slot-there g H.fields guest (λ e. is (sym (places.l1 (guest / words_of_cluster H.fields)) ∙ e))
-            ∙ (others (guest / words_of_cluster H.fields) (guest % words_of_cluster H.fields) (guest-live f H.fields guest words is) off ∙ sym (guest-slot-there f H.fields guest is))
+            ∙ (slot-same (guest-live f H.fields guest words is) off (cases_eq (guest / words_of_cluster H.fields) i) ∙ sym (guest-slot-there f H.fields guest is))
       ]
+        where
+          slot-same : Live (l2_table f H.fields) H.fields (guest / words_of_cluster H.fields) (guest % words_of_cluster H.fields)
+              → (guest / words_of_cluster H.fields ≢ i) ⊎ (slot g H.fields i (guest % words_of_cluster H.fields) ≡ slot f H.fields i (guest % words_of_cluster H.fields))
+              → (guest / words_of_cluster H.fields ≡ i) ⊎ (guest / words_of_cluster H.fields ≢ i)
+              → slot g H.fields (guest / words_of_cluster H.fields) (guest % words_of_cluster H.fields) ≡ slot f H.fields (guest / words_of_cluster H.fields) (guest % words_of_cluster H.fields)
+          slot-same live (inl apart) case = others (guest / words_of_cluster H.fields) (guest % words_of_cluster H.fields) live apart
+          slot-same live (inr same) (inr apart) = others (guest / words_of_cluster H.fields) (guest % words_of_cluster H.fields) live apart
+          slot-same live (inr same) (inl at) = ap (λ k. slot g H.fields k (guest % words_of_cluster H.fields)) at ∙ (same ∙ sym (ap (λ k. slot f H.fields k (guest % words_of_cluster H.fields)) at))

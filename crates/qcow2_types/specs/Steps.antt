@@ -3,7 +3,7 @@ use Rattle.std.specs.Prelude.{true, Ok, ◌≡◌, ◌≢◌, ℕ, ◌+◌, ◌*
 use Rattle.qcow2_types.specs.Bytes.{Bytes, word, sum_below}
 use Rattle.qcow2_types.specs.Words.{Mapping, unmapped, data_at}
 use Rattle.qcow2_types.specs.Header.{Fields, Header, header_of, cluster_size, words_of_cluster}
-use Rattle.qcow2_types.specs.Entries.{l2_table}
+use Rattle.qcow2_types.specs.Entries.{entry, l2_table, l2_mapping}
 use Rattle.qcow2_types.specs.Counts.{block_at, count, counter, counters_of_block}
 use Rattle.qcow2_types.specs.References.{Weight, structure as structure_sum, contents as contents_sum, of_cluster, of_mapping, of_table, of_table_or_none, meets, refs}
 use Rattle.qcow2_types.specs.Consistency.{IsConsistent}
@@ -67,7 +67,7 @@ abbrev pub table_sum : Bytes → Fields → (Mapping → ℕ) → ℕ → ℕ
 table_sum f h of i = sum_below (words_of_cluster h) (λ j. of (slot f h i j))
 
 -- L2 table i was written, whole or in part: no word of another table and no count changes. What is named changes by what the words of
--- the table name, and clusters that nothing names keep their bytes.
+-- the table name. Clusters that nothing names keep their bytes, and so do those that words name.
 pub record TableWritten (f g : Bytes) (H : Header) (i : ℕ) : Type 0 where
   pub header : header_of true g ≡ Ok H
   pub kept : Kept f g H.fields (table i)
@@ -78,12 +78,14 @@ pub record TableWritten (f g : Bytes) (H : Header) (i : ℕ) : Type 0 where
   pub contents : (of : Mapping → ℕ) → contents_sum g H.fields of + table_sum f H.fields of i ≡ contents_sum f H.fields of + table_sum g H.fields of i
   pub references : (c : ℕ) → refs g H.fields c + table_sum f H.fields (of_mapping H.fields (meets H.fields c)) i ≡ refs f H.fields c + table_sum g H.fields (of_mapping H.fields (meets H.fields c)) i
   pub free : (c : ℕ) → refs f H.fields c ≡ 0 → Same f g (c * cluster_size H.fields) (cluster_size H.fields)
+  pub mapped : (c : ℕ) → 0 < contents_sum f H.fields (of_mapping H.fields (meets H.fields c)) → Same f g (c * cluster_size H.fields) (cluster_size H.fields)
 
--- The same, and the image is consistent: guest clusters of other tables show what they did.
+-- The same, and the image is consistent: guest clusters of other tables, and those of this one whose word means what it did, show what
+-- they did.
 pub record TableRewritten (f g : Bytes) (H : Header) (i : ℕ) : Type 0 where
   pub written : TableWritten f g H i
   pub consistent : IsConsistent g H
-  pub elsewhere : (guest : ℕ) → guest / words_of_cluster H.fields ≢ i → ShowsAs g f H.fields guest
+  pub elsewhere : (guest : ℕ) → (guest / words_of_cluster H.fields ≢ i) ⊎ (slot g H.fields i (guest % words_of_cluster H.fields) ≡ slot f H.fields i (guest % words_of_cluster H.fields)) → ShowsAs g f H.fields guest
 
 -- Word j of L2 table i was written, and names cluster c as copied data, which nothing named: no other cluster's references change.
 pub record ClusterMapped (f g : Bytes) (H : Header) (i j c : ℕ) : Type 0 where
@@ -108,7 +110,8 @@ pub record TableEntered (f g : Bytes) (H : Header) (i c place : ℕ) : Type 0 wh
   pub free : (d : ℕ) → refs f H.fields d ≡ 0 → Same f g (d * cluster_size H.fields) (cluster_size H.fields)
 
 -- Word i of the L1 table was written and names the L2 table at this place: no word of another table and no count changes. What is
--- named changes by the old table, with what its words name, and the new one with what its words name.
+-- named changes by the old table, with what its words name, and the new one with what its words name. Clusters that nothing names keep
+-- their bytes, and so do those that words name.
 pub record TableReplaced (f g : Bytes) (H : Header) (i place : ℕ) : Type 0 where
   pub header : header_of true g ≡ Ok H
   pub kept : Kept f g H.fields (l1_word i)
@@ -123,12 +126,14 @@ pub record TableReplaced (f g : Bytes) (H : Header) (i place : ℕ) : Type 0 whe
   pub references : (d : ℕ) → refs g H.fields d + (of_cluster H.fields (meets H.fields d) (l2_table f H.fields i) + of_table_or_none f H.fields (of_mapping H.fields (meets H.fields d)) (l2_table f H.fields i))
       ≡ refs f H.fields d + (meets H.fields d place (cluster_size H.fields) + of_table f H.fields (of_mapping H.fields (meets H.fields d)) place)
   pub free : (d : ℕ) → refs f H.fields d ≡ 0 → Same f g (d * cluster_size H.fields) (cluster_size H.fields)
+  pub mapped : (d : ℕ) → 0 < contents_sum f H.fields (of_mapping H.fields (meets H.fields d)) → Same f g (d * cluster_size H.fields) (cluster_size H.fields)
 
--- The same, and the image is consistent: guest clusters of other tables show what they did.
+-- The same, and the image is consistent: guest clusters of other tables, and those of this one for which the new table has the
+-- mapping that they had, show what they did.
 pub record TableSwapped (f g : Bytes) (H : Header) (i place : ℕ) : Type 0 where
   pub replaced : TableReplaced f g H i place
   pub consistent : IsConsistent g H
-  pub elsewhere : (guest : ℕ) → guest / words_of_cluster H.fields ≢ i → ShowsAs g f H.fields guest
+  pub elsewhere : (guest : ℕ) → (guest / words_of_cluster H.fields ≢ i) ⊎ (l2_mapping f H.fields place (guest % words_of_cluster H.fields) ≡ entry f H.fields guest) → ShowsAs g f H.fields guest
 
 -- Word i of the refcount table, which named no block, was written and names the one in cluster c, at this place. The clusters that it
 -- counts, c perhaps among them, are counted as its bytes say.

@@ -47,6 +47,7 @@ pub record L1Switched (f g : Bytes) (H : Header) (offset more : ℕ) : Type 0 wh
   -- the new table's clusters are named, and no longer the old one's
   pub references : (d : ℕ) → refs g (with_l1 H.fields offset (H.fields.l1_entries + more)) d + meets H.fields d H.fields.l1_offset (H.fields.l1_entries * 8) ≡ refs f H.fields d + meets H.fields d offset ((H.fields.l1_entries + more) * 8)
   pub entries : (guest : ℕ) → entry g (with_l1 H.fields offset (H.fields.l1_entries + more)) guest ≡ entry f H.fields guest
+  pub shows : (external : Bytes) (p : ℕ) (below : Value) → shown g external (with_l1 H.fields offset (H.fields.l1_entries + more)) p below ≡ shown f external H.fields p below
 
 -- the fields with another refcount table
 abbrev pub with_reftable : Fields → ℕ → ℕ → Fields
@@ -72,6 +73,7 @@ pub record RefcountTableSwitched (f g : Bytes) (H : Header) (offset more : ℕ) 
   -- the new table's clusters and the new blocks are named, and no longer the old table's
   pub references : (d : ℕ) → refs g (with_reftable H.fields offset (H.fields.refcount_table_clusters + more)) d + meets H.fields d H.fields.refcount_table_offset (H.fields.refcount_table_clusters * cluster_size H.fields) ≡ refs f H.fields d + newly_named f H.fields offset more d
   pub entries : (guest : ℕ) → entry g (with_reftable H.fields offset (H.fields.refcount_table_clusters + more)) guest ≡ entry f H.fields guest
+  pub shows : (external : Bytes) (p : ℕ) (below : Value) → shown g external (with_reftable H.fields offset (H.fields.refcount_table_clusters + more)) p below ≡ shown f external H.fields p below
 
 -- the fields with another size of the disk
 abbrev pub sized : Fields → ℕ → Fields

@@ -65,7 +65,8 @@ pub fn rewriting_a_word()
 
 /// A write into an L2 table, of one word, of some, or of the whole, changes no count and no word of another table; what is named
 /// changes by what the table's words name. Where they have a meaning, each cluster that is named is counted, and each that the
-/// structure or a copied word names is named once, the image stays consistent, and other tables' guest clusters show the same.
+/// structure or a copied word names is named once, the image stays consistent, and guest clusters of other tables, or whose word means
+/// what it did, show the same.
 pub fn writing_into_a_table()
     ensures written { (f : Bytes) (h : Header) → IsConsistent f h → (i : ℕ) → l2_table f h.fields i ≢ 0
         → (g : Bytes) (at n : ℕ) → Outside f g at n → 0 < n → l2_table f h.fields i ≤ at → at + n ≤ l2_table f h.fields i + cluster_size h.fields → TableWritten f g h i }
@@ -89,7 +90,7 @@ pub fn entering_a_table_of_zeroes()
 /// A word of the L1 table can name another table in a cluster that nothing names: no count and no word of another table changes, and
 /// what is named changes by the old table, with what its words name, and the new one with what its words name. Where these have a
 /// meaning, each cluster that is named is counted, and each that the structure or a copied word names is named once, the image stays
-/// consistent, and other tables' guest clusters show the same.
+/// consistent, and guest clusters of other tables, or that have the same mapping in the new one, show the same.
 pub fn naming_another_table()
     ensures replaced { (f : Bytes) (h : Header) → IsConsistent f h → (i : ℕ) → i < h.fields.l1_entries
         → (w : ℕ) → w < 2 ^ 64 → IsTrue (l1_word_sound h.fields.cluster_bits w)
