@@ -123,6 +123,13 @@ unless_cases old new P _ h = inr h
 
 -- Splices.
 
+-- another fault than `Unsupported`
+pub otherwise-refused : (old new : StorageState) (P : Fault → Type 0) (fault : Fault) → (fault ≡ Unsupported → ⊥) → UnlessUnsupported old new P fault → P fault
+otherwise-refused old new P fault other refused = elim (unless_cases old new P fault refused) [
+  | inl unsupported ↦ absurd (other unsupported.0)
+  | inr holds ↦ holds
+]
+
 -- two splices of the same bytes, as long, are one
 pub spliced_same : (old : List ℕ) (at : ℕ) (bytes a b : List ℕ) → Spliced old at bytes a → Spliced old at bytes b → length a ≡ length b → a ≡ b
 spliced_same old at bytes a b first second long =

@@ -8,3 +8,7 @@ pub mod Replay
 pub mod Marks
 pub mod Powers
 pub mod Once
+pub mod Wholes
+pub mod ZeroSteps
+pub mod Fronts
+pub mod GivingUp

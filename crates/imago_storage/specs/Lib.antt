@@ -9,3 +9,4 @@ pub mod Log
 pub mod Disk
 pub mod Steps
 pub mod Causes
+pub mod Zeroings

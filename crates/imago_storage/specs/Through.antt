@@ -1,13 +1,21 @@
 -- What a padded call does, by any number of requests.
-use Rattle.std.specs.Prelude.{◌≡◌, ◌⊎◌, ℕ, ◌+◌, ◌-◌, ◌*◌, ◌/◌, ◌%◌, ◌<◌, ◌≤◌, ◌^◌, max, List, ◌∷◌, ◌++◌, length, All, IsTrue, Result, MatchResult}
+use Rattle.std.specs.Prelude.{◌≡◌, ◌⊎◌, ℕ, ◌+◌, ◌-◌, ◌*◌, ◌/◌, ◌%◌, ◌<◌, ◌≤◌, ◌^◌, max, List, ◌∷◌, ◌++◌, length, replicate, All, IsTrue, Result, MatchResult}
 use Rattle.imago_storage.specs.State.{StorageState, Rose, InStep, unit_of}
-use Rattle.imago_storage.specs.Calls.{Spliced, Mixed, Cause, Later}
+use Rattle.imago_storage.specs.Calls.{Spliced, Mixed, Cause, Later, Discarded, NotDiscarded}
 use Rattle.imago_storage.specs.declared.fault.Fault.{Fault}
-use Rattle.imago_storage.specs.declared.fault.Fault.TheVariants.{RangeOverflow}
+use Rattle.imago_storage.specs.declared.fault.Fault.TheVariants.{RangeOverflow, Unsupported}
 
 -- the least multiple of the unit that is not below n
 unfoldable pub round_up : ℕ → ℕ → ℕ
 round_up unit n = (n + (unit - 1)) / unit * unit
+
+-- the greatest multiple of the unit that is not above n
+unfoldable pub round_down : ℕ → ℕ → ℕ
+round_down unit n = n / unit * unit
+
+-- the range has whole units: the bytes from the first multiple of the unit to the last
+abbrev pub HasWhole : ℕ → ℕ → ℕ → Type 0
+HasWhole unit at n = round_up unit at < round_down unit (at + n)
 
 -- the padded end passes 64 bits
 abbrev pub Overflows : ℕ → ℕ → ℕ → Type 0
@@ -90,6 +98,31 @@ WrittenThrough old new at bytes = Through (unit_of old.shape) old new at bytes
 -- a refused `write`
 abbrev pub NotWrittenThrough : StorageState → StorageState → ℕ → List ℕ → Fault → Type 0
 NotWrittenThrough old new at bytes = UnlessOverflow (Overflows (unit_of old.shape) at (length bytes)) old new (NotThrough (unit_of old.shape) old new at bytes)
+
+-- a range that isn't zeroed; `Unsupported` comes where it has whole units of the alignment of zeroing, and leaves all as it was
+abbrev pub NotZeroed : StorageState → StorageState → ℕ → ℕ → Fault → Type 0
+NotZeroed old new at n Unsupported = HasWhole (max (unit_of old.shape) old.shape.zero_align) at n × (new ≡ old)
+NotZeroed old new at n fault = NotWrittenThrough old new at (replicate n 0) fault
+
+-- the alignment of what a `discard` gives up
+abbrev pub discard_unit : StorageState → ℕ
+discard_unit s = max (unit_of s.shape) s.shape.discard_align
+
+-- where the whole units of a range begin, and how many bytes they are
+abbrev pub whole_start : StorageState → ℕ → ℕ
+whole_start s at = round_up (discard_unit s) at
+
+abbrev pub whole_size : StorageState → ℕ → ℕ → ℕ
+whole_size s at n = round_down (discard_unit s) (at + n) - round_up (discard_unit s) at
+
+-- A `discard` that succeeds: nothing has changed, or the whole units of the range are given up, and nothing else.
+abbrev pub GivenUp : StorageState → StorageState → ℕ → ℕ → Type 0
+GivenUp old new at n = (new ≡ old) ⊎ (HasWhole (discard_unit old) at n × Discarded old new (whole_start old at) (whole_size old at n))
+
+-- a refused `discard`: of the whole units any byte may be given up, and of nothing else
+abbrev pub NotGivenUp : StorageState → StorageState → ℕ → ℕ → Fault → Type 0
+NotGivenUp old new at n RangeOverflow = Overflows (unit_of old.shape) at n × (new ≡ old)
+NotGivenUp old new at n fault = HasWhole (discard_unit old) at n × NotDiscarded old new (whole_start old at) (whole_size old at n) fault
 
 -- the clause of a refused `read`
 abbrev pub NotRead : StorageState → StorageState → ℕ → ℕ → Fault → Type 0

@@ -1,11 +1,13 @@
 // Calls on any range, padded to whole units.
-ghost use Rattle.std.specs.Prelude.{◌≡◌, ℕ, ◌+◌, ◌-◌, ◌%◌, ◌<◌, ◌≤◌, ◌^◌, max, ◌∷◌, ◌++◌, length, slice_index, IsOk, OnOk, OnErr, IfErr, IsErrOf, IsTrue};
+ghost use Rattle.std.specs.Prelude.{◌≡◌, ℕ, ◌+◌, ◌-◌, ◌%◌, ◌<◌, ◌≤◌, ◌^◌, max, ◌∷◌, ◌++◌, length, slice_index, replicate, IsOk, OnOk, OnErr, IfErr, IsErrOf, IsTrue};
 ghost use Rattle.std.specs.Option.{SomeIff};
 ghost use Rattle.imago_storage.specs.State.{unit_of, IsAlignment, IsWhole};
-ghost use Rattle.imago_storage.specs.Calls.{Cause, CountsFaults, Kept, Later, Mixed, Reads};
-ghost use Rattle.imago_storage.specs.Through.{round_up, Overflows, IsAtOnce, Through, NotThrough, OneRequest, NoRequest, IsOnePart, Parts, RequestsOnce, Stops, UnlessOverflow, WrittenThrough, NotWrittenThrough, NotRead};
+ghost use Rattle.imago_storage.specs.Calls.{Cause, CountsFaults, Kept, Later, Mixed, Reads, SameOutside};
+ghost use Rattle.imago_storage.specs.Through.{round_up, round_down, HasWhole, Overflows, IsAtOnce, Through, NotThrough, OneRequest, NoRequest, IsOnePart, Parts, RequestsOnce, Stops, UnlessOverflow, WrittenThrough, NotWrittenThrough, NotZeroed, GivenUp, NotGivenUp, whole_start, whole_size, NotRead};
 
+use crate::discarding::discard_whole;
 use crate::edits::{copy_in, take_part};
+use crate::zeroing::{Zeroing, zero_padded};
 use crate::{Fault, Storage};
 use std::alloc::Global;
 
@@ -27,8 +29,19 @@ pub fn padded_end(offset: u64, n: u64, unit: u64) -> Option<u64>
     }
 }
 
+// Of a range, the part that is whole units of an alignment, if there is one: where it begins, and its end.
+pub fn whole_part(offset: u64, n: u64, align: u64) -> Option<(u64, u64)>
+    requires positive { 0 < align }
+    requires fits { offset + n < 2 ^ 64 }
+    ensures { SomeIff result (HasWhole align offset n) (round_up align offset, round_down align (offset + n)) }
+{
+    let start = padded_end(offset, 0, align)?;
+    let end = (offset + n) / align * align;
+    if start < end { Some((start, end)) } else { None }
+}
+
 // The unit of a storage's requests, in bytes.
-fn unit_size<S: Storage>(storage: &S) -> usize
+pub fn unit_size<S: Storage>(storage: &S) -> usize
     ensures unit { result ≡ unit_of (S.state storage.now).shape }
     ensures alignment { IsAlignment result }
 {
@@ -74,7 +87,7 @@ fn write_whole<S: Storage>(storage: &mut S, data: &[u8], offset: u64) -> Result<
 
 // Writes three parts in a row, each by one request, the lowest first: bytes in one unit, whole units, and bytes in
 // one unit. The buffer holds a unit.
-fn write_parts<S: Storage>(
+pub fn write_parts<S: Storage>(
     storage: &mut S,
     buf: &mut [u8],
     head: &[u8],
@@ -100,7 +113,7 @@ fn write_parts<S: Storage>(
 }
 
 // The lengths of the first two of a range's three parts: bytes in one unit, whole units, and bytes in one unit.
-fn parts_of_range(offset: u64, n: usize, unit: usize) -> (usize, usize)
+pub fn parts_of_range(offset: u64, n: usize, unit: usize) -> (usize, usize)
     requires { 0 < unit }
     ensures { Parts unit offset n result.0 result.1 }
 {
@@ -112,6 +125,26 @@ fn parts_of_range(offset: u64, n: usize, unit: usize) -> (usize, usize)
     };
     let mid = (n - head) / unit * unit;
     (head, mid)
+}
+
+// Writes any range, by up to three requests. The buffer holds a unit.
+pub fn write_in_parts<S: Storage>(
+    storage: &mut S,
+    buf: &mut [u8],
+    data: &[u8],
+    offset: u64,
+) -> Result<(), Fault>
+    requires unit { length buf.old ≡ unit_of (S.state storage.old).shape }
+    requires positive { 0 < length buf.old }
+    requires fits { round_up (length buf.old) (offset + length «data».now) < 2 ^ 64 }
+    ensures ok { OnOk result (Through (length buf.old) (S.state storage.old) (S.state storage.new) offset «data».now) }
+    ensures err { IfErr result (NotThrough (length buf.old) (S.state storage.old) (S.state storage.new) offset «data».now) }
+    ensures once { IsAtOnce (length buf.old) offset (length «data».now) → RequestsOnce (S.state storage.old) (S.state storage.new) (length «data».now) result }
+{
+    let (first, second) = parts_of_range(offset, data.len(), buf.len());
+    let (head, rest) = data.split_at(first);
+    let (mid, tail) = rest.split_at(second);
+    write_parts(storage, buf, head, mid, tail, offset)
 }
 
 // Writes any range, padded to whole units.
@@ -141,9 +174,7 @@ fn write_padded<S: Storage>(
         return write_whole(storage, data, offset);
     }
     let mut buf = vec![in alloc; 0u8; unit]?;
-    let (head, rest) = data.split_at(first);
-    let (mid, tail) = rest.split_at(second);
-    write_parts(storage, &mut buf, head, mid, tail, offset)
+    write_in_parts(storage, &mut buf, data, offset)
 }
 
 // Reads whole units into the first buffer, and of these the range into the second.
@@ -210,7 +241,7 @@ pub fn larger_alignment(a: usize, b: usize) -> usize
     if a < b { b } else { a }
 }
 
-/// Reads and writes of any range of bytes, for every storage.
+/// Reads, writes, zeroing and discards of any range of bytes, for every storage.
 ///
 /// A range is padded to whole units of the storage, where the unit is the larger of `req_align` and `mem_align`. Buffers
 /// that this takes are taken before the first request.
@@ -257,6 +288,59 @@ pub trait StorageExt: Storage {
         ensures empty { length «data».now ≡ 0 → IsOk result × (Self.state self.new ≡ Self.state self.old) }
         // What is known of each storage: so the range of a power of two bytes at a multiple of it is one request.
         ensures unit { IsAlignment (unit_of (Self.state self.old).shape) };
+
+    /// Zeroes the range, padded to whole units by what is there, and by zeroes past the old end; the storage may give up what it
+    /// has allocated there. The length reaches the range's end, rounded up to the unit; an empty range changes nothing.
+    ///
+    /// What is whole units of the larger of the unit and `zero_align` is one `pure_write_zeroes`, or is written where the
+    /// storage doesn't have that call. The rest is written, as `write_full_zeroes` does.
+    ///
+    /// It is refused as `write` is, and leaves then what `write` leaves.
+    fn write_zeroes(&mut self, alloc: Global, offset: u64, length: u64) -> Result<(), Fault>
+        ensures ok { OnOk result (WrittenThrough (Self.state self.old) (Self.state self.new) offset (replicate length 0)) }
+        ensures err { IfErr result (NotWrittenThrough (Self.state self.old) (Self.state self.new) offset (replicate length 0)) }
+        ensures overflow { Overflows (unit_of (Self.state self.old).shape) offset length → IsErrOf result Fault.RangeOverflow }
+        ensures shape { (Self.state self.new).shape ≡ (Self.state self.old).shape }
+        ensures later { Later (Self.state self.old) (Self.state self.new) }
+        ensures stops { Stops (Mixed (Self.state self.old).bytes offset (replicate length 0)) (Self.state self.old) (Self.state self.new) }
+        ensures empty { length ≡ 0 → IsOk result × (Self.state self.new ≡ Self.state self.old) }
+        ensures unit { IsAlignment (unit_of (Self.state self.old).shape) };
+
+    /// The same, but the range stays allocated: its whole units are one `pure_write_allocated_zeroes`.
+    ///
+    /// It refuses with `Fault::Unsupported` where the storage doesn't have that call and the range has such units: then nothing
+    /// has changed. Else it is refused as `write` is, and leaves then what `write` leaves.
+    fn write_allocated_zeroes(
+        &mut self,
+        alloc: Global,
+        offset: u64,
+        length: u64,
+    ) -> Result<(), Fault>
+        ensures ok { OnOk result (WrittenThrough (Self.state self.old) (Self.state self.new) offset (replicate length 0)) }
+        ensures err { IfErr result (NotZeroed (Self.state self.old) (Self.state self.new) offset length) }
+        ensures overflow { Overflows (unit_of (Self.state self.old).shape) offset length → IsErrOf result Fault.RangeOverflow }
+        ensures shape { (Self.state self.new).shape ≡ (Self.state self.old).shape }
+        ensures later { Later (Self.state self.old) (Self.state self.new) }
+        ensures stops { Stops (Mixed (Self.state self.old).bytes offset (replicate length 0)) (Self.state self.old) (Self.state self.new) }
+        ensures empty { length ≡ 0 → IsOk result × (Self.state self.new ≡ Self.state self.old) }
+        ensures unit { IsAlignment (unit_of (Self.state self.old).shape) };
+
+    /// Gives up what of the range is whole units of the larger of the unit and `discard_align`, by one request: its bytes are open
+    /// then. The edges of the range are left alone, and the length is kept. Where the storage doesn't have that call, or the
+    /// range has no such units, it succeeds and changes nothing.
+    ///
+    /// It refuses with `Fault::RangeOverflow` where the range's end, rounded up to the unit, passes `u64`, before it changes
+    /// anything; else with `Fault::Memory` and `Fault::Storage`, after which the bytes of these units are open, too.
+    fn discard(&mut self, offset: u64, length: u64) -> Result<(), Fault>
+        ensures ok { OnOk result (GivenUp (Self.state self.old) (Self.state self.new) offset length) }
+        ensures err { IfErr result (NotGivenUp (Self.state self.old) (Self.state self.new) offset length) }
+        ensures overflow { Overflows (unit_of (Self.state self.old).shape) offset length → IsErrOf result Fault.RangeOverflow }
+        ensures shape { (Self.state self.new).shape ≡ (Self.state self.old).shape }
+        ensures later { Later (Self.state self.old) (Self.state self.new) }
+        // Each file that a stop inside the call leaves is the old one but for these units.
+        ensures stops { Stops (SameOutside (Self.state self.old).bytes (whole_start (Self.state self.old) offset) (whole_size (Self.state self.old) offset length)) (Self.state self.old) (Self.state self.new) }
+        ensures empty { length ≡ 0 → IsOk result × (Self.state self.new ≡ Self.state self.old) }
+        ensures unit { IsAlignment (unit_of (Self.state self.old).shape) };
 }
 
 impl<S: Storage> StorageExt for S {
@@ -266,5 +350,22 @@ impl<S: Storage> StorageExt for S {
 
     fn write(&mut self, alloc: Global, data: &[u8], offset: u64) -> Result<(), Fault> {
         write_padded(self, alloc, data, offset)
+    }
+
+    fn write_zeroes(&mut self, alloc: Global, offset: u64, length: u64) -> Result<(), Fault> {
+        zero_padded(self, alloc, Zeroing::Any, offset, length)
+    }
+
+    fn write_allocated_zeroes(
+        &mut self,
+        alloc: Global,
+        offset: u64,
+        length: u64,
+    ) -> Result<(), Fault> {
+        zero_padded(self, alloc, Zeroing::Allocated, offset, length)
+    }
+
+    fn discard(&mut self, offset: u64, length: u64) -> Result<(), Fault> {
+        discard_whole(self, offset, length)
     }
 }

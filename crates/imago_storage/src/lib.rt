@@ -5,6 +5,7 @@
 //! leaves behind. `Fault` is what every call of this crate, and of those above it, is refused with.
 #![tactic(auto)]
 
+mod discarding;
 mod edits;
 mod ext;
 mod fault;
@@ -13,6 +14,7 @@ mod log;
 mod memory;
 mod null;
 mod storage;
+mod zeroing;
 
 pub use ext::{StorageExt, larger_alignment, padded_end};
 pub use fault::{Fault, FaultKind};
@@ -21,6 +23,7 @@ pub use log::{LogStorage, Request, StopStorage};
 pub use memory::MemStorage;
 pub use null::Null;
 pub use storage::{PreallocateMode, Storage};
+pub use zeroing::write_full_zeroes;
 
 #[cfg(test)]
 mod tests;

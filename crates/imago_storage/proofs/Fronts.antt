@@ -1,0 +1,133 @@
+-- Two parts of a padded call, the second before the first.
+use Rattle.std.proofs.Common.{◌≡◌, ◌⊎◌, refl, inl, inr, ⊎_elim, ℕ, ◌+◌, ◌-◌, ◌<◌, ◌≤◌, max, List, ◌∷◌, ◌++◌, length, get_or, arith, sym, ◌∙◌, ap, subst, length-append}
+use Rattle.std.proofs.lemmas.List.{get_or_append_left, get_or-append_right}
+use Rattle.std.proofs.lemmas.List.Elements.{All-weaker}
+use Rattle.std.proofs.lemmas.Bool.{cases_eq, cases_lt}
+use Rattle.imago_storage.specs.State.{StorageState, Rose}
+use Rattle.imago_storage.specs.Calls.{Spliced, Mixed, Cause}
+use Rattle.imago_storage.specs.Through.{round_up, Stops, Through, NotThrough}
+use Rattle.imago_storage.specs.declared.fault.Fault.{Fault}
+use Rattle.imago_storage.proofs.Rounding.{round_up-le}
+use Rattle.imago_storage.proofs.Composing.{tells_on, keeps_on, stops_both}
+
+module _ (at : ℕ) (xs ys : List ℕ) where
+  long : length (xs ++ ys) ≡ length xs + length ys
+  long = length-append xs ys
+
+  -- a byte of the first part
+  left : (k : ℕ) → k < at + length xs → at ≤ k → get_or xs (k - at) 0 ≡ get_or (xs ++ ys) (k - at) 0
+  left k lt from = sym (get_or_append_left xs ys 0 (k - at) (omega arith))
+
+  -- and of the second
+  right : (k : ℕ) → at + length xs ≤ k → get_or ys (k - (at + length xs)) 0 ≡ get_or (xs ++ ys) (k - at) 0
+  right k ge = ap (λ (j : ℕ). get_or ys j 0) (let e : k - (at + length xs) ≡ k - at - length xs = omega arith in e) ∙ sym (get_or-append_right xs ys (length xs) (k - at) 0 refl (omega arith))
+
+  pub spliced_front : (a b c : List ℕ) → Spliced a (at + length xs) ys b → Spliced b at xs c → Spliced a at (xs ++ ys) c
+  spliced_front a b c first second = record {
+    before = λ k lt. second.before k lt ∙ first.before k (omega arith);
+    inside = λ k from to. elim (cases_lt k (at + length xs)) [
+      | inl lt ↦ second.inside k from lt ∙ left k lt from
+      | inr ge ↦ second.after k ge ∙ (first.inside k ge (omega (arith, long)) ∙ right k ge)
+    ];
+    after = λ k from. second.after k (omega (arith, long)) ∙ first.after k (omega (arith, long));
+  }
+
+  -- a range that was spliced in its second part, and mixed in its first
+  pub mixed_front : (a b c : List ℕ) → Spliced a (at + length xs) ys b → Mixed b at xs c → Mixed a at (xs ++ ys) c
+  mixed_front a b c first second = record {
+    before = λ k lt. second.before k lt ∙ first.before k (omega arith);
+    inside = λ k from to. elim (cases_lt k (at + length xs)) [
+      | inl lt ↦ ⊎_elim (λ old. inl (old ∙ first.before k lt)) (λ new. inr (new ∙ left k lt from)) (second.inside k from lt)
+      | inr ge ↦ inr (second.after k ge ∙ (first.inside k ge (omega (arith, long)) ∙ right k ge))
+    ];
+    after = λ k from. second.after k (omega (arith, long)) ∙ first.after k (omega (arith, long));
+  }
+
+  -- the range may begin before what was written
+  pub mixed_before : (a b : List ℕ) → Mixed a (at + length xs) ys b → Mixed a at (xs ++ ys) b
+  mixed_before a b first = record {
+    before = λ k lt. first.before k (omega arith);
+    inside = λ k from to. elim (cases_lt k (at + length xs)) [
+      | inl lt ↦ inl (first.before k lt)
+      | inr ge ↦ ⊎_elim (λ old. inl old) (λ new. inr (new ∙ right k ge)) (first.inside k ge (omega (arith, long)))
+    ];
+    after = λ k from. first.after k (omega (arith, long));
+  }
+
+module _ (unit : ℕ) (positive : 0 < unit) (a b c : StorageState) (at : ℕ) (xs ys : List ℕ) where
+  both : length (xs ++ ys) ≡ length xs + length ys
+  both = length-append xs ys
+
+  -- the end of the first part lies in the range
+  inner : round_up unit (at + length xs) ≤ round_up unit (at + length (xs ++ ys))
+  inner = round_up-le unit (at + length xs) (at + length (xs ++ ys)) positive (omega (arith, both))
+
+  same-end : round_up unit (at + length xs + length ys) ≡ round_up unit (at + length (xs ++ ys))
+  same-end = ap (round_up unit) (let e : at + length xs + length ys ≡ at + length (xs ++ ys) = omega (arith, both) in e)
+
+  size_front : Through unit a b (at + length xs) ys → Through unit b c at xs → 0 < length (xs ++ ys) → length c.bytes ≡ max (length a.bytes) (round_up unit (at + length (xs ++ ys)))
+  size_front first second some = elim (cases_eq (length xs) 0) [
+    | inl none ↦
+        let stays = ap (λ (s : StorageState). length s.bytes) (second.nothing none) in
+        stays ∙ (first.size (omega (arith, both)) ∙ ap (λ (n : ℕ). max (length a.bytes) n) same-end)
+    | inr some_xs ↦ elim (cases_eq (length ys) 0) [
+      | inl none ↦
+          let stays = ap (λ (s : StorageState). length s.bytes) (first.nothing none) in
+          let last : round_up unit (at + length xs) ≡ round_up unit (at + length (xs ++ ys)) = ap (round_up unit) (let e : at + length xs ≡ at + length (xs ++ ys) = omega (arith, both) in e) in
+          second.size (omega arith) ∙ omega (arith, stays, last)
+      | inr some_ys ↦ second.size (omega arith) ∙ omega (arith, first.size (omega arith), inner, same-end)
+    ]
+  ]
+
+  pub through_front : Through unit a b (at + length xs) ys → Through unit b c at xs → Through unit a c at (xs ++ ys)
+  through_front first second = record {
+    shape = second.shape ∙ first.shape;
+    faults = second.faults ∙ first.faults;
+    refusals = second.refusals ∙ first.refusals;
+    nothing = λ none. second.nothing (omega (arith, both)) ∙ first.nothing (omega (arith, both));
+    content = λ keeps. spliced_front at xs ys a.bytes b.bytes c.bytes (first.content keeps) (second.content (keeps_on a b first.shape keeps));
+    size = size_front first second;
+    in_step = λ same. second.in_step (first.in_step same);
+    stops = stops_both (Mixed a.bytes (at + length xs) ys) (Mixed b.bytes at xs) (Mixed a.bytes at (xs ++ ys)) a b c first.shape first.in_step
+        (λ _ f mixed. mixed_before at xs ys a.bytes f mixed) (λ keeps f mixed. mixed_front at xs ys a.bytes b.bytes f (first.content keeps) mixed) first.stops second.stops;
+  }
+
+  -- refused in the part in front
+  pub not_front : (fault : Fault) → Through unit a b (at + length xs) ys → NotThrough unit b c at xs fault → NotThrough unit a c at (xs ++ ys) fault
+  not_front fault first second =
+      let size : length b.bytes ≤ max (length a.bytes) (round_up unit (at + length xs + length ys)) = elim (cases_eq (length ys) 0) [
+        | inl none ↦ let stays = ap (λ (s : StorageState). length s.bytes) (first.nothing none) in omega arith
+        | inr some ↦ omega (arith, first.size (omega arith))
+      ] in
+      let longer : length a.bytes ≤ length b.bytes = elim (cases_eq (length ys) 0) [
+        | inl none ↦ let stays = ap (λ (s : StorageState). length s.bytes) (first.nothing none) in omega arith
+        | inr some ↦ omega (arith, first.size (omega arith))
+      ] in
+      record {
+        shape = second.shape ∙ first.shape;
+        cause = subst (λ (n : ℕ). Cause n c.faults fault) first.faults second.cause;
+        content = λ keeps. mixed_front at xs ys a.bytes b.bytes c.bytes (first.content keeps) (second.content (keeps_on a b first.shape keeps));
+        no_shorter = omega (arith, longer, second.no_shorter);
+        no_longer = omega (arith, size, second.no_longer, inner, same-end);
+        later = omega (arith, first.refusals, second.later);
+        in_step = ⊎_elim (λ rose. inl (subst (λ (n : ℕ). Rose n c.refusals) first.refusals rose)) (λ on. inr (λ same. on (first.in_step same))) second.in_step;
+        stops = stops_both (Mixed a.bytes (at + length xs) ys) (Mixed b.bytes at xs) (Mixed a.bytes at (xs ++ ys)) a b c first.shape first.in_step
+            (λ _ f mixed. mixed_before at xs ys a.bytes f mixed) (λ keeps f mixed. mixed_front at xs ys a.bytes b.bytes f (first.content keeps) mixed) first.stops second.stops;
+      }
+
+module _ (unit : ℕ) (a b : StorageState) (at : ℕ) (xs ys : List ℕ) (fault : Fault) where
+  -- refused before the part in front
+  pub not_before : NotThrough unit a b (at + length xs) ys fault → NotThrough unit a b at (xs ++ ys) fault
+  not_before first =
+      let end : round_up unit (at + length xs + length ys) ≡ round_up unit (at + length (xs ++ ys)) = ap (round_up unit) (let e : at + length xs + length ys ≡ at + length (xs ++ ys) = omega (arith, length-append xs ys) in e) in
+      record {
+        shape = first.shape;
+        cause = first.cause;
+        content = λ keeps. mixed_before at xs ys a.bytes b.bytes (first.content keeps);
+        no_shorter = first.no_shorter;
+        no_longer = omega (arith, first.no_longer, end);
+        later = first.later;
+        in_step = first.in_step;
+        stops = λ same tells keeps. let told = first.stops same tells keeps in
+            record { files = told.files; told = told.told; each = All-weaker (Mixed a.bytes (at + length xs) ys) (Mixed a.bytes at (xs ++ ys)) (λ f mixed. mixed_before at xs ys a.bytes f mixed) told.files told.each };
+      }

@@ -1,0 +1,34 @@
+-- The stops of a discard.
+use Rattle.std.proofs.Common.{◌≡◌, ◌⊎◌, inl, inr, ⊎_elim, ℕ, List, ap, sym, subst}
+use Rattle.std.specs.Prelude.{Result, Ok, Err, OnOk, IfErr}
+use Rattle.imago_storage.specs.State.{StorageState}
+use Rattle.imago_storage.specs.Calls.{SameOutside, Discarded}
+use Rattle.imago_storage.specs.Through.{Stops, GivenUp, NotGivenUp, HasWhole, discard_unit, whole_start, whole_size}
+use Rattle.imago_storage.specs.declared.fault.Fault.{Fault}
+use Rattle.imago_storage.specs.declared.fault.Fault.TheVariants.{RangeOverflow}
+use Rattle.imago_storage.proofs.Composing.{tells_on, keeps_on, no_stops, one_stop}
+
+module _ (old new : StorageState) (at n : ℕ) where
+  abbrev Outside : List ℕ → Type 0
+  Outside = SameOutside old.bytes (whole_start old at) (whole_size old at n)
+
+  -- nothing has changed
+  same-stops : new ≡ old → Stops Outside old new
+  same-stops same = no_stops Outside old new (ap (λ (s : StorageState). s.stop) same) (ap (λ (s : StorageState). s.past) same)
+
+  -- or one request has given up the whole units
+  one-discard : Discarded old new (whole_start old at) (whole_size old at n) → Stops Outside old new
+  one-discard discarded = one_stop Outside old new discarded.changed.mark
+      (λ in_step tells keeps. subst Outside (sym (discarded.changed.in_step in_step (tells_on old new discarded.changed.shape tells) (keeps_on old new discarded.changed.shape keeps))) (discarded.content keeps))
+
+  given-stops : GivenUp old new at n → Stops Outside old new
+  given-stops given = ⊎_elim (λ same. same-stops same) (λ done. one-discard done.1) given
+
+  refused-stops : (fault : Fault) → NotGivenUp old new at n fault → Stops Outside old new
+  refused-stops RangeOverflow refused = same-stops refused.1
+  refused-stops fault refused = no_stops Outside old new refused.1.refused.stop refused.1.refused.past
+
+  -- Whatever the answer, a stop leaves the rest as it was.
+  pub discard-stops : {T : Type 0} (result : Result T Fault) → OnOk result (GivenUp old new at n) → IfErr result (NotGivenUp old new at n) → Stops Outside old new
+  discard-stops (Ok x) ok err = given-stops ok
+  discard-stops (Err fault) ok err = refused-stops fault err

@@ -1,0 +1,82 @@
+-- The whole units of a range.
+use Rattle.std.proofs.Common.{◌≡◌, refl, ℕ, ◌+◌, ◌-◌, ◌*◌, ◌/◌, ◌%◌, ◌^◌, ◌<◌, ◌≤◌, arith, sym, ◌∙◌, ap, subst}
+use Rattle.std.specs.Prelude.{Option, Some, None}
+use Rattle.std.specs.Option.{SomeIff}
+use Rattle.std.proofs.Math.Nat.{div-mul-le_self, mul-mod_left, add-mul-mod_self_right}
+use Rattle.std.proofs.lemmas.Nat.{div-add-mod', mod-mul-add}
+use Rattle.imago_storage.specs.State.{IsWhole}
+use Rattle.imago_storage.specs.Through.{round_up, round_down, HasWhole}
+use Rattle.imago_storage.proofs.Rounding.{le_round_up}
+
+pub round_down_is : (unit n : ℕ) → round_down unit n ≡ n / unit * unit
+unfolding round_down
+round_down_is unit n = refl
+
+pub round_down-le : (unit n : ℕ) → round_down unit n ≤ n
+unfolding round_down
+round_down-le unit n = div-mul-le_self n unit
+
+pub round_down_whole : (unit n : ℕ) → round_down unit n % unit ≡ 0
+unfolding round_down
+round_down_whole unit n = mul-mod_left (n / unit) unit
+
+pub round_up_is_whole : (unit n : ℕ) → round_up unit n % unit ≡ 0
+unfolding round_up
+round_up_is_whole unit n = mul-mod_left ((n + (unit - 1)) / unit) unit
+
+-- no whole unit where the first begins past 64 bits
+pub no-start : (align at n : ℕ) → at + n < 2 ^ 64 → (round_up align (at + 0) < 2 ^ 64 → ⊥) → HasWhole align at n → ⊥
+no-start align at n fits far has =
+    let same : round_up align (at + 0) ≡ round_up align at = ap (round_up align) (let e : at + 0 ≡ at = omega arith in e) in
+    let down : round_down align (at + n) ≤ at + n = round_down-le align (at + n) in
+    far (omega (arith, same, down, has, fits))
+
+-- where it begins, and its end
+pub whole-found : (align at n start end : ℕ) → start ≡ round_up align (at + 0) → end ≡ (at + n) / align * align → start < end → HasWhole align at n × (◌≡◌ {A = ℕ × ℕ} (start, end) (round_up align at, round_down align (at + n)))
+whole-found align at n start end start-is end-is lt =
+    let first : start ≡ round_up align at = start-is ∙ ap (round_up align) (let e : at + 0 ≡ at = omega arith in e) in
+    let last : end ≡ round_down align (at + n) = end-is ∙ sym (round_down_is align (at + n)) in
+    (omega (arith, first, last, lt), ap (λ s. (s, end)) first ∙ ap (λ e. (round_up align at, e)) last)
+
+pub none-found : (align at n start : ℕ) → start ≡ round_up align (at + 0) → (at + n) / align * align ≤ start → HasWhole align at n → ⊥
+none-found align at n start start-is le has =
+    let first : start ≡ round_up align at = start-is ∙ ap (round_up align) (let e : at + 0 ≡ at = omega arith in e) in
+    let last : (at + n) / align * align ≡ round_down align (at + n) = sym (round_down_is align (at + n)) in
+    omega (arith, first, last, le, has)
+
+-- what is a multiple of an alignment is one of each that divides it
+pub whole-of : (align unit n : ℕ) → align % unit ≡ 0 → n % align ≡ 0 → n % unit ≡ 0
+whole-of align unit n divides whole =
+    let a : n ≡ n / align * align = omega (arith, div-add-mod' n align, whole) in
+    let b : align ≡ align / unit * unit = omega (arith, div-add-mod' align unit, divides) in
+    let c : n ≡ n / align * (align / unit) * unit = a ∙ (ap (λ m. n / align * m) b ∙ grind arith) in
+    ap (λ m. m % unit) c ∙ mul-mod_left (n / align * (align / unit)) unit
+
+-- the bytes between two multiples of a unit
+difference-whole : (unit a b : ℕ) → a ≤ b → a % unit ≡ 0 → b % unit ≡ 0 → (b - a) % unit ≡ 0
+difference-whole unit a b le first second =
+    let same : b - a + a / unit * unit ≡ b = omega (arith, div-add-mod' a unit, first, le) in
+    sym (add-mul-mod_self_right (b - a) (a / unit) unit) ∙ (ap (λ m. m % unit) same ∙ second)
+
+module _ (align at n : ℕ) (w : ℕ × ℕ) (positive : 0 < align) (has : HasWhole align at n) (is : w ≡ (round_up align at, round_down align (at + n))) where
+  start-is : w.0 ≡ round_up align at
+  start-is = ap (λ (p : ℕ × ℕ). p.0) is
+
+  end-is : w.1 ≡ round_down align (at + n)
+  end-is = ap (λ (p : ℕ × ℕ). p.1) is
+
+  pub whole-behind : at ≤ w.0
+  whole-behind = omega (arith, start-is, le_round_up align at positive)
+
+  pub whole-some : w.0 < w.1
+  whole-some = omega (arith, start-is, end-is, has)
+
+  pub whole-inside : w.1 ≤ at + n
+  whole-inside = omega (arith, end-is, round_down-le align (at + n))
+
+  -- They are whole units of each alignment that divides this one.
+  pub whole-units : (unit : ℕ) → align % unit ≡ 0 → at + n < 2 ^ 64 → IsWhole unit w.0 (w.1 - w.0)
+  whole-units unit divides fits =
+      let first : w.0 % unit ≡ 0 = whole-of align unit w.0 divides (ap (λ m. m % align) start-is ∙ round_up_is_whole align at) in
+      let last : w.1 % unit ≡ 0 = whole-of align unit w.1 divides (ap (λ m. m % align) end-is ∙ round_down_whole align (at + n)) in
+      record { start = first; size = difference-whole unit w.0 w.1 (omega (arith, whole-some)) first last; fits = omega (arith, whole-some, whole-inside, fits) }
