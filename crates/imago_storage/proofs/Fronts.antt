@@ -1,14 +1,14 @@
 -- Two parts of a padded call, the second before the first.
-use Rattle.std.proofs.Common.{◌≡◌, ◌⊎◌, refl, inl, inr, ⊎_elim, ℕ, ◌+◌, ◌-◌, ◌<◌, ◌≤◌, max, List, ◌∷◌, ◌++◌, length, get_or, arith, sym, ◌∙◌, ap, subst, length-append}
+use Rattle.std.proofs.Common.{◌≡◌, refl, inl, inr, ⊎_elim, ℕ, ◌+◌, ◌-◌, ◌<◌, ◌≤◌, max, List, ◌++◌, length, get_or, arith, sym, ◌∙◌, ap, subst, length-append}
 use Rattle.std.proofs.lemmas.List.{get_or_append_left, get_or-append_right}
 use Rattle.std.proofs.lemmas.List.Elements.{All-weaker}
 use Rattle.std.proofs.lemmas.Bool.{cases_eq, cases_lt}
 use Rattle.imago_storage.specs.State.{StorageState, Rose}
 use Rattle.imago_storage.specs.Calls.{Spliced, Mixed, Cause}
-use Rattle.imago_storage.specs.Through.{round_up, Stops, Through, NotThrough}
+use Rattle.imago_storage.specs.Through.{round_up, Through, NotThrough}
 use Rattle.imago_storage.specs.declared.fault.Fault.{Fault}
 use Rattle.imago_storage.proofs.Rounding.{round_up-le}
-use Rattle.imago_storage.proofs.Composing.{tells_on, keeps_on, stops_both}
+use Rattle.imago_storage.proofs.Composing.{keeps_on, stops_both}
 
 module _ (at : ℕ) (xs ys : List ℕ) where
   long : length (xs ++ ys) ≡ length xs + length ys

@@ -1,9 +1,9 @@
 -- The stops of a discard.
-use Rattle.std.proofs.Common.{◌≡◌, ◌⊎◌, inl, inr, ⊎_elim, ℕ, List, ap, sym, subst}
+use Rattle.std.proofs.Common.{◌≡◌, ⊎_elim, ℕ, List, ap, sym, subst}
 use Rattle.std.specs.Prelude.{Result, Ok, Err, OnOk, IfErr}
 use Rattle.imago_storage.specs.State.{StorageState}
 use Rattle.imago_storage.specs.Calls.{SameOutside, Discarded}
-use Rattle.imago_storage.specs.Through.{Stops, GivenUp, NotGivenUp, HasWhole, discard_unit, whole_start, whole_size}
+use Rattle.imago_storage.specs.Through.{Stops, GivenUp, NotGivenUp, whole_start, whole_size}
 use Rattle.imago_storage.specs.declared.fault.Fault.{Fault}
 use Rattle.imago_storage.specs.declared.fault.Fault.TheVariants.{RangeOverflow}
 use Rattle.imago_storage.proofs.Composing.{tells_on, keeps_on, no_stops, one_stop}

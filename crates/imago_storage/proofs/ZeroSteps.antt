@@ -1,9 +1,9 @@
 -- Zeroes written piece by piece.
-use Rattle.std.proofs.Common.{◌≡◌, refl, ℕ, zero, suc, ◌+◌, ◌-◌, ◌%◌, ◌^◌, ◌<◌, ◌≤◌, min, List, ◌++◌, length, take, replicate, get_or, ◌∷◌, arith, sym, ◌∙◌, ap, subst}
-use Rattle.std.specs.Prelude.{slice_index, max, Result, OnOk, IfErr, IsErrAnd}
+use Rattle.std.proofs.Common.{◌≡◌, refl, ℕ, ◌+◌, ◌-◌, ◌^◌, ◌<◌, ◌≤◌, List, ◌++◌, length, take, replicate, arith, sym, ◌∙◌, ap, subst}
+use Rattle.std.specs.Prelude.{slice_index, max, Result, IfErr, IsErrAnd}
 use Rattle.std.proofs.lemmas.List.{ext_get_or, length-take, get_or-take, replicate-append-replicate}
 use Rattle.imago_storage.specs.State.{StorageState, IsWhole, unit_of}
-use Rattle.imago_storage.specs.Calls.{Written, NotWritten, UnlessUnsupported}
+use Rattle.imago_storage.specs.Calls.{Written, NotWritten}
 use Rattle.imago_storage.specs.Through.{round_up, HasWhole, Through, NotThrough, NotWrittenThrough}
 use Rattle.imago_storage.specs.declared.fault.Fault.{Fault}
 use Rattle.imago_storage.specs.declared.fault.Fault.TheVariants.{Unsupported, RangeOverflow, Memory}
@@ -11,7 +11,7 @@ use Rattle.imago_storage.specs.declared.zeroing.Zeroing.{Zeroing}
 use Rattle.imago_storage.specs.declared.zeroing.Zeroing.TheVariants.{Any, Allocated}
 use Rattle.imago_storage.specs.Zeroings.{UnlessLeft, NotZeroedBy}
 use Rattle.imago_storage.proofs.Zeroes.{zero_at, length_of_zeroes}
-use Rattle.imago_storage.proofs.Rounding.{round_up_whole, round_up-le, le_round_up, sum_of_whole}
+use Rattle.imago_storage.proofs.Rounding.{round_up_whole, round_up-le, sum_of_whole}
 use Rattle.imago_storage.proofs.Calls.{whole_written, whole_refused, nothing_done}
 use Rattle.imago_storage.proofs.Parts.{through_both, not_behind, not_longer, passed}
 use Rattle.imago_storage.proofs.Fronts.{through_front, not_front, not_before}

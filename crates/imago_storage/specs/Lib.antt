@@ -10,3 +10,5 @@ pub mod Disk
 pub mod Steps
 pub mod Causes
 pub mod Zeroings
+pub mod Options
+pub mod CreateOptions

@@ -37,7 +37,11 @@ pub fn whole_part(offset: u64, n: u64, align: u64) -> Option<(u64, u64)>
 {
     let start = padded_end(offset, 0, align)?;
     let end = (offset + n) / align * align;
-    if start < end { Some((start, end)) } else { None }
+    if start < end {
+        Some((start, end))
+    } else {
+        None
+    }
 }
 
 // The unit of a storage's requests, in bytes.

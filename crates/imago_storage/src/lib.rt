@@ -13,6 +13,7 @@ mod fuse;
 mod log;
 mod memory;
 mod null;
+mod options;
 mod storage;
 mod zeroing;
 
@@ -22,6 +23,7 @@ pub use fuse::FuseStorage;
 pub use log::{LogStorage, Request, StopStorage};
 pub use memory::MemStorage;
 pub use null::Null;
+pub use options::{StorageCreateOptions, StorageOpenOptions};
 pub use storage::{PreallocateMode, Storage};
 pub use zeroing::write_full_zeroes;
 

@@ -143,7 +143,15 @@ pub fn zero_padded<S: Storage>(
     let zeroes = vec![in alloc; 0u8; piece.min(n) as usize]?;
     match whole_part(offset, n, align as u64) {
         None => write_pieces(storage, &mut buf, &zeroes, piece, offset, n),
-        Some(whole) => zero_around(storage, &mut buf, &zeroes, piece, zeroing, (offset, offset + n), whole),
+        Some(whole) => zero_around(
+            storage,
+            &mut buf,
+            &zeroes,
+            piece,
+            zeroing,
+            (offset, offset + n),
+            whole,
+        ),
     }
 }
 

@@ -1,6 +1,6 @@
 -- The whole units of the alignment of discards are a request of the storage.
-use Rattle.std.proofs.Common.{rules, arith, ◌≡◌, ◌+◌, ◌-◌, ◌<◌, ◌^◌, ℕ, subst, sym}
-use Rattle.imago_storage.specs.State.{unit_of, IsWhole}
+use Rattle.std.proofs.Common.{rules, arith, ◌+◌, ◌-◌, ◌<◌, ◌^◌, subst}
+use Rattle.imago_storage.specs.State.{IsWhole}
 use Rattle.imago_storage.specs.Through.{round_up}
 use Rattle.imago_storage.proofs.Range.{is_some_fits}
 use Rattle.imago_storage.proofs.Rounding.{le_round_up}

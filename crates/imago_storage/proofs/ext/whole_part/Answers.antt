@@ -1,4 +1,4 @@
-use Rattle.std.proofs.Common.{refl, subst, sym, ◌+◌, ℕ}
+use Rattle.std.proofs.Common.{refl, subst, sym, ◌+◌}
 use Rattle.std.specs.Option.{SomeIff}
 use Rattle.imago_storage.specs.Through.{round_up, round_down, HasWhole}
 use Rattle.imago_storage.proofs.Wholes.{no-start, whole-found, none-found}

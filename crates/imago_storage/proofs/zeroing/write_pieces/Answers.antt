@@ -1,5 +1,5 @@
 -- Each piece is written behind those before.
-use Rattle.std.proofs.Common.{rules, arith, ◌≡◌, ◌+◌, ◌≤◌, ◌<◌, ◌^◌, ℕ, length, take, subst, sym, ◌∙◌, ap}
+use Rattle.std.proofs.Common.{rules, arith, ◌≡◌, ◌+◌, ◌<◌, ◌^◌, length, take, subst, sym, ◌∙◌}
 use Rattle.imago_storage.specs.Through.{round_up, Through, NotThrough}
 use Rattle.imago_storage.proofs.ZeroSteps.{piece-fits, piece-through, piece-not}
 use Rattle.imago_storage.proofs.Rounding.{le_round_up}
@@ -19,13 +19,15 @@ returns-in_err-write_in_parts-clause-err g c =
     let s = g.S.Storage.state in
     passed c.from_residual.result _ c.in_err-write_in_parts.field-0.0 c.from_residual.ensures.1
     (piece-not (length c.args.buf.now) c.requires.positive (s c.args.storage.now) (s c.loop-done.storage) (s c.write_in_parts.new.storage) c.args.offset c.loop-done.done c.min-count.result c.args.zeroes.now c.requires.zeroes (omega (arith, c.min-count.ensures, c.requires.room)) c.loop-done.invariant.2
-      c.args.n (omega (arith, c.min-count.ensures, c.loop-done-test.true)) c.in_err-write_in_parts.field-0.0
-      (subst (λ u. NotThrough u (s c.loop-done.storage) (s c.write_in_parts.new.storage) (c.args.offset + c.loop-done.done) (take c.min-count.result c.args.zeroes.now) c.in_err-write_in_parts.field-0.0) c.loop-done.invariant.0 c.in_err-write_in_parts.ensures.err))
+    c.args.n (omega (arith, c.min-count.ensures, c.loop-done-test.true)) c.in_err-write_in_parts.field-0.0
+    (subst (λ u. NotThrough u (s c.loop-done.storage) (s c.write_in_parts.new.storage) (c.args.offset + c.loop-done.done) (take c.min-count.result c.args.zeroes.now) c.in_err-write_in_parts.field-0.0) c.loop-done.invariant.0 c.in_err-write_in_parts.ensures.err))
 
 pub loop-done-preserved : goal.loop-done-preserved
 loop-done-preserved g c =
     let s = g.S.Storage.state in
-    let long : length c.write_in_parts.new.buf ≡ length c.loop-done.buf = search rules in
-    (long ∙ c.loop-done.invariant.0, omega (arith, c.min-count.ensures, c.loop-done-test.true),
+    let long : length c.write_in_parts.new.buf ≡ length c.loop-done.buf = search rules in (
+      long ∙ c.loop-done.invariant.0,
+      omega (arith, c.min-count.ensures, c.loop-done-test.true),
       piece-through (length c.args.buf.now) c.requires.positive (s c.args.storage.now) (s c.loop-done.storage) (s c.write_in_parts.new.storage) c.args.offset c.loop-done.done c.min-count.result c.args.zeroes.now c.requires.zeroes (omega (arith, c.min-count.ensures, c.requires.room)) c.loop-done.invariant.2
-      (subst (λ u. Through u (s c.loop-done.storage) (s c.write_in_parts.new.storage) (c.args.offset + c.loop-done.done) (take c.min-count.result c.args.zeroes.now)) c.loop-done.invariant.0 c.in_ok-write_in_parts.ensures.ok))
+          (subst (λ u. Through u (s c.loop-done.storage) (s c.write_in_parts.new.storage) (c.args.offset + c.loop-done.done) (take c.min-count.result c.args.zeroes.now)) c.loop-done.invariant.0 c.in_ok-write_in_parts.ensures.ok),
+    )

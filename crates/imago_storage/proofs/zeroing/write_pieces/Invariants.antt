@@ -1,5 +1,5 @@
 -- The pieces so far are written, and the buffer still holds a unit.
-use Rattle.std.proofs.Common.{◌≡◌, ◌-◌, ◌≤◌, ℕ, length, replicate}
+use Rattle.std.proofs.Common.{◌≡◌, ◌-◌, ◌≤◌, length, replicate}
 use Rattle.imago_storage.specs.Through.{Through}
 use Rattle.imago_storage.proofs.zeroing.write_pieces.Given as goal
 

@@ -1,8 +1,8 @@
 -- One request is the bytes written.
-use Rattle.std.proofs.Common.{rules, replicate, length, ℕ, subst, sym}
+use Rattle.std.proofs.Common.{replicate, length, ℕ, subst, sym}
 use Rattle.std.specs.Prelude.{IfErr}
 use Rattle.std.proofs.lemmas.Result.{on_ok_weaker, IfErr-weaker}
-use Rattle.imago_storage.specs.Calls.{Written, NotWritten, UnlessUnsupported}
+use Rattle.imago_storage.specs.Calls.{NotWritten}
 use Rattle.imago_storage.specs.Through.{NotThrough}
 use Rattle.imago_storage.specs.Zeroings.{UnlessLeft}
 use Rattle.imago_storage.specs.declared.zeroing.Zeroing.TheVariants.{Allocated}
@@ -23,8 +23,8 @@ pub returns-in-Allocated-clause-err : goal.returns-in-Allocated-clause-err
 returns-in-Allocated-clause-err g c =
     subst (λ z. IfErr c.pure_write_allocated_zeroes.result (UnlessLeft z (g.S.Storage.state c.args.storage.now) (g.S.Storage.state c.pure_write_allocated_zeroes.new.self) (NotThrough (length c.args.buf.now) (g.S.Storage.state c.args.storage.now) (g.S.Storage.state c.pure_write_allocated_zeroes.new.self) c.args.offset (replicate {A = ℕ} c.args.n 0)))) (sym c.in-Allocated.is)
     (IfErr-weaker c.pure_write_allocated_zeroes.result _ _
-      (left-longer Allocated (g.S.Storage.state c.args.storage.now) (g.S.Storage.state c.pure_write_allocated_zeroes.new.self) _ _ (zeroes-not (length c.args.buf.now) (g.S.Storage.state c.args.storage.now) (g.S.Storage.state c.pure_write_allocated_zeroes.new.self) c.args.offset c.args.n c.requires.unit c.requires.positive c.requires.some c.requires.whole))
-      c.pure_write_allocated_zeroes.ensures.err)
+    (left-longer Allocated (g.S.Storage.state c.args.storage.now) (g.S.Storage.state c.pure_write_allocated_zeroes.new.self) _ _ (zeroes-not (length c.args.buf.now) (g.S.Storage.state c.args.storage.now) (g.S.Storage.state c.pure_write_allocated_zeroes.new.self) c.args.offset c.args.n c.requires.unit c.requires.positive c.requires.some c.requires.whole))
+    c.pure_write_allocated_zeroes.ensures.err)
 
 pub returns-in-Ok-clause-ok : goal.returns-in-Ok-clause-ok
 returns-in-Ok-clause-ok g c = zeroes-through (length c.args.buf.now) (g.S.Storage.state c.args.storage.now) (g.S.Storage.state c.pure_write_zeroes.new.self) c.args.offset c.args.n c.requires.unit c.requires.positive c.requires.some c.requires.whole c.in-Ok.ensures.ok
@@ -33,4 +33,4 @@ pub returns-in_default-clause-err : goal.returns-in_default-clause-err
 returns-in_default-clause-err g c =
     subst (λ z. UnlessLeft z (g.S.Storage.state c.args.storage.now) (g.S.Storage.state c.pure_write_zeroes.new.self) (NotThrough (length c.args.buf.now) (g.S.Storage.state c.args.storage.now) (g.S.Storage.state c.pure_write_zeroes.new.self) c.args.offset (replicate {A = ℕ} c.args.n 0)) c.in-Err.fault) (sym c.in-Any.is)
     (zeroes-not (length c.args.buf.now) (g.S.Storage.state c.args.storage.now) (g.S.Storage.state c.pure_write_zeroes.new.self) c.args.offset c.args.n c.requires.unit c.requires.positive c.requires.some c.requires.whole c.in-Err.fault
-      (otherwise-refused (g.S.Storage.state c.args.storage.now) (g.S.Storage.state c.pure_write_zeroes.new.self) (NotWritten (g.S.Storage.state c.args.storage.now) (g.S.Storage.state c.pure_write_zeroes.new.self) c.args.offset (replicate {A = ℕ} c.args.n 0)) c.in-Err.fault c.in_default.not-Unsupported c.in-Err.ensures.err))
+    (otherwise-refused (g.S.Storage.state c.args.storage.now) (g.S.Storage.state c.pure_write_zeroes.new.self) (NotWritten (g.S.Storage.state c.args.storage.now) (g.S.Storage.state c.pure_write_zeroes.new.self) c.args.offset (replicate {A = ℕ} c.args.n 0)) c.in-Err.fault c.in_default.not-Unsupported c.in-Err.ensures.err))
