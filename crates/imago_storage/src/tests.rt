@@ -10,7 +10,9 @@ use std::alloc::Global;
 use std::process::Abort;
 use std::test::Fail;
 
+mod options;
 mod passing;
+mod zeroing;
 
 // Three bytes written over the end of 4,096 bytes, padded at this alignment up to that size.
 fn padded(rt: &impl Abort, alloc: Global, align: usize, size: u64) -> Result<(), Fault>

@@ -183,7 +183,7 @@ pub fn write_full_zeroes<S: Storage>(
         return Err(Fault::RangeOverflow);
     }
     let piece = unit.max(PIECE) as u64;
-    let mut buf = vec![in alloc; 0u8; unit]?;
+    let mut block = vec![in alloc; 0u8; unit]?;
     let zeroes = vec![in alloc; 0u8; piece.min(n) as usize]?;
-    write_pieces(storage, &mut buf, &zeroes, piece, offset, n)
+    write_pieces(storage, &mut block, &zeroes, piece, offset, n)
 }
