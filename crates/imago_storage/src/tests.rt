@@ -12,6 +12,7 @@ use std::test::Fail;
 
 mod options;
 mod passing;
+mod random;
 mod zeroing;
 
 // Three bytes written over the end of 4,096 bytes, padded at this alignment up to that size.

@@ -1,0 +1,258 @@
+// Random calls of every storage, against a plain list of bytes.
+ghost use Rattle.std.specs.Prelude.{◌<◌, ◌≤◌, ◌^◌, ◌≡◌};
+ghost use Rattle.imago_storage.specs.State.{IsAlignment};
+
+use crate::{
+    Fault, FuseStorage, LogStorage, MemStorage, Null, PreallocateMode, Storage, StorageExt,
+    write_full_zeroes,
+};
+use std::alloc::Global;
+use std::process::Abort;
+use std::test::Fail;
+
+// Numbers that follow each other by a linear congruence.
+#[derive(Drop)]
+struct Random {
+    state: u64,
+}
+
+impl Random {
+    fn below(&mut self, end: u16) -> u16
+        requires { 0 < end }
+        ensures { result < end }
+    {
+        self.state = self
+            .state
+            .wrapping_mul(6_364_136_223_846_793_005)
+            .wrapping_add(1_442_695_040_888_963_407);
+        ((self.state >> 33) % u64::from(end)) as u16
+    }
+}
+
+// What a storage does with bytes.
+#[derive(Clone, Copy)]
+struct Kind {
+    unit: usize,
+    keeps: bool,
+    discards: bool,
+}
+
+// A list of bytes as a storage of this kind shows it.
+#[derive(Drop)]
+struct Model {
+    kind: Kind,
+    bytes: Vec<u8>,
+}
+
+fn rounded_up(end: usize, unit: usize) -> usize
+    requires positive { 0 < unit }
+    requires small { unit ≤ 2 ^ 20 }
+    requires few { end < 2 ^ 20 }
+{
+    let over = end % unit;
+    if over == 0 { end } else { end + (unit - over) }
+}
+
+impl Model {
+    // A range that isn't empty reaches the end of its last unit.
+    fn lengthen(&mut self, at: u16, n: u16) -> Result<(), Fault>
+        requires positive { 0 < self.old.kind.unit }
+        requires small { self.old.kind.unit ≤ 2 ^ 20 }
+        ensures { self.new.kind ≡ self.old.kind }
+    {
+        let end = rounded_up(usize::from(at) + usize::from(n), self.kind.unit);
+        if n > 0 && self.bytes.len() < end {
+            self.bytes.resize(end, 0)?;
+        }
+        Ok(())
+    }
+
+    fn write(&mut self, at: u16, data: &[u8])
+        ensures { self.new.kind ≡ self.old.kind }
+    {
+        if self.kind.keeps {
+            for (byte, new) in self.bytes.iter_mut().skip(usize::from(at)).zip(data.iter()) {
+                *byte = *new;
+            }
+        }
+    }
+
+    // What is whole units of the range, and there, is zeroed, where the storage discards.
+    fn discard(&mut self, at: u16, n: u16)
+        requires positive { 0 < self.old.kind.unit }
+        requires small { self.old.kind.unit ≤ 2 ^ 20 }
+        ensures { self.new.kind ≡ self.old.kind }
+    {
+        let unit = self.kind.unit;
+        let start = rounded_up(usize::from(at), unit);
+        let last = usize::from(at) + usize::from(n);
+        let end = last - last % unit;
+        if self.kind.discards && start < end {
+            self.zero(start, end - start);
+        }
+    }
+
+    fn zero(&mut self, at: usize, n: usize)
+        ensures { self.new.kind ≡ self.old.kind }
+    {
+        for byte in self.bytes.iter_mut().skip(at).take(n) {
+            *byte = 0;
+        }
+    }
+}
+
+// One call of the storage, and the same of the list; then a part of both is compared.
+fn call<S: Storage>(
+    rt: &impl Abort,
+    alloc: Global,
+    storage: &mut S,
+    model: &mut Model,
+    random: &mut Random,
+) -> Result<(), Fault>
+    requires positive { 0 < model.old.kind.unit }
+    requires small { model.old.kind.unit ≤ 2 ^ 20 }
+    ensures { model.new.kind ≡ model.old.kind }
+{
+    let (at, n) = (random.below(5_000), random.below(600));
+    let (offset, length) = (u64::from(at), u64::from(n));
+    match random.below(7) {
+        0 | 1 => {
+            let mut bytes = Vec::new(alloc);
+            bytes.resize(usize::from(n), 0)?;
+            for byte in bytes.iter_mut() {
+                *byte = random.below(256) as u8;
+            }
+            storage.write(alloc, &bytes, offset)?;
+            model.lengthen(at, n)?;
+            model.write(at, &bytes);
+        }
+        2 => {
+            storage.write_zeroes(alloc, offset, length)?;
+            model.lengthen(at, n)?;
+            model.zero(usize::from(at), usize::from(n));
+        }
+        3 => {
+            storage.write_allocated_zeroes(alloc, offset, length)?;
+            model.lengthen(at, n)?;
+            model.zero(usize::from(at), usize::from(n));
+        }
+        4 => {
+            write_full_zeroes(storage, alloc, offset, length)?;
+            model.lengthen(at, n)?;
+            model.zero(usize::from(at), usize::from(n));
+        }
+        5 => {
+            storage.discard(offset, length)?;
+            model.discard(at, n);
+        }
+        _ => {
+            storage.resize(offset, PreallocateMode::None)?;
+            model.bytes.resize(usize::from(at), 0)?;
+        }
+    }
+    compare(rt, alloc, storage, model, at, n)
+}
+
+fn compare<S: Storage>(
+    rt: &impl Abort,
+    alloc: Global,
+    storage: &mut S,
+    model: &Model,
+    at: u16,
+    n: u16,
+) -> Result<(), Fault> {
+    assert_eq!(rt; storage.size(), model.bytes.len() as u64);
+    let mut bytes = Vec::new(alloc);
+    bytes.resize(usize::from(n), 7u8)?;
+    storage.read(alloc, &mut bytes, u64::from(at))?;
+    let there = model.bytes.len().saturating_sub(usize::from(at));
+    for (got, want) in bytes.iter().zip(model.bytes.iter().skip(usize::from(at))) {
+        assert_eq!(rt; *got, *want);
+    }
+    for got in bytes.iter().skip(there) {
+        assert_eq!(rt; *got, 0);
+    }
+    Ok(())
+}
+
+// So many random calls of a storage that is empty.
+fn calls<S: Storage>(
+    rt: &impl Abort,
+    alloc: Global,
+    storage: &mut S,
+    kind: Kind,
+    count: u16,
+) -> Result<(), Fault>
+    requires positive { 0 < kind.unit }
+    requires small { kind.unit ≤ 2 ^ 20 }
+{
+    let mut random = Random { state: 1 };
+    let mut model = Model {
+        kind,
+        bytes: Vec::new(alloc),
+    };
+    for _ in 0..count {
+        call(rt, alloc, storage, &mut model, &mut random)?;
+    }
+    compare(rt, alloc, storage, &model, 0, 9_000)
+}
+
+fn of_memory(rt: &impl Abort, alloc: Global, unit: usize, count: u16) -> Result<(), Fault>
+    requires { IsAlignment unit }
+{
+    let kind = Kind {
+        unit,
+        keeps: true,
+        discards: true,
+    };
+    let mut memory = MemStorage::new(alloc).with_align(unit);
+    calls(rt, alloc, &mut memory, kind, count)
+}
+
+fn of_wrappers(rt: &impl Abort, alloc: Global, unit: usize, count: u16) -> Result<(), Fault>
+    requires { IsAlignment unit }
+{
+    let kind = Kind {
+        unit,
+        keeps: true,
+        discards: false,
+    };
+    let log = LogStorage::new(alloc, MemStorage::new(alloc).with_align(unit))?;
+    let mut fuse = FuseStorage::new(log, 0);
+    calls(rt, alloc, &mut fuse, kind, count)?;
+    let mut log = LogStorage::new(alloc, MemStorage::new(alloc).with_align(unit))?;
+    calls(rt, alloc, &mut log, kind, count)?;
+    let stop = log.stop_at(log.requests().len())?;
+    let now = log.into_inner().into_bytes()?;
+    assert_eq!(rt; stop.as_slice(), now.as_slice());
+    Ok(())
+}
+
+fn of_null(rt: &impl Abort, alloc: Global, count: u16) -> Result<(), Fault> {
+    let kind = Kind {
+        unit: 1,
+        keeps: false,
+        discards: false,
+    };
+    calls(rt, alloc, &mut Null::new(0), kind, count)
+}
+
+// 10,000 calls in all.
+fn of_each(rt: &impl Abort, alloc: Global) -> Result<(), Fault> {
+    for unit in [1, 8, 512, 4_096] {
+        of_memory(rt, alloc, unit, 1_040)?;
+        of_wrappers(rt, alloc, unit, 600)?;
+    }
+    of_memory(rt, alloc, 1 << 20, 40)?;
+    of_null(rt, alloc, 1_000)
+}
+
+#[test]
+fn random_calls_show_one_list_of_bytes(rt: HostRuntime) -> Result<(), Fail> {
+    let alloc = rt.alloc();
+    match of_each(&rt, alloc) {
+        Err(Fault::Memory) => of_each(&rt, alloc)?,
+        answer => answer?,
+    }
+    Ok(())
+}
