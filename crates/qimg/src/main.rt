@@ -1,4 +1,4 @@
-//! Tools over disk images: so far, a run that makes an image and writes and reads it.
+//! Tools over disk images: a checker, a plain reader, and a run that makes an image, writes and reads it.
 #![tactic(auto)]
 
 ghost use Rattle.std.specs.Prelude.{◌≡◌, IsOk, IsErr};
