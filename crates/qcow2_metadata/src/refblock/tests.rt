@@ -2,8 +2,9 @@
 //
 // Where an allocation is refused a body ends with `Fault::Memory`, and its test runs it once more.
 
-ghost use Rattle.std.specs.Prelude.{◌≡◌, ◌≤◌, OnOk, IfOk};
+ghost use Rattle.std.specs.Prelude.{◌≡◌, ◌+◌, ◌≤◌, OnOk, OnErr, IfOk, slice_index};
 ghost use Rattle.imago_storage.specs.State.{IsAlignment};
+ghost use Rattle.qcow2_metadata.specs.Blocks.{with_counter};
 ghost use Rattle.qcow2_metadata.specs.Places.{IsPlaced};
 
 use super::*;
@@ -63,8 +64,11 @@ fn write<S: Storage>(
     block.write_if_modified(alloc, image, HostCluster(cluster))
 }
 
-// The counter at an index, one higher.
-fn raise(block: &mut RefBlock, index: usize) -> Result<u64, Fault> {
+// The counter at an index, one higher. What the guard did is known of the block.
+fn raise(block: &mut RefBlock, index: usize) -> Result<u64, Fault>
+    ensures raised { OnOk result (block.new ≡ with_counter block.old index (slice_index block.old.counters index + 1)) }
+    ensures stays { OnErr result (block.new ≡ block.old) }
+{
     if index >= block.entries() {
         return Err(Fault::BadArgument);
     }

@@ -2,8 +2,9 @@
 //
 // Where an allocation is refused a body ends with `Fault::Memory`, and its test runs it once more: so each test passes
 // whichever one allocation is refused, and fails where a call gives up with memory left.
-ghost use Rattle.std.specs.Prelude.{◌≡◌, ◌≤◌, ◌<◌, length, IfOk};
+ghost use Rattle.std.specs.Prelude.{◌≡◌, ◌≤◌, ◌<◌, length, IfOk, OnOk};
 ghost use Rattle.qcow2_types.specs.Header.{layout_of};
+ghost use Rattle.qcow2_metadata.specs.Tables.{with_word};
 
 use crate::table::Table;
 use crate::{
@@ -127,7 +128,10 @@ fn zero(table: &mut L2Table, index: usize, keep: bool) -> Result<Option<(u64, u6
     }
 }
 
-fn discard(table: &mut L2Table, index: usize) -> Result<Option<(u64, u64)>, Fault> {
+// What the guard did is known of the table.
+fn discard(table: &mut L2Table, index: usize) -> Result<Option<(u64, u64)>, Fault>
+    ensures { OnOk result (table.new ≡ with_word table.old index 0) }
+{
     if index >= table.entries() {
         return Err(Fault::BadArgument);
     }
