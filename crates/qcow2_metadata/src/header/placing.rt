@@ -33,7 +33,8 @@ impl Header {
     }
 
     /// Takes over the place of a refcount table of the image, and the number of clusters that its words take, of which the last
-    /// may be filled in part. The file is not written: `write_reftable_pointer` does that.
+    /// may be filled in part: the words behind the table's, up to the end of that cluster, are those of the file. The file is not
+    /// written: `write_reftable_pointer` does that.
     pub fn set_reftable(&mut self, reftable: &RefTable)
         requires bits { reftable.now.layout.cluster_bits ≡ self.old.fields.cluster_bits }
         requires placed { IsPlacedTable reftable.now }

@@ -11,6 +11,7 @@ use std::test::Fail;
 mod contents;
 mod ends;
 mod findings;
+mod full;
 mod images;
 mod sizes;
 mod storages;
