@@ -41,7 +41,7 @@ pub record AddedUp (names merged : List Naming) (i : ℕ) : Type 0 where
   pub behind : (j : ℕ) (d : Naming) → i ≤ j → j < length names → EndsBy merged (slice_index_or names j d).cluster
 
 -- one more entry at the back of two lists that hold the same
-push-same : (a b : List Naming) (n : Naming) → SameParts a b → SameParts (a ++ n ∷ []) (b ++ n ∷ [])
+pub push-same : (a b : List Naming) (n : Naming) → SameParts a b → SameParts (a ++ n ∷ []) (b ++ n ∷ [])
 push-same a b n p = record {
   structure = λ c. named-push structure_part c b n ∙ ap (λ x. x + part_at structure_part c n) (p.structure c) ∙ sym (named-push structure_part c a n);
   mapped = λ c. named-push mapped_part c b n ∙ ap (λ x. x + part_at mapped_part c n) (p.mapped c) ∙ sym (named-push mapped_part c a n);
@@ -49,7 +49,7 @@ push-same a b n p = record {
 }
 
 -- the next entry
-next-take : (xs : List Naming) (i : ℕ) (n : Naming) → i < length xs → n ≡ slice_index_or xs i n → take (i + 1) xs ≡ take i xs ++ n ∷ []
+pub next-take : (xs : List Naming) (i : ℕ) (n : Naming) → i < length xs → n ≡ slice_index_or xs i n → take (i + 1) xs ≡ take i xs ++ n ∷ []
 next-take xs i n lt is = take_more xs i n lt ∙ ap (λ m. take i xs ++ m ∷ []) (sym is)
 
 -- so its sums fit

@@ -19,7 +19,7 @@ use Rattle.qimg.specs.declared.check.CheckFault.{CheckFault}
 use Rattle.qimg.specs.declared.check.CheckFault.TheVariants.{Header, Snapshots, External, Table, SharedTable, FalseCopied, UnderCounted, Memory, Storage}
 use Rattle.qimg.specs.declared.check.names.Naming.{Naming}
 use Rattle.qimg.specs.First.{file}
-use Rattle.qimg.specs.Names.{Adds, nothing_named, named_by, structure_part, mapped_part, copied_part}
+use Rattle.qimg.specs.Names.{Adds, SameParts, nothing_named, named_by, structure_part, mapped_part, copied_part}
 use Rattle.qimg.specs.Check.{Found, IsDamagedTable, IsOneDamaged, AreTables, sum_over}
 use Rattle.qimg.proofs.PlacesNamed.{places-step}
 use Rattle.qimg.proofs.TableNamed.{AddsTable}
@@ -165,3 +165,16 @@ module _ (old now : StorageState) (h : Fields) (before names : List Naming) (pla
 -- each place is one of a cluster, in any order
 pub placed-at : (bits : ℕ) (given places : List ℕ) (i : ℕ) → IsPermutation given places → i < length places → AreTables bits given → IsTrue (is_place bits (slice_index places i))
 placed-at bits given places i permuted inside are = All-get_or (λ place. IsTrue (is_place bits place)) places i 0 inside (All-permutation (λ place. IsTrue (is_place bits place)) given places permuted are)
+
+-- the same of another list that holds the same
+pub named-same : (old now : StorageState) (h : Fields) (before names names' : List Naming) (places : List ℕ) (times i : ℕ) → SameParts names names' → NamedTo old now h before names places times i → NamedTo old now h before names' places times i
+named-same old now h before names names' places times i same to = record {
+  kept = to.kept;
+  faults = to.faults;
+  few = to.few;
+  last = to.last;
+  structure = λ c. same.structure c ∙ to.structure c;
+  mapped = λ c. ap (λ n. n + times * of_table (file old) h (of_mapping h (meets h c)) (slice_index places i)) (same.mapped c) ∙ to.mapped c;
+  copied = λ c. ap (λ n. n + times * of_table (file old) h (of_copied h (meets h c)) (slice_index places i)) (same.copied c) ∙ to.copied c;
+  sound = to.sound;
+}

@@ -1,5 +1,5 @@
 -- How often each cluster is named, as the checker keeps it: a list of entries, which for each cluster are summed.
-use Rattle.std.specs.Prelude.{◌≡◌, ℕ, ◌+◌, ◌*◌, ◌<◌, ◌≤◌, Bool, ◌&&◌, not, ◌==◌, nat_lt, nat_le, if◌then◌else◌, List, length, slice_index_or}
+use Rattle.std.specs.Prelude.{◌≡◌, ℕ, ◌+◌, ◌*◌, ◌<◌, ◌≤◌, ◌^◌, Bool, ◌&&◌, not, ◌==◌, nat_lt, nat_le, if◌then◌else◌, List, length, slice_index_or}
 use Rattle.std.specs.List.{sum_by}
 use Rattle.qcow2_types.specs.Header.{Fields}
 use Rattle.qcow2_types.specs.References.{Weight, meets}
@@ -67,6 +67,12 @@ pub record Fits (names : List Naming) (n : Naming) : Type 0 where
   pub structure : named_by structure_part n.cluster names + n.structure < 0x8000_0000_0000_0000
   pub mapped : named_by mapped_part n.cluster names + n.mapped < 0x8000_0000_0000_0000
   pub copied : named_by copied_part n.cluster names + n.copied < 0x8000_0000_0000_0000
+
+-- each number of an entry is small enough that the sum of two fits 64 bits
+pub record HasSmallParts (n : Naming) : Type 0 where
+  pub structure : n.structure < 2 ^ 63
+  pub mapped : n.mapped < 2 ^ 63
+  pub copied : n.copied < 2 ^ 63
 
 -- how often a list names cluster c
 unfoldable pub named : List Naming → ℕ → ℕ

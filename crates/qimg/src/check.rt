@@ -144,7 +144,7 @@ fn names_of<S: Storage>(
     ensures faults { OnOk result ((S.state image.new).faults ≡ (S.state image.old).faults) }
 {
     let mut names = Vec::new(alloc);
-    name_structure(&mut names, header, &places)?;
+    name_structure(alloc, &mut names, header, &places)?;
     let Places { tables, blocks } = places;
     name_contents(alloc, image, header, tables, &mut names)?;
     Ok((add_up(alloc, names)?, blocks))

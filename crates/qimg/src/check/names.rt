@@ -1,8 +1,8 @@
 // How often each host cluster is named.
-ghost use Rattle.std.specs.Prelude.{◌≡◌, ℕ, ◌+◌, ◌*◌, ◌<◌, ◌≤◌, ◌^◌, ◌++◌, [], ◌∷◌, OnOk, IfOk, IsOkUnless, MatchOption};
+ghost use Rattle.std.specs.Prelude.{◌≡◌, ℕ, ◌+◌, ◌*◌, ◌<◌, ◌≤◌, ◌^◌, ◌++◌, [], ◌∷◌, IsTrue, OnOk, IfOk, IsOkUnless, MatchOption};
 ghost use Rattle.std.specs.List.Sorted.{IsNonDecreasingBy};
 ghost use Rattle.qcow2_types.specs.Consistency.{Nowhere, IsLeast};
-ghost use Rattle.qimg.specs.Names.{Adds, AddsClusters, EndsBy, Fits, SameParts, IsRising, IsFew, named as named_of, is_shared, is_false};
+ghost use Rattle.qimg.specs.Names.{Adds, AddsClusters, EndsBy, Fits, SameParts, HasSmallParts, IsRising, IsFew, named as named_of, is_shared, is_false};
 
 use super::CheckFault;
 use qcow2_metadata::Header;
@@ -108,6 +108,70 @@ pub fn add_up(alloc: Global, mut names: Vec<Naming>) -> Result<Vec<Naming>, Chec
         merge(&mut merged, names[i])?;
     }
     Ok(merged)
+}
+
+/// Whether each number of an entry is below 2^63, so that the sum of two such fits.
+fn is_small(naming: &Naming) -> bool
+    ensures { IsTrue result → HasSmallParts naming.now }
+{
+    let end = 1 << 63;
+    naming.structure < end && naming.mapped < end && naming.copied < end
+}
+
+/// Adds the entry to the last one, if that is for its cluster and the sums fit, or puts it behind it.
+fn join(joined: &mut Vec<Naming>, naming: Naming) -> Result<(), CheckFault>
+    ensures same { OnOk result (SameParts (joined.old.items ++ naming ∷ []) joined.new.items) }
+    ensures err { IsOkUnless result CheckFault.Memory }
+{
+    let count = joined.len();
+    if count > 0 && joined[count - 1].cluster == naming.cluster {
+        let before = joined[count - 1];
+        if is_small(&before) && is_small(&naming) {
+            joined[count - 1] = Naming {
+                cluster: naming.cluster,
+                structure: before.structure + naming.structure,
+                mapped: before.mapped + naming.mapped,
+                copied: before.copied + naming.copied,
+            };
+            return Ok(());
+        }
+    }
+    joined.push(naming)?;
+    Ok(())
+}
+
+/// Sorts the entries by cluster, and adds up those of one cluster as far as their sums fit.
+fn compact(alloc: Global, mut names: Vec<Naming>) -> Result<Vec<Naming>, CheckFault>
+    ensures same { IfOk result (λ compacted. SameParts names.items compacted.items) }
+    ensures err { IsOkUnless result CheckFault.Memory }
+{
+    names.sort_unstable_by_key(|naming| naming.cluster);
+    let mut joined = Vec::new(alloc);
+    for i in 0..names.len() {
+        join(&mut joined, names[i])?;
+    }
+    Ok(joined)
+}
+
+/// How many entries are kept at least before they are added up once more.
+const FEW: usize = 4_096;
+
+/// Adds the entries up where they are more than twice as many as when they were last added up. So what is kept are a few numbers for
+/// each cluster that is named, however often it is.
+pub fn compact_where_grown(
+    alloc: Global,
+    names: &mut Vec<Naming>,
+    last: &mut usize,
+) -> Result<(), CheckFault>
+    ensures same { OnOk result (SameParts names.old.items names.new.items) }
+    ensures err { IsOkUnless result CheckFault.Memory }
+{
+    if names.len() / 2 > (*last).max(FEW) {
+        let all = std::mem::replace(names, Vec::new(alloc));
+        *names = compact(alloc, all)?;
+        *last = names.len();
+    }
+    Ok(())
 }
 
 /// How often the entries name a cluster.

@@ -11,7 +11,7 @@ ghost use Rattle.qimg.specs.First.{file};
 ghost use Rattle.qimg.specs.Names.{Adds, nothing_named};
 ghost use Rattle.qimg.specs.Check.{tables_of, sum_over, structure_over, words_over, AreTables, IsBlocks, HoldsPlaces, Found, IsUnsound, IsDamagedTable, IsOneDamaged};
 
-use super::names::{Naming, Times, name_range};
+use super::names::{Naming, Times, compact_where_grown, name_range};
 use super::{CheckFault, table_fault};
 use imago_storage::Storage;
 use qcow2_metadata::{Header, L1Table, L2Mapping, L2Table, RefTable, Table};
@@ -128,15 +128,22 @@ pub fn places_of<S: Storage>(
 }
 
 /// Enters the clusters at these places, as parts of the structure. A place of 0 is none.
-fn name_places(names: &mut Vec<Naming>, header: &Header, places: &[u64]) -> Result<(), CheckFault>
+fn name_places(
+    alloc: Global,
+    names: &mut Vec<Naming>,
+    header: &Header,
+    places: &[u64],
+) -> Result<(), CheckFault>
     requires { (i : ℕ) → slice_index places.now i ≤ max_offset }
     ensures ok { OnOk result (Adds header.now.fields names.old.items names.new.items (λ w. sum_over (of_cluster header.now.fields w) places.now) nothing_named nothing_named) }
     ensures err { IsOkUnless result CheckFault.Memory }
 {
     let size = header.cluster_size() as u64;
+    let mut last = 0;
     for i in 0..places.len() {
         if places[i] != 0 {
             name_range(names, header, places[i], size, STRUCTURE)?;
+            compact_where_grown(alloc, names, &mut last)?;
         }
     }
     Ok(())
@@ -161,6 +168,7 @@ fn name_start(names: &mut Vec<Naming>, header: &Header) -> Result<(), CheckFault
 
 /// Enters the structure of the image.
 pub fn name_structure(
+    alloc: Global,
     names: &mut Vec<Naming>,
     header: &Header,
     places: &Places,
@@ -173,8 +181,8 @@ pub fn name_structure(
     ensures err { IsOkUnless result CheckFault.Memory }
 {
     name_start(names, header)?;
-    name_places(names, header, &places.blocks)?;
-    name_places(names, header, &places.tables)
+    name_places(alloc, names, header, &places.blocks)?;
+    name_places(alloc, names, header, &places.tables)
 }
 
 /// Enters what a word of an L2 table names, so often.
@@ -298,11 +306,13 @@ pub fn name_contents<S: Storage>(
     ensures faults { OnOk result ((S.state image.new).faults ≡ (S.state image.old).faults) }
 {
     places.sort_unstable();
+    let mut last = 0;
     let mut times = 0;
     for i in 0..places.len() {
         times += 1;
         if i + 1 == places.len() || places[i + 1] != places[i] {
             name_table(alloc, image, header, places[i], times, names)?;
+            compact_where_grown(alloc, names, &mut last)?;
             times = 0;
         }
     }

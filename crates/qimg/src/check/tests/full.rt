@@ -52,3 +52,49 @@ fn a_full_table_is_checked(rt: HostRuntime) -> Result<(), Fail> {
     }
     Ok(())
 }
+
+// Two full L2 tables in clusters 4 and 6, of clusters of 64 KiB: each of their 16,384 words names cluster 5, which is counted so
+// often.
+fn one_cluster(alloc: Global, count: u64) -> Result<MemStorage, Fault> {
+    let shape = Shape {
+        cluster_bits: 16,
+        l1_offset: 0x3_0000,
+        refcount_table_offset: 0x1_0000,
+        ..SMALL
+    };
+    let words = [
+        (0x1_0000, 0x2_0000),
+        (0x3_0000, COPIED | 0x4_0000),
+        (0x3_0008, COPIED | 0x6_0000),
+        (0x2_0000, 0x0001_0001_0001_0001),
+        (0x2_0008, 1 << 48 | count << 32 | 1 << 16),
+    ];
+    let mut image = image_of(alloc, shape, &words)?;
+    for word in 0..8_192u64 {
+        image.write(alloc, &0x5_0000u64.to_be_bytes(), 0x4_0000 + 8 * word)?;
+        image.write(alloc, &0x5_0000u64.to_be_bytes(), 0x6_0000 + 8 * word)?;
+    }
+    Ok(image)
+}
+
+fn references_to_one(rt: &impl Abort, alloc: Global) -> Result<(), Fault> {
+    leaks_in(rt, alloc, one_cluster(alloc, 16_384)?, &[])?;
+    leaks_in(rt, alloc, one_cluster(alloc, 16_387)?, &[(5, 3)])?;
+    finds_in(
+        rt,
+        alloc,
+        one_cluster(alloc, 16_383)?,
+        CheckFault::UnderCounted(5),
+    )?;
+    Ok(())
+}
+
+#[test]
+fn many_references_to_one_cluster_are_added_up(rt: HostRuntime) -> Result<(), Fail> {
+    let alloc = rt.alloc();
+    match references_to_one(&rt, alloc) {
+        Err(Fault::Memory) => references_to_one(&rt, alloc)?,
+        answer => answer?,
+    }
+    Ok(())
+}

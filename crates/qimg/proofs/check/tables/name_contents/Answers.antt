@@ -5,9 +5,9 @@ use Rattle.std.proofs.lemmas.Result.{err_from_is_err_and}
 use Rattle.qcow2_types.specs.Words.{is_place}
 use Rattle.qimg.specs.First.{file}
 use Rattle.qimg.specs.Check.{Found, IsDamagedTable}
-use Rattle.qimg.proofs.ContentsNamed.{named-now, named-later, named-all, all-sound, one-damaged, placed-at}
+use Rattle.qimg.proofs.ContentsNamed.{named-now, named-same, named-later, named-all, all-sound, one-damaged, placed-at}
 use Rattle.qimg.proofs.check.tables.name_contents.Goals as goal
-use Rattle.qimg.proofs.check.tables.name_contents.Goals.{then-i-len+in_ok-name_table, else-i-len+else-index}
+use Rattle.qimg.proofs.check.tables.name_contents.Goals.{then-i-len+in_ok-name_table+in_ok-compact_where_grown, else-i-len+else-index}
 
 -- a place as it is read
 read : (places : List ℕ) (i place : ℕ) → i < length places → place ≡ get_or places i place → place ≡ slice_index places i
@@ -36,10 +36,11 @@ loop-i-preserved g c =
     let now = g.S.Storage.state c.loop-i.image in
     let inside : c.loop-i.i < length c.sort_unstable.new.self.items = omega (arith, c.len-i-end.ensures, c.loop-i-test.true) in
     elim c.if-i-len.branch [
-      | then-i-len+in_ok-name_table w ↦
+      | then-i-len+in_ok-name_table+in_ok-compact_where_grown w ↦
           let here : w.index-then-i-len.result.now ≡ slice_index c.sort_unstable.new.self.items c.loop-i.i = read c.sort_unstable.new.self.items c.loop-i.i w.index-then-i-len.result.now inside w.index-then-i-len.ensures in
-          rw (w.times-is, w.image-is, w.names-is) (named-now old now c.args.header.now.fields c.args.names.now.items c.loop-i.names.items c.sort_unstable.new.self.items c.loop-i.times c.loop-i.i c.loop-i.invariant
-          (g.S.Storage.state w.name_table.new.image) w.name_table.new.names.items inside w.in_ok-name_table.ensures.kept w.in_ok-name_table.ensures.faults (rw (← here) w.in_ok-name_table.ensures.ok) (rw (← here) w.in_ok-name_table.ensures.sound))
+          rw (w.times-is, w.image-is, w.names-is) (named-same old (g.S.Storage.state w.name_table.new.image) c.args.header.now.fields c.args.names.now.items w.name_table.new.names.items w.compact_where_grown.new.names.items c.sort_unstable.new.self.items 0 (c.loop-i.i + 1) w.in_ok-compact_where_grown.ensures.same
+          (named-now old now c.args.header.now.fields c.args.names.now.items c.loop-i.names.items c.sort_unstable.new.self.items c.loop-i.times c.loop-i.i c.loop-i.invariant
+          (g.S.Storage.state w.name_table.new.image) w.name_table.new.names.items inside w.in_ok-name_table.ensures.kept w.in_ok-name_table.ensures.faults (rw (← here) w.in_ok-name_table.ensures.ok) (rw (← here) w.in_ok-name_table.ensures.sound)))
       | else-i-len+else-index w ↦
           let next : c.loop-i.i + 1 < length c.sort_unstable.new.self.items = omega (arith, inside, c.len.ensures, w.if-i-len.false) in
           let here : w.index-else-i-len.result.now ≡ slice_index c.sort_unstable.new.self.items c.loop-i.i = read c.sort_unstable.new.self.items c.loop-i.i w.index-else-i-len.result.now inside w.index-else-i-len.ensures in
