@@ -1,5 +1,5 @@
 -- What a storage with a fuse is: the inner one, with more faults and refusals.
-use Rattle.std.specs.Prelude.{◌≡◌, ◌≢◌, ℕ, ◌+◌, ◌-◌, ◌^◌, min, Result, IsErrOf}
+use Rattle.std.specs.Prelude.{◌≡◌, ◌≢◌, ℕ, ◌+◌, ◌-◌, ◌^◌, min, IsTrue, Result, IsErrOf}
 use Rattle.imago_storage.specs.State.{StorageState}
 use Rattle.imago_storage.specs.declared.fault.Fault.{Fault}
 use Rattle.imago_storage.specs.declared.fault.Fault.TheVariants.{Storage}
@@ -31,6 +31,11 @@ fuse_state state f = record {
   stop = (state f.inner).stop;
   past = (state f.inner).past;
 }
+
+-- it tells its stops where the inner one does
+pub fuse_tells : {S : Type 0} (state : S → StorageState) → ((s : S) → IsTrue (state s).shape.tells) → (f : FuseStorage S) → IsTrue (fuse_state state f).shape.tells
+unfolding fuse_state
+fuse_tells state tells f = tells f.inner
 
 -- a counted call: the one whose number is the fuse's fails and passes nothing on, and no other does
 pub record Counted {S T : Type 0} (old new : FuseStorage S) (result : Result T Fault) : Type 0 where

@@ -3,7 +3,7 @@ ghost use Rattle.std.specs.Prelude.{◌≡◌, ◌≢◌, ◌+◌, ◌^◌, ◌-
 ghost use Rattle.imago_storage.specs.State.{Rose, IsWhole, unit_of};
 ghost use Rattle.imago_storage.specs.Calls.{Reads, Kept, Later, RequestsOne, CountsFaults, Written, NotWritten, Discarded, NotDiscarded, Resized, NotResized, UnlessUnsupported};
 
-use crate::{Fault, PreallocateMode, Storage};
+use crate::{Fault, PreallocateMode, StopStorage, Storage};
 use std::alloc::Global;
 
 /// A storage that passes calls on to another, but for one call that fails: for tests of what a fault leaves.
@@ -231,5 +231,16 @@ impl<S: Storage> Storage for FuseStorage<S> {
 
     fn invalidate_cache(&mut self) -> Result<(), Fault> {
         self.inner.invalidate_cache()
+    }
+}
+
+#[tactic(auto, unfolding(crate::specs::Fuse::fuse_state, crate::specs::Fuse::fuse_inner))]
+impl<S: StopStorage> StopStorage for FuseStorage<S> {
+    ghost use Rattle.imago_storage.specs.Fuse.{fuse_tells};
+
+    ghost tells = { λ s. fuse_tells S.state S.tells s };
+
+    fn mark(&self) -> usize {
+        self.inner.mark()
     }
 }

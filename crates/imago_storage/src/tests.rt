@@ -129,6 +129,7 @@ fn calls_of_wrappers(rt: &impl Abort, alloc: Global) -> Result<(), Fault> {
     let mut storage = FuseStorage::new(log, 9);
     each_call(rt, alloc, &mut storage, Err(Fault::Unsupported))?;
     assert_eq!(rt; storage.count(), 8);
+    assert_eq!(rt; storage.mark(), 4);
     let blown = storage.resize(0, PreallocateMode::Zero);
     assert_eq!(rt; blown, Err(Fault::Storage));
     assert_eq!(rt; storage.size(), 10);

@@ -3,7 +3,9 @@ ghost use Rattle.std.specs.Prelude.{◌≡◌};
 ghost use Rattle.imago_storage.specs.State.{unit_of};
 ghost use Rattle.imago_storage.specs.Null.{null_state, zeroes};
 
-use crate::{Fault, FuseStorage, LogStorage, Null, PreallocateMode, Storage};
+use crate::{
+    Fault, FuseStorage, LogStorage, Null, PreallocateMode, Storage, StorageExt, write_full_zeroes,
+};
 use std::alloc::Global;
 use std::cell::Cell;
 use std::process::Abort;
@@ -206,6 +208,35 @@ fn a_fuse_passes_each_call_as_it_is(rt: HostRuntime) -> Result<(), Fail> {
     let alloc = rt.alloc();
     match fuse_passes(&rt, alloc) {
         Err(Fault::Memory) => fuse_passes(&rt, alloc)?,
+        answer => answer?,
+    }
+    Ok(())
+}
+
+// The whole units of a range are zeroed or discarded by the call of that kind.
+fn kinds_are_asked_for(rt: &impl Abort, alloc: Global) -> Result<(), Fault> {
+    let nothing = Called::Nothing;
+    let note = Cell::new(nothing);
+    let mut storage = Recorder::new(&note);
+    let (offset, length) = (3, 10);
+    storage.write_zeroes(alloc, offset, length)?;
+    assert_eq!(rt; note.replace(nothing), Called::Zeroes { offset, length });
+    storage.write_allocated_zeroes(alloc, offset, length)?;
+    let want = Called::AllocatedZeroes { offset, length };
+    assert_eq!(rt; note.replace(nothing), want);
+    storage.discard(offset, length)?;
+    assert_eq!(rt; note.replace(nothing), Called::Discard { offset, length });
+    write_full_zeroes(&mut storage, alloc, offset, length)?;
+    let want = Called::Write { offset, length: 10 };
+    assert_eq!(rt; note.replace(nothing), want);
+    Ok(())
+}
+
+#[test]
+fn zeroing_and_discards_ask_for_the_call_of_their_kind(rt: HostRuntime) -> Result<(), Fail> {
+    let alloc = rt.alloc();
+    match kinds_are_asked_for(&rt, alloc) {
+        Err(Fault::Memory) => kinds_are_asked_for(&rt, alloc)?,
         answer => answer?,
     }
     Ok(())

@@ -215,19 +215,45 @@ fn asked_in_pieces(rt: &impl Abort, alloc: Global) -> Result<(), Fault> {
     ];
     assert_requests(rt, &log, &want);
     assert_eq!(rt; log.size(), 200_192);
+    // pieces end at their multiples
+    let mut log = LogStorage::new(alloc, MemStorage::new(alloc).with_align(512))?;
+    write_full_zeroes(&mut log, alloc, 100, 140_000)?;
+    let want = [
+        (0, 512, false),
+        (512, 65_024, false),
+        (65_536, 65_536, false),
+        (131_072, 8_704, false),
+        (139_776, 512, false),
+    ];
+    assert_requests(rt, &log, &want);
     Ok(())
 }
 
-fn asked_both(rt: &impl Abort, alloc: Global) -> Result<(), Fault> {
+// A piece is a unit where that is larger.
+fn asked_in_units(rt: &impl Abort, alloc: Global) -> Result<(), Fault> {
+    let mut log = LogStorage::new(alloc, MemStorage::new(alloc).with_align(1 << 20))?;
+    write_full_zeroes(&mut log, alloc, 0, 2 << 20)?;
+    log.write_zeroes(alloc, 1 << 20, 1 << 20)?;
+    let want = [
+        (0, 1 << 20, false),
+        (1 << 20, 1 << 20, false),
+        (1 << 20, 1 << 20, true),
+    ];
+    assert_requests(rt, &log, &want);
+    Ok(())
+}
+
+fn asked_each(rt: &impl Abort, alloc: Global) -> Result<(), Fault> {
     asked(rt, alloc)?;
-    asked_in_pieces(rt, alloc)
+    asked_in_pieces(rt, alloc)?;
+    asked_in_units(rt, alloc)
 }
 
 #[test]
 fn zeroing_asks_for_whole_units(rt: HostRuntime) -> Result<(), Fail> {
     let alloc = rt.alloc();
-    match asked_both(&rt, alloc) {
-        Err(Fault::Memory) => asked_both(&rt, alloc)?,
+    match asked_each(&rt, alloc) {
+        Err(Fault::Memory) => asked_each(&rt, alloc)?,
         answer => answer?,
     }
     Ok(())
