@@ -507,7 +507,32 @@ fn write_in_step(
     in_step(rt, alloc, log)
 }
 
-// Writes of one, three, one, two and one requests.
+// The same of zeroes over whole units, of which the storage is asked by one request.
+fn zeroes_in_step(
+    rt: &impl Abort,
+    alloc: Global,
+    log: &mut LogStorage<MemStorage>,
+    offset: u64,
+) -> Result<(), Fault> {
+    match log.write_zeroes(alloc, offset, 4) {
+        Err(Fault::Memory) => {
+            in_step(rt, alloc, log)?;
+            log.write_zeroes(alloc, offset, 4)?;
+        }
+        answer => answer?,
+    }
+    in_step(rt, alloc, log)?;
+    match log.write_allocated_zeroes(alloc, offset, 4) {
+        Err(Fault::Memory) => {
+            in_step(rt, alloc, log)?;
+            log.write_allocated_zeroes(alloc, offset, 4)?;
+        }
+        answer => answer?,
+    }
+    in_step(rt, alloc, log)
+}
+
+// Writes of one, three, one, two and one requests, and zeroes.
 fn refused_and_in_step(rt: &impl Abort, alloc: Global) -> Result<(), Fault> {
     let memory = MemStorage::from_bytes([9u8; 3].to_vec(alloc)?)?.with_align(4);
     let mut log = LogStorage::new(alloc, memory)?;
@@ -516,8 +541,10 @@ fn refused_and_in_step(rt: &impl Abort, alloc: Global) -> Result<(), Fault> {
     write_in_step(rt, alloc, &mut log, &[3; 4], 4)?;
     write_in_step(rt, alloc, &mut log, &[4; 2], 11)?;
     write_in_step(rt, alloc, &mut log, &[5], 0)?;
+    zeroes_in_step(rt, alloc, &mut log, 4)?;
+    zeroes_in_step(rt, alloc, &mut log, 12)?;
     let file = log.into_inner().into_bytes()?;
-    let want = [5, 1, 9, 2, 3, 3, 3, 3, 2, 0, 0, 4, 4, 0, 0, 0];
+    let want = [5, 1, 9, 2, 0, 0, 0, 0, 2, 0, 0, 4, 0, 0, 0, 0];
     assert_eq!(rt; file.as_slice(), want.as_slice());
     Ok(())
 }

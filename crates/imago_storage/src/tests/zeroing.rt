@@ -364,12 +364,13 @@ fn ranges_reach_the_greatest_end(rt: HostRuntime) -> Result<(), Fail> {
     Ok(())
 }
 
-// The nth call below fails: each byte of the range is old or 0 then, and none outside has changed.
-fn failing(rt: &impl Abort, alloc: Global, call: Call, n: u64) -> Result<(), Fault> {
+// Whether the nth call below fails: each byte of the range is old or 0 then, and none outside has changed.
+fn failing(rt: &impl Abort, alloc: Global, call: Call, n: u64) -> Result<bool, Fault> {
     let mut storage = FuseStorage::new(filled(alloc, 512)?, n);
     match zero(&mut storage, alloc, call, 100, 9_000) {
         Err(Fault::Storage) => {}
-        answer => return answer,
+        Err(fault) => return Err(fault),
+        Ok(()) => return Ok(false),
     }
     let mut bytes = Vec::new(alloc);
     bytes.resize(10_000, 7u8)?;
@@ -379,15 +380,24 @@ fn failing(rt: &impl Abort, alloc: Global, call: Call, n: u64) -> Result<(), Fau
         assert!(rt; *byte == 0xaa || (inside && *byte == 0), "at {i}");
     }
     zero(&mut storage, alloc, call, 100, 9_000)?;
-    assert_zeroed(rt, alloc, &mut storage, 10_000)
+    assert_zeroed(rt, alloc, &mut storage, 10_000)?;
+    Ok(true)
 }
 
 // The whole units, then a read and a write of each edge: five calls.
 fn failing_each(rt: &impl Abort, alloc: Global) -> Result<(), Fault> {
     for call in CALLS {
         for n in 1..7 {
-            failing(rt, alloc, call, n)?;
+            assert_eq!(rt; failing(rt, alloc, call, n)?, n < 6, "at {n}");
         }
+    }
+    let mut storage = FuseStorage::new(filled(alloc, 512)?, 1);
+    assert_eq!(rt; storage.discard(100, 2_000), Err(Fault::Storage));
+    let mut bytes = Vec::new(alloc);
+    bytes.resize(10_000, 7u8)?;
+    storage.read(alloc, &mut bytes, 0)?;
+    for (i, byte) in bytes.iter().enumerate() {
+        assert!(rt; *byte == 0xaa || (i >= 512 && i < 2_048), "at {i}");
     }
     Ok(())
 }
@@ -398,6 +408,23 @@ fn a_storage_that_fails_leaves_old_bytes_or_zeroes(rt: HostRuntime) -> Result<()
     match failing_each(&rt, alloc) {
         Err(Fault::Memory) => failing_each(&rt, alloc)?,
         answer => answer?,
+    }
+    Ok(())
+}
+
+// Where there is no room for the buffers, nothing was asked.
+#[test]
+fn zeroing_without_room_asks_nothing(rt: HostRuntime) -> Result<(), Fail> {
+    let alloc = rt.alloc();
+    for call in CALLS {
+        let Ok(memory) = filled(alloc, 4) else {
+            return Ok(())
+        };
+        let mut storage = FuseStorage::new(memory, 0);
+        match zero(&mut storage, alloc, call, 1, 20) {
+            Err(Fault::Memory) => assert_eq!(rt; storage.count(), 0),
+            answer => answer?,
+        }
     }
     Ok(())
 }
