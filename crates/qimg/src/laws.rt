@@ -8,7 +8,8 @@ ghost use Rattle.qimg.specs.Opened.{Opened, IsLive, Steps};
 ghost use Rattle.qimg.specs.Plain.{SeenFile, IsPlainRead};
 
 /// A plain read and a read of a disk over the same bytes agree: where `plain_read` of one file and `Disk::read` of as many bytes
-/// from the same offset on both succeed, the buffers are equal.
+/// from the same offset on both succeed, the buffers are equal. The disk is one that was opened over a consistent image in a storage
+/// that keeps what is written.
 pub fn plain_reads_agree_with_the_disk()
     ensures { (disk new : Opened) (H : Header) (top : SeenFile) (offset : ℕ) (plain buffer : List ℕ) → IsLive disk H → file top.state ≡ file disk.state
         → IsPlainRead (top ∷ []) offset plain → Steps disk new (read offset (length plain)) (bytes_read buffer) → plain ≡ buffer }
