@@ -157,7 +157,8 @@ fn compact(alloc: Global, mut names: Vec<Naming>) -> Result<Vec<Naming>, CheckFa
 const FEW: usize = 4_096;
 
 /// Adds the entries up where they are more than twice as many as when they were last added up. So what is kept are a few numbers for
-/// each cluster that is named, however often it is.
+/// each cluster that is named, however often it is. `CheckFault::Memory` comes where there is no room for that; the entries are gone
+/// then.
 pub fn compact_where_grown(
     alloc: Global,
     names: &mut Vec<Naming>,

@@ -53,8 +53,8 @@ fn a_full_table_is_checked(rt: HostRuntime) -> Result<(), Fail> {
     Ok(())
 }
 
-// Two full L2 tables in clusters 4 and 6, of clusters of 64 KiB: each of their 16,384 words names cluster 5, which is counted so
-// often.
+// Two full L2 tables in clusters 4 and 6, of clusters of 64 KiB: each of their words, 16,384 in all, names cluster 5, which is
+// counted so often.
 fn one_cluster(alloc: Global, count: u64) -> Result<MemStorage, Fault> {
     let shape = Shape {
         cluster_bits: 16,
