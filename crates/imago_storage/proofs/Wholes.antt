@@ -3,8 +3,8 @@ use Rattle.std.proofs.Common.{◌≡◌, refl, ℕ, ◌+◌, ◌-◌, ◌*◌, �
 use Rattle.std.proofs.Math.Nat.{div-mul-le_self, mul-mod_left, add-mul-mod_self_right}
 use Rattle.std.proofs.lemmas.Nat.{div-add-mod'}
 use Rattle.imago_storage.specs.State.{IsWhole}
-use Rattle.imago_storage.specs.Through.{round_up, round_down, HasWhole}
-use Rattle.imago_storage.proofs.Rounding.{le_round_up}
+use Rattle.imago_storage.specs.Through.{round_up, round_down, HasWhole, IsUnits}
+use Rattle.imago_storage.proofs.Rounding.{le_round_up, round_up_whole, sum_of_whole}
 
 pub round_down_is : (unit n : ℕ) → round_down unit n ≡ n / unit * unit
 unfolding round_down
@@ -78,3 +78,17 @@ module _ (align at n : ℕ) (w : ℕ × ℕ) (positive : 0 < align) (has : HasWh
       let first : w.0 % unit ≡ 0 = whole-of align unit w.0 divides (ap (λ m. m % align) start-is ∙ round_up_is_whole align at) in
       let last : w.1 % unit ≡ 0 = whole-of align unit w.1 divides (ap (λ m. m % align) end-is ∙ round_down_whole align (at + n)) in
       record { start = first; size = difference-whole unit w.0 w.1 (omega (arith, whole-some)) first last; fits = omega (arith, whole-some, whole-inside, fits) }
+
+-- a range of whole units, which isn't empty, has no other part
+module _ (align at n : ℕ) (positive : 0 < align) (some : 0 < n) (units : IsUnits align at n) where
+  units-start : round_up align at ≡ at
+  units-start = round_up_whole align at positive units.0
+
+  units-end : round_down align (at + n) ≡ at + n
+  units-end = round_down_is align (at + n) ∙ (let e : (at + n) / align * align ≡ at + n = omega (arith, div-add-mod' (at + n) align, sum_of_whole align at n positive units.0 units.1) in e)
+
+  pub units-has : HasWhole align at n
+  units-has = omega (arith, units-start, units-end, some)
+
+  pub units-all : (w : ℕ × ℕ) → w ≡ (round_up align at, round_down align (at + n)) → (at, at + n) ≡ w
+  units-all w is = sym (is ∙ (ap (λ s. (s, round_down align (at + n))) units-start ∙ ap (λ e. (at, e)) units-end))

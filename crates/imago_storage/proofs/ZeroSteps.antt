@@ -1,10 +1,10 @@
 -- Zeroes written piece by piece.
 use Rattle.std.proofs.Common.{◌≡◌, refl, ℕ, ◌+◌, ◌-◌, ◌^◌, ◌<◌, ◌≤◌, List, ◌++◌, length, take, replicate, arith, sym, ◌∙◌, ap, subst}
-use Rattle.std.specs.Prelude.{slice_index, max, Result, IfErr, IsErrAnd}
+use Rattle.std.specs.Prelude.{slice_index, max, Result, Ok, Err, IfErr, IsErrAnd}
 use Rattle.std.proofs.lemmas.List.{ext_get_or, length-take, get_or-take, replicate-append-replicate}
 use Rattle.imago_storage.specs.State.{StorageState, IsWhole, unit_of}
-use Rattle.imago_storage.specs.Calls.{Written, NotWritten}
-use Rattle.imago_storage.specs.Through.{round_up, HasWhole, Through, NotThrough, NotWrittenThrough}
+use Rattle.imago_storage.specs.Calls.{Written, NotWritten, RequestsOne}
+use Rattle.imago_storage.specs.Through.{round_up, HasWhole, RequestsOnce, Through, NotThrough, NotWrittenThrough}
 use Rattle.imago_storage.specs.declared.fault.Fault.{Fault}
 use Rattle.imago_storage.specs.declared.fault.Fault.TheVariants.{Unsupported, RangeOverflow, Memory}
 use Rattle.imago_storage.specs.declared.zeroing.Zeroing.{Zeroing}
@@ -117,6 +117,11 @@ module _ (unit : ℕ) (positive : 0 < unit) (at start end last : ℕ) (before : 
       pub tail-left : (fault : Fault) → NotThrough unit c d end tail fault → UnlessLeft zeroing a d (NotThrough unit a d at (replicate (last - at) 0)) fault
       tail-left fault refused = never-unsupported zeroing unit a d at (replicate (last - at) 0) fault
           (subst (λ l. NotThrough unit a d at l fault) all-three (not_behind unit positive a c d at (head ++ mid) tail fault two (subst (λ p. NotThrough unit c d p tail fault) tail-at refused)))
+
+-- one request is one that is made once
+pub once-one : {T : Type 0} (old new : StorageState) (n : ℕ) (result : Result T Fault) → RequestsOne old new result → RequestsOnce old new n result
+once-one old new n (Ok value) one = λ _. one
+once-one old new n (Err fault) one = one
 
 -- a refusal of a range that doesn't overflow, as callers see it
 pub not-overflowed : (a b : StorageState) (at : ℕ) (bytes : List ℕ) (fault : Fault) → NotThrough (unit_of a.shape) a b at bytes fault → NotWrittenThrough a b at bytes fault

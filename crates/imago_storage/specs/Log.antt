@@ -1,6 +1,6 @@
 -- What a storage with a log is: requests, replayed over the bytes that it was made over.
-use Rattle.std.specs.Prelude.{ℕ, ◌+◌, ◌-◌, List, [], ◌∷◌, ◌++◌, length, take, drop, replicate, true, refl, IsTrue}
-use Rattle.imago_storage.specs.State.{StorageState}
+use Rattle.std.specs.Prelude.{◌≡◌, ◌⊎◌, ℕ, ◌+◌, ◌-◌, List, [], ◌∷◌, ◌++◌, length, take, drop, replicate, true, refl, IsTrue, IfErr, Result, MatchResult}
+use Rattle.imago_storage.specs.State.{StorageState, Rose}
 use Rattle.imago_storage.specs.declared.fault.Fault.{Fault}
 use Rattle.imago_storage.specs.declared.fault.Fault.TheVariants.{Memory, Storage}
 use Rattle.imago_storage.specs.declared.log.Request.{Request}
@@ -50,6 +50,10 @@ log_base log = log.base.items
 unfoldable pub log_requests : {S : Type 0} → LogStorage S → List Request
 log_requests log = log.requests.items
 
+-- the storage that the log passes calls on to
+unfoldable pub log_inner : {S : Type 0} → LogStorage S → S
+log_inner log = log.inner
+
 -- what contracts see of a storage with a log
 unfoldable pub log_state : {S : Type 0} → (S → StorageState) → LogStorage S → StorageState
 log_state state log = logged log.base.items log.requests.items log.refusals (state log.inner)
@@ -68,3 +72,20 @@ abbrev pub NotLogged : Fault → Type 0
 NotLogged Memory = Unit
 NotLogged Storage = Unit
 NotLogged fault = ⊥
+
+-- the log stays
+pub record SameLog {S : Type 0} (old new : LogStorage S) : Type 0 where
+  pub base : log_base new ≡ log_base old
+  pub requests : log_requests new ≡ log_requests old
+
+-- the request for a write of these bytes at this offset
+abbrev pub IsWrite : ℕ → List ℕ → Request → Type 0
+IsWrite offset bytes (Write at copy) = (at ≡ offset) × (copy.items ≡ bytes)
+IsWrite offset bytes request = ⊥
+
+-- A change that a log was asked for, as a request that is so. Where it succeeds, that is the last request; where it is refused,
+-- the log stays, and the storage below has counted a refused change, or nothing has changed but how many the log has counted.
+pub record Noted {S T : Type 0} (state : S → StorageState) (IsSo : Request → Type 0) (old new : LogStorage S) (result : Result T Fault) : Type 0 where
+  pub base : log_base new ≡ log_base old
+  pub requests : MatchResult result (λ _. (request : Request) × IsSo request × (log_requests new ≡ log_requests old ++ request ∷ [])) (λ _. log_requests new ≡ log_requests old)
+  pub refused : IfErr result (λ _. Rose (state (log_inner old)).refusals (state (log_inner new)).refusals ⊎ (log_state state new ≡ record (log_state state old) { refusals = (log_state state new).refusals }))

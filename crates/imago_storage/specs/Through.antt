@@ -21,9 +21,13 @@ HasWhole unit at n = round_up unit at < round_down unit (at + n)
 abbrev pub Overflows : ℕ → ℕ → ℕ → Type 0
 Overflows unit at n = (0 < n) × (2 ^ 64 ≤ round_up unit (at + n))
 
+-- the range is whole units
+abbrev pub IsUnits : ℕ → ℕ → ℕ → Type 0
+IsUnits unit at n = (at % unit ≡ 0) × (n % unit ≡ 0)
+
 -- the range is whole units, or lies in one
 abbrev pub IsAtOnce : ℕ → ℕ → ℕ → Type 0
-IsAtOnce unit at n = ((at % unit ≡ 0) × (n % unit ≡ 0)) ⊎ (at % unit + n ≤ unit)
+IsAtOnce unit at n = IsUnits unit at n ⊎ (at % unit + n ≤ unit)
 
 -- each file that a stop may have left since the old state, that state aside, has P; the newest first
 pub record StopsIn (P : List ℕ → Type 0) (old new : StorageState) : Type 0 where

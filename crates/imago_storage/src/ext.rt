@@ -3,7 +3,7 @@ ghost use Rattle.std.specs.Prelude.{◌≡◌, ℕ, ◌+◌, ◌-◌, ◌%◌, �
 ghost use Rattle.std.specs.Option.{SomeIff};
 ghost use Rattle.imago_storage.specs.State.{unit_of, IsAlignment, IsWhole};
 ghost use Rattle.imago_storage.specs.Calls.{Cause, CountsFaults, Kept, Later, Mixed, Reads, SameOutside};
-ghost use Rattle.imago_storage.specs.Through.{round_up, round_down, HasWhole, Overflows, IsAtOnce, Through, NotThrough, OneRequest, NoRequest, IsOnePart, Parts, RequestsOnce, Stops, UnlessOverflow, WrittenThrough, NotWrittenThrough, NotZeroed, GivenUp, NotGivenUp, whole_start, whole_size, NotRead};
+ghost use Rattle.imago_storage.specs.Through.{round_up, round_down, HasWhole, IsUnits, Overflows, IsAtOnce, Through, NotThrough, OneRequest, NoRequest, IsOnePart, Parts, RequestsOnce, Stops, UnlessOverflow, WrittenThrough, NotWrittenThrough, NotZeroed, GivenUp, NotGivenUp, whole_start, whole_size, NotRead};
 
 use crate::discarding::discard_whole;
 use crate::edits::{copy_in, take_part};
@@ -310,7 +310,8 @@ pub trait StorageExt: Storage {
         ensures empty { length ≡ 0 → IsOk result × (Self.state self.new ≡ Self.state self.old) }
         ensures unit { IsAlignment (unit_of (Self.state self.old).shape) };
 
-    /// The same, but the range stays allocated: its whole units are one `pure_write_allocated_zeroes`.
+    /// The same, but the range stays allocated: its whole units are one `pure_write_allocated_zeroes`. So a range of whole units
+    /// of the larger of the unit and `zero_align` is one request.
     ///
     /// It refuses with `Fault::Unsupported` where the storage doesn't have that call and the range has such units: then nothing
     /// has changed. Else it is refused as `write` is, and leaves then what `write` leaves.
@@ -326,6 +327,8 @@ pub trait StorageExt: Storage {
         ensures shape { (Self.state self.new).shape ≡ (Self.state self.old).shape }
         ensures later { Later (Self.state self.old) (Self.state self.new) }
         ensures stops { Stops (Mixed (Self.state self.old).bytes offset (replicate length 0)) (Self.state self.old) (Self.state self.new) }
+        // A range of whole units of the alignment of zeroing is one request.
+        ensures once { IsUnits (max (unit_of (Self.state self.old).shape) (Self.state self.old).shape.zero_align) offset length → RequestsOnce (Self.state self.old) (Self.state self.new) length result }
         ensures empty { length ≡ 0 → IsOk result × (Self.state self.new ≡ Self.state self.old) }
         ensures unit { IsAlignment (unit_of (Self.state self.old).shape) };
 

@@ -1,6 +1,7 @@
 // A storage that keeps a log of its requests.
-ghost use Rattle.std.specs.Prelude.{◌≡◌, ◌≤◌, ◌-◌, ◌∷◌, ◌++◌, [], List, length, take, slice_get, true, OnOk, IfOk, IfErr, IsOkUnless, IsTrue};
-ghost use Rattle.imago_storage.specs.State.{InStep, Rose};
+ghost use Rattle.std.specs.Prelude.{◌≡◌, ◌≤◌, ◌-◌, ◌∷◌, ◌++◌, [], List, length, take, replicate, slice_get, true, OnOk, IfOk, IfErr, IsErrOf, IsOkUnless, IsTrue};
+ghost use Rattle.imago_storage.specs.State.{InStep, IsWhole, Rose, unit_of};
+ghost use Rattle.imago_storage.specs.Calls.{CountsFaults, Kept, Later, NotResized, NotWritten, Reads, RequestsOne, Resized, UnlessUnsupported, Written};
 ghost use Rattle.imago_storage.specs.Log.{apply, NotLogged};
 
 use crate::edits::{splice, splice_zeroes};
@@ -205,9 +206,11 @@ impl<S: Storage> StopStorage for LogStorage<S> {
     }
 }
 
-#[tactic(auto, unfolding(crate::specs::Log::log_state))]
+#[tactic(auto, unfolding(crate::specs::Log::log_state, crate::specs::Log::log_base, crate::specs::Log::log_requests, crate::specs::Log::log_inner))]
 impl<S: Storage> Storage for LogStorage<S> {
-    ghost use Rattle.imago_storage.specs.Log.{log_state};
+    ghost use Rattle.imago_storage.specs.declared.log.Request.{Request};
+    ghost use Rattle.imago_storage.specs.declared.log.Request.TheVariants.{Zeroes, Resize};
+    ghost use Rattle.imago_storage.specs.Log.{log_state, IsWrite, Noted, SameLog};
 
     ghost state = { log_state S.state };
 
@@ -239,11 +242,26 @@ impl<S: Storage> Storage for LogStorage<S> {
         self.inner.resolve_relative_path(alloc, name)
     }
 
-    fn pure_read(&mut self, buf: &mut [u8], offset: u64) -> Result<(), Fault> {
+    fn pure_read(&mut self, buf: &mut [u8], offset: u64) -> Result<(), Fault>
+        requires { IsWhole (unit_of (log_state S.state self.old).shape) offset (length buf.old) }
+        ensures read { OnOk result (Reads (log_state S.state self.old).bytes offset buf.new) }
+        ensures kept { Kept (log_state S.state self.old) (log_state S.state self.new) }
+        ensures faults { CountsFaults (log_state S.state self.old).faults (log_state S.state self.new).faults result }
+        ensures later { Later (log_state S.state self.old) (log_state S.state self.new) }
+        ensures log { SameLog self.old self.new }
+    {
         self.inner.pure_read(buf, offset)
     }
 
-    fn pure_write(&mut self, data: &[u8], offset: u64) -> Result<(), Fault> {
+    fn pure_write(&mut self, data: &[u8], offset: u64) -> Result<(), Fault>
+        requires { IsWhole (unit_of (log_state S.state self.old).shape) offset (length «data».now) }
+        ensures ok { OnOk result (Written (log_state S.state self.old) (log_state S.state self.new) offset «data».now) }
+        ensures err { IfErr result (NotWritten (log_state S.state self.old) (log_state S.state self.new) offset «data».now) }
+        ensures shape { (log_state S.state self.new).shape ≡ (log_state S.state self.old).shape }
+        ensures later { Later (log_state S.state self.old) (log_state S.state self.new) }
+        ensures once { RequestsOne (log_state S.state self.old) (log_state S.state self.new) result }
+        ensures noted { Noted S.state (IsWrite offset «data».now) self.old self.new result }
+    {
         let bytes = self.copy_of(data)?;
         self.keep(Request::Write { offset, bytes })?;
         match self.inner.pure_write(data, offset) {
@@ -255,7 +273,16 @@ impl<S: Storage> Storage for LogStorage<S> {
         }
     }
 
-    fn pure_write_zeroes(&mut self, offset: u64, length: u64) -> Result<(), Fault> {
+    fn pure_write_zeroes(&mut self, offset: u64, length: u64) -> Result<(), Fault>
+        requires whole { IsWhole (unit_of (log_state S.state self.old).shape) offset length }
+        requires zeroes { IsWhole (log_state S.state self.old).shape.zero_align offset length }
+        ensures ok { OnOk result (Written (log_state S.state self.old) (log_state S.state self.new) offset (replicate length 0)) }
+        ensures err { IfErr result (UnlessUnsupported (log_state S.state self.old) (log_state S.state self.new) (NotWritten (log_state S.state self.old) (log_state S.state self.new) offset (replicate length 0))) }
+        ensures shape { (log_state S.state self.new).shape ≡ (log_state S.state self.old).shape }
+        ensures later { Later (log_state S.state self.old) (log_state S.state self.new) }
+        ensures once { RequestsOne (log_state S.state self.old) (log_state S.state self.new) result }
+        ensures noted { Noted S.state (λ request. request ≡ Zeroes offset length) self.old self.new result }
+    {
         self.keep(Request::Zeroes { offset, length })?;
         match self.inner.pure_write_zeroes(offset, length) {
             Ok(()) => Ok(()),
@@ -266,7 +293,16 @@ impl<S: Storage> Storage for LogStorage<S> {
         }
     }
 
-    fn pure_write_allocated_zeroes(&mut self, offset: u64, length: u64) -> Result<(), Fault> {
+    fn pure_write_allocated_zeroes(&mut self, offset: u64, length: u64) -> Result<(), Fault>
+        requires whole { IsWhole (unit_of (log_state S.state self.old).shape) offset length }
+        requires zeroes { IsWhole (log_state S.state self.old).shape.zero_align offset length }
+        ensures ok { OnOk result (Written (log_state S.state self.old) (log_state S.state self.new) offset (replicate length 0)) }
+        ensures err { IfErr result (UnlessUnsupported (log_state S.state self.old) (log_state S.state self.new) (NotWritten (log_state S.state self.old) (log_state S.state self.new) offset (replicate length 0))) }
+        ensures shape { (log_state S.state self.new).shape ≡ (log_state S.state self.old).shape }
+        ensures later { Later (log_state S.state self.old) (log_state S.state self.new) }
+        ensures once { RequestsOne (log_state S.state self.old) (log_state S.state self.new) result }
+        ensures noted { Noted S.state (λ request. request ≡ Zeroes offset length) self.old self.new result }
+    {
         self.keep(Request::Zeroes { offset, length })?;
         match self.inner.pure_write_allocated_zeroes(offset, length) {
             Ok(()) => Ok(()),
@@ -277,11 +313,23 @@ impl<S: Storage> Storage for LogStorage<S> {
         }
     }
 
-    fn pure_discard(&mut self, _offset: u64, _length: u64) -> Result<(), Fault> {
+    fn pure_discard(&mut self, offset: u64, length: u64) -> Result<(), Fault>
+        requires whole { IsWhole (unit_of (log_state S.state self.old).shape) offset length }
+        requires discards { IsWhole (log_state S.state self.old).shape.discard_align offset length }
+        ensures unsupported { IsErrOf result Fault.Unsupported }
+        ensures same { self.new ≡ self.old }
+    {
         Err(Fault::Unsupported)
     }
 
-    fn resize(&mut self, size: u64, mode: PreallocateMode) -> Result<(), Fault> {
+    fn resize(&mut self, size: u64, mode: PreallocateMode) -> Result<(), Fault>
+        ensures ok { OnOk result (Resized (log_state S.state self.old) (log_state S.state self.new) size) }
+        ensures err { IfErr result (UnlessUnsupported (log_state S.state self.old) (log_state S.state self.new) (NotResized (log_state S.state self.old) (log_state S.state self.new))) }
+        ensures shape { (log_state S.state self.new).shape ≡ (log_state S.state self.old).shape }
+        ensures later { Later (log_state S.state self.old) (log_state S.state self.new) }
+        ensures once { RequestsOne (log_state S.state self.old) (log_state S.state self.new) result }
+        ensures noted { Noted S.state (λ request. request ≡ Resize size) self.old self.new result }
+    {
         self.keep(Request::Resize { size })?;
         match self.inner.resize(size, mode) {
             Ok(()) => Ok(()),
@@ -292,15 +340,30 @@ impl<S: Storage> Storage for LogStorage<S> {
         }
     }
 
-    fn flush(&mut self) -> Result<(), Fault> {
+    fn flush(&mut self) -> Result<(), Fault>
+        ensures kept { Kept (log_state S.state self.old) (log_state S.state self.new) }
+        ensures faults { CountsFaults (log_state S.state self.old).faults (log_state S.state self.new).faults result }
+        ensures later { Later (log_state S.state self.old) (log_state S.state self.new) }
+        ensures log { SameLog self.old self.new }
+    {
         self.inner.flush()
     }
 
-    fn sync(&mut self) -> Result<(), Fault> {
+    fn sync(&mut self) -> Result<(), Fault>
+        ensures kept { Kept (log_state S.state self.old) (log_state S.state self.new) }
+        ensures faults { CountsFaults (log_state S.state self.old).faults (log_state S.state self.new).faults result }
+        ensures later { Later (log_state S.state self.old) (log_state S.state self.new) }
+        ensures log { SameLog self.old self.new }
+    {
         self.inner.sync()
     }
 
-    fn invalidate_cache(&mut self) -> Result<(), Fault> {
+    fn invalidate_cache(&mut self) -> Result<(), Fault>
+        ensures kept { Kept (log_state S.state self.old) (log_state S.state self.new) }
+        ensures faults { CountsFaults (log_state S.state self.old).faults (log_state S.state self.new).faults result }
+        ensures later { Later (log_state S.state self.old) (log_state S.state self.new) }
+        ensures log { SameLog self.old self.new }
+    {
         self.inner.invalidate_cache()
     }
 }

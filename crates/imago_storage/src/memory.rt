@@ -1,7 +1,7 @@
 // A storage in memory.
-ghost use Rattle.std.specs.Prelude.{◌≡◌, [], OnOk, IfOk, IfErr, IsOkUnless};
+ghost use Rattle.std.specs.Prelude.{◌≡◌, [], length, replicate, IsOk, OnOk, IfOk, IfErr, IsOkUnless};
 ghost use Rattle.imago_storage.specs.State.{IsAlignment, IsWhole, unit_of};
-ghost use Rattle.imago_storage.specs.Calls.{Later, RequestsOne, Discarded, NotDiscarded, UnlessUnsupported};
+ghost use Rattle.imago_storage.specs.Calls.{CountsFaults, Discarded, Kept, Later, NotDiscarded, NotResized, NotWritten, Reads, RequestsOne, Resized, UnlessUnsupported, Written};
 
 use crate::edits::{clear, copy_out, splice, splice_zeroes};
 use crate::{Fault, PreallocateMode, Storage};
@@ -116,12 +116,27 @@ impl Storage for MemStorage {
         None
     }
 
-    fn pure_read(&mut self, buf: &mut [u8], offset: u64) -> Result<(), Fault> {
+    fn pure_read(&mut self, buf: &mut [u8], offset: u64) -> Result<(), Fault>
+        requires { IsWhole (unit_of (mem_state self.old).shape) offset (length buf.old) }
+        ensures read { OnOk result (Reads (mem_state self.old).bytes offset buf.new) }
+        ensures kept { Kept (mem_state self.old) (mem_state self.new) }
+        ensures faults { CountsFaults (mem_state self.old).faults (mem_state self.new).faults result }
+        ensures later { Later (mem_state self.old) (mem_state self.new) }
+        ensures always { IsOk result }
+    {
         copy_out(&self.bytes, offset as usize, buf);
         Ok(())
     }
 
-    fn pure_write(&mut self, data: &[u8], offset: u64) -> Result<(), Fault> {
+    fn pure_write(&mut self, data: &[u8], offset: u64) -> Result<(), Fault>
+        requires { IsWhole (unit_of (mem_state self.old).shape) offset (length «data».now) }
+        ensures ok { OnOk result (Written (mem_state self.old) (mem_state self.new) offset «data».now) }
+        ensures err { IfErr result (NotWritten (mem_state self.old) (mem_state self.new) offset «data».now) }
+        ensures shape { (mem_state self.new).shape ≡ (mem_state self.old).shape }
+        ensures later { Later (mem_state self.old) (mem_state self.new) }
+        ensures once { RequestsOne (mem_state self.old) (mem_state self.new) result }
+        ensures memory { IsOkUnless result Fault.Memory }
+    {
         match splice(&mut self.bytes, offset as usize, data) {
             Ok(()) => Ok(()),
             Err(_) => {
@@ -131,7 +146,16 @@ impl Storage for MemStorage {
         }
     }
 
-    fn pure_write_zeroes(&mut self, offset: u64, length: u64) -> Result<(), Fault> {
+    fn pure_write_zeroes(&mut self, offset: u64, length: u64) -> Result<(), Fault>
+        requires whole { IsWhole (unit_of (mem_state self.old).shape) offset length }
+        requires zeroes { IsWhole (mem_state self.old).shape.zero_align offset length }
+        ensures ok { OnOk result (Written (mem_state self.old) (mem_state self.new) offset (replicate length 0)) }
+        ensures err { IfErr result (UnlessUnsupported (mem_state self.old) (mem_state self.new) (NotWritten (mem_state self.old) (mem_state self.new) offset (replicate length 0))) }
+        ensures shape { (mem_state self.new).shape ≡ (mem_state self.old).shape }
+        ensures later { Later (mem_state self.old) (mem_state self.new) }
+        ensures once { RequestsOne (mem_state self.old) (mem_state self.new) result }
+        ensures memory { IsOkUnless result Fault.Memory }
+    {
         match splice_zeroes(&mut self.bytes, offset as usize, length as usize) {
             Ok(()) => Ok(()),
             Err(_) => {
@@ -141,7 +165,16 @@ impl Storage for MemStorage {
         }
     }
 
-    fn pure_write_allocated_zeroes(&mut self, offset: u64, length: u64) -> Result<(), Fault> {
+    fn pure_write_allocated_zeroes(&mut self, offset: u64, length: u64) -> Result<(), Fault>
+        requires whole { IsWhole (unit_of (mem_state self.old).shape) offset length }
+        requires zeroes { IsWhole (mem_state self.old).shape.zero_align offset length }
+        ensures ok { OnOk result (Written (mem_state self.old) (mem_state self.new) offset (replicate length 0)) }
+        ensures err { IfErr result (UnlessUnsupported (mem_state self.old) (mem_state self.new) (NotWritten (mem_state self.old) (mem_state self.new) offset (replicate length 0))) }
+        ensures shape { (mem_state self.new).shape ≡ (mem_state self.old).shape }
+        ensures later { Later (mem_state self.old) (mem_state self.new) }
+        ensures once { RequestsOne (mem_state self.old) (mem_state self.new) result }
+        ensures memory { IsOkUnless result Fault.Memory }
+    {
         self.pure_write_zeroes(offset, length)
     }
 
@@ -154,12 +187,20 @@ impl Storage for MemStorage {
         ensures later { Later (mem_state self.old) (mem_state self.new) }
         ensures once { RequestsOne (mem_state self.old) (mem_state self.new) result }
         ensures zeroes { OnOk result (Zeroed (mem_state self.new).bytes offset length) }
+        ensures always { IsOk result }
     {
         clear(&mut self.bytes, offset as usize, length as usize);
         Ok(())
     }
 
-    fn resize(&mut self, size: u64, _mode: PreallocateMode) -> Result<(), Fault> {
+    fn resize(&mut self, size: u64, _mode: PreallocateMode) -> Result<(), Fault>
+        ensures ok { OnOk result (Resized (mem_state self.old) (mem_state self.new) size) }
+        ensures err { IfErr result (UnlessUnsupported (mem_state self.old) (mem_state self.new) (NotResized (mem_state self.old) (mem_state self.new))) }
+        ensures shape { (mem_state self.new).shape ≡ (mem_state self.old).shape }
+        ensures later { Later (mem_state self.old) (mem_state self.new) }
+        ensures once { RequestsOne (mem_state self.old) (mem_state self.new) result }
+        ensures memory { IsOkUnless result Fault.Memory }
+    {
         match self.bytes.resize(size as usize, 0) {
             Ok(()) => Ok(()),
             Err(_) => {
@@ -169,15 +210,30 @@ impl Storage for MemStorage {
         }
     }
 
-    fn flush(&mut self) -> Result<(), Fault> {
+    fn flush(&mut self) -> Result<(), Fault>
+        ensures kept { Kept (mem_state self.old) (mem_state self.new) }
+        ensures faults { CountsFaults (mem_state self.old).faults (mem_state self.new).faults result }
+        ensures later { Later (mem_state self.old) (mem_state self.new) }
+        ensures always { IsOk result }
+    {
         Ok(())
     }
 
-    fn sync(&mut self) -> Result<(), Fault> {
+    fn sync(&mut self) -> Result<(), Fault>
+        ensures kept { Kept (mem_state self.old) (mem_state self.new) }
+        ensures faults { CountsFaults (mem_state self.old).faults (mem_state self.new).faults result }
+        ensures later { Later (mem_state self.old) (mem_state self.new) }
+        ensures always { IsOk result }
+    {
         Ok(())
     }
 
-    fn invalidate_cache(&mut self) -> Result<(), Fault> {
+    fn invalidate_cache(&mut self) -> Result<(), Fault>
+        ensures kept { Kept (mem_state self.old) (mem_state self.new) }
+        ensures faults { CountsFaults (mem_state self.old).faults (mem_state self.new).faults result }
+        ensures later { Later (mem_state self.old) (mem_state self.new) }
+        ensures always { IsOk result }
+    {
         Ok(())
     }
 }

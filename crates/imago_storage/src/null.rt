@@ -1,5 +1,7 @@
 // A storage that holds nothing.
-ghost use Rattle.std.specs.Prelude.{◌≡◌};
+ghost use Rattle.std.specs.Prelude.{◌≡◌, length, replicate, IsOk, OnOk, IfErr};
+ghost use Rattle.imago_storage.specs.State.{IsWhole, unit_of};
+ghost use Rattle.imago_storage.specs.Calls.{CountsFaults, Discarded, Kept, Later, NotDiscarded, NotResized, NotWritten, Reads, RequestsOne, Resized, UnlessUnsupported, Written};
 
 use crate::{Fault, PreallocateMode, Storage};
 
@@ -53,44 +55,109 @@ impl Storage for Null {
         None
     }
 
-    fn pure_read(&mut self, buf: &mut [u8], _offset: u64) -> Result<(), Fault> {
+    fn pure_read(&mut self, buf: &mut [u8], offset: u64) -> Result<(), Fault>
+        requires { IsWhole (unit_of (null_state self.old).shape) offset (length buf.old) }
+        ensures read { OnOk result (Reads (null_state self.old).bytes offset buf.new) }
+        ensures kept { Kept (null_state self.old) (null_state self.new) }
+        ensures faults { CountsFaults (null_state self.old).faults (null_state self.new).faults result }
+        ensures later { Later (null_state self.old) (null_state self.new) }
+        ensures always { IsOk result }
+        ensures zeroes { buf.new ≡ replicate (length buf.old) 0 }
+    {
         buf.fill(0);
         Ok(())
     }
 
-    fn pure_write(&mut self, data: &[u8], offset: u64) -> Result<(), Fault> {
+    fn pure_write(&mut self, data: &[u8], offset: u64) -> Result<(), Fault>
+        requires { IsWhole (unit_of (null_state self.old).shape) offset (length «data».now) }
+        ensures ok { OnOk result (Written (null_state self.old) (null_state self.new) offset «data».now) }
+        ensures err { IfErr result (NotWritten (null_state self.old) (null_state self.new) offset «data».now) }
+        ensures shape { (null_state self.new).shape ≡ (null_state self.old).shape }
+        ensures later { Later (null_state self.old) (null_state self.new) }
+        ensures once { RequestsOne (null_state self.old) (null_state self.new) result }
+        ensures always { IsOk result }
+    {
         self.size = self.size.max(offset + data.len() as u64);
         Ok(())
     }
 
-    fn pure_write_zeroes(&mut self, offset: u64, length: u64) -> Result<(), Fault> {
+    fn pure_write_zeroes(&mut self, offset: u64, length: u64) -> Result<(), Fault>
+        requires whole { IsWhole (unit_of (null_state self.old).shape) offset length }
+        requires zeroes { IsWhole (null_state self.old).shape.zero_align offset length }
+        ensures ok { OnOk result (Written (null_state self.old) (null_state self.new) offset (replicate length 0)) }
+        ensures err { IfErr result (UnlessUnsupported (null_state self.old) (null_state self.new) (NotWritten (null_state self.old) (null_state self.new) offset (replicate length 0))) }
+        ensures shape { (null_state self.new).shape ≡ (null_state self.old).shape }
+        ensures later { Later (null_state self.old) (null_state self.new) }
+        ensures once { RequestsOne (null_state self.old) (null_state self.new) result }
+        ensures always { IsOk result }
+    {
         self.size = self.size.max(offset + length);
         Ok(())
     }
 
-    fn pure_write_allocated_zeroes(&mut self, offset: u64, length: u64) -> Result<(), Fault> {
+    fn pure_write_allocated_zeroes(&mut self, offset: u64, length: u64) -> Result<(), Fault>
+        requires whole { IsWhole (unit_of (null_state self.old).shape) offset length }
+        requires zeroes { IsWhole (null_state self.old).shape.zero_align offset length }
+        ensures ok { OnOk result (Written (null_state self.old) (null_state self.new) offset (replicate length 0)) }
+        ensures err { IfErr result (UnlessUnsupported (null_state self.old) (null_state self.new) (NotWritten (null_state self.old) (null_state self.new) offset (replicate length 0))) }
+        ensures shape { (null_state self.new).shape ≡ (null_state self.old).shape }
+        ensures later { Later (null_state self.old) (null_state self.new) }
+        ensures once { RequestsOne (null_state self.old) (null_state self.new) result }
+        ensures always { IsOk result }
+    {
         self.size = self.size.max(offset + length);
         Ok(())
     }
 
-    fn pure_discard(&mut self, _offset: u64, _length: u64) -> Result<(), Fault> {
+    fn pure_discard(&mut self, offset: u64, length: u64) -> Result<(), Fault>
+        requires whole { IsWhole (unit_of (null_state self.old).shape) offset length }
+        requires discards { IsWhole (null_state self.old).shape.discard_align offset length }
+        ensures ok { OnOk result (Discarded (null_state self.old) (null_state self.new) offset length) }
+        ensures err { IfErr result (UnlessUnsupported (null_state self.old) (null_state self.new) (NotDiscarded (null_state self.old) (null_state self.new) offset length)) }
+        ensures shape { (null_state self.new).shape ≡ (null_state self.old).shape }
+        ensures later { Later (null_state self.old) (null_state self.new) }
+        ensures once { RequestsOne (null_state self.old) (null_state self.new) result }
+        ensures always { IsOk result }
+    {
         Ok(())
     }
 
-    fn resize(&mut self, size: u64, _mode: PreallocateMode) -> Result<(), Fault> {
+    fn resize(&mut self, size: u64, _mode: PreallocateMode) -> Result<(), Fault>
+        ensures ok { OnOk result (Resized (null_state self.old) (null_state self.new) size) }
+        ensures err { IfErr result (UnlessUnsupported (null_state self.old) (null_state self.new) (NotResized (null_state self.old) (null_state self.new))) }
+        ensures shape { (null_state self.new).shape ≡ (null_state self.old).shape }
+        ensures later { Later (null_state self.old) (null_state self.new) }
+        ensures once { RequestsOne (null_state self.old) (null_state self.new) result }
+        ensures always { IsOk result }
+    {
         self.size = size;
         Ok(())
     }
 
-    fn flush(&mut self) -> Result<(), Fault> {
+    fn flush(&mut self) -> Result<(), Fault>
+        ensures kept { Kept (null_state self.old) (null_state self.new) }
+        ensures faults { CountsFaults (null_state self.old).faults (null_state self.new).faults result }
+        ensures later { Later (null_state self.old) (null_state self.new) }
+        ensures always { IsOk result }
+    {
         Ok(())
     }
 
-    fn sync(&mut self) -> Result<(), Fault> {
+    fn sync(&mut self) -> Result<(), Fault>
+        ensures kept { Kept (null_state self.old) (null_state self.new) }
+        ensures faults { CountsFaults (null_state self.old).faults (null_state self.new).faults result }
+        ensures later { Later (null_state self.old) (null_state self.new) }
+        ensures always { IsOk result }
+    {
         Ok(())
     }
 
-    fn invalidate_cache(&mut self) -> Result<(), Fault> {
+    fn invalidate_cache(&mut self) -> Result<(), Fault>
+        ensures kept { Kept (null_state self.old) (null_state self.new) }
+        ensures faults { CountsFaults (null_state self.old).faults (null_state self.new).faults result }
+        ensures later { Later (null_state self.old) (null_state self.new) }
+        ensures always { IsOk result }
+    {
         Ok(())
     }
 }

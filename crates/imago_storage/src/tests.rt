@@ -10,6 +10,7 @@ use std::alloc::Global;
 use std::process::Abort;
 use std::test::Fail;
 
+mod alignments;
 mod options;
 mod passing;
 mod random;

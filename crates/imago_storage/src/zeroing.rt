@@ -1,8 +1,8 @@
 // Zeroing of any range, padded to whole units.
-ghost use Rattle.std.specs.Prelude.{◌≡◌, ℕ, ◌+◌, ◌-◌, ◌%◌, ◌<◌, ◌≤◌, ◌^◌, min, length, slice_index, replicate, IsOk, OnOk, IfErr, IsErrOf};
+ghost use Rattle.std.specs.Prelude.{◌≡◌, ℕ, ◌+◌, ◌-◌, ◌%◌, ◌<◌, ◌≤◌, ◌^◌, max, min, length, slice_index, replicate, IsOk, OnOk, IfOk, IfErr, IsErrOf, IsOkUnless};
 ghost use Rattle.imago_storage.specs.State.{unit_of, IsAlignment, IsWhole};
-ghost use Rattle.imago_storage.specs.Calls.{Later, Mixed};
-ghost use Rattle.imago_storage.specs.Through.{round_up, Overflows, Through, NotThrough, WrittenThrough, NotWrittenThrough, Stops};
+ghost use Rattle.imago_storage.specs.Calls.{Later, Mixed, RequestsOne};
+ghost use Rattle.imago_storage.specs.Through.{round_up, IsUnits, Overflows, RequestsOnce, Through, NotThrough, WrittenThrough, NotWrittenThrough, Stops};
 ghost use Rattle.imago_storage.specs.Zeroings.{UnlessLeft, NotZeroedBy};
 
 use crate::ext::{larger_alignment, padded_end, unit_size, whole_part, write_in_parts};
@@ -39,6 +39,7 @@ fn write_pieces<S: Storage>(
     requires fits { round_up (length buf.old) (offset + n) < 2 ^ 64 }
     ensures ok { OnOk result (Through (length buf.old) (S.state storage.old) (S.state storage.new) offset (replicate n 0)) }
     ensures err { IfErr result (NotThrough (length buf.old) (S.state storage.old) (S.state storage.new) offset (replicate n 0)) }
+    ensures empty { n ≡ 0 → IsOk result × (S.state storage.new ≡ S.state storage.old) }
 {
     let mut done = 0;
     while done < n {
@@ -70,6 +71,7 @@ fn zero_whole<S: Storage>(
     requires some { 0 < n }
     ensures ok { OnOk result (Through (length buf.old) (S.state storage.old) (S.state storage.new) offset (replicate n 0)) }
     ensures err { IfErr result (UnlessLeft zeroing (S.state storage.old) (S.state storage.new) (NotThrough (length buf.old) (S.state storage.old) (S.state storage.new) offset (replicate n 0))) }
+    ensures once { zeroing ≡ Zeroing.Allocated → RequestsOne (S.state storage.old) (S.state storage.new) result }
 {
     match zeroing {
         Zeroing::Allocated => storage.pure_write_allocated_zeroes(offset, n),
@@ -107,12 +109,25 @@ fn zero_around<S: Storage>(
     requires aligned { IsWhole (S.state storage.old).shape.zero_align whole.0 (whole.1 - whole.0) }
     ensures ok { OnOk result (Through (length buf.old) (S.state storage.old) (S.state storage.new) range.0 (replicate (range.1 - range.0) 0)) }
     ensures err { IfErr result (UnlessLeft zeroing (S.state storage.old) (S.state storage.new) (NotThrough (length buf.old) (S.state storage.old) (S.state storage.new) range.0 (replicate (range.1 - range.0) 0))) }
+    ensures once { zeroing ≡ Zeroing.Allocated → range ≡ whole → RequestsOne (S.state storage.old) (S.state storage.new) result }
 {
     let (offset, last) = range;
     let (start, end) = whole;
     zero_whole(storage, buf, zeroes, piece, zeroing, start, end - start)?;
     write_pieces(storage, buf, zeroes, piece, offset, start - offset)?;
     write_pieces(storage, buf, zeroes, piece, end, last - end)
+}
+
+// Two buffers of zeroes for writing over a range of n bytes: of a unit, and of a piece, or of the range where that is shorter.
+fn buffers(alloc: Global, unit: usize, piece: u64, n: u64) -> Result<(Vec<u8>, Vec<u8>), Fault>
+    ensures unit { IfOk result (λ buffers. length buffers.0.items ≡ unit) }
+    ensures zeroes { IfOk result (λ buffers. (k : ℕ) → slice_index buffers.1.items k ≡ 0) }
+    ensures room { IfOk result (λ buffers. min piece n ≤ length buffers.1.items) }
+    ensures err { IsOkUnless result Fault.Memory }
+{
+    let block = vec![in alloc; 0u8; unit]?;
+    let zeroes = vec![in alloc; 0u8; piece.min(n) as usize]?;
+    Ok((block, zeroes))
 }
 
 /// Zeroes any range, padded to whole units. `Zeroing::Allocated` refuses with `Fault::Unsupported` where the storage does, and
@@ -126,6 +141,7 @@ pub fn zero_padded<S: Storage>(
 ) -> Result<(), Fault>
     ensures ok { OnOk result (Through (unit_of (S.state storage.old).shape) (S.state storage.old) (S.state storage.new) offset (replicate n 0)) }
     ensures err { IfErr result (NotZeroedBy zeroing (S.state storage.old) (S.state storage.new) offset n) }
+    ensures once { zeroing ≡ Zeroing.Allocated → IsUnits (max (unit_of (S.state storage.old).shape) (S.state storage.old).shape.zero_align) offset n → RequestsOnce (S.state storage.old) (S.state storage.new) n result }
     ensures overflow { Overflows (unit_of (S.state storage.old).shape) offset n → IsErrOf result Fault.RangeOverflow }
     ensures empty { n ≡ 0 → IsOk result × (S.state storage.new ≡ S.state storage.old) }
     ensures unit { IsAlignment (unit_of (S.state storage.old).shape) }
@@ -139,8 +155,7 @@ pub fn zero_padded<S: Storage>(
         return Err(Fault::RangeOverflow);
     }
     let piece = unit.max(PIECE) as u64;
-    let mut buf = vec![in alloc; 0u8; unit]?;
-    let zeroes = vec![in alloc; 0u8; piece.min(n) as usize]?;
+    let (mut buf, zeroes) = buffers(alloc, unit, piece, n)?;
     match whole_part(offset, n, align as u64) {
         None => write_pieces(storage, &mut buf, &zeroes, piece, offset, n),
         Some(whole) => zero_around(
@@ -183,7 +198,6 @@ pub fn write_full_zeroes<S: Storage>(
         return Err(Fault::RangeOverflow);
     }
     let piece = unit.max(PIECE) as u64;
-    let mut block = vec![in alloc; 0u8; unit]?;
-    let zeroes = vec![in alloc; 0u8; piece.min(n) as usize]?;
+    let (mut block, zeroes) = buffers(alloc, unit, piece, n)?;
     write_pieces(storage, &mut block, &zeroes, piece, offset, n)
 }

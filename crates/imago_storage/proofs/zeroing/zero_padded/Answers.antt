@@ -1,21 +1,18 @@
 -- The whole units of the alignment of zeroing, and what lies around them.
 use Rattle.std.proofs.Common.{rules, arith, ◌≡◌, ◌+◌, ◌-◌, ◌<◌, ◌^◌, max, ℕ, length, replicate, subst, sym}
-use Rattle.std.specs.Prelude.{OnOk, IfErr}
+use Rattle.std.specs.Prelude.{OnOk, IfErr, IsErrAnd}
 use Rattle.std.proofs.lemmas.Result.{IfErr-weaker}
 use Rattle.imago_storage.specs.State.{unit_of, IsWhole}
-use Rattle.imago_storage.specs.Through.{round_up, HasWhole, Through, NotThrough}
+use Rattle.imago_storage.specs.Through.{round_up, HasWhole, IsUnits, Through, NotThrough}
 use Rattle.imago_storage.specs.Zeroings.{UnlessLeft, NotZeroedBy}
 use Rattle.imago_storage.proofs.Range.{is_some_fits}
 use Rattle.imago_storage.proofs.Rounding.{le_round_up}
-use Rattle.imago_storage.proofs.Wholes.{whole-behind, whole-inside, whole-units}
-use Rattle.imago_storage.proofs.ZeroSteps.{zeroed-by, no-room-zeroed}
+use Rattle.imago_storage.proofs.Wholes.{whole-behind, whole-inside, whole-units, units-has, units-all}
+use Rattle.imago_storage.proofs.ZeroSteps.{zeroed-by, no-room-zeroed, once-one}
 use Rattle.imago_storage.proofs.zeroing.zero_padded.Goals as goal
 
 pub returns-in_err-buf-clause-err : goal.returns-in_err-buf-clause-err
-returns-in_err-buf-clause-err g c = no-room-zeroed c.args.zeroing (g.S.Storage.state c.args.storage.now) c.args.offset c.args.n c.from_residual.result (omega (arith, c.if-n-eq0.false)) c.from_residual.ensures.1
-
-pub returns-in_err-zeroes-clause-err : goal.returns-in_err-zeroes-clause-err
-returns-in_err-zeroes-clause-err g c = no-room-zeroed c.args.zeroing (g.S.Storage.state c.args.storage.now) c.args.offset c.args.n c.from_residual-in_err-zeroes.result (omega (arith, c.if-n-eq0.false)) c.from_residual-in_err-zeroes.ensures.1
+returns-in_err-buf-clause-err g c = no-room-zeroed c.args.zeroing (g.S.Storage.state c.args.storage.now) c.args.offset c.args.n c.from_residual.result (omega (arith, c.if-n-eq0.false)) (subst (λ f. IsErrAnd c.from_residual.result (λ e. e ≡ f)) c.in_err-buf.ensures.err c.from_residual.ensures.1)
 
 pub whole_part-requires-clause-fits : goal.whole_part-requires-clause-fits
 whole_part-requires-clause-fits g c =
@@ -67,3 +64,14 @@ returns-clause-err g c =
     (zeroed-by c.args.zeroing (s c.args.storage.now) (s c.zero_around.new.storage) c.args.offset c.args.n has)
     (subst (λ m. IfErr c.zero_around.result (UnlessLeft c.args.zeroing (s c.args.storage.now) (s c.zero_around.new.storage) (NotThrough (unit_of (s c.args.storage.now).shape) (s c.args.storage.now) (s c.zero_around.new.storage) c.args.offset (replicate {A = ℕ} m 0)))) size
     (subst (λ u. IfErr c.zero_around.result (UnlessLeft c.args.zeroing (s c.args.storage.now) (s c.zero_around.new.storage) (NotThrough u (s c.args.storage.now) (s c.zero_around.new.storage) c.args.offset (replicate {A = ℕ} (c.args.offset + c.args.n - c.args.offset) 0)))) long c.zero_around.ensures.err))
+
+pub returns-in-None-clause-once : goal.returns-in-None-clause-once
+returns-in-None-clause-once g c allocated units =
+    let align : c.larger_alignment-align.result ≡ max (unit_of (g.S.Storage.state c.args.storage.now).shape) (g.S.Storage.state c.args.storage.now).shape.zero_align = search rules in
+    absurd (c.in-None.ensures (units-has c.larger_alignment-align.result c.args.offset c.args.n c.larger_alignment-align.ensures.alignment.positive (omega (arith, c.if-n-eq0.false)) (subst (λ a. IsUnits a c.args.offset c.args.n) (sym align) units)))
+
+pub returns-clause-once : goal.returns-clause-once
+returns-clause-once g c allocated units =
+    let align : c.larger_alignment-align.result ≡ max (unit_of (g.S.Storage.state c.args.storage.now).shape) (g.S.Storage.state c.args.storage.now).shape.zero_align = search rules in
+    once-one (g.S.Storage.state c.args.storage.now) (g.S.Storage.state c.zero_around.new.storage) c.args.n c.zero_around.result
+    (c.zero_around.ensures.once allocated (units-all c.larger_alignment-align.result c.args.offset c.args.n c.larger_alignment-align.ensures.alignment.positive (omega (arith, c.if-n-eq0.false)) (subst (λ a. IsUnits a c.args.offset c.args.n) (sym align) units) c.in-Some.whole c.in-Some.ensures.1))
