@@ -11,6 +11,8 @@ use std::process::Abort;
 use std::test::Fail;
 
 mod alignments;
+mod failing;
+mod far;
 mod options;
 mod passing;
 mod random;

@@ -101,7 +101,8 @@ impl Model {
     }
 }
 
-// One call of the storage, and the same of the list; then a part of both is compared.
+// One call of the storage, and the same of the list; then both are compared as a whole, with what lies behind them, or where they
+// are long the range of the call.
 fn call<S: Storage>(
     rt: &impl Abort,
     alloc: Global,
@@ -150,7 +151,12 @@ fn call<S: Storage>(
             model.bytes.resize(usize::from(at), 0)?;
         }
     }
-    compare(rt, alloc, storage, model, at, n)
+    let whole = model.bytes.len();
+    if whole < 10_000 {
+        compare(rt, alloc, storage, model, 0, whole as u16 + 100)
+    } else {
+        compare(rt, alloc, storage, model, at, n)
+    }
 }
 
 fn compare<S: Storage>(

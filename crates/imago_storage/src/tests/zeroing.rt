@@ -37,8 +37,8 @@ fn zero<S: Storage>(
 
 // A storage in memory that has no calls for zeroes and discards.
 #[derive(Drop)]
-struct Plain {
-    inner: MemStorage,
+pub struct Plain {
+    pub inner: MemStorage,
 }
 
 impl Storage for Plain {
