@@ -18,7 +18,7 @@ use Rattle.qcow2_types.proofs.Either.{structure-same, refs-kept}
 use Rattle.qcow2_types.proofs.Parts.{count-kept}
 use Rattle.qcow2_types.proofs.Shows.{guest-kept}
 use Rattle.qcow2_types.proofs.Sound.{words-sound}
-use Rattle.qcow2_types.proofs.Switches.{start-kept, start-values}
+use Rattle.qcow2_types.proofs.Switches.{start-kept, start-free, start-values}
 use Rattle.qcow2_types.proofs.Values.{entry-slot}
 
 -- what the structure weighs
@@ -63,7 +63,15 @@ module _ (f g : Bytes) (H : Header) (was : IsConsistent f H) (n : ℕ) (loads : 
   counts : (d : ℕ) → count g (sized H.fields n) d ≡ count f H.fields d
   counts d = sized-count g H.fields n d ∙ count-kept f g H.fields first_cluster kept d (consistent-shaped f H was) (λ e. cc) (λ e. cc)
 
-  -- and named as often.
+  -- the structure weighs what it did,
+  structure-stays : (v : Weight) → structure g (sized H.fields n) v ≡ structure f H.fields v
+  structure-stays v = sized-structure g H.fields n v ∙ structure-same f g H.fields keeps.places v
+
+  -- and so do the words,
+  contents-stay : (of : Mapping → ℕ) → contents g (sized H.fields n) of ≡ contents f H.fields of
+  contents-stay of = sized-contents g H.fields n of ∙ contents-kept f g H.fields of keeps
+
+  -- and each cluster is named as often.
   references : (d : ℕ) → refs g (sized H.fields n) d ≡ refs f H.fields d
   references d = sized-refs g H.fields n d ∙ refs-kept f g H.fields d keeps
 
@@ -73,13 +81,12 @@ module _ (f g : Bytes) (H : Header) (was : IsConsistent f H) (n : ℕ) (loads : 
       consistent-from g (with_size H n) loads was.readable.no_snapshots was.readable.data_inside
       record { l1 = sound.l1; blocks = sound.blocks; slots = λ i j live. sound.slots i j record { in_l1 = live.in_l1; is_there = live.is_there; in_table = live.in_table } }
       (λ c some.
-      let same : structure g (sized H.fields n) (meets H.fields c) ≡ structure f H.fields (meets H.fields c) = sized-structure g H.fields n (meets H.fields c) ∙ structure-same f g H.fields keeps.places (meets H.fields c) in
+      let same : structure g (sized H.fields n) (meets H.fields c) ≡ structure f H.fields (meets H.fields c) = structure-stays (meets H.fields c) in
       let once : refs f H.fields c ≡ 1 = structure-named-once f H was c (omega arith) in
       let r : refs g (sized H.fields n) c ≡ refs f H.fields c = references c in
       omega arith)
       (λ c some.
-      let same : contents g (sized H.fields n) (of_copied H.fields (meets H.fields c)) ≡ contents f H.fields (of_copied H.fields (meets H.fields c)) =
-      sized-contents g H.fields n (of_copied H.fields (meets H.fields c)) ∙ contents-kept f g H.fields (of_copied H.fields (meets H.fields c)) keeps in
+      let same : contents g (sized H.fields n) (of_copied H.fields (meets H.fields c)) ≡ contents f H.fields (of_copied H.fields (meets H.fields c)) = contents-stay (of_copied H.fields (meets H.fields c)) in
       let once : refs f H.fields c ≡ 1 = copied-named-once f H was c (omega arith) in
       let r : refs g (sized H.fields n) c ≡ refs f H.fields c = references c in
       omega arith)
@@ -112,8 +119,11 @@ module _ (f g : Bytes) (H : Header) (was : IsConsistent f H) (n : ℕ) (loads : 
     slots = keeps.slots;
     blocks = keeps.places.blocks;
     counts = counts;
+    structure = structure-stays;
+    contents = contents-stay;
     references = references;
     leaks = leaks-same (refcount_table_entries H.fields * counters_of_block H.fields);
     entries = entries;
     shows = start-values f g H (sized H.fields n) was out refl refl entries;
+    free = start-free f g H was out;
   }

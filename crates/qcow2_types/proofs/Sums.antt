@@ -57,3 +57,9 @@ sum-none f = refl
 pub sum-more : (i : ℕ) (f : ℕ → ℕ) → sum_below (i + 1) f ≡ f i + sum_below i f
 unfolding sum_below
 sum-more i f = rw add-one refl
+
+-- the sum of two terms each
+pub sum-both : (n : ℕ) (f g : ℕ → ℕ) → sum_below n (λ i. f i + g i) ≡ sum_below n f + sum_below n g
+unfolding sum_below
+sum-both zero f g = refl
+sum-both (suc n) f g = let below : sum_below n (λ i. f i + g i) ≡ sum_below n f + sum_below n g = sum-both n f g in omega arith

@@ -1,14 +1,15 @@
 -- What is left of an image when its header names another L1 table, another refcount table or another size: of f with header H in g.
-use Rattle.std.specs.Prelude.{◌≡◌, ℕ, ◌+◌, ◌*◌, ◌/◌, ◌<◌}
+use Rattle.std.specs.Prelude.{◌≡◌, ◌≢◌, ℕ, ◌+◌, ◌*◌, ◌/◌, ◌==◌, if◌then◌else◌}
 use Rattle.imago_storage.specs.Disk.{Value}
-use Rattle.qcow2_types.specs.Bytes.{Bytes, word, sum_below}
-use Rattle.qcow2_types.specs.Words.{block_offset}
-use Rattle.qcow2_types.specs.Header.{Fields, Header, cluster_size, words_of_cluster, refcount_table_entries}
+use Rattle.qcow2_types.specs.Bytes.{Bytes, sum_below}
+use Rattle.qcow2_types.specs.Words.{Mapping}
+use Rattle.qcow2_types.specs.Header.{Fields, Header, cluster_size, words_of_cluster}
 use Rattle.qcow2_types.specs.Entries.{entry, l2_table}
 use Rattle.qcow2_types.specs.Counts.{block_at, count, counters_of_block}
-use Rattle.qcow2_types.specs.References.{of_cluster, meets, refs}
+use Rattle.qcow2_types.specs.References.{Weight, structure as structure_sum, contents as contents_sum, of_cluster, meets, refs}
 use Rattle.qcow2_types.specs.Consistency.{IsConsistent, leaks}
 use Rattle.qcow2_types.specs.Disk.{shown}
+use Rattle.qcow2_types.specs.Frames.{Same}
 use Rattle.qcow2_types.specs.Slots.{slot, Live}
 
 -- the fields with another L1 table
@@ -45,9 +46,12 @@ pub record L1Switched (f g : Bytes) (H : Header) (offset more : ℕ) : Type 0 wh
   pub blocks : (i : ℕ) → block_at g (with_l1 H.fields offset (H.fields.l1_entries + more)) i ≡ block_at f H.fields i
   pub counts : (d : ℕ) → count g (with_l1 H.fields offset (H.fields.l1_entries + more)) d ≡ count f H.fields d
   -- the new table's clusters are named, and no longer the old one's
+  pub structure : (weight : Weight) → structure_sum g (with_l1 H.fields offset (H.fields.l1_entries + more)) weight + weight H.fields.l1_offset (H.fields.l1_entries * 8) ≡ structure_sum f H.fields weight + weight offset ((H.fields.l1_entries + more) * 8)
+  pub contents : (of : Mapping → ℕ) → contents_sum g (with_l1 H.fields offset (H.fields.l1_entries + more)) of ≡ contents_sum f H.fields of
   pub references : (d : ℕ) → refs g (with_l1 H.fields offset (H.fields.l1_entries + more)) d + meets H.fields d H.fields.l1_offset (H.fields.l1_entries * 8) ≡ refs f H.fields d + meets H.fields d offset ((H.fields.l1_entries + more) * 8)
   pub entries : (guest : ℕ) → entry g (with_l1 H.fields offset (H.fields.l1_entries + more)) guest ≡ entry f H.fields guest
   pub shows : (external : Bytes) (p : ℕ) (below : Value) → shown g external (with_l1 H.fields offset (H.fields.l1_entries + more)) p below ≡ shown f external H.fields p below
+  pub free : (d : ℕ) → refs f H.fields d ≡ 0 → Same f g (d * cluster_size H.fields) (cluster_size H.fields)
 
 -- the fields with another refcount table
 abbrev pub with_reftable : Fields → ℕ → ℕ → Fields
@@ -57,23 +61,29 @@ with_reftable h offset clusters = record h { refcount_table_offset = offset; ref
 abbrev pub with_refcount_table : Header → ℕ → ℕ → Header
 with_refcount_table H offset clusters = record H { fields = with_reftable H.fields offset clusters }
 
--- How often cluster d is named by a refcount table at this place, with so many more clusters, and by the blocks that its words behind
--- the old ones name.
-abbrev pub newly_named : Bytes → Fields → ℕ → ℕ → ℕ → ℕ
-newly_named f h offset more d = meets h d offset ((h.refcount_table_clusters + more) * cluster_size h) + sum_below (more * words_of_cluster h) (λ i. of_cluster h (meets h d) (block_offset (word f offset (refcount_table_entries h + i))))
+-- Summed over a refcount table of so many clusters at this place, and over the blocks that its words name where the old ones named
+-- none.
+abbrev pub newly_named : Bytes → Fields → ℕ → ℕ → Weight → ℕ
+newly_named f h offset clusters weight =
+    weight offset (clusters * cluster_size h)
+    + sum_below (clusters * words_of_cluster h) (λ i. if block_at f h i == 0 then of_cluster h weight (block_at f (with_reftable h offset clusters) i) else 0)
 
--- The refcount table moved to this place, and has so many more clusters, whose words name new blocks or none.
-pub record RefcountTableSwitched (f g : Bytes) (H : Header) (offset more : ℕ) : Type 0 where
-  pub consistent : IsConsistent g (with_refcount_table H offset (H.fields.refcount_table_clusters + more))
-  pub tables : (i : ℕ) → l2_table g (with_reftable H.fields offset (H.fields.refcount_table_clusters + more)) i ≡ l2_table f H.fields i
-  pub slots : (i j : ℕ) → Live (l2_table f H.fields) H.fields i j → slot g (with_reftable H.fields offset (H.fields.refcount_table_clusters + more)) i j ≡ slot f H.fields i j
-  pub blocks : (i : ℕ) → i < refcount_table_entries H.fields → block_at g (with_reftable H.fields offset (H.fields.refcount_table_clusters + more)) i ≡ block_at f H.fields i
-  pub new_blocks : (i : ℕ) → i < more * words_of_cluster H.fields → block_at g (with_reftable H.fields offset (H.fields.refcount_table_clusters + more)) (refcount_table_entries H.fields + i) ≡ block_offset (word f offset (refcount_table_entries H.fields + i))
-  pub counts : (d : ℕ) → d / counters_of_block H.fields < refcount_table_entries H.fields → count g (with_reftable H.fields offset (H.fields.refcount_table_clusters + more)) d ≡ count f H.fields d
+-- The refcount table moved to this place, and has so many clusters: its words name the blocks that the old ones named, and perhaps new
+-- ones. The clusters of these are counted as their bytes say.
+pub record RefcountTableSwitched (f g : Bytes) (H : Header) (offset clusters : ℕ) : Type 0 where
+  pub consistent : IsConsistent g (with_refcount_table H offset clusters)
+  pub tables : (i : ℕ) → l2_table g (with_reftable H.fields offset clusters) i ≡ l2_table f H.fields i
+  pub slots : (i j : ℕ) → Live (l2_table f H.fields) H.fields i j → slot g (with_reftable H.fields offset clusters) i j ≡ slot f H.fields i j
+  pub blocks : (i : ℕ) → block_at g (with_reftable H.fields offset clusters) i ≡ block_at f (with_reftable H.fields offset clusters) i
+  pub counts : (d : ℕ) → count g (with_reftable H.fields offset clusters) d ≡ count f (with_reftable H.fields offset clusters) d
+  pub old_counts : (d : ℕ) → block_at f H.fields (d / counters_of_block H.fields) ≢ 0 → count g (with_reftable H.fields offset clusters) d ≡ count f H.fields d
   -- the new table's clusters and the new blocks are named, and no longer the old table's
-  pub references : (d : ℕ) → refs g (with_reftable H.fields offset (H.fields.refcount_table_clusters + more)) d + meets H.fields d H.fields.refcount_table_offset (H.fields.refcount_table_clusters * cluster_size H.fields) ≡ refs f H.fields d + newly_named f H.fields offset more d
-  pub entries : (guest : ℕ) → entry g (with_reftable H.fields offset (H.fields.refcount_table_clusters + more)) guest ≡ entry f H.fields guest
-  pub shows : (external : Bytes) (p : ℕ) (below : Value) → shown g external (with_reftable H.fields offset (H.fields.refcount_table_clusters + more)) p below ≡ shown f external H.fields p below
+  pub structure : (weight : Weight) → structure_sum g (with_reftable H.fields offset clusters) weight + weight H.fields.refcount_table_offset (H.fields.refcount_table_clusters * cluster_size H.fields) ≡ structure_sum f H.fields weight + newly_named f H.fields offset clusters weight
+  pub contents : (of : Mapping → ℕ) → contents_sum g (with_reftable H.fields offset clusters) of ≡ contents_sum f H.fields of
+  pub references : (d : ℕ) → refs g (with_reftable H.fields offset clusters) d + meets H.fields d H.fields.refcount_table_offset (H.fields.refcount_table_clusters * cluster_size H.fields) ≡ refs f H.fields d + newly_named f H.fields offset clusters (meets H.fields d)
+  pub entries : (guest : ℕ) → entry g (with_reftable H.fields offset clusters) guest ≡ entry f H.fields guest
+  pub shows : (external : Bytes) (p : ℕ) (below : Value) → shown g external (with_reftable H.fields offset clusters) p below ≡ shown f external H.fields p below
+  pub free : (d : ℕ) → refs f H.fields d ≡ 0 → Same f g (d * cluster_size H.fields) (cluster_size H.fields)
 
 -- the fields with another size of the disk
 abbrev pub sized : Fields → ℕ → Fields
@@ -90,7 +100,10 @@ pub record SizeSwitched (f g : Bytes) (H : Header) (n : ℕ) : Type 0 where
   pub slots : (i j : ℕ) → Live (l2_table f H.fields) H.fields i j → slot g (sized H.fields n) i j ≡ slot f H.fields i j
   pub blocks : (i : ℕ) → block_at g (sized H.fields n) i ≡ block_at f H.fields i
   pub counts : (d : ℕ) → count g (sized H.fields n) d ≡ count f H.fields d
+  pub structure : (weight : Weight) → structure_sum g (sized H.fields n) weight ≡ structure_sum f H.fields weight
+  pub contents : (of : Mapping → ℕ) → contents_sum g (sized H.fields n) of ≡ contents_sum f H.fields of
   pub references : (d : ℕ) → refs g (sized H.fields n) d ≡ refs f H.fields d
   pub leaks : leaks g (sized H.fields n) ≡ leaks f H.fields
   pub entries : (guest : ℕ) → entry g (sized H.fields n) guest ≡ entry f H.fields guest
   pub shows : (external : Bytes) (p : ℕ) (below : Value) → shown g external (sized H.fields n) p below ≡ shown f external H.fields p below
+  pub free : (d : ℕ) → refs f H.fields d ≡ 0 → Same f g (d * cluster_size H.fields) (cluster_size H.fields)

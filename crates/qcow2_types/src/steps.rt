@@ -134,16 +134,16 @@ pub fn switching_the_l1_table()
         → L1Switched f g h offset more }
 {}
 
-/// A header that names another refcount table, whose words are the old ones and then some that may name new blocks, leaves the
-/// image as it is, but for the old table, which nothing names then. The table and the blocks stand apart, in clusters that
-/// nothing named and that are counted then.
+/// A header that names another refcount table, whose words name the blocks that the old ones named, and perhaps new ones where these
+/// named none, leaves the image as it is, but for the old table, which nothing names then. The table and the new blocks stand apart,
+/// in clusters that nothing named and that the new table counts.
 pub fn switching_the_refcount_table()
-    ensures { (f g : Bytes) (h : Header) → IsConsistent f h → (offset more : ℕ) → header_of true g ≡ Ok (with_refcount_table h offset (h.fields.refcount_table_clusters + more)) → Outside f g 0 64
-        → ((i : ℕ) → i < refcount_table_entries h.fields → word f offset i ≡ word f h.fields.refcount_table_offset i)
-        → ((i : ℕ) → refcount_table_entries h.fields ≤ i → i < refcount_table_entries h.fields + more * words_of_cluster h.fields → IsTrue (block_word_sound h.fields.cluster_bits (word f offset i)))
-        → ((d : ℕ) → newly_named f h.fields offset more d ≤ 1)
-        → ((d : ℕ) → 0 < newly_named f h.fields offset more d → (refs f h.fields d ≡ 0) × (1 ≤ count g (with_reftable h.fields offset (h.fields.refcount_table_clusters + more)) d))
-        → RefcountTableSwitched f g h offset more }
+    ensures { (f g : Bytes) (h : Header) → IsConsistent f h → (offset clusters : ℕ) → header_of true g ≡ Ok (with_refcount_table h offset clusters) → Outside f g 0 64
+        → ((i : ℕ) → i < clusters * words_of_cluster h.fields → IsTrue (block_word_sound h.fields.cluster_bits (word f offset i)))
+        → ((i : ℕ) → block_at f h.fields i ≢ 0 → block_at f (with_reftable h.fields offset clusters) i ≡ block_at f h.fields i)
+        → ((d : ℕ) → newly_named f h.fields offset clusters (meets h.fields d) ≤ 1)
+        → ((d : ℕ) → 0 < newly_named f h.fields offset clusters (meets h.fields d) → (refs f h.fields d ≡ 0) × (1 ≤ count f (with_reftable h.fields offset clusters) d))
+        → RefcountTableSwitched f g h offset clusters }
 {}
 
 /// A header with another size of the disk leaves the rest of the image as it is: what is counted, named and leaked, and what each
