@@ -79,9 +79,10 @@ module _ (bits order : ℕ) (name format data_file : Option (List ℕ)) (low : 9
   unmarked true = (refl, refl)
   unmarked false = (refl, refl)
 
-  allowed : first_fault (rules_of_writing true (written_fields (new_header bits order name format data_file))) ≡ None
+  allowed : (writing : Bool) → first_fault (rules_of_writing writing (written_fields (new_header bits order name format data_file))) ≡ None
   unfolding written_fields
-  allowed = rw ((unmarked (is_some data_file)).0, (unmarked (is_some data_file)).1, place-behind name) refl
+  allowed false = refl
+  allowed true = rw ((unmarked (is_some data_file)).0, (unmarked (is_some data_file)).1, place-behind name) refl
 
   names : list_all is_plain_name first_features ≡ true
   unfolding is_utf8 chars encode_utf8
@@ -108,15 +109,15 @@ module _ (bits order : ℕ) (name format data_file : Option (List ℕ)) (low : 9
   }
 
   -- The texts are UTF-8, and a name isn't empty.
-  pub new-reloadable : name ≢ Some [] → IsTrue (is_text name) → IsTrue (is_text format) → IsTrue (is_text data_file) → IsReloadable true (new_header bits order name format data_file)
-  new-reloadable some text_of_name text_of_format text_of_data = record {
+  pub new-reloadable : name ≢ Some [] → IsTrue (is_text name) → IsTrue (is_text format) → IsTrue (is_text data_file) → (writing : Bool) → IsReloadable writing (new_header bits order name format data_file)
+  new-reloadable some text_of_name text_of_format text_of_data writing = record {
     version = inr refl;
     older = λ e. absurd (omega (arith, e));
     first = first;
     later = record { snapshots_offset = omega arith; incompatible = feature-number (is_some data_file); compatible = omega arith; autoclear = omega arith; refcount_order = omega arith };
     shape = shape;
     sizes = sizes;
-    allowed = allowed;
+    allowed = allowed writing;
     fits = fits;
     named = some;
     backing_name = text_of_name;

@@ -86,10 +86,11 @@ pub fn writing_twice_writes_the_same()
 {}
 
 /// What was written of a header loads as the header that it is then: `Header::write` writes these bytes at byte 0 of the file. A
-/// new header that fits its first cluster is one that loads, where its texts are UTF-8 and a backing file's name isn't empty.
+/// new header that fits its first cluster is one that loads, for reading and for writing, where its texts are UTF-8 and a backing
+/// file's name isn't empty.
 pub fn written_header_loads_again()
     ensures new { (bits order : ℕ) (name format data_file : Option (List ℕ)) → 9 ≤ bits → bits ≤ 21 → order ≤ 6
         → IsTrue (fits_first_cluster (new_header bits order name format data_file)) → name ≢ Some [] → IsTrue (is_text name) → IsTrue (is_text format) → IsTrue (is_text data_file)
-        → IsReloadable true (new_header bits order name format data_file) }
+        → (writing : Bool) → IsReloadable writing (new_header bits order name format data_file) }
     ensures loads { (writing : Bool) (f : Bytes) (h : HeaderRecord) → IsReloadable writing h → header_of writing (splice f 0 (header_bytes h)) ≡ Ok (written h) }
 {}
