@@ -21,7 +21,8 @@ use Rattle.qcow2_types.proofs.Splices.{be-same}
 use Rattle.qcow2_metadata.specs.Tables.{words_in, AreSound, HasUnsound, WhyNotDecoded, WhyNotLoaded, word_sound}
 use Rattle.qcow2_metadata.specs.Places.{IsPlaced, place_of}
 use Rattle.qcow2_metadata.proofs.TableSteps.{EachWord}
-use Rattle.qcow2_metadata.specs.Tables.{Kind, l1_words, l2_words, block_words, TableValue, IsTable, IsLength, IsAsked, IsPlacedTable, table_place, table_bytes, max_entries}
+use Rattle.qcow2_metadata.specs.Tables.{Kind, l1_words, l2_words, block_words, TableValue, IsTable, IsLength, IsAsked, IsPlacedTable, table_place, max_entries}
+use Rattle.qcow2_types.specs.TableBytes.{table_bytes}
 
 -- no table has more words than the largest L1 table
 pub few_by_kind : (kind : Kind) (layout : Layout) (n : ℕ) → layout.cluster_bits ≤ 21 → IsLength kind layout n → n ≤ 2 ^ 22

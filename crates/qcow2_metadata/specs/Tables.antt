@@ -1,8 +1,8 @@
 -- Tables of 64-bit words: the L1 table, L2 tables and the refcount table.
 use Rattle.std.specs.Prelude.{◌≡◌, ⊤, ℕ, ◌+◌, ◌-◌, ◌*◌, ◌%◌, ◌^◌, ◌<◌, ◌≤◌, Bool, false, not, ◌&&◌, ◌||◌, ◌==◌, if◌then◌else◌, List, length, map, slice_index, slice_set, ◌++◌, replicate, max, true, IsTrue, Option, Some, None}
-use Rattle.std.specs.List.{range_with_len, flat_map}
-use Rattle.std.specs.Int.{to_be_bytes, w64}
+use Rattle.std.specs.List.{range_with_len}
 use Rattle.qcow2_types.specs.Bytes.{Bytes, word}
+use Rattle.qcow2_types.specs.TableBytes.{AreFit}
 use Rattle.qcow2_types.specs.Header.{Fields, cluster_size, words_of_cluster, layout_of}
 use Rattle.imago_storage.specs.Calls.{Cause}
 use Rattle.imago_storage.specs.declared.fault.Fault.{Fault}
@@ -91,10 +91,6 @@ mapping_in table i = mapping_of table.layout (slice_index table.words i)
 abbrev pub AreSound : Kind → Layout → List ℕ → Type 0
 AreSound kind layout words = (i : ℕ) → i < length words → IsTrue (word_sound kind layout (slice_index words i))
 
--- each of these words has 64 bits
-abbrev pub AreFit : List ℕ → Type 0
-AreFit words = (i : ℕ) → i < length words → slice_index words i < 2 ^ 64
-
 -- what holds of each table of a kind
 pub record IsTable (kind : Kind) (table : TableValue) : Type 0 where
   pub low : 9 ≤ table.layout.cluster_bits
@@ -106,10 +102,6 @@ pub record IsTable (kind : Kind) (table : TableValue) : Type 0 where
 -- n words of a file, from a place on
 abbrev pub words_in : Bytes → ℕ → ℕ → List ℕ
 words_in f place n = map (word f place) (range_with_len 0 n)
-
--- the bytes of words
-abbrev pub table_bytes : List ℕ → List ℕ
-table_bytes words = flat_map (to_be_bytes w64) words
 
 -- the table of n words that begins with this cluster of a file
 abbrev pub table_in : Bytes → Fields → ℕ → ℕ → TableValue

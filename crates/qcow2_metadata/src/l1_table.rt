@@ -1,7 +1,8 @@
 // The L1 table.
 ghost use Rattle.std.specs.Prelude.{◌≡◌, ℕ, ◌+◌, ◌*◌, ◌^◌, ◌<◌, ◌≤◌, ◌-◌, ◌↔◌, IsTrue, IsOk, IfOk, IsErrOf, IsOkUnless, length, min, refl, Some, None, true, false};
 ghost use Rattle.qcow2_types.specs.Header.{layout_of};
-ghost use Rattle.qcow2_metadata.specs.Tables.{IsLength, AreSound, AreFit, IsNamable, l1_words, grown_l1, with_word, table_place};
+ghost use Rattle.qcow2_metadata.specs.Tables.{IsLength, AreSound, IsNamable, l1_words, grown_l1, with_word, table_place};
+ghost use Rattle.qcow2_types.specs.TableBytes.{AreFit};
 
 use crate::Header;
 use crate::entries::{L1Entry, TableEntry};

@@ -6,7 +6,8 @@ ghost use Rattle.qcow2_types.specs.Places.{l2_entries};
 ghost use Rattle.qcow2_types.specs.Words.{mapping_of};
 ghost use Rattle.imago_storage.specs.Through.{PutAtOnce};
 ghost use Rattle.qcow2_metadata.specs.Places.{IsInReach};
-ghost use Rattle.qcow2_metadata.specs.Tables.{IsLength, AreSound, AreFit, l2_words, mapping_in, with_word, shared_word, table_bytes};
+ghost use Rattle.qcow2_metadata.specs.Tables.{IsLength, AreSound, l2_words, mapping_in, with_word, shared_word};
+ghost use Rattle.qcow2_types.specs.TableBytes.{AreFit, table_bytes};
 
 use crate::Header;
 use crate::entries::{L2Entry, TableEntry};

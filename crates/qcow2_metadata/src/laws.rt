@@ -10,7 +10,8 @@ ghost use Rattle.qcow2_metadata.specs.Allocations.{kept_for_zero, zeroed_word};
 ghost use Rattle.qcow2_metadata.specs.Blocks.{Packs};
 ghost use Rattle.qcow2_metadata.specs.Places.{IsInReach};
 ghost use Rattle.qcow2_metadata.specs.Reloading.{is_text, IsReloadable};
-ghost use Rattle.qcow2_metadata.specs.Tables.{AreFit, shared_word, table_bytes, unmarked_mapping, words_in};
+ghost use Rattle.qcow2_metadata.specs.Tables.{shared_word, unmarked_mapping, words_in};
+ghost use Rattle.qcow2_types.specs.TableBytes.{AreFit, table_bytes};
 
 use crate::Header;
 use crate::layout::TableLayout;

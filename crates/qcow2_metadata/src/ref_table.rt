@@ -4,7 +4,8 @@ ghost use Rattle.qcow2_types.specs.Header.{Shaped, layout_of, words_of_cluster};
 ghost use Rattle.qcow2_types.specs.Counts.{counters_of_block};
 ghost use Rattle.qcow2_metadata.specs.Growth.{IsEnough, IsGrownLength};
 ghost use Rattle.qcow2_metadata.specs.Places.{place_of};
-ghost use Rattle.qcow2_metadata.specs.Tables.{IsLength, AreSound, AreFit, IsNamable, block_words, padded, with_word};
+ghost use Rattle.qcow2_metadata.specs.Tables.{IsLength, AreSound, IsNamable, block_words, padded, with_word};
+ghost use Rattle.qcow2_types.specs.TableBytes.{AreFit};
 
 use crate::Header;
 use crate::clusters::first_byte_of;

@@ -10,7 +10,8 @@ ghost use Rattle.qcow2_types.specs.Bytes.{bytes_of};
 ghost use Rattle.qcow2_types.specs.Header.{Shaped, cluster_size, layout_of};
 ghost use Rattle.std.specs.Int.{to_be_bytes, w64};
 ghost use Rattle.qcow2_metadata.specs.Places.{IsInReach, IsPlaced, place_of};
-ghost use Rattle.qcow2_metadata.specs.Tables.{TableValue, IsTable, IsLength, IsAsked, AreSound, AreFit, HasUnsound, WhyNotLoaded, WhyNotDecoded, IsPlacedTable, table_place, max_entries, words_in, table_bytes, table_in, padded};
+ghost use Rattle.qcow2_metadata.specs.Tables.{TableValue, IsTable, IsLength, IsAsked, AreSound, HasUnsound, WhyNotLoaded, WhyNotDecoded, IsPlacedTable, table_place, max_entries, words_in, table_in, padded};
+ghost use Rattle.qcow2_types.specs.TableBytes.{AreFit, table_bytes};
 
 #[cfg(test)]
 mod tests;

@@ -2,12 +2,12 @@
 use Rattle.std.proofs.Common.{◌≡◌, ℕ, zero, suc, ◌+◌, ◌-◌, ◌*◌, ◌^◌, ◌<◌, refl, arith, ap, sym, ◌∙◌, List, [], ◌∷◌, ◌++◌, length, get_or, inl, inr, length-append}
 use Rattle.std.specs.Prelude.{cond, ◌&&◌, nat_lt, nat_le, ◌⊎◌, slice_index}
 use Rattle.std.specs.Int.{w64, to_be_bytes}
-use Rattle.std.specs.List.{flat_map}
 use Rattle.std.proofs.lemmas.Bool.{cases_lt}
 use Rattle.std.proofs.lemmas.List.{get_or_append_left, get_or-append_right}
 use Rattle.std.proofs.lemmas.Nat.{from_be_bytes-to_be_bytes_8}
 use Rattle.std.proofs.Math.Path.{fun_ext}
 use Rattle.qcow2_types.specs.Bytes.{Bytes, be, word, splice, bytes_of}
+use Rattle.qcow2_types.specs.TableBytes.{AreFit, table_bytes}
 use Rattle.qcow2_types.proofs.Splices.{be-same, splice-outside, splice-inside, be-of-bytes}
 
 -- bytes that are to be written, with their place
@@ -61,35 +61,27 @@ over-written f e (x ∷ es) (inr later) p = splice-at _ _ x.0 x.1 p (over-writte
 pub over-stays : (f : Bytes) (e : Pending) (es : List Pending) → IsIn e es → over (splice f e.0 e.1) es ≡ over f es
 over-stays f e es inside = fun_ext (over-written f e es inside)
 
--- The words of a table as bytes, and read again.
-abbrev pub words_bytes : List ℕ → List ℕ
-words_bytes ws = flat_map (to_be_bytes w64) ws
-
--- each word has 64 bits
-abbrev pub AllFit : List ℕ → Type 0
-AllFit ws = (i : ℕ) → i < length ws → slice_index ws i < 2 ^ 64
-
 -- each word is read again
-pub words-read : (ws : List ℕ) (j : ℕ) → AllFit ws → j < length ws → be (bytes_of (words_bytes ws)) (8 * j) 8 ≡ get_or ws j 0
+pub words-read : (ws : List ℕ) (j : ℕ) → AreFit ws → j < length ws → be (bytes_of (table_bytes ws)) (8 * j) 8 ≡ get_or ws j 0
 words-read [] j fit lt = absurd (omega arith)
 words-read (w ∷ ws) zero fit lt =
-    be-same (bytes_of (to_be_bytes w64 w ++ words_bytes ws)) (bytes_of (to_be_bytes w64 w)) (8 * 0) 0 8 (λ k less. let none : 0 + k ≡ k = omega arith in rw none (get_or_append_left (to_be_bytes w64 w) (words_bytes ws) 0 k (omega arith)))
+    be-same (bytes_of (to_be_bytes w64 w ++ table_bytes ws)) (bytes_of (to_be_bytes w64 w)) (8 * 0) 0 8 (λ k less. let none : 0 + k ≡ k = omega arith in rw none (get_or_append_left (to_be_bytes w64 w) (table_bytes ws) 0 k (omega arith)))
     ∙ (be-of-bytes (to_be_bytes w64 w) ∙ from_be_bytes-to_be_bytes_8 w (fit 0 lt))
 words-read (w ∷ ws) (suc j) fit lt =
-    be-same (bytes_of (to_be_bytes w64 w ++ words_bytes ws)) (bytes_of (words_bytes ws)) (8 * suc j) (8 * j) 8
-    (λ k less. let place : (8 * suc j + k) - 8 ≡ 8 * j + k = omega arith in get_or-append_right (to_be_bytes w64 w) (words_bytes ws) 8 (8 * suc j + k) 0 refl (omega arith) ∙ ap (λ m. get_or (words_bytes ws) m 0) place)
+    be-same (bytes_of (to_be_bytes w64 w ++ table_bytes ws)) (bytes_of (table_bytes ws)) (8 * suc j) (8 * j) 8
+    (λ k less. let place : (8 * suc j + k) - 8 ≡ 8 * j + k = omega arith in get_or-append_right (to_be_bytes w64 w) (table_bytes ws) 8 (8 * suc j + k) 0 refl (omega arith) ∙ ap (λ m. get_or (table_bytes ws) m 0) place)
     ∙ words-read ws j (λ i less. fit (suc i) (omega (arith, less))) (omega arith)
 
 -- a word has 8 bytes
-pub words-length : (ws : List ℕ) → length (words_bytes ws) ≡ 8 * length ws
+pub words-length : (ws : List ℕ) → length (table_bytes ws) ≡ 8 * length ws
 words-length [] = refl
-words-length (w ∷ ws) = let more : length (words_bytes ws) ≡ 8 * length ws = words-length ws in omega (arith, length-append (to_be_bytes w64 w) (words_bytes ws))
+words-length (w ∷ ws) = let more : length (table_bytes ws) ≡ 8 * length ws = words-length ws in omega (arith, length-append (to_be_bytes w64 w) (table_bytes ws))
 
 -- A cached table over the file shows its words.
-pub table-over : (f : Bytes) (t : ℕ) (ws : List ℕ) (j : ℕ) → AllFit ws → j < length ws → word (splice f t (words_bytes ws)) t j ≡ get_or ws j 0
+pub table-over : (f : Bytes) (t : ℕ) (ws : List ℕ) (j : ℕ) → AreFit ws → j < length ws → word (splice f t (table_bytes ws)) t j ≡ get_or ws j 0
 unfolding word
 table-over f t ws j fit lt =
-    let size : length (words_bytes ws) ≡ 8 * length ws = words-length ws in
-    be-same (splice f t (words_bytes ws)) (bytes_of (words_bytes ws)) (t + 8 * j) (8 * j) 8
-    (λ k less. let place : t + (8 * j + k) ≡ t + 8 * j + k = omega arith in rw place at (splice-inside f t (words_bytes ws) (8 * j + k) (omega arith)))
+    let size : length (table_bytes ws) ≡ 8 * length ws = words-length ws in
+    be-same (splice f t (table_bytes ws)) (bytes_of (table_bytes ws)) (t + 8 * j) (8 * j) 8
+    (λ k less. let place : t + (8 * j + k) ≡ t + 8 * j + k = omega arith in rw place at (splice-inside f t (table_bytes ws) (8 * j + k) (omega arith)))
     ∙ words-read ws j fit lt

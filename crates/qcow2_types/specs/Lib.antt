@@ -1,4 +1,5 @@
 pub mod Bytes
+pub mod TableBytes
 pub mod Words
 pub mod Header
 pub mod Entries

@@ -1,5 +1,5 @@
 use Rattle.std.proofs.Common.{◌≡◌, take}
-use Rattle.qcow2_metadata.specs.Tables.{table_bytes}
+use Rattle.qcow2_types.specs.TableBytes.{table_bytes}
 use Rattle.qcow2_metadata.proofs.table.bytes_in.Given as goal
 
 -- The bytes so far are those of the words so far.

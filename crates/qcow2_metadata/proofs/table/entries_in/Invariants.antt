@@ -1,7 +1,8 @@
 use Rattle.std.proofs.Common.{◌≡◌}
 use Rattle.qcow2_types.specs.Bytes.{bytes_of}
 use Rattle.qcow2_types.specs.Header.{layout_of}
-use Rattle.qcow2_metadata.specs.Tables.{words_in, AreSound, AreFit}
+use Rattle.qcow2_metadata.specs.Tables.{words_in, AreSound}
+use Rattle.qcow2_types.specs.TableBytes.{AreFit}
 use Rattle.qcow2_metadata.proofs.table.entries_in.Given as goal
 
 -- The entries so far are the words so far, each of which is sound and has 64 bits.

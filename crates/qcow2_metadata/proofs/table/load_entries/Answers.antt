@@ -1,7 +1,8 @@
 use Rattle.std.proofs.Common.{◌≡◌, ◌*◌, ◌/◌, ◌^◌, ◌∙◌, ℕ, List, ap, subst, length}
 use Rattle.qcow2_types.specs.Bytes.{bytes_of}
 use Rattle.qcow2_types.specs.Header.{cluster_size, layout_of}
-use Rattle.qcow2_metadata.specs.Tables.{words_in, AreSound, AreFit, WhyNotDecoded}
+use Rattle.qcow2_metadata.specs.Tables.{words_in, AreSound, WhyNotDecoded}
+use Rattle.qcow2_types.specs.TableBytes.{AreFit}
 use Rattle.qcow2_metadata.proofs.TableFacts.{words_read, decoded_loaded, unread_loaded}
 use Rattle.qcow2_metadata.proofs.table.load_entries.Goals as goal
 

@@ -2,7 +2,8 @@ use Rattle.std.proofs.Common.{◌≡◌, ◌+◌, ◌*◌, ◌%◌, ◌≤◌, �
 use Rattle.imago_storage.specs.State.{unit_of}
 use Rattle.imago_storage.specs.Through.{IsAtOnce, Put, PutAtOnce}
 use Rattle.imago_storage.proofs.Once.{put-below, put-at-once}
-use Rattle.qcow2_metadata.specs.Tables.{table_place, table_bytes}
+use Rattle.qcow2_metadata.specs.Tables.{table_place}
+use Rattle.qcow2_types.specs.TableBytes.{table_bytes}
 use Rattle.qcow2_metadata.proofs.PlaceLemmas.{place-whole}
 use Rattle.qcow2_metadata.proofs.TableFacts.{table_below, bytes_long}
 use Rattle.qcow2_metadata.proofs.Untouched.{put_nothing, put_nothing_at_once}

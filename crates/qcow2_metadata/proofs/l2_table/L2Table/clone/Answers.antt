@@ -1,7 +1,8 @@
 use Rattle.std.proofs.Common.{◌≡◌, ◌∙◌, ap, sym, subst, map, take, length, arith}
 use Rattle.std.proofs.lemmas.List.{length-map, take_all}
 use Rattle.qcow2_types.specs.Words.{Layout}
-use Rattle.qcow2_metadata.specs.Tables.{TableValue, l2_words, shared_word, AreSound, AreFit, IsLength}
+use Rattle.qcow2_metadata.specs.Tables.{TableValue, l2_words, shared_word, AreSound, IsLength}
+use Rattle.qcow2_types.specs.TableBytes.{AreFit}
 use Rattle.qcow2_metadata.proofs.L2Words.{shared_sound, shared_fit}
 use Rattle.qcow2_metadata.proofs.l2_table.L2Table.clone.Goals as goal
 

@@ -2,7 +2,8 @@ use Rattle.std.proofs.Common.{◌≡◌, ◌≤◌, ◌∙◌, refl, ap, sym, su
 use Rattle.std.specs.Prelude.{replicate}
 use Rattle.std.proofs.lemmas.List.{length-replicate}
 use Rattle.qcow2_types.specs.Header.{layout_of, words_of_cluster}
-use Rattle.qcow2_metadata.specs.Tables.{l2_words, AreSound, AreFit, IsLength, max_entries}
+use Rattle.qcow2_metadata.specs.Tables.{l2_words, AreSound, IsLength, max_entries}
+use Rattle.qcow2_types.specs.TableBytes.{AreFit}
 use Rattle.qcow2_metadata.proofs.TableFacts.{asked_is_length}
 use Rattle.qcow2_metadata.proofs.GrowthLemmas.{cluster_words_bounds}
 use Rattle.qcow2_metadata.proofs.L2Words.{cleared_sound, cleared_fit}

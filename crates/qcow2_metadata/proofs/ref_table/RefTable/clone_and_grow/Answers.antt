@@ -1,7 +1,8 @@
 use Rattle.std.proofs.Common.{◌≡◌, ◌∙◌, ap, sym, subst, List, ℕ}
 use Rattle.std.specs.Prelude.{false}
 use Rattle.qcow2_types.specs.Header.{layout_of}
-use Rattle.qcow2_metadata.specs.Tables.{TableValue, AreSound, AreFit, block_words, padded}
+use Rattle.qcow2_metadata.specs.Tables.{TableValue, AreSound, block_words, padded}
+use Rattle.qcow2_types.specs.TableBytes.{AreFit}
 use Rattle.qcow2_metadata.proofs.TableSteps.{padded_sound, padded_fit}
 use Rattle.qcow2_metadata.proofs.ref_table.RefTable.clone_and_grow.Goals as goal
 
