@@ -59,3 +59,4 @@ pub mod TableReplaces
 pub mod HeaderSwitch
 pub mod HeldBytes
 pub mod OneVerdict
+pub mod WorkedGrowth

@@ -1,7 +1,7 @@
 -- The bytes of an image of 65,536 bytes with clusters of 512, after 01 02 03 at 510: its nonzero words, by their places.
 use Rattle.std.specs.Prelude.{ℕ, ◌+◌, ◌-◌, List, [], ◌∷◌, length, nat_lt, nat_le, slice_index, if◌then◌else◌, ◌&&◌, None, codes}
 use Rattle.imago_storage.specs.Disk.{Value, byte}
-use Rattle.qcow2_types.specs.Bytes.{Bytes}
+use Rattle.qcow2_types.specs.Bytes.{Bytes, splice}
 use Rattle.qcow2_types.specs.Header.{Fields, Header}
 
 -- a file that is 0 but for these pieces, the first of which that holds a place decides
@@ -41,6 +41,18 @@ image =
 -- the worked image with these bytes from that place on
 abbrev pub with_bytes : ℕ → List ℕ → Bytes
 with_bytes place bytes = of_pieces ((place, bytes) ∷ image)
+
+-- The worked image with a refcount block in cluster 256, which it doesn't name, and which counts clusters 256 to 258 once.
+unfoldable pub block_written : Bytes
+block_written = splice (of_pieces image) 131072 (0 ∷ 1 ∷ 0 ∷ 1 ∷ 0 ∷ 1 ∷ [])
+
+-- the same, with a refcount table of two clusters in clusters 257 and 258, which names the image's block and, second, that one
+unfoldable pub table_written : Bytes
+table_written = splice block_written 131584 (0 ∷ 0 ∷ 0 ∷ 0 ∷ 0 ∷ 0 ∷ 4 ∷ 0 ∷ 0 ∷ 0 ∷ 0 ∷ 0 ∷ 0 ∷ 2 ∷ 0 ∷ 0 ∷ [])
+
+-- the same, with a header that names this table
+unfoldable pub grown : Bytes
+grown = splice table_written 48 (0 ∷ 0 ∷ 0 ∷ 0 ∷ 0 ∷ 2 ∷ 2 ∷ 0 ∷ 0 ∷ 0 ∷ 0 ∷ 2 ∷ [])
 
 -- the fields of its header
 unfoldable pub image_fields : Fields

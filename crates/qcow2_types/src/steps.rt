@@ -1,7 +1,7 @@
 //! What one write into a consistent image leaves. The functions do nothing, and their contracts are the laws: f is the file
 //! before the write, and the image stays consistent under the same header.
 
-ghost use Rattle.std.specs.Prelude.{◌≡◌, ◌≢◌, ◌≤◌, ◌<◌, ◌+◌, ◌*◌, ◌/◌, ◌%◌, ◌^◌, ℕ, List, [], ◌∷◌, length, true, IsTrue, IsFalse, Ok};
+ghost use Rattle.std.specs.Prelude.{◌≡◌, ◌≢◌, ◌≤◌, ◌<◌, ◌+◌, ◌*◌, ◌/◌, ◌%◌, ◌^◌, ℕ, List, [], ◌∷◌, length, true, map, IsTrue, IsFalse, Ok};
 ghost use Rattle.std.specs.Int.{w64, to_be_bytes};
 ghost use Rattle.qcow2_types.specs.Bytes.{Bytes, be, bytes_of, word, splice};
 ghost use Rattle.qcow2_types.specs.Words.{data_at, unmapped, is_damaged, mapping_of, l1_word_sound, table_offset, block_word_sound, block_offset};
@@ -16,7 +16,7 @@ ghost use Rattle.qcow2_types.specs.Frames.{Outside};
 ghost use Rattle.qcow2_types.specs.Steps.{DataWritten, FreeWritten, BlockWritten, BlockEntered, CounterWritten, ClusterMapped, SlotWritten, TableEntered, TableReplaced, TableRewritten, TableSwapped, TableWritten};
 ghost use Rattle.imago_storage.specs.Disk.{byte};
 ghost use Rattle.qcow2_types.specs.Disk.{at, qcow2};
-ghost use Rattle.qcow2_types.specs.WorkedImage.{of_pieces, image, image_header};
+ghost use Rattle.qcow2_types.specs.WorkedImage.{of_pieces, image, image_fields, image_header, table_written, grown};
 
 /// A write into a cluster that a word of an L2 table names as copied data shows at that word's guest cluster alone.
 pub fn data_write_stays_in_its_cluster()
@@ -150,6 +150,14 @@ pub fn switching_the_refcount_table()
 /// place shows.
 pub fn switching_the_size()
     ensures { (f g : Bytes) (h : Header) → IsConsistent f h → (n : ℕ) → header_of true g ≡ Ok (with_size h n) → Outside f g 0 64 → SizeSwitched f g h n }
+{}
+
+/// The refcount table of the worked image grows: a block in cluster 256, below the reach of the old table, which names no block there,
+/// then a table in clusters 257 and 258 that names it, then the header. Clusters 0, 1, 255 to 259 are then counted and named as follows.
+pub fn growing_the_refcount_table_of_the_worked_image()
+    ensures switched { RefcountTableSwitched table_written grown image_header 131584 2 }
+    ensures counts { map (count grown (with_reftable image_fields 131584 2)) (0 ∷ 1 ∷ 255 ∷ 256 ∷ 257 ∷ 258 ∷ 259 ∷ []) ≡ 1 ∷ 1 ∷ 0 ∷ 1 ∷ 1 ∷ 1 ∷ 0 ∷ [] }
+    ensures references { map (refs grown (with_reftable image_fields 131584 2)) (0 ∷ 1 ∷ 255 ∷ 256 ∷ 257 ∷ 258 ∷ 259 ∷ []) ≡ 1 ∷ 0 ∷ 0 ∷ 1 ∷ 1 ∷ 1 ∷ 0 ∷ [] }
 {}
 
 /// In the worked image, cluster 7 is counted, and then named by the word of guest cluster 2, after 09 was written to it.
