@@ -1,5 +1,5 @@
 -- The mappings of the program, as the format's.
-use Rattle.std.specs.Prelude.{◌≡◌, Bool, false, not, ◌&&◌, ◌==◌, if◌then◌else◌, ◌≤◌, ◌<◌, ◌+◌, ◌*◌, ◌^◌, ⊤, ℕ, Some, None, Result, Ok, Err}
+use Rattle.std.specs.Prelude.{◌≡◌, Bool, true, false, not, ◌&&◌, ◌==◌, if◌then◌else◌, ◌≤◌, ◌<◌, ◌+◌, ◌*◌, ◌^◌, ⊤, ℕ, Some, None, Result, Ok, Err}
 use Rattle.qcow2_types.specs.Words.{max_offset, Mapping, unmapped, data_at, zeroes, packed, damaged}
 use Rattle.imago_storage.specs.declared.fault.Fault.{Fault}
 use Rattle.qcow2_metadata.specs.declared.mapping.L2Mapping.{L2Mapping}
@@ -35,10 +35,10 @@ abbrev pub same_mark : Bool → Bool → Bool
 same_mark a b = if a then b else not b
 
 -- Whether a mapping goes on where the one before ends: of the same kind, at the next cluster of the host or the next place of the
--- layer below, with the same mark. What is compressed never does.
+-- layer below, with the same mark of its cluster, if it has one. What is compressed never does.
 abbrev pub follows : ℕ → L2Mapping → L2Mapping → Bool
 follows cluster_bits (DataFile a x) (DataFile b y) = (b == a + 1) && same_mark x y
 follows cluster_bits (Backing a) (Backing b) = b == a + 2 ^ cluster_bits
-follows cluster_bits (Zero None x) (Zero None y) = same_mark x y
+follows cluster_bits (Zero None x) (Zero None y) = true
 follows cluster_bits (Zero (Some a) x) (Zero (Some b) y) = (b == a + 1) && same_mark x y
 follows cluster_bits _ _ = false

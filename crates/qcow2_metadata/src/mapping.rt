@@ -1,5 +1,5 @@
 // What the words of L2 tables mean, and the host clusters that they take.
-ghost use Rattle.std.specs.Prelude.{◌≡◌, ◌==◌, ℕ, Some, None, ◌+◌, ◌<◌, ◌^◌, ◌≤◌};
+ghost use Rattle.std.specs.Prelude.{◌≡◌, ◌==◌, ℕ, Bool, Some, None, ◌+◌, ◌<◌, ◌^◌, ◌≤◌};
 ghost use Rattle.qcow2_metadata.specs.MappingView.{mapping_seen, IsNamed, follows};
 ghost use Rattle.qcow2_metadata.specs.Allocations.{allocation_of, clusters_of_range as clusters_of_range_of, freed, replaced, unkept, kept_where, zeroed_word, IsKeptInReach};
 
@@ -38,8 +38,9 @@ pub enum L2Mapping {
 
 impl L2Mapping {
     /// Whether the mapping goes on where the one of the guest cluster before, `preceding`, ends: both are of one kind, and this
-    /// is at the next host cluster, or at the next place of the layer below, with the same copied mark. Zeroes go on from zeroes
-    /// where neither has a host cluster. Nothing goes on from the last host cluster, and nothing that is compressed goes on.
+    /// is at the next host cluster, with the same copied mark, or at the next place of the layer below. Zeroes go on from zeroes
+    /// where neither has a host cluster, whatever their marks. Nothing goes on from the last host cluster, and nothing that is
+    /// compressed goes on.
     pub fn is_consecutive(&self, preceding: &L2Mapping, cluster_bits: u32) -> bool
         requires { (9 ≤ cluster_bits) × (cluster_bits ≤ 21) }
         ensures { result ≡ follows cluster_bits preceding.now self.now }
@@ -57,7 +58,7 @@ impl L2Mapping {
                 copied,
             } => match host_cluster {
                 Some(cluster) => kept_goes_on(*preceding, cluster, copied),
-                None => zero_goes_on(*preceding, copied),
+                None => zero_goes_on(*preceding),
             },
             L2Mapping::Compressed { .. } => false,
         }
@@ -104,18 +105,12 @@ fn kept_goes_on(preceding: L2Mapping, cluster: HostCluster, copied: bool) -> boo
     }
 }
 
-// Whether zeroes with no cluster go on from the mapping before.
-fn zero_goes_on(preceding: L2Mapping, copied: bool) -> bool
-    ensures { (bits : ℕ) → result ≡ follows bits preceding (L2Mapping.Zero None copied) }
+// Whether zeroes with no cluster go on from the mapping before. A mark is that of a cluster, so none of theirs says anything.
+fn zero_goes_on(preceding: L2Mapping) -> bool
+    ensures { (bits : ℕ) (copied : Bool) → result ≡ follows bits preceding (L2Mapping.Zero None copied) }
 {
     match preceding {
-        L2Mapping::Zero {
-            host_cluster,
-            copied: mark,
-        } => match host_cluster {
-            Some(_) => false,
-            None => mark == copied,
-        },
+        L2Mapping::Zero { host_cluster, .. } => host_cluster.is_none(),
         _ => false,
     }
 }

@@ -73,15 +73,19 @@ fn mappings_that_go_on(rt: HostRuntime) {
         host_cluster: Some(HostCluster(cluster)),
         copied,
     };
-    let zeroes = L2Mapping::Zero {
+    let without = |copied| L2Mapping::Zero {
         host_cluster: None,
-        copied: false,
+        copied,
     };
+    let zeroes = without(false);
     assert!(rt; kept(6, true).is_consecutive(&kept(5, true), 9));
     assert!(rt; !kept(6, false).is_consecutive(&kept(5, true), 9));
     assert!(rt; !kept(7, true).is_consecutive(&kept(5, true), 9));
     assert!(rt; zeroes.is_consecutive(&zeroes, 9));
+    assert!(rt; zeroes.is_consecutive(&without(true), 9));
+    assert!(rt; without(true).is_consecutive(&zeroes, 9));
     assert!(rt; !zeroes.is_consecutive(&kept(5, false), 9));
+    assert!(rt; !kept(5, false).is_consecutive(&zeroes, 9));
     let packed = L2Mapping::Compressed {
         host_offset: HostOffset(2561),
         length: 1023,
