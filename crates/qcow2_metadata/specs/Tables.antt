@@ -8,7 +8,7 @@ use Rattle.imago_storage.specs.Calls.{Cause}
 use Rattle.imago_storage.specs.declared.fault.Fault.{Fault}
 use Rattle.imago_storage.specs.declared.fault.Fault.TheVariants.{Limit, DamagedTable, Memory}
 use Rattle.qcow2_metadata.specs.Places.{IsPlaced, place_of}
-use Rattle.qcow2_types.specs.Words.{Mapping, data_at, zeroes, bits_at, has_bit, table_offset, is_copied, packed_place, packed_end, Layout, mapping_of, is_damaged, l1_word_sound, block_word_sound}
+use Rattle.qcow2_types.specs.Words.{Mapping, bits_at, has_bit, table_offset, is_copied, packed_place, packed_end, Layout, mapping_of, is_damaged, l1_word_sound, block_word_sound}
 
 -- the reserved bits of a word, in place: of the L1 table, of an L2 table and of the refcount table
 abbrev pub l1_reserved : ℕ → ℕ
@@ -44,12 +44,6 @@ without_mark w = w % 2 ^ 63
 -- whose clusters aren't counted, and where the mark may be all that says that a word names one.
 abbrev pub shared_word : Layout → ℕ → ℕ
 shared_word layout w = if layout.external_data then w else without_mark w
-
--- a mapping of a cluster without that mark
-abbrev pub unmarked_mapping : Mapping → Mapping
-unmarked_mapping (data_at cluster copied) = data_at cluster false
-unmarked_mapping (zeroes cluster copied) = zeroes cluster false
-unmarked_mapping mapping = mapping
 
 -- the kinds of tables
 pub data Kind : Type 0 where

@@ -5,12 +5,13 @@ ghost use Rattle.qcow2_types.specs.Bytes.{Bytes, run, splice};
 ghost use Rattle.qcow2_types.specs.Header.{Header as HeaderRecord, header_of, first_fault, layout_of, rules_of_size};
 ghost use Rattle.qcow2_types.specs.HeaderBytes.{first_bytes, fits_first_cluster, header_bytes, written, new_header};
 ghost use Rattle.qcow2_types.specs.HeaderSwitch.{OnlyPlaces, IsNameBehind};
+ghost use Rattle.qcow2_types.specs.Unmarked.{unmarked_mapping};
 ghost use Rattle.qcow2_types.specs.Words.{Layout, block_offset, data_at, is_damaged, mapping_of, table_offset, unmapped, zeroes};
 ghost use Rattle.qcow2_metadata.specs.Allocations.{kept_for_zero, zeroed_word};
 ghost use Rattle.qcow2_metadata.specs.Blocks.{Packs};
 ghost use Rattle.qcow2_metadata.specs.Places.{IsInReach};
 ghost use Rattle.qcow2_metadata.specs.Reloading.{is_text, IsReloadable};
-ghost use Rattle.qcow2_metadata.specs.Tables.{shared_word, unmarked_mapping, words_in};
+ghost use Rattle.qcow2_metadata.specs.Tables.{shared_word, words_in};
 ghost use Rattle.qcow2_types.specs.TableBytes.{AreFit, table_bytes};
 
 use crate::Header;

@@ -270,6 +270,8 @@ module _ (f g : Bytes) (H : Header) (was : IsConsistent f H) (i : ℕ) (lt : i <
         counts = entered-counts;
         new_counts = entered-new-counts;
         named_once = entered-once;
+        structure = entered-structure;
+        contents = entered-contents;
         references = entered-references;
         shows = λ guest. shows-outside f g H.fields was.readable.tables entered-consistent.readable.tables words guest (entered-guest words guest) _ (H.fields.refcount_table_offset + 8 * i) 8 out low high (structure-unmapped f H was _ table-weighs);
         free = free-stays f g H _ (H.fields.refcount_table_offset + 8 * i) 8 out low high table-weighs;

@@ -1,9 +1,9 @@
 -- A write into a data cluster, or into clusters that nothing names.
 use Rattle.std.proofs.Common.{◌≡◌, ◌≢◌, ℕ, ◌+◌, ◌*◌, ◌<◌, ◌≤◌, refl, arith, sym, ◌∙◌, ap, inl, inr}
-use Rattle.std.specs.Prelude.{Bool, true}
-use Rattle.std.proofs.lemmas.Bool.{cases_lt}
+use Rattle.std.specs.Prelude.{◌/◌, ◌%◌, Bool, true, Some, ◌⊎◌}
+use Rattle.std.proofs.lemmas.Bool.{cases_eq, cases_lt}
 use Rattle.qcow2_types.specs.Bytes.{Bytes}
-use Rattle.qcow2_types.specs.Words.{Mapping, data_at, is_damaged, l1_word_sound, block_word_sound}
+use Rattle.qcow2_types.specs.Words.{Mapping, data_at, zeroes, is_damaged, l1_word_sound, block_word_sound}
 use Rattle.qcow2_types.specs.Header.{Fields, Header, cluster_size, words_of_cluster}
 use Rattle.qcow2_types.specs.Entries.{l2_table}
 use Rattle.qcow2_types.specs.Counts.{count}
@@ -21,7 +21,7 @@ use Rattle.qcow2_types.proofs.Sound.{sound-words}
 use Rattle.qcow2_types.proofs.WriteBack.{keeps-slots}
 use Rattle.qcow2_types.proofs.DataWrites.{data-write-elsewhere}
 use Rattle.qcow2_types.proofs.Shows.{guest-kept, shows-outside, shows-by}
-use Rattle.qcow2_types.proofs.Named.{structure-le-refs}
+use Rattle.qcow2_types.proofs.Named.{structure-le-refs, copied-named}
 use Rattle.qcow2_types.proofs.Frames.{untouched, touches-cluster}
 use Rattle.qcow2_types.proofs.Views.{run-untouched}
 use Rattle.std.proofs.Math.Nat.{mul-le-mul_right}
@@ -103,12 +103,11 @@ module _ (f g : Bytes) (H : Header) (was : IsConsistent f H) (kept : Kept f g H.
       let same : count g H.fields c ≡ count f H.fields c = untouched-counts c in
       omega arith)
 
--- A cluster that a live word names as copied data is named by it alone.
-module _ (f : Bytes) (H : Header) (was : IsConsistent f H) (c i j : ℕ) (live : Live (l2_table f H.fields) H.fields i j) (names : slot f H.fields i j ≡ data_at c true) where
+-- A cluster that a live word names as copied is named by it alone.
+module _ (f : Bytes) (H : Header) (was : IsConsistent f H) (c i j : ℕ) (live : Live (l2_table f H.fields) H.fields i j) (marked : of_copied H.fields (meets H.fields c) (slot f H.fields i j) ≡ 1) where
   -- it is named once
-  pub data-named-once : refs f H.fields c ≡ 1
-  data-named-once =
-      let here : of_copied H.fields (meets H.fields c) (slot f H.fields i j) ≡ 1 = ap (of_copied H.fields (meets H.fields c)) names ∙ meets-own H.fields c in
+  pub marked-named-once : refs f H.fields c ≡ 1
+  marked-named-once =
       let one : of_copied H.fields (meets H.fields c) (slot f H.fields i j) ≤ over_slots (l2_table f H.fields) H.fields (λ k m. of_copied H.fields (meets H.fields c) (slot f H.fields k m)) =
       slot-le (l2_table f H.fields) H.fields (λ k m. of_copied H.fields (meets H.fields c) (slot f H.fields k m)) i j live in
       let all : contents f H.fields (of_copied H.fields (meets H.fields c)) ≡ over_slots (l2_table f H.fields) H.fields (λ k m. of_copied H.fields (meets H.fields c) (slot f H.fields k m)) =
@@ -116,30 +115,30 @@ module _ (f : Bytes) (H : Header) (was : IsConsistent f H) (c i j : ℕ) (live :
       copied-named-once f H was c (omega arith)
 
   -- by that word
-  data-weighs : of_mapping H.fields (meets H.fields c) (slot f H.fields i j) ≡ 1
-  data-weighs = ap (of_mapping H.fields (meets H.fields c)) names ∙ meets-own H.fields c
+  marked-weighs : 1 ≤ of_mapping H.fields (meets H.fields c) (slot f H.fields i j)
+  marked-weighs = omega (arith, copied-named H.fields (meets H.fields c) (slot f H.fields i j))
 
   -- and so no table, block or header is in it
-  pub data-apart-from-structure : structure f H.fields (meets H.fields c) ≡ 0
+  pub marked-apart-from-structure : structure f H.fields (meets H.fields c) ≡ 0
   unfolding refs
-  data-apart-from-structure =
+  marked-apart-from-structure =
       let one : of_mapping H.fields (meets H.fields c) (slot f H.fields i j) ≤ over_slots (l2_table f H.fields) H.fields (λ k m. of_mapping H.fields (meets H.fields c) (slot f H.fields k m)) =
       slot-le (l2_table f H.fields) H.fields (λ k m. of_mapping H.fields (meets H.fields c) (slot f H.fields k m)) i j live in
       let all : contents f H.fields (of_mapping H.fields (meets H.fields c)) ≡ over_slots (l2_table f H.fields) H.fields (λ k m. of_mapping H.fields (meets H.fields c) (slot f H.fields k m)) =
       contents-slots f H.fields (of_mapping H.fields (meets H.fields c)) in
-      let once : structure f H.fields (meets H.fields c) + contents f H.fields (of_mapping H.fields (meets H.fields c)) ≡ 1 = data-named-once in
-      omega (arith, data-weighs)
+      let once : structure f H.fields (meets H.fields c) + contents f H.fields (of_mapping H.fields (meets H.fields c)) ≡ 1 = marked-named-once in
+      omega (arith, marked-weighs)
 
   -- A write into it.
-  pub data-written : (g : Bytes) (at n : ℕ) → Outside f g at n → c * cluster_size H.fields ≤ at → at + n ≤ (c + 1) * cluster_size H.fields → DataWritten f g H i j
-  data-written g at n out low high =
-      let kept : Kept f g H.fields nothing = kept-all f g H.fields at n out (touches-none f H.fields c at n data-apart-from-structure low high) in
+  pub marked-written : (g : Bytes) (at n : ℕ) → Outside f g at n → c * cluster_size H.fields ≤ at → at + n ≤ (c + 1) * cluster_size H.fields → DataWritten f g H i j
+  marked-written g at n out low high =
+      let kept : Kept f g H.fields nothing = kept-all f g H.fields at n out (touches-none f H.fields c at n marked-apart-from-structure low high) in
       let keeps : KeepsSlots f g H.fields = untouched-keeps f g H was kept in
       let after : IsConsistent g H = untouched-consistent f g H was kept in
       let some : 0 < words_of_cluster H.fields = some-words H.fields (consistent-shaped f H was) in
       let clean : named f f H.fields c ≡ refs f H.fields c = named-clean f f H.fields c (λ k m live'. refl) in
-      let once : refs f H.fields c ≡ 1 = data-named-once in
-      let weighs : of_mapping H.fields (meets H.fields c) (slot f H.fields i j) ≡ 1 = data-weighs in
+      let once : refs f H.fields c ≡ 1 = marked-named-once in
+      let weighs : 1 ≤ of_mapping H.fields (meets H.fields c) (slot f H.fields i j) = marked-weighs in
       record {
         consistent = after;
         kept = kept;
@@ -148,6 +147,35 @@ module _ (f : Bytes) (H : Header) (was : IsConsistent f H) (c i j : ℕ) (live :
         counts = untouched-counts f g H was kept;
         elsewhere = λ guest apart. data-write-elsewhere f f g H.fields c i j at n (omega arith) live (omega arith) out low high was.readable.tables after.readable.tables some guest apart (guest-kept f g H.fields keeps some);
       }
+
+-- Where the word names it as data.
+pub data-written : (f : Bytes) (H : Header) → IsConsistent f H → (c i j : ℕ) → Live (l2_table f H.fields) H.fields i j → slot f H.fields i j ≡ data_at c true
+    → (g : Bytes) (at n : ℕ) → Outside f g at n → c * cluster_size H.fields ≤ at → at + n ≤ (c + 1) * cluster_size H.fields → DataWritten f g H i j
+data-written f H was c i j live names = marked-written f H was c i j live (ap (of_copied H.fields (meets H.fields c)) names ∙ meets-own H.fields c)
+
+-- Where the word keeps it for zeroes: then the write shows nowhere.
+pub kept-zero-written : (f : Bytes) (H : Header) → IsConsistent f H → (c i j : ℕ) → Live (l2_table f H.fields) H.fields i j → slot f H.fields i j ≡ zeroes (Some c) true
+    → (g : Bytes) (at n : ℕ) → Outside f g at n → c * cluster_size H.fields ≤ at → at + n ≤ (c + 1) * cluster_size H.fields → FreeWritten f g H
+kept-zero-written f H was c i j live names g at n out low high =
+    let all : DataWritten f g H i j = marked-written f H was c i j live (ap (of_copied H.fields (meets H.fields c)) names ∙ meets-own H.fields c) g at n out low high in
+    record {
+      consistent = all.consistent;
+      kept = all.kept;
+      keeps = all.keeps;
+      references = all.references;
+      counts = all.counts;
+      shows = λ guest. by all guest (cases_eq (guest / words_of_cluster H.fields) i) (cases_eq (guest % words_of_cluster H.fields) j);
+    }
+  where
+    by : DataWritten f g H i j → (guest : ℕ) → (guest / words_of_cluster H.fields ≡ i) ⊎ (guest / words_of_cluster H.fields ≢ i) → (guest % words_of_cluster H.fields ≡ j) ⊎ (guest % words_of_cluster H.fields ≢ j) → ShowsAs g f H.fields guest
+    by all guest (inr row) which = all.elsewhere guest (inl row)
+    by all guest (inl row) (inr column) = all.elsewhere guest (inr column)
+    by all guest (inl row) (inl column) =
+        let some : 0 < words_of_cluster H.fields = some-words H.fields (consistent-shaped f H was) in
+        shows-by f g H.fields was.readable.tables all.consistent.readable.tables some guest (guest-kept f g H.fields all.keeps some guest)
+        (λ here d copied is.
+        let bad : zeroes (Some c) true ≡ data_at d copied = sym names ∙ (sym (ap (λ k. slot f H.fields k j) row) ∙ (sym (ap (slot f H.fields (guest / words_of_cluster H.fields)) column) ∙ is)) in
+        absurd cc)
 
 -- A cluster that nothing names.
 module _ (f : Bytes) (H : Header) (was : IsConsistent f H) (c : ℕ) (unnamed : refs f H.fields c ≡ 0) where

@@ -22,7 +22,7 @@ use Rattle.qcow2_types.proofs.DataSteps.{free-stays, data-stays}
 use Rattle.qcow2_types.proofs.Frames.{l1-part, word-same, splice-is-outside}
 use Rattle.qcow2_types.proofs.HeaderLimits.{header-limited}
 use Rattle.qcow2_types.proofs.Parts.{kept-l1, touches-once, count-kept, l2_table-kept, block_at-kept, slot-kept, words-fit}
-use Rattle.qcow2_types.proofs.Shows.{guest-live, guest-slot-there, guest-slot-none, shows-outside}
+use Rattle.qcow2_types.proofs.Shows.{guest-live, guest-slot-there, guest-slot-none, shows-outside, values-kept}
 use Rattle.qcow2_types.proofs.Slots.{contents-slots}
 use Rattle.qcow2_types.proofs.Sound.{sound-words}
 use Rattle.qcow2_types.proofs.Splices.{word-written}
@@ -205,6 +205,12 @@ module _ (f g : Bytes) (H : Header) (was : IsConsistent f H) (i : ℕ) (lt : i <
       record {
         replaced = table-replaced;
         consistent = after;
+        entries = λ guest row.
+            let place : l2_table g H.fields (guest / words_of_cluster H.fields) ≡ t = ap (l2_table g H.fields) row ∙ here in
+            entry-slot g H.fields guest after.readable.tables
+            ∙ (guest-slot-there g H.fields guest (λ e. there (sym place ∙ e))
+            ∙ (ap (λ p. l2_mapping g H.fields p (guest % words_of_cluster H.fields)) place ∙ ap (mapping_of (layout_of H.fields)) (new-words (guest % words_of_cluster H.fields) (mod_below guest (words_of_cluster H.fields) words))));
+        values = values-kept f g H.fields was.readable.tables words _ (H.fields.l1_offset + 8 * i) 8 out low high (structure-unmapped f H was _ l1-weighs);
         elsewhere = λ guest off. shows-outside f g H.fields was.readable.tables after.readable.tables words guest (guest-same words guest off) _ (H.fields.l1_offset + 8 * i) 8 out low high (structure-unmapped f H was _ l1-weighs);
       }
     where

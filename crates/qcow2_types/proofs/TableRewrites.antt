@@ -1,7 +1,7 @@
 -- An L2 table is written, whole or in part.
 use Rattle.std.proofs.Common.{◌≡◌, ◌≢◌, ℕ, ◌+◌, ◌*◌, ◌/◌, ◌%◌, ◌<◌, ◌≤◌, arith, sym, ◌∙◌, ap, refl, inl, inr, Ok}
 use Rattle.std.specs.Prelude.{true, ◌⊎◌, IsFalse}
-use Rattle.std.proofs.lemmas.Bool.{cases_eq}
+use Rattle.std.proofs.lemmas.Bool.{cases_eq, cases_lt}
 use Rattle.std.proofs.lemmas.Bool.Decides.{nat_tests}
 use Rattle.qcow2_types.specs.Bytes.{Bytes, word}
 use Rattle.qcow2_types.specs.Words.{Mapping, is_damaged, mapping_of, l1_word_sound, block_word_sound}
@@ -18,18 +18,20 @@ use Rattle.qcow2_types.proofs.Consistent.{header-kept, some-words, consistent-sh
 use Rattle.qcow2_types.proofs.DataSteps.{free-stays, data-stays}
 use Rattle.qcow2_types.proofs.Either.{structure-same, tables-same}
 use Rattle.qcow2_types.proofs.Parts.{kept-table, touches-once, count-kept, l2_table-kept, block_at-kept, slot-kept}
-use Rattle.qcow2_types.proofs.Shows.{table-inside, guest-live, guest-slot-there, guest-slot-none, shows-outside}
+use Rattle.qcow2_types.proofs.Shows.{table-inside, guest-live, guest-slot-there, guest-slot-none, shows-outside, values-kept}
 use Rattle.qcow2_types.proofs.Slots.{contents-slots}
 use Rattle.qcow2_types.proofs.SlotSteps.{table-begin, table-weighs}
 use Rattle.qcow2_types.proofs.Sound.{sound-words}
 use Rattle.qcow2_types.proofs.Sums.{sum-same, sum-change}
+use Rattle.qcow2_types.proofs.Switches.{cluster-long}
+use Rattle.qcow2_types.proofs.Values.{entry-slot}
 
 -- what is summed of a table that there is
 there-sum : (t x : ℕ) → t ≢ 0 → or_none t x ≡ x
 there-sum t x is = grind (arith, nat_tests)
 
 -- g is f but for some bytes of L2 table i.
-module _ (f g : Bytes) (H : Header) (was : IsConsistent f H) (i : ℕ) (there : l2_table f H.fields i ≢ 0) (at n : ℕ) (out : Outside f g at n) (some : 0 < n)
+module _ (f g : Bytes) (H : Header) (was : IsConsistent f H) (i : ℕ) (there : l2_table f H.fields i ≢ 0) (at n : ℕ) (out : Outside f g at n)
     (low : l2_table f H.fields i ≤ at) (high : at + n ≤ l2_table f H.fields i + cluster_size H.fields) where
   -- the write lies in the table's cluster
   begins : l2_table f H.fields i / cluster_size H.fields * cluster_size H.fields ≤ at
@@ -44,7 +46,16 @@ module _ (f g : Bytes) (H : Header) (was : IsConsistent f H) (i : ℕ) (there : 
 
   -- the rest of it is kept
   kept : Kept f g H.fields (table i)
-  kept = kept-table f g H.fields at n out some once i (table-inside f H.fields i there) there low high
+  kept = elim (cases_eq n 0) [
+    | inr is ↦ let some : n ≢ 0 = is in kept-table f g H.fields at n out (omega arith) once i (table-inside f H.fields i there) there low high
+    | inl none ↦
+        -- a write of nothing leaves all as it is, so also all but the first byte of the table
+        let e : n ≡ 0 = none in
+        let size : 512 ≤ cluster_size H.fields = cluster-long f H was in
+        let begin : l2_table f H.fields i / cluster_size H.fields * cluster_size H.fields ≡ l2_table f H.fields i = table-begin f H was i there in
+        kept-table f g H.fields (l2_table f H.fields i) 1 (λ p off. elim (cases_lt p at) [ inl lt ↦ out p (inl lt) | inr le ↦ out p (inr (omega arith)) ]) (omega arith)
+        (touches-once f H.fields (l2_table f H.fields i / cluster_size H.fields) (l2_table f H.fields i) 1 (was.structure_apart _) (omega arith) (omega arith)) i (table-inside f H.fields i there) there (omega arith) (omega arith)
+  ]
 
   -- all tables and blocks stay in place
   places : SamePlaces f g H.fields
@@ -143,6 +154,10 @@ module _ (f g : Bytes) (H : Header) (was : IsConsistent f H) (i : ℕ) (there : 
       record {
         written = table-written;
         consistent = after;
+        entries = λ guest row.
+            entry-slot g H.fields guest after.readable.tables
+            ∙ (guest-slot-there g H.fields guest (λ e. there (sym (places.l1 i) ∙ (sym (ap (l2_table g H.fields) row) ∙ e))) ∙ ap (λ k. slot g H.fields k (guest % words_of_cluster H.fields)) row);
+        values = values-kept f g H.fields was.readable.tables words (l2_table f H.fields i / cluster_size H.fields) at n out begins ends (structure-unmapped f H was _ (table-weighs f H was i there));
         elsewhere = λ guest off.
             shows-outside f g H.fields was.readable.tables after.readable.tables words guest (guest-same words guest off) (l2_table f H.fields i / cluster_size H.fields) at n out begins ends
             (structure-unmapped f H was _ (table-weighs f H was i there));

@@ -14,9 +14,18 @@ use Rattle.qcow2_types.specs.Consistency.{tables_sound}
 use Rattle.qcow2_types.proofs.Bounded.{all-below}
 use Rattle.qcow2_types.specs.Frames.{Same, ShowsAs}
 use Rattle.qcow2_types.specs.Slots.{guest_slot}
+use Rattle.qcow2_types.specs.Unmarked.{unmarked_mapping}
+
+-- the mark of a cluster says nothing of its value
+pub unmarked-value : (m : Mapping) (host : ℕ → Value) (below : Value) → shown_by m host below ≡ shown_by (unmarked_mapping m) host below
+unmarked-value (data_at n copied) host below = refl
+unmarked-value (zeroes n copied) host below = refl
+unmarked-value (packed offset length) host below = refl
+unmarked-value unmapped host below = refl
+unmarked-value damaged host below = refl
 
 -- the value by one mapping
-same-value : (x f e : Bytes) (h : Fields) (p : ℕ) (below : Value) (m : Mapping) → ((n : ℕ) (copied : Bool) → m ≡ data_at n copied → Same f x (n * cluster_size h) (cluster_size h))
+pub same-value : (x f e : Bytes) (h : Fields) (p : ℕ) (below : Value) (m : Mapping) → ((n : ℕ) (copied : Bool) → m ≡ data_at n copied → Same f x (n * cluster_size h) (cluster_size h))
     → shown_by m (host_byte x e h p) below ≡ shown_by m (host_byte f e h p) below
 same-value x f e h p below (data_at n copied) same =
     let inside : p % cluster_size h < cluster_size h = mod_below p (cluster_size h) (pow_pos h.cluster_bits) in

@@ -5,6 +5,7 @@ pub mod Header
 pub mod Entries
 pub mod Counts
 pub mod Slots
+pub mod Unmarked
 pub mod Disk
 pub mod References
 pub mod Consistency

@@ -1,5 +1,6 @@
 -- What one write into a consistent image f leaves in the file g: an image that is consistent under the same header.
 use Rattle.std.specs.Prelude.{true, Ok, ◌≡◌, ◌≢◌, ℕ, ◌+◌, ◌*◌, ◌/◌, ◌%◌, ◌<◌, ◌⊎◌}
+use Rattle.imago_storage.specs.Disk.{Value}
 use Rattle.qcow2_types.specs.Bytes.{Bytes, word, sum_below}
 use Rattle.qcow2_types.specs.Words.{Mapping, unmapped, data_at}
 use Rattle.qcow2_types.specs.Header.{Fields, Header, header_of, cluster_size, words_of_cluster}
@@ -7,13 +8,20 @@ use Rattle.qcow2_types.specs.Entries.{entry, l2_table, l2_mapping}
 use Rattle.qcow2_types.specs.Counts.{block_at, count, counter, counters_of_block}
 use Rattle.qcow2_types.specs.References.{Weight, structure as structure_sum, contents as contents_sum, of_cluster, of_mapping, of_table, of_table_or_none, meets, refs}
 use Rattle.qcow2_types.specs.Consistency.{IsConsistent}
+use Rattle.qcow2_types.specs.Disk.{shown}
 use Rattle.qcow2_types.specs.Slots.{slot, Live}
+use Rattle.qcow2_types.specs.Unmarked.{unmarked_mapping}
 use Rattle.qcow2_types.specs.Frames.{Same, Kept, nothing, block, table, l1_word, block_word, ShowsAs}
 use Rattle.qcow2_types.specs.Versions.{KeepsSlots, SamePlaces}
 
 -- By how much a cluster is counted more often than it is named stays the same, for each cluster.
 abbrev pub SurplusKept : Bytes → Bytes → Fields → Type 0
 SurplusKept f g h = (c : ℕ) → count g h c + refs f h c ≡ count f h c + refs g h c
+
+-- Each place whose guest cluster has the mapping that it had, but perhaps for the mark of its cluster, shows what it did.
+abbrev pub ShownByUnmarked : Bytes → Bytes → Header → Type 0
+ShownByUnmarked f g H = (external : Bytes) (p : ℕ) (below : Value) → unmarked_mapping (entry g H.fields (p / cluster_size H.fields)) ≡ unmarked_mapping (entry f H.fields (p / cluster_size H.fields))
+    → shown g external H.fields p below ≡ shown f external H.fields p below
 
 -- A data cluster was written that word j of L2 table i names: what shows changes at no other guest cluster.
 pub record DataWritten (f g : Bytes) (H : Header) (i j : ℕ) : Type 0 where
@@ -24,7 +32,7 @@ pub record DataWritten (f g : Bytes) (H : Header) (i j : ℕ) : Type 0 where
   pub counts : (c : ℕ) → count g H.fields c ≡ count f H.fields c
   pub elsewhere : (guest : ℕ) → (guest / words_of_cluster H.fields ≢ i) ⊎ (guest % words_of_cluster H.fields ≢ j) → ShowsAs g f H.fields guest
 
--- A cluster was written that nothing names: the image stays as it is, and shows the same.
+-- A cluster was written that nothing names, or that is kept for zeroes: the image stays as it is, and shows the same.
 pub record FreeWritten (f g : Bytes) (H : Header) : Type 0 where
   pub consistent : IsConsistent g H
   pub kept : Kept f g H.fields nothing
@@ -81,11 +89,13 @@ pub record TableWritten (f g : Bytes) (H : Header) (i : ℕ) : Type 0 where
   pub mapped : (c : ℕ) → 0 < contents_sum f H.fields (of_mapping H.fields (meets H.fields c)) → Same f g (c * cluster_size H.fields) (cluster_size H.fields)
 
 -- The same, and the image is consistent: guest clusters of other tables, and those of this one whose word means what it did, show what
--- they did.
+-- they did. The mark of a cluster plays no part in what is shown.
 pub record TableRewritten (f g : Bytes) (H : Header) (i : ℕ) : Type 0 where
   pub written : TableWritten f g H i
   pub consistent : IsConsistent g H
+  pub entries : (guest : ℕ) → guest / words_of_cluster H.fields ≡ i → entry g H.fields guest ≡ slot g H.fields i (guest % words_of_cluster H.fields)
   pub elsewhere : (guest : ℕ) → (guest / words_of_cluster H.fields ≢ i) ⊎ (slot g H.fields i (guest % words_of_cluster H.fields) ≡ slot f H.fields i (guest % words_of_cluster H.fields)) → ShowsAs g f H.fields guest
+  pub values : ShownByUnmarked f g H
 
 -- Word j of L2 table i was written, and names cluster c as copied data, which nothing named: no other cluster's references change.
 pub record ClusterMapped (f g : Bytes) (H : Header) (i j c : ℕ) : Type 0 where
@@ -129,11 +139,13 @@ pub record TableReplaced (f g : Bytes) (H : Header) (i place : ℕ) : Type 0 whe
   pub mapped : (d : ℕ) → 0 < contents_sum f H.fields (of_mapping H.fields (meets H.fields d)) → Same f g (d * cluster_size H.fields) (cluster_size H.fields)
 
 -- The same, and the image is consistent: guest clusters of other tables, and those of this one for which the new table has the
--- mapping that they had, show what they did.
+-- mapping that they had, show what they did. The mark of a cluster plays no part in what is shown.
 pub record TableSwapped (f g : Bytes) (H : Header) (i place : ℕ) : Type 0 where
   pub replaced : TableReplaced f g H i place
   pub consistent : IsConsistent g H
+  pub entries : (guest : ℕ) → guest / words_of_cluster H.fields ≡ i → entry g H.fields guest ≡ l2_mapping f H.fields place (guest % words_of_cluster H.fields)
   pub elsewhere : (guest : ℕ) → (guest / words_of_cluster H.fields ≢ i) ⊎ (l2_mapping f H.fields place (guest % words_of_cluster H.fields) ≡ entry f H.fields guest) → ShowsAs g f H.fields guest
+  pub values : ShownByUnmarked f g H
 
 -- Word i of the refcount table, which named no block, was written and names the one in cluster c, at this place. The clusters that it
 -- counts, c perhaps among them, are counted as its bytes say.
@@ -147,6 +159,8 @@ pub record BlockEntered (f g : Bytes) (H : Header) (i c place : ℕ) : Type 0 wh
   pub counts : (d : ℕ) → d / counters_of_block H.fields ≢ i → count g H.fields d ≡ count f H.fields d
   pub new_counts : (d : ℕ) → d / counters_of_block H.fields ≡ i → count g H.fields d ≡ counter f H.fields place (d % counters_of_block H.fields)
   pub named_once : refs g H.fields c ≡ 1
+  pub structure : (weight : Weight) → structure_sum g H.fields weight ≡ structure_sum f H.fields weight + weight place (cluster_size H.fields)
+  pub contents : (of : Mapping → ℕ) → contents_sum g H.fields of ≡ contents_sum f H.fields of
   pub references : (d : ℕ) → d ≢ c → refs g H.fields d ≡ refs f H.fields d
   pub shows : (guest : ℕ) → ShowsAs g f H.fields guest
   pub free : (d : ℕ) → refs f H.fields d ≡ 0 → Same f g (d * cluster_size H.fields) (cluster_size H.fields)

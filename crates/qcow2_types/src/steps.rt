@@ -1,10 +1,10 @@
 //! What one write into a consistent image leaves. The functions do nothing, and their contracts are the laws: f is the file
 //! before the write, and the image stays consistent under the same header.
 
-ghost use Rattle.std.specs.Prelude.{◌≡◌, ◌≢◌, ◌≤◌, ◌<◌, ◌+◌, ◌*◌, ◌/◌, ◌%◌, ◌^◌, ℕ, List, [], ◌∷◌, length, true, map, IsTrue, IsFalse, Ok};
+ghost use Rattle.std.specs.Prelude.{◌≡◌, ◌≢◌, ◌≤◌, ◌<◌, ◌+◌, ◌*◌, ◌/◌, ◌%◌, ◌^◌, ℕ, List, [], ◌∷◌, length, true, map, IsTrue, IsFalse, Some, Ok};
 ghost use Rattle.std.specs.Int.{w64, to_be_bytes};
 ghost use Rattle.qcow2_types.specs.Bytes.{Bytes, be, bytes_of, word, splice};
-ghost use Rattle.qcow2_types.specs.Words.{data_at, unmapped, is_damaged, mapping_of, l1_word_sound, table_offset, block_word_sound, block_offset};
+ghost use Rattle.qcow2_types.specs.Words.{data_at, zeroes, unmapped, is_damaged, mapping_of, l1_word_sound, table_offset, block_word_sound, block_offset};
 ghost use Rattle.qcow2_types.specs.Header.{Header, header_of, cluster_size, words_of_cluster, refcount_table_entries, layout_of};
 ghost use Rattle.qcow2_types.specs.Entries.{l2_table, l2_mapping};
 ghost use Rattle.qcow2_types.specs.Counts.{block_at, count, counter, counter_of, counter_bits, counters_of_block};
@@ -22,6 +22,12 @@ ghost use Rattle.qcow2_types.specs.WorkedImage.{of_pieces, image, image_fields, 
 pub fn data_write_stays_in_its_cluster()
     ensures { (f : Bytes) (h : Header) → IsConsistent f h → (c i j : ℕ) → Live (l2_table f h.fields) h.fields i j → slot f h.fields i j ≡ data_at c true
         → (g : Bytes) (at n : ℕ) → Outside f g at n → c * cluster_size h.fields ≤ at → at + n ≤ (c + 1) * cluster_size h.fields → DataWritten f g h i j }
+{}
+
+/// A write into a cluster that a word of an L2 table keeps for zeroes, and names as copied, shows nowhere.
+pub fn kept_cluster_write_shows_nowhere()
+    ensures { (f : Bytes) (h : Header) → IsConsistent f h → (c i j : ℕ) → Live (l2_table f h.fields) h.fields i j → slot f h.fields i j ≡ zeroes (Some c) true
+        → (g : Bytes) (at n : ℕ) → Outside f g at n → c * cluster_size h.fields ≤ at → at + n ≤ (c + 1) * cluster_size h.fields → FreeWritten f g h }
 {}
 
 /// A write into clusters c to c + k, which nothing names, shows nowhere.
@@ -69,9 +75,9 @@ pub fn rewriting_a_word()
 /// what it did, show the same.
 pub fn writing_into_a_table()
     ensures written { (f : Bytes) (h : Header) → IsConsistent f h → (i : ℕ) → l2_table f h.fields i ≢ 0
-        → (g : Bytes) (at n : ℕ) → Outside f g at n → 0 < n → l2_table f h.fields i ≤ at → at + n ≤ l2_table f h.fields i + cluster_size h.fields → TableWritten f g h i }
+        → (g : Bytes) (at n : ℕ) → Outside f g at n → l2_table f h.fields i ≤ at → at + n ≤ l2_table f h.fields i + cluster_size h.fields → TableWritten f g h i }
     ensures rewritten { (f : Bytes) (h : Header) → IsConsistent f h → (i : ℕ) → l2_table f h.fields i ≢ 0
-        → (g : Bytes) (at n : ℕ) → Outside f g at n → 0 < n → l2_table f h.fields i ≤ at → at + n ≤ l2_table f h.fields i + cluster_size h.fields
+        → (g : Bytes) (at n : ℕ) → Outside f g at n → l2_table f h.fields i ≤ at → at + n ≤ l2_table f h.fields i + cluster_size h.fields
         → ((j : ℕ) → j < words_of_cluster h.fields → IsFalse (is_damaged (mapping_of (layout_of h.fields) (word g (l2_table f h.fields i) j))))
         → ((c : ℕ) → refs g h.fields c ≤ count f h.fields c)
         → ((c : ℕ) → 0 < structure f h.fields (meets h.fields c) + contents g h.fields (of_copied h.fields (meets h.fields c)) → refs g h.fields c ≤ 1)

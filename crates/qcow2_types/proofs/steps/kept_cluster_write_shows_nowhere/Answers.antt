@@ -1,0 +1,5 @@
+use Rattle.qcow2_types.proofs.DataSteps.{kept-zero-written}
+use Rattle.qcow2_types.proofs.steps.kept_cluster_write_shows_nowhere.Goals as goal
+
+pub returns : goal.returns
+returns c = kept-zero-written
