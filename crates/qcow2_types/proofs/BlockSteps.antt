@@ -1,7 +1,7 @@
 -- A write into a refcount block.
 use Rattle.std.proofs.Common.{◌≡◌, ◌≢◌, ℕ, suc, ◌+◌, ◌*◌, ◌/◌, ◌%◌, ◌^◌, ◌<◌, ◌≤◌, refl, arith, sym, subst, ◌∙◌, ap, List, [], ◌∷◌, length, inl, inr}
-use Rattle.std.specs.Prelude.{true, false, ◌==◌, nat_lt, nat_le, ◌⊎◌, IsTrue, if◌then◌else◌}
-use Rattle.std.proofs.lemmas.Bool.{cases_eq, cases_lt, le-ltb, lt-ltb}
+use Rattle.std.specs.Prelude.{true, ◌==◌, nat_lt, nat_le, ◌⊎◌, IsTrue, if◌then◌else◌}
+use Rattle.std.proofs.lemmas.Bool.{cases_eq, cases_lt, lt-ltb}
 use Rattle.std.proofs.lemmas.Bool.Decides.{nat_tests}
 use Rattle.std.proofs.lemmas.Nat.{mod_below, pow_pos, from_be_bytes-to_be_bytes_2}
 use Rattle.std.proofs.Math.Nat.{div-mul-le_self, mul-le-mul_right, div-add-mod}
@@ -18,7 +18,7 @@ use Rattle.qcow2_types.proofs.Consistent.{meets-own, consistent-shaped, structur
 use Rattle.qcow2_types.proofs.Counters.{some-counters, whole, counter-moved}
 use Rattle.qcow2_types.proofs.DataSteps.{kept-keeps, kept-references, kept-consistent, kept-shows, free-stays}
 use Rattle.qcow2_types.proofs.Frames.{block-part, splice-is-outside}
-use Rattle.qcow2_types.proofs.Parts.{kept-block, touches-once, count-kept, block_at-kept}
+use Rattle.qcow2_types.proofs.Parts.{block-inside, kept-block, touches-once, count-kept, block_at-kept}
 use Rattle.qcow2_types.proofs.Sound.{sound-words}
 use Rattle.qcow2_types.proofs.Splices.{be-splice-same, be-splice-apart, splice-inside}
 use Rattle.qcow2_types.proofs.WriteBack.{place-whole}
@@ -30,13 +30,6 @@ block-place f h b sound lt =
     let within : nat_lt b (refcount_table_entries h) ≡ true = lt-ltb _ _ lt in
     let here : block_word_sound h.cluster_bits (word f h.refcount_table_offset b) ≡ true = sound.blocks b lt in
     rw within (grind (arith, nat_tests))
-
--- a block is named by a word within the refcount table
-pub block-inside : (f : Bytes) (h : Fields) (b : ℕ) → block_at f h b ≢ 0 → b < refcount_table_entries h
-block-inside f h b there = elim (cases_lt b (refcount_table_entries h)) [
-  | inl lt ↦ lt
-  | inr le ↦ let past : nat_lt b (refcount_table_entries h) ≡ false = le-ltb _ _ le in absurd (there (rw past refl))
-]
 
 module _ (f : Bytes) (H : Header) (was : IsConsistent f H) (b : ℕ) (there : block_at f H.fields b ≢ 0) where
   -- its cluster

@@ -60,3 +60,4 @@ pub mod HeaderSwitch
 pub mod HeldBytes
 pub mod OneVerdict
 pub mod WorkedGrowth
+pub mod WorkedWhole

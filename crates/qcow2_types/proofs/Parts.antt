@@ -264,6 +264,13 @@ kept-block_word f g h i out once lt =
       words = λ k m live _. words-same f g h at 8 out k m live (other (table_of k) live.in_l1 (λ e. cc));
     }
 
+-- a block is named by a word within the refcount table
+pub block-inside : (f : Bytes) (h : Fields) (b : ℕ) → block_at f h b ≢ 0 → b < refcount_table_entries h
+block-inside f h b there = elim (cases_lt b (refcount_table_entries h)) [
+  | inl lt ↦ lt
+  | inr le ↦ let past : nat_lt b (refcount_table_entries h) ≡ false = le-ltb _ _ le in absurd (there (rw past refl))
+]
+
 -- What follows for the tables, the counters and the mappings.
 module _ (f g : Bytes) (h : Fields) (skip : Skipped) (kept : Kept f g h skip) where
   -- the places of L2 tables
@@ -280,17 +287,10 @@ module _ (f g : Bytes) (h : Fields) (skip : Skipped) (kept : Kept f g h skip) wh
     | inr le ↦ let past : nat_lt i (refcount_table_entries h) ≡ false = le-ltb _ _ le in rw past refl
   ]
 
-  -- a block is named by a word within the refcount table
-  block-inside : (i : ℕ) → block_at f h i ≢ 0 → i < refcount_table_entries h
-  block-inside i there = elim (cases_lt i (refcount_table_entries h)) [
-    | inl lt ↦ lt
-    | inr le ↦ let past : nat_lt i (refcount_table_entries h) ≡ false = le-ltb _ _ le in absurd (there (rw past refl))
-  ]
-
   -- the counts of clusters in other blocks
   pub count-kept : (c : ℕ) → Shaped h → skip ≢ block_word (c / counters_of_block h) → skip ≢ block (c / counters_of_block h) → count g h c ≡ count f h c
   count-kept c shaped word-apart apart =
-      count-same f g h c shaped (block_at-kept (c / counters_of_block h) word-apart) (λ there. kept.counters (c / counters_of_block h) (block-inside _ there) there apart)
+      count-same f g h c shaped (block_at-kept (c / counters_of_block h) word-apart) (λ there. kept.counters (c / counters_of_block h) (block-inside f h _ there) there apart)
 
   -- the mappings in other tables
   pub slot-kept : (i j : ℕ) → Live (l2_table f h) h i j → skip ≢ l1_word i → skip ≢ table i → slot g h i j ≡ slot f h i j

@@ -14,10 +14,10 @@ use Rattle.qcow2_types.specs.Frames.{Outside}
 use Rattle.qcow2_types.specs.Steps.{FreeWritten}
 use Rattle.qcow2_types.specs.Switched.{with_reftable, with_refcount_table, newly_named, RefcountTableSwitched}
 use Rattle.qcow2_types.specs.WorkedImage.{of_pieces, image, image_fields, image_header, block_written, table_written, grown}
-use Rattle.qcow2_types.proofs.BlockSteps.{block-inside}
 use Rattle.qcow2_types.proofs.Bounded.{all-below}
 use Rattle.qcow2_types.proofs.DataSteps.{free-written}
 use Rattle.qcow2_types.proofs.Frames.{splice-is-outside}
+use Rattle.qcow2_types.proofs.Parts.{block-inside}
 use Rattle.qcow2_types.proofs.RefcountTableSwitch.{refcount-table-switched}
 use Rattle.qcow2_types.proofs.Sums.{sum-change, sum-none}
 use Rattle.qcow2_types.proofs.Switches.{sum-longer}

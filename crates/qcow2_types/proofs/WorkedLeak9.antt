@@ -1,20 +1,18 @@
 -- The worked image with a counter of 1 for cluster 9.
-use Rattle.std.proofs.Common.{◌∷◌, ◌≡◌, ℕ, ◌+◌, ◌*◌, ◌/◌, ◌<◌, refl, arith, ap, sym, ◌∙◌, []}
+use Rattle.std.proofs.Common.{◌∷◌, ◌≡◌, refl, sym, []}
 use Rattle.std.specs.Prelude.{true, ◌==◌, ◌||◌, not, Ok}
 use Rattle.std.specs.Str.{is_utf8, chars}
 use Rattle.std.specs.Char.{encode_utf8}
-use Rattle.std.proofs.lemmas.Bool.Decides.{nat_tests}
 use Rattle.qcow2_types.specs.Bytes.{Bytes, be, word, run, sum_below, all_below}
 use Rattle.qcow2_types.specs.Words.{mapping_of}
 use Rattle.qcow2_types.specs.WorkedImage.{of_pieces, image, image_fields, image_header}
-use Rattle.qcow2_types.specs.Header.{fields_of, header_of, texts_of, extensions_at, extension_at, refcount_table_entries}
+use Rattle.qcow2_types.specs.Header.{fields_of, header_of, texts_of, extensions_at, extension_at}
 use Rattle.qcow2_types.specs.Entries.{l1_table_sound, l2_table_sound}
-use Rattle.qcow2_types.specs.Counts.{count, counter, counters_of_block, refcount_table_sound, block_at}
+use Rattle.qcow2_types.specs.Counts.{count, counter, refcount_table_sound, block_at}
 use Rattle.qcow2_types.specs.References.{structure, contents, of_table, refs}
 use Rattle.qcow2_types.specs.Consistency.{IsReadable, IsConsistent, IsVerdict, tables_sound, shares_structure, is_false_copied, is_under_counted, leaks_below, leaks}
 use Rattle.qcow2_types.proofs.Named.{reaching, past}
-use Rattle.qcow2_types.proofs.Bounded.{nowhere-from, all-below, shared-beyond, copied-beyond, under-beyond}
-use Rattle.qcow2_types.proofs.Leaks.{leaks-skip, count-no-block}
+use Rattle.qcow2_types.proofs.WorkedWhole.{consistent-within, leaks-within}
 
 -- the changed image
 unfoldable changed : Bytes
@@ -48,13 +46,7 @@ counted = refl
 
 -- so it is consistent
 consistent : IsConsistent changed image_header
-unfolding image_header
-consistent = record {
-  readable = readable;
-  structure_apart = nowhere-from 7 (shares_structure changed image_fields) shared (shared-beyond changed image_fields 7 within);
-  copied_apart = nowhere-from 7 (is_false_copied changed image_fields) copied (copied-beyond changed image_fields 7 within);
-  counted = nowhere-from 7 (is_under_counted changed image_fields) counted (under-beyond changed image_fields 7 within);
-}
+consistent = consistent-within changed readable within shared copied counted
 
 -- only the first block is there
 one_block : all_below 64 (λ i. (i == 0) || (block_at changed image_fields i == 0)) ≡ true
@@ -66,31 +58,9 @@ few_leaks : leaks_below changed image_fields 256 ≡ (9, 1) ∷ []
 unfolding leaks_below count counter refs structure contents of_table sum_below mapping_of word be changed of_pieces image image_fields
 few_leaks = refl
 
--- there is no other block
-later : (i : ℕ) → 0 < i → i < 64 → block_at changed image_fields i ≡ 0
-later i low high =
-    let test : ((i == 0) || (block_at changed image_fields i == 0)) ≡ true = all-below 64 (λ j. (j == 0) || (block_at changed image_fields j == 0)) one_block i high in
-    grind (arith, nat_tests)
-
--- the counters of a block
-per_block : counters_of_block image_fields ≡ 256
-unfolding image_fields
-per_block = refl
-
--- the clusters that the refcount table reaches
-reach : refcount_table_entries image_fields * counters_of_block image_fields ≡ 256 + 16128
-unfolding image_fields
-reach = refl
-
 -- so these are all leaks
 no_leaks : leaks changed image_fields ≡ (9, 1) ∷ []
-no_leaks =
-    ap (leaks_below changed image_fields) reach
-    ∙ (leaks-skip changed image_fields 256 16128
-    (λ c low high.
-    let block : block_at changed image_fields (c / 256) ≡ 0 = later (c / 256) (omega arith) (omega arith) in
-    count-no-block changed image_fields c (ap (λ k. block_at changed image_fields (c / k)) per_block ∙ block))
-    ∙ few_leaks)
+no_leaks = leaks-within changed one_block ((9, 1) ∷ []) few_leaks
 
 -- what a checker answers
 pub verdict : IsVerdict (of_pieces ((1042, 0 ∷ 1 ∷ []) ∷ image)) (Ok ((9, 1) ∷ []))
