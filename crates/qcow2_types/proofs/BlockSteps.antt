@@ -131,10 +131,20 @@ count-there f h c there = choose (block_at f h (c / counters_of_block h)) _ ther
     choose : (t x : ℕ) → t ≢ 0 → (if t == 0 then 0 else x) ≡ x
     choose t x apart = grind (arith, nat_tests)
 
+-- A block's bytes were written at a place: the counters there are those of the bytes.
+pub counters-written : (f : Bytes) (h : Fields) (place : ℕ) (bytes : List ℕ) → length bytes ≡ cluster_size h → (i : ℕ) → i < counters_of_block h → counter (splice f place bytes) h place i ≡ counter_of (bytes_of bytes) (counter_bits h) 0 i
+unfolding counter
+counters-written f h place bytes long i lt =
+    let a : suc i * counter_bits h ≤ counters_of_block h * counter_bits h = mul-le-mul_right (counter_bits h) lt in
+    let all : counters_of_block h * counter_bits h ≤ cluster_size h * 8 = div-mul-le_self (cluster_size h * 8) (counter_bits h) in
+    let room : i * 2 ^ h.refcount_order + 2 ^ h.refcount_order ≤ length bytes * 8 = omega arith in
+    counter-moved (bytes_of bytes) (splice f place bytes) h.refcount_order 0 place (length bytes) i room (λ k less.
+    let zeroth : 0 + k ≡ k = omega arith in
+    splice-inside f place bytes k less ∙ ap (bytes_of bytes) (sym zeroth))
+
 -- A block was written whole: each cluster that it counts is counted as its bytes say.
 pub block-counts : (f : Bytes) (H : Header) → IsConsistent f H → (b : ℕ) → block_at f H.fields b ≢ 0 → (bytes : List ℕ) → length bytes ≡ cluster_size H.fields → (c : ℕ) → c / counters_of_block H.fields ≡ b
     → count (splice f (block_at f H.fields b) bytes) H.fields c ≡ counter_of (bytes_of bytes) (counter_bits H.fields) 0 (c % counters_of_block H.fields)
-unfolding counter
 block-counts f H was b there bytes long c e =
     let g : Bytes = splice f (block_at f H.fields b) bytes in
     let size : 0 < cluster_size H.fields = pow_pos H.fields.cluster_bits in
@@ -143,16 +153,9 @@ block-counts f H was b there bytes long c e =
     let kept : Kept f g H.fields (block b) = block-kept f H was b there g (block_at f H.fields b) (length bytes) (omega arith) out (omega arith) (omega arith) in
     let at : block_at g H.fields (c / counters_of_block H.fields) ≡ block_at f H.fields b = ap (block_at g H.fields) e ∙ block_at-kept f g H.fields (block b) kept b (λ e. cc) in
     let is : block_at g H.fields (c / counters_of_block H.fields) ≢ 0 = λ z. there (sym at ∙ z) in
-    let i : ℕ = c % counters_of_block H.fields in
-    let lt : c % counters_of_block H.fields < counters_of_block H.fields = mod_below c (counters_of_block H.fields) (some-counters H.fields shaped) in
-    let a : suc (c % counters_of_block H.fields) * counter_bits H.fields ≤ counters_of_block H.fields * counter_bits H.fields = mul-le-mul_right (counter_bits H.fields) lt in
-    let all : counters_of_block H.fields * counter_bits H.fields ≤ cluster_size H.fields * 8 = div-mul-le_self (cluster_size H.fields * 8) (counter_bits H.fields) in
-    let room : c % counters_of_block H.fields * 2 ^ H.fields.refcount_order + 2 ^ H.fields.refcount_order ≤ length bytes * 8 = omega arith in
     count-there g H.fields c is
     ∙ (ap (λ p. counter g H.fields p (c % counters_of_block H.fields)) at
-    ∙ counter-moved (bytes_of bytes) g H.fields.refcount_order 0 (block_at f H.fields b) (length bytes) (c % counters_of_block H.fields) room (λ k less.
-    let zeroth : 0 + k ≡ k = omega arith in
-    splice-inside f (block_at f H.fields b) bytes k less ∙ ap (bytes_of bytes) (sym zeroth)))
+    ∙ counters-written f H.fields (block_at f H.fields b) bytes long (c % counters_of_block H.fields) (mod_below c (counters_of_block H.fields) (some-counters H.fields shaped)))
 
 -- a counter of whole bytes lies in its block
 pub counter-room : (h : Fields) (i : ℕ) → i < counters_of_block h → 8 ≤ counter_bits h → i * (counter_bits h / 8) + counter_bits h / 8 ≤ cluster_size h

@@ -5,7 +5,7 @@ ghost use Rattle.std.specs.Prelude.{◌≡◌, ◌≢◌, ◌≤◌, ◌<◌, �
 ghost use Rattle.std.specs.Int.{w64, to_be_bytes};
 ghost use Rattle.qcow2_types.specs.Bytes.{Bytes, be, bytes_of, word, splice};
 ghost use Rattle.qcow2_types.specs.Words.{data_at, zeroes, unmapped, is_damaged, mapping_of, l1_word_sound, table_offset, block_word_sound, block_offset};
-ghost use Rattle.qcow2_types.specs.Header.{Header, header_of, cluster_size, words_of_cluster, refcount_table_entries, layout_of};
+ghost use Rattle.qcow2_types.specs.Header.{Fields, Header, header_of, cluster_size, words_of_cluster, refcount_table_entries, layout_of};
 ghost use Rattle.qcow2_types.specs.Entries.{l2_table, l2_mapping};
 ghost use Rattle.qcow2_types.specs.Counts.{block_at, count, counter, counter_of, counter_bits, counters_of_block};
 ghost use Rattle.qcow2_types.specs.References.{structure, contents, of_mapping, of_copied, meets, refs};
@@ -112,11 +112,14 @@ pub fn naming_another_table()
         → TableSwapped f (splice f (h.fields.l1_offset + 8 * i) (to_be_bytes w64 w)) h i t }
 {}
 
-/// A refcount block that is written whole counts its clusters as its bytes say.
+/// A refcount block that is written whole counts its clusters as its bytes say. Where no word names it yet, its counters are still
+/// those of its bytes.
 pub fn block_write_sets_its_counts()
-    ensures { (f : Bytes) (h : Header) → IsConsistent f h → (b : ℕ) → block_at f h.fields b ≢ 0
+    ensures counts { (f : Bytes) (h : Header) → IsConsistent f h → (b : ℕ) → block_at f h.fields b ≢ 0
         → (bytes : List ℕ) → length bytes ≡ cluster_size h.fields → (c : ℕ) → c / counters_of_block h.fields ≡ b
         → count (splice f (block_at f h.fields b) bytes) h.fields c ≡ counter_of (bytes_of bytes) (counter_bits h.fields) 0 (c % counters_of_block h.fields) }
+    ensures counters { (f : Bytes) (h : Fields) (place : ℕ) (bytes : List ℕ) → length bytes ≡ cluster_size h → (i : ℕ) → i < counters_of_block h
+        → counter (splice f place bytes) h place i ≡ counter_of (bytes_of bytes) (counter_bits h) 0 i }
 {}
 
 /// A word of the refcount table that named no block can name one in a cluster that nothing names, if that is counted, by its
