@@ -3,16 +3,16 @@ use Rattle.std.proofs.Common.{◌≡◌, ◌≢◌, ℕ, ◌+◌, ◌*◌, ◌<�
 use Rattle.std.specs.Prelude.{◌/◌, ◌%◌, Bool, true, Some, ◌⊎◌}
 use Rattle.std.proofs.lemmas.Bool.{cases_eq, cases_lt}
 use Rattle.qcow2_types.specs.Bytes.{Bytes}
-use Rattle.qcow2_types.specs.Words.{Mapping, data_at, zeroes, is_damaged, l1_word_sound, block_word_sound}
+use Rattle.qcow2_types.specs.Words.{Mapping, data_at, zeroes, unmapped, is_damaged, l1_word_sound, block_word_sound}
 use Rattle.qcow2_types.specs.Header.{Fields, Header, cluster_size, words_of_cluster}
-use Rattle.qcow2_types.specs.Entries.{l2_table}
+use Rattle.qcow2_types.specs.Entries.{entry, l2_table}
 use Rattle.qcow2_types.specs.Counts.{count}
 use Rattle.qcow2_types.specs.Slots.{slot, Live, over_slots, SoundWords}
 use Rattle.qcow2_types.specs.Frames.{Same, Outside, touches, Kept, Skipped, nothing, first_cluster, l1_word, block_word, table, ShowsAs}
 use Rattle.qcow2_types.specs.Versions.{KeepsSlots, named}
 use Rattle.qcow2_types.specs.References.{structure, contents, of_mapping, of_copied, meets, refs}
 use Rattle.qcow2_types.specs.Consistency.{IsConsistent}
-use Rattle.qcow2_types.specs.Steps.{DataWritten, FreeWritten}
+use Rattle.qcow2_types.specs.Steps.{DataWritten, FreeWritten, RunWritten}
 use Rattle.qcow2_types.proofs.Consistent.{header-kept, some-words, meets-own, meets-other, consistent-shaped, structure-named-once, structure-unmapped, copied-named-once, named-counted, consistent-from}
 use Rattle.qcow2_types.proofs.Slots.{contents-slots, slots-same, slot-le}
 use Rattle.qcow2_types.proofs.Either.{structure-same, tables-same, refs-kept, named-clean}
@@ -20,7 +20,8 @@ use Rattle.qcow2_types.proofs.Parts.{kept-all, touches-none, count-kept}
 use Rattle.qcow2_types.proofs.Sound.{sound-words}
 use Rattle.qcow2_types.proofs.WriteBack.{keeps-slots}
 use Rattle.qcow2_types.proofs.DataWrites.{data-write-elsewhere}
-use Rattle.qcow2_types.proofs.Shows.{guest-kept, shows-outside, shows-by}
+use Rattle.qcow2_types.proofs.Shows.{guest-kept, guest-live, guest-slot-there, guest-slot-none, shows-outside, shows-by}
+use Rattle.qcow2_types.proofs.Values.{entry-slot}
 use Rattle.qcow2_types.proofs.Named.{structure-le-refs, copied-named}
 use Rattle.qcow2_types.proofs.Frames.{untouched, touches-cluster}
 use Rattle.qcow2_types.proofs.Views.{run-untouched}
@@ -235,8 +236,8 @@ data-stays f g H was d at n out low high weighs c named = other-stays f g H.fiel
         let same : contents f H.fields (of_mapping H.fields (meets H.fields c)) ≡ 0 = ap (λ k. contents f H.fields (of_mapping H.fields (meets H.fields k))) e ∙ none in
         absurd (omega arith)
 
--- A write into a run of clusters c to c + k that nothing names.
-module _ (f : Bytes) (H : Header) (was : IsConsistent f H) (c k : ℕ) (unnamed : (d : ℕ) → c ≤ d → d ≤ c + k → refs f H.fields d ≡ 0) (g : Bytes) (at n : ℕ) (out : Outside f g at n)
+-- A write into a run of clusters c to c + k in which no table, block or header is.
+module _ (f : Bytes) (H : Header) (was : IsConsistent f H) (c k : ℕ) (apart : (d : ℕ) → c ≤ d → d ≤ c + k → structure f H.fields (meets H.fields d) ≡ 0) (g : Bytes) (at n : ℕ) (out : Outside f g at n)
     (low : c * cluster_size H.fields ≤ at) (high : at + n ≤ (c + k + 1) * cluster_size H.fields) where
   -- the write lies in the run
   run-out : Outside f g (c * cluster_size H.fields) ((k + 1) * cluster_size H.fields)
@@ -245,27 +246,22 @@ module _ (f : Bytes) (H : Header) (was : IsConsistent f H) (c k : ℕ) (unnamed 
 
   -- no part of the structure is touched
   run-kept : Kept f g H.fields nothing
-  run-kept = kept-all f g H.fields (c * cluster_size H.fields) ((k + 1) * cluster_size H.fields) run-out (run-untouched f H.fields c k (λ d from upto. free-apart-from-structure f H was d (unnamed d from upto)))
+  run-kept = kept-all f g H.fields (c * cluster_size H.fields) ((k + 1) * cluster_size H.fields) run-out (run-untouched f H.fields c k apart)
 
-  -- a cluster that a word names isn't in the run, and keeps its bytes
-  run-apart : (i j : ℕ) → Live (l2_table f H.fields) H.fields i j → (d : ℕ) (copied : Bool) → slot f H.fields i j ≡ data_at d copied → Same f g (d * cluster_size H.fields) (cluster_size H.fields)
-  run-apart i j live d copied names = elim (cases_lt d c) [
-    | inl lt ↦ let lt' : d + 1 ≤ c = omega arith in let below : (d + 1) * cluster_size H.fields ≤ c * cluster_size H.fields = mul-le-mul_right (cluster_size H.fields) lt' in (λ m less. out (d * cluster_size H.fields + m) (inl (omega arith)))
-    | inr from ↦ elim (cases_lt (c + k) d) [
-      | inl lt ↦ let lt' : c + k + 1 ≤ d = omega arith in let above : (c + k + 1) * cluster_size H.fields ≤ d * cluster_size H.fields = mul-le-mul_right (cluster_size H.fields) lt' in (λ m less. out (d * cluster_size H.fields + m) (inr (omega arith)))
-      | inr upto ↦
-          let none : contents f H.fields (of_mapping H.fields (meets H.fields d)) ≡ 0 = free-unmapped f H was d (unnamed d from upto) in
-          let all : contents f H.fields (of_mapping H.fields (meets H.fields d)) ≡ over_slots (l2_table f H.fields) H.fields (λ r m. of_mapping H.fields (meets H.fields d) (slot f H.fields r m)) = contents-slots f H.fields (of_mapping H.fields (meets H.fields d)) in
-          let one : of_mapping H.fields (meets H.fields d) (slot f H.fields i j) ≤ over_slots (l2_table f H.fields) H.fields (λ r m. of_mapping H.fields (meets H.fields d) (slot f H.fields r m)) =
-          slot-le (l2_table f H.fields) H.fields (λ r m. of_mapping H.fields (meets H.fields d) (slot f H.fields r m)) i j live in
-          let here : of_mapping H.fields (meets H.fields d) (slot f H.fields i j) ≡ 1 = ap (of_mapping H.fields (meets H.fields d)) names ∙ meets-own H.fields d in
-          absurd (omega arith)
-    ]
-  ]
+  -- a cluster out of the run keeps its bytes
+  run-apart : (d : ℕ) → (d < c) ⊎ (c + k < d) → Same f g (d * cluster_size H.fields) (cluster_size H.fields)
+  run-apart d (inl lt) =
+      let lt' : d + 1 ≤ c = omega arith in
+      let below : (d + 1) * cluster_size H.fields ≤ c * cluster_size H.fields = mul-le-mul_right (cluster_size H.fields) lt' in
+      λ m less. out (d * cluster_size H.fields + m) (inl (omega arith))
+  run-apart d (inr lt) =
+      let lt' : c + k + 1 ≤ d = omega arith in
+      let above : (c + k + 1) * cluster_size H.fields ≤ d * cluster_size H.fields = mul-le-mul_right (cluster_size H.fields) lt' in
+      λ m less. out (d * cluster_size H.fields + m) (inr (omega arith))
 
-  -- The image stays as it is, and shows the same.
-  pub free-run-written : FreeWritten f g H
-  free-run-written =
+  -- The image stays as it is, and shows the same elsewhere.
+  pub run-written : RunWritten f g H c k
+  run-written =
       let after : IsConsistent g H = untouched-consistent f g H was run-kept in
       let keeps : KeepsSlots f g H.fields = untouched-keeps f g H was run-kept in
       let some : 0 < words_of_cluster H.fields = some-words H.fields (consistent-shaped f H was) in
@@ -275,5 +271,44 @@ module _ (f : Bytes) (H : Header) (was : IsConsistent f H) (c k : ℕ) (unnamed 
         keeps = keeps;
         references = untouched-references f g H was run-kept;
         counts = untouched-counts f g H was run-kept;
-        shows = λ guest. shows-by f g H.fields was.readable.tables after.readable.tables some guest (guest-kept f g H.fields keeps some guest) (run-apart _ _);
+        elsewhere = λ guest off.
+            shows-by f g H.fields was.readable.tables after.readable.tables some guest (guest-kept f g H.fields keeps some guest)
+            (λ live d copied names. run-apart d (off d copied (entry-slot f H.fields guest was.readable.tables ∙ (guest-slot-there f H.fields guest live.is_there ∙ names))));
       }
+
+-- A cluster that a guest cluster's mapping names is named by the words.
+pub data-named : (f : Bytes) (H : Header) → IsConsistent f H → (guest d : ℕ) (copied : Bool) → entry f H.fields guest ≡ data_at d copied → 1 ≤ contents f H.fields (of_mapping H.fields (meets H.fields d))
+data-named f H was guest d copied is = elim (cases_eq (l2_table f H.fields (guest / words_of_cluster H.fields)) 0) [
+  | inl none ↦ let bad : unmapped ≡ data_at d copied = sym (guest-slot-none f H.fields guest none) ∙ (sym (entry-slot f H.fields guest was.readable.tables) ∙ is) in absurd cc
+  | inr there ↦
+      let live : Live (l2_table f H.fields) H.fields (guest / words_of_cluster H.fields) (guest % words_of_cluster H.fields) = guest-live f H.fields guest (some-words H.fields (consistent-shaped f H was)) there in
+      let names : slot f H.fields (guest / words_of_cluster H.fields) (guest % words_of_cluster H.fields) ≡ data_at d copied = sym (guest-slot-there f H.fields guest there) ∙ (sym (entry-slot f H.fields guest was.readable.tables) ∙ is) in
+      let all : contents f H.fields (of_mapping H.fields (meets H.fields d)) ≡ over_slots (l2_table f H.fields) H.fields (λ r m. of_mapping H.fields (meets H.fields d) (slot f H.fields r m)) = contents-slots f H.fields (of_mapping H.fields (meets H.fields d)) in
+      let one : of_mapping H.fields (meets H.fields d) (slot f H.fields (guest / words_of_cluster H.fields) (guest % words_of_cluster H.fields)) ≤ over_slots (l2_table f H.fields) H.fields (λ r m. of_mapping H.fields (meets H.fields d) (slot f H.fields r m)) =
+      slot-le (l2_table f H.fields) H.fields (λ r m. of_mapping H.fields (meets H.fields d) (slot f H.fields r m)) (guest / words_of_cluster H.fields) (guest % words_of_cluster H.fields) live in
+      let here : of_mapping H.fields (meets H.fields d) (slot f H.fields (guest / words_of_cluster H.fields) (guest % words_of_cluster H.fields)) ≡ 1 = ap (of_mapping H.fields (meets H.fields d)) names ∙ meets-own H.fields d in
+      omega arith
+]
+
+-- A write into a run of clusters c to c + k that nothing names.
+pub free-run-written : (f : Bytes) (H : Header) → IsConsistent f H → (c k : ℕ) → ((d : ℕ) → c ≤ d → d ≤ c + k → refs f H.fields d ≡ 0) → (g : Bytes) (at n : ℕ) → Outside f g at n
+    → c * cluster_size H.fields ≤ at → at + n ≤ (c + k + 1) * cluster_size H.fields → FreeWritten f g H
+free-run-written f H was c k unnamed g at n out low high =
+    let all : RunWritten f g H c k = run-written f H was c k (λ d from upto. free-apart-from-structure f H was d (unnamed d from upto)) g at n out low high in
+    record {
+      consistent = all.consistent;
+      kept = all.kept;
+      keeps = all.keeps;
+      references = all.references;
+      counts = all.counts;
+      shows = λ guest. all.elsewhere guest (λ d copied is. elim (cases_lt d c) [
+        | inl lt ↦ inl lt
+        | inr from ↦ elim (cases_lt (c + k) d) [
+          | inl lt ↦ inr lt
+          | inr upto ↦
+              let none : contents f H.fields (of_mapping H.fields (meets H.fields d)) ≡ 0 = free-unmapped f H was d (unnamed d from upto) in
+              let named : 1 ≤ contents f H.fields (of_mapping H.fields (meets H.fields d)) = data-named f H was guest d copied is in
+              absurd (omega arith)
+        ]
+      ]);
+    }

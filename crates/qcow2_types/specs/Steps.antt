@@ -1,5 +1,5 @@
 -- What one write into a consistent image f leaves in the file g: an image that is consistent under the same header.
-use Rattle.std.specs.Prelude.{true, Ok, ◌≡◌, ◌≢◌, ℕ, ◌+◌, ◌*◌, ◌/◌, ◌%◌, ◌<◌, ◌⊎◌}
+use Rattle.std.specs.Prelude.{Bool, true, Ok, ◌≡◌, ◌≢◌, ℕ, ◌+◌, ◌*◌, ◌/◌, ◌%◌, ◌<◌, ◌⊎◌}
 use Rattle.imago_storage.specs.Disk.{Value}
 use Rattle.qcow2_types.specs.Bytes.{Bytes, word, sum_below}
 use Rattle.qcow2_types.specs.Words.{Mapping, unmapped, data_at}
@@ -40,6 +40,16 @@ pub record FreeWritten (f g : Bytes) (H : Header) : Type 0 where
   pub references : (c : ℕ) → refs g H.fields c ≡ refs f H.fields c
   pub counts : (c : ℕ) → count g H.fields c ≡ count f H.fields c
   pub shows : (guest : ℕ) → ShowsAs g f H.fields guest
+
+-- Clusters c to c + k were written, in which no table, block or header is: the image stays as it is, and what shows changes at those
+-- guest clusters alone whose data is in one of them.
+pub record RunWritten (f g : Bytes) (H : Header) (c k : ℕ) : Type 0 where
+  pub consistent : IsConsistent g H
+  pub kept : Kept f g H.fields nothing
+  pub keeps : KeepsSlots f g H.fields
+  pub references : (d : ℕ) → refs g H.fields d ≡ refs f H.fields d
+  pub counts : (d : ℕ) → count g H.fields d ≡ count f H.fields d
+  pub elsewhere : (guest : ℕ) → ((d : ℕ) (copied : Bool) → entry f H.fields guest ≡ data_at d copied → (d < c) ⊎ (c + k < d)) → ShowsAs g f H.fields guest
 
 -- Refcount block b was written: no count of another block changes, the image shows the same, and clusters that nothing names keep
 -- their bytes.

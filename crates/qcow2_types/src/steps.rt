@@ -13,7 +13,7 @@ ghost use Rattle.qcow2_types.specs.Switched.{with_l1_table, with_reftable, with_
 ghost use Rattle.qcow2_types.specs.Consistency.{IsConsistent};
 ghost use Rattle.qcow2_types.specs.Slots.{slot, Live};
 ghost use Rattle.qcow2_types.specs.Frames.{Outside};
-ghost use Rattle.qcow2_types.specs.Steps.{DataWritten, FreeWritten, BlockWritten, BlockEntered, CounterWritten, ClusterMapped, SlotWritten, TableEntered, TableReplaced, TableRewritten, TableSwapped, TableWritten};
+ghost use Rattle.qcow2_types.specs.Steps.{DataWritten, FreeWritten, RunWritten, BlockWritten, BlockEntered, CounterWritten, ClusterMapped, SlotWritten, TableEntered, TableReplaced, TableRewritten, TableSwapped, TableWritten};
 ghost use Rattle.imago_storage.specs.Disk.{byte};
 ghost use Rattle.qcow2_types.specs.Disk.{at, qcow2};
 ghost use Rattle.qcow2_types.specs.WorkedImage.{of_pieces, image, image_fields, image_header, table_written, grown};
@@ -34,6 +34,13 @@ pub fn kept_cluster_write_shows_nowhere()
 pub fn free_write_shows_nowhere()
     ensures { (f : Bytes) (h : Header) → IsConsistent f h → (c k : ℕ) → ((d : ℕ) → c ≤ d → d ≤ c + k → refs f h.fields d ≡ 0)
         → (g : Bytes) (at n : ℕ) → Outside f g at n → c * cluster_size h.fields ≤ at → at + n ≤ (c + k + 1) * cluster_size h.fields → FreeWritten f g h }
+{}
+
+/// A write into clusters c to c + k, in which no table, block or header is, shows at those guest clusters alone whose data is in one
+/// of them.
+pub fn run_write_stays_in_its_clusters()
+    ensures { (f : Bytes) (h : Header) → IsConsistent f h → (c k : ℕ) → ((d : ℕ) → c ≤ d → d ≤ c + k → structure f h.fields (meets h.fields d) ≡ 0)
+        → (g : Bytes) (at n : ℕ) → Outside f g at n → c * cluster_size h.fields ≤ at → at + n ≤ (c + k + 1) * cluster_size h.fields → RunWritten f g h c k }
 {}
 
 /// A write into a refcount block that leaves its clusters counted as often as they are named changes no other count, and a
@@ -72,7 +79,7 @@ pub fn rewriting_a_word()
 /// A write into an L2 table, of one word, of some, or of the whole, changes no count and no word of another table; what is named
 /// changes by what the table's words name. Where they have a meaning, each cluster that is named is counted, and each that the
 /// structure or a copied word names is named once, the image stays consistent, and guest clusters of other tables, or whose word means
-/// what it did, show the same.
+/// what it did, but perhaps for the copied mark, show the same.
 pub fn writing_into_a_table()
     ensures written { (f : Bytes) (h : Header) → IsConsistent f h → (i : ℕ) → l2_table f h.fields i ≢ 0
         → (g : Bytes) (at n : ℕ) → Outside f g at n → l2_table f h.fields i ≤ at → at + n ≤ l2_table f h.fields i + cluster_size h.fields → TableWritten f g h i }
@@ -96,7 +103,8 @@ pub fn entering_a_table_of_zeroes()
 /// A word of the L1 table can name another table in a cluster that nothing names: no count and no word of another table changes, and
 /// what is named changes by the old table, with what its words name, and the new one with what its words name. Where these have a
 /// meaning, each cluster that is named is counted, and each that the structure or a copied word names is named once, the image stays
-/// consistent, and guest clusters of other tables, or that have the same mapping in the new one, show the same.
+/// consistent, and guest clusters of other tables, or that have the same mapping in the new one, but perhaps for the copied mark, show
+/// the same.
 pub fn naming_another_table()
     ensures replaced { (f : Bytes) (h : Header) → IsConsistent f h → (i : ℕ) → i < h.fields.l1_entries
         → (w : ℕ) → w < 2 ^ 64 → IsTrue (l1_word_sound h.fields.cluster_bits w)
