@@ -22,6 +22,21 @@ order-same xs ys moved = record {
   copied = λ c. named-order copied_part c xs ys moved;
 }
 
+-- and so their sums are as small
+pub few-same : (xs ys : List Naming) → SameParts xs ys → IsFew xs → IsFew ys
+unfolding named
+few-same xs ys same few = record {
+  all = λ c. let all : named_by structure_part c xs + named_by mapped_part c xs < 0x8000_0000_0000_0000 = few.all c in omega (arith, all, same.structure c, same.mapped c);
+  copied = λ c. omega (arith, few.copied c, same.copied c);
+}
+
+pub same-turned : (xs ys : List Naming) → SameParts xs ys → SameParts ys xs
+same-turned xs ys same = record {
+  structure = λ c. sym (same.structure c);
+  mapped = λ c. sym (same.mapped c);
+  copied = λ c. sym (same.copied c);
+}
+
 -- the first entries hold no more than all
 named-take : (part : Naming → ℕ) (c i : ℕ) (xs : List Naming) → named_by part c (take i xs) ≤ named_by part c xs
 unfolding named_by
@@ -34,9 +49,9 @@ same-both a b d p q = record {
   copied = λ c. q.copied c ∙ p.copied c;
 }
 
--- the entries before this one are added up
+-- The entries before this one are added up: to one for each cluster, if the sums are small.
 pub record AddedUp (names merged : List Naming) (i : ℕ) : Type 0 where
-  pub rising : IsRising merged
+  pub rising : IsFew names → IsRising merged
   pub same : SameParts (take i names) merged
   pub behind : (j : ℕ) (d : Naming) → i ≤ j → j < length names → EndsBy merged (slice_index_or names j d).cluster
 
@@ -52,33 +67,36 @@ push-same a b n p = record {
 pub next-take : (xs : List Naming) (i : ℕ) (n : Naming) → i < length xs → n ≡ slice_index_or xs i n → take (i + 1) xs ≡ take i xs ++ n ∷ []
 next-take xs i n lt is = take_more xs i n lt ∙ ap (λ m. take i xs ++ m ∷ []) (sym is)
 
--- so its sums fit
-pub next-fits : (old xs merged : List Naming) (i : ℕ) (n : Naming) → IsFew old → IsPermutation old xs → i < length xs → n ≡ slice_index_or xs i n → AddedUp xs merged i → Fits merged n
+-- so its sums fit, where those of all do
+next-fits : (xs merged : List Naming) (i : ℕ) (n : Naming) → IsFew xs → i < length xs → n ≡ slice_index_or xs i n → AddedUp xs merged i → Fits merged n
 unfolding named
-next-fits old xs merged i n few moved lt is added =
-    let all : named_by structure_part n.cluster old + named_by mapped_part n.cluster old < 0x8000_0000_0000_0000 = few.all n.cluster in
-    let some : named_by copied_part n.cluster old < 0x8000_0000_0000_0000 = few.copied n.cluster in
+next-fits xs merged i n few lt is added =
+    let all : named_by structure_part n.cluster xs + named_by mapped_part n.cluster xs < 0x8000_0000_0000_0000 = few.all n.cluster in
+    let some : named_by copied_part n.cluster xs < 0x8000_0000_0000_0000 = few.copied n.cluster in
     let s = fit structure_part (added.same.structure n.cluster) in
     let m = fit mapped_part (added.same.mapped n.cluster) in
     let p = fit copied_part (added.same.copied n.cluster) in
     record { structure = omega (arith, s, all); mapped = omega (arith, m, all); copied = omega (arith, p, some) }
   where
-    fit : (part : Naming → ℕ) → named_by part n.cluster merged ≡ named_by part n.cluster (take i xs) → named_by part n.cluster merged + part n ≤ named_by part n.cluster old
+    fit : (part : Naming → ℕ) → named_by part n.cluster merged ≡ named_by part n.cluster (take i xs) → named_by part n.cluster merged + part n ≤ named_by part n.cluster xs
     fit part same =
         let a : named_by part n.cluster (take (i + 1) xs) ≡ named_by part n.cluster (take i xs) + part_at part n.cluster n = ap (named_by part n.cluster) (next-take xs i n lt is) ∙ named-push part n.cluster (take i xs) n in
         let b : part_at part n.cluster n ≡ part n = at-own part n.cluster n refl in
         let d : named_by part n.cluster (take (i + 1) xs) ≤ named_by part n.cluster xs = named-take part n.cluster (i + 1) xs in
-        let e : named_by part n.cluster xs ≡ named_by part n.cluster old = named-order part n.cluster old xs moved in
         omega arith
 
 -- and it is added up too
-pub next-added : (xs merged new : List Naming) (i : ℕ) (n : Naming) → IsNonDecreasingBy (λ (m : Naming). m.cluster) xs → i < length xs → n ≡ slice_index_or xs i n → AddedUp xs merged i → IsRising new → EndsBy new n.cluster → SameParts (merged ++ n ∷ []) new → AddedUp xs new (i + 1)
-next-added xs merged new i n up lt is added rising ends same = record {
-  rising = rising;
+pub next-added : (xs merged new : List Naming) (i : ℕ) (n : Naming) → IsNonDecreasingBy (λ (m : Naming). m.cluster) xs → i < length xs → n ≡ slice_index_or xs i n → AddedUp xs merged i
+    → (IsRising merged → EndsBy merged n.cluster → Fits merged n → IsRising new) → (EndsBy merged n.cluster → EndsBy new n.cluster) → SameParts (merged ++ n ∷ []) new → AddedUp xs new (i + 1)
+next-added xs merged new i n up lt is added rises last same = record {
+  rising = λ few. rises (added.rising few) ends (next-fits xs merged i n few lt is added);
   same = subst (λ ys. SameParts ys new) (sym (next-take xs i n lt is)) (same-both (take i xs ++ n ∷ []) (merged ++ n ∷ []) new (push-same (take i xs) merged n added.same) same);
-  behind = λ j d le less m e inside. later j d le less (ends m e inside);
+  behind = λ j d le less m e inside. later j d le less (last ends m e inside);
 }
   where
+    ends : EndsBy merged n.cluster
+    ends = subst (λ (m : Naming). EndsBy merged m.cluster) (sym is) (added.behind i n (omega arith) lt)
+
     later : (j : ℕ) (d : Naming) → i + 1 ≤ j → j < length xs → {x : ℕ} → x ≤ n.cluster → x ≤ (slice_index_or xs j d).cluster
     later j d le less {x} small =
         let a : (slice_index_or xs i d).cluster ≤ (slice_index_or xs j d).cluster = up i j d (omega arith) less in

@@ -16,7 +16,8 @@ use Rattle.qimg.specs.First.{file}
 use Rattle.qimg.specs.Names.{IsRising}
 use Rattle.qimg.specs.Check.{HoldsCounters, counter_in, is_under}
 use Rattle.qimg.proofs.ScanLemmas.{kept-both, kept-file}
-use Rattle.qimg.proofs.RisingLemmas.{blank, IsAbsent, IsAt, at-or-absent, named-sum, named-none}
+use Rattle.qimg.specs.Gathering.{IsAt}
+use Rattle.qimg.proofs.RisingLemmas.{blank, IsAbsent, at-or-absent, named-sum, named-none}
 
 -- the clusters of the first entries are counted often enough
 abbrev pub AreCounted : Bytes → Fields → List Naming → ℕ → Type 0

@@ -25,6 +25,7 @@ pub mod RisingLemmas
 pub mod SharedLemmas
 pub mod MergeLemmas
 pub mod AddUpLemmas
+pub mod GatheringLemmas
 pub mod WordsNamed
 pub mod PlacesNamed
 pub mod FewerWords

@@ -5,7 +5,7 @@ use Rattle.std.proofs.lemmas.Bool.{cases_eq, cases_lt, ne_eqb, eq-eqb}
 use Rattle.std.proofs.lemmas.List.{get_or_default, get_or_append_left, get_or-append_right}
 use Rattle.std.proofs.lemmas.List.Sums.{sum_by-set}
 use Rattle.qimg.specs.declared.check.names.Naming.{Naming}
-use Rattle.qimg.specs.Names.{part_at, named_by, IsRising, EndsBy}
+use Rattle.qimg.specs.Names.{part_at, named_by, structure_part, mapped_part, copied_part, IsRising, EndsBy, Fits, SumsFit}
 use Rattle.qimg.proofs.NameLemmas.{named-push}
 use Rattle.qimg.proofs.RisingLemmas.{named-at}
 
@@ -17,6 +17,14 @@ same-read xs k a b lt p q = q ∙ get_or_default xs k b a lt ∙ sym p
 pub part-held : (part : Naming → ℕ) (xs : List Naming) (k : ℕ) (a b : Naming) (c : ℕ) → IsRising xs → k < length xs → a ≡ slice_index_or xs k a → a.cluster ≡ c → b ≡ slice_index_or xs k b → named_by part c xs ≡ part b
 part-held part xs k a b c up lt p is q =
     ap (λ n. named_by part n xs) (sym is ∙ ap (λ (n : Naming). n.cluster) p) ∙ named-at part xs k a up lt ∙ ap part (sym p) ∙ ap part (sym (same-read xs k a b lt p q))
+
+-- so sums that are small with one more entry fit with that at a place
+pub sums-fit : (xs : List Naming) (k : ℕ) (a b n : Naming) → IsRising xs → Fits xs n → k < length xs → a ≡ slice_index_or xs k a → a.cluster ≡ n.cluster → b ≡ slice_index_or xs k b → SumsFit b n
+sums-fit xs k a b n up fits lt p is q = record {
+  structure = let held : named_by structure_part n.cluster xs ≡ b.structure = part-held structure_part xs k a b n.cluster up lt p is q in omega (arith, fits.structure);
+  mapped = let held : named_by mapped_part n.cluster xs ≡ b.mapped = part-held mapped_part xs k a b n.cluster up lt p is q in omega (arith, fits.mapped);
+  copied = let held : named_by copied_part n.cluster xs ≡ b.copied = part-held copied_part xs k a b n.cluster up lt p is q in omega (arith, fits.copied);
+}
 
 -- what an entry adds at its cluster, and elsewhere
 pub at-own : (part : Naming → ℕ) (c : ℕ) (n : Naming) → n.cluster ≡ c → part_at part c n ≡ part n

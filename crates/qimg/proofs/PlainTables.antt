@@ -1,6 +1,6 @@
 -- What plain reads show by the tables that are loaded.
 use Rattle.std.proofs.Common.{◌≡◌, ◌≢◌, ℕ, ◌+◌, ◌-◌, ◌*◌, ◌/◌, ◌%◌, ◌^◌, ◌<◌, ◌≤◌, refl, arith, ap, sym, ◌∙◌, List, [], length, inl, inr}
-use Rattle.std.specs.Prelude.{Bool, true, false, not, cond, ◌&&◌, ◌==◌, nat_lt, slice_index, IsTrue, IsFalse, Result, Ok, Err, OnOk, IfOk, IfErr, Some, None}
+use Rattle.std.specs.Prelude.{Bool, true, false, cond, ◌&&◌, ◌==◌, nat_lt, slice_index, IsTrue, IsFalse, Result, Ok, Err, OnOk, IfOk, IfErr, Some, None}
 use Rattle.std.proofs.lemmas.Bool.{cases_lt, le-ltb}
 use Rattle.std.proofs.lemmas.Bool.Decides.{nat_tests}
 use Rattle.std.proofs.lemmas.List.{get_or_past}

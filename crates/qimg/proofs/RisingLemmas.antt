@@ -7,6 +7,7 @@ use Rattle.std.proofs.lemmas.List.Sums.{sum_by-cons}
 use Rattle.std.proofs.lemmas.List.{get_or_default}
 use Rattle.qimg.specs.declared.check.names.Naming.{Naming}
 use Rattle.qimg.specs.Names.{part_at, named_by, structure_part, mapped_part, IsRising, named, IsFew}
+use Rattle.qimg.specs.Gathering.{IsAt}
 
 -- what an index gives past the end
 abbrev pub blank : Naming
@@ -15,11 +16,6 @@ blank = record { cluster = 0; structure = 0; mapped = 0; copied = 0 }
 -- no entry is for this cluster
 abbrev pub IsAbsent : List Naming → ℕ → Type 0
 IsAbsent xs c = (k : ℕ) (d : Naming) → k < length xs → (slice_index_or xs k d).cluster ≢ c
-
--- one entry is
-pub record IsAt (xs : List Naming) (c k : ℕ) : Type 0 where
-  pub inside : k < length xs
-  pub is : (d : Naming) → (slice_index_or xs k d).cluster ≡ c
 
 -- an entry for another cluster adds nothing
 part-other : (part : Naming → ℕ) (c : ℕ) (x : Naming) → x.cluster ≢ c → part_at part c x ≡ 0

@@ -11,5 +11,6 @@ pub mod Opening
 pub mod Opens
 pub mod Plain
 pub mod Names
+pub mod Gathering
 pub mod Check
 pub mod Worked

@@ -68,11 +68,18 @@ pub record Fits (names : List Naming) (n : Naming) : Type 0 where
   pub mapped : named_by mapped_part n.cluster names + n.mapped < 0x8000_0000_0000_0000
   pub copied : named_by copied_part n.cluster names + n.copied < 0x8000_0000_0000_0000
 
--- each number of an entry is small enough that the sum of two fits 64 bits
-pub record HasSmallParts (n : Naming) : Type 0 where
-  pub structure : n.structure < 2 ^ 63
-  pub mapped : n.mapped < 2 ^ 63
-  pub copied : n.copied < 2 ^ 63
+-- each sum of two entries fits 64 bits
+pub record SumsFit (one other : Naming) : Type 0 where
+  pub structure : one.structure + other.structure < 2 ^ 64
+  pub mapped : one.mapped + other.mapped < 2 ^ 64
+  pub copied : one.copied + other.copied < 2 ^ 64
+
+-- an entry is two others as one, for the cluster of the second
+pub record IsSum (one other sum : Naming) : Type 0 where
+  pub cluster : sum.cluster ≡ other.cluster
+  pub structure : sum.structure ≡ one.structure + other.structure
+  pub mapped : sum.mapped ≡ one.mapped + other.mapped
+  pub copied : sum.copied ≡ one.copied + other.copied
 
 -- how often a list names cluster c
 unfoldable pub named : List Naming → ℕ → ℕ

@@ -144,9 +144,10 @@ fn names_of<S: Storage>(
     ensures faults { OnOk result ((S.state image.new).faults ≡ (S.state image.old).faults) }
 {
     let mut names = Vec::new(alloc);
-    name_structure(alloc, &mut names, header, &places)?;
+    let mut last = 0;
+    name_structure(alloc, &mut names, header, &places, &mut last)?;
     let Places { tables, blocks } = places;
-    name_contents(alloc, image, header, tables, &mut names)?;
+    name_contents(alloc, image, header, tables, &mut names, &mut last)?;
     Ok((add_up(alloc, names)?, blocks))
 }
 

@@ -1,8 +1,9 @@
 // How often each host cluster is named.
-ghost use Rattle.std.specs.Prelude.{◌≡◌, ℕ, ◌+◌, ◌*◌, ◌<◌, ◌≤◌, ◌^◌, ◌++◌, [], ◌∷◌, IsTrue, OnOk, IfOk, IsOkUnless, MatchOption};
+ghost use Rattle.std.specs.Prelude.{◌≡◌, ℕ, ◌+◌, ◌*◌, ◌<◌, ◌≤◌, ◌^◌, ◌++◌, [], ◌∷◌, length, OnOk, IfOk, IsOkUnless, MatchOption};
 ghost use Rattle.std.specs.List.Sorted.{IsNonDecreasingBy};
 ghost use Rattle.qcow2_types.specs.Consistency.{Nowhere, IsLeast};
-ghost use Rattle.qimg.specs.Names.{Adds, AddsClusters, EndsBy, Fits, SameParts, HasSmallParts, IsRising, IsFew, named as named_of, is_shared, is_false};
+ghost use Rattle.qimg.specs.Names.{Adds, AddsClusters, EndsBy, Fits, SameParts, SumsFit, IsSum, IsRising, IsFew, named as named_of, is_shared, is_false};
+ghost use Rattle.qimg.specs.Gathering.{Reaches, KeepsEntries, room_for};
 
 use super::CheckFault;
 use qcow2_metadata::Header;
@@ -37,6 +38,7 @@ pub fn name_range(
 ) -> Result<(), CheckFault>
     requires { first + length < 2 ^ 63 }
     ensures ok { OnOk result (Adds header.now.fields names.old.items names.new.items (λ w. times.structure * w first length) (λ w. times.mapped * w first length) (λ w. times.copied * w first length)) }
+    ensures keeps { OnOk result (KeepsEntries names.old.items names.new.items) }
     ensures err { IsOkUnless result CheckFault.Memory }
 {
     if length == 0 {
@@ -57,6 +59,7 @@ fn name_clusters(
 ) -> Result<(), CheckFault>
     requires { low ≤ end }
     ensures ok { OnOk result (AddsClusters names.old.items names.new.items low end times) }
+    ensures keeps { OnOk result (KeepsEntries names.old.items names.new.items) }
     ensures err { IsOkUnless result CheckFault.Memory }
 {
     for cluster in low..end {
@@ -70,35 +73,39 @@ fn name_clusters(
     Ok(())
 }
 
-/// Adds the entry to the last one, if that is for its cluster, or puts it behind it.
+/// Two entries of one cluster as one, where the sums fit.
+fn sum_of(one: Naming, other: Naming) -> Option<Naming>
+    ensures { MatchOption result (SumsFit one other → ⊥) (IsSum one other) }
+{
+    Some(Naming {
+        cluster: other.cluster,
+        structure: one.structure.checked_add(other.structure)?,
+        mapped: one.mapped.checked_add(other.mapped)?,
+        copied: one.copied.checked_add(other.copied)?,
+    })
+}
+
+/// Adds the entry to the last one, if that is for its cluster and the sums fit, or puts it behind it.
 fn merge(merged: &mut Vec<Naming>, naming: Naming) -> Result<(), CheckFault>
-    requires rising { IsRising merged.old.items }
-    requires last { EndsBy merged.old.items naming.cluster }
-    requires fits { Fits merged.old.items naming }
-    ensures rising { OnOk result (IsRising merged.new.items) }
-    ensures last { OnOk result (EndsBy merged.new.items naming.cluster) }
+    ensures rising { OnOk result (IsRising merged.old.items → EndsBy merged.old.items naming.cluster → Fits merged.old.items naming → IsRising merged.new.items) }
+    ensures last { OnOk result (EndsBy merged.old.items naming.cluster → EndsBy merged.new.items naming.cluster) }
     ensures same { OnOk result (SameParts (merged.old.items ++ naming ∷ []) merged.new.items) }
     ensures err { IsOkUnless result CheckFault.Memory }
 {
     let count = merged.len();
     if count > 0 && merged[count - 1].cluster == naming.cluster {
-        let last = merged[count - 1];
-        merged[count - 1] = Naming {
-            cluster: naming.cluster,
-            structure: last.structure + naming.structure,
-            mapped: last.mapped + naming.mapped,
-            copied: last.copied + naming.copied,
-        };
-        return Ok(());
+        if let Some(sum) = sum_of(merged[count - 1], naming) {
+            merged[count - 1] = sum;
+            return Ok(());
+        }
     }
     merged.push(naming)?;
     Ok(())
 }
 
-/// Sorts the entries by cluster, and adds up those of one cluster.
+/// Sorts the entries by cluster, and adds up those of one cluster as far as their sums fit.
 pub fn add_up(alloc: Global, mut names: Vec<Naming>) -> Result<Vec<Naming>, CheckFault>
-    requires { IsFew names.items }
-    ensures rising { IfOk result (λ added. IsRising added.items) }
+    ensures rising { IfOk result (λ added. IsFew names.items → IsRising added.items) }
     ensures same { IfOk result (λ added. SameParts names.items added.items) }
     ensures err { IsOkUnless result CheckFault.Memory }
 {
@@ -110,50 +117,7 @@ pub fn add_up(alloc: Global, mut names: Vec<Naming>) -> Result<Vec<Naming>, Chec
     Ok(merged)
 }
 
-/// Whether each number of an entry is below 2^63, so that the sum of two such fits.
-fn is_small(naming: &Naming) -> bool
-    ensures { IsTrue result → HasSmallParts naming.now }
-{
-    let end = 1 << 63;
-    naming.structure < end && naming.mapped < end && naming.copied < end
-}
-
-/// Adds the entry to the last one, if that is for its cluster and the sums fit, or puts it behind it.
-fn join(joined: &mut Vec<Naming>, naming: Naming) -> Result<(), CheckFault>
-    ensures same { OnOk result (SameParts (joined.old.items ++ naming ∷ []) joined.new.items) }
-    ensures err { IsOkUnless result CheckFault.Memory }
-{
-    let count = joined.len();
-    if count > 0 && joined[count - 1].cluster == naming.cluster {
-        let before = joined[count - 1];
-        if is_small(&before) && is_small(&naming) {
-            joined[count - 1] = Naming {
-                cluster: naming.cluster,
-                structure: before.structure + naming.structure,
-                mapped: before.mapped + naming.mapped,
-                copied: before.copied + naming.copied,
-            };
-            return Ok(());
-        }
-    }
-    joined.push(naming)?;
-    Ok(())
-}
-
-/// Sorts the entries by cluster, and adds up those of one cluster as far as their sums fit.
-fn compact(alloc: Global, mut names: Vec<Naming>) -> Result<Vec<Naming>, CheckFault>
-    ensures same { IfOk result (λ compacted. SameParts names.items compacted.items) }
-    ensures err { IsOkUnless result CheckFault.Memory }
-{
-    names.sort_unstable_by_key(|naming| naming.cluster);
-    let mut joined = Vec::new(alloc);
-    for i in 0..names.len() {
-        join(&mut joined, names[i])?;
-    }
-    Ok(joined)
-}
-
-/// How many entries are kept at least before they are added up once more.
+/// How many clusters' entries have room at least before entries are added up.
 const FEW: usize = 4_096;
 
 /// Adds the entries up where they are more than twice as many as when they were last added up. So what is kept are a few numbers for
@@ -165,11 +129,14 @@ pub fn compact_where_grown(
     last: &mut usize,
 ) -> Result<(), CheckFault>
     ensures same { OnOk result (SameParts names.old.items names.new.items) }
+    ensures reached { OnOk result (IsFew names.old.items → Reaches names.old.items last.old → Reaches names.new.items last.new) }
+    ensures short { OnOk result (length names.new.items ≤ room_for last.new) }
+    ensures idle { OnOk result (length names.old.items ≤ room_for last.old → names.new.items ≡ names.old.items) }
     ensures err { IsOkUnless result CheckFault.Memory }
 {
     if names.len() / 2 > (*last).max(FEW) {
         let all = std::mem::replace(names, Vec::new(alloc));
-        *names = compact(alloc, all)?;
+        *names = add_up(alloc, all)?;
         *last = names.len();
     }
     Ok(())

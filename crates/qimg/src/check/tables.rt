@@ -8,7 +8,8 @@ ghost use Rattle.qcow2_types.specs.Counts.{refcount_table_sound};
 ghost use Rattle.qcow2_types.specs.References.{of_mapping, of_copied, of_cluster, of_table};
 ghost use Rattle.qcow2_metadata.specs.MappingView.{mapping_seen, IsNamed};
 ghost use Rattle.qimg.specs.First.{file};
-ghost use Rattle.qimg.specs.Names.{Adds, nothing_named};
+ghost use Rattle.qimg.specs.Names.{Adds, IsFew, nothing_named};
+ghost use Rattle.qimg.specs.Gathering.{KeepsEntries, Reaches, IsSpare, StaysSpare};
 ghost use Rattle.qimg.specs.Check.{tables_of, sum_over, structure_over, words_over, AreTables, IsBlocks, HoldsPlaces, Found, IsUnsound, IsDamagedTable, IsOneDamaged};
 
 use super::names::{Naming, Times, compact_where_grown, name_range};
@@ -128,22 +129,23 @@ pub fn places_of<S: Storage>(
 }
 
 /// Enters the clusters at these places, as parts of the structure. A place of 0 is none.
-fn name_places(
+pub fn name_places(
     alloc: Global,
     names: &mut Vec<Naming>,
     header: &Header,
     places: &[u64],
+    last: &mut usize,
 ) -> Result<(), CheckFault>
     requires { (i : ℕ) → slice_index places.now i ≤ max_offset }
     ensures ok { OnOk result (Adds header.now.fields names.old.items names.new.items (λ w. sum_over (of_cluster header.now.fields w) places.now) nothing_named nothing_named) }
+    ensures spare { OnOk result (StaysSpare names.old.items last.old names.new.items last.new) }
     ensures err { IsOkUnless result CheckFault.Memory }
 {
     let size = header.cluster_size() as u64;
-    let mut last = 0;
     for i in 0..places.len() {
         if places[i] != 0 {
             name_range(names, header, places[i], size, STRUCTURE)?;
-            compact_where_grown(alloc, names, &mut last)?;
+            compact_where_grown(alloc, names, last)?;
         }
     }
     Ok(())
@@ -154,6 +156,7 @@ fn name_start(names: &mut Vec<Naming>, header: &Header) -> Result<(), CheckFault
     requires l1 { header.now.fields.l1_offset + header.now.fields.l1_entries * 8 < 2 ^ 63 }
     requires refcounts { header.now.fields.refcount_table_offset + header.now.fields.refcount_table_clusters * cluster_size header.now.fields < 2 ^ 63 }
     ensures ok { OnOk result (Adds header.now.fields names.old.items names.new.items (λ w. w 0 (cluster_size header.now.fields) + w header.now.fields.l1_offset (header.now.fields.l1_entries * 8) + w header.now.fields.refcount_table_offset (header.now.fields.refcount_table_clusters * cluster_size header.now.fields)) nothing_named nothing_named) }
+    ensures keeps { OnOk result (KeepsEntries names.old.items names.new.items) }
     ensures err { IsOkUnless result CheckFault.Memory }
 {
     let size = header.cluster_size() as u64;
@@ -172,17 +175,20 @@ pub fn name_structure(
     names: &mut Vec<Naming>,
     header: &Header,
     places: &Places,
+    last: &mut usize,
 ) -> Result<(), CheckFault>
     requires l1 { header.now.fields.l1_offset + header.now.fields.l1_entries * 8 < 2 ^ 63 }
     requires refcounts { header.now.fields.refcount_table_offset + header.now.fields.refcount_table_clusters * cluster_size header.now.fields < 2 ^ 63 }
     requires tables { (i : ℕ) → slice_index places.now.tables.items i ≤ max_offset }
     requires blocks { (i : ℕ) → slice_index places.now.blocks.items i ≤ max_offset }
     ensures ok { OnOk result (Adds header.now.fields names.old.items names.new.items (λ w. structure_over header.now.fields places.now.tables.items places.now.blocks.items w) nothing_named nothing_named) }
+    ensures spare { OnOk result (IsFew names.new.items → Reaches names.old.items last.old → IsSpare names.new.items last.new) }
     ensures err { IsOkUnless result CheckFault.Memory }
 {
     name_start(names, header)?;
-    name_places(alloc, names, header, &places.blocks)?;
-    name_places(alloc, names, header, &places.tables)
+    compact_where_grown(alloc, names, last)?;
+    name_places(alloc, names, header, &places.blocks, last)?;
+    name_places(alloc, names, header, &places.tables, last)
 }
 
 /// Enters what a word of an L2 table names, so often.
@@ -194,6 +200,7 @@ fn name_mapping(
 ) -> Result<(), CheckFault>
     requires { IsNamed header.now.fields.cluster_bits mapping }
     ensures ok { OnOk result (Adds header.now.fields names.old.items names.new.items nothing_named (λ w. times * of_mapping header.now.fields w (mapping_seen mapping)) (λ w. times * of_copied header.now.fields w (mapping_seen mapping))) }
+    ensures keeps { OnOk result (KeepsEntries names.old.items names.new.items) }
     ensures err { IsOkUnless result CheckFault.Memory }
 {
     match mapping {
@@ -233,6 +240,7 @@ fn name_cluster(
 ) -> Result<(), CheckFault>
     requires { cluster * 2 ^ header.now.fields.cluster_bits ≤ max_offset }
     ensures ok { OnOk result (Adds header.now.fields names.old.items names.new.items nothing_named (λ w. times * of_mapping header.now.fields w (data_at cluster copied)) (λ w. times * of_copied header.now.fields w (data_at cluster copied))) }
+    ensures keeps { OnOk result (KeepsEntries names.old.items names.new.items) }
     ensures err { IsOkUnless result CheckFault.Memory }
 {
     let HostOffset(place) = cluster.offset(header.cluster_bits());
@@ -254,6 +262,7 @@ fn name_words(
     requires layout { table.now.layout ≡ layout_of header.now.fields }
     requires whole { length table.now.words ≡ words_of_cluster header.now.fields }
     ensures ok { OnOk result (Adds header.now.fields names.old.items names.new.items nothing_named (λ w. times * words_over header.now.fields (of_mapping header.now.fields w) table.now.words) (λ w. times * words_over header.now.fields (of_copied header.now.fields w) table.now.words)) }
+    ensures keeps { OnOk result (KeepsEntries names.old.items names.new.items) }
     ensures err { IsOkUnless result CheckFault.Memory }
 {
     for index in 0..table.entries() {
@@ -274,6 +283,7 @@ fn name_table<S: Storage>(
 ) -> Result<(), CheckFault>
     requires place { IsTrue (is_place header.now.fields.cluster_bits place) }
     ensures ok { OnOk result (Adds header.now.fields names.old.items names.new.items nothing_named (λ w. times * of_table (file (S.state image.old)) header.now.fields (of_mapping header.now.fields w) place) (λ w. times * of_table (file (S.state image.old)) header.now.fields (of_copied header.now.fields w) place)) }
+    ensures keeps { OnOk result (KeepsEntries names.old.items names.new.items) }
     ensures sound { OnOk result (IsTrue (l2_table_sound (file (S.state image.old)) header.now.fields place)) }
     ensures err { IfErr result (Found (S.state image.old) (S.state image.new) (IsDamagedTable (file (S.state image.old)) header.now.fields place)) }
     ensures kept { Kept (S.state image.old) (S.state image.new) }
@@ -296,23 +306,24 @@ pub fn name_contents<S: Storage>(
     header: &Header,
     mut places: Vec<u64>,
     names: &mut Vec<Naming>,
+    last: &mut usize,
 ) -> Result<(), CheckFault>
     requires places { AreTables header.now.fields.cluster_bits places.items }
     requires few { length places.items ≤ 2 ^ 22 }
     ensures ok { OnOk result (Adds header.now.fields names.old.items names.new.items nothing_named (λ w. sum_over (of_table (file (S.state image.old)) header.now.fields (of_mapping header.now.fields w)) places.items) (λ w. sum_over (of_table (file (S.state image.old)) header.now.fields (of_copied header.now.fields w)) places.items)) }
+    ensures spare { OnOk result (StaysSpare names.old.items last.old names.new.items last.new) }
     ensures sound { OnOk result (All (λ place. IsTrue (l2_table_sound (file (S.state image.old)) header.now.fields place)) places.items) }
     ensures err { IfErr result (Found (S.state image.old) (S.state image.new) (IsOneDamaged (file (S.state image.old)) header.now.fields places.items)) }
     ensures kept { Kept (S.state image.old) (S.state image.new) }
     ensures faults { OnOk result ((S.state image.new).faults ≡ (S.state image.old).faults) }
 {
     places.sort_unstable();
-    let mut last = 0;
     let mut times = 0;
     for i in 0..places.len() {
         times += 1;
         if i + 1 == places.len() || places[i + 1] != places[i] {
             name_table(alloc, image, header, places[i], times, names)?;
-            compact_where_grown(alloc, names, &mut last)?;
+            compact_where_grown(alloc, names, last)?;
             times = 0;
         }
     }

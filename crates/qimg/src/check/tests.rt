@@ -12,6 +12,7 @@ mod contents;
 mod ends;
 mod findings;
 mod full;
+mod gathering;
 mod images;
 mod sizes;
 mod storages;

@@ -36,8 +36,8 @@ returns-in_err-name_contents-clause-err g c =
     let p = err_from_is_err_and c.from_residual-in_err-name_contents.result c.from_residual-in_err-name_contents.ensures.1 in
     rw (p.1, p.2) (damaged-finding (g.S.Storage.state c.args.image.now) (g.S.Storage.state c.name_contents.new.image) c.args.header.now.fields c.args.places.tables.items c.requires.places.in_order c.in_err-name_contents.field-0.0 c.in_err-name_contents.ensures.err)
 
-pub add_up-requires : goal.add_up-requires
-add_up-requires g c = given-few _ c.args.header.now c.requires.loads _ _ c.requires.places _ _ _ [] c.new-names.ensures.items c.in_ok-name_structure.ensures.ok c.in_ok-name_contents.ensures.ok
+pub returns-clause-rising : goal.returns-clause-rising
+returns-clause-rising g c = c.in_ok-add_up.ensures.rising (given-few _ c.args.header.now c.requires.loads _ _ c.requires.places _ _ _ [] c.new-names.ensures.items c.in_ok-name_structure.ensures.ok c.in_ok-name_contents.ensures.ok)
 
 pub returns-clause-told : goal.returns-clause-told
 returns-clause-told g c = added-tells _ c.args.header.now c.requires.loads _ _ c.requires.places _ _ _ _ c.new-names.ensures.items c.in_ok-name_structure.ensures.ok c.in_ok-name_contents.ensures.ok c.in_ok-add_up.ensures.same
