@@ -61,3 +61,4 @@ pub mod HeldBytes
 pub mod OneVerdict
 pub mod WorkedGrowth
 pub mod WorkedWhole
+pub mod LeaksKept

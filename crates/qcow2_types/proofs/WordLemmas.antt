@@ -8,7 +8,7 @@ use Rattle.qcow2_types.specs.Words.{Layout, Mapping, unmapped, data_at, mapping_
 use Rattle.qcow2_types.specs.Header.{Fields, cluster_size, layout_of}
 
 -- 0 is a place that a cluster can begin at
-zero-place : (bits : ℕ) → is_place bits 0 ≡ true
+pub zero-place : (bits : ℕ) → is_place bits 0 ≡ true
 zero-place bits = let pos : 0 < 2 ^ bits = pow_pos bits in let none : 0 % 2 ^ bits ≡ 0 = omega arith in rw none refl
 
 -- A word of 0 in an L2 table leaves its guest cluster unmapped, and one in the L1 table names no table.

@@ -1,10 +1,9 @@
 -- The places of the refcount blocks, word by word of the refcount table, of which the words past the file's end aren't loaded.
-use Rattle.std.proofs.Common.{◌≡◌, ℕ, ◌+◌, ◌*◌, ◌/◌, ◌%◌, ◌^◌, ◌<◌, ◌≤◌, refl, arith, ap, sym, ◌∙◌, List, [], ◌∷◌, ◌++◌, length, inl, inr}
+use Rattle.std.proofs.Common.{◌≡◌, ℕ, ◌+◌, ◌*◌, ◌/◌, ◌^◌, ◌<◌, ◌≤◌, refl, arith, ap, sym, ◌∙◌, List, [], ◌∷◌, ◌++◌, length, inl, inr}
 use Rattle.std.specs.Prelude.{Bool, true, false, cond, ◌&&◌, nat_lt, slice_index, Ok, IsTrue}
 use Rattle.std.proofs.lemmas.Bool.{cases_lt, le-ltb}
 use Rattle.std.proofs.lemmas.Bool.Decides.{nat_tests}
 use Rattle.std.proofs.lemmas.List.{get_or_past, get_or_push, get_or_append_left, length-append}
-use Rattle.std.proofs.lemmas.Nat.{pow_pos}
 use Rattle.imago_storage.specs.State.{StorageState}
 use Rattle.imago_storage.specs.declared.fault.Fault.{Fault}
 use Rattle.imago_storage.specs.declared.fault.Fault.TheVariants.{Memory, Storage, Limit, DamagedTable}
@@ -19,15 +18,14 @@ use Rattle.qcow2_types.proofs.HeaderLimits.{header-limited}
 use Rattle.qcow2_types.proofs.Sound.{all-below-holds}
 use Rattle.qcow2_metadata.specs.Tables.{AreSound, HasUnsound, WhyNotLoaded, words_in, block_words}
 use Rattle.qcow2_metadata.proofs.TableFacts.{words_long, words_at}
-use Rattle.qimg.specs.First.{file}
-use Rattle.qimg.specs.Check.{Found, IsUnsound, IsBlocks, fault_of_table}
+use Rattle.qimg.specs.declared.check.CheckFault.TheVariants.{Table}
+use Rattle.qimg.specs.Files.{file}
+use Rattle.qcow2_types.proofs.WordLemmas.{zero-place}
+use Rattle.qimg.specs.CheckParts.{IsUnsound, IsBlocks, fault_of_load}
+use Rattle.qimg.specs.Check.{Found}
 use Rattle.qimg.proofs.FewerWords.{past-word}
 use Rattle.qcow2_types.proofs.WriteBack.{place-whole, place-near}
 use Rattle.qimg.proofs.ScanLemmas.{tests-miss}
-
--- a place of 0
-zero-place : (bits : ℕ) → is_place bits 0 ≡ true
-zero-place bits = let pos : 0 < 2 ^ bits = pow_pos bits in let none : 0 % 2 ^ bits ≡ 0 = omega arith in rw none refl
 
 -- a damaged refcount table
 blocks-damaged : (f : Bytes) (h : Fields) → refcount_table_sound f h ≡ false → tables_sound f h ≡ false
@@ -67,7 +65,7 @@ module _ (f : Bytes) (H : Header) (loads : header_of true f ≡ Ok H) (cluster :
 
 -- So the refcount table isn't loaded, and that is the finding.
 pub blocks-finding : (old new : StorageState) (H : Header) → header_of true (file old) ≡ Ok H → (cluster n : ℕ) → cluster ≡ H.fields.refcount_table_offset / 2 ^ H.fields.cluster_bits → n ≤ refcount_table_entries H.fields → (fault : Fault)
-    → WhyNotLoaded block_words (layout_of H.fields) (words_in (file old) (cluster * cluster_size H.fields) n) old.faults new.faults fault → Found old new (IsUnsound (file old) H.fields) (fault_of_table fault)
+    → WhyNotLoaded block_words (layout_of H.fields) (words_in (file old) (cluster * cluster_size H.fields) n) old.faults new.faults fault → Found old new (IsUnsound (file old) H.fields) (fault_of_load Table fault)
 blocks-finding old new H loads cluster n is few Memory why = why
 blocks-finding old new H loads cluster n is few Storage why = why
 blocks-finding old new H loads cluster n is few DamagedTable why = (blocks-damaged (file old) H.fields (blocks-unsound (file old) H loads cluster is n few why.0), why.1)

@@ -17,7 +17,8 @@ use Rattle.qcow2_types.proofs.Splices.{be-same, splice-outside, splice-inside}
 use Rattle.qcow2_types.proofs.Named.{structure-le-refs}
 use Rattle.qcow2_types.proofs.Frames.{header-part, block-part, splice-is-outside}
 use Rattle.qimg.specs.declared.first.clusters.Places.{Places}
-use Rattle.qimg.specs.First.{file, value_at, IsPlain, Holds, ShowsSame, AllCounted}
+use Rattle.qimg.specs.Files.{file, value_at}
+use Rattle.qimg.specs.First.{IsPlain, Holds, ShowsSame, AllCounted}
 use Rattle.qimg.specs.Requests.{Puts}
 use Rattle.qimg.specs.Clusters.{IsFreeAt, NoneFreeAt, Takes, HasTable, IsFull}
 use Rattle.qimg.proofs.FirstLemmas.{size-512, words-64, counters-256, count-first, shows-same}

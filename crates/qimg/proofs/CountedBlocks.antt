@@ -11,7 +11,7 @@ use Rattle.qcow2_types.specs.Counts.{block_at, count, counter, counter_bits, cou
 use Rattle.qcow2_types.proofs.Splices.{be-zeroes}
 use Rattle.qcow2_metadata.specs.Blocks.{Block, block_in, counters_in}
 use Rattle.qcow2_metadata.proofs.TableSteps.{past_end}
-use Rattle.qimg.specs.Check.{IsBlocks, HoldsCounters}
+use Rattle.qimg.specs.CheckParts.{IsBlocks, HoldsCounters}
 use Rattle.qcow2_types.proofs.WriteBack.{place-whole}
 
 -- a counter past the file's end

@@ -11,25 +11,25 @@ use Rattle.qcow2_types.specs.Header.{Fields}
 use Rattle.qcow2_types.specs.Counts.{count, counters_of_block}
 use Rattle.qcow2_types.specs.Consistency.{Nowhere, IsLeast}
 use Rattle.qcow2_metadata.specs.Blocks.{Block}
-use Rattle.qimg.specs.declared.check.names.Naming.{Naming}
-use Rattle.qimg.specs.First.{file}
+use Rattle.qimg.specs.declared.check.names.Tally.{Tally}
+use Rattle.qimg.specs.Files.{file}
 use Rattle.qimg.specs.Names.{IsRising}
-use Rattle.qimg.specs.Check.{HoldsCounters, counter_in, is_under}
+use Rattle.qimg.specs.CheckParts.{HoldsCounters, counter_in, is_under}
 use Rattle.qimg.proofs.ScanLemmas.{kept-both, kept-file}
 use Rattle.qimg.specs.Gathering.{IsAt}
 use Rattle.qimg.proofs.RisingLemmas.{blank, IsAbsent, at-or-absent, named-sum, named-none}
 
 -- the clusters of the first entries are counted often enough
-abbrev pub AreCounted : Bytes → Fields → List Naming → ℕ → Type 0
+abbrev pub AreCounted : Bytes → Fields → List Tally → ℕ → Type 0
 AreCounted f h names n = (k : ℕ) → k < n → k < length names → IsFalse (is_under f h names (slice_index_or names k blank).cluster)
 
 -- a cluster without entry is
-absent-counted : (f : Bytes) (h : Fields) (names : List Naming) (c : ℕ) → IsAbsent names c → is_under f h names c ≡ false
+absent-counted : (f : Bytes) (h : Fields) (names : List Tally) (c : ℕ) → IsAbsent names c → is_under f h names c ≡ false
 unfolding is_under
 absent-counted f h names c apart = rw (named-none names c apart) (grind (arith, nat_tests))
 
 -- so all are, where those of all entries are
-pub all-counted : (f : Bytes) (h : Fields) (names : List Naming) (n : ℕ) → length names ≤ n → AreCounted f h names n → Nowhere (is_under f h names)
+pub all-counted : (f : Bytes) (h : Fields) (names : List Tally) (n : ℕ) → length names ≤ n → AreCounted f h names n → Nowhere (is_under f h names)
 all-counted f h names n all counted c = elim (at-or-absent names c) [
   | inl found ↦ subst-at found
   | inr apart ↦ absent-counted f h names c apart
@@ -39,14 +39,14 @@ all-counted f h names n all counted c = elim (at-or-absent names c) [
     subst-at found = ap (is_under f h names) (sym (found.1.is blank)) ∙ counted found.0 (let lt : found.0 < length names = found.1.inside in omega arith) found.1.inside
 
 -- one entry more
-pub next-counted : (f : Bytes) (h : Fields) (names : List Naming) (n : ℕ) → is_under f h names (slice_index_or names n blank).cluster ≡ false → AreCounted f h names n → AreCounted f h names (n + 1)
+pub next-counted : (f : Bytes) (h : Fields) (names : List Tally) (n : ℕ) → is_under f h names (slice_index_or names n blank).cluster ≡ false → AreCounted f h names n → AreCounted f h names (n + 1)
 next-counted f h names n here before k lt inside = elim (cases_lt k n) [
   | inl less ↦ before k less inside
   | inr ge ↦ let same : k ≡ n = omega arith in ap (λ i. is_under f h names (slice_index_or names i blank).cluster) same ∙ here
 ]
 
 -- the first cluster that isn't counted often enough is the least
-pub first-under : (f : Bytes) (h : Fields) (names : List Naming) (n : ℕ) → IsRising names → n < length names → AreCounted f h names n → is_under f h names (slice_index_or names n blank).cluster ≡ true → IsLeast (is_under f h names) (slice_index_or names n blank).cluster
+pub first-under : (f : Bytes) (h : Fields) (names : List Tally) (n : ℕ) → IsRising names → n < length names → AreCounted f h names n → is_under f h names (slice_index_or names n blank).cluster ≡ true → IsLeast (is_under f h names) (slice_index_or names n blank).cluster
 first-under f h names n up inside before here = (
   here,
   λ d less. elim (at-or-absent names d) [
@@ -75,7 +75,7 @@ first-under f h names n up inside before here = (
     earlier d found less = ap (is_under f h names) (sym (found.1.is blank)) ∙ before found.0 (order d found less) found.1.inside
 
 -- whether an entry's cluster is counted often enough, by its block's counter
-module _ (f : Bytes) (h : Fields) (names : List Naming) (n index place value : ℕ) (block : Option Block) (up : IsRising names) (inside : n < length names) (holds : HoldsCounters f h index block)
+module _ (f : Bytes) (h : Fields) (names : List Tally) (n index place value : ℕ) (block : Option Block) (up : IsRising names) (inside : n < length names) (holds : HoldsCounters f h index block)
     (lt : place < counters_of_block h) (is : (slice_index_or names n blank).cluster ≡ index * counters_of_block h + place) (counted : value ≡ counter_in block place) where
   count-is : count f h (slice_index_or names n blank).cluster ≡ value
   count-is = ap (count f h) is ∙ (sym (holds.counts place lt) ∙ sym counted)
@@ -115,7 +115,7 @@ ready-read old before after now h index held read block same held-is block-is ke
   here = held-is;
 }
 
-module _ (old now : StorageState) (h : Fields) (names : List Naming) (n held value bits : ℕ) (at : ℕ × ℕ) (block : Option Block) (up : IsRising names) (inside : n < length names)
+module _ (old now : StorageState) (h : Fields) (names : List Tally) (n held value bits : ℕ) (at : ℕ × ℕ) (block : Option Block) (up : IsRising names) (inside : n < length names)
     (is : at ≡ ((slice_index_or names n blank).cluster / 2 ^ bits, (slice_index_or names n blank).cluster % 2 ^ bits)) (many : 2 ^ bits ≡ counters_of_block h)
     (counted : value ≡ counter_in block at.1) (before : AreCounted (file old) h names n) (ready : Ready old now h at.0 held block) where
   place-below : at.1 < counters_of_block h

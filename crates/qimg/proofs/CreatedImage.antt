@@ -18,7 +18,7 @@ use Rattle.qcow2_types.proofs.HeaderSwitch.{header-made}
 use Rattle.qcow2_types.proofs.SizeSwitch.{size-switched}
 use Rattle.qcow2_types.proofs.Splices.{be-written, splice-outside}
 use Rattle.qcow2_types.proofs.Values.{entry-slot}
-use Rattle.qimg.specs.First.{value_at}
+use Rattle.qimg.specs.Files.{value_at}
 use Rattle.qimg.specs.Created.{blank, blank_fields, blank_header, created, new_header, nothing_in, extension_bytes, l1_entries_of}
 use Rattle.std.specs.Result.{result_err}
 use Rattle.qimg.specs.Opening.{rules_of_form, has_new_extensions, has_plain_words, own_fault, header_fault, tables_fault, open_fault}

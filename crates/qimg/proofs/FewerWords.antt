@@ -17,8 +17,10 @@ use Rattle.qcow2_types.proofs.WordLemmas.{zero-l1-word}
 use Rattle.qcow2_metadata.specs.Tables.{TableValue, AreSound, HasUnsound, WhyNotLoaded, words_in, table_in, l1_words}
 use Rattle.qcow2_metadata.proofs.TableFacts.{words_long, words_at}
 use Rattle.qcow2_metadata.proofs.TableSteps.{past_end}
-use Rattle.qimg.specs.First.{file}
-use Rattle.qimg.specs.Check.{Found, IsUnsound, fault_of_table}
+use Rattle.qimg.specs.declared.check.CheckFault.TheVariants.{Table}
+use Rattle.qimg.specs.Files.{file}
+use Rattle.qimg.specs.CheckParts.{IsUnsound, fault_of_load}
+use Rattle.qimg.specs.Check.{Found}
 use Rattle.qimg.proofs.PlainTables.{l1-place}
 use Rattle.qimg.proofs.ScanLemmas.{tests-miss}
 
@@ -51,7 +53,7 @@ l1-unsound f H loads cluster n is few unsound =
 
 -- So the L1 table isn't loaded, and that is the finding.
 pub l1-finding : (old new : StorageState) (H : Header) → header_of false (file old) ≡ Ok H → (cluster n : ℕ) → cluster ≡ H.fields.l1_offset / 2 ^ H.fields.cluster_bits → n ≤ H.fields.l1_entries → (fault : Fault)
-    → WhyNotLoaded l1_words (layout_of H.fields) (words_in (file old) (cluster * cluster_size H.fields) n) old.faults new.faults fault → Found old new (IsUnsound (file old) H.fields) (fault_of_table fault)
+    → WhyNotLoaded l1_words (layout_of H.fields) (words_in (file old) (cluster * cluster_size H.fields) n) old.faults new.faults fault → Found old new (IsUnsound (file old) H.fields) (fault_of_load Table fault)
 l1-finding old new H loads cluster n is few Memory why = why
 l1-finding old new H loads cluster n is few Storage why = why
 l1-finding old new H loads cluster n is few DamagedTable why = (l1-damaged (file old) H.fields (l1-unsound (file old) H loads cluster n is few why.0), why.1)

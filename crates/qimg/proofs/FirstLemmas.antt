@@ -14,7 +14,8 @@ use Rattle.qcow2_types.specs.Slots.{guest_slot}
 use Rattle.qcow2_types.specs.Frames.{ShowsAs}
 use Rattle.qcow2_types.specs.Disk.{shown}
 use Rattle.qcow2_types.proofs.Values.{entry-slot, value-same}
-use Rattle.qimg.specs.First.{value_at, IsPlain, ShowsSame}
+use Rattle.qimg.specs.Files.{value_at}
+use Rattle.qimg.specs.First.{IsPlain, ShowsSame}
 use Rattle.qcow2_types.proofs.Consistent.{header-reading}
 
 -- the sizes of a plain image

@@ -13,9 +13,9 @@ use Rattle.qcow2_types.specs.References.{Weight, meets, of_cluster, of_mapping, 
 use Rattle.qcow2_types.proofs.HeaderLimits.{fields-shaped, header-limited}
 use Rattle.qcow2_types.proofs.Sums.{sum-same, sum-none, sum-more}
 use Rattle.qcow2_metadata.proofs.GrowthLemmas.{cluster_words_bounds}
-use Rattle.qimg.specs.declared.check.names.Naming.{Naming}
+use Rattle.qimg.specs.declared.check.names.Tally.{Tally}
 use Rattle.qimg.specs.Names.{Adds, SameParts, IsFew, nothing_named, named_by, structure_part, mapped_part, copied_part, named}
-use Rattle.qimg.specs.Check.{Tells, HoldsPlaces, tables_of, sum_over, structure_over}
+use Rattle.qimg.specs.CheckParts.{Tells, HoldsPlaces, tables_of, sum_over, structure_over}
 use Rattle.qimg.proofs.RisingLemmas.{named-empty}
 use Rattle.qimg.proofs.ScanLemmas.{not-same}
 use Rattle.qimg.proofs.TablesListed.{sum-tables, sum-list, tables-few}
@@ -129,7 +129,7 @@ module _ (f : Bytes) (H : Header) (loads : header_of true f ≡ Ok H) (tables bl
       let is : sum_over (of_table f H.fields of) tables ≡ contents f H.fields of = contents-listed of in
       omega (arith, each, most, is, few-tables)
 
-  module _ (start between given added : List Naming) (none : start ≡ []) (adds-structure : Adds H.fields start between (λ w. structure_over H.fields tables blocks w) nothing_named nothing_named)
+  module _ (start between given added : List Tally) (none : start ≡ []) (adds-structure : Adds H.fields start between (λ w. structure_over H.fields tables blocks w) nothing_named nothing_named)
       (adds-contents : Adds H.fields between given nothing_named (λ w. sum_over (of_table f H.fields (of_mapping H.fields w)) tables) (λ w. sum_over (of_table f H.fields (of_copied H.fields w)) tables)) where
     -- What is entered then is what the image names.
     told-structure : (c : ℕ) → named_by structure_part c given ≡ structure f H.fields (meets H.fields c)

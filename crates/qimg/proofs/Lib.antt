@@ -40,5 +40,4 @@ pub mod TablesListed
 pub mod ImageNamed
 pub mod Verdicts
 pub mod ReadsAgree
-pub mod LeaksKept
 pub mod WorkedLemmas

@@ -15,7 +15,8 @@ use Rattle.qcow2_types.specs.Bytes.{Bytes, bytes_of}
 use Rattle.qcow2_types.specs.Header.{Header}
 use Rattle.qcow2_types.proofs.Surplus.{surplus-both}
 use Rattle.qimg.specs.declared.first.clusters.Places.{Places}
-use Rattle.qimg.specs.First.{file, value_at, Holds, ShowsBytes}
+use Rattle.qimg.specs.Files.{file, value_at}
+use Rattle.qimg.specs.First.{Holds, ShowsBytes}
 use Rattle.qimg.specs.Clusters.{Writes, IsFull, NoCluster}
 use Rattle.qimg.specs.Pieces.{NotAllWritten, ShowsBuffer, ShowsRange}
 

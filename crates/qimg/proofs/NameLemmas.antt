@@ -2,12 +2,12 @@
 use Rattle.std.proofs.Common.{◌≡◌, ℕ, ◌+◌, ◌*◌, ◌≤◌, arith, ap, ◌∙◌, List, [], ◌∷◌, ◌++◌}
 use Rattle.std.specs.Prelude.{◌==◌, if◌then◌else◌}
 use Rattle.std.proofs.lemmas.List.Sums.{sum_by_push}
-use Rattle.qimg.specs.declared.check.names.Naming.{Naming}
+use Rattle.qimg.specs.declared.check.names.Tally.{Tally}
 use Rattle.qimg.specs.declared.check.names.Times.{Times}
 use Rattle.qimg.specs.Names.{part_at, named_by, structure_part, mapped_part, copied_part, is_between, AddsClusters}
 
 -- one more entry
-pub named-push : (part : Naming → ℕ) (c : ℕ) (xs : List Naming) (n : Naming) → named_by part c (xs ++ n ∷ []) ≡ named_by part c xs + part_at part c n
+pub named-push : (part : Tally → ℕ) (c : ℕ) (xs : List Tally) (n : Tally) → named_by part c (xs ++ n ∷ []) ≡ named_by part c xs + part_at part c n
 unfolding named_by
 named-push part c xs n = sum_by_push (part_at part c) xs n
 
@@ -20,7 +20,7 @@ pub between-more : (low k c x : ℕ) → low ≤ k → x * is_between low (k + 1
 between-more low k c x le = grind arith
 
 -- the entries for no clusters
-pub adds-none : (xs : List Naming) (low : ℕ) (times : Times) → AddsClusters xs xs low low times
+pub adds-none : (xs : List Tally) (low : ℕ) (times : Times) → AddsClusters xs xs low low times
 adds-none xs low times = record {
   structure = λ c. none (named_by structure_part c xs) times.structure c;
   mapped = λ c. none (named_by mapped_part c xs) times.mapped c;
@@ -31,7 +31,7 @@ adds-none xs low times = record {
     none n x c = rw (between-none low c) (omega arith)
 
 -- the entry for one more cluster
-pub adds-more : (old now new : List Naming) (low k : ℕ) (times : Times) (n : Naming) → low ≤ k → n.cluster ≡ k → n.structure ≡ times.structure → n.mapped ≡ times.mapped → n.copied ≡ times.copied
+pub adds-more : (old now new : List Tally) (low k : ℕ) (times : Times) (n : Tally) → low ≤ k → n.cluster ≡ k → n.structure ≡ times.structure → n.mapped ≡ times.mapped → n.copied ≡ times.copied
     → new ≡ now ++ n ∷ [] → AddsClusters old now low k times → AddsClusters old new low (k + 1) times
 adds-more old now new low k times n le at s m p is adds = record {
   structure = λ c. more structure_part times.structure c s (adds.structure c);
@@ -42,10 +42,10 @@ adds-more old now new low k times n le at s m p is adds = record {
     step : (a b d x y e : ℕ) → a ≡ b + x → b ≡ d + y → e ≡ y + x → a ≡ d + e
     step a b d x y e p q r = omega arith
 
-    entry : (part : Naming → ℕ) (x c : ℕ) → part n ≡ x → part_at part c n ≡ (if k == c then x else 0)
+    entry : (part : Tally → ℕ) (x c : ℕ) → part n ≡ x → part_at part c n ≡ (if k == c then x else 0)
     entry part x c e = ap (λ y. if n.cluster == c then y else 0) e ∙ ap (λ a. if a == c then x else 0) at
 
-    more : (part : Naming → ℕ) (x c : ℕ) → part n ≡ x → named_by part c now ≡ named_by part c old + x * is_between low k c → named_by part c new ≡ named_by part c old + x * is_between low (k + 1) c
+    more : (part : Tally → ℕ) (x c : ℕ) → part n ≡ x → named_by part c now ≡ named_by part c old + x * is_between low k c → named_by part c new ≡ named_by part c old + x * is_between low (k + 1) c
     more part x c e before =
         let pushed : named_by part c new ≡ named_by part c now + (if k == c then x else 0) = ap (named_by part c) is ∙ named-push part c now n ∙ ap (λ y. named_by part c now + y) (entry part x c e) in
         step _ _ _ _ _ _ pushed before (between-more low k c x le)

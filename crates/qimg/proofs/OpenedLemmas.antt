@@ -13,7 +13,8 @@ use Rattle.qcow2_types.specs.Bytes.{Bytes, bytes_of}
 use Rattle.qcow2_types.specs.Header.{Header}
 use Rattle.qcow2_types.specs.Disk.{size_in_header}
 use Rattle.qcow2_types.specs.Consistency.{IsConsistent}
-use Rattle.qimg.specs.First.{file, value_at, Holds}
+use Rattle.qimg.specs.Files.{file, value_at}
+use Rattle.qimg.specs.First.{Holds}
 use Rattle.qimg.specs.Clusters.{Writes}
 use Rattle.qimg.specs.Pieces.{NotAllWritten, IsFullFor, ShowsRange}
 use Rattle.qimg.specs.Opened.{Opened, IsLive, Steps, LeaksSame, shown, WriteRefused, IsWithin}

@@ -23,7 +23,8 @@ use Rattle.qcow2_types.specs.Frames.{Same}
 use Rattle.qcow2_types.proofs.Limit.{blocks-near}
 use Rattle.qcow2_types.proofs.WordLemmas.{zero-word}
 use Rattle.qimg.specs.Created.{extension_bytes}
-use Rattle.qimg.specs.First.{file, IsPlain, IsPlainMapping, Holds}
+use Rattle.qimg.specs.Files.{file}
+use Rattle.qimg.specs.First.{IsPlain, IsPlainMapping, Holds}
 use Rattle.qimg.specs.Opening.{rules_of_form, has_new_extensions, rules_of_extensions, is_plain_table_word, is_plain_entry, is_copied_data, has_plain_words, ◌or-else◌, own_fault, header_fault, tables_fault, open_fault, Accepts, NotAccepted, verdict, worse, table_sound, table_plain, word_sound, word_plain, tables_verdict}
 use Rattle.qimg.specs.declared.first.opening.Accepted.{Accepted}
 use Rattle.qimg.specs.declared.first.opening.Found.{Found}

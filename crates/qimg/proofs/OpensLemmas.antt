@@ -4,7 +4,7 @@ use Rattle.std.specs.Prelude.{false}
 use Rattle.imago_storage.specs.State.{Shape, StorageState}
 use Rattle.imago_storage.specs.Calls.{Kept}
 use Rattle.qimg.specs.declared.first.opening.Accepted.{Accepted}
-use Rattle.qimg.specs.First.{file}
+use Rattle.qimg.specs.Files.{file}
 use Rattle.qimg.specs.Opening.{Accepts}
 use Rattle.qimg.specs.Opens.{Opens}
 use Rattle.qimg.proofs.OpeningLemmas.{accepted-holds}

@@ -7,19 +7,19 @@ use Rattle.std.proofs.lemmas.List.Sums.{sum_by_push}
 use Rattle.std.proofs.lemmas.Bool.{ne_eqb}
 use Rattle.qcow2_types.specs.Header.{Fields, cluster_size}
 use Rattle.qcow2_types.specs.References.{meets, of_cluster}
-use Rattle.qimg.specs.declared.check.names.Naming.{Naming}
+use Rattle.qimg.specs.declared.check.names.Tally.{Tally}
 use Rattle.qimg.specs.Names.{Adds, SameParts, nothing_named}
-use Rattle.qimg.specs.Check.{sum_over, structure_over}
+use Rattle.qimg.specs.CheckParts.{sum_over, structure_over}
 
 -- the clusters at these places are added
-abbrev pub AddsPlaces : Fields → List Naming → List Naming → List ℕ → Type 0
+abbrev pub AddsPlaces : Fields → List Tally → List Tally → List ℕ → Type 0
 AddsPlaces h old new places = Adds h old new (λ w. sum_over (of_cluster h w) places) nothing_named nothing_named
 
 pub places-step : (of : ℕ → ℕ) (places : List ℕ) (i : ℕ) → i < length places → sum_over of (take (i + 1) places) ≡ sum_over of (take i places) + of (slice_index places i)
 places-step of places i lt = ap (sum_by of) (take_more places i 0 lt) ∙ sum_by_push of (take i places) (slice_index places i)
 
 -- one more place, where 0 is none
-pub adds-no-place : (h : Fields) (old now : List Naming) (places : List ℕ) (i : ℕ) → i < length places → slice_index places i ≡ 0 → AddsPlaces h old now (take i places) → AddsPlaces h old now (take (i + 1) places)
+pub adds-no-place : (h : Fields) (old now : List Tally) (places : List ℕ) (i : ℕ) → i < length places → slice_index places i ≡ 0 → AddsPlaces h old now (take i places) → AddsPlaces h old now (take (i + 1) places)
 adds-no-place h old now places i lt none adds = record {
   structure = λ c. nothing c _ _ (adds.structure c) (places-step (of_cluster h (meets h c)) places i lt);
   mapped = adds.mapped;
@@ -30,7 +30,7 @@ adds-no-place h old now places i lt none adds = record {
         → a ≡ b + sum_over (of_cluster h (meets h c)) (take (i + 1) places)
     nothing c a b p q = let zero : of_cluster h (meets h c) (slice_index places i) ≡ 0 = ap (of_cluster h (meets h c)) none in omega arith
 
-pub adds-place : (h : Fields) (old now grown new : List Naming) (places : List ℕ) (i place : ℕ) → i < length places → slice_index places i ≡ place → place ≢ 0 → AddsPlaces h old now (take i places)
+pub adds-place : (h : Fields) (old now grown new : List Tally) (places : List ℕ) (i place : ℕ) → i < length places → slice_index places i ≡ place → place ≢ 0 → AddsPlaces h old now (take i places)
     → Adds h now grown (λ w. 1 * w place (cluster_size h)) (λ w. 0 * w place (cluster_size h)) (λ w. 0 * w place (cluster_size h)) → SameParts grown new → AddsPlaces h old new (take (i + 1) places)
 adds-place h old now grown new places i place lt is some before here same = record {
   structure = λ c. more c _ _ _ _ (same.structure c) (here.structure c) (before.structure c);
@@ -50,14 +50,14 @@ adds-place h old now grown new places i place lt is some before here same = reco
     as-before : (a b d e x : ℕ) → a ≡ b → b ≡ d + 0 * x → d ≡ e + 0 → a ≡ e + 0
     as-before a b d e x p q r = omega arith
 
-pub adds-no-places : (h : Fields) (xs : List Naming) (places : List ℕ) → AddsPlaces h xs xs (take 0 places)
+pub adds-no-places : (h : Fields) (xs : List Tally) (places : List ℕ) → AddsPlaces h xs xs (take 0 places)
 adds-no-places h xs places = record { structure = λ c. omega arith; mapped = λ c. omega arith; copied = λ c. omega arith }
 
-pub adds-all-places : (h : Fields) (old new : List Naming) (places : List ℕ) (i : ℕ) → i ≡ length places → AddsPlaces h old new (take i places) → AddsPlaces h old new places
+pub adds-all-places : (h : Fields) (old new : List Tally) (places : List ℕ) (i : ℕ) → i ≡ length places → AddsPlaces h old new (take i places) → AddsPlaces h old new places
 adds-all-places h old new places i all adds = subst (AddsPlaces h old new) (take_all i places (omega arith)) adds
 
 -- The start, the blocks and the tables, one after the other, are the structure.
-pub adds_structure : (h : Fields) (old start with_blocks new : List Naming) (tables blocks : List ℕ)
+pub adds_structure : (h : Fields) (old start with_blocks new : List Tally) (tables blocks : List ℕ)
     → Adds h old start (λ w. w 0 (cluster_size h) + w h.l1_offset (h.l1_entries * 8) + w h.refcount_table_offset (h.refcount_table_clusters * cluster_size h)) nothing_named nothing_named
     → Adds h start with_blocks (λ w. sum_over (of_cluster h w) blocks) nothing_named nothing_named
     → Adds h with_blocks new (λ w. sum_over (of_cluster h w) tables) nothing_named nothing_named

@@ -5,7 +5,7 @@ use Rattle.imago_storage.specs.State.{StorageState}
 use Rattle.imago_storage.specs.Calls.{Kept}
 use Rattle.imago_storage.specs.declared.fault.Fault.{Fault}
 use Rattle.imago_storage.specs.declared.fault.Fault.TheVariants.{Memory, Storage, Unsupported, MissingBelow}
-use Rattle.qimg.specs.First.{file}
+use Rattle.qimg.specs.Files.{file}
 use Rattle.qimg.specs.declared.plain.Format.{Format}
 use Rattle.qimg.specs.declared.plain.Format.TheVariants.{Raw, Qcow2, Vmdk}
 use Rattle.qimg.specs.declared.plain.ChainFile.{ChainFile}

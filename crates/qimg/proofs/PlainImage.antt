@@ -15,7 +15,7 @@ use Rattle.qcow2_types.specs.Header.{Header, header_of, first_fault, has_externa
 use Rattle.qcow2_types.specs.Disk.{size_in_header, chain_size}
 use Rattle.qcow2_types.specs.Entries.{l1_table_sound}
 use Rattle.qcow2_metadata.specs.Loading.{NotLoaded}
-use Rattle.qimg.specs.First.{file, value_at, chain_of}
+use Rattle.qimg.specs.Files.{file, value_at, chain_of}
 use Rattle.qimg.specs.Pieces.{ShowsRange}
 use Rattle.qimg.specs.Plain.{IsFirstFault, NotShown, NoL1, image_value, value_fault, alone_fault, rules_of_reading, loaded_fault, image_fault, below_size, ImageRefuses, IsImageRead, NotImageRead, MustRefuse}
 use Rattle.qimg.proofs.FirstLemmas.{value-shown}

@@ -24,7 +24,7 @@ use Rattle.qcow2_types.proofs.TableSizes.{entries_power}
 use Rattle.qcow2_types.proofs.WriteBack.{place-whole, place-near}
 use Rattle.qcow2_metadata.specs.Tables.{TableValue, AreSound, HasUnsound, WhyNotLoaded, words_in, table_in, place_or_none, l1_words, l2_words}
 use Rattle.qcow2_metadata.proofs.TableFacts.{words_long, words_at}
-use Rattle.qimg.specs.First.{file}
+use Rattle.qimg.specs.Files.{file}
 use Rattle.qimg.specs.Plain.{IsFirstFault, NotShown, NoL1, mapped_value, table_value, image_value, value_fault}
 use Rattle.qimg.proofs.L2Words.{l2-word, l2-sound, l2-unsound}
 use Rattle.qimg.proofs.ScanLemmas.{tests-miss}

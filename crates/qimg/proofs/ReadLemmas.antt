@@ -13,7 +13,8 @@ use Rattle.qcow2_types.specs.Disk.{shown_by}
 use Rattle.qcow2_types.specs.Slots.{slot, Live}
 use Rattle.qcow2_types.specs.Slots.{guest_slot}
 use Rattle.qimg.specs.declared.first.clusters.Places.{Places}
-use Rattle.qimg.specs.First.{file, value_at, IsPlain, Holds}
+use Rattle.qimg.specs.Files.{file, value_at}
+use Rattle.qimg.specs.First.{IsPlain, Holds}
 use Rattle.qimg.specs.Clusters.{HasTable}
 use Rattle.qimg.specs.Pieces.{ShowsBuffer}
 use Rattle.qimg.proofs.FirstLemmas.{size-512, words-64, no-external, value-slot}

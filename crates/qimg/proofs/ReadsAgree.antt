@@ -6,7 +6,7 @@ use Rattle.imago_storage.specs.Disk.{byte, Disk}
 use Rattle.imago_storage.specs.Steps.{HoldsRange, read, bytes_read}
 use Rattle.qcow2_types.specs.Bytes.{Bytes}
 use Rattle.qcow2_types.specs.Header.{Header}
-use Rattle.qimg.specs.First.{file}
+use Rattle.qimg.specs.Files.{file}
 use Rattle.qimg.specs.Opened.{Opened, IsLive, Steps, shown}
 use Rattle.qimg.specs.Plain.{SeenFile, IsImageRead, IsFileRead, IsPlainRead}
 use Rattle.qimg.specs.declared.plain.Format.{Format}

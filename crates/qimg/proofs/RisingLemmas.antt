@@ -5,38 +5,38 @@ use Rattle.std.proofs.lemmas.Bool.{cases_eq, cases_order, ne_eqb, eq-eqb}
 use Rattle.std.specs.List.Sorted.{IsNonDecreasingBy}
 use Rattle.std.proofs.lemmas.List.Sums.{sum_by-cons}
 use Rattle.std.proofs.lemmas.List.{get_or_default}
-use Rattle.qimg.specs.declared.check.names.Naming.{Naming}
+use Rattle.qimg.specs.declared.check.names.Tally.{Tally}
 use Rattle.qimg.specs.Names.{part_at, named_by, structure_part, mapped_part, IsRising, named, IsFew}
 use Rattle.qimg.specs.Gathering.{IsAt}
 
 -- what an index gives past the end
-abbrev pub blank : Naming
+abbrev pub blank : Tally
 blank = record { cluster = 0; structure = 0; mapped = 0; copied = 0 }
 
 -- no entry is for this cluster
-abbrev pub IsAbsent : List Naming → ℕ → Type 0
-IsAbsent xs c = (k : ℕ) (d : Naming) → k < length xs → (slice_index_or xs k d).cluster ≢ c
+abbrev pub IsAbsent : List Tally → ℕ → Type 0
+IsAbsent xs c = (k : ℕ) (d : Tally) → k < length xs → (slice_index_or xs k d).cluster ≢ c
 
 -- an entry for another cluster adds nothing
-part-other : (part : Naming → ℕ) (c : ℕ) (x : Naming) → x.cluster ≢ c → part_at part c x ≡ 0
+part-other : (part : Tally → ℕ) (c : ℕ) (x : Tally) → x.cluster ≢ c → part_at part c x ≡ 0
 part-other part c x apart = rw (ne_eqb x.cluster c apart) refl
 
 -- one for the cluster adds its part
-part-same : (part : Naming → ℕ) (x : Naming) → part_at part x.cluster x ≡ part x
+part-same : (part : Tally → ℕ) (x : Tally) → part_at part x.cluster x ≡ part x
 part-same part x = rw (eq-eqb x.cluster x.cluster refl) refl
 
 -- one more entry at the front
-named-cons : (part : Naming → ℕ) (c : ℕ) (x : Naming) (xs : List Naming) → named_by part c (x ∷ xs) ≡ part_at part c x + named_by part c xs
+named-cons : (part : Tally → ℕ) (c : ℕ) (x : Tally) (xs : List Tally) → named_by part c (x ∷ xs) ≡ part_at part c x + named_by part c xs
 unfolding named_by
 named-cons part c x xs = sum_by-cons (part_at part c) x xs
 
 -- no entry
-pub named-empty : (part : Naming → ℕ) (c : ℕ) → named_by part c [] ≡ 0
+pub named-empty : (part : Tally → ℕ) (c : ℕ) → named_by part c [] ≡ 0
 unfolding named_by
 named-empty part c = refl
 
 -- a cluster without entry
-pub named-absent : (part : Naming → ℕ) (c : ℕ) (xs : List Naming) → IsAbsent xs c → named_by part c xs ≡ 0
+pub named-absent : (part : Tally → ℕ) (c : ℕ) (xs : List Tally) → IsAbsent xs c → named_by part c xs ≡ 0
 named-absent part c [] apart = named-empty part c
 named-absent part c (x ∷ xs) apart =
     let here : part_at part c x ≡ 0 = part-other part c x (apart 0 x (omega arith)) in
@@ -45,11 +45,11 @@ named-absent part c (x ∷ xs) apart =
     omega arith
 
 -- the rest of a rising list
-pub rising-tail : (x : Naming) (xs : List Naming) → IsRising (x ∷ xs) → IsRising xs
+pub rising-tail : (x : Tally) (xs : List Tally) → IsRising (x ∷ xs) → IsRising xs
 rising-tail x xs up = λ i j d lt le. up (suc i) (suc j) d (omega arith) (omega arith)
 
 -- a cluster with an entry
-pub named-at : (part : Naming → ℕ) (xs : List Naming) (k : ℕ) (d : Naming) → IsRising xs → k < length xs → named_by part (slice_index_or xs k d).cluster xs ≡ part (slice_index_or xs k d)
+pub named-at : (part : Tally → ℕ) (xs : List Tally) (k : ℕ) (d : Tally) → IsRising xs → k < length xs → named_by part (slice_index_or xs k d).cluster xs ≡ part (slice_index_or xs k d)
 named-at part [] k d up lt = absurd (omega arith)
 named-at part (x ∷ xs) zero d up lt =
     let rest : named_by part x.cluster xs ≡ 0 = named-absent part x.cluster xs (λ j e le same. less (up 0 (suc j) e (omega arith) (omega arith)) same) in
@@ -71,7 +71,7 @@ named-at part (x ∷ xs) (suc k) d up lt =
     less lt e = omega arith
 
 -- whether a cluster has an entry
-pub at-or-absent : (xs : List Naming) (c : ℕ) → ((k : ℕ) × IsAt xs c k) ⊎ IsAbsent xs c
+pub at-or-absent : (xs : List Tally) (c : ℕ) → ((k : ℕ) × IsAt xs c k) ⊎ IsAbsent xs c
 at-or-absent [] c = inr (λ k d lt. absurd (omega arith))
 at-or-absent (x ∷ xs) c = elim (cases_eq x.cluster c) [
   | inl e ↦ inl (0, record { inside = omega arith; is = λ d. e })
@@ -81,7 +81,7 @@ at-or-absent (x ∷ xs) c = elim (cases_eq x.cluster c) [
   ]
 ]
   where
-    further : (ys : List Naming) (k : ℕ) → k < length ys → suc k < length (x ∷ ys)
+    further : (ys : List Tally) (k : ℕ) → k < length ys → suc k < length (x ∷ ys)
     further ys k lt = omega arith
 
     both : IsAbsent xs c → x.cluster ≢ c → IsAbsent (x ∷ xs) c
@@ -89,7 +89,7 @@ at-or-absent (x ∷ xs) c = elim (cases_eq x.cluster c) [
     both none apart (suc k) d lt = none k d (omega arith)
 
 -- of a cluster with an entry
-pub named-sum : (xs : List Naming) (k : ℕ) (d : Naming) → IsRising xs → k < length xs → named xs (slice_index_or xs k d).cluster ≡ (slice_index_or xs k d).structure + (slice_index_or xs k d).mapped
+pub named-sum : (xs : List Tally) (k : ℕ) (d : Tally) → IsRising xs → k < length xs → named xs (slice_index_or xs k d).cluster ≡ (slice_index_or xs k d).structure + (slice_index_or xs k d).mapped
 unfolding named
 named-sum xs k d up lt =
     let a : named_by structure_part (slice_index_or xs k d).cluster xs ≡ (slice_index_or xs k d).structure = named-at structure_part xs k d up lt in
@@ -97,14 +97,14 @@ named-sum xs k d up lt =
     omega arith
 
 -- the sums of an entry are small
-pub entry-few : (xs : List Naming) (k : ℕ) (d : Naming) → IsRising xs → IsFew xs → k < length xs → (slice_index_or xs k d).structure + (slice_index_or xs k d).mapped < 0x8000_0000_0000_0000
+pub entry-few : (xs : List Tally) (k : ℕ) (d : Tally) → IsRising xs → IsFew xs → k < length xs → (slice_index_or xs k d).structure + (slice_index_or xs k d).mapped < 0x8000_0000_0000_0000
 entry-few xs k d up few lt =
     let a : named xs (slice_index_or xs k d).cluster < 0x8000_0000_0000_0000 = few.all (slice_index_or xs k d).cluster in
     let b : named xs (slice_index_or xs k d).cluster ≡ (slice_index_or xs k d).structure + (slice_index_or xs k d).mapped = named-sum xs k d up lt in
     omega arith
 
 -- of a cluster without
-pub named-none : (xs : List Naming) (c : ℕ) → IsAbsent xs c → named xs c ≡ 0
+pub named-none : (xs : List Tally) (c : ℕ) → IsAbsent xs c → named xs c ≡ 0
 unfolding named
 named-none xs c apart =
     let a : named_by structure_part c xs ≡ 0 = named-absent structure_part c xs apart in
@@ -112,7 +112,7 @@ named-none xs c apart =
     omega arith
 
 -- where the entries from this one on aren't for lesser clusters, and that one isn't for this cluster, none is
-pub split-absent : (xs : List Naming) (at c : ℕ) (d : Naming) → IsRising xs → ((k : ℕ) (e : Naming) → k < at → k < length xs → (slice_index_or xs k e).cluster < c) → ((k : ℕ) (e : Naming) → at ≤ k → k < length xs → c ≤ (slice_index_or xs k e).cluster)
+pub split-absent : (xs : List Tally) (at c : ℕ) (d : Tally) → IsRising xs → ((k : ℕ) (e : Tally) → k < at → k < length xs → (slice_index_or xs k e).cluster < c) → ((k : ℕ) (e : Tally) → at ≤ k → k < length xs → c ≤ (slice_index_or xs k e).cluster)
     → (at < length xs → (slice_index_or xs at d).cluster ≢ c) → IsAbsent xs c
 split-absent xs at c d up before behind apart k e lt same = elim (cases_order k at) [
   | inl here ↦ apart (omega arith) (ap (λ i. (slice_index_or xs i d).cluster) (sym here) ∙ index k lt d e ∙ same)
@@ -120,8 +120,8 @@ split-absent xs at c d up before behind apart k e lt same = elim (cases_order k 
   | inr (inr more) ↦ over (behind at e (omega arith) (omega arith)) (up at k e more lt)
 ]
   where
-    index : (k : ℕ) → k < length xs → (d e : Naming) → (slice_index_or xs k d).cluster ≡ (slice_index_or xs k e).cluster
-    index k lt d e = ap (λ (n : Naming). n.cluster) (get_or_default xs k d e lt)
+    index : (k : ℕ) → k < length xs → (d e : Tally) → (slice_index_or xs k d).cluster ≡ (slice_index_or xs k e).cluster
+    index k lt d e = ap (λ (n : Tally). n.cluster) (get_or_default xs k d e lt)
 
     under : (slice_index_or xs k e).cluster < c → ⊥
     under less = omega arith
@@ -130,7 +130,7 @@ split-absent xs at c d up before behind apart k e lt same = elim (cases_order k 
     over a b = omega arith
 
 -- a rising list doesn't fall
-pub rising-up : (xs : List Naming) → IsRising xs → IsNonDecreasingBy (λ (n : Naming). n.cluster) xs
+pub rising-up : (xs : List Tally) → IsRising xs → IsNonDecreasingBy (λ (n : Tally). n.cluster) xs
 rising-up xs up i j d le lt = elim (cases_order i j) [
   | inl same ↦ let here : (slice_index_or xs i d).cluster ≡ (slice_index_or xs j d).cluster = ap (λ k. (slice_index_or xs k d).cluster) same in omega arith
   | inr (inl less) ↦ let here : (slice_index_or xs i d).cluster < (slice_index_or xs j d).cluster = up i j d less lt in omega arith

@@ -9,7 +9,8 @@ use Rattle.qimg.specs.declared.first.calls.Call.{Call}
 use Rattle.qimg.specs.declared.first.calls.Call.TheVariants.{Read, Write, Flush}
 use Rattle.qimg.specs.declared.first.calls.Answer.{Answer}
 use Rattle.qimg.specs.declared.first.calls.Answer.TheVariants.{Done, Bytes, Refused}
-use Rattle.qimg.specs.First.{file, AllCounted}
+use Rattle.qimg.specs.Files.{file}
+use Rattle.qimg.specs.First.{AllCounted}
 use Rattle.qcow2_types.specs.Bytes.{bytes_of}
 use Rattle.qcow2_types.specs.Steps.{SurplusKept}
 use Rattle.qimg.specs.Opened.{Opened, IsAsked, IsLive, IsWithin, LeaksSame, Stays, Succeeds, shown}

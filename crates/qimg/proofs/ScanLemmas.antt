@@ -8,7 +8,7 @@ use Rattle.qcow2_types.specs.Bytes.{Bytes, be, word, bytes_of, all_below}
 use Rattle.qcow2_types.specs.Words.{Layout, mapping_of, is_damaged, l1_word_sound, block_word_sound, table_offset, data_at, unmapped, zeroes, packed, damaged, has_bit, is_copied, names_cluster, standard_word_sound, packed_place}
 use Rattle.qcow2_types.proofs.Splices.{be-same}
 use Rattle.qcow2_types.proofs.Bounded.{all-below}
-use Rattle.qimg.specs.First.{file}
+use Rattle.qimg.specs.Files.{file}
 use Rattle.qimg.specs.Opening.{verdict, worse, is_copied_data, is_plain_table_word, is_plain_entry, table_sound, table_plain, word_sound, word_plain, tables_verdict}
 use Rattle.qimg.specs.declared.first.opening.Found.{Found}
 use Rattle.qimg.specs.declared.first.opening.Found.TheVariants.{Plain}

@@ -10,22 +10,22 @@ use Rattle.qcow2_types.specs.References.{refs, structure, contents, meets, of_ma
 use Rattle.qcow2_types.specs.Consistency.{leaks_below, leak_at, leaks}
 use Rattle.qcow2_types.proofs.Leaks.{leaks-skip}
 use Rattle.qcow2_metadata.specs.Blocks.{Block}
-use Rattle.qimg.specs.declared.check.names.Naming.{Naming}
+use Rattle.qimg.specs.declared.check.names.Tally.{Tally}
 use Rattle.qimg.specs.Names.{named, named_by, structure_part, mapped_part}
-use Rattle.qimg.specs.Check.{Tells, IsBlocks, HoldsCounters, surplus_at, surplus_below}
+use Rattle.qimg.specs.CheckParts.{Tells, IsBlocks, HoldsCounters, surplus_at, surplus_below}
 use Rattle.qimg.proofs.CountedBlocks.{holds-missing}
 
 -- no counter
-pub surplus-none : (old : List (ℕ × ℕ)) (names : List Naming) (counters : List ℕ) (first : ℕ) → old ≡ old ++ surplus_below names counters first 0
+pub surplus-none : (old : List (ℕ × ℕ)) (names : List Tally) (counters : List ℕ) (first : ℕ) → old ≡ old ++ surplus_below names counters first 0
 unfolding surplus_below
 surplus-none old names counters first = sym (append-nil old)
 
 -- one counter more
-surplus-more : (names : List Naming) (counters : List ℕ) (first n : ℕ) → surplus_below names counters first (n + 1) ≡ surplus_below names counters first n ++ surplus_at names (first + n) (slice_index counters n)
+surplus-more : (names : List Tally) (counters : List ℕ) (first n : ℕ) → surplus_below names counters first (n + 1) ≡ surplus_below names counters first n ++ surplus_at names (first + n) (slice_index counters n)
 unfolding surplus_below
 surplus-more names counters first n = let next : n + 1 ≡ suc n = omega arith in ap (surplus_below names counters first) next
 
-module _ (names : List Naming) (counters : List ℕ) (first n value : ℕ) (old now : List (ℕ × ℕ)) (is : value ≡ slice_index counters n) (before : now ≡ old ++ surplus_below names counters first n) where
+module _ (names : List Tally) (counters : List ℕ) (first n value : ℕ) (old now : List (ℕ × ℕ)) (is : value ≡ slice_index counters n) (before : now ≡ old ++ surplus_below names counters first n) where
   -- of a cluster that is counted more often than it is named
   pub surplus-pushed : (cluster references : ℕ) (new : List (ℕ × ℕ)) → cluster ≡ first + n → references ≡ named names cluster → references < value → new ≡ now ++ (cluster, value - references) ∷ [] → new ≡ old ++ surplus_below names counters first (n + 1)
   surplus-pushed cluster references new at told less pushed =
@@ -53,7 +53,7 @@ pub leaks-at-start : (f : Bytes) (h : Fields) → [] ≡ leaks_below f h (0 * co
 leaks-at-start f h = sym (leaks-none f h) ∙ ap (leaks_below f h) (let none : 0 ≡ 0 * counters_of_block h = omega arith in none)
 
 -- The leaks of the clusters that a block counts.
-module _ (f : Bytes) (h : Fields) (names : List Naming) (told : Tells f h names) where
+module _ (f : Bytes) (h : Fields) (names : List Tally) (told : Tells f h names) where
   pub named-refs : (c : ℕ) → named names c ≡ refs f h c
   unfolding named refs
   named-refs c = let a : named_by structure_part c names ≡ structure f h (meets h c) = told.structure c in
@@ -68,7 +68,7 @@ module _ (f : Bytes) (h : Fields) (names : List Naming) (told : Tells f h names)
   unfolding leaks_below
   leaks-more c = let next : c + 1 ≡ suc c = omega arith in ap (leaks_below f h) next
 
-  surplus-next : (names' : List Naming) (counters : List ℕ) (first n : ℕ) → surplus_below names' counters first (suc n) ≡ surplus_below names' counters first n ++ surplus_at names' (first + n) (slice_index counters n)
+  surplus-next : (names' : List Tally) (counters : List ℕ) (first n : ℕ) → surplus_below names' counters first (suc n) ≡ surplus_below names' counters first n ++ surplus_at names' (first + n) (slice_index counters n)
   unfolding surplus_below
   surplus-next names' counters first n = refl
 

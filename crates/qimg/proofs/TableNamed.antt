@@ -17,16 +17,18 @@ use Rattle.qcow2_types.proofs.Sums.{sum-none, sum-more}
 use Rattle.qcow2_types.proofs.WordLemmas.{zero-word}
 use Rattle.qcow2_metadata.specs.Tables.{TableValue, WhyNotLoaded, words_in, table_in, l2_words}
 use Rattle.qcow2_metadata.proofs.TableFacts.{words_long, words_more}
-use Rattle.qimg.specs.declared.check.names.Naming.{Naming}
-use Rattle.qimg.specs.First.{file}
+use Rattle.qimg.specs.declared.check.CheckFault.TheVariants.{Table}
+use Rattle.qimg.specs.declared.check.names.Tally.{Tally}
+use Rattle.qimg.specs.Files.{file}
 use Rattle.qimg.specs.Names.{Adds, nothing_named, named_by, mapped_part, copied_part}
-use Rattle.qimg.specs.Check.{Found, IsDamagedTable, words_over, fault_of_table}
+use Rattle.qimg.specs.CheckParts.{IsDamagedTable, words_over, fault_of_load}
+use Rattle.qimg.specs.Check.{Found}
 use Rattle.qimg.proofs.FewerWords.{past-word}
 use Rattle.qimg.proofs.L2Words.{l2-unsound}
 use Rattle.qcow2_types.proofs.WriteBack.{place-whole}
 
 -- what an L2 table names is added, so often
-abbrev pub AddsTable : Bytes → Fields → ℕ → List Naming → List Naming → ℕ → Type 0
+abbrev pub AddsTable : Bytes → Fields → ℕ → List Tally → List Tally → ℕ → Type 0
 AddsTable f h times old new place = Adds h old new nothing_named (λ w. times * of_table f h (of_mapping h w) place) (λ w. times * of_table f h (of_copied h w) place)
 
 -- the sum over the first n words
@@ -53,7 +55,7 @@ unfolding of_table
 table-summed f h of place words is = ap (words_over h of) is ∙ words-summed f h of place (words_of_cluster h)
 
 -- So the words that are entered are the table's.
-pub adds-table : (f : Bytes) (h : Fields) (times : ℕ) (old new : List Naming) (place : ℕ) (words : List ℕ) → words ≡ words_in f place (words_of_cluster h)
+pub adds-table : (f : Bytes) (h : Fields) (times : ℕ) (old new : List Tally) (place : ℕ) (words : List ℕ) → words ≡ words_in f place (words_of_cluster h)
     → Adds h old new nothing_named (λ w. times * words_over h (of_mapping h w) words) (λ w. times * words_over h (of_copied h w) words) → AddsTable f h times old new place
 adds-table f h times old new place words is adds = record {
   structure = adds.structure;
@@ -72,7 +74,7 @@ module _ (bytes : List ℕ) (h : Fields) (place : ℕ) (past : length bytes ≤ 
   unfolding of_table
   past-table of none = sum-zero (words_of_cluster h) (λ i. of (l2_mapping (bytes_of bytes) h place i)) (λ i lt. ap of (past-mapping i) ∙ none)
 
-  pub adds-past : (times : ℕ) (names : List Naming) → AddsTable (bytes_of bytes) h times names names place
+  pub adds-past : (times : ℕ) (names : List Tally) → AddsTable (bytes_of bytes) h times names names place
   adds-past times names = record {
     structure = λ c. omega arith;
     mapped = λ c. nothing _ _ (past-table (of_mapping h (meets h c)) refl);
@@ -98,7 +100,7 @@ module _ (f : Bytes) (h : Fields) (place cluster : ℕ) (is : IsTrue (is_place h
 
 -- So the table isn't loaded, and that is the finding.
 pub l2-finding : (old new : StorageState) (h : Fields) (place cluster : ℕ) → IsTrue (is_place h.cluster_bits place) → cluster ≡ place / 2 ^ h.cluster_bits → h.cluster_bits ≤ 21 → (fault : Fault)
-    → WhyNotLoaded l2_words (layout_of h) (words_in (file old) (cluster * cluster_size h) (words_of_cluster h)) old.faults new.faults fault → Found old new (IsDamagedTable (file old) h place) (fault_of_table fault)
+    → WhyNotLoaded l2_words (layout_of h) (words_in (file old) (cluster * cluster_size h) (words_of_cluster h)) old.faults new.faults fault → Found old new (IsDamagedTable (file old) h place) (fault_of_load Table fault)
 l2-finding old new h place cluster is begins high Memory why = why
 l2-finding old new h place cluster is begins high Storage why = why
 l2-finding old new h place cluster is begins high DamagedTable why = (l2-unsound (file old) h place cluster (l2-begin (file old) h place cluster is begins) why.0, why.1)

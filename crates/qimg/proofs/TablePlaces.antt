@@ -11,7 +11,7 @@ use Rattle.qcow2_types.specs.Header.{Fields, Header, header_of, cluster_size}
 use Rattle.qcow2_types.specs.Entries.{l2_table}
 use Rattle.qcow2_metadata.specs.Tables.{words_in}
 use Rattle.qcow2_metadata.proofs.TableFacts.{words_at}
-use Rattle.qimg.specs.Check.{tables_of}
+use Rattle.qimg.specs.CheckParts.{tables_of}
 use Rattle.qimg.proofs.PlainTables.{l1-place}
 use Rattle.qimg.proofs.FewerWords.{past-word}
 

@@ -22,8 +22,9 @@ use Rattle.qcow2_metadata.proofs.TableSteps.{past_end}
 use Rattle.imago_storage.specs.State.{StorageState}
 use Rattle.qimg.specs.declared.check.CheckFault.{CheckFault}
 use Rattle.qimg.specs.declared.check.CheckFault.TheVariants.{Header, Snapshots, External, Table, SharedTable, FalseCopied, UnderCounted, Memory, Storage}
-use Rattle.qimg.specs.First.{file}
-use Rattle.qimg.specs.Check.{tables_of, sum_over, AreTables, Found, IsUnsound, IsOneDamaged}
+use Rattle.qimg.specs.Files.{file}
+use Rattle.qimg.specs.CheckParts.{tables_of, sum_over, AreTables, IsUnsound, IsOneDamaged}
+use Rattle.qimg.specs.Check.{Found}
 use Rattle.qcow2_types.proofs.WriteBack.{place-near}
 use Rattle.qimg.proofs.TablePlaces.{tables_to, tables-more, tables-skip}
 use Rattle.qimg.proofs.ScanLemmas.{tests-miss, not-same}

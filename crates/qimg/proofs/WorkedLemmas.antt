@@ -14,12 +14,12 @@ use Rattle.qcow2_types.specs.Steps.{SurplusKept}
 use Rattle.qcow2_types.proofs.Surplus.{surplus-both}
 use Rattle.qimg.specs.declared.first.calls.Call.TheVariants.{Read, Write, Flush}
 use Rattle.qimg.specs.declared.first.calls.Answer.TheVariants.{Done, Bytes}
-use Rattle.qimg.specs.First.{file}
+use Rattle.qimg.specs.Files.{file}
 use Rattle.qimg.specs.Opened.{shown}
 use Rattle.qimg.specs.Runs.{Run}
 use Rattle.qimg.specs.Plain.{IsImageRead}
 use Rattle.qimg.specs.Worked.{IsWorked, worked_bytes}
-use Rattle.qimg.proofs.LeaksKept.{leaks-kept}
+use Rattle.qcow2_types.proofs.LeaksKept.{leaks-kept}
 use Rattle.qimg.proofs.RunLemmas.{one-header}
 use Rattle.qimg.proofs.ReadsAgree.{image-holds}
 

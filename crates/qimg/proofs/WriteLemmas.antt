@@ -24,7 +24,8 @@ use Rattle.qcow2_types.proofs.Values.{value-same}
 use Rattle.qcow2_types.proofs.Frames.{splice-is-outside}
 use Rattle.qcow2_types.proofs.Splices.{splice-inside}
 use Rattle.qimg.specs.declared.first.clusters.Places.{Places}
-use Rattle.qimg.specs.First.{file, value_at, IsPlain, IsPlainMapping, Holds, ShowsBytes}
+use Rattle.qimg.specs.Files.{file, value_at}
+use Rattle.qimg.specs.First.{IsPlain, IsPlainMapping, Holds, ShowsBytes}
 use Rattle.qimg.specs.Requests.{Puts}
 use Rattle.qimg.specs.Clusters.{Takes, HasTable, Writes, IsFull, NoCluster}
 use Rattle.qimg.proofs.FirstLemmas.{size-512, words-64, no-external, value-slot, value-shown, loads-reading}

@@ -11,7 +11,8 @@ use Rattle.qcow2_types.specs.References.{refs}
 use Rattle.qcow2_types.specs.Slots.{slot, Live}
 use Rattle.qcow2_types.specs.Steps.{SurplusKept}
 use Rattle.qimg.specs.declared.first.clusters.Places.{Places}
-use Rattle.qimg.specs.First.{file, Holds, ShowsSame, ShowsBytes, AllCounted}
+use Rattle.qimg.specs.Files.{file}
+use Rattle.qimg.specs.First.{Holds, ShowsSame, ShowsBytes, AllCounted}
 
 -- the counter of a cluster from 1 to 255 in the block at this place, which is 0
 pub record IsFreeAt (f : Bytes) (block cluster : ℕ) : Type 0 where

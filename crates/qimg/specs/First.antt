@@ -1,28 +1,17 @@
 -- The images that the first disk takes, and what contracts see of such a disk.
-use Rattle.std.specs.Prelude.{◌≡◌, ◌≢◌, ℕ, ◌+◌, ◌*◌, ◌<◌, ◌≤◌, true, IsTrue, List, [], ◌∷◌, length, slice_index}
+use Rattle.std.specs.Prelude.{◌≡◌, ◌≢◌, ℕ, ◌+◌, ◌*◌, ◌<◌, ◌≤◌, true, IsTrue, List, length, slice_index}
 use Rattle.imago_storage.specs.State.{StorageState}
-use Rattle.imago_storage.specs.Disk.{Value, byte}
+use Rattle.imago_storage.specs.Disk.{byte}
 use Rattle.imago_storage.specs.Steps.{IsOut}
-use Rattle.qcow2_types.specs.Bytes.{Bytes, bytes_of}
+use Rattle.qcow2_types.specs.Bytes.{Bytes}
 use Rattle.qcow2_types.specs.Words.{Mapping, unmapped, data_at}
 use Rattle.qcow2_types.specs.Header.{Fields, Header}
 use Rattle.qcow2_types.specs.Entries.{l2_table}
 use Rattle.qcow2_types.specs.Counts.{block_at, count}
 use Rattle.qcow2_types.specs.Consistency.{IsConsistent}
-use Rattle.qcow2_types.specs.Disk.{Layer, qcow2, at}
 use Rattle.qcow2_types.specs.Slots.{slot, Live}
+use Rattle.qimg.specs.Files.{file, value_at}
 use Rattle.qimg.specs.declared.first.clusters.Places.{Places}
-
--- the bytes of a storage by their places
-abbrev pub file : StorageState → Bytes
-file s = bytes_of s.bytes
-
--- the chain of one image file, and the values that it shows
-abbrev pub chain_of : Bytes → List Layer
-chain_of f = qcow2 f (λ _. 0) ∷ []
-
-unfoldable pub value_at : Bytes → ℕ → Value
-value_at f p = at (chain_of f) p
 
 -- an entry that names no cluster, or a data cluster that nothing else names
 abbrev pub IsPlainMapping : Mapping → Type 0

@@ -1,3 +1,4 @@
+pub mod Files
 pub mod First
 pub mod Requests
 pub mod Clusters
@@ -12,5 +13,6 @@ pub mod Opens
 pub mod Plain
 pub mod Names
 pub mod Gathering
+pub mod CheckParts
 pub mod Check
 pub mod Worked

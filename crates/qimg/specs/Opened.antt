@@ -14,7 +14,8 @@ use Rattle.qcow2_types.specs.Disk.{disk_of}
 use Rattle.qcow2_types.specs.Steps.{SurplusKept}
 use Rattle.qimg.specs.declared.first.clusters.Places.{Places}
 use Rattle.qimg.specs.declared.first.Disk.{Disk}
-use Rattle.qimg.specs.First.{file, chain_of, Holds, AllCounted}
+use Rattle.qimg.specs.Files.{file, chain_of}
+use Rattle.qimg.specs.First.{Holds, AllCounted}
 
 pub record Opened : Type 0 where
   -- the image's storage

@@ -10,7 +10,7 @@ use Rattle.qcow2_types.specs.Header.{Fields, Rule, fields_of, header_of, first_f
 use Rattle.qcow2_types.specs.Entries.{l2_table}
 use Rattle.qcow2_types.specs.Counts.{block_at}
 use Rattle.qcow2_types.specs.Consistency.{tables_sound}
-use Rattle.qimg.specs.First.{file}
+use Rattle.qimg.specs.Files.{file}
 use Rattle.qimg.specs.Created.{extension_bytes}
 use Rattle.qimg.specs.declared.first.opening.Accepted.{Accepted}
 use Rattle.qimg.specs.declared.first.opening.Found.{Found}

@@ -5,7 +5,7 @@ use Rattle.imago_storage.specs.declared.fault.Fault.{Fault}
 use Rattle.imago_storage.specs.declared.fault.Fault.TheVariants.{Memory, Storage}
 use Rattle.qcow2_types.specs.Header.{Header, fields_of}
 use Rattle.qcow2_types.specs.Consistency.{IsConsistent}
-use Rattle.qimg.specs.First.{file}
+use Rattle.qimg.specs.Files.{file}
 use Rattle.qimg.specs.Opening.{open_fault}
 use Rattle.qimg.specs.Opened.{Opened, IsLive}
 

@@ -9,7 +9,8 @@ use Rattle.qcow2_types.specs.Bytes.{Bytes}
 use Rattle.qcow2_types.specs.Header.{Header}
 use Rattle.qcow2_types.specs.Steps.{SurplusKept}
 use Rattle.qimg.specs.declared.first.clusters.Places.{Places}
-use Rattle.qimg.specs.First.{file, value_at, Holds, AllCounted}
+use Rattle.qimg.specs.Files.{file, value_at}
+use Rattle.qimg.specs.First.{Holds, AllCounted}
 
 -- from this offset on each place shows what it did or its byte, and the others show what they did
 pub record PartlyShows (f g : Bytes) (offset : ℕ) (bytes : List ℕ) : Type 0 where

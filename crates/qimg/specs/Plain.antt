@@ -13,7 +13,7 @@ use Rattle.qcow2_types.specs.Entries.{l1_table_sound}
 use Rattle.qcow2_types.specs.Disk.{shown, shown_by, chain_size}
 use Rattle.qcow2_types.specs.Places.{l2_entries}
 use Rattle.qcow2_metadata.specs.Tables.{TableValue}
-use Rattle.qimg.specs.First.{file, chain_of, value_at}
+use Rattle.qimg.specs.Files.{file, chain_of, value_at}
 use Rattle.qimg.specs.Pieces.{ShowsRange}
 use Rattle.std.specs.Prelude.{Vec, String}
 use Rattle.std.specs.declared.alloc.Global.{Global}

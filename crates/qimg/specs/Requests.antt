@@ -4,7 +4,7 @@ use Rattle.imago_storage.specs.State.{StorageState}
 use Rattle.imago_storage.specs.Calls.{Cause}
 use Rattle.imago_storage.specs.declared.fault.Fault.{Fault}
 use Rattle.qcow2_types.specs.Bytes.{splice}
-use Rattle.qimg.specs.First.{file}
+use Rattle.qimg.specs.Files.{file}
 
 -- the bytes stand at the place
 pub record Puts (old new : StorageState) (at : ℕ) (bytes : List ℕ) : Type 0 where

@@ -14,7 +14,8 @@ use Rattle.qimg.specs.declared.first.calls.Call.{Call}
 use Rattle.qimg.specs.declared.first.calls.Call.TheVariants.{Read, Write, Flush}
 use Rattle.qimg.specs.declared.first.calls.Answer.{Answer}
 use Rattle.qimg.specs.declared.first.calls.Answer.TheVariants.{Done, Bytes, Refused}
-use Rattle.qimg.specs.First.{file, AllCounted}
+use Rattle.qimg.specs.Files.{file}
+use Rattle.qimg.specs.First.{AllCounted}
 use Rattle.qimg.specs.Opened.{Opened, IsAsked, IsLive, Steps, LeaksSame, Stays, Succeeds, ReadRefused, WriteRefused, FlushRefused, shown}
 
 -- a call as a call of the disk that it is made of

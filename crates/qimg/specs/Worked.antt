@@ -5,7 +5,7 @@ use Rattle.imago_storage.specs.State.{StorageState}
 use Rattle.imago_storage.specs.Disk.{byte}
 use Rattle.qcow2_types.specs.Header.{Header, header_of}
 use Rattle.qcow2_types.specs.Consistency.{Consistent, leaks}
-use Rattle.qimg.specs.First.{file}
+use Rattle.qimg.specs.Files.{file}
 use Rattle.qimg.specs.Opened.{shown}
 
 -- the 8 bytes at 508 after 01 02 03 were written at 510 over zeroes

@@ -3,9 +3,10 @@ ghost use Rattle.std.specs.Prelude.{◌≡◌, true, false, Ok, OnOk, IfOk, IfEr
 ghost use Rattle.imago_storage.specs.Calls.{Kept};
 ghost use Rattle.qcow2_types.specs.Header.{header_of, has_external_data};
 ghost use Rattle.qcow2_types.specs.Consistency.{IsVerdict, Nowhere, tables_sound};
-ghost use Rattle.qimg.specs.First.{file};
-ghost use Rattle.qimg.specs.Names.{IsRising, IsFew, is_shared, is_false};
-ghost use Rattle.qimg.specs.Check.{Tells, HoldsPlaces, Found, IsFinding, IsUnsound, SharesFirst, fault_of_table, fault_of_storage, fault_of_header};
+ghost use Rattle.qimg.specs.Files.{file};
+ghost use Rattle.qimg.specs.Names.{IsRising, IsFew, is_shared, is_falsely_copied};
+ghost use Rattle.qimg.specs.CheckParts.{Tells, HoldsPlaces, IsUnsound, SharesFirst, fault_of_load};
+ghost use Rattle.qimg.specs.Check.{Found, IsFinding};
 ghost use Rattle.qimg.specs.declared.check.CheckFault.TheVariants.{Memory};
 
 use imago_storage::{Fault, Storage};
@@ -20,7 +21,7 @@ mod tables;
 mod tests;
 
 use counts::{check_counted, leaks_of};
-use names::{Naming, add_up, first_false, first_shared};
+use names::{Tally, add_up, first_falsely_copied, first_shared};
 use tables::{Places, name_contents, name_structure, places_of};
 
 /// What is wrong with an image, or why it wasn't checked. It is displayed as `error N`.
@@ -71,35 +72,14 @@ impl<T: Drop> From<AllocFailed<T>> for CheckFault {
     }
 }
 
-/// The finding of a header that isn't loaded.
-fn header_fault(fault: Fault) -> CheckFault
-    ensures { result ≡ fault_of_header fault }
+/// The finding where something isn't loaded: this one, but for want of memory and a fault of the storage.
+fn load_fault(fault: Fault, other: CheckFault) -> CheckFault
+    ensures { result ≡ fault_of_load other fault }
 {
     match fault {
         Fault::Memory => CheckFault::Memory,
         Fault::Storage => CheckFault::Storage,
-        _ => CheckFault::Header,
-    }
-}
-
-/// The finding of a table that isn't loaded.
-fn table_fault(fault: Fault) -> CheckFault
-    ensures { result ≡ fault_of_table fault }
-{
-    match fault {
-        Fault::Memory => CheckFault::Memory,
-        Fault::Storage => CheckFault::Storage,
-        _ => CheckFault::Table,
-    }
-}
-
-/// Why a block isn't loaded.
-fn storage_fault(fault: Fault) -> CheckFault
-    ensures { result ≡ fault_of_storage fault }
-{
-    match fault {
-        Fault::Storage => CheckFault::Storage,
-        _ => CheckFault::Memory,
+        _ => other,
     }
 }
 
@@ -114,7 +94,7 @@ fn readable_header<S: Storage>(alloc: Global, image: &mut S) -> Result<Header, C
 {
     let header = match Header::load(alloc, image, true) {
         Ok(header) => header,
-        Err(fault) => return Err(header_fault(fault)),
+        Err(fault) => return Err(load_fault(fault, CheckFault::Header)),
     };
     if header.snapshots() != 0 {
         return Err(CheckFault::Snapshots);
@@ -131,7 +111,7 @@ fn names_of<S: Storage>(
     image: &mut S,
     header: &Header,
     places: Places,
-) -> Result<(Vec<Naming>, Vec<u64>), CheckFault>
+) -> Result<(Vec<Tally>, Vec<u64>), CheckFault>
     requires loads { header_of true (file (S.state image.old)) ≡ Ok header.now }
     requires places { HoldsPlaces (file (S.state image.old)) header.now.fields places.tables.items places.blocks.items }
     ensures told { IfOk result (λ found. Tells (file (S.state image.old)) header.now.fields found.0.items) }
@@ -152,17 +132,17 @@ fn names_of<S: Storage>(
 }
 
 /// The first finding among clusters that are named more than once, if there is one.
-fn check_shared(names: &[Naming]) -> Result<(), CheckFault>
+fn check_shared(names: &[Tally]) -> Result<(), CheckFault>
     requires rising { IsRising names.now }
     requires few { IsFew names.now }
     ensures shared { OnOk result (Nowhere (is_shared names.now)) }
-    ensures copied { OnOk result (Nowhere (is_false names.now)) }
+    ensures copied { OnOk result (Nowhere (is_falsely_copied names.now)) }
     ensures err { IfErr result (SharesFirst names.now) }
 {
     if let Some(cluster) = first_shared(names) {
         return Err(CheckFault::SharedTable(cluster));
     }
-    if let Some(cluster) = first_false(names) {
+    if let Some(cluster) = first_falsely_copied(names) {
         return Err(CheckFault::FalseCopied(cluster));
     }
     Ok(())

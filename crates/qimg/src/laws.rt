@@ -3,7 +3,7 @@
 ghost use Rattle.std.specs.Prelude.{◌≡◌, ℕ, List, [], ◌∷◌, length};
 ghost use Rattle.imago_storage.specs.Steps.{read, bytes_read};
 ghost use Rattle.qcow2_types.specs.Header.{Header};
-ghost use Rattle.qimg.specs.First.{file};
+ghost use Rattle.qimg.specs.Files.{file};
 ghost use Rattle.qimg.specs.Opened.{Opened, IsLive, Steps};
 ghost use Rattle.qimg.specs.Plain.{SeenFile, IsPlainRead};
 

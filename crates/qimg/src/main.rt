@@ -3,6 +3,7 @@
 
 ghost use Rattle.std.specs.Prelude.{◌≡◌, IsOk, IsErr};
 
+mod buffers;
 pub mod check;
 pub mod first;
 pub mod laws;

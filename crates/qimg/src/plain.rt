@@ -5,7 +5,7 @@ ghost use Rattle.imago_storage.specs.Calls.{Kept};
 ghost use Rattle.qcow2_types.specs.Header.{header_of, has_external_data};
 ghost use Rattle.qcow2_types.specs.Entries.{l1_table_sound};
 ghost use Rattle.qcow2_metadata.specs.Tables.{words_in};
-ghost use Rattle.qimg.specs.First.{file, value_at};
+ghost use Rattle.qimg.specs.Files.{file, value_at};
 ghost use Rattle.qimg.specs.Pieces.{ShowsRange};
 ghost use Rattle.qimg.specs.Plain.{alone_fault, NoL1, NotShown, below_size, IsImageRead, NotImageRead, IsPlainRead, NotPlainRead, Refuses, MustRefuse, FilesKept, seen_files, extras_of, faults_of};
 
@@ -13,8 +13,9 @@ mod pieces;
 #[cfg(test)]
 mod tests;
 
+use crate::buffers::blank;
 use imago_storage::{Fault, Storage};
-use pieces::{blank, read_tables};
+use pieces::read_tables;
 use qcow2_metadata::{Header, L1Table, Table};
 use std::alloc::Global;
 

@@ -4,12 +4,13 @@ ghost use Rattle.imago_storage.specs.Calls.{Kept};
 ghost use Rattle.qcow2_types.specs.Header.{header_of};
 ghost use Rattle.qcow2_types.specs.Counts.{counters_of_block};
 ghost use Rattle.qcow2_types.specs.Consistency.{Nowhere, leaks};
-ghost use Rattle.qimg.specs.First.{file};
+ghost use Rattle.qimg.specs.Files.{file};
 ghost use Rattle.qimg.specs.Names.{IsRising, IsFew};
-ghost use Rattle.qimg.specs.Check.{Tells, IsBlocks, HoldsCounters, IsIn, counter_in, is_under, IsUnder, surplus_below, Found, NoFinding};
+ghost use Rattle.qimg.specs.CheckParts.{Tells, IsBlocks, HoldsCounters, IsIn, counter_in, is_under, IsUnder, surplus_below, NoFinding};
+ghost use Rattle.qimg.specs.Check.{Found};
 
-use super::names::{Naming, named};
-use super::{CheckFault, storage_fault};
+use super::names::{Tally, named};
+use super::{CheckFault, load_fault};
 use imago_storage::Storage;
 use qcow2_metadata::{Header, RefBlock};
 use qcow2_types::{HostCluster, HostOffset};
@@ -36,7 +37,7 @@ fn block_of<S: Storage>(
     let cluster = HostOffset(blocks[index]).cluster(header.cluster_bits());
     match RefBlock::load(alloc, image, header, cluster) {
         Ok(block) => Ok(Some(block)),
-        Err(fault) => Err(storage_fault(fault)),
+        Err(fault) => Err(load_fault(fault, CheckFault::Memory)),
     }
 }
 
@@ -57,7 +58,7 @@ pub fn check_counted<S: Storage>(
     image: &mut S,
     header: &Header,
     blocks: &[u64],
-    names: &[Naming],
+    names: &[Tally],
 ) -> Result<(), CheckFault>
     requires blocks { IsBlocks (file (S.state image.old)) header.now.fields blocks.now }
     requires rising { IsRising names.now }
@@ -71,14 +72,14 @@ pub fn check_counted<S: Storage>(
     let mut held = 0;
     let mut block = block_of(alloc, image, header, blocks, held)?;
     for i in 0..names.len() {
-        let naming = names[i];
-        let (index, place) = HostCluster(naming.cluster).rt_rb_indices(rb_bits);
+        let tally = names[i];
+        let (index, place) = HostCluster(tally.cluster).rt_rb_indices(rb_bits);
         if index != held {
             block = block_of(alloc, image, header, blocks, index)?;
             held = index;
         }
-        if counter(&block, place) < naming.structure + naming.mapped {
-            return Err(CheckFault::UnderCounted(naming.cluster));
+        if counter(&block, place) < tally.structure + tally.mapped {
+            return Err(CheckFault::UnderCounted(tally.cluster));
         }
     }
     Ok(())
@@ -89,7 +90,7 @@ fn leaks_of_block(
     header: &Header,
     block: &RefBlock,
     index: usize,
-    names: &[Naming],
+    names: &[Tally],
     leaks: &mut Vec<(u64, u64)>,
 ) -> Result<(), CheckFault>
     requires rising { IsRising names.now }
@@ -119,7 +120,7 @@ pub fn leaks_of<S: Storage>(
     image: &mut S,
     header: &Header,
     blocks: &[u64],
-    names: &[Naming],
+    names: &[Tally],
 ) -> Result<Vec<(u64, u64)>, CheckFault>
     requires loads { header_of true (file (S.state image.old)) ≡ Ok header.now }
     requires blocks { IsBlocks (file (S.state image.old)) header.now.fields blocks.now }

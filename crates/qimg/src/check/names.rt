@@ -2,7 +2,7 @@
 ghost use Rattle.std.specs.Prelude.{◌≡◌, ℕ, ◌+◌, ◌*◌, ◌<◌, ◌≤◌, ◌^◌, ◌++◌, [], ◌∷◌, length, OnOk, IfOk, IsOkUnless, MatchOption};
 ghost use Rattle.std.specs.List.Sorted.{IsNonDecreasingBy};
 ghost use Rattle.qcow2_types.specs.Consistency.{Nowhere, IsLeast};
-ghost use Rattle.qimg.specs.Names.{Adds, AddsClusters, EndsBy, Fits, SameParts, SumsFit, IsSum, IsRising, IsFew, named as named_of, is_shared, is_false};
+ghost use Rattle.qimg.specs.Names.{Adds, AddsClusters, EndsBy, Fits, SameParts, SumsFit, IsSum, IsRising, IsFew, named as named_of, is_shared, is_falsely_copied};
 ghost use Rattle.qimg.specs.Gathering.{Reaches, KeepsEntries, room_for};
 
 use super::CheckFault;
@@ -12,7 +12,7 @@ use std::alloc::Global;
 
 /// How often a cluster is named: as a part of the structure, by words of L2 tables, and by those that are marked as copied.
 #[derive(Clone, Copy, Debug)]
-pub struct Naming {
+pub struct Tally {
     pub cluster: u64,
     pub structure: u64,
     pub mapped: u64,
@@ -30,7 +30,7 @@ pub struct Times {
 
 /// Enters a range of bytes: one entry for each cluster that it meets.
 pub fn name_range(
-    names: &mut Vec<Naming>,
+    names: &mut Vec<Tally>,
     header: &Header,
     first: u64,
     length: u64,
@@ -51,19 +51,14 @@ pub fn name_range(
 }
 
 /// Enters the clusters from `low` up to `end`, which isn't one of them.
-fn name_clusters(
-    names: &mut Vec<Naming>,
-    low: u64,
-    end: u64,
-    times: Times,
-) -> Result<(), CheckFault>
+fn name_clusters(names: &mut Vec<Tally>, low: u64, end: u64, times: Times) -> Result<(), CheckFault>
     requires { low ≤ end }
     ensures ok { OnOk result (AddsClusters names.old.items names.new.items low end times) }
     ensures keeps { OnOk result (KeepsEntries names.old.items names.new.items) }
     ensures err { IsOkUnless result CheckFault.Memory }
 {
     for cluster in low..end {
-        names.push(Naming {
+        names.push(Tally {
             cluster,
             structure: times.structure,
             mapped: times.mapped,
@@ -74,10 +69,10 @@ fn name_clusters(
 }
 
 /// Two entries of one cluster as one, where the sums fit.
-fn sum_of(one: Naming, other: Naming) -> Option<Naming>
+fn sum_of(one: Tally, other: Tally) -> Option<Tally>
     ensures { MatchOption result (SumsFit one other → ⊥) (IsSum one other) }
 {
-    Some(Naming {
+    Some(Tally {
         cluster: other.cluster,
         structure: one.structure.checked_add(other.structure)?,
         mapped: one.mapped.checked_add(other.mapped)?,
@@ -86,30 +81,30 @@ fn sum_of(one: Naming, other: Naming) -> Option<Naming>
 }
 
 /// Adds the entry to the last one, if that is for its cluster and the sums fit, or puts it behind it.
-fn merge(merged: &mut Vec<Naming>, naming: Naming) -> Result<(), CheckFault>
-    ensures rising { OnOk result (IsRising merged.old.items → EndsBy merged.old.items naming.cluster → Fits merged.old.items naming → IsRising merged.new.items) }
-    ensures last { OnOk result (EndsBy merged.old.items naming.cluster → EndsBy merged.new.items naming.cluster) }
-    ensures same { OnOk result (SameParts (merged.old.items ++ naming ∷ []) merged.new.items) }
+fn merge(merged: &mut Vec<Tally>, tally: Tally) -> Result<(), CheckFault>
+    ensures rising { OnOk result (IsRising merged.old.items → EndsBy merged.old.items tally.cluster → Fits merged.old.items tally → IsRising merged.new.items) }
+    ensures last { OnOk result (EndsBy merged.old.items tally.cluster → EndsBy merged.new.items tally.cluster) }
+    ensures same { OnOk result (SameParts (merged.old.items ++ tally ∷ []) merged.new.items) }
     ensures err { IsOkUnless result CheckFault.Memory }
 {
     let count = merged.len();
-    if count > 0 && merged[count - 1].cluster == naming.cluster {
-        if let Some(sum) = sum_of(merged[count - 1], naming) {
+    if count > 0 && merged[count - 1].cluster == tally.cluster {
+        if let Some(sum) = sum_of(merged[count - 1], tally) {
             merged[count - 1] = sum;
             return Ok(());
         }
     }
-    merged.push(naming)?;
+    merged.push(tally)?;
     Ok(())
 }
 
 /// Sorts the entries by cluster, and adds up those of one cluster as far as their sums fit.
-pub fn add_up(alloc: Global, mut names: Vec<Naming>) -> Result<Vec<Naming>, CheckFault>
+pub fn add_up(alloc: Global, mut names: Vec<Tally>) -> Result<Vec<Tally>, CheckFault>
     ensures rising { IfOk result (λ added. IsFew names.items → IsRising added.items) }
     ensures same { IfOk result (λ added. SameParts names.items added.items) }
     ensures err { IsOkUnless result CheckFault.Memory }
 {
-    names.sort_unstable_by_key(|naming| naming.cluster);
+    names.sort_unstable_by_key(|tally| tally.cluster);
     let mut merged = Vec::new(alloc);
     for i in 0..names.len() {
         merge(&mut merged, names[i])?;
@@ -125,7 +120,7 @@ const FEW: usize = 4_096;
 /// then.
 pub fn compact_where_grown(
     alloc: Global,
-    names: &mut Vec<Naming>,
+    names: &mut Vec<Tally>,
     last: &mut usize,
 ) -> Result<(), CheckFault>
     ensures same { OnOk result (SameParts names.old.items names.new.items) }
@@ -143,12 +138,12 @@ pub fn compact_where_grown(
 }
 
 /// How often the entries name a cluster.
-pub fn named(names: &[Naming], cluster: u64) -> u64
+pub fn named(names: &[Tally], cluster: u64) -> u64
     requires rising { IsRising names.now }
     requires few { IsFew names.now }
     ensures { result ≡ named_of names.now cluster }
 {
-    let at = names.partition_point(|naming| naming.cluster < cluster);
+    let at = names.partition_point(|tally| tally.cluster < cluster);
     if at < names.len() && names[at].cluster == cluster {
         names[at].structure + names[at].mapped
     } else {
@@ -157,30 +152,30 @@ pub fn named(names: &[Naming], cluster: u64) -> u64
 }
 
 /// The least cluster of the structure that is named more than once.
-pub fn first_shared(names: &[Naming]) -> Option<u64>
+pub fn first_shared(names: &[Tally]) -> Option<u64>
     requires rising { IsRising names.now }
     requires few { IsFew names.now }
     ensures { MatchOption result (Nowhere (is_shared names.now)) (IsLeast (is_shared names.now)) }
 {
     for i in 0..names.len() {
-        let naming = names[i];
-        if naming.structure > 0 && naming.structure + naming.mapped != 1 {
-            return Some(naming.cluster);
+        let tally = names[i];
+        if tally.structure > 0 && tally.structure + tally.mapped != 1 {
+            return Some(tally.cluster);
         }
     }
     None
 }
 
 /// The least cluster that is named as copied, and named more than once.
-pub fn first_false(names: &[Naming]) -> Option<u64>
+pub fn first_falsely_copied(names: &[Tally]) -> Option<u64>
     requires rising { IsRising names.now }
     requires few { IsFew names.now }
-    ensures { MatchOption result (Nowhere (is_false names.now)) (IsLeast (is_false names.now)) }
+    ensures { MatchOption result (Nowhere (is_falsely_copied names.now)) (IsLeast (is_falsely_copied names.now)) }
 {
     for i in 0..names.len() {
-        let naming = names[i];
-        if naming.copied > 0 && naming.structure + naming.mapped != 1 {
-            return Some(naming.cluster);
+        let tally = names[i];
+        if tally.copied > 0 && tally.structure + tally.mapped != 1 {
+            return Some(tally.cluster);
         }
     }
     None

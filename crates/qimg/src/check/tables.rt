@@ -7,13 +7,14 @@ ghost use Rattle.qcow2_types.specs.Entries.{l1_table_sound, l2_table_sound};
 ghost use Rattle.qcow2_types.specs.Counts.{refcount_table_sound};
 ghost use Rattle.qcow2_types.specs.References.{of_mapping, of_copied, of_cluster, of_table};
 ghost use Rattle.qcow2_metadata.specs.MappingView.{mapping_seen, IsNamed};
-ghost use Rattle.qimg.specs.First.{file};
+ghost use Rattle.qimg.specs.Files.{file};
 ghost use Rattle.qimg.specs.Names.{Adds, IsFew, nothing_named};
 ghost use Rattle.qimg.specs.Gathering.{KeepsEntries, Reaches, IsSpare, StaysSpare};
-ghost use Rattle.qimg.specs.Check.{tables_of, sum_over, structure_over, words_over, AreTables, IsBlocks, HoldsPlaces, Found, IsUnsound, IsDamagedTable, IsOneDamaged};
+ghost use Rattle.qimg.specs.CheckParts.{tables_of, sum_over, structure_over, words_over, AreTables, IsBlocks, HoldsPlaces, IsUnsound, IsDamagedTable, IsOneDamaged};
+ghost use Rattle.qimg.specs.Check.{Found};
 
-use super::names::{Naming, Times, compact_where_grown, name_range};
-use super::{CheckFault, table_fault};
+use super::names::{Tally, Times, compact_where_grown, name_range};
+use super::{CheckFault, load_fault};
 use imago_storage::Storage;
 use qcow2_metadata::{Header, L1Table, L2Mapping, L2Table, RefTable, Table};
 use qcow2_types::{GuestCluster, HostCluster, HostOffset};
@@ -69,7 +70,7 @@ fn table_places<S: Storage>(
     let cluster = offset.cluster(header.cluster_bits());
     let table = match L1Table::load(alloc, image, header, cluster, words) {
         Ok(table) => table,
-        Err(fault) => return Err(table_fault(fault)),
+        Err(fault) => return Err(load_fault(fault, CheckFault::Table)),
     };
     let mut places = Vec::new(alloc);
     for index in 0..table.entries() {
@@ -98,7 +99,7 @@ fn block_places<S: Storage>(
     let cluster = offset.cluster(header.cluster_bits());
     let table = match RefTable::load(alloc, image, header, cluster, words) {
         Ok(table) => table,
-        Err(fault) => return Err(table_fault(fault)),
+        Err(fault) => return Err(load_fault(fault, CheckFault::Table)),
     };
     let mut places = Vec::new(alloc);
     for index in 0..table.entries() {
@@ -131,7 +132,7 @@ pub fn places_of<S: Storage>(
 /// Enters the clusters at these places, as parts of the structure. A place of 0 is none.
 pub fn name_places(
     alloc: Global,
-    names: &mut Vec<Naming>,
+    names: &mut Vec<Tally>,
     header: &Header,
     places: &[u64],
     last: &mut usize,
@@ -152,7 +153,7 @@ pub fn name_places(
 }
 
 /// Enters the first cluster, the L1 table and the refcount table.
-fn name_start(names: &mut Vec<Naming>, header: &Header) -> Result<(), CheckFault>
+fn name_start(names: &mut Vec<Tally>, header: &Header) -> Result<(), CheckFault>
     requires l1 { header.now.fields.l1_offset + header.now.fields.l1_entries * 8 < 2 ^ 63 }
     requires refcounts { header.now.fields.refcount_table_offset + header.now.fields.refcount_table_clusters * cluster_size header.now.fields < 2 ^ 63 }
     ensures ok { OnOk result (Adds header.now.fields names.old.items names.new.items (λ w. w 0 (cluster_size header.now.fields) + w header.now.fields.l1_offset (header.now.fields.l1_entries * 8) + w header.now.fields.refcount_table_offset (header.now.fields.refcount_table_clusters * cluster_size header.now.fields)) nothing_named nothing_named) }
@@ -172,7 +173,7 @@ fn name_start(names: &mut Vec<Naming>, header: &Header) -> Result<(), CheckFault
 /// Enters the structure of the image.
 pub fn name_structure(
     alloc: Global,
-    names: &mut Vec<Naming>,
+    names: &mut Vec<Tally>,
     header: &Header,
     places: &Places,
     last: &mut usize,
@@ -193,7 +194,7 @@ pub fn name_structure(
 
 /// Enters what a word of an L2 table names, so often.
 fn name_mapping(
-    names: &mut Vec<Naming>,
+    names: &mut Vec<Tally>,
     header: &Header,
     mapping: L2Mapping,
     times: u64,
@@ -232,7 +233,7 @@ fn name_mapping(
 
 /// Enters a cluster that a word of an L2 table names, so often.
 fn name_cluster(
-    names: &mut Vec<Naming>,
+    names: &mut Vec<Tally>,
     header: &Header,
     cluster: HostCluster,
     copied: bool,
@@ -254,7 +255,7 @@ fn name_cluster(
 
 /// Enters what the words of an L2 table name, so often.
 fn name_words(
-    names: &mut Vec<Naming>,
+    names: &mut Vec<Tally>,
     header: &Header,
     table: &L2Table,
     times: u64,
@@ -279,7 +280,7 @@ fn name_table<S: Storage>(
     header: &Header,
     place: u64,
     times: u64,
-    names: &mut Vec<Naming>,
+    names: &mut Vec<Tally>,
 ) -> Result<(), CheckFault>
     requires place { IsTrue (is_place header.now.fields.cluster_bits place) }
     ensures ok { OnOk result (Adds header.now.fields names.old.items names.new.items nothing_named (λ w. times * of_table (file (S.state image.old)) header.now.fields (of_mapping header.now.fields w) place) (λ w. times * of_table (file (S.state image.old)) header.now.fields (of_copied header.now.fields w) place)) }
@@ -295,7 +296,7 @@ fn name_table<S: Storage>(
     let cluster = HostOffset(place).cluster(header.cluster_bits());
     match L2Table::load(alloc, image, header, cluster, header.l2_entries()) {
         Ok(table) => name_words(names, header, &table, times),
-        Err(fault) => Err(table_fault(fault)),
+        Err(fault) => Err(load_fault(fault, CheckFault::Table)),
     }
 }
 
@@ -305,7 +306,7 @@ pub fn name_contents<S: Storage>(
     image: &mut S,
     header: &Header,
     mut places: Vec<u64>,
-    names: &mut Vec<Naming>,
+    names: &mut Vec<Tally>,
     last: &mut usize,
 ) -> Result<(), CheckFault>
     requires places { AreTables header.now.fields.cluster_bits places.items }

@@ -1,7 +1,7 @@
 // Lists of calls of a disk, and what they answer.
 ghost use Rattle.std.specs.Prelude.{◌≡◌, ◌∷◌, ◌++◌, None, IsTrue, IfOk, IfErr, IsOkUnless};
 ghost use Rattle.qcow2_types.specs.Consistency.{Consistent};
-ghost use Rattle.qimg.specs.First.{file};
+ghost use Rattle.qimg.specs.Files.{file};
 ghost use Rattle.qimg.specs.Opened.{opened};
 ghost use Rattle.qimg.specs.Opening.{open_fault};
 ghost use Rattle.qimg.specs.Opens.{NotOpened};

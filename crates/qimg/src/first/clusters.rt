@@ -4,11 +4,13 @@ ghost use Rattle.imago_storage.specs.State.{unit_of};
 ghost use Rattle.imago_storage.specs.Calls.{CountsFaults, Kept};
 ghost use Rattle.qcow2_types.specs.Bytes.{bytes_of};
 ghost use Rattle.qcow2_types.specs.Header.{Header};
-ghost use Rattle.qimg.specs.First.{file, Holds};
+ghost use Rattle.qimg.specs.Files.{file};
+ghost use Rattle.qimg.specs.First.{Holds};
 ghost use Rattle.qimg.specs.Pieces.{ShowsBuffer};
 ghost use Rattle.qimg.specs.Clusters.{IsFreeAt, NoneFreeAt, Takes, HasTable, Writes, NoCluster};
 
 use super::requests::{put, put_in, read_at, word_at};
+use crate::buffers::blank;
 use imago_storage::{Fault, Storage};
 use qcow2_metadata::words::offset_in;
 use qcow2_metadata::{L2Entry, TableEntry};
@@ -165,13 +167,6 @@ pub fn write_within<S: Storage>(
         ),
         Err(fault) => Err(fault),
     }
-}
-
-/// Fills the buffer with zeroes.
-pub fn blank(buf: &mut [u8])
-    ensures { (i : ℕ) → slice_index buf.new i ≡ 0 }
-{
-    buf.fill(0);
 }
 
 /// Reads bytes inside one guest cluster.

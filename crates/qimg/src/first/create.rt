@@ -4,7 +4,7 @@ ghost use Rattle.imago_storage.specs.State.{unit_of};
 ghost use Rattle.imago_storage.specs.Disk.{byte};
 ghost use Rattle.qcow2_types.specs.Bytes.{bytes_of};
 ghost use Rattle.qcow2_types.specs.Consistency.{IsConsistent, leaks};
-ghost use Rattle.qimg.specs.First.{file, value_at};
+ghost use Rattle.qimg.specs.Files.{file, value_at};
 ghost use Rattle.qimg.specs.Opening.{open_fault};
 ghost use Rattle.qimg.specs.Created.{Creates, NotCreated, new_header, nothing_in, blank};
 

@@ -5,7 +5,7 @@ ghost use Rattle.imago_storage.specs.Calls.{CountsFaults, Kept};
 ghost use Rattle.qcow2_types.specs.Bytes.{bytes_of, word, all_below};
 ghost use Rattle.qcow2_types.specs.Words.{mapping_of, is_damaged, l1_word_sound, block_word_sound, block_offset};
 ghost use Rattle.qcow2_types.specs.Header.{fields_of, header_of, layout_of, first_fault};
-ghost use Rattle.qimg.specs.First.{file};
+ghost use Rattle.qimg.specs.Files.{file};
 ghost use Rattle.qimg.specs.Opening.{has_new_extensions, rules_of_form, own_fault, header_fault, Accepts, NotAccepted, is_copied_data, is_plain_table_word, is_plain_entry, verdict, worse};
 ghost use Rattle.qimg.specs.Opening.{table_sound, table_plain, word_sound, word_plain, tables_verdict};
 

@@ -3,11 +3,13 @@ ghost use Rattle.std.specs.Prelude.{◌≡◌, ℕ, ◌+◌, ◌*◌, ◌<◌, �
 ghost use Rattle.imago_storage.specs.State.{unit_of};
 ghost use Rattle.imago_storage.specs.Calls.{CountsFaults, Kept};
 ghost use Rattle.qcow2_types.specs.Header.{Header};
-ghost use Rattle.qimg.specs.First.{file, Holds};
+ghost use Rattle.qimg.specs.Files.{file};
+ghost use Rattle.qimg.specs.First.{Holds};
 ghost use Rattle.qimg.specs.Clusters.{Writes};
 ghost use Rattle.qimg.specs.Pieces.{NotAllWritten, ShowsBuffer, ShowsRange};
 
-use super::clusters::{Places, blank, read_within, write_within};
+use super::clusters::{Places, read_within, write_within};
+use crate::buffers::blank;
 use imago_storage::{Fault, Storage};
 use std::alloc::Global;
 

@@ -3,7 +3,7 @@ ghost use Rattle.std.specs.Prelude.{◌≡◌, ◌+◌, ◌<◌, ◌≤◌, ◌^
 ghost use Rattle.imago_storage.specs.State.{unit_of};
 ghost use Rattle.imago_storage.specs.Calls.{Cause, CountsFaults, Kept, Reads, Spliced};
 ghost use Rattle.qcow2_types.specs.Bytes.{be, bytes_of, splice};
-ghost use Rattle.qimg.specs.First.{file};
+ghost use Rattle.qimg.specs.Files.{file};
 ghost use Rattle.qimg.specs.Requests.{Puts, NotPut};
 
 use imago_storage::{Fault, Storage, StorageExt};

@@ -4,7 +4,7 @@ ghost use Rattle.std.specs.Io.KnownBytes.{Appends};
 ghost use Rattle.hex.specs.Hex.{encode_lower};
 ghost use Rattle.imago_storage.specs.Calls.{Kept};
 ghost use Rattle.qcow2_types.specs.Consistency.{Consistent, IsVerdict};
-ghost use Rattle.qimg.specs.First.{file};
+ghost use Rattle.qimg.specs.Files.{file};
 ghost use Rattle.qimg.specs.declared.first.worked.RunFault.TheVariants.{Memory};
 ghost use Rattle.qimg.specs.Runs.{Run};
 ghost use Rattle.qimg.specs.RunFaults.{NotShown};

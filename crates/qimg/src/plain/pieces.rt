@@ -7,20 +7,14 @@ ghost use Rattle.qcow2_types.specs.Entries.{l1_table_sound};
 ghost use Rattle.qcow2_types.specs.Places.{l2_entries};
 ghost use Rattle.qcow2_metadata.specs.MappingView.{mapping_seen, IsNamed};
 ghost use Rattle.qcow2_metadata.specs.Tables.{words_in};
-ghost use Rattle.qimg.specs.First.{file};
+ghost use Rattle.qimg.specs.Files.{file};
 ghost use Rattle.qimg.specs.Plain.{NotShown, mapped_value, table_value, image_value};
 
+use crate::buffers::blank;
 use imago_storage::{Fault, Storage, StorageExt};
 use qcow2_metadata::{Header, L1Table, L2Mapping, L2Table, Table};
 use qcow2_types::{GuestOffset, HostOffset};
 use std::alloc::Global;
-
-/// Fills the buffer with zeroes.
-pub fn blank(buf: &mut [u8])
-    ensures { (i : ℕ) → slice_index buf.new i ≡ 0 }
-{
-    buf.fill(0);
-}
 
 /// Fills the buffer from a place of the file on.
 fn read_at<S: Storage>(image: &mut S, alloc: Global, buf: &mut [u8], at: u64) -> Result<(), Fault>

@@ -5,8 +5,8 @@ use Rattle.std.proofs.lemmas.Result.{err_from_is_err_and}
 use Rattle.qcow2_types.specs.Header.{Limited}
 use Rattle.qcow2_types.specs.Entries.{l2_table_sound}
 use Rattle.qcow2_types.proofs.HeaderLimits.{header-limited, fields-shaped}
-use Rattle.qimg.specs.First.{file}
-use Rattle.qimg.specs.Check.{AreTables}
+use Rattle.qimg.specs.Files.{file}
+use Rattle.qimg.specs.CheckParts.{AreTables}
 use Rattle.qcow2_types.proofs.WriteBack.{place-near}
 use Rattle.qimg.proofs.TablesListed.{tables-placed, places-bounded, table-bytes, sound-by-list, damaged-finding}
 use Rattle.qimg.proofs.ImageNamed.{few-tables, given-few, added-tells, added-few}

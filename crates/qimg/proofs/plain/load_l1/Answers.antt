@@ -1,5 +1,5 @@
 use Rattle.std.proofs.Common.{◌≡◌, ℕ, ◌/◌, ◌^◌, ap, ◌∙◌}
-use Rattle.qimg.specs.First.{file}
+use Rattle.qimg.specs.Files.{file}
 use Rattle.qimg.proofs.PlainTables.{l1-place, l1-words, l1-sound, l1-refused}
 use Rattle.qimg.proofs.plain.load_l1.Goals as goal
 

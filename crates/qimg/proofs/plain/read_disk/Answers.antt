@@ -1,6 +1,6 @@
 use Rattle.std.proofs.Common.{◌≡◌, ◌-◌, length, take, length-take, arith}
 use Rattle.std.specs.Prelude.{min}
-use Rattle.qimg.specs.First.{file}
+use Rattle.qimg.specs.Files.{file}
 use Rattle.qimg.proofs.PlainImage.{front-read, front-unread}
 use Rattle.qimg.proofs.plain.read_disk.Goals as goal
 

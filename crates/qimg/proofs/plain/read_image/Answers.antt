@@ -3,7 +3,7 @@ use Rattle.std.specs.Prelude.{true, None}
 use Rattle.std.specs.Result.{result_err}
 use Rattle.qcow2_types.specs.Bytes.{Bytes}
 use Rattle.qcow2_types.specs.Entries.{l1_table_sound}
-use Rattle.qimg.specs.First.{file}
+use Rattle.qimg.specs.Files.{file}
 use Rattle.qimg.specs.Plain.{alone_fault}
 use Rattle.qimg.proofs.ScanLemmas.{kept-both, kept-file}
 use Rattle.qimg.proofs.PlainImage.{disk-read, disk-unread, sum-fits}

@@ -1,9 +1,9 @@
 // How long the list of entries gets while names are gathered.
-use super::super::names::{Naming, compact_where_grown};
+use super::super::names::{Tally, compact_where_grown};
 use super::super::tables::name_places;
 use super::*;
 
-const ONCE: Naming = Naming {
+const ONCE: Tally = Tally {
     cluster: 7,
     structure: 0,
     mapped: 1,
@@ -21,9 +21,9 @@ fn added_up(rt: &impl Abort, alloc: Global) -> Result<(), CheckFault> {
     names.push(ONCE)?;
     compact_where_grown(alloc, &mut names, &mut last)?;
     assert_eq!(rt; (names.len(), last), (1, 1));
-    for naming in names.iter() {
-        assert_eq!(rt; (naming.cluster, naming.mapped), (7, 8_194));
-        assert_eq!(rt; (naming.structure, naming.copied), (0, 8_194));
+    for tally in names.iter() {
+        assert_eq!(rt; (tally.cluster, tally.mapped), (7, 8_194));
+        assert_eq!(rt; (tally.structure, tally.copied), (0, 8_194));
     }
     Ok(())
 }
@@ -39,7 +39,7 @@ fn entries_are_added_up_where_they_have_grown(rt: HostRuntime) -> Result<(), Fai
 
 // The greatest numbers aren't added up, and stay entries of their own.
 fn sums_fit(rt: &impl Abort, alloc: Global) -> Result<(), CheckFault> {
-    let most = Naming {
+    let most = Tally {
         mapped: u64::MAX,
         ..ONCE
     };

@@ -1,8 +1,8 @@
 -- Each entry before is counted, and the block at hand is the one at its index.
 use Rattle.std.proofs.Common.{◌≡◌}
 use Rattle.imago_storage.specs.Calls.{Kept}
-use Rattle.qimg.specs.First.{file}
-use Rattle.qimg.specs.Check.{HoldsCounters}
+use Rattle.qimg.specs.Files.{file}
+use Rattle.qimg.specs.CheckParts.{HoldsCounters}
 use Rattle.qimg.proofs.CountsCompared.{AreCounted}
 use Rattle.qimg.proofs.check.counts.check_counted.Given as goal
 

@@ -3,8 +3,8 @@ use Rattle.std.proofs.Common.{refl, ap, arith, subst, ◌∙◌, ◌≤◌, Vec,
 use Rattle.std.specs.Prelude.{Some, None}
 use Rattle.qcow2_types.specs.Header.{Limited, refcount_table_entries}
 use Rattle.qcow2_types.proofs.HeaderLimits.{header-limited}
-use Rattle.qimg.specs.First.{file}
-use Rattle.qimg.specs.Check.{HoldsCounters}
+use Rattle.qimg.specs.Files.{file}
+use Rattle.qimg.specs.CheckParts.{HoldsCounters}
 use Rattle.qimg.proofs.ScanLemmas.{kept-both, kept-none, kept-file}
 use Rattle.qimg.proofs.SurplusLemmas.{leaks-of-none, leaks-of-block, leaks-of-rest, leaks-at-start}
 use Rattle.qimg.proofs.check.counts.leaks_of.Goals as goal

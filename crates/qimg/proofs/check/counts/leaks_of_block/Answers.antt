@@ -1,7 +1,7 @@
 -- One counter after the other.
 use Rattle.std.proofs.Common.{ap, arith, ◌∙◌, ◌≡◌, ◌+◌, ◌*◌, ◌++◌, refl, Vec, Global, ℕ}
 use Rattle.qcow2_types.specs.Counts.{counters_of_block}
-use Rattle.qimg.specs.Check.{surplus_below}
+use Rattle.qimg.specs.CheckParts.{surplus_below}
 use Rattle.qimg.proofs.SurplusLemmas.{surplus-none, surplus-pushed, surplus-kept}
 use Rattle.qimg.proofs.check.counts.leaks_of_block.Goals as goal
 use Rattle.qimg.proofs.check.counts.leaks_of_block.Goals.{then-count-gt0+then-references-count+in_ok-push, then-count-gt0+else-references-count, else-count-gt0}

@@ -6,12 +6,12 @@ use Rattle.qimg.proofs.RisingLemmas.{blank, entry-few}
 use Rattle.qimg.proofs.SharedLemmas.{shares, shares-follows, least, nowhere}
 use Rattle.qimg.proofs.check.names.first_shared.Goals as goal
 
-pub overflow_add-naming : goal.overflow_add-naming
-overflow_add-naming c = let few = entry-few c.args.names.now c.loop-i.i blank c.requires.rising c.requires.few c.loop-i-test.true in omega (arith, few)
+pub overflow_add-tally : goal.overflow_add-tally
+overflow_add-tally c = let few = entry-few c.args.names.now c.loop-i.i blank c.requires.rising c.requires.few c.loop-i-test.true in omega (arith, few)
 
-pub returns-then-naming-ne1 : goal.returns-then-naming-ne1
-returns-then-naming-ne1 c =
-    let passes : shares (slice_index_or c.args.names.now c.loop-i.i blank) ≡ true = rw (lt-ltb _ _ c.if-naming-gt0.true, ne_eqb _ _ c.if-naming-ne1.true) refl in
+pub returns-then-tally-ne1 : goal.returns-then-tally-ne1
+returns-then-tally-ne1 c =
+    let passes : shares (slice_index_or c.args.names.now c.loop-i.i blank) ≡ true = rw (lt-ltb _ _ c.if-tally-gt0.true, ne_eqb _ _ c.if-tally-ne1.true) refl in
     least c.args.names.now shares (is_shared c.args.names.now) c.loop-i.i blank c.requires.rising (shares-follows c.args.names.now c.requires.rising) c.loop-i.invariant c.loop-i-test.true passes
 
 pub returns : goal.returns

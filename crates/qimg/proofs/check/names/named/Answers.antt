@@ -2,7 +2,7 @@ use Rattle.std.proofs.Common.{◌≢◌, ◌<◌, arith, rules, ap, sym, ◌∙�
 use Rattle.std.specs.Prelude.{slice_index_or}
 use Rattle.std.proofs.lemmas.Bool.{ltb-true, ltb-false}
 use Rattle.std.proofs.lemmas.List.Sorted.{IsPartitionPoint-from_clause, IsPartitionedBy-ltb}
-use Rattle.qimg.specs.declared.check.names.Naming.{Naming}
+use Rattle.qimg.specs.declared.check.names.Tally.{Tally}
 use Rattle.qimg.specs.Names.{named}
 use Rattle.qimg.proofs.RisingLemmas.{blank, entry-few, named-sum, named-none, split-absent, rising-up}
 use Rattle.qimg.proofs.check.names.named.Goals as goal
@@ -16,8 +16,8 @@ returns-then-names-at c = sym (named-sum c.args.names.now c.partition_point-at.r
 
 pub returns-else-at-names : goal.returns-else-at-names
 returns-else-at-names c =
-    let parted = IsPartitionedBy-ltb (λ (p : Naming). p.cluster) _ c.args.cluster (rising-up c.args.names.now c.requires.rising) in
-    let point = IsPartitionPoint-from_clause (λ (p : Naming). ltb p.cluster c.args.cluster) _ _ c.partition_point-at.ensures.partitioned parted (λ a r q k. search rules) in
+    let parted = IsPartitionedBy-ltb (λ (p : Tally). p.cluster) _ c.args.cluster (rising-up c.args.names.now c.requires.rising) in
+    let point = IsPartitionPoint-from_clause (λ (p : Tally). ltb p.cluster c.args.cluster) _ _ c.partition_point-at.ensures.partitioned parted (λ a r q k. search rules) in
     let apart : c.partition_point-at.result < length c.args.names.now → (slice_index_or c.args.names.now c.partition_point-at.result blank).cluster ≢ c.args.cluster =
     elim c.else-at-names.branch [
       | else-at-names-via-then-at-names+else-names-at w ↦ λ lt. w.if-names-at.false

@@ -3,7 +3,7 @@ use Rattle.qcow2_types.specs.Words.{block_offset}
 use Rattle.qcow2_types.specs.Header.{refcount_table_entries}
 use Rattle.qcow2_types.specs.Counts.{block_at}
 use Rattle.qcow2_types.proofs.HeaderLimits.{header-limited}
-use Rattle.qimg.specs.First.{file}
+use Rattle.qimg.specs.Files.{file}
 use Rattle.qimg.proofs.BlockPlaces.{blocks-place, block-loaded, blocks-finding, blocks-sound-by-first, blocks-more, blocks-all}
 use Rattle.qimg.proofs.FewerWords.{cluster-at, loaded-count, loaded-word}
 use Rattle.qimg.proofs.PlainTables.{some-place, none-place}
@@ -22,7 +22,7 @@ returns-in-Err-clause-err g c =
     let new = g.S.Storage.state c.load.new.image in
     let at = cluster-at c.cluster-cluster.result _ _ _ _ c.cluster-cluster.ensures c.reftable_offset-offset.ensures c.cluster_bits.ensures.value in
     let few : c.words_before-words.result ≤ refcount_table_entries c.args.header.now.fields = omega (arith, c.words_before-words.ensures.few, c.reftable_entries.ensures) in
-    rw c.table_fault.ensures (blocks-finding old new c.args.header.now c.requires.loads c.cluster-cluster.result c.words_before-words.result at few c.in-Err.fault c.in-Err.ensures.err)
+    rw c.load_fault.ensures (blocks-finding old new c.args.header.now c.requires.loads c.cluster-cluster.result c.words_before-words.result at few c.in-Err.fault c.in-Err.ensures.err)
 
 pub returns-clause-sound : goal.returns-clause-sound
 returns-clause-sound g c =

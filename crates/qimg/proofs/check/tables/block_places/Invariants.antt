@@ -1,4 +1,4 @@
-use Rattle.qimg.specs.First.{file}
+use Rattle.qimg.specs.Files.{file}
 use Rattle.qimg.proofs.BlockPlaces.{BlocksTo}
 use Rattle.qimg.proofs.check.tables.block_places.Given as goal
 

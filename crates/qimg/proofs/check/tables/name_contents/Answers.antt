@@ -3,8 +3,9 @@ use Rattle.std.specs.Prelude.{slice_index}
 use Rattle.std.proofs.lemmas.Grind.{get_or_default_zero}
 use Rattle.std.proofs.lemmas.Result.{err_from_is_err_and}
 use Rattle.qcow2_types.specs.Words.{is_place}
-use Rattle.qimg.specs.First.{file}
-use Rattle.qimg.specs.Check.{Found, IsDamagedTable}
+use Rattle.qimg.specs.Files.{file}
+use Rattle.qimg.specs.CheckParts.{IsDamagedTable}
+use Rattle.qimg.specs.Check.{Found}
 use Rattle.qimg.proofs.ContentsNamed.{named-now, named-same, named-later, named-all, all-sound, one-damaged, placed-at}
 use Rattle.qimg.proofs.GatheringLemmas.{stays-more}
 use Rattle.qimg.proofs.check.tables.name_contents.Goals as goal

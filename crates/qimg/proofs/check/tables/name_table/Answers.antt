@@ -1,6 +1,6 @@
 use Rattle.std.proofs.Common.{refl, arith}
 use Rattle.std.proofs.lemmas.Result.{on_ok_weaker}
-use Rattle.qimg.specs.First.{file}
+use Rattle.qimg.specs.Files.{file}
 use Rattle.qimg.proofs.FewerWords.{cluster-at}
 use Rattle.qimg.proofs.L2Words.{l2-sound}
 use Rattle.qimg.proofs.TableNamed.{adds-table, adds-past, past-sound, l2-begin, l2-words, l2-finding}
@@ -32,4 +32,4 @@ returns-in-Err-clause-err g c =
     let old = g.S.Storage.state c.args.image.now in
     let new = g.S.Storage.state c.load.new.image in
     let at = cluster-at c.cluster-cluster.result c.args.place _ _ _ c.cluster-cluster.ensures refl c.cluster_bits.ensures.value in
-    rw c.table_fault.ensures (l2-finding old new c.args.header.now.fields c.args.place c.cluster-cluster.result c.requires.place at c.cluster_bits.ensures.shaped.high c.in-Err.fault (rw (← c.l2_entries.ensures) c.in-Err.ensures.err))
+    rw c.load_fault.ensures (l2-finding old new c.args.header.now.fields c.args.place c.cluster-cluster.result c.requires.place at c.cluster_bits.ensures.shaped.high c.in-Err.fault (rw (← c.l2_entries.ensures) c.in-Err.ensures.err))

@@ -3,7 +3,7 @@ use Rattle.qcow2_types.specs.Words.{table_offset}
 use Rattle.qcow2_types.specs.Entries.{l2_table}
 use Rattle.qcow2_types.proofs.Consistent.{header-reading}
 use Rattle.qcow2_types.proofs.HeaderLimits.{header-limited}
-use Rattle.qimg.specs.First.{file}
+use Rattle.qimg.specs.Files.{file}
 use Rattle.qimg.proofs.FewerWords.{cluster-at, loaded-count, loaded-word, l1-finding, l1-sound-by-first}
 use Rattle.qimg.proofs.PlainTables.{l1-place, some-place, none-place}
 use Rattle.qimg.proofs.check.tables.table_places.Goals as goal
@@ -23,7 +23,7 @@ returns-in-Err-clause-err g c =
     let loads = header-reading (file (g.S.Storage.state c.args.image.now)) c.args.header.now c.requires.loads in
     let at = cluster-at c.cluster-cluster.result _ _ _ _ c.cluster-cluster.ensures c.l1_table_offset-offset.ensures c.cluster_bits.ensures.value in
     let few : c.words_before-words.result ≤ c.args.header.now.fields.l1_entries = omega (arith, c.words_before-words.ensures.few, c.l1_table_entries.ensures) in
-    rw c.table_fault.ensures (l1-finding old new c.args.header.now loads c.cluster-cluster.result c.words_before-words.result at few c.in-Err.fault c.in-Err.ensures.err)
+    rw c.load_fault.ensures (l1-finding old new c.args.header.now loads c.cluster-cluster.result c.words_before-words.result at few c.in-Err.fault c.in-Err.ensures.err)
 
 pub returns-clause-sound : goal.returns-clause-sound
 returns-clause-sound g c =

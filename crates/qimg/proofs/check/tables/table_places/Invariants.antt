@@ -1,5 +1,5 @@
 use Rattle.std.proofs.Common.{◌≡◌}
-use Rattle.qimg.specs.First.{file}
+use Rattle.qimg.specs.Files.{file}
 use Rattle.qimg.proofs.TablePlaces.{tables_to}
 use Rattle.qimg.proofs.check.tables.table_places.Given as goal
 

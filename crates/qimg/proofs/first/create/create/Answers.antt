@@ -1,6 +1,6 @@
 use Rattle.std.proofs.Common.{◌≤◌, ◌∙◌, ap, sym, subst, arith}
 use Rattle.qcow2_types.specs.Consistency.{IsConsistent, leaks}
-use Rattle.qimg.specs.First.{value_at}
+use Rattle.qimg.specs.Files.{value_at}
 use Rattle.qimg.specs.Created.{new_header}
 use Rattle.qimg.specs.Opening.{open_fault}
 use Rattle.qimg.proofs.CreatedImage.{created-consistent, created-leaks, created-accepted, created-zeroes}

@@ -2,7 +2,7 @@ use Rattle.std.proofs.Common.{◌≤◌, ◌∙◌, ap, sym, length, arith, true
 use Rattle.std.specs.Result.{result_err}
 use Rattle.qcow2_types.specs.Header.{fields_of}
 use Rattle.qcow2_types.proofs.HeaderFrame.{header-fields}
-use Rattle.qimg.specs.First.{file}
+use Rattle.qimg.specs.Files.{file}
 use Rattle.qimg.specs.Opening.{header_fault}
 use Rattle.qimg.proofs.ScanLemmas.{kept-file}
 use Rattle.qimg.proofs.OpeningLemmas.{start-fields, start-own, own-alone, header-refused, refused-after, if-accepted, accepts-small, accepts-covered, accepts-few, accepts-l1_offset, accepts-block}

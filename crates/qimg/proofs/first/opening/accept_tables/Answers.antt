@@ -3,7 +3,7 @@ use Rattle.qcow2_types.specs.Words.{max_offset, block_offset}
 use Rattle.qcow2_types.specs.Bytes.{word}
 use Rattle.qcow2_types.specs.Header.{fields_of}
 use Rattle.qcow2_types.specs.Consistency.{tables_sound}
-use Rattle.qimg.specs.First.{file}
+use Rattle.qimg.specs.Files.{file}
 use Rattle.qimg.specs.Opening.{tables_fault, verdict, worse, has_plain_words}
 use Rattle.qimg.proofs.OpeningLemmas.{IsFirstForm, header-form, tables-scanned, found-damaged, found-other, found-plain, open-tables, first-block}
 use Rattle.qimg.proofs.ScanLemmas.{kept-file}

@@ -1,7 +1,7 @@
 use Rattle.std.proofs.Common.{◌≡◌, ◌+◌, ◌*◌, ◌∙◌, ap, sym, arith}
 use Rattle.qcow2_types.specs.Bytes.{word, be}
 use Rattle.qcow2_types.specs.Words.{block_offset}
-use Rattle.qimg.specs.First.{file}
+use Rattle.qimg.specs.Files.{file}
 use Rattle.qimg.proofs.first.opening.first_block.Goals as goal
 
 pub returns-clause-block : goal.returns-clause-block

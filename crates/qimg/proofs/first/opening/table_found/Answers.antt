@@ -1,6 +1,6 @@
 use Rattle.std.proofs.Common.{◌≤◌, ◌∙◌, sym, length, arith}
 use Rattle.qcow2_types.specs.Header.{layout_of}
-use Rattle.qimg.specs.First.{file}
+use Rattle.qimg.specs.Files.{file}
 use Rattle.qimg.proofs.ScanLemmas.{found-alone, found-table, table-found_read}
 use Rattle.qimg.proofs.first.opening.table_found.Goals as goal
 

@@ -1,7 +1,7 @@
 use Rattle.std.proofs.Common.{◌≡◌, ◌+◌, ◌-◌, ◌*◌, ◌/◌, ◌∙◌, refl, ap, sym, subst, arith}
 use Rattle.std.specs.Prelude.{IfOk}
 use Rattle.qcow2_types.specs.Header.{layout_of}
-use Rattle.qimg.specs.First.{file}
+use Rattle.qimg.specs.Files.{file}
 use Rattle.qimg.specs.Opening.{tables_verdict}
 use Rattle.qimg.proofs.ScanLemmas.{tables-none, kept-both, kept-none, kept-file}
 use Rattle.qimg.proofs.first.opening.tables_found.Goals as goal

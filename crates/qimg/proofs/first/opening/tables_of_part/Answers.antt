@@ -1,7 +1,7 @@
 use Rattle.std.proofs.Common.{◌≡◌, ◌+◌, ◌*◌, ◌≤◌, ◌∙◌, ap, sym, length, arith}
 use Rattle.qcow2_types.specs.Bytes.{word}
 use Rattle.qcow2_types.specs.Header.{layout_of}
-use Rattle.qimg.specs.First.{file}
+use Rattle.qimg.specs.Files.{file}
 use Rattle.qimg.specs.Opening.{verdict, word_sound, word_plain, tables_verdict}
 use Rattle.qimg.proofs.ScanLemmas.{tables-more, word-read, kept-both, kept-file}
 use Rattle.qimg.proofs.first.opening.tables_of_part.Goals as goal

@@ -1,7 +1,7 @@
 use Rattle.std.proofs.Common.{◌≡◌, ◌+◌}
 use Rattle.imago_storage.specs.Calls.{Kept}
 use Rattle.qcow2_types.specs.Header.{layout_of}
-use Rattle.qimg.specs.First.{file}
+use Rattle.qimg.specs.Files.{file}
 use Rattle.qimg.specs.Opening.{tables_verdict}
 use Rattle.qimg.proofs.first.opening.tables_of_part.Given as goal
 

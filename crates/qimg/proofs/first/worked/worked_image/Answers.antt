@@ -1,6 +1,6 @@
 use Rattle.std.proofs.Common.{◌∙◌, subst, sym}
 use Rattle.std.specs.Prelude.{IsTrue}
-use Rattle.qimg.specs.First.{file}
+use Rattle.qimg.specs.Files.{file}
 use Rattle.qimg.specs.Created.{new_header}
 use Rattle.qimg.proofs.OpenedLemmas.{shown-size, shown-value}
 use Rattle.qimg.proofs.WorkedLemmas.{worked-made}

@@ -5,7 +5,7 @@ use Rattle.qcow2_types.specs.Words.{Mapping, mapping_of}
 use Rattle.std.specs.Prelude.{slice_index}
 use Rattle.qcow2_metadata.specs.MappingView.{mapping_seen}
 use Rattle.qcow2_metadata.specs.Tables.{TableValue}
-use Rattle.qimg.specs.First.{file}
+use Rattle.qimg.specs.Files.{file}
 use Rattle.qimg.specs.Plain.{NotShown, mapped_value, table_value}
 use Rattle.qimg.proofs.ScanLemmas.{kept-file}
 use Rattle.qimg.proofs.PlainReads.{shown-more, shown-short, div-near}

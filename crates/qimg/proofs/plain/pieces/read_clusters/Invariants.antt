@@ -1,5 +1,5 @@
 use Rattle.std.proofs.Common.{◌-◌, length}
-use Rattle.qimg.specs.First.{file}
+use Rattle.qimg.specs.Files.{file}
 use Rattle.qimg.specs.Plain.{table_value}
 use Rattle.qimg.proofs.PlainReads.{ShownSoFar}
 use Rattle.qimg.proofs.plain.pieces.read_clusters.Given as goal

@@ -2,7 +2,7 @@ use Rattle.std.proofs.Common.{◌≡◌, ◌+◌, ◌*◌, ◌%◌, ◌^◌, ◌
 use Rattle.std.specs.Prelude.{OnOk}
 use Rattle.imago_storage.specs.Disk.{Shows}
 use Rattle.qcow2_metadata.specs.MappingView.{mapping_seen}
-use Rattle.qimg.specs.First.{file}
+use Rattle.qimg.specs.Files.{file}
 use Rattle.qimg.specs.Plain.{mapped_value}
 use Rattle.qimg.proofs.PlainReads.{data-shown, counts-unshown}
 use Rattle.qimg.proofs.plain.pieces.read_mapping.Goals as goal

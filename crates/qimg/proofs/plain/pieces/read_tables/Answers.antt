@@ -1,6 +1,6 @@
 use Rattle.std.proofs.Common.{◌≡◌, ℕ, ◌+◌, ◌-◌, ◌≤◌, length, refl, arith, subst, take, drop, length-take, length-drop, ap, sym}
 use Rattle.qcow2_types.specs.Bytes.{Bytes}
-use Rattle.qimg.specs.First.{file}
+use Rattle.qimg.specs.Files.{file}
 use Rattle.qimg.specs.Plain.{NotShown, image_value}
 use Rattle.qimg.proofs.ScanLemmas.{kept-file}
 use Rattle.qimg.proofs.PlainReads.{shown-short}
