@@ -1,0 +1,102 @@
+-- A lookup that goes on below.
+use Rattle.std.proofs.Common.{◌≡◌, refl, inl, inr, ℕ, ◌+◌, ◌<◌, ◌≤◌, List, ◌∷◌, ◌++◌, arith, add-one, sym, ◌∙◌, ap, subst}
+use Rattle.std.specs.Prelude.{Bool, true, false, ◌&&◌, if◌then◌else◌, IsTrue}
+use Rattle.std.proofs.lemmas.Bool.{le-ltb}
+use Rattle.imago_storage.specs.State.{StorageState}
+use Rattle.imago_storage.specs.Disk.{byte}
+use Rattle.imago_storage.specs.declared.fault.Fault.{Fault}
+use Rattle.imago_storage.specs.declared.fault.Fault.TheVariants.{Failed, MissingData, DamagedTable, Memory, Storage}
+use Rattle.imago_access.specs.Layer.{Layer, unmapped, through}
+use Rattle.imago_access.specs.Chain.{at}
+use Rattle.imago_access.specs.Files.{Pairs, IsLater}
+use Rattle.imago_access.specs.Mappings.{EachIs, Names, IsRun, IsDeepRun, stored_at, DeepNames, AreWritable, IsRunBelow, IsDeepBelow, lower, is_deep_end}
+use Rattle.imago_access.specs.Refusals.{LookCause, DeepLookCause}
+use Rattle.imago_access.specs.declared.mapping.Mapping.{Mapping}
+use Rattle.imago_access.specs.declared.mapping.Mapping.TheVariants.{Raw, Zero, Eof, Special}
+use Rattle.imago_access.specs.declared.mapping.ShallowMapping.{ShallowMapping}
+use Rattle.imago_access.specs.declared.mapping.ShallowMapping.TheVariants as shallow
+use Rattle.imago_access.proofs.ReadCauses.{at_unmapped, at_own}
+use Rattle.imago_access.proofs.FilePairs.{some_rose_left, some_rose_right}
+
+stored_next : {D : Type 0} (stored : D → ℕ → ℕ → ℕ) (d : D) (ds : List D) (depth storage place : ℕ) → stored_at stored (d ∷ ds) (depth + 1) storage place ≡ stored_at stored ds depth storage place
+stored_next stored d ds depth storage place = rw (add-one depth)
+
+both_true : (a b : Bool) → IsTrue (a && b) → IsTrue a × IsTrue b
+both_true true b h = (refl, h)
+both_true false b h = absurd (cc h)
+
+writable_next : (layer : Layer) (below : List Layer) (depth : ℕ) → IsTrue layer.fixed.writable → AreWritable depth below → AreWritable (depth + 1) (layer ∷ below)
+writable_next layer below depth top rest = subst (λ (k : ℕ). AreWritable k (layer ∷ below)) (sym (add-one depth)) (top, rest)
+
+module _ {D : Type 0} (stored : D → ℕ → ℕ → ℕ) (d : D) (ds : List D) (layer : Layer) (below : List Layer) (offset n asked : ℕ) (above : Bool)
+    (free : EachIs layer.cell offset asked (λ i. unmapped)) (inside : offset + asked ≤ layer.size) (top : IsTrue above → IsTrue layer.fixed.writable) where
+  through_below : (i : ℕ) → i < asked → at (layer ∷ below) (offset + i) ≡ at below (offset + i)
+  through_below i lt = at_unmapped layer below (offset + i) (omega (arith, lt)) (free i lt)
+
+  pub names_lower : (m : Mapping) → IsRunBelow asked m n → DeepNames below (at below) (stored_at stored ds) offset n m → DeepNames (layer ∷ below) (at (layer ∷ below)) (stored_at stored (d ∷ ds)) offset n (lower above m)
+  names_lower (Raw depth storage place writable) run names = (
+    λ i lt. through_below i (omega (arith, run.0, lt)) ∙ names.0 i lt ∙ ap byte (sym (stored_next stored d ds depth storage (place + i))),
+    λ is. let both = both_true writable above is in writable_next layer below depth (top both.1) (names.1 both.0),
+  )
+  names_lower (Special depth place) run names = (λ i lt. through_below i (omega (arith, run.0, lt)) ∙ names.0 i lt, names.1)
+  names_lower (Zero explicit) run names = (λ i lt. through_below i (omega (arith, run.0, lt)) ∙ names.0 i lt, λ is. absurd (cc is))
+  names_lower Eof run names = tt
+
+pub deep_lower : (k : ℕ) (above : Bool) (m : Mapping) → IsDeepBelow k m → IsDeepBelow (k + 1) (lower above m)
+deep_lower k above (Raw depth storage place writable) h = omega (arith, h)
+deep_lower k above (Special depth place) h = omega (arith, h)
+deep_lower k above (Zero explicit) h = tt
+deep_lower k above Eof h = tt
+
+-- a run of a layer below that isn't its end is as long as that layer's
+pub run_below : (size offset asked n : ℕ) (m : Mapping) → (m ≡ Eof → ⊥) → IsDeepRun size offset asked m n → IsRunBelow asked m n
+run_below size offset asked n (Raw depth storage place writable) other run = (run.1, run.3)
+run_below size offset asked n (Special depth place) other run = (run.1, run.3)
+run_below size offset asked n (Zero explicit) other run = (run.1, run.3)
+run_below size offset asked n Eof other run = absurd (other refl)
+
+-- past the end of a layer the places are 0
+pub zero_past : (layer : Layer) (below : List Layer) (offset i : ℕ) → layer.size ≤ offset → at (layer ∷ below) (offset + i) ≡ byte 0
+zero_past layer below offset i past =
+    ap (λ (t : Bool). if t then through (layer.cell (offset + i)) (at below (offset + i)) else byte 0) (le-ltb (offset + i) layer.size (omega (arith, past)))
+
+-- Causes.
+pub deep_look_top : (layer : Layer) (below : List Layer) (offset n : ℕ) (olds news us vs : List StorageState) (e : Fault)
+    → LookCause layer offset n olds news e → DeepLookCause (layer ∷ below) (at (layer ∷ below)) offset n (olds ++ us) (news ++ vs) e
+deep_look_top layer below offset n olds news us vs Failed h = inl h
+deep_look_top layer below offset n olds news us vs MissingData h = inl h
+deep_look_top layer below offset n olds news us vs DamagedTable h = (h.0, h.1, at_own layer below (offset + h.0) _ h.2 h.3)
+deep_look_top layer below offset n olds news us vs Memory h = h
+deep_look_top layer below offset n olds news us vs Storage h = some_rose_left olds news us vs h
+deep_look_top layer below offset n olds news us vs _ h = absurd h
+
+pub deep_look_below : (layer : Layer) (below : List Layer) (offset part n : ℕ) (olds news us vs : List StorageState) (e : Fault)
+    → DeepLookCause below (at below) offset part us vs e → EachIs layer.cell offset part (λ i. unmapped) → offset + part ≤ layer.size → part ≤ n
+    → Pairs IsLater olds news → DeepLookCause (layer ∷ below) (at (layer ∷ below)) offset n (olds ++ us) (news ++ vs) e
+deep_look_below layer below offset part n olds news us vs Failed h free inside fits later = inr h
+deep_look_below layer below offset part n olds news us vs MissingData h free inside fits later = inr h
+deep_look_below layer below offset part n olds news us vs DamagedTable h free inside fits later =
+    (h.0, omega (arith, h.1, fits), at_unmapped layer below (offset + h.0) (omega (arith, h.1, inside)) (free h.0 h.1) ∙ h.2)
+deep_look_below layer below offset part n olds news us vs Memory h free inside fits later = h
+deep_look_below layer below offset part n olds news us vs Storage h free inside fits later = some_rose_right olds news us vs later h
+deep_look_below layer below offset part n olds news us vs _ h free inside fits later = absurd h
+
+not_end : (size offset asked n : ℕ) (m : Mapping) → is_deep_end m ≡ false → offset < size → n ≤ asked → offset + n ≤ size → (0 < asked → 0 < n) → IsDeepRun size offset asked m n
+not_end size offset asked n (Raw a b c d) is low most inside some = (low, most, inside, some)
+not_end size offset asked n (Special a b) is low most inside some = (low, most, inside, some)
+not_end size offset asked n (Zero a) is low most inside some = (low, most, inside, some)
+not_end size offset asked n Eof is low most inside some = absurd (cc is)
+
+-- a run inside the layer above
+pub run_inside : (size offset asked part n : ℕ) (m lowered : Mapping) → IsRunBelow part m n → is_deep_end lowered ≡ is_deep_end m → offset < size → offset + part ≤ size → part ≤ asked → (0 < asked → 0 < part) → IsDeepRun size offset asked lowered n
+run_inside size offset asked part n (Raw a b c d) lowered run end low inside fits some = not_end size offset asked n lowered end low (omega (arith, run.0, fits)) (omega (arith, run.0, inside)) (λ h. run.1 (some h))
+run_inside size offset asked part n (Special a b) lowered run end low inside fits some = not_end size offset asked n lowered end low (omega (arith, run.0, fits)) (omega (arith, run.0, inside)) (λ h. run.1 (some h))
+run_inside size offset asked part n (Zero a) lowered run end low inside fits some = not_end size offset asked n lowered end low (omega (arith, run.0, fits)) (omega (arith, run.0, inside)) (λ h. run.1 (some h))
+run_inside size offset asked part n Eof lowered run end low inside fits some = absurd run
+
+-- what the run of an answer that goes on below is
+pub indirect_run : (layer : Layer) (offset asked n place : ℕ) (writable : Bool) (mapping : ShallowMapping) → mapping ≡ shallow.Indirect place writable → IsRun layer offset asked mapping n → (offset < layer.size) × (n ≤ asked) × (offset + n ≤ layer.size) × (0 < asked → 0 < n)
+indirect_run layer offset asked n place writable mapping is run = subst (λ (m : ShallowMapping). IsRun layer offset asked m n) is run
+
+pub indirect_writable : (layer : Layer) (stored : ℕ → ℕ → ℕ) (offset n place : ℕ) (writable : Bool) (mapping : ShallowMapping) → mapping ≡ shallow.Indirect place writable → Names layer stored offset n mapping → IsTrue writable → IsTrue layer.fixed.writable
+indirect_writable layer stored offset n place writable mapping is names = (subst (Names layer stored offset n) is names).2

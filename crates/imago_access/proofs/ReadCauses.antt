@@ -1,0 +1,103 @@
+-- A refusal's cause in a part of a range, or in a layer below, is one in the whole.
+use Rattle.std.proofs.Common.{◌≡◌, inl, inr, ℕ, ◌+◌, ◌<◌, ◌≤◌, List, ◌∷◌, ◌++◌, arith, sym, ◌∙◌, ap, subst, add_assoc}
+use Rattle.std.specs.Prelude.{Bool}
+use Rattle.std.proofs.lemmas.Bool.{lt-ltb}
+use Rattle.imago_storage.specs.State.{StorageState}
+use Rattle.imago_storage.specs.Through.{Overflows, round_up}
+use Rattle.imago_storage.specs.Disk.{Value, barred}
+use Rattle.imago_storage.specs.declared.fault.Fault.{Fault}
+use Rattle.imago_storage.specs.declared.fault.Fault.TheVariants.{Failed, MissingData, RangeOverflow, DamagedTable, Barred, Memory, Storage}
+use Rattle.imago_storage.proofs.Rounding.{round_up-le}
+use Rattle.imago_access.specs.Layer.{Layer, own, unmapped, unit_of_layer}
+use Rattle.imago_access.specs.Chain.{at}
+use Rattle.imago_access.specs.Files.{Pairs, IsLater}
+use Rattle.imago_access.specs.Mappings.{EachIs, Names, Looks, IsRun, IsInReach}
+use Rattle.imago_access.specs.declared.mapping.ShallowMapping.{ShallowMapping}
+use Rattle.imago_access.specs.declared.mapping.ShallowMapping.TheVariants.{Raw, Indirect, Special}
+use Rattle.imago_access.specs.Refusals.{barrier, SomeIs, ReadCause, LookCause, ReadMappedCause}
+use Rattle.imago_access.proofs.FilePairs.{some_rose_behind, some_rose_left, some_rose_right}
+
+-- where a layer maps nothing, the one below shows
+pub at_unmapped : (layer : Layer) (below : List Layer) (p : ℕ) → p < layer.size → layer.cell p ≡ unmapped → at (layer ∷ below) p ≡ at below p
+at_unmapped layer below p inside free = rw (lt-ltb p layer.size inside, free)
+
+-- what a layer says itself shows
+pub at_own : (layer : Layer) (below : List Layer) (p : ℕ) (v : Value) → p < layer.size → layer.cell p ≡ own v → at (layer ∷ below) p ≡ v
+at_own layer below p v inside is = rw (lt-ltb p layer.size inside, is)
+
+-- a part of a range that has a padded end in reach has one too
+pub part_overflows : (unit offset n done part : ℕ) → 0 < unit → done + part ≤ n → Overflows unit (offset + done) part → Overflows unit offset n
+part_overflows unit offset n done part positive fits h =
+    let low : round_up unit (offset + done + part) ≤ round_up unit (offset + n) = round_up-le unit (offset + done + part) (offset + n) positive (omega arith) in
+    (omega (arith, h.0), omega (arith, low, h.1))
+
+some_is_part : (value : ℕ → Value) (offset done n part : ℕ) (v : Value) → done + part ≤ n → SomeIs value (offset + done) part v → SomeIs value offset n v
+some_is_part value offset done n part v fits h = (done + h.0, omega (arith, h.1), ap value (sym (add_assoc offset done h.0)) ∙ h.2)
+
+-- a cause met in a part of the range, after calls that went well
+pub read_cause_part : (chain : List Layer) (value : ℕ → Value) (unit offset done n part : ℕ) (olds mids news : List StorageState) (e : Fault)
+    → ReadCause chain value unit (offset + done) part mids news e → 0 < unit → done + part ≤ n → Pairs IsLater olds mids → ReadCause chain value unit offset n olds news e
+read_cause_part chain value unit offset done n part olds mids news Failed h positive fits later = h
+read_cause_part chain value unit offset done n part olds mids news MissingData h positive fits later = h
+read_cause_part chain value unit offset done n part olds mids news RangeOverflow h positive fits later = part_overflows unit offset n done part positive fits h
+read_cause_part chain value unit offset done n part olds mids news DamagedTable h positive fits later = some_is_part value offset done n part _ fits h
+read_cause_part chain value unit offset done n part olds mids news Barred h positive fits later = some_is_part value offset done n part _ fits h
+read_cause_part chain value unit offset done n part olds mids news Memory h positive fits later = h
+read_cause_part chain value unit offset done n part olds mids news Storage h positive fits later = some_rose_behind olds mids news later h
+read_cause_part chain value unit offset done n part olds mids news _ h positive fits later = absurd h
+
+-- a lookup's cause
+pub look_cause : (layer : Layer) (below : List Layer) (unit offset n : ℕ) (olds news us vs : List StorageState) (e : Fault)
+    → LookCause layer offset n olds news e → ReadCause (layer ∷ below) (at (layer ∷ below)) unit offset n (olds ++ us) (news ++ vs) e
+look_cause layer below unit offset n olds news us vs Failed h = inl h
+look_cause layer below unit offset n olds news us vs MissingData h = inl h
+look_cause layer below unit offset n olds news us vs DamagedTable h = (h.0, h.1, at_own layer below (offset + h.0) _ h.2 h.3)
+look_cause layer below unit offset n olds news us vs Memory h = h
+look_cause layer below unit offset n olds news us vs Storage h = some_rose_left olds news us vs h
+look_cause layer below unit offset n olds news us vs _ h = absurd h
+
+-- a cause met below a layer that maps nothing there
+pub read_cause_below : (layer : Layer) (below : List Layer) (unit less offset part n : ℕ) (olds news us vs : List StorageState) (e : Fault)
+    → ReadCause below (at below) less offset part us vs e → (Overflows less offset part → ⊥) → EachIs layer.cell offset part (λ i. unmapped) → offset + part ≤ layer.size → part ≤ n
+    → Pairs IsLater olds news → ReadCause (layer ∷ below) (at (layer ∷ below)) unit offset n (olds ++ us) (news ++ vs) e
+read_cause_below layer below unit less offset part n olds news us vs Failed h calm free inside fits later = inr h
+read_cause_below layer below unit less offset part n olds news us vs MissingData h calm free inside fits later = inr h
+read_cause_below layer below unit less offset part n olds news us vs RangeOverflow h calm free inside fits later = absurd (calm h)
+read_cause_below layer below unit less offset part n olds news us vs DamagedTable h calm free inside fits later =
+    (h.0, omega (arith, h.1), at_unmapped layer below (offset + h.0) (omega (arith, h.1)) (free h.0 h.1) ∙ h.2)
+read_cause_below layer below unit less offset part n olds news us vs Barred h calm free inside fits later =
+    (h.0, omega (arith, h.1), at_unmapped layer below (offset + h.0) (omega (arith, h.1)) (free h.0 h.1) ∙ h.2)
+read_cause_below layer below unit less offset part n olds news us vs Memory h calm free inside fits later = h
+read_cause_below layer below unit less offset part n olds news us vs Storage h calm free inside fits later = some_rose_right olds news us vs later h
+read_cause_below layer below unit less offset part n olds news us vs _ h calm free inside fits later = absurd h
+
+-- a cause met at the bytes of a storage that a lookup has named
+pub read_mapped_cause : (layer mid : Layer) (below : List Layer) (value : ℕ → Value) (unit offset n place part : ℕ) (olds mids news us vs : List StorageState) (e : Fault)
+    → ReadMappedCause mid place part mids news e → mid ≡ layer → (Overflows (unit_of_layer mid) place part → ⊥) → Pairs IsLater olds mids → ReadCause (layer ∷ below) value unit offset n (olds ++ us) (news ++ vs) e
+read_mapped_cause layer mid below value unit offset n place part olds mids news us vs Failed h same calm later = inl (ap barrier (sym same) ∙ h)
+read_mapped_cause layer mid below value unit offset n place part olds mids news us vs MissingData h same calm later = inl (ap barrier (sym same) ∙ h)
+read_mapped_cause layer mid below value unit offset n place part olds mids news us vs RangeOverflow h same calm later = absurd (calm h)
+read_mapped_cause layer mid below value unit offset n place part olds mids news us vs Memory h same calm later = h
+read_mapped_cause layer mid below value unit offset n place part olds mids news us vs Storage h same calm later = some_rose_left olds news us vs (some_rose_behind olds mids news later h)
+read_mapped_cause layer mid below value unit offset n place part olds mids news us vs _ h same calm later = absurd h
+
+-- What a lookup says, by the kind that it answers.
+module _ (layer : Layer) (stored : ℕ → ℕ → ℕ) (offset asked : ℕ) (mapping : ShallowMapping) (n : ℕ) (looks : Looks layer stored offset asked mapping n) where
+  pub indirect_free : (place : ℕ) (writable : Bool) → mapping ≡ Indirect place writable → EachIs layer.cell offset n (λ i. unmapped)
+  indirect_free place writable is = (subst (Names layer stored offset n) is looks.names).0
+
+  pub raw_reach : (storage place : ℕ) (writable : Bool) → mapping ≡ Raw storage place writable → Overflows (unit_of_layer layer) place n → Overflows (unit_of_layer layer) offset n
+  raw_reach storage place writable is = subst (λ (m : ShallowMapping). IsInReach layer offset m n) is looks.reach
+
+  pub special_barred : (place : ℕ) → mapping ≡ Special place → EachIs layer.cell offset n (λ i. own barred)
+  special_barred place is = (subst (Names layer stored offset n) is looks.names).0
+
+  pub indirect_inside : (place : ℕ) (writable : Bool) → mapping ≡ Indirect place writable → IsRun layer offset asked mapping n → offset + n ≤ layer.size
+  indirect_inside place writable is run = (subst (λ (m : ShallowMapping). IsRun layer offset asked m n) is run).2
+
+  -- a read that meets a place that can't be read
+  pub barred_there : (below : List Layer) (place : ℕ) → 0 < asked → mapping ≡ Special place → IsRun layer offset asked mapping n → SomeIs (at (layer ∷ below)) offset asked barred
+  barred_there below place some is run =
+      let here = subst (λ (m : ShallowMapping). IsRun layer offset asked m n) is run in
+      let long = here.3 some in
+      (0, some, at_own layer below (offset + 0) barred (omega (arith, here.0)) (special_barred place is 0 long))

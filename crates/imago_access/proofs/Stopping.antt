@@ -1,0 +1,96 @@
+-- Stops of calls one behind the other.
+use Rattle.std.proofs.Common.{◌≡◌, ◌⊎◌, inl, inr, ℕ, ◌<◌, ◌≤◌, List, [], ◌∷◌, ◌++◌, arith, sym, ◌∙◌, ap, subst}
+use Rattle.std.specs.Prelude.{IsTrue, All}
+use Rattle.std.proofs.lemmas.List.Elements.{All-head}
+use Rattle.imago_storage.specs.State.{StorageState, InStep}
+use Rattle.imago_storage.specs.Through.{StopsIn}
+use Rattle.imago_storage.specs.Disk.{Value}
+use Rattle.imago_storage.proofs.Composing.{tells_on, keeps_on, no_stops, stops_both, stops_weaker, rose_before, rose_behind}
+use Rattle.imago_access.specs.Layer.{Layer, Fixed}
+use Rattle.imago_access.specs.Chain.{at}
+use Rattle.imago_access.specs.Files.{IsLater}
+use Rattle.imago_access.specs.Stops.{Passes, shown, May, Left, KeepsStopsTo, MakesNone}
+
+-- The file now is what the newest stop left, or there was none.
+newest : (P : List ℕ → Type 0) (a b : StorageState) (files : List (List ℕ)) → b.stop ∷ b.past ≡ files ++ (a.stop ∷ a.past) → All P files → (b.stop ≡ a.stop) ⊎ P b.stop
+newest P a b [] told each = inl (cc told)
+newest P a b (f ∷ fs) told each = let is : b.stop ≡ f = cc told in inr (subst P (sym is) (All-head P f fs each))
+
+here : (P : List ℕ → Type 0) (a b : StorageState) → IsLater a b → InStep a → InStep b → IsTrue a.shape.tells → IsTrue a.shape.keeps → StopsIn P a b → (b.bytes ≡ a.bytes) ⊎ P b.bytes
+here P a b later was is tells keeps stops =
+    let now : b.stop ≡ b.bytes = is (tells_on a b later.0 tells) (keeps_on a b later.0 keeps) in
+    let before : a.stop ≡ a.bytes = was tells keeps in
+    elim (newest P a b stops.files stops.told stops.each) [ inl same ↦ inl (sym now ∙ same ∙ before) | inr holds ↦ inr (subst P now holds) ]
+
+-- Two calls, one behind the other; what is said of the stops of the second may rest on the file between.
+pub passes_both : (P Q R : List ℕ → Type 0) (a b c : StorageState) → IsLater a b → IsLater b c → ((f : List ℕ) → P f → R f) → (((b.bytes ≡ a.bytes) ⊎ P b.bytes) → (f : List ℕ) → Q f → R f)
+    → Passes P a b → Passes Q b c → Passes R a c
+passes_both P Q R a b c ab bc from_first from_second first second calm =
+    let one = first (λ r. calm (rose_before a.refusals b.refusals c.refusals r bc.1.refusals)) in
+    let two = second (λ r. calm (rose_behind a.refusals b.refusals c.refusals ab.1.refusals r)) in (
+      λ same. two.0 (one.0 same),
+      λ same tells keeps. stops_both P Q R a b c ab.0 one.0 (λ k f p. from_first f p) (λ k f q. from_second (here P a b ab same (one.0 same) tells keeps (one.1 same tells keeps)) f q) one.1 two.1 same tells keeps,
+    )
+
+pub passes_weaker : (P Q : List ℕ → Type 0) (a b : StorageState) → ((f : List ℕ) → P f → Q f) → Passes P a b → Passes Q a b
+passes_weaker P Q a b more passes calm = let one = passes calm in (one.0, stops_weaker P Q a b (λ k f p. more f p) one.1)
+
+-- a call that makes no request
+pub passes_none : (P : List ℕ → Type 0) (a b : StorageState) → b.shape ≡ a.shape → MakesNone a b → Passes P a b
+passes_none P a b shape none calm = (
+  λ same tells keeps. none.0 ∙ same (subst (λ (s : _). IsTrue s.tells) shape tells) (subst (λ (s : _). IsTrue s.keeps) shape keeps) ∙ sym none.2,
+  no_stops P a b none.0 none.1,
+)
+
+-- A file left by a later call, seen from the entry of the first: the later one begins with a file that the first may show, and each
+-- value that its own entry's disk has or that it gives is one that the whole may show.
+module _ (below : List Layer) (sound : ℕ → List ℕ → Type 0) (entry mid : Layer) (file mid_file : List ℕ) (least : ℕ) (gives later_gives : ℕ → Value → Type 0)
+    (fixed : mid.fixed ≡ entry.fixed) (size : mid.size ≡ entry.size)
+    (between : (p : ℕ) → p < entry.size → May below entry file gives p (shown below entry.fixed.means mid_file p))
+    (disk : (p : ℕ) → p < entry.size → May below entry file gives p (at (mid ∷ below) p))
+    (given : (p : ℕ) (v : Value) → p < entry.size → later_gives p v → May below entry file gives p v) where
+  pub left_from : (f : List ℕ) → Left below mid mid_file sound least later_gives f → Left below entry file sound least gives f
+  left_from f later = record {
+    is_sound = subst (λ (x : Fixed). sound x.kind f) fixed later.is_sound;
+    size = subst (λ (x : Fixed). least ≤ (x.means f).size) fixed later.size;
+    shows = λ p inside in_disk.
+        let same : shown below mid.fixed.means f p ≡ shown below entry.fixed.means f p = ap (λ (x : Fixed). shown below x.means f p) fixed in
+        let was : shown below mid.fixed.means mid_file p ≡ shown below entry.fixed.means mid_file p = ap (λ (x : Fixed). shown below x.means mid_file p) fixed in
+        subst (May below entry file gives p) same
+        (elim (later.shows p (subst (λ (x : Fixed). p < (x.means f).size) (sym fixed) inside) (rw size in_disk)) [
+          | inl meant ↦ subst (May below entry file gives p) (sym (meant ∙ was)) (between p in_disk)
+          | inr rest ↦ elim rest [
+            | inl value ↦ subst (May below entry file gives p) (sym value) (disk p in_disk)
+            | inr gave ↦ given p (shown below mid.fixed.means f p) in_disk gave
+          ]
+        ]);
+  }
+
+-- A call behind another, both seen from the entry of the first; the first keeps the size of the disk.
+pub then_left : (below : List Layer) (sound : ℕ → List ℕ → Type 0) (entry mid : Layer) (least : ℕ) (gives later_gives : ℕ → Value → Type 0) (a b c : StorageState)
+    → IsLater a b → IsLater b c → mid.fixed ≡ entry.fixed → mid.size ≡ entry.size → least ≤ entry.size
+    → ((p : ℕ) → p < entry.size → May below entry a.bytes gives p (at (mid ∷ below) p))
+    → ((p : ℕ) (v : Value) → p < entry.size → later_gives p v → May below entry a.bytes gives p v)
+    → KeepsStopsTo below entry sound entry.size gives a b → KeepsStopsTo below mid sound least later_gives b c → KeepsStopsTo below entry sound least gives a c
+then_left below sound entry mid least gives later_gives a b c ab bc fixed size low disk given first second =
+    let between : ((b.bytes ≡ a.bytes) ⊎ Left below entry a.bytes sound entry.size gives b.bytes) → (p : ℕ) → p < entry.size → May below entry a.bytes gives p (shown below entry.fixed.means b.bytes p) = λ how p inside.
+    elim how [
+      | inl same ↦ inl (ap (λ (f : List ℕ). shown below entry.fixed.means f p) same)
+      | inr left ↦ left.shows p (omega (arith, left.size)) inside
+    ] in
+    passes_both (Left below entry a.bytes sound entry.size gives) (Left below mid b.bytes sound least later_gives) (Left below entry a.bytes sound least gives) a b c ab bc
+    (λ f left. record { is_sound = left.is_sound; size = omega (arith, left.size); shows = left.shows })
+    (λ how. left_from below sound entry mid a.bytes b.bytes least gives later_gives fixed size (between how) disk given)
+    first second
+
+-- what a call gives may be weakened
+pub left_weaker : (below : List Layer) (sound : ℕ → List ℕ → Type 0) (entry : Layer) (file : List ℕ) (least : ℕ) (gives more : ℕ → Value → Type 0)
+    → ((p : ℕ) (v : Value) → p < entry.size → gives p v → May below entry file more p v) → (f : List ℕ) → Left below entry file sound least gives f → Left below entry file sound least more f
+left_weaker below sound entry file least gives more weaker f left = record {
+  is_sound = left.is_sound;
+  size = left.size;
+  shows = λ p inside in_disk. elim (left.shows p inside in_disk) [
+    | inl was ↦ inl was
+    | inr rest ↦ elim rest [ inl value ↦ inr (inl value) | inr gave ↦ weaker p (shown below entry.fixed.means f p) in_disk gave ]
+  ];
+}

@@ -1,0 +1,82 @@
+-- What the calls of a driver do to its layer.
+use Rattle.std.specs.Prelude.{◌≡◌, ◌⊎◌, ⊤, ℕ, ◌+◌, ◌<◌, Bool, true, false, Option, Some, None, List, length, slice_index}
+use Rattle.imago_storage.specs.Disk.{Value, byte}
+use Rattle.imago_storage.specs.Steps.{IsIn, IsOut, IsByte}
+use Rattle.imago_access.specs.Layer.{Cell, own, through, Held, loose, beside, inside, Layer, IsFree, IsLike}
+
+-- Each place of the range becomes what Q allows, and nothing else changes. Where places can be written, and what is failed, isn't told.
+pub record Rewrites (Q : ℕ → Cell → Cell → Type 0) (old new : Layer) (offset n : ℕ) : Type 0 where
+  pub like : IsLike old new
+  pub range : (p : ℕ) → IsIn offset n p → Q p (old.cell p) (new.cell p)
+  pub others : (p : ℕ) → IsOut offset n p → new.cell p ≡ old.cell p
+
+-- A refused one: each place of the range stays or becomes what Q allows, and nothing else changes.
+pub record PartRewrites (Q : ℕ → Cell → Cell → Type 0) (old new : Layer) (offset n : ℕ) : Type 0 where
+  pub like : IsLike old new
+  pub range : (p : ℕ) → IsIn offset n p → (new.cell p ≡ old.cell p) ⊎ Q p (old.cell p) (new.cell p)
+  pub others : (p : ℕ) → IsOut offset n p → new.cell p ≡ old.cell p
+
+-- what places become: 0;
+abbrev pub ToZero : ℕ → Cell → Cell → Type 0
+ToZero p was is = is ≡ own (byte 0)
+
+-- any byte, or what they were;
+abbrev pub ToAny : ℕ → Cell → Cell → Type 0
+ToAny p was is = (is ≡ was) ⊎ ((v : Value) × IsByte v × (is ≡ own v))
+
+-- given up to the layer below, or what they were.
+abbrev pub ToBelow : Cell → ℕ → Cell → Cell → Type 0
+ToBelow blank p was is = (is ≡ was) ⊎ (is ≡ blank)
+
+-- what a prepared mapping may hold of a place; a copied byte is what the place shows through the layers below
+abbrev pub IsHolding : (ℕ → Value) → Layer → ℕ → ℕ → Bool → ℕ → Held → Type 0
+IsHolding below layer offset n overwrite p loose = ⊤
+IsHolding below layer offset n overwrite p (beside b) = (IsIn offset n p → ⊥) × (through (layer.cell p) (below p) ≡ byte b)
+IsHolding below layer offset n overwrite p (inside (Some b) written announced) =
+    IsIn offset n p × (written ≡ None) × (announced ≡ overwrite) × (through (layer.cell p) (below p) ≡ byte b)
+IsHolding below layer offset n overwrite p (inside None written announced) = IsIn offset n p × (written ≡ None) × (announced ≡ overwrite)
+
+-- A run from the offset on, of one byte to the length asked, can be written in a storage from a place on. Values stay, and some places
+-- of the run become held, none exactly where there is no state.
+pub record Prepared (below : ℕ → Value) (old new : Layer) (offset asked : ℕ) (overwrite : Bool) (storage place n : ℕ) (claim : Option ℕ) : Type 0 where
+  pub fixed : new.fixed ≡ old.fixed
+  pub size : new.size ≡ old.size
+  pub cell : new.cell ≡ old.cell
+  pub home : (i : ℕ) → i < n → new.home (offset + i) ≡ Some (storage, place + i)
+  pub unspent : new.unspent ≡ claim
+  pub holds : (p : ℕ) → IsHolding below new offset n overwrite p (new.held p)
+  pub some_held : (c : ℕ) → claim ≡ Some c → (p : ℕ) × (copied : Option ℕ) × IsIn offset n p × (new.held p ≡ inside copied None overwrite)
+
+-- what a write through a mapping does to a place: one of its run notes the byte, and another takes it
+abbrev pub TakesByte : ℕ → Held → Cell → Held → Cell → Type 0
+TakesByte b (inside copied written announced) was held is = (is ≡ was) × (held ≡ inside copied (Some b) announced)
+TakesByte b was_held was held is = (is ≡ own (byte b)) × (held ≡ was_held)
+
+pub record Wrote (old new : Layer) (guest : ℕ) (bytes : List ℕ) : Type 0 where
+  pub like : IsLike old new
+  pub home : new.home ≡ old.home
+  pub range : (i : ℕ) → i < length bytes → TakesByte (slice_index bytes i) (old.held (guest + i)) (old.cell (guest + i)) (new.held (guest + i)) (new.cell (guest + i))
+  pub others : (p : ℕ) → IsOut guest (length bytes) p → (new.cell p ≡ old.cell p) × (new.held p ≡ old.held p)
+
+-- what becomes of a place when the mapping that holds it is committed
+abbrev pub Settles : Held → Cell → Cell → Type 0
+Settles loose was is = is ≡ was
+Settles (beside b) was is = is ≡ own (byte b)
+Settles (inside copied (Some b) announced) was is = is ≡ own (byte b)
+Settles (inside (Some b) None announced) was is = is ≡ own (byte b)
+Settles (inside None None true) was is = (is ≡ was) ⊎ ((v : Value) × IsByte v × (is ≡ own v))
+Settles (inside None None false) was is = is ≡ was
+
+pub record Committed (old new : Layer) : Type 0 where
+  pub fixed : new.fixed ≡ old.fixed
+  pub size : new.size ≡ old.size
+  pub is_free : IsFree new
+  pub cell : (p : ℕ) → Settles (old.held p) (old.cell p) (new.cell p)
+  -- a place that could be written can be, in the same place
+  pub home : (p : ℕ) (at : ℕ × ℕ) → old.home p ≡ Some at → new.home p ≡ Some at
+
+pub record Cancelled (old new : Layer) : Type 0 where
+  pub fixed : new.fixed ≡ old.fixed
+  pub size : new.size ≡ old.size
+  pub is_free : IsFree new
+  pub cell : new.cell ≡ old.cell

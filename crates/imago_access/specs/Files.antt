@@ -1,0 +1,44 @@
+-- What calls do to the storages of an image or of a chain.
+use Rattle.std.specs.Prelude.{◌≡◌, ◌⊎◌, ⊤, ◌≤◌, ◌∷◌, [], ◌++◌, List, Result, MatchResult}
+use Rattle.imago_storage.specs.State.{StorageState, Rose}
+use Rattle.imago_storage.specs.Calls.{Kept, Later}
+use Rattle.imago_storage.specs.declared.fault.Fault.{Fault}
+use Rattle.imago_storage.specs.declared.fault.Fault.TheVariants.{Memory, Storage}
+
+-- the same things before and after, pair by pair
+abbrev pub Pairs : {A : Type 0} → (A → A → Type 0) → List A → List A → Type 0
+Pairs R [] [] = ⊤
+Pairs R (old ∷ olds) (new ∷ news) = R old new × Pairs R olds news
+Pairs R _ _ = ⊥
+
+-- nothing has changed but counts of faults, and these have not fallen
+abbrev pub IsKept : StorageState → StorageState → Type 0
+IsKept old new = Kept old new × (old.faults ≤ new.faults)
+
+-- what never changes of a storage is the same, and no count has fallen
+abbrev pub IsLater : StorageState → StorageState → Type 0
+IsLater old new = (new.shape ≡ old.shape) × Later old new
+
+-- the count of faults is the same
+abbrev pub IsSound : StorageState → StorageState → Type 0
+IsSound old new = new.faults ≡ old.faults
+
+-- a storage has failed
+abbrev pub SomeRose : List StorageState → List StorageState → Type 0
+SomeRose (old ∷ olds) (new ∷ news) = Rose old.faults new.faults ⊎ SomeRose olds news
+SomeRose _ _ = ⊥
+
+-- neither want of memory nor a storage that failed
+abbrev pub IsMild : Fault → Type 0
+IsMild Memory = ⊥
+IsMild Storage = ⊥
+IsMild fault = ⊤
+
+-- the call succeeded, or was refused for another cause than these two
+abbrev pub IsWhole : {T : Type 0} → Result T Fault → Type 0
+IsWhole result = MatchResult result (λ _. ⊤) IsMild
+
+-- the storages of drivers, those of the highest first: of each its image file and then the others
+abbrev pub files_of : {D : Type 0} → (D → StorageState) → (D → List StorageState) → List D → List StorageState
+files_of image extras [] = []
+files_of image extras (d ∷ ds) = (image d ∷ extras d) ++ files_of image extras ds

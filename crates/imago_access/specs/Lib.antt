@@ -1,0 +1,12 @@
+pub mod Layer
+pub mod Chain
+pub mod Layers
+pub mod Files
+pub mod Mappings
+pub mod Refusals
+pub mod Changes
+pub mod Spending
+pub mod Parts
+pub mod Resizes
+pub mod Stops
+pub mod Going

@@ -1,0 +1,101 @@
+-- What lookups answer.
+use Rattle.std.specs.Prelude.{◌≡◌, ⊤, ℕ, ◌+◌, ◌<◌, ◌≤◌, List, [], ◌∷◌, Bool, true, false, suc, zero, ◌&&◌, Some, IsTrue}
+use Rattle.imago_storage.specs.Through.{Overflows}
+use Rattle.imago_storage.specs.Disk.{Value, byte, barred}
+use Rattle.imago_access.specs.Layer.{Layer, Cell, own, unmapped, unit_of_layer, IsFree}
+use Rattle.imago_access.specs.declared.mapping.ShallowMapping.{ShallowMapping}
+use Rattle.imago_access.specs.declared.mapping.ShallowMapping.TheVariants as shallow
+use Rattle.imago_access.specs.declared.mapping.Mapping.{Mapping}
+use Rattle.imago_access.specs.declared.mapping.Mapping.TheVariants as deep
+
+-- each place of the range is this
+abbrev pub EachIs : (ℕ → Cell) → ℕ → ℕ → (ℕ → Cell) → Type 0
+EachIs cell offset n value = (i : ℕ) → i < n → cell (offset + i) ≡ value i
+
+-- What a layer's answer says of each place of its run, by the bytes at the places of its storages. A writable place can be written
+-- where it is.
+abbrev pub Names : Layer → (ℕ → ℕ → ℕ) → ℕ → ℕ → ShallowMapping → Type 0
+Names layer stored offset n (shallow.Raw storage place writable) =
+    EachIs layer.cell offset n (λ i. own (byte (stored storage (place + i))))
+    × (IsTrue writable → IsTrue layer.fixed.writable)
+    × (IsTrue writable → (i : ℕ) → i < n → layer.home (offset + i) ≡ Some (storage, place + i))
+Names layer stored offset n (shallow.Indirect place writable) = EachIs layer.cell offset n (λ i. unmapped) × (place ≡ offset) × (IsTrue writable → IsTrue layer.fixed.writable)
+Names layer stored offset n (shallow.Zero explicit) = EachIs layer.cell offset n (λ i. own (byte 0))
+Names layer stored offset n (shallow.Special place) = EachIs layer.cell offset n (λ i. own barred) × (place ≡ offset)
+Names layer stored offset n shallow.Eof = ⊤
+
+-- the run: of no length exactly at or past the size, and else at least 1 byte where one is asked for
+abbrev pub IsRun : Layer → ℕ → ℕ → ShallowMapping → ℕ → Type 0
+IsRun layer offset asked shallow.Eof n = (n ≡ 0) × (layer.size ≤ offset)
+IsRun layer offset asked mapping n = (offset < layer.size) × (n ≤ asked) × (offset + n ≤ layer.size) × (0 < asked → 0 < n)
+
+-- the places of a storage have a padded end that fits 64 bits, where those of the disk have
+abbrev pub IsInReach : Layer → ℕ → ShallowMapping → ℕ → Type 0
+IsInReach layer offset (shallow.Raw storage place writable) n = Overflows (unit_of_layer layer) place n → Overflows (unit_of_layer layer) offset n
+IsInReach layer offset mapping n = ⊤
+
+-- while nothing is prepared, a place that can be written is answered as such
+abbrev pub NamesHome : Layer → ℕ → ℕ → ShallowMapping → Type 0
+NamesHome layer offset asked mapping = IsFree layer → 0 < asked → (storage place : ℕ) → layer.home offset ≡ Some (storage, place) → mapping ≡ shallow.Raw storage place true
+
+-- what a lookup of one layer answers
+pub record Looks (layer : Layer) (stored : ℕ → ℕ → ℕ) (offset asked : ℕ) (mapping : ShallowMapping) (n : ℕ) : Type 0 where
+  pub names : Names layer stored offset n mapping
+  pub reach : IsInReach layer offset mapping n
+  pub home : NamesHome layer offset asked mapping
+
+-- the byte at a place of a storage of the driver at a depth
+abbrev pub stored_at : {D : Type 0} → (D → ℕ → ℕ → ℕ) → List D → ℕ → ℕ → ℕ → ℕ
+stored_at stored [] depth storage place = 0
+stored_at stored (d ∷ ds) zero storage place = stored d storage place
+stored_at stored (d ∷ ds) (suc depth) storage place = stored_at stored ds depth storage place
+
+-- the layers down to this depth were opened for writing
+abbrev pub AreWritable : ℕ → List Layer → Type 0
+AreWritable depth [] = ⊥
+AreWritable zero (layer ∷ below) = IsTrue layer.fixed.writable
+AreWritable (suc depth) (layer ∷ below) = IsTrue layer.fixed.writable × AreWritable depth below
+
+-- the top layer itself says that the places are 0
+abbrev pub SaysZero : List Layer → ℕ → ℕ → Type 0
+SaysZero [] offset n = ⊥
+SaysZero (layer ∷ below) offset n = EachIs layer.cell offset n (λ i. own (byte 0))
+
+-- What a chain's answer says of each place of its run, by the bytes at the places of its storages. A place can be written where each
+-- layer on the way says so, and a zero is explicit where the top layer says so.
+abbrev pub DeepNames : List Layer → (ℕ → Value) → (ℕ → ℕ → ℕ → ℕ) → ℕ → ℕ → Mapping → Type 0
+DeepNames chain value stored offset n (deep.Raw depth storage place writable) =
+    ((i : ℕ) → i < n → value (offset + i) ≡ byte (stored depth storage (place + i))) × (IsTrue writable → AreWritable depth chain)
+DeepNames chain value stored offset n (deep.Zero explicit) = ((i : ℕ) → i < n → value (offset + i) ≡ byte 0) × (IsTrue explicit → SaysZero chain offset n)
+DeepNames chain value stored offset n (deep.Special depth place) = ((i : ℕ) → i < n → value (offset + i) ≡ barred) × (place ≡ offset)
+DeepNames chain value stored offset n deep.Eof = ⊤
+
+-- while nothing is prepared, a place of the top layer that can be written is answered as such
+abbrev pub DeepNamesHome : Layer → ℕ → ℕ → Mapping → Type 0
+DeepNamesHome layer offset asked mapping = IsFree layer → 0 < asked → (storage place : ℕ) → layer.home offset ≡ Some (storage, place) → mapping ≡ deep.Raw 0 storage place true
+
+-- the run of an answer of the layers below, which have no end
+abbrev pub IsRunBelow : ℕ → Mapping → ℕ → Type 0
+IsRunBelow asked deep.Eof n = ⊥
+IsRunBelow asked mapping n = (n ≤ asked) × (0 < asked → 0 < n)
+
+abbrev pub IsDeepRun : ℕ → ℕ → ℕ → Mapping → ℕ → Type 0
+IsDeepRun size offset asked deep.Eof n = (n ≡ 0) × (size ≤ offset)
+IsDeepRun size offset asked mapping n = (offset < size) × (n ≤ asked) × (offset + n ≤ size) × (0 < asked → 0 < n)
+
+-- the depth names one of so many layers
+abbrev pub IsDeepBelow : ℕ → Mapping → Type 0
+IsDeepBelow n (deep.Raw depth storage place writable) = depth < n
+IsDeepBelow n (deep.Special depth place) = depth < n
+IsDeepBelow n mapping = ⊤
+
+abbrev pub is_deep_end : Mapping → Bool
+is_deep_end deep.Eof = true
+is_deep_end mapping = false
+
+-- an answer of the layer below, as the one above gives it
+abbrev pub lower : Bool → Mapping → Mapping
+lower above (deep.Raw depth storage place writable) = deep.Raw (depth + 1) storage place (writable && above)
+lower above (deep.Special depth place) = deep.Special (depth + 1) place
+lower above (deep.Zero explicit) = deep.Zero false
+lower above deep.Eof = deep.Eof

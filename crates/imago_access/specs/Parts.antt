@@ -1,0 +1,69 @@
+-- Calls of a driver as parts of a call of a chain.
+use Rattle.std.specs.Prelude.{◌≡◌, ⊤, ℕ, ◌+◌, ◌<◌, ◌≤◌, Bool, true, false, Some, List, [], ◌∷◌, IsFalse}
+use Rattle.imago_storage.specs.State.{StorageState}
+use Rattle.imago_storage.specs.Through.{Overflows}
+use Rattle.imago_storage.specs.Steps.{Call, write, write_zeroes, discard_to_zero, prepare, ensure}
+use Rattle.imago_storage.specs.Causes.{offset_of, length_of}
+use Rattle.imago_storage.specs.declared.fault.Fault.{Fault}
+use Rattle.imago_storage.specs.declared.fault.Fault.TheVariants.{ReadOnly, PastEnd, RangeOverflow, MissingData, Failed, Outdated, Memory, Storage}
+use Rattle.imago_access.specs.Layer.{Layer, unit_of_layer}
+use Rattle.imago_access.specs.Files.{SomeRose}
+use Rattle.imago_access.specs.Refusals.{barrier, SomeBarred}
+
+-- the range lies in that of the call
+pub record IsPartOf (call : Call) (offset n : ℕ) : Type 0 where
+  pub start : offset_of call ≤ offset
+  pub end : offset + n ≤ offset_of call + length_of call
+
+-- the call announces that the whole of its range will be written
+abbrev pub announces : Call → Bool
+announces (write offset bytes) = true
+announces (write_zeroes offset n) = true
+announces (discard_to_zero offset n) = true
+announces (prepare offset n overwrite) = overwrite
+announces (ensure offset n overwrite) = overwrite
+announces call = false
+
+-- Why a call of a driver over a range is refused, with the layers below that it reads: by what the image is and the range, or by a cause
+-- of the driver's own.
+abbrev pub PartCause : List Layer → Layer → ℕ → ℕ → (Fault → Type 0) → List StorageState → List StorageState → Fault → Type 0
+PartCause below layer offset n causes olds news ReadOnly = (0 < n) × IsFalse layer.fixed.writable
+PartCause below layer offset n causes olds news PastEnd = (0 < n) × (layer.size < offset + n)
+PartCause below layer offset n causes olds news RangeOverflow = Overflows (unit_of_layer layer) offset n
+PartCause below layer offset n causes olds news Failed = SomeBarred (layer ∷ below) Failed
+PartCause below layer offset n causes olds news MissingData = SomeBarred (layer ∷ below) MissingData
+PartCause below layer offset n causes olds news Memory = ⊤
+PartCause below layer offset n causes olds news Storage = SomeRose olds news
+PartCause below layer offset n causes olds news fault = causes fault
+
+-- why a call without a range is refused: by what the image is, for want of memory or by a storage that failed
+abbrev pub PlainCause : Layer → List StorageState → List StorageState → Fault → Type 0
+PlainCause layer olds news Failed = barrier layer ≡ Some Failed
+PlainCause layer olds news MissingData = barrier layer ≡ Some MissingData
+PlainCause layer olds news Memory = ⊤
+PlainCause layer olds news Storage = SomeRose olds news
+PlainCause layer olds news fault = ⊥
+
+-- the range is mapped from a place of one of its storages on, and can be written there
+abbrev pub IsMappedAt : Layer → ℕ → ℕ → ℕ → Type 0
+IsMappedAt layer guest place n = (storage : ℕ) × ((i : ℕ) → i < n → layer.home (guest + i) ≡ Some (storage, place + i))
+
+-- why a write to a mapping is refused: also where the range isn't mapped there
+abbrev pub MappedCause : Layer → ℕ → ℕ → ℕ → List StorageState → List StorageState → Fault → Type 0
+MappedCause layer guest place n olds news Outdated = (0 < n) × (IsMappedAt layer guest place n → ⊥)
+MappedCause layer guest place n olds news fault = PartCause [] layer guest n (λ _. ⊥) olds news fault
+
+-- why a growth or a shrink is refused
+abbrev pub ResizeCause : Type 0 → List Layer → Layer → (Fault → Type 0) → List StorageState → List StorageState → Fault → Type 0
+ResizeCause Alters below layer causes olds news ReadOnly = Alters × IsFalse layer.fixed.writable
+ResizeCause Alters below layer causes olds news Failed = SomeBarred (layer ∷ below) Failed
+ResizeCause Alters below layer causes olds news MissingData = SomeBarred (layer ∷ below) MissingData
+ResizeCause Alters below layer causes olds news Memory = ⊤
+ResizeCause Alters below layer causes olds news Storage = SomeRose olds news
+ResizeCause Alters below layer causes olds news fault = causes fault
+
+abbrev pub GrowthCause : List Layer → Layer → ℕ → (Fault → Type 0) → List StorageState → List StorageState → Fault → Type 0
+GrowthCause below layer size = ResizeCause (layer.size < size) below layer
+
+abbrev pub ShrinkCause : List Layer → Layer → ℕ → (Fault → Type 0) → List StorageState → List StorageState → Fault → Type 0
+ShrinkCause below layer size = ResizeCause (size < layer.size) below layer

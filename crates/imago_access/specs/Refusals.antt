@@ -1,0 +1,96 @@
+-- Why calls of a driver or of a chain are refused.
+use Rattle.std.specs.Prelude.{◌≡◌, ◌⊎◌, ⊤, ℕ, ◌+◌, ◌<◌, ◌^◌, Bool, Option, Some, None, List, [], ◌∷◌, if◌then◌else◌, ltb, leb, eqb, not, IsFalse}
+use Rattle.imago_storage.specs.State.{StorageState}
+use Rattle.imago_storage.specs.Through.{round_up, Overflows}
+use Rattle.imago_storage.specs.Disk.{Value, barred, damaged_place, Disk}
+use Rattle.imago_storage.specs.Steps.{Call}
+use Rattle.imago_storage.specs.Causes.{offset_of, length_of, Alters, IsForeign}
+use Rattle.imago_storage.specs.declared.fault.Fault.{Fault}
+use Rattle.imago_storage.specs.declared.fault.Fault.TheVariants.{ReadOnly, PastEnd, RangeOverflow, DamagedTable, Barred, Foreign, MissingData, Failed, Memory, Storage}
+use Rattle.imago_access.specs.Layer.{Layer, own, unit_of_layer}
+use Rattle.imago_access.specs.Files.{SomeRose}
+
+-- why no call of an image but getters and a cancel succeeds
+abbrev pub barrier : Layer → Option Fault
+barrier layer = if layer.failed then Some Failed else if layer.fixed.missing then Some MissingData else None
+
+-- The first cause why a call over a range, in bytes, is refused before anything is done, by the unit of requests: for one that only
+-- looks, and for one that changes.
+abbrev pub look_refusal : ℕ → Layer → ℕ → ℕ → Option Fault
+look_refusal unit layer offset n =
+    if layer.failed then Some Failed
+    else if layer.fixed.missing then Some MissingData
+    else if eqb n 0 then None
+    else if leb (2 ^ 64) (round_up unit (offset + n)) then Some RangeOverflow
+    else None
+
+abbrev pub change_refusal : ℕ → Layer → ℕ → ℕ → Option Fault
+change_refusal unit layer offset n =
+    if layer.failed then Some Failed
+    else if layer.fixed.missing then Some MissingData
+    else if eqb n 0 then None
+    else if not layer.fixed.writable then Some ReadOnly
+    else if leb (2 ^ 64) (round_up unit (offset + n)) then Some RangeOverflow
+    else if ltb layer.size (offset + n) then Some PastEnd
+    else None
+
+-- a layer of the chain is barred by this
+abbrev pub SomeBarred : List Layer → Fault → Type 0
+SomeBarred [] fault = ⊥
+SomeBarred (layer ∷ below) fault = (barrier layer ≡ Some fault) ⊎ SomeBarred below fault
+
+-- a place of the range has this value
+abbrev pub SomeIs : (ℕ → Value) → ℕ → ℕ → Value → Type 0
+SomeIs value offset n v = (i : ℕ) × (i < n) × (value (offset + i) ≡ v)
+
+-- Why a lookup in one layer is refused: by what the image is, by a table that is damaged at a place of the range, for want of memory, or
+-- by a storage that failed.
+abbrev pub LookCause : Layer → ℕ → ℕ → List StorageState → List StorageState → Fault → Type 0
+LookCause layer offset n olds news Failed = barrier layer ≡ Some Failed
+LookCause layer offset n olds news MissingData = barrier layer ≡ Some MissingData
+LookCause layer offset n olds news DamagedTable = (i : ℕ) × (i < n) × (offset + i < layer.size) × (layer.cell (offset + i) ≡ own damaged_place)
+LookCause layer offset n olds news Memory = ⊤
+LookCause layer offset n olds news Storage = SomeRose olds news
+LookCause layer offset n olds news fault = ⊥
+
+-- Why a read of a chain or a lookup through it is refused: also for a range whose padded end passes 64 bits, and for a place that can't
+-- be read.
+abbrev pub ReadCause : List Layer → (ℕ → Value) → ℕ → ℕ → ℕ → List StorageState → List StorageState → Fault → Type 0
+ReadCause layers value unit offset n olds news Failed = SomeBarred layers Failed
+ReadCause layers value unit offset n olds news MissingData = SomeBarred layers MissingData
+ReadCause layers value unit offset n olds news RangeOverflow = Overflows unit offset n
+ReadCause layers value unit offset n olds news DamagedTable = SomeIs value offset n damaged_place
+ReadCause layers value unit offset n olds news Barred = SomeIs value offset n barred
+ReadCause layers value unit offset n olds news Memory = ⊤
+ReadCause layers value unit offset n olds news Storage = SomeRose olds news
+ReadCause layers value unit offset n olds news fault = ⊥
+
+-- Why a call that changes is refused, by the unit of its requests, from its own entry: also by a cause that the driver has of its own.
+abbrev pub ChangeCause : ℕ → List Layer → Disk → Bool → Call → (Fault → Type 0) → List StorageState → List StorageState → Fault → Type 0
+ChangeCause unit layers disk writable call causes olds news ReadOnly = Alters disk call × IsFalse writable
+ChangeCause unit layers disk writable call causes olds news PastEnd = Alters disk call × (disk.size < offset_of call + length_of call)
+ChangeCause unit layers disk writable call causes olds news RangeOverflow = Overflows unit (offset_of call) (length_of call)
+ChangeCause unit layers disk writable call causes olds news Foreign = IsForeign call
+ChangeCause unit layers disk writable call causes olds news Failed = SomeBarred layers Failed
+ChangeCause unit layers disk writable call causes olds news MissingData = SomeBarred layers MissingData
+ChangeCause unit layers disk writable call causes olds news Memory = ⊤
+ChangeCause unit layers disk writable call causes olds news Storage = SomeRose olds news
+ChangeCause unit layers disk writable call causes olds news fault = causes fault
+
+-- Why a read of the bytes of a storage is refused.
+abbrev pub ReadMappedCause : Layer → ℕ → ℕ → List StorageState → List StorageState → Fault → Type 0
+ReadMappedCause layer place n olds news Failed = barrier layer ≡ Some Failed
+ReadMappedCause layer place n olds news MissingData = barrier layer ≡ Some MissingData
+ReadMappedCause layer place n olds news RangeOverflow = Overflows (unit_of_layer layer) place n
+ReadMappedCause layer place n olds news Memory = ⊤
+ReadMappedCause layer place n olds news Storage = SomeRose olds news
+ReadMappedCause layer place n olds news fault = ⊥
+
+-- Why a lookup through a chain is refused.
+abbrev pub DeepLookCause : List Layer → (ℕ → Value) → ℕ → ℕ → List StorageState → List StorageState → Fault → Type 0
+DeepLookCause layers value offset n olds news Failed = SomeBarred layers Failed
+DeepLookCause layers value offset n olds news MissingData = SomeBarred layers MissingData
+DeepLookCause layers value offset n olds news DamagedTable = SomeIs value offset n damaged_place
+DeepLookCause layers value offset n olds news Memory = ⊤
+DeepLookCause layers value offset n olds news Storage = SomeRose olds news
+DeepLookCause layers value offset n olds news fault = ⊥

@@ -1,0 +1,35 @@
+-- How a prepared mapping is spent.
+use Rattle.std.specs.Prelude.{◌≡◌, ◌≢◌, ⊤, ℕ, Option, Some, None, IsFalse}
+use Rattle.imago_storage.specs.declared.fault.Fault.{Fault}
+use Rattle.imago_storage.specs.declared.fault.Fault.TheVariants.{ReadOnly, Foreign, MissingData, Failed}
+use Rattle.imago_access.specs.Layer.{Layer}
+use Rattle.imago_access.specs.Refusals.{barrier}
+
+abbrev pub claim_of : {S : Type 0} → (S → ℕ) → Option S → Option ℕ
+claim_of claim None = None
+claim_of claim (Some s) = Some (claim s)
+
+-- the mapping is the one that the layer has prepared; one without state is no layer's
+abbrev pub IsMine : {S : Type 0} → (S → ℕ) → (S → ℕ) → Option S → Layer → Type 0
+IsMine claim tag None layer = ⊤
+IsMine claim tag (Some s) layer = (tag s ≡ layer.fixed.number) × (layer.unspent ≡ Some (claim s))
+
+-- it was prepared under another number
+abbrev pub IsForeignTo : {S : Type 0} → (S → ℕ) → Option S → Layer → Type 0
+IsForeignTo tag None layer = ⊥
+IsForeignTo tag (Some s) layer = tag s ≢ layer.fixed.number
+
+-- A mapping without state is spent with nothing changed. One with state was prepared under this number and, if it is the one that is
+-- prepared, does P.
+abbrev pub Spends : {S : Type 0} → (S → ℕ) → (S → ℕ) → Option S → Layer → Layer → Type 0 → Type 0
+Spends claim tag None old new P = new ≡ old
+Spends claim tag (Some s) old new P = (tag s ≡ old.fixed.number) × (old.unspent ≡ Some (claim s) → P)
+
+-- why a mapping that is to be committed is given back
+abbrev pub GivenBack : {S : Type 0} → (S → ℕ) → Option S → Layer → Fault → Type 0
+GivenBack tag state layer Failed = barrier layer ≡ Some Failed
+GivenBack tag state layer MissingData = barrier layer ≡ Some MissingData
+GivenBack tag None layer fault = ⊥
+GivenBack tag (Some s) layer ReadOnly = IsFalse layer.fixed.writable
+GivenBack tag (Some s) layer Foreign = tag s ≢ layer.fixed.number
+GivenBack tag (Some s) layer fault = ⊥

@@ -1,0 +1,92 @@
+-- What a stop of the machine leaves in the image file of the top layer.
+use Rattle.std.specs.Prelude.{◌≡◌, ◌⊎◌, ℕ, ◌+◌, ◌<◌, ◌≤◌, List, ◌∷◌, length, slice_index, if◌then◌else◌, ltb, true, Some, None}
+use Rattle.imago_storage.specs.State.{StorageState, Rose, InStep}
+use Rattle.imago_storage.specs.Through.{Stops}
+use Rattle.imago_storage.specs.Disk.{Value, byte}
+use Rattle.imago_storage.specs.Steps.{IsIn, IsByte}
+use Rattle.imago_access.specs.Layer.{Layer, Meaning, Cell, Held, inside, through}
+use Rattle.imago_access.specs.Chain.{at}
+use Rattle.imago_access.specs.Changes.{Settles}
+
+-- Where no change was refused: the file is still what a stop leaves, and each file that a stop may have left since has P, in a storage
+-- that tells its stops and keeps what is written.
+abbrev pub Passes : (List ℕ → Type 0) → StorageState → StorageState → Type 0
+Passes P old new = (Rose old.refusals new.refusals → ⊥) → (InStep old → InStep new) × Stops P old new
+
+-- what a file shows through the layers below
+abbrev pub shown : List Layer → (List ℕ → Meaning) → List ℕ → ℕ → Value
+shown below means f p = if ltb p (means f).size then through ((means f).cell p) (at below p) else byte 0
+
+-- What a begun call may show at a place: what the file meant at entry, what the disk showed at entry, or a value that the call gives.
+abbrev pub May : List Layer → Layer → List ℕ → (ℕ → Value → Type 0) → ℕ → Value → Type 0
+May below entry entry_file gives p v = (v ≡ shown below entry.fixed.means entry_file p) ⊎ ((v ≡ at (entry ∷ below) p) ⊎ gives p v)
+
+-- A file left during a call: it is sound, of at least this size, and shows what the call may show, at the places below its size and below
+-- the disk's at entry.
+pub record Left (below : List Layer) (entry : Layer) (entry_file : List ℕ) (sound : ℕ → List ℕ → Type 0) (least : ℕ) (gives : ℕ → Value → Type 0) (f : List ℕ) : Type 0 where
+  pub is_sound : sound entry.fixed.kind f
+  pub size : least ≤ (entry.fixed.means f).size
+  pub shows : (p : ℕ) → p < (entry.fixed.means f).size → p < entry.size → May below entry entry_file gives p (shown below entry.fixed.means f p)
+
+-- what a call that isn't a resize keeps at each stop, seen from its own entry: no file is shorter than the disk
+abbrev pub KeepsStops : List Layer → Layer → (ℕ → List ℕ → Type 0) → (ℕ → Value → Type 0) → StorageState → StorageState → Type 0
+KeepsStops below entry sound gives old new = Passes (Left below entry old.bytes sound entry.size gives) old new
+
+-- the same of a resize, with the least size that it passes through
+abbrev pub KeepsStopsTo : List Layer → Layer → (ℕ → List ℕ → Type 0) → ℕ → (ℕ → Value → Type 0) → StorageState → StorageState → Type 0
+KeepsStopsTo below entry sound least gives old new = Passes (Left below entry old.bytes sound least gives) old new
+
+-- no request, and nothing else has changed in the file
+abbrev pub MakesNone : StorageState → StorageState → Type 0
+MakesNone old new = (new.stop ≡ old.stop) × (new.past ≡ old.past) × (new.bytes ≡ old.bytes) × (new.refusals ≡ old.refusals)
+
+-- Values that calls give at a place: none;
+abbrev pub GivesNone : ℕ → Value → Type 0
+GivesNone p v = ⊥
+
+-- bytes that are written, from an offset on;
+abbrev pub GivesBytes : ℕ → List ℕ → ℕ → Value → Type 0
+GivesBytes offset bytes p v = (i : ℕ) × (i < length bytes) × (p ≡ offset + i) × (v ≡ byte (slice_index bytes i))
+
+-- zeroes over a range;
+abbrev pub GivesZero : ℕ → ℕ → ℕ → Value → Type 0
+GivesZero offset n p v = IsIn offset n p × (v ≡ byte 0)
+
+-- any byte over a range;
+abbrev pub GivesAny : ℕ → ℕ → ℕ → Value → Type 0
+GivesAny offset n p v = IsIn offset n p × IsByte v
+
+-- what the layers below show over a range;
+abbrev pub GivesBelow : List Layer → ℕ → ℕ → ℕ → Value → Type 0
+GivesBelow below offset n p v = IsIn offset n p × (v ≡ at below p)
+
+-- any value from a place on;
+abbrev pub GivesPast : ℕ → ℕ → Value → Type 0
+GivesPast size p v = size ≤ p
+
+-- what the layers below show from a place on;
+abbrev pub GivesBelowPast : List Layer → ℕ → ℕ → Value → Type 0
+GivesBelowPast below size p v = (size ≤ p) × (v ≡ at below p)
+
+-- what a place may become when the mapping that holds it is committed;
+abbrev pub GivesSettled : List Layer → Layer → ℕ → Value → Type 0
+GivesSettled below layer p v = (c : Cell) × Settles (layer.held p) (layer.cell p) c × (v ≡ through c (at below p))
+
+-- what was written to a held place, and any byte where it was announced and is not yet written.
+abbrev pub MayTake : Held → Value → Type 0
+MayTake (inside copied (Some b) announced) v = v ≡ byte b
+MayTake (inside copied None true) v = IsByte v
+MayTake held v = ⊥
+
+abbrev pub GivesHeld : Layer → ℕ → Value → Type 0
+GivesHeld layer p v = MayTake (layer.held p) v
+
+-- the file by itself means what the layer says
+pub record IsMeant (layer : Layer) (f : List ℕ) : Type 0 where
+  pub size : (layer.fixed.means f).size ≡ layer.size
+  pub cell : (p : ℕ) → p < layer.size → (layer.fixed.means f).cell p ≡ layer.cell p
+
+-- the file is sound, and not shorter than the disk
+pub record IsCovered (layer : Layer) (sound : ℕ → List ℕ → Type 0) (f : List ℕ) : Type 0 where
+  pub is_sound : sound layer.fixed.kind f
+  pub size : layer.size ≤ (layer.fixed.means f).size

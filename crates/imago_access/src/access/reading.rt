@@ -1,0 +1,170 @@
+// Reads and lookups, from the top layer downward.
+ghost use Rattle.std.specs.Prelude.{◌≡◌, ◌∷◌, ◌<◌, ◌≤◌, ◌+◌, ◌^◌, ℕ, List, length, slice_index, map, IsTrue, IsOk, IfOk, IfErr, OnOk, IsErrOf, Some, None};
+ghost use Rattle.imago_storage.specs.Disk.{Shows, byte};
+ghost use Rattle.imago_storage.specs.Through.{Overflows};
+ghost use Rattle.imago_storage.specs.Steps.{Step, read, bytes_read};
+ghost use Rattle.imago_storage.specs.declared.fault.Fault.{Fault};
+ghost use Rattle.imago_access.specs.Layer.{Layer};
+ghost use Rattle.imago_access.specs.Chain.{at, disk_of, Each, unit_of_chain};
+ghost use Rattle.imago_access.specs.Layers.{chain, layers};
+ghost use Rattle.imago_access.specs.Files.{Pairs, IsWhole, files_of};
+ghost use Rattle.imago_access.specs.Going.{Looked};
+ghost use Rattle.imago_access.specs.Mappings.{IsRun, Looks};
+ghost use Rattle.imago_access.specs.Refusals.{barrier, look_refusal, ReadCause, LookCause, DeepLookCause};
+
+use crate::access::FormatAccess;
+use crate::below::ReadBelow;
+use crate::drivers::FormatDriverInstance;
+use crate::mapping::{Mapping, ShallowMapping};
+use imago_storage::{Fault, padded_end};
+
+impl<D: FormatDriverInstance> FormatAccess<D> {
+    /// Fills the buffer with the disk's bytes from the offset on, and with zeroes past its end.
+    ///
+    /// It refuses with `Fault::RangeOverflow` where the end of the range, rounded up to the chain's alignment, passes `u64`, with
+    /// `Fault::Barred` and `Fault::DamagedTable` where a place of the range has no byte, with `Fault::Memory` and `Fault::Storage`, and
+    /// where a layer can't be used. A refusal leaves the buffer open, and for another cause than the last ones the disk as it was.
+    pub fn read(&mut self, buf: &mut [u8], offset: u64) -> Result<(), Fault>
+        ensures ok { Each D.sees (chain self.old) → OnOk result (Step (at (map D.layer self.old.1)) (disk_of (map D.layer self.old.1) (D.layer self.old.0)) (read offset (length buf.old)) (bytes_read buf.new) (disk_of (map D.layer self.new.1) (D.layer self.new.0))) }
+        ensures at_once { (f : Fault) → look_refusal (unit_of_chain (map D.layer (chain self.old))) (D.layer self.old.0) offset (length buf.old) ≡ Some f → IsErrOf result f }
+        ensures idle { length buf.old ≡ 0 → barrier (D.layer self.old.0) ≡ None → IsOk result }
+        ensures looked { Pairs (Looked D.layer D.image D.extras D.sees D.safe D.still D.sound (IsOk result) (IsWhole result)) (chain self.old) (chain self.new) }
+        ensures cause { Each D.sees (chain self.old) → IfErr result (ReadCause (map D.layer (chain self.old)) (at (map D.layer (chain self.old))) (unit_of_chain (map D.layer (chain self.old))) offset (length buf.old) (files_of D.image D.extras (chain self.old)) (files_of D.image D.extras (chain self.new))) }
+    {
+        self.driver.ready()?;
+        if buf.is_empty() {
+            return Ok(());
+        }
+        if padded_end(offset, buf.len() as u64, self.unit()).is_none() {
+            return Err(Fault::RangeOverflow);
+        }
+        self.read_all(buf, offset)
+    }
+
+    // The same of a range whose padded end fits, run by run.
+    #[cycle(read)]
+    fn read_all(&mut self, buf: &mut [u8], offset: u64) -> Result<(), Fault>
+        requires fits { Overflows (unit_of_chain (map D.layer (chain self.old))) offset (length buf.old) → ⊥ }
+        ensures shown { Each D.sees (chain self.old) → OnOk result (Shows (at (map D.layer (chain self.old))) offset buf.new) }
+        ensures looked { Pairs (Looked D.layer D.image D.extras D.sees D.safe D.still D.sound (IsOk result) (IsWhole result)) (chain self.old) (chain self.new) }
+        ensures cause { Each D.sees (chain self.old) → IfErr result (ReadCause (map D.layer (chain self.old)) (at (map D.layer (chain self.old))) (unit_of_chain (map D.layer (chain self.old))) offset (length buf.old) (files_of D.image D.extras (chain self.old)) (files_of D.image D.extras (chain self.new))) }
+    {
+        let mut done = 0;
+        while done < buf.len() {
+            let part = &mut buf[done..];
+            match self.read_run(part, offset + done as u64) {
+                Ok(n) => done += n,
+                Err(fault) => return Err(fault),
+            }
+        }
+        Ok(())
+    }
+
+    // The first run of a range that isn't empty. It answers how many bytes that are.
+    #[cycle(read)]
+    fn read_run(&mut self, buf: &mut [u8], offset: u64) -> Result<usize, Fault>
+        requires fits { Overflows (unit_of_chain (map D.layer (chain self.old))) offset (length buf.old) → ⊥ }
+        requires some { 0 < length buf.old }
+        ensures run { IfOk result (λ n. (0 < n) × (n ≤ length buf.old)) }
+        ensures shown { Each D.sees (chain self.old) → IfOk result (λ n. (i : ℕ) → i < n → at (map D.layer (chain self.old)) (offset + i) ≡ byte (slice_index buf.new i)) }
+        ensures looked { Pairs (Looked D.layer D.image D.extras D.sees D.safe D.still D.sound (IsOk result) (IsWhole result)) (chain self.old) (chain self.new) }
+        ensures cause { Each D.sees (chain self.old) → IfErr result (ReadCause (map D.layer (chain self.old)) (at (map D.layer (chain self.old))) (unit_of_chain (map D.layer (chain self.old))) offset (length buf.old) (files_of D.image D.extras (chain self.old)) (files_of D.image D.extras (chain self.new))) }
+    {
+        Self::read_part(&mut self.driver, &mut self.below, buf, offset)
+    }
+
+    // The same of a layer and those below it.
+    #[cycle(read)]
+    fn read_part(
+        driver: &mut D,
+        below: &mut Option<Box<FormatAccess<D>>>,
+        buf: &mut [u8],
+        offset: u64,
+    ) -> Result<usize, Fault>
+        requires fits { Overflows (unit_of_chain (map D.layer (driver.old ∷ layers below.old))) offset (length buf.old) → ⊥ }
+        requires some { 0 < length buf.old }
+        ensures run { IfOk result (λ n. (0 < n) × (n ≤ length buf.old)) }
+        ensures shown { Each D.sees (driver.old ∷ layers below.old) → IfOk result (λ n. (i : ℕ) → i < n → at (map D.layer (driver.old ∷ layers below.old)) (offset + i) ≡ byte (slice_index buf.new i)) }
+        ensures looked { Pairs (Looked D.layer D.image D.extras D.sees D.safe D.still D.sound (IsOk result) (IsWhole result)) (driver.old ∷ layers below.old) (driver.new ∷ layers below.new) }
+        ensures cause { Each D.sees (driver.old ∷ layers below.old) → IfErr result (ReadCause (map D.layer (driver.old ∷ layers below.old)) (at (map D.layer (driver.old ∷ layers below.old))) (unit_of_chain (map D.layer (driver.old ∷ layers below.old))) offset (length buf.old) (files_of D.image D.extras (driver.old ∷ layers below.old)) (files_of D.image D.extras (driver.new ∷ layers below.new))) }
+    {
+        let most = buf.len();
+        let (mapping, length) = match driver.get_mapping(offset, most as u64) {
+            Ok(run) => run,
+            Err(fault) => return Err(fault),
+        };
+        let n = length as usize;
+        match mapping {
+            ShallowMapping::Raw {
+                storage,
+                offset: place,
+                ..
+            } => {
+                if let Err(fault) = driver.read_mapped(storage, place, &mut buf[..n]) {
+                    return Err(fault);
+                }
+                Ok(n)
+            }
+            ShallowMapping::Indirect { .. } => {
+                if let Err(fault) = Self::read_under(below, &mut buf[..n], offset) {
+                    return Err(fault);
+                }
+                Ok(n)
+            }
+            ShallowMapping::Zero { .. } => {
+                buf[..n].fill(0);
+                Ok(n)
+            }
+            ShallowMapping::Eof => {
+                buf.fill(0);
+                Ok(most)
+            }
+            ShallowMapping::Special { .. } => Err(Fault::Barred),
+        }
+    }
+
+    // What the layers below show of a range whose padded end fits, and zeroes where there are none.
+    #[cycle(read)]
+    fn read_under(
+        below: &mut Option<Box<FormatAccess<D>>>,
+        buf: &mut [u8],
+        offset: u64,
+    ) -> Result<(), Fault>
+        requires fits { Overflows (unit_of_chain (map D.layer (layers below.old))) offset (length buf.old) → ⊥ }
+        ensures shown { Each D.sees (layers below.old) → OnOk result (Shows (at (map D.layer (layers below.old))) offset buf.new) }
+        ensures looked { Pairs (Looked D.layer D.image D.extras D.sees D.safe D.still D.sound (IsOk result) (IsWhole result)) (layers below.old) (layers below.new) }
+        ensures cause { Each D.sees (layers below.old) → IfErr result (ReadCause (map D.layer (layers below.old)) (at (map D.layer (layers below.old))) (unit_of_chain (map D.layer (layers below.old))) offset (length buf.old) (files_of D.image D.extras (layers below.old)) (files_of D.image D.extras (layers below.new))) }
+    {
+        match below {
+            Some(layer) => layer.read_all(buf, offset),
+            None => {
+                buf.fill(0);
+                Ok(())
+            }
+        }
+    }
+}
+
+impl<D: FormatDriverInstance> ReadBelow for Option<Box<FormatAccess<D>>> {
+    ghost under = { λ b. map D.layer (layers b) };
+
+    ghost files_under = { λ b. files_of D.image D.extras (layers b) };
+
+    ghost sees_under = { λ b. Each D.sees (layers b) };
+
+    ghost still_under = { λ b. Each D.still (layers b) };
+
+    fn present(&self) -> bool {
+        self.is_some()
+    }
+
+    fn read(&mut self, buf: &mut [u8], offset: u64) -> Result<(), Fault> {
+        match self {
+            Some(layer) => layer.read(buf, offset),
+            None => {
+                buf.fill(0);
+                Ok(())
+            }
+        }
+    }
+}

@@ -1,0 +1,22 @@
+//! Images as flat disks: the interface of a driver, and the chain of layers that a guest reads and writes through.
+//!
+//! `FormatDriverInstance` is what a driver of a format promises, and `FormatAccess` is a disk over one driver and the layers below it.
+//! Contracts see a layer as a `Layer` and its storages as states of `imago_storage`.
+#![tactic(auto)]
+
+mod access;
+mod below;
+mod drivers;
+mod format;
+mod gate;
+mod mapping;
+
+pub use access::FormatAccess;
+pub use below::{NoBelow, ReadBelow};
+pub use drivers::FormatDriverInstance;
+pub use format::{Format, PreallocateMode};
+pub use gate::{DenyImplicitOpenGate, ImplicitOpenGate};
+pub use mapping::{Mapping, PreparedDataMapping, ShallowMapping};
+
+#[cfg(test)]
+mod tests;
