@@ -21,6 +21,10 @@ fuse_call f = f.n
 unfoldable pub fuse_faults : {S : Type 0} → FuseStorage S → ℕ
 fuse_faults f = f.faults
 
+-- how many changes the fuse itself has refused
+unfoldable pub fuse_refusals : {S : Type 0} → FuseStorage S → ℕ
+fuse_refusals f = f.refusals
+
 -- what contracts see of a storage with a fuse
 unfoldable pub fuse_state : {S : Type 0} → (S → StorageState) → FuseStorage S → StorageState
 fuse_state state f = record {
@@ -37,9 +41,16 @@ pub fuse_tells : {S : Type 0} (state : S → StorageState) → ((s : S) → IsTr
 unfolding fuse_state
 fuse_tells state tells f = tells f.inner
 
--- a counted call: the one whose number is the fuse's fails and passes nothing on, and no other does
+-- A counted call: the one whose number is the fuse's fails and passes nothing on. The fuse itself fails and refuses no other.
 pub record Counted {S T : Type 0} (old new : FuseStorage S) (result : Result T Fault) : Type 0 where
   pub count : fuse_count new ≡ min (fuse_count old + 1) (2 ^ 64 - 1)
   pub call : fuse_call new ≡ fuse_call old
   pub fails : fuse_count old + 1 ≡ fuse_call old → IsErrOf result Storage × (fuse_inner new ≡ fuse_inner old)
-  pub passes : fuse_count old + 1 ≢ fuse_call old → fuse_faults new ≡ fuse_faults old
+  pub passes : fuse_count old + 1 ≢ fuse_call old → (fuse_faults new ≡ fuse_faults old) × (fuse_refusals new ≡ fuse_refusals old)
+
+-- a call that isn't counted, and that the fuse itself doesn't fail
+pub record Uncounted {S : Type 0} (old new : FuseStorage S) : Type 0 where
+  pub count : fuse_count new ≡ fuse_count old
+  pub call : fuse_call new ≡ fuse_call old
+  pub faults : fuse_faults new ≡ fuse_faults old
+  pub refusals : fuse_refusals new ≡ fuse_refusals old

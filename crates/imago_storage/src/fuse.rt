@@ -8,8 +8,8 @@ use std::alloc::Global;
 
 /// A storage that passes calls on to another, but for one call that fails: for tests of what a fault leaves.
 ///
-/// Pure calls, `resize`, `flush` and `sync` are counted, whatever they answer. The call whose number was given to
-/// `new` answers `Fault::Storage` and passes nothing on; this happens once.
+/// Pure calls, `resize`, `flush` and `sync` are counted, whatever they answer; `invalidate_cache` isn't. The call whose number
+/// was given to `new` answers `Fault::Storage` and passes nothing on; this happens once.
 #[derive(Drop)]
 pub struct FuseStorage<S> {
     inner: S,
@@ -19,7 +19,7 @@ pub struct FuseStorage<S> {
     refusals: u64,
 }
 
-#[tactic(auto, unfolding(crate::specs::Fuse::fuse_state, crate::specs::Fuse::fuse_count, crate::specs::Fuse::fuse_call, crate::specs::Fuse::fuse_faults, crate::specs::Fuse::fuse_inner))]
+#[tactic(auto, unfolding(crate::specs::Fuse::fuse_state, crate::specs::Fuse::fuse_count, crate::specs::Fuse::fuse_call, crate::specs::Fuse::fuse_faults, crate::specs::Fuse::fuse_refusals, crate::specs::Fuse::fuse_inner))]
 impl<S: Storage> FuseStorage<S> {
     ghost use Rattle.imago_storage.specs.Fuse.{fuse_state, fuse_count, fuse_call, fuse_inner};
 
@@ -80,9 +80,9 @@ impl<S: Storage> FuseStorage<S> {
     }
 }
 
-#[tactic(auto, unfolding(crate::specs::Fuse::fuse_state, crate::specs::Fuse::fuse_count, crate::specs::Fuse::fuse_call, crate::specs::Fuse::fuse_faults, crate::specs::Fuse::fuse_inner))]
+#[tactic(auto, unfolding(crate::specs::Fuse::fuse_state, crate::specs::Fuse::fuse_count, crate::specs::Fuse::fuse_call, crate::specs::Fuse::fuse_faults, crate::specs::Fuse::fuse_refusals, crate::specs::Fuse::fuse_inner))]
 impl<S: Storage> Storage for FuseStorage<S> {
-    ghost use Rattle.imago_storage.specs.Fuse.{fuse_state, Counted};
+    ghost use Rattle.imago_storage.specs.Fuse.{fuse_state, Counted, Uncounted};
 
     ghost state = { fuse_state S.state };
 
@@ -229,7 +229,12 @@ impl<S: Storage> Storage for FuseStorage<S> {
         self.inner.sync()
     }
 
-    fn invalidate_cache(&mut self) -> Result<(), Fault> {
+    fn invalidate_cache(&mut self) -> Result<(), Fault>
+        ensures kept { Kept (fuse_state S.state self.old) (fuse_state S.state self.new) }
+        ensures faults { CountsFaults (fuse_state S.state self.old).faults (fuse_state S.state self.new).faults result }
+        ensures later { Later (fuse_state S.state self.old) (fuse_state S.state self.new) }
+        ensures uncounted { Uncounted self.old self.new }
+    {
         self.inner.invalidate_cache()
     }
 }
