@@ -101,20 +101,19 @@ impl Model {
     }
 }
 
-// One call of the storage, and the same of the list; then both are compared as a whole, with what lies behind them, or where they
-// are long the range of the call.
-fn call<S: Storage>(
-    rt: &impl Abort,
+// One change of the storage, and the same of the list.
+fn change<S: Storage>(
     alloc: Global,
     storage: &mut S,
     model: &mut Model,
     random: &mut Random,
+    at: u16,
+    n: u16,
 ) -> Result<(), Fault>
     requires positive { 0 < model.old.kind.unit }
     requires small { model.old.kind.unit ≤ 2 ^ 20 }
     ensures { model.new.kind ≡ model.old.kind }
 {
-    let (at, n) = (random.below(5_000), random.below(600));
     let (offset, length) = (u64::from(at), u64::from(n));
     match random.below(7) {
         0 | 1 => {
@@ -151,6 +150,23 @@ fn call<S: Storage>(
             model.bytes.resize(usize::from(at), 0)?;
         }
     }
+    Ok(())
+}
+
+// One change; then both are compared as a whole, with what lies behind them, or where they are long the range of the change.
+fn call<S: Storage>(
+    rt: &impl Abort,
+    alloc: Global,
+    storage: &mut S,
+    model: &mut Model,
+    random: &mut Random,
+) -> Result<(), Fault>
+    requires positive { 0 < model.old.kind.unit }
+    requires small { model.old.kind.unit ≤ 2 ^ 20 }
+    ensures { model.new.kind ≡ model.old.kind }
+{
+    let (at, n) = (random.below(5_000), random.below(600));
+    change(alloc, storage, model, random, at, n)?;
     let whole = model.bytes.len();
     if whole < 10_000 {
         compare(rt, alloc, storage, model, 0, whole as u16 + 100)
