@@ -9,6 +9,7 @@ ghost use Rattle.imago_access.specs.Going.{LookedUnder};
 ghost use Rattle.imago_access.specs.Refusals.{ReadCause};
 
 use imago_storage::Fault;
+use std::alloc::Global;
 
 /// The layers below one, as its driver reads them: it is lent them by the chain.
 ///
@@ -33,7 +34,7 @@ pub trait ReadBelow {
     /// Fills the buffer with what the layers show from the offset in bytes on, and with zeroes past the end of the highest.
     ///
     /// It refuses as a read of a chain does. A refusal leaves the buffer open.
-    fn read(&mut self, buf: &mut [u8], offset: u64) -> Result<(), Fault>
+    fn read(&mut self, alloc: Global, buf: &mut [u8], offset: u64) -> Result<(), Fault>
         ensures shown { OnOk result (sees_under self.old → Shows (at (under self.old)) offset buf.new) }
         ensures looked { LookedUnder under files_under sees_under still_under (IsOk result) (IsWhole result) self.old self.new }
         ensures cause { sees_under self.old → IfErr result (ReadCause (under self.old) (at (under self.old)) (unit_of_chain (under self.old)) offset (length buf.old) (files_under self.old) (files_under self.new)) };
@@ -56,7 +57,7 @@ impl ReadBelow for NoBelow {
         false
     }
 
-    fn read(&mut self, buf: &mut [u8], _offset: u64) -> Result<(), Fault> {
+    fn read(&mut self, _alloc: Global, buf: &mut [u8], _offset: u64) -> Result<(), Fault> {
         buf.fill(0);
         Ok(())
     }

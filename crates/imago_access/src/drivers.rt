@@ -119,7 +119,12 @@ pub trait FormatDriverInstance {
     ///
     /// It refuses with `Fault::DamagedTable` where the image's tables say nothing of a place of the range, with `Fault::Memory` and with
     /// `Fault::Storage`.
-    fn get_mapping(&mut self, offset: u64, max_length: u64) -> Result<(ShallowMapping, u64), Fault>
+    fn get_mapping(
+        &mut self,
+        alloc: Global,
+        offset: u64,
+        max_length: u64,
+    ) -> Result<(ShallowMapping, u64), Fault>
         ensures run { IfOk result (λ r. IsRun (layer self.old) offset max_length r.0 r.1) }
         ensures looks { sees self.old → IfOk result (λ r. Looks (layer self.old) (stored self.new) offset max_length r.0 r.1) }
         ensures idle { max_length ≡ 0 → barrier (layer self.old) ≡ None → IsOk result }
@@ -132,7 +137,13 @@ pub trait FormatDriverInstance {
     ///
     /// It refuses with `Fault::RangeOverflow` where the padded end passes `u64`, with `Fault::Memory` and with `Fault::Storage`. A
     /// refusal leaves the buffer open.
-    fn read_mapped(&mut self, storage: usize, place: u64, buf: &mut [u8]) -> Result<(), Fault>
+    fn read_mapped(
+        &mut self,
+        alloc: Global,
+        storage: usize,
+        place: u64,
+        buf: &mut [u8],
+    ) -> Result<(), Fault>
         ensures bytes { OnOk result ((i : ℕ) → i < length buf.old → slice_index buf.new i ≡ stored self.old storage (place + i)) }
         ensures barred { (f : Fault) → barrier (layer self.old) ≡ Some f → IsErrOf result f }
         ensures looked { Looked layer image extras sees safe still sound (IsOk result) (IsWhole result) self.old self.new }
@@ -186,6 +197,7 @@ pub trait FormatDriverInstance {
     /// `Fault::ReadOnly`. Refused otherwise it has spent the mapping and the image has failed.
     fn commit_data_mapping(
         &mut self,
+        alloc: Global,
         mapping: PreparedDataMapping<Self::State>,
     ) -> Result<(), (Fault, Option<PreparedDataMapping<Self::State>>)>
         ensures ok { OnOk result (Spends claim tag mapping.state (layer self.old) (layer self.new) (IsFree (layer self.new) × (IsTrue (layer self.old).fixed.keeps → safe self.old → Committed (layer self.old) (layer self.new)))) }

@@ -82,7 +82,7 @@ fn no_layer_below_reads_as_zeroes(rt: HostRuntime) -> Result<(), Fail> {
     let mut below = NoBelow;
     assert!(rt; !below.present());
     let mut buf = [1, 2, 3, 4];
-    assert!(rt; below.read(&mut buf, u64::MAX) == Ok(()));
+    assert!(rt; below.read(rt.alloc(), &mut buf, u64::MAX) == Ok(()));
     assert!(rt; buf == [0, 0, 0, 0]);
     Ok(())
 }

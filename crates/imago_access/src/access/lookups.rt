@@ -12,6 +12,7 @@ use crate::access::FormatAccess;
 use crate::drivers::FormatDriverInstance;
 use crate::mapping::{Mapping, ShallowMapping};
 use imago_storage::Fault;
+use std::alloc::Global;
 
 impl<D: FormatDriverInstance> FormatAccess<D> {
     /// What the top layer itself says of one run of places from the offset on, not longer than asked, and the run's length in bytes:
@@ -21,6 +22,7 @@ impl<D: FormatDriverInstance> FormatAccess<D> {
     /// `Fault::Storage`, and where the layer can't be used.
     pub fn get_shallow_mapping(
         &mut self,
+        alloc: Global,
         offset: u64,
         max_length: u64,
     ) -> Result<(ShallowMapping, u64), Fault>
@@ -31,7 +33,7 @@ impl<D: FormatDriverInstance> FormatAccess<D> {
         ensures looked { Pairs (Looked D.layer D.image D.extras D.sees D.safe D.still D.sound (IsOk result) (IsWhole result)) (chain self.old) (chain self.new) }
         ensures cause { D.sees self.old.0 → IfErr result (LookCause (D.layer self.old.0) offset max_length (D.image self.old.0 ∷ D.extras self.old.0) (D.image self.new.0 ∷ D.extras self.new.0)) }
     {
-        self.driver.get_mapping(offset, max_length)
+        self.driver.get_mapping(alloc, offset, max_length)
     }
 
     /// Where one run of places from the offset on lies, not longer than asked, and the run's length in bytes: at or past the size the
@@ -41,7 +43,12 @@ impl<D: FormatDriverInstance> FormatAccess<D> {
     /// says so. It refuses with `Fault::DamagedTable` where a layer's tables say nothing of a place of the range, with `Fault::Memory`
     /// and `Fault::Storage`, and where a layer that it asks can't be used.
     #[cycle(map)]
-    pub fn get_mapping(&mut self, offset: u64, max_length: u64) -> Result<(Mapping, u64), Fault>
+    pub fn get_mapping(
+        &mut self,
+        alloc: Global,
+        offset: u64,
+        max_length: u64,
+    ) -> Result<(Mapping, u64), Fault>
         ensures run { IfOk result (λ r. IsDeepRun (D.layer self.old.0).size offset max_length r.0 r.1) }
         ensures names { length self.old.1 + 1 < 2 ^ 64 → Each D.sees (chain self.old) → IfOk result (λ r. DeepNames (map D.layer (chain self.old)) (at (map D.layer (chain self.old))) (stored_at D.stored (chain self.new)) offset r.1 r.0) }
         ensures deep { length self.old.1 + 1 < 2 ^ 64 → IfOk result (λ r. IsDeepBelow (length self.old.1 + 1) r.0) }
@@ -51,12 +58,13 @@ impl<D: FormatDriverInstance> FormatAccess<D> {
         ensures looked { Pairs (Looked D.layer D.image D.extras D.sees D.safe D.still D.sound (IsOk result) (IsWhole result)) (chain self.old) (chain self.new) }
         ensures cause { Each D.sees (chain self.old) → IfErr result (DeepLookCause (map D.layer (chain self.old)) (at (map D.layer (chain self.old))) offset max_length (files_of D.image D.extras (chain self.old)) (files_of D.image D.extras (chain self.new))) }
     {
-        Self::map_part(&mut self.driver, &mut self.below, offset, max_length)
+        Self::map_part(alloc, &mut self.driver, &mut self.below, offset, max_length)
     }
 
     // The same of a layer and those below it.
     #[cycle(map)]
     fn map_part(
+        alloc: Global,
         driver: &mut D,
         below: &mut Option<Box<FormatAccess<D>>>,
         offset: u64,
@@ -71,7 +79,7 @@ impl<D: FormatDriverInstance> FormatAccess<D> {
         ensures looked { Pairs (Looked D.layer D.image D.extras D.sees D.safe D.still D.sound (IsOk result) (IsWhole result)) (driver.old ∷ layers below.old) (driver.new ∷ layers below.new) }
         ensures cause { Each D.sees (driver.old ∷ layers below.old) → IfErr result (DeepLookCause (map D.layer (driver.old ∷ layers below.old)) (at (map D.layer (driver.old ∷ layers below.old))) offset max_length (files_of D.image D.extras (driver.old ∷ layers below.old)) (files_of D.image D.extras (driver.new ∷ layers below.new))) }
     {
-        let (mapping, length) = match driver.get_mapping(offset, max_length) {
+        let (mapping, length) = match driver.get_mapping(alloc, offset, max_length) {
             Ok(run) => run,
             Err(fault) => return Err(fault),
         };
@@ -93,7 +101,7 @@ impl<D: FormatDriverInstance> FormatAccess<D> {
                 if length == 0 {
                     return Ok((Mapping::Zero { explicit: false }, 0));
                 }
-                match Self::map_under(below, offset, length) {
+                match Self::map_under(alloc, below, offset, length) {
                     Ok((mapping, length)) => Ok((mapping.lowered(writable), length)),
                     Err(fault) => Err(fault),
                 }
@@ -113,6 +121,7 @@ impl<D: FormatDriverInstance> FormatAccess<D> {
     // Where the places lie in the layers below, which have no end.
     #[cycle(map)]
     fn map_under(
+        alloc: Global,
         below: &mut Option<Box<FormatAccess<D>>>,
         offset: u64,
         max_length: u64,
@@ -125,7 +134,7 @@ impl<D: FormatDriverInstance> FormatAccess<D> {
     {
         match below {
             None => Ok((Mapping::Zero { explicit: false }, max_length)),
-            Some(layer) => match layer.get_mapping(offset, max_length) {
+            Some(layer) => match layer.get_mapping(alloc, offset, max_length) {
                 Ok((mapping, length)) => {
                     if mapping.is_eof() {
                         Ok((Mapping::Zero { explicit: false }, max_length))

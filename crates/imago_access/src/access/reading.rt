@@ -17,6 +17,7 @@ use crate::below::ReadBelow;
 use crate::drivers::FormatDriverInstance;
 use crate::mapping::{Mapping, ShallowMapping};
 use imago_storage::{Fault, padded_end};
+use std::alloc::Global;
 
 impl<D: FormatDriverInstance> FormatAccess<D> {
     /// Fills the buffer with the disk's bytes from the offset on, and with zeroes past its end.
@@ -24,7 +25,7 @@ impl<D: FormatDriverInstance> FormatAccess<D> {
     /// It refuses with `Fault::RangeOverflow` where the end of the range, rounded up to the chain's alignment, passes `u64`, with
     /// `Fault::Barred` and `Fault::DamagedTable` where a place of the range has no byte, with `Fault::Memory` and `Fault::Storage`, and
     /// where a layer can't be used. A refusal leaves the buffer open, and for another cause than the last ones the disk as it was.
-    pub fn read(&mut self, buf: &mut [u8], offset: u64) -> Result<(), Fault>
+    pub fn read(&mut self, alloc: Global, buf: &mut [u8], offset: u64) -> Result<(), Fault>
         ensures ok { Each D.sees (chain self.old) → OnOk result (Step (at (map D.layer self.old.1)) (disk_of (map D.layer self.old.1) (D.layer self.old.0)) (read offset (length buf.old)) (bytes_read buf.new) (disk_of (map D.layer self.new.1) (D.layer self.new.0))) }
         ensures at_once { (f : Fault) → look_refusal (unit_of_chain (map D.layer (chain self.old))) (D.layer self.old.0) offset (length buf.old) ≡ Some f → IsErrOf result f }
         ensures idle { length buf.old ≡ 0 → barrier (D.layer self.old.0) ≡ None → IsOk result }
@@ -38,12 +39,12 @@ impl<D: FormatDriverInstance> FormatAccess<D> {
         if padded_end(offset, buf.len() as u64, self.unit()).is_none() {
             return Err(Fault::RangeOverflow);
         }
-        self.read_all(buf, offset)
+        self.read_all(alloc, buf, offset)
     }
 
     // The same of a range whose padded end fits, run by run.
     #[cycle(read)]
-    fn read_all(&mut self, buf: &mut [u8], offset: u64) -> Result<(), Fault>
+    fn read_all(&mut self, alloc: Global, buf: &mut [u8], offset: u64) -> Result<(), Fault>
         requires fits { Overflows (unit_of_chain (map D.layer (chain self.old))) offset (length buf.old) → ⊥ }
         ensures shown { Each D.sees (chain self.old) → OnOk result (Shows (at (map D.layer (chain self.old))) offset buf.new) }
         ensures looked { Pairs (Looked D.layer D.image D.extras D.sees D.safe D.still D.sound (IsOk result) (IsWhole result)) (chain self.old) (chain self.new) }
@@ -52,7 +53,7 @@ impl<D: FormatDriverInstance> FormatAccess<D> {
         let mut done = 0;
         while done < buf.len() {
             let part = &mut buf[done..];
-            match self.read_run(part, offset + done as u64) {
+            match self.read_run(alloc, part, offset + done as u64) {
                 Ok(n) => done += n,
                 Err(fault) => return Err(fault),
             }
@@ -62,7 +63,7 @@ impl<D: FormatDriverInstance> FormatAccess<D> {
 
     // The first run of a range that isn't empty. It answers how many bytes that are.
     #[cycle(read)]
-    fn read_run(&mut self, buf: &mut [u8], offset: u64) -> Result<usize, Fault>
+    fn read_run(&mut self, alloc: Global, buf: &mut [u8], offset: u64) -> Result<usize, Fault>
         requires fits { Overflows (unit_of_chain (map D.layer (chain self.old))) offset (length buf.old) → ⊥ }
         requires some { 0 < length buf.old }
         ensures run { IfOk result (λ n. (0 < n) × (n ≤ length buf.old)) }
@@ -70,12 +71,13 @@ impl<D: FormatDriverInstance> FormatAccess<D> {
         ensures looked { Pairs (Looked D.layer D.image D.extras D.sees D.safe D.still D.sound (IsOk result) (IsWhole result)) (chain self.old) (chain self.new) }
         ensures cause { Each D.sees (chain self.old) → IfErr result (ReadCause (map D.layer (chain self.old)) (at (map D.layer (chain self.old))) (unit_of_chain (map D.layer (chain self.old))) offset (length buf.old) (files_of D.image D.extras (chain self.old)) (files_of D.image D.extras (chain self.new))) }
     {
-        Self::read_part(&mut self.driver, &mut self.below, buf, offset)
+        Self::read_part(alloc, &mut self.driver, &mut self.below, buf, offset)
     }
 
     // The same of a layer and those below it.
     #[cycle(read)]
     fn read_part(
+        alloc: Global,
         driver: &mut D,
         below: &mut Option<Box<FormatAccess<D>>>,
         buf: &mut [u8],
@@ -89,7 +91,7 @@ impl<D: FormatDriverInstance> FormatAccess<D> {
         ensures cause { Each D.sees (driver.old ∷ layers below.old) → IfErr result (ReadCause (map D.layer (driver.old ∷ layers below.old)) (at (map D.layer (driver.old ∷ layers below.old))) (unit_of_chain (map D.layer (driver.old ∷ layers below.old))) offset (length buf.old) (files_of D.image D.extras (driver.old ∷ layers below.old)) (files_of D.image D.extras (driver.new ∷ layers below.new))) }
     {
         let most = buf.len();
-        let (mapping, length) = match driver.get_mapping(offset, most as u64) {
+        let (mapping, length) = match driver.get_mapping(alloc, offset, most as u64) {
             Ok(run) => run,
             Err(fault) => return Err(fault),
         };
@@ -100,13 +102,13 @@ impl<D: FormatDriverInstance> FormatAccess<D> {
                 offset: place,
                 ..
             } => {
-                if let Err(fault) = driver.read_mapped(storage, place, &mut buf[..n]) {
+                if let Err(fault) = driver.read_mapped(alloc, storage, place, &mut buf[..n]) {
                     return Err(fault);
                 }
                 Ok(n)
             }
             ShallowMapping::Indirect { .. } => {
-                if let Err(fault) = Self::read_under(below, &mut buf[..n], offset) {
+                if let Err(fault) = Self::read_under(alloc, below, &mut buf[..n], offset) {
                     return Err(fault);
                 }
                 Ok(n)
@@ -126,6 +128,7 @@ impl<D: FormatDriverInstance> FormatAccess<D> {
     // What the layers below show of a range whose padded end fits, and zeroes where there are none.
     #[cycle(read)]
     fn read_under(
+        alloc: Global,
         below: &mut Option<Box<FormatAccess<D>>>,
         buf: &mut [u8],
         offset: u64,
@@ -136,7 +139,7 @@ impl<D: FormatDriverInstance> FormatAccess<D> {
         ensures cause { Each D.sees (layers below.old) → IfErr result (ReadCause (map D.layer (layers below.old)) (at (map D.layer (layers below.old))) (unit_of_chain (map D.layer (layers below.old))) offset (length buf.old) (files_of D.image D.extras (layers below.old)) (files_of D.image D.extras (layers below.new))) }
     {
         match below {
-            Some(layer) => layer.read_all(buf, offset),
+            Some(layer) => layer.read_all(alloc, buf, offset),
             None => {
                 buf.fill(0);
                 Ok(())
@@ -158,9 +161,9 @@ impl<D: FormatDriverInstance> ReadBelow for Option<Box<FormatAccess<D>>> {
         self.is_some()
     }
 
-    fn read(&mut self, buf: &mut [u8], offset: u64) -> Result<(), Fault> {
+    fn read(&mut self, alloc: Global, buf: &mut [u8], offset: u64) -> Result<(), Fault> {
         match self {
-            Some(layer) => layer.read(buf, offset),
+            Some(layer) => layer.read(alloc, buf, offset),
             None => {
                 buf.fill(0);
                 Ok(())
