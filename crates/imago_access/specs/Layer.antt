@@ -52,6 +52,8 @@ pub record Fixed : Type 0 where
   -- which kind of image its file has to be, and what each file of that kind means
   pub kind : ℕ
   pub means : List ℕ → Meaning
+  -- its file states the size of the disk
+  pub exact : Bool
 
 pub record Layer : Type 0 where
   pub fixed : Fixed

@@ -1,5 +1,5 @@
 -- What a stop of the machine leaves in the image file of the top layer.
-use Rattle.std.specs.Prelude.{◌≡◌, ◌⊎◌, ℕ, ◌+◌, ◌<◌, ◌≤◌, List, ◌∷◌, length, slice_index, if◌then◌else◌, ltb, true, Some, None}
+use Rattle.std.specs.Prelude.{IsTrue, ◌≡◌, ◌⊎◌, ℕ, ◌+◌, ◌<◌, ◌≤◌, List, ◌∷◌, length, slice_index, if◌then◌else◌, ltb, true, Some, None}
 use Rattle.imago_storage.specs.State.{StorageState, Rose, InStep}
 use Rattle.imago_storage.specs.Through.{Stops}
 use Rattle.imago_storage.specs.Disk.{Value, byte}
@@ -81,9 +81,11 @@ MayTake held v = ⊥
 abbrev pub GivesHeld : Layer → ℕ → Value → Type 0
 GivesHeld layer p v = MayTake (layer.held p) v
 
--- the file by itself means what the layer says
+-- The file by itself means what the layer says. It may be longer than the disk, as writes are padded to whole units, but for formats that
+-- state the disk's size themselves.
 pub record IsMeant (layer : Layer) (f : List ℕ) : Type 0 where
-  pub size : (layer.fixed.means f).size ≡ layer.size
+  pub size : layer.size ≤ (layer.fixed.means f).size
+  pub exactly : IsTrue layer.fixed.exact → (layer.fixed.means f).size ≡ layer.size
   pub cell : (p : ℕ) → p < layer.size → (layer.fixed.means f).cell p ≡ layer.cell p
 
 -- the file is sound, and not shorter than the disk
