@@ -1,7 +1,7 @@
 -- Tables of which the words past the file's end aren't loaded.
 use Rattle.std.proofs.Common.{◌≡◌, ℕ, ◌+◌, ◌*◌, ◌/◌, ◌^◌, ◌<◌, ◌≤◌, refl, arith, ap, sym, ◌∙◌, List, length, inl, inr}
 use Rattle.std.proofs.lemmas.Bool.{cases_lt}
-use Rattle.std.specs.Prelude.{true, false, slice_index, Ok}
+use Rattle.std.specs.Prelude.{true, false, slice_index, Result, Ok, Err, OnOk, IfErr}
 use Rattle.imago_storage.specs.State.{StorageState}
 use Rattle.imago_storage.specs.declared.fault.Fault.{Fault}
 use Rattle.imago_storage.specs.declared.fault.Fault.TheVariants.{Memory, Storage, Limit, DamagedTable}
@@ -21,6 +21,7 @@ use Rattle.qimg.specs.declared.check.CheckFault.TheVariants.{Table}
 use Rattle.qimg.specs.Files.{file}
 use Rattle.qimg.specs.CheckParts.{IsUnsound, fault_of_load}
 use Rattle.qimg.specs.Check.{Found}
+use Rattle.qimg.specs.Plain.{NoL1}
 use Rattle.qimg.proofs.PlainTables.{l1-place}
 use Rattle.qimg.proofs.ScanLemmas.{tests-miss}
 
@@ -62,6 +63,22 @@ l1-finding old new H loads cluster n is few (Limit m) why =
     absurd (omega (arith, why.0, why.1, words_long (file old) (cluster * cluster_size H.fields) n, limited.l1_entries, few))
 l1-finding old new H loads cluster n is few fault why = absurd why
 
+-- So it isn't loaded for a plain read.
+l1-why : (old new : StorageState) (H : Header) → header_of false (file old) ≡ Ok H → (cluster n : ℕ) → cluster ≡ H.fields.l1_offset / 2 ^ H.fields.cluster_bits → n ≤ H.fields.l1_entries → (fault : Fault)
+    → WhyNotLoaded l1_words (layout_of H.fields) (words_in (file old) (cluster * cluster_size H.fields) n) old.faults new.faults fault → NoL1 old new H.fields fault
+l1-why old new H loads cluster n is few Memory why = why
+l1-why old new H loads cluster n is few Storage why = why
+l1-why old new H loads cluster n is few DamagedTable why = (l1-unsound (file old) H loads cluster n is few why.0, why.1)
+l1-why old new H loads cluster n is few (Limit m) why =
+    let limited : Limited H.fields = header-limited false (file old) H loads in
+    absurd (omega (arith, why.0, why.1, words_long (file old) (cluster * cluster_size H.fields) n, limited.l1_entries, few))
+l1-why old new H loads cluster n is few fault why = absurd why
+
+pub l1-refused : (result : Result TableValue Fault) (old new : StorageState) (H : Header) → header_of false (file old) ≡ Ok H → (cluster n : ℕ) → cluster ≡ H.fields.l1_offset / 2 ^ H.fields.cluster_bits → n ≤ H.fields.l1_entries
+    → IfErr result (WhyNotLoaded l1_words (layout_of H.fields) (words_in (file old) (cluster * cluster_size H.fields) n) old.faults new.faults) → IfErr result (NoL1 old new H.fields)
+l1-refused (Ok _) old new H loads cluster n is few why = tt
+l1-refused (Err fault) old new H loads cluster n is few why = l1-why old new H loads cluster n is few fault why
+
 -- a word past the file's end
 pub past-word : (bytes : List ℕ) (place i : ℕ) → length bytes ≤ place + 8 * i → word (bytes_of bytes) place i ≡ 0
 unfolding word
@@ -79,3 +96,9 @@ l1-sound-by-first bytes H loads cluster n is sound past = all-below-holds H.fiel
       ap (l1_word_sound H.fields.cluster_bits) (sym same) ∙ sound i inside
   | inr ge ↦ ap (l1_word_sound H.fields.cluster_bits) (past-word bytes H.fields.l1_offset i (past i ge lt)) ∙ zero-l1-word H.fields.cluster_bits
 ])
+
+pub l1-sound : (result : Result TableValue Fault) (bytes : List ℕ) (H : Header) → header_of false (bytes_of bytes) ≡ Ok H → (cluster n : ℕ) → cluster ≡ H.fields.l1_offset / 2 ^ H.fields.cluster_bits
+    → OnOk result (AreSound l1_words (layout_of H.fields) (words_in (bytes_of bytes) (cluster * cluster_size H.fields) n)) → ((i : ℕ) → n ≤ i → i < H.fields.l1_entries → length bytes ≤ H.fields.l1_offset + 8 * i)
+    → OnOk result (l1_table_sound (bytes_of bytes) H.fields ≡ true)
+l1-sound (Err _) bytes H loads cluster n is sound past = tt
+l1-sound (Ok _) bytes H loads cluster n is sound past = l1-sound-by-first bytes H loads cluster n is sound past

@@ -193,3 +193,9 @@ pub sum-fits : (found : Option ℕ) (b : Bool) (a v : ℕ) → SomeIff found (a 
 sum-fits (Some x) b a v iff is e = iff.0
 sum-fits None true a v iff is e = absurd cc
 sum-fits None false a v iff is e = absurd cc
+
+-- or one that doesn't
+pub sum-passes : (found : Option ℕ) (b : Bool) (a v : ℕ) → SomeIff found (a < 2 ^ 64) v → is_some found ≡ not b → b ≡ true → 2 ^ 64 ≤ a
+sum-passes (Some x) true a v iff is e = absurd cc
+sum-passes (Some x) false a v iff is e = absurd cc
+sum-passes None b a v iff is e = elim (cases_lt a (2 ^ 64)) [ inl lt ↦ absurd (iff lt) | inr le ↦ le ]

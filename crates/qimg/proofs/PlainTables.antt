@@ -1,9 +1,8 @@
 -- What plain reads show by the tables that are loaded.
 use Rattle.std.proofs.Common.{◌≡◌, ◌≢◌, ℕ, ◌+◌, ◌-◌, ◌*◌, ◌/◌, ◌%◌, ◌^◌, ◌<◌, ◌≤◌, refl, arith, ap, sym, ◌∙◌, List, [], length, inl, inr}
-use Rattle.std.specs.Prelude.{Bool, true, false, cond, ◌&&◌, ◌==◌, nat_lt, slice_index, IsTrue, IsFalse, Result, Ok, Err, OnOk, IfOk, IfErr, Some, None}
+use Rattle.std.specs.Prelude.{Bool, true, false, cond, ◌&&◌, ◌==◌, nat_lt, slice_index, IsTrue, IsFalse, Result, Ok, Err, OnOk, IfErr, Some, None}
 use Rattle.std.proofs.lemmas.Bool.{cases_lt, le-ltb}
 use Rattle.std.proofs.lemmas.Bool.Decides.{nat_tests}
-use Rattle.std.proofs.lemmas.List.{get_or_past}
 use Rattle.std.proofs.lemmas.Nat.{mod_below, pow_pos}
 use Rattle.std.proofs.Math.Nat.{div-div-eq-div-mul, pow-le-pow_right}
 use Rattle.imago_storage.specs.State.{StorageState}
@@ -18,16 +17,13 @@ use Rattle.qcow2_types.specs.Entries.{entry, entry_through, l2_table, l1_table_s
 use Rattle.qcow2_types.specs.Disk.{shown_by, host_byte}
 use Rattle.qcow2_types.specs.Places.{l2_entries}
 use Rattle.qcow2_types.proofs.Bounded.{all-below}
-use Rattle.qcow2_types.proofs.Sound.{all-below-holds}
 use Rattle.qcow2_types.proofs.HeaderLimits.{header-limited}
 use Rattle.qcow2_types.proofs.TableSizes.{entries_power}
 use Rattle.qcow2_types.proofs.WriteBack.{place-whole, place-near}
-use Rattle.qcow2_metadata.specs.Tables.{TableValue, AreSound, HasUnsound, WhyNotLoaded, words_in, table_in, place_or_none, l1_words, l2_words}
-use Rattle.qcow2_metadata.proofs.TableFacts.{words_long, words_at}
-use Rattle.qimg.specs.Files.{file}
-use Rattle.qimg.specs.Plain.{IsFirstFault, NotShown, NoL1, mapped_value, table_value, image_value, value_fault}
+use Rattle.qcow2_metadata.specs.Tables.{TableValue, AreSound, HasUnsound, WhyNotLoaded, words_in, table_in, place_or_none, l2_words}
+use Rattle.qcow2_metadata.proofs.TableFacts.{words_long}
+use Rattle.qimg.specs.Plain.{IsFirstFault, NotShown, NamesTables, mapped_value, table_value, image_value, value_fault}
 use Rattle.qimg.proofs.L2Words.{l2-word, l2-sound, l2-unsound}
-use Rattle.qimg.proofs.ScanLemmas.{tests-miss}
 use Rattle.qimg.proofs.PlainReads.{ShownSoFar, shown-short, div-near}
 
 -- a place, or none
@@ -54,62 +50,6 @@ module _ (f : Bytes) (H : Header) (loads : header_of false f ≡ Ok H) where
       let near = place-near H.fields.cluster_bits H.fields.l1_offset limited.l1_place in
       let at : cluster * 2 ^ H.fields.cluster_bits ≡ H.fields.l1_offset = ap (λ c. c * 2 ^ H.fields.cluster_bits) is ∙ whole in
       (at, omega (arith, near))
-
-  -- its words
-  pub l1-words : (result : Result TableValue Fault) (cluster : ℕ) → cluster ≡ H.fields.l1_offset / 2 ^ H.fields.cluster_bits → IfOk result (λ table. table ≡ table_in f H.fields cluster H.fields.l1_entries)
-      → IfOk result (λ table. table.words ≡ words_in f H.fields.l1_offset H.fields.l1_entries)
-  l1-words (Err _) cluster is found = tt
-  l1-words (Ok table) cluster is found = ap (λ t. t.words) found ∙ ap (λ p. words_in f p H.fields.l1_entries) (l1-place cluster is).0
-
-  -- all of them have a meaning
-  all-sound : (cluster : ℕ) → cluster ≡ H.fields.l1_offset / 2 ^ H.fields.cluster_bits → AreSound l1_words (layout_of H.fields) (words_in f (cluster * cluster_size H.fields) H.fields.l1_entries) → l1_table_sound f H.fields ≡ true
-  unfolding l1_table_sound
-  all-sound cluster is sound = all-below-holds H.fields.l1_entries (λ i. l1_word_sound H.fields.cluster_bits (word f H.fields.l1_offset i)) (λ i lt.
-      let same : slice_index (words_in f (cluster * cluster_size H.fields) H.fields.l1_entries) i ≡ word f H.fields.l1_offset i = words_at f _ _ i lt ∙ ap (λ p. word f p i) (l1-place cluster is).0 in
-      let inside : i < length (words_in f (cluster * cluster_size H.fields) H.fields.l1_entries) = omega (arith, words_long f (cluster * cluster_size H.fields) H.fields.l1_entries) in
-      ap (l1_word_sound H.fields.cluster_bits) (sym same) ∙ sound i inside)
-
-  pub l1-sound : (result : Result TableValue Fault) (cluster : ℕ) → cluster ≡ H.fields.l1_offset / 2 ^ H.fields.cluster_bits → OnOk result (AreSound l1_words (layout_of H.fields) (words_in f (cluster * cluster_size H.fields) H.fields.l1_entries))
-      → OnOk result (IsTrue (l1_table_sound f H.fields))
-  l1-sound (Err _) cluster is sound = tt
-  l1-sound (Ok _) cluster is sound = all-sound cluster is sound
-
-  -- one of them has none
-  one-unsound : (cluster : ℕ) → cluster ≡ H.fields.l1_offset / 2 ^ H.fields.cluster_bits → HasUnsound l1_words (layout_of H.fields) (words_in f (cluster * cluster_size H.fields) H.fields.l1_entries) → l1_table_sound f H.fields ≡ false
-  unfolding l1_table_sound
-  one-unsound cluster is unsound =
-      let i : ℕ = unsound.0 in
-      let lt : i < H.fields.l1_entries = omega (arith, words_long f (cluster * cluster_size H.fields) H.fields.l1_entries, unsound.1) in
-      let same : slice_index (words_in f (cluster * cluster_size H.fields) H.fields.l1_entries) i ≡ word f H.fields.l1_offset i = words_at f _ _ i lt ∙ ap (λ p. word f p i) (l1-place cluster is).0 in
-      tests-miss H.fields.l1_entries i (λ k. l1_word_sound H.fields.cluster_bits (word f H.fields.l1_offset k)) lt (ap (l1_word_sound H.fields.cluster_bits) (sym same) ∙ unsound.2)
-
--- why the L1 table isn't loaded
-l1-why : (old new : StorageState) (H : Header) → header_of false (file old) ≡ Ok H → (cluster : ℕ) → cluster ≡ H.fields.l1_offset / 2 ^ H.fields.cluster_bits → (fault : Fault)
-    → WhyNotLoaded l1_words (layout_of H.fields) (words_in (file old) (cluster * cluster_size H.fields) H.fields.l1_entries) old.faults new.faults fault → NoL1 old new H.fields fault
-l1-why old new H loads cluster is Memory why = why
-l1-why old new H loads cluster is Storage why = why
-l1-why old new H loads cluster is DamagedTable why = (one-unsound (file old) H loads cluster is why.0, why.1)
-l1-why old new H loads cluster is (Limit n) why =
-    let limited : Limited H.fields = header-limited false (file old) H loads in
-    absurd (omega (arith, why.0, why.1, words_long (file old) (cluster * cluster_size H.fields) H.fields.l1_entries, limited.l1_entries))
-l1-why old new H loads cluster is fault why = absurd why
-
-pub l1-refused : (result : Result TableValue Fault) (old new : StorageState) (H : Header) → header_of false (file old) ≡ Ok H → (cluster : ℕ) → cluster ≡ H.fields.l1_offset / 2 ^ H.fields.cluster_bits
-    → IfErr result (WhyNotLoaded l1_words (layout_of H.fields) (words_in (file old) (cluster * cluster_size H.fields) H.fields.l1_entries) old.faults new.faults) → IfErr result (NoL1 old new H.fields)
-l1-refused (Ok _) old new H loads cluster is why = tt
-l1-refused (Err fault) old new H loads cluster is why = l1-why old new H loads cluster is fault why
-
--- the L2 table by a word of the L1 table, past whose end there is none
-pub l2-found : (f : Bytes) (h : Fields) (words : List ℕ) (i : ℕ) → words ≡ words_in f h.l1_offset h.l1_entries → l2_table f h i ≡ table_offset (slice_index words i)
-l2-found f h words i is = elim (cases_lt i h.l1_entries) [
-  | inl lt ↦
-      let inside : nat_lt i h.l1_entries ≡ true = grind (arith, nat_tests) in
-      ap (λ b. cond b (table_offset (word f h.l1_offset i)) 0) inside ∙ ap table_offset (sym (ap (λ ws. slice_index ws i) is ∙ words_at f h.l1_offset h.l1_entries i lt))
-  | inr le ↦
-      let past : nat_lt i h.l1_entries ≡ false = le-ltb _ _ le in
-      let none : slice_index words i ≡ 0 = ap (λ ws. slice_index ws i) is ∙ get_or_past (words_in f h.l1_offset h.l1_entries) i 0 (omega (arith, words_long f h.l1_offset h.l1_entries)) in
-      ap (λ b. cond b (table_offset (word f h.l1_offset i)) 0) past ∙ ap table_offset (sym none)
-]
 
 -- where it begins with a cluster
 pub l2-place : (f : Bytes) (h : Fields) (i : ℕ) → IsTrue (l1_table_sound f h) → l2_table f h i ≢ 0 → (l2_table f h i / 2 ^ h.cluster_bits * 2 ^ h.cluster_bits ≡ l2_table f h i) × (l2_table f h i ≤ max_offset)
@@ -172,13 +112,13 @@ same-table bits at i near =
     ∙ (ap (λ n. (at + i) / n) turned ∙ (div-near at i (l2_entries bits * 2 ^ bits) near ∙ (ap (λ n. at / n) (sym turned) ∙ sym (div-div-eq-div-mul at (2 ^ bits) (l2_entries bits)))))
 
 -- the two indices of a place, by the numbers that the code has them as
-module _ (f : Bytes) (h : Fields) (sound : IsTrue (l1_table_sound f h)) (inside : IsFalse (has_external_data h)) (words : List ℕ) (are : words ≡ words_in f h.l1_offset h.l1_entries)
+module _ (f : Bytes) (h : Fields) (sound : IsTrue (l1_table_sound f h)) (inside : IsFalse (has_external_data h)) (words : List ℕ) (are : NamesTables f h words)
     (at n index : ℕ) (is : index ≡ at / 2 ^ h.cluster_bits / l2_entries h.cluster_bits) (one : at % (l2_entries h.cluster_bits * 2 ^ h.cluster_bits) + n ≤ l2_entries h.cluster_bits * 2 ^ h.cluster_bits) where
   -- the L2 table of each place of the range
   its-table : (i : ℕ) → i < n → l2_table f h ((at + i) / cluster_size h / words_of_cluster h) ≡ table_offset (slice_index words index)
   its-table i lt =
       let near : (at + i) / 2 ^ h.cluster_bits / l2_entries h.cluster_bits ≡ at / 2 ^ h.cluster_bits / l2_entries h.cluster_bits = same-table h.cluster_bits at i (omega arith) in
-      ap (l2_table f h) (near ∙ sym is) ∙ l2-found f h words index are
+      ap (l2_table f h) (near ∙ sym is) ∙ are.each index
 
   -- without an L2 table the range is zeroes
   pub none-shown : None ≡ place_or_none (table_offset (slice_index words index)) → (buffer : List ℕ) → length buffer ≡ n → ((i : ℕ) → slice_index buffer i ≡ 0) → Shows (image_value f h) at buffer
@@ -190,8 +130,8 @@ module _ (f : Bytes) (h : Fields) (sound : IsTrue (l1_table_sound f h)) (inside 
   pub table-place : (place : ℕ) → Some place ≡ place_or_none (table_offset (slice_index words index)) → (place / 2 ^ h.cluster_bits * 2 ^ h.cluster_bits ≡ place) × (place ≤ max_offset)
   table-place place some =
       let there = some-place (table_offset (slice_index words index)) place some in
-      let named : l2_table f h index ≡ place = l2-found f h words index are ∙ sym there.0 in
-      let whole = l2-place f h index sound (λ e. there.1 (sym (l2-found f h words index are) ∙ e)) in
+      let named : l2_table f h index ≡ place = are.each index ∙ sym there.0 in
+      let whole = l2-place f h index sound (λ e. there.1 (sym (are.each index) ∙ e)) in
       (ap (λ p. p / 2 ^ h.cluster_bits * 2 ^ h.cluster_bits) (sym named) ∙ (whole.0 ∙ named), omega (arith, whole.1))
 
   module _ (place cluster : ℕ) (some : Some place ≡ place_or_none (table_offset (slice_index words index))) (begins : cluster ≡ place / 2 ^ h.cluster_bits) where

@@ -1,17 +1,20 @@
 -- The places of the L2 tables, word by word of the L1 table.
-use Rattle.std.proofs.Common.{◌≡◌, ◌≢◌, ℕ, zero, suc, ◌+◌, ◌-◌, ◌*◌, ◌/◌, ◌^◌, ◌<◌, ◌≤◌, refl, arith, ap, sym, ◌∙◌, List, [], ◌∷◌, ◌++◌, length}
-use Rattle.std.specs.Prelude.{Bool, true, false, not, cond, ◌==◌, nat_lt, map, slice_index, Ok}
+use Rattle.std.proofs.Common.{◌≡◌, ◌≢◌, ℕ, zero, suc, ◌+◌, ◌-◌, ◌*◌, ◌/◌, ◌^◌, ◌<◌, ◌≤◌, refl, arith, ap, sym, subst, ◌∙◌, List, [], ◌∷◌, ◌++◌, length, inl, inr}
+use Rattle.std.specs.Prelude.{Bool, true, false, not, cond, ◌==◌, nat_lt, map, slice_index, Result, Ok, Err, IfOk}
 use Rattle.std.specs.List.{filter, range_with_len}
+use Rattle.std.proofs.lemmas.Bool.{cases_lt, le-ltb}
 use Rattle.std.proofs.lemmas.Bool.Decides.{nat_tests}
-use Rattle.std.proofs.lemmas.List.{append-nil}
+use Rattle.std.proofs.lemmas.List.{append-nil, get_or_past}
 use Rattle.std.proofs.lemmas.List.FromFn.{filter_of_map_range_with_len_more}
 use Rattle.qcow2_types.specs.Bytes.{Bytes, bytes_of, word}
 use Rattle.qcow2_types.specs.Words.{table_offset}
 use Rattle.qcow2_types.specs.Header.{Fields, Header, header_of, cluster_size}
 use Rattle.qcow2_types.specs.Entries.{l2_table}
-use Rattle.qcow2_metadata.specs.Tables.{words_in}
-use Rattle.qcow2_metadata.proofs.TableFacts.{words_at}
+use Rattle.qcow2_metadata.specs.Tables.{TableValue, words_in, table_in}
+use Rattle.qcow2_metadata.proofs.TableFacts.{words_long, words_at}
+use Rattle.imago_storage.specs.declared.fault.Fault.{Fault}
 use Rattle.qimg.specs.CheckParts.{tables_of}
+use Rattle.qimg.specs.Plain.{NamesTables}
 use Rattle.qimg.proofs.PlainTables.{l1-place}
 use Rattle.qimg.proofs.FewerWords.{past-word}
 
@@ -60,6 +63,15 @@ l2-past bytes h i lt past =
     let inside : nat_lt i h.l1_entries ≡ true = grind (arith, nat_tests) in
     ap (λ b. cond b (table_offset (word (bytes_of bytes) h.l1_offset i)) 0) inside ∙ ap table_offset (past-word bytes h.l1_offset i past)
 
+-- or its entries
+l2-none : (bytes : List ℕ) (h : Fields) (n i : ℕ) → n ≤ i → ((i : ℕ) → n ≤ i → i < h.l1_entries → length bytes ≤ h.l1_offset + 8 * i) → l2_table (bytes_of bytes) h i ≡ 0
+l2-none bytes h n i ge past = elim (cases_lt i h.l1_entries) [
+  | inl lt ↦ l2-past bytes h i lt (past i ge lt)
+  | inr le ↦
+      let outside : nat_lt i h.l1_entries ≡ false = le-ltb _ _ le in
+      ap (λ b. cond b (table_offset (word (bytes_of bytes) h.l1_offset i)) 0) outside
+]
+
 -- The first words name all places where the others are past the file's end.
 pub tables-all : (bytes : List ℕ) (h : Fields) (n : ℕ) (places : List ℕ) → n ≤ h.l1_entries → ((i : ℕ) → n ≤ i → i < h.l1_entries → length bytes ≤ h.l1_offset + 8 * i)
     → places ≡ tables_to (bytes_of bytes) h n → places ≡ tables_of (bytes_of bytes) h
@@ -67,3 +79,20 @@ unfolding tables_of
 tables-all bytes h n places few past is =
     let whole : n + (h.l1_entries - n) ≡ h.l1_entries = omega arith in
     is ∙ sym (ap (tables_to (bytes_of bytes) h) (sym whole) ∙ tables-rest (bytes_of bytes) h n (h.l1_entries - n) (λ i le lt. l2-past bytes h i (omega arith) (past i le (omega arith))))
+
+-- The first words of the L1 table name its tables where the others are past the file's end.
+first-name : (bytes : List ℕ) (H : Header) → header_of false (bytes_of bytes) ≡ Ok H → (cluster n : ℕ) → cluster ≡ H.fields.l1_offset / 2 ^ H.fields.cluster_bits → n ≤ H.fields.l1_entries
+    → ((i : ℕ) → n ≤ i → i < H.fields.l1_entries → length bytes ≤ H.fields.l1_offset + 8 * i) → NamesTables (bytes_of bytes) H.fields (words_in (bytes_of bytes) (cluster * cluster_size H.fields) n)
+first-name bytes H loads cluster n is few past = record {
+  each = λ i. elim (cases_lt i n) [
+    | inl less ↦ l2-loaded (bytes_of bytes) H loads cluster n i is few less
+    | inr ge ↦
+        let missing : slice_index (words_in (bytes_of bytes) (cluster * cluster_size H.fields) n) i ≡ 0 = get_or_past (words_in (bytes_of bytes) (cluster * cluster_size H.fields) n) i 0 (omega (arith, words_long (bytes_of bytes) (cluster * cluster_size H.fields) n)) in
+        l2-none bytes H.fields n i ge past ∙ ap table_offset (sym missing)
+  ];
+}
+
+pub first-words : (result : Result TableValue Fault) (bytes : List ℕ) (H : Header) → header_of false (bytes_of bytes) ≡ Ok H → (cluster n : ℕ) → cluster ≡ H.fields.l1_offset / 2 ^ H.fields.cluster_bits → n ≤ H.fields.l1_entries
+    → ((i : ℕ) → n ≤ i → i < H.fields.l1_entries → length bytes ≤ H.fields.l1_offset + 8 * i) → IfOk result (λ table. table ≡ table_in (bytes_of bytes) H.fields cluster n) → IfOk result (λ table. NamesTables (bytes_of bytes) H.fields table.words)
+first-words (Err _) bytes H loads cluster n is few past found = tt
+first-words (Ok table) bytes H loads cluster n is few past found = subst (λ t. NamesTables (bytes_of bytes) H.fields t.words) (sym found) (first-name bytes H loads cluster n is few past)

@@ -7,9 +7,9 @@ use Rattle.imago_storage.specs.Disk.{Value, byte, barred, damaged_place}
 use Rattle.imago_storage.specs.declared.fault.Fault.{Fault}
 use Rattle.imago_storage.specs.declared.fault.Fault.TheVariants.{RangeOverflow, DamagedTable, Unsupported, Barred, MissingBelow, Memory, Storage}
 use Rattle.qcow2_types.specs.Bytes.{Bytes}
-use Rattle.qcow2_types.specs.Words.{Mapping, mapping_of}
+use Rattle.qcow2_types.specs.Words.{Mapping, mapping_of, table_offset}
 use Rattle.qcow2_types.specs.Header.{Fields, Header, Rule, header_of, first_fault, has_external_data}
-use Rattle.qcow2_types.specs.Entries.{l1_table_sound}
+use Rattle.qcow2_types.specs.Entries.{l2_table, l1_table_sound}
 use Rattle.qcow2_types.specs.Disk.{shown, shown_by, chain_size}
 use Rattle.qcow2_types.specs.Places.{l2_entries}
 use Rattle.qcow2_metadata.specs.Tables.{TableValue}
@@ -54,6 +54,10 @@ table_value f table p =
 -- the value at place p of an image whose header has these fields, with nothing below
 unfoldable pub image_value : Bytes → Fields → ℕ → Value
 image_value f h p = shown f (λ _. 0) h p (byte 0)
+
+-- These words name the L2 tables of the image; those that are missing at the end name none.
+pub record NamesTables (f : Bytes) (h : Fields) (words : List ℕ) : Type 0 where
+  pub each : (i : ℕ) → l2_table f h i ≡ table_offset (slice_index words i)
 
 -- why the L1 table isn't loaded: want of memory, a fault of the storage, or a word without a meaning
 abbrev pub NoL1 : StorageState → StorageState → Fields → Fault → Type 0

@@ -5,6 +5,7 @@ ghost use Rattle.std.specs.Prelude.{◌≡◌, IsOk, IsErr};
 
 mod buffers;
 pub mod check;
+mod file_end;
 pub mod first;
 pub mod laws;
 pub mod plain;

@@ -4,16 +4,16 @@ ghost use Rattle.std.specs.Result.{result_err};
 ghost use Rattle.imago_storage.specs.Calls.{Kept};
 ghost use Rattle.qcow2_types.specs.Header.{header_of, has_external_data};
 ghost use Rattle.qcow2_types.specs.Entries.{l1_table_sound};
-ghost use Rattle.qcow2_metadata.specs.Tables.{words_in};
 ghost use Rattle.qimg.specs.Files.{file, value_at};
 ghost use Rattle.qimg.specs.Pieces.{ShowsRange};
-ghost use Rattle.qimg.specs.Plain.{alone_fault, NoL1, NotShown, below_size, IsImageRead, NotImageRead, IsPlainRead, NotPlainRead, Refuses, MustRefuse, FilesKept, seen_files, extras_of, faults_of};
+ghost use Rattle.qimg.specs.Plain.{NamesTables, alone_fault, NoL1, NotShown, below_size, IsImageRead, NotImageRead, IsPlainRead, NotPlainRead, Refuses, MustRefuse, FilesKept, seen_files, extras_of, faults_of};
 
 mod pieces;
 #[cfg(test)]
 mod tests;
 
 use crate::buffers::blank;
+use crate::file_end::words_before;
 use imago_storage::{Fault, Storage};
 use pieces::read_tables;
 use qcow2_metadata::{Header, L1Table, Table};
@@ -54,17 +54,19 @@ fn check_alone(header: &Header) -> Result<(), Fault>
     Ok(())
 }
 
-/// Loads the L1 table of an image whose header loads.
+/// Loads the words of the L1 table that begin before the file's end, of an image whose header loads.
 fn load_l1<S: Storage>(image: &mut S, alloc: Global, header: &Header) -> Result<L1Table, Fault>
     requires { header_of false (file (S.state image.old)) ≡ Ok header.now }
-    ensures words { IfOk result (λ table. table.words ≡ words_in (file (S.state image.old)) header.now.fields.l1_offset header.now.fields.l1_entries) }
+    ensures words { IfOk result (λ table. NamesTables (file (S.state image.old)) header.now.fields table.words) }
     ensures sound { OnOk result (IsTrue (l1_table_sound (file (S.state image.old)) header.now.fields)) }
     ensures err { IfErr result (NoL1 (S.state image.old) (S.state image.new) header.now.fields) }
     ensures kept { Kept (S.state image.old) (S.state image.new) }
     ensures faults { OnOk result ((S.state image.new).faults ≡ (S.state image.old).faults) }
 {
-    let cluster = header.l1_table_offset().cluster(header.cluster_bits());
-    L1Table::load(alloc, image, header, cluster, header.l1_table_entries())
+    let offset = header.l1_table_offset();
+    let words = words_before(image.size(), offset.0, header.l1_table_entries());
+    let cluster = offset.cluster(header.cluster_bits());
+    L1Table::load(alloc, image, header, cluster, words)
 }
 
 /// Reads a range of an image whose header has loaded, with the L1 table that it has, where the range's end fits 64 bits.
@@ -77,7 +79,7 @@ fn read_disk<S: Storage>(
     buf: &mut [u8],
 ) -> Result<(), Fault>
     requires loads { header_of false (file (S.state image.old)) ≡ Ok header.now }
-    requires words { l1.now.words ≡ words_in (file (S.state image.old)) header.now.fields.l1_offset header.now.fields.l1_entries }
+    requires words { NamesTables (file (S.state image.old)) header.now.fields l1.now.words }
     requires sound { IsTrue (l1_table_sound (file (S.state image.old)) header.now.fields) }
     requires inside { IsFalse (has_external_data header.now.fields) }
     ensures ok { OnOk result (ShowsRange (file (S.state image.old)) header.now.fields.size offset buf.new) }
@@ -130,6 +132,8 @@ fn read_image<S: Storage>(
 /// range's end passes `u64`; and where a place of the range below the size can't be read, what the first such place asks for:
 /// `Fault::DamagedTable` where its table is damaged, `Fault::Barred` where it is compressed. `Fault::Memory` and
 /// `Fault::Storage` come whenever they are met. A refusal leaves the buffer open; the files stay as they were.
+///
+/// Words of the L1 table past a file's end are 0, and aren't read.
 pub fn plain_read<S: Storage>(
     alloc: Global,
     files: &mut [ChainFile<S>],

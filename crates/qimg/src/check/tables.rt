@@ -15,6 +15,7 @@ ghost use Rattle.qimg.specs.Check.{Found};
 
 use super::names::{Tally, Times, compact_where_grown, name_range};
 use super::{CheckFault, load_fault};
+use crate::file_end::words_before;
 use imago_storage::Storage;
 use qcow2_metadata::{Header, L1Table, L2Mapping, L2Table, RefTable, Table};
 use qcow2_types::{GuestCluster, HostCluster, HostOffset};
@@ -26,24 +27,6 @@ const STRUCTURE: Times = Times {
     mapped: 0,
     copied: 0,
 };
-
-/// How many of the words from a place on begin before the file's end: those behind are 0.
-fn words_before(end: u64, place: u64, words: usize) -> usize
-    requires { words < 2 ^ 32 }
-    ensures few { result ≤ words }
-    ensures inside { (i : ℕ) → i < result → place + 8 * i < end }
-    ensures rest { (i : ℕ) → result ≤ i → i < words → end ≤ place + 8 * i }
-{
-    if end <= place {
-        return 0;
-    }
-    let inside = (end - place).div_ceil(8);
-    if inside < words as u64 {
-        inside as usize
-    } else {
-        words
-    }
-}
 
 /// The places of the L2 tables, and of the refcount blocks.
 #[derive(Drop)]

@@ -6,9 +6,8 @@ ghost use Rattle.qcow2_types.specs.Header.{header_of, has_external_data};
 ghost use Rattle.qcow2_types.specs.Entries.{l1_table_sound};
 ghost use Rattle.qcow2_types.specs.Places.{l2_entries};
 ghost use Rattle.qcow2_metadata.specs.MappingView.{mapping_seen, IsNamed};
-ghost use Rattle.qcow2_metadata.specs.Tables.{words_in};
 ghost use Rattle.qimg.specs.Files.{file};
-ghost use Rattle.qimg.specs.Plain.{NotShown, mapped_value, table_value, image_value};
+ghost use Rattle.qimg.specs.Plain.{NamesTables, NotShown, mapped_value, table_value, image_value};
 
 use crate::buffers::blank;
 use imago_storage::{Fault, Storage, StorageExt};
@@ -122,7 +121,7 @@ fn read_table<S: Storage>(
     at: u64,
 ) -> Result<(), Fault>
     requires loads { header_of false (file (S.state image.old)) ≡ Ok header.now }
-    requires words { l1.now.words ≡ words_in (file (S.state image.old)) header.now.fields.l1_offset header.now.fields.l1_entries }
+    requires words { NamesTables (file (S.state image.old)) header.now.fields l1.now.words }
     requires sound { IsTrue (l1_table_sound (file (S.state image.old)) header.now.fields) }
     requires data_inside { IsFalse (has_external_data header.now.fields) }
     requires some { 0 < length buf.old }
@@ -155,7 +154,7 @@ pub fn read_tables<S: Storage>(
     at: u64,
 ) -> Result<(), Fault>
     requires loads { header_of false (file (S.state image.old)) ≡ Ok header.now }
-    requires words { l1.now.words ≡ words_in (file (S.state image.old)) header.now.fields.l1_offset header.now.fields.l1_entries }
+    requires words { NamesTables (file (S.state image.old)) header.now.fields l1.now.words }
     requires sound { IsTrue (l1_table_sound (file (S.state image.old)) header.now.fields) }
     requires data_inside { IsFalse (has_external_data header.now.fields) }
     requires fits { at + length buf.old < 2 ^ 64 }

@@ -197,6 +197,44 @@ fn a_fault_of_the_storage_is_told(rt: HostRuntime) -> Result<(), Fail> {
     Ok(())
 }
 
+// The 3 bytes at 510 of the worked image with these changes, by so many reads of its storage.
+fn reads_of(
+    rt: &impl Abort,
+    alloc: Global,
+    changes: &[(u64, &[u8])],
+    bytes: [u8; 3],
+    wanted: u64,
+) -> Result<(), Fault> {
+    let storage = FuseStorage::new(worked(alloc, changes)?, 0);
+    let mut files = alone(alloc, Format::Qcow2, storage);
+    let mut three = [7u8; 3];
+    plain_read(alloc, &mut files, 510, &mut three)?;
+    assert_eq!(rt; three, bytes);
+    let [top] = files;
+    assert_eq!(rt; top.image.count(), wanted);
+    Ok(())
+}
+
+// The header by two reads, both tables, and the bytes of two clusters. Of an L1 table that begins at the file's end nothing is
+// read; where the file ends one byte before its first word does, that byte is 0.
+fn l1_tables_at_the_end(rt: &impl Abort, alloc: Global) -> Result<(), Fault> {
+    reads_of(rt, alloc, &[], [1, 2, 3], 6)?;
+    let at_the_end: (u64, &[u8]) = (46, &[14, 0]);
+    reads_of(rt, alloc, &[at_the_end], [0, 0, 0], 2)?;
+    let word: [u8; 7] = [128, 0, 0, 0, 0, 0, 8];
+    reads_of(rt, alloc, &[at_the_end, (3584, &word)], [1, 2, 3], 6)
+}
+
+#[test]
+fn words_past_the_end_are_not_read(rt: HostRuntime) -> Result<(), Fail> {
+    let alloc = rt.alloc();
+    match l1_tables_at_the_end(&rt, alloc) {
+        Err(Fault::Memory) => l1_tables_at_the_end(&rt, alloc)?,
+        answer => answer?,
+    }
+    Ok(())
+}
+
 // A read of a disk, and a plain read of its image, of so many bytes from an offset on.
 fn both_reads(
     rt: &impl Abort,
