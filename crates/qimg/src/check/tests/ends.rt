@@ -3,6 +3,7 @@ use super::images::{
     COMPRESSED, COPIED, SMALL, Shape, finds_in, image_of, leaks_in, small, small_as,
 };
 use super::*;
+use imago_storage::PreallocateMode;
 
 fn tables_past_the_end(rt: &impl Abort, alloc: Global) -> Result<(), Fault> {
     // The file ends in cluster 4. An L2 table in cluster 7, and a block there.
@@ -75,6 +76,37 @@ fn tables_may_end_behind_the_file(rt: HostRuntime) -> Result<(), Fail> {
     let alloc = rt.alloc();
     match tables_over_the_end(&rt, alloc) {
         Err(Fault::Memory) => tables_over_the_end(&rt, alloc)?,
+        answer => answer?,
+    }
+    Ok(())
+}
+
+// The worked image of which only so many bytes are left.
+fn first_bytes(alloc: Global, size: u64) -> Result<MemStorage, Fault> {
+    let mut image = worked(alloc)?;
+    image.resize(size, PreallocateMode::None)?;
+    Ok(image)
+}
+
+fn cut_images(rt: &impl Abort, alloc: Global) -> Result<(), Fault> {
+    finds_in(rt, alloc, first_bytes(alloc, 0)?, CheckFault::Header)?;
+    finds_in(rt, alloc, first_bytes(alloc, 72)?, CheckFault::Header)?;
+    // the header alone, and with the refcount table and its block
+    let image = first_bytes(alloc, 104)?;
+    finds_in(rt, alloc, image, CheckFault::UnderCounted(0))?;
+    let image = first_bytes(alloc, 1536)?;
+    leaks_in(rt, alloc, image, &[(4, 1), (5, 1), (6, 1)])?;
+    // the L1 table too, whose L2 table is named, and names nothing
+    let image = first_bytes(alloc, 2048)?;
+    leaks_in(rt, alloc, image, &[(5, 1), (6, 1)])?;
+    Ok(())
+}
+
+#[test]
+fn an_image_that_was_cut(rt: HostRuntime) -> Result<(), Fail> {
+    let alloc = rt.alloc();
+    match cut_images(&rt, alloc) {
+        Err(Fault::Memory) => cut_images(&rt, alloc)?,
         answer => answer?,
     }
     Ok(())
