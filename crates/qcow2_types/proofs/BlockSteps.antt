@@ -16,7 +16,7 @@ use Rattle.qcow2_types.specs.Consistency.{IsConsistent}
 use Rattle.qcow2_types.specs.Steps.{BlockWritten, CounterWritten}
 use Rattle.qcow2_types.proofs.Consistent.{meets-own, consistent-shaped, structure-unmapped, named-counted}
 use Rattle.qcow2_types.proofs.Counters.{some-counters, whole, counter-moved}
-use Rattle.qcow2_types.proofs.DataSteps.{kept-keeps, kept-references, kept-consistent, kept-shows, free-stays}
+use Rattle.qcow2_types.proofs.DataSteps.{kept-keeps, kept-references, kept-consistent, kept-shows, free-stays, data-stays}
 use Rattle.qcow2_types.proofs.Frames.{block-part, splice-is-outside}
 use Rattle.qcow2_types.proofs.Parts.{block-inside, kept-block, touches-once, count-kept, block_at-kept}
 use Rattle.qcow2_types.proofs.Sound.{sound-words}
@@ -72,6 +72,7 @@ module _ (f : Bytes) (H : Header) (was : IsConsistent f H) (b : ℕ) (there : bl
           counts = counts;
           shows = kept-shows f g H was (block b) kept (λ i e. cc) (λ i e. cc) (λ i e. cc) after (block_at f H.fields b / cluster_size H.fields) at n out (omega arith) (omega arith) (structure-unmapped f H was _ block-weighs);
           free = free-stays f g H (block_at f H.fields b / cluster_size H.fields) at n out (omega arith) (omega arith) block-weighs;
+          mapped = data-stays f g H was (block_at f H.fields b / cluster_size H.fields) at n out (omega arith) (omega arith) block-weighs;
         }
       where
         number : Skipped → ℕ

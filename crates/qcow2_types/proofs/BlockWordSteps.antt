@@ -19,7 +19,7 @@ use Rattle.qcow2_types.specs.Steps.{BlockEntered}
 use Rattle.qcow2_types.proofs.Consistent.{header-kept, some-words, meets-own, meets-other, consistent-shaped, structure-named-once, structure-unmapped, copied-named-once, named-counted, consistent-from}
 use Rattle.qcow2_types.proofs.Counters.{whole, counter-same, some-counters}
 use Rattle.qcow2_types.proofs.BlockSteps.{count-there}
-use Rattle.qcow2_types.proofs.DataSteps.{free-stays}
+use Rattle.qcow2_types.proofs.DataSteps.{free-stays, data-stays}
 use Rattle.qcow2_types.proofs.Frames.{refcount_table-part, untouched, splice-is-outside}
 use Rattle.qcow2_types.proofs.HeaderLimits.{header-limited}
 use Rattle.qcow2_types.proofs.Parts.{kept-block_word, touches-once, count-kept, l2_table-kept, block_at-kept, slot-kept}
@@ -275,6 +275,7 @@ module _ (f g : Bytes) (H : Header) (was : IsConsistent f H) (i : ℕ) (lt : i <
         references = entered-references;
         shows = λ guest. shows-outside f g H.fields was.readable.tables entered-consistent.readable.tables words guest (entered-guest words guest) _ (H.fields.refcount_table_offset + 8 * i) 8 out low high (structure-unmapped f H was _ table-weighs);
         free = free-stays f g H _ (H.fields.refcount_table_offset + 8 * i) 8 out low high table-weighs;
+        mapped = data-stays f g H was _ (H.fields.refcount_table_offset + 8 * i) 8 out low high table-weighs;
       }
 
 -- By the bytes of the word.

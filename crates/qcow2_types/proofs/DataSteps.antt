@@ -20,7 +20,7 @@ use Rattle.qcow2_types.proofs.Parts.{kept-all, touches-none, count-kept}
 use Rattle.qcow2_types.proofs.Sound.{sound-words}
 use Rattle.qcow2_types.proofs.WriteBack.{keeps-slots}
 use Rattle.qcow2_types.proofs.DataWrites.{data-write-elsewhere}
-use Rattle.qcow2_types.proofs.Shows.{guest-kept, guest-live, guest-slot-there, guest-slot-none, shows-outside, shows-by}
+use Rattle.qcow2_types.proofs.Shows.{guest-kept, guest-live, guest-slot-there, guest-slot-none, entries-same, shows-outside, shows-by}
 use Rattle.qcow2_types.proofs.Values.{entry-slot}
 use Rattle.qcow2_types.proofs.Named.{structure-le-refs, copied-named}
 use Rattle.qcow2_types.proofs.Frames.{untouched, touches-cluster}
@@ -146,6 +146,7 @@ module _ (f : Bytes) (H : Header) (was : IsConsistent f H) (c i j : ℕ) (live :
         keeps = keeps;
         references = untouched-references f g H was kept;
         counts = untouched-counts f g H was kept;
+        entries = λ guest. entries-same f g H.fields was.readable.tables after.readable.tables some guest (guest-kept f g H.fields keeps some guest);
         elsewhere = λ guest apart. data-write-elsewhere f f g H.fields c i j at n (omega arith) live (omega arith) out low high was.readable.tables after.readable.tables some guest apart (guest-kept f g H.fields keeps some);
       }
 
@@ -271,6 +272,7 @@ module _ (f : Bytes) (H : Header) (was : IsConsistent f H) (c k : ℕ) (apart : 
         keeps = keeps;
         references = untouched-references f g H was run-kept;
         counts = untouched-counts f g H was run-kept;
+        entries = λ guest. entries-same f g H.fields was.readable.tables after.readable.tables some guest (guest-kept f g H.fields keeps some guest);
         elsewhere = λ guest off.
             shows-by f g H.fields was.readable.tables after.readable.tables some guest (guest-kept f g H.fields keeps some guest)
             (λ live d copied names. run-apart d (off d copied (entry-slot f H.fields guest was.readable.tables ∙ (guest-slot-there f H.fields guest live.is_there ∙ names))));

@@ -21,7 +21,7 @@ use Rattle.qcow2_types.proofs.Sound.{sound-words}
 use Rattle.qcow2_types.proofs.Splices.{be-same}
 use Rattle.qcow2_types.proofs.Sums.{sum-same}
 use Rattle.qcow2_types.specs.Switched.{with_l1, with_l1_table, L1Switched}
-use Rattle.qcow2_types.proofs.Switches.{sum-longer, cluster-long, first-named, start-kept, start-free, start-values}
+use Rattle.qcow2_types.proofs.Switches.{sum-longer, cluster-long, first-named, start-kept, start-free, start-mapped, start-values}
 
 module _ (f g : Bytes) (H : Header) (was : IsConsistent f H) (o more : ℕ) (loads : header_of true g ≡ Ok (with_l1_table H o (H.fields.l1_entries + more))) (out : Outside f g 0 64)
     (old_words : (i : ℕ) → i < H.fields.l1_entries → word f o i ≡ word f H.fields.l1_offset i) (new_words : (i : ℕ) → H.fields.l1_entries ≤ i → i < H.fields.l1_entries + more → word f o i ≡ 0)
@@ -235,6 +235,8 @@ module _ (f g : Bytes) (H : Header) (was : IsConsistent f H) (o more : ℕ) (loa
   pub l1-table-switched : L1Switched f g H o more
   l1-table-switched = record {
     consistent = switched-consistent;
+    kept = kept;
+    words = words-there;
     tables = switched-tables;
     slots = switched-slots;
     blocks = switched-blocks;
@@ -245,4 +247,5 @@ module _ (f g : Bytes) (H : Header) (was : IsConsistent f H) (o more : ℕ) (loa
     entries = switched-entry;
     shows = start-values f g H (with_l1 H.fields o (H.fields.l1_entries + more)) was out refl refl switched-entry;
     free = start-free f g H was out;
+    mapped = start-mapped f g H was out;
   }

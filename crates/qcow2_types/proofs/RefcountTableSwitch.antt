@@ -22,7 +22,7 @@ use Rattle.qcow2_types.proofs.Slots.{contents-slots}
 use Rattle.qcow2_types.proofs.Sound.{sound-words}
 use Rattle.qcow2_types.proofs.Splices.{be-same}
 use Rattle.qcow2_types.proofs.Sums.{sum-same, sum-both}
-use Rattle.qcow2_types.proofs.Switches.{sum-longer, cluster-long, first-named, start-kept, start-free, start-values}
+use Rattle.qcow2_types.proofs.Switches.{sum-longer, cluster-long, first-named, start-kept, start-free, start-mapped, start-values}
 use Rattle.qcow2_types.proofs.Values.{entry-slot}
 use Rattle.qcow2_types.proofs.WriteBack.{place-whole}
 use Rattle.std.proofs.Math.Nat.{mul-le-mul_right}
@@ -293,6 +293,8 @@ module _ (f g : Bytes) (H : Header) (was : IsConsistent f H) (o m : ℕ) (loads 
   pub refcount-table-switched : RefcountTableSwitched f g H o m
   refcount-table-switched = record {
     consistent = switched-consistent;
+    kept = kept;
+    words = words-there;
     tables = switched-tables;
     slots = switched-slots;
     blocks = switched-blocks;
@@ -304,4 +306,5 @@ module _ (f g : Bytes) (H : Header) (was : IsConsistent f H) (o m : ℕ) (loads 
     entries = switched-entry;
     shows = start-values f g H (with_reftable H.fields o m) was out refl refl switched-entry;
     free = start-free f g H was out;
+    mapped = start-mapped f g H was out;
   }

@@ -78,7 +78,7 @@ module _ (f x : Bytes) (h : Fields) (sound : IsTrue (tables_sound f h)) (some : 
 module _ (f x : Bytes) (h : Fields) (sound : IsTrue (tables_sound f h)) (sound' : IsTrue (tables_sound x h)) (some : 0 < words_of_cluster h)
     (guest : ℕ) (same : guest_slot x h guest ≡ guest_slot f h guest) where
   -- the entries are the same where the words are
-  entries-same : entry x h guest ≡ entry f h guest
+  pub entries-same : entry x h guest ≡ entry f h guest
   entries-same = entry-slot x h guest sound' ∙ (same ∙ sym (entry-slot f h guest sound))
 
   -- a guest cluster shows the same where the cluster that its word names keeps its bytes

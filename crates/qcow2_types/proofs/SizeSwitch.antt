@@ -18,7 +18,7 @@ use Rattle.qcow2_types.proofs.Either.{structure-same, refs-kept}
 use Rattle.qcow2_types.proofs.Parts.{count-kept}
 use Rattle.qcow2_types.proofs.Shows.{guest-kept}
 use Rattle.qcow2_types.proofs.Sound.{words-sound}
-use Rattle.qcow2_types.proofs.Switches.{start-kept, start-free, start-values}
+use Rattle.qcow2_types.proofs.Switches.{start-kept, start-free, start-mapped, start-values}
 use Rattle.qcow2_types.proofs.Values.{entry-slot}
 
 -- what the structure weighs
@@ -115,6 +115,7 @@ module _ (f g : Bytes) (H : Header) (was : IsConsistent f H) (n : ℕ) (loads : 
   pub size-switched : SizeSwitched f g H n
   size-switched = record {
     consistent = consistent;
+    kept = kept;
     tables = keeps.places.l1;
     slots = keeps.slots;
     blocks = keeps.places.blocks;
@@ -126,4 +127,5 @@ module _ (f g : Bytes) (H : Header) (was : IsConsistent f H) (n : ℕ) (loads : 
     entries = entries;
     shows = start-values f g H (sized H.fields n) was out refl refl entries;
     free = start-free f g H was out;
+    mapped = start-mapped f g H was out;
   }

@@ -16,13 +16,14 @@ use Rattle.qcow2_types.specs.References.{structure, contents, of_mapping, of_cop
 use Rattle.qcow2_types.specs.Consistency.{IsConsistent}
 use Rattle.qcow2_types.specs.Steps.{SlotWritten, ClusterMapped}
 use Rattle.qcow2_types.proofs.Consistent.{header-kept, some-words, meets-own, meets-other, consistent-shaped, structure-named-once, structure-unmapped, copied-named-once, named-counted, consistent-from}
-use Rattle.qcow2_types.proofs.DataSteps.{free-stays}
+use Rattle.qcow2_types.proofs.DataSteps.{free-stays, data-stays}
 use Rattle.qcow2_types.proofs.Either.{structure-same, tables-same, refs-change, places-refl}
 use Rattle.qcow2_types.proofs.Frames.{l2-part, splice-is-outside}
 use Rattle.qcow2_types.proofs.Parts.{kept-table, touches-once, count-kept, l2_table-kept, block_at-kept, slot-kept, other-word}
 use Rattle.qcow2_types.proofs.Shows.{table-inside, guest-live, guest-slot-there, guest-slot-none, shows-outside}
 use Rattle.qcow2_types.proofs.Slots.{contents-slots, slots-change}
 use Rattle.qcow2_types.proofs.Sound.{sound-words}
+use Rattle.qcow2_types.proofs.Values.{entry-slot}
 use Rattle.qcow2_types.proofs.Splices.{word-written}
 use Rattle.qcow2_types.proofs.WriteBack.{place-whole, table-place}
 
@@ -155,10 +156,15 @@ module _ (f g : Bytes) (H : Header) (was : IsConsistent f H) (i j : ℕ) (live :
         row = λ m apart. other-word f g (l2_table f H.fields i) j m out (λ e. apart (sym e));
         others = slot-others;
         counts = slot-counts;
+        entries = λ guest row column.
+            entry-slot g H.fields guest after.readable.tables
+            ∙ (guest-slot-there g H.fields guest (λ e. live.is_there (sym (slot-places.l1 i) ∙ (sym (ap (l2_table g H.fields) row) ∙ e)))
+            ∙ (ap (λ k. slot g H.fields k (guest % words_of_cluster H.fields)) row ∙ (ap (slot g H.fields i) column ∙ slot-here)));
         elsewhere = λ guest off.
             shows-outside f g H.fields was.readable.tables after.readable.tables words guest (guest-same words guest off) (l2_table f H.fields i / cluster_size H.fields) (l2_table f H.fields i + 8 * j) 8 out (omega arith) (omega (arith, word-inside))
             (structure-unmapped f H was _ (table-weighs f H was i live.is_there));
         free = free-stays f g H (l2_table f H.fields i / cluster_size H.fields) (l2_table f H.fields i + 8 * j) 8 out (omega arith) (omega (arith, word-inside)) (table-weighs f H was i live.is_there);
+        mapped = data-stays f g H was (l2_table f H.fields i / cluster_size H.fields) (l2_table f H.fields i + 8 * j) 8 out (omega arith) (omega (arith, word-inside)) (table-weighs f H was i live.is_there);
       }
     where
       guest-same : 0 < words_of_cluster H.fields → (guest : ℕ) → (guest / words_of_cluster H.fields ≢ i) ⊎ (guest % words_of_cluster H.fields ≢ j) → guest_slot g H.fields guest ≡ guest_slot f H.fields guest

@@ -10,11 +10,11 @@ use Rattle.qcow2_types.specs.Header.{Fields, Header, Shaped, cluster_size, words
 use Rattle.qcow2_types.specs.Entries.{entry, l2_table, l2_mapping}
 use Rattle.qcow2_types.specs.Disk.{shown, shown_by, host_byte}
 use Rattle.qcow2_types.specs.Counts.{block_at}
-use Rattle.qcow2_types.specs.References.{Weight, structure, of_cluster, meets, refs}
+use Rattle.qcow2_types.specs.References.{Weight, structure, contents, of_cluster, of_mapping, meets, refs}
 use Rattle.qcow2_types.specs.Consistency.{IsConsistent, tables_sound}
 use Rattle.qcow2_types.specs.Frames.{Same, Outside, touches, Kept, ShowsAs, first_cluster}
 use Rattle.qcow2_types.proofs.Consistent.{some-words, consistent-shaped, structure-unmapped, meets-own}
-use Rattle.qcow2_types.proofs.DataSteps.{free-stays, kept-keeps, kept-sound}
+use Rattle.qcow2_types.proofs.DataSteps.{free-stays, data-stays, kept-keeps, kept-sound}
 use Rattle.qcow2_types.proofs.Frames.{header-part}
 use Rattle.qcow2_types.proofs.Named.{structure-le-refs}
 use Rattle.qcow2_types.proofs.Parts.{kept-start, touches-once}
@@ -54,11 +54,17 @@ start-kept f g H was out =
     let once : structure f H.fields (touches 0 64) ≤ 1 = touches-once f H.fields 0 0 64 (was.structure_apart 0) (omega arith) (omega arith) in
     kept-start f g H.fields 0 64 out (omega arith) once (omega arith)
 
--- Clusters that nothing names keep their bytes.
+-- Clusters that nothing names keep their bytes,
 pub start-free : (f g : Bytes) (H : Header) → IsConsistent f H → Outside f g 0 64 → (c : ℕ) → refs f H.fields c ≡ 0 → Same f g (c * cluster_size H.fields) (cluster_size H.fields)
 start-free f g H was out =
     let s : 512 ≤ cluster_size H.fields = cluster-long f H was in
     free-stays f g H 0 0 64 out (omega arith) (omega arith) (first-weighs f H was)
+
+-- and so do those that words name.
+pub start-mapped : (f g : Bytes) (H : Header) → IsConsistent f H → Outside f g 0 64 → (c : ℕ) → 0 < contents f H.fields (of_mapping H.fields (meets H.fields c)) → Same f g (c * cluster_size H.fields) (cluster_size H.fields)
+start-mapped f g H was out =
+    let s : 512 ≤ cluster_size H.fields = cluster-long f H was in
+    data-stays f g H was 0 0 64 out (omega arith) (omega arith) (first-weighs f H was)
 
 -- So each guest cluster shows what it did, by the old fields.
 pub start-shows : (f g : Bytes) (H : Header) → IsConsistent f H → Outside f g 0 64 → (guest : ℕ) → ShowsAs g f H.fields guest

@@ -147,6 +147,7 @@ module _ (f g : Bytes) (H : Header) (was : IsConsistent f H) (i : ℕ) (lt : i <
         shows = λ guest. shows-outside f g H.fields was.readable.tables entered-consistent.readable.tables words guest (entered-guest words guest) _ (H.fields.l1_offset + 8 * i) 8 out
             (low f g H was i lt out w written sane c t names there begins unnamed) (high f g H was i lt out w written sane c t names there begins unnamed) (structure-unmapped f H was _ weighs);
         free = entered-replaced.free;
+        mapped = entered-replaced.mapped;
       }
 
 -- By the bytes of the word.

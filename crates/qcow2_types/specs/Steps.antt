@@ -23,13 +23,14 @@ abbrev pub ShownByUnmarked : Bytes → Bytes → Header → Type 0
 ShownByUnmarked f g H = (external : Bytes) (p : ℕ) (below : Value) → unmarked_mapping (entry g H.fields (p / cluster_size H.fields)) ≡ unmarked_mapping (entry f H.fields (p / cluster_size H.fields))
     → shown g external H.fields p below ≡ shown f external H.fields p below
 
--- A data cluster was written that word j of L2 table i names: what shows changes at no other guest cluster.
+-- A data cluster was written that word j of L2 table i names: no guest cluster's mapping changes, and what shows at no other one.
 pub record DataWritten (f g : Bytes) (H : Header) (i j : ℕ) : Type 0 where
   pub consistent : IsConsistent g H
   pub kept : Kept f g H.fields nothing
   pub keeps : KeepsSlots f g H.fields
   pub references : (c : ℕ) → refs g H.fields c ≡ refs f H.fields c
   pub counts : (c : ℕ) → count g H.fields c ≡ count f H.fields c
+  pub entries : (guest : ℕ) → entry g H.fields guest ≡ entry f H.fields guest
   pub elsewhere : (guest : ℕ) → (guest / words_of_cluster H.fields ≢ i) ⊎ (guest % words_of_cluster H.fields ≢ j) → ShowsAs g f H.fields guest
 
 -- A cluster was written that nothing names, or that is kept for zeroes: the image stays as it is, and shows the same.
@@ -41,18 +42,19 @@ pub record FreeWritten (f g : Bytes) (H : Header) : Type 0 where
   pub counts : (c : ℕ) → count g H.fields c ≡ count f H.fields c
   pub shows : (guest : ℕ) → ShowsAs g f H.fields guest
 
--- Clusters c to c + k were written, in which no table, block or header is: the image stays as it is, and what shows changes at those
--- guest clusters alone whose data is in one of them.
+-- Clusters c to c + k were written, in which no table, block or header is: the image stays as it is, with the mapping of each guest
+-- cluster, and what shows changes at those alone whose data is in one of them.
 pub record RunWritten (f g : Bytes) (H : Header) (c k : ℕ) : Type 0 where
   pub consistent : IsConsistent g H
   pub kept : Kept f g H.fields nothing
   pub keeps : KeepsSlots f g H.fields
   pub references : (d : ℕ) → refs g H.fields d ≡ refs f H.fields d
   pub counts : (d : ℕ) → count g H.fields d ≡ count f H.fields d
+  pub entries : (guest : ℕ) → entry g H.fields guest ≡ entry f H.fields guest
   pub elsewhere : (guest : ℕ) → ((d : ℕ) (copied : Bool) → entry f H.fields guest ≡ data_at d copied → (d < c) ⊎ (c + k < d)) → ShowsAs g f H.fields guest
 
--- Refcount block b was written: no count of another block changes, the image shows the same, and clusters that nothing names keep
--- their bytes.
+-- Refcount block b was written: no count of another block changes, and the image shows the same. Clusters that nothing names keep
+-- their bytes, and so do those that words name, also those kept for zeroes.
 pub record BlockWritten (f g : Bytes) (H : Header) (b : ℕ) : Type 0 where
   pub consistent : IsConsistent g H
   pub kept : Kept f g H.fields (block b)
@@ -61,6 +63,7 @@ pub record BlockWritten (f g : Bytes) (H : Header) (b : ℕ) : Type 0 where
   pub counts : (c : ℕ) → c / counters_of_block H.fields ≢ b → count g H.fields c ≡ count f H.fields c
   pub shows : (guest : ℕ) → ShowsAs g f H.fields guest
   pub free : (c : ℕ) → refs f H.fields c ≡ 0 → Same f g (c * cluster_size H.fields) (cluster_size H.fields)
+  pub mapped : (c : ℕ) → 0 < contents_sum f H.fields (of_mapping H.fields (meets H.fields c)) → Same f g (c * cluster_size H.fields) (cluster_size H.fields)
 
 -- The counter of cluster c was written, and is this number: no other count changes.
 pub record CounterWritten (f g : Bytes) (H : Header) (c number : ℕ) : Type 0 where
@@ -69,6 +72,7 @@ pub record CounterWritten (f g : Bytes) (H : Header) (c number : ℕ) : Type 0 w
   pub others : (d : ℕ) → d ≢ c → count g H.fields d ≡ count f H.fields d
 
 -- Word j of L2 table i was written, and means `new`: no other word and no count changes, and so what other guest clusters show.
+-- Clusters that nothing names keep their bytes, and so do those that words name.
 pub record SlotWritten (f g : Bytes) (H : Header) (i j : ℕ) (new : Mapping) : Type 0 where
   pub consistent : IsConsistent g H
   pub kept : Kept f g H.fields (table i)
@@ -77,8 +81,10 @@ pub record SlotWritten (f g : Bytes) (H : Header) (i j : ℕ) (new : Mapping) : 
   pub row : (m : ℕ) → m ≢ j → word g (l2_table f H.fields i) m ≡ word f (l2_table f H.fields i) m
   pub others : (k m : ℕ) → Live (l2_table f H.fields) H.fields k m → (k ≢ i) ⊎ (m ≢ j) → slot g H.fields k m ≡ slot f H.fields k m
   pub counts : (c : ℕ) → count g H.fields c ≡ count f H.fields c
+  pub entries : (guest : ℕ) → guest / words_of_cluster H.fields ≡ i → guest % words_of_cluster H.fields ≡ j → entry g H.fields guest ≡ new
   pub elsewhere : (guest : ℕ) → (guest / words_of_cluster H.fields ≢ i) ⊎ (guest % words_of_cluster H.fields ≢ j) → ShowsAs g f H.fields guest
   pub free : (c : ℕ) → refs f H.fields c ≡ 0 → Same f g (c * cluster_size H.fields) (cluster_size H.fields)
+  pub mapped : (c : ℕ) → 0 < contents_sum f H.fields (of_mapping H.fields (meets H.fields c)) → Same f g (c * cluster_size H.fields) (cluster_size H.fields)
 
 -- summed over what the words of L2 table i mean
 abbrev pub table_sum : Bytes → Fields → (Mapping → ℕ) → ℕ → ℕ
@@ -128,6 +134,7 @@ pub record TableEntered (f g : Bytes) (H : Header) (i c place : ℕ) : Type 0 wh
   pub references : (d : ℕ) → d ≢ c → refs g H.fields d ≡ refs f H.fields d
   pub shows : (guest : ℕ) → ShowsAs g f H.fields guest
   pub free : (d : ℕ) → refs f H.fields d ≡ 0 → Same f g (d * cluster_size H.fields) (cluster_size H.fields)
+  pub mapped : (d : ℕ) → 0 < contents_sum f H.fields (of_mapping H.fields (meets H.fields d)) → Same f g (d * cluster_size H.fields) (cluster_size H.fields)
 
 -- Word i of the L1 table was written and names the L2 table at this place: no word of another table and no count changes. What is
 -- named changes by the old table, with what its words name, and the new one with what its words name. Clusters that nothing names keep
@@ -174,3 +181,4 @@ pub record BlockEntered (f g : Bytes) (H : Header) (i c place : ℕ) : Type 0 wh
   pub references : (d : ℕ) → d ≢ c → refs g H.fields d ≡ refs f H.fields d
   pub shows : (guest : ℕ) → ShowsAs g f H.fields guest
   pub free : (d : ℕ) → refs f H.fields d ≡ 0 → Same f g (d * cluster_size H.fields) (cluster_size H.fields)
+  pub mapped : (d : ℕ) → 0 < contents_sum f H.fields (of_mapping H.fields (meets H.fields d)) → Same f g (d * cluster_size H.fields) (cluster_size H.fields)

@@ -1,15 +1,17 @@
 -- What is left of an image when its header names another L1 table, another refcount table or another size: of f with header H in g.
-use Rattle.std.specs.Prelude.{◌≡◌, ◌≢◌, ℕ, ◌+◌, ◌*◌, ◌/◌, ◌==◌, if◌then◌else◌}
+-- Behind the header the structure of f stands as it was, with the words of the new table; clusters that nothing names keep their bytes,
+-- and so do those that words name.
+use Rattle.std.specs.Prelude.{◌≡◌, ◌≢◌, ℕ, ◌+◌, ◌*◌, ◌/◌, ◌<◌, ◌==◌, if◌then◌else◌}
 use Rattle.imago_storage.specs.Disk.{Value}
-use Rattle.qcow2_types.specs.Bytes.{Bytes, sum_below}
+use Rattle.qcow2_types.specs.Bytes.{Bytes, word, sum_below}
 use Rattle.qcow2_types.specs.Words.{Mapping}
 use Rattle.qcow2_types.specs.Header.{Fields, Header, cluster_size, words_of_cluster}
 use Rattle.qcow2_types.specs.Entries.{entry, l2_table}
 use Rattle.qcow2_types.specs.Counts.{block_at, count, counters_of_block}
-use Rattle.qcow2_types.specs.References.{Weight, structure as structure_sum, contents as contents_sum, of_cluster, meets, refs}
+use Rattle.qcow2_types.specs.References.{Weight, structure as structure_sum, contents as contents_sum, of_cluster, of_mapping, meets, refs}
 use Rattle.qcow2_types.specs.Consistency.{IsConsistent, leaks}
 use Rattle.qcow2_types.specs.Disk.{shown}
-use Rattle.qcow2_types.specs.Frames.{Same}
+use Rattle.qcow2_types.specs.Frames.{Same, Kept, first_cluster}
 use Rattle.qcow2_types.specs.Slots.{slot, Live}
 
 -- the fields with another L1 table
@@ -41,6 +43,8 @@ with_l1_table H offset entries = record H { fields = with_l1 H.fields offset ent
 -- The L1 table moved to this place, and has so many more words, which name no table.
 pub record L1Switched (f g : Bytes) (H : Header) (offset more : ℕ) : Type 0 where
   pub consistent : IsConsistent g (with_l1_table H offset (H.fields.l1_entries + more))
+  pub kept : Kept f g H.fields first_cluster
+  pub words : (i : ℕ) → i < H.fields.l1_entries + more → word g offset i ≡ word f offset i
   pub tables : (i : ℕ) → l2_table g (with_l1 H.fields offset (H.fields.l1_entries + more)) i ≡ l2_table f H.fields i
   pub slots : (i j : ℕ) → Live (l2_table f H.fields) H.fields i j → slot g (with_l1 H.fields offset (H.fields.l1_entries + more)) i j ≡ slot f H.fields i j
   pub blocks : (i : ℕ) → block_at g (with_l1 H.fields offset (H.fields.l1_entries + more)) i ≡ block_at f H.fields i
@@ -52,6 +56,7 @@ pub record L1Switched (f g : Bytes) (H : Header) (offset more : ℕ) : Type 0 wh
   pub entries : (guest : ℕ) → entry g (with_l1 H.fields offset (H.fields.l1_entries + more)) guest ≡ entry f H.fields guest
   pub shows : (external : Bytes) (p : ℕ) (below : Value) → shown g external (with_l1 H.fields offset (H.fields.l1_entries + more)) p below ≡ shown f external H.fields p below
   pub free : (d : ℕ) → refs f H.fields d ≡ 0 → Same f g (d * cluster_size H.fields) (cluster_size H.fields)
+  pub mapped : (d : ℕ) → 0 < contents_sum f H.fields (of_mapping H.fields (meets H.fields d)) → Same f g (d * cluster_size H.fields) (cluster_size H.fields)
 
 -- the fields with another refcount table
 abbrev pub with_reftable : Fields → ℕ → ℕ → Fields
@@ -72,6 +77,8 @@ newly_named f h offset clusters weight =
 -- ones. The clusters of these are counted as their bytes say.
 pub record RefcountTableSwitched (f g : Bytes) (H : Header) (offset clusters : ℕ) : Type 0 where
   pub consistent : IsConsistent g (with_refcount_table H offset clusters)
+  pub kept : Kept f g H.fields first_cluster
+  pub words : (i : ℕ) → i < clusters * words_of_cluster H.fields → word g offset i ≡ word f offset i
   pub tables : (i : ℕ) → l2_table g (with_reftable H.fields offset clusters) i ≡ l2_table f H.fields i
   pub slots : (i j : ℕ) → Live (l2_table f H.fields) H.fields i j → slot g (with_reftable H.fields offset clusters) i j ≡ slot f H.fields i j
   pub blocks : (i : ℕ) → block_at g (with_reftable H.fields offset clusters) i ≡ block_at f (with_reftable H.fields offset clusters) i
@@ -84,6 +91,7 @@ pub record RefcountTableSwitched (f g : Bytes) (H : Header) (offset clusters : �
   pub entries : (guest : ℕ) → entry g (with_reftable H.fields offset clusters) guest ≡ entry f H.fields guest
   pub shows : (external : Bytes) (p : ℕ) (below : Value) → shown g external (with_reftable H.fields offset clusters) p below ≡ shown f external H.fields p below
   pub free : (d : ℕ) → refs f H.fields d ≡ 0 → Same f g (d * cluster_size H.fields) (cluster_size H.fields)
+  pub mapped : (d : ℕ) → 0 < contents_sum f H.fields (of_mapping H.fields (meets H.fields d)) → Same f g (d * cluster_size H.fields) (cluster_size H.fields)
 
 -- the fields with another size of the disk
 abbrev pub sized : Fields → ℕ → Fields
@@ -96,6 +104,7 @@ with_size H n = record H { fields = sized H.fields n }
 -- The disk has another size, and each place shows what it did.
 pub record SizeSwitched (f g : Bytes) (H : Header) (n : ℕ) : Type 0 where
   pub consistent : IsConsistent g (with_size H n)
+  pub kept : Kept f g H.fields first_cluster
   pub tables : (i : ℕ) → l2_table g (sized H.fields n) i ≡ l2_table f H.fields i
   pub slots : (i j : ℕ) → Live (l2_table f H.fields) H.fields i j → slot g (sized H.fields n) i j ≡ slot f H.fields i j
   pub blocks : (i : ℕ) → block_at g (sized H.fields n) i ≡ block_at f H.fields i
@@ -107,3 +116,4 @@ pub record SizeSwitched (f g : Bytes) (H : Header) (n : ℕ) : Type 0 where
   pub entries : (guest : ℕ) → entry g (sized H.fields n) guest ≡ entry f H.fields guest
   pub shows : (external : Bytes) (p : ℕ) (below : Value) → shown g external (sized H.fields n) p below ≡ shown f external H.fields p below
   pub free : (d : ℕ) → refs f H.fields d ≡ 0 → Same f g (d * cluster_size H.fields) (cluster_size H.fields)
+  pub mapped : (d : ℕ) → 0 < contents_sum f H.fields (of_mapping H.fields (meets H.fields d)) → Same f g (d * cluster_size H.fields) (cluster_size H.fields)
