@@ -189,3 +189,51 @@ block-after-tables f x g h safe clean law keeps counts = record {
         | inr e ↦ omega arith
       ];
 }
+
+-- While no order is set both hold. A table is written then,
+pub table-without-order : (f x g : Bytes) (h : Fields) → BlocksFirst f g h → TablesFirst f g h → IsBetween f x g h → ((c : ℕ) → count x h c ≡ count f h c) → BlocksFirst x g h
+table-without-order f x g h blocks tables between counts = record {
+  cached = λ c. let le : named x g h c ≤ named f g h c = named-falls f x g h c between in let ok : named f g h c ≤ count g h c = blocks.cached c in omega arith;
+  file = λ c.
+      let le : refs x h c ≤ named f g h c = refs-between f x g h c between in
+      let ok : named f g h c ≤ count f h c = tables.file c in
+      let e : count x h c ≡ count f h c = counts c in
+      omega arith;
+}
+
+-- or a block.
+pub block-without-order : (f x g : Bytes) (h : Fields) → BlocksFirst f g h → TablesFirst f g h → KeepsSlots f x h → ((c : ℕ) → (count x h c ≡ count f h c) ⊎ (count x h c ≡ count g h c)) → TablesFirst x g h
+block-without-order f x g h blocks tables keeps counts = record {
+  file = λ c.
+      let le : named x g h c ≤ named f g h c = named-falls f x g h c (between-kept f x g h keeps) in
+      let ok : named f g h c ≤ count g h c = blocks.cached c in
+      let ok' : named f g h c ≤ count f h c = tables.file c in
+      elim (counts c) [
+        | inl e ↦ omega arith
+        | inr e ↦ omega arith
+      ];
+  lowered = λ c.
+      let ok : count g h c ≤ count f h c = tables.lowered c in
+      elim (counts c) [
+        | inl e ↦ omega arith
+        | inr e ↦ omega arith
+      ];
+}
+
+-- The first order gives way to the second where no block is modified,
+pub blocks-are-written : (f g : Bytes) (h : Fields) → BlocksFirst f g h → ((c : ℕ) → count g h c ≡ count f h c) → TablesFirst f g h
+blocks-are-written f g h safe clean = record {
+  file = λ c. let ok : named f g h c ≤ count g h c = safe.cached c in let e : count g h c ≡ count f h c = clean c in omega arith;
+  lowered = λ c. let e : count g h c ≡ count f h c = clean c in omega arith;
+}
+
+-- and the second to the first where no table is.
+pub tables-are-written : (f g : Bytes) (h : Fields) → TablesFirst f g h → KeepsSlots f g h → ((c : ℕ) → refs g h c ≤ count g h c) → BlocksFirst f g h
+tables-are-written f g h safe clean law = record {
+  cached = λ c.
+      let n : named f g h c ≡ refs f h c = named-clean f g h c clean.slots in
+      let r : refs g h c ≡ refs f h c = refs-kept f g h c clean in
+      let ok : refs g h c ≤ count g h c = law c in
+      omega arith;
+  file = λ c. let le : refs f h c ≤ named f g h c = refs-file f g h c in let ok : named f g h c ≤ count f h c = safe.file c in omega arith;
+}

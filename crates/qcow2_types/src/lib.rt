@@ -12,6 +12,7 @@ mod pending;
 pub mod steps;
 #[cfg(test)]
 mod tests;
+pub mod two_versions;
 pub mod worked_image;
 
 pub use count::ClusterCount;
