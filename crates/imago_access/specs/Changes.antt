@@ -47,6 +47,13 @@ pub record Prepared (below : ℕ → Value) (old new : Layer) (offset asked : �
   pub holds : (p : ℕ) → IsHolding below new offset n overwrite p (new.held p)
   pub some_held : (c : ℕ) → claim ≡ Some c → (p : ℕ) × (copied : Option ℕ) × IsIn offset n p × (new.held p ≡ inside copied None overwrite)
 
+-- A refused mapping: values and what is held stay. A table that was made for it may have replaced one, and then fewer places can be
+-- written where they are.
+pub record NotPrepared (old new : Layer) : Type 0 where
+  pub like : IsLike old new
+  pub cell : new.cell ≡ old.cell
+  pub held : new.held ≡ old.held
+
 -- what a write through a mapping does to a place: one of its run notes the byte, and another takes it
 abbrev pub TakesByte : ℕ → Held → Cell → Held → Cell → Type 0
 TakesByte b (inside copied written announced) was held is = (is ≡ was) × (held ≡ inside copied (Some b) announced)

@@ -9,7 +9,7 @@ ghost use Rattle.imago_access.specs.Files.{Pairs, IsKept, SomeRose, IsMild, IsWh
 ghost use Rattle.imago_access.specs.Going.{Looked, LookedUnder, Went};
 ghost use Rattle.imago_access.specs.Mappings.{IsRun, Looks};
 ghost use Rattle.imago_access.specs.Refusals.{barrier, change_refusal, LookCause, ReadMappedCause};
-ghost use Rattle.imago_access.specs.Changes.{Rewrites, PartRewrites, ToZero, ToAny, ToBelow, Prepared, Wrote, Committed, Cancelled};
+ghost use Rattle.imago_access.specs.Changes.{Rewrites, PartRewrites, ToZero, ToAny, ToBelow, Prepared, NotPrepared, Wrote, Committed, Cancelled};
 ghost use Rattle.imago_access.specs.Spending.{claim_of, IsMine, Spends, GivenBack, IsForeignTo};
 ghost use Rattle.imago_access.specs.Parts.{IsPartOf, announces, PartCause, PlainCause, IsMappedAt, MappedCause, GrowthCause, ShrinkCause};
 ghost use Rattle.imago_access.specs.Resizes.{fill_of, Grown, NotGrown, Shrunk, NotShrunk};
@@ -165,7 +165,7 @@ pub trait FormatDriverInstance {
     /// run is going to be written before that, so it isn't copied. Nothing may be prepared.
     ///
     /// It refuses with `Fault::ReadOnly`, `Fault::RangeOverflow` and `Fault::PastEnd`, with causes of the driver's own, with
-    /// `Fault::Memory` and `Fault::Storage`. A refusal for another cause than the last two changes nothing.
+    /// `Fault::Memory` and `Fault::Storage`. A refusal for another cause than the last two changes no value.
     fn prepare_data_mapping<B: ReadBelow>(
         &mut self,
         alloc: Global,
@@ -180,7 +180,7 @@ pub trait FormatDriverInstance {
         ensures mine { IfOk result (λ m. IsMine claim tag m.state (layer self.new)) }
         ensures stateless { IfOk result (λ m. m.state ≡ None → IsFree (layer self.new)) }
         ensures empty { length ≡ 0 → IfOk result (λ m. m ≡ record { storage = 0; offset = 0; length = 0; state = None }) }
-        ensures err { IsTrue (layer self.old).fixed.keeps → safe self.old → B.sees_under below.old → IfErr result (λ e. IsMild e → layer self.new ≡ layer self.old) }
+        ensures err { IsTrue (layer self.old).fixed.keeps → safe self.old → B.sees_under below.old → IfErr result (λ e. IsMild e → NotPrepared (layer self.old) (layer self.new)) }
         ensures at_once { (f : Fault) → change_refusal (unit_of_layer (layer self.old)) (layer self.old) offset length ≡ Some f → IsErrOf result f }
         ensures idle { length ≡ 0 → barrier (layer self.old) ≡ None → IsOk result }
         ensures size { (layer self.new).size ≡ (layer self.old).size }
