@@ -10,7 +10,7 @@ use Rattle.imago_storage.specs.Through.{round_up, NotThrough, OneRequest, NoRequ
 use Rattle.imago_storage.specs.declared.fault.Fault.{Fault}
 use Rattle.imago_storage.specs.declared.fault.Fault.TheVariants.{Memory}
 use Rattle.imago_storage.proofs.Rounding.{round_up_whole, le_round_up, sum_of_whole, start_whole, mod_self, round_up_unit}
-use Rattle.imago_storage.proofs.Composing.{tells_on, keeps_on, no_stops, one_stop, spliced-mixed, same-mixed}
+use Rattle.imago_storage.proofs.Composing.{tells_on, keeps_on, no_stops, one_stop, long_stop, spliced-mixed, same-mixed}
 
 -- a request as the bytes written, for a splice of other bytes that says the same
 pub one_request : (unit : ℕ) (old new : StorageState) (at : ℕ) (bytes : List ℕ) → Changed old new → 0 < length bytes → (IsTrue old.shape.keeps → Spliced old.bytes at bytes new.bytes) → length new.bytes ≡ max (length old.bytes) (round_up unit (at + length bytes)) → OneRequest unit old new at bytes
@@ -24,6 +24,7 @@ one_request unit old new at bytes changed some content size = record {
     size = λ _. size;
     in_step = changed.in_step;
     stops = one_stop _ old new changed.mark (λ in_step tells keeps. subst (Mixed old.bytes at bytes) (sym (changed.in_step in_step (tells_on old new changed.shape tells) (keeps_on old new changed.shape keeps))) (spliced-mixed old.bytes at bytes new.bytes (content keeps)));
+    as_long = long_stop old new changed.mark changed.shape changed.in_step (omega (arith, size));
   };
   mark = λ _. changed.mark;
 }
@@ -41,6 +42,7 @@ no_request unit old new at bytes fault some refused content no_shorter no_longer
     later = refused.refusals.kept;
     in_step = inl refused.refusals;
     stops = no_stops _ old new refused.stop refused.past;
+    as_long = no_stops _ old new refused.stop refused.past;
   };
   stop = refused.stop;
   past = refused.past;
@@ -59,6 +61,7 @@ nothing_done unit old new at bytes fault some kept cause = record {
     later = omega (arith, kept.refusals);
     in_step = inr (λ in_step tells keeps. kept.stop ∙ in_step (tells_on new old (sym kept.shape) tells) (keeps_on new old (sym kept.shape) keeps) ∙ sym kept.bytes);
     stops = no_stops _ old new kept.stop kept.past;
+    as_long = no_stops _ old new kept.stop kept.past;
   };
   stop = kept.stop;
   past = kept.past;
@@ -76,6 +79,7 @@ none_written unit s at bytes none = record {
     size = λ some. absurd (omega arith);
     in_step = λ same. same;
     stops = no_stops _ s s refl refl;
+    as_long = no_stops _ s s refl refl;
   };
   mark = λ some. absurd (omega arith);
 }

@@ -1,14 +1,14 @@
 -- Lemmas for the crates above: what calls do one behind the other, and a file as a function of its places.
 use Rattle.std.proofs.Common.{◌≡◌, ◌⊎◌, refl, inl, inr, ⊎_elim, ℕ, ◌+◌, ◌-◌, ◌≤◌, List, [], ◌∷◌, ◌++◌, length, get_or, arith, sym, ◌∙◌, ap, subst, append_assoc, length-append}
-use Rattle.std.specs.Prelude.{IsTrue, Result, Ok, Err, OnOk, IsErrOf, slice_index, if◌then◌else◌, ◌&&◌, nat_le, nat_lt}
-use Rattle.std.proofs.lemmas.Bool.{cases_lt}
+use Rattle.std.specs.Prelude.{All, IsTrue, Result, Ok, Err, OnOk, IsErrOf, slice_index, if◌then◌else◌, ◌&&◌, nat_le, nat_lt}
+use Rattle.std.proofs.lemmas.Bool.{cases_eq, cases_lt}
 use Rattle.std.proofs.lemmas.Bool.Decides.{nat_tests}
-use Rattle.std.proofs.lemmas.List.{get_or_append_left, get_or-append_right, ext_get_or}
+use Rattle.std.proofs.lemmas.List.{append_cancel_right, get_or_append_left, get_or-append_right, ext_get_or}
 use Rattle.std.proofs.lemmas.List.Elements.{All-nil, All-cons, All-append, All-weaker}
 use Rattle.std.proofs.Math.Path.{fun_ext}
 use Rattle.imago_storage.specs.State.{Shape, StorageState, Rose, InStep}
 use Rattle.imago_storage.specs.Calls.{Spliced, Mixed, Cause, CountsFaults, Kept, Later, RequestsOne, UnlessUnsupported}
-use Rattle.imago_storage.specs.Through.{Stops}
+use Rattle.imago_storage.specs.Through.{Stops, StopsAsLong, Through}
 use Rattle.imago_storage.specs.MemStorage.{mem_state}
 use Rattle.imago_storage.specs.declared.memory.MemStorage.{MemStorage}
 use Rattle.imago_storage.specs.declared.fault.Fault.{Fault}
@@ -55,6 +55,18 @@ stops_weaker P Q a b weaker stops same tells keeps =
     let told = stops same tells keeps in
     record { files = told.files; told = told.told; each = All-weaker P Q (weaker keeps) told.files told.each }
 
+-- what two clauses say of each stop
+pub stops_and : (P Q : List ℕ → Type 0) (a b : StorageState) → Stops P a b → Stops Q a b → Stops (λ f. P f × Q f) a b
+stops_and P Q a b first second same tells keeps =
+    let one = first same tells keeps in
+    let two = second same tells keeps in
+    let files : two.files ≡ one.files = append_cancel_right two.files one.files (a.stop ∷ a.past) (sym two.told ∙ one.told) in
+    record {
+      files = one.files;
+      told = one.told;
+      each = λ k d lt. (one.each k d lt, subst (All Q) files two.each k d lt);
+    }
+
 -- the stops of two calls, one behind the other
 pub stops_both : (P Q R : List ℕ → Type 0) (a b c : StorageState) → b.shape ≡ a.shape → (InStep a → InStep b)
     → (IsTrue a.shape.keeps → (f : List ℕ) → P f → R f) → (IsTrue a.shape.keeps → (f : List ℕ) → Q f → R f) → Stops P a b → Stops Q b c → Stops R a c
@@ -66,6 +78,24 @@ stops_both P Q R a b c shape in_step weaker weaker' first second same tells keep
       told = two.told ∙ ap (λ (l : List (List ℕ)). two.files ++ l) one.told ∙ sym (append_assoc two.files one.files (a.stop ∷ a.past));
       each = All-append R two.files one.files (All-weaker Q R (weaker' keeps) two.files two.each) (All-weaker P R (weaker keeps) one.files one.each);
     }
+
+-- one request that doesn't make the file shorter
+pub long_stop : (old new : StorageState) → (IsTrue old.shape.tells → new.past ≡ old.stop ∷ old.past) → new.shape ≡ old.shape → (InStep old → InStep new) → length old.bytes ≤ length new.bytes → StopsAsLong old new
+long_stop old new mark shape in_step longer =
+    one_stop (λ f. length old.bytes ≤ length f) old new mark
+    (λ same tells keeps. subst (λ (f : List ℕ). length old.bytes ≤ length f) (sym (in_step same (tells_on old new shape tells) (keeps_on old new shape keeps))) longer)
+
+-- files as long, of two calls one behind the other
+pub as_long_both : (a b c : StorageState) → b.shape ≡ a.shape → (InStep a → InStep b) → length a.bytes ≤ length b.bytes → StopsAsLong a b → StopsAsLong b c → StopsAsLong a c
+as_long_both a b c shape in_step longer first second =
+    stops_both (λ f. length a.bytes ≤ length f) (λ f. length b.bytes ≤ length f) (λ f. length a.bytes ≤ length f) a b c shape in_step (λ _ f long. long) (λ _ f long. omega (arith, longer, long)) first second
+
+-- a write that succeeds doesn't make the file shorter
+pub through_longer : (unit : ℕ) (a b : StorageState) (at : ℕ) (xs : List ℕ) → Through unit a b at xs → length a.bytes ≤ length b.bytes
+through_longer unit a b at xs through = elim (cases_eq (length xs) 0) [
+  | inl none ↦ let stays = ap (λ (s : StorageState). length s.bytes) (through.nothing none) in omega arith
+  | inr some ↦ omega (arith, through.size (omega arith))
+]
 
 -- the stops of a call that makes one request where it succeeds, and none where it is refused
 pub request_stops : {T : Type 0} (P : List ℕ → Type 0) (old new : StorageState) (result : Result T Fault) → new.shape ≡ old.shape → RequestsOne old new result

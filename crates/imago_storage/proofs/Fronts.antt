@@ -8,7 +8,7 @@ use Rattle.imago_storage.specs.Calls.{Spliced, Mixed, Cause}
 use Rattle.imago_storage.specs.Through.{round_up, Through, NotThrough}
 use Rattle.imago_storage.specs.declared.fault.Fault.{Fault}
 use Rattle.imago_storage.proofs.Rounding.{round_up-le}
-use Rattle.imago_storage.proofs.Composing.{keeps_on, stops_both}
+use Rattle.imago_storage.proofs.Composing.{keeps_on, stops_both, as_long_both, through_longer}
 
 module _ (at : ℕ) (xs ys : List ℕ) where
   long : length (xs ++ ys) ≡ length xs + length ys
@@ -90,6 +90,7 @@ module _ (unit : ℕ) (positive : 0 < unit) (a b c : StorageState) (at : ℕ) (x
     in_step = λ same. second.in_step (first.in_step same);
     stops = stops_both (Mixed a.bytes (at + length xs) ys) (Mixed b.bytes at xs) (Mixed a.bytes at (xs ++ ys)) a b c first.shape first.in_step
         (λ _ f mixed. mixed_before at xs ys a.bytes f mixed) (λ keeps f mixed. mixed_front at xs ys a.bytes b.bytes f (first.content keeps) mixed) first.stops second.stops;
+    as_long = as_long_both a b c first.shape first.in_step (through_longer unit a b (at + length xs) ys first) first.as_long second.as_long;
   }
 
   -- refused in the part in front
@@ -113,6 +114,7 @@ module _ (unit : ℕ) (positive : 0 < unit) (a b c : StorageState) (at : ℕ) (x
         in_step = ⊎_elim (λ rose. inl (subst (λ (n : ℕ). Rose n c.refusals) first.refusals rose)) (λ on. inr (λ same. on (first.in_step same))) second.in_step;
         stops = stops_both (Mixed a.bytes (at + length xs) ys) (Mixed b.bytes at xs) (Mixed a.bytes at (xs ++ ys)) a b c first.shape first.in_step
             (λ _ f mixed. mixed_before at xs ys a.bytes f mixed) (λ keeps f mixed. mixed_front at xs ys a.bytes b.bytes f (first.content keeps) mixed) first.stops second.stops;
+        as_long = as_long_both a b c first.shape first.in_step longer first.as_long second.as_long;
       }
 
 module _ (unit : ℕ) (a b : StorageState) (at : ℕ) (xs ys : List ℕ) (fault : Fault) where
@@ -130,4 +132,5 @@ module _ (unit : ℕ) (a b : StorageState) (at : ℕ) (xs ys : List ℕ) (fault 
         in_step = first.in_step;
         stops = λ same tells keeps. let told = first.stops same tells keeps in
             record { files = told.files; told = told.told; each = All-weaker (Mixed a.bytes (at + length xs) ys) (Mixed a.bytes at (xs ++ ys)) (λ f mixed. mixed_before at xs ys a.bytes f mixed) told.files told.each };
+        as_long = first.as_long;
       }

@@ -1,12 +1,12 @@
 -- The stops of a discard.
-use Rattle.std.proofs.Common.{◌≡◌, ⊎_elim, ℕ, List, ap, sym, subst}
+use Rattle.std.proofs.Common.{◌≡◌, ⊎_elim, ℕ, ◌≤◌, List, length, arith, ap, sym, subst}
 use Rattle.std.specs.Prelude.{Result, Ok, Err, OnOk, IfErr}
 use Rattle.imago_storage.specs.State.{StorageState}
 use Rattle.imago_storage.specs.Calls.{SameOutside, Discarded}
-use Rattle.imago_storage.specs.Through.{Stops, GivenUp, NotGivenUp, whole_start, whole_size}
+use Rattle.imago_storage.specs.Through.{Stops, StopsAsLong, GivenUp, NotGivenUp, whole_start, whole_size}
 use Rattle.imago_storage.specs.declared.fault.Fault.{Fault}
 use Rattle.imago_storage.specs.declared.fault.Fault.TheVariants.{RangeOverflow}
-use Rattle.imago_storage.proofs.Composing.{tells_on, keeps_on, no_stops, one_stop}
+use Rattle.imago_storage.proofs.Composing.{tells_on, keeps_on, no_stops, one_stop, long_stop}
 
 module _ (old new : StorageState) (at n : ℕ) where
   abbrev Outside : List ℕ → Type 0
@@ -27,6 +27,21 @@ module _ (old new : StorageState) (at n : ℕ) where
   refused-stops : (fault : Fault) → NotGivenUp old new at n fault → Stops Outside old new
   refused-stops RangeOverflow refused = same-stops refused.1
   refused-stops fault refused = no_stops Outside old new refused.1.refused.stop refused.1.refused.past
+
+  -- The length is kept.
+  same-long : new ≡ old → StopsAsLong old new
+  same-long same = no_stops (λ f. length old.bytes ≤ length f) old new (ap (λ (s : StorageState). s.stop) same) (ap (λ (s : StorageState). s.past) same)
+
+  given-long : GivenUp old new at n → StopsAsLong old new
+  given-long given = ⊎_elim (λ same. same-long same) (λ done. long_stop old new done.1.changed.mark done.1.changed.shape done.1.changed.in_step (omega (arith, done.1.size))) given
+
+  refused-long : (fault : Fault) → NotGivenUp old new at n fault → StopsAsLong old new
+  refused-long RangeOverflow refused = same-long refused.1
+  refused-long fault refused = no_stops (λ f. length old.bytes ≤ length f) old new refused.1.refused.stop refused.1.refused.past
+
+  pub discard-long : {T : Type 0} (result : Result T Fault) → OnOk result (GivenUp old new at n) → IfErr result (NotGivenUp old new at n) → StopsAsLong old new
+  discard-long (Ok x) ok err = given-long ok
+  discard-long (Err fault) ok err = refused-long fault err
 
   -- Whatever the answer, a stop leaves the rest as it was.
   pub discard-stops : {T : Type 0} (result : Result T Fault) → OnOk result (GivenUp old new at n) → IfErr result (NotGivenUp old new at n) → Stops Outside old new

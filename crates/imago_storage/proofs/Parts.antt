@@ -6,11 +6,11 @@ use Rattle.std.proofs.lemmas.List.Elements.{All-weaker}
 use Rattle.std.proofs.lemmas.Bool.{cases_eq}
 use Rattle.imago_storage.specs.State.{StorageState, Rose}
 use Rattle.imago_storage.specs.Calls.{Mixed, Cause, Kept, Later}
-use Rattle.imago_storage.specs.Through.{round_up, Stops, Through, NotThrough, OneRequest, NoRequest, UnlessOverflow, NotRead}
+use Rattle.imago_storage.specs.Through.{round_up, Stops, StopsAsLong, Through, NotThrough, OneRequest, NoRequest, UnlessOverflow, NotRead}
 use Rattle.imago_storage.specs.declared.fault.Fault.TheVariants.{RangeOverflow}
 use Rattle.imago_storage.specs.declared.fault.Fault.{Fault}
 use Rattle.imago_storage.proofs.Rounding.{round_up-le}
-use Rattle.imago_storage.proofs.Composing.{tells_on, keeps_on, no_stops, stops_both, later_same, cause_later, spliced_both, mixed_behind, mixed_longer}
+use Rattle.imago_storage.proofs.Composing.{tells_on, keeps_on, no_stops, stops_both, as_long_both, through_longer, later_same, cause_later, spliced_both, mixed_behind, mixed_longer}
 
 module _ (unit : ℕ) (positive : 0 < unit) (a b c : StorageState) (at : ℕ) (xs ys : List ℕ) where
   both : length (xs ++ ys) ≡ length xs + length ys
@@ -48,6 +48,7 @@ module _ (unit : ℕ) (positive : 0 < unit) (a b c : StorageState) (at : ℕ) (x
         in_step = λ same. second.in_step (first.in_step same);
         stops = stops_both (Mixed a.bytes at xs) (Mixed b.bytes (at + length xs) ys) (Mixed a.bytes at (xs ++ ys)) a b c first.shape first.in_step
             (λ _ f mixed. mixed_longer at xs ys a.bytes f mixed) (λ keeps f mixed. mixed_behind at xs ys a.bytes b.bytes f (first.content keeps) mixed) first.stops second.stops;
+        as_long = as_long_both a b c first.shape first.in_step (through_longer unit a b at xs first) first.as_long second.as_long;
       }
 
   pub one_both : OneRequest unit a b at xs → OneRequest unit b c (at + length xs) ys → (length xs ≡ 0) ⊎ (length ys ≡ 0) → OneRequest unit a c at (xs ++ ys)
@@ -86,6 +87,7 @@ module _ (unit : ℕ) (positive : 0 < unit) (a b c : StorageState) (at : ℕ) (x
         in_step = ⊎_elim (λ rose. inl (subst (λ (n : ℕ). Rose n c.refusals) first.refusals rose)) (λ on. inr (λ same. on (first.in_step same))) second.in_step;
         stops = stops_both (Mixed a.bytes at xs) (Mixed b.bytes (at + length xs) ys) (Mixed a.bytes at (xs ++ ys)) a b c first.shape first.in_step
             (λ _ f mixed. mixed_longer at xs ys a.bytes f mixed) (λ keeps f mixed. mixed_behind at xs ys a.bytes b.bytes f (first.content keeps) mixed) first.stops second.stops;
+        as_long = as_long_both a b c first.shape first.in_step (through_longer unit a b at xs first) first.as_long second.as_long;
       }
 
   pub none_behind : (fault : Fault) → length xs ≡ 0 → OneRequest unit a b at xs → NoRequest unit b c (at + length xs) ys fault → NoRequest unit a c at (xs ++ ys) fault
@@ -115,6 +117,7 @@ module _ (unit : ℕ) (positive : 0 < unit) (a b : StorageState) (at : ℕ) (xs 
         in_step = first.in_step;
         stops = λ same tells keeps. let told = first.stops same tells keeps in
             record { files = told.files; told = told.told; each = All-weaker (Mixed a.bytes at xs) (Mixed a.bytes at (xs ++ ys)) (λ f mixed. mixed_longer at xs ys a.bytes f mixed) told.files told.each };
+        as_long = first.as_long;
       }
 
   pub none_longer : NoRequest unit a b at xs fault → NoRequest unit a b at (xs ++ ys) fault
@@ -173,6 +176,14 @@ refused_stops unit a b at xs P _ h = h.stops
 pub stops_of : {T : Type 0} (unit : ℕ) (a b : StorageState) (at : ℕ) (xs : List ℕ) (P : Type 0) (result : Result T Fault) → OnOk result (Through unit a b at xs) → IfErr result (UnlessOverflow P a b (NotThrough unit a b at xs)) → Stops (Mixed a.bytes at xs) a b
 stops_of unit a b at xs P (Ok x) ok err = ok.stops
 stops_of unit a b at xs P (Err fault) ok err = refused_stops unit a b at xs P fault err
+
+refused_long : (unit : ℕ) (a b : StorageState) (at : ℕ) (xs : List ℕ) (P : Type 0) (fault : Fault) → UnlessOverflow P a b (NotThrough unit a b at xs) fault → StopsAsLong a b
+refused_long unit a b at xs P RangeOverflow h = no_stops (λ f. length a.bytes ≤ length f) a b (ap (λ (s : StorageState). s.stop) h.1) (ap (λ (s : StorageState). s.past) h.1)
+refused_long unit a b at xs P _ h = h.as_long
+
+pub as_long_of : {T : Type 0} (unit : ℕ) (a b : StorageState) (at : ℕ) (xs : List ℕ) (P : Type 0) (result : Result T Fault) → OnOk result (Through unit a b at xs) → IfErr result (UnlessOverflow P a b (NotThrough unit a b at xs)) → StopsAsLong a b
+as_long_of unit a b at xs P (Ok x) ok err = ok.as_long
+as_long_of unit a b at xs P (Err fault) ok err = refused_long unit a b at xs P fault err
 
 -- the shape and the counts after a call, whatever it answered
 refused_shape : (unit : ℕ) (a b : StorageState) (at : ℕ) (xs : List ℕ) (P : Type 0) (fault : Fault) → UnlessOverflow P a b (NotThrough unit a b at xs) fault → b.shape ≡ a.shape

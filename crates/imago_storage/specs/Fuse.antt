@@ -1,6 +1,6 @@
 -- What a storage with a fuse is: the inner one, with more faults and refusals.
 use Rattle.std.specs.Prelude.{◌≡◌, ◌≢◌, ℕ, ◌+◌, ◌-◌, ◌^◌, min, IsTrue, Result, IsErrOf}
-use Rattle.imago_storage.specs.State.{StorageState}
+use Rattle.imago_storage.specs.State.{StorageState, IsAligned}
 use Rattle.imago_storage.specs.declared.fault.Fault.{Fault}
 use Rattle.imago_storage.specs.declared.fault.Fault.TheVariants.{Storage}
 use Rattle.imago_storage.specs.declared.fuse.FuseStorage.{FuseStorage}
@@ -35,6 +35,11 @@ fuse_state state f = record {
   stop = (state f.inner).stop;
   past = (state f.inner).past;
 }
+
+-- its alignments are the inner one's
+pub fuse_aligned : {S : Type 0} (state : S → StorageState) → ((s : S) → IsAligned (state s).shape) → (f : FuseStorage S) → IsAligned (fuse_state state f).shape
+unfolding fuse_state
+fuse_aligned state aligned f = aligned f.inner
 
 -- it tells its stops where the inner one does
 pub fuse_tells : {S : Type 0} (state : S → StorageState) → ((s : S) → IsTrue (state s).shape.tells) → (f : FuseStorage S) → IsTrue (fuse_state state f).shape.tells

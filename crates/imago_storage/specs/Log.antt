@@ -1,6 +1,6 @@
 -- What a storage with a log is: requests, replayed over the bytes that it was made over.
 use Rattle.std.specs.Prelude.{◌≡◌, ◌⊎◌, ℕ, ◌+◌, ◌-◌, List, [], ◌∷◌, ◌++◌, length, take, drop, replicate, true, refl, IsTrue, IfErr, Result, MatchResult}
-use Rattle.imago_storage.specs.State.{StorageState, Rose}
+use Rattle.imago_storage.specs.State.{StorageState, Rose, IsAligned}
 use Rattle.imago_storage.specs.declared.fault.Fault.{Fault}
 use Rattle.imago_storage.specs.declared.fault.Fault.TheVariants.{Memory, Storage}
 use Rattle.imago_storage.specs.declared.log.Request.{Request}
@@ -57,6 +57,13 @@ log_inner log = log.inner
 -- what contracts see of a storage with a log
 unfoldable pub log_state : {S : Type 0} → (S → StorageState) → LogStorage S → StorageState
 log_state state log = logged log.base.items log.requests.items log.refusals (state log.inner)
+
+-- its alignments are those of the storage below
+pub log_aligned : {S : Type 0} (state : S → StorageState) → ((s : S) → IsAligned (state s).shape) → (log : LogStorage S) → IsAligned (log_state state log).shape
+unfolding log_state
+log_aligned state aligned log =
+    let inner = aligned log.inner in
+    record { memory = inner.memory; requests = inner.requests; zeroes = inner.zeroes; discards = inner.discards }
 
 -- a log tells its stops
 pub log_tells : {S : Type 0} (state : S → StorageState) (log : LogStorage S) → IsTrue (log_state state log).shape.tells

@@ -1,6 +1,6 @@
 -- What a storage in memory is.
 use Rattle.std.specs.Prelude.{◌≡◌, None, [], true, false, ℕ, ◌+◌, ◌<◌, ◌≤◌, List, slice_index}
-use Rattle.imago_storage.specs.State.{Shape, StorageState}
+use Rattle.imago_storage.specs.State.{Shape, StorageState, IsAligned}
 use Rattle.imago_storage.specs.declared.memory.MemStorage.{MemStorage}
 
 -- the shape of a storage in memory of this alignment
@@ -29,6 +29,11 @@ memory bytes align refusals = record {
 -- what contracts see of a storage in memory
 unfoldable pub mem_state : MemStorage → StorageState
 mem_state m = memory m.bytes.items m.align m.refusals
+
+-- all its alignments are the one that it was given
+pub mem_aligned : (m : MemStorage) → IsAligned (mem_state m).shape
+unfolding mem_state
+mem_aligned m = record { memory = m.aligned; requests = m.aligned; zeroes = m.aligned; discards = m.aligned }
 
 -- the range reads as 0
 abbrev pub Zeroed : List ℕ → ℕ → ℕ → Type 0

@@ -1,6 +1,7 @@
 -- What a storage that holds nothing is.
 use Rattle.std.specs.Prelude.{None, [], false, replicate, ℕ}
-use Rattle.imago_storage.specs.State.{Shape, StorageState}
+use Rattle.std.proofs.Common.{lit<, lit≤, refl}
+use Rattle.imago_storage.specs.State.{Shape, StorageState, IsAlignment, IsAligned}
 use Rattle.imago_storage.specs.declared.null.Null.{Null}
 
 -- the shape of a storage that keeps nothing
@@ -29,3 +30,11 @@ zeroes size = record {
 -- what contracts see of a storage that holds nothing
 unfoldable pub null_state : Null → StorageState
 null_state n = zeroes n.size
+
+one_aligned : IsAlignment 1
+one_aligned = record { positive = lit< tt; small = lit≤ tt; divides = refl }
+
+-- its alignments are 1
+pub null_aligned : (n : Null) → IsAligned (null_state n).shape
+unfolding null_state
+null_aligned n = record { memory = one_aligned; requests = one_aligned; zeroes = one_aligned; discards = one_aligned }

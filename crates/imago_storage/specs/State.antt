@@ -31,6 +31,13 @@ pub record IsAlignment (n : ℕ) : Type 0 where
   pub small : n ≤ 2 ^ 20
   pub divides : 2 ^ 20 % n ≡ 0
 
+-- all alignments are such
+pub record IsAligned (shape : Shape) : Type 0 where
+  pub memory : IsAlignment shape.mem_align
+  pub requests : IsAlignment shape.req_align
+  pub zeroes : IsAlignment shape.zero_align
+  pub discards : IsAlignment shape.discard_align
+
 -- the unit of requests
 abbrev pub unit_of : Shape → ℕ
 unit_of shape = max shape.req_align shape.mem_align

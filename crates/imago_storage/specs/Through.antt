@@ -39,6 +39,10 @@ pub record StopsIn (P : List ℕ → Type 0) (old new : StorageState) : Type 0 w
 abbrev pub Stops : (List ℕ → Type 0) → StorageState → StorageState → Type 0
 Stops P old new = InStep old → IsTrue old.shape.tells → IsTrue old.shape.keeps → StopsIn P old new
 
+-- each such file is at least as long as the bytes of the old state
+abbrev pub StopsAsLong : StorageState → StorageState → Type 0
+StopsAsLong old new = Stops (λ f. length old.bytes ≤ length f) old new
+
 -- the bytes are written
 pub record Through (unit : ℕ) (old new : StorageState) (at : ℕ) (bytes : List ℕ) : Type 0 where
   pub shape : new.shape ≡ old.shape
@@ -49,6 +53,7 @@ pub record Through (unit : ℕ) (old new : StorageState) (at : ℕ) (bytes : Lis
   pub size : 0 < length bytes → length new.bytes ≡ max (length old.bytes) (round_up unit (at + length bytes))
   pub in_step : InStep old → InStep new
   pub stops : Stops (Mixed old.bytes at bytes) old new
+  pub as_long : StopsAsLong old new
 
 -- the call was refused, and may have written a part
 pub record NotThrough (unit : ℕ) (old new : StorageState) (at : ℕ) (bytes : List ℕ) (fault : Fault) : Type 0 where
@@ -61,6 +66,7 @@ pub record NotThrough (unit : ℕ) (old new : StorageState) (at : ℕ) (bytes : 
   -- where no change was refused, the file is still the bytes
   pub in_step : Rose old.refusals new.refusals ⊎ (InStep old → InStep new)
   pub stops : Stops (Mixed old.bytes at bytes) old new
+  pub as_long : StopsAsLong old new
 
 -- one request, where there is something to write
 pub record OneRequest (unit : ℕ) (old new : StorageState) (at : ℕ) (bytes : List ℕ) : Type 0 where

@@ -3,7 +3,7 @@ ghost use Rattle.std.specs.Prelude.{◌≡◌, ℕ, ◌+◌, ◌-◌, ◌%◌, �
 ghost use Rattle.std.specs.Option.{SomeIff};
 ghost use Rattle.imago_storage.specs.State.{unit_of, IsAlignment, IsWhole};
 ghost use Rattle.imago_storage.specs.Calls.{Cause, CountsFaults, Kept, Later, Mixed, Reads, SameOutside};
-ghost use Rattle.imago_storage.specs.Through.{round_up, round_down, HasWhole, IsUnits, Overflows, IsAtOnce, Through, NotThrough, OneRequest, NoRequest, IsOnePart, Parts, RequestsOnce, Stops, UnlessOverflow, WrittenThrough, NotWrittenThrough, NotZeroed, GivenUp, NotGivenUp, whole_start, whole_size, NotRead};
+ghost use Rattle.imago_storage.specs.Through.{round_up, round_down, HasWhole, IsUnits, Overflows, IsAtOnce, Through, NotThrough, OneRequest, NoRequest, IsOnePart, Parts, RequestsOnce, Stops, StopsAsLong, UnlessOverflow, WrittenThrough, NotWrittenThrough, NotZeroed, GivenUp, NotGivenUp, whole_start, whole_size, NotRead};
 
 use crate::discarding::discard_whole;
 use crate::edits::{copy_in, take_part};
@@ -284,8 +284,9 @@ pub trait StorageExt: Storage {
         ensures shape { (Self.state self.new).shape ≡ (Self.state self.old).shape }
         ensures later { Later (Self.state self.old) (Self.state self.new) }
         // Whatever the answer: each file that a stop inside the call leaves has old or new bytes in the range,
-        // and outside what was there.
+        // and outside what was there, and it is no shorter.
         ensures stops { Stops (Mixed (Self.state self.old).bytes offset «data».now) (Self.state self.old) (Self.state self.new) }
+        ensures as_long { StopsAsLong (Self.state self.old) (Self.state self.new) }
         // A range of whole units, or one in a single unit, is one request.
         ensures once { IsAtOnce (unit_of (Self.state self.old).shape) offset (length «data».now) → RequestsOnce (Self.state self.old) (Self.state self.new) (length «data».now) result }
         // An empty range is never refused, and nothing is asked of the storage.
@@ -307,6 +308,7 @@ pub trait StorageExt: Storage {
         ensures shape { (Self.state self.new).shape ≡ (Self.state self.old).shape }
         ensures later { Later (Self.state self.old) (Self.state self.new) }
         ensures stops { Stops (Mixed (Self.state self.old).bytes offset (replicate length 0)) (Self.state self.old) (Self.state self.new) }
+        ensures as_long { StopsAsLong (Self.state self.old) (Self.state self.new) }
         ensures empty { length ≡ 0 → IsOk result × (Self.state self.new ≡ Self.state self.old) }
         ensures unit { IsAlignment (unit_of (Self.state self.old).shape) };
 
@@ -327,6 +329,7 @@ pub trait StorageExt: Storage {
         ensures shape { (Self.state self.new).shape ≡ (Self.state self.old).shape }
         ensures later { Later (Self.state self.old) (Self.state self.new) }
         ensures stops { Stops (Mixed (Self.state self.old).bytes offset (replicate length 0)) (Self.state self.old) (Self.state self.new) }
+        ensures as_long { StopsAsLong (Self.state self.old) (Self.state self.new) }
         // A range of whole units of the alignment of zeroing is one request.
         ensures once { IsUnits (max (unit_of (Self.state self.old).shape) (Self.state self.old).shape.zero_align) offset length → RequestsOnce (Self.state self.old) (Self.state self.new) length result }
         ensures empty { length ≡ 0 → IsOk result × (Self.state self.new ≡ Self.state self.old) }
@@ -346,6 +349,7 @@ pub trait StorageExt: Storage {
         ensures later { Later (Self.state self.old) (Self.state self.new) }
         // Each file that a stop inside the call leaves is the old one but for these units.
         ensures stops { Stops (SameOutside (Self.state self.old).bytes (whole_start (Self.state self.old) offset) (whole_size (Self.state self.old) offset length)) (Self.state self.old) (Self.state self.new) }
+        ensures as_long { StopsAsLong (Self.state self.old) (Self.state self.new) }
         ensures empty { length ≡ 0 → IsOk result × (Self.state self.new ≡ Self.state self.old) }
         ensures unit { IsAlignment (unit_of (Self.state self.old).shape) };
 }

@@ -82,9 +82,11 @@ impl<S: Storage> FuseStorage<S> {
 
 #[tactic(auto, unfolding(crate::specs::Fuse::fuse_state, crate::specs::Fuse::fuse_count, crate::specs::Fuse::fuse_call, crate::specs::Fuse::fuse_faults, crate::specs::Fuse::fuse_refusals, crate::specs::Fuse::fuse_inner))]
 impl<S: Storage> Storage for FuseStorage<S> {
-    ghost use Rattle.imago_storage.specs.Fuse.{fuse_state, Counted, Uncounted};
+    ghost use Rattle.imago_storage.specs.Fuse.{fuse_state, fuse_aligned, Counted, Uncounted};
 
     ghost state = { fuse_state S.state };
+
+    ghost aligned = { fuse_aligned S.state S.aligned };
 
     fn mem_align(&self) -> usize {
         self.inner.mem_align()

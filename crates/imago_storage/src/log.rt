@@ -210,9 +210,11 @@ impl<S: Storage> StopStorage for LogStorage<S> {
 impl<S: Storage> Storage for LogStorage<S> {
     ghost use Rattle.imago_storage.specs.declared.log.Request.{Request};
     ghost use Rattle.imago_storage.specs.declared.log.Request.TheVariants.{Zeroes, Resize};
-    ghost use Rattle.imago_storage.specs.Log.{log_state, IsWrite, Noted, SameLog};
+    ghost use Rattle.imago_storage.specs.Log.{log_state, log_aligned, IsWrite, Noted, SameLog};
 
     ghost state = { log_state S.state };
+
+    ghost aligned = { log_aligned S.state S.aligned };
 
     fn mem_align(&self) -> usize {
         self.inner.mem_align()

@@ -87,9 +87,11 @@ impl MemStorage {
 
 #[tactic(auto, unfolding(crate::specs::MemStorage::mem_state))]
 impl Storage for MemStorage {
-    ghost use Rattle.imago_storage.specs.MemStorage.{mem_state, Zeroed};
+    ghost use Rattle.imago_storage.specs.MemStorage.{mem_state, mem_aligned, Zeroed};
 
     ghost state = { mem_state };
+
+    ghost aligned = { mem_aligned };
 
     fn mem_align(&self) -> usize {
         self.align

@@ -27,9 +27,11 @@ impl Null {
 
 #[tactic(auto, using(crate::proofs::Zeroes::zero_at, crate::proofs::Zeroes::length_of_zeroes), unfolding(crate::specs::Null::null_state))]
 impl Storage for Null {
-    ghost use Rattle.imago_storage.specs.Null.{null_state};
+    ghost use Rattle.imago_storage.specs.Null.{null_state, null_aligned};
 
     ghost state = { null_state };
+
+    ghost aligned = { null_aligned };
 
     fn mem_align(&self) -> usize {
         1

@@ -1,7 +1,7 @@
 // A storage as its users see it: a list of bytes under aligned requests.
 ghost use Rattle.std.specs.Prelude.{◌≡◌, ◌≢◌, ℕ, ◌+◌, ◌%◌, ◌<◌, ◌^◌, List, length, slice_index, replicate, max, OnOk, IfErr, IsErrOf, EachIndex};
 ghost use Rattle.std.specs.Option.{option_map, option_copied};
-ghost use Rattle.imago_storage.specs.State.{StorageState, IsAlignment, IsWhole, unit_of};
+ghost use Rattle.imago_storage.specs.State.{StorageState, IsAlignment, IsAligned, IsWhole, unit_of};
 ghost use Rattle.imago_storage.specs.Calls.{Reads, Kept, Later, RequestsOne, NotResolved, CountsFaults, Written, NotWritten, Discarded, NotDiscarded, Resized, NotResized, UnlessUnsupported};
 
 use crate::Fault;
@@ -169,4 +169,7 @@ pub trait Storage: Drop {
         ensures kept { Kept (state self.old) (state self.new) }
         ensures faults { CountsFaults (state self.old).faults (state self.new).faults result }
         ensures later { Later (state self.old) (state self.new) };
+
+    /// Its alignments are powers of two.
+    ghost aligned: { (s : Self) → IsAligned (state s).shape };
 }

@@ -2,7 +2,7 @@
 ghost use Rattle.std.specs.Prelude.{◌≡◌, ℕ, ◌+◌, ◌-◌, ◌%◌, ◌<◌, ◌≤◌, ◌^◌, max, min, length, slice_index, replicate, IsOk, OnOk, IfOk, IfErr, IsErrOf, IsOkUnless};
 ghost use Rattle.imago_storage.specs.State.{unit_of, IsAlignment, IsWhole};
 ghost use Rattle.imago_storage.specs.Calls.{Later, Mixed, RequestsOne};
-ghost use Rattle.imago_storage.specs.Through.{round_up, IsUnits, Overflows, RequestsOnce, Through, NotThrough, WrittenThrough, NotWrittenThrough, Stops};
+ghost use Rattle.imago_storage.specs.Through.{round_up, IsUnits, Overflows, RequestsOnce, Through, NotThrough, WrittenThrough, NotWrittenThrough, Stops, StopsAsLong};
 ghost use Rattle.imago_storage.specs.Zeroings.{UnlessLeft, NotZeroedBy};
 
 use crate::ext::{larger_alignment, padded_end, unit_size, whole_part, write_in_parts};
@@ -187,6 +187,7 @@ pub fn write_full_zeroes<S: Storage>(
     ensures later { Later (S.state storage.old) (S.state storage.new) }
     // Whatever the answer: each file that a stop inside the call leaves has old bytes or zeroes in the range, and outside what was there.
     ensures stops { Stops (Mixed (S.state storage.old).bytes offset (replicate n 0)) (S.state storage.old) (S.state storage.new) }
+    ensures as_long { StopsAsLong (S.state storage.old) (S.state storage.new) }
     ensures empty { n ≡ 0 → IsOk result × (S.state storage.new ≡ S.state storage.old) }
     ensures unit { IsAlignment (unit_of (S.state storage.old).shape) }
 {

@@ -24,6 +24,7 @@ put_nothing s at bytes = record {
     later = omega arith;
     in_step = inr (λ step. step);
     stops = no_stops s at bytes;
+    as_long = λ step tells keeps. record { files = []; told = refl; each = λ k d lt. absurd (omega (arith, lt)) };
   };
   stops = no_stops s at bytes;
   shape = refl;

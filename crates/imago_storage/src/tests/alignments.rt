@@ -1,4 +1,5 @@
 // Calls of a storage whose four alignments differ: what it is asked for is aligned as each call wants it.
+ghost use Rattle.std.proofs.Common.{lit<, lit≤, refl};
 ghost use Rattle.std.specs.Prelude.{◌≡◌};
 ghost use Rattle.imago_storage.specs.MemStorage.{mem_shape, mem_state};
 
@@ -65,6 +66,8 @@ impl Uneven {
 
 impl Storage for Uneven {
     ghost state = { λ u. record (mem_state u.inner) { shape = record (mem_state u.inner).shape { mem_align = 8; req_align = 512; zero_align = 4096; discard_align = 65536 } } };
+
+    ghost aligned = { λ u. record { memory = record { positive = lit< tt; small = lit≤ tt; divides = refl }; requests = record { positive = lit< tt; small = lit≤ tt; divides = refl }; zeroes = record { positive = lit< tt; small = lit≤ tt; divides = refl }; discards = record { positive = lit< tt; small = lit≤ tt; divides = refl } } };
 
     fn mem_align(&self) -> usize {
         8

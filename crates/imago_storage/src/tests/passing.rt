@@ -1,7 +1,7 @@
 // What a fuse and a log pass on to the storage below, by a storage that notes what it was asked.
 ghost use Rattle.std.specs.Prelude.{◌≡◌};
 ghost use Rattle.imago_storage.specs.State.{unit_of};
-ghost use Rattle.imago_storage.specs.Null.{null_state, zeroes};
+ghost use Rattle.imago_storage.specs.Null.{null_state, zeroes, null_aligned};
 
 use crate::{
     Fault, FuseStorage, LogStorage, Null, PreallocateMode, Storage, StorageExt, write_full_zeroes,
@@ -54,6 +54,8 @@ impl<'a> Recorder<'a> {
 
 impl<'a> Storage for Recorder<'a> {
     ghost state = { λ r. null_state r.below };
+
+    ghost aligned = { λ r. null_aligned r.below };
 
     fn mem_align(&self) -> usize {
         self.below.mem_align()

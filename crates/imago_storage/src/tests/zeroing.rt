@@ -1,7 +1,7 @@
 // Zeroing and discards of any range, by values from the rules.
 ghost use Rattle.std.specs.Prelude.{◌≡◌};
 ghost use Rattle.imago_storage.specs.State.{IsAlignment};
-ghost use Rattle.imago_storage.specs.MemStorage.{mem_state};
+ghost use Rattle.imago_storage.specs.MemStorage.{mem_state, mem_aligned};
 
 use crate::{
     Fault, FuseStorage, LogStorage, MemStorage, Null, PreallocateMode, Request, Storage,
@@ -43,6 +43,8 @@ pub struct Plain {
 
 impl Storage for Plain {
     ghost state = { λ p. mem_state p.inner };
+
+    ghost aligned = { λ p. mem_aligned p.inner };
 
     fn mem_align(&self) -> usize {
         self.inner.mem_align()

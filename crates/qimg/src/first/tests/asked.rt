@@ -1,5 +1,5 @@
 // What is asked of a storage: for a flush of a disk a flush and no sync, and for a new image that it can be cut.
-ghost use Rattle.imago_storage.specs.MemStorage.{mem_state};
+ghost use Rattle.imago_storage.specs.MemStorage.{mem_state, mem_aligned};
 
 use super::*;
 use imago_storage::PreallocateMode;
@@ -32,6 +32,8 @@ impl Counting {
 
 impl Storage for Counting {
     ghost state = { λ counting. mem_state counting.below };
+
+    ghost aligned = { λ counting. mem_aligned counting.below };
 
     fn mem_align(&self) -> usize {
         self.below.mem_align()

@@ -1,4 +1,4 @@
-use Rattle.imago_storage.proofs.Parts.{stops_of, shape_of, later_of}
+use Rattle.imago_storage.proofs.Parts.{stops_of, as_long_of, shape_of, later_of}
 use Rattle.imago_storage.proofs.ext.AnyStorageExt.write.Goals as goal
 
 pub returns-clause-stops : goal.returns-clause-stops
@@ -9,3 +9,6 @@ returns-clause-shape g c = shape_of _ _ _ _ _ _ c.write_padded.result c.write_pa
 
 pub returns-clause-later : goal.returns-clause-later
 returns-clause-later g c = later_of _ _ _ _ _ _ c.write_padded.result c.write_padded.ensures.ok c.write_padded.ensures.err
+
+pub returns-clause-as_long : goal.returns-clause-as_long
+returns-clause-as_long g c = as_long_of _ _ _ _ _ _ c.write_padded.result c.write_padded.ensures.ok c.write_padded.ensures.err
