@@ -25,8 +25,8 @@ both_true : (a b : Bool) → IsTrue (a && b) → IsTrue a × IsTrue b
 both_true true b h = (refl, h)
 both_true false b h = absurd (cc h)
 
-writable_next : (layer : Layer) (below : List Layer) (depth : ℕ) → IsTrue layer.fixed.writable → AreWritable depth below → AreWritable (depth + 1) (layer ∷ below)
-writable_next layer below depth top rest = subst (λ (k : ℕ). AreWritable k (layer ∷ below)) (sym (add-one depth)) (top, rest)
+writable_next : (layer : Layer) (below : List Layer) (depth storage place offset n : ℕ) → IsTrue layer.fixed.writable → AreWritable depth below storage place offset n → AreWritable (depth + 1) (layer ∷ below) storage place offset n
+writable_next layer below depth storage place offset n top rest = subst (λ (k : ℕ). AreWritable k (layer ∷ below) storage place offset n) (sym (add-one depth)) (top, rest)
 
 module _ {D : Type 0} (stored : D → ℕ → ℕ → ℕ) (d : D) (ds : List D) (layer : Layer) (below : List Layer) (offset n asked : ℕ) (above : Bool)
     (free : EachIs layer.cell offset asked (λ i. unmapped)) (inside : offset + asked ≤ layer.size) (top : IsTrue above → IsTrue layer.fixed.writable) where
@@ -36,7 +36,7 @@ module _ {D : Type 0} (stored : D → ℕ → ℕ → ℕ) (d : D) (ds : List D)
   pub names_lower : (m : Mapping) → IsRunBelow asked m n → DeepNames below (at below) (stored_at stored ds) offset n m → DeepNames (layer ∷ below) (at (layer ∷ below)) (stored_at stored (d ∷ ds)) offset n (lower above m)
   names_lower (Raw depth storage place writable) run names = (
     λ i lt. through_below i (omega (arith, run.0, lt)) ∙ names.0 i lt ∙ ap byte (sym (stored_next stored d ds depth storage (place + i))),
-    λ is. let both = both_true writable above is in writable_next layer below depth (top both.1) (names.1 both.0),
+    λ is. let both = both_true writable above is in writable_next layer below depth storage place offset n (top both.1) (names.1 both.0),
   )
   names_lower (Special depth place) run names = (λ i lt. through_below i (omega (arith, run.0, lt)) ∙ names.0 i lt, names.1)
   names_lower (Zero explicit) run names = (λ i lt. through_below i (omega (arith, run.0, lt)) ∙ names.0 i lt, λ is. absurd (cc is))

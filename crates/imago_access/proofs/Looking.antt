@@ -5,10 +5,11 @@ use Rattle.imago_storage.specs.State.{StorageState}
 use Rattle.imago_access.specs.Layer.{Layer, Fixed}
 use Rattle.imago_access.specs.Chain.{at, Each, Likes}
 use Rattle.imago_access.specs.Files.{Pairs, IsKept, IsLater, IsSound, files_of}
-use Rattle.imago_access.specs.Going.{Looked}
+use Rattle.imago_access.specs.Going.{Looked, LookedUnder}
 use Rattle.imago_access.specs.Stops.{KeepsStopsTo, GivesNone, Left}
 use Rattle.imago_access.proofs.FilePairs.{pairs_append, kept_all_same, kept_all_both, later_all_same, later_all_both, sound_all_same, sound_all_both}
 use Rattle.imago_access.proofs.Stopping.{then_left, passes_none}
+use Rattle.imago_access.proofs.Units.{likes_same, likes_both}
 
 module _ {D : Type 0} (layer : D → Layer) (image : D → StorageState) (extras : D → List StorageState) (sees safe still : D → Type 0) (sound : ℕ → List ℕ → Type 0) where
   pub looked_same : (ok whole : Type 0) (d : D) → Looked layer image extras sees safe still sound ok whole d d
@@ -119,3 +120,38 @@ module _ {D : Type 0} (layer : D → Layer) (image : D → StorageState) (extras
       (pairs_append IsKept (image x ∷ extras x) (image y ∷ extras y) (files_of image extras xs) (files_of image extras ys) one.0 rest.0, (one.1, rest.1))
   chain_kept ok whole [] (y ∷ ys) quiet h = absurd h
   chain_kept ok whole (x ∷ xs) [] quiet h = absurd h
+
+-- looks at the layers below one
+module _ {B : Type 0} (under : B → List Layer) (files : B → List StorageState) (sees still : B → Type 0) where
+  pub looked_under_same : (ok whole : Type 0) (b : B) → LookedUnder under files sees still ok whole b b
+  looked_under_same ok whole b = record {
+    like = likes_same (under b);
+    later = later_all_same (files b);
+    faults = λ h. sound_all_same (files b);
+    stays = λ h see. (refl, see);
+    kept = λ s. (kept_all_same (files b), s);
+  }
+
+  pub looked_under_weaker : (ok whole ok' whole' : Type 0) (a b : B) → (ok' → ok) → (whole' → whole) → LookedUnder under files sees still ok whole a b → LookedUnder under files sees still ok' whole' a b
+  looked_under_weaker ok whole ok' whole' a b from from' h = record {
+    like = h.like;
+    later = h.later;
+    faults = λ x. h.faults (from x);
+    stays = λ x. h.stays (from' x);
+    kept = h.kept;
+  }
+
+  pub looked_under_both : (ok whole : Type 0) (a b c : B) → LookedUnder under files sees still ⊤ ⊤ a b → LookedUnder under files sees still ok whole b c → LookedUnder under files sees still ok whole a c
+  looked_under_both ok whole a b c first second = record {
+    like = likes_both (under a) (under b) (under c) first.like second.like;
+    later = later_all_both (files a) (files b) (files c) first.later second.later;
+    faults = λ h. sound_all_both (files a) (files b) (files c) (first.faults tt) (second.faults h);
+    stays = λ h see.
+        let one = first.stays tt see in
+        let two = second.stays h one.1 in
+        (two.0 ∙ one.0, two.1);
+    kept = λ s.
+        let one = first.kept s in
+        let two = second.kept one.1 in
+        (kept_all_both (files a) (files b) (files c) one.0 two.0, two.1);
+  }

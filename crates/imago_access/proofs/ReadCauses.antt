@@ -1,5 +1,5 @@
 -- A refusal's cause in a part of a range, or in a layer below, is one in the whole.
-use Rattle.std.proofs.Common.{◌≡◌, inl, inr, ℕ, ◌+◌, ◌<◌, ◌≤◌, List, ◌∷◌, ◌++◌, arith, sym, ◌∙◌, ap, subst, add_assoc}
+use Rattle.std.proofs.Common.{◌≡◌, inl, inr, ℕ, ◌+◌, ◌<◌, ◌≤◌, List, [], ◌∷◌, ◌++◌, arith, sym, ◌∙◌, ap, subst, add_assoc}
 use Rattle.std.specs.Prelude.{Bool}
 use Rattle.std.proofs.lemmas.Bool.{lt-ltb}
 use Rattle.imago_storage.specs.State.{StorageState}
@@ -14,7 +14,7 @@ use Rattle.imago_access.specs.Files.{Pairs, IsLater}
 use Rattle.imago_access.specs.Mappings.{EachIs, Names, Looks, IsRun, IsInReach}
 use Rattle.imago_access.specs.declared.mapping.ShallowMapping.{ShallowMapping}
 use Rattle.imago_access.specs.declared.mapping.ShallowMapping.TheVariants.{Raw, Indirect, Special}
-use Rattle.imago_access.specs.Refusals.{barrier, SomeIs, ReadCause, LookCause, ReadMappedCause}
+use Rattle.imago_access.specs.Refusals.{barrier, SomeIs, ReadCause, LookCause, ReadMappedCause, InvalidateCause}
 use Rattle.imago_access.proofs.FilePairs.{some_rose_behind, some_rose_left, some_rose_right}
 
 -- where a layer maps nothing, the one below shows
@@ -101,3 +101,19 @@ module _ (layer : Layer) (stored : ℕ → ℕ → ℕ) (offset asked : ℕ) (ma
       let here = subst (λ (m : ShallowMapping). IsRun layer offset asked m n) is run in
       let long = here.3 some in
       (0, some, at_own layer below (offset + 0) barred (omega (arith, here.0)) (special_barred place is 0 long))
+
+-- what bars the top layer from being read again, in a chain
+pub invalidate_top : (layer : Layer) (below : List Layer) (olds news us vs : List StorageState) (e : Fault) → InvalidateCause (layer ∷ []) olds news e → InvalidateCause (layer ∷ below) (olds ++ us) (news ++ vs) e
+invalidate_top layer below olds news us vs Failed h = elim h [ inl here ↦ inl here | inr none ↦ absurd none ]
+invalidate_top layer below olds news us vs MissingData h = elim h [ inl here ↦ inl here | inr none ↦ absurd none ]
+invalidate_top layer below olds news us vs Memory h = h
+invalidate_top layer below olds news us vs Storage h = some_rose_left olds news us vs h
+invalidate_top layer below olds news us vs _ h = h
+
+-- the same of the layers below
+pub invalidate_below : (layer : Layer) (below : List Layer) (olds news us vs : List StorageState) → Pairs IsLater olds news → (e : Fault) → InvalidateCause below us vs e → InvalidateCause (layer ∷ below) (olds ++ us) (news ++ vs) e
+invalidate_below layer below olds news us vs later Failed h = inr h
+invalidate_below layer below olds news us vs later MissingData h = inr h
+invalidate_below layer below olds news us vs later Memory h = h
+invalidate_below layer below olds news us vs later Storage h = some_rose_right olds news us vs later h
+invalidate_below layer below olds news us vs later _ h = h

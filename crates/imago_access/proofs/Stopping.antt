@@ -42,6 +42,10 @@ passes_none P a b shape none calm = (
   no_stops P a b none.0 none.1,
 )
 
+-- a call behind another that leaves the file's state
+pub passes_on : (P : List ℕ → Type 0) (a b c : StorageState) → c ≡ b → Passes P a b → Passes P a c
+passes_on P a b c same passes = subst (Passes P a) (sym same) passes
+
 -- A file left by a later call, seen from the entry of the first: the later one begins with a file that the first may show, and each
 -- value that its own entry's disk has or that it gives is one that the whole may show.
 module _ (below : List Layer) (sound : ℕ → List ℕ → Type 0) (entry mid : Layer) (file mid_file : List ℕ) (least : ℕ) (gives later_gives : ℕ → Value → Type 0)

@@ -56,11 +56,16 @@ module _ {D : Type 0} (layer : D → Layer) (aligned : (d : D) → IsAlignment (
       let le : unit_of_chain (map layer ds) ≤ unit_of_chain (map layer (d ∷ ds)) = omega arith in
       calm (overflows_more (unit_of_chain (map layer ds)) (unit_of_chain (map layer (d ∷ ds))) offset n (unit_aligned ds) (unit_aligned (d ∷ ds)) le h)
 
+  -- a range that isn't in reach of the top layer isn't in reach of the chain
+  pub overflows_chain : (d : D) (ds : List D) (offset n : ℕ) → Overflows (unit_of_layer (layer d)) offset n → Overflows (unit_of_chain (map layer (d ∷ ds))) offset n
+  overflows_chain d ds offset n h =
+      let le : unit_of_layer (layer d) ≤ unit_of_chain (map layer (d ∷ ds)) = omega arith in
+      overflows_more (unit_of_layer (layer d)) (unit_of_chain (map layer (d ∷ ds))) offset n (layer_aligned d) (unit_aligned (d ∷ ds)) le h
+
   -- and of the top layer
   pub calm_top : (d : D) (ds : List D) (offset n : ℕ) → (Overflows (unit_of_chain (map layer (d ∷ ds))) offset n → ⊥) → Overflows (unit_of_layer (layer d)) offset n → ⊥
   calm_top d ds offset n calm h =
-      let le : unit_of_layer (layer d) ≤ unit_of_chain (map layer (d ∷ ds)) = omega arith in
-      calm (overflows_more (unit_of_layer (layer d)) (unit_of_chain (map layer (d ∷ ds))) offset n (layer_aligned d) (unit_aligned (d ∷ ds)) le h)
+      calm (overflows_chain d ds offset n h)
 
 -- layers that are like what they were have the same units
 pub likes_same : (xs : List Layer) → Likes xs xs

@@ -28,12 +28,16 @@ ToAny p was is = (is ≡ was) ⊎ ((v : Value) × IsByte v × (is ≡ own v))
 abbrev pub ToBelow : Cell → ℕ → Cell → Cell → Type 0
 ToBelow blank p was is = (is ≡ was) ⊎ (is ≡ blank)
 
--- what a prepared mapping may hold of a place; a copied byte is what the place shows through the layers below
+-- the byte is what the place shows through the layers below
+abbrev pub IsCopied : (ℕ → Value) → Layer → ℕ → ℕ → Type 0
+IsCopied below layer p b = through (layer.cell p) (below p) ≡ byte b
+
+-- What a prepared mapping may hold of a place. One that was copied beside the run can't be written.
 abbrev pub IsHolding : (ℕ → Value) → Layer → ℕ → ℕ → Bool → ℕ → Held → Type 0
 IsHolding below layer offset n overwrite p loose = ⊤
-IsHolding below layer offset n overwrite p (beside b) = (IsIn offset n p → ⊥) × (through (layer.cell p) (below p) ≡ byte b)
+IsHolding below layer offset n overwrite p (beside b) = (IsIn offset n p → ⊥) × IsCopied below layer p b × (layer.home p ≡ None)
 IsHolding below layer offset n overwrite p (inside (Some b) written announced) =
-    IsIn offset n p × (written ≡ None) × (announced ≡ overwrite) × (through (layer.cell p) (below p) ≡ byte b)
+    IsIn offset n p × (written ≡ None) × (announced ≡ overwrite) × IsCopied below layer p b
 IsHolding below layer offset n overwrite p (inside None written announced) = IsIn offset n p × (written ≡ None) × (announced ≡ overwrite)
 
 -- A run from the offset on, of one byte to the length asked, can be written in a storage from a place on. Values stay, and some places

@@ -3,7 +3,7 @@ use Rattle.std.specs.Prelude.{◌≡◌, ◌⊎◌, ⊤, ◌≤◌, ◌∷◌, [
 use Rattle.imago_storage.specs.State.{StorageState, Rose}
 use Rattle.imago_storage.specs.Calls.{Kept, Later}
 use Rattle.imago_storage.specs.declared.fault.Fault.{Fault}
-use Rattle.imago_storage.specs.declared.fault.Fault.TheVariants.{Memory, Storage}
+use Rattle.imago_storage.specs.declared.fault.Fault.TheVariants.{DamagedHeader, DamagedTable, Unsupported, VersionLimit, Limit, CacheFull, Memory, Storage}
 
 -- the same things before and after, pair by pair
 abbrev pub Pairs : {A : Type 0} → (A → A → Type 0) → List A → List A → Type 0
@@ -37,6 +37,25 @@ IsMild fault = ⊤
 -- the call succeeded, or was refused for another cause than these two
 abbrev pub IsWhole : {T : Type 0} → Result T Fault → Type 0
 IsWhole result = MatchResult result (λ _. ⊤) IsMild
+
+-- the format can't do it, or its storage can't
+abbrev pub IsDeclined : Fault → Type 0
+IsDeclined Unsupported = ⊤
+IsDeclined VersionLimit = ⊤
+IsDeclined fault = ⊥
+
+-- the call succeeded, or was declined
+abbrev pub IsAnswered : {T : Type 0} → Result T Fault → Type 0
+IsAnswered result = MatchResult result (λ _. ⊤) IsDeclined
+
+-- the files say something else than what was read of them
+abbrev pub IsStale : Fault → Type 0
+IsStale DamagedHeader = ⊤
+IsStale DamagedTable = ⊤
+IsStale Unsupported = ⊤
+IsStale (Limit bound) = ⊤
+IsStale CacheFull = ⊤
+IsStale fault = ⊥
 
 -- the storages of drivers, those of the highest first: of each its image file and then the others
 abbrev pub files_of : {D : Type 0} → (D → StorageState) → (D → List StorageState) → List D → List StorageState

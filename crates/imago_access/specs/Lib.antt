@@ -10,3 +10,6 @@ pub mod Parts
 pub mod Resizes
 pub mod Stops
 pub mod Going
+pub mod Running
+pub mod Discards
+pub mod Building

@@ -13,14 +13,14 @@ abbrev pub EachIs : (ℕ → Cell) → ℕ → ℕ → (ℕ → Cell) → Type 0
 EachIs cell offset n value = (i : ℕ) → i < n → cell (offset + i) ≡ value i
 
 -- What a layer's answer says of each place of its run, by the bytes at the places of its storages. A writable place can be written
--- where it is.
+-- where it is, and a zero that the layer doesn't state itself is of one that shows none below it.
 abbrev pub Names : Layer → (ℕ → ℕ → ℕ) → ℕ → ℕ → ShallowMapping → Type 0
 Names layer stored offset n (shallow.Raw storage place writable) =
     EachIs layer.cell offset n (λ i. own (byte (stored storage (place + i))))
     × (IsTrue writable → IsTrue layer.fixed.writable)
     × (IsTrue writable → (i : ℕ) → i < n → layer.home (offset + i) ≡ Some (storage, place + i))
 Names layer stored offset n (shallow.Indirect place writable) = EachIs layer.cell offset n (λ i. unmapped) × (place ≡ offset) × (IsTrue writable → IsTrue layer.fixed.writable)
-Names layer stored offset n (shallow.Zero explicit) = EachIs layer.cell offset n (λ i. own (byte 0))
+Names layer stored offset n (shallow.Zero explicit) = EachIs layer.cell offset n (λ i. own (byte 0)) × (explicit ≡ false → layer.fixed.blank ≡ own (byte 0))
 Names layer stored offset n (shallow.Special place) = EachIs layer.cell offset n (λ i. own barred) × (place ≡ offset)
 Names layer stored offset n shallow.Eof = ⊤
 
@@ -50,11 +50,12 @@ stored_at stored [] depth storage place = 0
 stored_at stored (d ∷ ds) zero storage place = stored d storage place
 stored_at stored (d ∷ ds) (suc depth) storage place = stored_at stored ds depth storage place
 
--- the layers down to this depth were opened for writing
-abbrev pub AreWritable : ℕ → List Layer → Type 0
-AreWritable depth [] = ⊥
-AreWritable zero (layer ∷ below) = IsTrue layer.fixed.writable
-AreWritable (suc depth) (layer ∷ below) = IsTrue layer.fixed.writable × AreWritable depth below
+-- The layers down to this depth were opened for writing, and in the last of them each place of the run can be written in this storage, from
+-- this place on.
+abbrev pub AreWritable : ℕ → List Layer → ℕ → ℕ → ℕ → ℕ → Type 0
+AreWritable depth [] storage place offset n = ⊥
+AreWritable zero (layer ∷ below) storage place offset n = IsTrue layer.fixed.writable × ((i : ℕ) → i < n → layer.home (offset + i) ≡ Some (storage, place + i))
+AreWritable (suc depth) (layer ∷ below) storage place offset n = IsTrue layer.fixed.writable × AreWritable depth below storage place offset n
 
 -- the top layer itself says that the places are 0
 abbrev pub SaysZero : List Layer → ℕ → ℕ → Type 0
@@ -65,7 +66,7 @@ SaysZero (layer ∷ below) offset n = EachIs layer.cell offset n (λ i. own (byt
 -- layer on the way says so, and a zero is explicit where the top layer says so.
 abbrev pub DeepNames : List Layer → (ℕ → Value) → (ℕ → ℕ → ℕ → ℕ) → ℕ → ℕ → Mapping → Type 0
 DeepNames chain value stored offset n (deep.Raw depth storage place writable) =
-    ((i : ℕ) → i < n → value (offset + i) ≡ byte (stored depth storage (place + i))) × (IsTrue writable → AreWritable depth chain)
+    ((i : ℕ) → i < n → value (offset + i) ≡ byte (stored depth storage (place + i))) × (IsTrue writable → AreWritable depth chain storage place offset n)
 DeepNames chain value stored offset n (deep.Zero explicit) = ((i : ℕ) → i < n → value (offset + i) ≡ byte 0) × (IsTrue explicit → SaysZero chain offset n)
 DeepNames chain value stored offset n (deep.Special depth place) = ((i : ℕ) → i < n → value (offset + i) ≡ barred) × (place ≡ offset)
 DeepNames chain value stored offset n deep.Eof = ⊤
@@ -82,6 +83,11 @@ IsRunBelow asked mapping n = (n ≤ asked) × (0 < asked → 0 < n)
 abbrev pub IsDeepRun : ℕ → ℕ → ℕ → Mapping → ℕ → Type 0
 IsDeepRun size offset asked deep.Eof n = (n ≡ 0) × (size ≤ offset)
 IsDeepRun size offset asked mapping n = (offset < size) × (n ≤ asked) × (offset + n ≤ size) × (0 < asked → 0 < n)
+
+-- the run lies in the top layer, and each of its places can be written where the answer says
+abbrev pub IsHomeRun : Layer → ℕ → Mapping → ℕ → Type 0
+IsHomeRun layer offset (deep.Raw depth storage place writable) n = (depth ≡ 0) × IsTrue writable × ((i : ℕ) → i < n → layer.home (offset + i) ≡ Some (storage, place + i))
+IsHomeRun layer offset mapping n = ⊥
 
 -- the depth names one of so many layers
 abbrev pub IsDeepBelow : ℕ → Mapping → Type 0

@@ -5,7 +5,7 @@ use Rattle.imago_storage.specs.Through.{Overflows}
 use Rattle.imago_storage.specs.Steps.{Call, write, write_zeroes, discard_to_zero, prepare, ensure}
 use Rattle.imago_storage.specs.Causes.{offset_of, length_of}
 use Rattle.imago_storage.specs.declared.fault.Fault.{Fault}
-use Rattle.imago_storage.specs.declared.fault.Fault.TheVariants.{ReadOnly, PastEnd, RangeOverflow, MissingData, Failed, Outdated, Memory, Storage}
+use Rattle.imago_storage.specs.declared.fault.Fault.TheVariants.{ReadOnly, PastEnd, RangeOverflow, Unsupported, VersionLimit, Foreign, MissingData, Failed, Outdated, Memory, Storage}
 use Rattle.imago_access.specs.Layer.{Layer, unit_of_layer}
 use Rattle.imago_access.specs.Files.{SomeRose}
 use Rattle.imago_access.specs.Refusals.{barrier, SomeBarred}
@@ -25,16 +25,25 @@ announces (ensure offset n overwrite) = overwrite
 announces call = false
 
 -- Why a call of a driver over a range is refused, with the layers below that it reads: by what the image is and the range, or by a cause
--- of the driver's own.
+-- of the driver's own. It spends no mapping, so none is foreign to it, and nothing that it needs is more than the format can do.
 abbrev pub PartCause : List Layer → Layer → ℕ → ℕ → (Fault → Type 0) → List StorageState → List StorageState → Fault → Type 0
 PartCause below layer offset n causes olds news ReadOnly = (0 < n) × IsFalse layer.fixed.writable
 PartCause below layer offset n causes olds news PastEnd = (0 < n) × (layer.size < offset + n)
 PartCause below layer offset n causes olds news RangeOverflow = Overflows (unit_of_layer layer) offset n
+PartCause below layer offset n causes olds news Foreign = ⊥
+PartCause below layer offset n causes olds news Unsupported = ⊥
+PartCause below layer offset n causes olds news VersionLimit = ⊥
 PartCause below layer offset n causes olds news Failed = SomeBarred (layer ∷ below) Failed
 PartCause below layer offset n causes olds news MissingData = SomeBarred (layer ∷ below) MissingData
 PartCause below layer offset n causes olds news Memory = ⊤
 PartCause below layer offset n causes olds news Storage = SomeRose olds news
 PartCause below layer offset n causes olds news fault = causes fault
+
+-- the same of a zeroing or a discard, which the format or its storage may decline
+abbrev pub DeclinableCause : List Layer → Layer → ℕ → ℕ → (Fault → Type 0) → List StorageState → List StorageState → Fault → Type 0
+DeclinableCause below layer offset n causes olds news Unsupported = causes Unsupported
+DeclinableCause below layer offset n causes olds news VersionLimit = causes VersionLimit
+DeclinableCause below layer offset n causes olds news fault = PartCause below layer offset n causes olds news fault
 
 -- why a call without a range is refused: by what the image is, for want of memory or by a storage that failed
 abbrev pub PlainCause : Layer → List StorageState → List StorageState → Fault → Type 0
@@ -56,6 +65,8 @@ MappedCause layer guest place n olds news fault = PartCause [] layer guest n (λ
 -- why a growth or a shrink is refused
 abbrev pub ResizeCause : Type 0 → List Layer → Layer → (Fault → Type 0) → List StorageState → List StorageState → Fault → Type 0
 ResizeCause Alters below layer causes olds news ReadOnly = Alters × IsFalse layer.fixed.writable
+ResizeCause Alters below layer causes olds news PastEnd = ⊥
+ResizeCause Alters below layer causes olds news Foreign = ⊥
 ResizeCause Alters below layer causes olds news Failed = SomeBarred (layer ∷ below) Failed
 ResizeCause Alters below layer causes olds news MissingData = SomeBarred (layer ∷ below) MissingData
 ResizeCause Alters below layer causes olds news Memory = ⊤

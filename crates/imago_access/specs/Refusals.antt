@@ -6,9 +6,9 @@ use Rattle.imago_storage.specs.Disk.{Value, barred, damaged_place, Disk}
 use Rattle.imago_storage.specs.Steps.{Call}
 use Rattle.imago_storage.specs.Causes.{offset_of, length_of, Alters, IsForeign}
 use Rattle.imago_storage.specs.declared.fault.Fault.{Fault}
-use Rattle.imago_storage.specs.declared.fault.Fault.TheVariants.{ReadOnly, PastEnd, RangeOverflow, DamagedTable, Barred, Foreign, MissingData, Failed, Memory, Storage}
+use Rattle.imago_storage.specs.declared.fault.Fault.TheVariants.{ReadOnly, PastEnd, RangeOverflow, DamagedTable, Unsupported, Barred, VersionLimit, Foreign, MissingData, Failed, Memory, Storage}
 use Rattle.imago_access.specs.Layer.{Layer, own, unit_of_layer}
-use Rattle.imago_access.specs.Files.{SomeRose}
+use Rattle.imago_access.specs.Files.{SomeRose, IsStale}
 
 -- why no call of an image but getters and a cancel succeeds
 abbrev pub barrier : Layer → Option Fault
@@ -65,12 +65,15 @@ ReadCause layers value unit offset n olds news Memory = ⊤
 ReadCause layers value unit offset n olds news Storage = SomeRose olds news
 ReadCause layers value unit offset n olds news fault = ⊥
 
--- Why a call that changes is refused, by the unit of its requests, from its own entry: also by a cause that the driver has of its own.
+-- Why a call that changes is refused, by the unit of its requests, from its own entry: also by a cause that the driver has of its own, but
+-- never because the format can't zero or discard a part by itself.
 abbrev pub ChangeCause : ℕ → List Layer → Disk → Bool → Call → (Fault → Type 0) → List StorageState → List StorageState → Fault → Type 0
 ChangeCause unit layers disk writable call causes olds news ReadOnly = Alters disk call × IsFalse writable
 ChangeCause unit layers disk writable call causes olds news PastEnd = Alters disk call × (disk.size < offset_of call + length_of call)
 ChangeCause unit layers disk writable call causes olds news RangeOverflow = Overflows unit (offset_of call) (length_of call)
 ChangeCause unit layers disk writable call causes olds news Foreign = IsForeign call
+ChangeCause unit layers disk writable call causes olds news Unsupported = ⊥
+ChangeCause unit layers disk writable call causes olds news VersionLimit = ⊥
 ChangeCause unit layers disk writable call causes olds news Failed = SomeBarred layers Failed
 ChangeCause unit layers disk writable call causes olds news MissingData = SomeBarred layers MissingData
 ChangeCause unit layers disk writable call causes olds news Memory = ⊤
@@ -94,3 +97,11 @@ DeepLookCause layers value offset n olds news DamagedTable = SomeIs value offset
 DeepLookCause layers value offset n olds news Memory = ⊤
 DeepLookCause layers value offset n olds news Storage = SomeRose olds news
 DeepLookCause layers value offset n olds news fault = ⊥
+
+-- Why what the layers hold in memory can't be dropped and read again.
+abbrev pub InvalidateCause : List Layer → List StorageState → List StorageState → Fault → Type 0
+InvalidateCause layers olds news Failed = SomeBarred layers Failed
+InvalidateCause layers olds news MissingData = SomeBarred layers MissingData
+InvalidateCause layers olds news Memory = ⊤
+InvalidateCause layers olds news Storage = SomeRose olds news
+InvalidateCause layers olds news fault = IsStale fault

@@ -1,7 +1,7 @@
 -- What resizes of a driver do to its layer.
-use Rattle.std.specs.Prelude.{◌≡◌, ℕ, ◌<◌, ◌≤◌}
+use Rattle.std.specs.Prelude.{◌≡◌, ℕ, ◌<◌, ◌≤◌, if◌then◌else◌, ltb}
 use Rattle.imago_storage.specs.Disk.{Value}
-use Rattle.imago_storage.specs.Steps.{Growth, anything, zeroes, IsFilled}
+use Rattle.imago_storage.specs.Steps.{Call, grow, shrink, Growth, anything, zeroes, IsFilled}
 use Rattle.imago_access.specs.Layer.{Layer, IsLike, through}
 use Rattle.imago_access.specs.declared.format.PreallocateMode.{PreallocateMode}
 use Rattle.imago_access.specs.declared.format.PreallocateMode.TheVariants as mode
@@ -10,6 +10,10 @@ use Rattle.imago_access.specs.declared.format.PreallocateMode.TheVariants as mod
 abbrev pub fill_of : PreallocateMode → Growth
 fill_of mode.None = anything
 fill_of m = zeroes
+
+-- a resize of a disk to a size is a growth or a shrink
+abbrev pub resizing : ℕ → ℕ → Growth → Call
+resizing now size fill = if ltb size now then shrink size else grow size fill
 
 -- the size is the new one; places that were there show what they did, and new ones 0, or anything where nothing is prepared
 pub record Grown (below : ℕ → Value) (old new : Layer) (asked : ℕ) (fill : Growth) : Type 0 where

@@ -1,5 +1,5 @@
 -- How a prepared mapping is spent.
-use Rattle.std.specs.Prelude.{◌≡◌, ◌≢◌, ⊤, ℕ, Option, Some, None, IsFalse}
+use Rattle.std.specs.Prelude.{◌≡◌, ◌≢◌, ⊤, ℕ, Bool, false, eqb, not, Option, Some, None, IsFalse, if◌then◌else◌}
 use Rattle.imago_storage.specs.declared.fault.Fault.{Fault}
 use Rattle.imago_storage.specs.declared.fault.Fault.TheVariants.{ReadOnly, Foreign, MissingData, Failed}
 use Rattle.imago_access.specs.Layer.{Layer}
@@ -25,6 +25,16 @@ abbrev pub Spends : {S : Type 0} → (S → ℕ) → (S → ℕ) → Option S �
 Spends claim tag None old new P = new ≡ old
 Spends claim tag (Some s) old new P = (tag s ≡ old.fixed.number) × (old.unspent ≡ Some (claim s) → P)
 
+-- the first cause why a mapping that is to be committed is given back
+abbrev pub commit_refusal : {S : Type 0} → (S → ℕ) → Option S → Layer → Option Fault
+commit_refusal tag None layer = barrier layer
+commit_refusal tag (Some s) layer =
+    if layer.failed then Some Failed
+    else if layer.fixed.missing then Some MissingData
+    else if not layer.fixed.writable then Some ReadOnly
+    else if not (eqb (tag s) layer.fixed.number) then Some Foreign
+    else None
+
 -- why a mapping that is to be committed is given back
 abbrev pub GivenBack : {S : Type 0} → (S → ℕ) → Option S → Layer → Fault → Type 0
 GivenBack tag state layer Failed = barrier layer ≡ Some Failed
@@ -33,3 +43,8 @@ GivenBack tag None layer fault = ⊥
 GivenBack tag (Some s) layer ReadOnly = IsFalse layer.fixed.writable
 GivenBack tag (Some s) layer Foreign = tag s ≢ layer.fixed.number
 GivenBack tag (Some s) layer fault = ⊥
+
+-- it has state, and was prepared under this number
+abbrev pub is_own : {S : Type 0} → (S → ℕ) → Option S → Layer → Bool
+is_own tag None layer = false
+is_own tag (Some s) layer = eqb (tag s) layer.fixed.number

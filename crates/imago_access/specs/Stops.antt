@@ -1,5 +1,5 @@
 -- What a stop of the machine leaves in the image file of the top layer.
-use Rattle.std.specs.Prelude.{IsTrue, ◌≡◌, ◌⊎◌, ℕ, ◌+◌, ◌<◌, ◌≤◌, List, ◌∷◌, length, slice_index, if◌then◌else◌, ltb, true, Some, None}
+use Rattle.std.specs.Prelude.{IsTrue, ◌≡◌, ◌⊎◌, ℕ, ◌+◌, ◌<◌, ◌≤◌, List, ◌∷◌, length, slice_index, if◌then◌else◌, ltb, Bool, true, false, Some, None}
 use Rattle.imago_storage.specs.State.{StorageState, Rose, InStep}
 use Rattle.imago_storage.specs.Through.{Stops}
 use Rattle.imago_storage.specs.Disk.{Value, byte}
@@ -80,6 +80,11 @@ MayTake held v = ⊥
 
 abbrev pub GivesHeld : Layer → ℕ → Value → Type 0
 GivesHeld layer p v = MayTake (layer.held p) v
+
+-- What an ensured mapping may give over its range: any byte where it was announced that all of it will be written.
+abbrev pub GivesAnnounced : Bool → ℕ → ℕ → ℕ → Value → Type 0
+GivesAnnounced true offset n = GivesAny offset n
+GivesAnnounced false offset n = GivesNone
 
 -- The file by itself means what the layer says. It may be longer than the disk, as writes are padded to whole units, but for formats that
 -- state the disk's size themselves.

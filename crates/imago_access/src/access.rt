@@ -13,8 +13,15 @@ use std::alloc::Global;
 use std::fmt::{self, Display, Formatter, Write};
 use std::marker::Model;
 
+mod discarding;
+mod ensuring;
 mod lookups;
+mod mappings;
 mod reading;
+mod resizing;
+mod upkeep;
+mod writing;
+mod zeroing;
 
 /// An open image over the layers below it: one flat disk.
 ///

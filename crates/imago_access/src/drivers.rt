@@ -1,17 +1,18 @@
 // What a driver of a format promises to the chain above it.
-ghost use Rattle.std.specs.Prelude.{◌++◌, IsFalse, ◌≡◌, ◌∷◌, [], ◌<◌, ◌≤◌, ◌+◌, ◌⊎◌, ℕ, Bool, Option, Some, None, List, ⊤, is_some, IfSome, IsSome, IsTrue, IsOk, IfOk, IfErr, OnOk, IsErr, IsErrOf, MatchResult, length, slice_index};
+ghost use Rattle.std.specs.Prelude.{◌++◌, IsFalse, false, ◌≡◌, ◌∷◌, [], ◌<◌, ◌≤◌, ◌+◌, ◌⊎◌, ℕ, Bool, Option, Some, None, List, ⊤, is_some, IfSome, IsSome, IsTrue, IsOk, IfOk, IfErr, OnOk, IsErr, IsErrOf, MatchResult, length, slice_index};
 ghost use Rattle.imago_storage.specs.State.{StorageState, IsAlignment};
 ghost use Rattle.imago_storage.specs.Steps.{Call, shrink};
 ghost use Rattle.imago_storage.specs.Through.{Overflows};
-ghost use Rattle.imago_access.specs.Layer.{Layer, loose, IsFree, IsLike, unit_of_layer};
-ghost use Rattle.imago_access.specs.Chain.{at};
-ghost use Rattle.imago_access.specs.Files.{Pairs, IsKept, SomeRose, IsMild, IsWhole};
+ghost use Rattle.imago_storage.specs.Disk.{byte};
+ghost use Rattle.imago_access.specs.Layer.{Layer, own, unmapped, loose, IsFree, IsLike, unit_of_layer};
+ghost use Rattle.imago_access.specs.Chain.{at, IsBacked};
+ghost use Rattle.imago_access.specs.Files.{Pairs, IsKept, SomeRose, IsMild, IsWhole, IsAnswered, IsStale};
 ghost use Rattle.imago_access.specs.Going.{Looked, LookedUnder, Went};
 ghost use Rattle.imago_access.specs.Mappings.{IsRun, Looks};
-ghost use Rattle.imago_access.specs.Refusals.{barrier, change_refusal, LookCause, ReadMappedCause};
+ghost use Rattle.imago_access.specs.Refusals.{barrier, change_refusal, LookCause, ReadMappedCause, InvalidateCause};
 ghost use Rattle.imago_access.specs.Changes.{Rewrites, PartRewrites, ToZero, ToAny, ToBelow, Prepared, NotPrepared, Wrote, Committed, Cancelled};
-ghost use Rattle.imago_access.specs.Spending.{claim_of, IsMine, Spends, GivenBack, IsForeignTo};
-ghost use Rattle.imago_access.specs.Parts.{IsPartOf, announces, PartCause, PlainCause, IsMappedAt, MappedCause, GrowthCause, ShrinkCause};
+ghost use Rattle.imago_access.specs.Spending.{claim_of, IsMine, Spends, commit_refusal, GivenBack, IsForeignTo};
+ghost use Rattle.imago_access.specs.Parts.{IsPartOf, announces, PartCause, DeclinableCause, PlainCause, IsMappedAt, MappedCause, GrowthCause, ShrinkCause};
 ghost use Rattle.imago_access.specs.Resizes.{fill_of, Grown, NotGrown, Shrunk, NotShrunk};
 ghost use Rattle.imago_access.specs.Stops.{IsMeant, IsCovered, KeepsStops, KeepsStopsTo, MakesNone, GivesNone, GivesBytes, GivesZero, GivesAny, GivesBelow, GivesPast, GivesBelowPast, GivesSettled};
 ghost use Rattle.imago_access.specs.declared.format.PreallocateMode.{PreallocateMode};
@@ -179,22 +180,22 @@ pub trait FormatDriverInstance {
         ensures ok { IsTrue (layer self.old).fixed.keeps → safe self.old → B.sees_under below.old → IfOk result (λ m. Prepared (at (B.under below.old)) (layer self.old) (layer self.new) offset length overwrite m.storage m.offset m.length (claim_of claim m.state)) }
         ensures mine { IfOk result (λ m. IsMine claim tag m.state (layer self.new)) }
         ensures stateless { IfOk result (λ m. m.state ≡ None → IsFree (layer self.new)) }
-        ensures empty { length ≡ 0 → IfOk result (λ m. m ≡ record { storage = 0; offset = 0; length = 0; state = None }) }
+        ensures empty { length ≡ 0 → IfOk result (λ m. (m ≡ record { storage = 0; offset = 0; length = 0; state = None }) × (layer self.new ≡ layer self.old)) }
         ensures err { IsTrue (layer self.old).fixed.keeps → safe self.old → B.sees_under below.old → IfErr result (λ e. IsMild e → NotPrepared (layer self.old) (layer self.new)) }
         ensures at_once { (f : Fault) → change_refusal (unit_of_layer (layer self.old)) (layer self.old) offset length ≡ Some f → IsErrOf result f }
         ensures idle { length ≡ 0 → barrier (layer self.old) ≡ None → IsOk result }
         ensures size { (layer self.new).size ≡ (layer self.old).size }
         ensures free { IsErr result → IsFree (layer self.new) }
         ensures went { Went layer image extras safe (IsOk result) (IsWhole result × B.sees_under below.old) self.old self.new }
-        ensures began { (d : Self) (call : Call) → began d call self.old → IsPartOf call offset length → OnOk result (began d call self.new) }
+        ensures began { (d : Self) (call : Call) → began d call self.old → IsPartOf call offset length → IsWhole result → began d call self.new }
         ensures stops { IsTrue (layer self.old).fixed.keeps → safe self.old → B.sees_under below.old → KeepsStops (B.under below.old) (layer self.old) sound GivesNone (image self.old) (image self.new) }
         ensures below { LookedUnder B.under B.files_under B.sees_under B.still_under (IsOk result) (IsWhole result) below.old below.new }
         ensures cause { safe self.old → B.sees_under below.old → (d : Self) (call : Call) → began d call self.old → IsPartOf call offset length → overwrite ≡ announces call → IfErr result (PartCause (B.under below.old) (layer self.old) offset length (own_cause d (B.under below.old) call) (image self.old ∷ extras self.old ++ B.files_under below.old) (image self.new ∷ extras self.new ++ B.files_under below.new)) };
 
     /// Makes a prepared mapping part of the disk. One without state takes no memory and succeeds.
     ///
-    /// It gives the mapping back, and changes nothing, with `Fault::Foreign` for a mapping of another number and with
-    /// `Fault::ReadOnly`. Refused otherwise it has spent the mapping and the image has failed.
+    /// It gives the mapping back, and changes nothing, where the image can't be used, and one with state with `Fault::ReadOnly`, else with
+    /// `Fault::Foreign` for a mapping of another number. Refused otherwise it has spent the mapping and the image has failed.
     fn commit_data_mapping(
         &mut self,
         alloc: Global,
@@ -203,7 +204,8 @@ pub trait FormatDriverInstance {
         ensures ok { OnOk result (Spends claim tag mapping.state (layer self.old) (layer self.new) (IsFree (layer self.new) × (IsTrue (layer self.old).fixed.keeps → safe self.old → Committed (layer self.old) (layer self.new)))) }
         ensures went { Went layer image extras safe (IsOk result) (IsOk result × IsMine claim tag mapping.state (layer self.old)) self.old self.new }
         ensures back { IfErr result (λ e. IfSome e.1 (λ m. (m ≡ mapping) × (layer self.new ≡ layer self.old) × GivenBack tag mapping.state (layer self.old) e.0 × (safe self.old → safe self.new))) }
-        ensures spent { IfErr result (λ e. e.1 ≡ None → IsSome mapping.state × IsTrue (layer self.new).failed × (IsMine claim tag mapping.state (layer self.old) → safe self.old → IsMild e.0 → ⊥)) }
+        ensures at_once { (f : Fault) → commit_refusal tag mapping.state (layer self.old) ≡ Some f → MatchResult result (λ _. ⊥) (λ e. e.0 ≡ f) }
+        ensures spent { IfErr result (λ e. e.1 ≡ None → IsSome mapping.state × IsTrue (layer self.new).failed × Spends claim tag mapping.state (layer self.old) (layer self.new) (IsFree (layer self.new) × (safe self.old → IsMild e.0 → ⊥))) }
         ensures size { (layer self.new).size ≡ (layer self.old).size }
         ensures began { (d : Self) (call : Call) → began d call self.old → IsMine claim tag mapping.state (layer self.old) → OnOk result (began d call self.new) }
         ensures stops { IsTrue (layer self.old).fixed.keeps → safe self.old → IsMine claim tag mapping.state (layer self.old) → (below : List Layer) → KeepsStops below (layer self.old) sound (GivesSettled below (layer self.old)) (image self.old) (image self.new) }
@@ -250,7 +252,7 @@ pub trait FormatDriverInstance {
     /// It answers the part that it has done: from where on, and how many bytes. The rest of the range is left as it was. It refuses with
     /// `Fault::ReadOnly`, `Fault::RangeOverflow` and `Fault::PastEnd`, with `Fault::VersionLimit` where the format can't, with causes of the driver's own,
     /// with `Fault::Memory` and `Fault::Storage`. A refusal for another cause than the last two leaves each byte of the range old or as
-    /// the call gives it.
+    /// the call gives it, and one with `Fault::Unsupported` or `Fault::VersionLimit` has met no storage that failed.
     fn ensure_zero_mapping(
         &mut self,
         alloc: Global,
@@ -265,17 +267,17 @@ pub trait FormatDriverInstance {
         ensures at_once { (f : Fault) → change_refusal (unit_of_layer (layer self.old)) (layer self.old) offset length ≡ Some f → IsErrOf result f }
         ensures idle { length ≡ 0 → barrier (layer self.old) ≡ None → IsOk result }
         ensures like { IsLike (layer self.old) (layer self.new) }
-        ensures went { Went layer image extras safe (IsOk result) (IsWhole result) self.old self.new }
-        ensures began { (d : Self) (call : Call) → began d call self.old → IsPartOf call offset length → OnOk result (began d call self.new) }
+        ensures went { Went layer image extras safe (IsAnswered result) (IsWhole result) self.old self.new }
+        ensures began { (d : Self) (call : Call) → began d call self.old → IsPartOf call offset length → IsWhole result → began d call self.new }
         ensures stops { IsTrue (layer self.old).fixed.keeps → safe self.old → (below : List Layer) → KeepsStops below (layer self.old) sound (GivesZero offset length) (image self.old) (image self.new) }
-        ensures cause { safe self.old → (below : List Layer) (d : Self) (call : Call) → began d call self.old → IsPartOf call offset length → IfErr result (PartCause below (layer self.old) offset length (own_cause d below call) (image self.old ∷ extras self.old) (image self.new ∷ extras self.new)) };
+        ensures cause { safe self.old → (below : List Layer) (d : Self) (call : Call) → began d call self.old → IsPartOf call offset length → IfErr result (DeclinableCause below (layer self.old) offset length (own_cause d below call) (image self.old ∷ extras self.old) (image self.new ∷ extras self.new)) };
 
     /// Makes a part of the range read as 0 and gives up what is allocated for it. Nothing may be prepared.
     ///
     /// It answers the part that it has done: from where on, and how many bytes. The rest of the range is left as it was. It refuses with
     /// `Fault::ReadOnly`, `Fault::RangeOverflow` and `Fault::PastEnd`, with `Fault::VersionLimit` where the format can't, with causes of the driver's own,
     /// with `Fault::Memory` and `Fault::Storage`. A refusal for another cause than the last two leaves each byte of the range old or as
-    /// the call gives it.
+    /// the call gives it, and one with `Fault::Unsupported` or `Fault::VersionLimit` has met no storage that failed.
     fn discard_to_zero(
         &mut self,
         alloc: Global,
@@ -290,17 +292,17 @@ pub trait FormatDriverInstance {
         ensures at_once { (f : Fault) → change_refusal (unit_of_layer (layer self.old)) (layer self.old) offset length ≡ Some f → IsErrOf result f }
         ensures idle { length ≡ 0 → barrier (layer self.old) ≡ None → IsOk result }
         ensures like { IsLike (layer self.old) (layer self.new) }
-        ensures went { Went layer image extras safe (IsOk result) (IsWhole result) self.old self.new }
-        ensures began { (d : Self) (call : Call) → began d call self.old → IsPartOf call offset length → OnOk result (began d call self.new) }
+        ensures went { Went layer image extras safe (IsAnswered result) (IsWhole result) self.old self.new }
+        ensures began { (d : Self) (call : Call) → began d call self.old → IsPartOf call offset length → IsWhole result → began d call self.new }
         ensures stops { IsTrue (layer self.old).fixed.keeps → safe self.old → (below : List Layer) → KeepsStops below (layer self.old) sound (GivesZero offset length) (image self.old) (image self.new) }
-        ensures cause { safe self.old → (below : List Layer) (d : Self) (call : Call) → began d call self.old → IsPartOf call offset length → IfErr result (PartCause below (layer self.old) offset length (own_cause d below call) (image self.old ∷ extras self.old) (image self.new ∷ extras self.new)) };
+        ensures cause { safe self.old → (below : List Layer) (d : Self) (call : Call) → began d call self.old → IsPartOf call offset length → IfErr result (DeclinableCause below (layer self.old) offset length (own_cause d below call) (image self.old ∷ extras self.old) (image self.new ∷ extras self.new)) };
 
     /// Gives up a part of the range, whose bytes may then be any. Nothing may be prepared.
     ///
     /// It answers the part that it has done: from where on, and how many bytes. The rest of the range is left as it was. It refuses with
     /// `Fault::ReadOnly`, `Fault::RangeOverflow` and `Fault::PastEnd`, with `Fault::VersionLimit` where the format can't, with causes of the driver's own,
     /// with `Fault::Memory` and `Fault::Storage`. A refusal for another cause than the last two leaves each byte of the range old or as
-    /// the call gives it.
+    /// the call gives it, and one with `Fault::Unsupported` or `Fault::VersionLimit` has met no storage that failed.
     fn discard_to_any(
         &mut self,
         alloc: Global,
@@ -315,17 +317,17 @@ pub trait FormatDriverInstance {
         ensures at_once { (f : Fault) → change_refusal (unit_of_layer (layer self.old)) (layer self.old) offset length ≡ Some f → IsErrOf result f }
         ensures idle { length ≡ 0 → barrier (layer self.old) ≡ None → IsOk result }
         ensures like { IsLike (layer self.old) (layer self.new) }
-        ensures went { Went layer image extras safe (IsOk result) (IsWhole result) self.old self.new }
-        ensures began { (d : Self) (call : Call) → began d call self.old → IsPartOf call offset length → OnOk result (began d call self.new) }
+        ensures went { Went layer image extras safe (IsAnswered result) (IsWhole result) self.old self.new }
+        ensures began { (d : Self) (call : Call) → began d call self.old → IsPartOf call offset length → IsWhole result → began d call self.new }
         ensures stops { IsTrue (layer self.old).fixed.keeps → safe self.old → (below : List Layer) → KeepsStops below (layer self.old) sound (GivesAny offset length) (image self.old) (image self.new) }
-        ensures cause { safe self.old → (below : List Layer) (d : Self) (call : Call) → began d call self.old → IsPartOf call offset length → IfErr result (PartCause below (layer self.old) offset length (own_cause d below call) (image self.old ∷ extras self.old) (image self.new ∷ extras self.new)) };
+        ensures cause { safe self.old → (below : List Layer) (d : Self) (call : Call) → began d call self.old → IsPartOf call offset length → IfErr result (DeclinableCause below (layer self.old) offset length (own_cause d below call) (image self.old ∷ extras self.old) (image self.new ∷ extras self.new)) };
 
     /// Gives up a part of the range to the layer below. Nothing may be prepared.
     ///
     /// It answers the part that it has done: from where on, and how many bytes. The rest of the range is left as it was. It refuses with
     /// `Fault::ReadOnly`, `Fault::RangeOverflow` and `Fault::PastEnd`, with causes of the driver's own,
     /// with `Fault::Memory` and `Fault::Storage`. A refusal for another cause than the last two leaves each byte of the range old or as
-    /// the call gives it.
+    /// the call gives it, and one with `Fault::Unsupported` or `Fault::VersionLimit` has met no storage that failed.
     fn discard_to_backing(
         &mut self,
         alloc: Global,
@@ -340,10 +342,10 @@ pub trait FormatDriverInstance {
         ensures at_once { (f : Fault) → change_refusal (unit_of_layer (layer self.old)) (layer self.old) offset length ≡ Some f → IsErrOf result f }
         ensures idle { length ≡ 0 → barrier (layer self.old) ≡ None → IsOk result }
         ensures like { IsLike (layer self.old) (layer self.new) }
-        ensures went { Went layer image extras safe (IsOk result) (IsWhole result) self.old self.new }
-        ensures began { (d : Self) (call : Call) → began d call self.old → IsPartOf call offset length → OnOk result (began d call self.new) }
-        ensures stops { IsTrue (layer self.old).fixed.keeps → safe self.old → (below : List Layer) → KeepsStops below (layer self.old) sound (λ p v. GivesBelow below offset length p v) (image self.old) (image self.new) }
-        ensures cause { safe self.old → (below : List Layer) (d : Self) (call : Call) → began d call self.old → IsPartOf call offset length → IfErr result (PartCause below (layer self.old) offset length (own_cause d below call) (image self.old ∷ extras self.old) (image self.new ∷ extras self.new)) };
+        ensures went { Went layer image extras safe (IsAnswered result) (IsWhole result) self.old self.new }
+        ensures began { (d : Self) (call : Call) → began d call self.old → IsPartOf call offset length → IsWhole result → began d call self.new }
+        ensures stops { IsTrue (layer self.old).fixed.keeps → safe self.old → (below : List Layer) → IsBacked below (layer self.old) → KeepsStops below (layer self.old) sound (GivesBelow below offset length) (image self.old) (image self.new) }
+        ensures cause { safe self.old → (below : List Layer) (d : Self) (call : Call) → began d call self.old → IsPartOf call offset length → IfErr result (DeclinableCause below (layer self.old) offset length (own_cause d below call) (image self.old ∷ extras self.old) (image self.new ∷ extras self.new)) };
 
     /// Hands all that waits in memory to its files, and flushes these: while nothing is prepared, the files alone then mean the disk.
     ///
@@ -378,13 +380,14 @@ pub trait FormatDriverInstance {
     /// which the image has failed, and with `Fault::Memory` and `Fault::Storage`.
     fn invalidate_cache(&mut self, alloc: Global) -> Result<(), Fault>
         requires free { IsFree (layer self.old) }
-        ensures same { IsTrue (layer self.old).fixed.keeps → safe self.old → still self.old → OnOk result ((layer self.new ≡ layer self.old) × safe self.new) }
+        ensures same { IsTrue (layer self.old).fixed.keeps → sees self.old → still self.old → OnOk result ((layer self.new ≡ layer self.old) × sees self.new) }
         ensures kept { Pairs IsKept (image self.old ∷ extras self.old) (image self.new ∷ extras self.new) }
         ensures still { OnOk result (still self.new) }
         ensures barred { (f : Fault) → barrier (layer self.old) ≡ Some f → IsErrOf result f }
         ensures went { Went layer image extras safe (IsOk result) (IsOk result) self.old self.new }
         ensures free { IsFree (layer self.new) }
-        ensures cause { IfErr result (λ e. e ≡ Fault.Storage → SomeRose (image self.old ∷ extras self.old) (image self.new ∷ extras self.new)) };
+        ensures failed { IfErr result (λ e. IsStale e → IsTrue (layer self.new).failed) }
+        ensures cause { IfErr result (InvalidateCause (layer self.old ∷ []) (image self.old ∷ extras self.old) (image self.new ∷ extras self.new)) };
 
     /// Makes the disk longer, to a size in bytes. Nothing may be prepared. To a size that isn't above it does nothing.
     ///
@@ -427,9 +430,16 @@ pub trait FormatDriverInstance {
         ensures stops { IsTrue (layer self.old).fixed.keeps → safe self.old → (below : List Layer) → KeepsStopsTo below (layer self.old) sound size (GivesBelowPast below size) (image self.old) (image self.new) }
         ensures cause { safe self.old → (below : List Layer) → IfErr result (ShrinkCause below (layer self.old) size (own_cause self.old below (shrink size)) (image self.old ∷ extras self.old) (image self.new ∷ extras self.new)) };
 
-    /// A driver that is safe sees, and its file is sound and not shorter than the disk.
+    /// A driver that is safe sees.
     ghost safe_sees: { (d : Self) → safe d → sees d };
 
+    /// It has not failed.
+    ghost safe_runs: { (d : Self) → safe d → (layer d).failed ≡ false };
+
+    /// A place that is given up shows the layer below, or is 0.
+    ghost blanks: { (d : Self) → ((layer d).fixed.blank ≡ unmapped) ⊎ ((layer d).fixed.blank ≡ own (byte 0)) };
+
+    /// Its file is sound and not shorter than the disk.
     ghost safe_sound: { (d : Self) → safe d → IsCovered (layer d) sound (image d).bytes };
 
     /// Its alignments are powers of two.

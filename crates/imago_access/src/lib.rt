@@ -6,6 +6,7 @@
 
 mod access;
 mod below;
+mod builders;
 mod drivers;
 mod format;
 mod gate;
@@ -13,6 +14,10 @@ mod mapping;
 
 pub use access::FormatAccess;
 pub use below::{NoBelow, ReadBelow};
+pub use builders::{
+    FormatCreateBuilder, FormatCreateBuilderBase, FormatDriverBuilder, FormatDriverBuilderBase,
+    MakeOpenBuilder,
+};
 pub use drivers::FormatDriverInstance;
 pub use format::{Format, PreallocateMode};
 pub use gate::{DenyImplicitOpenGate, ImplicitOpenGate};

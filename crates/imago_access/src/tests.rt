@@ -1,9 +1,10 @@
 // Runs of the public calls that need no driver.
 use crate::{
-    DenyImplicitOpenGate, Format, ImplicitOpenGate, Mapping, NoBelow, PreallocateMode,
-    PreparedDataMapping, ReadBelow, ShallowMapping,
+    DenyImplicitOpenGate, Format, FormatCreateBuilderBase, FormatDriverBuilderBase,
+    ImplicitOpenGate, Mapping, NoBelow, PreallocateMode, PreparedDataMapping, ReadBelow,
+    ShallowMapping,
 };
-use imago_storage::{Fault, MemStorage};
+use imago_storage::{Fault, MemStorage, StorageOpenOptions};
 use std::test::Fail;
 
 #[test]
@@ -101,5 +102,42 @@ fn kinds_are_told_apart(rt: HostRuntime) -> Result<(), Fail> {
     assert!(rt; Format::Qcow2 != Format::Vmdk);
     assert!(rt; PreallocateMode::FormatAllocate != PreallocateMode::FullAllocate);
     assert!(rt; ShallowMapping::Zero { explicit: true } != ShallowMapping::Eof);
+    Ok(())
+}
+
+#[test]
+fn opening_keeps_what_it_was_told(rt: HostRuntime) -> Result<(), Fail> {
+    let mut base = FormatDriverBuilderBase::new(MemStorage::new(rt.alloc()));
+    assert!(rt; !base.get_writable());
+    assert!(rt; base.get_storage_opts().is_none());
+    let plain = base.make_storage_opts(rt.alloc())?;
+    assert!(rt; plain.get_filename().is_none());
+    assert!(rt; !plain.get_writable());
+    let named = StorageOpenOptions::new().filename("data.img".to_string(rt.alloc())?);
+    base.set_storage_open_options(named.direct(true));
+    base.set_write(true);
+    assert!(rt; base.get_writable());
+    assert!(rt; base.get_storage_opts().is_some());
+    let made = base.make_storage_opts(rt.alloc())?;
+    assert!(rt; made.get_filename() == Some("data.img"));
+    assert!(rt; made.get_writable());
+    assert!(rt; made.get_direct());
+    let image = base.open_image(&mut DenyImplicitOpenGate)?;
+    assert!(rt; image.bytes()?.is_empty());
+    Ok(())
+}
+
+#[test]
+fn creating_keeps_what_it_was_told(rt: HostRuntime) -> Result<(), Fail> {
+    let mut base = FormatCreateBuilderBase::new(MemStorage::new(rt.alloc()));
+    assert_eq!(rt; base.get_size(), 0);
+    assert!(rt; base.get_preallocate() == PreallocateMode::None);
+    base.set_size(512);
+    base.set_preallocate(PreallocateMode::Zero);
+    assert_eq!(rt; base.get_size(), 512);
+    assert!(rt; base.get_preallocate() == PreallocateMode::Zero);
+    assert!(rt; base.get_image_ref().bytes()?.is_empty());
+    let image = base.get_image();
+    assert!(rt; image.bytes()?.is_empty());
     Ok(())
 }

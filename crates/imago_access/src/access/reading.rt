@@ -24,7 +24,7 @@ impl<D: FormatDriverInstance> FormatAccess<D> {
     ///
     /// It refuses with `Fault::RangeOverflow` where the end of the range, rounded up to the chain's alignment, passes `u64`, with
     /// `Fault::Barred` and `Fault::DamagedTable` where a place of the range has no byte, with `Fault::Memory` and `Fault::Storage`, and
-    /// where a layer can't be used. A refusal leaves the buffer open, and for another cause than the last ones the disk as it was.
+    /// where a layer can't be used. A refusal leaves the buffer open, and for another cause than `Memory` and `Storage` the disk as it was.
     pub fn read(&mut self, alloc: Global, buf: &mut [u8], offset: u64) -> Result<(), Fault>
         ensures ok { Each D.sees (chain self.old) → OnOk result (Step (at (map D.layer self.old.1)) (disk_of (map D.layer self.old.1) (D.layer self.old.0)) (read offset (length buf.old)) (bytes_read buf.new) (disk_of (map D.layer self.new.1) (D.layer self.new.0))) }
         ensures at_once { (f : Fault) → look_refusal (unit_of_chain (map D.layer (chain self.old))) (D.layer self.old.0) offset (length buf.old) ≡ Some f → IsErrOf result f }

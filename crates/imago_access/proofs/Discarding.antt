@@ -1,0 +1,130 @@
+-- Discards, one behind the other.
+use Rattle.std.proofs.Common.{◌≡◌, ◌∙◌, ◌⊎◌, inl, inr, refl, ℕ, ◌+◌, ◌^◌, ◌<◌, ◌≤◌, List, [], ◌∷◌, arith, sym, subst, map}
+use Rattle.std.specs.Prelude.{⊤, IsTrue, Result, Ok, Err, IsOk, OnOk, IfErr, None}
+use Rattle.std.proofs.lemmas.Bool.{cases_lt}
+use Rattle.imago_storage.specs.State.{StorageState, IsAlignment}
+use Rattle.imago_storage.specs.Disk.{Value}
+use Rattle.imago_storage.specs.Steps.{Call, Stays, Changes, Unless, IsIn}
+use Rattle.imago_storage.specs.Causes.{Gives, PartlyDone, offset_of, length_of, Alters}
+use Rattle.imago_storage.specs.declared.fault.Fault.{Fault}
+use Rattle.imago_storage.specs.declared.fault.Fault.TheVariants.{Unsupported, VersionLimit}
+use Rattle.imago_storage.proofs.Rounding.{le_round_up}
+use Rattle.imago_access.specs.Layer.{Layer, IsFree, IsLike, loose}
+use Rattle.imago_access.specs.Chain.{at, Each, IsBacked, unit_of_chain}
+use Rattle.imago_access.specs.Discards.{GivesDiscarded}
+use Rattle.imago_access.specs.Files.{IsMild, IsDeclined, IsWhole, files_of}
+use Rattle.imago_access.specs.Going.{Went}
+use Rattle.imago_access.specs.Parts.{PartCause}
+use Rattle.imago_access.specs.Refusals.{change_refusal, ChangeCause}
+use Rattle.imago_access.specs.Running.{IsIntact, IsBetween, Ran, RanChain, IsIntactChain, chain_disk}
+use Rattle.imago_access.specs.Stops.{KeepsStops}
+use Rattle.imago_access.specs.declared.access.discarding.Discarding.{Discarding}
+use Rattle.imago_access.specs.declared.access.discarding.Discarding.TheVariants.{ToAny, ToBacking}
+use Rattle.imago_access.proofs.ChangeCauses.{part_cause_left, change_cause, refused_more}
+use Rattle.imago_access.proofs.Disks.{allowed_inside, disk_step, disk_partly}
+use Rattle.imago_access.proofs.Running.{holds_loose, ran_driver, ran_both, went_weaker}
+use Rattle.imago_access.proofs.Units.{overflows_chain}
+
+-- a discard of a part gives what that of the whole may
+pub discarded_wider : (discarding : Discarding) (below : List Layer) (offset n start m : ℕ) → offset ≤ start → start + m ≤ offset + n
+    → (p : ℕ) (v : Value) → GivesDiscarded discarding below start m p v → GivesDiscarded discarding below offset n p v
+discarded_wider ToAny below offset n start m from to p v gave = ((omega (arith, from, gave.0.0), omega (arith, to, gave.0.1)), gave.1)
+discarded_wider ToBacking below offset n start m from to p v gave = ((omega (arith, from, gave.0.0), omega (arith, to, gave.0.1)), gave.1)
+
+discarded_there : (discarding : Discarding) (below : List Layer) (offset n p : ℕ) (v : Value) → GivesDiscarded discarding below offset n p v → IsIn offset n p
+discarded_there ToAny below offset n p v gave = gave.0
+discarded_there ToBacking below offset n p v gave = gave.0
+
+pub like_both : (a b c : Layer) → IsLike a b → IsLike b c → IsLike a c
+like_both a b c first second = record { fixed = second.fixed ∙ first.fixed; size = second.size ∙ first.size; unspent = second.unspent ∙ first.unspent }
+
+-- a call that was declined was not cut off
+pub declined_mild : (e : Fault) → IsDeclined e → IsMild e
+declined_mild Unsupported h = tt
+declined_mild VersionLimit h = tt
+declined_mild _ h = absurd h
+
+-- What a call does to a driver alone, over whatever layers below.
+abbrev pub RanAlone : {D : Type 0} → (D → Layer) → (D → StorageState) → (D → List StorageState) → (D → Type 0) → (ℕ → List ℕ → Type 0) → Type 0 → Type 0 → (ℕ → Value → Type 0) → List Layer → D → D → Type 0
+RanAlone layer image extras safe sound ok whole gives below old new = Ran {B = List Layer} layer image extras safe (λ b. b) (λ b. []) (λ b. ⊤) (λ b. ⊤) sound ok whole gives old new below below
+
+module _ {D : Type 0} (layer : D → Layer) (image : D → StorageState) (extras : D → List StorageState) (safe : D → Type 0) (sound : ℕ → List ℕ → Type 0) (free_loose : (d : D) → IsFree (layer d) → (p : ℕ) → (layer d).held p ≡ loose) where
+  -- what is promised where the image is sound and the layers below are shown, of an image that has nothing prepared
+  pub ran_alone : (ok whole : Type 0) (gives : ℕ → Value → Type 0) (below : List Layer) (a b : D) → IsFree (layer a) → IsLike (layer a) (layer b) → Went layer image extras safe ok whole a b
+      → (IsTrue (layer a).fixed.keeps → safe a → IsBacked below (layer a) → whole → IsBetween gives below (layer a) (layer b))
+      → (IsTrue (layer a).fixed.keeps → safe a → IsBacked below (layer a) → KeepsStops below (layer a) sound gives (image a) (image b))
+      → RanAlone layer image extras safe sound ok whole gives below a b
+  ran_alone ok whole gives below a b free like went values stops = ran_driver {B = List Layer} layer image extras safe (λ x. x) (λ x. []) (λ x. ⊤) (λ x. ⊤) sound ok whole gives a b below like.size went
+      (λ w i. holds_loose (at below) (layer b) (free_loose b (like.unspent ∙ free)))
+      (λ w i. values i.keeps i.is_safe i.backed w)
+      (λ i. stops i.keeps i.is_safe i.backed)
+
+  -- such an image is intact
+  pub intact_alone : (below : List Layer) (a : D) → IsFree (layer a) → IsTrue (layer a).fixed.keeps → safe a → IsBacked below (layer a) → IsIntact below (layer a) (safe a) ⊤
+  intact_alone below a free keeps is_safe backed = record { keeps = keeps; is_safe = is_safe; is_seen = tt; backed = backed; held = holds_loose (at below) (layer a) (free_loose a free) }
+
+  pub went_alone : (ok whole : Type 0) (gives : ℕ → Value → Type 0) (below : List Layer) (a b : D) → RanAlone layer image extras safe sound ok whole gives below a b → Went layer image extras safe ok whole a b
+  went_alone ok whole gives below a b h = went_weaker layer image extras safe ok (whole × ⊤) ok whole a b (λ x. x) (λ x. (x, tt)) h.went
+
+  -- a discard of a part behind others
+  pub then_discarded : (ok whole : Type 0) (discarding : Discarding) (below : List Layer) (offset n start m : ℕ) (a b c : D) → offset ≤ start → start + m ≤ offset + n → IsFree (layer b)
+      → RanAlone layer image extras safe sound ⊤ ⊤ (GivesDiscarded discarding below offset n) below a b → IsLike (layer b) (layer c) → Went layer image extras safe ok whole b c
+      → (IsTrue (layer b).fixed.keeps → safe b → (under : List Layer) → IsBacked under (layer b) → whole → IsBetween (GivesDiscarded discarding under start m) under (layer b) (layer c))
+      → (IsTrue (layer b).fixed.keeps → safe b → (under : List Layer) → IsBacked under (layer b) → KeepsStops under (layer b) sound (GivesDiscarded discarding under start m) (image b) (image c))
+      → RanAlone layer image extras safe sound ok whole (GivesDiscarded discarding below offset n) below a c
+  then_discarded ok whole discarding below offset n start m a b c from to free first like went values stops =
+      ran_both {B = List Layer} layer image extras safe (λ x. x) (λ x. []) (λ x. ⊤) (λ x. ⊤) sound ok whole (GivesDiscarded discarding below offset n) (GivesDiscarded discarding below start m) (GivesDiscarded discarding below offset n) a b c below below below
+      (λ p v gave. gave) (discarded_wider discarding below offset n start m from to) first
+      (ran_alone ok whole (GivesDiscarded discarding below start m) below b c free like went (λ keeps s backed w. values keeps s below backed w) (λ keeps s backed. stops keeps s below backed))
+
+-- a range that a change isn't refused for ends within 64 bits
+pub allowed_fits : (unit : ℕ) (layer : Layer) (offset n : ℕ) → 0 < unit → offset < 2 ^ 64 → change_refusal unit layer offset n ≡ None → offset + n < 2 ^ 64
+allowed_fits unit layer offset n positive low allowed = let up = le_round_up unit (offset + n) positive in elim (cases_lt 0 n) [ inl some ↦ grind (arith) | inr none ↦ omega (arith, none, low) ]
+
+-- What a discard of all of a range does to a chain.
+module _ {D : Type 0} (layer : D → Layer) (image : D → StorageState) (extras : D → List StorageState) (sees safe still : D → Type 0) (sound : ℕ → List ℕ → Type 0) (free_loose : (d : D) → IsFree (layer d) → (p : ℕ) → (layer d).held p ≡ loose)
+    (d d' : D) (ds : List D) (discarding : Discarding) (offset n : ℕ) (is_free : IsFree (layer d)) (like : IsLike (layer d) (layer d')) where
+  was_loose : (p : ℕ) → (layer d).held p ≡ loose
+  was_loose = free_loose d is_free
+
+  is_loose : (p : ℕ) → (layer d').held p ≡ loose
+  is_loose = free_loose d' (like.unspent ∙ is_free)
+
+  pub chain_ran : (result : Result (Unit {0}) Fault) → (IsTrue (layer d).fixed.keeps → safe d → (below : List Layer) → IsBacked below (layer d) → IsWhole result → IsBetween (GivesDiscarded discarding below offset n) below (layer d) (layer d'))
+      → Went layer image extras safe (IsOk result) (IsWhole result) d d'
+      → (IsTrue (layer d).fixed.keeps → safe d → (below : List Layer) → IsBacked below (layer d) → KeepsStops below (layer d) sound (GivesDiscarded discarding below offset n) (image d) (image d'))
+      → RanChain layer image extras sees safe still sound (IsOk result) (IsWhole result) (GivesDiscarded discarding (map layer ds) offset n) (d, ds) (d', ds)
+  chain_ran result values went stops = ran_driver {B = List D} layer image extras safe (map layer) (files_of image extras) (Each sees) (Each still) sound (IsOk result) (IsWhole result) (GivesDiscarded discarding (map layer ds) offset n) d d' ds like.size went
+      (λ w i. holds_loose (at (map layer ds)) (layer d') is_loose)
+      (λ w i. values i.keeps i.is_safe (map layer ds) i.backed w)
+      (λ i. stops i.keeps i.is_safe (map layer ds) i.backed)
+
+  pub chain_done : (result : Result (Unit {0}) Fault) → (IsTrue (layer d).fixed.keeps → safe d → (below : List Layer) → IsBacked below (layer d) → IsWhole result → IsBetween (GivesDiscarded discarding below offset n) below (layer d) (layer d'))
+      → (Becomes : ℕ → Value → Value → Type 0) → ((p : ℕ) (was v : Value) → (v ≡ was) ⊎ GivesDiscarded discarding (map layer ds) offset n p v → Becomes p was v)
+      → (unit : ℕ) → change_refusal unit (layer d) offset n ≡ None → IsIntactChain layer safe sees (d, ds)
+      → OnOk result (Unless (n ≡ 0) (Stays (chain_disk layer (d, ds)) (chain_disk layer (d', ds))) (Changes Becomes (chain_disk layer (d, ds)) (chain_disk layer (d', ds)) offset n))
+  chain_done (Ok x) values Becomes becomes unit allowed i =
+      let between = values i.keeps i.is_safe (map layer ds) i.backed tt in
+      let inside = allowed_inside unit (layer d) offset n allowed in
+      disk_step (map layer ds) (map layer ds) (layer d) (layer d') refl like.size was_loose is_loose (GivesDiscarded discarding (map layer ds) offset n) Becomes offset n inside (discarded_there discarding (map layer ds) offset n) between
+      (λ p there. becomes p (at (map layer (d ∷ ds)) p) (at (map layer (d' ∷ ds)) p) (between p (omega (arith, there.0, there.1, inside (omega (arith, there.0, there.1))))))
+  chain_done (Err e) values Becomes becomes unit allowed i = tt
+
+  pub chain_partly : (result : Result (Unit {0}) Fault) → (IsTrue (layer d).fixed.keeps → safe d → (below : List Layer) → IsBacked below (layer d) → IsWhole result → IsBetween (GivesDiscarded discarding below offset n) below (layer d) (layer d'))
+      → (call : Call) → offset_of call ≡ offset → length_of call ≡ n → ((p : ℕ) (was v : Value) → GivesDiscarded discarding (map layer ds) offset n p v → Gives (at (map layer ds)) call p was v)
+      → IsIntactChain layer safe sees (d, ds) → IfErr result (λ e. IsMild e → PartlyDone (at (map layer ds)) call (chain_disk layer (d, ds)) (chain_disk layer (d', ds)))
+  chain_partly (Ok x) values call from long given i = tt
+  chain_partly (Err e) values call from long given i = λ mild.
+      disk_partly (map layer ds) (map layer ds) (layer d) (layer d') refl like.size was_loose is_loose (GivesDiscarded discarding (map layer ds) offset n) call (values i.keeps i.is_safe (map layer ds) i.backed mild)
+      (λ p v gave. subst (λ (o : ℕ). IsIn o (length_of call) p) (sym from) (subst (λ (m : ℕ). IsIn offset m p) (sym long) (discarded_there discarding (map layer ds) offset n p v gave)))
+      (λ p v. given p (at (map layer (d ∷ ds)) p) v)
+
+-- a cause in the top layer is one of the chain's call
+pub chain_cause : {D : Type 0} (layer : D → Layer) (image : D → StorageState) (extras : D → List StorageState) (aligned : (d : D) → IsAlignment (layer d).fixed.req_align × IsAlignment (layer d).fixed.mem_align) (d d' : D) (ds : List D) (result : Result (Unit {0}) Fault) (call : Call) (causes : Fault → Type 0)
+    → (0 < length_of call → Alters (chain_disk layer (d, ds)) call)
+    → IfErr result (PartCause (map layer ds) (layer d) (offset_of call) (length_of call) causes (image d ∷ extras d) (image d' ∷ extras d'))
+    → IfErr result (ChangeCause (unit_of_chain (map layer (d ∷ ds))) (map layer (d ∷ ds)) (chain_disk layer (d, ds)) (layer d).fixed.writable call causes (files_of image extras (d ∷ ds)) (files_of image extras (d' ∷ ds)))
+chain_cause layer image extras aligned d d' ds result call causes alters = refused_more (PartCause (map layer ds) (layer d) (offset_of call) (length_of call) causes (image d ∷ extras d) (image d' ∷ extras d'))
+    (ChangeCause (unit_of_chain (map layer (d ∷ ds))) (map layer (d ∷ ds)) (chain_disk layer (d, ds)) (layer d).fixed.writable call causes (files_of image extras (d ∷ ds)) (files_of image extras (d' ∷ ds))) result
+    (λ e h. change_cause (map layer ds) (layer d) (unit_of_chain (map layer (d ∷ ds))) call causes (files_of image extras (d ∷ ds)) (files_of image extras (d' ∷ ds)) alters (overflows_chain layer aligned d ds (offset_of call) (length_of call)) e
+    (part_cause_left (map layer ds) (layer d) (offset_of call) (length_of call) causes (image d ∷ extras d) (image d' ∷ extras d') (files_of image extras ds) (files_of image extras ds) e h))

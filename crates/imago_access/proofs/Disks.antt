@@ -1,0 +1,73 @@
+-- What a change of a range does to the disk of a chain.
+use Rattle.std.proofs.Common.{◌≡◌, refl, inl, inr, ℕ, ◌+◌, ◌<◌, ◌≤◌, List, ◌∷◌, arith, ◌∙◌, ap}
+use Rattle.std.specs.Prelude.{None}
+use Rattle.std.proofs.lemmas.Bool.{cases_lt}
+use Rattle.imago_storage.specs.Disk.{Value}
+use Rattle.imago_storage.specs.Steps.{Call, IsIn, IsOut, Stays, Changes, Unless}
+use Rattle.imago_storage.specs.Causes.{offset_of, length_of, Gives, PartlyDone}
+use Rattle.imago_access.specs.Layer.{Layer, loose, hold_of}
+use Rattle.imago_access.specs.Chain.{at, disk_of}
+use Rattle.imago_access.specs.Refusals.{change_refusal}
+use Rattle.imago_access.specs.Running.{IsBetween}
+use Rattle.imago_access.proofs.Holding.{out_or_in}
+
+-- a range that a change isn't refused for lies in the disk
+pub allowed_inside : (unit : ℕ) (layer : Layer) (offset n : ℕ) → change_refusal unit layer offset n ≡ None → 0 < n → offset + n ≤ layer.size
+allowed_inside unit layer offset n allowed some = grind (arith)
+
+pub unless_empty : (n : ℕ) (P Q : Type 0) → (n ≡ 0 → P) → (0 < n → Q) → Unless (n ≡ 0) P Q
+unless_empty n P Q empty some = elim (cases_lt 0 n) [
+  | inl lt ↦ inr (λ none. omega (arith, lt, none), some lt)
+  | inr le ↦ let none : n ≡ 0 = omega (arith, le) in inl (none, empty none)
+]
+
+-- places outside of the range in which a call gives something show what they did
+pub others_same : (gives : ℕ → Value → Type 0) (below : List Layer) (old new : Layer) (offset n : ℕ) → ((p : ℕ) (v : Value) → gives p v → IsIn offset n p) → IsBetween gives below old new
+    → (p : ℕ) → p < old.size → IsOut offset n p → at (new ∷ below) p ≡ at (old ∷ below) p
+others_same gives below old new offset n within between p lt out = elim (between p lt) [
+  | inl same ↦ same
+  | inr gave ↦
+      let into = within p (at (new ∷ below) p) gave in
+      elim out [ inl low ↦ absurd (omega (arith, low, into.0)) | inr past ↦ absurd (omega (arith, past, into.1)) ]
+]
+
+-- A call before and after which nothing is prepared, and that leaves the layers below.
+module _ (below below' : List Layer) (old new : Layer) (same : below' ≡ below) (size : new.size ≡ old.size) (was_loose : (p : ℕ) → old.held p ≡ loose) (is_loose : (p : ℕ) → new.held p ≡ loose) where
+  hold_same : (p : ℕ) → hold_of (new.held p) ≡ hold_of (old.held p)
+  hold_same p = rw (was_loose p, is_loose p) refl
+
+  value_on : (p : ℕ) → at (new ∷ below') p ≡ at (new ∷ below) p
+  value_on p = ap (λ (ls : List Layer). at (new ∷ ls) p) same
+
+  pub disk_stays : ((p : ℕ) → p < old.size → at (new ∷ below) p ≡ at (old ∷ below) p) → Stays (disk_of below old) (disk_of below' new)
+  disk_stays each = record { size = size; value = λ p lt. value_on p ∙ each p lt; hold = λ p lt. hold_same p }
+
+  pub disk_changes : (Becomes : ℕ → Value → Value → Type 0) (offset n : ℕ) → offset + n ≤ old.size → ((p : ℕ) → IsIn offset n p → Becomes p (at (old ∷ below) p) (at (new ∷ below) p))
+      → ((p : ℕ) → p < old.size → IsOut offset n p → at (new ∷ below) p ≡ at (old ∷ below) p) → Changes Becomes (disk_of below old) (disk_of below' new) offset n
+  disk_changes Becomes offset n inside range others = record {
+    inside = inside;
+    size = size;
+    range = λ p into. rw (value_on p) (range p into);
+    others = λ p lt out. value_on p ∙ others p lt out;
+    hold = λ p lt. hold_same p;
+  }
+
+  -- the disk stays where the range is empty, and else its places become what the call makes of them
+  pub disk_step : (gives : ℕ → Value → Type 0) (Becomes : ℕ → Value → Value → Type 0) (offset n : ℕ) → (0 < n → offset + n ≤ old.size) → ((p : ℕ) (v : Value) → gives p v → IsIn offset n p) → IsBetween gives below old new
+      → ((p : ℕ) → IsIn offset n p → Becomes p (at (old ∷ below) p) (at (new ∷ below) p))
+      → Unless (n ≡ 0) (Stays (disk_of below old) (disk_of below' new)) (Changes Becomes (disk_of below old) (disk_of below' new) offset n)
+  disk_step gives Becomes offset n inside within between range =
+      let others = others_same gives below old new offset n within between in
+      unless_empty n (Stays (disk_of below old) (disk_of below' new)) (Changes Becomes (disk_of below old) (disk_of below' new) offset n)
+      (λ none. disk_stays (λ p lt. others p lt (elim (out_or_in offset n p) [ inl out ↦ out | inr into ↦ absurd (omega (arith, into.0, into.1, none)) ])))
+      (λ some. disk_changes Becomes offset n (inside some) range others)
+
+  -- a refused call
+  pub disk_partly : (gives : ℕ → Value → Type 0) (call : Call) → IsBetween gives below old new → ((p : ℕ) (v : Value) → gives p v → IsIn (offset_of call) (length_of call) p)
+      → ((p : ℕ) (v : Value) → gives p v → Gives (at below) call p (at (old ∷ below) p) v) → PartlyDone (at below) call (disk_of below old) (disk_of below' new)
+  disk_partly gives call between within given = record {
+    size = size;
+    value = λ p lt. rw (value_on p) (elim (between p lt) [ inl stays ↦ inl stays | inr gave ↦ inr (given p (at (new ∷ below) p) gave) ]);
+    others = λ p lt out. value_on p ∙ others_same gives below old new (offset_of call) (length_of call) within between p lt out;
+    hold = λ p lt. hold_same p;
+  }

@@ -1,0 +1,152 @@
+-- Calls of a chain on mappings, from what they do to its driver.
+use Rattle.std.proofs.Common.{◌≡◌, ◌⊎◌, refl, inl, inr, ℕ, ◌+◌, ◌<◌, ◌≤◌, Bool, true, false, Option, Some, None, List, ◌∷◌, ◌++◌, length, map, arith, sym, ◌∙◌, ap, subst}
+use Rattle.std.specs.Prelude.{Result, OnOk, IfOk, IfErr, IsOk, IsTrue, is_some}
+use Rattle.std.proofs.lemmas.Bool.{cases_lt}
+use Rattle.std.proofs.lemmas.Result.{IfErr-weaker}
+use Rattle.imago_storage.specs.State.{StorageState, IsAlignment}
+use Rattle.imago_storage.specs.Disk.{Value, Disk, free, held}
+use Rattle.imago_storage.specs.Steps.{Step, Stays, IsIn, prepare, prepared, write_mapped}
+use Rattle.imago_storage.specs.declared.fault.Fault.{Fault}
+use Rattle.imago_storage.specs.declared.fault.Fault.TheVariants.{ReadOnly, PastEnd, RangeOverflow, Foreign, MissingData, Failed, Outdated, Memory, Storage}
+use Rattle.imago_access.specs.Layer.{Layer, Cell, through, Held, loose, beside, inside, hold_of, IsLike, unit_of_layer}
+use Rattle.imago_access.specs.Chain.{at, disk_of, unit_of_chain}
+use Rattle.imago_access.specs.Changes.{IsHolding, Prepared, NotPrepared, Wrote}
+use Rattle.imago_access.specs.Files.{IsMild, IsWhole}
+use Rattle.imago_access.specs.Going.{Went, LookedUnder}
+use Rattle.imago_access.specs.Parts.{IsMappedAt, MappedCause}
+use Rattle.imago_access.specs.Refusals.{ChangeCause}
+use Rattle.imago_access.specs.Running.{IsTruly, HoldsTrue, IsBetween, Ran}
+use Rattle.imago_access.specs.Spending.{claim_of}
+use Rattle.imago_access.specs.Stops.{KeepsStops, GivesNone, GivesBytes}
+use Rattle.imago_access.proofs.Answers.{whole_holds, both_on_ok}
+use Rattle.imago_access.proofs.FilePairs.{some_rose_left}
+use Rattle.imago_access.proofs.Holding.{at_alike, truly_wrote, between_wrote}
+use Rattle.imago_access.proofs.Running.{ran_driver, ran_over, ran_gives}
+use Rattle.imago_access.proofs.Units.{overflows_more, layer_aligned, unit_aligned}
+
+-- Writes to a mapped range.
+
+pub write_mapped_cause : {D : Type 0} (layer : D → Layer) (aligned : (d : D) → IsAlignment (layer d).fixed.req_align × IsAlignment (layer d).fixed.mem_align) (d : D) (ds : List D) (disk : Disk) (guest place : ℕ) (bytes : List ℕ) (olds news us vs : List StorageState) (e : Fault)
+    → MappedCause (layer d) guest place (length bytes) olds news e → disk.size ≡ (layer d).size
+    → ChangeCause (unit_of_chain (map layer (d ∷ ds))) (map layer (d ∷ ds)) disk (layer d).fixed.writable (write_mapped guest bytes) (λ f. (f ≡ Outdated) × (0 < length bytes) × (IsMappedAt (layer d) guest place (length bytes) → ⊥)) (olds ++ us) (news ++ vs) e
+write_mapped_cause layer aligned d ds disk guest place bytes olds news us vs Outdated h size = (refl, h.0, h.1)
+write_mapped_cause layer aligned d ds disk guest place bytes olds news us vs ReadOnly h size = h
+write_mapped_cause layer aligned d ds disk guest place bytes olds news us vs PastEnd h size = (h.0, omega (arith, size, h.1))
+write_mapped_cause layer aligned d ds disk guest place bytes olds news us vs RangeOverflow h size =
+    let le : unit_of_layer (layer d) ≤ unit_of_chain (map layer (d ∷ ds)) = omega arith in
+    overflows_more (unit_of_layer (layer d)) (unit_of_chain (map layer (d ∷ ds))) guest (length bytes) (layer_aligned layer aligned d) (unit_aligned layer aligned (d ∷ ds)) le h
+write_mapped_cause layer aligned d ds disk guest place bytes olds news us vs Foreign h size = absurd h
+write_mapped_cause layer aligned d ds disk guest place bytes olds news us vs Failed h size = elim h [ inl top ↦ inl top | inr none ↦ absurd none ]
+write_mapped_cause layer aligned d ds disk guest place bytes olds news us vs MissingData h size = elim h [ inl top ↦ inl top | inr none ↦ absurd none ]
+write_mapped_cause layer aligned d ds disk guest place bytes olds news us vs Memory h size = h
+write_mapped_cause layer aligned d ds disk guest place bytes olds news us vs Storage h size = some_rose_left olds news us vs h
+write_mapped_cause layer aligned d ds disk guest place bytes olds news us vs _ h size = absurd h
+
+-- Preparations.
+
+-- where layers say and hold the same, the disk stays
+pub not_prepared_stays : (below below' : List Layer) (old new : Layer) → below' ≡ below → NotPrepared old new → Stays (disk_of below old) (disk_of below' new)
+not_prepared_stays below below' old new same refused = rw same (record {
+  size = refused.like.size;
+  value = λ p low. at_alike old new below p refused.like.size (ap (λ (c : ℕ → Cell). through (c p) (at below p)) refused.cell);
+  hold = λ p low. ap (λ (h : ℕ → Held). hold_of (h p)) refused.held;
+})
+
+-- a place of a prepared run is held for it, or free
+holds_or_free : (below : ℕ → Value) (layer : Layer) (offset n : ℕ) (overwrite : Bool) (p : ℕ) (h : Held) → IsHolding below layer offset n overwrite p h → (hold_of h ≡ free) ⊎ (IsIn offset n p × (hold_of h ≡ held None overwrite))
+holds_or_free below layer offset n overwrite p loose holding = inl refl
+holds_or_free below layer offset n overwrite p (beside b) holding = inl refl
+holds_or_free below layer offset n overwrite p (inside (Some b) written announced) holding = inr (holding.0, rw (holding.1, holding.2) refl)
+holds_or_free below layer offset n overwrite p (inside None written announced) holding = inr (holding.0, rw (holding.1, holding.2) refl)
+
+-- what a mapping without state has, and one with state
+pub stateless_is : {S : Type 0} (state : Option S) → is_some state ≡ false → state ≡ None
+stateless_is None h = refl
+stateless_is (Some s) h = absurd (cc h)
+
+pub stateful_claims : {S : Type 0} (claim : S → ℕ) (state : Option S) → is_some state ≡ true → (c : ℕ) × (claim_of claim state ≡ Some c)
+stateful_claims claim None h = absurd (cc h)
+stateful_claims claim (Some s) h = (claim s, refl)
+
+pub prepared_step : (below below' : List Layer) (old new : Layer) (offset asked : ℕ) (overwrite : Bool) (storage place n : ℕ) (claim : Option ℕ) (state : Bool) → below' ≡ below
+    → ((p : ℕ) → old.held p ≡ loose) → Prepared (at below) old new offset asked overwrite storage place n claim → n ≤ asked → (0 < asked → 0 < n) → (0 < asked → offset + n ≤ old.size)
+    → (state ≡ false → (p : ℕ) → new.held p ≡ loose) → (state ≡ true → (c : ℕ) × (claim ≡ Some c)) → (asked ≡ 0 → state ≡ false)
+    → Step (at below) (disk_of below old) (prepare offset asked overwrite) (prepared n state) (disk_of below' new)
+prepared_step below below' old new offset asked overwrite storage place n claim state same was_loose done most some in_disk stateless stateful empty =
+    let value : (p : ℕ) → at (new ∷ below) p ≡ at (old ∷ below) p = λ p. at_alike old new below p done.size (ap (λ (c : ℕ → Cell). through (c p) (at below p)) done.cell) in
+    rw same (elim (cases_lt 0 asked) [
+      | inl positive ↦ inr (
+        λ none. absurd (omega (arith, positive, none)),
+        record {
+          was_free = λ p low. ap hold_of (was_loose p);
+          values = record { size = done.size; value = λ p low. value p };
+          some = some positive;
+          most = most;
+          inside = in_disk positive;
+          holds = λ p low. holds_or_free (at below) new offset n overwrite p (new.held p) (done.holds p);
+          stateless = λ is p low. ap hold_of (stateless is p);
+          stateful = λ is.
+              let it = done.some_held (stateful is).0 (stateful is).1 in
+              (it.0, it.2, ap hold_of it.3);
+        },
+      )
+      | inr none ↦ let zero : asked ≡ 0 = omega (arith, none) in inl (
+        zero,
+        (
+          record {
+            size = done.size;
+            value = λ p low. value p;
+            hold = λ p low. ap hold_of (stateless (empty zero) p ∙ sym (was_loose p));
+          },
+          omega (arith, zero, most),
+          empty zero,
+        ),
+      )
+    ])
+
+module _ {D B : Type 0} (layer : D → Layer) (image : D → StorageState) (extras : D → List StorageState) (safe : D → Type 0) (under : B → List Layer) (files : B → List StorageState) (sees still : B → Type 0) (sound : ℕ → List ℕ → Type 0) where
+  -- a write to a mapped range, by its answer
+  pub ran_mapped : {T : Type 0} (r : Result T Fault) (a b : D) (x : B) (guest place : ℕ) (bytes : List ℕ) → IsLike (layer a) (layer b) → Went layer image extras safe (IsOk r) (IsWhole r) a b
+      → (IsTrue (layer a).fixed.keeps → safe a → OnOk r (Wrote (layer a) (layer b) guest bytes)) → OnOk r (0 < length bytes → IsMappedAt (layer a) guest place (length bytes))
+      → (IsTrue (layer a).fixed.keeps → safe a → IfErr r (λ e. IsMild e → layer b ≡ layer a))
+      → (IsTrue (layer a).fixed.keeps → safe a → (below : List Layer) → KeepsStops below (layer a) sound (GivesBytes guest bytes) (image a) (image b))
+      → Ran layer image extras safe under files sees still sound (IsOk r) (IsWhole r) (GivesBytes guest bytes) a b x x
+  ran_mapped r a b x guest place bytes like went wrote mapped refused stops =
+      let Done = Wrote (layer a) (layer b) guest bytes × (0 < length bytes → IsMappedAt (layer a) guest place (length bytes)) in
+      ran_driver layer image extras safe under files sees still sound (IsOk r) (IsWhole r) (GivesBytes guest bytes) a b x like.size went
+      (λ w i. whole_holds r (λ _. Done) (HoldsTrue (at (under x)) (layer b)) w (λ v is h. truly_wrote (at (under x)) (layer a) (layer b) guest place bytes h.1 h.0 i.held)
+      (both_on_ok r (Wrote (layer a) (layer b) guest bytes) (0 < length bytes → IsMappedAt (layer a) guest place (length bytes)) (wrote i.keeps i.is_safe) mapped)
+      (IfErr-weaker r (λ e. IsMild e → layer b ≡ layer a) (λ e. IsMild e → HoldsTrue (at (under x)) (layer b)) (λ e same mild. subst (HoldsTrue (at (under x))) (sym (same mild)) i.held) (refused i.keeps i.is_safe)))
+      (λ w i. whole_holds r (λ _. Wrote (layer a) (layer b) guest bytes) (IsBetween (GivesBytes guest bytes) (under x) (layer a) (layer b)) w (λ v is h. between_wrote (under x) (layer a) (layer b) guest bytes h)
+      (wrote i.keeps i.is_safe)
+      (IfErr-weaker r (λ e. IsMild e → layer b ≡ layer a) (λ e. IsMild e → IsBetween (GivesBytes guest bytes) (under x) (layer a) (layer b)) (λ e same mild p low. inl (ap (λ (l : Layer). at (l ∷ under x) p) (same mild))) (refused i.keeps i.is_safe)))
+      (λ i. stops i.keeps i.is_safe (under x))
+
+  -- a preparation, by its answer
+  pub ran_preparing : {T : Type 0} (r : Result T Fault) (a b : D) (x y : B) (Done : T → Type 0) (free_loose : (p : ℕ) → (layer a).held p ≡ loose) → (layer b).size ≡ (layer a).size
+      → Went layer image extras safe (IsOk r) (IsWhole r × sees x) a b → LookedUnder under files sees still (IsOk r) (IsWhole r) x y
+      → ((v : T) → Done v → HoldsTrue (at (under x)) (layer b) × ((layer b).cell ≡ (layer a).cell))
+      → (IsTrue (layer a).fixed.keeps → safe a → sees x → IfOk r Done)
+      → (IsTrue (layer a).fixed.keeps → safe a → sees x → IfErr r (λ e. IsMild e → NotPrepared (layer a) (layer b)))
+      → (IsTrue (layer a).fixed.keeps → safe a → sees x → KeepsStops (under x) (layer a) sound GivesNone (image a) (image b))
+      → Ran layer image extras safe under files sees still sound (IsOk r) (IsWhole r) GivesNone a b x y
+  ran_preparing r a b x y Done was_loose size went looked from done refused stops =
+      ran_over layer image extras safe under files sees still sound (IsOk r) (IsWhole r) GivesNone a b x y size went looked
+      (λ w i. whole_holds r Done (HoldsTrue (at (under x)) (layer b)) w (λ v is h. (from v h).0) (done i.keeps i.is_safe i.is_seen)
+      (IfErr-weaker r (λ e. IsMild e → NotPrepared (layer a) (layer b)) (λ e. IsMild e → HoldsTrue (at (under x)) (layer b)) (λ e not mild p. subst (IsTruly (at (under x)) (layer b) p) (sym (ap (λ (h : ℕ → Held). h p) (not mild).held ∙ was_loose p)) tt) (refused i.keeps i.is_safe i.is_seen)))
+      (λ w i p low. inl (at_alike (layer a) (layer b) (under x) p size (ap (λ (c : ℕ → Cell). through (c p) (at (under x) p)) (whole_holds r Done ((layer b).cell ≡ (layer a).cell) w (λ v is h. (from v h).1) (done i.keeps i.is_safe i.is_seen)
+      (IfErr-weaker r (λ e. IsMild e → NotPrepared (layer a) (layer b)) (λ e. IsMild e → (layer b).cell ≡ (layer a).cell) (λ e not mild. (not mild).cell) (refused i.keeps i.is_safe i.is_seen))))))
+      (λ i. stops i.keeps i.is_safe i.is_seen)
+
+  -- one that was refused
+  pub ran_unprepared : (ok whole : Type 0) (gives : ℕ → Value → Type 0) (a b : D) (x y : B) → ((p : ℕ) → (layer a).held p ≡ loose) → (layer b).size ≡ (layer a).size
+      → Went layer image extras safe ok (whole × sees x) a b → LookedUnder under files sees still ok whole x y
+      → (whole → IsTrue (layer a).fixed.keeps → safe a → sees x → NotPrepared (layer a) (layer b))
+      → (IsTrue (layer a).fixed.keeps → safe a → sees x → KeepsStops (under x) (layer a) sound GivesNone (image a) (image b))
+      → Ran layer image extras safe under files sees still sound ok whole gives a b x y
+  ran_unprepared ok whole gives a b x y was_loose size went looked refused stops =
+      ran_gives layer image extras safe under files sees still sound ok whole GivesNone gives a b x y (λ p v none. absurd none)
+      (ran_over layer image extras safe under files sees still sound ok whole GivesNone a b x y size went looked
+      (λ w i p. subst (IsTruly (at (under x)) (layer b) p) (sym (ap (λ (h : ℕ → Held). h p) (refused w i.keeps i.is_safe i.is_seen).held ∙ was_loose p)) tt)
+      (λ w i p low. inl (at_alike (layer a) (layer b) (under x) p size (ap (λ (c : ℕ → Cell). through (c p) (at (under x) p)) (refused w i.keeps i.is_safe i.is_seen).cell)))
+      (λ i. stops i.keeps i.is_safe i.is_seen))

@@ -1,0 +1,92 @@
+-- Bytes that are written run by run.
+use Rattle.std.proofs.Common.{◌≡◌, ℕ, ◌+◌, ◌-◌, ◌<◌, ◌≤◌, List, ◌∷◌, length, take, drop, slice_index, arith, sym, ◌∙◌, ap, inl, inr}
+use Rattle.std.specs.Prelude.{Result, Ok, Err, OnOk, IfErr, IsOk, None, map}
+use Rattle.std.proofs.lemmas.Bool.{cases_lt}
+use Rattle.std.proofs.lemmas.Grind.{common_steps}
+use Rattle.imago_storage.specs.State.{StorageState}
+use Rattle.imago_storage.specs.Disk.{Value, byte}
+use Rattle.imago_storage.specs.Steps.{Call, Step, write, done, IsIn, ToBytes}
+use Rattle.imago_storage.specs.Causes.{PartlyDone}
+use Rattle.imago_storage.specs.declared.fault.Fault.{Fault}
+use Rattle.imago_access.specs.Files.{IsMild, IsWhole}
+use Rattle.imago_access.specs.Layer.{Layer, loose, IsFree}
+use Rattle.imago_access.specs.Chain.{at}
+use Rattle.imago_access.specs.Parts.{IsPartOf}
+use Rattle.imago_access.specs.Refusals.{change_refusal}
+use Rattle.imago_access.specs.Running.{IsBetween, IsIntactChain, RanChain, chain_disk, below_of}
+use Rattle.imago_access.specs.Stops.{GivesBytes}
+use Rattle.imago_access.proofs.Disks.{allowed_inside, disk_step, disk_partly}
+
+-- the bytes behind the first, as the code takes them
+abbrev pub rest_of : ℕ → List ℕ → List ℕ
+rest_of past bytes = take (length bytes - past) (drop past bytes)
+
+pub rest_long : (past : ℕ) (bytes : List ℕ) → past ≤ length bytes → length (rest_of past bytes) ≡ length bytes - past
+rest_long past bytes le = grind (arith, common_steps)
+
+pub rest_index : (past : ℕ) (bytes : List ℕ) (i : ℕ) → past + i < length bytes → slice_index (rest_of past bytes) i ≡ slice_index bytes (past + i)
+rest_index past bytes i lt = grind (arith, common_steps)
+
+-- what a write of the rest gives
+pub gives_rest : (offset past : ℕ) (bytes : List ℕ) → past ≤ length bytes → (p : ℕ) (v : Value) → GivesBytes (offset + past) (rest_of past bytes) p v → GivesBytes offset bytes p v
+gives_rest offset past bytes le p v gives =
+    let i = gives.0 in
+    let long = rest_long past bytes le in
+    let lt : past + i < length bytes = omega (arith, gives.1, long, le) in
+    (past + i, lt, omega (arith, gives.2), gives.3 ∙ ap byte (rest_index past bytes i lt))
+
+-- a part of a call's range
+pub part_rest : (call : Call) (offset past : ℕ) (bytes : List ℕ) → past ≤ length bytes → IsPartOf call offset (length bytes) → IsPartOf call (offset + past) (length (rest_of past bytes))
+part_rest call offset past bytes le part =
+    let long = rest_long past bytes le in
+    record { start = omega (arith, part.start); end = omega (arith, part.end, long, le) }
+
+-- before the first run
+pub shown_none : (below : List Layer) (layer : Layer) (offset : ℕ) (bytes : List ℕ) (i : ℕ) → i < 0 → at (layer ∷ below) (offset + i) ≡ byte (slice_index bytes i)
+shown_none below layer offset bytes i lt = absurd (omega (arith, lt))
+
+-- what is shown behind one more run of n bytes
+pub shown_more : (below : List Layer) (old new : Layer) (offset past n : ℕ) (bytes : List ℕ) → past + n ≤ length bytes → offset + length bytes ≤ old.size → IsBetween (GivesBytes (offset + past) (rest_of past bytes)) below old new
+    → ((i : ℕ) → i < past → at (old ∷ below) (offset + i) ≡ byte (slice_index bytes i)) → ((i : ℕ) → i < n → at (new ∷ below) (offset + past + i) ≡ byte (slice_index (rest_of past bytes) i))
+    → (i : ℕ) → i < past + n → at (new ∷ below) (offset + i) ≡ byte (slice_index bytes i)
+shown_more below old new offset past n bytes fits in_disk between before now i lt = elim (cases_lt i past) [
+  | inl low ↦ elim (between (offset + i) (omega (arith, in_disk, lt, fits))) [
+    | inl same ↦ same ∙ before i low
+    | inr gave ↦ absurd (omega (arith, gave.2, low))
+  ]
+  | inr high ↦
+      let j = i - past in
+      let place : offset + past + j ≡ offset + i = omega (arith, high) in
+      let index : past + j ≡ i = omega (arith, high) in
+      ap (at (new ∷ below)) (sym place) ∙ now j (omega (arith, high, lt)) ∙ ap byte (rest_index past bytes j (omega (arith, index, lt, fits)) ∙ ap (slice_index bytes) index)
+]
+
+gives_inside : (offset : ℕ) (bytes : List ℕ) (p : ℕ) (v : Value) → GivesBytes offset bytes p v → IsIn offset (length bytes) p
+gives_inside offset bytes p v gives = (omega (arith, gives.2), omega (arith, gives.1, gives.2))
+
+gives_byte : (offset : ℕ) (bytes : List ℕ) (p : ℕ) (was v : Value) → GivesBytes offset bytes p v → ToBytes offset bytes p was v
+gives_byte offset bytes p was v gives = let is : gives.0 ≡ p - offset = omega (arith, gives.2) in gives.3 ∙ ap (λ (i : ℕ). byte (slice_index bytes i)) is
+
+module _ {D T : Type 0} (layer : D → Layer) (image : D → StorageState) (extras : D → List StorageState) (sees safe still : D → Type 0) (sound : ℕ → List ℕ → Type 0) (free_loose : (d : D) → IsFree (layer d) → (p : ℕ) → (layer d).held p ≡ loose) where
+  -- a write that succeeds is a step of the disk
+  pub write_ok : (old new : D × List D) (unit offset : ℕ) (bytes : List ℕ) (result : Result T Fault) → IsFree (layer old.0) → IsFree (layer new.0) → change_refusal unit (layer old.0) offset (length bytes) ≡ None
+      → (IsIntactChain layer safe sees old → OnOk result ((i : ℕ) → i < length bytes → at (layer new.0 ∷ map layer old.1) (offset + i) ≡ byte (slice_index bytes i)))
+      → RanChain layer image extras sees safe still sound (IsOk result) (IsWhole result) (GivesBytes offset bytes) old new
+      → IsIntactChain layer safe sees old → OnOk result (Step (below_of layer old) (chain_disk layer old) (write offset bytes) done (chain_disk layer new))
+  write_ok old new unit offset bytes (Ok x) was_free is_free allowed shown ran i =
+      disk_step (map layer old.1) (map layer new.1) (layer old.0) (layer new.0) (ran.looked.stays tt i.is_seen).0 ran.size (free_loose old.0 was_free) (free_loose new.0 is_free)
+      (GivesBytes offset bytes) (ToBytes offset bytes) offset (length bytes) (allowed_inside unit (layer old.0) offset (length bytes) allowed) (gives_inside offset bytes) (ran.values tt i)
+      (λ p into.
+      let k = p - offset in
+      let is : offset + k ≡ p = omega (arith, into.0) in
+      ap (at (layer new.0 ∷ map layer old.1)) (sym is) ∙ shown i k (omega (arith, into.0, into.1)))
+  write_ok old new unit offset bytes (Err e) was_free is_free allowed shown ran i = tt
+
+  -- a refused one is done in part
+  pub write_err : (old new : D × List D) (offset : ℕ) (bytes : List ℕ) (result : Result T Fault) → IsFree (layer old.0) → IsFree (layer new.0)
+      → RanChain layer image extras sees safe still sound (IsOk result) (IsWhole result) (GivesBytes offset bytes) old new
+      → IsIntactChain layer safe sees old → IfErr result (λ e. IsMild e → PartlyDone (below_of layer old) (write offset bytes) (chain_disk layer old) (chain_disk layer new))
+  write_err old new offset bytes (Ok x) was_free is_free ran i = tt
+  write_err old new offset bytes (Err e) was_free is_free ran i = λ mild.
+      disk_partly (map layer old.1) (map layer new.1) (layer old.0) (layer new.0) (ran.looked.stays mild i.is_seen).0 ran.size (free_loose old.0 was_free) (free_loose new.0 is_free)
+      (GivesBytes offset bytes) (write offset bytes) (ran.values mild i) (gives_inside offset bytes) (λ p v gave. gives_byte offset bytes p (at (layer old.0 ∷ map layer old.1) p) v gave)

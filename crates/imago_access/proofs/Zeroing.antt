@@ -1,0 +1,115 @@
+-- Zeroes over a range, part by part.
+use Rattle.std.proofs.Common.{◌≡◌, inl, inr, ℕ, ◌+◌, ◌-◌, ◌<◌, ◌≤◌, List, ◌∷◌, ◌++◌, length, take, slice_index, arith, sym, ◌∙◌, ap, subst}
+use Rattle.std.specs.Prelude.{⊤, Bool, IsTrue, false, Result, Ok, Err, IsOk, OnOk, IfErr, None, map, if◌then◌else◌}
+use Rattle.std.proofs.lemmas.Bool.{cases_lt, le-ltb}
+use Rattle.std.proofs.lemmas.Grind.{common_steps}
+use Rattle.imago_storage.specs.State.{StorageState, IsAlignment}
+use Rattle.imago_storage.specs.Disk.{Value, byte}
+use Rattle.imago_storage.specs.Steps as Steps
+use Rattle.imago_storage.specs.Steps.{Call, IsIn, Stays, Changes, Unless}
+use Rattle.imago_storage.specs.Causes.{Gives, PartlyDone, offset_of, length_of}
+use Rattle.imago_storage.specs.declared.fault.Fault.{Fault}
+use Rattle.imago_access.specs.Layer.{Layer, IsFree, IsLike, loose, through}
+use Rattle.imago_access.specs.Chain.{at}
+use Rattle.imago_access.specs.Files.{IsLater, IsMild, IsWhole}
+use Rattle.imago_access.specs.Going.{Went}
+use Rattle.imago_access.specs.Parts.{PartCause}
+use Rattle.imago_access.specs.Refusals.{change_refusal}
+use Rattle.imago_access.specs.Running.{IsIntact, IsBetween, Ran, RanChain, IsIntactChain, chain_disk, below_of}
+use Rattle.imago_access.specs.Stops.{KeepsStops, GivesBytes, GivesZero}
+use Rattle.imago_access.proofs.ChangeCauses.{part_cause_later}
+use Rattle.imago_access.proofs.Disks.{allowed_inside, disk_step, disk_partly}
+use Rattle.imago_access.proofs.FilePairs.{pairs_append}
+use Rattle.imago_access.proofs.Running.{holds_loose, ran_driver}
+use Rattle.imago_access.proofs.Units.{layer_aligned}
+
+-- a zeroing of a part gives what that of the whole may
+pub zero_wider : (offset n start m : ℕ) → offset ≤ start → start + m ≤ offset + n → (p : ℕ) (v : Value) → GivesZero start m p v → GivesZero offset n p v
+zero_wider offset n start m from to p v gave = ((omega (arith, from, gave.0.0), omega (arith, to, gave.0.1)), gave.1)
+
+-- and so do zeroes that are written there
+pub bytes_zero : (offset n start : ℕ) (bytes : List ℕ) → ((i : ℕ) → i < length bytes → slice_index bytes i ≡ 0) → offset ≤ start → start + length bytes ≤ offset + n → (p : ℕ) (v : Value) → GivesBytes start bytes p v → GivesZero offset n p v
+bytes_zero offset n start bytes zeroes from to p v gave = ((omega (arith, from, gave.2), omega (arith, to, gave.1, gave.2)), gave.3 ∙ ap byte (zeroes gave.0 gave.1))
+
+-- the first bytes of a buffer of zeroes
+pub piece_long : (count : ℕ) (buffer : List ℕ) → count ≤ length buffer → length (take count buffer) ≡ count
+piece_long count buffer le = grind (arith, common_steps)
+
+pub piece_zero : (count : ℕ) (buffer : List ℕ) → count ≤ length buffer → ((k : ℕ) → slice_index buffer k ≡ 0) → (i : ℕ) → i < length (take count buffer) → slice_index (take count buffer) i ≡ 0
+piece_zero count buffer le zeroes i lt =
+    let low : i < count = omega (arith, lt, piece_long count buffer le) in
+    let same : slice_index (take count buffer) i ≡ slice_index buffer i = grind (arith, common_steps) in
+    same ∙ zeroes i
+
+-- past the end of a layer the places are 0
+past_zero : (layer : Layer) (below : List Layer) (p : ℕ) → layer.size ≤ p → at (layer ∷ below) p ≡ byte 0
+past_zero layer below p past = ap (λ (t : Bool). if t then through (layer.cell p) (at below p) else byte 0) (le-ltb p layer.size past)
+
+-- a place that is 0 stays so in a call that gives zeroes alone
+pub zero_stays : (below : List Layer) (old new : Layer) (offset n : ℕ) → new.size ≡ old.size → IsBetween (GivesZero offset n) below old new → (p : ℕ) → at (old ∷ below) p ≡ byte 0 → at (new ∷ below) p ≡ byte 0
+zero_stays below old new offset n size between p was = elim (cases_lt p old.size) [
+  | inl inside ↦ elim (between p inside) [ inl same ↦ same ∙ was | inr gave ↦ gave.1 ]
+  | inr past ↦ past_zero new below p (omega (arith, size, past))
+]
+
+-- zeroes that were there, and those of one more part
+pub zeroes_more : (below : List Layer) (old new : Layer) (offset done count gap n : ℕ) → new.size ≡ old.size → IsBetween (GivesZero gap n) below old new → ((p : ℕ) → IsIn offset done p → at (old ∷ below) p ≡ byte 0)
+    → ((p : ℕ) → IsIn (offset + done) count p → at (new ∷ below) p ≡ byte 0) → (p : ℕ) → IsIn offset (done + count) p → at (new ∷ below) p ≡ byte 0
+zeroes_more below old new offset done count gap n size between before now p there = elim (cases_lt p (offset + done)) [
+  | inl low ↦ zero_stays below old new gap n size between p (before p (there.0, low))
+  | inr high ↦ now p (high, omega (arith, there.1))
+]
+
+-- what is shown of bytes that are 0
+pub shown_zero : (value : ℕ → Value) (start : ℕ) (bytes : List ℕ) → ((i : ℕ) → i < length bytes → slice_index bytes i ≡ 0) → ((i : ℕ) → i < length bytes → value (start + i) ≡ byte (slice_index bytes i)) → (p : ℕ) → IsIn start (length bytes) p → value p ≡ byte 0
+shown_zero value start bytes zeroes shows p there =
+    let i = p - start in
+    let place : start + i ≡ p = omega (arith, there.0) in
+    let lt : i < length bytes = omega (arith, there.0, there.1) in
+    ap value (sym place) ∙ shows i lt ∙ ap byte (zeroes i lt)
+
+module _ {D B : Type 0} (layer : D → Layer) (image : D → StorageState) (extras : D → List StorageState) (safe : D → Type 0) (under : B → List Layer) (files : B → List StorageState) (sees still : B → Type 0) (sound : ℕ → List ℕ → Type 0) where
+  -- a zeroing by the driver alone, of an image that has nothing prepared
+  pub ran_zeroed : (free_loose : (d : D) → IsFree (layer d) → (p : ℕ) → (layer d).held p ≡ loose) (ok whole : Type 0) (offset n : ℕ) (a b : D) (x : B) → IsFree (layer a) → IsLike (layer a) (layer b) → Went layer image extras safe ok whole a b
+      → (IsTrue (layer a).fixed.keeps → safe a → (below : List Layer) → whole → IsBetween (GivesZero offset n) below (layer a) (layer b))
+      → (IsTrue (layer a).fixed.keeps → safe a → (below : List Layer) → KeepsStops below (layer a) sound (GivesZero offset n) (image a) (image b))
+      → Ran layer image extras safe under files sees still sound ok whole (GivesZero offset n) a b x x
+  ran_zeroed free_loose ok whole offset n a b x free like went values stops = ran_driver layer image extras safe under files sees still sound ok whole (GivesZero offset n) a b x like.size went
+      (λ w i. holds_loose (at (under x)) (layer b) (free_loose b (like.unspent ∙ free)))
+      (λ w i. values i.keeps i.is_safe (under x) w)
+      (λ i. stops i.keeps i.is_safe (under x))
+
+  -- a cause in a part, behind calls that went well, is one of the whole
+  pub cause_behind : (safe_runs : (d : D) → safe d → (layer d).failed ≡ false) (aligned : (d : D) → IsAlignment (layer d).fixed.req_align × IsAlignment (layer d).fixed.mem_align) (gives : ℕ → Value → Type 0) (offset n start m : ℕ) (a b : D) (x y : B) (news : List StorageState) (own_cause : List Layer → Fault → Type 0) (e : Fault)
+      → offset ≤ start → start + m ≤ offset + n → Ran layer image extras safe under files sees still sound ⊤ ⊤ gives a b x y → IsIntact (under x) (layer a) (safe a) (sees x)
+      → PartCause (under y) (layer b) start m (own_cause (under y)) (image b ∷ extras b ++ files y) news e → PartCause (under x) (layer a) offset n (own_cause (under x)) (image a ∷ extras a ++ files x) news e
+  cause_behind safe_runs aligned gives offset n start m a b x y news own_cause e from to first i h =
+      let same : under y ≡ under x = (first.looked.stays tt i.is_seen).0 in
+      part_cause_later (under x) (layer a) (layer b) offset n start m (image a ∷ extras a ++ files x) (image b ∷ extras b ++ files y) news
+      first.went.fixed first.size (safe_runs a i.is_safe) (safe_runs b (first.intact tt i).is_safe) (layer_aligned layer aligned a).positive from to
+      (pairs_append IsLater (image a ∷ extras a) (image b ∷ extras b) (files x) (files y) first.went.later first.looked.later)
+      (own_cause (under x)) (own_cause (under x)) e (λ c. c)
+      (subst (λ (below : List Layer). PartCause below (layer b) start m (own_cause below) (image b ∷ extras b ++ files y) news e) same h)
+
+-- What a zeroing of all of a range does to a chain's disk.
+module _ {D : Type 0} (layer : D → Layer) (image : D → StorageState) (extras : D → List StorageState) (sees safe still : D → Type 0) (sound : ℕ → List ℕ → Type 0) (free_loose : (d : D) → IsFree (layer d) → (p : ℕ) → (layer d).held p ≡ loose)
+    (old new : D × List D) (offset n : ℕ) (was_free : IsFree (layer old.0)) (is_free : IsFree (layer new.0)) where
+  pub zero_ok : (unit : ℕ) (result : Result (Unit {0}) Fault) → change_refusal unit (layer old.0) offset n ≡ None
+      → (IsIntactChain layer safe sees old → OnOk result ((p : ℕ) → IsIn offset n p → at (layer new.0 ∷ map layer old.1) p ≡ byte 0))
+      → RanChain layer image extras sees safe still sound (IsOk result) (IsWhole result) (GivesZero offset n) old new → IsIntactChain layer safe sees old
+      → OnOk result (Unless (n ≡ 0) (Stays (chain_disk layer old) (chain_disk layer new)) (Changes Steps.ToZero (chain_disk layer old) (chain_disk layer new) offset n))
+  zero_ok unit (Ok x) allowed shown ran i =
+      disk_step (map layer old.1) (map layer new.1) (layer old.0) (layer new.0) (ran.looked.stays tt i.is_seen).0 ran.size (free_loose old.0 was_free) (free_loose new.0 is_free)
+      (GivesZero offset n) Steps.ToZero offset n (allowed_inside unit (layer old.0) offset n allowed) (λ p v gave. gave.0) (ran.values tt i) (shown i)
+  zero_ok unit (Err e) allowed shown ran i = tt
+
+  -- a refused one is done in part
+  pub zero_err : (result : Result (Unit {0}) Fault) (call : Call) → offset_of call ≡ offset → length_of call ≡ n → ((p : ℕ) (was : Value) → Gives (at (map layer old.1)) call p was (byte 0))
+      → RanChain layer image extras sees safe still sound (IsOk result) (IsWhole result) (GivesZero offset n) old new → IsIntactChain layer safe sees old
+      → IfErr result (λ e. IsMild e → PartlyDone (below_of layer old) call (chain_disk layer old) (chain_disk layer new))
+  zero_err (Ok x) call from long given ran i = tt
+  zero_err (Err e) call from long given ran i = λ mild.
+      disk_partly (map layer old.1) (map layer new.1) (layer old.0) (layer new.0) (ran.looked.stays mild i.is_seen).0 ran.size (free_loose old.0 was_free) (free_loose new.0 is_free)
+      (GivesZero offset n) call (ran.values mild i)
+      (λ p v gave. subst (λ (o : ℕ). IsIn o (length_of call) p) (sym from) (subst (λ (m : ℕ). IsIn offset m p) (sym long) gave.0))
+      (λ p v gave. subst (Gives (at (map layer old.1)) call p (at (layer old.0 ∷ map layer old.1) p)) (sym gave.1) (given p (at (layer old.0 ∷ map layer old.1) p)))

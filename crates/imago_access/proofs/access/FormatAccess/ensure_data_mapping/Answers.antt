@@ -1,0 +1,175 @@
+use Rattle.std.proofs.Common.{◌≡◌, ◌∷◌, ◌++◌, ◌+◌, refl, arith, true, false, None, map, ap, sym, subst, ◌∙◌, inl, inr}
+use Rattle.std.specs.Prelude.{⊤, IsOk, IsTrue, is_some}
+use Rattle.std.proofs.lemmas.Bool.{cases_lt}
+use Rattle.imago_storage.specs.Steps.{ensure}
+use Rattle.imago_access.specs.Layer.{IsFree, Fixed, hold_of}
+use Rattle.imago_access.specs.Layers.{chain, layers}
+use Rattle.imago_access.specs.Chain.{at, Each, disk_of, unit_of_chain}
+use Rattle.imago_access.specs.Changes.{Committed}
+use Rattle.imago_access.specs.Files.{IsMild, IsWhole, files_of}
+use Rattle.imago_access.specs.Refusals.{barrier}
+use Rattle.imago_access.specs.Spending.{claim_of}
+use Rattle.imago_access.specs.Stops.{GivesNone, GivesAnnounced}
+use Rattle.imago_access.specs.declared.mapping.PreparedDataMapping.{PreparedDataMapping}
+use Rattle.imago_access.proofs.ChangeCauses.{change_cause, part_cause_alone}
+use Rattle.imago_access.proofs.Ensuring.{unbarred, stays_committed, settled_commits, settled_home, ran_ensured}
+use Rattle.imago_access.proofs.Holding.{truly_prepared, spends_more}
+use Rattle.imago_access.proofs.HoldingRuns.{ran_prepared, ran_settled, ran_unsettled}
+use Rattle.imago_access.proofs.MappingCalls.{ran_unprepared, prepared_step, stateless_is, stateful_claims}
+use Rattle.imago_access.proofs.Running.{ran_same, ran_seen, ran_weaker}
+use Rattle.imago_access.proofs.Units.{layer_aligned, overflows_chain}
+use Rattle.imago_access.proofs.access.FormatAccess.ensure_data_mapping.Goals as goal
+
+pub returns-in_err-check_change-clause-ran : goal.returns-in_err-check_change-clause-ran
+returns-in_err-check_change-clause-ran g c = let d = g.D.FormatDriverInstance in
+    ran_same d.layer d.image d.extras d.safe (map d.layer) (files_of d.image d.extras) (Each d.sees) (Each d.still) d.sound (IsOk c.from_residual.result) (IsWhole c.from_residual.result) (GivesAnnounced c.args.overwrite c.args.offset c.args.length) c.args.self.now.0 c.args.self.now.1
+
+pub returns-in-Err-clause-ran : goal.returns-in-Err-clause-ran
+returns-in-Err-clause-ran g c = let d = g.D.FormatDriverInstance in
+    let laws = g.met.D.FormatDriverInstance in
+    let r = c.prepare_data_mapping in
+    let a0 = c.self.inside.driver in
+    let a1 = r.new.self in
+    let x0 = c.self.inside.below in
+    let x1 = r.new.below in
+    let under = map d.layer (layers x0) in
+    let free : IsFree (d.layer a0) = subst (λ (v : _). IsFree (d.layer v.0)) (sym c.self.view_is) c.requires.free in
+    let e = c.in-Err.ensures in
+    rw (← c.self.view_is) (ran_seen layers d.layer d.image d.extras d.safe (map d.layer) (files_of d.image d.extras) (Each d.sees) (Each d.still) d.sound (false ≡ true) (IsMild c.in-Err.fault) (GivesAnnounced c.args.overwrite c.args.offset c.args.length) a0 a1 x0 x1
+    (ran_unprepared d.layer d.image d.extras d.safe (λ b. map d.layer (layers b)) (λ b. files_of d.image d.extras (layers b)) (λ b. Each d.sees (layers b)) (λ b. Each d.still (layers b)) d.sound (false ≡ true) (IsMild c.in-Err.fault) (GivesAnnounced c.args.overwrite c.args.offset c.args.length) a0 a1 x0 x1 (laws.free_loose a0 free) e.size e.went e.below (λ mild keeps safe see. e.err keeps safe see mild) e.stops))
+
+pub returns-in-Err-clause-cause : goal.returns-in-Err-clause-cause
+returns-in-Err-clause-cause g c = let d = g.D.FormatDriverInstance in
+    let laws = g.met.D.FormatDriverInstance in
+    let r = c.prepare_data_mapping in
+    let a0 = c.self.inside.driver in
+    let a1 = r.new.self in
+    let x0 = c.self.inside.below in
+    let x1 = r.new.below in
+    let under = map d.layer (layers x0) in
+    let free : IsFree (d.layer a0) = subst (λ (v : _). IsFree (d.layer v.0)) (sym c.self.view_is) c.requires.free in
+    let call = ensure c.args.offset c.args.length c.args.overwrite in
+    rw (← c.self.view_is) (λ intact. change_cause under (d.layer a0) (unit_of_chain (map d.layer (a0 ∷ layers x0))) call (d.own_cause a0 under call) (d.image a0 ∷ (d.extras a0 ++ files_of d.image d.extras (layers x0))) (d.image a1 ∷ (d.extras a1 ++ files_of d.image d.extras (layers x1))) (λ some. some) (overflows_chain d.layer laws.aligned a0 (layers x0) c.args.offset c.args.length) c.in-Err.fault
+    (c.in-Err.ensures.cause intact.is_safe intact.is_seen a0 call (laws.begins a0 call) (record { start = omega arith; end = omega arith }) refl))
+
+pub returns-in-Err-settle-clause-ran : goal.returns-in-Err-settle-clause-ran
+returns-in-Err-settle-clause-ran g c = let d = g.D.FormatDriverInstance in
+    let laws = g.met.D.FormatDriverInstance in
+    let r = c.prepare_data_mapping in
+    let a0 = c.self.inside.driver in
+    let a1 = r.new.self in
+    let x0 = c.self.inside.below in
+    let x1 = r.new.below in
+    let under = map d.layer (layers x0) in
+    let free : IsFree (d.layer a0) = subst (λ (v : _). IsFree (d.layer v.0)) (sym c.self.view_is) c.requires.free in
+    let m = c.in-Ok.prepared in
+    let a2 = c.settle.new.driver in
+    let claim = claim_of d.claim m.state in
+    let stateless = λ (none : m.state ≡ None). laws.free_loose a1 (c.in-Ok.ensures.stateless none) in
+    let s = c.in-Err-settle.ensures in
+    rw (← c.self.view_is) (ran_seen layers d.layer d.image d.extras d.safe (map d.layer) (files_of d.image d.extras) (Each d.sees) (Each d.still) d.sound (false ≡ true) (IsMild c.in-Err-settle.fault) (GivesAnnounced c.args.overwrite c.args.offset c.args.length) a0 a2 x0 x1
+    (ran_ensured d.layer d.image d.extras d.safe (λ b. map d.layer (layers b)) (λ b. files_of d.image d.extras (layers b)) (λ b. Each d.sees (layers b)) (λ b. Each d.still (layers b)) d.sound (false ≡ true) (IsMild c.in-Err-settle.fault) a0 a1 a2 x0 x1 c.args.offset c.args.length c.args.overwrite m.storage m.offset m.length claim c.in-Ok.ensures.run.0 (λ i. c.in-Ok.ensures.ok i.keeps i.is_safe i.is_seen)
+    (ran_weaker d.layer d.image d.extras d.safe (λ b. map d.layer (layers b)) (λ b. files_of d.image d.extras (layers b)) (λ b. Each d.sees (layers b)) (λ b. Each d.still (layers b)) d.sound (true ≡ true) ⊤ ⊤ ⊤ GivesNone a0 a1 x0 x1 (λ h. refl) (λ h. h) (ran_prepared d.layer d.image d.extras d.safe (λ b. map d.layer (layers b)) (λ b. files_of d.image d.extras (layers b)) (λ b. Each d.sees (layers b)) (λ b. Each d.still (layers b)) d.sound (true ≡ true) ⊤ a0 a1 x0 x1 c.args.offset c.args.length c.args.overwrite m.storage m.offset m.length claim c.in-Ok.ensures.size c.in-Ok.ensures.went c.in-Ok.ensures.below (λ w. c.in-Ok.ensures.ok) c.in-Ok.ensures.stops))
+    (ran_unsettled d.layer d.image d.extras d.safe (λ b. map d.layer (layers b)) (λ b. files_of d.image d.extras (layers b)) (λ b. Each d.sees (layers b)) (λ b. Each d.still (layers b)) d.sound d.claim d.tag m.state (false ≡ true) (IsMild c.in-Err-settle.fault) a1 a2 x1 laws.free_loose s.size s.went c.in-Ok.ensures.mine (s.free c.in-Ok.ensures.stateless) (λ mild safe. s.err safe mild) s.stops)))
+
+pub returns-in-Err-settle-clause-cause : goal.returns-in-Err-settle-clause-cause
+returns-in-Err-settle-clause-cause g c = let d = g.D.FormatDriverInstance in
+    let laws = g.met.D.FormatDriverInstance in
+    let r = c.prepare_data_mapping in
+    let a0 = c.self.inside.driver in
+    let a1 = r.new.self in
+    let x0 = c.self.inside.below in
+    let x1 = r.new.below in
+    let under = map d.layer (layers x0) in
+    let free : IsFree (d.layer a0) = subst (λ (v : _). IsFree (d.layer v.0)) (sym c.self.view_is) c.requires.free in
+    let m = c.in-Ok.prepared in
+    let a2 = c.settle.new.driver in
+    let claim = claim_of d.claim m.state in
+    let stateless = λ (none : m.state ≡ None). laws.free_loose a1 (c.in-Ok.ensures.stateless none) in
+    let s = c.in-Err-settle.ensures in
+    let call = ensure c.args.offset c.args.length c.args.overwrite in
+    rw (← c.self.view_is) (λ intact.
+    let safe : d.safe a1 = c.in-Ok.ensures.went.safely (tt, intact.is_seen) intact.is_safe in
+    change_cause under (d.layer a0) (unit_of_chain (map d.layer (a0 ∷ layers x0))) call (d.own_cause a0 under call) (d.image a0 ∷ (d.extras a0 ++ files_of d.image d.extras (layers x0))) (d.image a2 ∷ (d.extras a2 ++ files_of d.image d.extras (layers x1))) (λ some. some) (overflows_chain d.layer laws.aligned a0 (layers x0) c.args.offset c.args.length) c.in-Err-settle.fault
+    (part_cause_alone under (d.layer a0) (d.layer a1) c.args.offset c.args.length c.args.offset c.args.length (d.image a0 ∷ d.extras a0) (d.image a1 ∷ d.extras a1) (d.image a2 ∷ d.extras a2) (files_of d.image d.extras (layers x0)) (files_of d.image d.extras (layers x1))
+    c.in-Ok.ensures.went.fixed c.in-Ok.ensures.size (laws.safe_runs a0 intact.is_safe) (laws.safe_runs a1 safe) (layer_aligned d.layer laws.aligned a0).positive (omega arith) (omega arith) c.in-Ok.ensures.went.later c.in-Ok.ensures.below.later
+    (d.own_cause a0 under call) (λ _. ⊥) c.in-Err-settle.fault (λ none. absurd none) (s.cause safe under c.args.offset c.args.length (elim (cases_lt 0 c.args.length) [
+      | inl some ↦ some
+      | inr none ↦
+          let zero : c.args.length ≡ 0 = omega (arith, none) in
+          let empty = c.in-Ok.ensures.empty zero in
+          let unit = unit_of_chain (map d.layer (chain c.args.self.now)) in
+          let open_top : barrier (d.layer a0) ≡ None = subst (λ (v : _). barrier (d.layer v.0) ≡ None) (sym c.self.view_is) (unbarred unit (d.layer c.args.self.now.0) c.args.offset c.args.length c.in_ok-check_change.ensures.ok) in
+          absurd (cc (s.idle (ap (λ (m' : PreparedDataMapping g.row.D-State.Denot). m'.state) empty.0) (ap barrier empty.1 ∙ open_top)))
+    ]))))
+
+pub returns-clause-ok : goal.returns-clause-ok
+returns-clause-ok g c = let d = g.D.FormatDriverInstance in
+    let laws = g.met.D.FormatDriverInstance in
+    let r = c.prepare_data_mapping in
+    let a0 = c.self.inside.driver in
+    let a1 = r.new.self in
+    let x0 = c.self.inside.below in
+    let x1 = r.new.below in
+    let under = map d.layer (layers x0) in
+    let free : IsFree (d.layer a0) = subst (λ (v : _). IsFree (d.layer v.0)) (sym c.self.view_is) c.requires.free in
+    let m = c.in-Ok.prepared in
+    let a2 = c.settle.new.driver in
+    let claim = claim_of d.claim m.state in
+    let stateless = λ (none : m.state ≡ None). laws.free_loose a1 (c.in-Ok.ensures.stateless none) in
+    let s = c.in_default.ensures in
+    rw (← c.self.view_is) (λ intact.
+    let made = c.in-Ok.ensures.ok intact.keeps intact.is_safe intact.is_seen in
+    let same = (c.in-Ok.ensures.below.stays tt intact.is_seen).0 in
+    let safe : d.safe a1 = c.in-Ok.ensures.went.safely (tt, intact.is_seen) intact.is_safe in
+    let keeps : IsTrue (d.layer a1).fixed.keeps = subst (λ (f : Fixed). IsTrue f.keeps) (sym c.in-Ok.ensures.went.fixed) intact.keeps in
+    let settles = spends_more d.claim d.tag m.state (d.layer a1) (d.layer a2) (IsTrue (d.layer a1).fixed.keeps → d.safe a1 → Committed (d.layer a1) (d.layer a2)) (Committed (d.layer a1) (d.layer a2)) (λ h. h keeps safe) s.ok in
+    let commits = settled_commits d.claim d.tag m.state under (map d.layer (layers x1)) (d.layer a1) (d.layer a2) same s.size (truly_prepared (at under) (d.layer a0) (d.layer a1) c.args.offset c.args.length c.args.overwrite m.storage m.offset m.length claim made) c.in-Ok.ensures.mine stateless (laws.free_loose a2 (s.free c.in-Ok.ensures.stateless)) settles in
+    let first = prepared_step under under (d.layer a0) (d.layer a1) c.args.offset c.args.length c.args.overwrite m.storage m.offset m.length claim (is_some m.state) refl (laws.free_loose a0 free) made c.in-Ok.ensures.run.0 c.in-Ok.ensures.run.1 c.in-Ok.ensures.run.2
+    (λ none. stateless (stateless_is m.state none)) (stateful_claims d.claim m.state) (λ zero. ap (λ (m' : PreparedDataMapping g.row.D-State.Denot). is_some m'.state) (c.in-Ok.ensures.empty zero).0) in
+    rw c.length-length.ensures (elim first [
+      | inl idle ↦ inl (idle.0, (stays_committed (disk_of under (d.layer a0)) (disk_of under (d.layer a1)) (disk_of (map d.layer (layers x1)) (d.layer a2)) (λ p low. ap hold_of (stateless (stateless_is m.state idle.1.2) p)) idle.1.0 commits, idle.1.1))
+      | inr busy ↦ inr (busy.0, (disk_of under (d.layer a1), is_some m.state, busy.1, commits))
+    ]))
+
+pub returns-clause-home : goal.returns-clause-home
+returns-clause-home g c = let d = g.D.FormatDriverInstance in
+    let laws = g.met.D.FormatDriverInstance in
+    let r = c.prepare_data_mapping in
+    let a0 = c.self.inside.driver in
+    let a1 = r.new.self in
+    let x0 = c.self.inside.below in
+    let x1 = r.new.below in
+    let under = map d.layer (layers x0) in
+    let free : IsFree (d.layer a0) = subst (λ (v : _). IsFree (d.layer v.0)) (sym c.self.view_is) c.requires.free in
+    let m = c.in-Ok.prepared in
+    let a2 = c.settle.new.driver in
+    let claim = claim_of d.claim m.state in
+    let stateless = λ (none : m.state ≡ None). laws.free_loose a1 (c.in-Ok.ensures.stateless none) in
+    let s = c.in_default.ensures in
+    rw (← c.self.view_is) (λ intact.
+    let made = c.in-Ok.ensures.ok intact.keeps intact.is_safe intact.is_seen in
+    let safe : d.safe a1 = c.in-Ok.ensures.went.safely (tt, intact.is_seen) intact.is_safe in
+    let keeps : IsTrue (d.layer a1).fixed.keeps = subst (λ (f : Fixed). IsTrue f.keeps) (sym c.in-Ok.ensures.went.fixed) intact.keeps in
+    let settles = spends_more d.claim d.tag m.state (d.layer a1) (d.layer a2) (IsTrue (d.layer a1).fixed.keeps → d.safe a1 → Committed (d.layer a1) (d.layer a2)) (Committed (d.layer a1) (d.layer a2)) (λ h. h keeps safe) s.ok in
+    rw (c.storage.ensures, c.offset.ensures, c.length-length.ensures) (refl, refl, λ i lt. settled_home d.claim d.tag m.state (d.layer a1) (d.layer a2) c.in-Ok.ensures.mine settles (c.args.offset + i) (m.storage, m.offset + i) (made.home i lt)))
+
+pub returns-clause-ran : goal.returns-clause-ran
+returns-clause-ran g c = let d = g.D.FormatDriverInstance in
+    let laws = g.met.D.FormatDriverInstance in
+    let r = c.prepare_data_mapping in
+    let a0 = c.self.inside.driver in
+    let a1 = r.new.self in
+    let x0 = c.self.inside.below in
+    let x1 = r.new.below in
+    let under = map d.layer (layers x0) in
+    let free : IsFree (d.layer a0) = subst (λ (v : _). IsFree (d.layer v.0)) (sym c.self.view_is) c.requires.free in
+    let m = c.in-Ok.prepared in
+    let a2 = c.settle.new.driver in
+    let claim = claim_of d.claim m.state in
+    let stateless = λ (none : m.state ≡ None). laws.free_loose a1 (c.in-Ok.ensures.stateless none) in
+    let s = c.in_default.ensures in
+    rw (← c.self.view_is) (ran_seen layers d.layer d.image d.extras d.safe (map d.layer) (files_of d.image d.extras) (Each d.sees) (Each d.still) d.sound (true ≡ true) ⊤ (GivesAnnounced c.args.overwrite c.args.offset c.args.length) a0 a2 x0 x1
+    (ran_ensured d.layer d.image d.extras d.safe (λ b. map d.layer (layers b)) (λ b. files_of d.image d.extras (layers b)) (λ b. Each d.sees (layers b)) (λ b. Each d.still (layers b)) d.sound (true ≡ true) ⊤ a0 a1 a2 x0 x1 c.args.offset c.args.length c.args.overwrite m.storage m.offset m.length claim c.in-Ok.ensures.run.0 (λ i. c.in-Ok.ensures.ok i.keeps i.is_safe i.is_seen)
+    (ran_weaker d.layer d.image d.extras d.safe (λ b. map d.layer (layers b)) (λ b. files_of d.image d.extras (layers b)) (λ b. Each d.sees (layers b)) (λ b. Each d.still (layers b)) d.sound (true ≡ true) ⊤ ⊤ ⊤ GivesNone a0 a1 x0 x1 (λ h. refl) (λ h. h) (ran_prepared d.layer d.image d.extras d.safe (λ b. map d.layer (layers b)) (λ b. files_of d.image d.extras (layers b)) (λ b. Each d.sees (layers b)) (λ b. Each d.still (layers b)) d.sound (true ≡ true) ⊤ a0 a1 x0 x1 c.args.offset c.args.length c.args.overwrite m.storage m.offset m.length claim c.in-Ok.ensures.size c.in-Ok.ensures.went c.in-Ok.ensures.below (λ w. c.in-Ok.ensures.ok) c.in-Ok.ensures.stops))
+    (ran_settled d.layer d.image d.extras d.safe (λ b. map d.layer (layers b)) (λ b. files_of d.image d.extras (layers b)) (λ b. Each d.sees (layers b)) (λ b. Each d.still (layers b)) d.sound d.claim d.tag m.state (true ≡ true) ⊤ a1 a2 x1 laws.free_loose s.size s.went c.in-Ok.ensures.mine c.in-Ok.ensures.stateless (s.free c.in-Ok.ensures.stateless) (λ w keeps safe. spends_more d.claim d.tag m.state (d.layer a1) (d.layer a2) (IsTrue (d.layer a1).fixed.keeps → d.safe a1 → Committed (d.layer a1) (d.layer a2)) (Committed (d.layer a1) (d.layer a2)) (λ h. h keeps safe) s.ok) s.stops)))

@@ -1,0 +1,20 @@
+use Rattle.std.proofs.Common.{◌-◌, ◌≤◌, List}
+use Rattle.std.specs.Prelude.{⊤}
+use Rattle.imago_storage.specs.Steps.{Call}
+use Rattle.imago_access.specs.Layer.{Layer, IsLike}
+use Rattle.imago_access.specs.Discards.{GivesDiscarded}
+use Rattle.imago_access.specs.Parts.{IsPartOf}
+use Rattle.imago_access.proofs.Discarding.{RanAlone}
+use Rattle.imago_access.proofs.access.discarding.discard_all.Given as goal
+
+abbrev pub invariant-loop-at : goal.invariant-loop-at
+invariant-loop-at g l = let d = g.D.FormatDriverInstance in record {
+  from : l.offset ≤ l.at;
+  like : IsLike (d.layer l.fn.driver) (d.layer l.driver);
+  ran : (below : List Layer) → RanAlone d.layer d.image d.extras d.safe d.sound ⊤ ⊤ (GivesDiscarded l.discarding below l.offset l.n) below l.fn.driver l.driver;
+  began : (x : _) (call : Call) → d.began x call l.fn.driver → IsPartOf call l.offset l.n → d.began x call l.driver;
+}
+
+-- proposed from the loop's first test
+abbrev pub decreases-loop-at : goal.decreases-loop-at
+decreases-loop-at g l = l.end - l.at

@@ -1,0 +1,31 @@
+use Rattle.std.proofs.Common.{sym, subst}
+use Rattle.imago_access.specs.Changes.{ToAny, ToBelow}
+use Rattle.imago_access.specs.Stops.{KeepsStops, GivesAny, GivesBelow}
+use Rattle.imago_access.specs.Running.{IsBetween}
+use Rattle.imago_access.specs.Discards.{GivesDiscarded}
+use Rattle.imago_access.specs.declared.access.discarding.Discarding.{Discarding}
+use Rattle.imago_access.proofs.Rewriting.{result_between, any_shows, below_shows}
+use Rattle.imago_access.proofs.access.discarding.discard_part.Goals as goal
+
+pub returns-in-ToAny-clause-values : goal.returns-in-ToAny-clause-values
+returns-in-ToAny-clause-values g c = λ keeps safe below backed whole. let d = g.D.FormatDriverInstance in
+    let done = c.discard_to_any.ensures in
+    subst (λ (k : Discarding). IsBetween (GivesDiscarded k below c.args.offset c.args.length) below (d.layer c.args.driver.now) (d.layer c.discard_to_any.new.self)) (sym c.in-ToAny.is)
+    (result_between ToAny (GivesAny c.args.offset c.args.length) below (d.layer c.args.driver.now) (d.layer c.discard_to_any.new.self) c.args.offset c.args.length (any_shows below c.args.offset c.args.length) c.discard_to_any.result done.part (done.ok keeps safe) (done.err keeps safe) whole)
+
+pub returns-in-ToAny-clause-stops : goal.returns-in-ToAny-clause-stops
+returns-in-ToAny-clause-stops g c = λ keeps safe below backed. let d = g.D.FormatDriverInstance in
+    subst (λ (k : Discarding). KeepsStops below (d.layer c.args.driver.now) d.sound (GivesDiscarded k below c.args.offset c.args.length) (d.image c.args.driver.now) (d.image c.discard_to_any.new.self)) (sym c.in-ToAny.is)
+    (c.discard_to_any.ensures.stops keeps safe below)
+
+pub returns-in-ToBacking-clause-values : goal.returns-in-ToBacking-clause-values
+returns-in-ToBacking-clause-values g c = λ keeps safe below backed whole. let d = g.D.FormatDriverInstance in
+    let done = c.discard_to_backing.ensures in
+    subst (λ (k : Discarding). IsBetween (GivesDiscarded k below c.args.offset c.args.length) below (d.layer c.args.driver.now) (d.layer c.discard_to_backing.new.self)) (sym c.in-ToBacking.is)
+    (result_between (ToBelow (d.layer c.args.driver.now).fixed.blank) (GivesBelow below c.args.offset c.args.length) below (d.layer c.args.driver.now) (d.layer c.discard_to_backing.new.self) c.args.offset c.args.length
+    (below_shows below (d.layer c.args.driver.now) c.args.offset c.args.length (g.met.D.FormatDriverInstance.blanks c.args.driver.now) backed) c.discard_to_backing.result done.part (done.ok keeps safe) (done.err keeps safe) whole)
+
+pub returns-in-ToBacking-clause-stops : goal.returns-in-ToBacking-clause-stops
+returns-in-ToBacking-clause-stops g c = λ keeps safe below backed. let d = g.D.FormatDriverInstance in
+    subst (λ (k : Discarding). KeepsStops below (d.layer c.args.driver.now) d.sound (GivesDiscarded k below c.args.offset c.args.length) (d.image c.args.driver.now) (d.image c.discard_to_backing.new.self)) (sym c.in-ToBacking.is)
+    (c.discard_to_backing.ensures.stops keeps safe below backed)

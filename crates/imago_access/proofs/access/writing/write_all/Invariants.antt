@@ -1,0 +1,22 @@
+use Rattle.std.proofs.Common.{length, ◌-◌, ◌≡◌, ◌<◌, ◌≤◌, ◌+◌, ◌∷◌, ℕ, slice_index}
+use Rattle.std.specs.Prelude.{⊤}
+use Rattle.imago_storage.specs.Disk.{byte}
+use Rattle.imago_storage.specs.Steps.{Call}
+use Rattle.imago_access.specs.Layer.{IsFree}
+use Rattle.imago_access.specs.Chain.{at}
+use Rattle.imago_access.specs.Parts.{IsPartOf}
+use Rattle.imago_access.specs.Running.{IsIntact, Ran}
+use Rattle.imago_access.specs.Stops.{GivesBytes}
+use Rattle.imago_access.proofs.access.writing.write_all.Given as goal
+
+abbrev pub invariant-loop-done : goal.invariant-loop-done
+invariant-loop-done g l = record {
+  inside : l.done ≤ length l.bytes;
+  free : IsFree (g.D.FormatDriverInstance.layer l.driver);
+  shown : IsIntact (g.B.ReadBelow.under l.fn.below) (g.D.FormatDriverInstance.layer l.fn.driver) (g.D.FormatDriverInstance.safe l.fn.driver) (g.B.ReadBelow.sees_under l.fn.below) → (i : ℕ) → i < l.done → at (g.D.FormatDriverInstance.layer l.driver ∷ g.B.ReadBelow.under l.fn.below) (l.offset + i) ≡ byte (slice_index l.bytes i);
+  ran : Ran g.D.FormatDriverInstance.layer g.D.FormatDriverInstance.image g.D.FormatDriverInstance.extras g.D.FormatDriverInstance.safe g.B.ReadBelow.under g.B.ReadBelow.files_under g.B.ReadBelow.sees_under g.B.ReadBelow.still_under g.D.FormatDriverInstance.sound ⊤ ⊤ (GivesBytes l.offset l.bytes) l.fn.driver l.driver l.fn.below l.below;
+  began : (d : g.row.D.Denot) (call : Call) → g.D.FormatDriverInstance.began d call l.fn.driver → IsPartOf call l.offset (length l.bytes) → g.D.FormatDriverInstance.began d call l.driver;
+}
+
+abbrev pub decreases-loop-done : goal.decreases-loop-done
+decreases-loop-done g l = length l.bytes - l.done

@@ -1,0 +1,59 @@
+use Rattle.std.proofs.Common.{refl, inl, inr, ◌≡◌, ◌-◌, ◌+◌, ◌∷◌, ◌++◌, List, arith, false, true, subst}
+use Rattle.std.specs.Prelude.{⊤}
+use Rattle.std.proofs.lemmas.Bool.{cases_lt}
+use Rattle.imago_storage.specs.Disk.{byte}
+use Rattle.imago_access.specs.Chain.{at}
+use Rattle.imago_access.specs.Files.{IsMild}
+use Rattle.imago_access.specs.Layer.{Layer}
+use Rattle.imago_access.specs.Running.{IsBetween}
+use Rattle.imago_access.specs.Stops.{GivesZero}
+use Rattle.imago_access.proofs.Running.{ran_same, ran_both, ran_weaker}
+use Rattle.imago_access.proofs.Zeroing.{zero_wider, zero_stays, cause_behind}
+use Rattle.imago_access.proofs.access.zeroing.zero_all.Goals as goal
+
+pub loop-at-init : goal.loop-at-init
+loop-at-init g c = let d = g.D.FormatDriverInstance in let b = g.B.ReadBelow in record {
+  from = omega arith;
+  inside = omega arith;
+  free = c.requires.free;
+  shown = λ i p from to. absurd (omega (arith, from, to));
+  ran = ran_same d.layer d.image d.extras d.safe b.under b.files_under b.sees_under b.still_under d.sound ⊤ ⊤ (GivesZero c.args.offset c.args.n) c.args.driver.now c.args.below.now;
+  began = λ e call begun part. begun;
+}
+
+pub loop-at-preserved : goal.loop-at-preserved
+loop-at-preserved g c = let d = g.D.FormatDriverInstance in let b = g.B.ReadBelow in let l = c.loop-at.invariant in
+    let y0 = c.args.driver.now in let y1 = c.loop-at.driver in let y2 = c.zero_run.new.driver in let x0 = c.args.below.now in let x1 = c.loop-at.below in let x2 = c.zero_run.new.below in
+    let at_now = c.loop-at.at in let rest = c.args.offset + c.args.n - at_now in
+    let gives = zero_wider c.args.offset c.args.n at_now rest l.from (omega (arith, l.inside)) in
+    let done = c.in-Ok.ensures in
+    record {
+      from = omega (arith, l.from, done.run.0);
+      inside = omega (arith, l.inside, done.run.1);
+      free = done.free;
+      shown = λ i p from to.
+          let mid = l.ran.intact tt i in
+          let same : b.under x1 ≡ b.under x0 = (l.ran.looked.stays tt i.is_seen).0 in
+          elim (cases_lt p at_now) [
+            | inl low ↦ zero_stays (b.under x0) (d.layer y1) (d.layer y2) at_now rest done.ran.size (subst (λ (below : List Layer). IsBetween (GivesZero at_now rest) below (d.layer y1) (d.layer y2)) same (done.ran.values tt mid)) p (l.shown i p from low)
+            | inr high ↦ subst (λ (below : List Layer). at (d.layer y2 ∷ below) p ≡ byte 0) same (done.shown mid p high to)
+          ];
+      ran = ran_both d.layer d.image d.extras d.safe b.under b.files_under b.sees_under b.still_under d.sound ⊤ ⊤ (GivesZero c.args.offset c.args.n) (GivesZero at_now rest) (GivesZero c.args.offset c.args.n) y0 y1 y2 x0 x1 x2 (λ p v gave. gave) gives l.ran (ran_weaker d.layer d.image d.extras d.safe b.under b.files_under b.sees_under b.still_under d.sound (true ≡ true) ⊤ ⊤ ⊤ (GivesZero at_now rest) y1 y2 x1 x2 (λ h. refl) (λ h. h) done.ran);
+      began = λ e call begun part. done.began e call (l.began e call begun part) (record { start = omega (arith, part.start, l.from); end = omega (arith, part.end, l.inside) });
+    }
+
+pub returns-in-Err-clause-ran : goal.returns-in-Err-clause-ran
+returns-in-Err-clause-ran g c = let d = g.D.FormatDriverInstance in let b = g.B.ReadBelow in let l = c.loop-at.invariant in
+    let y0 = c.args.driver.now in let y1 = c.loop-at.driver in let y2 = c.zero_run.new.driver in let x0 = c.args.below.now in let x1 = c.loop-at.below in let x2 = c.zero_run.new.below in
+    let at_now = c.loop-at.at in let rest = c.args.offset + c.args.n - at_now in
+    let gives = zero_wider c.args.offset c.args.n at_now rest l.from (omega (arith, l.inside)) in
+    ran_both d.layer d.image d.extras d.safe b.under b.files_under b.sees_under b.still_under d.sound (false ≡ true) (IsMild c.in-Err.fault) (GivesZero c.args.offset c.args.n) (GivesZero at_now rest) (GivesZero c.args.offset c.args.n) y0 y1 y2 x0 x1 x2 (λ p v gave. gave) gives l.ran c.in-Err.ensures.ran
+
+pub returns-in-Err-clause-cause : goal.returns-in-Err-clause-cause
+returns-in-Err-clause-cause g c = λ i e call begun part says. let d = g.D.FormatDriverInstance in let b = g.B.ReadBelow in let l = c.loop-at.invariant in
+    let y0 = c.args.driver.now in let y1 = c.loop-at.driver in let y2 = c.zero_run.new.driver in let x0 = c.args.below.now in let x1 = c.loop-at.below in let x2 = c.zero_run.new.below in
+    let at_now = c.loop-at.at in let rest = c.args.offset + c.args.n - at_now in
+    let gives = zero_wider c.args.offset c.args.n at_now rest l.from (omega (arith, l.inside)) in
+    cause_behind d.layer d.image d.extras d.safe b.under b.files_under b.sees_under b.still_under d.sound g.met.D.FormatDriverInstance.safe_runs g.met.D.FormatDriverInstance.aligned (GivesZero c.args.offset c.args.n) c.args.offset c.args.n at_now rest y0 y1 x0 x1 (d.image y2 ∷ d.extras y2 ++ b.files_under x2)
+    (λ (below : List Layer). d.own_cause e below call) c.in-Err.fault l.from (omega (arith, l.inside)) l.ran i
+    (c.in-Err.ensures.cause (l.ran.intact tt i) e call (l.began e call begun part) (record { start = omega (arith, part.start, l.from); end = omega (arith, part.end, l.inside) }) says)

@@ -1,0 +1,65 @@
+use Rattle.std.proofs.Common.{refl, ◌≡◌, ◌-◌, ◌+◌, ◌∷◌, ◌++◌, List, arith, false, true, inl, inr, ◌≤◌}
+use Rattle.std.specs.Prelude.{⊤}
+use Rattle.std.proofs.lemmas.Bool.{cases_lt}
+use Rattle.imago_access.specs.Files.{IsMild}
+use Rattle.imago_access.specs.Layer.{Layer}
+use Rattle.imago_access.specs.Stops.{GivesZero}
+use Rattle.imago_access.proofs.ChangeCauses.{part_cause_left}
+use Rattle.imago_access.proofs.Running.{went_weaker, ran_both}
+use Rattle.imago_access.proofs.Zeroing.{zero_wider, zero_stays, ran_zeroed, cause_behind}
+use Rattle.imago_access.proofs.access.zeroing.zero_run.Goals as goal
+
+pub returns-in-Err-clause-ran : goal.returns-in-Err-clause-ran
+returns-in-Err-clause-ran g c = let d = g.D.FormatDriverInstance in let b = g.B.ReadBelow in
+    ran_zeroed d.layer d.image d.extras d.safe b.under b.files_under b.sees_under b.still_under d.sound g.met.D.FormatDriverInstance.free_loose (false ≡ true) (IsMild c.in-Err.fault) c.args.offset c.args.n c.args.driver.now c.zero_by_driver.new.driver c.args.below.now c.requires.free c.in-Err.ensures.like c.in-Err.ensures.went c.in-Err.ensures.values c.in-Err.ensures.stops
+
+pub returns-in-Err-clause-cause : goal.returns-in-Err-clause-cause
+returns-in-Err-clause-cause g c = λ i e call begun part says. let d = g.D.FormatDriverInstance in let b = g.B.ReadBelow in
+    let y0 = c.args.driver.now in let y1 = c.zero_by_driver.new.driver in let x0 = c.args.below.now in
+    part_cause_left (b.under x0) (d.layer y0) c.args.offset c.args.n (d.own_cause e (b.under x0) call) (d.image y0 ∷ d.extras y0) (d.image y1 ∷ d.extras y1) (b.files_under x0) (b.files_under x0) c.in-Err.fault (c.in-Err.ensures.cause i.is_safe (b.under x0) e call begun part)
+
+pub returns-in-Ok-write_zero_bytes-clause-shown : goal.returns-in-Ok-write_zero_bytes-clause-shown
+returns-in-Ok-write_zero_bytes-clause-shown g c = λ i p from to. let d = g.D.FormatDriverInstance in let b = g.B.ReadBelow in
+    let y0 = c.args.driver.now in let y1 = c.zero_by_driver.new.driver in let y2 = c.write_zero_bytes.new.driver in let x0 = c.args.below.now in let x2 = c.write_zero_bytes.new.below in
+    let start = c.in-Ok.part.0 in let done = c.in-Ok.ensures in
+    let inside : start ≤ c.args.offset + c.args.n = omega (arith, done.part.1, done.part.3) in
+    let gap = start - c.args.offset in
+    let gives = zero_wider c.args.offset c.args.n c.args.offset gap (omega arith) (omega (arith, inside, done.part.0)) in
+    let one = ran_zeroed d.layer d.image d.extras d.safe b.under b.files_under b.sees_under b.still_under d.sound g.met.D.FormatDriverInstance.free_loose ⊤ ⊤ c.args.offset c.args.n y0 y1 x0 c.requires.free done.like (went_weaker d.layer d.image d.extras d.safe (true ≡ true) ⊤ ⊤ ⊤ y0 y1 (λ h. refl) (λ h. h) done.went) done.values done.stops in
+    let written = c.in-Ok-write_zero_bytes.ensures in
+    elim (cases_lt p start) [
+      | inl low ↦ written.shown (one.intact tt i) p (from, omega (arith, low, from))
+      | inr high ↦ zero_stays (b.under x0) (d.layer y1) (d.layer y2) c.args.offset gap written.ran.size (written.ran.values tt (one.intact tt i)) p (done.zeroed i.keeps i.is_safe (b.under x0) p high to)
+    ]
+
+pub returns-in-Ok-write_zero_bytes-clause-ran : goal.returns-in-Ok-write_zero_bytes-clause-ran
+returns-in-Ok-write_zero_bytes-clause-ran g c = let d = g.D.FormatDriverInstance in let b = g.B.ReadBelow in
+    let y0 = c.args.driver.now in let y1 = c.zero_by_driver.new.driver in let y2 = c.write_zero_bytes.new.driver in let x0 = c.args.below.now in let x2 = c.write_zero_bytes.new.below in
+    let start = c.in-Ok.part.0 in let done = c.in-Ok.ensures in
+    let inside : start ≤ c.args.offset + c.args.n = omega (arith, done.part.1, done.part.3) in
+    let gap = start - c.args.offset in
+    let gives = zero_wider c.args.offset c.args.n c.args.offset gap (omega arith) (omega (arith, inside, done.part.0)) in
+    let one = ran_zeroed d.layer d.image d.extras d.safe b.under b.files_under b.sees_under b.still_under d.sound g.met.D.FormatDriverInstance.free_loose ⊤ ⊤ c.args.offset c.args.n y0 y1 x0 c.requires.free done.like (went_weaker d.layer d.image d.extras d.safe (true ≡ true) ⊤ ⊤ ⊤ y0 y1 (λ h. refl) (λ h. h) done.went) done.values done.stops in
+    ran_both d.layer d.image d.extras d.safe b.under b.files_under b.sees_under b.still_under d.sound (true ≡ true) ⊤ (GivesZero c.args.offset c.args.n) (GivesZero c.args.offset gap) (GivesZero c.args.offset c.args.n) y0 y1 y2 x0 x0 x2 (λ p v gave. gave) gives one c.in-Ok-write_zero_bytes.ensures.ran
+
+pub returns-in-Err-write_zero_bytes-clause-ran : goal.returns-in-Err-write_zero_bytes-clause-ran
+returns-in-Err-write_zero_bytes-clause-ran g c = let d = g.D.FormatDriverInstance in let b = g.B.ReadBelow in
+    let y0 = c.args.driver.now in let y1 = c.zero_by_driver.new.driver in let y2 = c.write_zero_bytes.new.driver in let x0 = c.args.below.now in let x2 = c.write_zero_bytes.new.below in
+    let start = c.in-Ok.part.0 in let done = c.in-Ok.ensures in
+    let inside : start ≤ c.args.offset + c.args.n = omega (arith, done.part.1, done.part.3) in
+    let gap = start - c.args.offset in
+    let gives = zero_wider c.args.offset c.args.n c.args.offset gap (omega arith) (omega (arith, inside, done.part.0)) in
+    let one = ran_zeroed d.layer d.image d.extras d.safe b.under b.files_under b.sees_under b.still_under d.sound g.met.D.FormatDriverInstance.free_loose ⊤ ⊤ c.args.offset c.args.n y0 y1 x0 c.requires.free done.like (went_weaker d.layer d.image d.extras d.safe (true ≡ true) ⊤ ⊤ ⊤ y0 y1 (λ h. refl) (λ h. h) done.went) done.values done.stops in
+    ran_both d.layer d.image d.extras d.safe b.under b.files_under b.sees_under b.still_under d.sound (false ≡ true) (IsMild c.in-Err-write_zero_bytes.fault) (GivesZero c.args.offset c.args.n) (GivesZero c.args.offset gap) (GivesZero c.args.offset c.args.n) y0 y1 y2 x0 x0 x2 (λ p v gave. gave) gives one c.in-Err-write_zero_bytes.ensures.ran
+
+pub returns-in-Err-write_zero_bytes-clause-cause : goal.returns-in-Err-write_zero_bytes-clause-cause
+returns-in-Err-write_zero_bytes-clause-cause g c = λ i e call begun part says. let d = g.D.FormatDriverInstance in let b = g.B.ReadBelow in
+    let y0 = c.args.driver.now in let y1 = c.zero_by_driver.new.driver in let y2 = c.write_zero_bytes.new.driver in let x0 = c.args.below.now in let x2 = c.write_zero_bytes.new.below in
+    let start = c.in-Ok.part.0 in let done = c.in-Ok.ensures in
+    let inside : start ≤ c.args.offset + c.args.n = omega (arith, done.part.1, done.part.3) in
+    let gap = start - c.args.offset in
+    let gives = zero_wider c.args.offset c.args.n c.args.offset gap (omega arith) (omega (arith, inside, done.part.0)) in
+    let one = ran_zeroed d.layer d.image d.extras d.safe b.under b.files_under b.sees_under b.still_under d.sound g.met.D.FormatDriverInstance.free_loose ⊤ ⊤ c.args.offset c.args.n y0 y1 x0 c.requires.free done.like (went_weaker d.layer d.image d.extras d.safe (true ≡ true) ⊤ ⊤ ⊤ y0 y1 (λ h. refl) (λ h. h) done.went) done.values done.stops in
+    cause_behind d.layer d.image d.extras d.safe b.under b.files_under b.sees_under b.still_under d.sound g.met.D.FormatDriverInstance.safe_runs g.met.D.FormatDriverInstance.aligned (GivesZero c.args.offset c.args.n) c.args.offset c.args.n c.args.offset gap y0 y1 x0 x0 (d.image y2 ∷ d.extras y2 ++ b.files_under x2)
+    (λ (below : List Layer). d.own_cause e below call) c.in-Err-write_zero_bytes.fault (omega arith) (omega (arith, inside, done.part.0)) one i
+    (c.in-Err-write_zero_bytes.ensures.cause (one.intact tt i) e call (done.began e call begun part) (record { start = omega (arith, part.start); end = omega (arith, part.end, inside, done.part.0) }) says)

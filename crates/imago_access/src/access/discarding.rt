@@ -1,0 +1,142 @@
+// Discards that may leave parts of their range as they are.
+ghost use Rattle.std.specs.Prelude.{◌≡◌, ◌↔◌, ◌⊎◌, ◌<◌, ◌≤◌, ◌+◌, ◌^◌, ◌∷◌, List, IsTrue, length, map, IsOk, IfOk, IfErr, OnOk, IsErrOf, Some};
+ghost use Rattle.imago_storage.specs.Steps.{Call, Step, discard_to_any, discard_to_backing, done};
+ghost use Rattle.imago_storage.specs.Causes.{PartlyDone};
+ghost use Rattle.imago_access.specs.Layer.{Layer, IsFree, IsLike};
+ghost use Rattle.imago_access.specs.Chain.{IsBacked, unit_of_chain};
+ghost use Rattle.imago_access.specs.Layers.{chain};
+ghost use Rattle.imago_access.specs.Files.{IsWhole, IsDeclined, IsAnswered, IsMild, files_of};
+ghost use Rattle.imago_access.specs.Going.{Went};
+ghost use Rattle.imago_access.specs.Parts.{IsPartOf, PartCause, DeclinableCause};
+ghost use Rattle.imago_access.specs.Refusals.{barrier, change_refusal, ChangeCause};
+ghost use Rattle.imago_access.specs.Stops.{KeepsStops, GivesAny, GivesBelow};
+ghost use Rattle.imago_access.specs.Running.{IsBetween, IsIntactChain, RanChain, chain_disk, below_of};
+ghost use Rattle.imago_access.specs.declared.access.discarding.Discarding.{Discarding};
+ghost use Rattle.imago_access.specs.Discards.{GivesDiscarded};
+
+use crate::access::FormatAccess;
+use crate::drivers::FormatDriverInstance;
+use imago_storage::Fault;
+use std::alloc::Global;
+
+// What the given up places of a range may show.
+#[derive(Clone, Copy, Debug, Drop, PartialEq, Eq)]
+enum Discarding {
+    // Any byte.
+    ToAny,
+    // What they did, or the layer below.
+    ToBacking,
+}
+
+// Whether a driver has refused because its format or its storage can't.
+pub(crate) fn is_declined(fault: Fault) -> bool
+    ensures { IsTrue result ↔ IsDeclined fault }
+{
+    matches!(fault, Fault::Unsupported | Fault::VersionLimit)
+}
+
+// The part of a range that the driver gives up: from where on, and how many bytes.
+fn discard_part<D: FormatDriverInstance>(
+    alloc: Global,
+    driver: &mut D,
+    discarding: Discarding,
+    offset: u64,
+    length: u64,
+) -> Result<(u64, u64), Fault>
+    requires free { IsFree (D.layer driver.old) }
+    ensures part { IfOk result (λ r. (offset ≤ r.0) × ((r.1 ≡ 0) ⊎ (r.0 + r.1 ≤ offset + length))) }
+    ensures values { IsTrue (D.layer driver.old).fixed.keeps → D.safe driver.old → (below : List Layer) → IsBacked below (D.layer driver.old) → IsWhole result → IsBetween (GivesDiscarded discarding below offset length) below (D.layer driver.old) (D.layer driver.new) }
+    ensures like { IsLike (D.layer driver.old) (D.layer driver.new) }
+    ensures went { Went D.layer D.image D.extras D.safe (IsAnswered result) (IsWhole result) driver.old driver.new }
+    ensures began { (d : D) (call : Call) → D.began d call driver.old → IsPartOf call offset length → IsWhole result → D.began d call driver.new }
+    ensures stops { IsTrue (D.layer driver.old).fixed.keeps → D.safe driver.old → (below : List Layer) → IsBacked below (D.layer driver.old) → KeepsStops below (D.layer driver.old) D.sound (GivesDiscarded discarding below offset length) (D.image driver.old) (D.image driver.new) }
+    ensures cause { D.safe driver.old → (below : List Layer) (d : D) (call : Call) → D.began d call driver.old → IsPartOf call offset length → IfErr result (DeclinableCause below (D.layer driver.old) offset length (D.own_cause d below call) (D.image driver.old ∷ D.extras driver.old) (D.image driver.new ∷ D.extras driver.new)) }
+{
+    match discarding {
+        Discarding::ToAny => driver.discard_to_any(alloc, offset, length),
+        Discarding::ToBacking => driver.discard_to_backing(alloc, offset, length),
+    }
+}
+
+// Gives up all of a range that the driver can give up.
+fn discard_all<D: FormatDriverInstance>(
+    alloc: Global,
+    driver: &mut D,
+    discarding: Discarding,
+    offset: u64,
+    n: u64,
+) -> Result<(), Fault>
+    requires free { IsFree (D.layer driver.old) }
+    requires fits { offset + n < 2 ^ 64 }
+    ensures idle { n ≡ 0 → IsOk result }
+    ensures values { IsTrue (D.layer driver.old).fixed.keeps → D.safe driver.old → (below : List Layer) → IsBacked below (D.layer driver.old) → IsWhole result → IsBetween (GivesDiscarded discarding below offset n) below (D.layer driver.old) (D.layer driver.new) }
+    ensures like { IsLike (D.layer driver.old) (D.layer driver.new) }
+    ensures went { Went D.layer D.image D.extras D.safe (IsOk result) (IsWhole result) driver.old driver.new }
+    ensures stops { IsTrue (D.layer driver.old).fixed.keeps → D.safe driver.old → (below : List Layer) → IsBacked below (D.layer driver.old) → KeepsStops below (D.layer driver.old) D.sound (GivesDiscarded discarding below offset n) (D.image driver.old) (D.image driver.new) }
+    ensures cause { IsTrue (D.layer driver.old).fixed.keeps → D.safe driver.old → (below : List Layer) (d : D) (call : Call) → D.began d call driver.old → IsPartOf call offset n → IfErr result (PartCause below (D.layer driver.old) offset n (D.own_cause d below call) (D.image driver.old ∷ D.extras driver.old) (D.image driver.new ∷ D.extras driver.new)) }
+{
+    let end = offset + n;
+    let mut at = offset;
+    while at < end {
+        match discard_part(alloc, driver, discarding, at, end - at) {
+            Ok((start, given_up)) if given_up > 0 || start > at => at = start + given_up,
+            Ok(_) => return Ok(()),
+            Err(fault) if is_declined(fault) => return Ok(()),
+            Err(fault) => return Err(fault),
+        }
+    }
+    Ok(())
+}
+
+impl<D: FormatDriverInstance> FormatAccess<D> {
+    /// Gives up a range: each of its bytes stays, or may be any. Parts that the format can't give up stay. Nothing may be prepared.
+    ///
+    /// It refuses with `Fault::ReadOnly`, with `Fault::RangeOverflow` where the end of the range, rounded up to the chain's alignment,
+    /// passes `u64`, with `Fault::PastEnd`, with causes of the driver's own, with `Fault::Memory` and `Fault::Storage`, and where the
+    /// image can't be used. A refusal for another cause than `Memory` and `Storage` leaves each byte of the range as the call may, and
+    /// every other as it was.
+    pub fn discard_to_any(&mut self, alloc: Global, offset: u64, length: u64) -> Result<(), Fault>
+        requires free { IsFree (D.layer self.old.0) }
+        ensures ok { IsIntactChain D.layer D.safe D.sees self.old → OnOk result (Step (below_of D.layer self.old) (chain_disk D.layer self.old) (discard_to_any offset length) done (chain_disk D.layer self.new)) }
+        ensures err { IsIntactChain D.layer D.safe D.sees self.old → IfErr result (λ e. IsMild e → PartlyDone (below_of D.layer self.old) (discard_to_any offset length) (chain_disk D.layer self.old) (chain_disk D.layer self.new)) }
+        ensures at_once { (f : Fault) → change_refusal (unit_of_chain (map D.layer (chain self.old))) (D.layer self.old.0) offset length ≡ Some f → IsErrOf result f }
+        ensures idle { length ≡ 0 → barrier (D.layer self.old.0) ≡ None → IsOk result }
+        ensures like { IsLike (D.layer self.old.0) (D.layer self.new.0) }
+        ensures ran { RanChain D.layer D.image D.extras D.sees D.safe D.still D.sound (IsOk result) (IsWhole result) (GivesAny offset length) self.old self.new }
+        ensures below { self.new.1 ≡ self.old.1 }
+        ensures cause { IsIntactChain D.layer D.safe D.sees self.old → IfErr result (ChangeCause (unit_of_chain (map D.layer (chain self.old))) (map D.layer (chain self.old)) (chain_disk D.layer self.old) (D.layer self.old.0).fixed.writable (discard_to_any offset length) (D.own_cause self.old.0 (map D.layer self.old.1) (discard_to_any offset length)) (files_of D.image D.extras (chain self.old)) (files_of D.image D.extras (chain self.new))) }
+    {
+        self.check_change(offset, length)?;
+        discard_all(alloc, &mut self.driver, Discarding::ToAny, offset, length)
+    }
+
+    /// Gives up a range to the layer below: each of its bytes stays, or is what the layer below shows. Parts that the format can't give
+    /// up stay. Nothing may be prepared.
+    ///
+    /// It refuses as `discard_to_any` does, and leaves the same.
+    pub fn discard_to_backing(
+        &mut self,
+        alloc: Global,
+        offset: u64,
+        length: u64,
+    ) -> Result<(), Fault>
+        requires free { IsFree (D.layer self.old.0) }
+        ensures ok { IsIntactChain D.layer D.safe D.sees self.old → OnOk result (Step (below_of D.layer self.old) (chain_disk D.layer self.old) (discard_to_backing offset length) done (chain_disk D.layer self.new)) }
+        ensures err { IsIntactChain D.layer D.safe D.sees self.old → IfErr result (λ e. IsMild e → PartlyDone (below_of D.layer self.old) (discard_to_backing offset length) (chain_disk D.layer self.old) (chain_disk D.layer self.new)) }
+        ensures at_once { (f : Fault) → change_refusal (unit_of_chain (map D.layer (chain self.old))) (D.layer self.old.0) offset length ≡ Some f → IsErrOf result f }
+        ensures idle { length ≡ 0 → barrier (D.layer self.old.0) ≡ None → IsOk result }
+        ensures like { IsLike (D.layer self.old.0) (D.layer self.new.0) }
+        ensures ran { RanChain D.layer D.image D.extras D.sees D.safe D.still D.sound (IsOk result) (IsWhole result) (GivesBelow (map D.layer self.old.1) offset length) self.old self.new }
+        ensures below { self.new.1 ≡ self.old.1 }
+        ensures cause { IsIntactChain D.layer D.safe D.sees self.old → IfErr result (ChangeCause (unit_of_chain (map D.layer (chain self.old))) (map D.layer (chain self.old)) (chain_disk D.layer self.old) (D.layer self.old.0).fixed.writable (discard_to_backing offset length) (D.own_cause self.old.0 (map D.layer self.old.1) (discard_to_backing offset length)) (files_of D.image D.extras (chain self.old)) (files_of D.image D.extras (chain self.new))) }
+    {
+        self.check_change(offset, length)?;
+        discard_all(
+            alloc,
+            &mut self.driver,
+            Discarding::ToBacking,
+            offset,
+            length,
+        )
+    }
+}

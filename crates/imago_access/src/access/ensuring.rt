@@ -1,0 +1,63 @@
+// Runs that are mapped as part of the disk at once.
+ghost use Rattle.std.specs.Prelude.{◌≡◌, IsTrue, map, IsOk, IfOk, IfErr, IsErrOf, Some, None};
+ghost use Rattle.imago_storage.specs.Steps.{Step, Stays, ensure, run};
+ghost use Rattle.imago_access.specs.Layer.{IsFree, IsLike};
+ghost use Rattle.imago_access.specs.Chain.{unit_of_chain};
+ghost use Rattle.imago_access.specs.Layers.{chain};
+ghost use Rattle.imago_access.specs.Files.{IsWhole, IsMild, files_of};
+ghost use Rattle.imago_access.specs.Mappings.{IsHomeRun};
+ghost use Rattle.imago_access.specs.Refusals.{barrier, change_refusal, ChangeCause};
+ghost use Rattle.imago_access.specs.Stops.{GivesAnnounced};
+ghost use Rattle.imago_access.specs.Running.{IsIntactChain, RanChain, chain_disk, below_of};
+
+use crate::access::FormatAccess;
+use crate::access::writing::settle;
+use crate::drivers::FormatDriverInstance;
+use crate::mapping::Mapping;
+use imago_storage::Fault;
+use std::alloc::Global;
+
+impl<D: FormatDriverInstance> FormatAccess<D> {
+    /// Maps a run from the offset on as part of the disk, so that it can be written in place: at least one byte, and not more than asked.
+    /// Nothing may be prepared.
+    ///
+    /// It answers where the run lies and how long it is, in bytes. Its bytes stay, but with `overwrite` they may be any. It refuses as
+    /// `prepare_data_mapping` does; a refusal for another cause than `Memory` and `Storage` changes no byte.
+    pub fn ensure_data_mapping(
+        &mut self,
+        alloc: Global,
+        offset: u64,
+        length: u64,
+        overwrite: bool,
+    ) -> Result<(Mapping, u64), Fault>
+        requires free { IsFree (D.layer self.old.0) }
+        ensures ok { IsIntactChain D.layer D.safe D.sees self.old → IfOk result (λ r. Step (below_of D.layer self.old) (chain_disk D.layer self.old) (ensure offset length overwrite) (run r.1) (chain_disk D.layer self.new)) }
+        ensures home { IsIntactChain D.layer D.safe D.sees self.old → IfOk result (λ r. IsHomeRun (D.layer self.new.0) offset r.0 r.1) }
+        ensures err { IsIntactChain D.layer D.safe D.sees self.old → IfErr result (λ e. IsMild e → Stays (chain_disk D.layer self.old) (chain_disk D.layer self.new)) }
+        ensures at_once { (f : Fault) → change_refusal (unit_of_chain (map D.layer (chain self.old))) (D.layer self.old.0) offset length ≡ Some f → IsErrOf result f }
+        ensures idle { length ≡ 0 → barrier (D.layer self.old.0) ≡ None → IsOk result }
+        ensures like { IsLike (D.layer self.old.0) (D.layer self.new.0) }
+        ensures ran { RanChain D.layer D.image D.extras D.sees D.safe D.still D.sound (IsOk result) (IsWhole result) (GivesAnnounced overwrite offset length) self.old self.new }
+        ensures cause { IsIntactChain D.layer D.safe D.sees self.old → IfErr result (ChangeCause (unit_of_chain (map D.layer (chain self.old))) (map D.layer (chain self.old)) (chain_disk D.layer self.old) (D.layer self.old.0).fixed.writable (ensure offset length overwrite) (D.own_cause self.old.0 (map D.layer self.old.1) (ensure offset length overwrite)) (files_of D.image D.extras (chain self.old)) (files_of D.image D.extras (chain self.new))) }
+    {
+        self.check_change(offset, length)?;
+        let prepared = match self
+            .driver
+            .prepare_data_mapping(alloc, &mut self.below, offset, length, overwrite)
+        {
+            Ok(prepared) => prepared,
+            Err(fault) => return Err(fault),
+        };
+        let mapping = Mapping::Raw {
+            depth: 0,
+            storage: prepared.storage(),
+            offset: prepared.offset(),
+            writable: true,
+        };
+        let length = prepared.length();
+        if let Err(fault) = settle(&mut self.driver, alloc, prepared) {
+            return Err(fault);
+        }
+        Ok((mapping, length))
+    }
+}

@@ -1,0 +1,130 @@
+// Mappings that a caller prepares, writes to, and commits or cancels.
+ghost use Rattle.std.specs.Prelude.{◌≡◌, ◌⊎◌, ◌<◌, ◌+◌, ◌∷◌, ℕ, List, IsTrue, length, map, is_some, IsOk, IfOk, IfErr, OnOk, IsErr, IsErrOf, IfSome, IsSome, MatchResult, Some, None};
+ghost use Rattle.imago_storage.specs.Steps.{Step, Stays, SameValues, prepare, commit, cancel, write_mapped, done, prepared};
+ghost use Rattle.imago_storage.specs.declared.fault.Fault.{Fault};
+ghost use Rattle.imago_storage.specs.declared.fault.Fault.TheVariants.{Foreign, Outdated};
+ghost use Rattle.imago_access.specs.Layer.{IsFree, IsLike};
+ghost use Rattle.imago_access.specs.Chain.{unit_of_chain};
+ghost use Rattle.imago_access.specs.Layers.{chain};
+ghost use Rattle.imago_access.specs.Files.{SomeRose, IsWhole, IsMild, files_of};
+ghost use Rattle.imago_access.specs.Going.{Went};
+ghost use Rattle.imago_access.specs.Spending.{IsMine, is_own, Spends, commit_refusal, GivenBack, IsForeignTo};
+ghost use Rattle.imago_access.specs.Parts.{IsMappedAt};
+ghost use Rattle.imago_access.specs.Refusals.{barrier, change_refusal, ChangeCause};
+ghost use Rattle.imago_access.specs.Stops.{KeepsStops, GivesNone, GivesBytes, GivesHeld};
+ghost use Rattle.imago_access.specs.Running.{IsIntactChain, RanChain, chain_disk, below_of};
+
+use crate::access::FormatAccess;
+use crate::drivers::FormatDriverInstance;
+use crate::mapping::PreparedDataMapping;
+use imago_storage::Fault;
+use std::alloc::Global;
+
+impl<D: FormatDriverInstance> FormatAccess<D> {
+    /// Maps a run from the offset on so that it can be written: at least one byte, and not more than asked. Nothing may be prepared.
+    ///
+    /// What is written to the run is part of the disk once the mapping is committed. With `overwrite` all of the run is going to be
+    /// written before that, so what it shows isn't copied. A mapping without state is part of the disk already. It refuses with
+    /// `Fault::ReadOnly`, with `Fault::RangeOverflow` where the end of the range, rounded up to the chain's alignment, passes `u64`, with
+    /// `Fault::PastEnd`, with causes of the driver's own, with `Fault::Memory` and `Fault::Storage`, and where a layer can't be used. A
+    /// refusal for another cause than `Memory` and `Storage` leaves the disk as it was.
+    pub fn prepare_data_mapping(
+        &mut self,
+        alloc: Global,
+        offset: u64,
+        length: u64,
+        overwrite: bool,
+    ) -> Result<PreparedDataMapping<D::State>, Fault>
+        requires free { IsFree (D.layer self.old.0) }
+        ensures ok { IsIntactChain D.layer D.safe D.sees self.old → IfOk result (λ m. Step (below_of D.layer self.old) (chain_disk D.layer self.old) (prepare offset length overwrite) (prepared m.length (is_some m.state)) (chain_disk D.layer self.new)) }
+        ensures home { IsIntactChain D.layer D.safe D.sees self.old → IfOk result (λ m. (i : ℕ) → i < m.length → (D.layer self.new.0).home (offset + i) ≡ Some (m.storage, m.offset + i)) }
+        ensures mine { IfOk result (λ m. IsMine D.claim D.tag m.state (D.layer self.new.0)) }
+        ensures stateless { IfOk result (λ m. m.state ≡ None → IsFree (D.layer self.new.0)) }
+        ensures empty { length ≡ 0 → IfOk result (λ m. m ≡ record { storage = 0; offset = 0; length = 0; state = None }) }
+        ensures err { IsIntactChain D.layer D.safe D.sees self.old → IfErr result (λ e. IsMild e → Stays (chain_disk D.layer self.old) (chain_disk D.layer self.new)) }
+        ensures at_once { (f : Fault) → change_refusal (unit_of_chain (map D.layer (chain self.old))) (D.layer self.old.0) offset length ≡ Some f → IsErrOf result f }
+        ensures idle { length ≡ 0 → barrier (D.layer self.old.0) ≡ None → IsOk result }
+        ensures free { IsErr result → IsFree (D.layer self.new.0) }
+        ensures ran { RanChain D.layer D.image D.extras D.sees D.safe D.still D.sound (IsOk result) (IsWhole result) GivesNone self.old self.new }
+        ensures cause { IsIntactChain D.layer D.safe D.sees self.old → IfErr result (ChangeCause (unit_of_chain (map D.layer (chain self.old))) (map D.layer (chain self.old)) (chain_disk D.layer self.old) (D.layer self.old.0).fixed.writable (prepare offset length overwrite) (D.own_cause self.old.0 (map D.layer self.old.1) (prepare offset length overwrite)) (files_of D.image D.extras (chain self.old)) (files_of D.image D.extras (chain self.new))) }
+    {
+        self.check_change(offset, length)?;
+        self.driver
+            .prepare_data_mapping(alloc, &mut self.below, offset, length, overwrite)
+    }
+
+    /// Makes a prepared mapping part of the disk: each of its places takes the byte written to it; one without keeps its byte, or may be
+    /// any where it was announced that all would be written. A mapping without state takes no memory.
+    ///
+    /// It gives the mapping back, and changes nothing, where the image can't be used, and one with state with `Fault::ReadOnly`, else with
+    /// `Fault::Foreign` where it was prepared under another number. Refused otherwise, with causes of the driver's own, with `Fault::Memory` or
+    /// `Fault::Storage`, it has spent the mapping and the image has failed.
+    pub fn commit_data_mapping(
+        &mut self,
+        alloc: Global,
+        mapping: PreparedDataMapping<D::State>,
+    ) -> Result<(), (Fault, Option<PreparedDataMapping<D::State>>)>
+        ensures ok { IsIntactChain D.layer D.safe D.sees self.old → IsMine D.claim D.tag mapping.state (D.layer self.old.0) → OnOk result (Step (below_of D.layer self.old) (chain_disk D.layer self.old) (commit (is_some mapping.state) (is_own D.tag mapping.state (D.layer self.old.0))) done (chain_disk D.layer self.new)) }
+        ensures own { IsForeignTo D.tag mapping.state (D.layer self.old.0) → IsErr result }
+        ensures home { IsIntactChain D.layer D.safe D.sees self.old → IsMine D.claim D.tag mapping.state (D.layer self.old.0) → OnOk result ((p : ℕ) (place : ℕ × ℕ) → (D.layer self.old.0).home p ≡ Some place → (D.layer self.new.0).home p ≡ Some place) }
+        ensures back { IfErr result (λ e. IfSome e.1 (λ m. (m ≡ mapping) × (D.layer self.new.0 ≡ D.layer self.old.0) × GivenBack D.tag mapping.state (D.layer self.old.0) e.0 × (D.safe self.old.0 → D.safe self.new.0))) }
+        ensures at_once { (f : Fault) → commit_refusal D.tag mapping.state (D.layer self.old.0) ≡ Some f → MatchResult result (λ _. ⊥) (λ e. e.0 ≡ f) }
+        ensures spent { IfErr result (λ e. e.1 ≡ None → IsSome mapping.state × IsTrue (D.layer self.new.0).failed × Spends D.claim D.tag mapping.state (D.layer self.old.0) (D.layer self.new.0) (IsFree (D.layer self.new.0) × (D.safe self.old.0 → IsMild e.0 → ⊥))) }
+        ensures free { IsMine D.claim D.tag mapping.state (D.layer self.old.0) → IsSome mapping.state → OnOk result (IsFree (D.layer self.new.0)) }
+        ensures size { (D.layer self.new.0).size ≡ (D.layer self.old.0).size }
+        ensures intact { IsMine D.claim D.tag mapping.state (D.layer self.old.0) → OnOk result (IsIntactChain D.layer D.safe D.sees self.old → IsIntactChain D.layer D.safe D.sees self.new) }
+        ensures went { Went D.layer D.image D.extras D.safe (IsOk result) (IsOk result × IsMine D.claim D.tag mapping.state (D.layer self.old.0)) self.old.0 self.new.0 }
+        ensures stops { IsIntactChain D.layer D.safe D.sees self.old → IsMine D.claim D.tag mapping.state (D.layer self.old.0) → KeepsStops (map D.layer self.old.1) (D.layer self.old.0) D.sound (GivesHeld (D.layer self.old.0)) (D.image self.old.0) (D.image self.new.0) }
+        ensures failed { IfErr result (λ e. e.0 ≡ Fault.Storage → SomeRose (D.image self.old.0 ∷ D.extras self.old.0) (D.image self.new.0 ∷ D.extras self.new.0)) }
+        ensures below { self.new.1 ≡ self.old.1 }
+        ensures cause { IsIntactChain D.layer D.safe D.sees self.old → IsMine D.claim D.tag mapping.state (D.layer self.old.0) ⊎ IsForeignTo D.tag mapping.state (D.layer self.old.0) → IfErr result (λ e. ChangeCause (unit_of_chain (map D.layer (chain self.old))) (map D.layer (chain self.old)) (chain_disk D.layer self.old) (D.layer self.old.0).fixed.writable (commit (is_some mapping.state) (is_own D.tag mapping.state (D.layer self.old.0))) (λ _. ⊥) (files_of D.image D.extras (chain self.old)) (files_of D.image D.extras (chain self.new)) e.0) }
+    {
+        self.driver.commit_data_mapping(alloc, mapping)
+    }
+
+    /// Gives a prepared mapping up: the disk is as it was before. It makes no request and takes no memory, also where the image has failed.
+    ///
+    /// It gives the mapping back with `Fault::Foreign` for one that was prepared under another number.
+    pub fn cancel(
+        &mut self,
+        mapping: PreparedDataMapping<D::State>,
+    ) -> Result<(), (Fault, PreparedDataMapping<D::State>)>
+        ensures ok { IsMine D.claim D.tag mapping.state (D.layer self.old.0) → OnOk result (Step (below_of D.layer self.old) (chain_disk D.layer self.old) (cancel (is_some mapping.state) (is_own D.tag mapping.state (D.layer self.old.0))) done (chain_disk D.layer self.new)) }
+        ensures own { IsForeignTo D.tag mapping.state (D.layer self.old.0) → IsErr result }
+        ensures back { IfErr result (λ e. (e.1 ≡ mapping) × (e.0 ≡ Foreign) × (D.layer self.new.0 ≡ D.layer self.old.0) × IsForeignTo D.tag mapping.state (D.layer self.old.0)) }
+        ensures free { IsMine D.claim D.tag mapping.state (D.layer self.old.0) → IsSome mapping.state → IsFree (D.layer self.new.0) }
+        ensures intact { IsMine D.claim D.tag mapping.state (D.layer self.old.0) → IsIntactChain D.layer D.safe D.sees self.old → IsIntactChain D.layer D.safe D.sees self.new }
+        ensures none { (D.image self.new.0 ≡ D.image self.old.0) × (D.extras self.new.0 ≡ D.extras self.old.0) }
+        ensures below { self.new.1 ≡ self.old.1 }
+    {
+        self.driver.cancel_data_mapping(mapping)
+    }
+
+    /// Writes bytes to a range that is mapped and can be written from a place of its storage on: by the image, or by its unspent mapping,
+    /// to which they are noted until it is committed.
+    ///
+    /// It refuses with `Fault::Outdated` where the range isn't mapped there, with `Fault::ReadOnly`, `Fault::RangeOverflow`,
+    /// `Fault::PastEnd`, `Fault::Memory` and `Fault::Storage`, and where the image can't be used. A refusal for another cause than
+    /// `Memory` and `Storage` leaves the disk as it was.
+    pub fn write_mapped(
+        &mut self,
+        alloc: Global,
+        guest: u64,
+        place: u64,
+        bytes: &[u8],
+    ) -> Result<(), Fault>
+        ensures ok { IsIntactChain D.layer D.safe D.sees self.old → OnOk result (Step (below_of D.layer self.old) (chain_disk D.layer self.old) (write_mapped guest bytes.now) done (chain_disk D.layer self.new)) }
+        ensures mapped { OnOk result (0 < length bytes.now → IsMappedAt (D.layer self.old.0) guest place (length bytes.now)) }
+        ensures home { IsIntactChain D.layer D.safe D.sees self.old → OnOk result ((D.layer self.new.0).home ≡ (D.layer self.old.0).home) }
+        ensures err { IsIntactChain D.layer D.safe D.sees self.old → IfErr result (λ e. IsMild e → D.layer self.new.0 ≡ D.layer self.old.0) }
+        ensures at_once { (f : Fault) → change_refusal (unit_of_chain (map D.layer (chain self.old))) (D.layer self.old.0) guest (length bytes.now) ≡ Some f → IsErrOf result f }
+        ensures idle { length bytes.now ≡ 0 → barrier (D.layer self.old.0) ≡ None → IsOk result }
+        ensures like { IsLike (D.layer self.old.0) (D.layer self.new.0) }
+        ensures ran { RanChain D.layer D.image D.extras D.sees D.safe D.still D.sound (IsOk result) (IsWhole result) (GivesBytes guest bytes.now) self.old self.new }
+        ensures below { self.new.1 ≡ self.old.1 }
+        ensures cause { IsIntactChain D.layer D.safe D.sees self.old → IfErr result (ChangeCause (unit_of_chain (map D.layer (chain self.old))) (map D.layer (chain self.old)) (chain_disk D.layer self.old) (D.layer self.old.0).fixed.writable (write_mapped guest bytes.now) (λ f. (f ≡ Outdated) × (0 < length bytes.now) × (IsMappedAt (D.layer self.old.0) guest place (length bytes.now) → ⊥)) (files_of D.image D.extras (chain self.old)) (files_of D.image D.extras (chain self.new))) }
+    {
+        self.check_change(guest, bytes.len() as u64)?;
+        self.driver.write_mapped(alloc, guest, place, bytes)
+    }
+}

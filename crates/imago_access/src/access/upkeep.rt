@@ -1,0 +1,120 @@
+// Calls that keep an image and its files in step.
+ghost use Rattle.std.specs.Prelude.{◌≡◌, ◌∷◌, IsTrue, map, IsOk, IfErr, OnOk, IsErrOf, Some};
+ghost use Rattle.imago_storage.specs.Steps.{Step, flush, sync, done};
+ghost use Rattle.imago_storage.specs.declared.fault.Fault.{Fault};
+ghost use Rattle.imago_access.specs.Layer.{IsFree, IsLike};
+ghost use Rattle.imago_access.specs.Chain.{Each};
+ghost use Rattle.imago_access.specs.Layers.{chain, layers};
+ghost use Rattle.imago_access.specs.Files.{Pairs, IsKept, files_of};
+ghost use Rattle.imago_access.specs.Going.{Went};
+ghost use Rattle.imago_access.specs.Parts.{PlainCause};
+ghost use Rattle.imago_access.specs.Refusals.{barrier, InvalidateCause};
+ghost use Rattle.imago_access.specs.Stops.{IsMeant, GivesNone};
+ghost use Rattle.imago_access.specs.Running.{IsIntactChain, RanChain, chain_disk, below_of};
+
+use crate::access::FormatAccess;
+use crate::drivers::FormatDriverInstance;
+use imago_storage::Fault;
+use std::alloc::Global;
+
+impl<D: FormatDriverInstance> FormatAccess<D> {
+    /// Hands all that waits in memory to the files of the top layer, and flushes these: while nothing is prepared, the files alone then
+    /// mean the disk.
+    ///
+    /// It refuses with `Fault::Memory` and `Fault::Storage`, and where the image can't be used.
+    pub fn flush(&mut self, alloc: Global) -> Result<(), Fault>
+        ensures ok { IsIntactChain D.layer D.safe D.sees self.old → OnOk result (Step (below_of D.layer self.old) (chain_disk D.layer self.old) flush done (chain_disk D.layer self.new)) }
+        ensures same { IsIntactChain D.layer D.safe D.sees self.old → OnOk result (D.layer self.new.0 ≡ D.layer self.old.0) }
+        ensures still { OnOk result (D.still self.new.0) }
+        ensures written { IsIntactChain D.layer D.safe D.sees self.old → IsFree (D.layer self.old.0) → OnOk result (IsMeant (D.layer self.new.0) (D.image self.new.0).bytes) }
+        ensures barred { (f : Fault) → barrier (D.layer self.old.0) ≡ Some f → IsErrOf result f }
+        ensures like { IsLike (D.layer self.old.0) (D.layer self.new.0) }
+        ensures ran { RanChain D.layer D.image D.extras D.sees D.safe D.still D.sound (IsOk result) (IsOk result) GivesNone self.old self.new }
+        ensures below { self.new.1 ≡ self.old.1 }
+        ensures cause { D.safe self.old.0 → IfErr result (PlainCause (D.layer self.old.0) (D.image self.old.0 ∷ D.extras self.old.0) (D.image self.new.0 ∷ D.extras self.new.0)) }
+    {
+        self.driver.flush(alloc)
+    }
+
+    /// Makes what was handed to the files of the top layer durable.
+    ///
+    /// It refuses with `Fault::Memory` and `Fault::Storage`, and where the image can't be used.
+    pub fn sync(&mut self) -> Result<(), Fault>
+        ensures ok { OnOk result (Step (below_of D.layer self.old) (chain_disk D.layer self.old) sync done (chain_disk D.layer self.new)) }
+        ensures same { OnOk result (D.layer self.new.0 ≡ D.layer self.old.0) }
+        ensures kept { Pairs IsKept (D.image self.old.0 ∷ D.extras self.old.0) (D.image self.new.0 ∷ D.extras self.new.0) }
+        ensures still { D.still self.old.0 → D.still self.new.0 }
+        ensures barred { (f : Fault) → barrier (D.layer self.old.0) ≡ Some f → IsErrOf result f }
+        ensures like { IsLike (D.layer self.old.0) (D.layer self.new.0) }
+        ensures ran { RanChain D.layer D.image D.extras D.sees D.safe D.still D.sound (IsOk result) (IsOk result) GivesNone self.old self.new }
+        ensures below { self.new.1 ≡ self.old.1 }
+        ensures cause { IfErr result (PlainCause (D.layer self.old.0) (D.image self.old.0 ∷ D.extras self.old.0) (D.image self.new.0 ∷ D.extras self.new.0)) }
+    {
+        self.driver.sync()
+    }
+
+    /// Drops what the layers hold in memory, written or not, and reads what they need of their files again, from the top layer downward.
+    /// Nothing may be prepared in any. Right after a flush it changes no byte of the disk.
+    ///
+    /// It refuses with `Fault::DamagedHeader`, `Fault::DamagedTable`, `Fault::Unsupported`, `Fault::Limit` and `Fault::CacheFull`, with
+    /// which the layer has failed, with `Fault::Memory` and `Fault::Storage`, and where a layer can't be used. The layers below one that
+    /// refused are as they were.
+    #[cycle(invalidate)]
+    pub fn invalidate_cache(&mut self, alloc: Global) -> Result<(), Fault>
+        requires free { Each (λ d. IsFree (D.layer d)) (chain self.old) }
+        ensures same { Each (λ d. IsTrue (D.layer d).fixed.keeps) (chain self.old) → Each D.sees (chain self.old) → Each D.still (chain self.old) → OnOk result (map D.layer (chain self.new) ≡ map D.layer (chain self.old)) }
+        ensures sees { Each (λ d. IsTrue (D.layer d).fixed.keeps) (chain self.old) → Each D.sees (chain self.old) → Each D.still (chain self.old) → OnOk result (Each D.sees (chain self.new)) }
+        ensures kept { Pairs IsKept (files_of D.image D.extras (chain self.old)) (files_of D.image D.extras (chain self.new)) }
+        ensures still { OnOk result (Each D.still (chain self.new)) }
+        ensures barred { (f : Fault) → barrier (D.layer self.old.0) ≡ Some f → IsErrOf result f }
+        ensures went { Pairs (Went D.layer D.image D.extras D.safe (IsOk result) (IsOk result)) (chain self.old) (chain self.new) }
+        ensures free { Each (λ d. IsFree (D.layer d)) (chain self.new) }
+        ensures cause { IfErr result (InvalidateCause (map D.layer (chain self.old)) (files_of D.image D.extras (chain self.old)) (files_of D.image D.extras (chain self.new))) }
+    {
+        Self::invalidate_part(alloc, &mut self.driver, &mut self.below)
+    }
+
+    // The same of a layer and those below it.
+    #[cycle(invalidate)]
+    fn invalidate_part(
+        alloc: Global,
+        driver: &mut D,
+        below: &mut Option<Box<FormatAccess<D>>>,
+    ) -> Result<(), Fault>
+        requires free { Each (λ d. IsFree (D.layer d)) (driver.old ∷ layers below.old) }
+        ensures same { Each (λ d. IsTrue (D.layer d).fixed.keeps) (driver.old ∷ layers below.old) → Each D.sees (driver.old ∷ layers below.old) → Each D.still (driver.old ∷ layers below.old) → OnOk result (map D.layer (driver.new ∷ layers below.new) ≡ map D.layer (driver.old ∷ layers below.old)) }
+        ensures sees { Each (λ d. IsTrue (D.layer d).fixed.keeps) (driver.old ∷ layers below.old) → Each D.sees (driver.old ∷ layers below.old) → Each D.still (driver.old ∷ layers below.old) → OnOk result (Each D.sees (driver.new ∷ layers below.new)) }
+        ensures kept { Pairs IsKept (files_of D.image D.extras (driver.old ∷ layers below.old)) (files_of D.image D.extras (driver.new ∷ layers below.new)) }
+        ensures still { OnOk result (Each D.still (driver.new ∷ layers below.new)) }
+        ensures barred { (f : Fault) → barrier (D.layer driver.old) ≡ Some f → IsErrOf result f }
+        ensures went { Pairs (Went D.layer D.image D.extras D.safe (IsOk result) (IsOk result)) (driver.old ∷ layers below.old) (driver.new ∷ layers below.new) }
+        ensures free { Each (λ d. IsFree (D.layer d)) (driver.new ∷ layers below.new) }
+        ensures cause { IfErr result (InvalidateCause (map D.layer (driver.old ∷ layers below.old)) (files_of D.image D.extras (driver.old ∷ layers below.old)) (files_of D.image D.extras (driver.new ∷ layers below.new))) }
+    {
+        match driver.invalidate_cache(alloc) {
+            Ok(()) => Self::invalidate_under(alloc, below),
+            Err(fault) => Err(fault),
+        }
+    }
+
+    // The same of the layers below, if there are any.
+    #[cycle(invalidate)]
+    fn invalidate_under(
+        alloc: Global,
+        below: &mut Option<Box<FormatAccess<D>>>,
+    ) -> Result<(), Fault>
+        requires free { Each (λ d. IsFree (D.layer d)) (layers below.old) }
+        ensures same { Each (λ d. IsTrue (D.layer d).fixed.keeps) (layers below.old) → Each D.sees (layers below.old) → Each D.still (layers below.old) → OnOk result (map D.layer (layers below.new) ≡ map D.layer (layers below.old)) }
+        ensures sees { Each (λ d. IsTrue (D.layer d).fixed.keeps) (layers below.old) → Each D.sees (layers below.old) → Each D.still (layers below.old) → OnOk result (Each D.sees (layers below.new)) }
+        ensures kept { Pairs IsKept (files_of D.image D.extras (layers below.old)) (files_of D.image D.extras (layers below.new)) }
+        ensures still { OnOk result (Each D.still (layers below.new)) }
+        ensures went { Pairs (Went D.layer D.image D.extras D.safe (IsOk result) (IsOk result)) (layers below.old) (layers below.new) }
+        ensures free { Each (λ d. IsFree (D.layer d)) (layers below.new) }
+        ensures cause { IfErr result (InvalidateCause (map D.layer (layers below.old)) (files_of D.image D.extras (layers below.old)) (files_of D.image D.extras (layers below.new))) }
+    {
+        match below {
+            Some(layer) => layer.invalidate_cache(alloc),
+            None => Ok(()),
+        }
+    }
+}

@@ -1,0 +1,181 @@
+// Writes, through mappings that are prepared and committed run by run.
+ghost use Rattle.std.specs.Prelude.{◌≡◌, ◌<◌, ◌≤◌, ◌+◌, ◌∷◌, ◌++◌, ℕ, List, IsTrue, true, length, slice_index, map, IsOk, IfOk, IfErr, OnOk, IsErr, IsErrOf, Some, None};
+ghost use Rattle.imago_storage.specs.Disk.{byte};
+ghost use Rattle.imago_storage.specs.Through.{Overflows};
+ghost use Rattle.imago_storage.specs.Steps.{Call, Step, write, done};
+ghost use Rattle.imago_storage.specs.Causes.{PartlyDone};
+ghost use Rattle.imago_access.specs.Layer.{Layer, IsFree, IsLike, unit_of_layer};
+ghost use Rattle.imago_access.specs.Chain.{at, unit_of_chain};
+ghost use Rattle.imago_access.specs.Layers.{chain};
+ghost use Rattle.imago_access.specs.Files.{IsWhole, IsMild, files_of};
+ghost use Rattle.imago_access.specs.Going.{Went};
+ghost use Rattle.imago_access.specs.Changes.{Committed, Cancelled};
+ghost use Rattle.imago_access.specs.Spending.{IsMine, Spends};
+ghost use Rattle.imago_access.specs.Parts.{IsPartOf, announces, PartCause};
+ghost use Rattle.imago_access.specs.Refusals.{barrier, change_refusal, ChangeCause};
+ghost use Rattle.imago_access.specs.Stops.{KeepsStops, MakesNone, GivesBytes, GivesSettled};
+ghost use Rattle.imago_access.specs.Running.{IsIntact, Ran, IsIntactChain, RanChain, chain_disk, below_of};
+
+use crate::access::FormatAccess;
+use crate::below::ReadBelow;
+use crate::drivers::FormatDriverInstance;
+use crate::mapping::PreparedDataMapping;
+use imago_storage::{Fault, padded_end};
+use std::alloc::Global;
+
+// Gives up a mapping of this image.
+pub(crate) fn abandon<D: FormatDriverInstance>(
+    driver: &mut D,
+    mapping: PreparedDataMapping<D::State>,
+)
+    requires { IsMine D.claim D.tag mapping.state (D.layer driver.old) }
+    ensures ok { Spends D.claim D.tag mapping.state (D.layer driver.old) (D.layer driver.new) (Cancelled (D.layer driver.old) (D.layer driver.new)) }
+    ensures safe { D.safe driver.old → D.safe driver.new }
+    ensures began { (d : D) (call : Call) → D.began d call driver.old → D.began d call driver.new }
+    ensures none { (D.image driver.new ≡ D.image driver.old) × (D.extras driver.new ≡ D.extras driver.old) }
+{
+    match driver.cancel_data_mapping(mapping) {
+        Ok(()) => (),
+        Err((_, _)) => unreachable!(),
+    }
+}
+
+// Commits a mapping of this image, and gives it up where that is refused.
+pub(crate) fn settle<D: FormatDriverInstance>(
+    driver: &mut D,
+    alloc: Global,
+    mapping: PreparedDataMapping<D::State>,
+) -> Result<(), Fault>
+    requires { IsMine D.claim D.tag mapping.state (D.layer driver.old) }
+    ensures ok { OnOk result (Spends D.claim D.tag mapping.state (D.layer driver.old) (D.layer driver.new) (IsTrue (D.layer driver.old).fixed.keeps → D.safe driver.old → Committed (D.layer driver.old) (D.layer driver.new))) }
+    ensures err { D.safe driver.old → IfErr result (λ e. IsMild e → Spends D.claim D.tag mapping.state (D.layer driver.old) (D.layer driver.new) (Cancelled (D.layer driver.old) (D.layer driver.new))) }
+    ensures free { (mapping.state ≡ None → IsFree (D.layer driver.old)) → IsFree (D.layer driver.new) }
+    ensures idle { mapping.state ≡ None → barrier (D.layer driver.old) ≡ None → IsOk result }
+    ensures size { (D.layer driver.new).size ≡ (D.layer driver.old).size }
+    ensures went { Went D.layer D.image D.extras D.safe (IsOk result) (IsWhole result) driver.old driver.new }
+    ensures began { (d : D) (call : Call) → D.began d call driver.old → OnOk result (D.began d call driver.new) }
+    ensures stops { IsTrue (D.layer driver.old).fixed.keeps → D.safe driver.old → (below : List Layer) → KeepsStops below (D.layer driver.old) D.sound (GivesSettled below (D.layer driver.old)) (D.image driver.old) (D.image driver.new) }
+    ensures cause { D.safe driver.old → (below : List Layer) (offset n : ℕ) → 0 < n → IfErr result (PartCause below (D.layer driver.old) offset n (λ _. ⊥) (D.image driver.old ∷ D.extras driver.old) (D.image driver.new ∷ D.extras driver.new)) }
+{
+    match driver.commit_data_mapping(alloc, mapping) {
+        Ok(()) => Ok(()),
+        Err((fault, None)) => Err(fault),
+        Err((fault, Some(given_back))) => {
+            abandon(driver, given_back);
+            Err(fault)
+        }
+    }
+}
+
+// Writes the first run of a range that lies in the disk. It answers how many bytes that are.
+pub(crate) fn write_run<D: FormatDriverInstance, B: ReadBelow>(
+    alloc: Global,
+    driver: &mut D,
+    below: &mut B,
+    bytes: &[u8],
+    offset: u64,
+) -> Result<usize, Fault>
+    requires free { IsFree (D.layer driver.old) }
+    requires some { 0 < length bytes.now }
+    ensures run { IfOk result (λ n. (0 < n) × (n ≤ length bytes.now)) }
+    ensures shown { IsIntact (B.under below.old) (D.layer driver.old) (D.safe driver.old) (B.sees_under below.old) → IfOk result (λ n. (i : ℕ) → i < n → at (D.layer driver.new ∷ B.under below.old) (offset + i) ≡ byte (slice_index bytes.now i)) }
+    ensures free { IsFree (D.layer driver.new) }
+    ensures ran { Ran D.layer D.image D.extras D.safe B.under B.files_under B.sees_under B.still_under D.sound (IsOk result) (IsWhole result) (GivesBytes offset bytes.now) driver.old driver.new below.old below.new }
+    ensures began { (d : D) (call : Call) → D.began d call driver.old → IsPartOf call offset (length bytes.now) → OnOk result (D.began d call driver.new) }
+    ensures cause { IsIntact (B.under below.old) (D.layer driver.old) (D.safe driver.old) (B.sees_under below.old) → (d : D) (call : Call) → D.began d call driver.old → IsPartOf call offset (length bytes.now) → true ≡ announces call → IfErr result (PartCause (B.under below.old) (D.layer driver.old) offset (length bytes.now) (D.own_cause d (B.under below.old) call) (D.image driver.old ∷ D.extras driver.old ++ B.files_under below.old) (D.image driver.new ∷ D.extras driver.new ++ B.files_under below.new)) }
+{
+    let mapping = match driver.prepare_data_mapping(
+        alloc,
+        below,
+        offset,
+        bytes.len() as u64,
+        true,
+    ) {
+        Ok(mapping) => mapping,
+        Err(fault) => return Err(fault),
+    };
+    let n = mapping.length() as usize;
+    match driver.write_mapped(alloc, offset, mapping.offset(), &bytes[..n]) {
+        Ok(()) => match settle(driver, alloc, mapping) {
+            Ok(()) => Ok(n),
+            Err(fault) => Err(fault),
+        },
+        Err(fault) => {
+            abandon(driver, mapping);
+            Err(fault)
+        }
+    }
+}
+
+// Writes all of a range that lies in the disk, run by run.
+pub(crate) fn write_all<D: FormatDriverInstance, B: ReadBelow>(
+    alloc: Global,
+    driver: &mut D,
+    below: &mut B,
+    bytes: &[u8],
+    offset: u64,
+) -> Result<(), Fault>
+    requires free { IsFree (D.layer driver.old) }
+    requires inside { 0 < length bytes.now → offset + length bytes.now ≤ (D.layer driver.old).size }
+    ensures shown { IsIntact (B.under below.old) (D.layer driver.old) (D.safe driver.old) (B.sees_under below.old) → OnOk result ((i : ℕ) → i < length bytes.now → at (D.layer driver.new ∷ B.under below.old) (offset + i) ≡ byte (slice_index bytes.now i)) }
+    ensures idle { length bytes.now ≡ 0 → IsOk result }
+    ensures free { IsFree (D.layer driver.new) }
+    ensures ran { Ran D.layer D.image D.extras D.safe B.under B.files_under B.sees_under B.still_under D.sound (IsOk result) (IsWhole result) (GivesBytes offset bytes.now) driver.old driver.new below.old below.new }
+    ensures began { (d : D) (call : Call) → D.began d call driver.old → IsPartOf call offset (length bytes.now) → OnOk result (D.began d call driver.new) }
+    ensures cause { IsIntact (B.under below.old) (D.layer driver.old) (D.safe driver.old) (B.sees_under below.old) → (d : D) (call : Call) → D.began d call driver.old → IsPartOf call offset (length bytes.now) → true ≡ announces call → IfErr result (PartCause (B.under below.old) (D.layer driver.old) offset (length bytes.now) (D.own_cause d (B.under below.old) call) (D.image driver.old ∷ D.extras driver.old ++ B.files_under below.old) (D.image driver.new ∷ D.extras driver.new ++ B.files_under below.new)) }
+{
+    // The range ends in the disk, whose size fits 64 bits.
+    let _size = driver.size();
+    let mut done = 0;
+    while done < bytes.len() {
+        match write_run(alloc, driver, below, &bytes[done..], offset + done as u64) {
+            Ok(n) => done += n,
+            Err(fault) => return Err(fault),
+        }
+    }
+    Ok(())
+}
+
+impl<D: FormatDriverInstance> FormatAccess<D> {
+    // Why a change of a range is refused before anything is done. An empty range is refused only where the image can't be used.
+    pub(crate) fn check_change(&self, offset: u64, length: u64) -> Result<(), Fault>
+        ensures ok { OnOk result (change_refusal (unit_of_chain (map D.layer (chain self.now))) (D.layer self.now.0) offset length ≡ None) }
+        ensures err { IfErr result (λ e. change_refusal (unit_of_chain (map D.layer (chain self.now))) (D.layer self.now.0) offset length ≡ Some e) }
+    {
+        self.driver.ready()?;
+        if length == 0 {
+            return Ok(());
+        }
+        if !self.driver.writable() {
+            return Err(Fault::ReadOnly);
+        }
+        if padded_end(offset, length, self.unit()).is_none() {
+            return Err(Fault::RangeOverflow);
+        }
+        let size = self.driver.size();
+        if length > size || offset > size - length {
+            return Err(Fault::PastEnd);
+        }
+        Ok(())
+    }
+
+    /// Writes the bytes at an offset. Nothing may be prepared.
+    ///
+    /// It refuses with `Fault::ReadOnly`, with `Fault::RangeOverflow` where the end of the range, rounded up to the chain's alignment,
+    /// passes `u64`, with `Fault::PastEnd`, with causes of the driver's own, with `Fault::Memory` and `Fault::Storage`, and where a layer
+    /// can't be used. A refusal for another cause than `Memory` and `Storage` leaves each byte of the range old or new, and every other
+    /// as it was.
+    pub fn write(&mut self, alloc: Global, bytes: &[u8], offset: u64) -> Result<(), Fault>
+        requires free { IsFree (D.layer self.old.0) }
+        ensures ok { IsIntactChain D.layer D.safe D.sees self.old → OnOk result (Step (below_of D.layer self.old) (chain_disk D.layer self.old) (write offset bytes.now) done (chain_disk D.layer self.new)) }
+        ensures err { IsIntactChain D.layer D.safe D.sees self.old → IfErr result (λ e. IsMild e → PartlyDone (below_of D.layer self.old) (write offset bytes.now) (chain_disk D.layer self.old) (chain_disk D.layer self.new)) }
+        ensures at_once { (f : Fault) → change_refusal (unit_of_chain (map D.layer (chain self.old))) (D.layer self.old.0) offset (length bytes.now) ≡ Some f → IsErrOf result f }
+        ensures idle { length bytes.now ≡ 0 → barrier (D.layer self.old.0) ≡ None → IsOk result }
+        ensures like { IsLike (D.layer self.old.0) (D.layer self.new.0) }
+        ensures ran { RanChain D.layer D.image D.extras D.sees D.safe D.still D.sound (IsOk result) (IsWhole result) (GivesBytes offset bytes.now) self.old self.new }
+        ensures cause { IsIntactChain D.layer D.safe D.sees self.old → IfErr result (ChangeCause (unit_of_chain (map D.layer (chain self.old))) (map D.layer (chain self.old)) (chain_disk D.layer self.old) (D.layer self.old.0).fixed.writable (write offset bytes.now) (D.own_cause self.old.0 (map D.layer self.old.1) (write offset bytes.now)) (files_of D.image D.extras (chain self.old)) (files_of D.image D.extras (chain self.new))) }
+    {
+        self.check_change(offset, bytes.len() as u64)?;
+        write_all(alloc, &mut self.driver, &mut self.below, bytes, offset)
+    }
+}

@@ -1,0 +1,246 @@
+// Zeroing of ranges: by the driver where it can, and else by writing zeroes.
+ghost use Rattle.std.specs.Prelude.{◌≡◌, ◌⊎◌, ◌<◌, ◌≤◌, ◌+◌, ◌-◌, ◌^◌, ◌∷◌, ◌++◌, min, ℕ, List, IsTrue, true, length, slice_index, map, IsOk, IfOk, IfErr, OnOk, IsErrOf, IsOkUnless, Some};
+ghost use Rattle.imago_storage.specs.Disk.{byte};
+ghost use Rattle.imago_storage.specs.Steps.{Call, Step, write_zeroes, discard_to_zero, done, IsIn};
+ghost use Rattle.imago_storage.specs.Causes.{PartlyDone};
+ghost use Rattle.imago_access.specs.Layer.{Layer, IsFree, IsLike};
+ghost use Rattle.imago_access.specs.Chain.{at, unit_of_chain};
+ghost use Rattle.imago_access.specs.Layers.{chain};
+ghost use Rattle.imago_access.specs.Files.{IsWhole, IsAnswered, IsMild, files_of};
+ghost use Rattle.imago_access.specs.Going.{Went};
+ghost use Rattle.imago_access.specs.Changes.{Rewrites, PartRewrites, ToZero};
+ghost use Rattle.imago_access.specs.Parts.{IsPartOf, announces, PartCause, DeclinableCause};
+ghost use Rattle.imago_access.specs.Refusals.{barrier, change_refusal, ChangeCause};
+ghost use Rattle.imago_access.specs.Stops.{KeepsStops, GivesZero};
+ghost use Rattle.imago_access.specs.Running.{IsIntact, IsBetween, Ran, IsIntactChain, RanChain, chain_disk, below_of};
+
+use crate::access::FormatAccess;
+use crate::access::discarding::is_declined;
+use crate::access::writing::write_all;
+use crate::below::ReadBelow;
+use crate::drivers::FormatDriverInstance;
+use imago_storage::Fault;
+use std::alloc::Global;
+
+// The length of a buffer of zeroes, in bytes.
+const PIECE: u64 = 65_536;
+
+// What becomes of the places of storages that are allocated for a zeroed range.
+#[derive(Clone, Copy, Debug, Drop, PartialEq, Eq)]
+enum Zeroing {
+    // They are kept.
+    Keep,
+    // They are given up.
+    GiveUp,
+}
+
+// The part of a range that the driver zeroes by itself: from where on, and how many bytes.
+fn zero_part<D: FormatDriverInstance>(
+    alloc: Global,
+    driver: &mut D,
+    zeroing: Zeroing,
+    offset: u64,
+    length: u64,
+) -> Result<(u64, u64), Fault>
+    requires free { IsFree (D.layer driver.old) }
+    ensures part { IfOk result (λ r. (offset ≤ r.0) × ((r.1 ≡ 0) ⊎ (r.0 + r.1 ≤ offset + length))) }
+    ensures ok { IsTrue (D.layer driver.old).fixed.keeps → D.safe driver.old → IfOk result (λ r. Rewrites ToZero (D.layer driver.old) (D.layer driver.new) r.0 r.1) }
+    ensures err { IsTrue (D.layer driver.old).fixed.keeps → D.safe driver.old → IfErr result (λ e. IsMild e → PartRewrites ToZero (D.layer driver.old) (D.layer driver.new) offset length) }
+    ensures like { IsLike (D.layer driver.old) (D.layer driver.new) }
+    ensures went { Went D.layer D.image D.extras D.safe (IsAnswered result) (IsWhole result) driver.old driver.new }
+    ensures began { (d : D) (call : Call) → D.began d call driver.old → IsPartOf call offset length → IsWhole result → D.began d call driver.new }
+    ensures stops { IsTrue (D.layer driver.old).fixed.keeps → D.safe driver.old → (below : List Layer) → KeepsStops below (D.layer driver.old) D.sound (GivesZero offset length) (D.image driver.old) (D.image driver.new) }
+    ensures cause { D.safe driver.old → (below : List Layer) (d : D) (call : Call) → D.began d call driver.old → IsPartOf call offset length → IfErr result (DeclinableCause below (D.layer driver.old) offset length (D.own_cause d below call) (D.image driver.old ∷ D.extras driver.old) (D.image driver.new ∷ D.extras driver.new)) }
+{
+    match zeroing {
+        Zeroing::Keep => driver.ensure_zero_mapping(alloc, offset, length),
+        Zeroing::GiveUp => driver.discard_to_zero(alloc, offset, length),
+    }
+}
+
+// A buffer of zeroes: of a piece, or of n bytes where these are fewer.
+fn zero_buffer(alloc: Global, n: u64) -> Result<Vec<u8>, Fault>
+    ensures zeroes { IfOk result (λ buffer. (k : ℕ) → slice_index buffer.items k ≡ 0) }
+    ensures room { IfOk result (λ buffer. min n 65536 ≤ length buffer.items) }
+    ensures err { IsOkUnless result Fault.Memory }
+{
+    let zeroes = vec![in alloc; 0u8; n.min(PIECE) as usize]?;
+    Ok(zeroes)
+}
+
+// Writes zeroes over a range that lies in the disk, in pieces that end at multiples of their length.
+fn write_zero_bytes<D: FormatDriverInstance, B: ReadBelow>(
+    alloc: Global,
+    driver: &mut D,
+    below: &mut B,
+    offset: u64,
+    n: u64,
+) -> Result<(), Fault>
+    requires free { IsFree (D.layer driver.old) }
+    requires fits { offset + n < 2 ^ 64 }
+    requires inside { offset + n ≤ (D.layer driver.old).size }
+    ensures shown { IsIntact (B.under below.old) (D.layer driver.old) (D.safe driver.old) (B.sees_under below.old) → OnOk result ((p : ℕ) → IsIn offset n p → at (D.layer driver.new ∷ B.under below.old) p ≡ byte 0) }
+    ensures free { IsFree (D.layer driver.new) }
+    ensures ran { Ran D.layer D.image D.extras D.safe B.under B.files_under B.sees_under B.still_under D.sound (IsOk result) (IsWhole result) (GivesZero offset n) driver.old driver.new below.old below.new }
+    ensures began { (d : D) (call : Call) → D.began d call driver.old → IsPartOf call offset n → OnOk result (D.began d call driver.new) }
+    ensures cause { IsIntact (B.under below.old) (D.layer driver.old) (D.safe driver.old) (B.sees_under below.old) → (d : D) (call : Call) → D.began d call driver.old → IsPartOf call offset n → true ≡ announces call → IfErr result (PartCause (B.under below.old) (D.layer driver.old) offset n (D.own_cause d (B.under below.old) call) (D.image driver.old ∷ D.extras driver.old ++ B.files_under below.old) (D.image driver.new ∷ D.extras driver.new ++ B.files_under below.new)) }
+{
+    let zeroes = match zero_buffer(alloc, n) {
+        Ok(zeroes) => zeroes,
+        Err(fault) => return Err(fault),
+    };
+    let mut done = 0;
+    while done < n {
+        let at = offset + done;
+        let count = (PIECE - at % PIECE).min(n - done);
+        match write_all(alloc, driver, below, &zeroes[..count as usize], at) {
+            Ok(()) => done += count,
+            Err(fault) => return Err(fault),
+        }
+    }
+    Ok(())
+}
+
+// Lets the driver zero a part of a range that isn't empty. It answers where that part begins and ends: at the end of the range where the
+// driver has done none, or can't.
+fn zero_by_driver<D: FormatDriverInstance>(
+    alloc: Global,
+    driver: &mut D,
+    zeroing: Zeroing,
+    offset: u64,
+    n: u64,
+) -> Result<(u64, u64), Fault>
+    requires free { IsFree (D.layer driver.old) }
+    requires some { 0 < n }
+    requires fits { offset + n < 2 ^ 64 }
+    ensures part { IfOk result (λ r. (offset ≤ r.0) × (r.0 ≤ r.1) × (offset < r.1) × (r.1 ≤ offset + n)) }
+    ensures zeroed { IsTrue (D.layer driver.old).fixed.keeps → D.safe driver.old → (below : List Layer) → IfOk result (λ r. (p : ℕ) → r.0 ≤ p → p < r.1 → at (D.layer driver.new ∷ below) p ≡ byte 0) }
+    ensures values { IsTrue (D.layer driver.old).fixed.keeps → D.safe driver.old → (below : List Layer) → IsWhole result → IsBetween (GivesZero offset n) below (D.layer driver.old) (D.layer driver.new) }
+    ensures like { IsLike (D.layer driver.old) (D.layer driver.new) }
+    ensures went { Went D.layer D.image D.extras D.safe (IsOk result) (IsWhole result) driver.old driver.new }
+    ensures began { (d : D) (call : Call) → D.began d call driver.old → IsPartOf call offset n → OnOk result (D.began d call driver.new) }
+    ensures stops { IsTrue (D.layer driver.old).fixed.keeps → D.safe driver.old → (below : List Layer) → KeepsStops below (D.layer driver.old) D.sound (GivesZero offset n) (D.image driver.old) (D.image driver.new) }
+    ensures cause { D.safe driver.old → (below : List Layer) (d : D) (call : Call) → D.began d call driver.old → IsPartOf call offset n → IfErr result (PartCause below (D.layer driver.old) offset n (D.own_cause d below call) (D.image driver.old ∷ D.extras driver.old) (D.image driver.new ∷ D.extras driver.new)) }
+{
+    let end = offset + n;
+    match zero_part(alloc, driver, zeroing, offset, n) {
+        Ok((start, zeroed)) if zeroed > 0 => Ok((start, start + zeroed)),
+        Ok((start, _)) if start > offset => Ok((start.min(end), start.min(end))),
+        Ok(_) => Ok((end, end)),
+        Err(fault) if is_declined(fault) => Ok((end, end)),
+        Err(fault) => Err(fault),
+    }
+}
+
+// Zeroes the first part of a range that isn't empty and lies in the disk: bytes that the driver leaves before its own part are written.
+// It answers where the part ends.
+fn zero_run<D: FormatDriverInstance, B: ReadBelow>(
+    alloc: Global,
+    driver: &mut D,
+    below: &mut B,
+    zeroing: Zeroing,
+    offset: u64,
+    n: u64,
+) -> Result<u64, Fault>
+    requires free { IsFree (D.layer driver.old) }
+    requires some { 0 < n }
+    requires fits { offset + n < 2 ^ 64 }
+    requires inside { offset + n ≤ (D.layer driver.old).size }
+    ensures run { IfOk result (λ end. (offset < end) × (end ≤ offset + n)) }
+    ensures shown { IsIntact (B.under below.old) (D.layer driver.old) (D.safe driver.old) (B.sees_under below.old) → IfOk result (λ end. (p : ℕ) → offset ≤ p → p < end → at (D.layer driver.new ∷ B.under below.old) p ≡ byte 0) }
+    ensures free { IsFree (D.layer driver.new) }
+    ensures ran { Ran D.layer D.image D.extras D.safe B.under B.files_under B.sees_under B.still_under D.sound (IsOk result) (IsWhole result) (GivesZero offset n) driver.old driver.new below.old below.new }
+    ensures began { (d : D) (call : Call) → D.began d call driver.old → IsPartOf call offset n → OnOk result (D.began d call driver.new) }
+    ensures cause { IsIntact (B.under below.old) (D.layer driver.old) (D.safe driver.old) (B.sees_under below.old) → (d : D) (call : Call) → D.began d call driver.old → IsPartOf call offset n → true ≡ announces call → IfErr result (PartCause (B.under below.old) (D.layer driver.old) offset n (D.own_cause d (B.under below.old) call) (D.image driver.old ∷ D.extras driver.old ++ B.files_under below.old) (D.image driver.new ∷ D.extras driver.new ++ B.files_under below.new)) }
+{
+    let (start, end) = match zero_by_driver(alloc, driver, zeroing, offset, n) {
+        Ok(part) => part,
+        Err(fault) => return Err(fault),
+    };
+    match write_zero_bytes(alloc, driver, below, offset, start - offset) {
+        Ok(()) => Ok(end),
+        Err(fault) => Err(fault),
+    }
+}
+
+// Zeroes all of a range that lies in the disk, or is empty.
+fn zero_all<D: FormatDriverInstance, B: ReadBelow>(
+    alloc: Global,
+    driver: &mut D,
+    below: &mut B,
+    zeroing: Zeroing,
+    offset: u64,
+    n: u64,
+) -> Result<(), Fault>
+    requires free { IsFree (D.layer driver.old) }
+    requires fits { offset + n < 2 ^ 64 }
+    requires inside { 0 < n → offset + n ≤ (D.layer driver.old).size }
+    ensures idle { n ≡ 0 → IsOk result }
+    ensures shown { IsIntact (B.under below.old) (D.layer driver.old) (D.safe driver.old) (B.sees_under below.old) → OnOk result ((p : ℕ) → IsIn offset n p → at (D.layer driver.new ∷ B.under below.old) p ≡ byte 0) }
+    ensures free { IsFree (D.layer driver.new) }
+    ensures ran { Ran D.layer D.image D.extras D.safe B.under B.files_under B.sees_under B.still_under D.sound (IsOk result) (IsWhole result) (GivesZero offset n) driver.old driver.new below.old below.new }
+    ensures cause { IsIntact (B.under below.old) (D.layer driver.old) (D.safe driver.old) (B.sees_under below.old) → (d : D) (call : Call) → D.began d call driver.old → IsPartOf call offset n → true ≡ announces call → IfErr result (PartCause (B.under below.old) (D.layer driver.old) offset n (D.own_cause d (B.under below.old) call) (D.image driver.old ∷ D.extras driver.old ++ B.files_under below.old) (D.image driver.new ∷ D.extras driver.new ++ B.files_under below.new)) }
+{
+    let end = offset + n;
+    let mut at = offset;
+    while at < end {
+        match zero_run(alloc, driver, below, zeroing, at, end - at) {
+            Ok(next) => at = next,
+            Err(fault) => return Err(fault),
+        }
+    }
+    Ok(())
+}
+
+impl<D: FormatDriverInstance> FormatAccess<D> {
+    /// Makes a range read as 0, and keeps what is allocated for it where the format can. Nothing may be prepared.
+    ///
+    /// It refuses with `Fault::ReadOnly`, with `Fault::RangeOverflow` where the end of the range, rounded up to the chain's alignment,
+    /// passes `u64`, with `Fault::PastEnd`, with causes of the driver's own, with `Fault::Memory` and `Fault::Storage`, and where a layer
+    /// can't be used. A refusal for another cause than `Memory` and `Storage` leaves each byte of the range old or 0, and every other as
+    /// it was.
+    pub fn write_zeroes(&mut self, alloc: Global, offset: u64, length: u64) -> Result<(), Fault>
+        requires free { IsFree (D.layer self.old.0) }
+        ensures ok { IsIntactChain D.layer D.safe D.sees self.old → OnOk result (Step (below_of D.layer self.old) (chain_disk D.layer self.old) (write_zeroes offset length) done (chain_disk D.layer self.new)) }
+        ensures err { IsIntactChain D.layer D.safe D.sees self.old → IfErr result (λ e. IsMild e → PartlyDone (below_of D.layer self.old) (write_zeroes offset length) (chain_disk D.layer self.old) (chain_disk D.layer self.new)) }
+        ensures at_once { (f : Fault) → change_refusal (unit_of_chain (map D.layer (chain self.old))) (D.layer self.old.0) offset length ≡ Some f → IsErrOf result f }
+        ensures idle { length ≡ 0 → barrier (D.layer self.old.0) ≡ None → IsOk result }
+        ensures like { IsLike (D.layer self.old.0) (D.layer self.new.0) }
+        ensures ran { RanChain D.layer D.image D.extras D.sees D.safe D.still D.sound (IsOk result) (IsWhole result) (GivesZero offset length) self.old self.new }
+        ensures cause { IsIntactChain D.layer D.safe D.sees self.old → IfErr result (ChangeCause (unit_of_chain (map D.layer (chain self.old))) (map D.layer (chain self.old)) (chain_disk D.layer self.old) (D.layer self.old.0).fixed.writable (write_zeroes offset length) (D.own_cause self.old.0 (map D.layer self.old.1) (write_zeroes offset length)) (files_of D.image D.extras (chain self.old)) (files_of D.image D.extras (chain self.new))) }
+    {
+        self.check_change(offset, length)?;
+        zero_all(
+            alloc,
+            &mut self.driver,
+            &mut self.below,
+            Zeroing::Keep,
+            offset,
+            length,
+        )
+    }
+
+    /// Makes a range read as 0, and gives up what is allocated for it where the format can. Nothing may be prepared.
+    ///
+    /// It refuses as `write_zeroes` does, and leaves the same.
+    pub fn discard_to_zero(&mut self, alloc: Global, offset: u64, length: u64) -> Result<(), Fault>
+        requires free { IsFree (D.layer self.old.0) }
+        ensures ok { IsIntactChain D.layer D.safe D.sees self.old → OnOk result (Step (below_of D.layer self.old) (chain_disk D.layer self.old) (discard_to_zero offset length) done (chain_disk D.layer self.new)) }
+        ensures err { IsIntactChain D.layer D.safe D.sees self.old → IfErr result (λ e. IsMild e → PartlyDone (below_of D.layer self.old) (discard_to_zero offset length) (chain_disk D.layer self.old) (chain_disk D.layer self.new)) }
+        ensures at_once { (f : Fault) → change_refusal (unit_of_chain (map D.layer (chain self.old))) (D.layer self.old.0) offset length ≡ Some f → IsErrOf result f }
+        ensures idle { length ≡ 0 → barrier (D.layer self.old.0) ≡ None → IsOk result }
+        ensures like { IsLike (D.layer self.old.0) (D.layer self.new.0) }
+        ensures ran { RanChain D.layer D.image D.extras D.sees D.safe D.still D.sound (IsOk result) (IsWhole result) (GivesZero offset length) self.old self.new }
+        ensures cause { IsIntactChain D.layer D.safe D.sees self.old → IfErr result (ChangeCause (unit_of_chain (map D.layer (chain self.old))) (map D.layer (chain self.old)) (chain_disk D.layer self.old) (D.layer self.old.0).fixed.writable (discard_to_zero offset length) (D.own_cause self.old.0 (map D.layer self.old.1) (discard_to_zero offset length)) (files_of D.image D.extras (chain self.old)) (files_of D.image D.extras (chain self.new))) }
+    {
+        self.check_change(offset, length)?;
+        zero_all(
+            alloc,
+            &mut self.driver,
+            &mut self.below,
+            Zeroing::GiveUp,
+            offset,
+            length,
+        )
+    }
+}
