@@ -1,0 +1,3 @@
+pub mod RawSteps
+pub mod Growing
+pub mod Windows

@@ -1,0 +1,180 @@
+-- What the calls of a storage do to the raw image over it.
+use Rattle.std.proofs.Common.{◌≡◌, ◌⊎◌, refl, inl, inr, ⊎_elim, ℕ, ◌+◌, ◌-◌, ◌<◌, ◌≤◌, List, [], ◌∷◌, length, arith, sym, ◌∙◌, ap, subst}
+use Rattle.std.specs.Prelude.{⊤, Bool, false, ◌&&◌, Some, None, Result, Ok, Err, OnOk, IfErr, IsTrue, EachIndex, slice_index, if◌then◌else◌, ltb}
+use Rattle.std.proofs.lemmas.Bool.{cases_lt, lt-ltb}
+use Rattle.imago_storage.specs.State.{Shape, StorageState, Rose, InStep, unit_of}
+use Rattle.imago_storage.specs.Disk.{Value, byte}
+use Rattle.imago_storage.specs.Steps.{IsIn, IsOut}
+use Rattle.imago_storage.specs.Calls.{Mixed, Resized}
+use Rattle.imago_storage.specs.Through.{Stops, StopsAsLong, WrittenThrough, NotWrittenThrough, HasWhole, GivenUp, discard_unit, whole_start, whole_size}
+use Rattle.imago_storage.specs.declared.fault.Fault.{Fault}
+use Rattle.imago_storage.specs.declared.fault.Fault.TheVariants.{RangeOverflow}
+use Rattle.imago_storage.proofs.Composing.{tells_on, keeps_on, no_stops, one_stop, stops_and, stops_weaker}
+use Rattle.imago_storage.proofs.Rounding.{le_round_up}
+use Rattle.imago_storage.proofs.Wholes.{round_down-le}
+use Rattle.imago_access.specs.Layer.{Layer, own, unmapped, loose, IsLike}
+use Rattle.imago_access.specs.Chain.{at, IsBacked}
+use Rattle.imago_access.specs.Changes.{Rewrites, ToAny}
+use Rattle.imago_access.specs.Stops.{Left, KeepsStops, KeepsStopsTo, GivesZero, GivesAny, GivesBelow, GivesBytes}
+use Rattle.imago_access.proofs.Stopping.{left_weaker, passes_weaker}
+use Rattle.imago_formats.specs.RawLayer.{raw_fixed, raw_layer}
+use Rattle.imago_formats.specs.Growing.{HasFirst}
+
+-- a storage of the same shape
+pub raw_like : (old new : StorageState) (size : ℕ) (w : Bool) → new.shape ≡ old.shape → IsLike (raw_layer old size w) (raw_layer new size w)
+raw_like old new size w shape = record { fixed = ap (λ (s : Shape). raw_fixed s w) shape; size = refl; unspent = refl }
+
+-- a file that a stop leaves: no shorter than asked, and below the disk's size each byte was there or is given
+pub raw_left : (below : List Layer) (old : StorageState) (size : ℕ) (w : Bool) (least : ℕ) (gives : ℕ → Value → Type 0) (f : List ℕ) → size ≤ length old.bytes → least ≤ length f
+    → ((p : ℕ) → p < size → p < length f → (slice_index f p ≡ slice_index old.bytes p) ⊎ gives p (byte (slice_index f p))) → Left below (raw_layer old size w) old.bytes (λ kind file. ⊤) least gives f
+raw_left below old size w least gives f fits long each = record {
+  is_sound = tt;
+  size = long;
+  shows = λ p inside in_disk.
+      let old_inside : p < length old.bytes = omega (arith, in_disk, fits) in
+      ⊎_elim
+      (λ same. inl (rw (lt-ltb p (length f) inside, lt-ltb p (length old.bytes) old_inside) (ap byte same)))
+      (λ gave. inr (inr (rw (lt-ltb p (length f) inside) gave)))
+      (each p in_disk inside);
+}
+
+-- the same bytes in a storage of the same shape
+pub raw_same : (old new : StorageState) (size : ℕ) (w : Bool) → new.shape ≡ old.shape → new.bytes ≡ old.bytes → raw_layer new size w ≡ raw_layer old size w
+raw_same old new size w shape bytes = λ i. record {
+  fixed = raw_fixed (shape i) w;
+  size = size;
+  failed = false;
+  cell = λ p. own (byte (slice_index (bytes i) p));
+  home = λ p. if ltb p size && w then Some (0, p) else None;
+  held = λ p. loose;
+  unspent = None;
+}
+
+-- what holds whatever the answer
+pub on_ok_always : {T : Type 0} (result : Result T Fault) (P : Type 0) → P → OnOk result P
+on_ok_always (Ok x) P holds = holds
+on_ok_always (Err fault) P holds = tt
+
+-- Raw images show no layer below, so that below one that is shown all places are 0.
+pub backed_zero : (below : List Layer) (s : StorageState) (size : ℕ) (w : Bool) → IsBacked below (raw_layer s size w) → (p : ℕ) → at below p ≡ byte 0
+backed_zero [] s size w backed p = refl
+backed_zero (next ∷ below) s size w backed p = let is : own (byte 0) ≡ unmapped = backed in absurd (cc is)
+
+pub backed_stops : (below : List Layer) (old new : StorageState) (size : ℕ) (w : Bool) (at n : ℕ) → IsBacked below (raw_layer old size w)
+    → KeepsStops below (raw_layer old size w) (λ kind file. ⊤) (GivesZero at n) old new → KeepsStops below (raw_layer old size w) (λ kind file. ⊤) (GivesBelow below at n) old new
+backed_stops below old new size w at n backed =
+    let l = raw_layer old size w in
+    passes_weaker (Left below l old.bytes (λ kind file. ⊤) size (GivesZero at n)) (Left below l old.bytes (λ kind file. ⊤) size (GivesBelow below at n)) old new
+    (left_weaker below (λ kind file. ⊤) l old.bytes size (GivesZero at n) (GivesBelow below at n) (λ p v inside gave. inr (inr (gave.0, gave.1 ∙ sym (backed_zero below old size w backed p)))))
+
+unwritten_step : (old new : StorageState) (at : ℕ) (bytes : List ℕ) (fault : Fault) → NotWrittenThrough old new at bytes fault → (Rose old.refusals new.refusals → ⊥) → InStep old → InStep new
+unwritten_step old new at bytes RangeOverflow h calm = subst (λ (s : StorageState). InStep old → InStep s) (sym h.1) (λ same. same)
+unwritten_step old new at bytes _ h calm = ⊎_elim (λ rose. absurd (calm rose)) (λ on. on) h.in_step
+
+-- A write of a range, whatever it answered.
+module _ {T : Type 0} (result : Result T Fault) (old new : StorageState) (at : ℕ) (bytes : List ℕ) (ok : OnOk result (WrittenThrough old new at bytes)) (err : IfErr result (NotWrittenThrough old new at bytes)) where
+  pub written_step : (Rose old.refusals new.refusals → ⊥) → InStep old → InStep new
+  written_step = from result ok err where
+    from : (r : Result T Fault) → OnOk r (WrittenThrough old new at bytes) → IfErr r (NotWrittenThrough old new at bytes) → (Rose old.refusals new.refusals → ⊥) → InStep old → InStep new
+    from (Ok x) done refused = λ calm. done.in_step
+    from (Err fault) done refused = unwritten_step old new at bytes fault refused
+
+  pub written_stops : (below : List Layer) (size : ℕ) (w : Bool) (gives : ℕ → Value → Type 0) → size ≤ length old.bytes → Stops (Mixed old.bytes at bytes) old new → StopsAsLong old new
+      → ((f : List ℕ) → Mixed old.bytes at bytes f → (p : ℕ) → p < size → (slice_index f p ≡ slice_index old.bytes p) ⊎ gives p (byte (slice_index f p)))
+      → KeepsStops below (raw_layer old size w) (λ kind file. ⊤) gives old new
+  written_stops below size w gives fits stops long each calm = (
+    written_step calm,
+    stops_weaker (λ f. Mixed old.bytes at bytes f × (length old.bytes ≤ length f)) (Left below (raw_layer old size w) old.bytes (λ kind file. ⊤) size gives) old new
+        (λ keeps f both. raw_left below old size w size gives f fits (omega (arith, fits, both.1)) (λ p lt inside. each f both.0 p lt))
+        (stops_and (Mixed old.bytes at bytes) (λ f. length old.bytes ≤ length f) old new stops long),
+  )
+
+-- a place lies outside of a range or in it
+in_or_out : (at n p : ℕ) → IsOut at n p ⊎ IsIn at n p
+in_or_out at n p = elim (cases_lt p at) [
+  | inl lt ↦ inl (inl lt)
+  | inr from ↦ elim (cases_lt p (at + n)) [ inl to ↦ inr (from, to) | inr past ↦ inl (inr past) ]
+]
+
+-- Bytes of a range.
+
+-- a byte of a file that is mixed of old bytes and these
+pub mixed_place : (old : List ℕ) (at : ℕ) (bytes f : List ℕ) → Mixed old at bytes f → (p : ℕ) → (slice_index f p ≡ slice_index old p) ⊎ (IsIn at (length bytes) p × (slice_index f p ≡ slice_index bytes (p - at)))
+mixed_place old at bytes f mixed p = elim (cases_lt p at) [
+  | inl lt ↦ inl (mixed.before p lt)
+  | inr from ↦ elim (cases_lt p (at + length bytes)) [
+    | inl to ↦ ⊎_elim (λ same. inl same) (λ new. inr ((from, to), new)) (mixed.inside p from to)
+    | inr past ↦ inl (mixed.after p past)
+  ]
+]
+
+pub mixed_bytes : (old : List ℕ) (at : ℕ) (bytes f : List ℕ) → Mixed old at bytes f → (p : ℕ) → (slice_index f p ≡ slice_index old p) ⊎ GivesBytes at bytes p (byte (slice_index f p))
+mixed_bytes old at bytes f mixed p =
+    ⊎_elim (λ same. inl same) (λ new. inr (p - at, omega (arith, new.0.0, new.0.1), omega (arith, new.0.0), ap byte new.1)) (mixed_place old at bytes f mixed p)
+
+-- Resizes.
+
+-- a file with the first bytes of the disk
+first_left : (below : List Layer) (old : StorageState) (size from : ℕ) (w : Bool) (gives : ℕ → Value → Type 0) (f : List ℕ) → size ≤ length old.bytes → HasFirst old.bytes from f
+    → ((p : ℕ) → from ≤ p → p < size → p < length f → gives p (byte (slice_index f p))) → Left below (raw_layer old size w) old.bytes (λ kind file. ⊤) from gives f
+first_left below old size from w gives f fits first past =
+    raw_left below old size w from gives f fits first.long
+    (λ p lt inside. elim (cases_lt p from) [ inl below_it ↦ inl (first.same p below_it) | inr behind ↦ inr (past p behind lt inside) ])
+
+-- one that shrinks has no place past its new size
+pub shrunk_stops : (below : List Layer) (old new : StorageState) (size to : ℕ) (w : Bool) (gives : ℕ → Value → Type 0) → size ≤ length old.bytes → Resized old new to
+    → KeepsStopsTo below (raw_layer old size w) (λ kind file. ⊤) to gives old new
+shrunk_stops below old new size to w gives fits resized calm = (
+  resized.changed.in_step,
+  one_stop (Left below (raw_layer old size w) old.bytes (λ kind file. ⊤) to gives) old new resized.changed.mark
+      (λ step tells keeps.
+      subst (Left below (raw_layer old size w) old.bytes (λ kind file. ⊤) to gives)
+      (sym (resized.changed.in_step step (tells_on old new resized.changed.shape tells) (keeps_on old new resized.changed.shape keeps)))
+      (first_left below old size to w gives new.bytes fits (record { long = omega (arith, resized.size); same = resized.content keeps }) (λ p from lt inside. absurd (omega (arith, from, inside, resized.size))))),
+)
+
+-- Discards.
+module _ (old new : StorageState) (size : ℕ) (w : Bool) (at n : ℕ) (positive : 0 < unit_of old.shape) (bytes : EachIndex new.bytes (λ k. slice_index new.bytes k < 256)) where
+  whole_inside : HasWhole (discard_unit old) at n → (at ≤ whole_start old at) × (whole_start old at + whole_size old at n ≤ at + n)
+  whole_inside has = (le_round_up (discard_unit old) at (omega (arith, positive)), omega (arith, has, round_down-le (discard_unit old) (at + n)))
+
+  -- what lies outside of the range stays
+  given_outside : IsTrue old.shape.keeps → GivenUp old new at n → (p : ℕ) → IsOut at n p → slice_index new.bytes p ≡ slice_index old.bytes p
+  given_outside keeps given p out = ⊎_elim
+      (λ same. ap (λ (s : StorageState). slice_index s.bytes p) same)
+      (λ done.
+      let inside = whole_inside done.0 in
+      let stays = done.1.content keeps in
+      ⊎_elim (λ before. stays.before p (omega (arith, before, inside.0))) (λ after. stays.after p (omega (arith, after, inside.1))) out)
+      given
+
+  given_long : GivenUp old new at n → length new.bytes ≡ length old.bytes
+  given_long given = ⊎_elim (λ same. ap (λ (s : StorageState). length s.bytes) same) (λ done. done.1.size) given
+
+  given_shape : GivenUp old new at n → new.shape ≡ old.shape
+  given_shape given = ⊎_elim (λ same. ap (λ (s : StorageState). s.shape) same) (λ done. done.1.changed.shape) given
+
+  pub given_any : size ≤ length old.bytes → at + n ≤ size → IsTrue old.shape.keeps → GivenUp old new at n → Rewrites ToAny (raw_layer old size w) (raw_layer new size w) at n
+  given_any fits inside keeps given = record {
+    like = raw_like old new size w (given_shape given);
+    range = λ p within. inr (byte (slice_index new.bytes p), (slice_index new.bytes p, bytes p (omega (arith, within.1, inside, fits, given_long given)), refl), refl);
+    others = λ p out. ap (λ (b : ℕ). own (byte b)) (given_outside keeps given p out);
+  }
+
+  pub given_stops : (below : List Layer) → size ≤ length old.bytes → GivenUp old new at n → KeepsStops below (raw_layer old size w) (λ kind file. ⊤) (GivesAny at n) old new
+  given_stops below fits given calm =
+      let P : List ℕ → Type 0 = Left below (raw_layer old size w) old.bytes (λ kind file. ⊤) size (GivesAny at n) in
+      ⊎_elim
+      (λ same. (subst (λ (s : StorageState). InStep old → InStep s) (sym same) (λ step. step), no_stops P old new (ap (λ (s : StorageState). s.stop) same) (ap (λ (s : StorageState). s.past) same)))
+      (λ done. (
+        done.1.changed.in_step,
+        one_stop P old new done.1.changed.mark
+            (λ step tells keeps.
+            subst P (sym (done.1.changed.in_step step (tells_on old new done.1.changed.shape tells) (keeps_on old new done.1.changed.shape keeps)))
+            (raw_left below old size w size (GivesAny at n) new.bytes fits (omega (arith, fits, done.1.size))
+            (λ p lt inside. ⊎_elim
+            (λ out. inl (given_outside keeps given p out))
+            (λ within. inr (within, (slice_index new.bytes p, bytes p inside, refl)))
+            (in_or_out at n p)))),
+      ))
+      given

@@ -1,0 +1,44 @@
+-- How a storage is made longer for a disk that it is no shorter than.
+use Rattle.std.specs.Prelude.{◌≡◌, ◌⊎◌, ◌<◌, ◌≤◌, ℕ, List, length, slice_index, IsTrue}
+use Rattle.imago_storage.specs.State.{StorageState, Rose, InStep}
+use Rattle.imago_storage.specs.Calls.{Cause}
+use Rattle.imago_storage.specs.Through.{Stops}
+use Rattle.imago_storage.specs.declared.fault.Fault.{Fault}
+use Rattle.imago_storage.specs.declared.fault.Fault.TheVariants.{Unsupported}
+
+-- a file with the first n bytes of another
+pub record HasFirst (old : List ℕ) (n : ℕ) (f : List ℕ) : Type 0 where
+  pub long : n ≤ length f
+  pub same : (k : ℕ) → k < n → slice_index f k ≡ slice_index old k
+
+-- the first bytes alone are left
+pub record CutTo (old new : StorageState) (from : ℕ) : Type 0 where
+  pub shape : new.shape ≡ old.shape
+  pub faults : new.faults ≡ old.faults
+  pub refusals : new.refusals ≡ old.refusals
+  pub size : length new.bytes ≡ from
+  pub kept : IsTrue old.shape.keeps → (k : ℕ) → k < from → slice_index new.bytes k ≡ slice_index old.bytes k
+  pub in_step : InStep old → InStep new
+  pub stops : Stops (HasFirst old.bytes from) old new
+
+-- the first bytes are left, and those behind them are 0
+pub record GrownTo (old new : StorageState) (from to : ℕ) : Type 0 where
+  pub faults : new.faults ≡ old.faults
+  pub size : length new.bytes ≡ to
+  pub kept : IsTrue old.shape.keeps → (k : ℕ) → k < from → slice_index new.bytes k ≡ slice_index old.bytes k
+  pub filled : IsTrue old.shape.keeps → (k : ℕ) → from ≤ k → k < to → slice_index new.bytes k ≡ 0
+  pub in_step : InStep old → InStep new
+  pub stops : Stops (HasFirst old.bytes from) old new
+
+-- why a storage isn't resized
+abbrev pub ResizeCause : ℕ → ℕ → Fault → Type 0
+ResizeCause before after Unsupported = after ≡ before
+ResizeCause before after fault = Cause before after fault
+
+-- the first bytes are left
+pub record NotGrown (old new : StorageState) (from : ℕ) (fault : Fault) : Type 0 where
+  pub cause : ResizeCause old.faults new.faults fault
+  pub long : from ≤ length old.bytes → from ≤ length new.bytes
+  pub kept : IsTrue old.shape.keeps → (k : ℕ) → k < from → slice_index new.bytes k ≡ slice_index old.bytes k
+  pub in_step : Rose old.refusals new.refusals ⊎ (InStep old → InStep new)
+  pub stops : Stops (HasFirst old.bytes from) old new

@@ -1,0 +1,5 @@
+pub mod RawLayer
+pub mod RawHome
+pub mod Growing
+pub mod Creating
+pub mod Windows

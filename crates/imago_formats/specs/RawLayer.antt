@@ -1,0 +1,52 @@
+-- A raw image as a layer: each byte of the storage is a place.
+use Rattle.std.specs.Prelude.{⊤, ℕ, max, Bool, false, ◌&&◌, Option, Some, None, List, length, slice_index, if◌then◌else◌, ltb, codes, ◌++◌}
+use Rattle.imago_storage.specs.State.{Shape, StorageState, unit_of}
+use Rattle.imago_storage.specs.Disk.{byte}
+use Rattle.imago_storage.specs.Steps.{Call, shrink}
+use Rattle.imago_storage.specs.declared.fault.Fault.{Fault}
+use Rattle.imago_storage.specs.declared.fault.Fault.TheVariants.{Unsupported}
+use Rattle.imago_access.specs.Layer.{Layer, Fixed, Meaning, own, loose}
+use Rattle.imago_access.specs.declared.format.Format.TheVariants as format
+
+-- what a file means as a raw image: its bytes
+abbrev pub raw_meaning : List ℕ → Meaning
+raw_meaning f = record { size = length f; cell = λ p. own (byte (slice_index f p)) }
+
+-- what never changes of a raw image over a storage of this shape, which was opened for writing or not
+abbrev pub raw_fixed : Shape → Bool → Fixed
+raw_fixed shape writable = record {
+  format = format.Raw;
+  writable = writable;
+  keeps = shape.keeps;
+  missing = false;
+  number = 0;
+  blank = own (byte 0);
+  req_align = shape.req_align;
+  mem_align = shape.mem_align;
+  granularity = Some (max (unit_of shape) shape.zero_align);
+  kind = 0;
+  means = raw_meaning;
+  exact = false;
+}
+
+-- a raw image over a storage in this state, with its size in bytes and whether it was opened for writing
+abbrev pub raw_layer : StorageState → ℕ → Bool → Layer
+raw_layer state size writable = record {
+  fixed = raw_fixed state.shape writable;
+  size = size;
+  failed = false;
+  cell = λ p. own (byte (slice_index state.bytes p));
+  home = λ p. if ltb p size && writable then Some (0, p) else None;
+  held = λ p. loose;
+  unspent = None;
+}
+
+-- the causes of its own to refuse a change: a storage that can't be cut
+abbrev pub RawCause : Call → Fault → Type 0
+RawCause (shrink size) Unsupported = ⊤
+RawCause call fault = ⊥
+
+-- what a raw image is printed as
+abbrev pub raw_text : Option (List ℕ) → List ℕ
+raw_text None = codes "raw[]"
+raw_text (Some name) = codes "raw[" ++ name ++ codes "]"

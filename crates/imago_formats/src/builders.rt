@@ -1,0 +1,171 @@
+// How raw images are opened and created.
+ghost use Rattle.std.specs.Prelude.{◌≡◌, length, true, false, None};
+ghost use Rattle.imago_storage.specs.State.{StorageState};
+ghost use Rattle.imago_access.specs.declared.format.Format.TheVariants as format;
+ghost use Rattle.imago_access.specs.declared.format.PreallocateMode.TheVariants as mode;
+ghost use Rattle.imago_formats.specs.RawLayer.{raw_layer};
+ghost use Rattle.imago_formats.specs.Creating.{IsNewRaw, NotCreated};
+
+use crate::raw::{Raw, grow_storage, storage_mode};
+use imago_access::{
+    Format, FormatCreateBuilder, FormatCreateBuilderBase, FormatDriverBuilder,
+    FormatDriverBuilderBase, FormatDriverInstance, ImplicitOpenGate, MakeOpenBuilder,
+    PreallocateMode,
+};
+use imago_storage::{Fault, Storage, StorageOpenOptions};
+use std::alloc::Global;
+
+/// Opens a raw image: never refused, with no request, and no storage is asked of the gate, as a raw image names none.
+#[derive(Drop)]
+pub struct RawOpenBuilder<S> {
+    base: FormatDriverBuilderBase<S>,
+}
+
+impl<S: Storage> FormatDriverBuilder<S> for RawOpenBuilder<S> {
+    type Format = Raw<S>;
+
+    const FORMAT: Format = Format::Raw;
+
+    ghost FORMAT = { format.Raw };
+
+    ghost image_of = { λ b. b.base.image };
+
+    ghost writable_of = { λ b. b.base.writable };
+
+    ghost options_of = { λ b. b.base.options };
+
+    ghost opens = { λ b d. let image = S.state b.base.image in (d.storage ≡ b.base.image) × (⟦<Raw<S> as FormatDriverInstance>⟧.layer d ≡ raw_layer image (length image.bytes) b.base.writable) × ⟦<Raw<S> as FormatDriverInstance>⟧.safe d };
+
+    ghost refuses = { λ b fault. ⊥ };
+
+    fn new(image: S) -> Self {
+        RawOpenBuilder {
+            base: FormatDriverBuilderBase::new(image),
+        }
+    }
+
+    fn write(mut self, write: bool) -> Self {
+        self.base.set_write(write);
+        self
+    }
+
+    fn storage_open_options(mut self, options: StorageOpenOptions) -> Self {
+        self.base.set_storage_open_options(options);
+        self
+    }
+
+    fn open<G: ImplicitOpenGate<S>>(self, _alloc: Global, gate: &mut G) -> Result<Raw<S>, Fault> {
+        let writable = self.base.get_writable();
+        let image = self.base.open_image(gate)?;
+        Ok(Raw::open_image(image, writable))
+    }
+
+    fn get_writable(&self) -> bool {
+        self.base.get_writable()
+    }
+
+    fn get_storage_open_options(&self) -> Option<&StorageOpenOptions> {
+        self.base.get_storage_opts()
+    }
+}
+
+/// Creates a raw image: the storage is cut to nothing, then made as long as the disk, and flushed.
+///
+/// It refuses with `Fault::Unsupported` where the storage can't be cut or grown so, with `Fault::Memory` and `Fault::Storage`, and
+/// drops the storage then. `create_open` refuses so, and as the closure does that makes the builder.
+#[derive(Drop)]
+pub struct RawCreateBuilder<S> {
+    base: FormatCreateBuilderBase<S>,
+}
+
+impl<S: Storage> FormatCreateBuilder<S> for RawCreateBuilder<S> {
+    const FORMAT: Format = Format::Raw;
+
+    ghost FORMAT = { format.Raw };
+
+    type DriverBuilder = RawOpenBuilder<S>;
+
+    ghost storage_of = { λ b. b.base.image };
+
+    ghost size_of = { λ b. b.base.size };
+
+    ghost preallocate_of = { λ b. b.base.preallocate };
+
+    ghost creates = { λ b s. IsNewRaw (S.state b.base.image) (S.state s) b.base.size };
+
+    ghost hands = { λ b s. IsNewRaw (S.state b.base.image) (S.state s) b.base.size };
+
+    ghost opens = { λ b opening d. let image = S.state opening.base.image in (d.storage ≡ opening.base.image) × (⟦<Raw<S> as FormatDriverInstance>⟧.layer d ≡ raw_layer image (length image.bytes) true) × ⟦<Raw<S> as FormatDriverInstance>⟧.safe d };
+
+    ghost refuses = { λ b fault. NotCreated fault };
+
+    fn new(image: S) -> Self {
+        RawCreateBuilder {
+            base: FormatCreateBuilderBase::new(image),
+        }
+    }
+
+    fn size(mut self, size: u64) -> Self {
+        self.base.set_size(size);
+        self
+    }
+
+    fn preallocate(mut self, preallocate: PreallocateMode) -> Self {
+        self.base.set_preallocate(preallocate);
+        self
+    }
+
+    fn get_size(&self) -> u64 {
+        self.base.get_size()
+    }
+
+    fn get_preallocate(&self) -> PreallocateMode {
+        self.base.get_preallocate()
+    }
+
+    fn create(self, _alloc: Global) -> Result<S, Fault> {
+        let size = self.base.get_size();
+        let mode = storage_mode(self.base.get_preallocate());
+        let mut image = self.base.get_image();
+        match grow_storage(&mut image, 0, size, mode) {
+            Ok(()) => {}
+            Err(fault) => return Err(fault),
+        }
+        match image.flush() {
+            Ok(()) => Ok(image),
+            Err(fault) => Err(fault),
+        }
+    }
+
+    fn create_open<G: ImplicitOpenGate<S>, F: MakeOpenBuilder<S, RawOpenBuilder<S>> + Drop>(
+        self,
+        alloc: Global,
+        gate: &mut G,
+        open_builder: F,
+    ) -> Result<Raw<S>, Fault> {
+        let image = match self.create(alloc) {
+            Ok(image) => image,
+            Err(fault) => return Err(fault),
+        };
+        match open_builder.make(image) {
+            Ok(builder) => builder.write(true).open(alloc, gate),
+            Err(fault) => Err(fault),
+        }
+    }
+}
+
+impl<S: Storage> Raw<S> {
+    /// Opens a raw image, option by option.
+    pub fn builder(image: S) -> RawOpenBuilder<S>
+        ensures { result ≡ record { base = record { image = image; writable = false; options = None } } }
+    {
+        RawOpenBuilder::new(image)
+    }
+
+    /// Creates a raw image, option by option.
+    pub fn create_builder(image: S) -> RawCreateBuilder<S>
+        ensures { result ≡ record { base = record { image = image; size = 0; preallocate = mode.None } } }
+    {
+        RawCreateBuilder::new(image)
+    }
+}

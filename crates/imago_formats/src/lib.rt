@@ -1,0 +1,11 @@
+//! Drivers of the simple formats: raw images.
+#![tactic(auto)]
+
+mod builders;
+mod raw;
+
+pub use builders::{RawCreateBuilder, RawOpenBuilder};
+pub use raw::{NoState, Raw};
+
+#[cfg(test)]
+mod tests;

@@ -1,0 +1,587 @@
+// A raw image: the disk is the storage's bytes.
+ghost use Rattle.std.specs.Prelude.{◌≡◌, ◌+◌, ◌≤◌, ◌<◌, ◌∷◌, [], ⊤, refl, ℕ, List, length, slice_index, replicate, OnOk, IfOk, IfErr, IfSome, IsSome, IsTrue, IsOk, IsErrOf, MatchResult, None, Some, true, ◌++◌, IsFalse};
+ghost use Rattle.std.proofs.Common.{inr};
+ghost use Rattle.imago_storage.specs.State.{StorageState, unit_of};
+ghost use Rattle.imago_storage.specs.Steps.{Call, shrink};
+ghost use Rattle.imago_storage.specs.Calls.{Mixed, Later};
+ghost use Rattle.imago_storage.specs.Through.{WrittenThrough, NotWrittenThrough, Stops, StopsAsLong};
+ghost use Rattle.imago_storage.specs.declared.fault.Fault.{Fault};
+ghost use Rattle.imago_storage.specs.declared.fault.Fault.TheVariants.{Foreign, ReadOnly, Unsupported};
+ghost use Rattle.imago_access.specs.Layer.{Layer, IsFree, IsLike, unit_of_layer};
+ghost use Rattle.imago_access.specs.Changes.{Committed, Cancelled, Rewrites, ToZero};
+ghost use Rattle.imago_access.specs.Files as Files;
+ghost use Rattle.imago_access.specs.Files.{IsMild, SomeRose};
+ghost use Rattle.imago_access.specs.Going.{Went, LookedUnder};
+ghost use Rattle.imago_access.specs.Refusals.{change_refusal, barrier};
+ghost use Rattle.imago_access.specs.Parts.{DeclinableCause, GrowthCause, ShrinkCause};
+ghost use Rattle.imago_access.specs.Spending.{IsMine, Spends, commit_refusal, GivenBack, IsForeignTo};
+ghost use Rattle.imago_access.specs.Stops.{KeepsStops, GivesSettled, GivesZero, KeepsStopsTo, GivesBelowPast, GivesPast};
+ghost use Rattle.imago_access.specs.Chain.{at};
+ghost use Rattle.imago_access.specs.Resizes as Resizes;
+ghost use Rattle.imago_access.specs.Resizes.{fill_of, Grown, Shrunk, NotShrunk};
+ghost use Rattle.imago_access.specs.declared.format.PreallocateMode.{PreallocateMode};
+ghost use Rattle.std.specs.Borrow.{Lends, sem};
+ghost use Rattle.imago_formats.specs.contracts.raw.Raw.{the_row};
+ghost use Rattle.imago_formats.specs.RawLayer.{raw_layer, raw_text, RawCause};
+ghost use Rattle.imago_formats.specs.RawHome.{one_home};
+ghost use Rattle.imago_formats.specs.Growing.{CutTo, GrownTo, NotGrown};
+
+use imago_access::{
+    Format, FormatDriverInstance, PreallocateMode, PreparedDataMapping, ReadBelow, ShallowMapping,
+};
+use imago_storage::{
+    Fault, PreallocateMode as StorageMode, Storage, StorageExt, larger_alignment, padded_end,
+    write_full_zeroes,
+};
+use std::alloc::Global;
+use std::fmt::{self, Display, Formatter, Write};
+
+/// A raw image prepares nothing that would have to be committed.
+#[derive(Drop)]
+pub enum NoState {}
+
+/// A raw image: each byte of the disk is the byte of its storage at the same place.
+///
+/// Its size, in bytes, is that of the storage when it was opened, or of the last resize since. It never passes the storage's length,
+/// which padding of writes may make greater. Its one storage has the number 0.
+///
+/// As a driver it is never failed, lacks no file and shows no layer below: `discard_to_backing` zeroes. All but a resize is done whole.
+/// `resize_grow` grows the storage in the mode `None`, `Zero`, `Zero`, `Allocate` or `WriteData` for the five modes in their order; both
+/// resizes refuse with `Fault::Unsupported` where the storage does, and a refused one leaves the size, also after a storage's fault.
+#[derive(Drop)]
+pub struct Raw<S> {
+    storage: S,
+    size: u64,
+    writable: bool,
+}
+
+impl<S: Storage> Raw<S> {
+    /// Opens a storage as a raw image, for reading alone or also for writing.
+    pub fn open_image(storage: S, writable: bool) -> Self
+        ensures layer { ⟦<Raw<S> as FormatDriverInstance>⟧.layer result ≡ raw_layer (S.state storage) (length (S.state storage).bytes) writable }
+        ensures safe { ⟦<Raw<S> as FormatDriverInstance>⟧.safe result }
+        ensures storage { result.storage ≡ storage }
+    {
+        let size = storage.size();
+        Raw {
+            storage,
+            size,
+            writable,
+        }
+    }
+}
+
+impl<S> Raw<S> {
+    /// Whether a storage can be opened as a raw image: always.
+    pub fn probe(_image: &mut S) -> Result<bool, Fault>
+        ensures value { result ≡ Ok true }
+        ensures same { _image.new ≡ _image.old }
+    {
+        Ok(true)
+    }
+
+    /// The storage.
+    pub fn image(&self) -> &S
+        ensures { result.now ≡ self.now.storage }
+    {
+        &self.storage
+    }
+
+    /// The storage, to be changed.
+    ///
+    /// The image keeps its size, and its disk is then what the storage's bytes are. It has to be left no shorter than the disk: with
+    /// one that is shorter, the image isn't safe.
+    pub fn image_mut(&mut self) -> &mut S
+        ensures* lends { sem 𝓛 (Lends (the_row S.row) S.row self.entry result (λ w. record self.entry.now { storage = w })) }
+        ensures value { result.now ≡ self.old.storage }
+    {
+        &mut self.storage
+    }
+
+    /// The storage again. Nothing waits to be written to it.
+    pub fn into_image(self) -> S
+        ensures { result ≡ self.storage }
+    {
+        let Raw {
+            storage,
+            size: _size,
+            writable: _writable,
+        } = self;
+        storage
+    }
+}
+
+impl<S: Storage> Display for Raw<S> {
+    ghost output = { λ r. Some (raw_text (S.state r.storage).shape.filename) };
+
+    fn fmt<W: Write>(&self, f: &mut Formatter<W>) -> fmt::Result {
+        match self.storage.get_filename() {
+            Some(name) => write!(f, "raw[{name}]"),
+            None => write!(f, "raw[]"),
+        }
+    }
+}
+
+impl<S: Storage> Raw<S> {
+    // Why a change of a range that isn't empty is refused before anything is done.
+    fn check_change(&self, offset: u64, length: u64) -> Result<(), Fault>
+        requires { 0 < length }
+        ensures ok { OnOk result (change_refusal (unit_of (S.state self.now.storage).shape) (raw_layer (S.state self.now.storage) self.now.size self.now.writable) offset length ≡ None) }
+        ensures inside { OnOk result (offset + length ≤ self.now.size) }
+        ensures err { IfErr result (λ e. change_refusal (unit_of (S.state self.now.storage).shape) (raw_layer (S.state self.now.storage) self.now.size self.now.writable) offset length ≡ Some e) }
+    {
+        if !self.writable {
+            return Err(Fault::ReadOnly);
+        }
+        let unit = larger_alignment(self.storage.req_align(), self.storage.mem_align());
+        if padded_end(offset, length, unit as u64).is_none() {
+            return Err(Fault::RangeOverflow);
+        }
+        if length > self.size || offset > self.size - length {
+            return Err(Fault::PastEnd);
+        }
+        Ok(())
+    }
+
+    // Zeroes a range of the disk.
+    fn zero(
+        &mut self,
+        alloc: Global,
+        zeroes: Zeroes,
+        offset: u64,
+        length: u64,
+    ) -> Result<(u64, u64), Fault>
+        ensures all { IfOk result (λ r. r ≡ (offset, length)) }
+        ensures ok { let d = ⟦<Raw<S> as FormatDriverInstance>⟧ in IsTrue (d.layer self.old).fixed.keeps → OnOk result (Rewrites ToZero (d.layer self.old) (d.layer self.new) offset length) }
+        ensures err { let d = ⟦<Raw<S> as FormatDriverInstance>⟧ in IfErr result (λ e. IsMild e → self.new ≡ self.old) }
+        ensures at_once { let d = ⟦<Raw<S> as FormatDriverInstance>⟧ in (f : Fault) → change_refusal (unit_of_layer (d.layer self.old)) (d.layer self.old) offset length ≡ Some f → IsErrOf result f }
+        ensures idle { length ≡ 0 → IsOk result }
+        ensures like { let d = ⟦<Raw<S> as FormatDriverInstance>⟧ in IsLike (d.layer self.old) (d.layer self.new) }
+        ensures went { let d = ⟦<Raw<S> as FormatDriverInstance>⟧ in Went d.layer d.image d.extras d.safe (IsOk result) (Files.IsWhole result) self.old self.new }
+        ensures stops { let d = ⟦<Raw<S> as FormatDriverInstance>⟧ in d.safe self.old → (below : List Layer) → KeepsStops below (d.layer self.old) d.sound (GivesZero offset length) (d.image self.old) (d.image self.new) }
+        ensures cause { let d = ⟦<Raw<S> as FormatDriverInstance>⟧ in (below : List Layer) (e : _) (call : Call) → IfErr result (DeclinableCause below (d.layer self.old) offset length (d.own_cause e below call) (d.image self.old ∷ d.extras self.old) (d.image self.new ∷ d.extras self.new)) }
+    {
+        if length == 0 {
+            return Ok((offset, 0));
+        }
+        match self.check_change(offset, length) {
+            Ok(()) => {}
+            Err(fault) => return Err(fault),
+        }
+        match zero_range(&mut self.storage, alloc, zeroes, offset, length) {
+            Ok(()) => Ok((offset, length)),
+            Err(fault) => Err(fault),
+        }
+    }
+}
+
+// What becomes of the room that a zeroed range has.
+#[derive(Clone, Copy, Drop)]
+enum Zeroes {
+    // The storage may give it up.
+    GivenUp,
+    // It stays allocated.
+    Allocated,
+}
+
+// Zeroes a range of a storage, by writing where the storage has no call for it.
+fn zero_range<S: Storage>(
+    storage: &mut S,
+    alloc: Global,
+    zeroes: Zeroes,
+    offset: u64,
+    length: u64,
+) -> Result<(), Fault>
+    ensures ok { OnOk result (WrittenThrough (S.state storage.old) (S.state storage.new) offset (replicate length 0)) }
+    ensures err { IfErr result (NotWrittenThrough (S.state storage.old) (S.state storage.new) offset (replicate length 0)) }
+    ensures shape { (S.state storage.new).shape ≡ (S.state storage.old).shape }
+    ensures later { Later (S.state storage.old) (S.state storage.new) }
+    ensures stops { Stops (Mixed (S.state storage.old).bytes offset (replicate length 0)) (S.state storage.old) (S.state storage.new) }
+    ensures as_long { StopsAsLong (S.state storage.old) (S.state storage.new) }
+{
+    match zeroes {
+        Zeroes::GivenUp => storage.write_zeroes(alloc, offset, length),
+        Zeroes::Allocated => match storage.write_allocated_zeroes(alloc, offset, length) {
+            Ok(()) => Ok(()),
+            Err(fault) => match fault {
+                Fault::Unsupported => write_full_zeroes(storage, alloc, offset, length),
+                _ => Err(fault),
+            },
+        },
+    }
+}
+
+impl<S: Storage> FormatDriverInstance for Raw<S> {
+    type Storage = S;
+
+    type State = NoState;
+
+    ghost layer = { λ r. raw_layer (S.state r.storage) r.size r.writable };
+
+    ghost image = { λ r. S.state r.storage };
+
+    ghost extras = { λ _. [] };
+
+    ghost stored = { λ r n p. slice_index (S.state r.storage).bytes p };
+
+    ghost sees = { λ _. ⊤ };
+
+    ghost safe = { λ r. r.size ≤ length (S.state r.storage).bytes };
+
+    ghost still = { λ _. ⊤ };
+
+    ghost claim = { λ _. 0 };
+
+    ghost tag = { λ _. 0 };
+
+    ghost sound = { λ kind f. ⊤ };
+
+    ghost began = { λ d call now. ⊤ };
+
+    ghost own_cause = { λ d below call fault. RawCause call fault };
+
+    ghost growth_cause = { λ d below size mode fault. fault ≡ Unsupported };
+
+    ghost safe_sees = { λ d safe. tt };
+
+    ghost safe_runs = { λ d safe. refl };
+
+    ghost blanks = { λ d. inr refl };
+
+    ghost safe_sound = { λ d safe. record { is_sound = tt; size = safe } };
+
+    ghost begins = { λ d call. tt };
+
+    ghost free_loose = { λ d free p. refl };
+
+    ghost one_home = { λ d p q at safe. one_home d.size d.writable p q at };
+
+    ghost aligned = { λ d. let shape = S.aligned d.storage in (shape.requests, shape.memory) };
+
+    fn format(&self) -> Format {
+        Format::Raw
+    }
+
+    fn size(&self) -> u64 {
+        self.size
+    }
+
+    fn writable(&self) -> bool {
+        self.writable
+    }
+
+    fn zero_granularity(&self) -> Option<u64> {
+        Some(
+            self.storage
+                .req_align()
+                .max(self.storage.mem_align())
+                .max(self.storage.zero_align()) as u64,
+        )
+    }
+
+    fn req_align(&self) -> usize {
+        self.storage.req_align()
+    }
+
+    fn mem_align(&self) -> usize {
+        self.storage.mem_align()
+    }
+
+    fn ready(&self) -> Result<(), Fault> {
+        Ok(())
+    }
+
+    fn prepared(&self) -> bool {
+        false
+    }
+
+    fn get_mapping(
+        &mut self,
+        _alloc: Global,
+        offset: u64,
+        max_length: u64,
+    ) -> Result<(ShallowMapping, u64), Fault> {
+        if offset >= self.size {
+            return Ok((ShallowMapping::Eof, 0));
+        }
+        let mapping = ShallowMapping::Raw {
+            storage: 0,
+            offset,
+            writable: self.writable,
+        };
+        Ok((mapping, max_length.min(self.size - offset)))
+    }
+
+    fn read_mapped(
+        &mut self,
+        alloc: Global,
+        _storage: usize,
+        place: u64,
+        buf: &mut [u8],
+    ) -> Result<(), Fault> {
+        self.storage.read(alloc, buf, place)
+    }
+
+    fn read_special(&mut self, _buf: &mut [u8], _offset: u64) -> Result<(), Fault> {
+        Err(Fault::Barred)
+    }
+
+    fn prepare_data_mapping<B: ReadBelow>(
+        &mut self,
+        _alloc: Global,
+        _below: &mut B,
+        offset: u64,
+        length: u64,
+        _overwrite: bool,
+    ) -> Result<PreparedDataMapping<NoState>, Fault> {
+        if length == 0 {
+            return Ok(PreparedDataMapping::existing(0, 0, 0));
+        }
+        match self.check_change(offset, length) {
+            Ok(()) => Ok(PreparedDataMapping::existing(0, offset, length)),
+            Err(fault) => Err(fault),
+        }
+    }
+
+    fn commit_data_mapping(
+        &mut self,
+        _alloc: Global,
+        mapping: PreparedDataMapping<NoState>,
+    ) -> Result<(), (Fault, Option<PreparedDataMapping<NoState>>)>
+        ensures ok { let d = ⟦<Raw<S> as FormatDriverInstance>⟧ in OnOk result (Spends d.claim d.tag mapping.state (d.layer self.old) (d.layer self.new) (IsFree (d.layer self.new) × (IsTrue (d.layer self.old).fixed.keeps → d.safe self.old → Committed (d.layer self.old) (d.layer self.new)))) }
+        ensures went { let d = ⟦<Raw<S> as FormatDriverInstance>⟧ in Went d.layer d.image d.extras d.safe (IsOk result) (IsOk result × IsMine d.claim d.tag mapping.state (d.layer self.old)) self.old self.new }
+        ensures back { let d = ⟦<Raw<S> as FormatDriverInstance>⟧ in IfErr result (λ e. IfSome e.1 (λ m. (m ≡ mapping) × (d.layer self.new ≡ d.layer self.old) × GivenBack d.tag mapping.state (d.layer self.old) e.0 × (d.safe self.old → d.safe self.new))) }
+        ensures at_once { let d = ⟦<Raw<S> as FormatDriverInstance>⟧ in (f : Fault) → commit_refusal d.tag mapping.state (d.layer self.old) ≡ Some f → MatchResult result (λ _. ⊥) (λ e. e.0 ≡ f) }
+        ensures spent { let d = ⟦<Raw<S> as FormatDriverInstance>⟧ in IfErr result (λ e. e.1 ≡ None → IsSome mapping.state × IsTrue (d.layer self.new).failed × Spends d.claim d.tag mapping.state (d.layer self.old) (d.layer self.new) (IsFree (d.layer self.new) × (d.safe self.old → IsMild e.0 → ⊥))) }
+        ensures size { let d = ⟦<Raw<S> as FormatDriverInstance>⟧ in (d.layer self.new).size ≡ (d.layer self.old).size }
+        ensures began { let d = ⟦<Raw<S> as FormatDriverInstance>⟧ in (e : _) (call : Call) → d.began e call self.old → IsMine d.claim d.tag mapping.state (d.layer self.old) → OnOk result (d.began e call self.new) }
+        ensures stops { let d = ⟦<Raw<S> as FormatDriverInstance>⟧ in IsTrue (d.layer self.old).fixed.keeps → d.safe self.old → IsMine d.claim d.tag mapping.state (d.layer self.old) → (below : List Layer) → KeepsStops below (d.layer self.old) d.sound (GivesSettled below (d.layer self.old)) (d.image self.old) (d.image self.new) }
+        ensures failed { let d = ⟦<Raw<S> as FormatDriverInstance>⟧ in IfErr result (λ e. e.0 ≡ Fault.Storage → SomeRose (d.image self.old ∷ d.extras self.old) (d.image self.new ∷ d.extras self.new)) }
+    {
+        match mapping.into_state() {
+            None => Ok(()),
+            Some(state) => match state {},
+        }
+    }
+
+    fn cancel_data_mapping(
+        &mut self,
+        mapping: PreparedDataMapping<NoState>,
+    ) -> Result<(), (Fault, PreparedDataMapping<NoState>)>
+        ensures ok { let d = ⟦<Raw<S> as FormatDriverInstance>⟧ in OnOk result (Spends d.claim d.tag mapping.state (d.layer self.old) (d.layer self.new) (Cancelled (d.layer self.old) (d.layer self.new))) }
+        ensures safe { let d = ⟦<Raw<S> as FormatDriverInstance>⟧ in IsMine d.claim d.tag mapping.state (d.layer self.old) → d.safe self.old → d.safe self.new }
+        ensures back { let d = ⟦<Raw<S> as FormatDriverInstance>⟧ in IfErr result (λ e. (e.1 ≡ mapping) × (e.0 ≡ Foreign) × (d.layer self.new ≡ d.layer self.old) × IsForeignTo d.tag mapping.state (d.layer self.old)) }
+        ensures began { let d = ⟦<Raw<S> as FormatDriverInstance>⟧ in (e : _) (call : Call) → d.began e call self.old → d.began e call self.new }
+        ensures none { let d = ⟦<Raw<S> as FormatDriverInstance>⟧ in (d.image self.new ≡ d.image self.old) × (d.extras self.new ≡ d.extras self.old) }
+    {
+        match mapping.into_state() {
+            None => Ok(()),
+            Some(state) => match state {},
+        }
+    }
+
+    fn write_mapped(
+        &mut self,
+        alloc: Global,
+        guest: u64,
+        place: u64,
+        bytes: &[u8],
+    ) -> Result<(), Fault> {
+        let length = bytes.len() as u64;
+        if length == 0 {
+            return Ok(());
+        }
+        match self.check_change(guest, length) {
+            Ok(()) => {}
+            Err(fault) => return Err(fault),
+        }
+        if guest != place {
+            return Err(Fault::Outdated);
+        }
+        match self.storage.write(alloc, bytes, guest) {
+            Ok(()) => Ok(()),
+            Err(fault) => Err(fault),
+        }
+    }
+
+    fn ensure_zero_mapping(
+        &mut self,
+        alloc: Global,
+        offset: u64,
+        length: u64,
+    ) -> Result<(u64, u64), Fault> {
+        self.zero(alloc, Zeroes::Allocated, offset, length)
+    }
+
+    fn discard_to_zero(
+        &mut self,
+        alloc: Global,
+        offset: u64,
+        length: u64,
+    ) -> Result<(u64, u64), Fault> {
+        self.zero(alloc, Zeroes::GivenUp, offset, length)
+    }
+
+    fn discard_to_any(
+        &mut self,
+        _alloc: Global,
+        offset: u64,
+        length: u64,
+    ) -> Result<(u64, u64), Fault> {
+        if length == 0 {
+            return Ok((offset, 0));
+        }
+        match self.check_change(offset, length) {
+            Ok(()) => {}
+            Err(fault) => return Err(fault),
+        }
+        match self.storage.discard(offset, length) {
+            Ok(()) => {
+                // What is given up is bytes still.
+                let _bytes = self.storage.size();
+                Ok((offset, length))
+            }
+            Err(fault) => Err(fault),
+        }
+    }
+
+    fn discard_to_backing(
+        &mut self,
+        alloc: Global,
+        offset: u64,
+        length: u64,
+    ) -> Result<(u64, u64), Fault> {
+        self.zero(alloc, Zeroes::GivenUp, offset, length)
+    }
+
+    fn flush(&mut self, _alloc: Global) -> Result<(), Fault> {
+        self.storage.flush()
+    }
+
+    fn sync(&mut self) -> Result<(), Fault> {
+        self.storage.sync()
+    }
+
+    fn invalidate_cache(&mut self, _alloc: Global) -> Result<(), Fault> {
+        self.storage.invalidate_cache()
+    }
+
+    fn resize_grow<B: ReadBelow>(
+        &mut self,
+        _alloc: Global,
+        _below: &mut B,
+        size: u64,
+        mode: PreallocateMode,
+    ) -> Result<(), Fault>
+        ensures nothing { let d = ⟦<Raw<S> as FormatDriverInstance>⟧ in size ≤ (d.layer self.old).size → OnOk result (d.layer self.new ≡ d.layer self.old) }
+        ensures idle { let d = ⟦<Raw<S> as FormatDriverInstance>⟧ in size ≤ (d.layer self.old).size → barrier (d.layer self.old) ≡ None → IsOk result }
+        ensures ok { let d = ⟦<Raw<S> as FormatDriverInstance>⟧ in IsTrue (d.layer self.old).fixed.keeps → d.safe self.old → B.sees_under _below.old → (d.layer self.old).size < size → OnOk result (Grown (at (B.under _below.old)) (d.layer self.old) (d.layer self.new) size (fill_of mode)) }
+        ensures err { let d = ⟦<Raw<S> as FormatDriverInstance>⟧ in IsTrue (d.layer self.old).fixed.keeps → d.safe self.old → B.sees_under _below.old → IfErr result (λ e. IsMild e → Resizes.NotGrown (at (B.under _below.old)) (d.layer self.old) (d.layer self.new)) }
+        ensures barred { let d = ⟦<Raw<S> as FormatDriverInstance>⟧ in (f : Fault) → barrier (d.layer self.old) ≡ Some f → IsErrOf result f }
+        ensures read_only { let d = ⟦<Raw<S> as FormatDriverInstance>⟧ in barrier (d.layer self.old) ≡ None → (d.layer self.old).size < size → IsFalse (d.layer self.old).fixed.writable → IsErrOf result ReadOnly }
+        ensures free { let d = ⟦<Raw<S> as FormatDriverInstance>⟧ in IsFree (d.layer self.new) }
+        ensures went { let d = ⟦<Raw<S> as FormatDriverInstance>⟧ in Went d.layer d.image d.extras d.safe (IsOk result) (Files.IsWhole result × B.sees_under _below.old) self.old self.new }
+        ensures stops { let d = ⟦<Raw<S> as FormatDriverInstance>⟧ in IsTrue (d.layer self.old).fixed.keeps → d.safe self.old → B.sees_under _below.old → KeepsStopsTo (B.under _below.old) (d.layer self.old) d.sound (d.layer self.old).size (GivesPast (d.layer self.old).size) (d.image self.old) (d.image self.new) }
+        ensures below { let d = ⟦<Raw<S> as FormatDriverInstance>⟧ in LookedUnder B.under B.files_under B.sees_under B.still_under (IsOk result) (Files.IsWhole result) _below.old _below.new }
+        ensures cause { let d = ⟦<Raw<S> as FormatDriverInstance>⟧ in d.safe self.old → B.sees_under _below.old → IfErr result (GrowthCause (B.under _below.old) (d.layer self.old) size (d.growth_cause self.old (B.under _below.old) size mode) (d.image self.old ∷ d.extras self.old ++ B.files_under _below.old) (d.image self.new ∷ d.extras self.new ++ B.files_under _below.new)) }
+        // The storage is then as long as the disk; refused, the disk has its size, and its storage is no shorter than it.
+        ensures exact { self.old.size < size → OnOk result (length (S.state self.new.storage).bytes ≡ size) }
+        ensures refused { IfErr result (λ e. self.new.size ≡ self.old.size) }
+        ensures within { let d = ⟦<Raw<S> as FormatDriverInstance>⟧ in d.safe self.old → d.safe self.new }
+    {
+        if size <= self.size {
+            return Ok(());
+        }
+        if !self.writable {
+            return Err(Fault::ReadOnly);
+        }
+        match grow_storage(&mut self.storage, self.size, size, storage_mode(mode)) {
+            Ok(()) => {
+                self.size = size;
+                Ok(())
+            }
+            Err(fault) => Err(fault),
+        }
+    }
+
+    fn resize_shrink(&mut self, _alloc: Global, size: u64) -> Result<(), Fault>
+        ensures nothing { let d = ⟦<Raw<S> as FormatDriverInstance>⟧ in (d.layer self.old).size ≤ size → OnOk result (d.layer self.new ≡ d.layer self.old) }
+        ensures idle { let d = ⟦<Raw<S> as FormatDriverInstance>⟧ in (d.layer self.old).size ≤ size → barrier (d.layer self.old) ≡ None → IsOk result }
+        ensures ok { let d = ⟦<Raw<S> as FormatDriverInstance>⟧ in IsTrue (d.layer self.old).fixed.keeps → d.safe self.old → size < (d.layer self.old).size → OnOk result (Shrunk (d.layer self.old) (d.layer self.new) size) }
+        ensures err { let d = ⟦<Raw<S> as FormatDriverInstance>⟧ in IsTrue (d.layer self.old).fixed.keeps → d.safe self.old → IfErr result (λ e. IsMild e → NotShrunk (d.layer self.old) (d.layer self.new)) }
+        ensures barred { let d = ⟦<Raw<S> as FormatDriverInstance>⟧ in (f : Fault) → barrier (d.layer self.old) ≡ Some f → IsErrOf result f }
+        ensures read_only { let d = ⟦<Raw<S> as FormatDriverInstance>⟧ in barrier (d.layer self.old) ≡ None → size < (d.layer self.old).size → IsFalse (d.layer self.old).fixed.writable → IsErrOf result ReadOnly }
+        ensures went { let d = ⟦<Raw<S> as FormatDriverInstance>⟧ in Went d.layer d.image d.extras d.safe (IsOk result) (Files.IsWhole result) self.old self.new }
+        ensures free { let d = ⟦<Raw<S> as FormatDriverInstance>⟧ in IsFree (d.layer self.new) }
+        ensures stops { let d = ⟦<Raw<S> as FormatDriverInstance>⟧ in IsTrue (d.layer self.old).fixed.keeps → d.safe self.old → (below : List Layer) → KeepsStopsTo below (d.layer self.old) d.sound size (GivesBelowPast below size) (d.image self.old) (d.image self.new) }
+        ensures cause { let d = ⟦<Raw<S> as FormatDriverInstance>⟧ in d.safe self.old → (below : List Layer) → IfErr result (ShrinkCause below (d.layer self.old) size (d.own_cause self.old below (shrink size)) (d.image self.old ∷ d.extras self.old) (d.image self.new ∷ d.extras self.new)) }
+        // The storage is then as long as the disk; refused, the disk has its size, and its storage is no shorter than it.
+        ensures exact { size < self.old.size → OnOk result (length (S.state self.new.storage).bytes ≡ size) }
+        ensures refused { IfErr result (λ e. self.new.size ≡ self.old.size) }
+        ensures within { let d = ⟦<Raw<S> as FormatDriverInstance>⟧ in d.safe self.old → d.safe self.new }
+    {
+        if size >= self.size {
+            return Ok(());
+        }
+        if !self.writable {
+            return Err(Fault::ReadOnly);
+        }
+        match self.storage.resize(size, StorageMode::None) {
+            Ok(()) => {
+                self.size = size;
+                Ok(())
+            }
+            Err(fault) => Err(fault),
+        }
+    }
+}
+
+// Cuts off what a storage has behind a length.
+fn cut_storage<S: Storage>(storage: &mut S, from: u64) -> Result<(), Fault>
+    ensures ok { OnOk result (CutTo (S.state storage.old) (S.state storage.new) from) }
+    ensures err { IfErr result (NotGrown (S.state storage.old) (S.state storage.new) from) }
+    ensures shape { (S.state storage.new).shape ≡ (S.state storage.old).shape }
+    ensures later { Later (S.state storage.old) (S.state storage.new) }
+{
+    if storage.size() == from {
+        return Ok(());
+    }
+    match storage.resize(from, StorageMode::None) {
+        Ok(()) => Ok(()),
+        Err(fault) => Err(fault),
+    }
+}
+
+// Makes a storage longer. What it has behind the first length was written as padding: it is cut off before, so that all new bytes
+// are 0.
+pub(crate) fn grow_storage<S: Storage>(
+    storage: &mut S,
+    from: u64,
+    to: u64,
+    mode: StorageMode,
+) -> Result<(), Fault>
+    requires { from ≤ to }
+    ensures ok { OnOk result (GrownTo (S.state storage.old) (S.state storage.new) from to) }
+    ensures err { IfErr result (NotGrown (S.state storage.old) (S.state storage.new) from) }
+    ensures shape { (S.state storage.new).shape ≡ (S.state storage.old).shape }
+    ensures later { Later (S.state storage.old) (S.state storage.new) }
+{
+    match cut_storage(storage, from) {
+        Ok(()) => {}
+        Err(fault) => return Err(fault),
+    }
+    match storage.resize(to, mode) {
+        Ok(()) => Ok(()),
+        Err(fault) => Err(fault),
+    }
+}
+
+// How the storage grows for a growth of the image.
+pub(crate) fn storage_mode(mode: PreallocateMode) -> StorageMode {
+    match mode {
+        PreallocateMode::None => StorageMode::None,
+        PreallocateMode::Zero | PreallocateMode::FormatAllocate => StorageMode::Zero,
+        PreallocateMode::FullAllocate => StorageMode::Allocate,
+        PreallocateMode::WriteData => StorageMode::WriteData,
+    }
+}
