@@ -12,3 +12,4 @@ pub mod Causes
 pub mod Zeroings
 pub mod Options
 pub mod CreateOptions
+pub mod Passing

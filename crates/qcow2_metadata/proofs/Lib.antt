@@ -16,7 +16,6 @@ pub mod Digits
 pub mod Packed
 pub mod PlaceLemmas
 pub mod Raised
-pub mod Whole
 pub mod Widths
 pub mod Written
 pub mod Extending
@@ -33,3 +32,4 @@ pub mod L2Words
 pub mod Conservation
 pub mod WrittenBack
 pub mod Placing
+pub mod CounterBounds

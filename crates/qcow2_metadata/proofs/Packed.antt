@@ -1,21 +1,22 @@
 -- Counters in the bytes of a cluster: the cells of the program and the format's counters are the same.
 use Rattle.std.proofs.Common.{◌≡◌, ℕ, zero, suc, ◌+◌, ◌-◌, ◌*◌, ◌/◌, ◌%◌, ◌^◌, ◌<◌, ◌≤◌, ◌∙◌, refl, arith, ap, sym, List, ◌++◌, ◌∷◌, [], length, get_or, take, drop}
 use Rattle.std.specs.Prelude.{Bool, true, false, cond, nat_le, replicate}
-use Rattle.std.proofs.Math.Nat.{mod-eq_of_lt, mod-one, zero-mul, pow-suc, div-eq_of_lt}
+use Rattle.std.proofs.Math.Nat.{mod-eq_of_lt, mod-one, zero-mul, div-eq_of_lt}
 use Rattle.std.proofs.Math.Seq.{take-add}
-use Rattle.std.proofs.lemmas.Nat.{div-add-mod', div-mul-add, pow_pos, pow-add}
+use Rattle.std.proofs.lemmas.Nat.{div-mul-add, pow_pos, pow-add}
 use Rattle.std.proofs.lemmas.List.{get_or-drop, length-drop, same_lists, get_or-replicate, length-replicate}
 use Rattle.std.proofs.lemmas.List.FromFn.{length-map-range_with_len, get_or-map-range_with_len}
 use Rattle.std.proofs.lemmas.Int.Digits.{number_push}
+use Rattle.qcow2_types.specs.BlockBytes.{Packs}
 use Rattle.qcow2_types.specs.Bytes.{Bytes, bytes_of, be}
 use Rattle.qcow2_types.specs.Header.{Fields, Shaped, cluster_size}
 use Rattle.qcow2_types.specs.Counts.{counter_of, wide_counter, narrow_counter, counters_of_block}
 use Rattle.qcow2_types.specs.Counts.{counter as counter_in}
 use Rattle.qcow2_types.proofs.Counters.{counter-moved}
+use Rattle.qcow2_types.proofs.Digits.{be-below}
 use Rattle.imago_storage.specs.Calls.{Reads}
 use Rattle.qcow2_metadata.specs.Cells.{big_endian, cell_bytes, cell_counters, counter, counter_count, counters_of, HasCounter}
-use Rattle.qcow2_metadata.specs.Blocks.{counters_in, Packs}
-use Rattle.qcow2_metadata.proofs.Whole.{same_bytes}
+use Rattle.qcow2_metadata.specs.Blocks.{counters_in}
 use Rattle.qcow2_metadata.proofs.Blocks.{counters_at, counters_length, has_counter}
 use Rattle.qcow2_metadata.proofs.Widths.{cell_filled, place_ends}
 
@@ -42,15 +43,6 @@ number-be xs at (suc n) inside =
     let before : big_endian (take n (drop at xs)) ≡ be (bytes_of xs) at n = number-be xs at n (omega arith) in
     ap big_endian (take-one-more xs at n (omega arith)) ∙ number_push 256 (take n (drop at xs)) (get_or xs (at + n) 0) ∙ ap (λ m. m * 256 + get_or xs (at + n) 0) before
 
--- numbers of bytes are below their power
-be-below : (f : Bytes) (at n : ℕ) → ((k : ℕ) → f k < 256) → be f at n < 256 ^ n
-unfolding be
-be-below f at zero fits = omega arith
-be-below f at (suc n) fits =
-    let before : be f at n < 256 ^ n = be-below f at n fits in
-    let here : f (at + n) < 256 = fits (at + n) in
-    omega (arith, pow-suc 256 n)
-
 -- a counter of whole bytes
 wide-cell : (o n i : ℕ) (bytes : List ℕ) → cell_counters o ≡ 1 → cell_bytes o ≡ n → 2 ^ o / 8 ≡ n → 256 ^ n ≡ 2 ^ (2 ^ o) → ((k : ℕ) → get_or bytes k 0 < 256) → i * n + n ≤ length bytes → counter o bytes i ≡ wide_counter (bytes_of bytes) (2 ^ o) 0 i
 wide-cell o n i bytes one size width power fits inside =
@@ -58,7 +50,7 @@ wide-cell o n i bytes one size width power fits inside =
     let none : i % 1 * 2 ^ o ≡ 0 = ap (λ k. k * 2 ^ o) (mod-one i) ∙ zero-mul (2 ^ o) in
     let x : ℕ = be (bytes_of bytes) (i * n) n in
     let read : big_endian (take n (drop (i * n) bytes)) ≡ be (bytes_of bytes) (i * n) n = number-be bytes (i * n) n inside in
-    let small : be (bytes_of bytes) (i * n) n < 2 ^ (2 ^ o) = let low : be (bytes_of bytes) (i * n) n < 256 ^ n = be-below (bytes_of bytes) (i * n) n fits in omega arith in
+    let small : be (bytes_of bytes) (i * n) n < 2 ^ (2 ^ o) = let low : be (bytes_of bytes) (i * n) n < 256 ^ n = be-below (bytes_of bytes) fits (i * n) n in omega arith in
     let over : be (bytes_of bytes) (i * n) n / 1 ≡ be (bytes_of bytes) (i * n) n = omega arith in
     let start : 0 + i * n ≡ i * n = omega arith in
     ap (λ m. big_endian (take (cell_bytes o) (drop (i / m * cell_bytes o) bytes)) / 2 ^ (i % m * 2 ^ o) % 2 ^ (2 ^ o)) one
@@ -181,50 +173,3 @@ zero-counters o b bytes most low long none =
     counters_at o k d bytes inside
     ∙ (cell-counter o k bytes most fits (has_counter o k bytes inside)
     ∙ (zero-counter (bytes_of bytes) (2 ^ o) k none ∙ sym (get_or-replicate (2 ^ b * 8 / 2 ^ o) k 0 d (omega arith)))))
-
--- the counters that bytes pack are those that the program reads in them
-packed-counters : (o : ℕ) (counters bytes : List ℕ) → o ≤ 6 → Packs o counters bytes → (length bytes % cell_bytes o ≡ 0) × (counters_of o bytes ≡ counters)
-packed-counters o counters bytes most packs =
-    let filled : cell_counters o * 2 ^ o ≡ 8 * cell_bytes o = cell_filled o most in
-    let whole : length bytes % cell_bytes o ≡ 0 = cells-whole o (length bytes) (length counters) most packs.size in
-    let rows : length bytes ≡ length bytes / cell_bytes o * cell_bytes o = omega (arith, div-add-mod' (length bytes) (cell_bytes o)) in
-    let all : length bytes / cell_bytes o * cell_counters o * 2 ^ o ≡ length counters * 2 ^ o =
-    (let group : length bytes / cell_bytes o * cell_counters o * 2 ^ o ≡ length bytes / cell_bytes o * (cell_counters o * 2 ^ o) = omega arith in
-    group ∙ (ap (λ k. length bytes / cell_bytes o * k) filled ∙ omega (arith, rows, packs.size))) in
-    let many : counter_count o bytes ≡ length counters = mul-cancel (length bytes / cell_bytes o * cell_counters o) (length counters) (2 ^ o) (pow_pos o) all in (
-      whole,
-      same_lists (counters_of o bytes) counters (counters_length o bytes ∙ many) (λ k d lt.
-          let inside : k < counter_count o bytes = omega (arith, counters_length o bytes) in
-          let inside' : k < length counters = omega arith in
-          counters_at o k d bytes inside
-          ∙ (cell-counter o k bytes most packs.fit (has_counter o k bytes inside) ∙ (packs.each k inside' ∙ get_or-any counters k 0 d inside'))),
-    )
-  where
-    mul-cancel : (a b c : ℕ) → 0 < c → a * c ≡ b * c → a ≡ b
-    mul-cancel a b c some e =
-        let flat : a * c ≡ b * c + 0 = omega arith in
-        let left : a * c + 0 ≡ a * c = omega arith in
-        sym (div-mul-add a c 0 some) ∙ (ap (λ k. k / c) left ∙ (ap (λ k. k / c) flat ∙ div-mul-add b c 0 some))
-
-    get_or-any : (xs : List ℕ) (k d e : ℕ) → k < length xs → get_or xs k d ≡ get_or xs k e
-    get_or-any [] k d e lt = absurd (omega arith)
-    get_or-any (x ∷ xs) zero d e lt = refl
-    get_or-any (x ∷ xs) (suc k) d e lt = get_or-any xs k d e (omega arith)
-
-    cells-whole : (o n m : ℕ) → o ≤ 6 → n * 8 ≡ m * 2 ^ o → n % cell_bytes o ≡ 0
-    cells-whole zero n m most e = mod-one n
-    cells-whole (suc zero) n m most e = mod-one n
-    cells-whole (suc (suc zero)) n m most e = mod-one n
-    cells-whole (suc (suc (suc zero))) n m most e = mod-one n
-    cells-whole (suc (suc (suc (suc zero)))) n m most e = omega (arith, e)
-    cells-whole (suc (suc (suc (suc (suc zero))))) n m most e = omega (arith, e)
-    cells-whole (suc (suc (suc (suc (suc (suc zero)))))) n m most e = omega (arith, e)
-    cells-whole (suc (suc (suc (suc (suc (suc (suc k))))))) n m most e = absurd (omega (arith, most))
-
--- Counters have one form in bytes.
-pub packs-one : (o : ℕ) (counters xs ys : List ℕ) → o ≤ 6 → Packs o counters xs → Packs o counters ys → xs ≡ ys
-packs-one o counters xs ys most x y =
-    let a = packed-counters o counters xs most x in
-    let b = packed-counters o counters ys most y in
-    let long : length xs ≡ length ys = omega (arith, x.size, y.size) in
-    same_bytes o xs ys most x.fit y.fit long a.0 (a.1 ∙ sym b.1)

@@ -1,12 +1,13 @@
 -- Refcount blocks: the counters of consecutive host clusters.
-use Rattle.std.specs.Prelude.{◌≡◌, ℕ, ◌*◌, ◌^◌, ◌<◌, Bool, true, false, List, length, map, slice_index, slice_set, Option, Some, Result}
+use Rattle.std.specs.Prelude.{ℕ, ◌*◌, Bool, true, false, List, map, slice_set, Option, Some, Result}
 use Rattle.std.specs.List.{range_with_len}
 use Rattle.imago_storage.specs.State.{StorageState}
 use Rattle.imago_storage.specs.Through.{PutAtOnce}
 use Rattle.imago_storage.specs.declared.fault.Fault.{Fault}
-use Rattle.qcow2_types.specs.Bytes.{Bytes, bytes_of}
+use Rattle.qcow2_types.specs.Bytes.{Bytes}
 use Rattle.qcow2_types.specs.Header.{Fields, cluster_size}
-use Rattle.qcow2_types.specs.Counts.{counter, counter_of, counters_of_block}
+use Rattle.qcow2_types.specs.BlockBytes.{Packs}
+use Rattle.qcow2_types.specs.Counts.{counter, counters_of_block}
 
 -- what contracts see of a block
 pub record Block : Type 0 where
@@ -40,12 +41,6 @@ block_in f h cluster = record {
   cluster = Some cluster;
   modified = false;
 }
-
--- these bytes are those of the counters
-pub record Packs (order : ℕ) (counters bytes : List ℕ) : Type 0 where
-  pub size : length bytes * 8 ≡ length counters * 2 ^ order
-  pub fit : (k : ℕ) → slice_index bytes k < 256
-  pub each : (i : ℕ) → i < length counters → counter_of (bytes_of bytes) (2 ^ order) 0 i ≡ slice_index counters i
 
 -- A block's bytes go to this place by one request, whatever the storage answered.
 pub record BlockPut {T : Type 0} (block : Block) (place : ℕ) (old new : StorageState) (result : Result T Fault) : Type 0 where

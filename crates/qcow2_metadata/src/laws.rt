@@ -1,6 +1,7 @@
 //! What callers may rest on beside the contract of each call. The functions do nothing, and their contracts are the laws.
 
 ghost use Rattle.std.specs.Prelude.{◌≡◌, ◌≢◌, ◌⊎◌, ◌≤◌, ◌+◌, ◌*◌, ◌^◌, ◌<◌, ◌-◌, ℕ, Bool, true, false, IsTrue, Option, None, Some, Ok, List, [], length, slice_index, slice_set};
+ghost use Rattle.qcow2_types.specs.BlockBytes.{Packs};
 ghost use Rattle.qcow2_types.specs.Bytes.{Bytes, run, splice};
 ghost use Rattle.qcow2_types.specs.Header.{Header as HeaderRecord, header_of, first_fault, layout_of, rules_of_size};
 ghost use Rattle.qcow2_types.specs.HeaderBytes.{first_bytes, fits_first_cluster, header_bytes, written, new_header};
@@ -8,7 +9,6 @@ ghost use Rattle.qcow2_types.specs.HeaderSwitch.{OnlyPlaces, IsNameBehind};
 ghost use Rattle.qcow2_types.specs.Unmarked.{unmarked_mapping};
 ghost use Rattle.qcow2_types.specs.Words.{Layout, block_offset, data_at, is_damaged, mapping_of, table_offset, unmapped, zeroes};
 ghost use Rattle.qcow2_metadata.specs.Allocations.{kept_for_zero, zeroed_word};
-ghost use Rattle.qcow2_metadata.specs.Blocks.{Packs};
 ghost use Rattle.qcow2_metadata.specs.Places.{IsInReach};
 ghost use Rattle.qcow2_metadata.specs.Reloading.{is_text, IsReloadable};
 ghost use Rattle.qcow2_metadata.specs.Tables.{shared_word, words_in};
@@ -21,7 +21,7 @@ use qcow2_types::HostCluster;
 /// The counters of a block have one form in bytes. So a block whose counters are again what they were, as after an increment
 /// and a decrement of one of them, writes the same bytes.
 pub fn counters_have_one_form()
-    ensures one { (order : ℕ) (counters xs ys : List ℕ) → order ≤ 6 → Packs order counters xs → Packs order counters ys → xs ≡ ys }
+    ensures one { (order : ℕ) (counters xs ys : List ℕ) → Packs order counters xs → Packs order counters ys → xs ≡ ys }
     ensures undone { (counters : List ℕ) (i : ℕ) → i < length counters → slice_set (slice_set counters i (slice_index counters i + 1)) i (slice_index counters i + 1 - 1) ≡ counters }
 {}
 

@@ -170,12 +170,21 @@ impl RefBlock {
         self.modified = true;
     }
 
+    /// A cluster has 2 to this power of bytes: from 9 to 21.
+    pub fn cluster_bits(&self) -> u32
+        ensures value { result ≡ self.now.cluster_bits }
+        ensures bounds { (9 ≤ result) × (result ≤ 21) }
+    {
+        self.cluster_bits
+    }
+
     /// The number of its counters. They fill its cluster.
     pub fn entries(&self) -> usize
         ensures value { result ≡ length self.now.counters }
         ensures whole { result * 2 ^ self.now.order ≡ 2 ^ self.now.cluster_bits * 8 }
         ensures bits { (9 ≤ self.now.cluster_bits) × (self.now.cluster_bits ≤ 21) }
         ensures order { self.now.order ≤ 6 }
+        ensures fit { (i : ℕ) → slice_index self.now.counters i < 2 ^ 2 ^ self.now.order }
     {
         (self.bytes.len() * 8) >> self.refcount_order
     }

@@ -12,11 +12,11 @@ use Rattle.qcow2_types.specs.Header.{Fields, Header, Shaped, Limited, Extension,
 use Rattle.qcow2_types.specs.OnDisk.{Holds}
 use Rattle.qcow2_types.specs.HeaderBytes.{first_bytes}
 use Rattle.qcow2_types.specs.HeaderSwitch.{with_tables_of, with_places, OnlyPlaces, FirstFieldsFit, IsNameBehind}
+use Rattle.qcow2_types.proofs.Digits.{be-below}
 use Rattle.qcow2_types.proofs.Splices.{be-splice-apart, splice-outside, splice-inside}
 use Rattle.qcow2_types.proofs.HeaderFields.{number-there_4, number-there_8}
 use Rattle.qcow2_types.proofs.HeaderFrame.{header-fields, header-shaped, two-passed}
 use Rattle.qcow2_types.proofs.HeaderLimits.{fields-limited}
-use Rattle.qcow2_types.proofs.BytesLemmas.{pow-more}
 use Rattle.qcow2_types.specs.Words.{has_bit, is_place, max_offset}
 use Rattle.std.proofs.lemmas.Nat.{mul-le, le-div}
 use Rattle.std.proofs.Math.Nat.{pow-le-pow_right}
@@ -306,17 +306,6 @@ switch-header writing f H H' loads only fit sizes name =
         let read : texts_of g (with_tables_of other H.fields) ≡ Ok (with_places other H) =
         texts-behind f b (length-first_bytes w) w name (λ newer. omega (arith, newer-long H.fields shape newer)) ∙ (texts-placed f other H.fields ∙ ap (with_places_read other) texts) in
         header-made writing g w (with_places other H) (kind-kept g (first-magic g w held fit) known) (switch-fields f other H.fields is fit) shape sizes read last
-
--- n bytes spell a number below 256 to the power of n
-pub be-below : (f : Bytes) → ((p : ℕ) → f p < 256) → (i n : ℕ) → be f i n < 256 ^ n
-unfolding be
-be-below f bytes i zero = omega arith
-be-below f bytes i (suc n) =
-    let front : be f i n < 256 ^ n = be-below f bytes i n in
-    let last : f (i + n) < 256 = bytes (i + n) in
-    let up : suc n ≡ n + 1 = omega arith in
-    let power : 256 ^ suc n ≡ 256 ^ n * 256 = ap (λ (k : ℕ). 256 ^ k) up ∙ pow-more n in
-    omega arith
 
 -- a place of a cluster is at most the greatest
 place-low : (bits offset : ℕ) → is_place bits offset ≡ true → offset ≤ max_offset

@@ -29,6 +29,7 @@ pub mod HeaderFrame
 pub mod Sound
 pub mod Switches
 pub mod Over
+pub mod Patches
 pub mod WriteBack
 pub mod Views
 pub mod TableWrites
@@ -47,6 +48,8 @@ pub mod WorkedSteps
 pub mod StepValues
 pub mod TableSizes
 pub mod NumberBytes
+pub mod Digits
+pub mod BlockBytes
 pub mod HeaderFields
 pub mod HeaderParts
 pub mod Surplus

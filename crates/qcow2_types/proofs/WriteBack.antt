@@ -53,11 +53,11 @@ module _ (f g : Bytes) (H : Header) (i : ℕ) (bytes : List ℕ) (was : IsConsis
   fields = header-fields true f H was.readable.loads
 
   -- and keep the bounds on widths
-  shaped : Shaped H.fields
+  pub shaped : Shaped H.fields
   shaped = subst Shaped (sym fields) (header-shaped true f H was.readable.loads)
 
   -- the write touches one part of the structure
-  once : structure f H.fields (touches (l2_table f H.fields i) (length bytes)) ≤ 1
+  pub once : structure f H.fields (touches (l2_table f H.fields i) (length bytes)) ≤ 1
   once =
       let c : ℕ = l2_table f H.fields i / cluster_size H.fields in
       let place : l2_table f H.fields i / cluster_size H.fields * cluster_size H.fields ≡ l2_table f H.fields i =
@@ -65,11 +65,11 @@ module _ (f g : Bytes) (H : Header) (i : ℕ) (bytes : List ℕ) (was : IsConsis
       touches-once f H.fields (l2_table f H.fields i / cluster_size H.fields) (l2_table f H.fields i) (length bytes) (was.structure_apart _) (omega arith) (omega arith)
 
   -- the rest of it is kept
-  kept : Kept f (splice f (l2_table f H.fields i) bytes) H.fields (table i)
+  pub kept : Kept f (splice f (l2_table f H.fields i) bytes) H.fields (table i)
   kept = write-keeps f g H.fields i bytes shaped lt there all cached once places
 
   -- the header loads as it did
-  loads-still : header_of true (splice f (l2_table f H.fields i) bytes) ≡ Ok H
+  pub loads-still : header_of true (splice f (l2_table f H.fields i) bytes) ≡ Ok H
   loads-still =
       let size : 2 ^ 9 ≤ 2 ^ H.fields.cluster_bits = pow-le-pow_right (omega arith) shaped.low in
       let start : Same f (splice f (l2_table f H.fields i) bytes) 0 (cluster_size H.fields) = kept.start (λ e. cc) in

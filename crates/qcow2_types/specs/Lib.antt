@@ -1,5 +1,7 @@
 pub mod Bytes
 pub mod TableBytes
+pub mod BlockBytes
+pub mod Over
 pub mod Words
 pub mod Header
 pub mod Entries

@@ -1,6 +1,7 @@
 //! What the constants and the definitions say of every image. The functions do nothing, and their contracts are the laws.
 
-ghost use Rattle.std.specs.Prelude.{◌≡◌, ◌≤◌, ◌-◌, ◌^◌, ℕ, Bool, List, Result, Ok};
+ghost use Rattle.std.specs.Prelude.{◌≡◌, ◌≤◌, ◌-◌, ◌^◌, ℕ, Bool, List, [], ◌∷◌, Result, Ok};
+ghost use Rattle.qcow2_types.specs.BlockBytes.{ArePackable, block_bytes, Packs};
 ghost use Rattle.qcow2_types.specs.Bytes.{Bytes, be};
 ghost use Rattle.qcow2_types.specs.Words.{table_offset};
 ghost use Rattle.qcow2_types.specs.Header.{Header, Limited, header_of, cluster_size};
@@ -41,4 +42,20 @@ pub fn limits_are_the_formats()
     ensures least_width { MIN_REFCOUNT_WIDTH ≡ 2 ^ 0 }
     ensures greatest_width { MAX_REFCOUNT_WIDTH ≡ 2 ^ 6 }
     ensures place { MAX_OFFSET ≡ 2 ^ 56 - 2 ^ 9 }
+{}
+
+/// Counters that have their width and fill whole bytes have their bytes and no others, and no other counters have any.
+pub fn counters_have_their_bytes()
+    ensures packed { (order : ℕ) (counters : List ℕ) → ArePackable order counters → Packs order counters (block_bytes order counters) }
+    ensures packable { (order : ℕ) (counters bytes : List ℕ) → Packs order counters bytes → ArePackable order counters }
+    ensures only { (order : ℕ) (counters bytes : List ℕ) → Packs order counters bytes → bytes ≡ block_bytes order counters }
+{}
+
+/// So one counter of 64 bits, two of 16 bits, and some of 8, 2 and 1 bits.
+pub fn bytes_of_some_counters()
+    ensures bits_64 { block_bytes 6 (0x0102_0304_0506_0708 ∷ []) ≡ 1 ∷ 2 ∷ 3 ∷ 4 ∷ 5 ∷ 6 ∷ 7 ∷ 8 ∷ [] }
+    ensures bits_16 { block_bytes 4 (1 ∷ 0x1234 ∷ []) ≡ 0 ∷ 1 ∷ 0x12 ∷ 0x34 ∷ [] }
+    ensures bits_8 { block_bytes 3 (1 ∷ 255 ∷ 3 ∷ []) ≡ 1 ∷ 255 ∷ 3 ∷ [] }
+    ensures two_bits { block_bytes 1 (1 ∷ 2 ∷ 3 ∷ 0 ∷ 3 ∷ 0 ∷ 0 ∷ 1 ∷ []) ≡ 0x39 ∷ 0x43 ∷ [] }
+    ensures one_bit { block_bytes 0 (1 ∷ 0 ∷ 1 ∷ 0 ∷ 0 ∷ 0 ∷ 0 ∷ 1 ∷ []) ≡ 0x85 ∷ [] }
 {}

@@ -204,6 +204,7 @@ fn loaded(rt: &impl Abort, alloc: Global) -> Result<(), Fault> {
     let header = header(alloc, 9, 4)?;
     let mut block = load(alloc, &mut image, &header, 1)?;
     assert_eq!(rt; block.entries(), 256);
+    assert_eq!(rt; block.cluster_bits(), 9);
     assert_eq!(rt; count(&block, 0), Ok(1));
     assert_eq!(rt; count(&block, 1), Ok(0xffff));
     assert_eq!(rt; count(&block, 2), Ok(0x1234));

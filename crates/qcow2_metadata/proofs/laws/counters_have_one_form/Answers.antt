@@ -1,10 +1,10 @@
-use Rattle.std.proofs.Common.{◌≡◌, ◌+◌, ◌-◌, ◌∙◌, ap, arith, set, get_or}
+use Rattle.std.proofs.Common.{◌≡◌, ◌+◌, ◌-◌, ◌∙◌, ap, sym, arith, set, get_or}
 use Rattle.std.proofs.lemmas.List.{set-get_or, set-set}
-use Rattle.qcow2_metadata.proofs.Packed.{packs-one}
+use Rattle.qcow2_types.proofs.BlockBytes.{bytes-only}
 use Rattle.qcow2_metadata.proofs.laws.counters_have_one_form.Goals as goal
 
 pub returns-clause-one : goal.returns-clause-one
-returns-clause-one c order counters xs ys most x y = packs-one order counters xs ys most x y
+returns-clause-one c order counters xs ys x y = bytes-only order counters xs x ∙ sym (bytes-only order counters ys y)
 
 pub returns-clause-undone : goal.returns-clause-undone
 returns-clause-undone c counters i lt =

@@ -2,6 +2,7 @@ use Rattle.std.proofs.Common.{◌≡◌, ◌*◌, ◌/◌, ◌^◌, ◌∙◌, a
 use Rattle.qcow2_metadata.specs.Blocks.{Block}
 use Rattle.qcow2_metadata.proofs.Blocks.{counters_length}
 use Rattle.qcow2_metadata.proofs.Packed.{count-of-cells, whole-counters}
+use Rattle.qcow2_metadata.proofs.CounterBounds.{counters-fit}
 use Rattle.qcow2_metadata.proofs.refblock.RefBlock.entries.Goals as goal
 
 pub returns-clause-value : goal.returns-clause-value
@@ -19,3 +20,6 @@ returns-clause-whole c =
     ap (λ n. n * 8 / 2 ^ s.refcount_order * 2 ^ c.args.self.now.order) long
     ∙ (ap (λ (v : Block). 2 ^ s.cluster_bits * 8 / 2 ^ s.refcount_order * 2 ^ v.order) (sym c.self.view_is)
     ∙ (whole-counters s.refcount_order s.cluster_bits c.self.invariant.order c.self.invariant.low ∙ ap (λ (v : Block). 2 ^ v.cluster_bits * 8) c.self.view_is))
+
+pub returns-clause-fit : goal.returns-clause-fit
+returns-clause-fit c = rw (← c.self.view_is) (counters-fit c.self.inside.refcount_order c.self.inside.bytes.items)
