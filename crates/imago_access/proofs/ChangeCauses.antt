@@ -1,6 +1,6 @@
 -- A cause for which a change of a part of a range is refused is one for the whole.
 use Rattle.std.proofs.Common.{◌≡◌, refl, inl, inr, ℕ, ◌+◌, ◌-◌, ◌<◌, ◌≤◌, List, [], ◌∷◌, ◌++◌, arith, sym, ◌∙◌, ap, subst}
-use Rattle.std.specs.Prelude.{false, IsFalse, Result, Ok, Err, IfErr}
+use Rattle.std.specs.Prelude.{false, IsFalse}
 use Rattle.imago_storage.specs.State.{StorageState}
 use Rattle.imago_storage.specs.Through.{Overflows}
 use Rattle.imago_storage.specs.Steps.{Call}
@@ -98,8 +98,3 @@ change_cause below layer unit call causes olds news alters reach MissingData h =
 change_cause below layer unit call causes olds news alters reach Memory h = h
 change_cause below layer unit call causes olds news alters reach Storage h = h
 change_cause below layer unit call causes olds news alters reach _ h = h
-
--- what is said of a refusal may be weakened
-pub refused_more : {T : Type 0} (P Q : Fault → Type 0) (result : Result T Fault) → ((e : Fault) → P e → Q e) → IfErr result P → IfErr result Q
-refused_more P Q (Ok x) more h = tt
-refused_more P Q (Err e) more h = more e h

@@ -1,6 +1,6 @@
 -- A lookup that goes on below.
 use Rattle.std.proofs.Common.{◌≡◌, refl, inl, inr, ℕ, ◌+◌, ◌<◌, ◌≤◌, List, ◌∷◌, ◌++◌, arith, add-one, sym, ◌∙◌, ap, subst}
-use Rattle.std.specs.Prelude.{Bool, true, false, ◌&&◌, if◌then◌else◌, IsTrue}
+use Rattle.std.specs.Prelude.{Bool, true, false, ◌&&◌, if◌then◌else◌, IsTrue, IsSome, Option, Some, None}
 use Rattle.std.proofs.lemmas.Bool.{le-ltb}
 use Rattle.imago_storage.specs.State.{StorageState}
 use Rattle.imago_storage.specs.Disk.{byte}
@@ -9,7 +9,7 @@ use Rattle.imago_storage.specs.declared.fault.Fault.TheVariants.{Failed, Missing
 use Rattle.imago_access.specs.Layer.{Layer, unmapped, through}
 use Rattle.imago_access.specs.Chain.{at}
 use Rattle.imago_access.specs.Files.{Pairs, IsLater}
-use Rattle.imago_access.specs.Mappings.{EachIs, Names, IsRun, IsDeepRun, stored_at, DeepNames, AreWritable, IsRunBelow, IsDeepBelow, lower, is_deep_end}
+use Rattle.imago_access.specs.Mappings.{EachIs, Names, IsRun, IsDeepRun, NamesHome, stored_at, DeepNames, DeepNamesWritable, AreWritable, IsRunBelow, IsDeepBelow, lower, is_deep_end}
 use Rattle.imago_access.specs.Refusals.{LookCause, DeepLookCause}
 use Rattle.imago_access.specs.declared.mapping.Mapping.{Mapping}
 use Rattle.imago_access.specs.declared.mapping.Mapping.TheVariants.{Raw, Zero, Eof, Special}
@@ -25,11 +25,11 @@ both_true : (a b : Bool) → IsTrue (a && b) → IsTrue a × IsTrue b
 both_true true b h = (refl, h)
 both_true false b h = absurd (cc h)
 
-writable_next : (layer : Layer) (below : List Layer) (depth storage place offset n : ℕ) → IsTrue layer.fixed.writable → AreWritable depth below storage place offset n → AreWritable (depth + 1) (layer ∷ below) storage place offset n
-writable_next layer below depth storage place offset n top rest = subst (λ (k : ℕ). AreWritable k (layer ∷ below) storage place offset n) (sym (add-one depth)) (top, rest)
+writable_next : (layer : Layer) (below : List Layer) (depth storage place offset n : ℕ) → IsTrue layer.fixed.writable × IsTrue layer.fixed.lets_through → AreWritable depth below storage place offset n → AreWritable (depth + 1) (layer ∷ below) storage place offset n
+writable_next layer below depth storage place offset n top rest = subst (λ (k : ℕ). AreWritable k (layer ∷ below) storage place offset n) (sym (add-one depth)) (top.0, top.1, rest)
 
 module _ {D : Type 0} (stored : D → ℕ → ℕ → ℕ) (d : D) (ds : List D) (layer : Layer) (below : List Layer) (offset n asked : ℕ) (above : Bool)
-    (free : EachIs layer.cell offset asked (λ i. unmapped)) (inside : offset + asked ≤ layer.size) (top : IsTrue above → IsTrue layer.fixed.writable) where
+    (free : EachIs layer.cell offset asked (λ i. unmapped)) (inside : offset + asked ≤ layer.size) (top : IsTrue above → IsTrue layer.fixed.writable × IsTrue layer.fixed.lets_through) where
   through_below : (i : ℕ) → i < asked → at (layer ∷ below) (offset + i) ≡ at below (offset + i)
   through_below i lt = at_unmapped layer below (offset + i) (omega (arith, lt)) (free i lt)
 
@@ -98,5 +98,12 @@ run_inside size offset asked part n Eof lowered run end low inside fits some = a
 pub indirect_run : (layer : Layer) (offset asked n place : ℕ) (writable : Bool) (mapping : ShallowMapping) → mapping ≡ shallow.Indirect place writable → IsRun layer offset asked mapping n → (offset < layer.size) × (n ≤ asked) × (offset + n ≤ layer.size) × (0 < asked → 0 < n)
 indirect_run layer offset asked n place writable mapping is run = subst (λ (m : ShallowMapping). IsRun layer offset asked m n) is run
 
-pub indirect_writable : (layer : Layer) (stored : ℕ → ℕ → ℕ) (offset n place : ℕ) (writable : Bool) (mapping : ShallowMapping) → mapping ≡ shallow.Indirect place writable → Names layer stored offset n mapping → IsTrue writable → IsTrue layer.fixed.writable
-indirect_writable layer stored offset n place writable mapping is names = (subst (Names layer stored offset n) is names).2
+pub indirect_writable : (layer : Layer) (stored : ℕ → ℕ → ℕ) (offset n place : ℕ) (writable : Bool) (mapping : ShallowMapping) → mapping ≡ shallow.Indirect place writable → Names layer stored offset n mapping → IsTrue writable → IsTrue layer.fixed.writable × IsTrue layer.fixed.lets_through
+indirect_writable layer stored offset n place writable mapping is names = λ said. let says = subst (Names layer stored offset n) is names in (says.3 said, subst IsTrue says.2 said)
+
+-- that places which can be written are answered as such, from what the top layer answers
+pub writable_here : (layer : Layer) (below : List Layer) (offset asked storage place : ℕ) (writable : Bool) → NamesHome layer offset asked (shallow.Raw storage place writable) → DeepNamesWritable (layer ∷ below) offset asked (Raw 0 storage place writable)
+writable_here layer below offset asked storage place writable homes some can = from (layer.home offset) refl can.1 where
+  from : (home : Option (ℕ × ℕ)) → layer.home offset ≡ home → IsSome home → IsTrue writable
+  from (Some place') is some_place = let same = homes can.0 some place'.0 place'.1 is in cc
+  from None is none = absurd (cc none)

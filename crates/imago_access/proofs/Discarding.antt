@@ -2,6 +2,7 @@
 use Rattle.std.proofs.Common.{◌≡◌, ◌∙◌, ◌⊎◌, inl, inr, refl, ℕ, ◌+◌, ◌^◌, ◌<◌, ◌≤◌, List, [], ◌∷◌, arith, sym, subst, map}
 use Rattle.std.specs.Prelude.{⊤, IsTrue, Result, Ok, Err, IsOk, OnOk, IfErr, None}
 use Rattle.std.proofs.lemmas.Bool.{cases_lt}
+use Rattle.std.proofs.lemmas.Result.{IfErr-weaker}
 use Rattle.imago_storage.specs.State.{StorageState, IsAlignment}
 use Rattle.imago_storage.specs.Disk.{Value}
 use Rattle.imago_storage.specs.Steps.{Call, Stays, Changes, Unless, IsIn}
@@ -14,13 +15,14 @@ use Rattle.imago_access.specs.Chain.{at, Each, IsBacked, unit_of_chain}
 use Rattle.imago_access.specs.Discards.{GivesDiscarded}
 use Rattle.imago_access.specs.Files.{IsMild, IsDeclined, IsWhole, files_of}
 use Rattle.imago_access.specs.Going.{Went}
-use Rattle.imago_access.specs.Parts.{PartCause}
+use Rattle.imago_access.specs.Parts.{PartCause, DeclinableCause}
+use Rattle.imago_access.specs.Room.{IsUndeclined}
 use Rattle.imago_access.specs.Refusals.{change_refusal, ChangeCause}
 use Rattle.imago_access.specs.Running.{IsIntact, IsBetween, Ran, RanChain, IsIntactChain, chain_disk}
 use Rattle.imago_access.specs.Stops.{KeepsStops}
 use Rattle.imago_access.specs.declared.access.discarding.Discarding.{Discarding}
 use Rattle.imago_access.specs.declared.access.discarding.Discarding.TheVariants.{ToAny, ToBacking}
-use Rattle.imago_access.proofs.ChangeCauses.{part_cause_left, change_cause, refused_more}
+use Rattle.imago_access.proofs.ChangeCauses.{part_cause_left, change_cause}
 use Rattle.imago_access.proofs.Disks.{allowed_inside, disk_step, disk_partly}
 use Rattle.imago_access.proofs.Running.{holds_loose, ran_driver, ran_both, went_weaker}
 use Rattle.imago_access.proofs.Units.{overflows_chain}
@@ -44,17 +46,23 @@ declined_mild Unsupported h = tt
 declined_mild VersionLimit h = tt
 declined_mild _ h = absurd h
 
--- What a call does to a driver alone, over whatever layers below.
-abbrev pub RanAlone : {D : Type 0} → (D → Layer) → (D → StorageState) → (D → List StorageState) → (D → Type 0) → (ℕ → List ℕ → Type 0) → Type 0 → Type 0 → (ℕ → Value → Type 0) → List Layer → D → D → Type 0
-RanAlone layer image extras safe sound ok whole gives below old new = Ran {B = List Layer} layer image extras safe (λ b. b) (λ b. []) (λ b. ⊤) (λ b. ⊤) sound ok whole gives old new below below
+-- a driver that has no cause to decline doesn't
+pub undeclined : (below : List Layer) (layer : Layer) (offset n : ℕ) (causes : Fault → Type 0) (olds news : List StorageState) (e : Fault) → IsUndeclined causes → IsDeclined e → DeclinableCause below layer offset n causes olds news e → ⊥
+undeclined below layer offset n causes olds news Unsupported none declined h = none.0 h
+undeclined below layer offset n causes olds news VersionLimit none declined h = none.1 h
+undeclined below layer offset n causes olds news _ none declined h = absurd declined
 
-module _ {D : Type 0} (layer : D → Layer) (image : D → StorageState) (extras : D → List StorageState) (safe : D → Type 0) (sound : ℕ → List ℕ → Type 0) (free_loose : (d : D) → IsFree (layer d) → (p : ℕ) → (layer d).held p ≡ loose) where
+-- What a call does to a driver alone, over whatever layers below.
+abbrev pub RanAlone : {D : Type 0} → (D → Layer) → (D → StorageState) → (D → List StorageState) → (D → Type 0) → (D → Type 0) → (ℕ → List ℕ → Type 0) → Type 0 → Type 0 → (ℕ → Value → Type 0) → List Layer → D → D → Type 0
+RanAlone layer image extras safe lasts sound ok whole gives below old new = Ran {B = List Layer} layer image extras safe lasts (λ b. b) (λ b. []) (λ b. ⊤) (λ b. ⊤) (λ b. ⊤) (λ b. ⊤) sound ok whole gives old new below below
+
+module _ {D : Type 0} (layer : D → Layer) (image : D → StorageState) (extras : D → List StorageState) (safe lasts : D → Type 0) (sound : ℕ → List ℕ → Type 0) (free_loose : (d : D) → IsFree (layer d) → (p : ℕ) → (layer d).held p ≡ loose) where
   -- what is promised where the image is sound and the layers below are shown, of an image that has nothing prepared
-  pub ran_alone : (ok whole : Type 0) (gives : ℕ → Value → Type 0) (below : List Layer) (a b : D) → IsFree (layer a) → IsLike (layer a) (layer b) → Went layer image extras safe ok whole a b
+  pub ran_alone : (ok whole : Type 0) (gives : ℕ → Value → Type 0) (below : List Layer) (a b : D) → IsFree (layer a) → IsLike (layer a) (layer b) → Went layer image extras safe lasts ok whole a b
       → (IsTrue (layer a).fixed.keeps → safe a → IsBacked below (layer a) → whole → IsBetween gives below (layer a) (layer b))
       → (IsTrue (layer a).fixed.keeps → safe a → IsBacked below (layer a) → KeepsStops below (layer a) sound gives (image a) (image b))
-      → RanAlone layer image extras safe sound ok whole gives below a b
-  ran_alone ok whole gives below a b free like went values stops = ran_driver {B = List Layer} layer image extras safe (λ x. x) (λ x. []) (λ x. ⊤) (λ x. ⊤) sound ok whole gives a b below like.size went
+      → RanAlone layer image extras safe lasts sound ok whole gives below a b
+  ran_alone ok whole gives below a b free like went values stops = ran_driver {B = List Layer} layer image extras safe lasts (λ x. x) (λ x. []) (λ x. ⊤) (λ x. ⊤) (λ x. ⊤) (λ x. ⊤) sound ok whole gives a b below like.size went
       (λ w i. holds_loose (at below) (layer b) (free_loose b (like.unspent ∙ free)))
       (λ w i. values i.keeps i.is_safe i.backed w)
       (λ i. stops i.keeps i.is_safe i.backed)
@@ -63,17 +71,17 @@ module _ {D : Type 0} (layer : D → Layer) (image : D → StorageState) (extras
   pub intact_alone : (below : List Layer) (a : D) → IsFree (layer a) → IsTrue (layer a).fixed.keeps → safe a → IsBacked below (layer a) → IsIntact below (layer a) (safe a) ⊤
   intact_alone below a free keeps is_safe backed = record { keeps = keeps; is_safe = is_safe; is_seen = tt; backed = backed; held = holds_loose (at below) (layer a) (free_loose a free) }
 
-  pub went_alone : (ok whole : Type 0) (gives : ℕ → Value → Type 0) (below : List Layer) (a b : D) → RanAlone layer image extras safe sound ok whole gives below a b → Went layer image extras safe ok whole a b
-  went_alone ok whole gives below a b h = went_weaker layer image extras safe ok (whole × ⊤) ok whole a b (λ x. x) (λ x. (x, tt)) h.went
+  pub went_alone : (ok whole : Type 0) (gives : ℕ → Value → Type 0) (below : List Layer) (a b : D) → RanAlone layer image extras safe lasts sound ok whole gives below a b → Went layer image extras safe lasts ok whole a b
+  went_alone ok whole gives below a b h = went_weaker layer image extras safe lasts ok (whole × ⊤) ok whole a b (λ x. x) (λ x. (x, tt)) h.went
 
   -- a discard of a part behind others
   pub then_discarded : (ok whole : Type 0) (discarding : Discarding) (below : List Layer) (offset n start m : ℕ) (a b c : D) → offset ≤ start → start + m ≤ offset + n → IsFree (layer b)
-      → RanAlone layer image extras safe sound ⊤ ⊤ (GivesDiscarded discarding below offset n) below a b → IsLike (layer b) (layer c) → Went layer image extras safe ok whole b c
+      → RanAlone layer image extras safe lasts sound ⊤ ⊤ (GivesDiscarded discarding below offset n) below a b → IsLike (layer b) (layer c) → Went layer image extras safe lasts ok whole b c
       → (IsTrue (layer b).fixed.keeps → safe b → (under : List Layer) → IsBacked under (layer b) → whole → IsBetween (GivesDiscarded discarding under start m) under (layer b) (layer c))
       → (IsTrue (layer b).fixed.keeps → safe b → (under : List Layer) → IsBacked under (layer b) → KeepsStops under (layer b) sound (GivesDiscarded discarding under start m) (image b) (image c))
-      → RanAlone layer image extras safe sound ok whole (GivesDiscarded discarding below offset n) below a c
+      → RanAlone layer image extras safe lasts sound ok whole (GivesDiscarded discarding below offset n) below a c
   then_discarded ok whole discarding below offset n start m a b c from to free first like went values stops =
-      ran_both {B = List Layer} layer image extras safe (λ x. x) (λ x. []) (λ x. ⊤) (λ x. ⊤) sound ok whole (GivesDiscarded discarding below offset n) (GivesDiscarded discarding below start m) (GivesDiscarded discarding below offset n) a b c below below below
+      ran_both {B = List Layer} layer image extras safe lasts (λ x. x) (λ x. []) (λ x. ⊤) (λ x. ⊤) (λ x. ⊤) (λ x. ⊤) sound ok whole (GivesDiscarded discarding below offset n) (GivesDiscarded discarding below start m) (GivesDiscarded discarding below offset n) a b c below below below
       (λ p v gave. gave) (discarded_wider discarding below offset n start m from to) first
       (ran_alone ok whole (GivesDiscarded discarding below start m) below b c free like went (λ keeps s backed w. values keeps s below backed w) (λ keeps s backed. stops keeps s below backed))
 
@@ -82,7 +90,7 @@ pub allowed_fits : (unit : ℕ) (layer : Layer) (offset n : ℕ) → 0 < unit �
 allowed_fits unit layer offset n positive low allowed = let up = le_round_up unit (offset + n) positive in elim (cases_lt 0 n) [ inl some ↦ grind (arith) | inr none ↦ omega (arith, none, low) ]
 
 -- What a discard of all of a range does to a chain.
-module _ {D : Type 0} (layer : D → Layer) (image : D → StorageState) (extras : D → List StorageState) (sees safe still : D → Type 0) (sound : ℕ → List ℕ → Type 0) (free_loose : (d : D) → IsFree (layer d) → (p : ℕ) → (layer d).held p ≡ loose)
+module _ {D : Type 0} (layer : D → Layer) (image : D → StorageState) (extras : D → List StorageState) (sees safe still lasts : D → Type 0) (sound : ℕ → List ℕ → Type 0) (free_loose : (d : D) → IsFree (layer d) → (p : ℕ) → (layer d).held p ≡ loose)
     (d d' : D) (ds : List D) (discarding : Discarding) (offset n : ℕ) (is_free : IsFree (layer d)) (like : IsLike (layer d) (layer d')) where
   was_loose : (p : ℕ) → (layer d).held p ≡ loose
   was_loose = free_loose d is_free
@@ -91,10 +99,10 @@ module _ {D : Type 0} (layer : D → Layer) (image : D → StorageState) (extras
   is_loose = free_loose d' (like.unspent ∙ is_free)
 
   pub chain_ran : (result : Result (Unit {0}) Fault) → (IsTrue (layer d).fixed.keeps → safe d → (below : List Layer) → IsBacked below (layer d) → IsWhole result → IsBetween (GivesDiscarded discarding below offset n) below (layer d) (layer d'))
-      → Went layer image extras safe (IsOk result) (IsWhole result) d d'
+      → Went layer image extras safe lasts (IsOk result) (IsWhole result) d d'
       → (IsTrue (layer d).fixed.keeps → safe d → (below : List Layer) → IsBacked below (layer d) → KeepsStops below (layer d) sound (GivesDiscarded discarding below offset n) (image d) (image d'))
-      → RanChain layer image extras sees safe still sound (IsOk result) (IsWhole result) (GivesDiscarded discarding (map layer ds) offset n) (d, ds) (d', ds)
-  chain_ran result values went stops = ran_driver {B = List D} layer image extras safe (map layer) (files_of image extras) (Each sees) (Each still) sound (IsOk result) (IsWhole result) (GivesDiscarded discarding (map layer ds) offset n) d d' ds like.size went
+      → RanChain layer image extras sees safe still lasts sound (IsOk result) (IsWhole result) (GivesDiscarded discarding (map layer ds) offset n) (d, ds) (d', ds)
+  chain_ran result values went stops = ran_driver {B = List D} layer image extras safe lasts (map layer) (files_of image extras) (Each sees) (Each safe) (Each still) (Each lasts) sound (IsOk result) (IsWhole result) (GivesDiscarded discarding (map layer ds) offset n) d d' ds like.size went
       (λ w i. holds_loose (at (map layer ds)) (layer d') is_loose)
       (λ w i. values i.keeps i.is_safe (map layer ds) i.backed w)
       (λ i. stops i.keeps i.is_safe (map layer ds) i.backed)
@@ -124,7 +132,7 @@ pub chain_cause : {D : Type 0} (layer : D → Layer) (image : D → StorageState
     → (0 < length_of call → Alters (chain_disk layer (d, ds)) call)
     → IfErr result (PartCause (map layer ds) (layer d) (offset_of call) (length_of call) causes (image d ∷ extras d) (image d' ∷ extras d'))
     → IfErr result (ChangeCause (unit_of_chain (map layer (d ∷ ds))) (map layer (d ∷ ds)) (chain_disk layer (d, ds)) (layer d).fixed.writable call causes (files_of image extras (d ∷ ds)) (files_of image extras (d' ∷ ds)))
-chain_cause layer image extras aligned d d' ds result call causes alters = refused_more (PartCause (map layer ds) (layer d) (offset_of call) (length_of call) causes (image d ∷ extras d) (image d' ∷ extras d'))
-    (ChangeCause (unit_of_chain (map layer (d ∷ ds))) (map layer (d ∷ ds)) (chain_disk layer (d, ds)) (layer d).fixed.writable call causes (files_of image extras (d ∷ ds)) (files_of image extras (d' ∷ ds))) result
+chain_cause layer image extras aligned d d' ds result call causes alters = IfErr-weaker result (PartCause (map layer ds) (layer d) (offset_of call) (length_of call) causes (image d ∷ extras d) (image d' ∷ extras d'))
+    (ChangeCause (unit_of_chain (map layer (d ∷ ds))) (map layer (d ∷ ds)) (chain_disk layer (d, ds)) (layer d).fixed.writable call causes (files_of image extras (d ∷ ds)) (files_of image extras (d' ∷ ds)))
     (λ e h. change_cause (map layer ds) (layer d) (unit_of_chain (map layer (d ∷ ds))) call causes (files_of image extras (d ∷ ds)) (files_of image extras (d' ∷ ds)) alters (overflows_chain layer aligned d ds (offset_of call) (length_of call)) e
     (part_cause_left (map layer ds) (layer d) (offset_of call) (length_of call) causes (image d ∷ extras d) (image d' ∷ extras d') (files_of image extras ds) (files_of image extras ds) e h))

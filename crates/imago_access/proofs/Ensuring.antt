@@ -59,18 +59,18 @@ may_announced below layer offset n overwrite p (inside None None false) v holdin
 announced_gives : (overwrite : Bool) (offset n : ℕ) (p : ℕ) (v : Value) → overwrite ≡ true → GivesAny offset n p v → GivesAnnounced overwrite offset n p v
 announced_gives overwrite offset n p v is gives = rw is gives
 
-module _ {D B : Type 0} (layer : D → Layer) (image : D → StorageState) (extras : D → List StorageState) (safe : D → Type 0) (under : B → List Layer) (files : B → List StorageState) (sees still : B → Type 0) (sound : ℕ → List ℕ → Type 0) where
+module _ {D B : Type 0} (layer : D → Layer) (image : D → StorageState) (extras : D → List StorageState) (safe lasts : D → Type 0) (under : B → List Layer) (files : B → List StorageState) (sees safe_under still lasts_under : B → Type 0) (sound : ℕ → List ℕ → Type 0) where
   -- prepared, and then spent
   pub ran_ensured : (ok whole : Type 0) (a b c : D) (x y : B) (offset asked : ℕ) (overwrite : Bool) (storage place n : ℕ) (claim : Option ℕ) → n ≤ asked
       → (IsIntact (under x) (layer a) (safe a) (sees x) → Prepared (at (under x)) (layer a) (layer b) offset asked overwrite storage place n claim)
-      → Ran layer image extras safe under files sees still sound ⊤ ⊤ GivesNone a b x y → Ran layer image extras safe under files sees still sound ok whole (GivesHeld (layer b)) b c y y
-      → Ran layer image extras safe under files sees still sound ok whole (GivesAnnounced overwrite offset asked) a c x y
+      → Ran layer image extras safe lasts under files sees safe_under still lasts_under sound ⊤ ⊤ GivesNone a b x y → Ran layer image extras safe lasts under files sees safe_under still lasts_under sound ok whole (GivesHeld (layer b)) b c y y
+      → Ran layer image extras safe lasts under files sees safe_under still lasts_under sound ok whole (GivesAnnounced overwrite offset asked) a c x y
   ran_ensured ok whole a b c x y offset asked overwrite storage place n claim most prepared first second =
-      ran_gives_intact layer image extras safe under files sees still sound ok whole (GivesHeld (layer b)) (GivesAnnounced overwrite offset asked) a c x y
+      ran_gives_intact layer image extras safe lasts under files sees safe_under still lasts_under sound ok whole (GivesHeld (layer b)) (GivesAnnounced overwrite offset asked) a c x y
       (λ i p v may.
       let it = may_announced (at (under x)) (layer b) offset n overwrite p ((layer b).held p) v ((prepared i).holds p) may in
       announced_gives overwrite offset asked p v it.1 ((it.0.0, omega (arith, it.0.1, most)), it.2))
-      (ran_both layer image extras safe under files sees still sound ok whole GivesNone (GivesHeld (layer b)) (GivesHeld (layer b)) a b c x y y (λ p v none. absurd none) (λ p v may. may) first second)
+      (ran_both layer image extras safe lasts under files sees safe_under still lasts_under sound ok whole GivesNone (GivesHeld (layer b)) (GivesHeld (layer b)) a b c x y y (λ p v none. absurd none) (λ p v may. may) first second)
 
 -- a free disk that is kept and then committed is kept
 pub stays_committed : (a b c : Disk) → IsFree b → Stays a b → Commits b c → Stays a c

@@ -1,6 +1,7 @@
 pub mod Stopping
 pub mod FilePairs
 pub mod ReadCauses
+pub mod StorageCauses
 pub mod Units
 pub mod Looking
 pub mod Reading
@@ -10,6 +11,7 @@ pub mod ChangeCauses
 pub mod ResizeCauses
 pub mod Untouched
 pub mod Answers
+pub mod Room
 pub mod CommitCauses
 pub mod Holding
 pub mod HoldingRuns

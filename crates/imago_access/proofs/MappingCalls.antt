@@ -1,6 +1,6 @@
 -- Calls of a chain on mappings, from what they do to its driver.
 use Rattle.std.proofs.Common.{◌≡◌, ◌⊎◌, refl, inl, inr, ℕ, ◌+◌, ◌<◌, ◌≤◌, Bool, true, false, Option, Some, None, List, ◌∷◌, ◌++◌, length, map, arith, sym, ◌∙◌, ap, subst}
-use Rattle.std.specs.Prelude.{Result, OnOk, IfOk, IfErr, IsOk, IsTrue, is_some}
+use Rattle.std.specs.Prelude.{Result, OnOk, IfErr, IsOk, IsTrue, is_some}
 use Rattle.std.proofs.lemmas.Bool.{cases_lt}
 use Rattle.std.proofs.lemmas.Result.{IfErr-weaker}
 use Rattle.imago_storage.specs.State.{StorageState, IsAlignment}
@@ -12,16 +12,16 @@ use Rattle.imago_access.specs.Layer.{Layer, Cell, through, Held, loose, beside, 
 use Rattle.imago_access.specs.Chain.{at, disk_of, unit_of_chain}
 use Rattle.imago_access.specs.Changes.{IsHolding, Prepared, NotPrepared, Wrote}
 use Rattle.imago_access.specs.Files.{IsMild, IsWhole}
-use Rattle.imago_access.specs.Going.{Went, LookedUnder}
+use Rattle.imago_access.specs.Going.{Went}
 use Rattle.imago_access.specs.Parts.{IsMappedAt, MappedCause}
 use Rattle.imago_access.specs.Refusals.{ChangeCause}
-use Rattle.imago_access.specs.Running.{IsTruly, HoldsTrue, IsBetween, Ran}
+use Rattle.imago_access.specs.Running.{HoldsTrue, IsBetween, Ran}
 use Rattle.imago_access.specs.Spending.{claim_of}
-use Rattle.imago_access.specs.Stops.{KeepsStops, GivesNone, GivesBytes}
+use Rattle.imago_access.specs.Stops.{KeepsStops, GivesBytes}
 use Rattle.imago_access.proofs.Answers.{whole_holds, both_on_ok}
 use Rattle.imago_access.proofs.FilePairs.{some_rose_left}
 use Rattle.imago_access.proofs.Holding.{at_alike, truly_wrote, between_wrote}
-use Rattle.imago_access.proofs.Running.{ran_driver, ran_over, ran_gives}
+use Rattle.imago_access.proofs.Running.{ran_driver}
 use Rattle.imago_access.proofs.Units.{overflows_more, layer_aligned, unit_aligned}
 
 -- Writes to a mapped range.
@@ -104,16 +104,16 @@ prepared_step below below' old new offset asked overwrite storage place n claim 
       )
     ])
 
-module _ {D B : Type 0} (layer : D → Layer) (image : D → StorageState) (extras : D → List StorageState) (safe : D → Type 0) (under : B → List Layer) (files : B → List StorageState) (sees still : B → Type 0) (sound : ℕ → List ℕ → Type 0) where
+module _ {D B : Type 0} (layer : D → Layer) (image : D → StorageState) (extras : D → List StorageState) (safe lasts : D → Type 0) (under : B → List Layer) (files : B → List StorageState) (sees safe_under still lasts_under : B → Type 0) (sound : ℕ → List ℕ → Type 0) where
   -- a write to a mapped range, by its answer
-  pub ran_mapped : {T : Type 0} (r : Result T Fault) (a b : D) (x : B) (guest place : ℕ) (bytes : List ℕ) → IsLike (layer a) (layer b) → Went layer image extras safe (IsOk r) (IsWhole r) a b
+  pub ran_mapped : {T : Type 0} (r : Result T Fault) (a b : D) (x : B) (guest place : ℕ) (bytes : List ℕ) → IsLike (layer a) (layer b) → Went layer image extras safe lasts (IsOk r) (IsWhole r) a b
       → (IsTrue (layer a).fixed.keeps → safe a → OnOk r (Wrote (layer a) (layer b) guest bytes)) → OnOk r (0 < length bytes → IsMappedAt (layer a) guest place (length bytes))
       → (IsTrue (layer a).fixed.keeps → safe a → IfErr r (λ e. IsMild e → layer b ≡ layer a))
       → (IsTrue (layer a).fixed.keeps → safe a → (below : List Layer) → KeepsStops below (layer a) sound (GivesBytes guest bytes) (image a) (image b))
-      → Ran layer image extras safe under files sees still sound (IsOk r) (IsWhole r) (GivesBytes guest bytes) a b x x
+      → Ran layer image extras safe lasts under files sees safe_under still lasts_under sound (IsOk r) (IsWhole r) (GivesBytes guest bytes) a b x x
   ran_mapped r a b x guest place bytes like went wrote mapped refused stops =
       let Done = Wrote (layer a) (layer b) guest bytes × (0 < length bytes → IsMappedAt (layer a) guest place (length bytes)) in
-      ran_driver layer image extras safe under files sees still sound (IsOk r) (IsWhole r) (GivesBytes guest bytes) a b x like.size went
+      ran_driver layer image extras safe lasts under files sees safe_under still lasts_under sound (IsOk r) (IsWhole r) (GivesBytes guest bytes) a b x like.size went
       (λ w i. whole_holds r (λ _. Done) (HoldsTrue (at (under x)) (layer b)) w (λ v is h. truly_wrote (at (under x)) (layer a) (layer b) guest place bytes h.1 h.0 i.held)
       (both_on_ok r (Wrote (layer a) (layer b) guest bytes) (0 < length bytes → IsMappedAt (layer a) guest place (length bytes)) (wrote i.keeps i.is_safe) mapped)
       (IfErr-weaker r (λ e. IsMild e → layer b ≡ layer a) (λ e. IsMild e → HoldsTrue (at (under x)) (layer b)) (λ e same mild. subst (HoldsTrue (at (under x))) (sym (same mild)) i.held) (refused i.keeps i.is_safe)))
@@ -121,32 +121,3 @@ module _ {D B : Type 0} (layer : D → Layer) (image : D → StorageState) (extr
       (wrote i.keeps i.is_safe)
       (IfErr-weaker r (λ e. IsMild e → layer b ≡ layer a) (λ e. IsMild e → IsBetween (GivesBytes guest bytes) (under x) (layer a) (layer b)) (λ e same mild p low. inl (ap (λ (l : Layer). at (l ∷ under x) p) (same mild))) (refused i.keeps i.is_safe)))
       (λ i. stops i.keeps i.is_safe (under x))
-
-  -- a preparation, by its answer
-  pub ran_preparing : {T : Type 0} (r : Result T Fault) (a b : D) (x y : B) (Done : T → Type 0) (free_loose : (p : ℕ) → (layer a).held p ≡ loose) → (layer b).size ≡ (layer a).size
-      → Went layer image extras safe (IsOk r) (IsWhole r × sees x) a b → LookedUnder under files sees still (IsOk r) (IsWhole r) x y
-      → ((v : T) → Done v → HoldsTrue (at (under x)) (layer b) × ((layer b).cell ≡ (layer a).cell))
-      → (IsTrue (layer a).fixed.keeps → safe a → sees x → IfOk r Done)
-      → (IsTrue (layer a).fixed.keeps → safe a → sees x → IfErr r (λ e. IsMild e → NotPrepared (layer a) (layer b)))
-      → (IsTrue (layer a).fixed.keeps → safe a → sees x → KeepsStops (under x) (layer a) sound GivesNone (image a) (image b))
-      → Ran layer image extras safe under files sees still sound (IsOk r) (IsWhole r) GivesNone a b x y
-  ran_preparing r a b x y Done was_loose size went looked from done refused stops =
-      ran_over layer image extras safe under files sees still sound (IsOk r) (IsWhole r) GivesNone a b x y size went looked
-      (λ w i. whole_holds r Done (HoldsTrue (at (under x)) (layer b)) w (λ v is h. (from v h).0) (done i.keeps i.is_safe i.is_seen)
-      (IfErr-weaker r (λ e. IsMild e → NotPrepared (layer a) (layer b)) (λ e. IsMild e → HoldsTrue (at (under x)) (layer b)) (λ e not mild p. subst (IsTruly (at (under x)) (layer b) p) (sym (ap (λ (h : ℕ → Held). h p) (not mild).held ∙ was_loose p)) tt) (refused i.keeps i.is_safe i.is_seen)))
-      (λ w i p low. inl (at_alike (layer a) (layer b) (under x) p size (ap (λ (c : ℕ → Cell). through (c p) (at (under x) p)) (whole_holds r Done ((layer b).cell ≡ (layer a).cell) w (λ v is h. (from v h).1) (done i.keeps i.is_safe i.is_seen)
-      (IfErr-weaker r (λ e. IsMild e → NotPrepared (layer a) (layer b)) (λ e. IsMild e → (layer b).cell ≡ (layer a).cell) (λ e not mild. (not mild).cell) (refused i.keeps i.is_safe i.is_seen))))))
-      (λ i. stops i.keeps i.is_safe i.is_seen)
-
-  -- one that was refused
-  pub ran_unprepared : (ok whole : Type 0) (gives : ℕ → Value → Type 0) (a b : D) (x y : B) → ((p : ℕ) → (layer a).held p ≡ loose) → (layer b).size ≡ (layer a).size
-      → Went layer image extras safe ok (whole × sees x) a b → LookedUnder under files sees still ok whole x y
-      → (whole → IsTrue (layer a).fixed.keeps → safe a → sees x → NotPrepared (layer a) (layer b))
-      → (IsTrue (layer a).fixed.keeps → safe a → sees x → KeepsStops (under x) (layer a) sound GivesNone (image a) (image b))
-      → Ran layer image extras safe under files sees still sound ok whole gives a b x y
-  ran_unprepared ok whole gives a b x y was_loose size went looked refused stops =
-      ran_gives layer image extras safe under files sees still sound ok whole GivesNone gives a b x y (λ p v none. absurd none)
-      (ran_over layer image extras safe under files sees still sound ok whole GivesNone a b x y size went looked
-      (λ w i p. subst (IsTruly (at (under x)) (layer b) p) (sym (ap (λ (h : ℕ → Held). h p) (refused w i.keeps i.is_safe i.is_seen).held ∙ was_loose p)) tt)
-      (λ w i p low. inl (at_alike (layer a) (layer b) (under x) p size (ap (λ (c : ℕ → Cell). through (c p) (at (under x) p)) (refused w i.keeps i.is_safe i.is_seen).cell)))
-      (λ i. stops i.keeps i.is_safe i.is_seen))

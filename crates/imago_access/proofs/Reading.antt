@@ -14,7 +14,7 @@ use Rattle.imago_access.specs.Files.{Pairs, IsWhole, files_of}
 use Rattle.imago_access.specs.Layers.{chain}
 use Rattle.imago_access.specs.Going.{Looked, LookedUnder}
 use Rattle.imago_access.specs.Refusals.{ReadCause}
-use Rattle.imago_access.proofs.Looking.{chain_like, chain_later, chain_faults, chain_kept, chain_same, chain_sees}
+use Rattle.imago_access.proofs.Looking.{chain_like, chain_later, chain_faults, chain_kept, chain_same, chain_sees, chain_safe, chain_lasts}
 use Rattle.imago_access.proofs.ReadCauses.{part_overflows, read_cause_part}
 use Rattle.imago_access.proofs.Units.{likes_unit, unit_aligned}
 
@@ -30,41 +30,41 @@ pairs_length R (x ∷ xs) (y ∷ ys) h = let rest = pairs_length R xs ys h.1 in 
 pairs_length R [] (y ∷ ys) h = absurd h
 pairs_length R (x ∷ xs) [] h = absurd h
 
-module _ {D : Type 0} (layer : D → Layer) (image : D → StorageState) (extras : D → List StorageState) (sees safe still : D → Type 0) (sound : ℕ → List ℕ → Type 0)
+module _ {D : Type 0} (layer : D → Layer) (image : D → StorageState) (extras : D → List StorageState) (sees safe still lasts : D → Type 0) (sound : ℕ → List ℕ → Type 0)
     (aligned : (d : D) → IsAlignment (layer d).fixed.req_align × IsAlignment (layer d).fixed.mem_align) where
   -- the rest of a range is in reach of the chain as it is by then
-  pub rest_calm : (xs ys : List D) (offset n done : ℕ) → Pairs (Looked layer image extras sees safe still sound ⊤ ⊤) xs ys → done ≤ n → (Overflows (unit_of_chain (map layer xs)) offset n → ⊥)
+  pub rest_calm : (xs ys : List D) (offset n done : ℕ) → Pairs (Looked layer image extras sees safe still lasts sound ⊤ ⊤) xs ys → done ≤ n → (Overflows (unit_of_chain (map layer xs)) offset n → ⊥)
       → Overflows (unit_of_chain (map layer ys)) (offset + done) (n - done) → ⊥
   rest_calm xs ys offset n done looked le calm h =
-      let same : unit_of_chain (map layer ys) ≡ unit_of_chain (map layer xs) = likes_unit (map layer xs) (map layer ys) (chain_like layer image extras sees safe still sound ⊤ ⊤ xs ys looked) in
+      let same : unit_of_chain (map layer ys) ≡ unit_of_chain (map layer xs) = likes_unit (map layer xs) (map layer ys) (chain_like layer image extras sees safe still lasts sound ⊤ ⊤ xs ys looked) in
       calm (part_overflows (unit_of_chain (map layer xs)) offset n done (n - done) (unit_aligned layer aligned xs).positive (omega (arith, le)) (subst (λ (u : ℕ). Overflows u (offset + done) (n - done)) same h))
 
   -- a refusal on the way, seen from the begin
-  pub rest_cause : (xs ys zs : List D) (offset n done : ℕ) (e : Fault) → Pairs (Looked layer image extras sees safe still sound ⊤ ⊤) xs ys → Each sees xs → done ≤ n
+  pub rest_cause : (xs ys zs : List D) (offset n done : ℕ) (e : Fault) → Pairs (Looked layer image extras sees safe still lasts sound ⊤ ⊤) xs ys → Each sees xs → done ≤ n
       → (Each sees ys → ReadCause (map layer ys) (at (map layer ys)) (unit_of_chain (map layer ys)) (offset + done) (n - done) (files_of image extras ys) (files_of image extras zs) e)
       → ReadCause (map layer xs) (at (map layer xs)) (unit_of_chain (map layer xs)) offset n (files_of image extras xs) (files_of image extras zs) e
   rest_cause xs ys zs offset n done e looked see le cause =
-      let same : map layer ys ≡ map layer xs = chain_same layer image extras sees safe still sound ⊤ ⊤ xs ys tt see looked in
-      let now = cause (chain_sees layer image extras sees safe still sound ⊤ ⊤ xs ys tt see looked) in
+      let same : map layer ys ≡ map layer xs = chain_same layer image extras sees safe still lasts sound ⊤ ⊤ xs ys tt see looked in
+      let now = cause (chain_sees layer image extras sees safe still lasts sound ⊤ ⊤ xs ys tt see looked) in
       let moved = subst (λ (ls : List Layer). ReadCause ls (at ls) (unit_of_chain ls) (offset + done) (n - done) (files_of image extras ys) (files_of image extras zs) e) same now in
       read_cause_part (map layer xs) (at (map layer xs)) (unit_of_chain (map layer xs)) offset done n (n - done) (files_of image extras xs) (files_of image extras ys) (files_of image extras zs) e moved
-      (unit_aligned layer aligned xs).positive (omega (arith, le)) (chain_later layer image extras sees safe still sound ⊤ ⊤ xs ys looked)
+      (unit_aligned layer aligned xs).positive (omega (arith, le)) (chain_later layer image extras sees safe still lasts sound ⊤ ⊤ xs ys looked)
 
   -- a run behind others shows what the chain showed at the begin
-  pub run_shown : (xs ys : List D) (offset done n : ℕ) (whole part : List ℕ) → Pairs (Looked layer image extras sees safe still sound ⊤ ⊤) xs ys → Each sees xs
+  pub run_shown : (xs ys : List D) (offset done n : ℕ) (whole part : List ℕ) → Pairs (Looked layer image extras sees safe still lasts sound ⊤ ⊤) xs ys → Each sees xs
       → (Each sees ys → (i : ℕ) → i < n → at (map layer ys) (offset + done + i) ≡ byte (slice_index part i))
       → ((i : ℕ) → i < n → slice_index whole (done + i) ≡ slice_index part i)
       → ((i : ℕ) → i < done → at (map layer xs) (offset + i) ≡ byte (slice_index whole i))
       → (i : ℕ) → i < done + n → at (map layer xs) (offset + i) ≡ byte (slice_index whole i)
   run_shown xs ys offset done n whole part looked see shown placed before i lt =
-      let same : map layer ys ≡ map layer xs = chain_same layer image extras sees safe still sound ⊤ ⊤ xs ys tt see looked in
+      let same : map layer ys ≡ map layer xs = chain_same layer image extras sees safe still lasts sound ⊤ ⊤ xs ys tt see looked in
       elim (cases_lt i done) [
         | inl low ↦ before i low
         | inr high ↦
             let j = i - done in
             let place : offset + done + j ≡ offset + i = omega (arith, high) in
             let index : done + j ≡ i = omega (arith, high) in
-            let now = shown (chain_sees layer image extras sees safe still sound ⊤ ⊤ xs ys tt see looked) j (omega (arith, high, lt)) in
+            let now = shown (chain_sees layer image extras sees safe still lasts sound ⊤ ⊤ xs ys tt see looked) j (omega (arith, high, lt)) in
             ap (λ (ls : List Layer). at ls (offset + i)) (sym same) ∙ ap (at (map layer ys)) (sym place) ∙ now ∙ ap byte (sym (placed j (omega (arith, high, lt))) ∙ ap (λ (k : ℕ). slice_index whole k) index)
       ]
 
@@ -98,12 +98,12 @@ read_step below below' layer layer' offset n buf long shows same =
       },
     )
 
-module _ {D T : Type 0} (layer : D → Layer) (image : D → StorageState) (extras : D → List StorageState) (sees safe still : D → Type 0) (sound : ℕ → List ℕ → Type 0) where
+module _ {D T : Type 0} (layer : D → Layer) (image : D → StorageState) (extras : D → List StorageState) (sees safe still lasts : D → Type 0) (sound : ℕ → List ℕ → Type 0) where
   pub read_ok : (old new : D × List D) (offset n : ℕ) (buf : List ℕ) (result : Result T Fault) → length buf ≡ n → (Each sees (chain old) → OnOk result (Shows (at (map layer (chain old))) offset buf))
-      → Pairs (Looked layer image extras sees safe still sound (IsOk result) (IsWhole result)) (chain old) (chain new) → Each sees (chain old)
+      → Pairs (Looked layer image extras sees safe still lasts sound (IsOk result) (IsWhole result)) (chain old) (chain new) → Each sees (chain old)
       → OnOk result (Step (at (map layer old.1)) (disk_of (map layer old.1) (layer old.0)) (read offset n) (bytes_read buf) (disk_of (map layer new.1) (layer new.0)))
   read_ok old new offset n buf (Ok x) long shown looked see =
-      read_step (map layer old.1) (map layer new.1) (layer old.0) (layer new.0) offset n buf long (shown see) (chain_same layer image extras sees safe still sound (IsOk {T = T} {E = Fault} (Ok x)) ⊤ (chain old) (chain new) tt see looked)
+      read_step (map layer old.1) (map layer new.1) (layer old.0) (layer new.0) offset n buf long (shown see) (chain_same layer image extras sees safe still lasts sound (IsOk {T = T} {E = Fault} (Ok x)) ⊤ (chain old) (chain new) tt see looked)
   read_ok old new offset n buf (Err e) long shown looked see = tt
 
   -- what a step says of a read that may go past the end
@@ -118,14 +118,16 @@ module _ {D T : Type 0} (layer : D → Layer) (image : D → StorageState) (extr
   ]
   shown_of_step old new offset n buf (Err e) step = tt
 
-module _ {D B : Type 0} (view : B → List D) (layer : D → Layer) (image : D → StorageState) (extras : D → List StorageState) (sees safe still : D → Type 0) (sound : ℕ → List ℕ → Type 0) where
+module _ {D B : Type 0} (view : B → List D) (layer : D → Layer) (image : D → StorageState) (extras : D → List StorageState) (sees safe still lasts : D → Type 0) (sound : ℕ → List ℕ → Type 0) where
   -- the layers below, after a look
-  pub looked_under : (ok whole : Type 0) (x y : B) → Pairs (Looked layer image extras sees safe still sound ok whole) (view x) (view y)
-      → LookedUnder (λ (b : B). map layer (view b)) (λ (b : B). files_of image extras (view b)) (λ (b : B). Each sees (view b)) (λ (b : B). Each still (view b)) ok whole x y
+  pub looked_under : (ok whole : Type 0) (x y : B) → Pairs (Looked layer image extras sees safe still lasts sound ok whole) (view x) (view y)
+      → LookedUnder (λ (b : B). map layer (view b)) (λ (b : B). files_of image extras (view b)) (λ (b : B). Each sees (view b)) (λ (b : B). Each safe (view b)) (λ (b : B). Each still (view b)) (λ (b : B). Each lasts (view b)) ok whole x y
   looked_under ok whole x y looked = record {
-    like = chain_like layer image extras sees safe still sound ok whole (view x) (view y) looked;
-    later = chain_later layer image extras sees safe still sound ok whole (view x) (view y) looked;
-    faults = λ good. chain_faults layer image extras sees safe still sound ok whole (view x) (view y) good looked;
-    stays = λ good see. (chain_same layer image extras sees safe still sound ok whole (view x) (view y) good see looked, chain_sees layer image extras sees safe still sound ok whole (view x) (view y) good see looked);
-    kept = λ quiet. chain_kept layer image extras sees safe still sound ok whole (view x) (view y) quiet looked;
+    like = chain_like layer image extras sees safe still lasts sound ok whole (view x) (view y) looked;
+    later = chain_later layer image extras sees safe still lasts sound ok whole (view x) (view y) looked;
+    faults = λ good. chain_faults layer image extras sees safe still lasts sound ok whole (view x) (view y) good looked;
+    stays = λ good see. (chain_same layer image extras sees safe still lasts sound ok whole (view x) (view y) good see looked, chain_sees layer image extras sees safe still lasts sound ok whole (view x) (view y) good see looked);
+    safely = λ good sound_all. chain_safe layer image extras sees safe still lasts sound ok whole (view x) (view y) good sound_all looked;
+    lasting = λ l. chain_lasts layer image extras sees safe still lasts sound ok whole (view x) (view y) l looked;
+    kept = λ quiet. chain_kept layer image extras sees safe still lasts sound ok whole (view x) (view y) quiet looked;
   }

@@ -36,59 +36,63 @@ between_both gives gives' more below a b c size from from' first second p inside
   | inr gave ↦ inr (from' p (at (c ∷ below) p) gave)
 ]
 
-module _ {D : Type 0} (layer : D → Layer) (image : D → StorageState) (extras : D → List StorageState) (safe : D → Type 0) where
-  pub went_same : (ok whole : Type 0) (d : D) → Went layer image extras safe ok whole d d
+module _ {D : Type 0} (layer : D → Layer) (image : D → StorageState) (extras : D → List StorageState) (safe lasts : D → Type 0) where
+  pub went_same : (ok whole : Type 0) (d : D) → Went layer image extras safe lasts ok whole d d
   went_same ok whole d = record {
     fixed = refl;
     later = later_all_same (image d ∷ extras d);
     faults = λ h. sound_all_same (image d ∷ extras d);
     safely = λ h s. s;
+    lasting = λ l. l;
   }
 
-  pub went_weaker : (ok whole ok' whole' : Type 0) (a b : D) → (ok' → ok) → (whole' → whole) → Went layer image extras safe ok whole a b → Went layer image extras safe ok' whole' a b
+  pub went_weaker : (ok whole ok' whole' : Type 0) (a b : D) → (ok' → ok) → (whole' → whole) → Went layer image extras safe lasts ok whole a b → Went layer image extras safe lasts ok' whole' a b
   went_weaker ok whole ok' whole' a b from from' h = record {
     fixed = h.fixed;
     later = h.later;
     faults = λ x. h.faults (from x);
     safely = λ x. h.safely (from' x);
+    lasting = h.lasting;
   }
 
   -- a call that makes no request
-  pub went_none : (ok whole : Type 0) (a b : D) → (layer b).fixed ≡ (layer a).fixed → image b ≡ image a → extras b ≡ extras a → (whole → safe a → safe b) → Went layer image extras safe ok whole a b
-  went_none ok whole a b fixed same same' safely = record {
+  pub went_none : (ok whole : Type 0) (a b : D) → (layer b).fixed ≡ (layer a).fixed → image b ≡ image a → extras b ≡ extras a → (whole → safe a → safe b) → (lasts a → lasts b) → Went layer image extras safe lasts ok whole a b
+  went_none ok whole a b fixed same same' safely lasting = record {
     fixed = fixed;
     later = rw (same, same') (later_all_same (image a ∷ extras a));
     faults = λ h. rw (same, same') (sound_all_same (image a ∷ extras a));
     safely = safely;
+    lasting = lasting;
   }
 
   -- a call, and then one that makes no request
-  pub went_then : (ok whole : Type 0) (a b c : D) → (layer c).fixed ≡ (layer b).fixed → image c ≡ image b → extras c ≡ extras b → (safe b → safe c) → Went layer image extras safe ok whole a b → Went layer image extras safe ok whole a c
-  went_then ok whole a b c fixed same same' safely h = record {
+  pub went_then : (ok whole : Type 0) (a b c : D) → (layer c).fixed ≡ (layer b).fixed → image c ≡ image b → extras c ≡ extras b → (safe b → safe c) → (lasts b → lasts c) → Went layer image extras safe lasts ok whole a b → Went layer image extras safe lasts ok whole a c
+  went_then ok whole a b c fixed same same' safely lasting h = record {
     fixed = fixed ∙ h.fixed;
     later = rw (same, same') h.later;
     faults = λ good. rw (same, same') (h.faults good);
     safely = λ w s. safely (h.safely w s);
+    lasting = λ l. lasting (h.lasting l);
   }
 
-module _ {D B : Type 0} (layer : D → Layer) (image : D → StorageState) (extras : D → List StorageState) (safe : D → Type 0) (under : B → List Layer) (files : B → List StorageState) (sees still : B → Type 0) (sound : ℕ → List ℕ → Type 0) where
+module _ {D B : Type 0} (layer : D → Layer) (image : D → StorageState) (extras : D → List StorageState) (safe lasts : D → Type 0) (under : B → List Layer) (files : B → List StorageState) (sees safe_under still lasts_under : B → Type 0) (sound : ℕ → List ℕ → Type 0) where
   -- nothing happened
-  pub ran_same : (ok whole : Type 0) (gives : ℕ → Value → Type 0) (d : D) (b : B) → Ran layer image extras safe under files sees still sound ok whole gives d d b b
+  pub ran_same : (ok whole : Type 0) (gives : ℕ → Value → Type 0) (d : D) (b : B) → Ran layer image extras safe lasts under files sees safe_under still lasts_under sound ok whole gives d d b b
   ran_same ok whole gives d b = record {
     size = refl;
-    went = went_same layer image extras safe ok (whole × sees b) d;
-    looked = looked_under_same under files sees still ok whole b;
+    went = went_same layer image extras safe lasts ok (whole × sees b) d;
+    looked = looked_under_same under files sees safe_under still lasts_under ok whole b;
     intact = λ w i. i;
     values = λ w i p inside. inl refl;
     stops = λ i. passes_none (Left (under b) (layer d) (image d).bytes sound (layer d).size gives) (image d) (image d) refl (refl, refl, refl, refl);
   }
 
   pub ran_weaker : (ok whole ok' whole' : Type 0) (gives : ℕ → Value → Type 0) (a b : D) (x y : B) → (ok' → ok) → (whole' → whole)
-      → Ran layer image extras safe under files sees still sound ok whole gives a b x y → Ran layer image extras safe under files sees still sound ok' whole' gives a b x y
+      → Ran layer image extras safe lasts under files sees safe_under still lasts_under sound ok whole gives a b x y → Ran layer image extras safe lasts under files sees safe_under still lasts_under sound ok' whole' gives a b x y
   ran_weaker ok whole ok' whole' gives a b x y from from' h = record {
     size = h.size;
-    went = went_weaker layer image extras safe ok (whole × sees x) ok' (whole' × sees x) a b from (λ w. (from' w.0, w.1)) h.went;
-    looked = looked_under_weaker under files sees still ok whole ok' whole' x y from from' h.looked;
+    went = went_weaker layer image extras safe lasts ok (whole × sees x) ok' (whole' × sees x) a b from (λ w. (from' w.0, w.1)) h.went;
+    looked = looked_under_weaker under files sees safe_under still lasts_under ok whole ok' whole' x y from from' h.looked;
     intact = λ w. h.intact (from' w);
     values = λ w. h.values (from' w);
     stops = h.stops;
@@ -96,7 +100,7 @@ module _ {D B : Type 0} (layer : D → Layer) (image : D → StorageState) (extr
 
   -- what a call gives may be weakened, by what promises on values rest on
   pub ran_gives_intact : (ok whole : Type 0) (gives more : ℕ → Value → Type 0) (a b : D) (x y : B) → (IsIntact (under x) (layer a) (safe a) (sees x) → (p : ℕ) (v : Value) → gives p v → more p v)
-      → Ran layer image extras safe under files sees still sound ok whole gives a b x y → Ran layer image extras safe under files sees still sound ok whole more a b x y
+      → Ran layer image extras safe lasts under files sees safe_under still lasts_under sound ok whole gives a b x y → Ran layer image extras safe lasts under files sees safe_under still lasts_under sound ok whole more a b x y
   ran_gives_intact ok whole gives more a b x y from h = record {
     size = h.size;
     went = h.went;
@@ -108,22 +112,23 @@ module _ {D B : Type 0} (layer : D → Layer) (image : D → StorageState) (extr
   }
 
   pub ran_gives : (ok whole : Type 0) (gives more : ℕ → Value → Type 0) (a b : D) (x y : B) → ((p : ℕ) (v : Value) → gives p v → more p v)
-      → Ran layer image extras safe under files sees still sound ok whole gives a b x y → Ran layer image extras safe under files sees still sound ok whole more a b x y
+      → Ran layer image extras safe lasts under files sees safe_under still lasts_under sound ok whole gives a b x y → Ran layer image extras safe lasts under files sees safe_under still lasts_under sound ok whole more a b x y
   ran_gives ok whole gives more a b x y from = ran_gives_intact ok whole gives more a b x y (λ i. from)
 
   -- two calls, one behind the other
   pub ran_both : (ok whole : Type 0) (gives gives' more : ℕ → Value → Type 0) (a b c : D) (x y z : B) → ((p : ℕ) (v : Value) → gives p v → more p v) → ((p : ℕ) (v : Value) → gives' p v → more p v)
-      → Ran layer image extras safe under files sees still sound ⊤ ⊤ gives a b x y → Ran layer image extras safe under files sees still sound ok whole gives' b c y z
-      → Ran layer image extras safe under files sees still sound ok whole more a c x z
+      → Ran layer image extras safe lasts under files sees safe_under still lasts_under sound ⊤ ⊤ gives a b x y → Ran layer image extras safe lasts under files sees safe_under still lasts_under sound ok whole gives' b c y z
+      → Ran layer image extras safe lasts under files sees safe_under still lasts_under sound ok whole more a c x z
   ran_both ok whole gives gives' more a b c x y z from from' first second = record {
     size = second.size ∙ first.size;
     went = record {
       fixed = second.went.fixed ∙ first.went.fixed;
       later = later_all_both (image a ∷ extras a) (image b ∷ extras b) (image c ∷ extras c) first.went.later second.went.later;
       faults = λ h. sound_all_both (image a ∷ extras a) (image b ∷ extras b) (image c ∷ extras c) (first.went.faults tt) (second.went.faults h);
+      lasting = λ l. second.went.lasting (first.went.lasting l);
       safely = λ h s. second.went.safely (h.0, (first.looked.stays tt h.1).1) (first.went.safely (tt, h.1) s);
     };
-    looked = looked_under_both under files sees still ok whole x y z first.looked second.looked;
+    looked = looked_under_both under files sees safe_under still lasts_under ok whole x y z first.looked second.looked;
     intact = λ w i. second.intact w (first.intact tt i);
     values = λ w i.
         let same : under y ≡ under x = (first.looked.stays tt i.is_seen).0 in
@@ -140,11 +145,11 @@ module _ {D B : Type 0} (layer : D → Layer) (image : D → StorageState) (extr
   }
 
   -- a call that reads the layers below
-  pub ran_over : (ok whole : Type 0) (gives : ℕ → Value → Type 0) (a b : D) (x y : B) → (layer b).size ≡ (layer a).size → Went layer image extras safe ok (whole × sees x) a b → LookedUnder under files sees still ok whole x y
+  pub ran_over : (ok whole : Type 0) (gives : ℕ → Value → Type 0) (a b : D) (x y : B) → (layer b).size ≡ (layer a).size → Went layer image extras safe lasts ok (whole × sees x) a b → LookedUnder under files sees safe_under still lasts_under ok whole x y
       → (whole → IsIntact (under x) (layer a) (safe a) (sees x) → HoldsTrue (at (under x)) (layer b))
       → (whole → IsIntact (under x) (layer a) (safe a) (sees x) → IsBetween gives (under x) (layer a) (layer b))
       → (IsIntact (under x) (layer a) (safe a) (sees x) → KeepsStops (under x) (layer a) sound gives (image a) (image b))
-      → Ran layer image extras safe under files sees still sound ok whole gives a b x y
+      → Ran layer image extras safe lasts under files sees safe_under still lasts_under sound ok whole gives a b x y
   ran_over ok whole gives a b x y size went looked held values stops = record {
     size = size;
     went = went;
@@ -163,22 +168,22 @@ module _ {D B : Type 0} (layer : D → Layer) (image : D → StorageState) (extr
   }
 
   -- a call on the driver alone
-  pub ran_driver : (ok whole : Type 0) (gives : ℕ → Value → Type 0) (a b : D) (x : B) → (layer b).size ≡ (layer a).size → Went layer image extras safe ok whole a b
+  pub ran_driver : (ok whole : Type 0) (gives : ℕ → Value → Type 0) (a b : D) (x : B) → (layer b).size ≡ (layer a).size → Went layer image extras safe lasts ok whole a b
       → (whole → IsIntact (under x) (layer a) (safe a) (sees x) → HoldsTrue (at (under x)) (layer b))
       → (whole → IsIntact (under x) (layer a) (safe a) (sees x) → IsBetween gives (under x) (layer a) (layer b))
       → (IsIntact (under x) (layer a) (safe a) (sees x) → KeepsStops (under x) (layer a) sound gives (image a) (image b))
-      → Ran layer image extras safe under files sees still sound ok whole gives a b x x
+      → Ran layer image extras safe lasts under files sees safe_under still lasts_under sound ok whole gives a b x x
   ran_driver ok whole gives a b x size went held values stops =
-      ran_over ok whole gives a b x x size (went_weaker layer image extras safe ok whole ok (whole × sees x) a b (λ h. h) (λ h. h.0) went) (looked_under_same under files sees still ok whole x) held values stops
+      ran_over ok whole gives a b x x size (went_weaker layer image extras safe lasts ok whole ok (whole × sees x) a b (λ h. h) (λ h. h.0) went) (looked_under_same under files sees safe_under still lasts_under ok whole x) held values stops
 
 -- The same layers below, seen as another type's.
-pub ran_seen : {D B C : Type 0} (f : B → C) (layer : D → Layer) (image : D → StorageState) (extras : D → List StorageState) (safe : D → Type 0) (under : C → List Layer) (files : C → List StorageState) (sees still : C → Type 0) (sound : ℕ → List ℕ → Type 0)
+pub ran_seen : {D B C : Type 0} (f : B → C) (layer : D → Layer) (image : D → StorageState) (extras : D → List StorageState) (safe lasts : D → Type 0) (under : C → List Layer) (files : C → List StorageState) (sees safe_under still lasts_under : C → Type 0) (sound : ℕ → List ℕ → Type 0)
     (ok whole : Type 0) (gives : ℕ → Value → Type 0) (a b : D) (x y : B)
-    → Ran layer image extras safe (λ z. under (f z)) (λ z. files (f z)) (λ z. sees (f z)) (λ z. still (f z)) sound ok whole gives a b x y → Ran layer image extras safe under files sees still sound ok whole gives a b (f x) (f y)
-ran_seen f layer image extras safe under files sees still sound ok whole gives a b x y h = record {
+    → Ran layer image extras safe lasts (λ z. under (f z)) (λ z. files (f z)) (λ z. sees (f z)) (λ z. safe_under (f z)) (λ z. still (f z)) (λ z. lasts_under (f z)) sound ok whole gives a b x y → Ran layer image extras safe lasts under files sees safe_under still lasts_under sound ok whole gives a b (f x) (f y)
+ran_seen f layer image extras safe lasts under files sees safe_under still lasts_under sound ok whole gives a b x y h = record {
   size = h.size;
   went = h.went;
-  looked = record { like = h.looked.like; later = h.looked.later; faults = h.looked.faults; stays = h.looked.stays; kept = h.looked.kept };
+  looked = record { like = h.looked.like; later = h.looked.later; faults = h.looked.faults; stays = h.looked.stays; safely = h.looked.safely; lasting = h.looked.lasting; kept = h.looked.kept };
   intact = h.intact;
   values = h.values;
   stops = h.stops;

@@ -9,7 +9,8 @@ use Rattle.imago_storage.proofs.Composing.{tells_on, keeps_on, no_stops, stops_b
 use Rattle.imago_access.specs.Layer.{Layer, Fixed}
 use Rattle.imago_access.specs.Chain.{at}
 use Rattle.imago_access.specs.Files.{IsLater}
-use Rattle.imago_access.specs.Stops.{Passes, shown, May, Left, KeepsStopsTo, MakesNone}
+use Rattle.imago_storage.specs.Passing.{Passes}
+use Rattle.imago_access.specs.Stops.{shown, May, Left, KeepsStopsTo, MakesNone}
 
 -- The file now is what the newest stop left, or there was none.
 newest : (P : List ℕ → Type 0) (a b : StorageState) (files : List (List ℕ)) → b.stop ∷ b.past ≡ files ++ (a.stop ∷ a.past) → All P files → (b.stop ≡ a.stop) ⊎ P b.stop

@@ -67,11 +67,11 @@ gives_inside offset bytes p v gives = (omega (arith, gives.2), omega (arith, giv
 gives_byte : (offset : ℕ) (bytes : List ℕ) (p : ℕ) (was v : Value) → GivesBytes offset bytes p v → ToBytes offset bytes p was v
 gives_byte offset bytes p was v gives = let is : gives.0 ≡ p - offset = omega (arith, gives.2) in gives.3 ∙ ap (λ (i : ℕ). byte (slice_index bytes i)) is
 
-module _ {D T : Type 0} (layer : D → Layer) (image : D → StorageState) (extras : D → List StorageState) (sees safe still : D → Type 0) (sound : ℕ → List ℕ → Type 0) (free_loose : (d : D) → IsFree (layer d) → (p : ℕ) → (layer d).held p ≡ loose) where
+module _ {D T : Type 0} (layer : D → Layer) (image : D → StorageState) (extras : D → List StorageState) (sees safe still lasts : D → Type 0) (sound : ℕ → List ℕ → Type 0) (free_loose : (d : D) → IsFree (layer d) → (p : ℕ) → (layer d).held p ≡ loose) where
   -- a write that succeeds is a step of the disk
   pub write_ok : (old new : D × List D) (unit offset : ℕ) (bytes : List ℕ) (result : Result T Fault) → IsFree (layer old.0) → IsFree (layer new.0) → change_refusal unit (layer old.0) offset (length bytes) ≡ None
       → (IsIntactChain layer safe sees old → OnOk result ((i : ℕ) → i < length bytes → at (layer new.0 ∷ map layer old.1) (offset + i) ≡ byte (slice_index bytes i)))
-      → RanChain layer image extras sees safe still sound (IsOk result) (IsWhole result) (GivesBytes offset bytes) old new
+      → RanChain layer image extras sees safe still lasts sound (IsOk result) (IsWhole result) (GivesBytes offset bytes) old new
       → IsIntactChain layer safe sees old → OnOk result (Step (below_of layer old) (chain_disk layer old) (write offset bytes) done (chain_disk layer new))
   write_ok old new unit offset bytes (Ok x) was_free is_free allowed shown ran i =
       disk_step (map layer old.1) (map layer new.1) (layer old.0) (layer new.0) (ran.looked.stays tt i.is_seen).0 ran.size (free_loose old.0 was_free) (free_loose new.0 is_free)
@@ -84,7 +84,7 @@ module _ {D T : Type 0} (layer : D → Layer) (image : D → StorageState) (extr
 
   -- a refused one is done in part
   pub write_err : (old new : D × List D) (offset : ℕ) (bytes : List ℕ) (result : Result T Fault) → IsFree (layer old.0) → IsFree (layer new.0)
-      → RanChain layer image extras sees safe still sound (IsOk result) (IsWhole result) (GivesBytes offset bytes) old new
+      → RanChain layer image extras sees safe still lasts sound (IsOk result) (IsWhole result) (GivesBytes offset bytes) old new
       → IsIntactChain layer safe sees old → IfErr result (λ e. IsMild e → PartlyDone (below_of layer old) (write offset bytes) (chain_disk layer old) (chain_disk layer new))
   write_err old new offset bytes (Ok x) was_free is_free ran i = tt
   write_err old new offset bytes (Err e) was_free is_free ran i = λ mild.

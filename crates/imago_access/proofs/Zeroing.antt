@@ -1,8 +1,8 @@
 -- Zeroes over a range, part by part.
-use Rattle.std.proofs.Common.{◌≡◌, inl, inr, ℕ, ◌+◌, ◌-◌, ◌<◌, ◌≤◌, List, ◌∷◌, ◌++◌, length, take, slice_index, arith, sym, ◌∙◌, ap, subst}
-use Rattle.std.specs.Prelude.{⊤, Bool, IsTrue, false, Result, Ok, Err, IsOk, OnOk, IfErr, None, map, if◌then◌else◌}
+use Rattle.std.proofs.Common.{◌≡◌, inl, inr, ℕ, ◌+◌, ◌-◌, ◌<◌, ◌≤◌, List, ◌∷◌, ◌++◌, length, slice_index, arith, sym, ◌∙◌, ap, subst}
+use Rattle.std.specs.Prelude.{⊤, Bool, IsTrue, false, Result, Ok, Err, IsOk, OnOk, IfErr, None, map, replicate, if◌then◌else◌}
 use Rattle.std.proofs.lemmas.Bool.{cases_lt, le-ltb}
-use Rattle.std.proofs.lemmas.Grind.{common_steps}
+use Rattle.std.proofs.lemmas.List.{length-replicate, get_or-replicate}
 use Rattle.imago_storage.specs.State.{StorageState, IsAlignment}
 use Rattle.imago_storage.specs.Disk.{Value, byte}
 use Rattle.imago_storage.specs.Steps as Steps
@@ -31,15 +31,12 @@ zero_wider offset n start m from to p v gave = ((omega (arith, from, gave.0.0), 
 pub bytes_zero : (offset n start : ℕ) (bytes : List ℕ) → ((i : ℕ) → i < length bytes → slice_index bytes i ≡ 0) → offset ≤ start → start + length bytes ≤ offset + n → (p : ℕ) (v : Value) → GivesBytes start bytes p v → GivesZero offset n p v
 bytes_zero offset n start bytes zeroes from to p v gave = ((omega (arith, from, gave.2), omega (arith, to, gave.1, gave.2)), gave.3 ∙ ap byte (zeroes gave.0 gave.1))
 
--- the first bytes of a buffer of zeroes
-pub piece_long : (count : ℕ) (buffer : List ℕ) → count ≤ length buffer → length (take count buffer) ≡ count
-piece_long count buffer le = grind (arith, common_steps)
+-- so many zeroes
+pub zeroes_long : (count : ℕ) (bytes : List ℕ) → bytes ≡ replicate count 0 → length bytes ≡ count
+zeroes_long count bytes is = ap (length {A = ℕ}) is ∙ length-replicate count 0
 
-pub piece_zero : (count : ℕ) (buffer : List ℕ) → count ≤ length buffer → ((k : ℕ) → slice_index buffer k ≡ 0) → (i : ℕ) → i < length (take count buffer) → slice_index (take count buffer) i ≡ 0
-piece_zero count buffer le zeroes i lt =
-    let low : i < count = omega (arith, lt, piece_long count buffer le) in
-    let same : slice_index (take count buffer) i ≡ slice_index buffer i = grind (arith, common_steps) in
-    same ∙ zeroes i
+pub zeroes_zero : (count : ℕ) (bytes : List ℕ) → bytes ≡ replicate count 0 → (i : ℕ) → i < length bytes → slice_index bytes i ≡ 0
+zeroes_zero count bytes is i lt = ap (λ (z : List ℕ). slice_index z i) is ∙ get_or-replicate count i 0 0 (omega (arith, lt, zeroes_long count bytes is))
 
 -- past the end of a layer the places are 0
 past_zero : (layer : Layer) (below : List Layer) (p : ℕ) → layer.size ≤ p → at (layer ∷ below) p ≡ byte 0
@@ -68,20 +65,20 @@ shown_zero value start bytes zeroes shows p there =
     let lt : i < length bytes = omega (arith, there.0, there.1) in
     ap value (sym place) ∙ shows i lt ∙ ap byte (zeroes i lt)
 
-module _ {D B : Type 0} (layer : D → Layer) (image : D → StorageState) (extras : D → List StorageState) (safe : D → Type 0) (under : B → List Layer) (files : B → List StorageState) (sees still : B → Type 0) (sound : ℕ → List ℕ → Type 0) where
+module _ {D B : Type 0} (layer : D → Layer) (image : D → StorageState) (extras : D → List StorageState) (safe lasts : D → Type 0) (under : B → List Layer) (files : B → List StorageState) (sees safe_under still lasts_under : B → Type 0) (sound : ℕ → List ℕ → Type 0) where
   -- a zeroing by the driver alone, of an image that has nothing prepared
-  pub ran_zeroed : (free_loose : (d : D) → IsFree (layer d) → (p : ℕ) → (layer d).held p ≡ loose) (ok whole : Type 0) (offset n : ℕ) (a b : D) (x : B) → IsFree (layer a) → IsLike (layer a) (layer b) → Went layer image extras safe ok whole a b
+  pub ran_zeroed : (free_loose : (d : D) → IsFree (layer d) → (p : ℕ) → (layer d).held p ≡ loose) (ok whole : Type 0) (offset n : ℕ) (a b : D) (x : B) → IsFree (layer a) → IsLike (layer a) (layer b) → Went layer image extras safe lasts ok whole a b
       → (IsTrue (layer a).fixed.keeps → safe a → (below : List Layer) → whole → IsBetween (GivesZero offset n) below (layer a) (layer b))
       → (IsTrue (layer a).fixed.keeps → safe a → (below : List Layer) → KeepsStops below (layer a) sound (GivesZero offset n) (image a) (image b))
-      → Ran layer image extras safe under files sees still sound ok whole (GivesZero offset n) a b x x
-  ran_zeroed free_loose ok whole offset n a b x free like went values stops = ran_driver layer image extras safe under files sees still sound ok whole (GivesZero offset n) a b x like.size went
+      → Ran layer image extras safe lasts under files sees safe_under still lasts_under sound ok whole (GivesZero offset n) a b x x
+  ran_zeroed free_loose ok whole offset n a b x free like went values stops = ran_driver layer image extras safe lasts under files sees safe_under still lasts_under sound ok whole (GivesZero offset n) a b x like.size went
       (λ w i. holds_loose (at (under x)) (layer b) (free_loose b (like.unspent ∙ free)))
       (λ w i. values i.keeps i.is_safe (under x) w)
       (λ i. stops i.keeps i.is_safe (under x))
 
   -- a cause in a part, behind calls that went well, is one of the whole
   pub cause_behind : (safe_runs : (d : D) → safe d → (layer d).failed ≡ false) (aligned : (d : D) → IsAlignment (layer d).fixed.req_align × IsAlignment (layer d).fixed.mem_align) (gives : ℕ → Value → Type 0) (offset n start m : ℕ) (a b : D) (x y : B) (news : List StorageState) (own_cause : List Layer → Fault → Type 0) (e : Fault)
-      → offset ≤ start → start + m ≤ offset + n → Ran layer image extras safe under files sees still sound ⊤ ⊤ gives a b x y → IsIntact (under x) (layer a) (safe a) (sees x)
+      → offset ≤ start → start + m ≤ offset + n → Ran layer image extras safe lasts under files sees safe_under still lasts_under sound ⊤ ⊤ gives a b x y → IsIntact (under x) (layer a) (safe a) (sees x)
       → PartCause (under y) (layer b) start m (own_cause (under y)) (image b ∷ extras b ++ files y) news e → PartCause (under x) (layer a) offset n (own_cause (under x)) (image a ∷ extras a ++ files x) news e
   cause_behind safe_runs aligned gives offset n start m a b x y news own_cause e from to first i h =
       let same : under y ≡ under x = (first.looked.stays tt i.is_seen).0 in
@@ -92,11 +89,11 @@ module _ {D B : Type 0} (layer : D → Layer) (image : D → StorageState) (extr
       (subst (λ (below : List Layer). PartCause below (layer b) start m (own_cause below) (image b ∷ extras b ++ files y) news e) same h)
 
 -- What a zeroing of all of a range does to a chain's disk.
-module _ {D : Type 0} (layer : D → Layer) (image : D → StorageState) (extras : D → List StorageState) (sees safe still : D → Type 0) (sound : ℕ → List ℕ → Type 0) (free_loose : (d : D) → IsFree (layer d) → (p : ℕ) → (layer d).held p ≡ loose)
+module _ {D : Type 0} (layer : D → Layer) (image : D → StorageState) (extras : D → List StorageState) (sees safe still lasts : D → Type 0) (sound : ℕ → List ℕ → Type 0) (free_loose : (d : D) → IsFree (layer d) → (p : ℕ) → (layer d).held p ≡ loose)
     (old new : D × List D) (offset n : ℕ) (was_free : IsFree (layer old.0)) (is_free : IsFree (layer new.0)) where
   pub zero_ok : (unit : ℕ) (result : Result (Unit {0}) Fault) → change_refusal unit (layer old.0) offset n ≡ None
       → (IsIntactChain layer safe sees old → OnOk result ((p : ℕ) → IsIn offset n p → at (layer new.0 ∷ map layer old.1) p ≡ byte 0))
-      → RanChain layer image extras sees safe still sound (IsOk result) (IsWhole result) (GivesZero offset n) old new → IsIntactChain layer safe sees old
+      → RanChain layer image extras sees safe still lasts sound (IsOk result) (IsWhole result) (GivesZero offset n) old new → IsIntactChain layer safe sees old
       → OnOk result (Unless (n ≡ 0) (Stays (chain_disk layer old) (chain_disk layer new)) (Changes Steps.ToZero (chain_disk layer old) (chain_disk layer new) offset n))
   zero_ok unit (Ok x) allowed shown ran i =
       disk_step (map layer old.1) (map layer new.1) (layer old.0) (layer new.0) (ran.looked.stays tt i.is_seen).0 ran.size (free_loose old.0 was_free) (free_loose new.0 is_free)
@@ -105,7 +102,7 @@ module _ {D : Type 0} (layer : D → Layer) (image : D → StorageState) (extras
 
   -- a refused one is done in part
   pub zero_err : (result : Result (Unit {0}) Fault) (call : Call) → offset_of call ≡ offset → length_of call ≡ n → ((p : ℕ) (was : Value) → Gives (at (map layer old.1)) call p was (byte 0))
-      → RanChain layer image extras sees safe still sound (IsOk result) (IsWhole result) (GivesZero offset n) old new → IsIntactChain layer safe sees old
+      → RanChain layer image extras sees safe still lasts sound (IsOk result) (IsWhole result) (GivesZero offset n) old new → IsIntactChain layer safe sees old
       → IfErr result (λ e. IsMild e → PartlyDone (below_of layer old) call (chain_disk layer old) (chain_disk layer new))
   zero_err (Ok x) call from long given ran i = tt
   zero_err (Err e) call from long given ran i = λ mild.

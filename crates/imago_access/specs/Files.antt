@@ -28,6 +28,10 @@ abbrev pub SomeRose : List StorageState → List StorageState → Type 0
 SomeRose (old ∷ olds) (new ∷ news) = Rose old.faults new.faults ⊎ SomeRose olds news
 SomeRose _ _ = ⊥
 
+-- a storage is named as the cause only where one has failed
+abbrev pub StorageCause : List StorageState → List StorageState → Fault → Type 0
+StorageCause olds news fault = fault ≡ Storage → SomeRose olds news
+
 -- neither want of memory nor a storage that failed
 abbrev pub IsMild : Fault → Type 0
 IsMild Memory = ⊥

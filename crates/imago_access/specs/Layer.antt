@@ -36,6 +36,8 @@ pub record Fixed : Type 0 where
   pub format : Format
   -- it was opened for writing
   pub writable : Bool
+  -- places that it leaves to the layer below could be written there, by what it says of them
+  pub lets_through : Bool
   -- its storages keep what is written
   pub keeps : Bool
   -- a file that it needs was not handed in
@@ -54,6 +56,8 @@ pub record Fixed : Type 0 where
   pub means : List ℕ → Meaning
   -- its file states the size of the disk
   pub exact : Bool
+  -- what it allocates and gives up as a whole, in bytes: each multiple of it up to the next, or to the disk's end
+  pub unit : ℕ
 
 pub record Layer : Type 0 where
   pub fixed : Fixed

@@ -1,4 +1,5 @@
 pub mod Layer
+pub mod Room
 pub mod Chain
 pub mod Layers
 pub mod Files

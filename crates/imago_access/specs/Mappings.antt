@@ -1,5 +1,5 @@
 -- What lookups answer.
-use Rattle.std.specs.Prelude.{◌≡◌, ⊤, ℕ, ◌+◌, ◌<◌, ◌≤◌, List, [], ◌∷◌, Bool, true, false, suc, zero, ◌&&◌, Some, IsTrue}
+use Rattle.std.specs.Prelude.{◌≡◌, ⊤, ℕ, ◌+◌, ◌<◌, ◌≤◌, List, [], ◌∷◌, Bool, true, false, suc, zero, ◌&&◌, Some, IsSome, IsTrue}
 use Rattle.imago_storage.specs.Through.{Overflows}
 use Rattle.imago_storage.specs.Disk.{Value, byte, barred}
 use Rattle.imago_access.specs.Layer.{Layer, Cell, own, unmapped, unit_of_layer, IsFree}
@@ -13,13 +13,15 @@ abbrev pub EachIs : (ℕ → Cell) → ℕ → ℕ → (ℕ → Cell) → Type 0
 EachIs cell offset n value = (i : ℕ) → i < n → cell (offset + i) ≡ value i
 
 -- What a layer's answer says of each place of its run, by the bytes at the places of its storages. A writable place can be written
--- where it is, and a zero that the layer doesn't state itself is of one that shows none below it.
+-- where it is, all places that are left to the layer below are said to be writable there or none is, and a zero that the layer doesn't
+-- state itself is of one that shows none below it.
 abbrev pub Names : Layer → (ℕ → ℕ → ℕ) → ℕ → ℕ → ShallowMapping → Type 0
 Names layer stored offset n (shallow.Raw storage place writable) =
     EachIs layer.cell offset n (λ i. own (byte (stored storage (place + i))))
     × (IsTrue writable → IsTrue layer.fixed.writable)
     × (IsTrue writable → (i : ℕ) → i < n → layer.home (offset + i) ≡ Some (storage, place + i))
-Names layer stored offset n (shallow.Indirect place writable) = EachIs layer.cell offset n (λ i. unmapped) × (place ≡ offset) × (IsTrue writable → IsTrue layer.fixed.writable)
+Names layer stored offset n (shallow.Indirect place writable) =
+    EachIs layer.cell offset n (λ i. unmapped) × (place ≡ offset) × (writable ≡ layer.fixed.lets_through) × (IsTrue writable → IsTrue layer.fixed.writable)
 Names layer stored offset n (shallow.Zero explicit) = EachIs layer.cell offset n (λ i. own (byte 0)) × (explicit ≡ false → layer.fixed.blank ≡ own (byte 0))
 Names layer stored offset n (shallow.Special place) = EachIs layer.cell offset n (λ i. own barred) × (place ≡ offset)
 Names layer stored offset n shallow.Eof = ⊤
@@ -50,12 +52,12 @@ stored_at stored [] depth storage place = 0
 stored_at stored (d ∷ ds) zero storage place = stored d storage place
 stored_at stored (d ∷ ds) (suc depth) storage place = stored_at stored ds depth storage place
 
--- The layers down to this depth were opened for writing, and in the last of them each place of the run can be written in this storage, from
--- this place on.
+-- The layers down to this depth were opened for writing, each but the last lets through what is written below it, and in the last of them
+-- each place of the run can be written in this storage, from this place on.
 abbrev pub AreWritable : ℕ → List Layer → ℕ → ℕ → ℕ → ℕ → Type 0
 AreWritable depth [] storage place offset n = ⊥
 AreWritable zero (layer ∷ below) storage place offset n = IsTrue layer.fixed.writable × ((i : ℕ) → i < n → layer.home (offset + i) ≡ Some (storage, place + i))
-AreWritable (suc depth) (layer ∷ below) storage place offset n = IsTrue layer.fixed.writable × AreWritable depth below storage place offset n
+AreWritable (suc depth) (layer ∷ below) storage place offset n = IsTrue layer.fixed.writable × IsTrue layer.fixed.lets_through × AreWritable depth below storage place offset n
 
 -- the top layer itself says that the places are 0
 abbrev pub SaysZero : List Layer → ℕ → ℕ → Type 0
@@ -74,6 +76,17 @@ DeepNames chain value stored offset n deep.Eof = ⊤
 -- while nothing is prepared, a place of the top layer that can be written is answered as such
 abbrev pub DeepNamesHome : Layer → ℕ → ℕ → Mapping → Type 0
 DeepNamesHome layer offset asked mapping = IsFree layer → 0 < asked → (storage place : ℕ) → layer.home offset ≡ Some (storage, place) → mapping ≡ deep.Raw 0 storage place true
+
+-- Nothing is prepared in the layer at this depth, which can be written at the place, and each layer above it lets that through.
+abbrev pub CanWrite : ℕ → List Layer → ℕ → Type 0
+CanWrite depth [] offset = ⊥
+CanWrite zero (layer ∷ below) offset = IsFree layer × IsSome (layer.home offset)
+CanWrite (suc depth) (layer ∷ below) offset = IsTrue layer.fixed.lets_through × CanWrite depth below offset
+
+-- a place that can be written is answered as such, at every depth
+abbrev pub DeepNamesWritable : List Layer → ℕ → ℕ → Mapping → Type 0
+DeepNamesWritable chain offset asked (deep.Raw depth storage place writable) = 0 < asked → CanWrite depth chain offset → IsTrue writable
+DeepNamesWritable chain offset asked mapping = ⊤
 
 -- the run of an answer of the layers below, which have no end
 abbrev pub IsRunBelow : ℕ → Mapping → ℕ → Type 0

@@ -34,10 +34,10 @@ IsBetween gives below old new = (p : ℕ) → p < old.size → (at (new ∷ belo
 
 -- What a call that changes a range does to a driver and to the layers below it. It succeeded where `ok` holds, and was not cut off by want
 -- of memory or a storage that failed where `whole` does.
-pub record Ran {D B : Type 0} (layer : D → Layer) (image : D → StorageState) (extras : D → List StorageState) (safe : D → Type 0) (under : B → List Layer) (files : B → List StorageState) (sees still : B → Type 0) (sound : ℕ → List ℕ → Type 0) (ok whole : Type 0) (gives : ℕ → Value → Type 0) (old new : D) (old_below new_below : B) : Type 0 where
+pub record Ran {D B : Type 0} (layer : D → Layer) (image : D → StorageState) (extras : D → List StorageState) (safe lasts : D → Type 0) (under : B → List Layer) (files : B → List StorageState) (sees safe_under still lasts_under : B → Type 0) (sound : ℕ → List ℕ → Type 0) (ok whole : Type 0) (gives : ℕ → Value → Type 0) (old new : D) (old_below new_below : B) : Type 0 where
   pub size : (layer new).size ≡ (layer old).size
-  pub went : Went layer image extras safe ok (whole × sees old_below) old new
-  pub looked : LookedUnder under files sees still ok whole old_below new_below
+  pub went : Went layer image extras safe lasts ok (whole × sees old_below) old new
+  pub looked : LookedUnder under files sees safe_under still lasts_under ok whole old_below new_below
   pub intact : whole → IsIntact (under old_below) (layer old) (safe old) (sees old_below) → IsIntact (under new_below) (layer new) (safe new) (sees new_below)
   pub values : whole → IsIntact (under old_below) (layer old) (safe old) (sees old_below) → IsBetween gives (under old_below) (layer old) (layer new)
   pub stops : IsIntact (under old_below) (layer old) (safe old) (sees old_below) → KeepsStops (under old_below) (layer old) sound gives (image old) (image new)
@@ -46,8 +46,8 @@ pub record Ran {D B : Type 0} (layer : D → Layer) (image : D → StorageState)
 abbrev pub IsIntactChain : {D : Type 0} → (D → Layer) → (D → Type 0) → (D → Type 0) → D × List D → Type 0
 IsIntactChain layer safe sees c = IsIntact (map layer c.1) (layer c.0) (safe c.0) (Each sees c.1)
 
-abbrev pub RanChain : {D : Type 0} → (D → Layer) → (D → StorageState) → (D → List StorageState) → (D → Type 0) → (D → Type 0) → (D → Type 0) → (ℕ → List ℕ → Type 0) → Type 0 → Type 0 → (ℕ → Value → Type 0) → D × List D → D × List D → Type 0
-RanChain layer image extras sees safe still sound ok whole gives old new = Ran layer image extras safe (map layer) (files_of image extras) (Each sees) (Each still) sound ok whole gives old.0 new.0 old.1 new.1
+abbrev pub RanChain : {D : Type 0} → (D → Layer) → (D → StorageState) → (D → List StorageState) → (D → Type 0) → (D → Type 0) → (D → Type 0) → (D → Type 0) → (ℕ → List ℕ → Type 0) → Type 0 → Type 0 → (ℕ → Value → Type 0) → D × List D → D × List D → Type 0
+RanChain layer image extras sees safe still lasts sound ok whole gives old new = Ran layer image extras safe lasts (map layer) (files_of image extras) (Each sees) (Each safe) (Each still) (Each lasts) sound ok whole gives old.0 new.0 old.1 new.1
 
 -- the disk of a chain
 abbrev pub chain_disk : {D : Type 0} → (D → Layer) → D × List D → Disk

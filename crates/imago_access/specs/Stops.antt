@@ -1,17 +1,12 @@
 -- What a stop of the machine leaves in the image file of the top layer.
 use Rattle.std.specs.Prelude.{IsTrue, ◌≡◌, ◌⊎◌, ℕ, ◌+◌, ◌<◌, ◌≤◌, List, ◌∷◌, length, slice_index, if◌then◌else◌, ltb, Bool, true, false, Some, None}
-use Rattle.imago_storage.specs.State.{StorageState, Rose, InStep}
-use Rattle.imago_storage.specs.Through.{Stops}
+use Rattle.imago_storage.specs.State.{StorageState}
+use Rattle.imago_storage.specs.Passing.{Passes}
 use Rattle.imago_storage.specs.Disk.{Value, byte}
 use Rattle.imago_storage.specs.Steps.{IsIn, IsByte}
 use Rattle.imago_access.specs.Layer.{Layer, Meaning, Cell, Held, inside, through}
 use Rattle.imago_access.specs.Chain.{at}
 use Rattle.imago_access.specs.Changes.{Settles}
-
--- Where no change was refused: the file is still what a stop leaves, and each file that a stop may have left since has P, in a storage
--- that tells its stops and keeps what is written.
-abbrev pub Passes : (List ℕ → Type 0) → StorageState → StorageState → Type 0
-Passes P old new = (Rose old.refusals new.refusals → ⊥) → (InStep old → InStep new) × Stops P old new
 
 -- what a file shows through the layers below
 abbrev pub shown : List Layer → (List ℕ → Meaning) → List ℕ → ℕ → Value

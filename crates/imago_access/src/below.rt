@@ -4,7 +4,7 @@ ghost use Rattle.imago_storage.specs.State.{StorageState};
 ghost use Rattle.imago_storage.specs.Disk.{Shows};
 ghost use Rattle.imago_access.specs.Layer.{Layer};
 ghost use Rattle.imago_access.specs.Chain.{at, has_any, unit_of_chain};
-ghost use Rattle.imago_access.specs.Files.{IsWhole};
+ghost use Rattle.imago_access.specs.Files.{IsWhole, StorageCause};
 ghost use Rattle.imago_access.specs.Going.{LookedUnder};
 ghost use Rattle.imago_access.specs.Refusals.{ReadCause};
 
@@ -24,8 +24,14 @@ pub trait ReadBelow {
     /// What they hold in memory is what their files say.
     ghost sees_under: { Self → Type 0 };
 
+    /// They are as images that were found sound have to be.
+    ghost safe_under: { Self → Type 0 };
+
     /// They hold nothing that waits to be written: looking at them makes no request.
     ghost still_under: { Self → Type 0 };
+
+    /// What lasts of them over each call.
+    ghost lasts_under: { Self → Type 0 };
 
     /// Whether there is a layer.
     fn present(&self) -> bool
@@ -36,7 +42,8 @@ pub trait ReadBelow {
     /// It refuses as a read of a chain does. A refusal leaves the buffer open.
     fn read(&mut self, alloc: Global, buf: &mut [u8], offset: u64) -> Result<(), Fault>
         ensures shown { OnOk result (sees_under self.old → Shows (at (under self.old)) offset buf.new) }
-        ensures looked { LookedUnder under files_under sees_under still_under (IsOk result) (IsWhole result) self.old self.new }
+        ensures looked { LookedUnder under files_under sees_under safe_under still_under lasts_under (IsOk result) (IsWhole result) self.old self.new }
+        ensures failed { IfErr result (StorageCause (files_under self.old) (files_under self.new)) }
         ensures cause { sees_under self.old → IfErr result (ReadCause (under self.old) (at (under self.old)) (unit_of_chain (under self.old)) offset (length buf.old) (files_under self.old) (files_under self.new)) };
 }
 
@@ -51,7 +58,11 @@ impl ReadBelow for NoBelow {
 
     ghost sees_under = { λ _. ⊤ };
 
+    ghost safe_under = { λ _. ⊤ };
+
     ghost still_under = { λ _. ⊤ };
+
+    ghost lasts_under = { λ _. ⊤ };
 
     fn present(&self) -> bool {
         false

@@ -1,12 +1,13 @@
 // What a driver of a format promises to the chain above it.
 ghost use Rattle.std.specs.Prelude.{◌++◌, IsFalse, false, ◌≡◌, ◌∷◌, [], ◌<◌, ◌≤◌, ◌+◌, ◌⊎◌, ℕ, Bool, Option, Some, None, List, ⊤, is_some, IfSome, IsSome, IsTrue, IsOk, IfOk, IfErr, OnOk, IsErr, IsErrOf, MatchResult, length, slice_index};
 ghost use Rattle.imago_storage.specs.State.{StorageState, IsAlignment};
-ghost use Rattle.imago_storage.specs.Steps.{Call, shrink};
+ghost use Rattle.imago_storage.specs.Steps.{Call, shrink, IsIn, IsOut};
 ghost use Rattle.imago_storage.specs.Through.{Overflows};
 ghost use Rattle.imago_storage.specs.Disk.{byte};
 ghost use Rattle.imago_access.specs.Layer.{Layer, own, unmapped, loose, IsFree, IsLike, unit_of_layer};
 ghost use Rattle.imago_access.specs.Chain.{at, IsBacked};
-ghost use Rattle.imago_access.specs.Files.{Pairs, IsKept, SomeRose, IsMild, IsWhole, IsAnswered, IsStale};
+ghost use Rattle.imago_access.specs.Room.{IsApart, Reaches, Takes, GivesUp};
+ghost use Rattle.imago_access.specs.Files.{Pairs, IsKept, SomeRose, StorageCause, IsMild, IsWhole, IsAnswered, IsStale};
 ghost use Rattle.imago_access.specs.Going.{Looked, LookedUnder, Went};
 ghost use Rattle.imago_access.specs.Mappings.{IsRun, Looks};
 ghost use Rattle.imago_access.specs.Refusals.{barrier, change_refusal, LookCause, ReadMappedCause, InvalidateCause};
@@ -28,8 +29,8 @@ use std::alloc::Global;
 /// A driver of a format over an open image: one layer of a chain.
 ///
 /// Offsets and lengths are in bytes. Contracts see a driver as a `Layer`, and the states of its storages: its image file and the
-/// others. Three facts about what it holds in memory are its own to say: that lookups tell the truth, that it is as an image that
-/// was found sound has to be, and that nothing waits to be written.
+/// others. Four facts are its own to say: that lookups tell the truth, that it is as an image that was found sound has to be, that
+/// nothing waits in memory to be written, and what lasts over every call.
 ///
 /// Each call but the getters and a cancel refuses with `Fault::Failed` after an earlier fault, and with `Fault::MissingData` where a
 /// file that is needed wasn't handed in; then, where its range is empty, it succeeds and does nothing.
@@ -59,6 +60,16 @@ pub trait FormatDriverInstance {
 
     /// Nothing waits in memory to be written, so that looking at it makes no request.
     ghost still: { Self → Type 0 };
+
+    /// What lasts of it over each call, also over one that want of memory or a storage cut off.
+    ghost lasts: { Self → Type 0 };
+
+    /// Nothing is allocated for a place that the format could give up. Places past the disk's end may count as vacant.
+    ghost vacant: { Self → ℕ → Type 0 };
+
+    /// A place has room of its own, which a write or a zeroing keeps for it. What is allocated and isn't its own, as compressed bytes, is
+    /// neither.
+    ghost has_room: { Self → ℕ → Type 0 };
 
     /// Which mapping a state belongs to, and the number of the image that prepared it.
     ghost claim: { Self.State → ℕ };
@@ -130,8 +141,9 @@ pub trait FormatDriverInstance {
         ensures looks { sees self.old → IfOk result (λ r. Looks (layer self.old) (stored self.new) offset max_length r.0 r.1) }
         ensures idle { max_length ≡ 0 → barrier (layer self.old) ≡ None → IsOk result }
         ensures barred { (f : Fault) → barrier (layer self.old) ≡ Some f → IsErrOf result f }
-        ensures looked { Looked layer image extras sees safe still sound (IsOk result) (IsWhole result) self.old self.new }
+        ensures looked { Looked layer image extras sees safe still lasts sound (IsOk result) (IsWhole result) self.old self.new }
         ensures began { OnOk result ((d : Self) (call : Call) → began d call self.old → began d call self.new) }
+        ensures failed { IfErr result (StorageCause (image self.old ∷ extras self.old) (image self.new ∷ extras self.new)) }
         ensures cause { sees self.old → IfErr result (LookCause (layer self.old) offset max_length (image self.old ∷ extras self.old) (image self.new ∷ extras self.new)) };
 
     /// Fills the buffer with the bytes of a storage from a place on, as a lookup has named them. Past its end it reads zeroes.
@@ -147,7 +159,7 @@ pub trait FormatDriverInstance {
     ) -> Result<(), Fault>
         ensures bytes { OnOk result ((i : ℕ) → i < length buf.old → slice_index buf.new i ≡ stored self.old storage (place + i)) }
         ensures barred { (f : Fault) → barrier (layer self.old) ≡ Some f → IsErrOf result f }
-        ensures looked { Looked layer image extras sees safe still sound (IsOk result) (IsWhole result) self.old self.new }
+        ensures looked { Looked layer image extras sees safe still lasts sound (IsOk result) (IsWhole result) self.old self.new }
         ensures began { OnOk result ((d : Self) (call : Call) → began d call self.old → began d call self.new) }
         ensures none { MakesNone (image self.old) (image self.new) }
         ensures cause { IfErr result (ReadMappedCause (layer self.old) place (length buf.old) (image self.old ∷ extras self.old) (image self.new ∷ extras self.new)) };
@@ -159,11 +171,13 @@ pub trait FormatDriverInstance {
         ensures same { (layer self.new ≡ layer self.old) × (image self.new ≡ image self.old) × (extras self.new ≡ extras self.old) }
         ensures sees { sees self.old → sees self.new }
         ensures safe { safe self.old → safe self.new }
-        ensures still { still self.old → still self.new };
+        ensures still { still self.old → still self.new }
+        ensures lasts { lasts self.old → lasts self.new };
 
     /// Maps a run from the offset on so that it can be written: at least one byte, and not more than asked. What the run shows is copied
     /// to its new place first, and what is written there is part of the disk once the mapping is committed. With `overwrite` all of the
-    /// run is going to be written before that, so it isn't copied. Nothing may be prepared.
+    /// run is going to be written before that, so it isn't copied. What it holds lies in units that the range touches. Nothing may be
+    /// prepared.
     ///
     /// It refuses with `Fault::ReadOnly`, `Fault::RangeOverflow` and `Fault::PastEnd`, with causes of the driver's own, with
     /// `Fault::Memory` and `Fault::Storage`. A refusal for another cause than the last two changes no value.
@@ -186,10 +200,13 @@ pub trait FormatDriverInstance {
         ensures idle { length ≡ 0 → barrier (layer self.old) ≡ None → IsOk result }
         ensures size { (layer self.new).size ≡ (layer self.old).size }
         ensures free { IsErr result → IsFree (layer self.new) }
-        ensures went { Went layer image extras safe (IsOk result) (IsWhole result × B.sees_under below.old) self.old self.new }
+        ensures room { IsTrue (layer self.old).fixed.keeps → safe self.old → B.sees_under below.old → IsWhole result → Takes vacant has_room (λ _. ⊤) self.old self.new }
+        ensures near { IsTrue (layer self.old).fixed.keeps → safe self.old → B.sees_under below.old → OnOk result ((p : ℕ) → IsApart (layer self.old).fixed.unit offset length p → (layer self.new).held p ≡ loose) }
+        ensures went { Went layer image extras safe lasts (IsOk result) (IsWhole result × B.sees_under below.old) self.old self.new }
         ensures began { (d : Self) (call : Call) → began d call self.old → IsPartOf call offset length → IsWhole result → began d call self.new }
         ensures stops { IsTrue (layer self.old).fixed.keeps → safe self.old → B.sees_under below.old → KeepsStops (B.under below.old) (layer self.old) sound GivesNone (image self.old) (image self.new) }
-        ensures below { LookedUnder B.under B.files_under B.sees_under B.still_under (IsOk result) (IsWhole result) below.old below.new }
+        ensures below { LookedUnder B.under B.files_under B.sees_under B.safe_under B.still_under B.lasts_under (IsOk result) (IsWhole result) below.old below.new }
+        ensures failed { IfErr result (StorageCause (image self.old ∷ extras self.old ++ B.files_under below.old) (image self.new ∷ extras self.new ++ B.files_under below.new)) }
         ensures cause { safe self.old → B.sees_under below.old → (d : Self) (call : Call) → began d call self.old → IsPartOf call offset length → overwrite ≡ announces call → IfErr result (PartCause (B.under below.old) (layer self.old) offset length (own_cause d (B.under below.old) call) (image self.old ∷ extras self.old ++ B.files_under below.old) (image self.new ∷ extras self.new ++ B.files_under below.new)) };
 
     /// Makes a prepared mapping part of the disk. One without state takes no memory and succeeds.
@@ -202,11 +219,13 @@ pub trait FormatDriverInstance {
         mapping: PreparedDataMapping<Self::State>,
     ) -> Result<(), (Fault, Option<PreparedDataMapping<Self::State>>)>
         ensures ok { OnOk result (Spends claim tag mapping.state (layer self.old) (layer self.new) (IsFree (layer self.new) × (IsTrue (layer self.old).fixed.keeps → safe self.old → Committed (layer self.old) (layer self.new)))) }
-        ensures went { Went layer image extras safe (IsOk result) (IsOk result × IsMine claim tag mapping.state (layer self.old)) self.old self.new }
+        ensures went { Went layer image extras safe lasts (IsOk result) (IsOk result × IsMine claim tag mapping.state (layer self.old)) self.old self.new }
         ensures back { IfErr result (λ e. IfSome e.1 (λ m. (m ≡ mapping) × (layer self.new ≡ layer self.old) × GivenBack tag mapping.state (layer self.old) e.0 × (safe self.old → safe self.new))) }
         ensures at_once { (f : Fault) → commit_refusal tag mapping.state (layer self.old) ≡ Some f → MatchResult result (λ _. ⊥) (λ e. e.0 ≡ f) }
         ensures spent { IfErr result (λ e. e.1 ≡ None → IsSome mapping.state × IsTrue (layer self.new).failed × Spends claim tag mapping.state (layer self.old) (layer self.new) (IsFree (layer self.new) × (safe self.old → IsMild e.0 → ⊥))) }
         ensures size { (layer self.new).size ≡ (layer self.old).size }
+        ensures room { IsTrue (layer self.old).fixed.keeps → safe self.old → IsMine claim tag mapping.state (layer self.old) → OnOk result (Takes vacant has_room (λ p. (layer self.old).held p ≡ loose) self.old self.new) }
+        ensures back_room { IsTrue (layer self.old).fixed.keeps → safe self.old → IfErr result (λ e. IfSome e.1 (λ m. Takes vacant has_room (λ _. ⊤) self.old self.new)) }
         ensures began { (d : Self) (call : Call) → began d call self.old → IsMine claim tag mapping.state (layer self.old) → OnOk result (began d call self.new) }
         ensures stops { IsTrue (layer self.old).fixed.keeps → safe self.old → IsMine claim tag mapping.state (layer self.old) → (below : List Layer) → KeepsStops below (layer self.old) sound (GivesSettled below (layer self.old)) (image self.old) (image self.new) }
         ensures failed { IfErr result (λ e. e.0 ≡ Fault.Storage → SomeRose (image self.old ∷ extras self.old) (image self.new ∷ extras self.new)) };
@@ -220,6 +239,8 @@ pub trait FormatDriverInstance {
     ) -> Result<(), (Fault, PreparedDataMapping<Self::State>)>
         ensures ok { OnOk result (Spends claim tag mapping.state (layer self.old) (layer self.new) (Cancelled (layer self.old) (layer self.new))) }
         ensures safe { IsMine claim tag mapping.state (layer self.old) → safe self.old → safe self.new }
+        ensures room { IsTrue (layer self.old).fixed.keeps → safe self.old → IsMine claim tag mapping.state (layer self.old) → Takes vacant has_room (λ _. ⊤) self.old self.new }
+        ensures lasts { lasts self.old → lasts self.new }
         ensures back { IfErr result (λ e. (e.1 ≡ mapping) × (e.0 ≡ Foreign) × (layer self.new ≡ layer self.old) × IsForeignTo tag mapping.state (layer self.old)) }
         ensures began { (d : Self) (call : Call) → began d call self.old → began d call self.new }
         ensures none { (image self.new ≡ image self.old) × (extras self.new ≡ extras self.old) };
@@ -242,9 +263,11 @@ pub trait FormatDriverInstance {
         ensures at_once { (f : Fault) → change_refusal (unit_of_layer (layer self.old)) (layer self.old) guest (length bytes.now) ≡ Some f → IsErrOf result f }
         ensures idle { length bytes.now ≡ 0 → barrier (layer self.old) ≡ None → IsOk result }
         ensures like { IsLike (layer self.old) (layer self.new) }
-        ensures went { Went layer image extras safe (IsOk result) (IsWhole result) self.old self.new }
+        ensures room { IsTrue (layer self.old).fixed.keeps → safe self.old → IsWhole result → Takes vacant has_room (λ _. ⊤) self.old self.new }
+        ensures went { Went layer image extras safe lasts (IsOk result) (IsWhole result) self.old self.new }
         ensures began { (d : Self) (call : Call) → began d call self.old → OnOk result (began d call self.new) }
         ensures stops { IsTrue (layer self.old).fixed.keeps → safe self.old → (below : List Layer) → KeepsStops below (layer self.old) sound (GivesBytes guest bytes.now) (image self.old) (image self.new) }
+        ensures failed { IfErr result (StorageCause (image self.old ∷ extras self.old) (image self.new ∷ extras self.new)) }
         ensures cause { safe self.old → IfErr result (MappedCause (layer self.old) guest place (length bytes.now) (image self.old ∷ extras self.old) (image self.new ∷ extras self.new)) };
 
     /// Makes a part of the range read as 0 and keeps what is allocated for it. Nothing may be prepared.
@@ -267,14 +290,17 @@ pub trait FormatDriverInstance {
         ensures at_once { (f : Fault) → change_refusal (unit_of_layer (layer self.old)) (layer self.old) offset length ≡ Some f → IsErrOf result f }
         ensures idle { length ≡ 0 → barrier (layer self.old) ≡ None → IsOk result }
         ensures like { IsLike (layer self.old) (layer self.new) }
-        ensures went { Went layer image extras safe (IsAnswered result) (IsWhole result) self.old self.new }
+        ensures room { IsTrue (layer self.old).fixed.keeps → safe self.old → IsWhole result → Takes vacant has_room (IsOut offset length) self.old self.new }
+        ensures went { Went layer image extras safe lasts (IsAnswered result) (IsWhole result) self.old self.new }
         ensures began { (d : Self) (call : Call) → began d call self.old → IsPartOf call offset length → IsWhole result → began d call self.new }
         ensures stops { IsTrue (layer self.old).fixed.keeps → safe self.old → (below : List Layer) → KeepsStops below (layer self.old) sound (GivesZero offset length) (image self.old) (image self.new) }
+        ensures failed { IfErr result (StorageCause (image self.old ∷ extras self.old) (image self.new ∷ extras self.new)) }
         ensures cause { safe self.old → (below : List Layer) (d : Self) (call : Call) → began d call self.old → IsPartOf call offset length → IfErr result (DeclinableCause below (layer self.old) offset length (own_cause d below call) (image self.old ∷ extras self.old) (image self.new ∷ extras self.new)) };
 
     /// Makes a part of the range read as 0 and gives up what is allocated for it. Nothing may be prepared.
     ///
-    /// It answers the part that it has done: from where on, and how many bytes. The rest of the range is left as it was. It refuses with
+    /// It answers the part that it has done: from where on, and how many bytes. That part leaves out no whole unit of the range before it,
+    /// cuts none, and isn't empty where the range has one. The rest of the range is left as it was. It refuses with
     /// `Fault::ReadOnly`, `Fault::RangeOverflow` and `Fault::PastEnd`, with `Fault::VersionLimit` where the format can't, with causes of the driver's own,
     /// with `Fault::Memory` and `Fault::Storage`. A refusal for another cause than the last two leaves each byte of the range old or as
     /// the call gives it, and one with `Fault::Unsupported` or `Fault::VersionLimit` has met no storage that failed.
@@ -292,14 +318,19 @@ pub trait FormatDriverInstance {
         ensures at_once { (f : Fault) → change_refusal (unit_of_layer (layer self.old)) (layer self.old) offset length ≡ Some f → IsErrOf result f }
         ensures idle { length ≡ 0 → barrier (layer self.old) ≡ None → IsOk result }
         ensures like { IsLike (layer self.old) (layer self.new) }
-        ensures went { Went layer image extras safe (IsAnswered result) (IsWhole result) self.old self.new }
+        ensures room { IsTrue (layer self.old).fixed.keeps → safe self.old → IsWhole result → GivesUp vacant has_room offset length self.old self.new }
+        ensures given { IsTrue (layer self.old).fixed.keeps → safe self.old → IfOk result (λ r. (p : ℕ) → IsIn r.0 r.1 p → vacant self.new p) }
+        ensures reach { IsTrue (layer self.old).fixed.keeps → safe self.old → IfOk result (λ r. Reaches (layer self.old).fixed.unit (layer self.old).size offset length r.0 r.1) }
+        ensures went { Went layer image extras safe lasts (IsAnswered result) (IsWhole result) self.old self.new }
         ensures began { (d : Self) (call : Call) → began d call self.old → IsPartOf call offset length → IsWhole result → began d call self.new }
         ensures stops { IsTrue (layer self.old).fixed.keeps → safe self.old → (below : List Layer) → KeepsStops below (layer self.old) sound (GivesZero offset length) (image self.old) (image self.new) }
+        ensures failed { IfErr result (StorageCause (image self.old ∷ extras self.old) (image self.new ∷ extras self.new)) }
         ensures cause { safe self.old → (below : List Layer) (d : Self) (call : Call) → began d call self.old → IsPartOf call offset length → IfErr result (DeclinableCause below (layer self.old) offset length (own_cause d below call) (image self.old ∷ extras self.old) (image self.new ∷ extras self.new)) };
 
     /// Gives up a part of the range, whose bytes may then be any. Nothing may be prepared.
     ///
-    /// It answers the part that it has done: from where on, and how many bytes. The rest of the range is left as it was. It refuses with
+    /// It answers the part that it has done: from where on, and how many bytes. That part leaves out no whole unit of the range before it,
+    /// cuts none, and isn't empty where the range has one. The rest of the range is left as it was. It refuses with
     /// `Fault::ReadOnly`, `Fault::RangeOverflow` and `Fault::PastEnd`, with `Fault::VersionLimit` where the format can't, with causes of the driver's own,
     /// with `Fault::Memory` and `Fault::Storage`. A refusal for another cause than the last two leaves each byte of the range old or as
     /// the call gives it, and one with `Fault::Unsupported` or `Fault::VersionLimit` has met no storage that failed.
@@ -317,14 +348,19 @@ pub trait FormatDriverInstance {
         ensures at_once { (f : Fault) → change_refusal (unit_of_layer (layer self.old)) (layer self.old) offset length ≡ Some f → IsErrOf result f }
         ensures idle { length ≡ 0 → barrier (layer self.old) ≡ None → IsOk result }
         ensures like { IsLike (layer self.old) (layer self.new) }
-        ensures went { Went layer image extras safe (IsAnswered result) (IsWhole result) self.old self.new }
+        ensures room { IsTrue (layer self.old).fixed.keeps → safe self.old → IsWhole result → GivesUp vacant has_room offset length self.old self.new }
+        ensures given { IsTrue (layer self.old).fixed.keeps → safe self.old → IfOk result (λ r. (p : ℕ) → IsIn r.0 r.1 p → vacant self.new p) }
+        ensures reach { IsTrue (layer self.old).fixed.keeps → safe self.old → IfOk result (λ r. Reaches (layer self.old).fixed.unit (layer self.old).size offset length r.0 r.1) }
+        ensures went { Went layer image extras safe lasts (IsAnswered result) (IsWhole result) self.old self.new }
         ensures began { (d : Self) (call : Call) → began d call self.old → IsPartOf call offset length → IsWhole result → began d call self.new }
         ensures stops { IsTrue (layer self.old).fixed.keeps → safe self.old → (below : List Layer) → KeepsStops below (layer self.old) sound (GivesAny offset length) (image self.old) (image self.new) }
+        ensures failed { IfErr result (StorageCause (image self.old ∷ extras self.old) (image self.new ∷ extras self.new)) }
         ensures cause { safe self.old → (below : List Layer) (d : Self) (call : Call) → began d call self.old → IsPartOf call offset length → IfErr result (DeclinableCause below (layer self.old) offset length (own_cause d below call) (image self.old ∷ extras self.old) (image self.new ∷ extras self.new)) };
 
     /// Gives up a part of the range to the layer below. Nothing may be prepared.
     ///
-    /// It answers the part that it has done: from where on, and how many bytes. The rest of the range is left as it was. It refuses with
+    /// It answers the part that it has done: from where on, and how many bytes. That part leaves out no whole unit of the range before it,
+    /// cuts none, and isn't empty where the range has one. The rest of the range is left as it was. It refuses with
     /// `Fault::ReadOnly`, `Fault::RangeOverflow` and `Fault::PastEnd`, with causes of the driver's own,
     /// with `Fault::Memory` and `Fault::Storage`. A refusal for another cause than the last two leaves each byte of the range old or as
     /// the call gives it, and one with `Fault::Unsupported` or `Fault::VersionLimit` has met no storage that failed.
@@ -342,9 +378,13 @@ pub trait FormatDriverInstance {
         ensures at_once { (f : Fault) → change_refusal (unit_of_layer (layer self.old)) (layer self.old) offset length ≡ Some f → IsErrOf result f }
         ensures idle { length ≡ 0 → barrier (layer self.old) ≡ None → IsOk result }
         ensures like { IsLike (layer self.old) (layer self.new) }
-        ensures went { Went layer image extras safe (IsAnswered result) (IsWhole result) self.old self.new }
+        ensures room { IsTrue (layer self.old).fixed.keeps → safe self.old → IsWhole result → GivesUp vacant has_room offset length self.old self.new }
+        ensures given { IsTrue (layer self.old).fixed.keeps → safe self.old → IfOk result (λ r. (p : ℕ) → IsIn r.0 r.1 p → vacant self.new p) }
+        ensures reach { IsTrue (layer self.old).fixed.keeps → safe self.old → IfOk result (λ r. Reaches (layer self.old).fixed.unit (layer self.old).size offset length r.0 r.1) }
+        ensures went { Went layer image extras safe lasts (IsAnswered result) (IsWhole result) self.old self.new }
         ensures began { (d : Self) (call : Call) → began d call self.old → IsPartOf call offset length → IsWhole result → began d call self.new }
         ensures stops { IsTrue (layer self.old).fixed.keeps → safe self.old → (below : List Layer) → IsBacked below (layer self.old) → KeepsStops below (layer self.old) sound (GivesBelow below offset length) (image self.old) (image self.new) }
+        ensures failed { IfErr result (StorageCause (image self.old ∷ extras self.old) (image self.new ∷ extras self.new)) }
         ensures cause { safe self.old → (below : List Layer) (d : Self) (call : Call) → began d call self.old → IsPartOf call offset length → IfErr result (DeclinableCause below (layer self.old) offset length (own_cause d below call) (image self.old ∷ extras self.old) (image self.new ∷ extras self.new)) };
 
     /// Hands all that waits in memory to its files, and flushes these: while nothing is prepared, the files alone then mean the disk.
@@ -356,8 +396,9 @@ pub trait FormatDriverInstance {
         ensures written { IsTrue (layer self.old).fixed.keeps → safe self.old → IsFree (layer self.old) → OnOk result (IsMeant (layer self.new) (image self.new).bytes) }
         ensures barred { (f : Fault) → barrier (layer self.old) ≡ Some f → IsErrOf result f }
         ensures like { IsLike (layer self.old) (layer self.new) }
-        ensures went { Went layer image extras safe (IsOk result) (IsWhole result) self.old self.new }
+        ensures went { Went layer image extras safe lasts (IsOk result) (IsWhole result) self.old self.new }
         ensures stops { IsTrue (layer self.old).fixed.keeps → safe self.old → (below : List Layer) → KeepsStops below (layer self.old) sound (GivesNone) (image self.old) (image self.new) }
+        ensures failed { IfErr result (StorageCause (image self.old ∷ extras self.old) (image self.new ∷ extras self.new)) }
         ensures cause { safe self.old → IfErr result (PlainCause (layer self.old) (image self.old ∷ extras self.old) (image self.new ∷ extras self.new)) };
 
     /// Makes what was handed to its files durable.
@@ -369,7 +410,7 @@ pub trait FormatDriverInstance {
         ensures still { still self.old → still self.new }
         ensures barred { (f : Fault) → barrier (layer self.old) ≡ Some f → IsErrOf result f }
         ensures like { IsLike (layer self.old) (layer self.new) }
-        ensures went { Went layer image extras safe (IsOk result) (IsWhole result) self.old self.new }
+        ensures went { Went layer image extras safe lasts (IsOk result) (IsWhole result) self.old self.new }
         ensures sees { sees self.old → sees self.new }
         ensures cause { IfErr result (PlainCause (layer self.old) (image self.old ∷ extras self.old) (image self.new ∷ extras self.new)) };
 
@@ -384,7 +425,7 @@ pub trait FormatDriverInstance {
         ensures kept { Pairs IsKept (image self.old ∷ extras self.old) (image self.new ∷ extras self.new) }
         ensures still { OnOk result (still self.new) }
         ensures barred { (f : Fault) → barrier (layer self.old) ≡ Some f → IsErrOf result f }
-        ensures went { Went layer image extras safe (IsOk result) (IsOk result) self.old self.new }
+        ensures went { Went layer image extras safe lasts (IsOk result) (IsOk result) self.old self.new }
         ensures free { IsFree (layer self.new) }
         ensures failed { IfErr result (λ e. IsStale e → IsTrue (layer self.new).failed) }
         ensures cause { IfErr result (InvalidateCause (layer self.old ∷ []) (image self.old ∷ extras self.old) (image self.new ∷ extras self.new)) };
@@ -408,9 +449,10 @@ pub trait FormatDriverInstance {
         ensures barred { (f : Fault) → barrier (layer self.old) ≡ Some f → IsErrOf result f }
         ensures read_only { barrier (layer self.old) ≡ None → (layer self.old).size < size → IsFalse (layer self.old).fixed.writable → IsErrOf result ReadOnly }
         ensures free { IsFree (layer self.new) }
-        ensures went { Went layer image extras safe (IsOk result) (IsWhole result × B.sees_under below.old) self.old self.new }
+        ensures went { Went layer image extras safe lasts (IsOk result) (IsWhole result × B.sees_under below.old) self.old self.new }
         ensures stops { IsTrue (layer self.old).fixed.keeps → safe self.old → B.sees_under below.old → KeepsStopsTo (B.under below.old) (layer self.old) sound (layer self.old).size (GivesPast (layer self.old).size) (image self.old) (image self.new) }
-        ensures below { LookedUnder B.under B.files_under B.sees_under B.still_under (IsOk result) (IsWhole result) below.old below.new }
+        ensures below { LookedUnder B.under B.files_under B.sees_under B.safe_under B.still_under B.lasts_under (IsOk result) (IsWhole result) below.old below.new }
+        ensures failed { IfErr result (StorageCause (image self.old ∷ extras self.old ++ B.files_under below.old) (image self.new ∷ extras self.new ++ B.files_under below.new)) }
         ensures cause { safe self.old → B.sees_under below.old → IfErr result (GrowthCause (B.under below.old) (layer self.old) size (growth_cause self.old (B.under below.old) size mode) (image self.old ∷ extras self.old ++ B.files_under below.old) (image self.new ∷ extras self.new ++ B.files_under below.new)) };
 
     /// Makes the disk shorter, to a size in bytes. Nothing may be prepared. To a size that isn't below it does nothing.
@@ -425,9 +467,10 @@ pub trait FormatDriverInstance {
         ensures err { IsTrue (layer self.old).fixed.keeps → safe self.old → IfErr result (λ e. IsMild e → NotShrunk (layer self.old) (layer self.new)) }
         ensures barred { (f : Fault) → barrier (layer self.old) ≡ Some f → IsErrOf result f }
         ensures read_only { barrier (layer self.old) ≡ None → size < (layer self.old).size → IsFalse (layer self.old).fixed.writable → IsErrOf result ReadOnly }
-        ensures went { Went layer image extras safe (IsOk result) (IsWhole result) self.old self.new }
+        ensures went { Went layer image extras safe lasts (IsOk result) (IsWhole result) self.old self.new }
         ensures free { IsFree (layer self.new) }
         ensures stops { IsTrue (layer self.old).fixed.keeps → safe self.old → (below : List Layer) → KeepsStopsTo below (layer self.old) sound size (GivesBelowPast below size) (image self.old) (image self.new) }
+        ensures failed { IfErr result (StorageCause (image self.old ∷ extras self.old) (image self.new ∷ extras self.new)) }
         ensures cause { safe self.old → (below : List Layer) → IfErr result (ShrinkCause below (layer self.old) size (own_cause self.old below (shrink size)) (image self.old ∷ extras self.old) (image self.new ∷ extras self.new)) };
 
     /// A driver that is safe sees.
@@ -450,6 +493,9 @@ pub trait FormatDriverInstance {
 
     /// While nothing is prepared, no place is held.
     ghost free_loose: { (d : Self) → IsFree (layer d) → (p : ℕ) → (layer d).held p ≡ loose };
+
+    /// A place that has room isn't vacant.
+    ghost bare: { (d : Self) (p : ℕ) → vacant d p → has_room d p → ⊥ };
 
     /// No two places can be written at one place of a storage.
     ghost one_home: { (d : Self) (p q : ℕ) (at : ℕ × ℕ) → safe d → (layer d).home p ≡ Some at → (layer d).home q ≡ Some at → p ≡ q };

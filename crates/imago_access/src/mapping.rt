@@ -18,7 +18,7 @@ pub enum ShallowMapping {
     Indirect {
         /// Where the run begins in the layer below, in bytes.
         offset: u64,
-        /// They could be written there.
+        /// They could be written there, as far as this layer goes. A layer says the same of all such places.
         writable: bool,
     },
     /// They are 0.

@@ -17,6 +17,7 @@ abbrev pub raw_fixed : Shape → Bool → Fixed
 raw_fixed shape writable = record {
   format = format.Raw;
   writable = writable;
+  lets_through = false;
   keeps = shape.keeps;
   missing = false;
   number = 0;
@@ -27,6 +28,7 @@ raw_fixed shape writable = record {
   kind = 0;
   means = raw_meaning;
   exact = false;
+  unit = 1;
 }
 
 -- a raw image over a storage in this state, with its size in bytes and whether it was opened for writing

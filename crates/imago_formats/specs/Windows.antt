@@ -24,6 +24,7 @@ abbrev pub window_fixed : ℕ → Bool → Fixed
 window_fixed size writable = record {
   format = format.Qcow2;
   writable = writable;
+  lets_through = writable;
   keeps = true;
   missing = false;
   number = 0;
@@ -34,6 +35,7 @@ window_fixed size writable = record {
   kind = 0;
   means = λ f. record { size = size; cell = λ p. unmapped };
   exact = false;
+  unit = 1;
 }
 
 abbrev pub window_layer : ℕ → Bool → Layer

@@ -34,7 +34,7 @@ impl<S: Storage> FormatDriverBuilder<S> for RawOpenBuilder<S> {
 
     ghost options_of = { λ b. b.base.options };
 
-    ghost opens = { λ b d. let image = S.state b.base.image in (d.storage ≡ b.base.image) × (⟦<Raw<S> as FormatDriverInstance>⟧.layer d ≡ raw_layer image (length image.bytes) b.base.writable) × ⟦<Raw<S> as FormatDriverInstance>⟧.safe d };
+    ghost opens = { λ b d. let image = S.state b.base.image in (d.storage ≡ b.base.image) × (⟦<Raw<S> as FormatDriverInstance>⟧.layer d ≡ raw_layer image (length image.bytes) b.base.writable) × ⟦<Raw<S> as FormatDriverInstance>⟧.safe d × ⟦<Raw<S> as FormatDriverInstance>⟧.lasts d };
 
     ghost refuses = { λ b fault. ⊥ };
 
@@ -95,7 +95,7 @@ impl<S: Storage> FormatCreateBuilder<S> for RawCreateBuilder<S> {
 
     ghost hands = { λ b s. IsNewRaw (S.state b.base.image) (S.state s) b.base.size };
 
-    ghost opens = { λ b opening d. let image = S.state opening.base.image in (d.storage ≡ opening.base.image) × (⟦<Raw<S> as FormatDriverInstance>⟧.layer d ≡ raw_layer image (length image.bytes) true) × ⟦<Raw<S> as FormatDriverInstance>⟧.safe d };
+    ghost opens = { λ b opening d. let image = S.state opening.base.image in (d.storage ≡ opening.base.image) × (⟦<Raw<S> as FormatDriverInstance>⟧.layer d ≡ raw_layer image (length image.bytes) true) × ⟦<Raw<S> as FormatDriverInstance>⟧.safe d × ⟦<Raw<S> as FormatDriverInstance>⟧.lasts d };
 
     ghost refuses = { λ b fault. NotCreated fault };
 

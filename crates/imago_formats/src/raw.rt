@@ -7,10 +7,11 @@ ghost use Rattle.imago_storage.specs.Calls.{Mixed, Later};
 ghost use Rattle.imago_storage.specs.Through.{WrittenThrough, NotWrittenThrough, Stops, StopsAsLong};
 ghost use Rattle.imago_storage.specs.declared.fault.Fault.{Fault};
 ghost use Rattle.imago_storage.specs.declared.fault.Fault.TheVariants.{Foreign, ReadOnly, Unsupported};
-ghost use Rattle.imago_access.specs.Layer.{Layer, IsFree, IsLike, unit_of_layer};
+ghost use Rattle.imago_access.specs.Layer.{Layer, loose, IsFree, IsLike, unit_of_layer};
+ghost use Rattle.imago_access.specs.Room.{Takes};
 ghost use Rattle.imago_access.specs.Changes.{Committed, Cancelled, Rewrites, ToZero};
 ghost use Rattle.imago_access.specs.Files as Files;
-ghost use Rattle.imago_access.specs.Files.{IsMild, SomeRose};
+ghost use Rattle.imago_access.specs.Files.{IsMild, SomeRose, StorageCause};
 ghost use Rattle.imago_access.specs.Going.{Went, LookedUnder};
 ghost use Rattle.imago_access.specs.Refusals.{change_refusal, barrier};
 ghost use Rattle.imago_access.specs.Parts.{DeclinableCause, GrowthCause, ShrinkCause};
@@ -60,6 +61,7 @@ impl<S: Storage> Raw<S> {
     pub fn open_image(storage: S, writable: bool) -> Self
         ensures layer { ⟦<Raw<S> as FormatDriverInstance>⟧.layer result ≡ raw_layer (S.state storage) (length (S.state storage).bytes) writable }
         ensures safe { ⟦<Raw<S> as FormatDriverInstance>⟧.safe result }
+        ensures lasts { ⟦<Raw<S> as FormatDriverInstance>⟧.lasts result }
         ensures storage { result.storage ≡ storage }
     {
         let size = storage.size();
@@ -157,8 +159,9 @@ impl<S: Storage> Raw<S> {
         ensures at_once { let d = ⟦<Raw<S> as FormatDriverInstance>⟧ in (f : Fault) → change_refusal (unit_of_layer (d.layer self.old)) (d.layer self.old) offset length ≡ Some f → IsErrOf result f }
         ensures idle { length ≡ 0 → IsOk result }
         ensures like { let d = ⟦<Raw<S> as FormatDriverInstance>⟧ in IsLike (d.layer self.old) (d.layer self.new) }
-        ensures went { let d = ⟦<Raw<S> as FormatDriverInstance>⟧ in Went d.layer d.image d.extras d.safe (IsOk result) (Files.IsWhole result) self.old self.new }
+        ensures went { let d = ⟦<Raw<S> as FormatDriverInstance>⟧ in Went d.layer d.image d.extras d.safe d.lasts (IsOk result) (Files.IsWhole result) self.old self.new }
         ensures stops { let d = ⟦<Raw<S> as FormatDriverInstance>⟧ in d.safe self.old → (below : List Layer) → KeepsStops below (d.layer self.old) d.sound (GivesZero offset length) (d.image self.old) (d.image self.new) }
+        ensures failed { let d = ⟦<Raw<S> as FormatDriverInstance>⟧ in IfErr result (StorageCause (d.image self.old ∷ d.extras self.old) (d.image self.new ∷ d.extras self.new)) }
         ensures cause { let d = ⟦<Raw<S> as FormatDriverInstance>⟧ in (below : List Layer) (e : _) (call : Call) → IfErr result (DeclinableCause below (d.layer self.old) offset length (d.own_cause e below call) (d.image self.old ∷ d.extras self.old) (d.image self.new ∷ d.extras self.new)) }
     {
         if length == 0 {
@@ -230,6 +233,12 @@ impl<S: Storage> FormatDriverInstance for Raw<S> {
 
     ghost still = { λ _. ⊤ };
 
+    ghost lasts = { λ r. r.size ≤ length (S.state r.storage).bytes };
+
+    ghost vacant = { λ d p. ⊤ };
+
+    ghost has_room = { λ d p. ⊥ };
+
     ghost claim = { λ _. 0 };
 
     ghost tag = { λ _. 0 };
@@ -253,6 +262,8 @@ impl<S: Storage> FormatDriverInstance for Raw<S> {
     ghost begins = { λ d call. tt };
 
     ghost free_loose = { λ d free p. refl };
+
+    ghost bare = { λ d p free has. has };
 
     ghost one_home = { λ d p q at safe. one_home d.size d.writable p q at };
 
@@ -349,11 +360,13 @@ impl<S: Storage> FormatDriverInstance for Raw<S> {
         mapping: PreparedDataMapping<NoState>,
     ) -> Result<(), (Fault, Option<PreparedDataMapping<NoState>>)>
         ensures ok { let d = ⟦<Raw<S> as FormatDriverInstance>⟧ in OnOk result (Spends d.claim d.tag mapping.state (d.layer self.old) (d.layer self.new) (IsFree (d.layer self.new) × (IsTrue (d.layer self.old).fixed.keeps → d.safe self.old → Committed (d.layer self.old) (d.layer self.new)))) }
-        ensures went { let d = ⟦<Raw<S> as FormatDriverInstance>⟧ in Went d.layer d.image d.extras d.safe (IsOk result) (IsOk result × IsMine d.claim d.tag mapping.state (d.layer self.old)) self.old self.new }
+        ensures went { let d = ⟦<Raw<S> as FormatDriverInstance>⟧ in Went d.layer d.image d.extras d.safe d.lasts (IsOk result) (IsOk result × IsMine d.claim d.tag mapping.state (d.layer self.old)) self.old self.new }
         ensures back { let d = ⟦<Raw<S> as FormatDriverInstance>⟧ in IfErr result (λ e. IfSome e.1 (λ m. (m ≡ mapping) × (d.layer self.new ≡ d.layer self.old) × GivenBack d.tag mapping.state (d.layer self.old) e.0 × (d.safe self.old → d.safe self.new))) }
         ensures at_once { let d = ⟦<Raw<S> as FormatDriverInstance>⟧ in (f : Fault) → commit_refusal d.tag mapping.state (d.layer self.old) ≡ Some f → MatchResult result (λ _. ⊥) (λ e. e.0 ≡ f) }
         ensures spent { let d = ⟦<Raw<S> as FormatDriverInstance>⟧ in IfErr result (λ e. e.1 ≡ None → IsSome mapping.state × IsTrue (d.layer self.new).failed × Spends d.claim d.tag mapping.state (d.layer self.old) (d.layer self.new) (IsFree (d.layer self.new) × (d.safe self.old → IsMild e.0 → ⊥))) }
         ensures size { let d = ⟦<Raw<S> as FormatDriverInstance>⟧ in (d.layer self.new).size ≡ (d.layer self.old).size }
+        ensures room { let d = ⟦<Raw<S> as FormatDriverInstance>⟧ in IsTrue (d.layer self.old).fixed.keeps → d.safe self.old → IsMine d.claim d.tag mapping.state (d.layer self.old) → OnOk result (Takes d.vacant d.has_room (λ p. (d.layer self.old).held p ≡ loose) self.old self.new) }
+        ensures back_room { let d = ⟦<Raw<S> as FormatDriverInstance>⟧ in IsTrue (d.layer self.old).fixed.keeps → d.safe self.old → IfErr result (λ e. IfSome e.1 (λ m. Takes d.vacant d.has_room (λ _. ⊤) self.old self.new)) }
         ensures began { let d = ⟦<Raw<S> as FormatDriverInstance>⟧ in (e : _) (call : Call) → d.began e call self.old → IsMine d.claim d.tag mapping.state (d.layer self.old) → OnOk result (d.began e call self.new) }
         ensures stops { let d = ⟦<Raw<S> as FormatDriverInstance>⟧ in IsTrue (d.layer self.old).fixed.keeps → d.safe self.old → IsMine d.claim d.tag mapping.state (d.layer self.old) → (below : List Layer) → KeepsStops below (d.layer self.old) d.sound (GivesSettled below (d.layer self.old)) (d.image self.old) (d.image self.new) }
         ensures failed { let d = ⟦<Raw<S> as FormatDriverInstance>⟧ in IfErr result (λ e. e.0 ≡ Fault.Storage → SomeRose (d.image self.old ∷ d.extras self.old) (d.image self.new ∷ d.extras self.new)) }
@@ -370,6 +383,8 @@ impl<S: Storage> FormatDriverInstance for Raw<S> {
     ) -> Result<(), (Fault, PreparedDataMapping<NoState>)>
         ensures ok { let d = ⟦<Raw<S> as FormatDriverInstance>⟧ in OnOk result (Spends d.claim d.tag mapping.state (d.layer self.old) (d.layer self.new) (Cancelled (d.layer self.old) (d.layer self.new))) }
         ensures safe { let d = ⟦<Raw<S> as FormatDriverInstance>⟧ in IsMine d.claim d.tag mapping.state (d.layer self.old) → d.safe self.old → d.safe self.new }
+        ensures room { let d = ⟦<Raw<S> as FormatDriverInstance>⟧ in IsTrue (d.layer self.old).fixed.keeps → d.safe self.old → IsMine d.claim d.tag mapping.state (d.layer self.old) → Takes d.vacant d.has_room (λ _. ⊤) self.old self.new }
+        ensures lasts { let d = ⟦<Raw<S> as FormatDriverInstance>⟧ in d.lasts self.old → d.lasts self.new }
         ensures back { let d = ⟦<Raw<S> as FormatDriverInstance>⟧ in IfErr result (λ e. (e.1 ≡ mapping) × (e.0 ≡ Foreign) × (d.layer self.new ≡ d.layer self.old) × IsForeignTo d.tag mapping.state (d.layer self.old)) }
         ensures began { let d = ⟦<Raw<S> as FormatDriverInstance>⟧ in (e : _) (call : Call) → d.began e call self.old → d.began e call self.new }
         ensures none { let d = ⟦<Raw<S> as FormatDriverInstance>⟧ in (d.image self.new ≡ d.image self.old) × (d.extras self.new ≡ d.extras self.old) }
@@ -480,9 +495,10 @@ impl<S: Storage> FormatDriverInstance for Raw<S> {
         ensures barred { let d = ⟦<Raw<S> as FormatDriverInstance>⟧ in (f : Fault) → barrier (d.layer self.old) ≡ Some f → IsErrOf result f }
         ensures read_only { let d = ⟦<Raw<S> as FormatDriverInstance>⟧ in barrier (d.layer self.old) ≡ None → (d.layer self.old).size < size → IsFalse (d.layer self.old).fixed.writable → IsErrOf result ReadOnly }
         ensures free { let d = ⟦<Raw<S> as FormatDriverInstance>⟧ in IsFree (d.layer self.new) }
-        ensures went { let d = ⟦<Raw<S> as FormatDriverInstance>⟧ in Went d.layer d.image d.extras d.safe (IsOk result) (Files.IsWhole result × B.sees_under _below.old) self.old self.new }
+        ensures went { let d = ⟦<Raw<S> as FormatDriverInstance>⟧ in Went d.layer d.image d.extras d.safe d.lasts (IsOk result) (Files.IsWhole result × B.sees_under _below.old) self.old self.new }
         ensures stops { let d = ⟦<Raw<S> as FormatDriverInstance>⟧ in IsTrue (d.layer self.old).fixed.keeps → d.safe self.old → B.sees_under _below.old → KeepsStopsTo (B.under _below.old) (d.layer self.old) d.sound (d.layer self.old).size (GivesPast (d.layer self.old).size) (d.image self.old) (d.image self.new) }
-        ensures below { let d = ⟦<Raw<S> as FormatDriverInstance>⟧ in LookedUnder B.under B.files_under B.sees_under B.still_under (IsOk result) (Files.IsWhole result) _below.old _below.new }
+        ensures below { let d = ⟦<Raw<S> as FormatDriverInstance>⟧ in LookedUnder B.under B.files_under B.sees_under B.safe_under B.still_under B.lasts_under (IsOk result) (Files.IsWhole result) _below.old _below.new }
+        ensures failed { let d = ⟦<Raw<S> as FormatDriverInstance>⟧ in IfErr result (StorageCause (d.image self.old ∷ d.extras self.old ++ B.files_under _below.old) (d.image self.new ∷ d.extras self.new ++ B.files_under _below.new)) }
         ensures cause { let d = ⟦<Raw<S> as FormatDriverInstance>⟧ in d.safe self.old → B.sees_under _below.old → IfErr result (GrowthCause (B.under _below.old) (d.layer self.old) size (d.growth_cause self.old (B.under _below.old) size mode) (d.image self.old ∷ d.extras self.old ++ B.files_under _below.old) (d.image self.new ∷ d.extras self.new ++ B.files_under _below.new)) }
         // The storage is then as long as the disk; refused, the disk has its size, and its storage is no shorter than it.
         ensures exact { self.old.size < size → OnOk result (length (S.state self.new.storage).bytes ≡ size) }
@@ -511,9 +527,10 @@ impl<S: Storage> FormatDriverInstance for Raw<S> {
         ensures err { let d = ⟦<Raw<S> as FormatDriverInstance>⟧ in IsTrue (d.layer self.old).fixed.keeps → d.safe self.old → IfErr result (λ e. IsMild e → NotShrunk (d.layer self.old) (d.layer self.new)) }
         ensures barred { let d = ⟦<Raw<S> as FormatDriverInstance>⟧ in (f : Fault) → barrier (d.layer self.old) ≡ Some f → IsErrOf result f }
         ensures read_only { let d = ⟦<Raw<S> as FormatDriverInstance>⟧ in barrier (d.layer self.old) ≡ None → size < (d.layer self.old).size → IsFalse (d.layer self.old).fixed.writable → IsErrOf result ReadOnly }
-        ensures went { let d = ⟦<Raw<S> as FormatDriverInstance>⟧ in Went d.layer d.image d.extras d.safe (IsOk result) (Files.IsWhole result) self.old self.new }
+        ensures went { let d = ⟦<Raw<S> as FormatDriverInstance>⟧ in Went d.layer d.image d.extras d.safe d.lasts (IsOk result) (Files.IsWhole result) self.old self.new }
         ensures free { let d = ⟦<Raw<S> as FormatDriverInstance>⟧ in IsFree (d.layer self.new) }
         ensures stops { let d = ⟦<Raw<S> as FormatDriverInstance>⟧ in IsTrue (d.layer self.old).fixed.keeps → d.safe self.old → (below : List Layer) → KeepsStopsTo below (d.layer self.old) d.sound size (GivesBelowPast below size) (d.image self.old) (d.image self.new) }
+        ensures failed { let d = ⟦<Raw<S> as FormatDriverInstance>⟧ in IfErr result (StorageCause (d.image self.old ∷ d.extras self.old) (d.image self.new ∷ d.extras self.new)) }
         ensures cause { let d = ⟦<Raw<S> as FormatDriverInstance>⟧ in d.safe self.old → (below : List Layer) → IfErr result (ShrinkCause below (d.layer self.old) size (d.own_cause self.old below (shrink size)) (d.image self.old ∷ d.extras self.old) (d.image self.new ∷ d.extras self.new)) }
         // The storage is then as long as the disk; refused, the disk has its size, and its storage is no shorter than it.
         ensures exact { size < self.old.size → OnOk result (length (S.state self.new.storage).bytes ≡ size) }

@@ -1,11 +1,12 @@
 // Discards that may leave parts of their range as they are.
-ghost use Rattle.std.specs.Prelude.{◌≡◌, ◌↔◌, ◌⊎◌, ◌<◌, ◌≤◌, ◌+◌, ◌^◌, ◌∷◌, List, IsTrue, length, map, IsOk, IfOk, IfErr, OnOk, IsErrOf, Some};
-ghost use Rattle.imago_storage.specs.Steps.{Call, Step, discard_to_any, discard_to_backing, done};
+ghost use Rattle.std.specs.Prelude.{ℕ, ◌≡◌, ◌↔◌, ◌⊎◌, ◌<◌, ◌≤◌, ◌+◌, ◌^◌, ◌∷◌, List, IsTrue, length, map, IsOk, IfOk, IfErr, OnOk, IsErrOf, Some};
+ghost use Rattle.imago_storage.specs.Steps.{Call, Step, discard_to_any, discard_to_backing, done, IsIn};
 ghost use Rattle.imago_storage.specs.Causes.{PartlyDone};
 ghost use Rattle.imago_access.specs.Layer.{Layer, IsFree, IsLike};
 ghost use Rattle.imago_access.specs.Chain.{IsBacked, unit_of_chain};
 ghost use Rattle.imago_access.specs.Layers.{chain};
-ghost use Rattle.imago_access.specs.Files.{IsWhole, IsDeclined, IsAnswered, IsMild, files_of};
+ghost use Rattle.imago_access.specs.Room.{Reaches, GivesUp, IsGivenUp, IsUndeclined};
+ghost use Rattle.imago_access.specs.Files.{IsWhole, IsDeclined, IsAnswered, IsMild, StorageCause, files_of};
 ghost use Rattle.imago_access.specs.Going.{Went};
 ghost use Rattle.imago_access.specs.Parts.{IsPartOf, PartCause, DeclinableCause};
 ghost use Rattle.imago_access.specs.Refusals.{barrier, change_refusal, ChangeCause};
@@ -47,9 +48,13 @@ fn discard_part<D: FormatDriverInstance>(
     ensures part { IfOk result (λ r. (offset ≤ r.0) × ((r.1 ≡ 0) ⊎ (r.0 + r.1 ≤ offset + length))) }
     ensures values { IsTrue (D.layer driver.old).fixed.keeps → D.safe driver.old → (below : List Layer) → IsBacked below (D.layer driver.old) → IsWhole result → IsBetween (GivesDiscarded discarding below offset length) below (D.layer driver.old) (D.layer driver.new) }
     ensures like { IsLike (D.layer driver.old) (D.layer driver.new) }
-    ensures went { Went D.layer D.image D.extras D.safe (IsAnswered result) (IsWhole result) driver.old driver.new }
+    ensures went { Went D.layer D.image D.extras D.safe D.lasts (IsAnswered result) (IsWhole result) driver.old driver.new }
     ensures began { (d : D) (call : Call) → D.began d call driver.old → IsPartOf call offset length → IsWhole result → D.began d call driver.new }
     ensures stops { IsTrue (D.layer driver.old).fixed.keeps → D.safe driver.old → (below : List Layer) → IsBacked below (D.layer driver.old) → KeepsStops below (D.layer driver.old) D.sound (GivesDiscarded discarding below offset length) (D.image driver.old) (D.image driver.new) }
+    ensures room { IsTrue (D.layer driver.old).fixed.keeps → D.safe driver.old → IsWhole result → GivesUp D.vacant D.has_room offset length driver.old driver.new }
+    ensures given { IsTrue (D.layer driver.old).fixed.keeps → D.safe driver.old → IfOk result (λ r. (p : ℕ) → IsIn r.0 r.1 p → D.vacant driver.new p) }
+    ensures reach { IsTrue (D.layer driver.old).fixed.keeps → D.safe driver.old → IfOk result (λ r. Reaches (D.layer driver.old).fixed.unit (D.layer driver.old).size offset length r.0 r.1) }
+    ensures failed { IfErr result (StorageCause (D.image driver.old ∷ D.extras driver.old) (D.image driver.new ∷ D.extras driver.new)) }
     ensures cause { D.safe driver.old → (below : List Layer) (d : D) (call : Call) → D.began d call driver.old → IsPartOf call offset length → IfErr result (DeclinableCause below (D.layer driver.old) offset length (D.own_cause d below call) (D.image driver.old ∷ D.extras driver.old) (D.image driver.new ∷ D.extras driver.new)) }
 {
     match discarding {
@@ -71,8 +76,11 @@ fn discard_all<D: FormatDriverInstance>(
     ensures idle { n ≡ 0 → IsOk result }
     ensures values { IsTrue (D.layer driver.old).fixed.keeps → D.safe driver.old → (below : List Layer) → IsBacked below (D.layer driver.old) → IsWhole result → IsBetween (GivesDiscarded discarding below offset n) below (D.layer driver.old) (D.layer driver.new) }
     ensures like { IsLike (D.layer driver.old) (D.layer driver.new) }
-    ensures went { Went D.layer D.image D.extras D.safe (IsOk result) (IsWhole result) driver.old driver.new }
+    ensures went { Went D.layer D.image D.extras D.safe D.lasts (IsOk result) (IsWhole result) driver.old driver.new }
     ensures stops { IsTrue (D.layer driver.old).fixed.keeps → D.safe driver.old → (below : List Layer) → IsBacked below (D.layer driver.old) → KeepsStops below (D.layer driver.old) D.sound (GivesDiscarded discarding below offset n) (D.image driver.old) (D.image driver.new) }
+    ensures room { IsTrue (D.layer driver.old).fixed.keeps → D.safe driver.old → IsWhole result → GivesUp D.vacant D.has_room offset n driver.old driver.new }
+    ensures gives_up { IsTrue (D.layer driver.old).fixed.keeps → D.safe driver.old → (below : List Layer) (d : D) (call : Call) → D.began d call driver.old → IsPartOf call offset n → IsUndeclined (D.own_cause d below call) → OnOk result (IsGivenUp (D.vacant driver.new) (D.layer driver.old).fixed.unit (D.layer driver.old).size offset n) }
+    ensures failed { IfErr result (StorageCause (D.image driver.old ∷ D.extras driver.old) (D.image driver.new ∷ D.extras driver.new)) }
     ensures cause { IsTrue (D.layer driver.old).fixed.keeps → D.safe driver.old → (below : List Layer) (d : D) (call : Call) → D.began d call driver.old → IsPartOf call offset n → IfErr result (PartCause below (D.layer driver.old) offset n (D.own_cause d below call) (D.image driver.old ∷ D.extras driver.old) (D.image driver.new ∷ D.extras driver.new)) }
 {
     let end = offset + n;
@@ -89,7 +97,8 @@ fn discard_all<D: FormatDriverInstance>(
 }
 
 impl<D: FormatDriverInstance> FormatAccess<D> {
-    /// Gives up a range: each of its bytes stays, or may be any. Parts that the format can't give up stay. Nothing may be prepared.
+    /// Gives up a range: each of its bytes stays, or may be any. Each whole unit of the range is given up, unless the driver declines that;
+    /// other parts may stay. Nothing may be prepared.
     ///
     /// It refuses with `Fault::ReadOnly`, with `Fault::RangeOverflow` where the end of the range, rounded up to the chain's alignment,
     /// passes `u64`, with `Fault::PastEnd`, with causes of the driver's own, with `Fault::Memory` and `Fault::Storage`, and where the
@@ -102,16 +111,19 @@ impl<D: FormatDriverInstance> FormatAccess<D> {
         ensures at_once { (f : Fault) → change_refusal (unit_of_chain (map D.layer (chain self.old))) (D.layer self.old.0) offset length ≡ Some f → IsErrOf result f }
         ensures idle { length ≡ 0 → barrier (D.layer self.old.0) ≡ None → IsOk result }
         ensures like { IsLike (D.layer self.old.0) (D.layer self.new.0) }
-        ensures ran { RanChain D.layer D.image D.extras D.sees D.safe D.still D.sound (IsOk result) (IsWhole result) (GivesAny offset length) self.old self.new }
+        ensures ran { RanChain D.layer D.image D.extras D.sees D.safe D.still D.lasts D.sound (IsOk result) (IsWhole result) (GivesAny offset length) self.old self.new }
         ensures below { self.new.1 ≡ self.old.1 }
+        ensures room { IsIntactChain D.layer D.safe D.sees self.old → IsWhole result → GivesUp D.vacant D.has_room offset length self.old.0 self.new.0 }
+        ensures gives_up { IsIntactChain D.layer D.safe D.sees self.old → IsUndeclined (D.own_cause self.old.0 (map D.layer self.old.1) (discard_to_any offset length)) → OnOk result (IsGivenUp (D.vacant self.new.0) (D.layer self.old.0).fixed.unit (D.layer self.old.0).size offset length) }
+        ensures failed { IfErr result (StorageCause (D.image self.old.0 ∷ D.extras self.old.0) (D.image self.new.0 ∷ D.extras self.new.0)) }
         ensures cause { IsIntactChain D.layer D.safe D.sees self.old → IfErr result (ChangeCause (unit_of_chain (map D.layer (chain self.old))) (map D.layer (chain self.old)) (chain_disk D.layer self.old) (D.layer self.old.0).fixed.writable (discard_to_any offset length) (D.own_cause self.old.0 (map D.layer self.old.1) (discard_to_any offset length)) (files_of D.image D.extras (chain self.old)) (files_of D.image D.extras (chain self.new))) }
     {
         self.check_change(offset, length)?;
         discard_all(alloc, &mut self.driver, Discarding::ToAny, offset, length)
     }
 
-    /// Gives up a range to the layer below: each of its bytes stays, or is what the layer below shows. Parts that the format can't give
-    /// up stay. Nothing may be prepared.
+    /// Gives up a range to the layer below: each of its bytes stays, or is what the layer below shows. Each whole unit of the range is
+    /// given up, unless the driver declines that; other parts may stay. Nothing may be prepared.
     ///
     /// It refuses as `discard_to_any` does, and leaves the same.
     pub fn discard_to_backing(
@@ -126,8 +138,11 @@ impl<D: FormatDriverInstance> FormatAccess<D> {
         ensures at_once { (f : Fault) → change_refusal (unit_of_chain (map D.layer (chain self.old))) (D.layer self.old.0) offset length ≡ Some f → IsErrOf result f }
         ensures idle { length ≡ 0 → barrier (D.layer self.old.0) ≡ None → IsOk result }
         ensures like { IsLike (D.layer self.old.0) (D.layer self.new.0) }
-        ensures ran { RanChain D.layer D.image D.extras D.sees D.safe D.still D.sound (IsOk result) (IsWhole result) (GivesBelow (map D.layer self.old.1) offset length) self.old self.new }
+        ensures ran { RanChain D.layer D.image D.extras D.sees D.safe D.still D.lasts D.sound (IsOk result) (IsWhole result) (GivesBelow (map D.layer self.old.1) offset length) self.old self.new }
         ensures below { self.new.1 ≡ self.old.1 }
+        ensures room { IsIntactChain D.layer D.safe D.sees self.old → IsWhole result → GivesUp D.vacant D.has_room offset length self.old.0 self.new.0 }
+        ensures gives_up { IsIntactChain D.layer D.safe D.sees self.old → IsUndeclined (D.own_cause self.old.0 (map D.layer self.old.1) (discard_to_backing offset length)) → OnOk result (IsGivenUp (D.vacant self.new.0) (D.layer self.old.0).fixed.unit (D.layer self.old.0).size offset length) }
+        ensures failed { IfErr result (StorageCause (D.image self.old.0 ∷ D.extras self.old.0) (D.image self.new.0 ∷ D.extras self.new.0)) }
         ensures cause { IsIntactChain D.layer D.safe D.sees self.old → IfErr result (ChangeCause (unit_of_chain (map D.layer (chain self.old))) (map D.layer (chain self.old)) (chain_disk D.layer self.old) (D.layer self.old.0).fixed.writable (discard_to_backing offset length) (D.own_cause self.old.0 (map D.layer self.old.1) (discard_to_backing offset length)) (files_of D.image D.extras (chain self.old)) (files_of D.image D.extras (chain self.new))) }
     {
         self.check_change(offset, length)?;

@@ -6,7 +6,7 @@ ghost use Rattle.imago_storage.specs.declared.fault.Fault.TheVariants.{Foreign, 
 ghost use Rattle.imago_access.specs.Layer.{IsFree, IsLike};
 ghost use Rattle.imago_access.specs.Chain.{unit_of_chain};
 ghost use Rattle.imago_access.specs.Layers.{chain};
-ghost use Rattle.imago_access.specs.Files.{SomeRose, IsWhole, IsMild, files_of};
+ghost use Rattle.imago_access.specs.Files.{SomeRose, IsWhole, IsMild, StorageCause, files_of};
 ghost use Rattle.imago_access.specs.Going.{Went};
 ghost use Rattle.imago_access.specs.Spending.{IsMine, is_own, Spends, commit_refusal, GivenBack, IsForeignTo};
 ghost use Rattle.imago_access.specs.Parts.{IsMappedAt};
@@ -45,7 +45,8 @@ impl<D: FormatDriverInstance> FormatAccess<D> {
         ensures at_once { (f : Fault) → change_refusal (unit_of_chain (map D.layer (chain self.old))) (D.layer self.old.0) offset length ≡ Some f → IsErrOf result f }
         ensures idle { length ≡ 0 → barrier (D.layer self.old.0) ≡ None → IsOk result }
         ensures free { IsErr result → IsFree (D.layer self.new.0) }
-        ensures ran { RanChain D.layer D.image D.extras D.sees D.safe D.still D.sound (IsOk result) (IsWhole result) GivesNone self.old self.new }
+        ensures ran { RanChain D.layer D.image D.extras D.sees D.safe D.still D.lasts D.sound (IsOk result) (IsWhole result) GivesNone self.old self.new }
+        ensures failed { IfErr result (StorageCause (files_of D.image D.extras (chain self.old)) (files_of D.image D.extras (chain self.new))) }
         ensures cause { IsIntactChain D.layer D.safe D.sees self.old → IfErr result (ChangeCause (unit_of_chain (map D.layer (chain self.old))) (map D.layer (chain self.old)) (chain_disk D.layer self.old) (D.layer self.old.0).fixed.writable (prepare offset length overwrite) (D.own_cause self.old.0 (map D.layer self.old.1) (prepare offset length overwrite)) (files_of D.image D.extras (chain self.old)) (files_of D.image D.extras (chain self.new))) }
     {
         self.check_change(offset, length)?;
@@ -73,7 +74,7 @@ impl<D: FormatDriverInstance> FormatAccess<D> {
         ensures free { IsMine D.claim D.tag mapping.state (D.layer self.old.0) → IsSome mapping.state → OnOk result (IsFree (D.layer self.new.0)) }
         ensures size { (D.layer self.new.0).size ≡ (D.layer self.old.0).size }
         ensures intact { IsMine D.claim D.tag mapping.state (D.layer self.old.0) → OnOk result (IsIntactChain D.layer D.safe D.sees self.old → IsIntactChain D.layer D.safe D.sees self.new) }
-        ensures went { Went D.layer D.image D.extras D.safe (IsOk result) (IsOk result × IsMine D.claim D.tag mapping.state (D.layer self.old.0)) self.old.0 self.new.0 }
+        ensures went { Went D.layer D.image D.extras D.safe D.lasts (IsOk result) (IsOk result × IsMine D.claim D.tag mapping.state (D.layer self.old.0)) self.old.0 self.new.0 }
         ensures stops { IsIntactChain D.layer D.safe D.sees self.old → IsMine D.claim D.tag mapping.state (D.layer self.old.0) → KeepsStops (map D.layer self.old.1) (D.layer self.old.0) D.sound (GivesHeld (D.layer self.old.0)) (D.image self.old.0) (D.image self.new.0) }
         ensures failed { IfErr result (λ e. e.0 ≡ Fault.Storage → SomeRose (D.image self.old.0 ∷ D.extras self.old.0) (D.image self.new.0 ∷ D.extras self.new.0)) }
         ensures below { self.new.1 ≡ self.old.1 }
@@ -94,6 +95,7 @@ impl<D: FormatDriverInstance> FormatAccess<D> {
         ensures back { IfErr result (λ e. (e.1 ≡ mapping) × (e.0 ≡ Foreign) × (D.layer self.new.0 ≡ D.layer self.old.0) × IsForeignTo D.tag mapping.state (D.layer self.old.0)) }
         ensures free { IsMine D.claim D.tag mapping.state (D.layer self.old.0) → IsSome mapping.state → IsFree (D.layer self.new.0) }
         ensures intact { IsMine D.claim D.tag mapping.state (D.layer self.old.0) → IsIntactChain D.layer D.safe D.sees self.old → IsIntactChain D.layer D.safe D.sees self.new }
+        ensures lasts { D.lasts self.old.0 → D.lasts self.new.0 }
         ensures none { (D.image self.new.0 ≡ D.image self.old.0) × (D.extras self.new.0 ≡ D.extras self.old.0) }
         ensures below { self.new.1 ≡ self.old.1 }
     {
@@ -120,8 +122,9 @@ impl<D: FormatDriverInstance> FormatAccess<D> {
         ensures at_once { (f : Fault) → change_refusal (unit_of_chain (map D.layer (chain self.old))) (D.layer self.old.0) guest (length bytes.now) ≡ Some f → IsErrOf result f }
         ensures idle { length bytes.now ≡ 0 → barrier (D.layer self.old.0) ≡ None → IsOk result }
         ensures like { IsLike (D.layer self.old.0) (D.layer self.new.0) }
-        ensures ran { RanChain D.layer D.image D.extras D.sees D.safe D.still D.sound (IsOk result) (IsWhole result) (GivesBytes guest bytes.now) self.old self.new }
+        ensures ran { RanChain D.layer D.image D.extras D.sees D.safe D.still D.lasts D.sound (IsOk result) (IsWhole result) (GivesBytes guest bytes.now) self.old self.new }
         ensures below { self.new.1 ≡ self.old.1 }
+        ensures failed { IfErr result (StorageCause (D.image self.old.0 ∷ D.extras self.old.0) (D.image self.new.0 ∷ D.extras self.new.0)) }
         ensures cause { IsIntactChain D.layer D.safe D.sees self.old → IfErr result (ChangeCause (unit_of_chain (map D.layer (chain self.old))) (map D.layer (chain self.old)) (chain_disk D.layer self.old) (D.layer self.old.0).fixed.writable (write_mapped guest bytes.now) (λ f. (f ≡ Outdated) × (0 < length bytes.now) × (IsMappedAt (D.layer self.old.0) guest place (length bytes.now) → ⊥)) (files_of D.image D.extras (chain self.old)) (files_of D.image D.extras (chain self.new))) }
     {
         self.check_change(guest, bytes.len() as u64)?;

@@ -5,7 +5,7 @@ ghost use Rattle.imago_storage.specs.declared.fault.Fault.{Fault};
 ghost use Rattle.imago_access.specs.Layer.{IsFree, IsLike};
 ghost use Rattle.imago_access.specs.Chain.{Each};
 ghost use Rattle.imago_access.specs.Layers.{chain, layers};
-ghost use Rattle.imago_access.specs.Files.{Pairs, IsKept, files_of};
+ghost use Rattle.imago_access.specs.Files.{Pairs, IsKept, StorageCause, files_of};
 ghost use Rattle.imago_access.specs.Going.{Went};
 ghost use Rattle.imago_access.specs.Parts.{PlainCause};
 ghost use Rattle.imago_access.specs.Refusals.{barrier, InvalidateCause};
@@ -29,8 +29,9 @@ impl<D: FormatDriverInstance> FormatAccess<D> {
         ensures written { IsIntactChain D.layer D.safe D.sees self.old → IsFree (D.layer self.old.0) → OnOk result (IsMeant (D.layer self.new.0) (D.image self.new.0).bytes) }
         ensures barred { (f : Fault) → barrier (D.layer self.old.0) ≡ Some f → IsErrOf result f }
         ensures like { IsLike (D.layer self.old.0) (D.layer self.new.0) }
-        ensures ran { RanChain D.layer D.image D.extras D.sees D.safe D.still D.sound (IsOk result) (IsOk result) GivesNone self.old self.new }
+        ensures ran { RanChain D.layer D.image D.extras D.sees D.safe D.still D.lasts D.sound (IsOk result) (IsOk result) GivesNone self.old self.new }
         ensures below { self.new.1 ≡ self.old.1 }
+        ensures failed { IfErr result (StorageCause (D.image self.old.0 ∷ D.extras self.old.0) (D.image self.new.0 ∷ D.extras self.new.0)) }
         ensures cause { D.safe self.old.0 → IfErr result (PlainCause (D.layer self.old.0) (D.image self.old.0 ∷ D.extras self.old.0) (D.image self.new.0 ∷ D.extras self.new.0)) }
     {
         self.driver.flush(alloc)
@@ -46,7 +47,7 @@ impl<D: FormatDriverInstance> FormatAccess<D> {
         ensures still { D.still self.old.0 → D.still self.new.0 }
         ensures barred { (f : Fault) → barrier (D.layer self.old.0) ≡ Some f → IsErrOf result f }
         ensures like { IsLike (D.layer self.old.0) (D.layer self.new.0) }
-        ensures ran { RanChain D.layer D.image D.extras D.sees D.safe D.still D.sound (IsOk result) (IsOk result) GivesNone self.old self.new }
+        ensures ran { RanChain D.layer D.image D.extras D.sees D.safe D.still D.lasts D.sound (IsOk result) (IsOk result) GivesNone self.old self.new }
         ensures below { self.new.1 ≡ self.old.1 }
         ensures cause { IfErr result (PlainCause (D.layer self.old.0) (D.image self.old.0 ∷ D.extras self.old.0) (D.image self.new.0 ∷ D.extras self.new.0)) }
     {
@@ -67,7 +68,7 @@ impl<D: FormatDriverInstance> FormatAccess<D> {
         ensures kept { Pairs IsKept (files_of D.image D.extras (chain self.old)) (files_of D.image D.extras (chain self.new)) }
         ensures still { OnOk result (Each D.still (chain self.new)) }
         ensures barred { (f : Fault) → barrier (D.layer self.old.0) ≡ Some f → IsErrOf result f }
-        ensures went { Pairs (Went D.layer D.image D.extras D.safe (IsOk result) (IsOk result)) (chain self.old) (chain self.new) }
+        ensures went { Pairs (Went D.layer D.image D.extras D.safe D.lasts (IsOk result) (IsOk result)) (chain self.old) (chain self.new) }
         ensures free { Each (λ d. IsFree (D.layer d)) (chain self.new) }
         ensures cause { IfErr result (InvalidateCause (map D.layer (chain self.old)) (files_of D.image D.extras (chain self.old)) (files_of D.image D.extras (chain self.new))) }
     {
@@ -87,7 +88,7 @@ impl<D: FormatDriverInstance> FormatAccess<D> {
         ensures kept { Pairs IsKept (files_of D.image D.extras (driver.old ∷ layers below.old)) (files_of D.image D.extras (driver.new ∷ layers below.new)) }
         ensures still { OnOk result (Each D.still (driver.new ∷ layers below.new)) }
         ensures barred { (f : Fault) → barrier (D.layer driver.old) ≡ Some f → IsErrOf result f }
-        ensures went { Pairs (Went D.layer D.image D.extras D.safe (IsOk result) (IsOk result)) (driver.old ∷ layers below.old) (driver.new ∷ layers below.new) }
+        ensures went { Pairs (Went D.layer D.image D.extras D.safe D.lasts (IsOk result) (IsOk result)) (driver.old ∷ layers below.old) (driver.new ∷ layers below.new) }
         ensures free { Each (λ d. IsFree (D.layer d)) (driver.new ∷ layers below.new) }
         ensures cause { IfErr result (InvalidateCause (map D.layer (driver.old ∷ layers below.old)) (files_of D.image D.extras (driver.old ∷ layers below.old)) (files_of D.image D.extras (driver.new ∷ layers below.new))) }
     {
@@ -108,7 +109,7 @@ impl<D: FormatDriverInstance> FormatAccess<D> {
         ensures sees { Each (λ d. IsTrue (D.layer d).fixed.keeps) (layers below.old) → Each D.sees (layers below.old) → Each D.still (layers below.old) → OnOk result (Each D.sees (layers below.new)) }
         ensures kept { Pairs IsKept (files_of D.image D.extras (layers below.old)) (files_of D.image D.extras (layers below.new)) }
         ensures still { OnOk result (Each D.still (layers below.new)) }
-        ensures went { Pairs (Went D.layer D.image D.extras D.safe (IsOk result) (IsOk result)) (layers below.old) (layers below.new) }
+        ensures went { Pairs (Went D.layer D.image D.extras D.safe D.lasts (IsOk result) (IsOk result)) (layers below.old) (layers below.new) }
         ensures free { Each (λ d. IsFree (D.layer d)) (layers below.new) }
         ensures cause { IfErr result (InvalidateCause (map D.layer (layers below.old)) (files_of D.image D.extras (layers below.old)) (files_of D.image D.extras (layers below.new))) }
     {

@@ -1,12 +1,14 @@
 // Zeroing of ranges: by the driver where it can, and else by writing zeroes.
-ghost use Rattle.std.specs.Prelude.{◌≡◌, ◌⊎◌, ◌<◌, ◌≤◌, ◌+◌, ◌-◌, ◌^◌, ◌∷◌, ◌++◌, min, ℕ, List, IsTrue, true, length, slice_index, map, IsOk, IfOk, IfErr, OnOk, IsErrOf, IsOkUnless, Some};
+ghost use Rattle.std.specs.Prelude.{◌≡◌, ◌⊎◌, ◌<◌, ◌≤◌, ◌+◌, ◌-◌, ◌^◌, ◌∷◌, ◌++◌, ℕ, List, IsTrue, true, length, slice_index, map, IsOk, IfOk, IfErr, OnOk, IsErrOf, Some, replicate};
 ghost use Rattle.imago_storage.specs.Disk.{byte};
-ghost use Rattle.imago_storage.specs.Steps.{Call, Step, write_zeroes, discard_to_zero, done, IsIn};
+ghost use Rattle.imago_storage.specs.Steps.{Call, Step, write_zeroes, discard_to_zero, done, IsIn, IsOut};
 ghost use Rattle.imago_storage.specs.Causes.{PartlyDone};
 ghost use Rattle.imago_access.specs.Layer.{Layer, IsFree, IsLike};
+ghost use Rattle.imago_access.specs.Room.{IsApart, Reaches, LeavesRoom, Takes, IsGivenUp, IsGivenUpTo, IsGivenUpBehind, IsUndeclined};
+ghost use Rattle.imago_access.specs.declared.access.zeroing.Zeroing.TheVariants as zeroing_is;
 ghost use Rattle.imago_access.specs.Chain.{at, unit_of_chain};
 ghost use Rattle.imago_access.specs.Layers.{chain};
-ghost use Rattle.imago_access.specs.Files.{IsWhole, IsAnswered, IsMild, files_of};
+ghost use Rattle.imago_access.specs.Files.{IsWhole, IsAnswered, IsMild, StorageCause, files_of};
 ghost use Rattle.imago_access.specs.Going.{Went};
 ghost use Rattle.imago_access.specs.Changes.{Rewrites, PartRewrites, ToZero};
 ghost use Rattle.imago_access.specs.Parts.{IsPartOf, announces, PartCause, DeclinableCause};
@@ -22,8 +24,11 @@ use crate::drivers::FormatDriverInstance;
 use imago_storage::Fault;
 use std::alloc::Global;
 
-// The length of a buffer of zeroes, in bytes.
+// The most zeroes that are written at once, in bytes.
 const PIECE: u64 = 65_536;
+
+// What is written where a driver can't zero: a change takes no memory for it.
+static ZEROES: [u8; PIECE as usize] = [0; PIECE as usize];
 
 // What becomes of the places of storages that are allocated for a zeroed range.
 #[derive(Clone, Copy, Debug, Drop, PartialEq, Eq)]
@@ -47,9 +52,13 @@ fn zero_part<D: FormatDriverInstance>(
     ensures ok { IsTrue (D.layer driver.old).fixed.keeps → D.safe driver.old → IfOk result (λ r. Rewrites ToZero (D.layer driver.old) (D.layer driver.new) r.0 r.1) }
     ensures err { IsTrue (D.layer driver.old).fixed.keeps → D.safe driver.old → IfErr result (λ e. IsMild e → PartRewrites ToZero (D.layer driver.old) (D.layer driver.new) offset length) }
     ensures like { IsLike (D.layer driver.old) (D.layer driver.new) }
-    ensures went { Went D.layer D.image D.extras D.safe (IsAnswered result) (IsWhole result) driver.old driver.new }
+    ensures room { IsTrue (D.layer driver.old).fixed.keeps → D.safe driver.old → IsWhole result → LeavesRoom D.vacant D.has_room (λ p. (zeroing ≡ zeroing_is.Keep) ⊎ IsOut offset length p) (IsOut offset length) driver.old driver.new }
+    ensures given { zeroing ≡ zeroing_is.GiveUp → IsTrue (D.layer driver.old).fixed.keeps → D.safe driver.old → IfOk result (λ r. (p : ℕ) → IsIn r.0 r.1 p → D.vacant driver.new p) }
+    ensures reach { zeroing ≡ zeroing_is.GiveUp → IsTrue (D.layer driver.old).fixed.keeps → D.safe driver.old → IfOk result (λ r. Reaches (D.layer driver.old).fixed.unit (D.layer driver.old).size offset length r.0 r.1) }
+    ensures went { Went D.layer D.image D.extras D.safe D.lasts (IsAnswered result) (IsWhole result) driver.old driver.new }
     ensures began { (d : D) (call : Call) → D.began d call driver.old → IsPartOf call offset length → IsWhole result → D.began d call driver.new }
     ensures stops { IsTrue (D.layer driver.old).fixed.keeps → D.safe driver.old → (below : List Layer) → KeepsStops below (D.layer driver.old) D.sound (GivesZero offset length) (D.image driver.old) (D.image driver.new) }
+    ensures failed { IfErr result (StorageCause (D.image driver.old ∷ D.extras driver.old) (D.image driver.new ∷ D.extras driver.new)) }
     ensures cause { D.safe driver.old → (below : List Layer) (d : D) (call : Call) → D.began d call driver.old → IsPartOf call offset length → IfErr result (DeclinableCause below (D.layer driver.old) offset length (D.own_cause d below call) (D.image driver.old ∷ D.extras driver.old) (D.image driver.new ∷ D.extras driver.new)) }
 {
     match zeroing {
@@ -58,14 +67,12 @@ fn zero_part<D: FormatDriverInstance>(
     }
 }
 
-// A buffer of zeroes: of a piece, or of n bytes where these are fewer.
-fn zero_buffer(alloc: Global, n: u64) -> Result<Vec<u8>, Fault>
-    ensures zeroes { IfOk result (λ buffer. (k : ℕ) → slice_index buffer.items k ≡ 0) }
-    ensures room { IfOk result (λ buffer. min n 65536 ≤ length buffer.items) }
-    ensures err { IsOkUnless result Fault.Memory }
+// The zeroes of one piece.
+fn zero_bytes(length: u64) -> &'static [u8]
+    requires { length ≤ 65536 }
+    ensures { result.now ≡ replicate length 0 }
 {
-    let zeroes = vec![in alloc; 0u8; n.min(PIECE) as usize]?;
-    Ok(zeroes)
+    &ZEROES[..length as usize]
 }
 
 // Writes zeroes over a range that lies in the disk, in pieces that end at multiples of their length.
@@ -81,19 +88,17 @@ fn write_zero_bytes<D: FormatDriverInstance, B: ReadBelow>(
     requires inside { offset + n ≤ (D.layer driver.old).size }
     ensures shown { IsIntact (B.under below.old) (D.layer driver.old) (D.safe driver.old) (B.sees_under below.old) → OnOk result ((p : ℕ) → IsIn offset n p → at (D.layer driver.new ∷ B.under below.old) p ≡ byte 0) }
     ensures free { IsFree (D.layer driver.new) }
-    ensures ran { Ran D.layer D.image D.extras D.safe B.under B.files_under B.sees_under B.still_under D.sound (IsOk result) (IsWhole result) (GivesZero offset n) driver.old driver.new below.old below.new }
+    ensures room { IsIntact (B.under below.old) (D.layer driver.old) (D.safe driver.old) (B.sees_under below.old) → IsWhole result → Takes D.vacant D.has_room (IsApart (D.layer driver.old).fixed.unit offset n) driver.old driver.new }
+    ensures ran { Ran D.layer D.image D.extras D.safe D.lasts B.under B.files_under B.sees_under B.safe_under B.still_under B.lasts_under D.sound (IsOk result) (IsWhole result) (GivesZero offset n) driver.old driver.new below.old below.new }
     ensures began { (d : D) (call : Call) → D.began d call driver.old → IsPartOf call offset n → OnOk result (D.began d call driver.new) }
+    ensures failed { IfErr result (StorageCause (D.image driver.old ∷ D.extras driver.old ++ B.files_under below.old) (D.image driver.new ∷ D.extras driver.new ++ B.files_under below.new)) }
     ensures cause { IsIntact (B.under below.old) (D.layer driver.old) (D.safe driver.old) (B.sees_under below.old) → (d : D) (call : Call) → D.began d call driver.old → IsPartOf call offset n → true ≡ announces call → IfErr result (PartCause (B.under below.old) (D.layer driver.old) offset n (D.own_cause d (B.under below.old) call) (D.image driver.old ∷ D.extras driver.old ++ B.files_under below.old) (D.image driver.new ∷ D.extras driver.new ++ B.files_under below.new)) }
 {
-    let zeroes = match zero_buffer(alloc, n) {
-        Ok(zeroes) => zeroes,
-        Err(fault) => return Err(fault),
-    };
     let mut done = 0;
     while done < n {
         let at = offset + done;
         let count = (PIECE - at % PIECE).min(n - done);
-        match write_all(alloc, driver, below, &zeroes[..count as usize], at) {
+        match write_all(alloc, driver, below, zero_bytes(count), at) {
             Ok(()) => done += count,
             Err(fault) => return Err(fault),
         }
@@ -117,9 +122,12 @@ fn zero_by_driver<D: FormatDriverInstance>(
     ensures zeroed { IsTrue (D.layer driver.old).fixed.keeps → D.safe driver.old → (below : List Layer) → IfOk result (λ r. (p : ℕ) → r.0 ≤ p → p < r.1 → at (D.layer driver.new ∷ below) p ≡ byte 0) }
     ensures values { IsTrue (D.layer driver.old).fixed.keeps → D.safe driver.old → (below : List Layer) → IsWhole result → IsBetween (GivesZero offset n) below (D.layer driver.old) (D.layer driver.new) }
     ensures like { IsLike (D.layer driver.old) (D.layer driver.new) }
-    ensures went { Went D.layer D.image D.extras D.safe (IsOk result) (IsWhole result) driver.old driver.new }
+    ensures room { IsTrue (D.layer driver.old).fixed.keeps → D.safe driver.old → IsWhole result → LeavesRoom D.vacant D.has_room (λ p. (zeroing ≡ zeroing_is.Keep) ⊎ IsOut offset n p) (IsOut offset n) driver.old driver.new }
+    ensures given { zeroing ≡ zeroing_is.GiveUp → IsTrue (D.layer driver.old).fixed.keeps → D.safe driver.old → (below : List Layer) (d : D) (call : Call) → D.began d call driver.old → IsPartOf call offset n → IsUndeclined (D.own_cause d below call) → IfOk result (λ r. IsGivenUpBehind (D.vacant driver.new) (D.layer driver.old).fixed.unit (D.layer driver.old).size offset n r.0 r.1) }
+    ensures went { Went D.layer D.image D.extras D.safe D.lasts (IsOk result) (IsWhole result) driver.old driver.new }
     ensures began { (d : D) (call : Call) → D.began d call driver.old → IsPartOf call offset n → OnOk result (D.began d call driver.new) }
     ensures stops { IsTrue (D.layer driver.old).fixed.keeps → D.safe driver.old → (below : List Layer) → KeepsStops below (D.layer driver.old) D.sound (GivesZero offset n) (D.image driver.old) (D.image driver.new) }
+    ensures failed { IfErr result (StorageCause (D.image driver.old ∷ D.extras driver.old) (D.image driver.new ∷ D.extras driver.new)) }
     ensures cause { D.safe driver.old → (below : List Layer) (d : D) (call : Call) → D.began d call driver.old → IsPartOf call offset n → IfErr result (PartCause below (D.layer driver.old) offset n (D.own_cause d below call) (D.image driver.old ∷ D.extras driver.old) (D.image driver.new ∷ D.extras driver.new)) }
 {
     let end = offset + n;
@@ -149,8 +157,11 @@ fn zero_run<D: FormatDriverInstance, B: ReadBelow>(
     ensures run { IfOk result (λ end. (offset < end) × (end ≤ offset + n)) }
     ensures shown { IsIntact (B.under below.old) (D.layer driver.old) (D.safe driver.old) (B.sees_under below.old) → IfOk result (λ end. (p : ℕ) → offset ≤ p → p < end → at (D.layer driver.new ∷ B.under below.old) p ≡ byte 0) }
     ensures free { IsFree (D.layer driver.new) }
-    ensures ran { Ran D.layer D.image D.extras D.safe B.under B.files_under B.sees_under B.still_under D.sound (IsOk result) (IsWhole result) (GivesZero offset n) driver.old driver.new below.old below.new }
+    ensures room { IsIntact (B.under below.old) (D.layer driver.old) (D.safe driver.old) (B.sees_under below.old) → IsWhole result → LeavesRoom D.vacant D.has_room (λ p. (zeroing ≡ zeroing_is.Keep) ⊎ IsOut offset n p) (IsApart (D.layer driver.old).fixed.unit offset n) driver.old driver.new }
+    ensures given { zeroing ≡ zeroing_is.GiveUp → IsIntact (B.under below.old) (D.layer driver.old) (D.safe driver.old) (B.sees_under below.old) → (d : D) (call : Call) → D.began d call driver.old → IsPartOf call offset n → IsUndeclined (D.own_cause d (B.under below.old) call) → IfOk result (IsGivenUpTo (D.vacant driver.new) (D.layer driver.old).fixed.unit (D.layer driver.old).size offset n) }
+    ensures ran { Ran D.layer D.image D.extras D.safe D.lasts B.under B.files_under B.sees_under B.safe_under B.still_under B.lasts_under D.sound (IsOk result) (IsWhole result) (GivesZero offset n) driver.old driver.new below.old below.new }
     ensures began { (d : D) (call : Call) → D.began d call driver.old → IsPartOf call offset n → OnOk result (D.began d call driver.new) }
+    ensures failed { IfErr result (StorageCause (D.image driver.old ∷ D.extras driver.old ++ B.files_under below.old) (D.image driver.new ∷ D.extras driver.new ++ B.files_under below.new)) }
     ensures cause { IsIntact (B.under below.old) (D.layer driver.old) (D.safe driver.old) (B.sees_under below.old) → (d : D) (call : Call) → D.began d call driver.old → IsPartOf call offset n → true ≡ announces call → IfErr result (PartCause (B.under below.old) (D.layer driver.old) offset n (D.own_cause d (B.under below.old) call) (D.image driver.old ∷ D.extras driver.old ++ B.files_under below.old) (D.image driver.new ∷ D.extras driver.new ++ B.files_under below.new)) }
 {
     let (start, end) = match zero_by_driver(alloc, driver, zeroing, offset, n) {
@@ -178,7 +189,10 @@ fn zero_all<D: FormatDriverInstance, B: ReadBelow>(
     ensures idle { n ≡ 0 → IsOk result }
     ensures shown { IsIntact (B.under below.old) (D.layer driver.old) (D.safe driver.old) (B.sees_under below.old) → OnOk result ((p : ℕ) → IsIn offset n p → at (D.layer driver.new ∷ B.under below.old) p ≡ byte 0) }
     ensures free { IsFree (D.layer driver.new) }
-    ensures ran { Ran D.layer D.image D.extras D.safe B.under B.files_under B.sees_under B.still_under D.sound (IsOk result) (IsWhole result) (GivesZero offset n) driver.old driver.new below.old below.new }
+    ensures room { IsIntact (B.under below.old) (D.layer driver.old) (D.safe driver.old) (B.sees_under below.old) → IsWhole result → LeavesRoom D.vacant D.has_room (λ p. (zeroing ≡ zeroing_is.Keep) ⊎ IsOut offset n p) (IsApart (D.layer driver.old).fixed.unit offset n) driver.old driver.new }
+    ensures gives_up { zeroing ≡ zeroing_is.GiveUp → IsIntact (B.under below.old) (D.layer driver.old) (D.safe driver.old) (B.sees_under below.old) → (d : D) (call : Call) → D.began d call driver.old → IsPartOf call offset n → IsUndeclined (D.own_cause d (B.under below.old) call) → OnOk result (IsGivenUp (D.vacant driver.new) (D.layer driver.old).fixed.unit (D.layer driver.old).size offset n) }
+    ensures ran { Ran D.layer D.image D.extras D.safe D.lasts B.under B.files_under B.sees_under B.safe_under B.still_under B.lasts_under D.sound (IsOk result) (IsWhole result) (GivesZero offset n) driver.old driver.new below.old below.new }
+    ensures failed { IfErr result (StorageCause (D.image driver.old ∷ D.extras driver.old ++ B.files_under below.old) (D.image driver.new ∷ D.extras driver.new ++ B.files_under below.new)) }
     ensures cause { IsIntact (B.under below.old) (D.layer driver.old) (D.safe driver.old) (B.sees_under below.old) → (d : D) (call : Call) → D.began d call driver.old → IsPartOf call offset n → true ≡ announces call → IfErr result (PartCause (B.under below.old) (D.layer driver.old) offset n (D.own_cause d (B.under below.old) call) (D.image driver.old ∷ D.extras driver.old ++ B.files_under below.old) (D.image driver.new ∷ D.extras driver.new ++ B.files_under below.new)) }
 {
     let end = offset + n;
@@ -193,12 +207,12 @@ fn zero_all<D: FormatDriverInstance, B: ReadBelow>(
 }
 
 impl<D: FormatDriverInstance> FormatAccess<D> {
-    /// Makes a range read as 0, and keeps what is allocated for it where the format can. Nothing may be prepared.
+    /// Makes a range read as 0, and keeps what is allocated for it. Nothing may be prepared.
     ///
     /// It refuses with `Fault::ReadOnly`, with `Fault::RangeOverflow` where the end of the range, rounded up to the chain's alignment,
     /// passes `u64`, with `Fault::PastEnd`, with causes of the driver's own, with `Fault::Memory` and `Fault::Storage`, and where a layer
     /// can't be used. A refusal for another cause than `Memory` and `Storage` leaves each byte of the range old or 0, and every other as
-    /// it was.
+    /// it was. The chain itself takes no memory for it: want of it is the driver's.
     pub fn write_zeroes(&mut self, alloc: Global, offset: u64, length: u64) -> Result<(), Fault>
         requires free { IsFree (D.layer self.old.0) }
         ensures ok { IsIntactChain D.layer D.safe D.sees self.old → OnOk result (Step (below_of D.layer self.old) (chain_disk D.layer self.old) (write_zeroes offset length) done (chain_disk D.layer self.new)) }
@@ -206,7 +220,9 @@ impl<D: FormatDriverInstance> FormatAccess<D> {
         ensures at_once { (f : Fault) → change_refusal (unit_of_chain (map D.layer (chain self.old))) (D.layer self.old.0) offset length ≡ Some f → IsErrOf result f }
         ensures idle { length ≡ 0 → barrier (D.layer self.old.0) ≡ None → IsOk result }
         ensures like { IsLike (D.layer self.old.0) (D.layer self.new.0) }
-        ensures ran { RanChain D.layer D.image D.extras D.sees D.safe D.still D.sound (IsOk result) (IsWhole result) (GivesZero offset length) self.old self.new }
+        ensures ran { RanChain D.layer D.image D.extras D.sees D.safe D.still D.lasts D.sound (IsOk result) (IsWhole result) (GivesZero offset length) self.old self.new }
+        ensures room { IsIntactChain D.layer D.safe D.sees self.old → IsWhole result → Takes D.vacant D.has_room (IsApart (D.layer self.old.0).fixed.unit offset length) self.old.0 self.new.0 }
+        ensures failed { IfErr result (StorageCause (files_of D.image D.extras (chain self.old)) (files_of D.image D.extras (chain self.new))) }
         ensures cause { IsIntactChain D.layer D.safe D.sees self.old → IfErr result (ChangeCause (unit_of_chain (map D.layer (chain self.old))) (map D.layer (chain self.old)) (chain_disk D.layer self.old) (D.layer self.old.0).fixed.writable (write_zeroes offset length) (D.own_cause self.old.0 (map D.layer self.old.1) (write_zeroes offset length)) (files_of D.image D.extras (chain self.old)) (files_of D.image D.extras (chain self.new))) }
     {
         self.check_change(offset, length)?;
@@ -220,9 +236,10 @@ impl<D: FormatDriverInstance> FormatAccess<D> {
         )
     }
 
-    /// Makes a range read as 0, and gives up what is allocated for it where the format can. Nothing may be prepared.
+    /// Makes a range read as 0, and gives up what is allocated for each whole unit of it, unless the driver declines that. Nothing may be
+    /// prepared.
     ///
-    /// It refuses as `write_zeroes` does, and leaves the same.
+    /// It refuses as `write_zeroes` does, and leaves the same. The chain itself takes no memory for it either.
     pub fn discard_to_zero(&mut self, alloc: Global, offset: u64, length: u64) -> Result<(), Fault>
         requires free { IsFree (D.layer self.old.0) }
         ensures ok { IsIntactChain D.layer D.safe D.sees self.old → OnOk result (Step (below_of D.layer self.old) (chain_disk D.layer self.old) (discard_to_zero offset length) done (chain_disk D.layer self.new)) }
@@ -230,7 +247,10 @@ impl<D: FormatDriverInstance> FormatAccess<D> {
         ensures at_once { (f : Fault) → change_refusal (unit_of_chain (map D.layer (chain self.old))) (D.layer self.old.0) offset length ≡ Some f → IsErrOf result f }
         ensures idle { length ≡ 0 → barrier (D.layer self.old.0) ≡ None → IsOk result }
         ensures like { IsLike (D.layer self.old.0) (D.layer self.new.0) }
-        ensures ran { RanChain D.layer D.image D.extras D.sees D.safe D.still D.sound (IsOk result) (IsWhole result) (GivesZero offset length) self.old self.new }
+        ensures ran { RanChain D.layer D.image D.extras D.sees D.safe D.still D.lasts D.sound (IsOk result) (IsWhole result) (GivesZero offset length) self.old self.new }
+        ensures room { IsIntactChain D.layer D.safe D.sees self.old → IsWhole result → LeavesRoom D.vacant D.has_room (IsOut offset length) (IsApart (D.layer self.old.0).fixed.unit offset length) self.old.0 self.new.0 }
+        ensures gives_up { IsIntactChain D.layer D.safe D.sees self.old → IsUndeclined (D.own_cause self.old.0 (map D.layer self.old.1) (discard_to_zero offset length)) → OnOk result (IsGivenUp (D.vacant self.new.0) (D.layer self.old.0).fixed.unit (D.layer self.old.0).size offset length) }
+        ensures failed { IfErr result (StorageCause (files_of D.image D.extras (chain self.old)) (files_of D.image D.extras (chain self.new))) }
         ensures cause { IsIntactChain D.layer D.safe D.sees self.old → IfErr result (ChangeCause (unit_of_chain (map D.layer (chain self.old))) (map D.layer (chain self.old)) (chain_disk D.layer self.old) (D.layer self.old.0).fixed.writable (discard_to_zero offset length) (D.own_cause self.old.0 (map D.layer self.old.1) (discard_to_zero offset length)) (files_of D.image D.extras (chain self.old)) (files_of D.image D.extras (chain self.new))) }
     {
         self.check_change(offset, length)?;

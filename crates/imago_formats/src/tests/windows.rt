@@ -5,7 +5,8 @@ ghost use Rattle.imago_storage.specs.State.{StorageState, IsAlignment};
 ghost use Rattle.imago_storage.specs.Steps.{Call};
 ghost use Rattle.imago_storage.specs.declared.fault.Fault.{Fault};
 ghost use Rattle.imago_storage.specs.declared.fault.Fault.TheVariants.{Foreign, Unsupported};
-ghost use Rattle.imago_access.specs.Layer.{Layer, IsFree};
+ghost use Rattle.imago_access.specs.Layer.{Layer, loose, IsFree};
+ghost use Rattle.imago_access.specs.Room.{Takes};
 ghost use Rattle.imago_access.specs.Layers.{chain};
 ghost use Rattle.imago_access.specs.Changes.{Committed, Cancelled};
 ghost use Rattle.imago_access.specs.Files.{IsMild, SomeRose};
@@ -113,6 +114,12 @@ impl<S: Storage> FormatDriverInstance for Image<S> {
 
     ghost still = { λ _. ⊤ };
 
+    ghost lasts = { elim [ image.Raw r ↦ r.size ≤ length (S.state r.storage).bytes | image.Window w ↦ ⊤ ] };
+
+    ghost vacant = { λ d p. ⊤ };
+
+    ghost has_room = { λ d p. ⊥ };
+
     ghost claim = { λ _. 0 };
 
     ghost tag = { λ _. 0 };
@@ -136,6 +143,8 @@ impl<S: Storage> FormatDriverInstance for Image<S> {
     ghost begins = { λ d call. refl };
 
     ghost free_loose = { λ d free p. refl };
+
+    ghost bare = { λ d p free has. has };
 
     ghost one_home = { elim [ image.Raw r ↦ λ p q at safe. one_home r.size r.writable p q at | image.Window w ↦ λ p q at safe h. absurd (cc h) ] };
 
@@ -255,11 +264,13 @@ impl<S: Storage> FormatDriverInstance for Image<S> {
         mapping: PreparedDataMapping<NoState>,
     ) -> Result<(), (Fault, Option<PreparedDataMapping<NoState>>)>
         ensures ok { let d = ⟦<Image<S> as FormatDriverInstance>⟧ in OnOk result (Spends d.claim d.tag mapping.state (d.layer self.old) (d.layer self.new) (IsFree (d.layer self.new) × (IsTrue (d.layer self.old).fixed.keeps → d.safe self.old → Committed (d.layer self.old) (d.layer self.new)))) }
-        ensures went { let d = ⟦<Image<S> as FormatDriverInstance>⟧ in Went d.layer d.image d.extras d.safe (IsOk result) (IsOk result × IsMine d.claim d.tag mapping.state (d.layer self.old)) self.old self.new }
+        ensures went { let d = ⟦<Image<S> as FormatDriverInstance>⟧ in Went d.layer d.image d.extras d.safe d.lasts (IsOk result) (IsOk result × IsMine d.claim d.tag mapping.state (d.layer self.old)) self.old self.new }
         ensures at_once { let d = ⟦<Image<S> as FormatDriverInstance>⟧ in (f : Fault) → commit_refusal d.tag mapping.state (d.layer self.old) ≡ Some f → MatchResult result (λ _. ⊥) (λ e. e.0 ≡ f) }
         ensures back { let d = ⟦<Image<S> as FormatDriverInstance>⟧ in IfErr result (λ e. IfSome e.1 (λ m. (m ≡ mapping) × (d.layer self.new ≡ d.layer self.old) × GivenBack d.tag mapping.state (d.layer self.old) e.0 × (d.safe self.old → d.safe self.new))) }
         ensures spent { let d = ⟦<Image<S> as FormatDriverInstance>⟧ in IfErr result (λ e. e.1 ≡ None → IsSome mapping.state × IsTrue (d.layer self.new).failed × Spends d.claim d.tag mapping.state (d.layer self.old) (d.layer self.new) (IsFree (d.layer self.new) × (d.safe self.old → IsMild e.0 → ⊥))) }
         ensures size { let d = ⟦<Image<S> as FormatDriverInstance>⟧ in (d.layer self.new).size ≡ (d.layer self.old).size }
+        ensures room { let d = ⟦<Image<S> as FormatDriverInstance>⟧ in IsTrue (d.layer self.old).fixed.keeps → d.safe self.old → IsMine d.claim d.tag mapping.state (d.layer self.old) → OnOk result (Takes d.vacant d.has_room (λ p. (d.layer self.old).held p ≡ loose) self.old self.new) }
+        ensures back_room { let d = ⟦<Image<S> as FormatDriverInstance>⟧ in IsTrue (d.layer self.old).fixed.keeps → d.safe self.old → IfErr result (λ e. IfSome e.1 (λ m. Takes d.vacant d.has_room (λ _. ⊤) self.old self.new)) }
         ensures began { let d = ⟦<Image<S> as FormatDriverInstance>⟧ in (e : _) (call : Call) → d.began e call self.old → IsMine d.claim d.tag mapping.state (d.layer self.old) → OnOk result (d.began e call self.new) }
         ensures stops { let d = ⟦<Image<S> as FormatDriverInstance>⟧ in IsTrue (d.layer self.old).fixed.keeps → d.safe self.old → IsMine d.claim d.tag mapping.state (d.layer self.old) → (below : List Layer) → KeepsStops below (d.layer self.old) d.sound (GivesSettled below (d.layer self.old)) (d.image self.old) (d.image self.new) }
         ensures failed { let d = ⟦<Image<S> as FormatDriverInstance>⟧ in IfErr result (λ e. e.0 ≡ Fault.Storage → SomeRose (d.image self.old ∷ d.extras self.old) (d.image self.new ∷ d.extras self.new)) }
@@ -276,6 +287,8 @@ impl<S: Storage> FormatDriverInstance for Image<S> {
     ) -> Result<(), (Fault, PreparedDataMapping<NoState>)>
         ensures ok { let d = ⟦<Image<S> as FormatDriverInstance>⟧ in OnOk result (Spends d.claim d.tag mapping.state (d.layer self.old) (d.layer self.new) (Cancelled (d.layer self.old) (d.layer self.new))) }
         ensures safe { let d = ⟦<Image<S> as FormatDriverInstance>⟧ in IsMine d.claim d.tag mapping.state (d.layer self.old) → d.safe self.old → d.safe self.new }
+        ensures room { let d = ⟦<Image<S> as FormatDriverInstance>⟧ in IsTrue (d.layer self.old).fixed.keeps → d.safe self.old → IsMine d.claim d.tag mapping.state (d.layer self.old) → Takes d.vacant d.has_room (λ _. ⊤) self.old self.new }
+        ensures lasts { let d = ⟦<Image<S> as FormatDriverInstance>⟧ in d.lasts self.old → d.lasts self.new }
         ensures back { let d = ⟦<Image<S> as FormatDriverInstance>⟧ in IfErr result (λ e. (e.1 ≡ mapping) × (e.0 ≡ Foreign) × (d.layer self.new ≡ d.layer self.old) × IsForeignTo d.tag mapping.state (d.layer self.old)) }
         ensures began { let d = ⟦<Image<S> as FormatDriverInstance>⟧ in (e : _) (call : Call) → d.began e call self.old → d.began e call self.new }
         ensures none { let d = ⟦<Image<S> as FormatDriverInstance>⟧ in (d.image self.new ≡ d.image self.old) × (d.extras self.new ≡ d.extras self.old) }

@@ -29,7 +29,7 @@ invalidate_part-returns-in-Err-clause-kept g t c = let d = g.D.FormatDriverInsta
 
 pub invalidate_part-returns-in-Err-clause-went : goal.invalidate_part-returns-in-Err-clause-went
 invalidate_part-returns-in-Err-clause-went g t c = let d = g.D.FormatDriverInstance in
-    (c.in-Err.ensures.went, all_went_same d.layer d.image d.extras d.safe (false ≡ true) (false ≡ true) (layers c.args.below.now))
+    (c.in-Err.ensures.went, all_went_same d.layer d.image d.extras d.safe d.lasts (false ≡ true) (false ≡ true) (layers c.args.below.now))
 
 pub invalidate_part-returns-in-Err-clause-cause : goal.invalidate_part-returns-in-Err-clause-cause
 invalidate_part-returns-in-Err-clause-cause g t c = let d = g.D.FormatDriverInstance in

@@ -16,7 +16,7 @@ use Rattle.imago_access.proofs.access.FormatAccess.discard_to_any.Goals as goal
 
 pub returns-in_err-check_change-clause-ran : goal.returns-in_err-check_change-clause-ran
 returns-in_err-check_change-clause-ran g c = let d = g.D.FormatDriverInstance in
-    ran_same {B = List _} d.layer d.image d.extras d.safe (map d.layer) (files_of d.image d.extras) (Each d.sees) (Each d.still) d.sound (IsOk c.from_residual.result) (IsWhole c.from_residual.result) (GivesAny c.args.offset c.args.length) c.args.self.now.0 c.args.self.now.1
+    ran_same {B = List _} d.layer d.image d.extras d.safe d.lasts (map d.layer) (files_of d.image d.extras) (Each d.sees) (Each d.safe) (Each d.still) (Each d.lasts) d.sound (IsOk c.from_residual.result) (IsWhole c.from_residual.result) (GivesAny c.args.offset c.args.length) c.args.self.now.0 c.args.self.now.1
 
 pub discard_all-requires-clause-fits : goal.discard_all-requires-clause-fits
 discard_all-requires-clause-fits g c = let d = g.D.FormatDriverInstance in
@@ -26,17 +26,17 @@ pub returns-clause-ok : goal.returns-clause-ok
 returns-clause-ok g c = let d = g.D.FormatDriverInstance in
     let free = rw (← c.self.view_is) at c.requires.free in
     let calm = rw (← c.self.view_is) at c.in_ok-check_change.ensures.ok in
-    rw (← c.self.view_is) (chain_done d.layer d.image d.extras d.sees d.safe d.still d.sound g.met.D.FormatDriverInstance.free_loose c.self.inside.driver c.discard_all.new.driver (layers c.self.inside.below) discards.ToAny c.args.offset c.args.length free c.discard_all.ensures.like c.discard_all.result c.discard_all.ensures.values ToAny (λ p was v how. elim how [ inl same ↦ inl same | inr gave ↦ inr gave.1 ]) (unit_of_chain (map d.layer (c.self.inside.driver ∷ layers c.self.inside.below))) calm)
+    rw (← c.self.view_is) (chain_done d.layer d.image d.extras d.sees d.safe d.still d.lasts d.sound g.met.D.FormatDriverInstance.free_loose c.self.inside.driver c.discard_all.new.driver (layers c.self.inside.below) discards.ToAny c.args.offset c.args.length free c.discard_all.ensures.like c.discard_all.result c.discard_all.ensures.values ToAny (λ p was v how. elim how [ inl same ↦ inl same | inr gave ↦ inr gave.1 ]) (unit_of_chain (map d.layer (c.self.inside.driver ∷ layers c.self.inside.below))) calm)
 
 pub returns-clause-err : goal.returns-clause-err
 returns-clause-err g c = let d = g.D.FormatDriverInstance in
     let free = rw (← c.self.view_is) at c.requires.free in
-    rw (← c.self.view_is) (chain_partly d.layer d.image d.extras d.sees d.safe d.still d.sound g.met.D.FormatDriverInstance.free_loose c.self.inside.driver c.discard_all.new.driver (layers c.self.inside.below) discards.ToAny c.args.offset c.args.length free c.discard_all.ensures.like c.discard_all.result c.discard_all.ensures.values (discard_to_any c.args.offset c.args.length) refl refl (λ p was v gave. inr gave.1))
+    rw (← c.self.view_is) (chain_partly d.layer d.image d.extras d.sees d.safe d.still d.lasts d.sound g.met.D.FormatDriverInstance.free_loose c.self.inside.driver c.discard_all.new.driver (layers c.self.inside.below) discards.ToAny c.args.offset c.args.length free c.discard_all.ensures.like c.discard_all.result c.discard_all.ensures.values (discard_to_any c.args.offset c.args.length) refl refl (λ p was v gave. inr gave.1))
 
 pub returns-clause-ran : goal.returns-clause-ran
 returns-clause-ran g c = let d = g.D.FormatDriverInstance in
     let free = rw (← c.self.view_is) at c.requires.free in
-    rw (← c.self.view_is) (chain_ran d.layer d.image d.extras d.sees d.safe d.still d.sound g.met.D.FormatDriverInstance.free_loose c.self.inside.driver c.discard_all.new.driver (layers c.self.inside.below) discards.ToAny c.args.offset c.args.length free c.discard_all.ensures.like c.discard_all.result c.discard_all.ensures.values c.discard_all.ensures.went c.discard_all.ensures.stops)
+    rw (← c.self.view_is) (chain_ran d.layer d.image d.extras d.sees d.safe d.still d.lasts d.sound g.met.D.FormatDriverInstance.free_loose c.self.inside.driver c.discard_all.new.driver (layers c.self.inside.below) discards.ToAny c.args.offset c.args.length free c.discard_all.ensures.like c.discard_all.result c.discard_all.ensures.values c.discard_all.ensures.went c.discard_all.ensures.stops)
 
 pub returns-clause-cause : goal.returns-clause-cause
 returns-clause-cause g c = let d = g.D.FormatDriverInstance in

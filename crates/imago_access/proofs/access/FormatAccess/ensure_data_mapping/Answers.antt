@@ -1,5 +1,5 @@
 use Rattle.std.proofs.Common.{◌≡◌, ◌∷◌, ◌++◌, ◌+◌, refl, arith, true, false, None, map, ap, sym, subst, ◌∙◌, inl, inr}
-use Rattle.std.specs.Prelude.{⊤, IsOk, IsTrue, is_some}
+use Rattle.std.specs.Prelude.{⊤, Ok, Err, IsOk, IsTrue, is_some}
 use Rattle.std.proofs.lemmas.Bool.{cases_lt}
 use Rattle.imago_storage.specs.Steps.{ensure}
 use Rattle.imago_access.specs.Layer.{IsFree, Fixed, hold_of}
@@ -15,14 +15,15 @@ use Rattle.imago_access.proofs.ChangeCauses.{change_cause, part_cause_alone}
 use Rattle.imago_access.proofs.Ensuring.{unbarred, stays_committed, settled_commits, settled_home, ran_ensured}
 use Rattle.imago_access.proofs.Holding.{truly_prepared, spends_more}
 use Rattle.imago_access.proofs.HoldingRuns.{ran_prepared, ran_settled, ran_unsettled}
-use Rattle.imago_access.proofs.MappingCalls.{ran_unprepared, prepared_step, stateless_is, stateful_claims}
-use Rattle.imago_access.proofs.Running.{ran_same, ran_seen, ran_weaker}
+use Rattle.imago_access.proofs.MappingCalls.{prepared_step, stateless_is, stateful_claims}
+use Rattle.imago_access.proofs.Running.{ran_same, ran_seen, ran_weaker, ran_gives}
 use Rattle.imago_access.proofs.Units.{layer_aligned, overflows_chain}
+use Rattle.imago_access.proofs.StorageCauses.{failed_alone}
 use Rattle.imago_access.proofs.access.FormatAccess.ensure_data_mapping.Goals as goal
 
 pub returns-in_err-check_change-clause-ran : goal.returns-in_err-check_change-clause-ran
 returns-in_err-check_change-clause-ran g c = let d = g.D.FormatDriverInstance in
-    ran_same d.layer d.image d.extras d.safe (map d.layer) (files_of d.image d.extras) (Each d.sees) (Each d.still) d.sound (IsOk c.from_residual.result) (IsWhole c.from_residual.result) (GivesAnnounced c.args.overwrite c.args.offset c.args.length) c.args.self.now.0 c.args.self.now.1
+    ran_same d.layer d.image d.extras d.safe d.lasts (map d.layer) (files_of d.image d.extras) (Each d.sees) (Each d.safe) (Each d.still) (Each d.lasts) d.sound (IsOk c.from_residual.result) (IsWhole c.from_residual.result) (GivesAnnounced c.args.overwrite c.args.offset c.args.length) c.args.self.now.0 c.args.self.now.1
 
 pub returns-in-Err-clause-ran : goal.returns-in-Err-clause-ran
 returns-in-Err-clause-ran g c = let d = g.D.FormatDriverInstance in
@@ -35,8 +36,9 @@ returns-in-Err-clause-ran g c = let d = g.D.FormatDriverInstance in
     let under = map d.layer (layers x0) in
     let free : IsFree (d.layer a0) = subst (λ (v : _). IsFree (d.layer v.0)) (sym c.self.view_is) c.requires.free in
     let e = c.in-Err.ensures in
-    rw (← c.self.view_is) (ran_seen layers d.layer d.image d.extras d.safe (map d.layer) (files_of d.image d.extras) (Each d.sees) (Each d.still) d.sound (false ≡ true) (IsMild c.in-Err.fault) (GivesAnnounced c.args.overwrite c.args.offset c.args.length) a0 a1 x0 x1
-    (ran_unprepared d.layer d.image d.extras d.safe (λ b. map d.layer (layers b)) (λ b. files_of d.image d.extras (layers b)) (λ b. Each d.sees (layers b)) (λ b. Each d.still (layers b)) d.sound (false ≡ true) (IsMild c.in-Err.fault) (GivesAnnounced c.args.overwrite c.args.offset c.args.length) a0 a1 x0 x1 (laws.free_loose a0 free) e.size e.went e.below (λ mild keeps safe see. e.err keeps safe see mild) e.stops))
+    rw (← c.self.view_is) (ran_seen layers d.layer d.image d.extras d.safe d.lasts (map d.layer) (files_of d.image d.extras) (Each d.sees) (Each d.safe) (Each d.still) (Each d.lasts) d.sound (false ≡ true) (IsMild c.in-Err.fault) (GivesAnnounced c.args.overwrite c.args.offset c.args.length) a0 a1 x0 x1
+    (ran_gives d.layer d.image d.extras d.safe d.lasts (λ b. map d.layer (layers b)) (λ b. files_of d.image d.extras (layers b)) (λ b. Each d.sees (layers b)) (λ b. Each d.safe (layers b)) (λ b. Each d.still (layers b)) (λ b. Each d.lasts (layers b)) d.sound (false ≡ true) (IsMild c.in-Err.fault) GivesNone (GivesAnnounced c.args.overwrite c.args.offset c.args.length) a0 a1 x0 x1 (λ p v none. absurd none)
+    (ran_prepared d.layer d.image d.extras d.safe d.lasts (λ b. map d.layer (layers b)) (λ b. files_of d.image d.extras (layers b)) (λ b. Each d.sees (layers b)) (λ b. Each d.safe (layers b)) (λ b. Each d.still (layers b)) (λ b. Each d.lasts (layers b)) d.sound d.claim (Err c.in-Err.fault) a0 a1 x0 x1 c.args.offset c.args.length c.args.overwrite (laws.free_loose a0 free) e.size e.went e.below e.ok e.err e.stops)))
 
 pub returns-in-Err-clause-cause : goal.returns-in-Err-clause-cause
 returns-in-Err-clause-cause g c = let d = g.D.FormatDriverInstance in
@@ -67,10 +69,15 @@ returns-in-Err-settle-clause-ran g c = let d = g.D.FormatDriverInstance in
     let claim = claim_of d.claim m.state in
     let stateless = λ (none : m.state ≡ None). laws.free_loose a1 (c.in-Ok.ensures.stateless none) in
     let s = c.in-Err-settle.ensures in
-    rw (← c.self.view_is) (ran_seen layers d.layer d.image d.extras d.safe (map d.layer) (files_of d.image d.extras) (Each d.sees) (Each d.still) d.sound (false ≡ true) (IsMild c.in-Err-settle.fault) (GivesAnnounced c.args.overwrite c.args.offset c.args.length) a0 a2 x0 x1
-    (ran_ensured d.layer d.image d.extras d.safe (λ b. map d.layer (layers b)) (λ b. files_of d.image d.extras (layers b)) (λ b. Each d.sees (layers b)) (λ b. Each d.still (layers b)) d.sound (false ≡ true) (IsMild c.in-Err-settle.fault) a0 a1 a2 x0 x1 c.args.offset c.args.length c.args.overwrite m.storage m.offset m.length claim c.in-Ok.ensures.run.0 (λ i. c.in-Ok.ensures.ok i.keeps i.is_safe i.is_seen)
-    (ran_weaker d.layer d.image d.extras d.safe (λ b. map d.layer (layers b)) (λ b. files_of d.image d.extras (layers b)) (λ b. Each d.sees (layers b)) (λ b. Each d.still (layers b)) d.sound (true ≡ true) ⊤ ⊤ ⊤ GivesNone a0 a1 x0 x1 (λ h. refl) (λ h. h) (ran_prepared d.layer d.image d.extras d.safe (λ b. map d.layer (layers b)) (λ b. files_of d.image d.extras (layers b)) (λ b. Each d.sees (layers b)) (λ b. Each d.still (layers b)) d.sound (true ≡ true) ⊤ a0 a1 x0 x1 c.args.offset c.args.length c.args.overwrite m.storage m.offset m.length claim c.in-Ok.ensures.size c.in-Ok.ensures.went c.in-Ok.ensures.below (λ w. c.in-Ok.ensures.ok) c.in-Ok.ensures.stops))
-    (ran_unsettled d.layer d.image d.extras d.safe (λ b. map d.layer (layers b)) (λ b. files_of d.image d.extras (layers b)) (λ b. Each d.sees (layers b)) (λ b. Each d.still (layers b)) d.sound d.claim d.tag m.state (false ≡ true) (IsMild c.in-Err-settle.fault) a1 a2 x1 laws.free_loose s.size s.went c.in-Ok.ensures.mine (s.free c.in-Ok.ensures.stateless) (λ mild safe. s.err safe mild) s.stops)))
+    rw (← c.self.view_is) (ran_seen layers d.layer d.image d.extras d.safe d.lasts (map d.layer) (files_of d.image d.extras) (Each d.sees) (Each d.safe) (Each d.still) (Each d.lasts) d.sound (false ≡ true) (IsMild c.in-Err-settle.fault) (GivesAnnounced c.args.overwrite c.args.offset c.args.length) a0 a2 x0 x1
+    (ran_ensured d.layer d.image d.extras d.safe d.lasts (λ b. map d.layer (layers b)) (λ b. files_of d.image d.extras (layers b)) (λ b. Each d.sees (layers b)) (λ b. Each d.safe (layers b)) (λ b. Each d.still (layers b)) (λ b. Each d.lasts (layers b)) d.sound (false ≡ true) (IsMild c.in-Err-settle.fault) a0 a1 a2 x0 x1 c.args.offset c.args.length c.args.overwrite m.storage m.offset m.length claim c.in-Ok.ensures.run.0 (λ i. c.in-Ok.ensures.ok i.keeps i.is_safe i.is_seen)
+    (ran_weaker d.layer d.image d.extras d.safe d.lasts (λ b. map d.layer (layers b)) (λ b. files_of d.image d.extras (layers b)) (λ b. Each d.sees (layers b)) (λ b. Each d.safe (layers b)) (λ b. Each d.still (layers b)) (λ b. Each d.lasts (layers b)) d.sound (true ≡ true) ⊤ ⊤ ⊤ GivesNone a0 a1 x0 x1 (λ h. refl) (λ h. h) (ran_prepared d.layer d.image d.extras d.safe d.lasts (λ b. map d.layer (layers b)) (λ b. files_of d.image d.extras (layers b)) (λ b. Each d.sees (layers b)) (λ b. Each d.safe (layers b)) (λ b. Each d.still (layers b)) (λ b. Each d.lasts (layers b)) d.sound d.claim (Ok m) a0 a1 x0 x1 c.args.offset c.args.length c.args.overwrite (laws.free_loose a0 free) c.in-Ok.ensures.size c.in-Ok.ensures.went c.in-Ok.ensures.below c.in-Ok.ensures.ok c.in-Ok.ensures.err c.in-Ok.ensures.stops))
+    (ran_unsettled d.layer d.image d.extras d.safe d.lasts (λ b. map d.layer (layers b)) (λ b. files_of d.image d.extras (layers b)) (λ b. Each d.sees (layers b)) (λ b. Each d.safe (layers b)) (λ b. Each d.still (layers b)) (λ b. Each d.lasts (layers b)) d.sound d.claim d.tag m.state (false ≡ true) (IsMild c.in-Err-settle.fault) a1 a2 x1 laws.free_loose s.size s.went c.in-Ok.ensures.mine (s.free c.in-Ok.ensures.stateless) (λ mild safe. s.err safe mild) s.stops)))
+
+pub returns-in-Err-settle-clause-failed : goal.returns-in-Err-settle-clause-failed
+returns-in-Err-settle-clause-failed g c = let d = g.D.FormatDriverInstance in
+    let a0 = c.self.inside.driver in let a1 = c.prepare_data_mapping.new.self in let a2 = c.settle.new.driver in
+    rw (← c.self.view_is) (failed_alone (d.image a0 ∷ d.extras a0) (d.image a1 ∷ d.extras a1) (d.image a2 ∷ d.extras a2) (files_of d.image d.extras (layers c.self.inside.below)) (files_of d.image d.extras (layers c.prepare_data_mapping.new.below)) c.in-Err-settle.fault c.in-Ok.ensures.went.later c.in-Ok.ensures.below.later c.in-Err-settle.ensures.failed)
 
 pub returns-in-Err-settle-clause-cause : goal.returns-in-Err-settle-clause-cause
 returns-in-Err-settle-clause-cause g c = let d = g.D.FormatDriverInstance in
@@ -169,7 +176,7 @@ returns-clause-ran g c = let d = g.D.FormatDriverInstance in
     let claim = claim_of d.claim m.state in
     let stateless = λ (none : m.state ≡ None). laws.free_loose a1 (c.in-Ok.ensures.stateless none) in
     let s = c.in_default.ensures in
-    rw (← c.self.view_is) (ran_seen layers d.layer d.image d.extras d.safe (map d.layer) (files_of d.image d.extras) (Each d.sees) (Each d.still) d.sound (true ≡ true) ⊤ (GivesAnnounced c.args.overwrite c.args.offset c.args.length) a0 a2 x0 x1
-    (ran_ensured d.layer d.image d.extras d.safe (λ b. map d.layer (layers b)) (λ b. files_of d.image d.extras (layers b)) (λ b. Each d.sees (layers b)) (λ b. Each d.still (layers b)) d.sound (true ≡ true) ⊤ a0 a1 a2 x0 x1 c.args.offset c.args.length c.args.overwrite m.storage m.offset m.length claim c.in-Ok.ensures.run.0 (λ i. c.in-Ok.ensures.ok i.keeps i.is_safe i.is_seen)
-    (ran_weaker d.layer d.image d.extras d.safe (λ b. map d.layer (layers b)) (λ b. files_of d.image d.extras (layers b)) (λ b. Each d.sees (layers b)) (λ b. Each d.still (layers b)) d.sound (true ≡ true) ⊤ ⊤ ⊤ GivesNone a0 a1 x0 x1 (λ h. refl) (λ h. h) (ran_prepared d.layer d.image d.extras d.safe (λ b. map d.layer (layers b)) (λ b. files_of d.image d.extras (layers b)) (λ b. Each d.sees (layers b)) (λ b. Each d.still (layers b)) d.sound (true ≡ true) ⊤ a0 a1 x0 x1 c.args.offset c.args.length c.args.overwrite m.storage m.offset m.length claim c.in-Ok.ensures.size c.in-Ok.ensures.went c.in-Ok.ensures.below (λ w. c.in-Ok.ensures.ok) c.in-Ok.ensures.stops))
-    (ran_settled d.layer d.image d.extras d.safe (λ b. map d.layer (layers b)) (λ b. files_of d.image d.extras (layers b)) (λ b. Each d.sees (layers b)) (λ b. Each d.still (layers b)) d.sound d.claim d.tag m.state (true ≡ true) ⊤ a1 a2 x1 laws.free_loose s.size s.went c.in-Ok.ensures.mine c.in-Ok.ensures.stateless (s.free c.in-Ok.ensures.stateless) (λ w keeps safe. spends_more d.claim d.tag m.state (d.layer a1) (d.layer a2) (IsTrue (d.layer a1).fixed.keeps → d.safe a1 → Committed (d.layer a1) (d.layer a2)) (Committed (d.layer a1) (d.layer a2)) (λ h. h keeps safe) s.ok) s.stops)))
+    rw (← c.self.view_is) (ran_seen layers d.layer d.image d.extras d.safe d.lasts (map d.layer) (files_of d.image d.extras) (Each d.sees) (Each d.safe) (Each d.still) (Each d.lasts) d.sound (true ≡ true) ⊤ (GivesAnnounced c.args.overwrite c.args.offset c.args.length) a0 a2 x0 x1
+    (ran_ensured d.layer d.image d.extras d.safe d.lasts (λ b. map d.layer (layers b)) (λ b. files_of d.image d.extras (layers b)) (λ b. Each d.sees (layers b)) (λ b. Each d.safe (layers b)) (λ b. Each d.still (layers b)) (λ b. Each d.lasts (layers b)) d.sound (true ≡ true) ⊤ a0 a1 a2 x0 x1 c.args.offset c.args.length c.args.overwrite m.storage m.offset m.length claim c.in-Ok.ensures.run.0 (λ i. c.in-Ok.ensures.ok i.keeps i.is_safe i.is_seen)
+    (ran_weaker d.layer d.image d.extras d.safe d.lasts (λ b. map d.layer (layers b)) (λ b. files_of d.image d.extras (layers b)) (λ b. Each d.sees (layers b)) (λ b. Each d.safe (layers b)) (λ b. Each d.still (layers b)) (λ b. Each d.lasts (layers b)) d.sound (true ≡ true) ⊤ ⊤ ⊤ GivesNone a0 a1 x0 x1 (λ h. refl) (λ h. h) (ran_prepared d.layer d.image d.extras d.safe d.lasts (λ b. map d.layer (layers b)) (λ b. files_of d.image d.extras (layers b)) (λ b. Each d.sees (layers b)) (λ b. Each d.safe (layers b)) (λ b. Each d.still (layers b)) (λ b. Each d.lasts (layers b)) d.sound d.claim (Ok m) a0 a1 x0 x1 c.args.offset c.args.length c.args.overwrite (laws.free_loose a0 free) c.in-Ok.ensures.size c.in-Ok.ensures.went c.in-Ok.ensures.below c.in-Ok.ensures.ok c.in-Ok.ensures.err c.in-Ok.ensures.stops))
+    (ran_settled d.layer d.image d.extras d.safe d.lasts (λ b. map d.layer (layers b)) (λ b. files_of d.image d.extras (layers b)) (λ b. Each d.sees (layers b)) (λ b. Each d.safe (layers b)) (λ b. Each d.still (layers b)) (λ b. Each d.lasts (layers b)) d.sound d.claim d.tag m.state (true ≡ true) ⊤ a1 a2 x1 laws.free_loose s.size s.went c.in-Ok.ensures.mine c.in-Ok.ensures.stateless (s.free c.in-Ok.ensures.stateless) (λ w keeps safe. spends_more d.claim d.tag m.state (d.layer a1) (d.layer a2) (IsTrue (d.layer a1).fixed.keeps → d.safe a1 → Committed (d.layer a1) (d.layer a2)) (Committed (d.layer a1) (d.layer a2)) (λ h. h keeps safe) s.ok) s.stops)))

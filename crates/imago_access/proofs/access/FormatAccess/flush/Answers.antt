@@ -14,6 +14,6 @@ returns-clause-ran g c = let d = g.D.FormatDriverInstance in
     let old = c.self.inside.driver in
     let new = c.flush.new.self in
     let under = layers c.self.inside.below in
-    rw (← c.self.view_is) (ran_kept d.layer d.image d.extras d.safe (map d.layer) (files_of d.image d.extras) (Each d.sees) (Each d.still) d.sound (IsOk c.flush.result) (IsOk c.flush.result) GivesNone old new under c.flush.ensures.like.size (went_weaker d.layer d.image d.extras d.safe (IsOk c.flush.result) (IsWhole c.flush.result) (IsOk c.flush.result) (IsOk c.flush.result) old new (λ ok. ok) (ok_whole c.flush.result) c.flush.ensures.went)
+    rw (← c.self.view_is) (ran_kept d.layer d.image d.extras d.safe d.lasts (map d.layer) (files_of d.image d.extras) (Each d.sees) (Each d.safe) (Each d.still) (Each d.lasts) d.sound (IsOk c.flush.result) (IsOk c.flush.result) GivesNone old new under c.flush.ensures.like.size (went_weaker d.layer d.image d.extras d.safe d.lasts (IsOk c.flush.result) (IsWhole c.flush.result) (IsOk c.flush.result) (IsOk c.flush.result) old new (λ ok. ok) (ok_whole c.flush.result) c.flush.ensures.went)
     (λ ok intact. ok_holds c.flush.result (d.layer new ≡ d.layer old) ok (c.flush.ensures.same intact.keeps intact.is_safe))
     (λ intact. c.flush.ensures.stops intact.keeps intact.is_safe (map d.layer under)))

@@ -4,8 +4,8 @@ use Rattle.std.proofs.lemmas.Result.{IfErr-weaker}
 use Rattle.imago_storage.specs.Steps.{Stays, prepare}
 use Rattle.imago_access.specs.Layer.{IsFree}
 use Rattle.imago_access.specs.Layers.{layers}
-use Rattle.imago_access.specs.Chain.{at, Each, disk_of, unit_of_chain}
-use Rattle.imago_access.specs.Changes.{Prepared, NotPrepared}
+use Rattle.imago_access.specs.Chain.{Each, disk_of, unit_of_chain}
+use Rattle.imago_access.specs.Changes.{NotPrepared}
 use Rattle.imago_access.specs.Files.{IsMild, IsWhole, files_of}
 use Rattle.imago_access.specs.Spending.{claim_of}
 use Rattle.imago_access.specs.Stops.{GivesNone}
@@ -13,14 +13,14 @@ use Rattle.imago_access.specs.declared.mapping.PreparedDataMapping.{PreparedData
 use Rattle.imago_access.proofs.Answers.{if_ok_with, if_err_with, both_if_ok, if_ok_under, whole_of_ok, whole_of_mild}
 use Rattle.imago_access.proofs.ChangeCauses.{change_cause}
 use Rattle.imago_access.proofs.Units.{overflows_chain}
-use Rattle.imago_access.proofs.Holding.{truly_prepared}
+use Rattle.imago_access.proofs.HoldingRuns.{ran_prepared}
 use Rattle.imago_access.proofs.Running.{ran_same, ran_seen}
-use Rattle.imago_access.proofs.MappingCalls.{ran_preparing, not_prepared_stays, prepared_step, stateless_is, stateful_claims}
+use Rattle.imago_access.proofs.MappingCalls.{not_prepared_stays, prepared_step, stateless_is, stateful_claims}
 use Rattle.imago_access.proofs.access.FormatAccess.prepare_data_mapping.Goals as goal
 
 pub returns-in_err-check_change-clause-ran : goal.returns-in_err-check_change-clause-ran
 returns-in_err-check_change-clause-ran g c = let d = g.D.FormatDriverInstance in
-    ran_same d.layer d.image d.extras d.safe (map d.layer) (files_of d.image d.extras) (Each d.sees) (Each d.still) d.sound (IsOk c.from_residual.result) (IsWhole c.from_residual.result) GivesNone c.args.self.now.0 c.args.self.now.1
+    ran_same d.layer d.image d.extras d.safe d.lasts (map d.layer) (files_of d.image d.extras) (Each d.sees) (Each d.safe) (Each d.still) (Each d.lasts) d.sound (IsOk c.from_residual.result) (IsWhole c.from_residual.result) GivesNone c.args.self.now.0 c.args.self.now.1
 
 pub returns-clause-ok : goal.returns-clause-ok
 returns-clause-ok g c = let d = g.D.FormatDriverInstance in
@@ -52,13 +52,9 @@ returns-clause-ran g c = let d = g.D.FormatDriverInstance in
     let old = c.self.inside.driver in
     let new = r.new.self in
     let free : IsFree (d.layer old) = subst (λ (v : _). IsFree (d.layer v.0)) (sym c.self.view_is) c.requires.free in
-    let under = map d.layer (layers c.self.inside.below) in
-    let Done = λ (m : PreparedDataMapping g.row.D-State.Denot). Prepared (at under) (d.layer old) (d.layer new) c.args.offset c.args.length c.args.overwrite m.storage m.offset m.length (claim_of d.claim m.state) in
-    rw (← c.self.view_is) (ran_seen layers d.layer d.image d.extras d.safe (map d.layer) (files_of d.image d.extras) (Each d.sees) (Each d.still) d.sound (IsOk r.result) (IsWhole r.result) GivesNone old new c.self.inside.below r.new.below
-    (ran_preparing d.layer d.image d.extras d.safe (λ b. map d.layer (layers b)) (λ b. files_of d.image d.extras (layers b)) (λ b. Each d.sees (layers b)) (λ b. Each d.still (layers b)) d.sound r.result old new c.self.inside.below r.new.below Done
-    (laws.free_loose old free) r.ensures.size r.ensures.went r.ensures.below
-    (λ m done. (truly_prepared (at under) (d.layer old) (d.layer new) c.args.offset c.args.length c.args.overwrite m.storage m.offset m.length (claim_of d.claim m.state) done, done.cell))
-    r.ensures.ok r.ensures.err r.ensures.stops))
+    rw (← c.self.view_is) (ran_seen layers d.layer d.image d.extras d.safe d.lasts (map d.layer) (files_of d.image d.extras) (Each d.sees) (Each d.safe) (Each d.still) (Each d.lasts) d.sound (IsOk r.result) (IsWhole r.result) GivesNone old new c.self.inside.below r.new.below
+    (ran_prepared d.layer d.image d.extras d.safe d.lasts (λ b. map d.layer (layers b)) (λ b. files_of d.image d.extras (layers b)) (λ b. Each d.sees (layers b)) (λ b. Each d.safe (layers b)) (λ b. Each d.still (layers b)) (λ b. Each d.lasts (layers b)) d.sound d.claim r.result old new c.self.inside.below r.new.below c.args.offset c.args.length c.args.overwrite
+    (laws.free_loose old free) r.ensures.size r.ensures.went r.ensures.below r.ensures.ok r.ensures.err r.ensures.stops))
 
 pub returns-clause-cause : goal.returns-clause-cause
 returns-clause-cause g c = let d = g.D.FormatDriverInstance in

@@ -11,12 +11,12 @@ use Rattle.imago_access.proofs.access.FormatAccess.write_mapped.Goals as goal
 
 pub returns-in_err-check_change-clause-ran : goal.returns-in_err-check_change-clause-ran
 returns-in_err-check_change-clause-ran g c = let d = g.D.FormatDriverInstance in
-    ran_same d.layer d.image d.extras d.safe (map d.layer) (files_of d.image d.extras) (Each d.sees) (Each d.still) d.sound (IsOk c.from_residual.result) (IsWhole c.from_residual.result) (GivesBytes c.args.guest c.args.bytes.now) c.args.self.now.0 c.args.self.now.1
+    ran_same d.layer d.image d.extras d.safe d.lasts (map d.layer) (files_of d.image d.extras) (Each d.sees) (Each d.safe) (Each d.still) (Each d.lasts) d.sound (IsOk c.from_residual.result) (IsWhole c.from_residual.result) (GivesBytes c.args.guest c.args.bytes.now) c.args.self.now.0 c.args.self.now.1
 
 pub returns-clause-ran : goal.returns-clause-ran
 returns-clause-ran g c = let d = g.D.FormatDriverInstance in
     let r = c.write_mapped in
-    rw (← c.self.view_is) (ran_mapped d.layer d.image d.extras d.safe (map d.layer) (files_of d.image d.extras) (Each d.sees) (Each d.still) d.sound r.result c.self.inside.driver r.new.self (layers c.self.inside.below) c.args.guest c.args.place c.args.bytes.now r.ensures.like r.ensures.went
+    rw (← c.self.view_is) (ran_mapped d.layer d.image d.extras d.safe d.lasts (map d.layer) (files_of d.image d.extras) (Each d.sees) (Each d.safe) (Each d.still) (Each d.lasts) d.sound r.result c.self.inside.driver r.new.self (layers c.self.inside.below) c.args.guest c.args.place c.args.bytes.now r.ensures.like r.ensures.went
     r.ensures.ok r.ensures.mapped r.ensures.err r.ensures.stops)
 
 pub returns-clause-cause : goal.returns-clause-cause

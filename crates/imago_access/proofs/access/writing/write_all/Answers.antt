@@ -11,7 +11,10 @@ use Rattle.imago_access.proofs.ChangeCauses.{part_cause_later}
 use Rattle.imago_access.proofs.FilePairs.{pairs_append}
 use Rattle.imago_access.proofs.Running.{ran_same, ran_both, ran_weaker}
 use Rattle.imago_access.proofs.Units.{layer_aligned}
+use Rattle.imago_access.specs.Room.{IsApart}
+use Rattle.imago_access.proofs.Room.{room_same, room_then}
 use Rattle.imago_access.proofs.Writing.{rest_of, rest_long, gives_rest, part_rest, shown_none, shown_more}
+use Rattle.imago_access.proofs.StorageCauses.{failed_then}
 use Rattle.imago_access.proofs.access.writing.write_all.Goals as goal
 
 pub loop-done-init : goal.loop-done-init
@@ -19,7 +22,8 @@ loop-done-init g c = let d = g.D.FormatDriverInstance in let b = g.B.ReadBelow i
   inside = omega arith;
   free = c.requires.free;
   shown = λ i. shown_none (b.under c.args.below.now) (d.layer c.args.driver.now) c.args.offset c.args.bytes.now;
-  ran = ran_same d.layer d.image d.extras d.safe b.under b.files_under b.sees_under b.still_under d.sound ⊤ ⊤ (GivesBytes c.args.offset c.args.bytes.now) c.args.driver.now c.args.below.now;
+  room = λ i. room_same d.vacant d.has_room (λ _. ⊤) (IsApart (d.layer c.args.driver.now).fixed.unit c.args.offset (length c.args.bytes.now)) c.args.driver.now;
+  ran = ran_same d.layer d.image d.extras d.safe d.lasts b.under b.files_under b.sees_under b.safe_under b.still_under b.lasts_under d.sound ⊤ ⊤ (GivesBytes c.args.offset c.args.bytes.now) c.args.driver.now c.args.below.now;
   began = λ e call begun part. begun;
 }
 
@@ -37,15 +41,21 @@ loop-done-preserved g c = let d = g.D.FormatDriverInstance in let b = g.B.ReadBe
           (subst (λ (below : List Layer). IsBetween (GivesBytes (c.args.offset + done) (rest_of done bytes)) below (d.layer y1) (d.layer y2)) same (c.in-Ok.ensures.ran.values tt mid))
           (l.shown i)
           (subst (λ (below : List Layer). (k : ℕ) → k < n → at (d.layer y2 ∷ below) (c.args.offset + done + k) ≡ byte (slice_index (rest_of done bytes) k)) same (c.in-Ok.ensures.shown mid));
-      ran = ran_both d.layer d.image d.extras d.safe b.under b.files_under b.sees_under b.still_under d.sound ⊤ ⊤ (GivesBytes c.args.offset bytes) (GivesBytes (c.args.offset + done) (rest_of done bytes)) (GivesBytes c.args.offset bytes) y0 y1 y2 x0 x1 x2 (λ p v gave. gave) (gives_rest c.args.offset done bytes l.inside) l.ran
-          (ran_weaker d.layer d.image d.extras d.safe b.under b.files_under b.sees_under b.still_under d.sound (true ≡ true) ⊤ ⊤ ⊤ (GivesBytes (c.args.offset + done) (rest_of done bytes)) y1 y2 x1 x2 (λ h. refl) (λ h. h) c.in-Ok.ensures.ran);
+      room = λ i. room_then d.vacant d.has_room d.layer (λ _. ⊤) (λ _. ⊤) c.args.offset (length bytes) (c.args.offset + done) (length (rest_of done bytes)) y0 y1 y2 l.ran.went.fixed (omega arith) (omega (arith, rest_long done bytes l.inside, l.inside)) (λ p there. tt) (l.room i) (c.in-Ok.ensures.room (l.ran.intact tt i) tt);
+      ran = ran_both d.layer d.image d.extras d.safe d.lasts b.under b.files_under b.sees_under b.safe_under b.still_under b.lasts_under d.sound ⊤ ⊤ (GivesBytes c.args.offset bytes) (GivesBytes (c.args.offset + done) (rest_of done bytes)) (GivesBytes c.args.offset bytes) y0 y1 y2 x0 x1 x2 (λ p v gave. gave) (gives_rest c.args.offset done bytes l.inside) l.ran
+          (ran_weaker d.layer d.image d.extras d.safe d.lasts b.under b.files_under b.sees_under b.safe_under b.still_under b.lasts_under d.sound (true ≡ true) ⊤ ⊤ ⊤ (GivesBytes (c.args.offset + done) (rest_of done bytes)) y1 y2 x1 x2 (λ h. refl) (λ h. h) c.in-Ok.ensures.ran);
       began = λ e call begun part. c.in-Ok.ensures.began e call (l.began e call begun part) (part_rest call c.args.offset done bytes l.inside part);
     }
 
 pub returns-in-Err-clause-ran : goal.returns-in-Err-clause-ran
 returns-in-Err-clause-ran g c = let d = g.D.FormatDriverInstance in let b = g.B.ReadBelow in let l = c.loop-done.invariant in let done = c.loop-done.done in let bytes = c.args.bytes.now in
-    ran_both d.layer d.image d.extras d.safe b.under b.files_under b.sees_under b.still_under d.sound (false ≡ true) (IsMild c.in-Err.fault) (GivesBytes c.args.offset bytes) (GivesBytes (c.args.offset + done) (rest_of done bytes)) (GivesBytes c.args.offset bytes) c.args.driver.now c.loop-done.driver c.write_run.new.driver c.args.below.now c.loop-done.below c.write_run.new.below
+    ran_both d.layer d.image d.extras d.safe d.lasts b.under b.files_under b.sees_under b.safe_under b.still_under b.lasts_under d.sound (false ≡ true) (IsMild c.in-Err.fault) (GivesBytes c.args.offset bytes) (GivesBytes (c.args.offset + done) (rest_of done bytes)) (GivesBytes c.args.offset bytes) c.args.driver.now c.loop-done.driver c.write_run.new.driver c.args.below.now c.loop-done.below c.write_run.new.below
     (λ p v gave. gave) (gives_rest c.args.offset done bytes l.inside) l.ran c.in-Err.ensures.ran
+
+pub returns-in-Err-clause-failed : goal.returns-in-Err-clause-failed
+returns-in-Err-clause-failed g c = let d = g.D.FormatDriverInstance in let b = g.B.ReadBelow in let l = c.loop-done.invariant in
+    let y0 = c.args.driver.now in let y1 = c.loop-done.driver in let y2 = c.write_run.new.driver in
+    failed_then (d.image y0 ∷ d.extras y0) (d.image y1 ∷ d.extras y1) (d.image y2 ∷ d.extras y2) (b.files_under c.args.below.now) (b.files_under c.loop-done.below) (b.files_under c.write_run.new.below) c.in-Err.fault l.ran.went.later l.ran.looked.later c.in-Err.ensures.failed
 
 pub returns-in-Err-clause-cause : goal.returns-in-Err-clause-cause
 returns-in-Err-clause-cause g c = λ i e call begun part says. let d = g.D.FormatDriverInstance in let b = g.B.ReadBelow in let l = c.loop-done.invariant in let done = c.loop-done.done in let bytes = c.args.bytes.now in
@@ -59,3 +69,7 @@ returns-in-Err-clause-cause g c = λ i e call begun part says. let d = g.D.Forma
     (d.own_cause e (b.under x0) call) (d.own_cause e (b.under x0) call) c.in-Err.fault (λ h. h)
     (subst (λ (below : List Layer). PartCause below (d.layer y1) (c.args.offset + done) (length (rest_of done bytes)) (d.own_cause e below call) (d.image y1 ∷ d.extras y1 ++ b.files_under x1) (d.image y2 ∷ d.extras y2 ++ b.files_under x2) c.in-Err.fault) same
     (c.in-Err.ensures.cause mid e call (l.began e call begun part) (part_rest call c.args.offset done bytes l.inside part) says))
+
+pub returns-in-Err-clause-room : goal.returns-in-Err-clause-room
+returns-in-Err-clause-room g c = λ i mild. let d = g.D.FormatDriverInstance in let l = c.loop-done.invariant in let done = c.loop-done.done in let bytes = c.args.bytes.now in
+    room_then d.vacant d.has_room d.layer (λ _. ⊤) (λ _. ⊤) c.args.offset (length bytes) (c.args.offset + done) (length (rest_of done bytes)) c.args.driver.now c.loop-done.driver c.write_run.new.driver l.ran.went.fixed (omega arith) (omega (arith, rest_long done bytes l.inside, l.inside)) (λ p there. tt) (l.room i) (c.in-Err.ensures.room (l.ran.intact tt i) mild)

@@ -1,7 +1,7 @@
 use Rattle.std.proofs.Common.{◌≡◌, ◌≤◌, ◌∷◌, length, take, arith, refl, true, false, sym, ◌∙◌, subst}
 use Rattle.std.proofs.lemmas.Grind.{common_steps}
-use Rattle.std.specs.Prelude.{⊤, IsTrue}
-use Rattle.imago_access.specs.Layer.{Fixed}
+use Rattle.std.specs.Prelude.{⊤, Ok, IsTrue}
+use Rattle.imago_access.specs.Layer.{Fixed, loose}
 use Rattle.imago_access.specs.Chain.{at}
 use Rattle.imago_access.specs.Changes.{Prepared, Committed}
 use Rattle.imago_access.specs.Files.{IsMild}
@@ -13,6 +13,9 @@ use Rattle.imago_access.proofs.Holding.{mine_on, spends_more}
 use Rattle.imago_access.proofs.HoldingRuns.{gives_prefix, held_run, prepared_mapped, ran_prepared, ran_wrote, ran_settled, ran_unsettled, ran_given_up, ran_run}
 use Rattle.imago_access.proofs.Running.{ran_both, ran_weaker}
 use Rattle.imago_access.proofs.Units.{layer_aligned}
+use Rattle.imago_access.proofs.StorageCauses.{failed_alone}
+use Rattle.imago_access.specs.Room.{IsApart}
+use Rattle.imago_access.proofs.Room.{takes_both, apart_loose}
 use Rattle.imago_access.proofs.access.writing.write_run.Goals as goal
 
 pub returns-in-Ok-settle-clause-ran : goal.returns-in-Ok-settle-clause-ran
@@ -21,12 +24,12 @@ returns-in-Ok-settle-clause-ran g c = let d = g.D.FormatDriverInstance in let b 
     let bytes = c.args.bytes.now in let most : n ≤ length bytes = rw c.length-n.ensures c.in-Ok.ensures.run.0 in let claim = claim_of d.claim m.state in
     let made : IsTrue (d.layer a0).fixed.keeps → d.safe a0 → b.sees_under x0 → Prepared (at (b.under x0)) (d.layer a0) (d.layer a1) c.args.offset (length bytes) true m.storage place n claim = rw (c.length-n.ensures, c.offset.ensures) c.in-Ok.ensures.ok in
     let keeps_on : IsTrue (d.layer a0).fixed.keeps → IsTrue (d.layer a1).fixed.keeps = subst (λ (f : Fixed). IsTrue f.keeps) (sym c.in-Ok.ensures.went.fixed) in
-    let first = ran_weaker d.layer d.image d.extras d.safe b.under b.files_under b.sees_under b.still_under d.sound (true ≡ true) ⊤ ⊤ ⊤ GivesNone a0 a1 x0 x1 (λ h. refl) (λ h. h) (ran_prepared d.layer d.image d.extras d.safe b.under b.files_under b.sees_under b.still_under d.sound (true ≡ true) ⊤ a0 a1 x0 x1 c.args.offset (length bytes) true m.storage place n claim c.in-Ok.ensures.size c.in-Ok.ensures.went c.in-Ok.ensures.below (λ w. made) c.in-Ok.ensures.stops) in
-    let second = ran_weaker d.layer d.image d.extras d.safe b.under b.files_under b.sees_under b.still_under d.sound (true ≡ true) ⊤ ⊤ ⊤ (GivesBytes c.args.offset (take n bytes)) a1 a2 x1 x1 (λ h. refl) (λ h. h) (ran_wrote d.layer d.image d.extras d.safe b.under b.files_under b.sees_under b.still_under d.sound (true ≡ true) ⊤ a1 a2 x1 c.args.offset place (take n bytes) c.in-Ok-write_mapped.ensures.like c.in-Ok-write_mapped.ensures.went (λ w. c.in-Ok-write_mapped.ensures.mapped) (λ w. c.in-Ok-write_mapped.ensures.ok) c.in-Ok-write_mapped.ensures.stops) in
-    ran_run d.layer d.image d.extras d.safe b.under b.files_under b.sees_under b.still_under d.sound (true ≡ true) ⊤ a0 a1 a2 a3 x0 x1 c.args.offset n bytes most
+    let first = ran_weaker d.layer d.image d.extras d.safe d.lasts b.under b.files_under b.sees_under b.safe_under b.still_under b.lasts_under d.sound (true ≡ true) ⊤ ⊤ ⊤ GivesNone a0 a1 x0 x1 (λ h. refl) (λ h. h) (ran_prepared d.layer d.image d.extras d.safe d.lasts b.under b.files_under b.sees_under b.safe_under b.still_under b.lasts_under d.sound d.claim (Ok m) a0 a1 x0 x1 c.args.offset (length bytes) true (g.met.D.FormatDriverInstance.free_loose a0 c.requires.free) c.in-Ok.ensures.size c.in-Ok.ensures.went c.in-Ok.ensures.below c.in-Ok.ensures.ok c.in-Ok.ensures.err c.in-Ok.ensures.stops) in
+    let second = ran_weaker d.layer d.image d.extras d.safe d.lasts b.under b.files_under b.sees_under b.safe_under b.still_under b.lasts_under d.sound (true ≡ true) ⊤ ⊤ ⊤ (GivesBytes c.args.offset (take n bytes)) a1 a2 x1 x1 (λ h. refl) (λ h. h) (ran_wrote d.layer d.image d.extras d.safe d.lasts b.under b.files_under b.sees_under b.safe_under b.still_under b.lasts_under d.sound (true ≡ true) ⊤ a1 a2 x1 c.args.offset place (take n bytes) c.in-Ok-write_mapped.ensures.like c.in-Ok-write_mapped.ensures.went (λ w. c.in-Ok-write_mapped.ensures.mapped) (λ w. c.in-Ok-write_mapped.ensures.ok) c.in-Ok-write_mapped.ensures.stops) in
+    ran_run d.layer d.image d.extras d.safe d.lasts b.under b.files_under b.sees_under b.safe_under b.still_under b.lasts_under d.sound (true ≡ true) ⊤ a0 a1 a2 a3 x0 x1 c.args.offset n bytes most
     (λ i. held_run (at (b.under x0)) (d.layer a0) (d.layer a1) (d.layer a2) c.args.offset (length bytes) true m.storage place n bytes claim most (made i.keeps i.is_safe i.is_seen) (c.in-Ok-write_mapped.ensures.ok (keeps_on i.keeps) (c.in-Ok.ensures.went.safely (tt, i.is_seen) i.is_safe)))
     first second
-    (ran_settled d.layer d.image d.extras d.safe b.under b.files_under b.sees_under b.still_under d.sound d.claim d.tag m.state (true ≡ true) ⊤ a2 a3 x1 g.met.D.FormatDriverInstance.free_loose c.in-Ok-settle.ensures.size c.in-Ok-settle.ensures.went
+    (ran_settled d.layer d.image d.extras d.safe d.lasts b.under b.files_under b.sees_under b.safe_under b.still_under b.lasts_under d.sound d.claim d.tag m.state (true ≡ true) ⊤ a2 a3 x1 g.met.D.FormatDriverInstance.free_loose c.in-Ok-settle.ensures.size c.in-Ok-settle.ensures.went
     (mine_on d.claim d.tag m.state (d.layer a1) (d.layer a2) c.in-Ok-write_mapped.ensures.like c.in-Ok.ensures.mine) (λ none. c.in-Ok-write_mapped.ensures.like.unspent ∙ c.in-Ok.ensures.stateless none)
     (c.in-Ok-settle.ensures.free (λ none. c.in-Ok-write_mapped.ensures.like.unspent ∙ c.in-Ok.ensures.stateless none))
     (λ w keeps safe. spends_more d.claim d.tag m.state (d.layer a2) (d.layer a3) (IsTrue (d.layer a2).fixed.keeps → d.safe a2 → Committed (d.layer a2) (d.layer a3)) (Committed (d.layer a2) (d.layer a3)) (λ h. h keeps safe) c.in-Ok-settle.ensures.ok)
@@ -38,16 +41,22 @@ returns-in-Err-settle-clause-ran g c = let d = g.D.FormatDriverInstance in let b
     let bytes = c.args.bytes.now in let most : n ≤ length bytes = rw c.length-n.ensures c.in-Ok.ensures.run.0 in let claim = claim_of d.claim m.state in
     let made : IsTrue (d.layer a0).fixed.keeps → d.safe a0 → b.sees_under x0 → Prepared (at (b.under x0)) (d.layer a0) (d.layer a1) c.args.offset (length bytes) true m.storage place n claim = rw (c.length-n.ensures, c.offset.ensures) c.in-Ok.ensures.ok in
     let keeps_on : IsTrue (d.layer a0).fixed.keeps → IsTrue (d.layer a1).fixed.keeps = subst (λ (f : Fixed). IsTrue f.keeps) (sym c.in-Ok.ensures.went.fixed) in
-    let first = ran_weaker d.layer d.image d.extras d.safe b.under b.files_under b.sees_under b.still_under d.sound (true ≡ true) ⊤ ⊤ ⊤ GivesNone a0 a1 x0 x1 (λ h. refl) (λ h. h) (ran_prepared d.layer d.image d.extras d.safe b.under b.files_under b.sees_under b.still_under d.sound (true ≡ true) ⊤ a0 a1 x0 x1 c.args.offset (length bytes) true m.storage place n claim c.in-Ok.ensures.size c.in-Ok.ensures.went c.in-Ok.ensures.below (λ w. made) c.in-Ok.ensures.stops) in
-    let second = ran_weaker d.layer d.image d.extras d.safe b.under b.files_under b.sees_under b.still_under d.sound (true ≡ true) ⊤ ⊤ ⊤ (GivesBytes c.args.offset (take n bytes)) a1 a2 x1 x1 (λ h. refl) (λ h. h) (ran_wrote d.layer d.image d.extras d.safe b.under b.files_under b.sees_under b.still_under d.sound (true ≡ true) ⊤ a1 a2 x1 c.args.offset place (take n bytes) c.in-Ok-write_mapped.ensures.like c.in-Ok-write_mapped.ensures.went (λ w. c.in-Ok-write_mapped.ensures.mapped) (λ w. c.in-Ok-write_mapped.ensures.ok) c.in-Ok-write_mapped.ensures.stops) in
-    ran_run d.layer d.image d.extras d.safe b.under b.files_under b.sees_under b.still_under d.sound (false ≡ true) (IsMild c.in-Err-settle.fault) a0 a1 a2 a3 x0 x1 c.args.offset n bytes most
+    let first = ran_weaker d.layer d.image d.extras d.safe d.lasts b.under b.files_under b.sees_under b.safe_under b.still_under b.lasts_under d.sound (true ≡ true) ⊤ ⊤ ⊤ GivesNone a0 a1 x0 x1 (λ h. refl) (λ h. h) (ran_prepared d.layer d.image d.extras d.safe d.lasts b.under b.files_under b.sees_under b.safe_under b.still_under b.lasts_under d.sound d.claim (Ok m) a0 a1 x0 x1 c.args.offset (length bytes) true (g.met.D.FormatDriverInstance.free_loose a0 c.requires.free) c.in-Ok.ensures.size c.in-Ok.ensures.went c.in-Ok.ensures.below c.in-Ok.ensures.ok c.in-Ok.ensures.err c.in-Ok.ensures.stops) in
+    let second = ran_weaker d.layer d.image d.extras d.safe d.lasts b.under b.files_under b.sees_under b.safe_under b.still_under b.lasts_under d.sound (true ≡ true) ⊤ ⊤ ⊤ (GivesBytes c.args.offset (take n bytes)) a1 a2 x1 x1 (λ h. refl) (λ h. h) (ran_wrote d.layer d.image d.extras d.safe d.lasts b.under b.files_under b.sees_under b.safe_under b.still_under b.lasts_under d.sound (true ≡ true) ⊤ a1 a2 x1 c.args.offset place (take n bytes) c.in-Ok-write_mapped.ensures.like c.in-Ok-write_mapped.ensures.went (λ w. c.in-Ok-write_mapped.ensures.mapped) (λ w. c.in-Ok-write_mapped.ensures.ok) c.in-Ok-write_mapped.ensures.stops) in
+    ran_run d.layer d.image d.extras d.safe d.lasts b.under b.files_under b.sees_under b.safe_under b.still_under b.lasts_under d.sound (false ≡ true) (IsMild c.in-Err-settle.fault) a0 a1 a2 a3 x0 x1 c.args.offset n bytes most
     (λ i. held_run (at (b.under x0)) (d.layer a0) (d.layer a1) (d.layer a2) c.args.offset (length bytes) true m.storage place n bytes claim most (made i.keeps i.is_safe i.is_seen) (c.in-Ok-write_mapped.ensures.ok (keeps_on i.keeps) (c.in-Ok.ensures.went.safely (tt, i.is_seen) i.is_safe)))
     first second
-    (ran_unsettled d.layer d.image d.extras d.safe b.under b.files_under b.sees_under b.still_under d.sound d.claim d.tag m.state (false ≡ true) (IsMild c.in-Err-settle.fault) a2 a3 x1 g.met.D.FormatDriverInstance.free_loose c.in-Err-settle.ensures.size c.in-Err-settle.ensures.went
+    (ran_unsettled d.layer d.image d.extras d.safe d.lasts b.under b.files_under b.sees_under b.safe_under b.still_under b.lasts_under d.sound d.claim d.tag m.state (false ≡ true) (IsMild c.in-Err-settle.fault) a2 a3 x1 g.met.D.FormatDriverInstance.free_loose c.in-Err-settle.ensures.size c.in-Err-settle.ensures.went
     (mine_on d.claim d.tag m.state (d.layer a1) (d.layer a2) c.in-Ok-write_mapped.ensures.like c.in-Ok.ensures.mine)
     (c.in-Err-settle.ensures.free (λ none. c.in-Ok-write_mapped.ensures.like.unspent ∙ c.in-Ok.ensures.stateless none))
     (λ mild safe. c.in-Err-settle.ensures.err safe mild)
     c.in-Err-settle.ensures.stops)
+
+pub returns-in-Err-settle-clause-failed : goal.returns-in-Err-settle-clause-failed
+returns-in-Err-settle-clause-failed g c = let d = g.D.FormatDriverInstance in let b = g.B.ReadBelow in
+    let a0 = c.args.driver.now in let a1 = c.prepare_data_mapping.new.self in let a2 = c.write_mapped.new.self in let a3 = c.settle.new.driver in
+    failed_alone (d.image a0 ∷ d.extras a0) (d.image a2 ∷ d.extras a2) (d.image a3 ∷ d.extras a3) (b.files_under c.args.below.now) (b.files_under c.prepare_data_mapping.new.below) c.in-Err-settle.fault
+    (later_all_both (d.image a0 ∷ d.extras a0) (d.image a1 ∷ d.extras a1) (d.image a2 ∷ d.extras a2) c.in-Ok.ensures.went.later c.in-Ok-write_mapped.ensures.went.later) c.in-Ok.ensures.below.later c.in-Err-settle.ensures.failed
 
 pub returns-in-Err-settle-clause-cause : goal.returns-in-Err-settle-clause-cause
 returns-in-Err-settle-clause-cause g c = λ i e call begun part says. let d = g.D.FormatDriverInstance in let b = g.B.ReadBelow in
@@ -65,12 +74,17 @@ returns-in-Err-write_mapped-clause-ran g c = let d = g.D.FormatDriverInstance in
     let a0 = c.args.driver.now in let a1 = c.prepare_data_mapping.new.self in let a2 = c.write_mapped.new.self in let a3 = c.abandon.new.driver in let x0 = c.args.below.now in let x1 = c.prepare_data_mapping.new.below in
     let bytes = c.args.bytes.now in let most : n ≤ length bytes = rw c.length-n.ensures c.in-Ok.ensures.run.0 in let claim = claim_of d.claim m.state in
     let made : IsTrue (d.layer a0).fixed.keeps → d.safe a0 → b.sees_under x0 → Prepared (at (b.under x0)) (d.layer a0) (d.layer a1) c.args.offset (length bytes) true m.storage place n claim = rw (c.length-n.ensures, c.offset.ensures) c.in-Ok.ensures.ok in
-    let first = ran_weaker d.layer d.image d.extras d.safe b.under b.files_under b.sees_under b.still_under d.sound (true ≡ true) ⊤ ⊤ ⊤ GivesNone a0 a1 x0 x1 (λ h. refl) (λ h. h) (ran_prepared d.layer d.image d.extras d.safe b.under b.files_under b.sees_under b.still_under d.sound (true ≡ true) ⊤ a0 a1 x0 x1 c.args.offset (length bytes) true m.storage place n claim c.in-Ok.ensures.size c.in-Ok.ensures.went c.in-Ok.ensures.below (λ w. made) c.in-Ok.ensures.stops) in
+    let first = ran_weaker d.layer d.image d.extras d.safe d.lasts b.under b.files_under b.sees_under b.safe_under b.still_under b.lasts_under d.sound (true ≡ true) ⊤ ⊤ ⊤ GivesNone a0 a1 x0 x1 (λ h. refl) (λ h. h) (ran_prepared d.layer d.image d.extras d.safe d.lasts b.under b.files_under b.sees_under b.safe_under b.still_under b.lasts_under d.sound d.claim (Ok m) a0 a1 x0 x1 c.args.offset (length bytes) true (g.met.D.FormatDriverInstance.free_loose a0 c.requires.free) c.in-Ok.ensures.size c.in-Ok.ensures.went c.in-Ok.ensures.below c.in-Ok.ensures.ok c.in-Ok.ensures.err c.in-Ok.ensures.stops) in
     let like = c.in-Err-write_mapped.ensures.like in
     let mine = mine_on d.claim d.tag m.state (d.layer a1) (d.layer a2) like c.in-Ok.ensures.mine in
-    ran_both d.layer d.image d.extras d.safe b.under b.files_under b.sees_under b.still_under d.sound (false ≡ true) (IsMild c.in-Err-write_mapped.fault) GivesNone (GivesBytes c.args.offset (take n bytes)) (GivesBytes c.args.offset bytes) a0 a1 a3 x0 x1 x1 (λ p v none. absurd none) (gives_prefix c.args.offset n bytes most) first
-    (ran_given_up d.layer d.image d.extras d.safe b.under b.files_under b.sees_under b.still_under d.sound d.claim d.tag m.state (false ≡ true) (IsMild c.in-Err-write_mapped.fault) (GivesBytes c.args.offset (take n bytes)) a1 a2 a3 x1 g.met.D.FormatDriverInstance.free_loose like c.in-Err-write_mapped.ensures.went mine (λ none. like.unspent ∙ c.in-Ok.ensures.stateless none)
-    (λ mild keeps safe. c.in-Err-write_mapped.ensures.err keeps safe mild) c.abandon.ensures.ok c.abandon.ensures.safe c.abandon.ensures.none.0 c.abandon.ensures.none.1 c.in-Err-write_mapped.ensures.stops)
+    ran_both d.layer d.image d.extras d.safe d.lasts b.under b.files_under b.sees_under b.safe_under b.still_under b.lasts_under d.sound (false ≡ true) (IsMild c.in-Err-write_mapped.fault) GivesNone (GivesBytes c.args.offset (take n bytes)) (GivesBytes c.args.offset bytes) a0 a1 a3 x0 x1 x1 (λ p v none. absurd none) (gives_prefix c.args.offset n bytes most) first
+    (ran_given_up d.layer d.image d.extras d.safe d.lasts b.under b.files_under b.sees_under b.safe_under b.still_under b.lasts_under d.sound d.claim d.tag m.state (false ≡ true) (IsMild c.in-Err-write_mapped.fault) (GivesBytes c.args.offset (take n bytes)) a1 a2 a3 x1 g.met.D.FormatDriverInstance.free_loose like c.in-Err-write_mapped.ensures.went mine (λ none. like.unspent ∙ c.in-Ok.ensures.stateless none)
+    (λ mild keeps safe. c.in-Err-write_mapped.ensures.err keeps safe mild) c.abandon.ensures.ok c.abandon.ensures.safe c.abandon.ensures.lasts c.abandon.ensures.none.0 c.abandon.ensures.none.1 c.in-Err-write_mapped.ensures.stops)
+
+pub returns-in-Err-write_mapped-clause-failed : goal.returns-in-Err-write_mapped-clause-failed
+returns-in-Err-write_mapped-clause-failed g c = let d = g.D.FormatDriverInstance in let b = g.B.ReadBelow in
+    let a0 = c.args.driver.now in let a1 = c.prepare_data_mapping.new.self in let a2 = c.write_mapped.new.self in
+    rw (c.abandon.ensures.none.0, c.abandon.ensures.none.1) (failed_alone (d.image a0 ∷ d.extras a0) (d.image a1 ∷ d.extras a1) (d.image a2 ∷ d.extras a2) (b.files_under c.args.below.now) (b.files_under c.prepare_data_mapping.new.below) c.in-Err-write_mapped.fault c.in-Ok.ensures.went.later c.in-Ok.ensures.below.later c.in-Err-write_mapped.ensures.failed)
 
 pub returns-in-Err-write_mapped-clause-cause : goal.returns-in-Err-write_mapped-clause-cause
 returns-in-Err-write_mapped-clause-cause g c = λ i e call begun part says. let d = g.D.FormatDriverInstance in let b = g.B.ReadBelow in let m = c.in-Ok.mapping in let n = c.length-n.result in let place = c.offset.result in
@@ -86,3 +100,33 @@ returns-in-Err-write_mapped-clause-cause g c = λ i e call begun part says. let 
     c.in-Ok.ensures.went.fixed c.in-Ok.ensures.size (g.met.D.FormatDriverInstance.safe_runs a0 i.is_safe) (g.met.D.FormatDriverInstance.safe_runs a1 safe)
     (layer_aligned d.layer g.met.D.FormatDriverInstance.aligned a0).positive (omega arith) (omega (arith, long, most)) c.in-Ok.ensures.went.later c.in-Ok.ensures.below.later
     (d.own_cause e (b.under x0) call) (λ _. ⊥) c.in-Err-write_mapped.fault (λ none. absurd none) met)
+
+pub returns-in-Ok-settle-clause-room : goal.returns-in-Ok-settle-clause-room
+returns-in-Ok-settle-clause-room g c = λ i mild. let d = g.D.FormatDriverInstance in let b = g.B.ReadBelow in
+    let a0 = c.args.driver.now in let a1 = c.prepare_data_mapping.new.self in let a2 = c.write_mapped.new.self in let a3 = c.settle.new.driver in let bytes = c.args.bytes.now in let n = c.length-n.result in
+    let most : n ≤ length bytes = rw c.length-n.ensures c.in-Ok.ensures.run.0 in
+    let keeps1 : IsTrue (d.layer a1).fixed.keeps = subst (λ (f : Fixed). IsTrue f.keeps) (sym c.in-Ok.ensures.went.fixed) i.keeps in
+    let safe1 : d.safe a1 = c.in-Ok.ensures.went.safely (tt, i.is_seen) i.is_safe in
+    let first = c.in-Ok.ensures.room i.keeps i.is_safe i.is_seen tt in
+    let like = c.in-Ok-write_mapped.ensures.like in
+    let keeps2 : IsTrue (d.layer a2).fixed.keeps = subst (λ (f : Fixed). IsTrue f.keeps) (sym like.fixed) keeps1 in
+    let safe2 : d.safe a2 = c.in-Ok-write_mapped.ensures.went.safely tt safe1 in
+    takes_both d.vacant d.has_room (λ _. ⊤) (λ p. (d.layer a2).held p ≡ loose) (IsApart (d.layer a0).fixed.unit c.args.offset (length bytes)) a0 a2 a3
+    (λ p apart. (tt, apart_loose (d.layer a0).fixed.unit c.args.offset n bytes (d.layer a1) (d.layer a2) most (c.in-Ok.ensures.near i.keeps i.is_safe i.is_seen) (c.in-Ok-write_mapped.ensures.ok keeps1 safe1) p apart))
+    (takes_both d.vacant d.has_room (λ _. ⊤) (λ _. ⊤) (λ _. ⊤) a0 a1 a2 (λ p there. (tt, tt)) first (c.in-Ok-write_mapped.ensures.room keeps1 safe1 tt))
+    (c.in-Ok-settle.ensures.room keeps2 safe2 tt)
+
+pub returns-in-Err-settle-clause-room : goal.returns-in-Err-settle-clause-room
+returns-in-Err-settle-clause-room g c = λ i mild. let d = g.D.FormatDriverInstance in let b = g.B.ReadBelow in
+    let a0 = c.args.driver.now in let a1 = c.prepare_data_mapping.new.self in let a2 = c.write_mapped.new.self in let a3 = c.settle.new.driver in let bytes = c.args.bytes.now in let n = c.length-n.result in
+    let most : n ≤ length bytes = rw c.length-n.ensures c.in-Ok.ensures.run.0 in
+    let keeps1 : IsTrue (d.layer a1).fixed.keeps = subst (λ (f : Fixed). IsTrue f.keeps) (sym c.in-Ok.ensures.went.fixed) i.keeps in
+    let safe1 : d.safe a1 = c.in-Ok.ensures.went.safely (tt, i.is_seen) i.is_safe in
+    let first = c.in-Ok.ensures.room i.keeps i.is_safe i.is_seen tt in
+    let like = c.in-Ok-write_mapped.ensures.like in
+    let keeps2 : IsTrue (d.layer a2).fixed.keeps = subst (λ (f : Fixed). IsTrue f.keeps) (sym like.fixed) keeps1 in
+    let safe2 : d.safe a2 = c.in-Ok-write_mapped.ensures.went.safely tt safe1 in
+    takes_both d.vacant d.has_room (λ _. ⊤) (λ p. (d.layer a2).held p ≡ loose) (IsApart (d.layer a0).fixed.unit c.args.offset (length bytes)) a0 a2 a3
+    (λ p apart. (tt, apart_loose (d.layer a0).fixed.unit c.args.offset n bytes (d.layer a1) (d.layer a2) most (c.in-Ok.ensures.near i.keeps i.is_safe i.is_seen) (c.in-Ok-write_mapped.ensures.ok keeps1 safe1) p apart))
+    (takes_both d.vacant d.has_room (λ _. ⊤) (λ _. ⊤) (λ _. ⊤) a0 a1 a2 (λ p there. (tt, tt)) first (c.in-Ok-write_mapped.ensures.room keeps1 safe1 tt))
+    (c.in-Err-settle.ensures.room keeps2 safe2 mild)

@@ -1,14 +1,19 @@
-use Rattle.std.proofs.Common.{refl, inl, inr, ◌≡◌, ◌-◌, ◌+◌, ◌∷◌, ◌++◌, List, arith, false, true, subst}
+use Rattle.std.proofs.Common.{refl, inl, inr, ℕ, ◌≡◌, ◌⊎◌, ◌<◌, ◌-◌, ◌+◌, ◌∷◌, ◌++◌, List, arith, false, true, sym, subst}
 use Rattle.std.specs.Prelude.{⊤}
 use Rattle.std.proofs.lemmas.Bool.{cases_lt}
 use Rattle.imago_storage.specs.Disk.{byte}
 use Rattle.imago_access.specs.Chain.{at}
 use Rattle.imago_access.specs.Files.{IsMild}
-use Rattle.imago_access.specs.Layer.{Layer}
+use Rattle.imago_storage.specs.Steps.{IsOut}
+use Rattle.imago_access.specs.Layer.{Layer, Fixed}
+use Rattle.imago_access.specs.Room.{IsApart, IsGivenUpTo, IsUndeclined}
+use Rattle.imago_access.specs.declared.access.zeroing.Zeroing.TheVariants as zeroing_is
+use Rattle.imago_access.proofs.Room.{room_same, room_then, out_wider, given_none, given_both, ended_apart}
 use Rattle.imago_access.specs.Running.{IsBetween}
 use Rattle.imago_access.specs.Stops.{GivesZero}
 use Rattle.imago_access.proofs.Running.{ran_same, ran_both, ran_weaker}
 use Rattle.imago_access.proofs.Zeroing.{zero_wider, zero_stays, cause_behind}
+use Rattle.imago_access.proofs.StorageCauses.{failed_then}
 use Rattle.imago_access.proofs.access.zeroing.zero_all.Goals as goal
 
 pub loop-at-init : goal.loop-at-init
@@ -17,7 +22,9 @@ loop-at-init g c = let d = g.D.FormatDriverInstance in let b = g.B.ReadBelow in 
   inside = omega arith;
   free = c.requires.free;
   shown = λ i p from to. absurd (omega (arith, from, to));
-  ran = ran_same d.layer d.image d.extras d.safe b.under b.files_under b.sees_under b.still_under d.sound ⊤ ⊤ (GivesZero c.args.offset c.args.n) c.args.driver.now c.args.below.now;
+  room = λ i. room_same d.vacant d.has_room (λ p. (c.args.zeroing ≡ zeroing_is.Keep) ⊎ IsOut c.args.offset c.args.n p) (IsApart (d.layer c.args.driver.now).fixed.unit c.args.offset c.args.n) c.args.driver.now;
+  given = λ is i e call begun part none. given_none (d.vacant c.args.driver.now) (d.layer c.args.driver.now).fixed.unit (d.layer c.args.driver.now).size c.args.offset c.args.n;
+  ran = ran_same d.layer d.image d.extras d.safe d.lasts b.under b.files_under b.sees_under b.safe_under b.still_under b.lasts_under d.sound ⊤ ⊤ (GivesZero c.args.offset c.args.n) c.args.driver.now c.args.below.now;
   began = λ e call begun part. begun;
 }
 
@@ -38,7 +45,20 @@ loop-at-preserved g c = let d = g.D.FormatDriverInstance in let b = g.B.ReadBelo
             | inl low ↦ zero_stays (b.under x0) (d.layer y1) (d.layer y2) at_now rest done.ran.size (subst (λ (below : List Layer). IsBetween (GivesZero at_now rest) below (d.layer y1) (d.layer y2)) same (done.ran.values tt mid)) p (l.shown i p from low)
             | inr high ↦ subst (λ (below : List Layer). at (d.layer y2 ∷ below) p ≡ byte 0) same (done.shown mid p high to)
           ];
-      ran = ran_both d.layer d.image d.extras d.safe b.under b.files_under b.sees_under b.still_under d.sound ⊤ ⊤ (GivesZero c.args.offset c.args.n) (GivesZero at_now rest) (GivesZero c.args.offset c.args.n) y0 y1 y2 x0 x1 x2 (λ p v gave. gave) gives l.ran (ran_weaker d.layer d.image d.extras d.safe b.under b.files_under b.sees_under b.still_under d.sound (true ≡ true) ⊤ ⊤ ⊤ (GivesZero at_now rest) y1 y2 x1 x2 (λ h. refl) (λ h. h) done.ran);
+      room = λ i. room_then d.vacant d.has_room d.layer (λ p. (c.args.zeroing ≡ zeroing_is.Keep) ⊎ IsOut c.args.offset c.args.n p) (λ p. (c.args.zeroing ≡ zeroing_is.Keep) ⊎ IsOut at_now rest p) c.args.offset c.args.n at_now rest y0 y1 y2 l.ran.went.fixed l.from (omega (arith, l.inside)) (λ p there. elim there [ inl keep ↦ inl keep | inr out ↦ inr (out_wider c.args.offset c.args.n at_now rest p l.from (omega (arith, l.inside)) out) ]) (l.room i) (c.in-Ok.ensures.room (l.ran.intact tt i) tt);
+      given = λ is i e call begun part none.
+          let mid = l.ran.intact tt i in
+          let same : b.under x1 ≡ b.under x0 = (l.ran.looked.stays tt i.is_seen).0 in
+          let unit = (d.layer y0).fixed.unit in let size = (d.layer y0).size in
+          let still : IsUndeclined (d.own_cause e (b.under x1) call) = subst (λ (below : List Layer). IsUndeclined (d.own_cause e below call)) (sym same) none in
+          let more = done.given is mid e call (l.began e call begun part) (record { start = omega (arith, part.start, l.from); end = omega (arith, part.end, l.inside) }) still in
+          let given : IsGivenUpTo (d.vacant y2) unit size at_now rest c.in-Ok.next = subst (λ (f : Fixed). IsGivenUpTo (d.vacant y2) f.unit size at_now rest c.in-Ok.next) l.ran.went.fixed (subst (λ (z : ℕ). IsGivenUpTo (d.vacant y2) (d.layer y1).fixed.unit z at_now rest c.in-Ok.next) l.ran.size more) in
+          let on_disk : at_now < size = omega (arith, c.loop-at-test.true, c.requires.inside) in
+          let left = done.room mid tt in
+          given_both (d.vacant y2) unit size c.args.offset c.args.n (d.vacant y1) at_now c.in-Ok.next (omega (arith, done.run.0))
+          (λ p u of ended was. left.free p (subst (λ (f : Fixed). IsApart f.unit at_now rest p) (sym l.ran.went.fixed) (ended_apart unit size at_now rest u p on_disk ended of)) was)
+          (l.given is i e call begun part none) given;
+      ran = ran_both d.layer d.image d.extras d.safe d.lasts b.under b.files_under b.sees_under b.safe_under b.still_under b.lasts_under d.sound ⊤ ⊤ (GivesZero c.args.offset c.args.n) (GivesZero at_now rest) (GivesZero c.args.offset c.args.n) y0 y1 y2 x0 x1 x2 (λ p v gave. gave) gives l.ran (ran_weaker d.layer d.image d.extras d.safe d.lasts b.under b.files_under b.sees_under b.safe_under b.still_under b.lasts_under d.sound (true ≡ true) ⊤ ⊤ ⊤ (GivesZero at_now rest) y1 y2 x1 x2 (λ h. refl) (λ h. h) done.ran);
       began = λ e call begun part. done.began e call (l.began e call begun part) (record { start = omega (arith, part.start, l.from); end = omega (arith, part.end, l.inside) });
     }
 
@@ -47,13 +67,23 @@ returns-in-Err-clause-ran g c = let d = g.D.FormatDriverInstance in let b = g.B.
     let y0 = c.args.driver.now in let y1 = c.loop-at.driver in let y2 = c.zero_run.new.driver in let x0 = c.args.below.now in let x1 = c.loop-at.below in let x2 = c.zero_run.new.below in
     let at_now = c.loop-at.at in let rest = c.args.offset + c.args.n - at_now in
     let gives = zero_wider c.args.offset c.args.n at_now rest l.from (omega (arith, l.inside)) in
-    ran_both d.layer d.image d.extras d.safe b.under b.files_under b.sees_under b.still_under d.sound (false ≡ true) (IsMild c.in-Err.fault) (GivesZero c.args.offset c.args.n) (GivesZero at_now rest) (GivesZero c.args.offset c.args.n) y0 y1 y2 x0 x1 x2 (λ p v gave. gave) gives l.ran c.in-Err.ensures.ran
+    ran_both d.layer d.image d.extras d.safe d.lasts b.under b.files_under b.sees_under b.safe_under b.still_under b.lasts_under d.sound (false ≡ true) (IsMild c.in-Err.fault) (GivesZero c.args.offset c.args.n) (GivesZero at_now rest) (GivesZero c.args.offset c.args.n) y0 y1 y2 x0 x1 x2 (λ p v gave. gave) gives l.ran c.in-Err.ensures.ran
+
+pub returns-in-Err-clause-failed : goal.returns-in-Err-clause-failed
+returns-in-Err-clause-failed g c = let d = g.D.FormatDriverInstance in let b = g.B.ReadBelow in let l = c.loop-at.invariant in
+    let y0 = c.args.driver.now in let y1 = c.loop-at.driver in let y2 = c.zero_run.new.driver in
+    failed_then (d.image y0 ∷ d.extras y0) (d.image y1 ∷ d.extras y1) (d.image y2 ∷ d.extras y2) (b.files_under c.args.below.now) (b.files_under c.loop-at.below) (b.files_under c.zero_run.new.below) c.in-Err.fault l.ran.went.later l.ran.looked.later c.in-Err.ensures.failed
 
 pub returns-in-Err-clause-cause : goal.returns-in-Err-clause-cause
 returns-in-Err-clause-cause g c = λ i e call begun part says. let d = g.D.FormatDriverInstance in let b = g.B.ReadBelow in let l = c.loop-at.invariant in
     let y0 = c.args.driver.now in let y1 = c.loop-at.driver in let y2 = c.zero_run.new.driver in let x0 = c.args.below.now in let x1 = c.loop-at.below in let x2 = c.zero_run.new.below in
     let at_now = c.loop-at.at in let rest = c.args.offset + c.args.n - at_now in
     let gives = zero_wider c.args.offset c.args.n at_now rest l.from (omega (arith, l.inside)) in
-    cause_behind d.layer d.image d.extras d.safe b.under b.files_under b.sees_under b.still_under d.sound g.met.D.FormatDriverInstance.safe_runs g.met.D.FormatDriverInstance.aligned (GivesZero c.args.offset c.args.n) c.args.offset c.args.n at_now rest y0 y1 x0 x1 (d.image y2 ∷ d.extras y2 ++ b.files_under x2)
+    cause_behind d.layer d.image d.extras d.safe d.lasts b.under b.files_under b.sees_under b.safe_under b.still_under b.lasts_under d.sound g.met.D.FormatDriverInstance.safe_runs g.met.D.FormatDriverInstance.aligned (GivesZero c.args.offset c.args.n) c.args.offset c.args.n at_now rest y0 y1 x0 x1 (d.image y2 ∷ d.extras y2 ++ b.files_under x2)
     (λ (below : List Layer). d.own_cause e below call) c.in-Err.fault l.from (omega (arith, l.inside)) l.ran i
     (c.in-Err.ensures.cause (l.ran.intact tt i) e call (l.began e call begun part) (record { start = omega (arith, part.start, l.from); end = omega (arith, part.end, l.inside) }) says)
+
+pub returns-in-Err-clause-room : goal.returns-in-Err-clause-room
+returns-in-Err-clause-room g c = λ i mild. let d = g.D.FormatDriverInstance in let l = c.loop-at.invariant in
+    let y0 = c.args.driver.now in let y1 = c.loop-at.driver in let y2 = c.zero_run.new.driver in let at_now = c.loop-at.at in let rest = c.args.offset + c.args.n - at_now in
+    room_then d.vacant d.has_room d.layer (λ p. (c.args.zeroing ≡ zeroing_is.Keep) ⊎ IsOut c.args.offset c.args.n p) (λ p. (c.args.zeroing ≡ zeroing_is.Keep) ⊎ IsOut at_now rest p) c.args.offset c.args.n at_now rest y0 y1 y2 l.ran.went.fixed l.from (omega (arith, l.inside)) (λ p there. elim there [ inl keep ↦ inl keep | inr out ↦ inr (out_wider c.args.offset c.args.n at_now rest p l.from (omega (arith, l.inside)) out) ]) (l.room i) (c.in-Err.ensures.room (l.ran.intact tt i) mild)

@@ -13,6 +13,6 @@ returns-in-Ok-make-clause-ok g c =
       c.in-Ok-make.builder,
       c.in-Ok.ensures.ok,
       c.in-Ok-make.ensures,
-      (opened.0 ∙ w.image, opened.1 ∙ (λ i. raw_layer (state (w.image i)) (length (state (w.image i)).bytes) (w.writable i)), opened.2),
+      (opened.0 ∙ w.image, opened.1 ∙ (λ i. raw_layer (state (w.image i)) (length (state (w.image i)).bytes) (w.writable i)), opened.2, opened.3),
     ))
     c.open.ensures.ok

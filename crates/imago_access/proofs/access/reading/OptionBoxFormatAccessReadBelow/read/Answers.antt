@@ -8,5 +8,5 @@ use Rattle.imago_access.proofs.access.reading.OptionBoxFormatAccessReadBelow.rea
 
 pub returns-in-Some-clause-looked : goal.returns-in-Some-clause-looked
 returns-in-Some-clause-looked g c = let d = g.D.FormatDriverInstance in
-    let looked = subst (λ v. Pairs (Looked d.layer d.image d.extras d.sees d.safe d.still d.sound (IsOk c.read.result) (IsWhole c.read.result)) (chain v) (chain c.read.new.self)) c.deref_mut.ensures.value c.read.ensures.looked in
-    rw c.in-Some.is (looked_under layers d.layer d.image d.extras d.sees d.safe d.still d.sound (IsOk c.read.result) (IsWhole c.read.result) (Some c.in-Some.layer) (Some (with_value c.in-Some.layer c.read.new.self)) looked)
+    let looked = subst (λ v. Pairs (Looked d.layer d.image d.extras d.sees d.safe d.still d.lasts d.sound (IsOk c.read.result) (IsWhole c.read.result)) (chain v) (chain c.read.new.self)) c.deref_mut.ensures.value c.read.ensures.looked in
+    rw c.in-Some.is (looked_under layers d.layer d.image d.extras d.sees d.safe d.still d.lasts d.sound (IsOk c.read.result) (IsWhole c.read.result) (Some c.in-Some.layer) (Some (with_value c.in-Some.layer c.read.new.self)) looked)

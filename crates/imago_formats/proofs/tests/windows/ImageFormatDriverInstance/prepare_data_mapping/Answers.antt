@@ -15,10 +15,10 @@ returns-in-Raw-clause-cause g c = rw (c.in-Raw.is) (λ safe sees d call began pa
     cause_of_kind c.prepare_data_mapping.result (g.B.ReadBelow.under c.args.below.now) (raw_layer (state r.storage) r.size r.writable) c.args.offset c.args.length call (state r.storage ∷ g.B.ReadBelow.files_under c.args.below.now) (state c.prepare_data_mapping.new.self.storage ∷ g.B.ReadBelow.files_under c.prepare_data_mapping.new._below) false _ began (c.prepare_data_mapping.ensures.cause safe sees c.in-Raw.raw call tt part same))
 
 pub returns-in-Ok-clause-below : goal.returns-in-Ok-clause-below
-returns-in-Ok-clause-below g c = looked_under_same g.B.ReadBelow.under g.B.ReadBelow.files_under g.B.ReadBelow.sees_under g.B.ReadBelow.still_under (true ≡ true) ⊤ c.args.below.now
+returns-in-Ok-clause-below g c = looked_under_same g.B.ReadBelow.under g.B.ReadBelow.files_under g.B.ReadBelow.sees_under g.B.ReadBelow.safe_under g.B.ReadBelow.still_under g.B.ReadBelow.lasts_under (true ≡ true) ⊤ c.args.below.now
 
 pub returns-in-Err-clause-below : goal.returns-in-Err-clause-below
-returns-in-Err-clause-below g c = looked_under_same g.B.ReadBelow.under g.B.ReadBelow.files_under g.B.ReadBelow.sees_under g.B.ReadBelow.still_under (false ≡ true) (IsMild c.in-Err.fault) c.args.below.now
+returns-in-Err-clause-below g c = looked_under_same g.B.ReadBelow.under g.B.ReadBelow.files_under g.B.ReadBelow.sees_under g.B.ReadBelow.safe_under g.B.ReadBelow.still_under g.B.ReadBelow.lasts_under (false ≡ true) (IsMild c.in-Err.fault) c.args.below.now
 
 pub returns-in-Err-clause-cause : goal.returns-in-Err-clause-cause
 returns-in-Err-clause-cause g c = rw (c.in-Window.is) (λ safe sees d call began part same.

@@ -1,0 +1,113 @@
+-- Room that calls take and give up, one behind the other.
+use Rattle.std.proofs.Common.{◌≡◌, ◌∙◌, inl, inr, ℕ, ◌+◌, ◌-◌, ◌*◌, ◌<◌, ◌≤◌, min, List, length, take, arith, sym, subst}
+use Rattle.std.specs.Prelude.{⊤}
+use Rattle.std.proofs.lemmas.Grind.{common_steps}
+use Rattle.std.proofs.lemmas.Bool.{cases_lt}
+use Rattle.imago_storage.specs.Steps.{IsIn, IsOut}
+use Rattle.imago_access.specs.Layer.{Layer, Fixed, loose}
+use Rattle.imago_access.specs.Changes.{Wrote}
+use Rattle.imago_access.specs.Room.{IsWholeUnit, IsOfUnit, IsApart, Reaches, IsGivenUp, IsGivenUpTo, LeavesRoom, Takes, GivesUp}
+
+-- a range lies in another
+pub apart_wider : (unit offset n start m p : ℕ) → offset ≤ start → start + m ≤ offset + n → IsApart unit offset n p → IsApart unit start m p
+apart_wider unit offset n start m p from to apart = (apart.0, apart.1, apart.2, elim apart.3 [ inl before ↦ inl (omega (arith, before, from)) | inr behind ↦ inr (omega (arith, behind, to)) ])
+
+pub apart_out : (unit offset n p : ℕ) → IsApart unit offset n p → IsOut offset n p
+apart_out unit offset n p apart = elim apart.3 [ inl before ↦ inl (omega (arith, before, apart.2)) | inr behind ↦ inr (omega (arith, behind, apart.1)) ]
+
+pub out_wider : (offset n start m p : ℕ) → offset ≤ start → start + m ≤ offset + n → IsOut offset n p → IsOut start m p
+out_wider offset n start m p from to out = elim out [ inl before ↦ inl (omega (arith, before, from)) | inr behind ↦ inr (omega (arith, behind, to)) ]
+
+-- a whole unit of a range that begins in the rest of it lies whole there
+pub whole_rest : (unit size offset n at u : ℕ) → IsWholeUnit unit size offset n u → at ≤ u * unit → IsWholeUnit unit size at (offset + n - at) u
+whole_rest unit size offset n at u whole from = record { start = from; on_disk = whole.on_disk; end = omega (arith, whole.end) }
+
+-- of a whole unit no place lies behind the range
+pub none_behind : (unit size offset n at u p : ℕ) → IsWholeUnit unit size offset n u → offset + n ≤ at → at ≤ u * unit → IsOfUnit unit size u p → ⊥
+none_behind unit size offset n at u p whole over from of = omega (arith, whole.end, over, from, of.start, of.end, of.on_disk)
+
+module _ (vacant : ℕ → Type 0) (unit size offset n : ℕ) where
+  pub given_none : IsGivenUpTo vacant unit size offset n offset
+  given_none u whole = inl whole.start
+
+  -- the first part
+  pub given_part : (start done : ℕ) → Reaches unit size offset n start done → ((p : ℕ) → IsIn start done p → vacant p) → IsGivenUpTo vacant unit size offset n (start + done)
+  given_part start done reach gave u whole = elim (cases_lt (u * unit) (start + done)) [
+    | inl lt ↦
+        let cut = reach.none_cut u whole lt in
+        inr (cut, λ p of. gave p (omega (arith, reach.none_before u whole, of.start), omega (arith, of.end, of.on_disk, cut)))
+    | inr ge ↦ inl ge
+  ]
+
+  -- a part that is empty: there is no whole unit
+  pub given_empty : (start at : ℕ) → Reaches unit size offset n start 0 → IsGivenUpTo vacant unit size offset n at
+  given_empty start at reach u whole = absurd (omega (arith, reach.some u whole))
+
+  -- all of the range
+  pub given_all : (at : ℕ) → offset + n ≤ at → IsGivenUpTo vacant unit size offset n at → IsGivenUp vacant unit size offset n
+  given_all at over given u whole p of = elim (given u whole) [
+    | inl from ↦ absurd (none_behind unit size offset n at u p whole over from of)
+    | inr done ↦ done.1 p of
+  ]
+
+  -- a part behind others, which takes nothing where they have given up
+  pub given_both : (before : ℕ → Type 0) (at next : ℕ) → at ≤ next
+      → ((p u : ℕ) → IsOfUnit unit size u p → min (u * unit + unit) size ≤ at → before p → vacant p)
+      → IsGivenUpTo before unit size offset n at → IsGivenUpTo vacant unit size at (offset + n - at) next → IsGivenUpTo vacant unit size offset n next
+  given_both before at next further stays first second u whole = elim (first u whole) [
+    | inl from ↦ second u (whole_rest unit size offset n at u whole from)
+    | inr done ↦ inr (omega (arith, done.0, further), λ p of. stays p u of done.0 (done.1 p of))
+  ]
+
+-- units that were given up stay so
+pub given_on : (before vacant : ℕ → Type 0) (unit size offset n at : ℕ) → ((u p : ℕ) → IsWholeUnit unit size offset n u → IsOfUnit unit size u p → before p → vacant p) → IsGivenUpTo before unit size offset n at → IsGivenUpTo vacant unit size offset n at
+given_on before vacant unit size offset n at stays given u whole = elim (given u whole) [
+  | inl rest ↦ inl rest
+  | inr done ↦ inr (done.0, λ p of. stays u p whole of (done.1 p of))
+]
+
+-- a unit that ends in a range's disk before it is apart from it
+pub ended_apart : (unit size at m u p : ℕ) → at < size → min (u * unit + unit) size ≤ at → IsOfUnit unit size u p → IsApart unit at m p
+ended_apart unit size at m u p inside ended of = (u, of.start, of.end, inl (omega (arith, inside, ended)))
+
+-- one that begins behind a range is apart from it
+pub begun_apart : (unit size offset start u p : ℕ) → offset ≤ start → start ≤ u * unit → IsOfUnit unit size u p → IsApart unit offset (start - offset) p
+begun_apart unit size offset start u p from behind of = (u, of.start, of.end, inr (omega (arith, from, behind)))
+
+-- all of the range, where the rest of it has no whole unit
+pub given_rest : (vacant : ℕ → Type 0) (unit size offset n : ℕ) (before : ℕ → Type 0) (at start : ℕ) → ((p : ℕ) → before p → vacant p) → IsGivenUpTo before unit size offset n at → Reaches unit size at (offset + n - at) start 0 → IsGivenUp vacant unit size offset n
+given_rest vacant unit size offset n before at start stays first reach =
+    let past = at + (offset + n) in
+    given_all vacant unit size offset n past (omega arith) (given_both vacant unit size offset n before at past (omega arith) (λ p u of low is. stays p is) first (given_empty vacant unit size at (offset + n - at) start past reach))
+
+module _ {D : Type 0} (vacant has_room : D → ℕ → Type 0) where
+  pub room_same : (left spared : ℕ → Type 0) (d : D) → LeavesRoom vacant has_room left spared d d
+  room_same left spared d = record { kept = λ p there has. has; free = λ p there is. is }
+
+  pub room_both : (left left' left'' spared spared' spared'' : ℕ → Type 0) (a b c : D) → ((p : ℕ) → left'' p → left p × left' p) → ((p : ℕ) → spared'' p → spared p × spared' p)
+      → LeavesRoom vacant has_room left spared a b → LeavesRoom vacant has_room left' spared' b c → LeavesRoom vacant has_room left'' spared'' a c
+  room_both left left' left'' spared spared' spared'' a b c from to first second = record {
+    kept = λ p there has. second.kept p (from p there).1 (first.kept p (from p there).0 has);
+    free = λ p there is. second.free p (to p there).1 (first.free p (to p there).0 is);
+  }
+
+  -- calls that give nothing up, one behind the other
+  pub takes_both : (spared spared' spared'' : ℕ → Type 0) (a b c : D) → ((p : ℕ) → spared'' p → spared p × spared' p) → Takes vacant has_room spared a b → Takes vacant has_room spared' b c → Takes vacant has_room spared'' a c
+  takes_both spared spared' spared'' a b c = room_both (λ _. ⊤) (λ _. ⊤) (λ _. ⊤) spared spared' spared'' a b c (λ p there. (tt, tt))
+
+  -- a discard of the rest of a range behind one
+  pub gives_up_both : (offset n start m : ℕ) (a b c : D) → offset ≤ start → start + m ≤ offset + n → GivesUp vacant has_room offset n a b → GivesUp vacant has_room start m b c → GivesUp vacant has_room offset n a c
+  gives_up_both offset n start m a b c from to = room_both (IsOut offset n) (IsOut start m) (IsOut offset n) (λ _. ⊤) (λ _. ⊤) (λ _. ⊤) a b c (λ p out. (out, out_wider offset n start m p from to out)) (λ p there. (tt, tt))
+
+-- A call on a part of a range, behind calls on parts of it.
+pub room_then : {D : Type 0} (vacant has_room : D → ℕ → Type 0) (layer : D → Layer) (left left' : ℕ → Type 0) (offset n start m : ℕ) (a b c : D) → (layer b).fixed ≡ (layer a).fixed → offset ≤ start → start + m ≤ offset + n → ((p : ℕ) → left p → left' p)
+    → LeavesRoom vacant has_room left (IsApart (layer a).fixed.unit offset n) a b → LeavesRoom vacant has_room left' (IsApart (layer b).fixed.unit start m) b c → LeavesRoom vacant has_room left (IsApart (layer a).fixed.unit offset n) a c
+room_then vacant has_room layer left left' offset n start m a b c fixed from to more first second =
+    room_both vacant has_room left left' left (IsApart (layer a).fixed.unit offset n) (IsApart (layer b).fixed.unit start m) (IsApart (layer a).fixed.unit offset n) a b c (λ p there. (there, more p there))
+    (λ p apart. (apart, subst (λ (f : Fixed). IsApart f.unit start m p) (sym fixed) (apart_wider (layer a).fixed.unit offset n start m p from to apart))) first second
+
+-- Places apart from a run that is prepared and written aren't held.
+pub apart_loose : (unit offset n : ℕ) (bytes : List ℕ) (mid new : Layer) → n ≤ length bytes → ((p : ℕ) → IsApart unit offset (length bytes) p → mid.held p ≡ loose) → Wrote mid new offset (take n bytes) → (p : ℕ) → IsApart unit offset (length bytes) p → new.held p ≡ loose
+apart_loose unit offset n bytes mid new most near wrote p apart =
+    let long : length (take n bytes) ≡ n = grind (arith, common_steps) in
+    (wrote.others p (out_wider offset (length bytes) offset (length (take n bytes)) p (omega arith) (omega (arith, long, most)) (apart_out unit offset (length bytes) p apart))).1 ∙ near p apart

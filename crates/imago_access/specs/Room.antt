@@ -1,0 +1,59 @@
+-- What calls take and give up of the room that a layer has allocated, in its units: unit u is the places from u times the unit on, up to
+-- the next, or to the disk's end.
+use Rattle.std.specs.Prelude.{⊤, ◌⊎◌, ℕ, ◌+◌, ◌*◌, ◌<◌, ◌≤◌, min}
+use Rattle.imago_storage.specs.Steps.{IsOut}
+use Rattle.imago_storage.specs.declared.fault.Fault.{Fault}
+use Rattle.imago_storage.specs.declared.fault.Fault.TheVariants.{Unsupported, VersionLimit}
+
+-- unit u of a disk lies whole in a range
+pub record IsWholeUnit (unit size offset n u : ℕ) : Type 0 where
+  pub start : offset ≤ u * unit
+  pub on_disk : u * unit < size
+  pub end : min (u * unit + unit) size ≤ offset + n
+
+-- the place lies in unit u
+pub record IsOfUnit (unit size u p : ℕ) : Type 0 where
+  pub start : u * unit ≤ p
+  pub end : p < u * unit + unit
+  pub on_disk : p < size
+
+-- the place lies in a unit that a range doesn't touch
+abbrev pub IsApart : ℕ → ℕ → ℕ → ℕ → Type 0
+IsApart unit offset n p = (u : ℕ) × (u * unit ≤ p) × (p < u * unit + unit) × ((u * unit + unit ≤ offset) ⊎ (offset + n ≤ u * unit))
+
+-- The part of a range that was done leaves out no whole unit before it, cuts none, and isn't empty where the range has one.
+pub record Reaches (unit size offset n start done : ℕ) : Type 0 where
+  pub none_before : (u : ℕ) → IsWholeUnit unit size offset n u → start ≤ u * unit
+  pub some : (u : ℕ) → IsWholeUnit unit size offset n u → 0 < done
+  pub none_cut : (u : ℕ) → IsWholeUnit unit size offset n u → u * unit < start + done → min (u * unit + unit) size ≤ start + done
+
+-- each whole unit of a range has been given up
+abbrev pub IsGivenUp : (ℕ → Type 0) → ℕ → ℕ → ℕ → ℕ → Type 0
+IsGivenUp vacant unit size offset n = (u : ℕ) → IsWholeUnit unit size offset n u → (p : ℕ) → IsOfUnit unit size u p → vacant p
+
+-- so far: each whole unit that begins before a place ends there too, and has been given up
+abbrev pub IsGivenUpTo : (ℕ → Type 0) → ℕ → ℕ → ℕ → ℕ → ℕ → Type 0
+IsGivenUpTo vacant unit size offset n at = (u : ℕ) → IsWholeUnit unit size offset n u
+    → (at ≤ u * unit) ⊎ ((min (u * unit + unit) size ≤ at) × ((p : ℕ) → IsOfUnit unit size u p → vacant p))
+
+-- the same, where no whole unit begins before the first place
+pub record IsGivenUpBehind (vacant : ℕ → Type 0) (unit size offset n start at : ℕ) : Type 0 where
+  pub none_before : (u : ℕ) → IsWholeUnit unit size offset n u → start ≤ u * unit
+  pub given : IsGivenUpTo vacant unit size offset n at
+
+-- What a call leaves of the room that was allocated, and of what was vacant: at these places, and at those.
+pub record LeavesRoom {D : Type 0} (vacant has_room : D → ℕ → Type 0) (left spared : ℕ → Type 0) (old new : D) : Type 0 where
+  pub kept : (p : ℕ) → left p → has_room old p → has_room new p
+  pub free : (p : ℕ) → spared p → vacant old p → vacant new p
+
+-- A call that gives nothing up, and takes nothing at the places that it has to spare.
+abbrev pub Takes : {D : Type 0} → (D → ℕ → Type 0) → (D → ℕ → Type 0) → (ℕ → Type 0) → D → D → Type 0
+Takes vacant has_room spared = LeavesRoom vacant has_room (λ _. ⊤) spared
+
+-- A call that takes nothing, and gives nothing up out of a range.
+abbrev pub GivesUp : {D : Type 0} → (D → ℕ → Type 0) → (D → ℕ → Type 0) → ℕ → ℕ → D → D → Type 0
+GivesUp vacant has_room offset n = LeavesRoom vacant has_room (IsOut offset n) (λ _. ⊤)
+
+-- the driver has no cause of its own to decline
+abbrev pub IsUndeclined : (Fault → Type 0) → Type 0
+IsUndeclined causes = (causes Unsupported → ⊥) × (causes VersionLimit → ⊥)
