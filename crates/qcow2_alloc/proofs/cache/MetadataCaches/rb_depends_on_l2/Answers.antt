@@ -1,0 +1,11 @@
+use Rattle.std.proofs.Common.{subst}
+use Rattle.qcow2_alloc.specs.declared.cache.CacheDependency.{CacheDependency}
+use Rattle.qcow2_alloc.specs.Caches.{cached_in, order_of}
+use Rattle.qcow2_alloc.specs.Going.{ReadyTables}
+use Rattle.qcow2_alloc.proofs.Announcing.{tables-come-first}
+use Rattle.qcow2_alloc.proofs.cache.MetadataCaches.rb_depends_on_l2.Goals as goal
+
+pub returns-clause-safe : goal.returns-clause-safe
+returns-clause-safe g c = λ f H safe.
+    let mid = c.before_tables.new.self in
+    tables-come-first f H (cached_in mid) (order_of c.args.self.now) (subst (λ (o : CacheDependency). ReadyTables o (cached_in mid)) c.in_default.ensures.others.1 c.in_default.ensures.ready) safe

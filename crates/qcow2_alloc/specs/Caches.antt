@@ -1,0 +1,18 @@
+-- What contracts see of the two caches.
+use Rattle.std.specs.Prelude.{◌≡◌}
+use Rattle.qcow2_alloc.specs.declared.cache.MetadataCaches.{MetadataCaches}
+use Rattle.qcow2_alloc.specs.declared.cache.CacheDependency.{CacheDependency}
+use Rattle.qcow2_alloc.specs.Memory.{Cached}
+
+-- the cached tables and blocks
+abbrev pub cached_in : {S : Type 0} → MetadataCaches S → Cached
+cached_in caches = record { tables = caches.l2.slots.entries; blocks = caches.rb.slots.entries }
+
+-- which of them are written first
+abbrev pub order_of : {S : Type 0} → MetadataCaches S → CacheDependency
+order_of caches = caches.order
+
+-- there is room for as many tables and blocks
+pub record HasRoomOf {S : Type 0} (old new : MetadataCaches S) : Type 0 where
+  pub tables : new.l2.slots.cap ≡ old.l2.slots.cap
+  pub blocks : new.rb.slots.cap ≡ old.rb.slots.cap

@@ -1,0 +1,88 @@
+-- What writes of cached tables and blocks do to the image file and to what is cached.
+use Rattle.std.specs.Prelude.{◌≡◌, ◌⊎◌, ℕ, ⊤, IsTrue, true, Result, IsErr, Ok, Err, MatchResult}
+use Rattle.std.specs.List.{AllByRecursion}
+use Rattle.imago_storage.specs.State.{StorageState, Rose}
+use Rattle.imago_storage.specs.Calls.{Later}
+use Rattle.imago_storage.specs.Passing.{Passes}
+use Rattle.imago_storage.specs.declared.fault.Fault.{Fault}
+use Rattle.imago_storage.specs.declared.fault.Fault.TheVariants.{Memory, Storage, DamagedTable}
+use Rattle.qcow2_types.specs.Bytes.{bytes_of}
+use Rattle.qcow2_types.specs.Header.{Header}
+use Rattle.qcow2_metadata.specs.Places.{IsInReach}
+use Rattle.qcow2_alloc.specs.declared.cache.CacheDependency.{CacheDependency}
+use Rattle.qcow2_alloc.specs.declared.cache.CacheDependency.TheVariants.{L2DependsOnRb, RbDependsOnL2}
+use Rattle.qcow2_alloc.specs.Cache.{FlushedEach, fault_of}
+use Rattle.qcow2_alloc.specs.Backends.{TableFlushed, BlockFlushed}
+use Rattle.qcow2_alloc.specs.Memory.{Cached, memory}
+use Rattle.qcow2_alloc.specs.Safety.{Safe, IsLeft, IsCalm, IsSettled, AreTablesClean, AreBlocksClean}
+
+-- Before a table is written, blocks are, where they come first;
+abbrev pub ReadyTables : CacheDependency → Cached → Type 0
+ReadyTables order cached = order ≡ L2DependsOnRb → AreBlocksClean cached
+
+-- and before a block is, tables, where these do.
+abbrev pub ReadyBlocks : CacheDependency → Cached → Type 0
+ReadyBlocks order cached = order ≡ RbDependsOnL2 → AreTablesClean cached
+
+-- nothing has to be written before
+abbrev pub Always : Cached → Type 0
+Always cached = ⊤
+
+-- What any number of writes of cached tables or blocks does, where `Ready` says what has to be written before. They succeeded where `ok`
+-- holds.
+pub record Going (H : Header) (order : CacheDependency) (Ready : Cached → Type 0) (ok : Type 0) (old : StorageState) (cached : Cached) (new : StorageState) (cached' : Cached) : Type 0 where
+  pub shape : new.shape ≡ old.shape
+  pub later : Later old new
+  pub ready : Ready cached → Ready cached'
+  pub passes : IsTrue old.shape.keeps → Safe (bytes_of old.bytes) H cached order → Ready cached → Passes (λ x. IsLeft (bytes_of old.bytes) (memory (bytes_of old.bytes) H.fields cached) H (bytes_of x)) old new
+  pub holds : IsTrue old.shape.keeps → Safe (bytes_of old.bytes) H cached order → Ready cached → ok ⊎ IsCalm old new → IsSettled H order old.bytes cached new.bytes cached'
+
+-- Words can name the cluster of each table that is to be written,
+abbrev pub AreTablesInReach : Cached → Type 0
+AreTablesInReach cached = AllByRecursion (λ e. e.1.value.modified ≡ true → IsInReach e.1.value.layout.cluster_bits e.0) cached.tables
+
+-- and of each block.
+abbrev pub AreBlocksInReach : Cached → Type 0
+AreBlocksInReach cached = AllByRecursion (λ e. e.1.value.modified ≡ true → IsInReach e.1.value.cluster_bits e.0) cached.blocks
+
+-- Why writes of cached tables or blocks were refused, by the counts of faults before and after. `Memory` may come behind a fault of the
+-- storage, and `DamagedTable` comes only where something to be written is out of reach.
+abbrev pub WhyNotWritten : Type 0 → ℕ → ℕ → Fault → Type 0
+WhyNotWritten reach before after Memory = ⊤
+WhyNotWritten reach before after Storage = Rose before after
+WhyNotWritten reach before after DamagedTable = reach → ⊥
+WhyNotWritten reach before after fault = ⊥
+
+-- the count of faults after them
+abbrev pub CountsWrites : Type 0 → ℕ → ℕ → Result Unit Fault → Type 0
+CountsWrites reach before after result = MatchResult result (λ _. after ≡ before) (WhyNotWritten reach before after)
+
+-- The tables are flushed, each by one request at most, and no block;
+abbrev pub WritesTables : StorageState → Cached → Result Unit Fault → StorageState → Cached → Type 0
+WritesTables old cached result new cached' = (cached'.blocks ≡ cached.blocks)
+    × FlushedEach (λ a key table answer b table'. TableFlushed key table a answer b table') old cached.tables (fault_of result) new cached'.tables
+
+-- or the blocks, and no table.
+abbrev pub WritesBlocks : StorageState → Cached → Result Unit Fault → StorageState → Cached → Type 0
+WritesBlocks old cached result new cached' = (cached'.tables ≡ cached.tables)
+    × FlushedEach (λ a key block answer b block'. BlockFlushed key block a answer b block') old cached.blocks (fault_of result) new cached'.blocks
+
+-- One is done, and where it succeeded the other: no request of the second comes before the last of the first.
+pub record InTurn (First Second : StorageState → Cached → Result Unit Fault → StorageState → Cached → Type 0) (old : StorageState) (cached : Cached) (result : Result Unit Fault) (new : StorageState) (cached' : Cached) : Type 0 where
+  pub mid : StorageState
+  pub between : Cached
+  pub answer : Result Unit Fault
+  pub first : First old cached answer mid between
+  pub halted : IsErr answer → (result ≡ answer) × (new ≡ mid) × (cached' ≡ between)
+  pub second : answer ≡ Ok tt → Second mid between result new cached'
+
+-- neither want of memory nor a storage that failed
+abbrev pub IsMild : Fault → Type 0
+IsMild Memory = ⊥
+IsMild Storage = ⊥
+IsMild fault = ⊤
+
+-- the call wasn't cut off by one of these
+abbrev pub IsWhole : {T : Type 0} → Result T Fault → Type 0
+IsWhole (Ok v) = ⊤
+IsWhole (Err fault) = IsMild fault

@@ -1,0 +1,329 @@
+// A cache over a backend that notes what it is asked for.
+//
+// Where an allocation is refused a body ends with `Fault::Memory`, and its test runs it once more.
+ghost use Rattle.std.specs.Prelude.{⊤, ◌<◌};
+
+use super::*;
+use std::process::Abort;
+use std::test::Fail;
+
+// How many flushes are noted.
+const ROOM: usize = 48;
+
+// What was flushed, in order, and how often the backend was asked to load.
+#[derive(Drop)]
+struct Noted {
+    flushed: [(u64, u64); ROOM],
+    flushes: usize,
+    loads: usize,
+}
+
+impl Noted {
+    fn new() -> Noted {
+        Noted {
+            flushed: [(0, 0); ROOM],
+            flushes: 0,
+            loads: 0,
+        }
+    }
+
+    fn note(&mut self, key: u64, value: u64) {
+        if let Some(place) = self.flushed.get_mut(self.flushes) {
+            *place = (key, value);
+        }
+        self.flushes = self.flushes.saturating_add(1);
+    }
+
+    // Exactly these were flushed since the last time.
+    fn assert_flushed(&mut self, rt: &impl Abort, want: &[(u64, u64)]) {
+        assert_eq!(rt; self.flushes, want.len());
+        for (index, pair) in want.iter().enumerate() {
+            assert!(rt; self.flushed.get(index) == Some(pair));
+        }
+        self.flushes = 0;
+    }
+}
+
+// Loads the key as the value, and fails to load or to flush where it is told to.
+#[derive(Drop)]
+struct Notes {
+    fails_odd_flushes: bool,
+    fails_load_of: Option<u64>,
+}
+
+const SOUND: Notes = Notes {
+    fails_odd_flushes: false,
+    fails_load_of: None,
+};
+
+impl AsyncLruCacheBackend for Notes {
+    type Key = u64;
+
+    type Value = u64;
+
+    type Device = Noted;
+
+    ghost loads = { λ _ _ _ _. ⊤ };
+
+    ghost flushes = { λ _ _ _ _ _ _. ⊤ };
+
+    fn load(&self, device: &mut Noted, key: u64) -> Result<u64, Fault> {
+        device.loads = device.loads.saturating_add(1);
+        if self.fails_load_of == Some(key) {
+            return Err(Fault::DamagedTable);
+        }
+        Ok(key)
+    }
+
+    fn flush(&self, device: &mut Noted, key: u64, value: &mut u64) -> Result<(), Fault> {
+        device.note(key, *value);
+        if self.fails_odd_flushes && key % 2 == 1 {
+            return Err(Fault::Storage);
+        }
+        Ok(())
+    }
+}
+
+type Cache = AsyncLruCache<u64, u64, Notes>;
+
+// The value at a key, or that there is none because the cache is full.
+fn found(
+    cache: &mut Cache,
+    device: &mut Noted,
+    key: u64,
+    may_flush: bool,
+) -> Result<Option<u64>, Fault> {
+    match cache.get_or_insert(device, key, may_flush) {
+        Ok(value) => Ok(Some(*value)),
+        Err(NotLent::Full) => Ok(None),
+        Err(NotLent::Refused(fault)) => Err(fault),
+    }
+}
+
+// A cache of so many entries, which holds keys from 0 on.
+fn filled(
+    alloc: Global,
+    backend: Notes,
+    device: &mut Noted,
+    size: usize,
+    keys: u64,
+) -> Result<Cache, Fault>
+    requires { 0 < size }
+{
+    let mut cache = AsyncLruCache::new(alloc, backend, size)?;
+    for key in 0..keys {
+        found(&mut cache, device, key, false)?;
+    }
+    Ok(cache)
+}
+
+fn least_used(rt: &impl Abort, alloc: Global) -> Result<(), Fault> {
+    let mut device = Noted::new();
+    let mut cache = filled(alloc, SOUND, &mut device, 3, 3)?;
+    assert!(rt; found(&mut cache, &mut device, 0, false)? == Some(0));
+    assert_eq!(rt; device.loads, 3);
+    assert!(rt; found(&mut cache, &mut device, 3, false)? == None);
+    device.assert_flushed(rt, &[]);
+    assert_eq!(rt; device.loads, 3);
+    assert!(rt; found(&mut cache, &mut device, 3, true)? == Some(3));
+    device.assert_flushed(rt, &[(1, 1)]);
+    assert!(rt; cache.get(1) == None);
+    assert!(rt; cache.get(0) == Some(&0));
+    Ok(())
+}
+
+#[test]
+fn the_least_recently_used_goes(rt: HostRuntime) -> Result<(), Fail> {
+    let alloc = rt.alloc();
+    match least_used(&rt, alloc) {
+        Err(Fault::Memory) => least_used(&rt, alloc)?,
+        other => other?,
+    }
+    Ok(())
+}
+
+// Pins the value at a key that is there.
+fn pin(rt: &impl Abort, cache: &mut Cache, key: u64) {
+    match cache.slots.peek(&key) {
+        Some(slot) if slot.pins < 8 => cache.pin(key),
+        _ => assert!(rt; false),
+    }
+}
+
+// Lets go of the value at a key that is pinned.
+fn unpin(rt: &impl Abort, cache: &mut Cache, key: u64) {
+    match cache.slots.peek(&key) {
+        Some(slot) if slot.pins > 0 => cache.unpin(key),
+        _ => assert!(rt; false),
+    }
+}
+
+fn one_pinned(rt: &impl Abort, alloc: Global) -> Result<(), Fault> {
+    let mut device = Noted::new();
+    let mut cache = filled(alloc, SOUND, &mut device, 2, 2)?;
+    pin(rt, &mut cache, 0);
+    assert!(rt; found(&mut cache, &mut device, 2, true)? == Some(2));
+    device.assert_flushed(rt, &[(1, 1)]);
+    pin(rt, &mut cache, 2);
+    assert!(rt; found(&mut cache, &mut device, 3, true) == Err(Fault::CacheFull));
+    device.assert_flushed(rt, &[]);
+    unpin(rt, &mut cache, 0);
+    assert!(rt; found(&mut cache, &mut device, 3, true)? == Some(3));
+    device.assert_flushed(rt, &[(0, 0)]);
+    Ok(())
+}
+
+#[test]
+fn a_pinned_value_stays(rt: HostRuntime) -> Result<(), Fail> {
+    let alloc = rt.alloc();
+    match one_pinned(&rt, alloc) {
+        Err(Fault::Memory) => one_pinned(&rt, alloc)?,
+        other => other?,
+    }
+    Ok(())
+}
+
+// What `insert` answers, with the value that it gives back.
+fn inserted(
+    cache: &mut Cache,
+    device: &mut Noted,
+    key: u64,
+    value: u64,
+    may_flush: bool,
+) -> Result<Option<u64>, Fault> {
+    match cache.insert(device, key, value, may_flush) {
+        Ok(back) => Ok(back),
+        Err((fault, _)) => Err(fault),
+    }
+}
+
+fn put(rt: &impl Abort, alloc: Global) -> Result<(), Fault> {
+    let mut device = Noted::new();
+    let mut cache = AsyncLruCache::new(alloc, SOUND, 2)?;
+    assert!(rt; inserted(&mut cache, &mut device, 5, 5, false)? == None);
+    assert!(rt; inserted(&mut cache, &mut device, 6, 60, false)? == None);
+    assert!(rt; inserted(&mut cache, &mut device, 5, 55, false)? == Some(55));
+    assert!(rt; cache.get(5) == Some(&5));
+    device.assert_flushed(rt, &[]);
+    assert!(rt; inserted(&mut cache, &mut device, 5, 55, true)? == None);
+    device.assert_flushed(rt, &[(5, 5)]);
+    assert!(rt; cache.get(5) == Some(&55));
+    // The entry of 5 goes first, so that 6 has to go for another.
+    assert!(rt; inserted(&mut cache, &mut device, 7, 70, false)? == Some(70));
+    assert!(rt; inserted(&mut cache, &mut device, 7, 70, true)? == None);
+    device.assert_flushed(rt, &[(6, 60)]);
+    assert_eq!(rt; device.loads, 0);
+    Ok(())
+}
+
+#[test]
+fn a_value_is_put_over_another(rt: HostRuntime) -> Result<(), Fail> {
+    let alloc = rt.alloc();
+    match put(&rt, alloc) {
+        Err(Fault::Memory) => put(&rt, alloc)?,
+        other => other?,
+    }
+    Ok(())
+}
+
+fn all_flushed(rt: &impl Abort, alloc: Global) -> Result<(), Fault> {
+    let backend = Notes {
+        fails_odd_flushes: true,
+        fails_load_of: None,
+    };
+    let mut device = Noted::new();
+    let mut cache = filled(alloc, backend, &mut device, 42, 42)?;
+    assert!(rt; cache.flush(&mut device) == Err(Fault::Storage));
+    assert_eq!(rt; device.flushes, 42);
+    for (turn, pair) in device.flushed[..42].iter().enumerate() {
+        assert!(rt; *pair == (turn as u64, turn as u64));
+    }
+    // The order of use is as it was, and the entry of key 0 can go.
+    device.flushes = 0;
+    assert!(rt; found(&mut cache, &mut device, 42, true)? == Some(42));
+    device.assert_flushed(rt, &[(0, 0)]);
+    // That of key 1 can't, and stays.
+    assert!(rt; found(&mut cache, &mut device, 43, true) == Err(Fault::Storage));
+    assert!(rt; cache.get(1) == Some(&1));
+    Ok(())
+}
+
+#[test]
+fn a_flush_goes_on_past_faults(rt: HostRuntime) -> Result<(), Fail> {
+    let alloc = rt.alloc();
+    match all_flushed(&rt, alloc) {
+        Err(Fault::Memory) => all_flushed(&rt, alloc)?,
+        other => other?,
+    }
+    Ok(())
+}
+
+fn dropped(rt: &impl Abort, alloc: Global) -> Result<(), Fault> {
+    let mut device = Noted::new();
+    let mut cache = filled(alloc, SOUND, &mut device, 3, 3)?;
+    pin(rt, &mut cache, 1);
+    assert!(rt; cache.invalidate() == Err(Fault::CacheFull));
+    assert!(rt; (cache.get(0), cache.get(1), cache.get(2)) == (None, Some(&1), None));
+    unpin(rt, &mut cache, 1);
+    assert!(rt; cache.invalidate() == Ok(()));
+    assert!(rt; cache.get(1) == None);
+    device.assert_flushed(rt, &[]);
+    assert!(rt; found(&mut cache, &mut device, 1, false)? == Some(1));
+    assert_eq!(rt; device.loads, 4);
+    Ok(())
+}
+
+#[test]
+fn values_are_dropped_unflushed(rt: HostRuntime) -> Result<(), Fail> {
+    let alloc = rt.alloc();
+    match dropped(&rt, alloc) {
+        Err(Fault::Memory) => dropped(&rt, alloc)?,
+        other => other?,
+    }
+    Ok(())
+}
+
+fn unloaded(rt: &impl Abort, alloc: Global) -> Result<(), Fault> {
+    let backend = Notes {
+        fails_odd_flushes: false,
+        fails_load_of: Some(2),
+    };
+    let mut device = Noted::new();
+    let mut cache = filled(alloc, backend, &mut device, 2, 2)?;
+    assert!(rt; found(&mut cache, &mut device, 2, true) == Err(Fault::DamagedTable));
+    device.assert_flushed(rt, &[(0, 0)]);
+    assert!(rt; (cache.get(0), cache.get(1), cache.get(2)) == (None, Some(&1), None));
+    Ok(())
+}
+
+#[test]
+fn a_refused_load_leaves_room(rt: HostRuntime) -> Result<(), Fail> {
+    let alloc = rt.alloc();
+    match unloaded(&rt, alloc) {
+        Err(Fault::Memory) => unloaded(&rt, alloc)?,
+        other => other?,
+    }
+    Ok(())
+}
+
+fn written(rt: &impl Abort, alloc: Global) -> Result<(), Fault> {
+    let mut device = Noted::new();
+    let mut cache = filled(alloc, SOUND, &mut device, 1, 1)?;
+    if let Ok(value) = cache.get_or_insert(&mut device, 0, false) {
+        *value = 9;
+    }
+    assert!(rt; cache.get(0) == Some(&9));
+    assert!(rt; cache.flush(&mut device) == Ok(()));
+    device.assert_flushed(rt, &[(0, 9)]);
+    Ok(())
+}
+
+#[test]
+fn a_lent_value_is_written_to(rt: HostRuntime) -> Result<(), Fail> {
+    let alloc = rt.alloc();
+    match written(&rt, alloc) {
+        Err(Fault::Memory) => written(&rt, alloc)?,
+        other => other?,
+    }
+    Ok(())
+}

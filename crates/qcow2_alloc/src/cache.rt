@@ -1,0 +1,368 @@
+// The caches of L2 tables and of refcount blocks, and the order in which they are written.
+ghost use Rattle.std.specs.Prelude.{◌≡◌, ◌↔◌, ◌≤◌, ◌<◌, IsTrue, IsOk, IfOk, OnOk, OnErr, IsOkUnless, Ok, [], ◌∷◌};
+ghost use Rattle.imago_storage.specs.State.{StorageState};
+ghost use Rattle.qcow2_metadata.specs.Places.{IsInReach};
+ghost use Rattle.qcow2_alloc.specs.Backends.{TableLoaded, BlockLoaded, TableFlushed, BlockFlushed};
+
+use crate::async_lru_cache::{AsyncLruCache, AsyncLruCacheBackend};
+use crate::file::ImageFile;
+use imago_storage::{Fault, Storage};
+use qcow2_metadata::{L2Table, RefBlock, Table};
+use qcow2_types::{HostCluster, MAX_OFFSET};
+use std::alloc::Global;
+use std::marker::PhantomData;
+
+#[cfg(test)]
+mod tests;
+
+/// Loads and writes the L2 tables of a cache.
+#[derive(Drop)]
+pub struct L2CacheBackend<S> {
+    alloc: Global,
+    storage: PhantomData<S>,
+}
+
+impl<S: Storage> L2CacheBackend<S> {
+    /// A backend that takes memory from `alloc`.
+    pub fn new(alloc: Global) -> L2CacheBackend<S> {
+        L2CacheBackend {
+            alloc,
+            storage: PhantomData,
+        }
+    }
+}
+
+impl<S: Storage> AsyncLruCacheBackend for L2CacheBackend<S> {
+    type Key = HostCluster;
+
+    type Value = L2Table;
+
+    type Device = ImageFile<S>;
+
+    ghost loads = { λ old key result new. (new.header ≡ old.header) × TableLoaded old.header.fields key (S.state old.image) result (S.state new.image) };
+
+    ghost flushes = { λ old key table result new table'. (new.header ≡ old.header) × TableFlushed key table (S.state old.image) result (S.state new.image) table' };
+
+    fn load(&self, device: &mut ImageFile<S>, key: HostCluster) -> Result<L2Table, Fault> {
+        if !is_in_reach(key, device.header.cluster_bits()) {
+            return Err(Fault::DamagedTable);
+        }
+        let entries = device.header.l2_entries();
+        match L2Table::load(self.alloc, &mut device.image, &device.header, key, entries) {
+            Ok(table) => {
+                // Its words are those of a table.
+                let _entries = table.entries();
+                Ok(table)
+            }
+            Err(fault) => Err(fault),
+        }
+    }
+
+    fn flush(
+        &self,
+        device: &mut ImageFile<S>,
+        key: HostCluster,
+        value: &mut L2Table,
+    ) -> Result<(), Fault> {
+        if !value.is_modified() {
+            return Ok(());
+        }
+        if !is_in_reach(key, value.cluster_bits()) {
+            return Err(Fault::DamagedTable);
+        }
+        value.set_cluster(key);
+        value.write_if_modified(self.alloc, &mut device.image, key)
+    }
+}
+
+/// Loads and writes the refcount blocks of a cache.
+#[derive(Drop)]
+pub struct RefBlockCacheBackend<S> {
+    alloc: Global,
+    storage: PhantomData<S>,
+}
+
+impl<S: Storage> RefBlockCacheBackend<S> {
+    /// A backend that takes memory from `alloc`.
+    pub fn new(alloc: Global) -> RefBlockCacheBackend<S> {
+        RefBlockCacheBackend {
+            alloc,
+            storage: PhantomData,
+        }
+    }
+}
+
+impl<S: Storage> AsyncLruCacheBackend for RefBlockCacheBackend<S> {
+    type Key = HostCluster;
+
+    type Value = RefBlock;
+
+    type Device = ImageFile<S>;
+
+    ghost loads = { λ old key result new. (new.header ≡ old.header) × BlockLoaded old.header.fields key (S.state old.image) result (S.state new.image) };
+
+    ghost flushes = { λ old key block result new block'. (new.header ≡ old.header) × BlockFlushed key block (S.state old.image) result (S.state new.image) block' };
+
+    fn load(&self, device: &mut ImageFile<S>, key: HostCluster) -> Result<RefBlock, Fault> {
+        if !is_in_reach(key, device.header.cluster_bits()) {
+            return Err(Fault::DamagedTable);
+        }
+        match RefBlock::load(self.alloc, &mut device.image, &device.header, key) {
+            Ok(block) => {
+                // Its counters fit their width.
+                let _entries = block.entries();
+                Ok(block)
+            }
+            Err(fault) => Err(fault),
+        }
+    }
+
+    fn flush(
+        &self,
+        device: &mut ImageFile<S>,
+        key: HostCluster,
+        value: &mut RefBlock,
+    ) -> Result<(), Fault> {
+        if !value.is_modified() {
+            return Ok(());
+        }
+        if !is_in_reach(key, value.cluster_bits()) {
+            return Err(Fault::DamagedTable);
+        }
+        value.set_cluster(key);
+        value.write_if_modified(self.alloc, &mut device.image, key)
+    }
+}
+
+// Whether words can name the cluster.
+fn is_in_reach(cluster: HostCluster, cluster_bits: u32) -> bool
+    requires { cluster_bits ≤ 21 }
+    ensures { IsTrue result ↔ IsInReach cluster_bits cluster }
+{
+    cluster.0 <= MAX_OFFSET >> cluster_bits
+}
+
+/// Which cache has to be written before the other.
+#[derive(Clone, Copy, Debug, Drop, PartialEq, Eq)]
+pub enum CacheDependency {
+    /// Neither.
+    Unset,
+    /// Refcount blocks before any L2 table, as clusters are allocated.
+    L2DependsOnRb,
+    /// L2 tables before any refcount block, as clusters are freed.
+    RbDependsOnL2,
+}
+
+/// The caches of the L2 tables and of the refcount blocks of an image, which are written in the announced order.
+#[derive(Drop)]
+pub struct MetadataCaches<S: Storage> {
+    pub(crate) l2: AsyncLruCache<HostCluster, L2Table, L2CacheBackend<S>>,
+    pub(crate) rb: AsyncLruCache<HostCluster, RefBlock, RefBlockCacheBackend<S>>,
+    pub(crate) order: CacheDependency,
+}
+
+impl<S: Storage> MetadataCaches<S> {
+    ghost use Rattle.qcow2_alloc.specs.Going.{Going, ReadyTables, ReadyBlocks, Always, AreTablesInReach, AreBlocksInReach, CountsWrites, WritesTables, WritesBlocks, InTurn};
+    ghost use Rattle.qcow2_alloc.specs.Safety.{Safe, AreTablesClean, AreBlocksClean};
+    ghost use Rattle.qcow2_types.specs.Bytes.{Bytes};
+    ghost use Rattle.qcow2_types.specs.Header.{Header};
+    ghost use Rattle.qcow2_alloc.specs.declared.cache.CacheDependency.TheVariants.{Unset, L2DependsOnRb, RbDependsOnL2};
+    ghost use Rattle.qcow2_types.specs.Consistency.{IsConsistent};
+    ghost use Rattle.imago_storage.specs.declared.fault.Fault.{Fault};
+    ghost use Rattle.qcow2_alloc.specs.Caches.{cached_in, order_of, HasRoomOf};
+    ghost use Rattle.qcow2_alloc.specs.Memory.{written};
+
+    /// Empty caches of at most so many L2 tables and refcount blocks, with no order announced.
+    ///
+    /// It refuses with `Fault::Memory`.
+    pub fn new(alloc: Global, l2_entries: usize, rb_entries: usize) -> Result<Self, Fault>
+        requires tables { 0 < l2_entries }
+        requires blocks { 0 < rb_entries }
+        ensures empty { IfOk result (λ caches. (cached_in caches ≡ record { tables = []; blocks = [] }) × (order_of caches ≡ Unset)) }
+        ensures room { IfOk result (λ caches. (caches.l2.slots.cap ≡ l2_entries) × (caches.rb.slots.cap ≡ rb_entries)) }
+        ensures safe { IfOk result (λ caches. (f : Bytes) (H : Header) → IsConsistent f H → Safe f H (cached_in caches) (order_of caches)) }
+        ensures memory { IsOkUnless result Fault.Memory }
+    {
+        Ok(MetadataCaches {
+            l2: AsyncLruCache::new(alloc, L2CacheBackend::new(alloc), l2_entries)?,
+            rb: AsyncLruCache::new(alloc, RefBlockCacheBackend::new(alloc), rb_entries)?,
+            order: CacheDependency::Unset,
+        })
+    }
+
+    // Writes the modified L2 tables.
+    fn flush_l2(&mut self, file: &mut ImageFile<S>) -> Result<(), Fault>
+        ensures going { Going file.old.header (order_of self.old) (ReadyTables (order_of self.old)) (result ≡ Ok tt) (S.state file.old.image) (cached_in self.old) (S.state file.new.image) (cached_in self.new) }
+        ensures kept { written (cached_in self.new) ≡ written (cached_in self.old) }
+        ensures clean { OnOk result (AreTablesClean (cached_in self.new)) }
+        ensures others { (self.new.rb ≡ self.old.rb) × (self.new.order ≡ self.old.order) × (file.new.header ≡ file.old.header) }
+        ensures room { HasRoomOf self.old self.new }
+        ensures cause { CountsWrites (AreTablesInReach (cached_in self.old)) (S.state file.old.image).faults (S.state file.new.image).faults result }
+        ensures written { WritesTables (S.state file.old.image) (cached_in self.old) result (S.state file.new.image) (cached_in self.new) }
+    {
+        self.l2.flush(file)
+    }
+
+    // Writes the modified refcount blocks.
+    fn flush_blocks(&mut self, file: &mut ImageFile<S>) -> Result<(), Fault>
+        ensures going { Going file.old.header (order_of self.old) (ReadyBlocks (order_of self.old)) (result ≡ Ok tt) (S.state file.old.image) (cached_in self.old) (S.state file.new.image) (cached_in self.new) }
+        ensures kept { written (cached_in self.new) ≡ written (cached_in self.old) }
+        ensures clean { OnOk result (AreBlocksClean (cached_in self.new)) }
+        ensures others { (self.new.l2 ≡ self.old.l2) × (self.new.order ≡ self.old.order) × (file.new.header ≡ file.old.header) }
+        ensures room { HasRoomOf self.old self.new }
+        ensures cause { CountsWrites (AreBlocksInReach (cached_in self.old)) (S.state file.old.image).faults (S.state file.new.image).faults result }
+        ensures written { WritesBlocks (S.state file.old.image) (cached_in self.old) result (S.state file.new.image) (cached_in self.new) }
+    {
+        self.rb.flush(file)
+    }
+
+    // Writes the modified blocks, where an L2 table must not be written before them.
+    fn before_tables(&mut self, file: &mut ImageFile<S>) -> Result<(), Fault>
+        ensures going { Going file.old.header (order_of self.old) Always (result ≡ Ok tt) (S.state file.old.image) (cached_in self.old) (S.state file.new.image) (cached_in self.new) }
+        ensures kept { written (cached_in self.new) ≡ written (cached_in self.old) }
+        ensures ready { OnOk result (ReadyTables (order_of self.new) (cached_in self.new)) }
+        ensures idle { (order_of self.old ≡ L2DependsOnRb → ⊥) → (result ≡ Ok tt) × (self.new ≡ self.old) × (file.new ≡ file.old) }
+        ensures others { (self.new.l2 ≡ self.old.l2) × (self.new.order ≡ self.old.order) × (file.new.header ≡ file.old.header) }
+        ensures room { HasRoomOf self.old self.new }
+        ensures cause { CountsWrites (AreBlocksInReach (cached_in self.old)) (S.state file.old.image).faults (S.state file.new.image).faults result }
+        ensures written { order_of self.old ≡ L2DependsOnRb → WritesBlocks (S.state file.old.image) (cached_in self.old) result (S.state file.new.image) (cached_in self.new) }
+    {
+        if self.order == CacheDependency::L2DependsOnRb {
+            return self.flush_blocks(file);
+        }
+        Ok(())
+    }
+
+    // Writes the modified L2 tables, where a block must not be written before them.
+    fn before_blocks(&mut self, file: &mut ImageFile<S>) -> Result<(), Fault>
+        ensures going { Going file.old.header (order_of self.old) Always (result ≡ Ok tt) (S.state file.old.image) (cached_in self.old) (S.state file.new.image) (cached_in self.new) }
+        ensures kept { written (cached_in self.new) ≡ written (cached_in self.old) }
+        ensures ready { OnOk result (ReadyBlocks (order_of self.new) (cached_in self.new)) }
+        ensures idle { (order_of self.old ≡ RbDependsOnL2 → ⊥) → (result ≡ Ok tt) × (self.new ≡ self.old) × (file.new ≡ file.old) }
+        ensures others { (self.new.rb ≡ self.old.rb) × (self.new.order ≡ self.old.order) × (file.new.header ≡ file.old.header) }
+        ensures room { HasRoomOf self.old self.new }
+        ensures cause { CountsWrites (AreTablesInReach (cached_in self.old)) (S.state file.old.image).faults (S.state file.new.image).faults result }
+        ensures written { order_of self.old ≡ RbDependsOnL2 → WritesTables (S.state file.old.image) (cached_in self.old) result (S.state file.new.image) (cached_in self.new) }
+    {
+        if self.order == CacheDependency::RbDependsOnL2 {
+            return self.flush_l2(file);
+        }
+        Ok(())
+    }
+
+    /// Writes all modified refcount blocks, and before them the modified L2 tables where these come first.
+    ///
+    /// It refuses with `Fault::Memory`, `Fault::Storage`, and `Fault::DamagedTable` where words can't name the cluster of one of them, which no
+    /// safe cache has; what is cached then stays, and what wasn't written stays modified. The file of a safe cache is consistent at each stop.
+    pub fn flush_rb(&mut self, file: &mut ImageFile<S>) -> Result<(), Fault>
+        ensures going { Going file.old.header (order_of self.old) Always (result ≡ Ok tt) (S.state file.old.image) (cached_in self.old) (S.state file.new.image) (cached_in self.new) }
+        ensures kept { written (cached_in self.new) ≡ written (cached_in self.old) }
+        ensures clean { OnOk result (AreBlocksClean (cached_in self.new)) }
+        ensures others { (self.new.order ≡ self.old.order) × (file.new.header ≡ file.old.header) }
+        ensures tables { (order_of self.old ≡ RbDependsOnL2 → ⊥) → self.new.l2 ≡ self.old.l2 }
+        ensures room { HasRoomOf self.old self.new }
+        ensures cause { CountsWrites (AreTablesInReach (cached_in self.old) × AreBlocksInReach (cached_in self.old)) (S.state file.old.image).faults (S.state file.new.image).faults result }
+        ensures alone { (order_of self.old ≡ RbDependsOnL2 → ⊥) → WritesBlocks (S.state file.old.image) (cached_in self.old) result (S.state file.new.image) (cached_in self.new) }
+        ensures in_turn { order_of self.old ≡ RbDependsOnL2 → InTurn WritesTables WritesBlocks (S.state file.old.image) (cached_in self.old) result (S.state file.new.image) (cached_in self.new) }
+    {
+        match self.before_blocks(file) {
+            Ok(()) => self.flush_blocks(file),
+            Err(fault) => Err(fault),
+        }
+    }
+
+    // Writes all modified L2 tables, and before them the modified refcount blocks where these come first.
+    fn flush_tables(&mut self, file: &mut ImageFile<S>) -> Result<(), Fault>
+        ensures going { Going file.old.header (order_of self.old) Always (result ≡ Ok tt) (S.state file.old.image) (cached_in self.old) (S.state file.new.image) (cached_in self.new) }
+        ensures kept { written (cached_in self.new) ≡ written (cached_in self.old) }
+        ensures clean { OnOk result (AreTablesClean (cached_in self.new)) }
+        ensures others { (self.new.order ≡ self.old.order) × (file.new.header ≡ file.old.header) }
+        ensures blocks { (order_of self.old ≡ L2DependsOnRb → ⊥) → self.new.rb ≡ self.old.rb }
+        ensures room { HasRoomOf self.old self.new }
+        ensures cause { CountsWrites (AreTablesInReach (cached_in self.old) × AreBlocksInReach (cached_in self.old)) (S.state file.old.image).faults (S.state file.new.image).faults result }
+        ensures alone { (order_of self.old ≡ L2DependsOnRb → ⊥) → WritesTables (S.state file.old.image) (cached_in self.old) result (S.state file.new.image) (cached_in self.new) }
+        ensures in_turn { order_of self.old ≡ L2DependsOnRb → InTurn WritesBlocks WritesTables (S.state file.old.image) (cached_in self.old) result (S.state file.new.image) (cached_in self.new) }
+    {
+        match self.before_tables(file) {
+            Ok(()) => self.flush_l2(file),
+            Err(fault) => Err(fault),
+        }
+    }
+
+    /// Writes all modified L2 tables and refcount blocks, in the announced order, and else the tables first.
+    ///
+    /// It refuses with `Fault::Memory`, `Fault::Storage`, and `Fault::DamagedTable` where words can't name the cluster of one of them, which no
+    /// safe cache has; what is cached then stays, and what wasn't written stays modified. The file of a safe cache is consistent at each stop.
+    pub fn flush_all(&mut self, file: &mut ImageFile<S>) -> Result<(), Fault>
+        ensures going { Going file.old.header (order_of self.old) Always (result ≡ Ok tt) (S.state file.old.image) (cached_in self.old) (S.state file.new.image) (cached_in self.new) }
+        ensures kept { written (cached_in self.new) ≡ written (cached_in self.old) }
+        ensures tables { OnOk result (AreTablesClean (cached_in self.new)) }
+        ensures blocks { OnOk result (AreBlocksClean (cached_in self.new)) }
+        ensures others { (self.new.order ≡ self.old.order) × (file.new.header ≡ file.old.header) }
+        ensures room { HasRoomOf self.old self.new }
+        ensures cause { CountsWrites (AreTablesInReach (cached_in self.old) × AreBlocksInReach (cached_in self.old)) (S.state file.old.image).faults (S.state file.new.image).faults result }
+        ensures blocks_first { order_of self.old ≡ L2DependsOnRb → InTurn WritesBlocks WritesTables (S.state file.old.image) (cached_in self.old) result (S.state file.new.image) (cached_in self.new) }
+        ensures tables_first { (order_of self.old ≡ L2DependsOnRb → ⊥) → InTurn WritesTables WritesBlocks (S.state file.old.image) (cached_in self.old) result (S.state file.new.image) (cached_in self.new) }
+    {
+        if self.order == CacheDependency::L2DependsOnRb {
+            return match self.flush_rb(file) {
+                Ok(()) => self.flush_l2(file),
+                Err(fault) => Err(fault),
+            };
+        }
+        match self.flush_tables(file) {
+            Ok(()) => self.flush_blocks(file),
+            Err(fault) => Err(fault),
+        }
+    }
+
+    /// Announces that clusters will be allocated: from now on blocks are written before tables.
+    ///
+    /// Where tables came first, those that are modified are written, and else nothing. It refuses as their flush does, and then the
+    /// order stays. The file of a safe cache is consistent at each stop.
+    pub fn l2_depends_on_rb(&mut self, file: &mut ImageFile<S>) -> Result<(), Fault>
+        ensures going { Going file.old.header (order_of self.old) Always (result ≡ Ok tt) (S.state file.old.image) (cached_in self.old) (S.state file.new.image) (cached_in self.new) }
+        ensures kept { written (cached_in self.new) ≡ written (cached_in self.old) }
+        ensures announced { OnOk result (order_of self.new ≡ L2DependsOnRb) }
+        ensures clean { OnOk result (order_of self.old ≡ RbDependsOnL2 → AreTablesClean (cached_in self.new)) }
+        ensures idle { (order_of self.old ≡ RbDependsOnL2 → ⊥) → (result ≡ Ok tt) × (cached_in self.new ≡ cached_in self.old) × (file.new ≡ file.old) }
+        ensures blocks { self.new.rb ≡ self.old.rb }
+        ensures safe { OnOk result ((f : Bytes) (H : Header) → Safe f H (cached_in self.new) (order_of self.old) → Safe f H (cached_in self.new) L2DependsOnRb) }
+        ensures stays { OnErr result (order_of self.new ≡ order_of self.old) }
+        ensures header { file.new.header ≡ file.old.header }
+        ensures room { HasRoomOf self.old self.new }
+        ensures cause { CountsWrites (AreTablesInReach (cached_in self.old)) (S.state file.old.image).faults (S.state file.new.image).faults result }
+        ensures written { order_of self.old ≡ RbDependsOnL2 → WritesTables (S.state file.old.image) (cached_in self.old) result (S.state file.new.image) (cached_in self.new) }
+    {
+        if let Err(fault) = self.before_blocks(file) {
+            return Err(fault);
+        }
+        self.order = CacheDependency::L2DependsOnRb;
+        Ok(())
+    }
+
+    /// Announces that clusters will be freed: from now on tables are written before blocks.
+    ///
+    /// Where blocks came first, those that are modified are written, and else nothing. It refuses as their flush does, and then the
+    /// order stays. The file of a safe cache is consistent at each stop.
+    pub fn rb_depends_on_l2(&mut self, file: &mut ImageFile<S>) -> Result<(), Fault>
+        ensures going { Going file.old.header (order_of self.old) Always (result ≡ Ok tt) (S.state file.old.image) (cached_in self.old) (S.state file.new.image) (cached_in self.new) }
+        ensures kept { written (cached_in self.new) ≡ written (cached_in self.old) }
+        ensures announced { OnOk result (order_of self.new ≡ RbDependsOnL2) }
+        ensures clean { OnOk result (order_of self.old ≡ L2DependsOnRb → AreBlocksClean (cached_in self.new)) }
+        ensures idle { (order_of self.old ≡ L2DependsOnRb → ⊥) → (result ≡ Ok tt) × (cached_in self.new ≡ cached_in self.old) × (file.new ≡ file.old) }
+        ensures tables { self.new.l2 ≡ self.old.l2 }
+        ensures safe { OnOk result ((f : Bytes) (H : Header) → Safe f H (cached_in self.new) (order_of self.old) → Safe f H (cached_in self.new) RbDependsOnL2) }
+        ensures stays { OnErr result (order_of self.new ≡ order_of self.old) }
+        ensures header { file.new.header ≡ file.old.header }
+        ensures room { HasRoomOf self.old self.new }
+        ensures cause { CountsWrites (AreBlocksInReach (cached_in self.old)) (S.state file.old.image).faults (S.state file.new.image).faults result }
+        ensures written { order_of self.old ≡ L2DependsOnRb → WritesBlocks (S.state file.old.image) (cached_in self.old) result (S.state file.new.image) (cached_in self.new) }
+    {
+        if let Err(fault) = self.before_tables(file) {
+            return Err(fault);
+        }
+        self.order = CacheDependency::RbDependsOnL2;
+        Ok(())
+    }
+}
