@@ -8,7 +8,7 @@ use Rattle.imago_storage.specs.Steps.{commit}
 use Rattle.imago_storage.specs.declared.fault.Fault.{Fault}
 use Rattle.imago_storage.specs.declared.fault.Fault.TheVariants.{ReadOnly, Foreign, MissingData, Failed, Memory, Storage}
 use Rattle.imago_access.specs.Layer.{Layer, IsFree}
-use Rattle.imago_access.specs.Files.{IsMild, SomeRose}
+use Rattle.imago_access.specs.Files.{IsMild, ImageCause}
 use Rattle.imago_access.specs.Spending.{IsMine, IsForeignTo, is_own, Spends, GivenBack}
 use Rattle.imago_access.specs.Refusals.{ChangeCause}
 use Rattle.imago_access.proofs.FilePairs.{some_rose_left}
@@ -27,10 +27,10 @@ module _ {S : Type 0} (claim tag : S → ℕ) (unit : ℕ) (layer new : Layer) (
   back_cause None _ h = absurd h
 
   -- of one that is spent
-  pub spent_cause : (state : Option S) (e : Fault) → IsMine claim tag state layer ⊎ IsForeignTo tag state layer → IsSome state → Spends claim tag state layer new (IsFree new × (IsMild e → ⊥)) → (e ≡ Storage → SomeRose olds news) → Cause state e
+  pub spent_cause : (state : Option S) (e : Fault) → IsMine claim tag state layer ⊎ IsForeignTo tag state layer → IsSome state → Spends claim tag state layer new (IsFree new × (IsMild e → ⊥)) → ImageCause olds news e → Cause state e
   spent_cause None e whose some spends rose = absurd (cc some)
   spent_cause (Some s) Memory whose some spends rose = tt
-  spent_cause (Some s) Storage whose some spends rose = some_rose_left olds news us vs (rose refl)
+  spent_cause (Some s) Storage whose some spends rose = some_rose_left olds news us vs rose
   spent_cause (Some s) _ whose some spends rose = elim whose [ inl mine ↦ absurd ((spends.1 mine.1).1 tt) | inr other ↦ absurd (other spends.0) ]
 
   -- told of only what a refusal of a safe image means
@@ -39,6 +39,6 @@ module _ {S : Type 0} (claim tag : S → ℕ) (unit : ℕ) (layer new : Layer) (
   fewer (Some x) e safe s h = (h.0, λ mine. ((h.1 mine).0, (h.1 mine).1 s))
 
   pub commit_cause : {M : Type 0} (state : Option S) (given : Option M) (safe : Type 0) (e : Fault) → IsMine claim tag state layer ⊎ IsForeignTo tag state layer → safe
-      → IfSome given (λ m. GivenBack tag state layer e) → (given ≡ None → IsSome state × IsTrue new.failed × Spends claim tag state layer new (IsFree new × (safe → IsMild e → ⊥))) → (e ≡ Storage → SomeRose olds news) → Cause state e
+      → IfSome given (λ m. GivenBack tag state layer e) → (given ≡ None → IsSome state × IsTrue new.failed × Spends claim tag state layer new (IsFree new × (safe → IsMild e → ⊥))) → ImageCause olds news e → Cause state e
   commit_cause state (Some m) safe e whose s back spent rose = back_cause state e back
   commit_cause state None safe e whose s back spent rose = let told = spent refl in spent_cause state e whose told.0 (fewer state e safe s told.2) rose

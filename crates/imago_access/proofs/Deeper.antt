@@ -9,7 +9,7 @@ use Rattle.imago_storage.specs.declared.fault.Fault.TheVariants.{Failed, Missing
 use Rattle.imago_access.specs.Layer.{Layer, unmapped, through}
 use Rattle.imago_access.specs.Chain.{at}
 use Rattle.imago_access.specs.Files.{Pairs, IsLater}
-use Rattle.imago_access.specs.Mappings.{EachIs, Names, IsRun, IsDeepRun, NamesHome, stored_at, DeepNames, DeepNamesWritable, AreWritable, IsRunBelow, IsDeepBelow, lower, is_deep_end}
+use Rattle.imago_access.specs.Mappings.{EachIs, Names, IsRun, IsDeepRun, NamesHome, stored_at, DeepNames, DeepNamesWritable, AreWritable, SaysBarred, IsRunBelow, IsDeepBelow, lower, is_deep_end}
 use Rattle.imago_access.specs.Refusals.{LookCause, DeepLookCause}
 use Rattle.imago_access.specs.declared.mapping.Mapping.{Mapping}
 use Rattle.imago_access.specs.declared.mapping.Mapping.TheVariants.{Raw, Zero, Eof, Special}
@@ -28,6 +28,9 @@ both_true false b h = absurd (cc h)
 writable_next : (layer : Layer) (below : List Layer) (depth storage place offset n : ℕ) → IsTrue layer.fixed.writable × IsTrue layer.fixed.lets_through → AreWritable depth below storage place offset n → AreWritable (depth + 1) (layer ∷ below) storage place offset n
 writable_next layer below depth storage place offset n top rest = subst (λ (k : ℕ). AreWritable k (layer ∷ below) storage place offset n) (sym (add-one depth)) (top.0, top.1, rest)
 
+barred_next : (layer : Layer) (below : List Layer) (depth offset n : ℕ) → SaysBarred depth below offset n → SaysBarred (depth + 1) (layer ∷ below) offset n
+barred_next layer below depth offset n rest = subst (λ (k : ℕ). SaysBarred k (layer ∷ below) offset n) (sym (add-one depth)) rest
+
 module _ {D : Type 0} (stored : D → ℕ → ℕ → ℕ) (d : D) (ds : List D) (layer : Layer) (below : List Layer) (offset n asked : ℕ) (above : Bool)
     (free : EachIs layer.cell offset asked (λ i. unmapped)) (inside : offset + asked ≤ layer.size) (top : IsTrue above → IsTrue layer.fixed.writable × IsTrue layer.fixed.lets_through) where
   through_below : (i : ℕ) → i < asked → at (layer ∷ below) (offset + i) ≡ at below (offset + i)
@@ -38,8 +41,8 @@ module _ {D : Type 0} (stored : D → ℕ → ℕ → ℕ) (d : D) (ds : List D)
     λ i lt. through_below i (omega (arith, run.0, lt)) ∙ names.0 i lt ∙ ap byte (sym (stored_next stored d ds depth storage (place + i))),
     λ is. let both = both_true writable above is in writable_next layer below depth storage place offset n (top both.1) (names.1 both.0),
   )
-  names_lower (Special depth place) run names = (λ i lt. through_below i (omega (arith, run.0, lt)) ∙ names.0 i lt, names.1)
-  names_lower (Zero explicit) run names = (λ i lt. through_below i (omega (arith, run.0, lt)) ∙ names.0 i lt, λ is. absurd (cc is))
+  names_lower (Special depth place) run names = (λ i lt. through_below i (omega (arith, run.0, lt)) ∙ names.0 i lt, names.1, barred_next layer below depth offset n names.2)
+  names_lower (Zero explicit) run names = (λ i lt. through_below i (omega (arith, run.0, lt)) ∙ names.0 i lt, λ is. absurd (cc is), λ none. inl (λ i lt. free i (omega (arith, run.0, lt))))
   names_lower Eof run names = tt
 
 pub deep_lower : (k : ℕ) (above : Bool) (m : Mapping) → IsDeepBelow k m → IsDeepBelow (k + 1) (lower above m)

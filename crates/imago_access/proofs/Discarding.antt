@@ -18,7 +18,7 @@ use Rattle.imago_access.specs.Going.{Went}
 use Rattle.imago_access.specs.Parts.{PartCause, DeclinableCause}
 use Rattle.imago_access.specs.Room.{IsUndeclined}
 use Rattle.imago_access.specs.Refusals.{change_refusal, ChangeCause}
-use Rattle.imago_access.specs.Running.{IsIntact, IsBetween, Ran, RanChain, IsIntactChain, chain_disk}
+use Rattle.imago_access.specs.Running.{IsIntact, IsBetween, RanChain, IsIntactChain, chain_disk, RanAlone}
 use Rattle.imago_access.specs.Stops.{KeepsStops}
 use Rattle.imago_access.specs.declared.access.discarding.Discarding.{Discarding}
 use Rattle.imago_access.specs.declared.access.discarding.Discarding.TheVariants.{ToAny, ToBacking}
@@ -51,10 +51,6 @@ pub undeclined : (below : List Layer) (layer : Layer) (offset n : ℕ) (causes :
 undeclined below layer offset n causes olds news Unsupported none declined h = none.0 h
 undeclined below layer offset n causes olds news VersionLimit none declined h = none.1 h
 undeclined below layer offset n causes olds news _ none declined h = absurd declined
-
--- What a call does to a driver alone, over whatever layers below.
-abbrev pub RanAlone : {D : Type 0} → (D → Layer) → (D → StorageState) → (D → List StorageState) → (D → Type 0) → (D → Type 0) → (ℕ → List ℕ → Type 0) → Type 0 → Type 0 → (ℕ → Value → Type 0) → List Layer → D → D → Type 0
-RanAlone layer image extras safe lasts sound ok whole gives below old new = Ran {B = List Layer} layer image extras safe lasts (λ b. b) (λ b. []) (λ b. ⊤) (λ b. ⊤) (λ b. ⊤) (λ b. ⊤) sound ok whole gives old new below below
 
 module _ {D : Type 0} (layer : D → Layer) (image : D → StorageState) (extras : D → List StorageState) (safe lasts : D → Type 0) (sound : ℕ → List ℕ → Type 0) (free_loose : (d : D) → IsFree (layer d) → (p : ℕ) → (layer d).held p ≡ loose) where
   -- what is promised where the image is sound and the layers below are shown, of an image that has nothing prepared

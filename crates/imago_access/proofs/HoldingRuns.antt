@@ -1,24 +1,24 @@
 -- What a prepared mapping does to a chain: its preparation, the writes to it, and how it is spent.
-use Rattle.std.proofs.Common.{◌≡◌, ◌⊎◌, inl, inr, ℕ, ◌<◌, ◌≤◌, Bool, Option, None, List, length, take, slice_index, arith, sym, ◌∙◌, ap, subst}
-use Rattle.std.specs.Prelude.{⊤, Result, IsOk, IfOk, IfErr, IsTrue}
+use Rattle.std.proofs.Common.{◌≡◌, refl, ◌⊎◌, inl, inr, ℕ, ◌<◌, ◌≤◌, Bool, true, Option, None, List, ◌∷◌, length, take, slice_index, arith, sym, ◌∙◌, ap, subst}
+use Rattle.std.specs.Prelude.{⊤, Result, Ok, IsOk, IfOk, IfErr, IsTrue}
 use Rattle.std.proofs.lemmas.Grind.{common_steps}
 use Rattle.std.proofs.lemmas.Result.{IfErr-weaker}
 use Rattle.imago_storage.specs.State.{StorageState}
 use Rattle.imago_storage.specs.Disk.{Value, byte}
 use Rattle.imago_storage.specs.declared.fault.Fault.{Fault}
-use Rattle.imago_access.specs.Layer.{Layer, Cell, Held, loose, through, IsFree, IsLike}
+use Rattle.imago_access.specs.Layer.{Layer, Fixed, Cell, Held, loose, through, IsFree, IsLike}
 use Rattle.imago_access.specs.Chain.{at}
 use Rattle.imago_access.specs.Changes.{Prepared, NotPrepared, Wrote, Committed, Cancelled}
 use Rattle.imago_access.specs.Files.{IsMild, IsWhole}
 use Rattle.imago_access.specs.Going.{Went, LookedUnder}
 use Rattle.imago_access.specs.Parts.{IsMappedAt}
-use Rattle.imago_access.specs.Running.{IsTruly, HoldsTrue, IsIntact, Ran}
+use Rattle.imago_access.specs.Running.{IsTruly, HoldsTrue, IsIntact, Ran, RanAlone}
 use Rattle.imago_access.specs.Spending.{claim_of, IsMine, Spends}
 use Rattle.imago_access.specs.Stops.{KeepsStops, Left, GivesNone, GivesBytes, GivesHeld, GivesSettled}
 use Rattle.imago_access.specs.declared.mapping.PreparedDataMapping.{PreparedDataMapping}
 use Rattle.imago_access.proofs.Answers.{whole_holds}
 use Rattle.imago_access.proofs.Holding.{at_alike, held_written, truly_prepared, truly_wrote, between_wrote, between_settled, settled_given, spent_settles, given_up_fixed, given_up_size, given_up_cell, given_up_free}
-use Rattle.imago_access.proofs.Running.{holds_loose, went_then, ran_both, ran_over, ran_driver, ran_gives_intact}
+use Rattle.imago_access.proofs.Running.{holds_loose, went_weaker, went_then, ran_weaker, ran_both, ran_over, ran_driver, ran_gives_intact}
 use Rattle.imago_access.proofs.Stopping.{passes_on, passes_weaker, left_weaker}
 
 -- a run's byte is one of all the bytes
@@ -68,6 +68,17 @@ module _ {D B : Type 0} (layer : D → Layer) (image : D → StorageState) (extr
       (λ w i p lt. inl (at_alike (layer a) (layer b) (under x) p size (ap (λ (c : ℕ → Cell). through (c p) (at (under x) p)) (held_on w i).1)))
       (λ i. stops i.keeps i.is_safe i.is_seen)
 
+  -- a run that is mapped, from one place of a storage on
+  pub ran_mapped : {S : Type 0} (claim : S → ℕ) (state : Option S) (a b : D) (x y : B) (offset asked : ℕ) (overwrite : Bool) (storage place n : ℕ) → ((p : ℕ) → (layer a).held p ≡ loose) → (layer b).size ≡ (layer a).size
+      → Went layer image extras safe lasts (true ≡ true) (⊤ × sees x) a b → LookedUnder under files sees safe_under still lasts_under (true ≡ true) ⊤ x y
+      → (IsTrue (layer a).fixed.keeps → safe a → sees x → Prepared (at (under x)) (layer a) (layer b) offset asked overwrite storage place n (claim_of claim state))
+      → (IsTrue (layer a).fixed.keeps → safe a → sees x → KeepsStops (under x) (layer a) sound GivesNone (image a) (image b))
+      → Ran layer image extras safe lasts under files sees safe_under still lasts_under sound ⊤ ⊤ GivesNone a b x y
+  ran_mapped {S = S} claim state a b x y offset asked overwrite storage place n was_loose size went looked made stops =
+      let mapping : PreparedDataMapping S = record { storage = storage; offset = place; length = n; state = state } in
+      ran_weaker layer image extras safe lasts under files sees safe_under still lasts_under sound (true ≡ true) ⊤ ⊤ ⊤ GivesNone a b x y (λ h. refl) (λ h. h)
+      (ran_prepared claim (Ok mapping) a b x y offset asked overwrite was_loose size went looked made (λ keeps safely see. tt) stops)
+
   -- a write to a mapped range
   pub ran_wrote : (ok whole : Type 0) (a b : D) (x : B) (guest place : ℕ) (bytes : List ℕ) → IsLike (layer a) (layer b) → Went layer image extras safe lasts ok whole a b
       → (whole → 0 < length bytes → IsMappedAt (layer a) guest place (length bytes))
@@ -78,6 +89,17 @@ module _ {D B : Type 0} (layer : D → Layer) (image : D → StorageState) (extr
       ran_driver layer image extras safe lasts under files sees safe_under still lasts_under sound ok whole (GivesBytes guest bytes) a b x like.size went
       (λ w i. truly_wrote (at (under x)) (layer a) (layer b) guest place bytes (mapped w) (wrote w i.keeps i.is_safe) i.held)
       (λ w i. between_wrote (under x) (layer a) (layer b) guest bytes (wrote w i.keeps i.is_safe))
+      (λ i. stops i.keeps i.is_safe (under x))
+
+  -- one that is refused changes nothing, unless want of memory or a storage cut it off
+  pub ran_refused : (ok whole : Type 0) (gives : ℕ → Value → Type 0) (a b : D) (x : B) → IsLike (layer a) (layer b) → Went layer image extras safe lasts ok whole a b
+      → (whole → IsTrue (layer a).fixed.keeps → safe a → layer b ≡ layer a)
+      → (IsTrue (layer a).fixed.keeps → safe a → (below : List Layer) → KeepsStops below (layer a) sound gives (image a) (image b))
+      → Ran layer image extras safe lasts under files sees safe_under still lasts_under sound ok whole gives a b x x
+  ran_refused ok whole gives a b x like went stayed stops =
+      ran_driver layer image extras safe lasts under files sees safe_under still lasts_under sound ok whole gives a b x like.size went
+      (λ w i. subst (HoldsTrue (at (under x))) (sym (stayed w i.keeps i.is_safe)) i.held)
+      (λ w i p lt. inl (ap (λ (l : Layer). at (l ∷ under x) p) (stayed w i.keeps i.is_safe)))
       (λ i. stops i.keeps i.is_safe (under x))
 
   -- a mapping of the image that is committed, and then nothing is prepared
@@ -119,6 +141,30 @@ module _ {D B : Type 0} (layer : D → Layer) (image : D → StorageState) (extr
       (ap (λ (f : ℕ → Cell). through (f p) (at (under x) p)) (given_up_cell claim tag state (layer b) (layer c) mine spends ∙ ap (λ (l : Layer). l.cell) (stayed w i.keeps i.is_safe)))))
       (λ i. passes_on (Left (under x) (layer a) (image a).bytes sound (layer a).size gives) (image a) (image b) (image c) same (stops i.keeps i.is_safe (under x)))
 
+  -- writes to a mapping that is given up then
+  pub ran_abandoned : {S : Type 0} (claim tag : S → ℕ) (state : Option S) (ok whole : Type 0) (gives : ℕ → Value → Type 0) (a b c : D) (x : B) → (free_loose : (d : D) → IsFree (layer d) → (p : ℕ) → (layer d).held p ≡ loose)
+      → IsMine claim tag state (layer b) → (state ≡ None → IsFree (layer b)) → Spends claim tag state (layer b) (layer c) (Cancelled (layer b) (layer c)) → (safe b → safe c) → (lasts b → lasts c) → image c ≡ image b → extras c ≡ extras b
+      → Ran layer image extras safe lasts under files sees safe_under still lasts_under sound ok whole gives a b x x → Ran layer image extras safe lasts under files sees safe_under still lasts_under sound ok whole gives a c x x
+  ran_abandoned claim tag state ok whole gives a b c x free_loose mine stateless spends safely lasting same same' ran =
+      let size : (layer c).size ≡ (layer b).size = given_up_size claim tag state (layer b) (layer c) mine spends in
+      let alike : (p : ℕ) → at (layer c ∷ under x) p ≡ at (layer b ∷ under x) p = λ p.
+      at_alike (layer b) (layer c) (under x) p size (ap (λ (f : ℕ → Cell). through (f p) (at (under x) p)) (given_up_cell claim tag state (layer b) (layer c) mine spends)) in
+      ran_over layer image extras safe lasts under files sees safe_under still lasts_under sound ok whole gives a c x x (size ∙ ran.size)
+      (went_then layer image extras safe lasts ok (whole × sees x) a b c (given_up_fixed claim tag state (layer b) (layer c) mine spends) same same' safely lasting ran.went) ran.looked
+      (λ w i. holds_loose (at (under x)) (layer c) (free_loose c (given_up_free claim tag state (layer b) (layer c) mine stateless spends)))
+      (λ w i p lt. elim (ran.values w i p lt) [ inl was ↦ inl (alike p ∙ was) | inr gave ↦ inr (subst (gives p) (sym (alike p)) gave) ])
+      (λ i. passes_on (Left (under x) (layer a) (image a).bytes sound (layer a).size gives) (image a) (image b) (image c) same (ran.stops i))
+
+  -- what a call does to a driver alone, seen over the layers below
+  pub ran_seen_over : (ok whole : Type 0) (gives : ℕ → Value → Type 0) (a b : D) (x : B) → RanAlone layer image extras safe lasts sound ok whole gives (under x) a b
+      → Ran layer image extras safe lasts under files sees safe_under still lasts_under sound ok whole gives a b x x
+  ran_seen_over ok whole gives a b x ran =
+      let alone : IsIntact (under x) (layer a) (safe a) (sees x) → IsIntact (under x) (layer a) (safe a) ⊤ = λ i. record { keeps = i.keeps; is_safe = i.is_safe; is_seen = tt; backed = i.backed; held = i.held } in
+      ran_driver layer image extras safe lasts under files sees safe_under still lasts_under sound ok whole gives a b x ran.size (went_weaker layer image extras safe lasts ok (whole × ⊤) ok whole a b (λ h. h) (λ w. (w, tt)) ran.went)
+      (λ w i. (ran.intact w (alone i)).held)
+      (λ w i. ran.values w (alone i))
+      (λ i. ran.stops (alone i))
+
   -- A run that is prepared, written and spent.
   pub ran_run : (ok whole : Type 0) (a b c e : D) (x y : B) (offset n : ℕ) (bytes : List ℕ) → n ≤ length bytes
       → (IsIntact (under x) (layer a) (safe a) (sees x) → (p : ℕ) (v : Value) → GivesHeld (layer c) p v → GivesBytes offset (take n bytes) p v)
@@ -132,3 +178,21 @@ module _ {D B : Type 0} (layer : D → Layer) (image : D → StorageState) (extr
       (ran_both layer image extras safe lasts under files sees safe_under still lasts_under sound ok whole (GivesBytes offset (take n bytes)) (GivesHeld (layer c)) (λ p v. GivesBytes offset (take n bytes) p v ⊎ GivesHeld (layer c) p v) a c e x y y (λ p v gave. inl gave) (λ p v gave. inr gave)
       (ran_both layer image extras safe lasts under files sees safe_under still lasts_under sound ⊤ ⊤ GivesNone (GivesBytes offset (take n bytes)) (GivesBytes offset (take n bytes)) a b c x y y (λ p v none. absurd none) (λ p v gave. gave) first second)
       third)
+
+  -- The same of a run that is mapped for bytes of which it takes the first.
+  pub ran_spent : {S : Type 0} (claim : S → ℕ) (state : Option S) (ok whole : Type 0) (a b c e : D) (x y : B) (offset asked storage place n : ℕ) (bytes : List ℕ) → n ≤ length bytes
+      → ((p : ℕ) → (layer a).held p ≡ loose) → (layer b).size ≡ (layer a).size
+      → Went layer image extras safe lasts (true ≡ true) (⊤ × sees x) a b → LookedUnder under files sees safe_under still lasts_under (true ≡ true) ⊤ x y
+      → (IsTrue (layer a).fixed.keeps → safe a → sees x → Prepared (at (under x)) (layer a) (layer b) offset asked true storage place n (claim_of claim state))
+      → (IsTrue (layer a).fixed.keeps → safe a → sees x → KeepsStops (under x) (layer a) sound GivesNone (image a) (image b))
+      → (IsTrue (layer b).fixed.keeps → safe b → Wrote (layer b) (layer c) offset (take n bytes))
+      → Ran layer image extras safe lasts under files sees safe_under still lasts_under sound (true ≡ true) ⊤ (GivesBytes offset (take n bytes)) b c y y
+      → Ran layer image extras safe lasts under files sees safe_under still lasts_under sound ok whole (GivesHeld (layer c)) c e y y
+      → Ran layer image extras safe lasts under files sees safe_under still lasts_under sound ok whole (GivesBytes offset bytes) a e x y
+  ran_spent claim state ok whole a b c e x y offset asked storage place n bytes most was_loose size went looked made stops wrote second third =
+      ran_run ok whole a b c e x y offset n bytes most
+      (λ i. held_run (at (under x)) (layer a) (layer b) (layer c) offset asked true storage place n bytes (claim_of claim state) most (made i.keeps i.is_safe i.is_seen)
+      (wrote (subst (λ (f : Fixed). IsTrue f.keeps) (sym went.fixed) i.keeps) (went.safely (tt, i.is_seen) i.is_safe)))
+      (ran_mapped claim state a b x y offset asked true storage place n was_loose size went looked made stops)
+      (ran_weaker layer image extras safe lasts under files sees safe_under still lasts_under sound (true ≡ true) ⊤ ⊤ ⊤ (GivesBytes offset (take n bytes)) b c y y (λ h. refl) (λ h. h) second)
+      third

@@ -1,7 +1,7 @@
 pub mod Stopping
 pub mod FilePairs
 pub mod ReadCauses
-pub mod StorageCauses
+pub mod ImageCauses
 pub mod Units
 pub mod Looking
 pub mod Reading
@@ -12,6 +12,7 @@ pub mod ResizeCauses
 pub mod Untouched
 pub mod Answers
 pub mod Room
+pub mod Uncut
 pub mod CommitCauses
 pub mod Holding
 pub mod HoldingRuns

@@ -1,11 +1,14 @@
 -- Room that calls take and give up, one behind the other.
-use Rattle.std.proofs.Common.{◌≡◌, ◌∙◌, inl, inr, ℕ, ◌+◌, ◌-◌, ◌*◌, ◌<◌, ◌≤◌, min, List, length, take, arith, sym, subst}
+use Rattle.std.proofs.Common.{◌≡◌, refl, ◌∙◌, inl, inr, ℕ, ◌+◌, ◌-◌, ◌*◌, ◌<◌, ◌≤◌, min, List, length, take, arith, sym, subst}
 use Rattle.std.specs.Prelude.{⊤}
 use Rattle.std.proofs.lemmas.Grind.{common_steps}
 use Rattle.std.proofs.lemmas.Bool.{cases_lt}
 use Rattle.imago_storage.specs.Steps.{IsIn, IsOut}
 use Rattle.imago_access.specs.Layer.{Layer, Fixed, loose}
 use Rattle.imago_access.specs.Changes.{Wrote}
+use Rattle.imago_access.specs.Zeroings.{IsLeft}
+use Rattle.imago_access.specs.declared.access.zeroing.Zeroing.{Zeroing}
+use Rattle.imago_access.specs.declared.access.zeroing.Zeroing.TheVariants.{Keep, GiveUp}
 use Rattle.imago_access.specs.Room.{IsWholeUnit, IsOfUnit, IsApart, Reaches, IsGivenUp, IsGivenUpTo, LeavesRoom, Takes, GivesUp}
 
 -- a range lies in another
@@ -80,30 +83,47 @@ given_rest vacant unit size offset n before at start stays first reach =
     let past = at + (offset + n) in
     given_all vacant unit size offset n past (omega arith) (given_both vacant unit size offset n before at past (omega arith) (λ p u of low is. stays p is) first (given_empty vacant unit size at (offset + n - at) start past reach))
 
-module _ {D : Type 0} (vacant has_room : D → ℕ → Type 0) where
-  pub room_same : (left spared : ℕ → Type 0) (d : D) → LeavesRoom vacant has_room left spared d d
-  room_same left spared d = record { kept = λ p there has. has; free = λ p there is. is }
+module _ {D : Type 0} (vacant has_room zeroed : D → ℕ → Type 0) where
+  pub room_same : (left spared : ℕ → Type 0) (d : D) → LeavesRoom vacant has_room zeroed left spared d d
+  room_same left spared d = record { kept = λ p there has. has; free = λ p there is. is; zeroes = λ p there there' is. is }
 
   pub room_both : (left left' left'' spared spared' spared'' : ℕ → Type 0) (a b c : D) → ((p : ℕ) → left'' p → left p × left' p) → ((p : ℕ) → spared'' p → spared p × spared' p)
-      → LeavesRoom vacant has_room left spared a b → LeavesRoom vacant has_room left' spared' b c → LeavesRoom vacant has_room left'' spared'' a c
+      → LeavesRoom vacant has_room zeroed left spared a b → LeavesRoom vacant has_room zeroed left' spared' b c → LeavesRoom vacant has_room zeroed left'' spared'' a c
   room_both left left' left'' spared spared' spared'' a b c from to first second = record {
     kept = λ p there has. second.kept p (from p there).1 (first.kept p (from p there).0 has);
     free = λ p there is. second.free p (to p there).1 (first.free p (to p there).0 is);
+    zeroes = λ p there there' is. second.zeroes p (from p there).1 (to p there').1 (first.zeroes p (from p there).0 (to p there').0 is);
   }
 
   -- calls that give nothing up, one behind the other
-  pub takes_both : (spared spared' spared'' : ℕ → Type 0) (a b c : D) → ((p : ℕ) → spared'' p → spared p × spared' p) → Takes vacant has_room spared a b → Takes vacant has_room spared' b c → Takes vacant has_room spared'' a c
+  pub takes_both : (spared spared' spared'' : ℕ → Type 0) (a b c : D) → ((p : ℕ) → spared'' p → spared p × spared' p) → Takes vacant has_room zeroed spared a b → Takes vacant has_room zeroed spared' b c → Takes vacant has_room zeroed spared'' a c
   takes_both spared spared' spared'' a b c = room_both (λ _. ⊤) (λ _. ⊤) (λ _. ⊤) spared spared' spared'' a b c (λ p there. (tt, tt))
 
+  -- a run that is mapped, written and spent: it takes nothing where nothing is held
+  pub takes_run : (layer : D → Layer) (spared : ℕ → Type 0) (a b c e : D) → Takes vacant has_room zeroed (λ _. ⊤) a b → Takes vacant has_room zeroed (λ _. ⊤) b c
+      → ((p : ℕ) → spared p → (layer c).held p ≡ loose) → Takes vacant has_room zeroed (λ p. (layer c).held p ≡ loose) c e → Takes vacant has_room zeroed spared a e
+  takes_run layer spared a b c e first second free third =
+      takes_both (λ _. ⊤) (λ p. (layer c).held p ≡ loose) spared a c e (λ p there. (tt, free p there)) (takes_both (λ _. ⊤) (λ _. ⊤) (λ _. ⊤) a b c (λ p there. (tt, tt)) first second) third
+
   -- a discard of the rest of a range behind one
-  pub gives_up_both : (offset n start m : ℕ) (a b c : D) → offset ≤ start → start + m ≤ offset + n → GivesUp vacant has_room offset n a b → GivesUp vacant has_room start m b c → GivesUp vacant has_room offset n a c
+  pub gives_up_both : (offset n start m : ℕ) (a b c : D) → offset ≤ start → start + m ≤ offset + n → GivesUp vacant has_room zeroed offset n a b → GivesUp vacant has_room zeroed start m b c → GivesUp vacant has_room zeroed offset n a c
   gives_up_both offset n start m a b c from to = room_both (IsOut offset n) (IsOut start m) (IsOut offset n) (λ _. ⊤) (λ _. ⊤) (λ _. ⊤) a b c (λ p out. (out, out_wider offset n start m p from to out)) (λ p there. (tt, tt))
 
+-- where fewer places are asked for
+pub room_fewer : {D : Type 0} (vacant has_room zeroed : D → ℕ → Type 0) (left left' spared : ℕ → Type 0) (a b : D) → ((p : ℕ) → left' p → left p) → LeavesRoom vacant has_room zeroed left spared a b → LeavesRoom vacant has_room zeroed left' spared a b
+room_fewer vacant has_room zeroed left left' spared a b from h = record { kept = λ p there. h.kept p (from p there); free = h.free; zeroes = λ p there. h.zeroes p (from p there) }
+
+-- what a zeroing leaves stays in a call that leaves these places
+pub left_on : {D : Type 0} (vacant has_room zeroed : D → ℕ → Type 0) (left spared : ℕ → Type 0) (zeroing : Zeroing) (a b : D) (p : ℕ) → (zeroing ≡ Keep → left p) → spared p
+    → LeavesRoom vacant has_room zeroed left spared a b → IsLeft zeroing (vacant a) (zeroed a) p → IsLeft zeroing (vacant b) (zeroed b) p
+left_on vacant has_room zeroed left spared Keep a b p there apart room is = room.zeroes p (there refl) apart is
+left_on vacant has_room zeroed left spared GiveUp a b p there apart room is = room.free p apart is
+
 -- A call on a part of a range, behind calls on parts of it.
-pub room_then : {D : Type 0} (vacant has_room : D → ℕ → Type 0) (layer : D → Layer) (left left' : ℕ → Type 0) (offset n start m : ℕ) (a b c : D) → (layer b).fixed ≡ (layer a).fixed → offset ≤ start → start + m ≤ offset + n → ((p : ℕ) → left p → left' p)
-    → LeavesRoom vacant has_room left (IsApart (layer a).fixed.unit offset n) a b → LeavesRoom vacant has_room left' (IsApart (layer b).fixed.unit start m) b c → LeavesRoom vacant has_room left (IsApart (layer a).fixed.unit offset n) a c
-room_then vacant has_room layer left left' offset n start m a b c fixed from to more first second =
-    room_both vacant has_room left left' left (IsApart (layer a).fixed.unit offset n) (IsApart (layer b).fixed.unit start m) (IsApart (layer a).fixed.unit offset n) a b c (λ p there. (there, more p there))
+pub room_then : {D : Type 0} (vacant has_room zeroed : D → ℕ → Type 0) (layer : D → Layer) (left left' : ℕ → Type 0) (offset n start m : ℕ) (a b c : D) → (layer b).fixed ≡ (layer a).fixed → offset ≤ start → start + m ≤ offset + n → ((p : ℕ) → left p → left' p)
+    → LeavesRoom vacant has_room zeroed left (IsApart (layer a).fixed.unit offset n) a b → LeavesRoom vacant has_room zeroed left' (IsApart (layer b).fixed.unit start m) b c → LeavesRoom vacant has_room zeroed left (IsApart (layer a).fixed.unit offset n) a c
+room_then vacant has_room zeroed layer left left' offset n start m a b c fixed from to more first second =
+    room_both vacant has_room zeroed left left' left (IsApart (layer a).fixed.unit offset n) (IsApart (layer b).fixed.unit start m) (IsApart (layer a).fixed.unit offset n) a b c (λ p there. (there, more p there))
     (λ p apart. (apart, subst (λ (f : Fixed). IsApart f.unit start m p) (sym fixed) (apart_wider (layer a).fixed.unit offset n start m p from to apart))) first second
 
 -- Places apart from a run that is prepared and written aren't held.

@@ -1,6 +1,6 @@
 -- Zeroes over a range, part by part.
-use Rattle.std.proofs.Common.{◌≡◌, inl, inr, ℕ, ◌+◌, ◌-◌, ◌<◌, ◌≤◌, List, ◌∷◌, ◌++◌, length, slice_index, arith, sym, ◌∙◌, ap, subst}
-use Rattle.std.specs.Prelude.{⊤, Bool, IsTrue, false, Result, Ok, Err, IsOk, OnOk, IfErr, None, map, replicate, if◌then◌else◌}
+use Rattle.std.proofs.Common.{◌≡◌, refl, [], inl, inr, ℕ, ◌+◌, ◌-◌, ◌<◌, ◌≤◌, List, ◌∷◌, ◌++◌, length, slice_index, arith, sym, ◌∙◌, ap, subst}
+use Rattle.std.specs.Prelude.{⊤, Bool, Option, Some, IsTrue, false, Result, Ok, Err, IsOk, OnOk, IfErr, None, map, replicate, if◌then◌else◌}
 use Rattle.std.proofs.lemmas.Bool.{cases_lt, le-ltb}
 use Rattle.std.proofs.lemmas.List.{length-replicate, get_or-replicate}
 use Rattle.imago_storage.specs.State.{StorageState, IsAlignment}
@@ -9,17 +9,22 @@ use Rattle.imago_storage.specs.Steps as Steps
 use Rattle.imago_storage.specs.Steps.{Call, IsIn, Stays, Changes, Unless}
 use Rattle.imago_storage.specs.Causes.{Gives, PartlyDone, offset_of, length_of}
 use Rattle.imago_storage.specs.declared.fault.Fault.{Fault}
-use Rattle.imago_access.specs.Layer.{Layer, IsFree, IsLike, loose, through}
+use Rattle.imago_storage.specs.declared.fault.Fault.TheVariants.{Outdated}
+use Rattle.imago_access.specs.Layer.{Layer, Cell, Held, IsFree, IsLike, loose, through, unit_of_layer}
 use Rattle.imago_access.specs.Chain.{at}
-use Rattle.imago_access.specs.Files.{IsLater, IsMild, IsWhole}
+use Rattle.imago_access.specs.Changes.{Wrote, TakesByte}
+use Rattle.imago_access.specs.Files.{Pairs, IsLater, IsMild, IsWhole}
 use Rattle.imago_access.specs.Going.{Went}
-use Rattle.imago_access.specs.Parts.{PartCause}
+use Rattle.imago_access.specs.Parts.{PartCause, MappedCause}
 use Rattle.imago_access.specs.Refusals.{change_refusal}
+use Rattle.imago_access.specs.Room.{IsApart}
 use Rattle.imago_access.specs.Running.{IsIntact, IsBetween, Ran, RanChain, IsIntactChain, chain_disk, below_of}
 use Rattle.imago_access.specs.Stops.{KeepsStops, GivesBytes, GivesZero}
 use Rattle.imago_access.proofs.ChangeCauses.{part_cause_later}
+use Rattle.imago_access.proofs.Discarding.{like_both}
 use Rattle.imago_access.proofs.Disks.{allowed_inside, disk_step, disk_partly}
 use Rattle.imago_access.proofs.FilePairs.{pairs_append}
+use Rattle.imago_access.proofs.Room.{apart_out, out_wider}
 use Rattle.imago_access.proofs.Running.{holds_loose, ran_driver}
 use Rattle.imago_access.proofs.Units.{layer_aligned}
 
@@ -37,6 +42,72 @@ zeroes_long count bytes is = ap (length {A = ℕ}) is ∙ length-replicate count
 
 pub zeroes_zero : (count : ℕ) (bytes : List ℕ) → bytes ≡ replicate count 0 → (i : ℕ) → i < length bytes → slice_index bytes i ≡ 0
 zeroes_zero count bytes is i lt = ap (λ (z : List ℕ). slice_index z i) is ∙ get_or-replicate count i 0 0 (omega (arith, lt, zeroes_long count bytes is))
+
+-- Zeroes that are written to a mapping: of each place of the range it is a zero that is written.
+zero_taken : (old new : Layer) (guest n : ℕ) → Wrote old new guest (replicate n 0) → (i : ℕ) → i < n → TakesByte 0 (old.held (guest + i)) (old.cell (guest + i)) (new.held (guest + i)) (new.cell (guest + i))
+zero_taken old new guest n wrote i lt =
+    let long : length (replicate n 0) ≡ n = zeroes_long n (replicate n 0) refl in
+    subst (λ (z : ℕ). TakesByte z (old.held (guest + i)) (old.cell (guest + i)) (new.held (guest + i)) (new.cell (guest + i))) (zeroes_zero n (replicate n 0) refl i (omega (arith, lt, long))) (wrote.range i (omega (arith, lt, long)))
+
+pub wrote_none : (layer : Layer) (guest : ℕ) → Wrote layer layer guest (replicate 0 0)
+wrote_none layer guest = record { like = record { fixed = refl; size = refl; unspent = refl }; home = refl; range = λ i lt. absurd (omega (arith, lt)); others = λ p out. (refl, refl) }
+
+-- zeroes, and then more behind them
+pub wrote_more : (a b c : Layer) (guest k m : ℕ) → Wrote a b guest (replicate k 0) → Wrote b c (guest + k) (replicate m 0) → Wrote a c guest (replicate (k + m) 0)
+wrote_more a b c guest k m first second =
+    let first_long : length (replicate k 0) ≡ k = zeroes_long k (replicate k 0) refl in
+    let second_long : length (replicate m 0) ≡ m = zeroes_long m (replicate m 0) refl in
+    let long : length (replicate (k + m) 0) ≡ k + m = zeroes_long (k + m) (replicate (k + m) 0) refl in
+    record {
+      like = like_both a b c first.like second.like;
+      home = second.home ∙ first.home;
+      range = λ i lt. subst (λ (z : ℕ). TakesByte z (a.held (guest + i)) (a.cell (guest + i)) (c.held (guest + i)) (c.cell (guest + i))) (sym (zeroes_zero (k + m) (replicate (k + m) 0) refl i lt)) (elim (cases_lt i k) [
+        | inl low ↦
+            let stays = second.others (guest + i) (inl (omega (arith, low))) in
+            rw (stays.0, stays.1) (zero_taken a b guest k first i low)
+        | inr high ↦
+            let j = i - k in
+            let is : guest + k + j ≡ guest + i = omega (arith, high) in
+            let stayed = first.others (guest + i) (inr (omega (arith, high, first_long))) in
+            let took = subst (λ (p : ℕ). TakesByte 0 (b.held p) (b.cell p) (c.held p) (c.cell p)) is (zero_taken b c (guest + k) m second j (omega (arith, high, lt, long))) in
+            subst (λ (h : Held). TakesByte 0 h (a.cell (guest + i)) (c.held (guest + i)) (c.cell (guest + i))) stayed.1 (subst (λ (x : Cell). TakesByte 0 (b.held (guest + i)) x (c.held (guest + i)) (c.cell (guest + i))) stayed.0 took)
+      ]);
+      others = λ p out.
+          let before = first.others p (elim out [ inl low ↦ inl low | inr past ↦ inr (omega (arith, past, long, first_long)) ]) in
+          let after = second.others p (elim out [ inl low ↦ inl (omega (arith, low)) | inr past ↦ inr (omega (arith, past, long, second_long)) ]) in
+          (after.0 ∙ before.0, after.1 ∙ before.1);
+    }
+
+-- zeroes of a part are zeroes of the whole
+pub zeroes_wider : (offset n start m : ℕ) → offset ≤ start → start + m ≤ offset + n → (p : ℕ) (v : Value) → GivesBytes start (replicate m 0) p v → GivesBytes offset (replicate n 0) p v
+zeroes_wider offset n start m from to p v gave =
+    let short : length (replicate m 0) ≡ m = zeroes_long m (replicate m 0) refl in
+    let long : length (replicate n 0) ≡ n = zeroes_long n (replicate n 0) refl in
+    let i = p - offset in
+    let is : p ≡ offset + i = omega (arith, from, gave.2) in
+    let lt : i < length (replicate n 0) = omega (arith, from, to, short, long, gave.1, gave.2) in
+    (i, lt, is, gave.3 ∙ ap byte (zeroes_zero m (replicate m 0) refl gave.0 gave.1 ∙ sym (zeroes_zero n (replicate n 0) refl i lt)))
+
+-- places apart from a run that is prepared and zeroed aren't held
+pub zeroes_loose : (unit offset n k : ℕ) (mid new : Layer) → k ≤ n → ((p : ℕ) → IsApart unit offset n p → mid.held p ≡ loose) → Wrote mid new offset (replicate k 0) → (p : ℕ) → IsApart unit offset n p → new.held p ≡ loose
+zeroes_loose unit offset n k mid new most near wrote p apart =
+    let long : length (replicate k 0) ≡ k = zeroes_long k (replicate k 0) refl in
+    (wrote.others p (out_wider offset n offset (length (replicate k 0)) p (omega arith) (omega (arith, long, most)) (apart_out unit offset n p apart))).1 ∙ near p apart
+
+-- why a piece of a write to a mapping is refused, seen from the entry
+pub mapped_later : (entry mid : Layer) (guest place n done m : ℕ) (olds mids news : List StorageState) → mid.fixed ≡ entry.fixed → mid.size ≡ entry.size → mid.home ≡ entry.home → entry.failed ≡ false → mid.failed ≡ false → 0 < unit_of_layer entry
+    → done + m ≤ n → Pairs IsLater olds mids → (e : Fault) → MappedCause mid (guest + done) (place + done) m mids news e → MappedCause entry guest place n olds news e
+mapped_later entry mid guest place n done m olds mids news fixed size home ran runs positive inside later Outdated h = (
+  omega (arith, h.0, inside),
+  λ mapped. h.1 (
+    mapped.0,
+    λ i lt.
+        let there : place + (done + i) ≡ place + done + i = omega arith in
+        ap (λ (f : ℕ → Option (ℕ × ℕ)). f (guest + done + i)) home ∙ subst (λ (p : ℕ). entry.home p ≡ Some (mapped.0, place + done + i)) (omega arith) (subst (λ (q : ℕ). entry.home (guest + (done + i)) ≡ Some (mapped.0, q)) there (mapped.1 (done + i) (omega (arith, lt, inside)))),
+  ),
+)
+mapped_later entry mid guest place n done m olds mids news fixed size home ran runs positive inside later e h =
+    part_cause_later [] entry mid guest n (guest + done) m olds mids news fixed size ran runs positive (omega arith) (omega (arith, inside)) later (λ _. ⊥) (λ _. ⊥) e (λ none. none) h
 
 -- past the end of a layer the places are 0
 past_zero : (layer : Layer) (below : List Layer) (p : ℕ) → layer.size ≤ p → at (layer ∷ below) p ≡ byte 0

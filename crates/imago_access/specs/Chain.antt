@@ -1,5 +1,5 @@
 -- What a chain of layers shows.
-use Rattle.std.specs.Prelude.{◌≡◌, max, Bool, true, false, ℕ, List, [], ◌∷◌, if◌then◌else◌, ltb, ⊤}
+use Rattle.std.specs.Prelude.{◌≡◌, ◌⊎◌, max, Bool, true, false, ℕ, List, [], ◌∷◌, if◌then◌else◌, ltb, ⊤}
 use Rattle.imago_storage.specs.Disk.{Value, byte, Disk}
 use Rattle.imago_access.specs.Layer.{unmapped, Layer, through, hold_of, IsLike}
 
@@ -38,6 +38,12 @@ IsBacked (next ∷ below) layer = layer.fixed.blank ≡ unmapped
 abbrev pub Each : {D : Type 0} → (D → Type 0) → List D → Type 0
 Each P [] = ⊤
 Each P (d ∷ ds) = P d × Each P ds
+
+-- A call that goes from the top downward was refused on its way: each layer above the one that refused has P, and those below that one are
+-- what they were.
+abbrev pub EndsAt : {D : Type 0} → (D → Type 0) → List D → List D → Type 0
+EndsAt P (old ∷ olds) (new ∷ news) = (news ≡ olds) ⊎ (P new × EndsAt P olds news)
+EndsAt P _ _ = ⊥
 
 -- each layer is like what it was: what never changes, its size and the unspent mapping
 abbrev pub Likes : List Layer → List Layer → Type 0

@@ -3,7 +3,7 @@ use Rattle.std.specs.Prelude.{◌≡◌, ◌⊎◌, ⊤, ◌≤◌, ◌∷◌, [
 use Rattle.imago_storage.specs.State.{StorageState, Rose}
 use Rattle.imago_storage.specs.Calls.{Kept, Later}
 use Rattle.imago_storage.specs.declared.fault.Fault.{Fault}
-use Rattle.imago_storage.specs.declared.fault.Fault.TheVariants.{DamagedHeader, DamagedTable, Unsupported, VersionLimit, Limit, CacheFull, Memory, Storage}
+use Rattle.imago_storage.specs.declared.fault.Fault.TheVariants.{DamagedHeader, DamagedTable, DamagedDescriptor, Unsupported, VersionLimit, Limit, MissingBelow, ExtraLayer, CacheFull, BadArgument, Memory, Storage, BadCommand}
 
 -- the same things before and after, pair by pair
 abbrev pub Pairs : {A : Type 0} → (A → A → Type 0) → List A → List A → Type 0
@@ -28,9 +28,17 @@ abbrev pub SomeRose : List StorageState → List StorageState → Type 0
 SomeRose (old ∷ olds) (new ∷ news) = Rose old.faults new.faults ⊎ SomeRose olds news
 SomeRose _ _ = ⊥
 
--- a storage is named as the cause only where one has failed
-abbrev pub StorageCause : List StorageState → List StorageState → Fault → Type 0
-StorageCause olds news fault = fault ≡ Storage → SomeRose olds news
+-- Why a call of an image, sound or not, is refused: by a number that calls of images answer, and by a storage only where one has failed.
+abbrev pub ImageCause : List StorageState → List StorageState → Fault → Type 0
+ImageCause olds news DamagedHeader = ⊥
+ImageCause olds news DamagedDescriptor = ⊥
+ImageCause olds news MissingBelow = ⊥
+ImageCause olds news ExtraLayer = ⊥
+ImageCause olds news CacheFull = ⊥
+ImageCause olds news BadArgument = ⊥
+ImageCause olds news BadCommand = ⊥
+ImageCause olds news Storage = SomeRose olds news
+ImageCause olds news fault = ⊤
 
 -- neither want of memory nor a storage that failed
 abbrev pub IsMild : Fault → Type 0

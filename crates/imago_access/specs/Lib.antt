@@ -13,4 +13,5 @@ pub mod Stops
 pub mod Going
 pub mod Running
 pub mod Discards
+pub mod Zeroings
 pub mod Building

@@ -1,5 +1,5 @@
 -- What lookups answer.
-use Rattle.std.specs.Prelude.{◌≡◌, ⊤, ℕ, ◌+◌, ◌<◌, ◌≤◌, List, [], ◌∷◌, Bool, true, false, suc, zero, ◌&&◌, Some, IsSome, IsTrue}
+use Rattle.std.specs.Prelude.{◌≡◌, ◌⊎◌, ⊤, ℕ, ◌+◌, ◌<◌, ◌≤◌, List, [], ◌∷◌, Bool, true, false, suc, zero, ◌&&◌, Some, IsSome, IsTrue}
 use Rattle.imago_storage.specs.Through.{Overflows}
 use Rattle.imago_storage.specs.Disk.{Value, byte, barred}
 use Rattle.imago_access.specs.Layer.{Layer, Cell, own, unmapped, unit_of_layer, IsFree}
@@ -64,13 +64,25 @@ abbrev pub SaysZero : List Layer → ℕ → ℕ → Type 0
 SaysZero [] offset n = ⊥
 SaysZero (layer ∷ below) offset n = EachIs layer.cell offset n (λ i. own (byte 0))
 
+-- The top layer doesn't state the places itself: it leaves them to the layers below, it ends before them, or it shows no layer below.
+abbrev pub LeavesZero : List Layer → ℕ → ℕ → Type 0
+LeavesZero [] offset n = ⊤
+LeavesZero (layer ∷ below) offset n = EachIs layer.cell offset n (λ i. unmapped) ⊎ ((layer.size ≤ offset) ⊎ (layer.fixed.blank ≡ own (byte 0)))
+
+-- the layer at this depth itself says that the places can't be read
+abbrev pub SaysBarred : ℕ → List Layer → ℕ → ℕ → Type 0
+SaysBarred depth [] offset n = ⊥
+SaysBarred zero (layer ∷ below) offset n = EachIs layer.cell offset n (λ i. own barred)
+SaysBarred (suc depth) (layer ∷ below) offset n = SaysBarred depth below offset n
+
 -- What a chain's answer says of each place of its run, by the bytes at the places of its storages. A place can be written where each
--- layer on the way says so, and a zero is explicit where the top layer says so.
+-- layer on the way says so. A zero is explicit where the top layer says so, and any other isn't stated by that layer.
 abbrev pub DeepNames : List Layer → (ℕ → Value) → (ℕ → ℕ → ℕ → ℕ) → ℕ → ℕ → Mapping → Type 0
 DeepNames chain value stored offset n (deep.Raw depth storage place writable) =
     ((i : ℕ) → i < n → value (offset + i) ≡ byte (stored depth storage (place + i))) × (IsTrue writable → AreWritable depth chain storage place offset n)
-DeepNames chain value stored offset n (deep.Zero explicit) = ((i : ℕ) → i < n → value (offset + i) ≡ byte 0) × (IsTrue explicit → SaysZero chain offset n)
-DeepNames chain value stored offset n (deep.Special depth place) = ((i : ℕ) → i < n → value (offset + i) ≡ barred) × (place ≡ offset)
+DeepNames chain value stored offset n (deep.Zero explicit) =
+    ((i : ℕ) → i < n → value (offset + i) ≡ byte 0) × (IsTrue explicit → SaysZero chain offset n) × (explicit ≡ false → LeavesZero chain offset n)
+DeepNames chain value stored offset n (deep.Special depth place) = ((i : ℕ) → i < n → value (offset + i) ≡ barred) × (place ≡ offset) × SaysBarred depth chain offset n
 DeepNames chain value stored offset n deep.Eof = ⊤
 
 -- while nothing is prepared, a place of the top layer that can be written is answered as such
@@ -83,7 +95,7 @@ CanWrite depth [] offset = ⊥
 CanWrite zero (layer ∷ below) offset = IsFree layer × IsSome (layer.home offset)
 CanWrite (suc depth) (layer ∷ below) offset = IsTrue layer.fixed.lets_through × CanWrite depth below offset
 
--- a place that can be written is answered as such, at every depth
+-- an answer that names a storage says that the place can be written, where it can be in that layer
 abbrev pub DeepNamesWritable : List Layer → ℕ → ℕ → Mapping → Type 0
 DeepNamesWritable chain offset asked (deep.Raw depth storage place writable) = 0 < asked → CanWrite depth chain offset → IsTrue writable
 DeepNamesWritable chain offset asked mapping = ⊤

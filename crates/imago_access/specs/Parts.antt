@@ -8,12 +8,19 @@ use Rattle.imago_storage.specs.declared.fault.Fault.{Fault}
 use Rattle.imago_storage.specs.declared.fault.Fault.TheVariants.{ReadOnly, PastEnd, RangeOverflow, Unsupported, VersionLimit, Foreign, MissingData, Failed, Outdated, Memory, Storage}
 use Rattle.imago_access.specs.Layer.{Layer, unit_of_layer}
 use Rattle.imago_access.specs.Files.{SomeRose}
+use Rattle.imago_access.specs.Room.{IsUncutAt}
 use Rattle.imago_access.specs.Refusals.{barrier, SomeBarred}
 
 -- the range lies in that of the call
 pub record IsPartOf (call : Call) (offset n : ℕ) : Type 0 where
   pub start : offset_of call ≤ offset
   pub end : offset + n ≤ offset_of call + length_of call
+
+-- Its ends cut no unit that the call covers whole: what such a unit holds is never needed.
+pub record IsUncutPart (layer : Layer) (call : Call) (offset n : ℕ) : Type 0 where
+  pub part : IsPartOf call offset n
+  pub start : IsUncutAt layer.fixed.unit layer.size (offset_of call) (length_of call) offset
+  pub end : IsUncutAt layer.fixed.unit layer.size (offset_of call) (length_of call) (offset + n)
 
 -- the call announces that the whole of its range will be written
 abbrev pub announces : Call → Bool

@@ -1,5 +1,5 @@
 -- Why calls of a driver or of a chain are refused.
-use Rattle.std.specs.Prelude.{◌≡◌, ◌⊎◌, ⊤, ℕ, ◌+◌, ◌<◌, ◌^◌, Bool, Option, Some, None, List, [], ◌∷◌, if◌then◌else◌, ltb, leb, eqb, not, IsFalse}
+use Rattle.std.specs.Prelude.{◌≡◌, ◌⊎◌, ⊤, ℕ, ◌+◌, ◌<◌, ◌^◌, Bool, Option, Some, None, List, [], ◌∷◌, if◌then◌else◌, ltb, leb, eqb, not, IsTrue, IsFalse}
 use Rattle.imago_storage.specs.State.{StorageState}
 use Rattle.imago_storage.specs.Through.{round_up, Overflows}
 use Rattle.imago_storage.specs.Disk.{Value, barred, damaged_place, Disk}
@@ -38,6 +38,11 @@ change_refusal unit layer offset n =
 abbrev pub SomeBarred : List Layer → Fault → Type 0
 SomeBarred [] fault = ⊥
 SomeBarred (layer ∷ below) fault = (barrier layer ≡ Some fault) ⊎ SomeBarred below fault
+
+-- a layer of the chain has failed
+abbrev pub SomeFailed : List Layer → Type 0
+SomeFailed [] = ⊥
+SomeFailed (layer ∷ below) = IsTrue layer.failed ⊎ SomeFailed below
 
 -- a place of the range has this value
 abbrev pub SomeIs : (ℕ → Value) → ℕ → ℕ → Value → Type 0

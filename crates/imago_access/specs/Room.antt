@@ -17,6 +17,10 @@ pub record IsOfUnit (unit size u p : ℕ) : Type 0 where
   pub end : p < u * unit + unit
   pub on_disk : p < size
 
+-- a place cuts no unit that lies whole in a range
+abbrev pub IsUncutAt : ℕ → ℕ → ℕ → ℕ → ℕ → Type 0
+IsUncutAt unit size offset n at = (u : ℕ) → IsWholeUnit unit size offset n u → (at ≤ u * unit) ⊎ (min (u * unit + unit) size ≤ at)
+
 -- the place lies in a unit that a range doesn't touch
 abbrev pub IsApart : ℕ → ℕ → ℕ → ℕ → Type 0
 IsApart unit offset n p = (u : ℕ) × (u * unit ≤ p) × (p < u * unit + unit) × ((u * unit + unit ≤ offset) ⊎ (offset + n ≤ u * unit))
@@ -31,6 +35,10 @@ pub record Reaches (unit size offset n start done : ℕ) : Type 0 where
 abbrev pub IsGivenUp : (ℕ → Type 0) → ℕ → ℕ → ℕ → ℕ → Type 0
 IsGivenUp vacant unit size offset n = (u : ℕ) → IsWholeUnit unit size offset n u → (p : ℕ) → IsOfUnit unit size u p → vacant p
 
+-- each whole unit of a range has been zeroed
+abbrev pub IsZeroed : (ℕ → Type 0) → ℕ → ℕ → ℕ → ℕ → Type 0
+IsZeroed zeroed unit size offset n = (u : ℕ) → IsWholeUnit unit size offset n u → (p : ℕ) → IsOfUnit unit size u p → zeroed p
+
 -- so far: each whole unit that begins before a place ends there too, and has been given up
 abbrev pub IsGivenUpTo : (ℕ → Type 0) → ℕ → ℕ → ℕ → ℕ → ℕ → Type 0
 IsGivenUpTo vacant unit size offset n at = (u : ℕ) → IsWholeUnit unit size offset n u
@@ -41,18 +49,20 @@ pub record IsGivenUpBehind (vacant : ℕ → Type 0) (unit size offset n start a
   pub none_before : (u : ℕ) → IsWholeUnit unit size offset n u → start ≤ u * unit
   pub given : IsGivenUpTo vacant unit size offset n at
 
--- What a call leaves of the room that was allocated, and of what was vacant: at these places, and at those.
-pub record LeavesRoom {D : Type 0} (vacant has_room : D → ℕ → Type 0) (left spared : ℕ → Type 0) (old new : D) : Type 0 where
+-- What a call leaves of the room that was allocated, and of what was vacant: at these places, and at those. What was zeroed stays so at
+-- places that are both.
+pub record LeavesRoom {D : Type 0} (vacant has_room zeroed : D → ℕ → Type 0) (left spared : ℕ → Type 0) (old new : D) : Type 0 where
   pub kept : (p : ℕ) → left p → has_room old p → has_room new p
   pub free : (p : ℕ) → spared p → vacant old p → vacant new p
+  pub zeroes : (p : ℕ) → left p → spared p → zeroed old p → zeroed new p
 
 -- A call that gives nothing up, and takes nothing at the places that it has to spare.
-abbrev pub Takes : {D : Type 0} → (D → ℕ → Type 0) → (D → ℕ → Type 0) → (ℕ → Type 0) → D → D → Type 0
-Takes vacant has_room spared = LeavesRoom vacant has_room (λ _. ⊤) spared
+abbrev pub Takes : {D : Type 0} → (D → ℕ → Type 0) → (D → ℕ → Type 0) → (D → ℕ → Type 0) → (ℕ → Type 0) → D → D → Type 0
+Takes vacant has_room zeroed spared = LeavesRoom vacant has_room zeroed (λ _. ⊤) spared
 
 -- A call that takes nothing, and gives nothing up out of a range.
-abbrev pub GivesUp : {D : Type 0} → (D → ℕ → Type 0) → (D → ℕ → Type 0) → ℕ → ℕ → D → D → Type 0
-GivesUp vacant has_room offset n = LeavesRoom vacant has_room (IsOut offset n) (λ _. ⊤)
+abbrev pub GivesUp : {D : Type 0} → (D → ℕ → Type 0) → (D → ℕ → Type 0) → (D → ℕ → Type 0) → ℕ → ℕ → D → D → Type 0
+GivesUp vacant has_room zeroed offset n = LeavesRoom vacant has_room zeroed (IsOut offset n) (λ _. ⊤)
 
 -- the driver has no cause of its own to decline
 abbrev pub IsUndeclined : (Fault → Type 0) → Type 0

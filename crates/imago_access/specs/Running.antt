@@ -1,5 +1,5 @@
 -- What calls that change do to a chain.
-use Rattle.std.specs.Prelude.{◌≡◌, ◌⊎◌, ⊤, ℕ, ◌<◌, ◌∷◌, Some, None, List, map, IsTrue}
+use Rattle.std.specs.Prelude.{◌≡◌, ◌⊎◌, ⊤, ℕ, ◌<◌, [], ◌∷◌, Some, None, List, map, IsTrue}
 use Rattle.imago_storage.specs.State.{StorageState}
 use Rattle.imago_storage.specs.Disk.{Value, Disk}
 use Rattle.imago_access.specs.Layer.{Layer, Held, loose, beside, inside}
@@ -48,6 +48,10 @@ IsIntactChain layer safe sees c = IsIntact (map layer c.1) (layer c.0) (safe c.0
 
 abbrev pub RanChain : {D : Type 0} → (D → Layer) → (D → StorageState) → (D → List StorageState) → (D → Type 0) → (D → Type 0) → (D → Type 0) → (D → Type 0) → (ℕ → List ℕ → Type 0) → Type 0 → Type 0 → (ℕ → Value → Type 0) → D × List D → D × List D → Type 0
 RanChain layer image extras sees safe still lasts sound ok whole gives old new = Ran layer image extras safe lasts (map layer) (files_of image extras) (Each sees) (Each safe) (Each still) (Each lasts) sound ok whole gives old.0 new.0 old.1 new.1
+
+-- the same of a driver alone, over whatever layers below
+abbrev pub RanAlone : {D : Type 0} → (D → Layer) → (D → StorageState) → (D → List StorageState) → (D → Type 0) → (D → Type 0) → (ℕ → List ℕ → Type 0) → Type 0 → Type 0 → (ℕ → Value → Type 0) → List Layer → D → D → Type 0
+RanAlone layer image extras safe lasts sound ok whole gives below old new = Ran {B = List Layer} layer image extras safe lasts (λ b. b) (λ b. []) (λ b. ⊤) (λ b. ⊤) (λ b. ⊤) (λ b. ⊤) sound ok whole gives old new below below
 
 -- the disk of a chain
 abbrev pub chain_disk : {D : Type 0} → (D → Layer) → D × List D → Disk

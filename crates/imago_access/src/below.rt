@@ -4,7 +4,7 @@ ghost use Rattle.imago_storage.specs.State.{StorageState};
 ghost use Rattle.imago_storage.specs.Disk.{Shows};
 ghost use Rattle.imago_access.specs.Layer.{Layer};
 ghost use Rattle.imago_access.specs.Chain.{at, has_any, unit_of_chain};
-ghost use Rattle.imago_access.specs.Files.{IsWhole, StorageCause};
+ghost use Rattle.imago_access.specs.Files.{IsWhole, ImageCause};
 ghost use Rattle.imago_access.specs.Going.{LookedUnder};
 ghost use Rattle.imago_access.specs.Refusals.{ReadCause};
 
@@ -43,7 +43,7 @@ pub trait ReadBelow {
     fn read(&mut self, alloc: Global, buf: &mut [u8], offset: u64) -> Result<(), Fault>
         ensures shown { OnOk result (sees_under self.old → Shows (at (under self.old)) offset buf.new) }
         ensures looked { LookedUnder under files_under sees_under safe_under still_under lasts_under (IsOk result) (IsWhole result) self.old self.new }
-        ensures failed { IfErr result (StorageCause (files_under self.old) (files_under self.new)) }
+        ensures failed { IfErr result (ImageCause (files_under self.old) (files_under self.new)) }
         ensures cause { sees_under self.old → IfErr result (ReadCause (under self.old) (at (under self.old)) (unit_of_chain (under self.old)) offset (length buf.old) (files_under self.old) (files_under self.new)) };
 }
 

@@ -84,7 +84,8 @@ impl<S> FormatDriverBuilderBase<S> {
 
     /// The image file. The gate isn't asked, since the file was handed in.
     pub fn open_image<G: ImplicitOpenGate<S>>(self, _gate: &mut G) -> Result<S, Fault>
-        ensures { result ≡ Ok self.image }
+        ensures image { result ≡ Ok self.image }
+        ensures gate { _gate.new ≡ _gate.old }
     {
         let FormatDriverBuilderBase {
             image,

@@ -1,19 +1,19 @@
 // What a driver of a format promises to the chain above it.
-ghost use Rattle.std.specs.Prelude.{◌++◌, IsFalse, false, ◌≡◌, ◌∷◌, [], ◌<◌, ◌≤◌, ◌+◌, ◌⊎◌, ℕ, Bool, Option, Some, None, List, ⊤, is_some, IfSome, IsSome, IsTrue, IsOk, IfOk, IfErr, OnOk, IsErr, IsErrOf, MatchResult, length, slice_index};
+ghost use Rattle.std.specs.Prelude.{◌++◌, IsFalse, false, ◌≡◌, ◌∷◌, [], ◌<◌, ◌≤◌, ◌+◌, ◌^◌, ◌⊎◌, ℕ, Bool, Option, Some, None, List, ⊤, is_some, IfSome, IsSome, IsTrue, IsOk, IfOk, IfErr, OnOk, IsErr, IsErrOf, MatchResult, length, slice_index};
 ghost use Rattle.imago_storage.specs.State.{StorageState, IsAlignment};
 ghost use Rattle.imago_storage.specs.Steps.{Call, shrink, IsIn, IsOut};
 ghost use Rattle.imago_storage.specs.Through.{Overflows};
 ghost use Rattle.imago_storage.specs.Disk.{byte};
 ghost use Rattle.imago_access.specs.Layer.{Layer, own, unmapped, loose, IsFree, IsLike, unit_of_layer};
 ghost use Rattle.imago_access.specs.Chain.{at, IsBacked};
-ghost use Rattle.imago_access.specs.Room.{IsApart, Reaches, Takes, GivesUp};
-ghost use Rattle.imago_access.specs.Files.{Pairs, IsKept, SomeRose, StorageCause, IsMild, IsWhole, IsAnswered, IsStale};
+ghost use Rattle.imago_access.specs.Room.{IsApart, IsUncutAt, Reaches, Takes, GivesUp};
+ghost use Rattle.imago_access.specs.Files.{Pairs, IsKept, ImageCause, IsMild, IsWhole, IsAnswered, IsStale};
 ghost use Rattle.imago_access.specs.Going.{Looked, LookedUnder, Went};
 ghost use Rattle.imago_access.specs.Mappings.{IsRun, Looks};
 ghost use Rattle.imago_access.specs.Refusals.{barrier, change_refusal, LookCause, ReadMappedCause, InvalidateCause};
 ghost use Rattle.imago_access.specs.Changes.{Rewrites, PartRewrites, ToZero, ToAny, ToBelow, Prepared, NotPrepared, Wrote, Committed, Cancelled};
 ghost use Rattle.imago_access.specs.Spending.{claim_of, IsMine, Spends, commit_refusal, GivenBack, IsForeignTo};
-ghost use Rattle.imago_access.specs.Parts.{IsPartOf, announces, PartCause, DeclinableCause, PlainCause, IsMappedAt, MappedCause, GrowthCause, ShrinkCause};
+ghost use Rattle.imago_access.specs.Parts.{IsPartOf, IsUncutPart, announces, PartCause, DeclinableCause, PlainCause, IsMappedAt, MappedCause, GrowthCause, ShrinkCause};
 ghost use Rattle.imago_access.specs.Resizes.{fill_of, Grown, NotGrown, Shrunk, NotShrunk};
 ghost use Rattle.imago_access.specs.Stops.{IsMeant, IsCovered, KeepsStops, KeepsStopsTo, MakesNone, GivesNone, GivesBytes, GivesZero, GivesAny, GivesBelow, GivesPast, GivesBelowPast, GivesSettled};
 ghost use Rattle.imago_access.specs.declared.format.PreallocateMode.{PreallocateMode};
@@ -33,7 +33,8 @@ use std::alloc::Global;
 /// nothing waits in memory to be written, and what lasts over every call.
 ///
 /// Each call but the getters and a cancel refuses with `Fault::Failed` after an earlier fault, and with `Fault::MissingData` where a
-/// file that is needed wasn't handed in; then, where its range is empty, it succeeds and does nothing.
+/// file that is needed wasn't handed in; then, where its range is empty, it succeeds and does nothing, but for `read_special`, which never
+/// succeeds.
 pub trait FormatDriverInstance {
     /// What its files are.
     type Storage;
@@ -70,6 +71,10 @@ pub trait FormatDriverInstance {
     /// A place has room of its own, which a write or a zeroing keeps for it. What is allocated and isn't its own, as compressed bytes, is
     /// neither.
     ghost has_room: { Self → ℕ → Type 0 };
+
+    /// Neither bytes of a storage nor what can't be read stand for a place, where the format can say of a place that it is 0. Places past the
+    /// disk's end may count as zeroed.
+    ghost zeroed: { Self → ℕ → Type 0 };
 
     /// Which mapping a state belongs to, and the number of the image that prepared it.
     ghost claim: { Self.State → ℕ };
@@ -143,7 +148,7 @@ pub trait FormatDriverInstance {
         ensures barred { (f : Fault) → barrier (layer self.old) ≡ Some f → IsErrOf result f }
         ensures looked { Looked layer image extras sees safe still lasts sound (IsOk result) (IsWhole result) self.old self.new }
         ensures began { OnOk result ((d : Self) (call : Call) → began d call self.old → began d call self.new) }
-        ensures failed { IfErr result (StorageCause (image self.old ∷ extras self.old) (image self.new ∷ extras self.new)) }
+        ensures failed { IfErr result (ImageCause (image self.old ∷ extras self.old) (image self.new ∷ extras self.new)) }
         ensures cause { sees self.old → IfErr result (LookCause (layer self.old) offset max_length (image self.old ∷ extras self.old) (image self.new ∷ extras self.new)) };
 
     /// Fills the buffer with the bytes of a storage from a place on, as a lookup has named them. Past its end it reads zeroes.
@@ -158,16 +163,19 @@ pub trait FormatDriverInstance {
         buf: &mut [u8],
     ) -> Result<(), Fault>
         ensures bytes { OnOk result ((i : ℕ) → i < length buf.old → slice_index buf.new i ≡ stored self.old storage (place + i)) }
+        ensures idle { length buf.old ≡ 0 → barrier (layer self.old) ≡ None → IsOk result }
         ensures barred { (f : Fault) → barrier (layer self.old) ≡ Some f → IsErrOf result f }
         ensures looked { Looked layer image extras sees safe still lasts sound (IsOk result) (IsWhole result) self.old self.new }
         ensures began { OnOk result ((d : Self) (call : Call) → began d call self.old → began d call self.new) }
         ensures none { MakesNone (image self.old) (image self.new) }
         ensures cause { IfErr result (ReadMappedCause (layer self.old) place (length buf.old) (image self.old ∷ extras self.old) (image self.new ∷ extras self.new)) };
 
-    /// A read of places that can't be read as bytes of a storage: `Fault::Barred`. It leaves all as it was, and the buffer too.
+    /// A read of places that can't be read as bytes of a storage: `Fault::Barred`, where the image can be used. It leaves all as it was,
+    /// and the buffer too.
     fn read_special(&mut self, buf: &mut [u8], offset: u64) -> Result<(), Fault>
         ensures err { IfErr result (λ e. (barrier (layer self.old) ≡ Some e) ⊎ (e ≡ Barred)) }
         ensures refused { IsErr result }
+        ensures barred { (f : Fault) → barrier (layer self.old) ≡ Some f → IsErrOf result f }
         ensures same { (layer self.new ≡ layer self.old) × (image self.new ≡ image self.old) × (extras self.new ≡ extras self.old) }
         ensures sees { sees self.old → sees self.new }
         ensures safe { safe self.old → safe self.new }
@@ -176,8 +184,9 @@ pub trait FormatDriverInstance {
 
     /// Maps a run from the offset on so that it can be written: at least one byte, and not more than asked. What the run shows is copied
     /// to its new place first, and what is written there is part of the disk once the mapping is committed. With `overwrite` all of the
-    /// run is going to be written before that, so it isn't copied. What it holds lies in units that the range touches. Nothing may be
-    /// prepared.
+    /// run is going to be written before that, so it isn't copied. The run ends inside no unit that the range covers whole, and what it
+    /// holds lies in units that the range touches. For an empty range it answers a mapping without state and of no length, at the start of
+    /// the storage 0. Nothing may be prepared.
     ///
     /// It refuses with `Fault::ReadOnly`, `Fault::RangeOverflow` and `Fault::PastEnd`, with causes of the driver's own, with
     /// `Fault::Memory` and `Fault::Storage`. A refusal for another cause than the last two changes no value.
@@ -192,6 +201,8 @@ pub trait FormatDriverInstance {
         requires free { IsFree (layer self.old) }
         ensures run { IfOk result (λ m. (m.length ≤ length) × (0 < length → 0 < m.length) × (0 < length → offset + m.length ≤ (layer self.old).size)) }
         ensures ok { IsTrue (layer self.old).fixed.keeps → safe self.old → B.sees_under below.old → IfOk result (λ m. Prepared (at (B.under below.old)) (layer self.old) (layer self.new) offset length overwrite m.storage m.offset m.length (claim_of claim m.state)) }
+        ensures fits { IfOk result (λ m. m.offset + m.length < 2 ^ 64) }
+        ensures uncut { IsTrue (layer self.old).fixed.keeps → safe self.old → B.sees_under below.old → IfOk result (λ m. IsUncutAt (layer self.old).fixed.unit (layer self.old).size offset length (offset + m.length)) }
         ensures mine { IfOk result (λ m. IsMine claim tag m.state (layer self.new)) }
         ensures stateless { IfOk result (λ m. m.state ≡ None → IsFree (layer self.new)) }
         ensures empty { length ≡ 0 → IfOk result (λ m. (m ≡ record { storage = 0; offset = 0; length = 0; state = None }) × (layer self.new ≡ layer self.old)) }
@@ -200,14 +211,14 @@ pub trait FormatDriverInstance {
         ensures idle { length ≡ 0 → barrier (layer self.old) ≡ None → IsOk result }
         ensures size { (layer self.new).size ≡ (layer self.old).size }
         ensures free { IsErr result → IsFree (layer self.new) }
-        ensures room { IsTrue (layer self.old).fixed.keeps → safe self.old → B.sees_under below.old → IsWhole result → Takes vacant has_room (λ _. ⊤) self.old self.new }
+        ensures room { IsTrue (layer self.old).fixed.keeps → safe self.old → B.sees_under below.old → IsWhole result → Takes vacant has_room zeroed (λ _. ⊤) self.old self.new }
         ensures near { IsTrue (layer self.old).fixed.keeps → safe self.old → B.sees_under below.old → OnOk result ((p : ℕ) → IsApart (layer self.old).fixed.unit offset length p → (layer self.new).held p ≡ loose) }
         ensures went { Went layer image extras safe lasts (IsOk result) (IsWhole result × B.sees_under below.old) self.old self.new }
         ensures began { (d : Self) (call : Call) → began d call self.old → IsPartOf call offset length → IsWhole result → began d call self.new }
         ensures stops { IsTrue (layer self.old).fixed.keeps → safe self.old → B.sees_under below.old → KeepsStops (B.under below.old) (layer self.old) sound GivesNone (image self.old) (image self.new) }
         ensures below { LookedUnder B.under B.files_under B.sees_under B.safe_under B.still_under B.lasts_under (IsOk result) (IsWhole result) below.old below.new }
-        ensures failed { IfErr result (StorageCause (image self.old ∷ extras self.old ++ B.files_under below.old) (image self.new ∷ extras self.new ++ B.files_under below.new)) }
-        ensures cause { safe self.old → B.sees_under below.old → (d : Self) (call : Call) → began d call self.old → IsPartOf call offset length → overwrite ≡ announces call → IfErr result (PartCause (B.under below.old) (layer self.old) offset length (own_cause d (B.under below.old) call) (image self.old ∷ extras self.old ++ B.files_under below.old) (image self.new ∷ extras self.new ++ B.files_under below.new)) };
+        ensures failed { IfErr result (ImageCause (image self.old ∷ extras self.old ++ B.files_under below.old) (image self.new ∷ extras self.new ++ B.files_under below.new)) }
+        ensures cause { safe self.old → B.sees_under below.old → (d : Self) (call : Call) → began d call self.old → IsUncutPart (layer self.old) call offset length → overwrite ≡ announces call → IfErr result (PartCause (B.under below.old) (layer self.old) offset length (own_cause d (B.under below.old) call) (image self.old ∷ extras self.old ++ B.files_under below.old) (image self.new ∷ extras self.new ++ B.files_under below.new)) };
 
     /// Makes a prepared mapping part of the disk. One without state takes no memory and succeeds.
     ///
@@ -224,11 +235,11 @@ pub trait FormatDriverInstance {
         ensures at_once { (f : Fault) → commit_refusal tag mapping.state (layer self.old) ≡ Some f → MatchResult result (λ _. ⊥) (λ e. e.0 ≡ f) }
         ensures spent { IfErr result (λ e. e.1 ≡ None → IsSome mapping.state × IsTrue (layer self.new).failed × Spends claim tag mapping.state (layer self.old) (layer self.new) (IsFree (layer self.new) × (safe self.old → IsMild e.0 → ⊥))) }
         ensures size { (layer self.new).size ≡ (layer self.old).size }
-        ensures room { IsTrue (layer self.old).fixed.keeps → safe self.old → IsMine claim tag mapping.state (layer self.old) → OnOk result (Takes vacant has_room (λ p. (layer self.old).held p ≡ loose) self.old self.new) }
-        ensures back_room { IsTrue (layer self.old).fixed.keeps → safe self.old → IfErr result (λ e. IfSome e.1 (λ m. Takes vacant has_room (λ _. ⊤) self.old self.new)) }
+        ensures room { IsTrue (layer self.old).fixed.keeps → safe self.old → IsMine claim tag mapping.state (layer self.old) → OnOk result (Takes vacant has_room zeroed (λ p. (layer self.old).held p ≡ loose) self.old self.new) }
+        ensures back_room { IsTrue (layer self.old).fixed.keeps → safe self.old → IfErr result (λ e. IfSome e.1 (λ m. Takes vacant has_room zeroed (λ _. ⊤) self.old self.new)) }
         ensures began { (d : Self) (call : Call) → began d call self.old → IsMine claim tag mapping.state (layer self.old) → OnOk result (began d call self.new) }
         ensures stops { IsTrue (layer self.old).fixed.keeps → safe self.old → IsMine claim tag mapping.state (layer self.old) → (below : List Layer) → KeepsStops below (layer self.old) sound (GivesSettled below (layer self.old)) (image self.old) (image self.new) }
-        ensures failed { IfErr result (λ e. e.0 ≡ Fault.Storage → SomeRose (image self.old ∷ extras self.old) (image self.new ∷ extras self.new)) };
+        ensures failed { IfErr result (λ e. ImageCause (image self.old ∷ extras self.old) (image self.new ∷ extras self.new) e.0) };
 
     /// Gives a prepared mapping up: the disk is as it was before. It makes no request and takes no memory, also where the image has failed.
     ///
@@ -239,7 +250,7 @@ pub trait FormatDriverInstance {
     ) -> Result<(), (Fault, PreparedDataMapping<Self::State>)>
         ensures ok { OnOk result (Spends claim tag mapping.state (layer self.old) (layer self.new) (Cancelled (layer self.old) (layer self.new))) }
         ensures safe { IsMine claim tag mapping.state (layer self.old) → safe self.old → safe self.new }
-        ensures room { IsTrue (layer self.old).fixed.keeps → safe self.old → IsMine claim tag mapping.state (layer self.old) → Takes vacant has_room (λ _. ⊤) self.old self.new }
+        ensures room { IsTrue (layer self.old).fixed.keeps → safe self.old → IsMine claim tag mapping.state (layer self.old) → Takes vacant has_room zeroed (λ _. ⊤) self.old self.new }
         ensures lasts { lasts self.old → lasts self.new }
         ensures back { IfErr result (λ e. (e.1 ≡ mapping) × (e.0 ≡ Foreign) × (layer self.new ≡ layer self.old) × IsForeignTo tag mapping.state (layer self.old)) }
         ensures began { (d : Self) (call : Call) → began d call self.old → began d call self.new }
@@ -263,16 +274,17 @@ pub trait FormatDriverInstance {
         ensures at_once { (f : Fault) → change_refusal (unit_of_layer (layer self.old)) (layer self.old) guest (length bytes.now) ≡ Some f → IsErrOf result f }
         ensures idle { length bytes.now ≡ 0 → barrier (layer self.old) ≡ None → IsOk result }
         ensures like { IsLike (layer self.old) (layer self.new) }
-        ensures room { IsTrue (layer self.old).fixed.keeps → safe self.old → IsWhole result → Takes vacant has_room (λ _. ⊤) self.old self.new }
+        ensures room { IsTrue (layer self.old).fixed.keeps → safe self.old → IsWhole result → Takes vacant has_room zeroed (λ _. ⊤) self.old self.new }
         ensures went { Went layer image extras safe lasts (IsOk result) (IsWhole result) self.old self.new }
         ensures began { (d : Self) (call : Call) → began d call self.old → OnOk result (began d call self.new) }
         ensures stops { IsTrue (layer self.old).fixed.keeps → safe self.old → (below : List Layer) → KeepsStops below (layer self.old) sound (GivesBytes guest bytes.now) (image self.old) (image self.new) }
-        ensures failed { IfErr result (StorageCause (image self.old ∷ extras self.old) (image self.new ∷ extras self.new)) }
+        ensures failed { IfErr result (ImageCause (image self.old ∷ extras self.old) (image self.new ∷ extras self.new)) }
         ensures cause { safe self.old → IfErr result (MappedCause (layer self.old) guest place (length bytes.now) (image self.old ∷ extras self.old) (image self.new ∷ extras self.new)) };
 
     /// Makes a part of the range read as 0 and keeps what is allocated for it. Nothing may be prepared.
     ///
-    /// It answers the part that it has done: from where on, and how many bytes. The rest of the range is left as it was. It refuses with
+    /// It answers the part that it has done: from where on, and how many bytes. That part leaves out no whole unit of the range before it,
+    /// cuts none, and isn't empty where the range has one. The rest of the range is left as it was. It refuses with
     /// `Fault::ReadOnly`, `Fault::RangeOverflow` and `Fault::PastEnd`, with `Fault::VersionLimit` where the format can't, with causes of the driver's own,
     /// with `Fault::Memory` and `Fault::Storage`. A refusal for another cause than the last two leaves each byte of the range old or as
     /// the call gives it, and one with `Fault::Unsupported` or `Fault::VersionLimit` has met no storage that failed.
@@ -290,11 +302,13 @@ pub trait FormatDriverInstance {
         ensures at_once { (f : Fault) → change_refusal (unit_of_layer (layer self.old)) (layer self.old) offset length ≡ Some f → IsErrOf result f }
         ensures idle { length ≡ 0 → barrier (layer self.old) ≡ None → IsOk result }
         ensures like { IsLike (layer self.old) (layer self.new) }
-        ensures room { IsTrue (layer self.old).fixed.keeps → safe self.old → IsWhole result → Takes vacant has_room (IsOut offset length) self.old self.new }
+        ensures room { IsTrue (layer self.old).fixed.keeps → safe self.old → IsWhole result → Takes vacant has_room zeroed (IsOut offset length) self.old self.new }
+        ensures given { IsTrue (layer self.old).fixed.keeps → safe self.old → IfOk result (λ r. (p : ℕ) → IsIn r.0 r.1 p → zeroed self.new p) }
+        ensures reach { IsTrue (layer self.old).fixed.keeps → safe self.old → IfOk result (λ r. Reaches (layer self.old).fixed.unit (layer self.old).size offset length r.0 r.1) }
         ensures went { Went layer image extras safe lasts (IsAnswered result) (IsWhole result) self.old self.new }
         ensures began { (d : Self) (call : Call) → began d call self.old → IsPartOf call offset length → IsWhole result → began d call self.new }
         ensures stops { IsTrue (layer self.old).fixed.keeps → safe self.old → (below : List Layer) → KeepsStops below (layer self.old) sound (GivesZero offset length) (image self.old) (image self.new) }
-        ensures failed { IfErr result (StorageCause (image self.old ∷ extras self.old) (image self.new ∷ extras self.new)) }
+        ensures failed { IfErr result (ImageCause (image self.old ∷ extras self.old) (image self.new ∷ extras self.new)) }
         ensures cause { safe self.old → (below : List Layer) (d : Self) (call : Call) → began d call self.old → IsPartOf call offset length → IfErr result (DeclinableCause below (layer self.old) offset length (own_cause d below call) (image self.old ∷ extras self.old) (image self.new ∷ extras self.new)) };
 
     /// Makes a part of the range read as 0 and gives up what is allocated for it. Nothing may be prepared.
@@ -318,13 +332,13 @@ pub trait FormatDriverInstance {
         ensures at_once { (f : Fault) → change_refusal (unit_of_layer (layer self.old)) (layer self.old) offset length ≡ Some f → IsErrOf result f }
         ensures idle { length ≡ 0 → barrier (layer self.old) ≡ None → IsOk result }
         ensures like { IsLike (layer self.old) (layer self.new) }
-        ensures room { IsTrue (layer self.old).fixed.keeps → safe self.old → IsWhole result → GivesUp vacant has_room offset length self.old self.new }
+        ensures room { IsTrue (layer self.old).fixed.keeps → safe self.old → IsWhole result → GivesUp vacant has_room zeroed offset length self.old self.new }
         ensures given { IsTrue (layer self.old).fixed.keeps → safe self.old → IfOk result (λ r. (p : ℕ) → IsIn r.0 r.1 p → vacant self.new p) }
         ensures reach { IsTrue (layer self.old).fixed.keeps → safe self.old → IfOk result (λ r. Reaches (layer self.old).fixed.unit (layer self.old).size offset length r.0 r.1) }
         ensures went { Went layer image extras safe lasts (IsAnswered result) (IsWhole result) self.old self.new }
         ensures began { (d : Self) (call : Call) → began d call self.old → IsPartOf call offset length → IsWhole result → began d call self.new }
         ensures stops { IsTrue (layer self.old).fixed.keeps → safe self.old → (below : List Layer) → KeepsStops below (layer self.old) sound (GivesZero offset length) (image self.old) (image self.new) }
-        ensures failed { IfErr result (StorageCause (image self.old ∷ extras self.old) (image self.new ∷ extras self.new)) }
+        ensures failed { IfErr result (ImageCause (image self.old ∷ extras self.old) (image self.new ∷ extras self.new)) }
         ensures cause { safe self.old → (below : List Layer) (d : Self) (call : Call) → began d call self.old → IsPartOf call offset length → IfErr result (DeclinableCause below (layer self.old) offset length (own_cause d below call) (image self.old ∷ extras self.old) (image self.new ∷ extras self.new)) };
 
     /// Gives up a part of the range, whose bytes may then be any. Nothing may be prepared.
@@ -348,13 +362,13 @@ pub trait FormatDriverInstance {
         ensures at_once { (f : Fault) → change_refusal (unit_of_layer (layer self.old)) (layer self.old) offset length ≡ Some f → IsErrOf result f }
         ensures idle { length ≡ 0 → barrier (layer self.old) ≡ None → IsOk result }
         ensures like { IsLike (layer self.old) (layer self.new) }
-        ensures room { IsTrue (layer self.old).fixed.keeps → safe self.old → IsWhole result → GivesUp vacant has_room offset length self.old self.new }
+        ensures room { IsTrue (layer self.old).fixed.keeps → safe self.old → IsWhole result → GivesUp vacant has_room zeroed offset length self.old self.new }
         ensures given { IsTrue (layer self.old).fixed.keeps → safe self.old → IfOk result (λ r. (p : ℕ) → IsIn r.0 r.1 p → vacant self.new p) }
         ensures reach { IsTrue (layer self.old).fixed.keeps → safe self.old → IfOk result (λ r. Reaches (layer self.old).fixed.unit (layer self.old).size offset length r.0 r.1) }
         ensures went { Went layer image extras safe lasts (IsAnswered result) (IsWhole result) self.old self.new }
         ensures began { (d : Self) (call : Call) → began d call self.old → IsPartOf call offset length → IsWhole result → began d call self.new }
         ensures stops { IsTrue (layer self.old).fixed.keeps → safe self.old → (below : List Layer) → KeepsStops below (layer self.old) sound (GivesAny offset length) (image self.old) (image self.new) }
-        ensures failed { IfErr result (StorageCause (image self.old ∷ extras self.old) (image self.new ∷ extras self.new)) }
+        ensures failed { IfErr result (ImageCause (image self.old ∷ extras self.old) (image self.new ∷ extras self.new)) }
         ensures cause { safe self.old → (below : List Layer) (d : Self) (call : Call) → began d call self.old → IsPartOf call offset length → IfErr result (DeclinableCause below (layer self.old) offset length (own_cause d below call) (image self.old ∷ extras self.old) (image self.new ∷ extras self.new)) };
 
     /// Gives up a part of the range to the layer below. Nothing may be prepared.
@@ -378,13 +392,13 @@ pub trait FormatDriverInstance {
         ensures at_once { (f : Fault) → change_refusal (unit_of_layer (layer self.old)) (layer self.old) offset length ≡ Some f → IsErrOf result f }
         ensures idle { length ≡ 0 → barrier (layer self.old) ≡ None → IsOk result }
         ensures like { IsLike (layer self.old) (layer self.new) }
-        ensures room { IsTrue (layer self.old).fixed.keeps → safe self.old → IsWhole result → GivesUp vacant has_room offset length self.old self.new }
+        ensures room { IsTrue (layer self.old).fixed.keeps → safe self.old → IsWhole result → GivesUp vacant has_room zeroed offset length self.old self.new }
         ensures given { IsTrue (layer self.old).fixed.keeps → safe self.old → IfOk result (λ r. (p : ℕ) → IsIn r.0 r.1 p → vacant self.new p) }
         ensures reach { IsTrue (layer self.old).fixed.keeps → safe self.old → IfOk result (λ r. Reaches (layer self.old).fixed.unit (layer self.old).size offset length r.0 r.1) }
         ensures went { Went layer image extras safe lasts (IsAnswered result) (IsWhole result) self.old self.new }
         ensures began { (d : Self) (call : Call) → began d call self.old → IsPartOf call offset length → IsWhole result → began d call self.new }
         ensures stops { IsTrue (layer self.old).fixed.keeps → safe self.old → (below : List Layer) → IsBacked below (layer self.old) → KeepsStops below (layer self.old) sound (GivesBelow below offset length) (image self.old) (image self.new) }
-        ensures failed { IfErr result (StorageCause (image self.old ∷ extras self.old) (image self.new ∷ extras self.new)) }
+        ensures failed { IfErr result (ImageCause (image self.old ∷ extras self.old) (image self.new ∷ extras self.new)) }
         ensures cause { safe self.old → (below : List Layer) (d : Self) (call : Call) → began d call self.old → IsPartOf call offset length → IfErr result (DeclinableCause below (layer self.old) offset length (own_cause d below call) (image self.old ∷ extras self.old) (image self.new ∷ extras self.new)) };
 
     /// Hands all that waits in memory to its files, and flushes these: while nothing is prepared, the files alone then mean the disk.
@@ -398,7 +412,7 @@ pub trait FormatDriverInstance {
         ensures like { IsLike (layer self.old) (layer self.new) }
         ensures went { Went layer image extras safe lasts (IsOk result) (IsWhole result) self.old self.new }
         ensures stops { IsTrue (layer self.old).fixed.keeps → safe self.old → (below : List Layer) → KeepsStops below (layer self.old) sound (GivesNone) (image self.old) (image self.new) }
-        ensures failed { IfErr result (StorageCause (image self.old ∷ extras self.old) (image self.new ∷ extras self.new)) }
+        ensures failed { IfErr result (ImageCause (image self.old ∷ extras self.old) (image self.new ∷ extras self.new)) }
         ensures cause { safe self.old → IfErr result (PlainCause (layer self.old) (image self.old ∷ extras self.old) (image self.new ∷ extras self.new)) };
 
     /// Makes what was handed to its files durable.
@@ -452,7 +466,7 @@ pub trait FormatDriverInstance {
         ensures went { Went layer image extras safe lasts (IsOk result) (IsWhole result × B.sees_under below.old) self.old self.new }
         ensures stops { IsTrue (layer self.old).fixed.keeps → safe self.old → B.sees_under below.old → KeepsStopsTo (B.under below.old) (layer self.old) sound (layer self.old).size (GivesPast (layer self.old).size) (image self.old) (image self.new) }
         ensures below { LookedUnder B.under B.files_under B.sees_under B.safe_under B.still_under B.lasts_under (IsOk result) (IsWhole result) below.old below.new }
-        ensures failed { IfErr result (StorageCause (image self.old ∷ extras self.old ++ B.files_under below.old) (image self.new ∷ extras self.new ++ B.files_under below.new)) }
+        ensures failed { IfErr result (ImageCause (image self.old ∷ extras self.old ++ B.files_under below.old) (image self.new ∷ extras self.new ++ B.files_under below.new)) }
         ensures cause { safe self.old → B.sees_under below.old → IfErr result (GrowthCause (B.under below.old) (layer self.old) size (growth_cause self.old (B.under below.old) size mode) (image self.old ∷ extras self.old ++ B.files_under below.old) (image self.new ∷ extras self.new ++ B.files_under below.new)) };
 
     /// Makes the disk shorter, to a size in bytes. Nothing may be prepared. To a size that isn't below it does nothing.
@@ -469,8 +483,8 @@ pub trait FormatDriverInstance {
         ensures read_only { barrier (layer self.old) ≡ None → size < (layer self.old).size → IsFalse (layer self.old).fixed.writable → IsErrOf result ReadOnly }
         ensures went { Went layer image extras safe lasts (IsOk result) (IsWhole result) self.old self.new }
         ensures free { IsFree (layer self.new) }
-        ensures stops { IsTrue (layer self.old).fixed.keeps → safe self.old → (below : List Layer) → KeepsStopsTo below (layer self.old) sound size (GivesBelowPast below size) (image self.old) (image self.new) }
-        ensures failed { IfErr result (StorageCause (image self.old ∷ extras self.old) (image self.new ∷ extras self.new)) }
+        ensures stops { IsTrue (layer self.old).fixed.keeps → safe self.old → (below : List Layer) → IsBacked below (layer self.old) → KeepsStopsTo below (layer self.old) sound size (GivesBelowPast below size) (image self.old) (image self.new) }
+        ensures failed { IfErr result (ImageCause (image self.old ∷ extras self.old) (image self.new ∷ extras self.new)) }
         ensures cause { safe self.old → (below : List Layer) → IfErr result (ShrinkCause below (layer self.old) size (own_cause self.old below (shrink size)) (image self.old ∷ extras self.old) (image self.new ∷ extras self.new)) };
 
     /// A driver that is safe sees.

@@ -1,5 +1,5 @@
 // How raw images are opened and created.
-ghost use Rattle.std.specs.Prelude.{◌≡◌, length, true, false, None};
+ghost use Rattle.std.specs.Prelude.{◌≡◌, length, true, false, None, IfOk, IfErr};
 ghost use Rattle.imago_storage.specs.State.{StorageState};
 ghost use Rattle.imago_access.specs.declared.format.Format.TheVariants as format;
 ghost use Rattle.imago_access.specs.declared.format.PreallocateMode.TheVariants as mode;
@@ -54,7 +54,14 @@ impl<S: Storage> FormatDriverBuilder<S> for RawOpenBuilder<S> {
         self
     }
 
-    fn open<G: ImplicitOpenGate<S>>(self, _alloc: Global, gate: &mut G) -> Result<Raw<S>, Fault> {
+    fn open<G: ImplicitOpenGate<S>>(self, _alloc: Global, gate: &mut G) -> Result<Raw<S>, Fault>
+        ensures ok { IfOk result (⟦<RawOpenBuilder<S> as FormatDriverBuilder<S>>⟧.opens self) }
+        ensures format { IfOk result (λ d. (⟦<Raw<S> as FormatDriverInstance>⟧.layer d).fixed.format ≡ format.Raw) }
+        ensures writable { IfOk result (λ d. (⟦<Raw<S> as FormatDriverInstance>⟧.layer d).fixed.writable ≡ self.base.writable) }
+        ensures err { IfErr result (⟦<RawOpenBuilder<S> as FormatDriverBuilder<S>>⟧.refuses self) }
+        // The gate isn't asked.
+        ensures gate { gate.new ≡ gate.old }
+    {
         let writable = self.base.get_writable();
         let image = self.base.open_image(gate)?;
         Ok(Raw::open_image(image, writable))

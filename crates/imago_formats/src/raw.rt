@@ -1,5 +1,5 @@
 // A raw image: the disk is the storage's bytes.
-ghost use Rattle.std.specs.Prelude.{◌≡◌, ◌+◌, ◌≤◌, ◌<◌, ◌∷◌, [], ⊤, refl, ℕ, List, length, slice_index, replicate, OnOk, IfOk, IfErr, IfSome, IsSome, IsTrue, IsOk, IsErrOf, MatchResult, None, Some, true, ◌++◌, IsFalse};
+ghost use Rattle.std.specs.Prelude.{◌≡◌, ◌+◌, ◌≤◌, ◌<◌, ◌^◌, ◌∷◌, [], ⊤, refl, ℕ, List, length, slice_index, replicate, OnOk, IfOk, IfErr, IfSome, IsSome, IsTrue, IsOk, IsErrOf, MatchResult, None, Some, true, ◌++◌, IsFalse};
 ghost use Rattle.std.proofs.Common.{inr};
 ghost use Rattle.imago_storage.specs.State.{StorageState, unit_of};
 ghost use Rattle.imago_storage.specs.Steps.{Call, shrink};
@@ -11,13 +11,13 @@ ghost use Rattle.imago_access.specs.Layer.{Layer, loose, IsFree, IsLike, unit_of
 ghost use Rattle.imago_access.specs.Room.{Takes};
 ghost use Rattle.imago_access.specs.Changes.{Committed, Cancelled, Rewrites, ToZero};
 ghost use Rattle.imago_access.specs.Files as Files;
-ghost use Rattle.imago_access.specs.Files.{IsMild, SomeRose, StorageCause};
+ghost use Rattle.imago_access.specs.Files.{IsMild, SomeRose, ImageCause};
 ghost use Rattle.imago_access.specs.Going.{Went, LookedUnder};
 ghost use Rattle.imago_access.specs.Refusals.{change_refusal, barrier};
 ghost use Rattle.imago_access.specs.Parts.{DeclinableCause, GrowthCause, ShrinkCause};
 ghost use Rattle.imago_access.specs.Spending.{IsMine, Spends, commit_refusal, GivenBack, IsForeignTo};
 ghost use Rattle.imago_access.specs.Stops.{KeepsStops, GivesSettled, GivesZero, KeepsStopsTo, GivesBelowPast, GivesPast};
-ghost use Rattle.imago_access.specs.Chain.{at};
+ghost use Rattle.imago_access.specs.Chain.{at, IsBacked};
 ghost use Rattle.imago_access.specs.Resizes as Resizes;
 ghost use Rattle.imago_access.specs.Resizes.{fill_of, Grown, Shrunk, NotShrunk};
 ghost use Rattle.imago_access.specs.declared.format.PreallocateMode.{PreallocateMode};
@@ -130,6 +130,7 @@ impl<S: Storage> Raw<S> {
         requires { 0 < length }
         ensures ok { OnOk result (change_refusal (unit_of (S.state self.now.storage).shape) (raw_layer (S.state self.now.storage) self.now.size self.now.writable) offset length ≡ None) }
         ensures inside { OnOk result (offset + length ≤ self.now.size) }
+        ensures fits { OnOk result (offset + length < 2 ^ 64) }
         ensures err { IfErr result (λ e. change_refusal (unit_of (S.state self.now.storage).shape) (raw_layer (S.state self.now.storage) self.now.size self.now.writable) offset length ≡ Some e) }
     {
         if !self.writable {
@@ -161,7 +162,7 @@ impl<S: Storage> Raw<S> {
         ensures like { let d = ⟦<Raw<S> as FormatDriverInstance>⟧ in IsLike (d.layer self.old) (d.layer self.new) }
         ensures went { let d = ⟦<Raw<S> as FormatDriverInstance>⟧ in Went d.layer d.image d.extras d.safe d.lasts (IsOk result) (Files.IsWhole result) self.old self.new }
         ensures stops { let d = ⟦<Raw<S> as FormatDriverInstance>⟧ in d.safe self.old → (below : List Layer) → KeepsStops below (d.layer self.old) d.sound (GivesZero offset length) (d.image self.old) (d.image self.new) }
-        ensures failed { let d = ⟦<Raw<S> as FormatDriverInstance>⟧ in IfErr result (StorageCause (d.image self.old ∷ d.extras self.old) (d.image self.new ∷ d.extras self.new)) }
+        ensures failed { let d = ⟦<Raw<S> as FormatDriverInstance>⟧ in IfErr result (ImageCause (d.image self.old ∷ d.extras self.old) (d.image self.new ∷ d.extras self.new)) }
         ensures cause { let d = ⟦<Raw<S> as FormatDriverInstance>⟧ in (below : List Layer) (e : _) (call : Call) → IfErr result (DeclinableCause below (d.layer self.old) offset length (d.own_cause e below call) (d.image self.old ∷ d.extras self.old) (d.image self.new ∷ d.extras self.new)) }
     {
         if length == 0 {
@@ -238,6 +239,8 @@ impl<S: Storage> FormatDriverInstance for Raw<S> {
     ghost vacant = { λ d p. ⊤ };
 
     ghost has_room = { λ d p. ⊥ };
+
+    ghost zeroed = { λ d p. ⊤ };
 
     ghost claim = { λ _. 0 };
 
@@ -365,11 +368,11 @@ impl<S: Storage> FormatDriverInstance for Raw<S> {
         ensures at_once { let d = ⟦<Raw<S> as FormatDriverInstance>⟧ in (f : Fault) → commit_refusal d.tag mapping.state (d.layer self.old) ≡ Some f → MatchResult result (λ _. ⊥) (λ e. e.0 ≡ f) }
         ensures spent { let d = ⟦<Raw<S> as FormatDriverInstance>⟧ in IfErr result (λ e. e.1 ≡ None → IsSome mapping.state × IsTrue (d.layer self.new).failed × Spends d.claim d.tag mapping.state (d.layer self.old) (d.layer self.new) (IsFree (d.layer self.new) × (d.safe self.old → IsMild e.0 → ⊥))) }
         ensures size { let d = ⟦<Raw<S> as FormatDriverInstance>⟧ in (d.layer self.new).size ≡ (d.layer self.old).size }
-        ensures room { let d = ⟦<Raw<S> as FormatDriverInstance>⟧ in IsTrue (d.layer self.old).fixed.keeps → d.safe self.old → IsMine d.claim d.tag mapping.state (d.layer self.old) → OnOk result (Takes d.vacant d.has_room (λ p. (d.layer self.old).held p ≡ loose) self.old self.new) }
-        ensures back_room { let d = ⟦<Raw<S> as FormatDriverInstance>⟧ in IsTrue (d.layer self.old).fixed.keeps → d.safe self.old → IfErr result (λ e. IfSome e.1 (λ m. Takes d.vacant d.has_room (λ _. ⊤) self.old self.new)) }
+        ensures room { let d = ⟦<Raw<S> as FormatDriverInstance>⟧ in IsTrue (d.layer self.old).fixed.keeps → d.safe self.old → IsMine d.claim d.tag mapping.state (d.layer self.old) → OnOk result (Takes d.vacant d.has_room d.zeroed (λ p. (d.layer self.old).held p ≡ loose) self.old self.new) }
+        ensures back_room { let d = ⟦<Raw<S> as FormatDriverInstance>⟧ in IsTrue (d.layer self.old).fixed.keeps → d.safe self.old → IfErr result (λ e. IfSome e.1 (λ m. Takes d.vacant d.has_room d.zeroed (λ _. ⊤) self.old self.new)) }
         ensures began { let d = ⟦<Raw<S> as FormatDriverInstance>⟧ in (e : _) (call : Call) → d.began e call self.old → IsMine d.claim d.tag mapping.state (d.layer self.old) → OnOk result (d.began e call self.new) }
         ensures stops { let d = ⟦<Raw<S> as FormatDriverInstance>⟧ in IsTrue (d.layer self.old).fixed.keeps → d.safe self.old → IsMine d.claim d.tag mapping.state (d.layer self.old) → (below : List Layer) → KeepsStops below (d.layer self.old) d.sound (GivesSettled below (d.layer self.old)) (d.image self.old) (d.image self.new) }
-        ensures failed { let d = ⟦<Raw<S> as FormatDriverInstance>⟧ in IfErr result (λ e. e.0 ≡ Fault.Storage → SomeRose (d.image self.old ∷ d.extras self.old) (d.image self.new ∷ d.extras self.new)) }
+        ensures failed { let d = ⟦<Raw<S> as FormatDriverInstance>⟧ in IfErr result (λ e. ImageCause (d.image self.old ∷ d.extras self.old) (d.image self.new ∷ d.extras self.new) e.0) }
     {
         match mapping.into_state() {
             None => Ok(()),
@@ -383,7 +386,7 @@ impl<S: Storage> FormatDriverInstance for Raw<S> {
     ) -> Result<(), (Fault, PreparedDataMapping<NoState>)>
         ensures ok { let d = ⟦<Raw<S> as FormatDriverInstance>⟧ in OnOk result (Spends d.claim d.tag mapping.state (d.layer self.old) (d.layer self.new) (Cancelled (d.layer self.old) (d.layer self.new))) }
         ensures safe { let d = ⟦<Raw<S> as FormatDriverInstance>⟧ in IsMine d.claim d.tag mapping.state (d.layer self.old) → d.safe self.old → d.safe self.new }
-        ensures room { let d = ⟦<Raw<S> as FormatDriverInstance>⟧ in IsTrue (d.layer self.old).fixed.keeps → d.safe self.old → IsMine d.claim d.tag mapping.state (d.layer self.old) → Takes d.vacant d.has_room (λ _. ⊤) self.old self.new }
+        ensures room { let d = ⟦<Raw<S> as FormatDriverInstance>⟧ in IsTrue (d.layer self.old).fixed.keeps → d.safe self.old → IsMine d.claim d.tag mapping.state (d.layer self.old) → Takes d.vacant d.has_room d.zeroed (λ _. ⊤) self.old self.new }
         ensures lasts { let d = ⟦<Raw<S> as FormatDriverInstance>⟧ in d.lasts self.old → d.lasts self.new }
         ensures back { let d = ⟦<Raw<S> as FormatDriverInstance>⟧ in IfErr result (λ e. (e.1 ≡ mapping) × (e.0 ≡ Foreign) × (d.layer self.new ≡ d.layer self.old) × IsForeignTo d.tag mapping.state (d.layer self.old)) }
         ensures began { let d = ⟦<Raw<S> as FormatDriverInstance>⟧ in (e : _) (call : Call) → d.began e call self.old → d.began e call self.new }
@@ -498,7 +501,7 @@ impl<S: Storage> FormatDriverInstance for Raw<S> {
         ensures went { let d = ⟦<Raw<S> as FormatDriverInstance>⟧ in Went d.layer d.image d.extras d.safe d.lasts (IsOk result) (Files.IsWhole result × B.sees_under _below.old) self.old self.new }
         ensures stops { let d = ⟦<Raw<S> as FormatDriverInstance>⟧ in IsTrue (d.layer self.old).fixed.keeps → d.safe self.old → B.sees_under _below.old → KeepsStopsTo (B.under _below.old) (d.layer self.old) d.sound (d.layer self.old).size (GivesPast (d.layer self.old).size) (d.image self.old) (d.image self.new) }
         ensures below { let d = ⟦<Raw<S> as FormatDriverInstance>⟧ in LookedUnder B.under B.files_under B.sees_under B.safe_under B.still_under B.lasts_under (IsOk result) (Files.IsWhole result) _below.old _below.new }
-        ensures failed { let d = ⟦<Raw<S> as FormatDriverInstance>⟧ in IfErr result (StorageCause (d.image self.old ∷ d.extras self.old ++ B.files_under _below.old) (d.image self.new ∷ d.extras self.new ++ B.files_under _below.new)) }
+        ensures failed { let d = ⟦<Raw<S> as FormatDriverInstance>⟧ in IfErr result (ImageCause (d.image self.old ∷ d.extras self.old ++ B.files_under _below.old) (d.image self.new ∷ d.extras self.new ++ B.files_under _below.new)) }
         ensures cause { let d = ⟦<Raw<S> as FormatDriverInstance>⟧ in d.safe self.old → B.sees_under _below.old → IfErr result (GrowthCause (B.under _below.old) (d.layer self.old) size (d.growth_cause self.old (B.under _below.old) size mode) (d.image self.old ∷ d.extras self.old ++ B.files_under _below.old) (d.image self.new ∷ d.extras self.new ++ B.files_under _below.new)) }
         // The storage is then as long as the disk; refused, the disk has its size, and its storage is no shorter than it.
         ensures exact { self.old.size < size → OnOk result (length (S.state self.new.storage).bytes ≡ size) }
@@ -529,8 +532,8 @@ impl<S: Storage> FormatDriverInstance for Raw<S> {
         ensures read_only { let d = ⟦<Raw<S> as FormatDriverInstance>⟧ in barrier (d.layer self.old) ≡ None → size < (d.layer self.old).size → IsFalse (d.layer self.old).fixed.writable → IsErrOf result ReadOnly }
         ensures went { let d = ⟦<Raw<S> as FormatDriverInstance>⟧ in Went d.layer d.image d.extras d.safe d.lasts (IsOk result) (Files.IsWhole result) self.old self.new }
         ensures free { let d = ⟦<Raw<S> as FormatDriverInstance>⟧ in IsFree (d.layer self.new) }
-        ensures stops { let d = ⟦<Raw<S> as FormatDriverInstance>⟧ in IsTrue (d.layer self.old).fixed.keeps → d.safe self.old → (below : List Layer) → KeepsStopsTo below (d.layer self.old) d.sound size (GivesBelowPast below size) (d.image self.old) (d.image self.new) }
-        ensures failed { let d = ⟦<Raw<S> as FormatDriverInstance>⟧ in IfErr result (StorageCause (d.image self.old ∷ d.extras self.old) (d.image self.new ∷ d.extras self.new)) }
+        ensures stops { let d = ⟦<Raw<S> as FormatDriverInstance>⟧ in IsTrue (d.layer self.old).fixed.keeps → d.safe self.old → (below : List Layer) → IsBacked below (d.layer self.old) → KeepsStopsTo below (d.layer self.old) d.sound size (GivesBelowPast below size) (d.image self.old) (d.image self.new) }
+        ensures failed { let d = ⟦<Raw<S> as FormatDriverInstance>⟧ in IfErr result (ImageCause (d.image self.old ∷ d.extras self.old) (d.image self.new ∷ d.extras self.new)) }
         ensures cause { let d = ⟦<Raw<S> as FormatDriverInstance>⟧ in d.safe self.old → (below : List Layer) → IfErr result (ShrinkCause below (d.layer self.old) size (d.own_cause self.old below (shrink size)) (d.image self.old ∷ d.extras self.old) (d.image self.new ∷ d.extras self.new)) }
         // The storage is then as long as the disk; refused, the disk has its size, and its storage is no shorter than it.
         ensures exact { size < self.old.size → OnOk result (length (S.state self.new.storage).bytes ≡ size) }

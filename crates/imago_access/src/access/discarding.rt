@@ -6,7 +6,7 @@ ghost use Rattle.imago_access.specs.Layer.{Layer, IsFree, IsLike};
 ghost use Rattle.imago_access.specs.Chain.{IsBacked, unit_of_chain};
 ghost use Rattle.imago_access.specs.Layers.{chain};
 ghost use Rattle.imago_access.specs.Room.{Reaches, GivesUp, IsGivenUp, IsUndeclined};
-ghost use Rattle.imago_access.specs.Files.{IsWhole, IsDeclined, IsAnswered, IsMild, StorageCause, files_of};
+ghost use Rattle.imago_access.specs.Files.{IsWhole, IsDeclined, IsAnswered, IsMild, ImageCause, files_of};
 ghost use Rattle.imago_access.specs.Going.{Went};
 ghost use Rattle.imago_access.specs.Parts.{IsPartOf, PartCause, DeclinableCause};
 ghost use Rattle.imago_access.specs.Refusals.{barrier, change_refusal, ChangeCause};
@@ -51,10 +51,10 @@ fn discard_part<D: FormatDriverInstance>(
     ensures went { Went D.layer D.image D.extras D.safe D.lasts (IsAnswered result) (IsWhole result) driver.old driver.new }
     ensures began { (d : D) (call : Call) → D.began d call driver.old → IsPartOf call offset length → IsWhole result → D.began d call driver.new }
     ensures stops { IsTrue (D.layer driver.old).fixed.keeps → D.safe driver.old → (below : List Layer) → IsBacked below (D.layer driver.old) → KeepsStops below (D.layer driver.old) D.sound (GivesDiscarded discarding below offset length) (D.image driver.old) (D.image driver.new) }
-    ensures room { IsTrue (D.layer driver.old).fixed.keeps → D.safe driver.old → IsWhole result → GivesUp D.vacant D.has_room offset length driver.old driver.new }
+    ensures room { IsTrue (D.layer driver.old).fixed.keeps → D.safe driver.old → IsWhole result → GivesUp D.vacant D.has_room D.zeroed offset length driver.old driver.new }
     ensures given { IsTrue (D.layer driver.old).fixed.keeps → D.safe driver.old → IfOk result (λ r. (p : ℕ) → IsIn r.0 r.1 p → D.vacant driver.new p) }
     ensures reach { IsTrue (D.layer driver.old).fixed.keeps → D.safe driver.old → IfOk result (λ r. Reaches (D.layer driver.old).fixed.unit (D.layer driver.old).size offset length r.0 r.1) }
-    ensures failed { IfErr result (StorageCause (D.image driver.old ∷ D.extras driver.old) (D.image driver.new ∷ D.extras driver.new)) }
+    ensures failed { IfErr result (ImageCause (D.image driver.old ∷ D.extras driver.old) (D.image driver.new ∷ D.extras driver.new)) }
     ensures cause { D.safe driver.old → (below : List Layer) (d : D) (call : Call) → D.began d call driver.old → IsPartOf call offset length → IfErr result (DeclinableCause below (D.layer driver.old) offset length (D.own_cause d below call) (D.image driver.old ∷ D.extras driver.old) (D.image driver.new ∷ D.extras driver.new)) }
 {
     match discarding {
@@ -78,9 +78,9 @@ fn discard_all<D: FormatDriverInstance>(
     ensures like { IsLike (D.layer driver.old) (D.layer driver.new) }
     ensures went { Went D.layer D.image D.extras D.safe D.lasts (IsOk result) (IsWhole result) driver.old driver.new }
     ensures stops { IsTrue (D.layer driver.old).fixed.keeps → D.safe driver.old → (below : List Layer) → IsBacked below (D.layer driver.old) → KeepsStops below (D.layer driver.old) D.sound (GivesDiscarded discarding below offset n) (D.image driver.old) (D.image driver.new) }
-    ensures room { IsTrue (D.layer driver.old).fixed.keeps → D.safe driver.old → IsWhole result → GivesUp D.vacant D.has_room offset n driver.old driver.new }
+    ensures room { IsTrue (D.layer driver.old).fixed.keeps → D.safe driver.old → IsWhole result → GivesUp D.vacant D.has_room D.zeroed offset n driver.old driver.new }
     ensures gives_up { IsTrue (D.layer driver.old).fixed.keeps → D.safe driver.old → (below : List Layer) (d : D) (call : Call) → D.began d call driver.old → IsPartOf call offset n → IsUndeclined (D.own_cause d below call) → OnOk result (IsGivenUp (D.vacant driver.new) (D.layer driver.old).fixed.unit (D.layer driver.old).size offset n) }
-    ensures failed { IfErr result (StorageCause (D.image driver.old ∷ D.extras driver.old) (D.image driver.new ∷ D.extras driver.new)) }
+    ensures failed { IfErr result (ImageCause (D.image driver.old ∷ D.extras driver.old) (D.image driver.new ∷ D.extras driver.new)) }
     ensures cause { IsTrue (D.layer driver.old).fixed.keeps → D.safe driver.old → (below : List Layer) (d : D) (call : Call) → D.began d call driver.old → IsPartOf call offset n → IfErr result (PartCause below (D.layer driver.old) offset n (D.own_cause d below call) (D.image driver.old ∷ D.extras driver.old) (D.image driver.new ∷ D.extras driver.new)) }
 {
     let end = offset + n;
@@ -113,9 +113,9 @@ impl<D: FormatDriverInstance> FormatAccess<D> {
         ensures like { IsLike (D.layer self.old.0) (D.layer self.new.0) }
         ensures ran { RanChain D.layer D.image D.extras D.sees D.safe D.still D.lasts D.sound (IsOk result) (IsWhole result) (GivesAny offset length) self.old self.new }
         ensures below { self.new.1 ≡ self.old.1 }
-        ensures room { IsIntactChain D.layer D.safe D.sees self.old → IsWhole result → GivesUp D.vacant D.has_room offset length self.old.0 self.new.0 }
+        ensures room { IsIntactChain D.layer D.safe D.sees self.old → IsWhole result → GivesUp D.vacant D.has_room D.zeroed offset length self.old.0 self.new.0 }
         ensures gives_up { IsIntactChain D.layer D.safe D.sees self.old → IsUndeclined (D.own_cause self.old.0 (map D.layer self.old.1) (discard_to_any offset length)) → OnOk result (IsGivenUp (D.vacant self.new.0) (D.layer self.old.0).fixed.unit (D.layer self.old.0).size offset length) }
-        ensures failed { IfErr result (StorageCause (D.image self.old.0 ∷ D.extras self.old.0) (D.image self.new.0 ∷ D.extras self.new.0)) }
+        ensures failed { IfErr result (ImageCause (D.image self.old.0 ∷ D.extras self.old.0) (D.image self.new.0 ∷ D.extras self.new.0)) }
         ensures cause { IsIntactChain D.layer D.safe D.sees self.old → IfErr result (ChangeCause (unit_of_chain (map D.layer (chain self.old))) (map D.layer (chain self.old)) (chain_disk D.layer self.old) (D.layer self.old.0).fixed.writable (discard_to_any offset length) (D.own_cause self.old.0 (map D.layer self.old.1) (discard_to_any offset length)) (files_of D.image D.extras (chain self.old)) (files_of D.image D.extras (chain self.new))) }
     {
         self.check_change(offset, length)?;
@@ -140,9 +140,9 @@ impl<D: FormatDriverInstance> FormatAccess<D> {
         ensures like { IsLike (D.layer self.old.0) (D.layer self.new.0) }
         ensures ran { RanChain D.layer D.image D.extras D.sees D.safe D.still D.lasts D.sound (IsOk result) (IsWhole result) (GivesBelow (map D.layer self.old.1) offset length) self.old self.new }
         ensures below { self.new.1 ≡ self.old.1 }
-        ensures room { IsIntactChain D.layer D.safe D.sees self.old → IsWhole result → GivesUp D.vacant D.has_room offset length self.old.0 self.new.0 }
+        ensures room { IsIntactChain D.layer D.safe D.sees self.old → IsWhole result → GivesUp D.vacant D.has_room D.zeroed offset length self.old.0 self.new.0 }
         ensures gives_up { IsIntactChain D.layer D.safe D.sees self.old → IsUndeclined (D.own_cause self.old.0 (map D.layer self.old.1) (discard_to_backing offset length)) → OnOk result (IsGivenUp (D.vacant self.new.0) (D.layer self.old.0).fixed.unit (D.layer self.old.0).size offset length) }
-        ensures failed { IfErr result (StorageCause (D.image self.old.0 ∷ D.extras self.old.0) (D.image self.new.0 ∷ D.extras self.new.0)) }
+        ensures failed { IfErr result (ImageCause (D.image self.old.0 ∷ D.extras self.old.0) (D.image self.new.0 ∷ D.extras self.new.0)) }
         ensures cause { IsIntactChain D.layer D.safe D.sees self.old → IfErr result (ChangeCause (unit_of_chain (map D.layer (chain self.old))) (map D.layer (chain self.old)) (chain_disk D.layer self.old) (D.layer self.old.0).fixed.writable (discard_to_backing offset length) (D.own_cause self.old.0 (map D.layer self.old.1) (discard_to_backing offset length)) (files_of D.image D.extras (chain self.old)) (files_of D.image D.extras (chain self.new))) }
     {
         self.check_change(offset, length)?;

@@ -4,7 +4,7 @@ ghost use Rattle.imago_storage.specs.Steps.{Step, Stays, ensure, run};
 ghost use Rattle.imago_access.specs.Layer.{IsFree, IsLike};
 ghost use Rattle.imago_access.specs.Chain.{unit_of_chain};
 ghost use Rattle.imago_access.specs.Layers.{chain};
-ghost use Rattle.imago_access.specs.Files.{IsWhole, IsMild, StorageCause, files_of};
+ghost use Rattle.imago_access.specs.Files.{IsWhole, IsMild, ImageCause, files_of};
 ghost use Rattle.imago_access.specs.Mappings.{IsHomeRun};
 ghost use Rattle.imago_access.specs.Refusals.{barrier, change_refusal, ChangeCause};
 ghost use Rattle.imago_access.specs.Stops.{GivesAnnounced};
@@ -38,7 +38,7 @@ impl<D: FormatDriverInstance> FormatAccess<D> {
         ensures idle { length ≡ 0 → barrier (D.layer self.old.0) ≡ None → IsOk result }
         ensures like { IsLike (D.layer self.old.0) (D.layer self.new.0) }
         ensures ran { RanChain D.layer D.image D.extras D.sees D.safe D.still D.lasts D.sound (IsOk result) (IsWhole result) (GivesAnnounced overwrite offset length) self.old self.new }
-        ensures failed { IfErr result (StorageCause (files_of D.image D.extras (chain self.old)) (files_of D.image D.extras (chain self.new))) }
+        ensures failed { IfErr result (ImageCause (files_of D.image D.extras (chain self.old)) (files_of D.image D.extras (chain self.new))) }
         ensures cause { IsIntactChain D.layer D.safe D.sees self.old → IfErr result (ChangeCause (unit_of_chain (map D.layer (chain self.old))) (map D.layer (chain self.old)) (chain_disk D.layer self.old) (D.layer self.old.0).fixed.writable (ensure offset length overwrite) (D.own_cause self.old.0 (map D.layer self.old.1) (ensure offset length overwrite)) (files_of D.image D.extras (chain self.old)) (files_of D.image D.extras (chain self.new))) }
     {
         self.check_change(offset, length)?;

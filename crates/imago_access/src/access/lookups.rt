@@ -3,7 +3,7 @@ ghost use Rattle.std.specs.Prelude.{◌≡◌, ◌∷◌, ◌<◌, ◌+◌, ◌^
 ghost use Rattle.imago_storage.specs.declared.fault.Fault.{Fault};
 ghost use Rattle.imago_access.specs.Chain.{at, Each};
 ghost use Rattle.imago_access.specs.Layers.{chain, layers};
-ghost use Rattle.imago_access.specs.Files.{Pairs, IsWhole, StorageCause, files_of};
+ghost use Rattle.imago_access.specs.Files.{Pairs, IsWhole, ImageCause, files_of};
 ghost use Rattle.imago_access.specs.Going.{Looked};
 ghost use Rattle.imago_access.specs.Mappings.{IsRun, Looks, IsDeepRun, IsDeepBelow, IsRunBelow, DeepNames, DeepNamesHome, DeepNamesWritable, stored_at};
 ghost use Rattle.imago_access.specs.Refusals.{barrier, LookCause, DeepLookCause};
@@ -31,7 +31,8 @@ impl<D: FormatDriverInstance> FormatAccess<D> {
         ensures idle { max_length ≡ 0 → barrier (D.layer self.old.0) ≡ None → IsOk result }
         ensures barred { (f : Fault) → barrier (D.layer self.old.0) ≡ Some f → IsErrOf result f }
         ensures looked { Pairs (Looked D.layer D.image D.extras D.sees D.safe D.still D.lasts D.sound (IsOk result) (IsWhole result)) (chain self.old) (chain self.new) }
-        ensures failed { IfErr result (StorageCause (D.image self.old.0 ∷ D.extras self.old.0) (D.image self.new.0 ∷ D.extras self.new.0)) }
+        ensures below { self.new.1 ≡ self.old.1 }
+        ensures failed { IfErr result (ImageCause (D.image self.old.0 ∷ D.extras self.old.0) (D.image self.new.0 ∷ D.extras self.new.0)) }
         ensures cause { D.sees self.old.0 → IfErr result (LookCause (D.layer self.old.0) offset max_length (D.image self.old.0 ∷ D.extras self.old.0) (D.image self.new.0 ∷ D.extras self.new.0)) }
     {
         self.driver.get_mapping(alloc, offset, max_length)
@@ -41,7 +42,7 @@ impl<D: FormatDriverInstance> FormatAccess<D> {
     /// end, of no length, and else at least one byte where one is asked for. Past the end of a lower layer the disk is 0.
     ///
     /// A place is answered as one that can be written only where each layer on the way says so, and wherever they do while nothing is
-    /// prepared in the last of them. A zero is explicit only where the top layer says so.
+    /// prepared in the last of them. A zero is explicit only where the top layer says so, and always there if it shows a layer below.
     ///
     /// It refuses with `Fault::DamagedTable` where a layer's tables say nothing of a place of the range, with `Fault::Memory` and
     /// `Fault::Storage`, and where a layer that it asks can't be used.
@@ -60,7 +61,7 @@ impl<D: FormatDriverInstance> FormatAccess<D> {
         ensures idle { max_length ≡ 0 → barrier (D.layer self.old.0) ≡ None → IsOk result }
         ensures barred { (f : Fault) → barrier (D.layer self.old.0) ≡ Some f → IsErrOf result f }
         ensures looked { Pairs (Looked D.layer D.image D.extras D.sees D.safe D.still D.lasts D.sound (IsOk result) (IsWhole result)) (chain self.old) (chain self.new) }
-        ensures failed { IfErr result (StorageCause (files_of D.image D.extras (chain self.old)) (files_of D.image D.extras (chain self.new))) }
+        ensures failed { IfErr result (ImageCause (files_of D.image D.extras (chain self.old)) (files_of D.image D.extras (chain self.new))) }
         ensures cause { Each D.sees (chain self.old) → IfErr result (DeepLookCause (map D.layer (chain self.old)) (at (map D.layer (chain self.old))) offset max_length (files_of D.image D.extras (chain self.old)) (files_of D.image D.extras (chain self.new))) }
     {
         Self::map_part(alloc, &mut self.driver, &mut self.below, offset, max_length)
@@ -83,7 +84,7 @@ impl<D: FormatDriverInstance> FormatAccess<D> {
         ensures idle { max_length ≡ 0 → barrier (D.layer driver.old) ≡ None → IsOk result }
         ensures barred { (f : Fault) → barrier (D.layer driver.old) ≡ Some f → IsErrOf result f }
         ensures looked { Pairs (Looked D.layer D.image D.extras D.sees D.safe D.still D.lasts D.sound (IsOk result) (IsWhole result)) (driver.old ∷ layers below.old) (driver.new ∷ layers below.new) }
-        ensures failed { IfErr result (StorageCause (files_of D.image D.extras (driver.old ∷ layers below.old)) (files_of D.image D.extras (driver.new ∷ layers below.new))) }
+        ensures failed { IfErr result (ImageCause (files_of D.image D.extras (driver.old ∷ layers below.old)) (files_of D.image D.extras (driver.new ∷ layers below.new))) }
         ensures cause { Each D.sees (driver.old ∷ layers below.old) → IfErr result (DeepLookCause (map D.layer (driver.old ∷ layers below.old)) (at (map D.layer (driver.old ∷ layers below.old))) offset max_length (files_of D.image D.extras (driver.old ∷ layers below.old)) (files_of D.image D.extras (driver.new ∷ layers below.new))) }
     {
         let (mapping, length) = match driver.get_mapping(alloc, offset, max_length) {
@@ -138,7 +139,7 @@ impl<D: FormatDriverInstance> FormatAccess<D> {
         ensures deep { length (layers below.old) < 2 ^ 64 → IfOk result (λ r. IsDeepBelow (length (layers below.old)) r.0) }
         ensures writable { length (layers below.old) < 2 ^ 64 → Each D.sees (layers below.old) → IfOk result (λ r. DeepNamesWritable (map D.layer (layers below.old)) offset max_length r.0) }
         ensures looked { Pairs (Looked D.layer D.image D.extras D.sees D.safe D.still D.lasts D.sound (IsOk result) (IsWhole result)) (layers below.old) (layers below.new) }
-        ensures failed { IfErr result (StorageCause (files_of D.image D.extras (layers below.old)) (files_of D.image D.extras (layers below.new))) }
+        ensures failed { IfErr result (ImageCause (files_of D.image D.extras (layers below.old)) (files_of D.image D.extras (layers below.new))) }
         ensures cause { Each D.sees (layers below.old) → IfErr result (DeepLookCause (map D.layer (layers below.old)) (at (map D.layer (layers below.old))) offset max_length (files_of D.image D.extras (layers below.old)) (files_of D.image D.extras (layers below.new))) }
     {
         match below {

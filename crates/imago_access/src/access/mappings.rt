@@ -6,7 +6,7 @@ ghost use Rattle.imago_storage.specs.declared.fault.Fault.TheVariants.{Foreign, 
 ghost use Rattle.imago_access.specs.Layer.{IsFree, IsLike};
 ghost use Rattle.imago_access.specs.Chain.{unit_of_chain};
 ghost use Rattle.imago_access.specs.Layers.{chain};
-ghost use Rattle.imago_access.specs.Files.{SomeRose, IsWhole, IsMild, StorageCause, files_of};
+ghost use Rattle.imago_access.specs.Files.{IsWhole, IsMild, ImageCause, files_of};
 ghost use Rattle.imago_access.specs.Going.{Went};
 ghost use Rattle.imago_access.specs.Spending.{IsMine, is_own, Spends, commit_refusal, GivenBack, IsForeignTo};
 ghost use Rattle.imago_access.specs.Parts.{IsMappedAt};
@@ -24,7 +24,8 @@ impl<D: FormatDriverInstance> FormatAccess<D> {
     /// Maps a run from the offset on so that it can be written: at least one byte, and not more than asked. Nothing may be prepared.
     ///
     /// What is written to the run is part of the disk once the mapping is committed. With `overwrite` all of the run is going to be
-    /// written before that, so what it shows isn't copied. A mapping without state is part of the disk already. It refuses with
+    /// written before that, so what it shows isn't copied. A mapping without state is part of the disk already; so is that of an empty
+    /// range, which has no length and begins at the start of the storage 0. It refuses with
     /// `Fault::ReadOnly`, with `Fault::RangeOverflow` where the end of the range, rounded up to the chain's alignment, passes `u64`, with
     /// `Fault::PastEnd`, with causes of the driver's own, with `Fault::Memory` and `Fault::Storage`, and where a layer can't be used. A
     /// refusal for another cause than `Memory` and `Storage` leaves the disk as it was.
@@ -46,7 +47,7 @@ impl<D: FormatDriverInstance> FormatAccess<D> {
         ensures idle { length ≡ 0 → barrier (D.layer self.old.0) ≡ None → IsOk result }
         ensures free { IsErr result → IsFree (D.layer self.new.0) }
         ensures ran { RanChain D.layer D.image D.extras D.sees D.safe D.still D.lasts D.sound (IsOk result) (IsWhole result) GivesNone self.old self.new }
-        ensures failed { IfErr result (StorageCause (files_of D.image D.extras (chain self.old)) (files_of D.image D.extras (chain self.new))) }
+        ensures failed { IfErr result (ImageCause (files_of D.image D.extras (chain self.old)) (files_of D.image D.extras (chain self.new))) }
         ensures cause { IsIntactChain D.layer D.safe D.sees self.old → IfErr result (ChangeCause (unit_of_chain (map D.layer (chain self.old))) (map D.layer (chain self.old)) (chain_disk D.layer self.old) (D.layer self.old.0).fixed.writable (prepare offset length overwrite) (D.own_cause self.old.0 (map D.layer self.old.1) (prepare offset length overwrite)) (files_of D.image D.extras (chain self.old)) (files_of D.image D.extras (chain self.new))) }
     {
         self.check_change(offset, length)?;
@@ -76,7 +77,7 @@ impl<D: FormatDriverInstance> FormatAccess<D> {
         ensures intact { IsMine D.claim D.tag mapping.state (D.layer self.old.0) → OnOk result (IsIntactChain D.layer D.safe D.sees self.old → IsIntactChain D.layer D.safe D.sees self.new) }
         ensures went { Went D.layer D.image D.extras D.safe D.lasts (IsOk result) (IsOk result × IsMine D.claim D.tag mapping.state (D.layer self.old.0)) self.old.0 self.new.0 }
         ensures stops { IsIntactChain D.layer D.safe D.sees self.old → IsMine D.claim D.tag mapping.state (D.layer self.old.0) → KeepsStops (map D.layer self.old.1) (D.layer self.old.0) D.sound (GivesHeld (D.layer self.old.0)) (D.image self.old.0) (D.image self.new.0) }
-        ensures failed { IfErr result (λ e. e.0 ≡ Fault.Storage → SomeRose (D.image self.old.0 ∷ D.extras self.old.0) (D.image self.new.0 ∷ D.extras self.new.0)) }
+        ensures failed { IfErr result (λ e. ImageCause (D.image self.old.0 ∷ D.extras self.old.0) (D.image self.new.0 ∷ D.extras self.new.0) e.0) }
         ensures below { self.new.1 ≡ self.old.1 }
         ensures cause { IsIntactChain D.layer D.safe D.sees self.old → IsMine D.claim D.tag mapping.state (D.layer self.old.0) ⊎ IsForeignTo D.tag mapping.state (D.layer self.old.0) → IfErr result (λ e. ChangeCause (unit_of_chain (map D.layer (chain self.old))) (map D.layer (chain self.old)) (chain_disk D.layer self.old) (D.layer self.old.0).fixed.writable (commit (is_some mapping.state) (is_own D.tag mapping.state (D.layer self.old.0))) (λ _. ⊥) (files_of D.image D.extras (chain self.old)) (files_of D.image D.extras (chain self.new)) e.0) }
     {
@@ -124,7 +125,7 @@ impl<D: FormatDriverInstance> FormatAccess<D> {
         ensures like { IsLike (D.layer self.old.0) (D.layer self.new.0) }
         ensures ran { RanChain D.layer D.image D.extras D.sees D.safe D.still D.lasts D.sound (IsOk result) (IsWhole result) (GivesBytes guest bytes.now) self.old self.new }
         ensures below { self.new.1 ≡ self.old.1 }
-        ensures failed { IfErr result (StorageCause (D.image self.old.0 ∷ D.extras self.old.0) (D.image self.new.0 ∷ D.extras self.new.0)) }
+        ensures failed { IfErr result (ImageCause (D.image self.old.0 ∷ D.extras self.old.0) (D.image self.new.0 ∷ D.extras self.new.0)) }
         ensures cause { IsIntactChain D.layer D.safe D.sees self.old → IfErr result (ChangeCause (unit_of_chain (map D.layer (chain self.old))) (map D.layer (chain self.old)) (chain_disk D.layer self.old) (D.layer self.old.0).fixed.writable (write_mapped guest bytes.now) (λ f. (f ≡ Outdated) × (0 < length bytes.now) × (IsMappedAt (D.layer self.old.0) guest place (length bytes.now) → ⊥)) (files_of D.image D.extras (chain self.old)) (files_of D.image D.extras (chain self.new))) }
     {
         self.check_change(guest, bytes.len() as u64)?;

@@ -7,7 +7,7 @@ ghost use Rattle.imago_storage.specs.declared.fault.Fault.{Fault};
 ghost use Rattle.imago_access.specs.Layer.{Layer};
 ghost use Rattle.imago_access.specs.Chain.{at, disk_of, Each, unit_of_chain};
 ghost use Rattle.imago_access.specs.Layers.{chain, layers};
-ghost use Rattle.imago_access.specs.Files.{Pairs, IsWhole, StorageCause, files_of};
+ghost use Rattle.imago_access.specs.Files.{Pairs, IsWhole, ImageCause, files_of};
 ghost use Rattle.imago_access.specs.Going.{Looked};
 ghost use Rattle.imago_access.specs.Mappings.{IsRun, Looks};
 ghost use Rattle.imago_access.specs.Refusals.{barrier, look_refusal, ReadCause, LookCause, DeepLookCause};
@@ -30,7 +30,7 @@ impl<D: FormatDriverInstance> FormatAccess<D> {
         ensures at_once { (f : Fault) → look_refusal (unit_of_chain (map D.layer (chain self.old))) (D.layer self.old.0) offset (length buf.old) ≡ Some f → IsErrOf result f }
         ensures idle { length buf.old ≡ 0 → barrier (D.layer self.old.0) ≡ None → IsOk result }
         ensures looked { Pairs (Looked D.layer D.image D.extras D.sees D.safe D.still D.lasts D.sound (IsOk result) (IsWhole result)) (chain self.old) (chain self.new) }
-        ensures failed { IfErr result (StorageCause (files_of D.image D.extras (chain self.old)) (files_of D.image D.extras (chain self.new))) }
+        ensures failed { IfErr result (ImageCause (files_of D.image D.extras (chain self.old)) (files_of D.image D.extras (chain self.new))) }
         ensures cause { Each D.sees (chain self.old) → IfErr result (ReadCause (map D.layer (chain self.old)) (at (map D.layer (chain self.old))) (unit_of_chain (map D.layer (chain self.old))) offset (length buf.old) (files_of D.image D.extras (chain self.old)) (files_of D.image D.extras (chain self.new))) }
     {
         self.driver.ready()?;
@@ -49,7 +49,7 @@ impl<D: FormatDriverInstance> FormatAccess<D> {
         requires fits { Overflows (unit_of_chain (map D.layer (chain self.old))) offset (length buf.old) → ⊥ }
         ensures shown { Each D.sees (chain self.old) → OnOk result (Shows (at (map D.layer (chain self.old))) offset buf.new) }
         ensures looked { Pairs (Looked D.layer D.image D.extras D.sees D.safe D.still D.lasts D.sound (IsOk result) (IsWhole result)) (chain self.old) (chain self.new) }
-        ensures failed { IfErr result (StorageCause (files_of D.image D.extras (chain self.old)) (files_of D.image D.extras (chain self.new))) }
+        ensures failed { IfErr result (ImageCause (files_of D.image D.extras (chain self.old)) (files_of D.image D.extras (chain self.new))) }
         ensures cause { Each D.sees (chain self.old) → IfErr result (ReadCause (map D.layer (chain self.old)) (at (map D.layer (chain self.old))) (unit_of_chain (map D.layer (chain self.old))) offset (length buf.old) (files_of D.image D.extras (chain self.old)) (files_of D.image D.extras (chain self.new))) }
     {
         let mut done = 0;
@@ -71,7 +71,7 @@ impl<D: FormatDriverInstance> FormatAccess<D> {
         ensures run { IfOk result (λ n. (0 < n) × (n ≤ length buf.old)) }
         ensures shown { Each D.sees (chain self.old) → IfOk result (λ n. (i : ℕ) → i < n → at (map D.layer (chain self.old)) (offset + i) ≡ byte (slice_index buf.new i)) }
         ensures looked { Pairs (Looked D.layer D.image D.extras D.sees D.safe D.still D.lasts D.sound (IsOk result) (IsWhole result)) (chain self.old) (chain self.new) }
-        ensures failed { IfErr result (StorageCause (files_of D.image D.extras (chain self.old)) (files_of D.image D.extras (chain self.new))) }
+        ensures failed { IfErr result (ImageCause (files_of D.image D.extras (chain self.old)) (files_of D.image D.extras (chain self.new))) }
         ensures cause { Each D.sees (chain self.old) → IfErr result (ReadCause (map D.layer (chain self.old)) (at (map D.layer (chain self.old))) (unit_of_chain (map D.layer (chain self.old))) offset (length buf.old) (files_of D.image D.extras (chain self.old)) (files_of D.image D.extras (chain self.new))) }
     {
         Self::read_part(alloc, &mut self.driver, &mut self.below, buf, offset)
@@ -91,7 +91,7 @@ impl<D: FormatDriverInstance> FormatAccess<D> {
         ensures run { IfOk result (λ n. (0 < n) × (n ≤ length buf.old)) }
         ensures shown { Each D.sees (driver.old ∷ layers below.old) → IfOk result (λ n. (i : ℕ) → i < n → at (map D.layer (driver.old ∷ layers below.old)) (offset + i) ≡ byte (slice_index buf.new i)) }
         ensures looked { Pairs (Looked D.layer D.image D.extras D.sees D.safe D.still D.lasts D.sound (IsOk result) (IsWhole result)) (driver.old ∷ layers below.old) (driver.new ∷ layers below.new) }
-        ensures failed { IfErr result (StorageCause (files_of D.image D.extras (driver.old ∷ layers below.old)) (files_of D.image D.extras (driver.new ∷ layers below.new))) }
+        ensures failed { IfErr result (ImageCause (files_of D.image D.extras (driver.old ∷ layers below.old)) (files_of D.image D.extras (driver.new ∷ layers below.new))) }
         ensures cause { Each D.sees (driver.old ∷ layers below.old) → IfErr result (ReadCause (map D.layer (driver.old ∷ layers below.old)) (at (map D.layer (driver.old ∷ layers below.old))) (unit_of_chain (map D.layer (driver.old ∷ layers below.old))) offset (length buf.old) (files_of D.image D.extras (driver.old ∷ layers below.old)) (files_of D.image D.extras (driver.new ∷ layers below.new))) }
     {
         let most = buf.len();
@@ -140,7 +140,7 @@ impl<D: FormatDriverInstance> FormatAccess<D> {
         requires fits { Overflows (unit_of_chain (map D.layer (layers below.old))) offset (length buf.old) → ⊥ }
         ensures shown { Each D.sees (layers below.old) → OnOk result (Shows (at (map D.layer (layers below.old))) offset buf.new) }
         ensures looked { Pairs (Looked D.layer D.image D.extras D.sees D.safe D.still D.lasts D.sound (IsOk result) (IsWhole result)) (layers below.old) (layers below.new) }
-        ensures failed { IfErr result (StorageCause (files_of D.image D.extras (layers below.old)) (files_of D.image D.extras (layers below.new))) }
+        ensures failed { IfErr result (ImageCause (files_of D.image D.extras (layers below.old)) (files_of D.image D.extras (layers below.new))) }
         ensures cause { Each D.sees (layers below.old) → IfErr result (ReadCause (map D.layer (layers below.old)) (at (map D.layer (layers below.old))) (unit_of_chain (map D.layer (layers below.old))) offset (length buf.old) (files_of D.image D.extras (layers below.old)) (files_of D.image D.extras (layers below.new))) }
     {
         match below {

@@ -6,7 +6,7 @@ ghost use Rattle.imago_storage.specs.declared.fault.Fault.TheVariants.{ReadOnly}
 ghost use Rattle.imago_access.specs.Layer.{IsFree};
 ghost use Rattle.imago_access.specs.Chain.{Each};
 ghost use Rattle.imago_access.specs.Layers.{chain};
-ghost use Rattle.imago_access.specs.Files.{IsWhole, IsMild, StorageCause, files_of};
+ghost use Rattle.imago_access.specs.Files.{IsWhole, IsMild, ImageCause, files_of};
 ghost use Rattle.imago_access.specs.Going.{Went, LookedUnder};
 ghost use Rattle.imago_access.specs.Parts.{GrowthCause, ShrinkCause};
 ghost use Rattle.imago_access.specs.Refusals.{barrier};
@@ -43,7 +43,7 @@ impl<D: FormatDriverInstance> FormatAccess<D> {
         ensures below { LookedUnder (map D.layer) (files_of D.image D.extras) (Each D.sees) (Each D.safe) (Each D.still) (Each D.lasts) (IsOk result) (IsWhole result) self.old.1 self.new.1 }
         ensures intact { IsWhole result → IsIntactChain D.layer D.safe D.sees self.old → IsIntactChain D.layer D.safe D.sees self.new }
         ensures stops { IsIntactChain D.layer D.safe D.sees self.old → KeepsStopsTo (map D.layer self.old.1) (D.layer self.old.0) D.sound (D.layer self.old.0).size (GivesPast (D.layer self.old.0).size) (D.image self.old.0) (D.image self.new.0) }
-        ensures failed { IfErr result (StorageCause (files_of D.image D.extras (chain self.old)) (files_of D.image D.extras (chain self.new))) }
+        ensures failed { IfErr result (ImageCause (files_of D.image D.extras (chain self.old)) (files_of D.image D.extras (chain self.new))) }
         ensures cause { IsIntactChain D.layer D.safe D.sees self.old → IfErr result (GrowthCause (map D.layer self.old.1) (D.layer self.old.0) size (D.growth_cause self.old.0 (map D.layer self.old.1) size mode) (files_of D.image D.extras (chain self.old)) (files_of D.image D.extras (chain self.new))) }
     {
         self.driver.resize_grow(alloc, &mut self.below, size, mode)
@@ -65,7 +65,7 @@ impl<D: FormatDriverInstance> FormatAccess<D> {
         ensures below { self.new.1 ≡ self.old.1 }
         ensures intact { IsWhole result → IsIntactChain D.layer D.safe D.sees self.old → IsIntactChain D.layer D.safe D.sees self.new }
         ensures stops { IsIntactChain D.layer D.safe D.sees self.old → KeepsStopsTo (map D.layer self.old.1) (D.layer self.old.0) D.sound size (GivesBelowPast (map D.layer self.old.1) size) (D.image self.old.0) (D.image self.new.0) }
-        ensures failed { IfErr result (StorageCause (D.image self.old.0 ∷ D.extras self.old.0) (D.image self.new.0 ∷ D.extras self.new.0)) }
+        ensures failed { IfErr result (ImageCause (D.image self.old.0 ∷ D.extras self.old.0) (D.image self.new.0 ∷ D.extras self.new.0)) }
         ensures cause { IsIntactChain D.layer D.safe D.sees self.old → IfErr result (ShrinkCause (map D.layer self.old.1) (D.layer self.old.0) size (D.own_cause self.old.0 (map D.layer self.old.1) (shrink size)) (files_of D.image D.extras (chain self.old)) (files_of D.image D.extras (chain self.new))) }
     {
         self.driver.resize_shrink(alloc, size)
@@ -87,7 +87,7 @@ impl<D: FormatDriverInstance> FormatAccess<D> {
         ensures intact { IsWhole result → IsIntactChain D.layer D.safe D.sees self.old → IsIntactChain D.layer D.safe D.sees self.new }
         ensures longer { IsIntactChain D.layer D.safe D.sees self.old → (D.layer self.old.0).size ≤ size → KeepsStopsTo (map D.layer self.old.1) (D.layer self.old.0) D.sound (D.layer self.old.0).size (GivesPast (D.layer self.old.0).size) (D.image self.old.0) (D.image self.new.0) }
         ensures shorter { IsIntactChain D.layer D.safe D.sees self.old → size < (D.layer self.old.0).size → KeepsStopsTo (map D.layer self.old.1) (D.layer self.old.0) D.sound size (GivesBelowPast (map D.layer self.old.1) size) (D.image self.old.0) (D.image self.new.0) }
-        ensures failed { IfErr result (StorageCause (files_of D.image D.extras (chain self.old)) (files_of D.image D.extras (chain self.new))) }
+        ensures failed { IfErr result (ImageCause (files_of D.image D.extras (chain self.old)) (files_of D.image D.extras (chain self.new))) }
         ensures growth { IsIntactChain D.layer D.safe D.sees self.old → (D.layer self.old.0).size ≤ size → IfErr result (GrowthCause (map D.layer self.old.1) (D.layer self.old.0) size (D.growth_cause self.old.0 (map D.layer self.old.1) size mode) (files_of D.image D.extras (chain self.old)) (files_of D.image D.extras (chain self.new))) }
         ensures shrinking { IsIntactChain D.layer D.safe D.sees self.old → size < (D.layer self.old.0).size → IfErr result (ShrinkCause (map D.layer self.old.1) (D.layer self.old.0) size (D.own_cause self.old.0 (map D.layer self.old.1) (shrink size)) (files_of D.image D.extras (chain self.old)) (files_of D.image D.extras (chain self.new))) }
     {

@@ -3,12 +3,12 @@ ghost use Rattle.std.specs.Prelude.{◌≡◌, ◌∷◌, IsTrue, map, IsOk, IfE
 ghost use Rattle.imago_storage.specs.Steps.{Step, flush, sync, done};
 ghost use Rattle.imago_storage.specs.declared.fault.Fault.{Fault};
 ghost use Rattle.imago_access.specs.Layer.{IsFree, IsLike};
-ghost use Rattle.imago_access.specs.Chain.{Each};
+ghost use Rattle.imago_access.specs.Chain.{Each, EndsAt};
 ghost use Rattle.imago_access.specs.Layers.{chain, layers};
-ghost use Rattle.imago_access.specs.Files.{Pairs, IsKept, StorageCause, files_of};
+ghost use Rattle.imago_access.specs.Files.{Pairs, IsKept, IsStale, ImageCause, files_of};
 ghost use Rattle.imago_access.specs.Going.{Went};
 ghost use Rattle.imago_access.specs.Parts.{PlainCause};
-ghost use Rattle.imago_access.specs.Refusals.{barrier, InvalidateCause};
+ghost use Rattle.imago_access.specs.Refusals.{barrier, SomeFailed, InvalidateCause};
 ghost use Rattle.imago_access.specs.Stops.{IsMeant, GivesNone};
 ghost use Rattle.imago_access.specs.Running.{IsIntactChain, RanChain, chain_disk, below_of};
 
@@ -31,7 +31,7 @@ impl<D: FormatDriverInstance> FormatAccess<D> {
         ensures like { IsLike (D.layer self.old.0) (D.layer self.new.0) }
         ensures ran { RanChain D.layer D.image D.extras D.sees D.safe D.still D.lasts D.sound (IsOk result) (IsOk result) GivesNone self.old self.new }
         ensures below { self.new.1 ≡ self.old.1 }
-        ensures failed { IfErr result (StorageCause (D.image self.old.0 ∷ D.extras self.old.0) (D.image self.new.0 ∷ D.extras self.new.0)) }
+        ensures failed { IfErr result (ImageCause (D.image self.old.0 ∷ D.extras self.old.0) (D.image self.new.0 ∷ D.extras self.new.0)) }
         ensures cause { D.safe self.old.0 → IfErr result (PlainCause (D.layer self.old.0) (D.image self.old.0 ∷ D.extras self.old.0) (D.image self.new.0 ∷ D.extras self.new.0)) }
     {
         self.driver.flush(alloc)
@@ -70,6 +70,8 @@ impl<D: FormatDriverInstance> FormatAccess<D> {
         ensures barred { (f : Fault) → barrier (D.layer self.old.0) ≡ Some f → IsErrOf result f }
         ensures went { Pairs (Went D.layer D.image D.extras D.safe D.lasts (IsOk result) (IsOk result)) (chain self.old) (chain self.new) }
         ensures free { Each (λ d. IsFree (D.layer d)) (chain self.new) }
+        ensures downward { IfErr result (λ _. EndsAt D.still (chain self.old) (chain self.new)) }
+        ensures failed { IfErr result (λ e. IsStale e → SomeFailed (map D.layer (chain self.new))) }
         ensures cause { IfErr result (InvalidateCause (map D.layer (chain self.old)) (files_of D.image D.extras (chain self.old)) (files_of D.image D.extras (chain self.new))) }
     {
         Self::invalidate_part(alloc, &mut self.driver, &mut self.below)
@@ -90,6 +92,8 @@ impl<D: FormatDriverInstance> FormatAccess<D> {
         ensures barred { (f : Fault) → barrier (D.layer driver.old) ≡ Some f → IsErrOf result f }
         ensures went { Pairs (Went D.layer D.image D.extras D.safe D.lasts (IsOk result) (IsOk result)) (driver.old ∷ layers below.old) (driver.new ∷ layers below.new) }
         ensures free { Each (λ d. IsFree (D.layer d)) (driver.new ∷ layers below.new) }
+        ensures downward { IfErr result (λ _. EndsAt D.still (driver.old ∷ layers below.old) (driver.new ∷ layers below.new)) }
+        ensures failed { IfErr result (λ e. IsStale e → SomeFailed (map D.layer (driver.new ∷ layers below.new))) }
         ensures cause { IfErr result (InvalidateCause (map D.layer (driver.old ∷ layers below.old)) (files_of D.image D.extras (driver.old ∷ layers below.old)) (files_of D.image D.extras (driver.new ∷ layers below.new))) }
     {
         match driver.invalidate_cache(alloc) {
@@ -111,6 +115,8 @@ impl<D: FormatDriverInstance> FormatAccess<D> {
         ensures still { OnOk result (Each D.still (layers below.new)) }
         ensures went { Pairs (Went D.layer D.image D.extras D.safe D.lasts (IsOk result) (IsOk result)) (layers below.old) (layers below.new) }
         ensures free { Each (λ d. IsFree (D.layer d)) (layers below.new) }
+        ensures downward { IfErr result (λ _. EndsAt D.still (layers below.old) (layers below.new)) }
+        ensures failed { IfErr result (λ e. IsStale e → SomeFailed (map D.layer (layers below.new))) }
         ensures cause { IfErr result (InvalidateCause (map D.layer (layers below.old)) (files_of D.image D.extras (layers below.old)) (files_of D.image D.extras (layers below.new))) }
     {
         match below {

@@ -1,18 +1,19 @@
 // Writes, through mappings that are prepared and committed run by run.
 ghost use Rattle.std.specs.Prelude.{⊤, ◌≡◌, ◌<◌, ◌≤◌, ◌+◌, ◌∷◌, ◌++◌, ℕ, List, IsTrue, true, length, slice_index, map, IsOk, IfOk, IfErr, OnOk, IsErr, IsErrOf, Some, None};
+ghost use Rattle.imago_storage.specs.State.{StorageState};
 ghost use Rattle.imago_storage.specs.Disk.{byte};
 ghost use Rattle.imago_storage.specs.Through.{Overflows};
 ghost use Rattle.imago_storage.specs.Steps.{Call, Step, write, done};
 ghost use Rattle.imago_storage.specs.Causes.{PartlyDone};
 ghost use Rattle.imago_access.specs.Layer.{Layer, loose, IsFree, IsLike, unit_of_layer};
-ghost use Rattle.imago_access.specs.Room.{IsApart, Takes};
+ghost use Rattle.imago_access.specs.Room.{IsApart, IsUncutAt, Takes};
 ghost use Rattle.imago_access.specs.Chain.{at, unit_of_chain};
 ghost use Rattle.imago_access.specs.Layers.{chain};
-ghost use Rattle.imago_access.specs.Files.{IsWhole, IsMild, StorageCause, files_of};
+ghost use Rattle.imago_access.specs.Files.{IsWhole, IsMild, ImageCause, files_of};
 ghost use Rattle.imago_access.specs.Going.{Went};
 ghost use Rattle.imago_access.specs.Changes.{Committed, Cancelled};
 ghost use Rattle.imago_access.specs.Spending.{IsMine, Spends};
-ghost use Rattle.imago_access.specs.Parts.{IsPartOf, announces, PartCause};
+ghost use Rattle.imago_access.specs.Parts.{IsPartOf, IsUncutPart, announces, PartCause};
 ghost use Rattle.imago_access.specs.Refusals.{barrier, change_refusal, ChangeCause};
 ghost use Rattle.imago_access.specs.Stops.{KeepsStops, MakesNone, GivesBytes, GivesSettled};
 ghost use Rattle.imago_access.specs.Running.{IsIntact, Ran, IsIntactChain, RanChain, chain_disk, below_of};
@@ -32,7 +33,7 @@ pub(crate) fn abandon<D: FormatDriverInstance>(
     requires { IsMine D.claim D.tag mapping.state (D.layer driver.old) }
     ensures ok { Spends D.claim D.tag mapping.state (D.layer driver.old) (D.layer driver.new) (Cancelled (D.layer driver.old) (D.layer driver.new)) }
     ensures safe { D.safe driver.old → D.safe driver.new }
-    ensures room { IsTrue (D.layer driver.old).fixed.keeps → D.safe driver.old → Takes D.vacant D.has_room (λ _. ⊤) driver.old driver.new }
+    ensures room { IsTrue (D.layer driver.old).fixed.keeps → D.safe driver.old → Takes D.vacant D.has_room D.zeroed (λ _. ⊤) driver.old driver.new }
     ensures lasts { D.lasts driver.old → D.lasts driver.new }
     ensures began { (d : D) (call : Call) → D.began d call driver.old → D.began d call driver.new }
     ensures none { (D.image driver.new ≡ D.image driver.old) × (D.extras driver.new ≡ D.extras driver.old) }
@@ -55,11 +56,11 @@ pub(crate) fn settle<D: FormatDriverInstance>(
     ensures free { (mapping.state ≡ None → IsFree (D.layer driver.old)) → IsFree (D.layer driver.new) }
     ensures idle { mapping.state ≡ None → barrier (D.layer driver.old) ≡ None → IsOk result }
     ensures size { (D.layer driver.new).size ≡ (D.layer driver.old).size }
-    ensures room { IsTrue (D.layer driver.old).fixed.keeps → D.safe driver.old → IsWhole result → Takes D.vacant D.has_room (λ p. (D.layer driver.old).held p ≡ loose) driver.old driver.new }
+    ensures room { IsTrue (D.layer driver.old).fixed.keeps → D.safe driver.old → IsWhole result → Takes D.vacant D.has_room D.zeroed (λ p. (D.layer driver.old).held p ≡ loose) driver.old driver.new }
     ensures went { Went D.layer D.image D.extras D.safe D.lasts (IsOk result) (IsWhole result) driver.old driver.new }
     ensures began { (d : D) (call : Call) → D.began d call driver.old → OnOk result (D.began d call driver.new) }
     ensures stops { IsTrue (D.layer driver.old).fixed.keeps → D.safe driver.old → (below : List Layer) → KeepsStops below (D.layer driver.old) D.sound (GivesSettled below (D.layer driver.old)) (D.image driver.old) (D.image driver.new) }
-    ensures failed { IfErr result (StorageCause (D.image driver.old ∷ D.extras driver.old) (D.image driver.new ∷ D.extras driver.new)) }
+    ensures failed { IfErr result (ImageCause (D.image driver.old ∷ D.extras driver.old) (D.image driver.new ∷ D.extras driver.new)) }
     ensures cause { D.safe driver.old → (below : List Layer) (offset n : ℕ) → 0 < n → IfErr result (PartCause below (D.layer driver.old) offset n (λ _. ⊥) (D.image driver.old ∷ D.extras driver.old) (D.image driver.new ∷ D.extras driver.new)) }
 {
     match driver.commit_data_mapping(alloc, mapping) {
@@ -83,13 +84,14 @@ pub(crate) fn write_run<D: FormatDriverInstance, B: ReadBelow>(
     requires free { IsFree (D.layer driver.old) }
     requires some { 0 < length bytes.now }
     ensures run { IfOk result (λ n. (0 < n) × (n ≤ length bytes.now)) }
+    ensures uncut { IsIntact (B.under below.old) (D.layer driver.old) (D.safe driver.old) (B.sees_under below.old) → IfOk result (λ n. IsUncutAt (D.layer driver.old).fixed.unit (D.layer driver.old).size offset (length bytes.now) (offset + n)) }
     ensures shown { IsIntact (B.under below.old) (D.layer driver.old) (D.safe driver.old) (B.sees_under below.old) → IfOk result (λ n. (i : ℕ) → i < n → at (D.layer driver.new ∷ B.under below.old) (offset + i) ≡ byte (slice_index bytes.now i)) }
     ensures free { IsFree (D.layer driver.new) }
-    ensures room { IsIntact (B.under below.old) (D.layer driver.old) (D.safe driver.old) (B.sees_under below.old) → IsWhole result → Takes D.vacant D.has_room (IsApart (D.layer driver.old).fixed.unit offset (length bytes.now)) driver.old driver.new }
+    ensures room { IsIntact (B.under below.old) (D.layer driver.old) (D.safe driver.old) (B.sees_under below.old) → IsWhole result → Takes D.vacant D.has_room D.zeroed (IsApart (D.layer driver.old).fixed.unit offset (length bytes.now)) driver.old driver.new }
     ensures ran { Ran D.layer D.image D.extras D.safe D.lasts B.under B.files_under B.sees_under B.safe_under B.still_under B.lasts_under D.sound (IsOk result) (IsWhole result) (GivesBytes offset bytes.now) driver.old driver.new below.old below.new }
     ensures began { (d : D) (call : Call) → D.began d call driver.old → IsPartOf call offset (length bytes.now) → OnOk result (D.began d call driver.new) }
-    ensures failed { IfErr result (StorageCause (D.image driver.old ∷ D.extras driver.old ++ B.files_under below.old) (D.image driver.new ∷ D.extras driver.new ++ B.files_under below.new)) }
-    ensures cause { IsIntact (B.under below.old) (D.layer driver.old) (D.safe driver.old) (B.sees_under below.old) → (d : D) (call : Call) → D.began d call driver.old → IsPartOf call offset (length bytes.now) → true ≡ announces call → IfErr result (PartCause (B.under below.old) (D.layer driver.old) offset (length bytes.now) (D.own_cause d (B.under below.old) call) (D.image driver.old ∷ D.extras driver.old ++ B.files_under below.old) (D.image driver.new ∷ D.extras driver.new ++ B.files_under below.new)) }
+    ensures failed { IfErr result (ImageCause (D.image driver.old ∷ D.extras driver.old ++ B.files_under below.old) (D.image driver.new ∷ D.extras driver.new ++ B.files_under below.new)) }
+    ensures cause { IsIntact (B.under below.old) (D.layer driver.old) (D.safe driver.old) (B.sees_under below.old) → (d : D) (call : Call) → D.began d call driver.old → IsUncutPart (D.layer driver.old) call offset (length bytes.now) → true ≡ announces call → IfErr result (PartCause (B.under below.old) (D.layer driver.old) offset (length bytes.now) (D.own_cause d (B.under below.old) call) (D.image driver.old ∷ D.extras driver.old ++ B.files_under below.old) (D.image driver.new ∷ D.extras driver.new ++ B.files_under below.new)) }
 {
     let mapping = match driver.prepare_data_mapping(
         alloc,
@@ -127,11 +129,11 @@ pub(crate) fn write_all<D: FormatDriverInstance, B: ReadBelow>(
     ensures shown { IsIntact (B.under below.old) (D.layer driver.old) (D.safe driver.old) (B.sees_under below.old) → OnOk result ((i : ℕ) → i < length bytes.now → at (D.layer driver.new ∷ B.under below.old) (offset + i) ≡ byte (slice_index bytes.now i)) }
     ensures idle { length bytes.now ≡ 0 → IsOk result }
     ensures free { IsFree (D.layer driver.new) }
-    ensures room { IsIntact (B.under below.old) (D.layer driver.old) (D.safe driver.old) (B.sees_under below.old) → IsWhole result → Takes D.vacant D.has_room (IsApart (D.layer driver.old).fixed.unit offset (length bytes.now)) driver.old driver.new }
+    ensures room { IsIntact (B.under below.old) (D.layer driver.old) (D.safe driver.old) (B.sees_under below.old) → IsWhole result → Takes D.vacant D.has_room D.zeroed (IsApart (D.layer driver.old).fixed.unit offset (length bytes.now)) driver.old driver.new }
     ensures ran { Ran D.layer D.image D.extras D.safe D.lasts B.under B.files_under B.sees_under B.safe_under B.still_under B.lasts_under D.sound (IsOk result) (IsWhole result) (GivesBytes offset bytes.now) driver.old driver.new below.old below.new }
     ensures began { (d : D) (call : Call) → D.began d call driver.old → IsPartOf call offset (length bytes.now) → OnOk result (D.began d call driver.new) }
-    ensures failed { IfErr result (StorageCause (D.image driver.old ∷ D.extras driver.old ++ B.files_under below.old) (D.image driver.new ∷ D.extras driver.new ++ B.files_under below.new)) }
-    ensures cause { IsIntact (B.under below.old) (D.layer driver.old) (D.safe driver.old) (B.sees_under below.old) → (d : D) (call : Call) → D.began d call driver.old → IsPartOf call offset (length bytes.now) → true ≡ announces call → IfErr result (PartCause (B.under below.old) (D.layer driver.old) offset (length bytes.now) (D.own_cause d (B.under below.old) call) (D.image driver.old ∷ D.extras driver.old ++ B.files_under below.old) (D.image driver.new ∷ D.extras driver.new ++ B.files_under below.new)) }
+    ensures failed { IfErr result (ImageCause (D.image driver.old ∷ D.extras driver.old ++ B.files_under below.old) (D.image driver.new ∷ D.extras driver.new ++ B.files_under below.new)) }
+    ensures cause { IsIntact (B.under below.old) (D.layer driver.old) (D.safe driver.old) (B.sees_under below.old) → (d : D) (call : Call) → D.began d call driver.old → IsUncutPart (D.layer driver.old) call offset (length bytes.now) → true ≡ announces call → IfErr result (PartCause (B.under below.old) (D.layer driver.old) offset (length bytes.now) (D.own_cause d (B.under below.old) call) (D.image driver.old ∷ D.extras driver.old ++ B.files_under below.old) (D.image driver.new ∷ D.extras driver.new ++ B.files_under below.new)) }
 {
     // The range ends in the disk, whose size fits 64 bits.
     let _size = driver.size();
@@ -151,6 +153,7 @@ impl<D: FormatDriverInstance> FormatAccess<D> {
         ensures ok { OnOk result (change_refusal (unit_of_chain (map D.layer (chain self.now))) (D.layer self.now.0) offset length ≡ None) }
         ensures err { IfErr result (λ e. change_refusal (unit_of_chain (map D.layer (chain self.now))) (D.layer self.now.0) offset length ≡ Some e) }
         ensures mild { IfErr result IsMild }
+        ensures failed { (olds news : List StorageState) → IfErr result (ImageCause olds news) }
     {
         self.driver.ready()?;
         if length == 0 {
@@ -183,8 +186,8 @@ impl<D: FormatDriverInstance> FormatAccess<D> {
         ensures idle { length bytes.now ≡ 0 → barrier (D.layer self.old.0) ≡ None → IsOk result }
         ensures like { IsLike (D.layer self.old.0) (D.layer self.new.0) }
         ensures ran { RanChain D.layer D.image D.extras D.sees D.safe D.still D.lasts D.sound (IsOk result) (IsWhole result) (GivesBytes offset bytes.now) self.old self.new }
-        ensures room { IsIntactChain D.layer D.safe D.sees self.old → IsWhole result → Takes D.vacant D.has_room (IsApart (D.layer self.old.0).fixed.unit offset (length bytes.now)) self.old.0 self.new.0 }
-        ensures failed { IfErr result (StorageCause (files_of D.image D.extras (chain self.old)) (files_of D.image D.extras (chain self.new))) }
+        ensures room { IsIntactChain D.layer D.safe D.sees self.old → IsWhole result → Takes D.vacant D.has_room D.zeroed (IsApart (D.layer self.old.0).fixed.unit offset (length bytes.now)) self.old.0 self.new.0 }
+        ensures failed { IfErr result (ImageCause (files_of D.image D.extras (chain self.old)) (files_of D.image D.extras (chain self.new))) }
         ensures cause { IsIntactChain D.layer D.safe D.sees self.old → IfErr result (ChangeCause (unit_of_chain (map D.layer (chain self.old))) (map D.layer (chain self.old)) (chain_disk D.layer self.old) (D.layer self.old.0).fixed.writable (write offset bytes.now) (D.own_cause self.old.0 (map D.layer self.old.1) (write offset bytes.now)) (files_of D.image D.extras (chain self.old)) (files_of D.image D.extras (chain self.new))) }
     {
         self.check_change(offset, bytes.len() as u64)?;

@@ -1,24 +1,25 @@
 // Zeroing of ranges: by the driver where it can, and else by writing zeroes.
-ghost use Rattle.std.specs.Prelude.{◌≡◌, ◌⊎◌, ◌<◌, ◌≤◌, ◌+◌, ◌-◌, ◌^◌, ◌∷◌, ◌++◌, ℕ, List, IsTrue, true, length, slice_index, map, IsOk, IfOk, IfErr, OnOk, IsErrOf, Some, replicate};
+ghost use Rattle.std.specs.Prelude.{⊤, ◌≡◌, ◌⊎◌, ◌<◌, ◌≤◌, ◌+◌, ◌-◌, ◌^◌, ◌∷◌, ◌++◌, ℕ, List, IsTrue, true, length, slice_index, map, IsOk, IfOk, IfErr, OnOk, IsErrOf, Some, replicate};
 ghost use Rattle.imago_storage.specs.Disk.{byte};
 ghost use Rattle.imago_storage.specs.Steps.{Call, Step, write_zeroes, discard_to_zero, done, IsIn, IsOut};
 ghost use Rattle.imago_storage.specs.Causes.{PartlyDone};
 ghost use Rattle.imago_access.specs.Layer.{Layer, IsFree, IsLike};
-ghost use Rattle.imago_access.specs.Room.{IsApart, Reaches, LeavesRoom, Takes, IsGivenUp, IsGivenUpTo, IsGivenUpBehind, IsUndeclined};
+ghost use Rattle.imago_access.specs.Room.{IsApart, IsUncutAt, Reaches, LeavesRoom, Takes, IsGivenUp, IsGivenUpTo, IsGivenUpBehind, IsZeroed, IsUndeclined};
+ghost use Rattle.imago_access.specs.Zeroings.{IsLeft};
 ghost use Rattle.imago_access.specs.declared.access.zeroing.Zeroing.TheVariants as zeroing_is;
 ghost use Rattle.imago_access.specs.Chain.{at, unit_of_chain};
 ghost use Rattle.imago_access.specs.Layers.{chain};
-ghost use Rattle.imago_access.specs.Files.{IsWhole, IsAnswered, IsMild, StorageCause, files_of};
+ghost use Rattle.imago_access.specs.Files.{IsWhole, IsAnswered, IsMild, ImageCause, files_of};
 ghost use Rattle.imago_access.specs.Going.{Went};
-ghost use Rattle.imago_access.specs.Changes.{Rewrites, PartRewrites, ToZero};
-ghost use Rattle.imago_access.specs.Parts.{IsPartOf, announces, PartCause, DeclinableCause};
+ghost use Rattle.imago_access.specs.Changes.{Rewrites, PartRewrites, ToZero, Wrote};
+ghost use Rattle.imago_access.specs.Parts.{IsPartOf, IsUncutPart, announces, PartCause, DeclinableCause, MappedCause};
 ghost use Rattle.imago_access.specs.Refusals.{barrier, change_refusal, ChangeCause};
-ghost use Rattle.imago_access.specs.Stops.{KeepsStops, GivesZero};
-ghost use Rattle.imago_access.specs.Running.{IsIntact, IsBetween, Ran, IsIntactChain, RanChain, chain_disk, below_of};
+ghost use Rattle.imago_access.specs.Stops.{KeepsStops, GivesBytes, GivesZero};
+ghost use Rattle.imago_access.specs.Running.{IsIntact, IsBetween, Ran, RanAlone, IsIntactChain, RanChain, chain_disk, below_of};
 
 use crate::access::FormatAccess;
 use crate::access::discarding::is_declined;
-use crate::access::writing::write_all;
+use crate::access::writing::{abandon, settle};
 use crate::below::ReadBelow;
 use crate::drivers::FormatDriverInstance;
 use imago_storage::Fault;
@@ -52,13 +53,13 @@ fn zero_part<D: FormatDriverInstance>(
     ensures ok { IsTrue (D.layer driver.old).fixed.keeps → D.safe driver.old → IfOk result (λ r. Rewrites ToZero (D.layer driver.old) (D.layer driver.new) r.0 r.1) }
     ensures err { IsTrue (D.layer driver.old).fixed.keeps → D.safe driver.old → IfErr result (λ e. IsMild e → PartRewrites ToZero (D.layer driver.old) (D.layer driver.new) offset length) }
     ensures like { IsLike (D.layer driver.old) (D.layer driver.new) }
-    ensures room { IsTrue (D.layer driver.old).fixed.keeps → D.safe driver.old → IsWhole result → LeavesRoom D.vacant D.has_room (λ p. (zeroing ≡ zeroing_is.Keep) ⊎ IsOut offset length p) (IsOut offset length) driver.old driver.new }
-    ensures given { zeroing ≡ zeroing_is.GiveUp → IsTrue (D.layer driver.old).fixed.keeps → D.safe driver.old → IfOk result (λ r. (p : ℕ) → IsIn r.0 r.1 p → D.vacant driver.new p) }
-    ensures reach { zeroing ≡ zeroing_is.GiveUp → IsTrue (D.layer driver.old).fixed.keeps → D.safe driver.old → IfOk result (λ r. Reaches (D.layer driver.old).fixed.unit (D.layer driver.old).size offset length r.0 r.1) }
+    ensures room { IsTrue (D.layer driver.old).fixed.keeps → D.safe driver.old → IsWhole result → LeavesRoom D.vacant D.has_room D.zeroed (λ p. (zeroing ≡ zeroing_is.Keep) ⊎ IsOut offset length p) (IsOut offset length) driver.old driver.new }
+    ensures given { IsTrue (D.layer driver.old).fixed.keeps → D.safe driver.old → IfOk result (λ r. (p : ℕ) → IsIn r.0 r.1 p → IsLeft zeroing (D.vacant driver.new) (D.zeroed driver.new) p) }
+    ensures reach { IsTrue (D.layer driver.old).fixed.keeps → D.safe driver.old → IfOk result (λ r. Reaches (D.layer driver.old).fixed.unit (D.layer driver.old).size offset length r.0 r.1) }
     ensures went { Went D.layer D.image D.extras D.safe D.lasts (IsAnswered result) (IsWhole result) driver.old driver.new }
     ensures began { (d : D) (call : Call) → D.began d call driver.old → IsPartOf call offset length → IsWhole result → D.began d call driver.new }
     ensures stops { IsTrue (D.layer driver.old).fixed.keeps → D.safe driver.old → (below : List Layer) → KeepsStops below (D.layer driver.old) D.sound (GivesZero offset length) (D.image driver.old) (D.image driver.new) }
-    ensures failed { IfErr result (StorageCause (D.image driver.old ∷ D.extras driver.old) (D.image driver.new ∷ D.extras driver.new)) }
+    ensures failed { IfErr result (ImageCause (D.image driver.old ∷ D.extras driver.old) (D.image driver.new ∷ D.extras driver.new)) }
     ensures cause { D.safe driver.old → (below : List Layer) (d : D) (call : Call) → D.began d call driver.old → IsPartOf call offset length → IfErr result (DeclinableCause below (D.layer driver.old) offset length (D.own_cause d below call) (D.image driver.old ∷ D.extras driver.old) (D.image driver.new ∷ D.extras driver.new)) }
 {
     match zeroing {
@@ -75,7 +76,76 @@ fn zero_bytes(length: u64) -> &'static [u8]
     &ZEROES[..length as usize]
 }
 
-// Writes zeroes over a range that lies in the disk, in pieces that end at multiples of their length.
+// Writes zeroes to a range that is mapped, in pieces that end at multiples of their length in its storage.
+fn write_mapped_zeroes<D: FormatDriverInstance>(
+    alloc: Global,
+    driver: &mut D,
+    guest: u64,
+    place: u64,
+    n: u64,
+) -> Result<(), Fault>
+    requires fits { guest + n < 2 ^ 64 }
+    requires place_fits { place + n < 2 ^ 64 }
+    ensures ok { IsTrue (D.layer driver.old).fixed.keeps → D.safe driver.old → OnOk result (Wrote (D.layer driver.old) (D.layer driver.new) guest (replicate n 0)) }
+    ensures like { IsLike (D.layer driver.old) (D.layer driver.new) }
+    ensures room { IsTrue (D.layer driver.old).fixed.keeps → D.safe driver.old → IsWhole result → Takes D.vacant D.has_room D.zeroed (λ _. ⊤) driver.old driver.new }
+    ensures ran { (below : List Layer) → RanAlone D.layer D.image D.extras D.safe D.lasts D.sound (IsOk result) (IsWhole result) (GivesBytes guest (replicate n 0)) below driver.old driver.new }
+    ensures began { (d : D) (call : Call) → D.began d call driver.old → OnOk result (D.began d call driver.new) }
+    ensures failed { IfErr result (ImageCause (D.image driver.old ∷ D.extras driver.old) (D.image driver.new ∷ D.extras driver.new)) }
+    ensures cause { IsTrue (D.layer driver.old).fixed.keeps → D.safe driver.old → IfErr result (MappedCause (D.layer driver.old) guest place n (D.image driver.old ∷ D.extras driver.old) (D.image driver.new ∷ D.extras driver.new)) }
+{
+    let mut done = 0;
+    while done < n {
+        let at = place + done;
+        let count = (PIECE - at % PIECE).min(n - done);
+        match driver.write_mapped(alloc, guest + done, at, zero_bytes(count)) {
+            Ok(()) => done += count,
+            Err(fault) => return Err(fault),
+        }
+    }
+    Ok(())
+}
+
+// Writes zeroes to the first run of a range that lies in the disk: the run is mapped as a whole, so that nothing is copied to it. It
+// answers how many bytes that are.
+fn write_zero_run<D: FormatDriverInstance, B: ReadBelow>(
+    alloc: Global,
+    driver: &mut D,
+    below: &mut B,
+    offset: u64,
+    n: u64,
+) -> Result<u64, Fault>
+    requires free { IsFree (D.layer driver.old) }
+    requires some { 0 < n }
+    requires fits { offset + n < 2 ^ 64 }
+    ensures run { IfOk result (λ count. (0 < count) × (count ≤ n)) }
+    ensures uncut { IsIntact (B.under below.old) (D.layer driver.old) (D.safe driver.old) (B.sees_under below.old) → IfOk result (λ count. IsUncutAt (D.layer driver.old).fixed.unit (D.layer driver.old).size offset n (offset + count)) }
+    ensures shown { IsIntact (B.under below.old) (D.layer driver.old) (D.safe driver.old) (B.sees_under below.old) → IfOk result (λ count. (i : ℕ) → i < count → at (D.layer driver.new ∷ B.under below.old) (offset + i) ≡ byte 0) }
+    ensures free { IsFree (D.layer driver.new) }
+    ensures room { IsIntact (B.under below.old) (D.layer driver.old) (D.safe driver.old) (B.sees_under below.old) → IsWhole result → Takes D.vacant D.has_room D.zeroed (IsApart (D.layer driver.old).fixed.unit offset n) driver.old driver.new }
+    ensures ran { Ran D.layer D.image D.extras D.safe D.lasts B.under B.files_under B.sees_under B.safe_under B.still_under B.lasts_under D.sound (IsOk result) (IsWhole result) (GivesZero offset n) driver.old driver.new below.old below.new }
+    ensures began { (d : D) (call : Call) → D.began d call driver.old → IsPartOf call offset n → OnOk result (D.began d call driver.new) }
+    ensures failed { IfErr result (ImageCause (D.image driver.old ∷ D.extras driver.old ++ B.files_under below.old) (D.image driver.new ∷ D.extras driver.new ++ B.files_under below.new)) }
+    ensures cause { IsIntact (B.under below.old) (D.layer driver.old) (D.safe driver.old) (B.sees_under below.old) → (d : D) (call : Call) → D.began d call driver.old → IsUncutPart (D.layer driver.old) call offset n → true ≡ announces call → IfErr result (PartCause (B.under below.old) (D.layer driver.old) offset n (D.own_cause d (B.under below.old) call) (D.image driver.old ∷ D.extras driver.old ++ B.files_under below.old) (D.image driver.new ∷ D.extras driver.new ++ B.files_under below.new)) }
+{
+    let mapping = match driver.prepare_data_mapping(alloc, below, offset, n, true) {
+        Ok(mapping) => mapping,
+        Err(fault) => return Err(fault),
+    };
+    let count = mapping.length();
+    match write_mapped_zeroes(alloc, driver, offset, mapping.offset(), count) {
+        Ok(()) => match settle(driver, alloc, mapping) {
+            Ok(()) => Ok(count),
+            Err(fault) => Err(fault),
+        },
+        Err(fault) => {
+            abandon(driver, mapping);
+            Err(fault)
+        }
+    }
+}
+
+// Writes zeroes over a range that lies in the disk, run by run.
 fn write_zero_bytes<D: FormatDriverInstance, B: ReadBelow>(
     alloc: Global,
     driver: &mut D,
@@ -88,18 +158,16 @@ fn write_zero_bytes<D: FormatDriverInstance, B: ReadBelow>(
     requires inside { offset + n ≤ (D.layer driver.old).size }
     ensures shown { IsIntact (B.under below.old) (D.layer driver.old) (D.safe driver.old) (B.sees_under below.old) → OnOk result ((p : ℕ) → IsIn offset n p → at (D.layer driver.new ∷ B.under below.old) p ≡ byte 0) }
     ensures free { IsFree (D.layer driver.new) }
-    ensures room { IsIntact (B.under below.old) (D.layer driver.old) (D.safe driver.old) (B.sees_under below.old) → IsWhole result → Takes D.vacant D.has_room (IsApart (D.layer driver.old).fixed.unit offset n) driver.old driver.new }
+    ensures room { IsIntact (B.under below.old) (D.layer driver.old) (D.safe driver.old) (B.sees_under below.old) → IsWhole result → Takes D.vacant D.has_room D.zeroed (IsApart (D.layer driver.old).fixed.unit offset n) driver.old driver.new }
     ensures ran { Ran D.layer D.image D.extras D.safe D.lasts B.under B.files_under B.sees_under B.safe_under B.still_under B.lasts_under D.sound (IsOk result) (IsWhole result) (GivesZero offset n) driver.old driver.new below.old below.new }
     ensures began { (d : D) (call : Call) → D.began d call driver.old → IsPartOf call offset n → OnOk result (D.began d call driver.new) }
-    ensures failed { IfErr result (StorageCause (D.image driver.old ∷ D.extras driver.old ++ B.files_under below.old) (D.image driver.new ∷ D.extras driver.new ++ B.files_under below.new)) }
-    ensures cause { IsIntact (B.under below.old) (D.layer driver.old) (D.safe driver.old) (B.sees_under below.old) → (d : D) (call : Call) → D.began d call driver.old → IsPartOf call offset n → true ≡ announces call → IfErr result (PartCause (B.under below.old) (D.layer driver.old) offset n (D.own_cause d (B.under below.old) call) (D.image driver.old ∷ D.extras driver.old ++ B.files_under below.old) (D.image driver.new ∷ D.extras driver.new ++ B.files_under below.new)) }
+    ensures failed { IfErr result (ImageCause (D.image driver.old ∷ D.extras driver.old ++ B.files_under below.old) (D.image driver.new ∷ D.extras driver.new ++ B.files_under below.new)) }
+    ensures cause { IsIntact (B.under below.old) (D.layer driver.old) (D.safe driver.old) (B.sees_under below.old) → (d : D) (call : Call) → D.began d call driver.old → IsUncutPart (D.layer driver.old) call offset n → true ≡ announces call → IfErr result (PartCause (B.under below.old) (D.layer driver.old) offset n (D.own_cause d (B.under below.old) call) (D.image driver.old ∷ D.extras driver.old ++ B.files_under below.old) (D.image driver.new ∷ D.extras driver.new ++ B.files_under below.new)) }
 {
     let mut done = 0;
     while done < n {
-        let at = offset + done;
-        let count = (PIECE - at % PIECE).min(n - done);
-        match write_all(alloc, driver, below, zero_bytes(count), at) {
-            Ok(()) => done += count,
+        match write_zero_run(alloc, driver, below, offset + done, n - done) {
+            Ok(count) => done += count,
             Err(fault) => return Err(fault),
         }
     }
@@ -119,15 +187,16 @@ fn zero_by_driver<D: FormatDriverInstance>(
     requires some { 0 < n }
     requires fits { offset + n < 2 ^ 64 }
     ensures part { IfOk result (λ r. (offset ≤ r.0) × (r.0 ≤ r.1) × (offset < r.1) × (r.1 ≤ offset + n)) }
+    ensures uncut { IsTrue (D.layer driver.old).fixed.keeps → D.safe driver.old → IfOk result (λ r. IsUncutAt (D.layer driver.old).fixed.unit (D.layer driver.old).size offset n r.0 × IsUncutAt (D.layer driver.old).fixed.unit (D.layer driver.old).size offset n r.1) }
     ensures zeroed { IsTrue (D.layer driver.old).fixed.keeps → D.safe driver.old → (below : List Layer) → IfOk result (λ r. (p : ℕ) → r.0 ≤ p → p < r.1 → at (D.layer driver.new ∷ below) p ≡ byte 0) }
     ensures values { IsTrue (D.layer driver.old).fixed.keeps → D.safe driver.old → (below : List Layer) → IsWhole result → IsBetween (GivesZero offset n) below (D.layer driver.old) (D.layer driver.new) }
     ensures like { IsLike (D.layer driver.old) (D.layer driver.new) }
-    ensures room { IsTrue (D.layer driver.old).fixed.keeps → D.safe driver.old → IsWhole result → LeavesRoom D.vacant D.has_room (λ p. (zeroing ≡ zeroing_is.Keep) ⊎ IsOut offset n p) (IsOut offset n) driver.old driver.new }
-    ensures given { zeroing ≡ zeroing_is.GiveUp → IsTrue (D.layer driver.old).fixed.keeps → D.safe driver.old → (below : List Layer) (d : D) (call : Call) → D.began d call driver.old → IsPartOf call offset n → IsUndeclined (D.own_cause d below call) → IfOk result (λ r. IsGivenUpBehind (D.vacant driver.new) (D.layer driver.old).fixed.unit (D.layer driver.old).size offset n r.0 r.1) }
+    ensures room { IsTrue (D.layer driver.old).fixed.keeps → D.safe driver.old → IsWhole result → LeavesRoom D.vacant D.has_room D.zeroed (λ p. (zeroing ≡ zeroing_is.Keep) ⊎ IsOut offset n p) (IsOut offset n) driver.old driver.new }
+    ensures given { IsTrue (D.layer driver.old).fixed.keeps → D.safe driver.old → (below : List Layer) (d : D) (call : Call) → D.began d call driver.old → IsPartOf call offset n → IsUndeclined (D.own_cause d below call) → IfOk result (λ r. IsGivenUpBehind (IsLeft zeroing (D.vacant driver.new) (D.zeroed driver.new)) (D.layer driver.old).fixed.unit (D.layer driver.old).size offset n r.0 r.1) }
     ensures went { Went D.layer D.image D.extras D.safe D.lasts (IsOk result) (IsWhole result) driver.old driver.new }
     ensures began { (d : D) (call : Call) → D.began d call driver.old → IsPartOf call offset n → OnOk result (D.began d call driver.new) }
     ensures stops { IsTrue (D.layer driver.old).fixed.keeps → D.safe driver.old → (below : List Layer) → KeepsStops below (D.layer driver.old) D.sound (GivesZero offset n) (D.image driver.old) (D.image driver.new) }
-    ensures failed { IfErr result (StorageCause (D.image driver.old ∷ D.extras driver.old) (D.image driver.new ∷ D.extras driver.new)) }
+    ensures failed { IfErr result (ImageCause (D.image driver.old ∷ D.extras driver.old) (D.image driver.new ∷ D.extras driver.new)) }
     ensures cause { D.safe driver.old → (below : List Layer) (d : D) (call : Call) → D.began d call driver.old → IsPartOf call offset n → IfErr result (PartCause below (D.layer driver.old) offset n (D.own_cause d below call) (D.image driver.old ∷ D.extras driver.old) (D.image driver.new ∷ D.extras driver.new)) }
 {
     let end = offset + n;
@@ -155,14 +224,15 @@ fn zero_run<D: FormatDriverInstance, B: ReadBelow>(
     requires fits { offset + n < 2 ^ 64 }
     requires inside { offset + n ≤ (D.layer driver.old).size }
     ensures run { IfOk result (λ end. (offset < end) × (end ≤ offset + n)) }
+    ensures uncut { IsIntact (B.under below.old) (D.layer driver.old) (D.safe driver.old) (B.sees_under below.old) → IfOk result (IsUncutAt (D.layer driver.old).fixed.unit (D.layer driver.old).size offset n) }
     ensures shown { IsIntact (B.under below.old) (D.layer driver.old) (D.safe driver.old) (B.sees_under below.old) → IfOk result (λ end. (p : ℕ) → offset ≤ p → p < end → at (D.layer driver.new ∷ B.under below.old) p ≡ byte 0) }
     ensures free { IsFree (D.layer driver.new) }
-    ensures room { IsIntact (B.under below.old) (D.layer driver.old) (D.safe driver.old) (B.sees_under below.old) → IsWhole result → LeavesRoom D.vacant D.has_room (λ p. (zeroing ≡ zeroing_is.Keep) ⊎ IsOut offset n p) (IsApart (D.layer driver.old).fixed.unit offset n) driver.old driver.new }
-    ensures given { zeroing ≡ zeroing_is.GiveUp → IsIntact (B.under below.old) (D.layer driver.old) (D.safe driver.old) (B.sees_under below.old) → (d : D) (call : Call) → D.began d call driver.old → IsPartOf call offset n → IsUndeclined (D.own_cause d (B.under below.old) call) → IfOk result (IsGivenUpTo (D.vacant driver.new) (D.layer driver.old).fixed.unit (D.layer driver.old).size offset n) }
+    ensures room { IsIntact (B.under below.old) (D.layer driver.old) (D.safe driver.old) (B.sees_under below.old) → IsWhole result → LeavesRoom D.vacant D.has_room D.zeroed (λ p. (zeroing ≡ zeroing_is.Keep) ⊎ IsOut offset n p) (IsApart (D.layer driver.old).fixed.unit offset n) driver.old driver.new }
+    ensures given { IsIntact (B.under below.old) (D.layer driver.old) (D.safe driver.old) (B.sees_under below.old) → (d : D) (call : Call) → D.began d call driver.old → IsPartOf call offset n → IsUndeclined (D.own_cause d (B.under below.old) call) → IfOk result (IsGivenUpTo (IsLeft zeroing (D.vacant driver.new) (D.zeroed driver.new)) (D.layer driver.old).fixed.unit (D.layer driver.old).size offset n) }
     ensures ran { Ran D.layer D.image D.extras D.safe D.lasts B.under B.files_under B.sees_under B.safe_under B.still_under B.lasts_under D.sound (IsOk result) (IsWhole result) (GivesZero offset n) driver.old driver.new below.old below.new }
     ensures began { (d : D) (call : Call) → D.began d call driver.old → IsPartOf call offset n → OnOk result (D.began d call driver.new) }
-    ensures failed { IfErr result (StorageCause (D.image driver.old ∷ D.extras driver.old ++ B.files_under below.old) (D.image driver.new ∷ D.extras driver.new ++ B.files_under below.new)) }
-    ensures cause { IsIntact (B.under below.old) (D.layer driver.old) (D.safe driver.old) (B.sees_under below.old) → (d : D) (call : Call) → D.began d call driver.old → IsPartOf call offset n → true ≡ announces call → IfErr result (PartCause (B.under below.old) (D.layer driver.old) offset n (D.own_cause d (B.under below.old) call) (D.image driver.old ∷ D.extras driver.old ++ B.files_under below.old) (D.image driver.new ∷ D.extras driver.new ++ B.files_under below.new)) }
+    ensures failed { IfErr result (ImageCause (D.image driver.old ∷ D.extras driver.old ++ B.files_under below.old) (D.image driver.new ∷ D.extras driver.new ++ B.files_under below.new)) }
+    ensures cause { IsIntact (B.under below.old) (D.layer driver.old) (D.safe driver.old) (B.sees_under below.old) → (d : D) (call : Call) → D.began d call driver.old → IsUncutPart (D.layer driver.old) call offset n → true ≡ announces call → IfErr result (PartCause (B.under below.old) (D.layer driver.old) offset n (D.own_cause d (B.under below.old) call) (D.image driver.old ∷ D.extras driver.old ++ B.files_under below.old) (D.image driver.new ∷ D.extras driver.new ++ B.files_under below.new)) }
 {
     let (start, end) = match zero_by_driver(alloc, driver, zeroing, offset, n) {
         Ok(part) => part,
@@ -189,11 +259,11 @@ fn zero_all<D: FormatDriverInstance, B: ReadBelow>(
     ensures idle { n ≡ 0 → IsOk result }
     ensures shown { IsIntact (B.under below.old) (D.layer driver.old) (D.safe driver.old) (B.sees_under below.old) → OnOk result ((p : ℕ) → IsIn offset n p → at (D.layer driver.new ∷ B.under below.old) p ≡ byte 0) }
     ensures free { IsFree (D.layer driver.new) }
-    ensures room { IsIntact (B.under below.old) (D.layer driver.old) (D.safe driver.old) (B.sees_under below.old) → IsWhole result → LeavesRoom D.vacant D.has_room (λ p. (zeroing ≡ zeroing_is.Keep) ⊎ IsOut offset n p) (IsApart (D.layer driver.old).fixed.unit offset n) driver.old driver.new }
-    ensures gives_up { zeroing ≡ zeroing_is.GiveUp → IsIntact (B.under below.old) (D.layer driver.old) (D.safe driver.old) (B.sees_under below.old) → (d : D) (call : Call) → D.began d call driver.old → IsPartOf call offset n → IsUndeclined (D.own_cause d (B.under below.old) call) → OnOk result (IsGivenUp (D.vacant driver.new) (D.layer driver.old).fixed.unit (D.layer driver.old).size offset n) }
+    ensures room { IsIntact (B.under below.old) (D.layer driver.old) (D.safe driver.old) (B.sees_under below.old) → IsWhole result → LeavesRoom D.vacant D.has_room D.zeroed (λ p. (zeroing ≡ zeroing_is.Keep) ⊎ IsOut offset n p) (IsApart (D.layer driver.old).fixed.unit offset n) driver.old driver.new }
+    ensures leaves { IsIntact (B.under below.old) (D.layer driver.old) (D.safe driver.old) (B.sees_under below.old) → (d : D) (call : Call) → D.began d call driver.old → IsPartOf call offset n → IsUndeclined (D.own_cause d (B.under below.old) call) → OnOk result (IsGivenUp (IsLeft zeroing (D.vacant driver.new) (D.zeroed driver.new)) (D.layer driver.old).fixed.unit (D.layer driver.old).size offset n) }
     ensures ran { Ran D.layer D.image D.extras D.safe D.lasts B.under B.files_under B.sees_under B.safe_under B.still_under B.lasts_under D.sound (IsOk result) (IsWhole result) (GivesZero offset n) driver.old driver.new below.old below.new }
-    ensures failed { IfErr result (StorageCause (D.image driver.old ∷ D.extras driver.old ++ B.files_under below.old) (D.image driver.new ∷ D.extras driver.new ++ B.files_under below.new)) }
-    ensures cause { IsIntact (B.under below.old) (D.layer driver.old) (D.safe driver.old) (B.sees_under below.old) → (d : D) (call : Call) → D.began d call driver.old → IsPartOf call offset n → true ≡ announces call → IfErr result (PartCause (B.under below.old) (D.layer driver.old) offset n (D.own_cause d (B.under below.old) call) (D.image driver.old ∷ D.extras driver.old ++ B.files_under below.old) (D.image driver.new ∷ D.extras driver.new ++ B.files_under below.new)) }
+    ensures failed { IfErr result (ImageCause (D.image driver.old ∷ D.extras driver.old ++ B.files_under below.old) (D.image driver.new ∷ D.extras driver.new ++ B.files_under below.new)) }
+    ensures cause { IsIntact (B.under below.old) (D.layer driver.old) (D.safe driver.old) (B.sees_under below.old) → (d : D) (call : Call) → D.began d call driver.old → IsUncutPart (D.layer driver.old) call offset n → true ≡ announces call → IfErr result (PartCause (B.under below.old) (D.layer driver.old) offset n (D.own_cause d (B.under below.old) call) (D.image driver.old ∷ D.extras driver.old ++ B.files_under below.old) (D.image driver.new ∷ D.extras driver.new ++ B.files_under below.new)) }
 {
     let end = offset + n;
     let mut at = offset;
@@ -207,7 +277,8 @@ fn zero_all<D: FormatDriverInstance, B: ReadBelow>(
 }
 
 impl<D: FormatDriverInstance> FormatAccess<D> {
-    /// Makes a range read as 0, and keeps what is allocated for it. Nothing may be prepared.
+    /// Makes a range read as 0, and keeps what is allocated for it. Each whole unit of the range is zeroed by the format itself, unless the
+    /// driver declines that. Nothing may be prepared.
     ///
     /// It refuses with `Fault::ReadOnly`, with `Fault::RangeOverflow` where the end of the range, rounded up to the chain's alignment,
     /// passes `u64`, with `Fault::PastEnd`, with causes of the driver's own, with `Fault::Memory` and `Fault::Storage`, and where a layer
@@ -221,8 +292,9 @@ impl<D: FormatDriverInstance> FormatAccess<D> {
         ensures idle { length ≡ 0 → barrier (D.layer self.old.0) ≡ None → IsOk result }
         ensures like { IsLike (D.layer self.old.0) (D.layer self.new.0) }
         ensures ran { RanChain D.layer D.image D.extras D.sees D.safe D.still D.lasts D.sound (IsOk result) (IsWhole result) (GivesZero offset length) self.old self.new }
-        ensures room { IsIntactChain D.layer D.safe D.sees self.old → IsWhole result → Takes D.vacant D.has_room (IsApart (D.layer self.old.0).fixed.unit offset length) self.old.0 self.new.0 }
-        ensures failed { IfErr result (StorageCause (files_of D.image D.extras (chain self.old)) (files_of D.image D.extras (chain self.new))) }
+        ensures room { IsIntactChain D.layer D.safe D.sees self.old → IsWhole result → Takes D.vacant D.has_room D.zeroed (IsApart (D.layer self.old.0).fixed.unit offset length) self.old.0 self.new.0 }
+        ensures zeroed { IsIntactChain D.layer D.safe D.sees self.old → IsUndeclined (D.own_cause self.old.0 (map D.layer self.old.1) (write_zeroes offset length)) → OnOk result (IsZeroed (D.zeroed self.new.0) (D.layer self.old.0).fixed.unit (D.layer self.old.0).size offset length) }
+        ensures failed { IfErr result (ImageCause (files_of D.image D.extras (chain self.old)) (files_of D.image D.extras (chain self.new))) }
         ensures cause { IsIntactChain D.layer D.safe D.sees self.old → IfErr result (ChangeCause (unit_of_chain (map D.layer (chain self.old))) (map D.layer (chain self.old)) (chain_disk D.layer self.old) (D.layer self.old.0).fixed.writable (write_zeroes offset length) (D.own_cause self.old.0 (map D.layer self.old.1) (write_zeroes offset length)) (files_of D.image D.extras (chain self.old)) (files_of D.image D.extras (chain self.new))) }
     {
         self.check_change(offset, length)?;
@@ -248,9 +320,9 @@ impl<D: FormatDriverInstance> FormatAccess<D> {
         ensures idle { length ≡ 0 → barrier (D.layer self.old.0) ≡ None → IsOk result }
         ensures like { IsLike (D.layer self.old.0) (D.layer self.new.0) }
         ensures ran { RanChain D.layer D.image D.extras D.sees D.safe D.still D.lasts D.sound (IsOk result) (IsWhole result) (GivesZero offset length) self.old self.new }
-        ensures room { IsIntactChain D.layer D.safe D.sees self.old → IsWhole result → LeavesRoom D.vacant D.has_room (IsOut offset length) (IsApart (D.layer self.old.0).fixed.unit offset length) self.old.0 self.new.0 }
+        ensures room { IsIntactChain D.layer D.safe D.sees self.old → IsWhole result → LeavesRoom D.vacant D.has_room D.zeroed (IsOut offset length) (IsApart (D.layer self.old.0).fixed.unit offset length) self.old.0 self.new.0 }
         ensures gives_up { IsIntactChain D.layer D.safe D.sees self.old → IsUndeclined (D.own_cause self.old.0 (map D.layer self.old.1) (discard_to_zero offset length)) → OnOk result (IsGivenUp (D.vacant self.new.0) (D.layer self.old.0).fixed.unit (D.layer self.old.0).size offset length) }
-        ensures failed { IfErr result (StorageCause (files_of D.image D.extras (chain self.old)) (files_of D.image D.extras (chain self.new))) }
+        ensures failed { IfErr result (ImageCause (files_of D.image D.extras (chain self.old)) (files_of D.image D.extras (chain self.new))) }
         ensures cause { IsIntactChain D.layer D.safe D.sees self.old → IfErr result (ChangeCause (unit_of_chain (map D.layer (chain self.old))) (map D.layer (chain self.old)) (chain_disk D.layer self.old) (D.layer self.old.0).fixed.writable (discard_to_zero offset length) (D.own_cause self.old.0 (map D.layer self.old.1) (discard_to_zero offset length)) (files_of D.image D.extras (chain self.old)) (files_of D.image D.extras (chain self.new))) }
     {
         self.check_change(offset, length)?;

@@ -1,9 +1,10 @@
-// What a raw image asks of its storage, by a storage that notes it: contracts don't tell calls apart that leave the same bytes.
+// What a raw image, and a disk of one, asks of its storage, by a storage that notes it: contracts don't tell calls apart that leave the
+// same bytes.
 ghost use Rattle.imago_storage.specs.Null.{null_state, null_aligned};
 
 use crate::Raw;
 use imago_access::{
-    FormatCreateBuilder, FormatDriverInstance, NoBelow, PreallocateMode as DiskMode,
+    FormatAccess, FormatCreateBuilder, FormatDriverInstance, NoBelow, PreallocateMode as DiskMode,
 };
 use imago_storage::{Fault, Null, PreallocateMode, Storage};
 use std::alloc::Global;
@@ -30,6 +31,8 @@ enum Called {
 #[derive(Drop)]
 struct Recorder<'a> {
     below: Null,
+    // It can zero and keep what is allocated.
+    allocates: bool,
     note: &'a Cell<(Called, Called)>,
 }
 
@@ -88,6 +91,9 @@ impl<'a> Storage for Recorder<'a> {
 
     fn pure_write_allocated_zeroes(&mut self, offset: u64, length: u64) -> Result<(), Fault> {
         self.noted(Called::AllocatedZeroes { offset, length });
+        if !self.allocates {
+            return Err(Fault::Unsupported);
+        }
         self.below.pure_write_allocated_zeroes(offset, length)
     }
 
@@ -123,6 +129,7 @@ const NOTHING: (Called, Called) = (Called::Nothing, Called::Nothing);
 fn recording(note: &Cell<(Called, Called)>, size: u64) -> Recorder<'_> {
     Recorder {
         below: Null::new(size),
+        allocates: true,
         note,
     }
 }
@@ -177,6 +184,65 @@ fn zeroes_and_discards_are_asked_for_as_such(rt: HostRuntime) -> Result<(), Fail
     let alloc = rt.alloc();
     match zeroes_and_discards(&rt, alloc) {
         Err(Fault::Memory) => zeroes_and_discards(&rt, alloc)?,
+        answer => answer?,
+    }
+    Ok(())
+}
+
+// Where the storage can't zero and keep what is allocated, zeroes are written.
+fn zeroes_are_written(rt: &impl Abort, alloc: Global) -> Result<(), Fault> {
+    let note = Cell::new(NOTHING);
+    let storage = Recorder {
+        below: Null::new(1_024),
+        allocates: false,
+        note: &note,
+    };
+    let mut raw = Raw::open_image(storage, true);
+    let offset = 8;
+    raw.ensure_zero_mapping(alloc, offset, 16)?;
+    let asked = Called::AllocatedZeroes { offset, length: 16 };
+    let written = Called::Write { offset, length: 16 };
+    assert!(rt; note.get() == (asked, written));
+    Ok(())
+}
+
+#[test]
+fn zeroes_are_written_where_they_cant_be_allocated(rt: HostRuntime) -> Result<(), Fail> {
+    let alloc = rt.alloc();
+    match zeroes_are_written(&rt, alloc) {
+        Err(Fault::Memory) => zeroes_are_written(&rt, alloc)?,
+        answer => answer?,
+    }
+    Ok(())
+}
+
+// A disk leaves zeroing and discards to its driver, and hands the calls on that keep its files in step.
+fn handed_on(rt: &impl Abort, alloc: Global) -> Result<(), Fault> {
+    let note = Cell::new(NOTHING);
+    let mut access = FormatAccess::new(Raw::open_image(recording(&note, 1_024), true));
+    let (offset, length) = (8, 16);
+    access.invalidate_cache(alloc)?;
+    assert!(rt; taken(&note) == Called::InvalidateCache);
+    access.write_zeroes(alloc, offset, length)?;
+    assert!(rt; taken(&note) == Called::AllocatedZeroes { offset, length });
+    access.discard_to_zero(alloc, offset, length)?;
+    assert!(rt; taken(&note) == Called::Zeroes { offset, length });
+    access.discard_to_backing(alloc, offset, length)?;
+    assert!(rt; taken(&note) == Called::Zeroes { offset, length });
+    access.discard_to_any(alloc, offset, length)?;
+    assert!(rt; taken(&note) == Called::Discard { offset, length });
+    access.flush(alloc)?;
+    assert!(rt; taken(&note) == Called::Flush);
+    access.sync()?;
+    assert!(rt; taken(&note) == Called::Sync);
+    Ok(())
+}
+
+#[test]
+fn a_disk_asks_for_calls_of_the_same_kind(rt: HostRuntime) -> Result<(), Fail> {
+    let alloc = rt.alloc();
+    match handed_on(&rt, alloc) {
+        Err(Fault::Memory) => handed_on(&rt, alloc)?,
         answer => answer?,
     }
     Ok(())

@@ -1,6 +1,6 @@
-// Faults of the storage in a write, a zeroing, a growth and a flush: each call of the storage fails in turn.
+// Faults of the storage in a read, a write, two kinds of zeroing, a growth, a flush and a sync: each call of the storage fails in turn.
 //
-// The disk has 2,000 bytes, and its storage, at a unit of 512, has 2,048: the last unit was padded by a write. What is written or
+// The disk has 2,000 bytes, and its storage, at a unit of 512, has 2,048: the last unit was padded by a write. What is read, written or
 // zeroed is 100 up to 1,900, with whole units from 512 up to 1,536.
 use crate::Raw;
 use imago_access::{FormatAccess, PreallocateMode};
@@ -11,19 +11,25 @@ use std::test::Fail;
 
 #[derive(Clone, Copy, Debug, PartialEq, Eq)]
 enum Work {
+    Read,
     Write,
     Zero,
+    ToZero,
     Grow,
     Flush,
+    Sync,
 }
 
 // Each with the number of the first call that it doesn't make. A write and a zeroing read and write each edge, and the whole units in
 // one call; a growth cuts off what was padded, and then grows.
-const WORKS: [(Work, u16); 4] = [
+const WORKS: [(Work, u16); 7] = [
+    (Work::Read, 2),
     (Work::Write, 6),
     (Work::Zero, 6),
+    (Work::ToZero, 6),
     (Work::Grow, 3),
     (Work::Flush, 2),
+    (Work::Sync, 2),
 ];
 
 type Disk = FormatAccess<Raw<FuseStorage<MemStorage>>>;
@@ -42,10 +48,13 @@ fn opened(rt: &impl Abort, alloc: Global, n: u16) -> Result<Disk, Fault> {
 
 fn carry_out(alloc: Global, access: &mut Disk, work: Work) -> Result<(), Fault> {
     match work {
+        Work::Read => access.read(alloc, &mut [0; 1_800], 100),
         Work::Write => access.write(alloc, &[0x55; 1_800], 100),
         Work::Zero => access.write_zeroes(alloc, 100, 1_800),
+        Work::ToZero => access.discard_to_zero(alloc, 100, 1_800),
         Work::Grow => access.resize_grow(alloc, 3_000, PreallocateMode::Zero),
         Work::Flush => access.flush(alloc),
+        Work::Sync => access.sync(),
     }
 }
 
@@ -53,7 +62,7 @@ fn carry_out(alloc: Global, access: &mut Disk, work: Work) -> Result<(), Fault> 
 fn given(work: Work, i: usize) -> u8 {
     match (work, i) {
         (Work::Write, 100..1_900) => 0x55,
-        (Work::Zero, 100..1_900) => 0,
+        (Work::Zero | Work::ToZero, 100..1_900) => 0,
         _ => if i < 2_000 { 0xaa } else { 0 },
     }
 }

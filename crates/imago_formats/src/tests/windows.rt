@@ -9,7 +9,7 @@ ghost use Rattle.imago_access.specs.Layer.{Layer, loose, IsFree};
 ghost use Rattle.imago_access.specs.Room.{Takes};
 ghost use Rattle.imago_access.specs.Layers.{chain};
 ghost use Rattle.imago_access.specs.Changes.{Committed, Cancelled};
-ghost use Rattle.imago_access.specs.Files.{IsMild, SomeRose};
+ghost use Rattle.imago_access.specs.Files.{IsMild, ImageCause};
 ghost use Rattle.imago_access.specs.Going.{Went};
 ghost use Rattle.imago_access.specs.Refusals.{change_refusal};
 ghost use Rattle.imago_access.specs.Parts.{PartCause, DeclinableCause};
@@ -41,6 +41,7 @@ impl Window {
         requires { 0 < length }
         ensures ok { OnOk result (change_refusal 1 (window_layer self.now.size self.now.writable) offset length ≡ None) }
         ensures err { IfErr result (λ e. change_refusal 1 (window_layer self.now.size self.now.writable) offset length ≡ Some e) }
+        ensures failed { (olds news : List StorageState) → IfErr result (ImageCause olds news) }
     {
         if !self.writable {
             return Err(Fault::ReadOnly);
@@ -60,6 +61,7 @@ impl Window {
         ensures at_once { (f : Fault) → change_refusal 1 (window_layer self.now.size self.now.writable) offset length ≡ Some f → IsErrOf result f }
         ensures idle { length ≡ 0 → IsOk result }
         ensures mild { IfErr result IsMild }
+        ensures failed { (olds news : List StorageState) → IfErr result (ImageCause olds news) }
         ensures cause { (below : List Layer) (call : Call) (olds news : List StorageState) → IfErr result (PartCause below (window_layer self.now.size self.now.writable) offset length (window_cause true call) olds news) }
     {
         if length == 0 {
@@ -77,6 +79,7 @@ impl Window {
         ensures at_once { (f : Fault) → change_refusal 1 (window_layer self.now.size self.now.writable) offset length ≡ Some f → IsErrOf result f }
         ensures idle { length ≡ 0 → IsOk result }
         ensures mild { IfErr result IsMild }
+        ensures failed { (olds news : List StorageState) → IfErr result (ImageCause olds news) }
         ensures cause { (below : List Layer) (call : Call) (olds news : List StorageState) → IfErr result (DeclinableCause below (window_layer self.now.size self.now.writable) offset length (window_cause true call) olds news) }
     {
         if length == 0 {
@@ -119,6 +122,8 @@ impl<S: Storage> FormatDriverInstance for Image<S> {
     ghost vacant = { λ d p. ⊤ };
 
     ghost has_room = { λ d p. ⊥ };
+
+    ghost zeroed = { λ d p. ⊤ };
 
     ghost claim = { λ _. 0 };
 
@@ -269,11 +274,11 @@ impl<S: Storage> FormatDriverInstance for Image<S> {
         ensures back { let d = ⟦<Image<S> as FormatDriverInstance>⟧ in IfErr result (λ e. IfSome e.1 (λ m. (m ≡ mapping) × (d.layer self.new ≡ d.layer self.old) × GivenBack d.tag mapping.state (d.layer self.old) e.0 × (d.safe self.old → d.safe self.new))) }
         ensures spent { let d = ⟦<Image<S> as FormatDriverInstance>⟧ in IfErr result (λ e. e.1 ≡ None → IsSome mapping.state × IsTrue (d.layer self.new).failed × Spends d.claim d.tag mapping.state (d.layer self.old) (d.layer self.new) (IsFree (d.layer self.new) × (d.safe self.old → IsMild e.0 → ⊥))) }
         ensures size { let d = ⟦<Image<S> as FormatDriverInstance>⟧ in (d.layer self.new).size ≡ (d.layer self.old).size }
-        ensures room { let d = ⟦<Image<S> as FormatDriverInstance>⟧ in IsTrue (d.layer self.old).fixed.keeps → d.safe self.old → IsMine d.claim d.tag mapping.state (d.layer self.old) → OnOk result (Takes d.vacant d.has_room (λ p. (d.layer self.old).held p ≡ loose) self.old self.new) }
-        ensures back_room { let d = ⟦<Image<S> as FormatDriverInstance>⟧ in IsTrue (d.layer self.old).fixed.keeps → d.safe self.old → IfErr result (λ e. IfSome e.1 (λ m. Takes d.vacant d.has_room (λ _. ⊤) self.old self.new)) }
+        ensures room { let d = ⟦<Image<S> as FormatDriverInstance>⟧ in IsTrue (d.layer self.old).fixed.keeps → d.safe self.old → IsMine d.claim d.tag mapping.state (d.layer self.old) → OnOk result (Takes d.vacant d.has_room d.zeroed (λ p. (d.layer self.old).held p ≡ loose) self.old self.new) }
+        ensures back_room { let d = ⟦<Image<S> as FormatDriverInstance>⟧ in IsTrue (d.layer self.old).fixed.keeps → d.safe self.old → IfErr result (λ e. IfSome e.1 (λ m. Takes d.vacant d.has_room d.zeroed (λ _. ⊤) self.old self.new)) }
         ensures began { let d = ⟦<Image<S> as FormatDriverInstance>⟧ in (e : _) (call : Call) → d.began e call self.old → IsMine d.claim d.tag mapping.state (d.layer self.old) → OnOk result (d.began e call self.new) }
         ensures stops { let d = ⟦<Image<S> as FormatDriverInstance>⟧ in IsTrue (d.layer self.old).fixed.keeps → d.safe self.old → IsMine d.claim d.tag mapping.state (d.layer self.old) → (below : List Layer) → KeepsStops below (d.layer self.old) d.sound (GivesSettled below (d.layer self.old)) (d.image self.old) (d.image self.new) }
-        ensures failed { let d = ⟦<Image<S> as FormatDriverInstance>⟧ in IfErr result (λ e. e.0 ≡ Fault.Storage → SomeRose (d.image self.old ∷ d.extras self.old) (d.image self.new ∷ d.extras self.new)) }
+        ensures failed { let d = ⟦<Image<S> as FormatDriverInstance>⟧ in IfErr result (λ e. ImageCause (d.image self.old ∷ d.extras self.old) (d.image self.new ∷ d.extras self.new) e.0) }
     {
         match mapping.into_state() {
             None => Ok(()),
@@ -287,7 +292,7 @@ impl<S: Storage> FormatDriverInstance for Image<S> {
     ) -> Result<(), (Fault, PreparedDataMapping<NoState>)>
         ensures ok { let d = ⟦<Image<S> as FormatDriverInstance>⟧ in OnOk result (Spends d.claim d.tag mapping.state (d.layer self.old) (d.layer self.new) (Cancelled (d.layer self.old) (d.layer self.new))) }
         ensures safe { let d = ⟦<Image<S> as FormatDriverInstance>⟧ in IsMine d.claim d.tag mapping.state (d.layer self.old) → d.safe self.old → d.safe self.new }
-        ensures room { let d = ⟦<Image<S> as FormatDriverInstance>⟧ in IsTrue (d.layer self.old).fixed.keeps → d.safe self.old → IsMine d.claim d.tag mapping.state (d.layer self.old) → Takes d.vacant d.has_room (λ _. ⊤) self.old self.new }
+        ensures room { let d = ⟦<Image<S> as FormatDriverInstance>⟧ in IsTrue (d.layer self.old).fixed.keeps → d.safe self.old → IsMine d.claim d.tag mapping.state (d.layer self.old) → Takes d.vacant d.has_room d.zeroed (λ _. ⊤) self.old self.new }
         ensures lasts { let d = ⟦<Image<S> as FormatDriverInstance>⟧ in d.lasts self.old → d.lasts self.new }
         ensures back { let d = ⟦<Image<S> as FormatDriverInstance>⟧ in IfErr result (λ e. (e.1 ≡ mapping) × (e.0 ≡ Foreign) × (d.layer self.new ≡ d.layer self.old) × IsForeignTo d.tag mapping.state (d.layer self.old)) }
         ensures began { let d = ⟦<Image<S> as FormatDriverInstance>⟧ in (e : _) (call : Call) → d.began e call self.old → d.began e call self.new }

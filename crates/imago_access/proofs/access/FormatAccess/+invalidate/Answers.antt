@@ -1,8 +1,8 @@
-use Rattle.std.proofs.Common.{◌≡◌, ◌∷◌, ◌++◌, map, false, true}
+use Rattle.std.proofs.Common.{◌≡◌, ◌∷◌, ◌++◌, map, false, true, inr}
 use Rattle.std.proofs.lemmas.Result.{IfErr-weaker}
 use Rattle.imago_access.specs.Layers.{layers}
-use Rattle.imago_access.specs.Files.{IsKept, files_of}
-use Rattle.imago_access.specs.Refusals.{InvalidateCause}
+use Rattle.imago_access.specs.Files.{IsKept, IsStale, files_of}
+use Rattle.imago_access.specs.Refusals.{SomeFailed, InvalidateCause}
 use Rattle.imago_access.proofs.FilePairs.{pairs_append, kept_all_same}
 use Rattle.imago_access.proofs.ReadCauses.{invalidate_top, invalidate_below}
 use Rattle.imago_access.proofs.Untouched.{all_went_same}
@@ -21,6 +21,12 @@ invalidate_part-returns-in-Ok-clause-cause g t c = let d = g.D.FormatDriverInsta
     let vs = files_of d.image d.extras (layers c.invalidate_under.new.below) in
     let below = map d.layer (layers c.args.below.now) in
     IfErr-weaker c.invalidate_under.result (InvalidateCause below us vs) (InvalidateCause (d.layer c.args.driver.now ∷ below) (olds ++ us) (news ++ vs)) (invalidate_below (d.layer c.args.driver.now) below olds news us vs c.in-Ok.ensures.went.later) c.invalidate_under.ensures.cause
+
+pub invalidate_part-returns-in-Ok-clause-failed : goal.invalidate_part-returns-in-Ok-clause-failed
+invalidate_part-returns-in-Ok-clause-failed g t c = let d = g.D.FormatDriverInstance in
+    let top = d.layer c.invalidate_cache.new.self in
+    let below = map d.layer (layers c.invalidate_under.new.below) in
+    IfErr-weaker c.invalidate_under.result (λ e. IsStale e → SomeFailed below) (λ e. IsStale e → SomeFailed (top ∷ below)) (λ e failed stale. inr (failed stale)) c.invalidate_under.ensures.failed
 
 pub invalidate_part-returns-in-Err-clause-kept : goal.invalidate_part-returns-in-Err-clause-kept
 invalidate_part-returns-in-Err-clause-kept g t c = let d = g.D.FormatDriverInstance in

@@ -8,7 +8,7 @@ use Rattle.imago_access.specs.declared.mapping.Mapping.{Mapping}
 use Rattle.imago_access.proofs.Looking.{all_looked_same}
 use Rattle.imago_access.proofs.ReadCauses.{indirect_free}
 use Rattle.imago_access.proofs.Deeper.{names_lower, writable_here, run_inside, indirect_run, indirect_writable, deep_look_top, deep_look_below}
-use Rattle.imago_access.proofs.StorageCauses.{failed_left, failed_right}
+use Rattle.imago_access.proofs.ImageCauses.{failed_left, failed_right}
 use Rattle.imago_access.proofs.access.FormatAccess.+map.Goals as goal
 
 pub get_mapping-returns-clause-home : goal.get_mapping-returns-clause-home

@@ -10,7 +10,7 @@ use Rattle.imago_access.proofs.Looking.{chain_later, looked_both, looked_weaker,
 use Rattle.imago_access.proofs.Reading.{ends_below, pairs_length, rest_calm, rest_cause, run_shown, longer_overflows, named_calm}
 use Rattle.imago_access.proofs.ReadCauses.{look_cause, read_cause_below, read_mapped_cause, indirect_free, indirect_inside, raw_reach, barred_there}
 use Rattle.imago_access.proofs.Units.{unit_aligned, layer_aligned, calm_below, calm_top}
-use Rattle.imago_access.proofs.StorageCauses.{failed_behind, failed_left, failed_right, read_mapped_failed}
+use Rattle.imago_access.proofs.ImageCauses.{failed_behind, failed_left, failed_right, read_mapped_failed}
 use Rattle.imago_access.proofs.access.FormatAccess.+read.Goals as goal
 
 pub read_all-loop-done-init : goal.read_all-loop-done-init

@@ -1,5 +1,5 @@
 use Rattle.std.proofs.Common.{◌≡◌, ◌∷◌, ◌++◌, ◌+◌, refl, arith, true, false, None, map, ap, sym, subst, ◌∙◌, inl, inr}
-use Rattle.std.specs.Prelude.{⊤, Ok, Err, IsOk, IsTrue, is_some}
+use Rattle.std.specs.Prelude.{⊤, Err, IsOk, IsTrue, is_some}
 use Rattle.std.proofs.lemmas.Bool.{cases_lt}
 use Rattle.imago_storage.specs.Steps.{ensure}
 use Rattle.imago_access.specs.Layer.{IsFree, Fixed, hold_of}
@@ -14,11 +14,12 @@ use Rattle.imago_access.specs.declared.mapping.PreparedDataMapping.{PreparedData
 use Rattle.imago_access.proofs.ChangeCauses.{change_cause, part_cause_alone}
 use Rattle.imago_access.proofs.Ensuring.{unbarred, stays_committed, settled_commits, settled_home, ran_ensured}
 use Rattle.imago_access.proofs.Holding.{truly_prepared, spends_more}
-use Rattle.imago_access.proofs.HoldingRuns.{ran_prepared, ran_settled, ran_unsettled}
+use Rattle.imago_access.proofs.HoldingRuns.{ran_mapped, ran_prepared, ran_settled, ran_unsettled}
 use Rattle.imago_access.proofs.MappingCalls.{prepared_step, stateless_is, stateful_claims}
-use Rattle.imago_access.proofs.Running.{ran_same, ran_seen, ran_weaker, ran_gives}
+use Rattle.imago_access.proofs.Running.{ran_same, ran_seen, ran_gives}
 use Rattle.imago_access.proofs.Units.{layer_aligned, overflows_chain}
-use Rattle.imago_access.proofs.StorageCauses.{failed_alone}
+use Rattle.imago_access.proofs.ImageCauses.{failed_alone}
+use Rattle.imago_access.proofs.Uncut.{own_part}
 use Rattle.imago_access.proofs.access.FormatAccess.ensure_data_mapping.Goals as goal
 
 pub returns-in_err-check_change-clause-ran : goal.returns-in_err-check_change-clause-ran
@@ -52,7 +53,7 @@ returns-in-Err-clause-cause g c = let d = g.D.FormatDriverInstance in
     let free : IsFree (d.layer a0) = subst (λ (v : _). IsFree (d.layer v.0)) (sym c.self.view_is) c.requires.free in
     let call = ensure c.args.offset c.args.length c.args.overwrite in
     rw (← c.self.view_is) (λ intact. change_cause under (d.layer a0) (unit_of_chain (map d.layer (a0 ∷ layers x0))) call (d.own_cause a0 under call) (d.image a0 ∷ (d.extras a0 ++ files_of d.image d.extras (layers x0))) (d.image a1 ∷ (d.extras a1 ++ files_of d.image d.extras (layers x1))) (λ some. some) (overflows_chain d.layer laws.aligned a0 (layers x0) c.args.offset c.args.length) c.in-Err.fault
-    (c.in-Err.ensures.cause intact.is_safe intact.is_seen a0 call (laws.begins a0 call) (record { start = omega arith; end = omega arith }) refl))
+    (c.in-Err.ensures.cause intact.is_safe intact.is_seen a0 call (laws.begins a0 call) (own_part (d.layer a0) call) refl))
 
 pub returns-in-Err-settle-clause-ran : goal.returns-in-Err-settle-clause-ran
 returns-in-Err-settle-clause-ran g c = let d = g.D.FormatDriverInstance in
@@ -71,7 +72,7 @@ returns-in-Err-settle-clause-ran g c = let d = g.D.FormatDriverInstance in
     let s = c.in-Err-settle.ensures in
     rw (← c.self.view_is) (ran_seen layers d.layer d.image d.extras d.safe d.lasts (map d.layer) (files_of d.image d.extras) (Each d.sees) (Each d.safe) (Each d.still) (Each d.lasts) d.sound (false ≡ true) (IsMild c.in-Err-settle.fault) (GivesAnnounced c.args.overwrite c.args.offset c.args.length) a0 a2 x0 x1
     (ran_ensured d.layer d.image d.extras d.safe d.lasts (λ b. map d.layer (layers b)) (λ b. files_of d.image d.extras (layers b)) (λ b. Each d.sees (layers b)) (λ b. Each d.safe (layers b)) (λ b. Each d.still (layers b)) (λ b. Each d.lasts (layers b)) d.sound (false ≡ true) (IsMild c.in-Err-settle.fault) a0 a1 a2 x0 x1 c.args.offset c.args.length c.args.overwrite m.storage m.offset m.length claim c.in-Ok.ensures.run.0 (λ i. c.in-Ok.ensures.ok i.keeps i.is_safe i.is_seen)
-    (ran_weaker d.layer d.image d.extras d.safe d.lasts (λ b. map d.layer (layers b)) (λ b. files_of d.image d.extras (layers b)) (λ b. Each d.sees (layers b)) (λ b. Each d.safe (layers b)) (λ b. Each d.still (layers b)) (λ b. Each d.lasts (layers b)) d.sound (true ≡ true) ⊤ ⊤ ⊤ GivesNone a0 a1 x0 x1 (λ h. refl) (λ h. h) (ran_prepared d.layer d.image d.extras d.safe d.lasts (λ b. map d.layer (layers b)) (λ b. files_of d.image d.extras (layers b)) (λ b. Each d.sees (layers b)) (λ b. Each d.safe (layers b)) (λ b. Each d.still (layers b)) (λ b. Each d.lasts (layers b)) d.sound d.claim (Ok m) a0 a1 x0 x1 c.args.offset c.args.length c.args.overwrite (laws.free_loose a0 free) c.in-Ok.ensures.size c.in-Ok.ensures.went c.in-Ok.ensures.below c.in-Ok.ensures.ok c.in-Ok.ensures.err c.in-Ok.ensures.stops))
+    (ran_mapped d.layer d.image d.extras d.safe d.lasts (λ b. map d.layer (layers b)) (λ b. files_of d.image d.extras (layers b)) (λ b. Each d.sees (layers b)) (λ b. Each d.safe (layers b)) (λ b. Each d.still (layers b)) (λ b. Each d.lasts (layers b)) d.sound d.claim m.state a0 a1 x0 x1 c.args.offset c.args.length c.args.overwrite m.storage m.offset m.length (laws.free_loose a0 free) c.in-Ok.ensures.size c.in-Ok.ensures.went c.in-Ok.ensures.below c.in-Ok.ensures.ok c.in-Ok.ensures.stops)
     (ran_unsettled d.layer d.image d.extras d.safe d.lasts (λ b. map d.layer (layers b)) (λ b. files_of d.image d.extras (layers b)) (λ b. Each d.sees (layers b)) (λ b. Each d.safe (layers b)) (λ b. Each d.still (layers b)) (λ b. Each d.lasts (layers b)) d.sound d.claim d.tag m.state (false ≡ true) (IsMild c.in-Err-settle.fault) a1 a2 x1 laws.free_loose s.size s.went c.in-Ok.ensures.mine (s.free c.in-Ok.ensures.stateless) (λ mild safe. s.err safe mild) s.stops)))
 
 pub returns-in-Err-settle-clause-failed : goal.returns-in-Err-settle-clause-failed
@@ -178,5 +179,5 @@ returns-clause-ran g c = let d = g.D.FormatDriverInstance in
     let s = c.in_default.ensures in
     rw (← c.self.view_is) (ran_seen layers d.layer d.image d.extras d.safe d.lasts (map d.layer) (files_of d.image d.extras) (Each d.sees) (Each d.safe) (Each d.still) (Each d.lasts) d.sound (true ≡ true) ⊤ (GivesAnnounced c.args.overwrite c.args.offset c.args.length) a0 a2 x0 x1
     (ran_ensured d.layer d.image d.extras d.safe d.lasts (λ b. map d.layer (layers b)) (λ b. files_of d.image d.extras (layers b)) (λ b. Each d.sees (layers b)) (λ b. Each d.safe (layers b)) (λ b. Each d.still (layers b)) (λ b. Each d.lasts (layers b)) d.sound (true ≡ true) ⊤ a0 a1 a2 x0 x1 c.args.offset c.args.length c.args.overwrite m.storage m.offset m.length claim c.in-Ok.ensures.run.0 (λ i. c.in-Ok.ensures.ok i.keeps i.is_safe i.is_seen)
-    (ran_weaker d.layer d.image d.extras d.safe d.lasts (λ b. map d.layer (layers b)) (λ b. files_of d.image d.extras (layers b)) (λ b. Each d.sees (layers b)) (λ b. Each d.safe (layers b)) (λ b. Each d.still (layers b)) (λ b. Each d.lasts (layers b)) d.sound (true ≡ true) ⊤ ⊤ ⊤ GivesNone a0 a1 x0 x1 (λ h. refl) (λ h. h) (ran_prepared d.layer d.image d.extras d.safe d.lasts (λ b. map d.layer (layers b)) (λ b. files_of d.image d.extras (layers b)) (λ b. Each d.sees (layers b)) (λ b. Each d.safe (layers b)) (λ b. Each d.still (layers b)) (λ b. Each d.lasts (layers b)) d.sound d.claim (Ok m) a0 a1 x0 x1 c.args.offset c.args.length c.args.overwrite (laws.free_loose a0 free) c.in-Ok.ensures.size c.in-Ok.ensures.went c.in-Ok.ensures.below c.in-Ok.ensures.ok c.in-Ok.ensures.err c.in-Ok.ensures.stops))
+    (ran_mapped d.layer d.image d.extras d.safe d.lasts (λ b. map d.layer (layers b)) (λ b. files_of d.image d.extras (layers b)) (λ b. Each d.sees (layers b)) (λ b. Each d.safe (layers b)) (λ b. Each d.still (layers b)) (λ b. Each d.lasts (layers b)) d.sound d.claim m.state a0 a1 x0 x1 c.args.offset c.args.length c.args.overwrite m.storage m.offset m.length (laws.free_loose a0 free) c.in-Ok.ensures.size c.in-Ok.ensures.went c.in-Ok.ensures.below c.in-Ok.ensures.ok c.in-Ok.ensures.stops)
     (ran_settled d.layer d.image d.extras d.safe d.lasts (λ b. map d.layer (layers b)) (λ b. files_of d.image d.extras (layers b)) (λ b. Each d.sees (layers b)) (λ b. Each d.safe (layers b)) (λ b. Each d.still (layers b)) (λ b. Each d.lasts (layers b)) d.sound d.claim d.tag m.state (true ≡ true) ⊤ a1 a2 x1 laws.free_loose s.size s.went c.in-Ok.ensures.mine c.in-Ok.ensures.stateless (s.free c.in-Ok.ensures.stateless) (λ w keeps safe. spends_more d.claim d.tag m.state (d.layer a1) (d.layer a2) (IsTrue (d.layer a1).fixed.keeps → d.safe a1 → Committed (d.layer a1) (d.layer a2)) (Committed (d.layer a1) (d.layer a2)) (λ h. h keeps safe) s.ok) s.stops)))

@@ -1,4 +1,4 @@
-use Rattle.std.proofs.Common.{◌≡◌, ◌∷◌, ◌++◌, refl, arith, map, ap, sym, subst}
+use Rattle.std.proofs.Common.{◌≡◌, ◌∷◌, ◌++◌, refl, map, ap, sym, subst}
 use Rattle.std.specs.Prelude.{IsOk, is_some}
 use Rattle.std.proofs.lemmas.Result.{IfErr-weaker}
 use Rattle.imago_storage.specs.Steps.{Stays, prepare}
@@ -16,6 +16,7 @@ use Rattle.imago_access.proofs.Units.{overflows_chain}
 use Rattle.imago_access.proofs.HoldingRuns.{ran_prepared}
 use Rattle.imago_access.proofs.Running.{ran_same, ran_seen}
 use Rattle.imago_access.proofs.MappingCalls.{not_prepared_stays, prepared_step, stateless_is, stateful_claims}
+use Rattle.imago_access.proofs.Uncut.{own_part}
 use Rattle.imago_access.proofs.access.FormatAccess.prepare_data_mapping.Goals as goal
 
 pub returns-in_err-check_change-clause-ran : goal.returns-in_err-check_change-clause-ran
@@ -65,4 +66,4 @@ returns-clause-cause g c = let d = g.D.FormatDriverInstance in
     let call = prepare c.args.offset c.args.length c.args.overwrite in
     rw (← c.self.view_is) (λ intact. IfErr-weaker r.result _ _
     (λ e cause. change_cause (map d.layer under) (d.layer old) (unit_of_chain (map d.layer (old ∷ under))) call (d.own_cause old (map d.layer under) call) (d.image old ∷ (d.extras old ++ files_of d.image d.extras under)) (d.image r.new.self ∷ (d.extras r.new.self ++ files_of d.image d.extras (layers r.new.below))) (λ some. some) (overflows_chain d.layer laws.aligned old under c.args.offset c.args.length) e cause)
-    (r.ensures.cause intact.is_safe intact.is_seen old call (laws.begins old call) (record { start = omega arith; end = omega arith }) refl))
+    (r.ensures.cause intact.is_safe intact.is_seen old call (laws.begins old call) (own_part (d.layer old) call) refl))

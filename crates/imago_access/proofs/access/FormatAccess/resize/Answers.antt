@@ -4,7 +4,7 @@ use Rattle.std.specs.Prelude.{IsOk}
 use Rattle.imago_access.specs.Chain.{Each}
 use Rattle.imago_access.specs.Files.{IsWhole, files_of}
 use Rattle.imago_access.proofs.Looking.{looked_under_same}
-use Rattle.imago_access.proofs.StorageCauses.{failed_left}
+use Rattle.imago_access.proofs.ImageCauses.{failed_left}
 use Rattle.imago_access.proofs.access.FormatAccess.resize.Goals as goal
 
 pub returns-then-size-clause-below : goal.returns-then-size-clause-below

@@ -8,7 +8,7 @@ use Rattle.imago_access.proofs.ResizeCauses.{resize_cause_wider}
 use Rattle.imago_access.proofs.access.FormatAccess.resize_shrink.Goals as goal
 
 pub returns-clause-stops : goal.returns-clause-stops
-returns-clause-stops g c = let d = g.D.FormatDriverInstance in rw (← c.self.view_is) (λ intact. c.resize_shrink.ensures.stops intact.keeps intact.is_safe (map d.layer (layers c.self.inside.below)))
+returns-clause-stops g c = let d = g.D.FormatDriverInstance in rw (← c.self.view_is) (λ intact. c.resize_shrink.ensures.stops intact.keeps intact.is_safe (map d.layer (layers c.self.inside.below)) intact.backed)
 
 pub returns-clause-cause : goal.returns-clause-cause
 returns-clause-cause g c = let d = g.D.FormatDriverInstance in

@@ -1,10 +1,10 @@
-use Rattle.std.proofs.Common.{◌≡◌, ◌∷◌, length, arith, refl, true, IsOk, IfErr, map}
+use Rattle.std.proofs.Common.{◌≡◌, ◌∷◌, length, refl, true, IsOk, IfErr, map}
 use Rattle.std.proofs.lemmas.Result.{IfErr-weaker}
 use Rattle.imago_storage.specs.Steps.{Call, write}
 use Rattle.imago_access.specs.Chain.{unit_of_chain, Each, disk_of}
 use Rattle.imago_access.specs.Files.{IsWhole, files_of}
 use Rattle.imago_access.specs.Layers.{chain, layers}
-use Rattle.imago_access.specs.Parts.{IsPartOf, announces, PartCause}
+use Rattle.imago_access.specs.Parts.{IsUncutPart, announces, PartCause}
 use Rattle.imago_access.specs.Refusals.{ChangeCause}
 use Rattle.imago_access.specs.Running.{IsIntact}
 use Rattle.imago_access.specs.Stops.{GivesBytes}
@@ -12,6 +12,7 @@ use Rattle.imago_access.proofs.ChangeCauses.{change_cause}
 use Rattle.imago_access.proofs.Running.{ran_same, ran_seen}
 use Rattle.imago_access.proofs.Units.{overflows_chain}
 use Rattle.imago_access.proofs.Writing.{write_ok, write_err}
+use Rattle.imago_access.proofs.Uncut.{own_part}
 use Rattle.imago_access.proofs.access.FormatAccess.write.Goals as goal
 
 pub returns-in_err-check_change-clause-ran : goal.returns-in_err-check_change-clause-ran
@@ -35,9 +36,9 @@ returns-clause-err g c = let d = g.D.FormatDriverInstance in
 pub returns-clause-cause : goal.returns-clause-cause
 returns-clause-cause g c = λ i. let d = g.D.FormatDriverInstance in let a = c.args.self.now.0 in let ds = c.args.self.now.1 in let e = c.write_all.new.driver in let call = write c.args.offset c.args.bytes.now in
     let below = map d.layer ds in let olds = files_of d.image d.extras (chain c.args.self.now) in let news = files_of d.image d.extras (e ∷ layers c.write_all.new.below) in
-    let told : IsIntact below (d.layer a) (d.safe a) (Each d.sees ds) → (x : g.row.D.Denot) (k : Call) → d.began x k a → IsPartOf k c.args.offset (length c.args.bytes.now) → true ≡ announces k
+    let told : IsIntact below (d.layer a) (d.safe a) (Each d.sees ds) → (x : g.row.D.Denot) (k : Call) → d.began x k a → IsUncutPart (d.layer a) k c.args.offset (length c.args.bytes.now) → true ≡ announces k
     → IfErr c.write_all.result (PartCause below (d.layer a) c.args.offset (length c.args.bytes.now) (d.own_cause x below k) olds news) = rw (← c.self.view_is) c.write_all.ensures.cause in
     IfErr-weaker c.write_all.result (PartCause below (d.layer a) c.args.offset (length c.args.bytes.now) (d.own_cause a below call) olds news)
     (ChangeCause (unit_of_chain (map d.layer (a ∷ ds))) (d.layer a ∷ below) (disk_of below (d.layer a)) (d.layer a).fixed.writable call (d.own_cause a below call) olds news)
     (change_cause below (d.layer a) (unit_of_chain (map d.layer (a ∷ ds))) call (d.own_cause a below call) olds news (λ some. some) (overflows_chain d.layer g.met.D.FormatDriverInstance.aligned a ds c.args.offset (length c.args.bytes.now)))
-    (told i a call (g.met.D.FormatDriverInstance.begins a call) (record { start = omega arith; end = omega arith }) refl)
+    (told i a call (g.met.D.FormatDriverInstance.begins a call) (own_part (d.layer a) call) refl)

@@ -11,7 +11,7 @@ use Rattle.imago_access.proofs.ChangeCauses.{part_cause_later, undeclined_cause}
 use Rattle.imago_access.proofs.Discarding.{declined_mild, undeclined, like_both, intact_alone, went_alone, then_discarded}
 use Rattle.imago_access.proofs.Running.{went_weaker, ran_same}
 use Rattle.imago_access.proofs.Units.{layer_aligned}
-use Rattle.imago_access.proofs.StorageCauses.{failed_behind}
+use Rattle.imago_access.proofs.ImageCauses.{failed_behind}
 use Rattle.imago_access.proofs.access.discarding.discard_all.Goals as goal
 
 pub loop-at-init : goal.loop-at-init
@@ -19,7 +19,7 @@ loop-at-init g c = let d = g.D.FormatDriverInstance in record {
   from = omega arith;
   like = record { fixed = refl; size = refl; unspent = refl };
   ran = λ below. ran_same {B = List Layer} d.layer d.image d.extras d.safe d.lasts (λ x. x) (λ x. []) (λ x. ⊤) (λ x. ⊤) (λ x. ⊤) (λ x. ⊤) d.sound ⊤ ⊤ (GivesDiscarded c.args.discarding below c.args.offset c.args.n) c.args.driver.now below;
-  room = λ keeps safe. room_same d.vacant d.has_room (IsOut c.args.offset c.args.n) (λ _. ⊤) c.args.driver.now;
+  room = λ keeps safe. room_same d.vacant d.has_room d.zeroed (IsOut c.args.offset c.args.n) (λ _. ⊤) c.args.driver.now;
   given = λ keeps safe. given_none (d.vacant c.args.driver.now) (d.layer c.args.driver.now).fixed.unit (d.layer c.args.driver.now).size c.args.offset c.args.n;
   began = λ x call b part. b;
 }
@@ -36,7 +36,7 @@ loop-at-preserved g c = let d = g.D.FormatDriverInstance in
       like = like_both (d.layer c.args.driver.now) (d.layer c.loop-at.driver) (d.layer c.discard_part.new.driver) l.like done.like;
       ran = λ below. then_discarded d.layer d.image d.extras d.safe d.lasts d.sound g.met.D.FormatDriverInstance.free_loose ⊤ ⊤ c.args.discarding below c.args.offset c.args.n c.loop-at.at (c.args.offset + c.args.n - c.loop-at.at) c.args.driver.now c.loop-at.driver c.discard_part.new.driver
           l.from (omega (arith, l.from)) (l.like.unspent ∙ c.requires.free) (l.ran below) done.like done.went done.values done.stops;
-      room = λ keeps safe. gives_up_both d.vacant d.has_room c.args.offset c.args.n at rest first mid last l.from (omega (arith, l.from)) (l.room keeps safe) (done.room (keeps_on keeps) (safe_on safe) tt);
+      room = λ keeps safe. gives_up_both d.vacant d.has_room d.zeroed c.args.offset c.args.n at rest first mid last l.from (omega (arith, l.from)) (l.room keeps safe) (done.room (keeps_on keeps) (safe_on safe) tt);
       given = λ keeps safe. let k = keeps_on keeps in let s = safe_on safe in
           let unit = (d.layer first).fixed.unit in let size = (d.layer first).size in
           let reach : Reaches unit size at rest c.in-Ok.start c.in-Ok.given_up = subst (λ (f : Fixed). Reaches f.unit size at rest c.in-Ok.start c.in-Ok.given_up) l.like.fixed (subst (λ (z : ℕ). Reaches (d.layer mid).fixed.unit z at rest c.in-Ok.start c.in-Ok.given_up) l.like.size (done.reach k s)) in
@@ -60,7 +60,7 @@ returns-in-Ok-2 g c = let d = g.D.FormatDriverInstance in
       like = like_both (d.layer c.args.driver.now) (d.layer c.loop-at.driver) (d.layer c.discard_part.new.driver) l.like done.like;
       went = went_weaker d.layer d.image d.extras d.safe d.lasts ⊤ ⊤ (true ≡ true) ⊤ c.args.driver.now c.discard_part.new.driver (λ x. tt) (λ x. x) (went_alone d.layer d.image d.extras d.safe d.lasts d.sound g.met.D.FormatDriverInstance.free_loose ⊤ ⊤ (GivesDiscarded c.args.discarding [] c.args.offset c.args.n) [] c.args.driver.now c.discard_part.new.driver (ran []));
       stops = λ keeps safe below backed. (ran below).stops (intact_alone d.layer d.image d.extras d.safe d.lasts d.sound g.met.D.FormatDriverInstance.free_loose below c.args.driver.now c.requires.free keeps safe backed);
-      room = λ keeps safe whole. gives_up_both d.vacant d.has_room c.args.offset c.args.n at rest first mid last l.from (omega (arith, l.from)) (l.room keeps safe) (done.room (keeps_on keeps) (safe_on safe) tt);
+      room = λ keeps safe whole. gives_up_both d.vacant d.has_room d.zeroed c.args.offset c.args.n at rest first mid last l.from (omega (arith, l.from)) (l.room keeps safe) (done.room (keeps_on keeps) (safe_on safe) tt);
       gives_up = λ keeps safe below x call began part undeclined. let k = keeps_on keeps in let s = safe_on safe in
           let unit = (d.layer first).fixed.unit in let size = (d.layer first).size in
           let none : c.in-Ok.given_up ≡ 0 = omega (arith, c.if-start-at.false.0) in
@@ -87,7 +87,7 @@ returns-in-Err g c = let d = g.D.FormatDriverInstance in
       like = like_both (d.layer c.args.driver.now) (d.layer c.loop-at.driver) (d.layer c.discard_part.new.driver) l.like done.like;
       went = went_weaker d.layer d.image d.extras d.safe d.lasts ⊤ ⊤ (true ≡ true) ⊤ c.args.driver.now c.discard_part.new.driver (λ x. tt) (λ x. x) (went_alone d.layer d.image d.extras d.safe d.lasts d.sound g.met.D.FormatDriverInstance.free_loose ⊤ ⊤ (GivesDiscarded c.args.discarding [] c.args.offset c.args.n) [] c.args.driver.now c.discard_part.new.driver (ran []));
       stops = λ keeps safe below backed. (ran below).stops (intact_alone d.layer d.image d.extras d.safe d.lasts d.sound g.met.D.FormatDriverInstance.free_loose below c.args.driver.now c.requires.free keeps safe backed);
-      room = λ keeps safe whole. gives_up_both d.vacant d.has_room c.args.offset c.args.n at rest first mid last l.from (omega (arith, l.from)) (l.room keeps safe) (done.room (keeps_on keeps) (safe_on safe) mild);
+      room = λ keeps safe whole. gives_up_both d.vacant d.has_room d.zeroed c.args.offset c.args.n at rest first mid last l.from (omega (arith, l.from)) (l.room keeps safe) (done.room (keeps_on keeps) (safe_on safe) mild);
       gives_up = λ keeps safe below x call began part none.
           absurd (undeclined below (d.layer mid) at rest (d.own_cause x below call) (d.image mid ∷ d.extras mid) (d.image last ∷ d.extras last) c.in-Err.fault none declined (done.cause (safe_on safe) below x call (l.began x call began part) (record { start = omega (arith, part.start, l.from); end = omega (arith, part.end, l.from) })));
       failed = tt;
@@ -109,7 +109,7 @@ returns-in-Err-2 g c = let d = g.D.FormatDriverInstance in
       like = like_both (d.layer c.args.driver.now) (d.layer c.loop-at.driver) (d.layer c.discard_part.new.driver) l.like done.like;
       went = went_alone d.layer d.image d.extras d.safe d.lasts d.sound g.met.D.FormatDriverInstance.free_loose (false ≡ true) (IsMild c.in-Err.fault) (GivesDiscarded c.args.discarding [] c.args.offset c.args.n) [] c.args.driver.now c.discard_part.new.driver (ran []);
       stops = λ keeps safe below backed. (ran below).stops (intact_alone d.layer d.image d.extras d.safe d.lasts d.sound g.met.D.FormatDriverInstance.free_loose below c.args.driver.now c.requires.free keeps safe backed);
-      room = λ keeps safe whole. gives_up_both d.vacant d.has_room c.args.offset c.args.n at rest first mid last l.from (omega (arith, l.from)) (l.room keeps safe) (done.room (keeps_on keeps) (safe_on safe) whole);
+      room = λ keeps safe whole. gives_up_both d.vacant d.has_room d.zeroed c.args.offset c.args.n at rest first mid last l.from (omega (arith, l.from)) (l.room keeps safe) (done.room (keeps_on keeps) (safe_on safe) whole);
       gives_up = λ keeps safe below x call began part none. tt;
       failed = failed_behind (d.image c.args.driver.now ∷ d.extras c.args.driver.now) (d.image c.loop-at.driver ∷ d.extras c.loop-at.driver) (d.image c.discard_part.new.driver ∷ d.extras c.discard_part.new.driver) c.in-Err.fault (l.ran []).went.later done.failed;
       cause = λ keeps safe below x call began part.

@@ -1,4 +1,4 @@
-use Rattle.std.proofs.Common.{◌≡◌, ◌<◌, ◌≤◌, ◌+◌, ◌∷◌, ◌++◌, ℕ, List, slice_index, length, arith, refl, true, false, subst}
+use Rattle.std.proofs.Common.{◌≡◌, ◌<◌, ◌≤◌, ◌+◌, ◌∷◌, ◌++◌, ◌-◌, ℕ, List, slice_index, length, arith, refl, true, false, subst}
 use Rattle.std.specs.Prelude.{⊤}
 use Rattle.imago_storage.specs.Disk.{byte}
 use Rattle.imago_access.specs.Layer.{Layer}
@@ -11,10 +11,11 @@ use Rattle.imago_access.proofs.ChangeCauses.{part_cause_later}
 use Rattle.imago_access.proofs.FilePairs.{pairs_append}
 use Rattle.imago_access.proofs.Running.{ran_same, ran_both, ran_weaker}
 use Rattle.imago_access.proofs.Units.{layer_aligned}
-use Rattle.imago_access.specs.Room.{IsApart}
+use Rattle.imago_access.specs.Room.{IsApart, IsUncutAt}
+use Rattle.imago_access.proofs.Uncut.{uncut_start, uncut_end, uncut_later, part_within}
 use Rattle.imago_access.proofs.Room.{room_same, room_then}
 use Rattle.imago_access.proofs.Writing.{rest_of, rest_long, gives_rest, part_rest, shown_none, shown_more}
-use Rattle.imago_access.proofs.StorageCauses.{failed_then}
+use Rattle.imago_access.proofs.ImageCauses.{failed_then}
 use Rattle.imago_access.proofs.access.writing.write_all.Goals as goal
 
 pub loop-done-init : goal.loop-done-init
@@ -22,7 +23,8 @@ loop-done-init g c = let d = g.D.FormatDriverInstance in let b = g.B.ReadBelow i
   inside = omega arith;
   free = c.requires.free;
   shown = λ i. shown_none (b.under c.args.below.now) (d.layer c.args.driver.now) c.args.offset c.args.bytes.now;
-  room = λ i. room_same d.vacant d.has_room (λ _. ⊤) (IsApart (d.layer c.args.driver.now).fixed.unit c.args.offset (length c.args.bytes.now)) c.args.driver.now;
+  uncut = λ i. subst (IsUncutAt (d.layer c.args.driver.now).fixed.unit (d.layer c.args.driver.now).size c.args.offset (length c.args.bytes.now)) (omega arith) (uncut_start (d.layer c.args.driver.now).fixed.unit (d.layer c.args.driver.now).size c.args.offset (length c.args.bytes.now));
+  room = λ i. room_same d.vacant d.has_room d.zeroed (λ _. ⊤) (IsApart (d.layer c.args.driver.now).fixed.unit c.args.offset (length c.args.bytes.now)) c.args.driver.now;
   ran = ran_same d.layer d.image d.extras d.safe d.lasts b.under b.files_under b.sees_under b.safe_under b.still_under b.lasts_under d.sound ⊤ ⊤ (GivesBytes c.args.offset c.args.bytes.now) c.args.driver.now c.args.below.now;
   began = λ e call begun part. begun;
 }
@@ -41,7 +43,14 @@ loop-done-preserved g c = let d = g.D.FormatDriverInstance in let b = g.B.ReadBe
           (subst (λ (below : List Layer). IsBetween (GivesBytes (c.args.offset + done) (rest_of done bytes)) below (d.layer y1) (d.layer y2)) same (c.in-Ok.ensures.ran.values tt mid))
           (l.shown i)
           (subst (λ (below : List Layer). (k : ℕ) → k < n → at (d.layer y2 ∷ below) (c.args.offset + done + k) ≡ byte (slice_index (rest_of done bytes) k)) same (c.in-Ok.ensures.shown mid));
-      room = λ i. room_then d.vacant d.has_room d.layer (λ _. ⊤) (λ _. ⊤) c.args.offset (length bytes) (c.args.offset + done) (length (rest_of done bytes)) y0 y1 y2 l.ran.went.fixed (omega arith) (omega (arith, rest_long done bytes l.inside, l.inside)) (λ p there. tt) (l.room i) (c.in-Ok.ensures.room (l.ran.intact tt i) tt);
+      uncut = λ i.
+          let unit = (d.layer y0).fixed.unit in let size = (d.layer y0).size in let start = c.args.offset + done in
+          let rest : length (rest_of done bytes) ≡ c.args.offset + length bytes - start = omega (arith, rest_long done bytes l.inside, l.inside) in
+          let next : start + n ≡ c.args.offset + (done + n) = omega arith in
+          subst (IsUncutAt unit size c.args.offset (length bytes)) next
+          (uncut_later (d.layer y0) (d.layer y1) c.args.offset (length bytes) start (start + n) l.ran.went.fixed l.ran.size (omega arith) (l.uncut i)
+          (subst (λ (m : ℕ). IsUncutAt (d.layer y1).fixed.unit (d.layer y1).size start m (start + n)) rest (c.in-Ok.ensures.uncut (l.ran.intact tt i))));
+      room = λ i. room_then d.vacant d.has_room d.zeroed d.layer (λ _. ⊤) (λ _. ⊤) c.args.offset (length bytes) (c.args.offset + done) (length (rest_of done bytes)) y0 y1 y2 l.ran.went.fixed (omega arith) (omega (arith, rest_long done bytes l.inside, l.inside)) (λ p there. tt) (l.room i) (c.in-Ok.ensures.room (l.ran.intact tt i) tt);
       ran = ran_both d.layer d.image d.extras d.safe d.lasts b.under b.files_under b.sees_under b.safe_under b.still_under b.lasts_under d.sound ⊤ ⊤ (GivesBytes c.args.offset bytes) (GivesBytes (c.args.offset + done) (rest_of done bytes)) (GivesBytes c.args.offset bytes) y0 y1 y2 x0 x1 x2 (λ p v gave. gave) (gives_rest c.args.offset done bytes l.inside) l.ran
           (ran_weaker d.layer d.image d.extras d.safe d.lasts b.under b.files_under b.sees_under b.safe_under b.still_under b.lasts_under d.sound (true ≡ true) ⊤ ⊤ ⊤ (GivesBytes (c.args.offset + done) (rest_of done bytes)) y1 y2 x1 x2 (λ h. refl) (λ h. h) c.in-Ok.ensures.ran);
       began = λ e call begun part. c.in-Ok.ensures.began e call (l.began e call begun part) (part_rest call c.args.offset done bytes l.inside part);
@@ -68,8 +77,10 @@ returns-in-Err-clause-cause g c = λ i e call begun part says. let d = g.D.Forma
     (pairs_append IsLater (d.image y0 ∷ d.extras y0) (d.image y1 ∷ d.extras y1) (b.files_under x0) (b.files_under x1) l.ran.went.later l.ran.looked.later)
     (d.own_cause e (b.under x0) call) (d.own_cause e (b.under x0) call) c.in-Err.fault (λ h. h)
     (subst (λ (below : List Layer). PartCause below (d.layer y1) (c.args.offset + done) (length (rest_of done bytes)) (d.own_cause e below call) (d.image y1 ∷ d.extras y1 ++ b.files_under x1) (d.image y2 ∷ d.extras y2 ++ b.files_under x2) c.in-Err.fault) same
-    (c.in-Err.ensures.cause mid e call (l.began e call begun part) (part_rest call c.args.offset done bytes l.inside part) says))
+    (c.in-Err.ensures.cause mid e call (l.began e call begun part.part)
+    (part_within (d.layer y0) (d.layer y1) call c.args.offset (length bytes) (c.args.offset + done) (length (rest_of done bytes)) l.ran.went.fixed l.ran.size (omega arith) (omega (arith, long, l.inside)) (l.uncut i)
+    (uncut_end (d.layer y0).fixed.unit (d.layer y0).size c.args.offset (length bytes) (c.args.offset + done + length (rest_of done bytes)) (omega (arith, long, l.inside))) part) says))
 
 pub returns-in-Err-clause-room : goal.returns-in-Err-clause-room
 returns-in-Err-clause-room g c = λ i mild. let d = g.D.FormatDriverInstance in let l = c.loop-done.invariant in let done = c.loop-done.done in let bytes = c.args.bytes.now in
-    room_then d.vacant d.has_room d.layer (λ _. ⊤) (λ _. ⊤) c.args.offset (length bytes) (c.args.offset + done) (length (rest_of done bytes)) c.args.driver.now c.loop-done.driver c.write_run.new.driver l.ran.went.fixed (omega arith) (omega (arith, rest_long done bytes l.inside, l.inside)) (λ p there. tt) (l.room i) (c.in-Err.ensures.room (l.ran.intact tt i) mild)
+    room_then d.vacant d.has_room d.zeroed d.layer (λ _. ⊤) (λ _. ⊤) c.args.offset (length bytes) (c.args.offset + done) (length (rest_of done bytes)) c.args.driver.now c.loop-done.driver c.write_run.new.driver l.ran.went.fixed (omega arith) (omega (arith, rest_long done bytes l.inside, l.inside)) (λ p there. tt) (l.room i) (c.in-Err.ensures.room (l.ran.intact tt i) mild)

@@ -1,86 +1,87 @@
-use Rattle.std.proofs.Common.{refl, ◌≡◌, ◌+◌, ◌∷◌, ◌++◌, ℕ, List, length, slice_index, arith, false, true, ◌≤◌, ◌<◌, inl, inr, subst}
+use Rattle.std.proofs.Common.{refl, ◌≡◌, ◌+◌, ◌-◌, ◌∷◌, ◌++◌, ℕ, List, arith, false, true, ◌<◌, inl, inr, subst}
 use Rattle.std.specs.Prelude.{⊤}
 use Rattle.imago_storage.specs.Disk.{byte}
 use Rattle.imago_access.specs.Layer.{Layer}
 use Rattle.imago_access.specs.Chain.{at}
 use Rattle.imago_access.specs.Files.{IsMild}
 use Rattle.imago_access.specs.Running.{IsBetween}
-use Rattle.imago_access.specs.Stops.{GivesZero, GivesBytes}
+use Rattle.imago_access.specs.Stops.{GivesZero}
 use Rattle.imago_access.proofs.Running.{ran_same, ran_both, ran_weaker}
-use Rattle.imago_access.specs.Room.{IsApart}
+use Rattle.imago_access.specs.Room.{IsApart, IsUncutAt}
+use Rattle.imago_access.proofs.Uncut.{uncut_start, uncut_end, uncut_later, part_within}
 use Rattle.imago_access.proofs.Room.{room_same, room_then}
-use Rattle.imago_access.proofs.Zeroing.{bytes_zero, zeroes_long, zeroes_zero, zeroes_more, shown_zero, cause_behind}
-use Rattle.imago_access.proofs.StorageCauses.{failed_then}
+use Rattle.imago_access.proofs.Zeroing.{zero_wider, zeroes_more, cause_behind}
+use Rattle.imago_access.proofs.ImageCauses.{failed_then}
 use Rattle.imago_access.proofs.access.zeroing.write_zero_bytes.Goals as goal
 
 pub loop-done-init : goal.loop-done-init
 loop-done-init g c = let d = g.D.FormatDriverInstance in let b = g.B.ReadBelow in record {
   inside = omega arith;
   free = c.requires.free;
+  uncut = λ i. subst (IsUncutAt (d.layer c.args.driver.now).fixed.unit (d.layer c.args.driver.now).size c.args.offset c.args.n) (omega arith) (uncut_start (d.layer c.args.driver.now).fixed.unit (d.layer c.args.driver.now).size c.args.offset c.args.n);
   shown = λ i p there. absurd (omega (arith, there.0, there.1));
-  takes = λ i. room_same d.vacant d.has_room (λ _. ⊤) (IsApart (d.layer c.args.driver.now).fixed.unit c.args.offset c.args.n) c.args.driver.now;
+  takes = λ i. room_same d.vacant d.has_room d.zeroed (λ _. ⊤) (IsApart (d.layer c.args.driver.now).fixed.unit c.args.offset c.args.n) c.args.driver.now;
   ran = ran_same d.layer d.image d.extras d.safe d.lasts b.under b.files_under b.sees_under b.safe_under b.still_under b.lasts_under d.sound ⊤ ⊤ (GivesZero c.args.offset c.args.n) c.args.driver.now c.args.below.now;
   began = λ e call begun part. begun;
 }
 
 pub loop-done-preserved : goal.loop-done-preserved
-loop-done-preserved g c = let d = g.D.FormatDriverInstance in let b = g.B.ReadBelow in let l = c.loop-done.invariant in
-    let done = c.loop-done.done in let count = c.min-count.result in let bytes = c.zero_bytes.result.now in
-    let y0 = c.args.driver.now in let y1 = c.loop-done.driver in let y2 = c.write_all.new.driver in let x0 = c.args.below.now in let x1 = c.loop-done.below in let x2 = c.write_all.new.below in
-    let inside : done + count ≤ c.args.n = omega (arith, c.min-count.ensures, c.loop-done-test.true) in
-    let long : length bytes ≡ count = zeroes_long count bytes c.zero_bytes.ensures in
-    let zeroes = zeroes_zero count bytes c.zero_bytes.ensures in
-    let gives = bytes_zero c.args.offset c.args.n (c.args.offset + done) bytes zeroes (omega arith) (omega (arith, long, inside)) in
-    let ran = ran_both d.layer d.image d.extras d.safe d.lasts b.under b.files_under b.sees_under b.safe_under b.still_under b.lasts_under d.sound ⊤ ⊤ (GivesZero c.args.offset c.args.n) (GivesBytes (c.args.offset + done) bytes) (GivesZero c.args.offset c.args.n) y0 y1 y2 x0 x1 x2 (λ p v gave. gave) gives l.ran
-    (ran_weaker d.layer d.image d.extras d.safe d.lasts b.under b.files_under b.sees_under b.safe_under b.still_under b.lasts_under d.sound (true ≡ true) ⊤ ⊤ ⊤ (GivesBytes (c.args.offset + done) bytes) y1 y2 x1 x2 (λ h. refl) (λ h. h) c.in-Ok.ensures.ran) in
+loop-done-preserved g c = let count = c.in-Ok.count in let d = g.D.FormatDriverInstance in let b = g.B.ReadBelow in let l = c.loop-done.invariant in
+    let done = c.loop-done.done in let rest = c.args.n - done in
+    let y0 = c.args.driver.now in let y1 = c.loop-done.driver in let y2 = c.write_zero_run.new.driver in let x0 = c.args.below.now in let x1 = c.loop-done.below in let x2 = c.write_zero_run.new.below in
+    let gives = zero_wider c.args.offset c.args.n (c.args.offset + done) rest (omega arith) (omega (arith, l.inside)) in
+    let ran = ran_both d.layer d.image d.extras d.safe d.lasts b.under b.files_under b.sees_under b.safe_under b.still_under b.lasts_under d.sound ⊤ ⊤ (GivesZero c.args.offset c.args.n) (GivesZero (c.args.offset + done) rest) (GivesZero c.args.offset c.args.n) y0 y1 y2 x0 x1 x2 (λ p v gave. gave) gives l.ran
+    (ran_weaker d.layer d.image d.extras d.safe d.lasts b.under b.files_under b.sees_under b.safe_under b.still_under b.lasts_under d.sound (true ≡ true) ⊤ ⊤ ⊤ (GivesZero (c.args.offset + done) rest) y1 y2 x1 x2 (λ h. refl) (λ h. h) c.in-Ok.ensures.ran) in
     record {
-      inside = inside;
+      inside = omega (arith, c.in-Ok.ensures.run.1, l.inside);
       free = c.in-Ok.ensures.free;
       shown = λ i.
           let mid = l.ran.intact tt i in
           let same : b.under x1 ≡ b.under x0 = (l.ran.looked.stays tt i.is_seen).0 in
-          let between = subst (λ (below : List Layer). IsBetween (GivesBytes (c.args.offset + done) bytes) below (d.layer y1) (d.layer y2)) same (c.in-Ok.ensures.ran.values tt mid) in
+          let between = subst (λ (below : List Layer). IsBetween (GivesZero (c.args.offset + done) rest) below (d.layer y1) (d.layer y2)) same (c.in-Ok.ensures.ran.values tt mid) in
           zeroes_more (b.under x0) (d.layer y1) (d.layer y2) c.args.offset done count c.args.offset c.args.n c.in-Ok.ensures.ran.size
           (λ p low. elim (between p low) [ inl was ↦ inl was | inr gave ↦ inr (gives p (at (d.layer y2 ∷ b.under x0) p) gave) ])
           (l.shown i)
-          (λ p there. shown_zero (at (d.layer y2 ∷ b.under x0)) (c.args.offset + done) bytes zeroes (subst (λ (below : List Layer). (k : ℕ) → k < length bytes → at (d.layer y2 ∷ below) (c.args.offset + done + k) ≡ byte (slice_index bytes k)) same (c.in-Ok.ensures.shown mid))
-          p (there.0, omega (arith, there.1, long)));
-      takes = λ i. room_then d.vacant d.has_room d.layer (λ _. ⊤) (λ _. ⊤) c.args.offset c.args.n (c.args.offset + done) (length bytes) y0 y1 y2 l.ran.went.fixed (omega arith) (omega (arith, long, inside)) (λ p there. tt) (l.takes i) (c.in-Ok.ensures.room (l.ran.intact tt i) tt);
+          (λ p there.
+          let k = p - (c.args.offset + done) in
+          let is : c.args.offset + done + k ≡ p = omega (arith, there.0) in
+          subst (λ (q : ℕ). at (d.layer y2 ∷ b.under x0) q ≡ byte 0) is (subst (λ (below : List Layer). (j : ℕ) → j < count → at (d.layer y2 ∷ below) (c.args.offset + done + j) ≡ byte 0) same (c.in-Ok.ensures.shown mid) k (omega (arith, there.0, there.1))));
+      uncut = λ i.
+          let unit = (d.layer y0).fixed.unit in let size = (d.layer y0).size in let start = c.args.offset + done in
+          let left : rest ≡ c.args.offset + c.args.n - start = omega (arith, l.inside) in
+          let next : start + count ≡ c.args.offset + (done + count) = omega arith in
+          subst (IsUncutAt unit size c.args.offset c.args.n) next
+          (uncut_later (d.layer y0) (d.layer y1) c.args.offset c.args.n start (start + count) l.ran.went.fixed l.ran.size (omega arith) (l.uncut i)
+          (subst (λ (m : ℕ). IsUncutAt (d.layer y1).fixed.unit (d.layer y1).size start m (start + count)) left (c.in-Ok.ensures.uncut (l.ran.intact tt i))));
+      takes = λ i. room_then d.vacant d.has_room d.zeroed d.layer (λ _. ⊤) (λ _. ⊤) c.args.offset c.args.n (c.args.offset + done) rest y0 y1 y2 l.ran.went.fixed (omega arith) (omega (arith, l.inside)) (λ p there. tt) (l.takes i) (c.in-Ok.ensures.room (l.ran.intact tt i) tt);
       ran = ran;
-      began = λ e call begun part. c.in-Ok.ensures.began e call (l.began e call begun part) (record { start = omega (arith, part.start); end = omega (arith, part.end, long, inside) });
+      began = λ e call begun part. c.in-Ok.ensures.began e call (l.began e call begun part) (record { start = omega (arith, part.start); end = omega (arith, part.end, l.inside) });
     }
 
 pub returns-in-Err-clause-ran : goal.returns-in-Err-clause-ran
 returns-in-Err-clause-ran g c = let d = g.D.FormatDriverInstance in let b = g.B.ReadBelow in let l = c.loop-done.invariant in
-    let done = c.loop-done.done in let count = c.min-count.result in let bytes = c.zero_bytes.result.now in
-    let y0 = c.args.driver.now in let y1 = c.loop-done.driver in let y2 = c.write_all.new.driver in let x0 = c.args.below.now in let x1 = c.loop-done.below in let x2 = c.write_all.new.below in
-    let inside : done + count ≤ c.args.n = omega (arith, c.min-count.ensures, c.loop-done-test.true) in
-    let long : length bytes ≡ count = zeroes_long count bytes c.zero_bytes.ensures in
-    let zeroes = zeroes_zero count bytes c.zero_bytes.ensures in
-    let gives = bytes_zero c.args.offset c.args.n (c.args.offset + done) bytes zeroes (omega arith) (omega (arith, long, inside)) in
-    ran_both d.layer d.image d.extras d.safe d.lasts b.under b.files_under b.sees_under b.safe_under b.still_under b.lasts_under d.sound (false ≡ true) (IsMild c.in-Err.fault) (GivesZero c.args.offset c.args.n) (GivesBytes (c.args.offset + done) bytes) (GivesZero c.args.offset c.args.n) y0 y1 y2 x0 x1 x2 (λ p v gave. gave) gives l.ran c.in-Err.ensures.ran
+    let done = c.loop-done.done in let rest = c.args.n - done in
+    let y0 = c.args.driver.now in let y1 = c.loop-done.driver in let y2 = c.write_zero_run.new.driver in let x0 = c.args.below.now in let x1 = c.loop-done.below in let x2 = c.write_zero_run.new.below in
+    let gives = zero_wider c.args.offset c.args.n (c.args.offset + done) rest (omega arith) (omega (arith, l.inside)) in
+    ran_both d.layer d.image d.extras d.safe d.lasts b.under b.files_under b.sees_under b.safe_under b.still_under b.lasts_under d.sound (false ≡ true) (IsMild c.in-Err.fault) (GivesZero c.args.offset c.args.n) (GivesZero (c.args.offset + done) rest) (GivesZero c.args.offset c.args.n) y0 y1 y2 x0 x1 x2 (λ p v gave. gave) gives l.ran c.in-Err.ensures.ran
 
 pub returns-in-Err-clause-room : goal.returns-in-Err-clause-room
 returns-in-Err-clause-room g c = λ i mild. let d = g.D.FormatDriverInstance in let b = g.B.ReadBelow in let l = c.loop-done.invariant in
-    let done = c.loop-done.done in let count = c.min-count.result in let bytes = c.zero_bytes.result.now in
-    let y0 = c.args.driver.now in let y1 = c.loop-done.driver in let y2 = c.write_all.new.driver in let x0 = c.args.below.now in let x1 = c.loop-done.below in let x2 = c.write_all.new.below in
-    let inside : done + count ≤ c.args.n = omega (arith, c.min-count.ensures, c.loop-done-test.true) in
-    let long : length bytes ≡ count = zeroes_long count bytes c.zero_bytes.ensures in
-    room_then d.vacant d.has_room d.layer (λ _. ⊤) (λ _. ⊤) c.args.offset c.args.n (c.args.offset + done) (length bytes) y0 y1 y2 l.ran.went.fixed (omega arith) (omega (arith, long, inside)) (λ p there. tt) (l.takes i) (c.in-Err.ensures.room (l.ran.intact tt i) mild)
+    let done = c.loop-done.done in let rest = c.args.n - done in
+    let y0 = c.args.driver.now in let y1 = c.loop-done.driver in let y2 = c.write_zero_run.new.driver in let x0 = c.args.below.now in let x1 = c.loop-done.below in let x2 = c.write_zero_run.new.below in
+    room_then d.vacant d.has_room d.zeroed d.layer (λ _. ⊤) (λ _. ⊤) c.args.offset c.args.n (c.args.offset + done) rest y0 y1 y2 l.ran.went.fixed (omega arith) (omega (arith, l.inside)) (λ p there. tt) (l.takes i) (c.in-Err.ensures.room (l.ran.intact tt i) mild)
 
 pub returns-in-Err-clause-failed : goal.returns-in-Err-clause-failed
 returns-in-Err-clause-failed g c = let d = g.D.FormatDriverInstance in let b = g.B.ReadBelow in let l = c.loop-done.invariant in
-    let y0 = c.args.driver.now in let y1 = c.loop-done.driver in let y2 = c.write_all.new.driver in
-    failed_then (d.image y0 ∷ d.extras y0) (d.image y1 ∷ d.extras y1) (d.image y2 ∷ d.extras y2) (b.files_under c.args.below.now) (b.files_under c.loop-done.below) (b.files_under c.write_all.new.below) c.in-Err.fault l.ran.went.later l.ran.looked.later c.in-Err.ensures.failed
+    let y0 = c.args.driver.now in let y1 = c.loop-done.driver in let y2 = c.write_zero_run.new.driver in
+    failed_then (d.image y0 ∷ d.extras y0) (d.image y1 ∷ d.extras y1) (d.image y2 ∷ d.extras y2) (b.files_under c.args.below.now) (b.files_under c.loop-done.below) (b.files_under c.write_zero_run.new.below) c.in-Err.fault l.ran.went.later l.ran.looked.later c.in-Err.ensures.failed
 
 pub returns-in-Err-clause-cause : goal.returns-in-Err-clause-cause
 returns-in-Err-clause-cause g c = λ i e call begun part says. let d = g.D.FormatDriverInstance in let b = g.B.ReadBelow in let l = c.loop-done.invariant in
-    let done = c.loop-done.done in let count = c.min-count.result in let bytes = c.zero_bytes.result.now in
-    let y0 = c.args.driver.now in let y1 = c.loop-done.driver in let y2 = c.write_all.new.driver in let x0 = c.args.below.now in let x1 = c.loop-done.below in let x2 = c.write_all.new.below in
-    let inside : done + count ≤ c.args.n = omega (arith, c.min-count.ensures, c.loop-done-test.true) in
-    let long : length bytes ≡ count = zeroes_long count bytes c.zero_bytes.ensures in
-    let zeroes = zeroes_zero count bytes c.zero_bytes.ensures in
-    let gives = bytes_zero c.args.offset c.args.n (c.args.offset + done) bytes zeroes (omega arith) (omega (arith, long, inside)) in
-    cause_behind d.layer d.image d.extras d.safe d.lasts b.under b.files_under b.sees_under b.safe_under b.still_under b.lasts_under d.sound g.met.D.FormatDriverInstance.safe_runs g.met.D.FormatDriverInstance.aligned (GivesZero c.args.offset c.args.n) c.args.offset c.args.n (c.args.offset + done) (length bytes) y0 y1 x0 x1 (d.image y2 ∷ d.extras y2 ++ b.files_under x2)
-    (λ below. d.own_cause e below call) c.in-Err.fault (omega arith) (omega (arith, long, inside)) l.ran i
-    (c.in-Err.ensures.cause (l.ran.intact tt i) e call (l.began e call begun part) (record { start = omega (arith, part.start); end = omega (arith, part.end, long, inside) }) says)
+    let done = c.loop-done.done in let rest = c.args.n - done in
+    let y0 = c.args.driver.now in let y1 = c.loop-done.driver in let y2 = c.write_zero_run.new.driver in let x0 = c.args.below.now in let x1 = c.loop-done.below in let x2 = c.write_zero_run.new.below in
+    cause_behind d.layer d.image d.extras d.safe d.lasts b.under b.files_under b.sees_under b.safe_under b.still_under b.lasts_under d.sound g.met.D.FormatDriverInstance.safe_runs g.met.D.FormatDriverInstance.aligned (GivesZero c.args.offset c.args.n) c.args.offset c.args.n (c.args.offset + done) rest y0 y1 x0 x1 (d.image y2 ∷ d.extras y2 ++ b.files_under x2)
+    (λ below. d.own_cause e below call) c.in-Err.fault (omega arith) (omega (arith, l.inside)) l.ran i
+    (c.in-Err.ensures.cause (l.ran.intact tt i) e call (l.began e call begun part.part)
+    (part_within (d.layer y0) (d.layer y1) call c.args.offset c.args.n (c.args.offset + done) rest l.ran.went.fixed l.ran.size (omega arith) (omega (arith, l.inside)) (l.uncut i)
+    (uncut_end (d.layer y0).fixed.unit (d.layer y0).size c.args.offset c.args.n (c.args.offset + done + rest) (omega (arith, l.inside))) part) says)

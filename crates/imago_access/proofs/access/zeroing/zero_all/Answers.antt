@@ -7,13 +7,15 @@ use Rattle.imago_access.specs.Files.{IsMild}
 use Rattle.imago_storage.specs.Steps.{IsOut}
 use Rattle.imago_access.specs.Layer.{Layer, Fixed}
 use Rattle.imago_access.specs.Room.{IsApart, IsGivenUpTo, IsUndeclined}
+use Rattle.imago_access.proofs.Uncut.{uncut_start, uncut_end, uncut_later, part_within}
 use Rattle.imago_access.specs.declared.access.zeroing.Zeroing.TheVariants as zeroing_is
-use Rattle.imago_access.proofs.Room.{room_same, room_then, out_wider, given_none, given_both, ended_apart}
+use Rattle.imago_access.proofs.Room.{room_same, room_then, out_wider, given_none, given_both, ended_apart, left_on}
+use Rattle.imago_access.specs.Zeroings.{IsLeft}
 use Rattle.imago_access.specs.Running.{IsBetween}
 use Rattle.imago_access.specs.Stops.{GivesZero}
 use Rattle.imago_access.proofs.Running.{ran_same, ran_both, ran_weaker}
 use Rattle.imago_access.proofs.Zeroing.{zero_wider, zero_stays, cause_behind}
-use Rattle.imago_access.proofs.StorageCauses.{failed_then}
+use Rattle.imago_access.proofs.ImageCauses.{failed_then}
 use Rattle.imago_access.proofs.access.zeroing.zero_all.Goals as goal
 
 pub loop-at-init : goal.loop-at-init
@@ -22,8 +24,9 @@ loop-at-init g c = let d = g.D.FormatDriverInstance in let b = g.B.ReadBelow in 
   inside = omega arith;
   free = c.requires.free;
   shown = λ i p from to. absurd (omega (arith, from, to));
-  room = λ i. room_same d.vacant d.has_room (λ p. (c.args.zeroing ≡ zeroing_is.Keep) ⊎ IsOut c.args.offset c.args.n p) (IsApart (d.layer c.args.driver.now).fixed.unit c.args.offset c.args.n) c.args.driver.now;
-  given = λ is i e call begun part none. given_none (d.vacant c.args.driver.now) (d.layer c.args.driver.now).fixed.unit (d.layer c.args.driver.now).size c.args.offset c.args.n;
+  uncut = λ i. uncut_start (d.layer c.args.driver.now).fixed.unit (d.layer c.args.driver.now).size c.args.offset c.args.n;
+  room = λ i. room_same d.vacant d.has_room d.zeroed (λ p. (c.args.zeroing ≡ zeroing_is.Keep) ⊎ IsOut c.args.offset c.args.n p) (IsApart (d.layer c.args.driver.now).fixed.unit c.args.offset c.args.n) c.args.driver.now;
+  given = λ i e call begun part none. given_none (IsLeft c.args.zeroing (d.vacant c.args.driver.now) (d.zeroed c.args.driver.now)) (d.layer c.args.driver.now).fixed.unit (d.layer c.args.driver.now).size c.args.offset c.args.n;
   ran = ran_same d.layer d.image d.extras d.safe d.lasts b.under b.files_under b.sees_under b.safe_under b.still_under b.lasts_under d.sound ⊤ ⊤ (GivesZero c.args.offset c.args.n) c.args.driver.now c.args.below.now;
   began = λ e call begun part. begun;
 }
@@ -45,19 +48,20 @@ loop-at-preserved g c = let d = g.D.FormatDriverInstance in let b = g.B.ReadBelo
             | inl low ↦ zero_stays (b.under x0) (d.layer y1) (d.layer y2) at_now rest done.ran.size (subst (λ (below : List Layer). IsBetween (GivesZero at_now rest) below (d.layer y1) (d.layer y2)) same (done.ran.values tt mid)) p (l.shown i p from low)
             | inr high ↦ subst (λ (below : List Layer). at (d.layer y2 ∷ below) p ≡ byte 0) same (done.shown mid p high to)
           ];
-      room = λ i. room_then d.vacant d.has_room d.layer (λ p. (c.args.zeroing ≡ zeroing_is.Keep) ⊎ IsOut c.args.offset c.args.n p) (λ p. (c.args.zeroing ≡ zeroing_is.Keep) ⊎ IsOut at_now rest p) c.args.offset c.args.n at_now rest y0 y1 y2 l.ran.went.fixed l.from (omega (arith, l.inside)) (λ p there. elim there [ inl keep ↦ inl keep | inr out ↦ inr (out_wider c.args.offset c.args.n at_now rest p l.from (omega (arith, l.inside)) out) ]) (l.room i) (c.in-Ok.ensures.room (l.ran.intact tt i) tt);
-      given = λ is i e call begun part none.
+      uncut = λ i. uncut_later (d.layer y0) (d.layer y1) c.args.offset c.args.n at_now c.in-Ok.next l.ran.went.fixed l.ran.size (omega (arith, done.run.0)) (l.uncut i) (done.uncut (l.ran.intact tt i));
+      room = λ i. room_then d.vacant d.has_room d.zeroed d.layer (λ p. (c.args.zeroing ≡ zeroing_is.Keep) ⊎ IsOut c.args.offset c.args.n p) (λ p. (c.args.zeroing ≡ zeroing_is.Keep) ⊎ IsOut at_now rest p) c.args.offset c.args.n at_now rest y0 y1 y2 l.ran.went.fixed l.from (omega (arith, l.inside)) (λ p there. elim there [ inl keep ↦ inl keep | inr out ↦ inr (out_wider c.args.offset c.args.n at_now rest p l.from (omega (arith, l.inside)) out) ]) (l.room i) (c.in-Ok.ensures.room (l.ran.intact tt i) tt);
+      given = λ i e call begun part none.
           let mid = l.ran.intact tt i in
           let same : b.under x1 ≡ b.under x0 = (l.ran.looked.stays tt i.is_seen).0 in
           let unit = (d.layer y0).fixed.unit in let size = (d.layer y0).size in
           let still : IsUndeclined (d.own_cause e (b.under x1) call) = subst (λ (below : List Layer). IsUndeclined (d.own_cause e below call)) (sym same) none in
-          let more = done.given is mid e call (l.began e call begun part) (record { start = omega (arith, part.start, l.from); end = omega (arith, part.end, l.inside) }) still in
-          let given : IsGivenUpTo (d.vacant y2) unit size at_now rest c.in-Ok.next = subst (λ (f : Fixed). IsGivenUpTo (d.vacant y2) f.unit size at_now rest c.in-Ok.next) l.ran.went.fixed (subst (λ (z : ℕ). IsGivenUpTo (d.vacant y2) (d.layer y1).fixed.unit z at_now rest c.in-Ok.next) l.ran.size more) in
+          let more = done.given mid e call (l.began e call begun part) (record { start = omega (arith, part.start, l.from); end = omega (arith, part.end, l.inside) }) still in
+          let given : IsGivenUpTo (IsLeft c.args.zeroing (d.vacant y2) (d.zeroed y2)) unit size at_now rest c.in-Ok.next = subst (λ (f : Fixed). IsGivenUpTo (IsLeft c.args.zeroing (d.vacant y2) (d.zeroed y2)) f.unit size at_now rest c.in-Ok.next) l.ran.went.fixed (subst (λ (z : ℕ). IsGivenUpTo (IsLeft c.args.zeroing (d.vacant y2) (d.zeroed y2)) (d.layer y1).fixed.unit z at_now rest c.in-Ok.next) l.ran.size more) in
           let on_disk : at_now < size = omega (arith, c.loop-at-test.true, c.requires.inside) in
           let left = done.room mid tt in
-          given_both (d.vacant y2) unit size c.args.offset c.args.n (d.vacant y1) at_now c.in-Ok.next (omega (arith, done.run.0))
-          (λ p u of ended was. left.free p (subst (λ (f : Fixed). IsApart f.unit at_now rest p) (sym l.ran.went.fixed) (ended_apart unit size at_now rest u p on_disk ended of)) was)
-          (l.given is i e call begun part none) given;
+          given_both (IsLeft c.args.zeroing (d.vacant y2) (d.zeroed y2)) unit size c.args.offset c.args.n (IsLeft c.args.zeroing (d.vacant y1) (d.zeroed y1)) at_now c.in-Ok.next (omega (arith, done.run.0))
+          (λ p u of ended was. left_on d.vacant d.has_room d.zeroed (λ q. (c.args.zeroing ≡ zeroing_is.Keep) ⊎ IsOut at_now rest q) (IsApart (d.layer y1).fixed.unit at_now rest) c.args.zeroing y1 y2 p (λ keep. inl keep) (subst (λ (f : Fixed). IsApart f.unit at_now rest p) (sym l.ran.went.fixed) (ended_apart unit size at_now rest u p on_disk ended of)) left was)
+          (l.given i e call begun part none) given;
       ran = ran_both d.layer d.image d.extras d.safe d.lasts b.under b.files_under b.sees_under b.safe_under b.still_under b.lasts_under d.sound ⊤ ⊤ (GivesZero c.args.offset c.args.n) (GivesZero at_now rest) (GivesZero c.args.offset c.args.n) y0 y1 y2 x0 x1 x2 (λ p v gave. gave) gives l.ran (ran_weaker d.layer d.image d.extras d.safe d.lasts b.under b.files_under b.sees_under b.safe_under b.still_under b.lasts_under d.sound (true ≡ true) ⊤ ⊤ ⊤ (GivesZero at_now rest) y1 y2 x1 x2 (λ h. refl) (λ h. h) done.ran);
       began = λ e call begun part. done.began e call (l.began e call begun part) (record { start = omega (arith, part.start, l.from); end = omega (arith, part.end, l.inside) });
     }
@@ -81,9 +85,11 @@ returns-in-Err-clause-cause g c = λ i e call begun part says. let d = g.D.Forma
     let gives = zero_wider c.args.offset c.args.n at_now rest l.from (omega (arith, l.inside)) in
     cause_behind d.layer d.image d.extras d.safe d.lasts b.under b.files_under b.sees_under b.safe_under b.still_under b.lasts_under d.sound g.met.D.FormatDriverInstance.safe_runs g.met.D.FormatDriverInstance.aligned (GivesZero c.args.offset c.args.n) c.args.offset c.args.n at_now rest y0 y1 x0 x1 (d.image y2 ∷ d.extras y2 ++ b.files_under x2)
     (λ (below : List Layer). d.own_cause e below call) c.in-Err.fault l.from (omega (arith, l.inside)) l.ran i
-    (c.in-Err.ensures.cause (l.ran.intact tt i) e call (l.began e call begun part) (record { start = omega (arith, part.start, l.from); end = omega (arith, part.end, l.inside) }) says)
+    (c.in-Err.ensures.cause (l.ran.intact tt i) e call (l.began e call begun part.part)
+    (part_within (d.layer y0) (d.layer y1) call c.args.offset c.args.n at_now rest l.ran.went.fixed l.ran.size l.from (omega (arith, l.inside)) (l.uncut i)
+    (uncut_end (d.layer y0).fixed.unit (d.layer y0).size c.args.offset c.args.n (at_now + rest) (omega (arith, l.inside))) part) says)
 
 pub returns-in-Err-clause-room : goal.returns-in-Err-clause-room
 returns-in-Err-clause-room g c = λ i mild. let d = g.D.FormatDriverInstance in let l = c.loop-at.invariant in
     let y0 = c.args.driver.now in let y1 = c.loop-at.driver in let y2 = c.zero_run.new.driver in let at_now = c.loop-at.at in let rest = c.args.offset + c.args.n - at_now in
-    room_then d.vacant d.has_room d.layer (λ p. (c.args.zeroing ≡ zeroing_is.Keep) ⊎ IsOut c.args.offset c.args.n p) (λ p. (c.args.zeroing ≡ zeroing_is.Keep) ⊎ IsOut at_now rest p) c.args.offset c.args.n at_now rest y0 y1 y2 l.ran.went.fixed l.from (omega (arith, l.inside)) (λ p there. elim there [ inl keep ↦ inl keep | inr out ↦ inr (out_wider c.args.offset c.args.n at_now rest p l.from (omega (arith, l.inside)) out) ]) (l.room i) (c.in-Err.ensures.room (l.ran.intact tt i) mild)
+    room_then d.vacant d.has_room d.zeroed d.layer (λ p. (c.args.zeroing ≡ zeroing_is.Keep) ⊎ IsOut c.args.offset c.args.n p) (λ p. (c.args.zeroing ≡ zeroing_is.Keep) ⊎ IsOut at_now rest p) c.args.offset c.args.n at_now rest y0 y1 y2 l.ran.went.fixed l.from (omega (arith, l.inside)) (λ p there. elim there [ inl keep ↦ inl keep | inr out ↦ inr (out_wider c.args.offset c.args.n at_now rest p l.from (omega (arith, l.inside)) out) ]) (l.room i) (c.in-Err.ensures.room (l.ran.intact tt i) mild)

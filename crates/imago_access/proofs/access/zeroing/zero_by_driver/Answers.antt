@@ -8,5 +8,5 @@ returns-in-Err-2-clause-cause g c = λ safe below x call begun part. let d = g.D
     undeclined_cause below (d.layer c.args.driver.now) c.args.offset c.args.n (d.own_cause x below call) (d.image c.args.driver.now ∷ d.extras c.args.driver.now) (d.image c.zero_part.new.driver ∷ d.extras c.zero_part.new.driver) c.in-Err.fault (λ h. absurd (cc (c.if-is_declined.ensures.1 h))) (c.in-Err.ensures.cause safe below x call begun part)
 
 pub returns-in-Err-clause-given : goal.returns-in-Err-clause-given
-returns-in-Err-clause-given g c = λ is keeps safe below x call began part none. let d = g.D.FormatDriverInstance in
+returns-in-Err-clause-given g c = λ keeps safe below x call began part none. let d = g.D.FormatDriverInstance in
     absurd (undeclined below (d.layer c.args.driver.now) c.args.offset c.args.n (d.own_cause x below call) (d.image c.args.driver.now ∷ d.extras c.args.driver.now) (d.image c.zero_part.new.driver ∷ d.extras c.zero_part.new.driver) c.in-Err.fault none (c.if-is_declined.ensures.0 refl) (c.in-Err.ensures.cause safe below x call began part))

@@ -4,15 +4,17 @@ use Rattle.std.proofs.lemmas.Bool.{cases_lt}
 use Rattle.imago_access.specs.Files.{IsMild}
 use Rattle.imago_storage.specs.Steps.{IsOut}
 use Rattle.imago_access.specs.Layer.{Layer, Fixed}
-use Rattle.imago_access.specs.Room.{IsApart}
+use Rattle.imago_access.specs.Room.{IsApart, IsUncutAt}
+use Rattle.imago_access.proofs.Uncut.{uncut_start, part_within}
 use Rattle.imago_access.specs.declared.access.zeroing.Zeroing.TheVariants as zeroing_is
-use Rattle.imago_access.proofs.Room.{room_both, apart_out, apart_wider, given_on, begun_apart}
+use Rattle.imago_access.proofs.Room.{room_both, apart_out, apart_wider, given_on, begun_apart, left_on}
+use Rattle.imago_access.specs.Zeroings.{IsLeft}
 use Rattle.imago_access.specs.Stops.{GivesZero}
 use Rattle.imago_access.proofs.ChangeCauses.{part_cause_left}
 use Rattle.imago_access.proofs.Running.{went_weaker, ran_both}
 use Rattle.imago_access.proofs.Zeroing.{zero_wider, zero_stays, ran_zeroed, cause_behind}
 use Rattle.imago_access.proofs.FilePairs.{later_all_same}
-use Rattle.imago_access.proofs.StorageCauses.{failed_left, failed_then}
+use Rattle.imago_access.proofs.ImageCauses.{failed_left, failed_then}
 use Rattle.imago_access.proofs.access.zeroing.zero_run.Goals as goal
 
 pub returns-in-Err-clause-ran : goal.returns-in-Err-clause-ran
@@ -27,7 +29,7 @@ returns-in-Err-clause-failed g c = let d = g.D.FormatDriverInstance in
 pub returns-in-Err-clause-cause : goal.returns-in-Err-clause-cause
 returns-in-Err-clause-cause g c = λ i e call begun part says. let d = g.D.FormatDriverInstance in let b = g.B.ReadBelow in
     let y0 = c.args.driver.now in let y1 = c.zero_by_driver.new.driver in let x0 = c.args.below.now in
-    part_cause_left (b.under x0) (d.layer y0) c.args.offset c.args.n (d.own_cause e (b.under x0) call) (d.image y0 ∷ d.extras y0) (d.image y1 ∷ d.extras y1) (b.files_under x0) (b.files_under x0) c.in-Err.fault (c.in-Err.ensures.cause i.is_safe (b.under x0) e call begun part)
+    part_cause_left (b.under x0) (d.layer y0) c.args.offset c.args.n (d.own_cause e (b.under x0) call) (d.image y0 ∷ d.extras y0) (d.image y1 ∷ d.extras y1) (b.files_under x0) (b.files_under x0) c.in-Err.fault (c.in-Err.ensures.cause i.is_safe (b.under x0) e call begun part.part)
 
 pub returns-in-Ok-write_zero_bytes-clause-shown : goal.returns-in-Ok-write_zero_bytes-clause-shown
 returns-in-Ok-write_zero_bytes-clause-shown g c = λ i p from to. let d = g.D.FormatDriverInstance in let b = g.B.ReadBelow in
@@ -78,7 +80,11 @@ returns-in-Err-write_zero_bytes-clause-cause g c = λ i e call begun part says. 
     let one = ran_zeroed d.layer d.image d.extras d.safe d.lasts b.under b.files_under b.sees_under b.safe_under b.still_under b.lasts_under d.sound g.met.D.FormatDriverInstance.free_loose ⊤ ⊤ c.args.offset c.args.n y0 y1 x0 c.requires.free done.like (went_weaker d.layer d.image d.extras d.safe d.lasts (true ≡ true) ⊤ ⊤ ⊤ y0 y1 (λ h. refl) (λ h. h) done.went) done.values done.stops in
     cause_behind d.layer d.image d.extras d.safe d.lasts b.under b.files_under b.sees_under b.safe_under b.still_under b.lasts_under d.sound g.met.D.FormatDriverInstance.safe_runs g.met.D.FormatDriverInstance.aligned (GivesZero c.args.offset c.args.n) c.args.offset c.args.n c.args.offset gap y0 y1 x0 x0 (d.image y2 ∷ d.extras y2 ++ b.files_under x2)
     (λ (below : List Layer). d.own_cause e below call) c.in-Err-write_zero_bytes.fault (omega arith) (omega (arith, inside, done.part.0)) one i
-    (c.in-Err-write_zero_bytes.ensures.cause (one.intact tt i) e call (done.began e call begun part) (record { start = omega (arith, part.start); end = omega (arith, part.end, inside, done.part.0) }) says)
+    (let back : start ≡ c.args.offset + gap = omega (arith, done.part.0) in
+    c.in-Err-write_zero_bytes.ensures.cause (one.intact tt i) e call (done.began e call begun part.part)
+    (part_within (d.layer y0) (d.layer y1) call c.args.offset c.args.n c.args.offset gap done.like.fixed done.like.size (omega arith) (omega (arith, inside, done.part.0))
+    (uncut_start (d.layer y0).fixed.unit (d.layer y0).size c.args.offset c.args.n)
+    (subst (IsUncutAt (d.layer y0).fixed.unit (d.layer y0).size c.args.offset c.args.n) back (done.uncut i.keeps i.is_safe).0) part) says)
 
 pub returns-in-Ok-write_zero_bytes-clause-room : goal.returns-in-Ok-write_zero_bytes-clause-room
 returns-in-Ok-write_zero_bytes-clause-room g c = λ i whole. let d = g.D.FormatDriverInstance in let b = g.B.ReadBelow in
@@ -89,7 +95,7 @@ returns-in-Ok-write_zero_bytes-clause-room g c = λ i whole. let d = g.D.FormatD
     let one = ran_zeroed d.layer d.image d.extras d.safe d.lasts b.under b.files_under b.sees_under b.safe_under b.still_under b.lasts_under d.sound g.met.D.FormatDriverInstance.free_loose ⊤ ⊤ c.args.offset c.args.n y0 y1 x0 c.requires.free done.like (went_weaker d.layer d.image d.extras d.safe d.lasts (true ≡ true) ⊤ ⊤ ⊤ y0 y1 (λ h. refl) (λ h. h) done.went) done.values done.stops in
     let unit = (d.layer y0).fixed.unit in
     let left = (λ (p : ℕ). (c.args.zeroing ≡ zeroing_is.Keep) ⊎ IsOut c.args.offset c.args.n p) in
-    room_both d.vacant d.has_room left (λ _. ⊤) left (IsOut c.args.offset c.args.n) (IsApart (d.layer y1).fixed.unit c.args.offset gap) (IsApart unit c.args.offset c.args.n) y0 y1 y2 (λ p there. (there, tt))
+    room_both d.vacant d.has_room d.zeroed left (λ _. ⊤) left (IsOut c.args.offset c.args.n) (IsApart (d.layer y1).fixed.unit c.args.offset gap) (IsApart unit c.args.offset c.args.n) y0 y1 y2 (λ p there. (there, tt))
     (λ p apart. (apart_out unit c.args.offset c.args.n p apart, subst (λ (f : Fixed). IsApart f.unit c.args.offset gap p) (sym done.like.fixed) (apart_wider unit c.args.offset c.args.n c.args.offset gap p (omega arith) (omega (arith, inside, done.part.0)) apart)))
     (done.room i.keeps i.is_safe tt) (c.in-Ok-write_zero_bytes.ensures.room (one.intact tt i) tt)
 
@@ -102,20 +108,23 @@ returns-in-Err-write_zero_bytes-clause-room g c = λ i whole. let d = g.D.Format
     let one = ran_zeroed d.layer d.image d.extras d.safe d.lasts b.under b.files_under b.sees_under b.safe_under b.still_under b.lasts_under d.sound g.met.D.FormatDriverInstance.free_loose ⊤ ⊤ c.args.offset c.args.n y0 y1 x0 c.requires.free done.like (went_weaker d.layer d.image d.extras d.safe d.lasts (true ≡ true) ⊤ ⊤ ⊤ y0 y1 (λ h. refl) (λ h. h) done.went) done.values done.stops in
     let unit = (d.layer y0).fixed.unit in
     let left = (λ (p : ℕ). (c.args.zeroing ≡ zeroing_is.Keep) ⊎ IsOut c.args.offset c.args.n p) in
-    room_both d.vacant d.has_room left (λ _. ⊤) left (IsOut c.args.offset c.args.n) (IsApart (d.layer y1).fixed.unit c.args.offset gap) (IsApart unit c.args.offset c.args.n) y0 y1 y2 (λ p there. (there, tt))
+    room_both d.vacant d.has_room d.zeroed left (λ _. ⊤) left (IsOut c.args.offset c.args.n) (IsApart (d.layer y1).fixed.unit c.args.offset gap) (IsApart unit c.args.offset c.args.n) y0 y1 y2 (λ p there. (there, tt))
     (λ p apart. (apart_out unit c.args.offset c.args.n p apart, subst (λ (f : Fixed). IsApart f.unit c.args.offset gap p) (sym done.like.fixed) (apart_wider unit c.args.offset c.args.n c.args.offset gap p (omega arith) (omega (arith, inside, done.part.0)) apart)))
     (done.room i.keeps i.is_safe tt) (c.in-Err-write_zero_bytes.ensures.room (one.intact tt i) whole)
 
 pub returns-in-Ok-write_zero_bytes-clause-given : goal.returns-in-Ok-write_zero_bytes-clause-given
-returns-in-Ok-write_zero_bytes-clause-given g c = λ is i e call begun part none. let d = g.D.FormatDriverInstance in let b = g.B.ReadBelow in
+returns-in-Ok-write_zero_bytes-clause-given g c = λ i e call begun part none. let d = g.D.FormatDriverInstance in let b = g.B.ReadBelow in
     let y0 = c.args.driver.now in let y1 = c.zero_by_driver.new.driver in let y2 = c.write_zero_bytes.new.driver in let x0 = c.args.below.now in let x2 = c.write_zero_bytes.new.below in
     let start = c.in-Ok.part.0 in let done = c.in-Ok.ensures in
     let inside : start ≤ c.args.offset + c.args.n = omega (arith, done.part.1, done.part.3) in
     let gap = start - c.args.offset in
     let one = ran_zeroed d.layer d.image d.extras d.safe d.lasts b.under b.files_under b.sees_under b.safe_under b.still_under b.lasts_under d.sound g.met.D.FormatDriverInstance.free_loose ⊤ ⊤ c.args.offset c.args.n y0 y1 x0 c.requires.free done.like (went_weaker d.layer d.image d.extras d.safe d.lasts (true ≡ true) ⊤ ⊤ ⊤ y0 y1 (λ h. refl) (λ h. h) done.went) done.values done.stops in
     let unit = (d.layer y0).fixed.unit in let size = (d.layer y0).size in
-    let given = done.given is i.keeps i.is_safe (b.under x0) e call begun part none in
+    let given = done.given i.keeps i.is_safe (b.under x0) e call begun part none in
     let written = c.in-Ok-write_zero_bytes.ensures.room (one.intact tt i) tt in
-    given_on (d.vacant y1) (d.vacant y2) unit size c.args.offset c.args.n c.in-Ok.part.1
-    (λ u p whole of was. written.free p (subst (λ (f : Fixed). IsApart f.unit c.args.offset gap p) (sym done.like.fixed) (begun_apart unit size c.args.offset start u p done.part.0 (given.none_before u whole) of)) was)
+    given_on (IsLeft c.args.zeroing (d.vacant y1) (d.zeroed y1)) (IsLeft c.args.zeroing (d.vacant y2) (d.zeroed y2)) unit size c.args.offset c.args.n c.in-Ok.part.1
+    (λ u p whole of was. left_on d.vacant d.has_room d.zeroed (λ _. ⊤) (IsApart (d.layer y1).fixed.unit c.args.offset gap) c.args.zeroing y1 y2 p (λ keep. tt) (subst (λ (f : Fixed). IsApart f.unit c.args.offset gap p) (sym done.like.fixed) (begun_apart unit size c.args.offset start u p done.part.0 (given.none_before u whole) of)) written was)
     given.given
+
+pub returns-in-Ok-write_zero_bytes-clause-uncut : goal.returns-in-Ok-write_zero_bytes-clause-uncut
+returns-in-Ok-write_zero_bytes-clause-uncut g c = λ i. (c.in-Ok.ensures.uncut i.keeps i.is_safe).1

@@ -18,3 +18,6 @@ pub returns-in-Window-clause-cause : goal.returns-in-Window-clause-cause
 returns-in-Window-clause-cause g c = rw (c.in-Window.is) (λ safe below d call began part.
     let w = c.in-Window.window in
     declined_of_kind c.change.result below (window_layer w.size w.writable) c.args.offset c.args.length call (no_storage ∷ []) (no_storage ∷ []) true _ began (c.change.ensures.cause below call (no_storage ∷ []) (no_storage ∷ [])))
+
+pub returns-in-Window-clause-failed : goal.returns-in-Window-clause-failed
+returns-in-Window-clause-failed g c = rw (c.in-Window.is) (c.change.ensures.failed (no_storage ∷ []) (no_storage ∷ []))

@@ -25,3 +25,6 @@ returns-in-Err-clause-cause g c = rw (c.in-Window.is) (λ safe sees d call began
     let w = c.in-Window.window in
     let refused : Result ℕ Fault = Err c.in-Err.fault in
     cause_of_kind refused (g.B.ReadBelow.under c.args.below.now) (window_layer w.size w.writable) c.args.offset c.args.length call (no_storage ∷ g.B.ReadBelow.files_under c.args.below.now) (no_storage ∷ g.B.ReadBelow.files_under c.args.below.now) true _ began (c.in-Err.ensures.cause (g.B.ReadBelow.under c.args.below.now) call (no_storage ∷ g.B.ReadBelow.files_under c.args.below.now) (no_storage ∷ g.B.ReadBelow.files_under c.args.below.now)))
+
+pub returns-in-Err-clause-failed : goal.returns-in-Err-clause-failed
+returns-in-Err-clause-failed g c = rw (c.in-Window.is) (c.in-Err.ensures.failed (no_storage ∷ g.B.ReadBelow.files_under c.args.below.now) (no_storage ∷ g.B.ReadBelow.files_under c.args.below.now))

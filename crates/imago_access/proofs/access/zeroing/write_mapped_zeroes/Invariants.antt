@@ -1,0 +1,22 @@
+use Rattle.std.proofs.Common.{◌-◌, ◌≤◌, List}
+use Rattle.std.specs.Prelude.{⊤, IsTrue, replicate}
+use Rattle.imago_storage.specs.Steps.{Call}
+use Rattle.imago_access.specs.Layer.{Layer, IsLike}
+use Rattle.imago_access.specs.Changes.{Wrote}
+use Rattle.imago_access.specs.Room.{Takes}
+use Rattle.imago_access.specs.Running.{RanAlone}
+use Rattle.imago_access.specs.Stops.{GivesBytes}
+use Rattle.imago_access.proofs.access.zeroing.write_mapped_zeroes.Given as goal
+
+abbrev pub invariant-loop-done : goal.invariant-loop-done
+invariant-loop-done g l = let d = g.D.FormatDriverInstance in record {
+  inside : l.done ≤ l.n;
+  wrote : IsTrue (d.layer l.fn.driver).fixed.keeps → d.safe l.fn.driver → Wrote (d.layer l.fn.driver) (d.layer l.driver) l.guest (replicate l.done 0);
+  like : IsLike (d.layer l.fn.driver) (d.layer l.driver);
+  room : IsTrue (d.layer l.fn.driver).fixed.keeps → d.safe l.fn.driver → Takes d.vacant d.has_room d.zeroed (λ _. ⊤) l.fn.driver l.driver;
+  ran : (below : List Layer) → RanAlone d.layer d.image d.extras d.safe d.lasts d.sound ⊤ ⊤ (GivesBytes l.guest (replicate l.n 0)) below l.fn.driver l.driver;
+  began : (x : _) (call : Call) → d.began x call l.fn.driver → d.began x call l.driver;
+}
+
+abbrev pub decreases-loop-done : goal.decreases-loop-done
+decreases-loop-done g l = l.n - l.done
