@@ -35,7 +35,7 @@ module _ {V : Type 0} where
   distinct-without [] key v back apart = apart.1
   distinct-without (e ∷ front) key v back apart = (all-without (λ y. nat_eq e.0 y ≡ false) front key v back apart.0, distinct-without front key v back apart.1)
 
-  away-of : (front : List (ℕ × V)) (key : ℕ) (v : V) (back : List (ℕ × V)) → IsDistinct nat_eq (keys_of (front ++ (key, v) ∷ back)) → AllByRecursion (λ y. nat_eq key y ≡ false) (keys_of (front ++ back))
+  pub away-of : (front : List (ℕ × V)) (key : ℕ) (v : V) (back : List (ℕ × V)) → IsDistinct nat_eq (keys_of (front ++ (key, v) ∷ back)) → AllByRecursion (λ y. nat_eq key y ≡ false) (keys_of (front ++ back))
   unfolding IsDistinct
   away-of [] key v back apart = apart.0
   away-of (e ∷ front) key v back apart =

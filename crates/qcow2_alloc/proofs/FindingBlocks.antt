@@ -1,8 +1,7 @@
 -- A cached block is found or loaded.
-use Rattle.std.proofs.Common.{◌≡◌, ℕ, ◌*◌, ◌/◌, ◌^◌, ◌<◌, ◌≤◌, refl, arith, ap, sym, subst, ◌∙◌, List, [], ◌∷◌, ◌++◌, length, Option, Some, None, Result, Ok, Err, Bool, true, false}
-use Rattle.std.specs.Prelude.{nat_eq, ⊤, IsTrue}
-use Rattle.std.specs.List.{AllByRecursion}
-use Rattle.std.specs.Map.{keys_of, lookup}
+use Rattle.std.proofs.Common.{◌≡◌, ℕ, refl, arith, ap, sym, subst, ◌∙◌, List, [], ◌∷◌, ◌++◌, length, None, Result, Ok, Bool, true, false}
+use Rattle.std.specs.Prelude.{nat_eq, ⊤}
+use Rattle.std.specs.Map.{lookup}
 use Rattle.std.proofs.lemmas.List.FromFn.{length-map-range_with_len}
 use Rattle.imago_storage.specs.State.{StorageState}
 use Rattle.imago_storage.specs.declared.fault.Fault.{Fault}
@@ -19,9 +18,9 @@ use Rattle.qcow2_alloc.specs.declared.async_lru_cache.Slot.{Slot}
 use Rattle.qcow2_alloc.specs.declared.cache.CacheDependency.{CacheDependency}
 use Rattle.qcow2_alloc.specs.Memory.{Cached}
 use Rattle.qcow2_alloc.specs.Going.{Going, ReadyBlocks, IsWhole}
-use Rattle.qcow2_alloc.specs.Cache.{Readied}
+use Rattle.qcow2_alloc.specs.Cache.{MadeRoom, Readied}
 use Rattle.qcow2_alloc.specs.declared.file.ImageFile.{ImageFile}
-use Rattle.qcow2_alloc.proofs.Readying.{readied}
+use Rattle.qcow2_alloc.proofs.Readying.{readied, room-made, room-absent}
 use Rattle.qcow2_alloc.proofs.FlushingBlocks.{block-flushed-whole, flushed-clean}
 use Rattle.qcow2_alloc.proofs.FindingTables.{going-quiet, kept-same}
 
@@ -45,19 +44,19 @@ module _ {S : Type 0} (state : S → StorageState) (H : Header) (order : CacheDe
       → slot.value.modified ≡ false → Going H order Ready ⊤ s (put (front ++ (key, slot) ∷ back)) s (put (front ++ back))
   block-leaves-quietly ready front key slot back s clean =
       going-quiet H order Ready ⊤ s s (put (front ++ (key, slot) ∷ back)) (put (front ++ back)) (kept-same s) (omega arith) (ready (front ++ (key, slot) ∷ back) (front ++ back))
-      (λ safe. block-leaves-safe (bytes_of s.bytes) H order tables front key slot back clean safe) (block-leaves (bytes_of s.bytes) H order tables front key slot back clean)
+      (λ r safe. block-leaves-safe (bytes_of s.bytes) H order tables front key slot back clean safe) (λ r. block-leaves (bytes_of s.bytes) H order tables front key slot back clean)
 
-  block-comes-quietly : (ready : (A B : List (ℕ × Slot Block)) → Ready (put A) → Ready (put B)) (key : ℕ) (value : Block) (es : List (ℕ × Slot Block)) (old new : StorageState)
+  pub block-comes-quietly : (ready : (A B : List (ℕ × Slot Block)) → Ready (put A) → Ready (put B)) (key : ℕ) (value : Block) (es : List (ℕ × Slot Block)) (old new : StorageState)
       → BlockLoaded H.fields key old (Ok value) new → lookup (nat_eq key) es ≡ None → Going H order Ready ⊤ old (put es) new (put ((key, record { value = value; pins = 0 }) ∷ es))
   block-comes-quietly ready key value es old new loaded none =
       let off : value.modified ≡ false = ap (λ (t : Block). t.modified) loaded.ok.1 in
       going-quiet H order Ready ⊤ old new (put es) (put ((key, record { value = value; pins = 0 }) ∷ es)) loaded.kept (let same = loaded.faults in omega (arith, same)) (ready es ((key, record { value = value; pins = 0 }) ∷ es))
-      (λ safe. block-comes-safe (bytes_of old.bytes) H order tables [] key (record { value = value; pins = 0 }) [] es off (away-of-all key es none) (loaded-fits H key old value new loaded) safe)
-      (block-comes (bytes_of old.bytes) H order tables [] key (record { value = value; pins = 0 }) [] es off)
+      (λ r safe. block-comes-safe (bytes_of old.bytes) H order tables [] key (record { value = value; pins = 0 }) [] es off (away-of-all key es none) (loaded-fits H key old value new loaded) safe)
+      (λ r. block-comes (bytes_of old.bytes) H order tables [] key (record { value = value; pins = 0 }) [] es off)
 
-  block-asked : (key : ℕ) (result : Result Block Fault) (es : List (ℕ × Slot Block)) (old new : StorageState) → BlockLoaded H.fields key old result new → Going H order Ready ⊤ old (put es) new (put es)
+  pub block-asked : (key : ℕ) (result : Result Block Fault) (es : List (ℕ × Slot Block)) (old new : StorageState) → BlockLoaded H.fields key old result new → Going H order Ready ⊤ old (put es) new (put es)
   block-asked key result es old new loaded =
-      going-quiet H order Ready ⊤ old new (put es) (put es) loaded.kept loaded.later (λ r. r) (λ safe. safe) refl
+      going-quiet H order Ready ⊤ old new (put es) (put es) loaded.kept loaded.later (λ r. r) (λ r safe. safe) (λ r. refl)
 
 -- A block is found or loaded, where what has to be written before is.
 module _ {S : Type 0} (state : S → StorageState) (H : Header) (order : CacheDependency) (tables : List (ℕ × Slot TableValue)) where
@@ -84,3 +83,32 @@ module _ {S : Type 0} (state : S → StorageState) (H : Header) (order : CacheDe
       (λ key result es old new same load. block-asked state H order (ReadyBlocks order) tables key result es (state old.image) (state new.image)
       (subst (λ (h : Header). BlockLoaded h.fields key (state old.image) result (state new.image)) same load.1))
       cap may_flush key before es result after es' header r
+
+  -- Room is made.
+  pub block-room-made : (cap : ℕ) (may_flush : Bool) (before : ImageFile S) (es : List (ℕ × Slot Block)) (result : Result Bool Fault) (after : ImageFile S) (es' : List (ℕ × Slot Block))
+      → MadeRoom nat_eq flushes cap may_flush before es result after es' → Going H order (ReadyBlocks order) (IsWhole result) (state before.image) (with_tables es) (state after.image) (with_tables es')
+  block-room-made cap may_flush before es result after es' made =
+      room-made (λ d. state d.image) loads flushes H order (ReadyBlocks order) with_tables (λ t. t.modified ≡ false)
+      (λ old new key v v' flush. flushed-clean key v (state old.image) (state new.image) v' flush.1)
+      (λ front key slot back old new result value flush. block-flushed-whole H order tables front key slot back (state old.image) (state new.image) result value flush.1)
+      (λ front key slot back s clean. block-leaves-quietly state H order (ReadyBlocks order) tables (λ A B r. r) front key slot back s clean)
+      (λ d. d.header ≡ H) (λ old new key v v' result flush same. flush.0 ∙ same)
+      (λ key value es old new same load none. block-comes-quietly state H order (ReadyBlocks order) tables (λ A B r. r) key value es (state old.image) (state new.image)
+      (subst (λ (h : Header). BlockLoaded h.fields key (state old.image) (Ok value) (state new.image)) same load.1) none)
+      (λ key result es old new same load. block-asked state H order (ReadyBlocks order) tables key result es (state old.image) (state new.image)
+      (subst (λ (h : Header). BlockLoaded h.fields key (state old.image) result (state new.image)) same load.1))
+      cap may_flush before es result after es' made
+
+  pub block-room-absent : (cap : ℕ) (may_flush : Bool) (key : ℕ) (before : ImageFile S) (es : List (ℕ × Slot Block)) (result : Result Bool Fault) (after : ImageFile S) (es' : List (ℕ × Slot Block))
+      → MadeRoom nat_eq flushes cap may_flush before es result after es' → result ≡ Ok true → lookup (nat_eq key) es ≡ None → lookup (nat_eq key) es' ≡ None
+  block-room-absent cap may_flush key before es result after es' made =
+      room-absent (λ d. state d.image) loads flushes H order (ReadyBlocks order) with_tables (λ t. t.modified ≡ false)
+      (λ old new key v v' flush. flushed-clean key v (state old.image) (state new.image) v' flush.1)
+      (λ front key slot back old new result value flush. block-flushed-whole H order tables front key slot back (state old.image) (state new.image) result value flush.1)
+      (λ front key slot back s clean. block-leaves-quietly state H order (ReadyBlocks order) tables (λ A B r. r) front key slot back s clean)
+      (λ d. d.header ≡ H) (λ old new key v v' result flush same. flush.0 ∙ same)
+      (λ key value es old new same load none. block-comes-quietly state H order (ReadyBlocks order) tables (λ A B r. r) key value es (state old.image) (state new.image)
+      (subst (λ (h : Header). BlockLoaded h.fields key (state old.image) (Ok value) (state new.image)) same load.1) none)
+      (λ key result es old new same load. block-asked state H order (ReadyBlocks order) tables key result es (state old.image) (state new.image)
+      (subst (λ (h : Header). BlockLoaded h.fields key (state old.image) result (state new.image)) same load.1))
+      cap may_flush key before es result after es' made

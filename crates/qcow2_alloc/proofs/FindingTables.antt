@@ -1,5 +1,5 @@
 -- A cached table is found or loaded.
-use Rattle.std.proofs.Common.{◌≡◌, ℕ, ◌^◌, ◌≤◌, refl, arith, ap, sym, subst, ◌∙◌, List, [], ◌∷◌, ◌++◌, Some, None, Result, Ok, Bool, false}
+use Rattle.std.proofs.Common.{◌≡◌, ℕ, ◌^◌, ◌≤◌, refl, arith, ap, sym, subst, ◌∙◌, List, [], ◌∷◌, ◌++◌, Some, None, Result, Ok, Bool, true, false}
 use Rattle.std.specs.Prelude.{nat_eq, ⊤, IsTrue, ◌==◌, if◌then◌else◌}
 use Rattle.std.specs.Map.{lookup}
 use Rattle.imago_storage.specs.State.{StorageState, Shape}
@@ -23,10 +23,10 @@ use Rattle.qcow2_alloc.specs.declared.cache.CacheDependency.{CacheDependency}
 use Rattle.qcow2_alloc.specs.Memory.{Cached, memory}
 use Rattle.qcow2_alloc.specs.Safety.{Safe, IsLeft}
 use Rattle.qcow2_alloc.specs.Going.{Going, ReadyTables}
-use Rattle.qcow2_alloc.specs.Cache.{Readied}
+use Rattle.qcow2_alloc.specs.Cache.{MadeRoom, Readied}
 use Rattle.qcow2_alloc.specs.Going.{IsWhole}
 use Rattle.qcow2_alloc.specs.declared.file.ImageFile.{ImageFile}
-use Rattle.qcow2_alloc.proofs.Readying.{readied}
+use Rattle.qcow2_alloc.proofs.Readying.{readied, room-made, room-absent}
 use Rattle.qcow2_alloc.proofs.FlushingTables.{table-flushed-whole, flushed-clean}
 use Rattle.qcow2_alloc.proofs.Going.{left-same}
 
@@ -35,7 +35,7 @@ kept-same s = record { shape = refl; bytes = refl; refusals = refl; stop = refl;
 
 -- A call that makes no request, and after which what is cached is as safe.
 pub going-quiet : (H : Header) (order : CacheDependency) (Ready : Cached → Type 0) (ok : Type 0) (a b : StorageState) (A B : Cached) → Kept a b → a.faults ≤ b.faults → (Ready A → Ready B)
-    → (Safe (bytes_of a.bytes) H A order → Safe (bytes_of a.bytes) H B order) → memory (bytes_of a.bytes) H.fields B ≡ memory (bytes_of a.bytes) H.fields A → Going H order Ready ok a A b B
+    → (Ready A → Safe (bytes_of a.bytes) H A order → Safe (bytes_of a.bytes) H B order) → (Ready A → memory (bytes_of a.bytes) H.fields B ≡ memory (bytes_of a.bytes) H.fields A) → Going H order Ready ok a A b B
 going-quiet H order Ready ok a b A B kept faults ready safely same = record {
   shape = kept.shape;
   later = record { faults = faults; refusals = omega (arith, kept.refusals) };
@@ -45,8 +45,8 @@ going-quiet H order Ready ok a b A B kept faults ready safely same = record {
     no_stops _ a b kept.stop kept.past,
   );
   holds = λ keeps safe r why. record {
-    safe = subst (λ (l : List ℕ). Safe (bytes_of l) H B order) (sym kept.bytes) (safely safe);
-    memory_same = ap (λ (l : List ℕ). memory (bytes_of l) H.fields B) kept.bytes ∙ same;
+    safe = subst (λ (l : List ℕ). Safe (bytes_of l) H B order) (sym kept.bytes) (safely r safe);
+    memory_same = ap (λ (l : List ℕ). memory (bytes_of l) H.fields B) kept.bytes ∙ same r;
     left = subst (λ (l : List ℕ). IsLeft (bytes_of a.bytes) (memory (bytes_of a.bytes) H.fields A) H (bytes_of l)) (sym kept.bytes) (left-same (bytes_of a.bytes) (memory (bytes_of a.bytes) H.fields A) H safe.consistent);
   };
 }
@@ -78,19 +78,19 @@ module _ {S : Type 0} (state : S → StorageState) (H : Header) (order : CacheDe
       → slot.value.modified ≡ false → Going H order Ready ⊤ s (put (front ++ (key, slot) ∷ back)) s (put (front ++ back))
   table-leaves-quietly ready front key slot back s clean =
       going-quiet H order Ready ⊤ s s (put (front ++ (key, slot) ∷ back)) (put (front ++ back)) (kept-same s) (omega arith) (ready (front ++ (key, slot) ∷ back) (front ++ back))
-      (λ safe. table-leaves-safe (bytes_of s.bytes) H order front key slot back blocks clean safe) (table-leaves (bytes_of s.bytes) H order front key slot back blocks clean)
+      (λ r safe. table-leaves-safe (bytes_of s.bytes) H order front key slot back blocks clean safe) (λ r. table-leaves (bytes_of s.bytes) H order front key slot back blocks clean)
 
-  table-comes-quietly : (ready : (A B : List (ℕ × Slot TableValue)) → Ready (put A) → Ready (put B)) (key : ℕ) (value : TableValue) (es : List (ℕ × Slot TableValue)) (old new : StorageState)
+  pub table-comes-quietly : (ready : (A B : List (ℕ × Slot TableValue)) → Ready (put A) → Ready (put B)) (key : ℕ) (value : TableValue) (es : List (ℕ × Slot TableValue)) (old new : StorageState)
       → TableLoaded H.fields key old (Ok value) new → lookup (nat_eq key) es ≡ None → Going H order Ready ⊤ old (put es) new (put ((key, record { value = value; pins = 0 }) ∷ es))
   table-comes-quietly ready key value es old new loaded none =
       let off : value.modified ≡ false = ap (λ (t : TableValue). t.modified) loaded.ok.1 in
       going-quiet H order Ready ⊤ old new (put es) (put ((key, record { value = value; pins = 0 }) ∷ es)) loaded.kept (let same = loaded.faults in omega (arith, same)) (ready es ((key, record { value = value; pins = 0 }) ∷ es))
-      (λ safe. table-comes-safe (bytes_of old.bytes) H order [] key (record { value = value; pins = 0 }) [] blocks es off (away-of-all key es none) (loaded-fits H key old value new loaded (shaped-in (bytes_of old.bytes) H safe.consistent)) safe)
-      (table-comes (bytes_of old.bytes) H order [] key (record { value = value; pins = 0 }) [] blocks es off)
+      (λ r safe. table-comes-safe (bytes_of old.bytes) H order [] key (record { value = value; pins = 0 }) [] blocks es off (away-of-all key es none) (loaded-fits H key old value new loaded (shaped-in (bytes_of old.bytes) H safe.consistent)) safe)
+      (λ r. table-comes (bytes_of old.bytes) H order [] key (record { value = value; pins = 0 }) [] blocks es off)
 
-  table-asked : (key : ℕ) (result : Result TableValue Fault) (es : List (ℕ × Slot TableValue)) (old new : StorageState) → TableLoaded H.fields key old result new → Going H order Ready ⊤ old (put es) new (put es)
+  pub table-asked : (key : ℕ) (result : Result TableValue Fault) (es : List (ℕ × Slot TableValue)) (old new : StorageState) → TableLoaded H.fields key old result new → Going H order Ready ⊤ old (put es) new (put es)
   table-asked key result es old new loaded =
-      going-quiet H order Ready ⊤ old new (put es) (put es) loaded.kept loaded.later (λ r. r) (λ safe. safe) refl
+      going-quiet H order Ready ⊤ old new (put es) (put es) loaded.kept loaded.later (λ r. r) (λ r safe. safe) (λ r. refl)
 
 -- A table is found or loaded, where what has to be written before is; and without writing anything.
 module _ {S : Type 0} (state : S → StorageState) (H : Header) (order : CacheDependency) (blocks : List (ℕ × Slot Block)) where
@@ -117,3 +117,32 @@ module _ {S : Type 0} (state : S → StorageState) (H : Header) (order : CacheDe
       (λ key result es old new same load. table-asked state H order (ReadyTables order) blocks key result es (state old.image) (state new.image)
       (subst (λ (h : Header). TableLoaded h.fields key (state old.image) result (state new.image)) same load.1))
       cap may_flush key before es result after es' header r
+
+  -- Room is made.
+  pub table-room-made : (cap : ℕ) (may_flush : Bool) (before : ImageFile S) (es : List (ℕ × Slot TableValue)) (result : Result Bool Fault) (after : ImageFile S) (es' : List (ℕ × Slot TableValue))
+      → MadeRoom nat_eq flushes cap may_flush before es result after es' → Going H order (ReadyTables order) (IsWhole result) (state before.image) (with_blocks es) (state after.image) (with_blocks es')
+  table-room-made cap may_flush before es result after es' made =
+      room-made (λ d. state d.image) loads flushes H order (ReadyTables order) with_blocks (λ t. t.modified ≡ false)
+      (λ old new key v v' flush. flushed-clean key v (state old.image) (state new.image) v' flush.1)
+      (λ front key slot back old new result value flush. table-flushed-whole H order front key slot back blocks (state old.image) (state new.image) result value flush.1)
+      (λ front key slot back s clean. table-leaves-quietly state H order (ReadyTables order) blocks (λ A B r. r) front key slot back s clean)
+      (λ d. d.header ≡ H) (λ old new key v v' result flush same. flush.0 ∙ same)
+      (λ key value es old new same load none. table-comes-quietly state H order (ReadyTables order) blocks (λ A B r. r) key value es (state old.image) (state new.image)
+      (subst (λ (h : Header). TableLoaded h.fields key (state old.image) (Ok value) (state new.image)) same load.1) none)
+      (λ key result es old new same load. table-asked state H order (ReadyTables order) blocks key result es (state old.image) (state new.image)
+      (subst (λ (h : Header). TableLoaded h.fields key (state old.image) result (state new.image)) same load.1))
+      cap may_flush before es result after es' made
+
+  pub table-room-absent : (cap : ℕ) (may_flush : Bool) (key : ℕ) (before : ImageFile S) (es : List (ℕ × Slot TableValue)) (result : Result Bool Fault) (after : ImageFile S) (es' : List (ℕ × Slot TableValue))
+      → MadeRoom nat_eq flushes cap may_flush before es result after es' → result ≡ Ok true → lookup (nat_eq key) es ≡ None → lookup (nat_eq key) es' ≡ None
+  table-room-absent cap may_flush key before es result after es' made =
+      room-absent (λ d. state d.image) loads flushes H order (ReadyTables order) with_blocks (λ t. t.modified ≡ false)
+      (λ old new key v v' flush. flushed-clean key v (state old.image) (state new.image) v' flush.1)
+      (λ front key slot back old new result value flush. table-flushed-whole H order front key slot back blocks (state old.image) (state new.image) result value flush.1)
+      (λ front key slot back s clean. table-leaves-quietly state H order (ReadyTables order) blocks (λ A B r. r) front key slot back s clean)
+      (λ d. d.header ≡ H) (λ old new key v v' result flush same. flush.0 ∙ same)
+      (λ key value es old new same load none. table-comes-quietly state H order (ReadyTables order) blocks (λ A B r. r) key value es (state old.image) (state new.image)
+      (subst (λ (h : Header). TableLoaded h.fields key (state old.image) (Ok value) (state new.image)) same load.1) none)
+      (λ key result es old new same load. table-asked state H order (ReadyTables order) blocks key result es (state old.image) (state new.image)
+      (subst (λ (h : Header). TableLoaded h.fields key (state old.image) result (state new.image)) same load.1))
+      cap may_flush key before es result after es' made

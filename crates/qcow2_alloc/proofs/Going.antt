@@ -64,43 +64,48 @@ module _ (H : Header) (order : CacheDependency) (Ready : Cached → Type 0) wher
     left = left-then (bytes_of a) (bytes_of b) (memory (bytes_of a) H.fields A) H (bytes_of c) first.left (subst (λ (g : Bytes). IsLeft (bytes_of b) g H (bytes_of c)) first.memory_same second.left);
   }
 
-  -- and some more.
-  pub going-both : (ok ok' : Type 0) (a b c : StorageState) (A B C : Cached) → Going H order Ready ok a A b B → Going H order Ready ok' b B c C → Going H order Ready (ok × ok') a A c C
-  going-both ok ok' a b c A B C first second = record {
-    shape = second.shape ∙ first.shape;
-    later = later_both a b c first.later second.later;
-    ready = λ r. second.ready (first.ready r);
-    passes = λ keeps safe ready calm.
-        let calm-first : Rose a.refusals b.refusals → ⊥ = λ r. calm (rose_before a.refusals b.refusals c.refusals r second.later.refusals) in
-        let calm-second : Rose b.refusals c.refusals → ⊥ = λ r. calm (rose_behind a.refusals b.refusals c.refusals first.later.refusals r) in
-        let one = first.passes keeps safe ready calm-first in
-        let mid : InStep a → IsTrue a.shape.tells → IsSettled H order a.bytes A b.bytes B = λ same tells. first.holds keeps safe ready (inr (record { calm = calm-first; in_step = same; tells = tells })) in
-        let two : (same : InStep a) (tells : IsTrue a.shape.tells) → (InStep b → InStep c) × Stops (λ x. IsLeft (bytes_of b.bytes) (memory (bytes_of b.bytes) H.fields B) H (bytes_of x)) b c =
-        λ same tells. second.passes (keeps_on a b first.shape keeps) (mid same tells).safe (first.ready ready) calm-second in (
-          λ same tells' keeps'. (two same (tells_back tells')).0 (one.0 same) tells' keeps',
-          λ same tells keeps'.
-              let m = mid same tells in
-              stops_both (λ x. IsLeft (bytes_of a.bytes) (memory (bytes_of a.bytes) H.fields A) H (bytes_of x)) (λ x. IsLeft (bytes_of b.bytes) (memory (bytes_of b.bytes) H.fields B) H (bytes_of x))
-              (λ x. IsLeft (bytes_of a.bytes) (memory (bytes_of a.bytes) H.fields A) H (bytes_of x)) a b c first.shape one.0 (λ _ x l. l)
-              (λ _ x l. left-then (bytes_of a.bytes) (bytes_of b.bytes) (memory (bytes_of a.bytes) H.fields A) H (bytes_of x) m.left (subst (λ (g : Bytes). IsLeft (bytes_of b.bytes) g H (bytes_of x)) m.memory_same l))
-              one.1 (two same tells).1 same tells keeps',
-        );
-    holds = λ keeps safe ready why.
-        let calm-first : IsCalm a c → IsCalm a b = λ k. record { calm = (λ r. k.calm (rose_before a.refusals b.refusals c.refusals r second.later.refusals)); in_step = k.in_step; tells = k.tells } in
-        let m = first.holds keeps safe ready (elim why [ inl both ↦ inl both.0 | inr k ↦ inr (calm-first k) ]) in
-        let calm-second : IsCalm a c → IsCalm b c = λ k. record {
-          calm = (λ r. k.calm (rose_behind a.refusals b.refusals c.refusals first.later.refusals r));
-          in_step = (first.passes keeps safe ready (calm-first k).calm).0 k.in_step;
-          tells = tells_on' k.tells;
-        } in
-        settled-then a.bytes b.bytes c.bytes A B C m (second.holds (keeps_on a b first.shape keeps) m.safe (first.ready ready) (elim why [ inl both ↦ inl both.1 | inr k ↦ inr (calm-second k) ]));
-  }
-    where
-      tells_back : IsTrue c.shape.tells → IsTrue a.shape.tells
-      tells_back = subst (λ (s : Shape). IsTrue s.tells) (second.shape ∙ first.shape)
+-- Some more, also where the first make ready for the second.
+pub going-both-from : (H : Header) (order : CacheDependency) (Ready Ready' : Cached → Type 0) (ok ok' : Type 0) (a b c : StorageState) (A B C : Cached)
+    → (IsTrue a.shape.keeps → Safe (bytes_of a.bytes) H A order → Ready A → IsSettled H order a.bytes A b.bytes B → Ready' B) → (Ready A → Ready C)
+    → Going H order Ready ok a A b B → Going H order Ready' ok' b B c C → Going H order Ready (ok × ok') a A c C
+going-both-from H order Ready Ready' ok ok' a b c A B C from stays first second = record {
+  shape = second.shape ∙ first.shape;
+  later = later_both a b c first.later second.later;
+  ready = stays;
+  passes = λ keeps safe ready calm.
+      let calm-first : Rose a.refusals b.refusals → ⊥ = λ r. calm (rose_before a.refusals b.refusals c.refusals r second.later.refusals) in
+      let calm-second : Rose b.refusals c.refusals → ⊥ = λ r. calm (rose_behind a.refusals b.refusals c.refusals first.later.refusals r) in
+      let one = first.passes keeps safe ready calm-first in
+      let mid : InStep a → IsTrue a.shape.tells → IsSettled H order a.bytes A b.bytes B = λ same tells. first.holds keeps safe ready (inr (record { calm = calm-first; in_step = same; tells = tells })) in
+      let two : (same : InStep a) (tells : IsTrue a.shape.tells) → (InStep b → InStep c) × Stops (λ x. IsLeft (bytes_of b.bytes) (memory (bytes_of b.bytes) H.fields B) H (bytes_of x)) b c =
+      λ same tells. second.passes (keeps_on a b first.shape keeps) (mid same tells).safe (from keeps safe ready (mid same tells)) calm-second in (
+        λ same tells' keeps'. (two same (tells_back tells')).0 (one.0 same) tells' keeps',
+        λ same tells keeps'.
+            let m = mid same tells in
+            stops_both (λ x. IsLeft (bytes_of a.bytes) (memory (bytes_of a.bytes) H.fields A) H (bytes_of x)) (λ x. IsLeft (bytes_of b.bytes) (memory (bytes_of b.bytes) H.fields B) H (bytes_of x))
+            (λ x. IsLeft (bytes_of a.bytes) (memory (bytes_of a.bytes) H.fields A) H (bytes_of x)) a b c first.shape one.0 (λ _ x l. l)
+            (λ _ x l. left-then (bytes_of a.bytes) (bytes_of b.bytes) (memory (bytes_of a.bytes) H.fields A) H (bytes_of x) m.left (subst (λ (g : Bytes). IsLeft (bytes_of b.bytes) g H (bytes_of x)) m.memory_same l))
+            one.1 (two same tells).1 same tells keeps',
+      );
+  holds = λ keeps safe ready why.
+      let calm-first : IsCalm a c → IsCalm a b = λ k. record { calm = (λ r. k.calm (rose_before a.refusals b.refusals c.refusals r second.later.refusals)); in_step = k.in_step; tells = k.tells } in
+      let m = first.holds keeps safe ready (elim why [ inl both ↦ inl both.0 | inr k ↦ inr (calm-first k) ]) in
+      let calm-second : IsCalm a c → IsCalm b c = λ k. record {
+        calm = (λ r. k.calm (rose_behind a.refusals b.refusals c.refusals first.later.refusals r));
+        in_step = (first.passes keeps safe ready (calm-first k).calm).0 k.in_step;
+        tells = tells_on' k.tells;
+      } in
+      settled-then H order Ready a.bytes b.bytes c.bytes A B C m (second.holds (keeps_on a b first.shape keeps) m.safe (from keeps safe ready m) (elim why [ inl both ↦ inl both.1 | inr k ↦ inr (calm-second k) ]));
+}
+  where
+    tells_back : IsTrue c.shape.tells → IsTrue a.shape.tells
+    tells_back = subst (λ (s : Shape). IsTrue s.tells) (second.shape ∙ first.shape)
 
-      tells_on' : IsTrue a.shape.tells → IsTrue b.shape.tells
-      tells_on' = subst (λ (s : Shape). IsTrue s.tells) (sym first.shape)
+    tells_on' : IsTrue a.shape.tells → IsTrue b.shape.tells
+    tells_on' = subst (λ (s : Shape). IsTrue s.tells) (sym first.shape)
+
+pub going-both : (H : Header) (order : CacheDependency) (Ready : Cached → Type 0) (ok ok' : Type 0) (a b c : StorageState) (A B C : Cached) → Going H order Ready ok a A b B → Going H order Ready ok' b B c C → Going H order Ready (ok × ok') a A c C
+going-both H order Ready ok ok' a b c A B C first second = going-both-from H order Ready Ready ok ok' a b c A B C (λ keeps safe r m. first.ready r) (λ r. second.ready (first.ready r)) first second
 
 -- what succeeded may be said otherwise
 pub going-weaker : (H : Header) (order : CacheDependency) (Ready : Cached → Type 0) (ok ok' : Type 0) (a b : StorageState) (A B : Cached) → (ok' → ok) → Going H order Ready ok a A b B → Going H order Ready ok' a A b B
@@ -110,6 +115,16 @@ going-weaker H order Ready ok ok' a b A B from h = record {
   ready = h.ready;
   passes = h.passes;
   holds = λ keeps safe ready why. h.holds keeps safe ready (elim why [ inl done ↦ inl (from done) | inr calm ↦ inr calm ]);
+}
+
+-- also from what is safe
+pub going-safely : (H : Header) (order : CacheDependency) (Ready : Cached → Type 0) (ok ok' : Type 0) (a b : StorageState) (A B : Cached) → (Safe (bytes_of a.bytes) H A order → ok' → ok) → Going H order Ready ok a A b B → Going H order Ready ok' a A b B
+going-safely H order Ready ok ok' a b A B from h = record {
+  shape = h.shape;
+  later = h.later;
+  ready = h.ready;
+  passes = h.passes;
+  holds = λ keeps safe ready why. h.holds keeps safe ready (elim why [ inl done ↦ inl (from safe done) | inr calm ↦ inr calm ]);
 }
 
 -- All entries of a cache are flushed, from the last to the first.
@@ -134,6 +149,16 @@ module _ {V D : Type 0} (state : D → StorageState) (flushes : D → ℕ → V 
   pub each-flushed : (es : List (ℕ × Slot V)) (before : D) (outcome : Option Fault) (after : D) (es' : List (ℕ × Slot V)) → FlushedEach flushes before es outcome after es'
       → Going H order Ready (outcome ≡ None) (state before) (put es) (state after) (put es')
   each-flushed = each-behind []
+
+-- What is always so is so under any premise.
+pub going-under : (H : Header) (order : CacheDependency) (P : Type 0) (ok : Type 0) (a b : StorageState) (A B : Cached) → Going H order Always ok a A b B → Going H order (λ _. P) ok a A b B
+going-under H order P ok a b A B h = record {
+  shape = h.shape;
+  later = h.later;
+  ready = λ r. r;
+  passes = λ keeps safe r. h.passes keeps safe tt;
+  holds = λ keeps safe r. h.holds keeps safe tt;
+}
 
 -- What may be written at once,
 pub going-now : (H : Header) (order : CacheDependency) (Ready : Cached → Type 0) (ok : Type 0) (a b : StorageState) (A B : Cached) → Ready A → Going H order Ready ok a A b B → Going H order Always ok a A b B

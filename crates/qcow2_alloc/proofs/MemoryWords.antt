@@ -5,9 +5,9 @@ use Rattle.std.specs.List.{AllByRecursion}
 use Rattle.std.proofs.lemmas.Bool.{cases_Bool, cases_eq}
 use Rattle.qcow2_types.specs.Bytes.{Bytes, word}
 use Rattle.qcow2_types.specs.Words.{mapping_of}
-use Rattle.qcow2_types.specs.Header.{Header, cluster_size, layout_of}
+use Rattle.qcow2_types.specs.Header.{Header, cluster_size, layout_of, refcount_table_entries}
 use Rattle.qcow2_types.specs.Entries.{l2_table}
-use Rattle.qcow2_types.specs.Counts.{count, counters_of_block}
+use Rattle.qcow2_types.specs.Counts.{block_at, count, counters_of_block}
 use Rattle.qcow2_types.specs.Slots.{Live, slot}
 use Rattle.qcow2_types.specs.Consistency.{IsConsistent}
 use Rattle.qcow2_types.specs.Frames.{Same}
@@ -86,3 +86,13 @@ module _ (f : Bytes) (H : Header) (was : IsConsistent f H) (cached : Cached)
       (tables-all _ (cluster_size H.fields) cached.tables
       (all-weaker _ _ (λ e is m same. let live = is.modified m in parts-differ f H was (table_of live.0) (block_of (c / counters_of_block H.fields)) live.1 lt (λ z. there (sym same ∙ sym live.2 ∙ z)) (table-no-block live.0 (c / counters_of_block H.fields)) (live.2 ∙ same)) cached.tables tables))
       (blocks-all _ (cluster_size H.fields) cached.blocks (all-weaker _ _ (λ e off m. absurd (let both = sym off ∙ m in cc)) cached.blocks clean))))
+
+  -- A block of which no modified one is cached stays in memory.
+  pub block-same : (i : ℕ) → i < refcount_table_entries H.fields → block_at f H.fields i ≢ 0 → AllByRecursion (λ e. e.1.value.modified ≡ true → e.0 * cluster_size H.fields ≢ block_at f H.fields i) cached.blocks
+      → Same f (memory f H.fields cached) (block_at f H.fields i) (cluster_size H.fields)
+  block-same i lt there none =
+      part-same f H was (block_of i) lt there (patches H.fields cached) (patches-are f H was cached tables blocks)
+      (all-append _ _ _
+      (tables-all _ (cluster_size H.fields) cached.tables
+      (all-weaker _ _ (λ e is m same. let live = is.modified m in parts-differ f H was (table_of live.0) (block_of i) live.1 lt (λ z. there (sym same ∙ sym live.2 ∙ z)) (table-no-block live.0 i) (live.2 ∙ same)) cached.tables tables))
+      (blocks-all _ (cluster_size H.fields) cached.blocks none))

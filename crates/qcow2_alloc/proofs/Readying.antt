@@ -16,7 +16,7 @@ use Rattle.qcow2_alloc.proofs.Entries.{remove_absent}
 use Rattle.qcow2_alloc.proofs.Places.{place-of-key}
 use Rattle.qcow2_alloc.proofs.Going.{going-none, going-both, going-weaker}
 
-is-there : {X : Type 0} (o : Option X) → (IsSome o) ⊎ (o ≡ None)
+pub is-there : {X : Type 0} (o : Option X) → (IsSome o) ⊎ (o ≡ None)
 is-there (Some x) = inl refl
 is-there None = inr refl
 
@@ -61,7 +61,7 @@ module _ {V D : Type 0} (state : D → StorageState) (loads : D → ℕ → Resu
       (subst (λ (l : List (ℕ × Slot V)). Going H order Ready ok (state before) (put es) (state before) (put l)) (sym same') (going-none H order Ready ok (state before) (put es)))
 
   -- Room is made.
-  room-made : (cap : ℕ) (may_flush : Bool) (before : D) (es : List (ℕ × Slot V)) (result : Result Bool Fault) (after : D) (es' : List (ℕ × Slot V)) → MadeRoom nat_eq flushes cap may_flush before es result after es'
+  pub room-made : (cap : ℕ) (may_flush : Bool) (before : D) (es : List (ℕ × Slot V)) (result : Result Bool Fault) (after : D) (es' : List (ℕ × Slot V)) → MadeRoom nat_eq flushes cap may_flush before es result after es'
       → Going H order Ready (IsWhole result) (state before) (put es) (state after) (put es')
   room-made cap may_flush before es result after es' made = elim (cases_lt (length es) cap) [
     | inl roomy ↦ let r = made.roomy roomy in stays (IsWhole result) before es after es' r.1 r.2
@@ -75,7 +75,7 @@ module _ {V D : Type 0} (state : D → StorageState) (loads : D → ℕ → Resu
       by-victim None is full may = let r = made.pinned full may is in stays (IsWhole result) before es after es' r.1 r.2
       by-victim (Some key) is full may = evicted key before es result after es' (made.evicted full may key is)
 
-  room-absent : (cap : ℕ) (may_flush : Bool) (key : ℕ) (before : D) (es : List (ℕ × Slot V)) (result : Result Bool Fault) (after : D) (es' : List (ℕ × Slot V)) → MadeRoom nat_eq flushes cap may_flush before es result after es'
+  pub room-absent : (cap : ℕ) (may_flush : Bool) (key : ℕ) (before : D) (es : List (ℕ × Slot V)) (result : Result Bool Fault) (after : D) (es' : List (ℕ × Slot V)) → MadeRoom nat_eq flushes cap may_flush before es result after es'
       → result ≡ Ok true → lookup (nat_eq key) es ≡ None → lookup (nat_eq key) es' ≡ None
   room-absent cap may_flush key before es result after es' made done none = elim (cases_lt (length es) cap) [
     | inl roomy ↦ let r = made.roomy roomy in ap (λ l. lookup (nat_eq key) l) r.2 ∙ none

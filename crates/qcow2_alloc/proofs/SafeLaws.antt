@@ -1,12 +1,14 @@
 -- What holds of each safe image, and of clean caches.
-use Rattle.std.proofs.Common.{◌≡◌, ℕ, ◌^◌, ◌≤◌, refl, ap, subst, ◌∙◌, List, [], ◌∷◌, ◌++◌, true, false}
+use Rattle.std.proofs.Common.{◌≡◌, ℕ, ◌^◌, ◌≤◌, refl, ap, sym, subst, ◌∙◌, List, [], ◌∷◌, ◌++◌, true, false}
 use Rattle.std.specs.List.{AllByRecursion, filter_map}
-use Rattle.qcow2_types.specs.Bytes.{Bytes}
+use Rattle.qcow2_types.specs.Bytes.{Bytes, bytes_of}
 use Rattle.qcow2_types.specs.Words.{Layout, max_offset}
 use Rattle.qcow2_types.specs.Header.{Fields, Header, cluster_size}
 use Rattle.qcow2_types.specs.Entries.{l2_table}
 use Rattle.qcow2_types.specs.Counts.{block_at}
 use Rattle.qcow2_types.specs.Over.{Patch, over}
+use Rattle.qcow2_types.specs.Versions.{named}
+use Rattle.qcow2_types.proofs.Either.{named-falls}
 use Rattle.qcow2_types.proofs.Sound.{sound-words}
 use Rattle.qcow2_types.proofs.WriteBack.{table-place, place-near}
 use Rattle.qcow2_types.proofs.BlockSteps.{block-place}
@@ -16,7 +18,7 @@ use Rattle.qcow2_metadata.specs.Blocks.{Block}
 use Rattle.qcow2_alloc.specs.declared.async_lru_cache.Slot.{Slot}
 use Rattle.qcow2_alloc.specs.declared.cache.CacheDependency.{CacheDependency}
 use Rattle.qcow2_alloc.specs.Memory.{Cached, table_patch, block_patch, memory}
-use Rattle.qcow2_alloc.specs.Safety.{Safe, IsCachedTable, IsCachedBlock, AreTablesClean, AreBlocksClean}
+use Rattle.qcow2_alloc.specs.Safety.{Safe, IsSettled, IsCachedTable, IsCachedBlock, AreTablesClean, AreBlocksClean}
 use Rattle.qcow2_alloc.specs.Going.{AreTablesInReach, AreBlocksInReach}
 use Rattle.qcow2_alloc.proofs.Patches.{all-weaker}
 
@@ -40,11 +42,11 @@ safe-reach f H cached order safe = (
         let bits : 2 ^ b.cluster_bits ≡ cluster_size H.fields = ap (λ n. 2 ^ n) is.cluster_bits in
         rw bits (subst (λ n. n ≤ max_offset) live.2 near)
 
-no-tables : (size : ℕ) (es : List (ℕ × Slot TableValue)) → AllByRecursion (λ e. e.1.value.modified ≡ false) es → filter_map (table_patch size) es ≡ []
+pub no-tables : (size : ℕ) (es : List (ℕ × Slot TableValue)) → AllByRecursion (λ e. e.1.value.modified ≡ false) es → filter_map (table_patch size) es ≡ []
 no-tables size [] clean = refl
 no-tables size (e ∷ es) clean = rw clean.0 (no-tables size es clean.1)
 
-no-blocks : (size : ℕ) (es : List (ℕ × Slot Block)) → AllByRecursion (λ e. e.1.value.modified ≡ false) es → filter_map (block_patch size) es ≡ []
+pub no-blocks : (size : ℕ) (es : List (ℕ × Slot Block)) → AllByRecursion (λ e. e.1.value.modified ≡ false) es → filter_map (block_patch size) es ≡ []
 no-blocks size [] clean = refl
 no-blocks size (e ∷ es) clean = rw clean.0 (no-blocks size es clean.1)
 
@@ -53,3 +55,9 @@ unfolding over
 clean-memory f h cached tables blocks =
     ap (λ (l : List Patch). over f (l ++ filter_map (block_patch (cluster_size h)) cached.blocks)) (no-tables (cluster_size h) cached.tables tables)
     ∙ ap (λ (l : List Patch). over f l) (no-blocks (cluster_size h) cached.blocks blocks)
+
+pub settled-names : (H : Header) (order : CacheDependency) (old new : List ℕ) (cached cached' : Cached) → IsSettled H order old cached new cached'
+    → (c : ℕ) → named (bytes_of new) (memory (bytes_of new) H.fields cached') H.fields c ≤ named (bytes_of old) (memory (bytes_of old) H.fields cached) H.fields c
+settled-names H order old new cached cached' settled c =
+    subst (λ (m : Bytes). named (bytes_of new) m H.fields c ≤ named (bytes_of old) (memory (bytes_of old) H.fields cached) H.fields c) (sym settled.memory_same)
+    (named-falls (bytes_of old) (bytes_of new) (memory (bytes_of old) H.fields cached) H.fields c settled.left.words)

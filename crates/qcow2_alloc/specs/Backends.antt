@@ -20,6 +20,7 @@ l2_words_in file h key = words_in (bytes_of file.bytes) (key * cluster_size h) (
 pub record TableLoaded (h : Fields) (key : ℕ) (old : StorageState) (result : Result TableValue Fault) (new : StorageState) : Type 0 where
   pub ok : IfOk result (λ table. IsInReach h.cluster_bits key × (table ≡ table_in (bytes_of old.bytes) h key (words_of_cluster h)) × IsTable l2_words table)
   pub out : (IsInReach h.cluster_bits key → ⊥) → (result ≡ Err DamagedTable) × (new ≡ old)
+  pub narrow : h.cluster_bits ≤ 21
   pub err : IsInReach h.cluster_bits key → IfErr result (WhyNotLoaded l2_words (layout_of h) (l2_words_in old h key) old.faults new.faults)
   pub kept : Kept old new
   pub later : old.faults ≤ new.faults

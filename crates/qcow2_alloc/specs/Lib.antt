@@ -5,3 +5,13 @@ pub mod Safety
 pub mod Lending
 pub mod Going
 pub mod Caches
+pub mod Finding
+pub mod CachesLending
+pub mod Putting
+pub mod Dropping
+pub mod Changes
+pub mod FreeList
+pub mod Quiet
+pub mod Allocators
+pub mod Freeing
+pub mod MakingRoom

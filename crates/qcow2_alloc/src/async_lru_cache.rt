@@ -92,7 +92,7 @@ impl<K: Copy + Eq + Hash, V: Drop, B: AsyncLruCacheBackend<Key = K, Value = V>> 
     ghost use Rattle.qcow2_alloc.specs.Lending.{lends_value, lends_found};
 
     // The value of a key, for writing; its entry goes first.
-    fn get_mut(&mut self, key: K) -> Option<&mut V>
+    pub(crate) fn get_mut(&mut self, key: K) -> Option<&mut V>
         ensures* writes_back { sem 𝓛 (lends_value K.row V.row B.row B.Device.row K.Hash self.entry key result) }
         ensures value { option_copied_mut result ≡ option_map (λ s. s.value) (lookup (K.eq key) self.old.slots.entries) }
     {
@@ -203,7 +203,12 @@ impl<K: Copy + Eq + Hash, V: Drop, B: AsyncLruCacheBackend<Key = K, Value = V>> 
     }
 
     // Finds or loads the entry at a key.
-    fn ready(&mut self, device: &mut B::Device, key: K, may_flush: bool) -> Result<bool, Fault>
+    pub(crate) fn ready(
+        &mut self,
+        device: &mut B::Device,
+        key: K,
+        may_flush: bool,
+    ) -> Result<bool, Fault>
         ensures readied { Readied K.eq B.loads B.flushes self.old.slots.cap may_flush key device.old self.old.slots.entries result device.new self.new.slots.entries }
         ensures others { self.new ≡ with_entries self.old self.new.slots.entries }
     {

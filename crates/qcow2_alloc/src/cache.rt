@@ -1,14 +1,14 @@
 // The caches of L2 tables and of refcount blocks, and the order in which they are written.
-ghost use Rattle.std.specs.Prelude.{◌≡◌, ◌↔◌, ◌≤◌, ◌<◌, IsTrue, IsOk, IfOk, OnOk, OnErr, IsOkUnless, Ok, [], ◌∷◌};
+ghost use Rattle.std.specs.Prelude.{◌≡◌, ◌≤◌, ◌<◌, IsTrue, IsOk, IfOk, OnOk, OnErr, IsOkUnless, Ok, [], ◌∷◌};
 ghost use Rattle.imago_storage.specs.State.{StorageState};
 ghost use Rattle.qcow2_metadata.specs.Places.{IsInReach};
 ghost use Rattle.qcow2_alloc.specs.Backends.{TableLoaded, BlockLoaded, TableFlushed, BlockFlushed};
 
 use crate::async_lru_cache::{AsyncLruCache, AsyncLruCacheBackend};
-use crate::file::ImageFile;
+use crate::file::{ImageFile, is_in_reach};
 use imago_storage::{Fault, Storage};
 use qcow2_metadata::{L2Table, RefBlock, Table};
-use qcow2_types::{HostCluster, MAX_OFFSET};
+use qcow2_types::HostCluster;
 use std::alloc::Global;
 use std::marker::PhantomData;
 
@@ -134,14 +134,6 @@ impl<S: Storage> AsyncLruCacheBackend for RefBlockCacheBackend<S> {
     }
 }
 
-// Whether words can name the cluster.
-fn is_in_reach(cluster: HostCluster, cluster_bits: u32) -> bool
-    requires { cluster_bits ≤ 21 }
-    ensures { IsTrue result ↔ IsInReach cluster_bits cluster }
-{
-    cluster.0 <= MAX_OFFSET >> cluster_bits
-}
-
 /// Which cache has to be written before the other.
 #[derive(Clone, Copy, Debug, Drop, PartialEq, Eq)]
 pub enum CacheDependency {
@@ -171,6 +163,15 @@ impl<S: Storage> MetadataCaches<S> {
     ghost use Rattle.imago_storage.specs.declared.fault.Fault.{Fault};
     ghost use Rattle.qcow2_alloc.specs.Caches.{cached_in, order_of, HasRoomOf};
     ghost use Rattle.qcow2_alloc.specs.Memory.{written};
+    ghost use Rattle.qcow2_alloc.specs.Cache.{Readied, Inserted};
+    ghost use Rattle.qcow2_alloc.specs.Putting.{TableInserted, BlockInserted};
+    ghost use Rattle.qcow2_alloc.specs.Dropping.{Dropped, StaysSafe};
+    ghost use Rattle.qcow2_alloc.specs.Finding.{TableFound, BlockFound};
+    ghost use Rattle.qcow2_alloc.specs.CachesLending.{with_tables, with_blocks, table_loads, table_flushes, block_loads, block_flushes, lends_table, lends_block};
+    ghost use Rattle.std.specs.Borrow.{sem};
+    ghost use Rattle.std.specs.Map.{lookup};
+    ghost use Rattle.std.specs.Option.{option_map};
+    ghost use Rattle.std.specs.Prelude.{nat_eq, length, None, Some, false, IsSome, IfSome};
 
     /// Empty caches of at most so many L2 tables and refcount blocks, with no order announced.
     ///
@@ -364,5 +365,289 @@ impl<S: Storage> MetadataCaches<S> {
         }
         self.order = CacheDependency::RbDependsOnL2;
         Ok(())
+    }
+
+    // Finds the L2 table in a cluster, or loads it where there is room.
+    fn l2_find(&mut self, file: &mut ImageFile<S>, cluster: HostCluster) -> Result<bool, Fault>
+        ensures readied { Readied nat_eq (table_loads S.state) (table_flushes S.state) self.old.l2.slots.cap false cluster file.old self.old.l2.slots.entries result file.new self.new.l2.slots.entries }
+        ensures others { self.new ≡ with_tables self.old self.new.l2.slots.entries }
+    {
+        self.l2.ready(file, cluster, false)
+    }
+
+    // Loads the L2 table in a cluster into a full cache, once what has to be written before another table goes is.
+    fn l2_load(&mut self, file: &mut ImageFile<S>, cluster: HostCluster) -> Result<(), Fault>
+        requires absent { lookup (nat_eq cluster) self.old.l2.slots.entries ≡ None }
+        requires full { self.old.l2.slots.cap ≤ length self.old.l2.slots.entries }
+        ensures { TableFound S.state cluster self.old file.old result self.new file.new }
+    {
+        let written = self.before_tables(file);
+        match written {
+            Ok(()) => match self.l2.ready(file, cluster, true) {
+                Ok(_) => Ok(()),
+                Err(fault) => Err(fault),
+            },
+            Err(fault) => Err(fault),
+        }
+    }
+
+    // Finds or loads the L2 table in a cluster.
+    fn l2_ready(&mut self, file: &mut ImageFile<S>, cluster: HostCluster) -> Result<(), Fault>
+        ensures { TableFound S.state cluster self.old file.old result self.new file.new }
+    {
+        match self.l2_find(file, cluster) {
+            Ok(true) => Ok(()),
+            Ok(false) => self.l2_load(file, cluster),
+            Err(fault) => Err(fault),
+        }
+    }
+
+    /// The L2 table in a cluster, found or loaded, whose entry goes first. What is written to it is written to the file later, by a flush or
+    /// where it has to make room.
+    ///
+    /// Where the cache is full, the least recently used table that isn't pinned is flushed in place and its entry removed, and before it
+    /// the modified refcount blocks are, where these come first. It refuses with `Fault::Memory`; with `Fault::Storage`; with
+    /// `Fault::CacheFull` where each table of a full cache is pinned; and with `Fault::DamagedTable` where words can't name the cluster, or
+    /// that of a table or block that is to be written, which no safe cache has, or where the file has words there that no L2 table has. What is
+    /// cached then stays, but for the table that made room. The file of a safe cache is consistent at each stop.
+    pub fn l2_get_or_insert(
+        &mut self,
+        file: &mut ImageFile<S>,
+        cluster: HostCluster,
+    ) -> Result<&mut L2Table, Fault>
+        ensures* writes_back { sem 𝓛 (lends_table S.row S.state self.entry file.old file.new cluster result) }
+        ensures value { IfOk result (λ table. (mid : MetadataCaches S) × TableFound S.state cluster self.old file.old (Ok tt) mid file.new × (option_map (λ s. s.value) (lookup (nat_eq cluster) (cached_in mid).tables) ≡ Some table.now)) }
+    {
+        match self.l2_ready(file, cluster) {
+            Ok(()) => match self.l2.get_mut(cluster) {
+                Some(table) => Ok(table),
+                None => unreachable!(),
+            },
+            Err(fault) => Err(fault),
+        }
+    }
+
+    // Finds the refcount block in a cluster, or loads it where there is room.
+    fn rb_find(&mut self, file: &mut ImageFile<S>, cluster: HostCluster) -> Result<bool, Fault>
+        ensures readied { Readied nat_eq (block_loads S.state) (block_flushes S.state) self.old.rb.slots.cap false cluster file.old self.old.rb.slots.entries result file.new self.new.rb.slots.entries }
+        ensures others { self.new ≡ with_blocks self.old self.new.rb.slots.entries }
+    {
+        self.rb.ready(file, cluster, false)
+    }
+
+    // Loads the refcount block in a cluster into a full cache, once what has to be written before another block goes is.
+    fn rb_load(&mut self, file: &mut ImageFile<S>, cluster: HostCluster) -> Result<(), Fault>
+        requires absent { lookup (nat_eq cluster) self.old.rb.slots.entries ≡ None }
+        requires full { self.old.rb.slots.cap ≤ length self.old.rb.slots.entries }
+        ensures { BlockFound S.state cluster self.old file.old result self.new file.new }
+    {
+        let written = self.before_blocks(file);
+        match written {
+            Ok(()) => match self.rb.ready(file, cluster, true) {
+                Ok(_) => Ok(()),
+                Err(fault) => Err(fault),
+            },
+            Err(fault) => Err(fault),
+        }
+    }
+
+    // Finds or loads the refcount block in a cluster.
+    fn rb_ready(&mut self, file: &mut ImageFile<S>, cluster: HostCluster) -> Result<(), Fault>
+        ensures { BlockFound S.state cluster self.old file.old result self.new file.new }
+    {
+        match self.rb_find(file, cluster) {
+            Ok(true) => Ok(()),
+            Ok(false) => self.rb_load(file, cluster),
+            Err(fault) => Err(fault),
+        }
+    }
+
+    /// The refcount block in a cluster, found or loaded, whose entry goes first. What is written to it is written to the file later, by a flush
+    /// or where it has to make room.
+    ///
+    /// Where the cache is full, the least recently used block that isn't pinned is flushed in place and its entry removed, and before it
+    /// the modified L2 tables are, where these come first. It refuses with `Fault::Memory`; with `Fault::Storage`; with
+    /// `Fault::CacheFull` where each block of a full cache is pinned; and with `Fault::DamagedTable` where words can't name the cluster, or
+    /// that of a table or block that is to be written, which no safe cache has. What is cached then stays, but for the block that made room. The
+    /// file of a safe cache is consistent at each stop.
+    pub fn rb_get_or_insert(
+        &mut self,
+        file: &mut ImageFile<S>,
+        cluster: HostCluster,
+    ) -> Result<&mut RefBlock, Fault>
+        ensures* writes_back { sem 𝓛 (lends_block S.row S.state self.entry file.old file.new cluster result) }
+        ensures value { IfOk result (λ block. (mid : MetadataCaches S) × BlockFound S.state cluster self.old file.old (Ok tt) mid file.new × (option_map (λ s. s.value) (lookup (nat_eq cluster) (cached_in mid).blocks) ≡ Some block.now)) }
+    {
+        match self.rb_ready(file, cluster) {
+            Ok(()) => match self.rb.get_mut(cluster) {
+                Some(block) => Ok(block),
+                None => unreachable!(),
+            },
+            Err(fault) => Err(fault),
+        }
+    }
+
+    // Puts an L2 table where nothing has to be written for it, or else gives it back.
+    fn l2_put(
+        &mut self,
+        file: &mut ImageFile<S>,
+        cluster: HostCluster,
+        table: L2Table,
+    ) -> Result<Option<L2Table>, (Fault, L2Table)>
+        ensures inserted { Inserted nat_eq (table_flushes S.state) self.old.l2.slots.cap false cluster table file.old self.old.l2.slots.entries result file.new self.new.l2.slots.entries }
+        ensures others { self.new ≡ with_tables self.old self.new.l2.slots.entries }
+    {
+        self.l2.insert(file, cluster, table, false)
+    }
+
+    // Puts an L2 table into a full cache or over another table, once what has to be written before one goes is.
+    fn l2_put_over(
+        &mut self,
+        file: &mut ImageFile<S>,
+        cluster: HostCluster,
+        table: L2Table,
+    ) -> Result<(), (Fault, L2Table)>
+        requires { lookup (nat_eq cluster) self.old.l2.slots.entries ≡ None → self.old.l2.slots.cap ≤ length self.old.l2.slots.entries }
+        ensures { TableInserted S.state table cluster self.old file.old result self.new file.new }
+    {
+        let flushed = self.before_tables(file);
+        match flushed {
+            Ok(()) => match self.l2.insert(file, cluster, table, true) {
+                Ok(_) => Ok(()),
+                Err(refused) => Err(refused),
+            },
+            Err(fault) => Err((fault, table)),
+        }
+    }
+
+    // Puts an L2 table at a cluster.
+    fn l2_insert_at(
+        &mut self,
+        file: &mut ImageFile<S>,
+        cluster: HostCluster,
+        table: L2Table,
+    ) -> Result<(), (Fault, L2Table)>
+        ensures { TableInserted S.state table cluster self.old file.old result self.new file.new }
+    {
+        match self.l2_put(file, cluster, table) {
+            Ok(None) => Ok(()),
+            Ok(Some(table)) => self.l2_put_over(file, cluster, table),
+            Err(refused) => Err(refused),
+        }
+    }
+
+    /// Puts an L2 table at its cluster, whose entry goes first. One that was there is flushed before, where it is modified, and its pins stay.
+    ///
+    /// Where the cache is full, the least recently used table that isn't pinned is flushed in place and its entry removed, and before a flush
+    /// the modified refcount blocks are written, where these come first. A safe image stays safe where the table is what the file has there, and neither
+    /// it nor one that was there is modified. It refuses with `Fault::Memory`; with `Fault::Storage`; with `Fault::CacheFull` where each table
+    /// of a full cache is pinned; and with `Fault::DamagedTable` where words can't name the cluster of a table or block that is to be written,
+    /// which no safe cache has. Refused, it gives the table back, and what is cached stays, but for the table that made room.
+    pub fn l2_insert(
+        &mut self,
+        file: &mut ImageFile<S>,
+        table: L2Table,
+    ) -> Result<(), (Fault, L2Table)>
+        requires placed { IsSome table.cluster }
+        ensures { IfSome table.cluster (λ cluster. TableInserted S.state table cluster self.old file.old result self.new file.new) }
+    {
+        match table.get_cluster() {
+            Some(cluster) => self.l2_insert_at(file, cluster, table),
+            None => unreachable!(),
+        }
+    }
+
+    /// Drops each L2 table that isn't pinned, without writing it.
+    ///
+    /// It refuses with `Fault::CacheFull` where something stays. What was to be written is lost: an image stays safe where nothing was.
+    pub fn invalidate_l2(&mut self) -> Result<(), Fault>
+        ensures dropped { Dropped (cached_in self.old).tables result (cached_in self.new).tables }
+        ensures others { (self.new.rb ≡ self.old.rb) × (self.new.order ≡ self.old.order) }
+        ensures room { HasRoomOf self.old self.new }
+        ensures safe { AreTablesClean (cached_in self.old) → StaysSafe (cached_in self.old) (cached_in self.new) (order_of self.old) }
+    {
+        self.l2.invalidate()
+    }
+
+    // Puts a refcount block where nothing has to be written for it, or else gives it back.
+    fn rb_put(
+        &mut self,
+        file: &mut ImageFile<S>,
+        cluster: HostCluster,
+        block: RefBlock,
+    ) -> Result<Option<RefBlock>, (Fault, RefBlock)>
+        ensures inserted { Inserted nat_eq (block_flushes S.state) self.old.rb.slots.cap false cluster block file.old self.old.rb.slots.entries result file.new self.new.rb.slots.entries }
+        ensures others { self.new ≡ with_blocks self.old self.new.rb.slots.entries }
+    {
+        self.rb.insert(file, cluster, block, false)
+    }
+
+    // Puts a refcount block into a full cache or over another block, once what has to be written before one goes is.
+    fn rb_put_over(
+        &mut self,
+        file: &mut ImageFile<S>,
+        cluster: HostCluster,
+        block: RefBlock,
+    ) -> Result<(), (Fault, RefBlock)>
+        requires { lookup (nat_eq cluster) self.old.rb.slots.entries ≡ None → self.old.rb.slots.cap ≤ length self.old.rb.slots.entries }
+        ensures { BlockInserted S.state block cluster self.old file.old result self.new file.new }
+    {
+        let flushed = self.before_blocks(file);
+        match flushed {
+            Ok(()) => match self.rb.insert(file, cluster, block, true) {
+                Ok(_) => Ok(()),
+                Err(refused) => Err(refused),
+            },
+            Err(fault) => Err((fault, block)),
+        }
+    }
+
+    // Puts a refcount block at a cluster.
+    fn rb_insert_at(
+        &mut self,
+        file: &mut ImageFile<S>,
+        cluster: HostCluster,
+        block: RefBlock,
+    ) -> Result<(), (Fault, RefBlock)>
+        ensures { BlockInserted S.state block cluster self.old file.old result self.new file.new }
+    {
+        match self.rb_put(file, cluster, block) {
+            Ok(None) => Ok(()),
+            Ok(Some(block)) => self.rb_put_over(file, cluster, block),
+            Err(refused) => Err(refused),
+        }
+    }
+
+    /// Puts a refcount block at its cluster, whose entry goes first. One that was there is flushed before, where it is modified, and its pins stay.
+    ///
+    /// Where the cache is full, the least recently used block that isn't pinned is flushed in place and its entry removed, and before a flush
+    /// the modified L2 tables are written, where these come first. A safe image stays safe where the block is what the file has there, and neither
+    /// it nor one that was there is modified. It refuses with `Fault::Memory`; with `Fault::Storage`; with `Fault::CacheFull` where each block
+    /// of a full cache is pinned; and with `Fault::DamagedTable` where words can't name the cluster of a table or block that is to be written,
+    /// which no safe cache has. Refused, it gives the block back, and what is cached stays, but for the block that made room.
+    pub fn rb_insert(
+        &mut self,
+        file: &mut ImageFile<S>,
+        block: RefBlock,
+    ) -> Result<(), (Fault, RefBlock)>
+        requires placed { IsSome block.cluster }
+        ensures { IfSome block.cluster (λ cluster. BlockInserted S.state block cluster self.old file.old result self.new file.new) }
+    {
+        match block.get_cluster() {
+            Some(cluster) => self.rb_insert_at(file, cluster, block),
+            None => unreachable!(),
+        }
+    }
+
+    /// Drops each refcount block that isn't pinned, without writing it.
+    ///
+    /// It refuses with `Fault::CacheFull` where something stays. What was to be written is lost: an image stays safe where nothing was.
+    pub fn invalidate_rb(&mut self) -> Result<(), Fault>
+        ensures dropped { Dropped (cached_in self.old).blocks result (cached_in self.new).blocks }
+        ensures others { (self.new.l2 ≡ self.old.l2) × (self.new.order ≡ self.old.order) }
+        ensures room { HasRoomOf self.old self.new }
+        ensures safe { AreBlocksClean (cached_in self.old) → StaysSafe (cached_in self.old) (cached_in self.new) (order_of self.old) }
+    {
+        self.rb.invalidate()
     }
 }

@@ -1,5 +1,9 @@
 // The image file and its header, as they are lent to the caches.
+ghost use Rattle.std.specs.Prelude.{◌≤◌, ◌↔◌, IsTrue};
+ghost use Rattle.qcow2_metadata.specs.Places.{IsInReach};
+
 use qcow2_metadata::Header;
+use qcow2_types::{HostCluster, MAX_OFFSET};
 
 /// The image file of a qcow2 image, and its header as it is in memory.
 #[derive(Drop)]
@@ -8,4 +12,12 @@ pub struct ImageFile<S> {
     pub image: S,
     /// Its header.
     pub header: Header,
+}
+
+// Whether words can name the cluster.
+pub(crate) fn is_in_reach(cluster: HostCluster, cluster_bits: u32) -> bool
+    requires { cluster_bits ≤ 21 }
+    ensures { IsTrue result ↔ IsInReach cluster_bits cluster }
+{
+    cluster.0 <= MAX_OFFSET >> cluster_bits
 }

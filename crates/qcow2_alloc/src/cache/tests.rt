@@ -2,9 +2,9 @@
 //
 // Where an allocation is refused a body ends with `Fault::Memory`, and its test runs it once more.
 use super::*;
-use crate::async_lru_cache::NotLent;
 use imago_storage::{FuseStorage, LogStorage, MemStorage, Request};
-use qcow2_metadata::Header;
+use qcow2_metadata::{Header, L2Mapping};
+use qcow2_types::GuestCluster;
 use std::process::Abort;
 use std::test::Fail;
 
@@ -34,14 +34,10 @@ fn touch_table<S: Storage>(
     file: &mut ImageFile<S>,
     cluster: u64,
 ) -> Result<(), Fault> {
-    match caches.l2.get_or_insert(file, HostCluster(cluster), true) {
-        Ok(table) => {
-            table.set_modified();
-            Ok(())
-        }
-        Err(NotLent::Refused(fault)) => Err(fault),
-        Err(NotLent::Full) => Err(Fault::CacheFull),
-    }
+    caches
+        .l2_get_or_insert(file, HostCluster(cluster))?
+        .set_modified();
+    Ok(())
 }
 
 // Marks the block in a cluster as modified.
@@ -50,14 +46,10 @@ fn touch_block<S: Storage>(
     file: &mut ImageFile<S>,
     cluster: u64,
 ) -> Result<(), Fault> {
-    match caches.rb.get_or_insert(file, HostCluster(cluster), true) {
-        Ok(block) => {
-            block.set_modified();
-            Ok(())
-        }
-        Err(NotLent::Refused(fault)) => Err(fault),
-        Err(NotLent::Full) => Err(Fault::CacheFull),
-    }
+    caches
+        .rb_get_or_insert(file, HostCluster(cluster))?
+        .set_modified();
+    Ok(())
 }
 
 // The requests so far are writes of these clusters, whole and in this order.
@@ -101,6 +93,19 @@ fn a_switched_order_writes_what_came_first(rt: HostRuntime) -> Result<(), Fail> 
     Ok(())
 }
 
+// Announces an order to caches in which nothing is modified.
+fn announce<S: Storage>(
+    caches: &mut MetadataCaches<S>,
+    file: &mut ImageFile<S>,
+    order: CacheDependency,
+) -> Result<(), Fault> {
+    match order {
+        CacheDependency::Unset => Ok(()),
+        CacheDependency::L2DependsOnRb => caches.l2_depends_on_rb(file),
+        CacheDependency::RbDependsOnL2 => caches.rb_depends_on_l2(file),
+    }
+}
+
 // Touches two tables and two blocks, and flushes both caches under this order.
 fn flushed(
     rt: &impl Abort,
@@ -110,11 +115,7 @@ fn flushed(
 ) -> Result<(), Fault> {
     let mut file = logged(alloc)?;
     let mut caches = MetadataCaches::new(alloc, 2, 2)?;
-    match order {
-        CacheDependency::Unset => (),
-        CacheDependency::L2DependsOnRb => caches.l2_depends_on_rb(&mut file)?,
-        CacheDependency::RbDependsOnL2 => caches.rb_depends_on_l2(&mut file)?,
-    }
+    announce(&mut caches, &mut file, order)?;
     touch_block(&mut caches, &mut file, 5)?;
     touch_table(&mut caches, &mut file, 3)?;
     touch_table(&mut caches, &mut file, 4)?;
@@ -192,6 +193,569 @@ fn a_refused_flush_leaves_the_order(rt: HostRuntime) -> Result<(), Fail> {
     let alloc = rt.alloc();
     match refused(&rt, alloc) {
         Err(Fault::Memory) => refused(&rt, alloc)?,
+        other => other?,
+    }
+    Ok(())
+}
+
+// Fills both caches under this order, and touches one table and one block more.
+fn evicted(
+    rt: &impl Abort,
+    alloc: Global,
+    order: CacheDependency,
+    by_table: &[u64],
+    by_block: &[u64],
+) -> Result<(), Fault> {
+    let mut file = logged(alloc)?;
+    let mut caches = MetadataCaches::new(alloc, 2, 2)?;
+    announce(&mut caches, &mut file, order)?;
+    touch_table(&mut caches, &mut file, 1)?;
+    touch_table(&mut caches, &mut file, 2)?;
+    touch_block(&mut caches, &mut file, 5)?;
+    touch_block(&mut caches, &mut file, 6)?;
+    touch_table(&mut caches, &mut file, 1)?;
+    assert_written(rt, &file, &[]);
+    touch_table(&mut caches, &mut file, 3)?;
+    assert_written(rt, &file, by_table);
+    touch_block(&mut caches, &mut file, 7)?;
+    assert_written(rt, &file, by_block);
+    Ok(())
+}
+
+fn each_eviction(rt: &impl Abort, alloc: Global) -> Result<(), Fault> {
+    evicted(rt, alloc, CacheDependency::Unset, &[2], &[2, 5])?;
+    evicted(
+        rt,
+        alloc,
+        CacheDependency::L2DependsOnRb,
+        &[5, 6, 2],
+        &[5, 6, 2],
+    )?;
+    evicted(
+        rt,
+        alloc,
+        CacheDependency::RbDependsOnL2,
+        &[2],
+        &[2, 1, 3, 5],
+    )
+}
+
+#[test]
+fn what_makes_room_follows_the_order(rt: HostRuntime) -> Result<(), Fail> {
+    let alloc = rt.alloc();
+    match each_eviction(&rt, alloc) {
+        Err(Fault::Memory) => each_eviction(&rt, alloc)?,
+        other => other?,
+    }
+    Ok(())
+}
+
+// Word 0 of a table in cluster 1, and counter 3 of a block in cluster 2.
+fn read_back(rt: &impl Abort, alloc: Global) -> Result<(), Fault> {
+    let mut bytes = vec![in alloc; 0u8; 2_048]?;
+    bytes[512..520].copy_from_slice(&[0x80, 0, 0, 0, 0, 0, 0x06, 0]);
+    bytes[1_030..1_032].copy_from_slice(&[0x12, 0x34]);
+    let mut file = ImageFile {
+        image: MemStorage::from_bytes(bytes)?,
+        header: header(alloc)?,
+    };
+    let mut caches = MetadataCaches::new(alloc, 1, 1)?;
+    let table = caches.l2_get_or_insert(&mut file, HostCluster(1))?;
+    let mapping = table.get_mapping(GuestCluster(0));
+    assert!(rt; matches!(mapping, L2Mapping::DataFile { copied: true, .. }));
+    let block = caches.rb_get_or_insert(&mut file, HostCluster(2))?;
+    assert_eq!(rt; block.entries(), 256);
+    assert_eq!(rt; block.get(3), 0x1234);
+    assert_eq!(rt; block.get(2), 0);
+    Ok(())
+}
+
+#[test]
+fn a_table_and_a_block_are_read(rt: HostRuntime) -> Result<(), Fail> {
+    let alloc = rt.alloc();
+    match read_back(&rt, alloc) {
+        Err(Fault::Memory) => read_back(&rt, alloc)?,
+        other => other?,
+    }
+    Ok(())
+}
+
+// The words of cluster 1 are none of an L2 table, words can't name the last cluster, and nothing lies past the greatest offset.
+fn damaged(rt: &impl Abort, alloc: Global) -> Result<(), Fault> {
+    let mut bytes = vec![in alloc; 0u8; 1_024]?;
+    bytes[519] = 2;
+    let mut file = ImageFile {
+        image: MemStorage::from_bytes(bytes)?,
+        header: header(alloc)?,
+    };
+    let mut caches = MetadataCaches::new(alloc, 1, 1)?;
+    for cluster in [1, u64::MAX] {
+        match caches.l2_get_or_insert(&mut file, HostCluster(cluster)) {
+            Err(Fault::Memory) => return Err(Fault::Memory),
+            answer => assert!(rt; matches!(answer, Err(Fault::DamagedTable))),
+        }
+    }
+    match caches.rb_get_or_insert(&mut file, HostCluster(u64::MAX)) {
+        Err(Fault::Memory) => return Err(Fault::Memory),
+        answer => assert!(rt; matches!(answer, Err(Fault::DamagedTable))),
+    }
+    Ok(())
+}
+
+#[test]
+fn a_damaged_table_is_not_found(rt: HostRuntime) -> Result<(), Fail> {
+    let alloc = rt.alloc();
+    match damaged(&rt, alloc) {
+        Err(Fault::Memory) => damaged(&rt, alloc)?,
+        other => other?,
+    }
+    Ok(())
+}
+
+// A logged file of zeroes, but for word 0 of a table in cluster 4 and counter 3 of a block in cluster 7.
+fn marked(alloc: Global) -> Result<ImageFile<LogStorage<MemStorage>>, Fault> {
+    let mut bytes = vec![in alloc; 0u8; 4_096]?;
+    bytes[2_048..2_056].copy_from_slice(&[0x80, 0, 0, 0, 0, 0, 0x06, 0]);
+    bytes[3_590..3_592].copy_from_slice(&[0x12, 0x34]);
+    Ok(ImageFile {
+        image: LogStorage::new(alloc, MemStorage::from_bytes(bytes)?)?,
+        header: header(alloc)?,
+    })
+}
+
+// Whether the table has the word of the table in cluster 4.
+fn is_marked_table(table: &L2Table) -> bool {
+    matches!(
+        table.get_mapping(GuestCluster(0)),
+        L2Mapping::DataFile { copied: true, .. }
+    )
+}
+
+// Whether the block has the counter of the block in cluster 7.
+fn is_marked_block(block: &RefBlock) -> bool {
+    block.entries() > 3 && block.get(3) == 0x1234
+}
+
+// The table in a cluster, as the file has it.
+fn loaded_table<S: Storage>(
+    alloc: Global,
+    file: &mut ImageFile<S>,
+    cluster: u64,
+) -> Result<L2Table, Fault> {
+    L2CacheBackend::new(alloc).load(file, HostCluster(cluster))
+}
+
+// The block in a cluster, as the file has it.
+fn loaded_block<S: Storage>(
+    alloc: Global,
+    file: &mut ImageFile<S>,
+    cluster: u64,
+) -> Result<RefBlock, Fault> {
+    RefBlockCacheBackend::new(alloc).load(file, HostCluster(cluster))
+}
+
+// What the put of a table that has a cluster answers.
+fn put_table<S: Storage>(
+    rt: &impl Abort,
+    caches: &mut MetadataCaches<S>,
+    file: &mut ImageFile<S>,
+    table: L2Table,
+) -> Result<(), (Fault, L2Table)> {
+    match table.get_cluster() {
+        Some(_) => caches.l2_insert(file, table),
+        None => {
+            assert!(rt; false);
+            Ok(())
+        }
+    }
+}
+
+// What the put of a block that has a cluster answers.
+fn put_block<S: Storage>(
+    rt: &impl Abort,
+    caches: &mut MetadataCaches<S>,
+    file: &mut ImageFile<S>,
+    block: RefBlock,
+) -> Result<(), (Fault, RefBlock)> {
+    match block.get_cluster() {
+        Some(_) => caches.rb_insert(file, block),
+        None => {
+            assert!(rt; false);
+            Ok(())
+        }
+    }
+}
+
+// Puts a table, and isn't refused but for want of memory.
+fn taken_table<S: Storage>(
+    rt: &impl Abort,
+    caches: &mut MetadataCaches<S>,
+    file: &mut ImageFile<S>,
+    table: L2Table,
+) -> Result<(), Fault> {
+    match put_table(rt, caches, file, table) {
+        Ok(()) => Ok(()),
+        Err((fault, _)) => Err(fault),
+    }
+}
+
+// Puts a block, and isn't refused but for want of memory.
+fn taken_block<S: Storage>(
+    rt: &impl Abort,
+    caches: &mut MetadataCaches<S>,
+    file: &mut ImageFile<S>,
+    block: RefBlock,
+) -> Result<(), Fault> {
+    match put_block(rt, caches, file, block) {
+        Ok(()) => Ok(()),
+        Err((fault, _)) => Err(fault),
+    }
+}
+
+// Puts a table, is refused with this fault, and has the table back.
+fn returned_table<S: Storage>(
+    rt: &impl Abort,
+    caches: &mut MetadataCaches<S>,
+    file: &mut ImageFile<S>,
+    table: L2Table,
+    want: Fault,
+) -> Result<L2Table, Fault> {
+    match put_table(rt, caches, file, table) {
+        Err((Fault::Memory, _)) => Err(Fault::Memory),
+        Err((fault, table)) => {
+            assert!(rt; fault == want);
+            Ok(table)
+        }
+        Ok(()) => {
+            assert!(rt; false);
+            Err(want)
+        }
+    }
+}
+
+// Puts a block, is refused with this fault, and has the block back.
+fn returned_block<S: Storage>(
+    rt: &impl Abort,
+    caches: &mut MetadataCaches<S>,
+    file: &mut ImageFile<S>,
+    block: RefBlock,
+    want: Fault,
+) -> Result<RefBlock, Fault> {
+    match put_block(rt, caches, file, block) {
+        Err((Fault::Memory, _)) => Err(Fault::Memory),
+        Err((fault, block)) => {
+            assert!(rt; fault == want);
+            Ok(block)
+        }
+        Ok(()) => {
+            assert!(rt; false);
+            Err(want)
+        }
+    }
+}
+
+// A table and a block are put where there is room, each at a cluster of which the file has zeroes.
+fn put_into_room(rt: &impl Abort, alloc: Global) -> Result<(), Fault> {
+    let mut file = marked(alloc)?;
+    let mut caches = MetadataCaches::new(alloc, 2, 2)?;
+    caches.l2_depends_on_rb(&mut file)?;
+    touch_table(&mut caches, &mut file, 1)?;
+    touch_block(&mut caches, &mut file, 5)?;
+    let mut table = loaded_table(alloc, &mut file, 4)?;
+    table.set_cluster(HostCluster(3));
+    taken_table(rt, &mut caches, &mut file, table)?;
+    let mut block = loaded_block(alloc, &mut file, 7)?;
+    block.set_cluster(HostCluster(6));
+    taken_block(rt, &mut caches, &mut file, block)?;
+    assert_written(rt, &file, &[]);
+    assert!(rt; is_marked_table(caches.l2_get_or_insert(&mut file, HostCluster(3))?));
+    assert!(rt; is_marked_block(caches.rb_get_or_insert(&mut file, HostCluster(6))?));
+    caches.flush_all(&mut file)?;
+    assert_written(rt, &file, &[5, 6, 1, 3]);
+    let table = loaded_table(alloc, &mut file, 3)?;
+    assert!(rt; is_marked_table(&table));
+    let block = loaded_block(alloc, &mut file, 6)?;
+    assert!(rt; is_marked_block(&block));
+    Ok(())
+}
+
+#[test]
+fn what_is_put_is_found_and_written_later(rt: HostRuntime) -> Result<(), Fail> {
+    let alloc = rt.alloc();
+    match put_into_room(&rt, alloc) {
+        Err(Fault::Memory) => put_into_room(&rt, alloc)?,
+        other => other?,
+    }
+    Ok(())
+}
+
+// Fills both caches under this order, and puts one table and one block more.
+fn put_for_another(
+    rt: &impl Abort,
+    alloc: Global,
+    order: CacheDependency,
+    by_table: &[u64],
+    by_block: &[u64],
+) -> Result<(), Fault> {
+    let mut file = logged(alloc)?;
+    let mut caches = MetadataCaches::new(alloc, 2, 2)?;
+    announce(&mut caches, &mut file, order)?;
+    touch_table(&mut caches, &mut file, 1)?;
+    touch_table(&mut caches, &mut file, 2)?;
+    touch_block(&mut caches, &mut file, 5)?;
+    touch_block(&mut caches, &mut file, 6)?;
+    touch_table(&mut caches, &mut file, 1)?;
+    let mut table = loaded_table(alloc, &mut file, 4)?;
+    table.set_cluster(HostCluster(3));
+    taken_table(rt, &mut caches, &mut file, table)?;
+    assert_written(rt, &file, by_table);
+    let block = loaded_block(alloc, &mut file, 7)?;
+    taken_block(rt, &mut caches, &mut file, block)?;
+    assert_written(rt, &file, by_block);
+    for (cluster, stays) in [(1, true), (2, false), (3, true)] {
+        assert!(rt; caches.l2.get(HostCluster(cluster)).is_some() == stays);
+    }
+    for (cluster, stays) in [(5, false), (6, true), (7, true)] {
+        assert!(rt; caches.rb.get(HostCluster(cluster)).is_some() == stays);
+    }
+    Ok(())
+}
+
+fn each_put_for_another(rt: &impl Abort, alloc: Global) -> Result<(), Fault> {
+    put_for_another(rt, alloc, CacheDependency::Unset, &[2], &[2, 5])?;
+    put_for_another(
+        rt,
+        alloc,
+        CacheDependency::L2DependsOnRb,
+        &[5, 6, 2],
+        &[5, 6, 2],
+    )?;
+    put_for_another(
+        rt,
+        alloc,
+        CacheDependency::RbDependsOnL2,
+        &[2],
+        &[2, 1, 3, 5],
+    )
+}
+
+#[test]
+fn what_is_put_makes_room_in_the_order(rt: HostRuntime) -> Result<(), Fail> {
+    let alloc = rt.alloc();
+    match each_put_for_another(&rt, alloc) {
+        Err(Fault::Memory) => each_put_for_another(&rt, alloc)?,
+        other => other?,
+    }
+    Ok(())
+}
+
+// A table and a block are put over others, which aren't modified, and then over themselves, as modified.
+fn put_over(
+    rt: &impl Abort,
+    alloc: Global,
+    order: CacheDependency,
+    by_table: &[u64],
+    by_block: &[u64],
+) -> Result<(), Fault> {
+    let mut file = marked(alloc)?;
+    let mut caches = MetadataCaches::new(alloc, 2, 2)?;
+    announce(&mut caches, &mut file, order)?;
+    caches.l2_get_or_insert(&mut file, HostCluster(1))?;
+    caches.rb_get_or_insert(&mut file, HostCluster(5))?;
+    let table = loaded_table(alloc, &mut file, 1)?;
+    taken_table(rt, &mut caches, &mut file, table)?;
+    let block = loaded_block(alloc, &mut file, 5)?;
+    taken_block(rt, &mut caches, &mut file, block)?;
+    assert_written(rt, &file, &[]);
+    touch_table(&mut caches, &mut file, 1)?;
+    touch_block(&mut caches, &mut file, 5)?;
+    let mut table = loaded_table(alloc, &mut file, 4)?;
+    table.set_cluster(HostCluster(1));
+    taken_table(rt, &mut caches, &mut file, table)?;
+    assert_written(rt, &file, by_table);
+    let mut block = loaded_block(alloc, &mut file, 7)?;
+    block.set_cluster(HostCluster(5));
+    taken_block(rt, &mut caches, &mut file, block)?;
+    assert_written(rt, &file, by_block);
+    assert!(rt; is_marked_table(caches.l2_get_or_insert(&mut file, HostCluster(1))?));
+    assert!(rt; is_marked_block(caches.rb_get_or_insert(&mut file, HostCluster(5))?));
+    Ok(())
+}
+
+fn each_put_over(rt: &impl Abort, alloc: Global) -> Result<(), Fault> {
+    put_over(rt, alloc, CacheDependency::Unset, &[1], &[1, 5])?;
+    put_over(rt, alloc, CacheDependency::L2DependsOnRb, &[5, 1], &[5, 1])?;
+    put_over(rt, alloc, CacheDependency::RbDependsOnL2, &[1], &[1, 1, 5])
+}
+
+#[test]
+fn what_was_there_is_written_before_a_put(rt: HostRuntime) -> Result<(), Fail> {
+    let alloc = rt.alloc();
+    match each_put_over(&rt, alloc) {
+        Err(Fault::Memory) => each_put_over(&rt, alloc)?,
+        other => other?,
+    }
+    Ok(())
+}
+
+// Pins the table and the block in a cluster each, which are there.
+fn pin<S: Storage>(rt: &impl Abort, caches: &mut MetadataCaches<S>, table: u64, block: u64) {
+    match caches.l2.slots.peek(&HostCluster(table)) {
+        Some(slot) if slot.pins < 8 => caches.l2.pin(HostCluster(table)),
+        _ => assert!(rt; false),
+    }
+    match caches.rb.slots.peek(&HostCluster(block)) {
+        Some(slot) if slot.pins < 8 => caches.rb.pin(HostCluster(block)),
+        _ => assert!(rt; false),
+    }
+}
+
+// The one table and the one block that there is room for are pinned.
+fn put_before_pinned(rt: &impl Abort, alloc: Global) -> Result<(), Fault> {
+    let mut file = marked(alloc)?;
+    let mut caches = MetadataCaches::new(alloc, 1, 1)?;
+    touch_table(&mut caches, &mut file, 1)?;
+    touch_block(&mut caches, &mut file, 5)?;
+    pin(rt, &mut caches, 1, 5);
+    let table = loaded_table(alloc, &mut file, 4)?;
+    let table = returned_table(rt, &mut caches, &mut file, table, Fault::CacheFull)?;
+    assert!(rt; table.get_cluster() == Some(HostCluster(4)));
+    assert!(rt; is_marked_table(&table) && !table.is_modified());
+    let block = loaded_block(alloc, &mut file, 7)?;
+    let block = returned_block(rt, &mut caches, &mut file, block, Fault::CacheFull)?;
+    assert!(rt; block.get_cluster() == Some(HostCluster(7)));
+    assert!(rt; is_marked_block(&block) && !block.is_modified());
+    assert_written(rt, &file, &[]);
+    assert!(rt; caches.l2.get(HostCluster(1)).is_some());
+    assert!(rt; caches.rb.get(HostCluster(5)).is_some());
+    Ok(())
+}
+
+#[test]
+fn a_put_gives_back_what_has_no_room(rt: HostRuntime) -> Result<(), Fail> {
+    let alloc = rt.alloc();
+    match put_before_pinned(&rt, alloc) {
+        Err(Fault::Memory) => put_before_pinned(&rt, alloc)?,
+        other => other?,
+    }
+    Ok(())
+}
+
+// The fourth call is the first write: of the table that has to go.
+fn put_refused_table(rt: &impl Abort, alloc: Global) -> Result<(), Fault> {
+    let bytes = vec![in alloc; 0u8; 4_096]?;
+    let mut file = ImageFile {
+        image: FuseStorage::new(MemStorage::from_bytes(bytes)?, 4),
+        header: header(alloc)?,
+    };
+    let mut caches = MetadataCaches::new(alloc, 1, 1)?;
+    touch_table(&mut caches, &mut file, 1)?;
+    touch_block(&mut caches, &mut file, 5)?;
+    let table = loaded_table(alloc, &mut file, 3)?;
+    let table = returned_table(rt, &mut caches, &mut file, table, Fault::Storage)?;
+    assert!(rt; table.get_cluster() == Some(HostCluster(3)));
+    assert!(rt; matches!(caches.l2.get(HostCluster(1)), Some(table) if table.is_modified()));
+    taken_table(rt, &mut caches, &mut file, table)?;
+    assert!(rt; caches.l2.get(HostCluster(1)).is_none());
+    assert!(rt; caches.l2.get(HostCluster(3)).is_some());
+    assert!(rt; matches!(caches.rb.get(HostCluster(5)), Some(block) if block.is_modified()));
+    Ok(())
+}
+
+// The fourth call is the first write: of the table that comes before the block that has to go.
+fn put_refused_block(rt: &impl Abort, alloc: Global) -> Result<(), Fault> {
+    let bytes = vec![in alloc; 0u8; 4_096]?;
+    let mut file = ImageFile {
+        image: FuseStorage::new(MemStorage::from_bytes(bytes)?, 4),
+        header: header(alloc)?,
+    };
+    let mut caches = MetadataCaches::new(alloc, 1, 1)?;
+    caches.rb_depends_on_l2(&mut file)?;
+    touch_table(&mut caches, &mut file, 1)?;
+    touch_block(&mut caches, &mut file, 5)?;
+    let block = loaded_block(alloc, &mut file, 6)?;
+    let block = returned_block(rt, &mut caches, &mut file, block, Fault::Storage)?;
+    assert!(rt; block.get_cluster() == Some(HostCluster(6)));
+    assert!(rt; matches!(caches.rb.get(HostCluster(5)), Some(block) if block.is_modified()));
+    assert!(rt; matches!(caches.l2.get(HostCluster(1)), Some(table) if table.is_modified()));
+    taken_block(rt, &mut caches, &mut file, block)?;
+    assert!(rt; caches.rb.get(HostCluster(5)).is_none());
+    assert!(rt; caches.rb.get(HostCluster(6)).is_some());
+    assert!(rt; matches!(caches.l2.get(HostCluster(1)), Some(table) if !table.is_modified()));
+    Ok(())
+}
+
+fn each_refused_put(rt: &impl Abort, alloc: Global) -> Result<(), Fault> {
+    put_refused_table(rt, alloc)?;
+    put_refused_block(rt, alloc)
+}
+
+#[test]
+fn a_put_gives_back_what_a_fault_refuses(rt: HostRuntime) -> Result<(), Fail> {
+    let alloc = rt.alloc();
+    match each_refused_put(&rt, alloc) {
+        Err(Fault::Memory) => each_refused_put(&rt, alloc)?,
+        other => other?,
+    }
+    Ok(())
+}
+
+// Modified tables and blocks are dropped: none is written, then or later, and the others stay.
+fn dropped(rt: &impl Abort, alloc: Global) -> Result<(), Fault> {
+    let mut file = logged(alloc)?;
+    let mut caches = MetadataCaches::new(alloc, 2, 2)?;
+    touch_table(&mut caches, &mut file, 1)?;
+    touch_table(&mut caches, &mut file, 2)?;
+    touch_block(&mut caches, &mut file, 5)?;
+    touch_block(&mut caches, &mut file, 6)?;
+    assert!(rt; caches.invalidate_l2() == Ok(()));
+    assert!(rt; caches.l2.get(HostCluster(1)).is_none());
+    assert!(rt; caches.l2.get(HostCluster(2)).is_none());
+    touch_table(&mut caches, &mut file, 3)?;
+    assert!(rt; caches.invalidate_rb() == Ok(()));
+    assert!(rt; caches.rb.get(HostCluster(5)).is_none());
+    assert!(rt; caches.rb.get(HostCluster(6)).is_none());
+    caches.flush_all(&mut file)?;
+    assert_written(rt, &file, &[3]);
+    Ok(())
+}
+
+#[test]
+fn what_is_dropped_is_not_written(rt: HostRuntime) -> Result<(), Fail> {
+    let alloc = rt.alloc();
+    match dropped(&rt, alloc) {
+        Err(Fault::Memory) => dropped(&rt, alloc)?,
+        other => other?,
+    }
+    Ok(())
+}
+
+// What is pinned stays, and is written by the next flush.
+fn dropped_but_pinned(rt: &impl Abort, alloc: Global) -> Result<(), Fault> {
+    let mut file = logged(alloc)?;
+    let mut caches = MetadataCaches::new(alloc, 2, 2)?;
+    touch_table(&mut caches, &mut file, 1)?;
+    touch_table(&mut caches, &mut file, 2)?;
+    touch_block(&mut caches, &mut file, 5)?;
+    touch_block(&mut caches, &mut file, 6)?;
+    pin(rt, &mut caches, 1, 6);
+    assert!(rt; caches.invalidate_l2() == Err(Fault::CacheFull));
+    assert!(rt; caches.invalidate_rb() == Err(Fault::CacheFull));
+    assert!(rt; caches.l2.get(HostCluster(1)).is_some());
+    assert!(rt; caches.l2.get(HostCluster(2)).is_none());
+    assert!(rt; caches.rb.get(HostCluster(5)).is_none());
+    assert!(rt; caches.rb.get(HostCluster(6)).is_some());
+    assert_written(rt, &file, &[]);
+    caches.flush_all(&mut file)?;
+    assert_written(rt, &file, &[1, 6]);
+    Ok(())
+}
+
+#[test]
+fn what_is_pinned_is_not_dropped(rt: HostRuntime) -> Result<(), Fail> {
+    let alloc = rt.alloc();
+    match dropped_but_pinned(&rt, alloc) {
+        Err(Fault::Memory) => dropped_but_pinned(&rt, alloc)?,
         other => other?,
     }
     Ok(())

@@ -3,7 +3,7 @@ use Rattle.std.proofs.Math.Nat.{le-div_iff_mul-le}
 use Rattle.std.proofs.lemmas.Nat.{pow_pos}
 use Rattle.std.proofs.lemmas.Bool.{leb-true, le-leb}
 use Rattle.qcow2_metadata.specs.Places.{IsInReach}
-use Rattle.qcow2_alloc.proofs.cache.is_in_reach.Goals as goal
+use Rattle.qcow2_alloc.proofs.file.is_in_reach.Goals as goal
 
 pub returns : goal.returns
 returns c =

@@ -1,0 +1,95 @@
+use Rattle.std.proofs.Common.{◌≡◌, ◌-◌, List, length, refl, arith, ap, sym, subst, ◌∙◌}
+use Rattle.std.specs.List.{remove}
+use Rattle.std.proofs.lemmas.List.{length-set}
+use Rattle.qcow2_types.specs.Pending.{FreeEntry}
+use Rattle.qcow2_metadata.specs.Tables.{TableValue}
+use Rattle.qcow2_alloc.specs.Allocators.{table_of, mark_of}
+use Rattle.qcow2_alloc.specs.Caches.{order_of}
+use Rattle.qcow2_alloc.specs.FreeList.{FreeList, entry_at, shorter, shortened}
+use Rattle.qcow2_alloc.specs.Freeing.{Frees}
+use Rattle.qcow2_alloc.proofs.FreeingEntries.{frees-none, frees-then, empty-removed, may-still, freed, failed}
+use Rattle.qcow2_alloc.proofs.FreeingLists.{entry-shortened, shortened-none, shortened-more, removed-shortened}
+use Rattle.qcow2_alloc.proofs.allocation.Allocator.free_entry.Goals as goal
+
+pub loop-init : goal.loop-init
+loop-init g c = (shortened-none c.args.list.now.entries c.args.index c.requires.inside, refl, refl, refl, λ may. frees-none g.S.Storage.state (table_of c.args.self.now) c.args.caches.now c.args.file.now (mark_of c.args.self.now) c.args.list.now.entries)
+
+pub free_last-requires-clause-inside : goal.free_last-requires-clause-inside
+free_last-requires-clause-inside g c =
+    let es = c.args.list.now.entries in
+    let same : length c.loop.list.entries ≡ length es = ap (λ (l : List FreeEntry). length l) c.loop.invariant.0 ∙ length-set es c.args.index (shorter (entry_at es c.args.index) c.loop.counter) in
+    rw same c.requires.inside
+
+pub free_last-requires-clause-some : goal.free_last-requires-clause-some
+free_last-requires-clause-some g c =
+    let es = c.args.list.now.entries in
+    let left : (entry_at c.loop.list.entries c.args.index).count ≡ (entry_at es c.args.index).count - c.loop.counter = ap (λ (l : List FreeEntry). (entry_at l c.args.index).count) c.loop.invariant.0 ∙ ap (λ (e : FreeEntry). e.count) (entry-shortened es c.args.index c.loop.counter c.requires.inside) in
+    let count = c.count-2.view_is ∙ c.count.ensures ∙ ap (λ (e : FreeEntry). e.count) c.entry.ensures in
+    let test = c.loop-test.true in
+    omega (arith, left, count, test)
+
+pub returns-in-Err-clause-frees : goal.returns-in-Err-clause-frees
+returns-in-Err-clause-frees g c = λ may.
+    let same = c.loop.invariant in
+    frees-then g.S.Storage.state (table_of c.args.self.now) c.args.caches.now c.args.file.now (mark_of c.args.self.now) c.args.list.now.entries c.loop.caches c.loop.file (mark_of c.loop.self) c.loop.list.entries (failed c.in-Err.fault) c.free_last.new.caches c.free_last.new.file (mark_of c.free_last.new.self) c.free_last.new.list.entries
+    (same.4 may) (subst (λ (t : TableValue). Frees g.S.Storage.state t c.loop.caches c.loop.file (mark_of c.loop.self) c.loop.list.entries (failed c.in-Err.fault) c.free_last.new.caches c.free_last.new.file (mark_of c.free_last.new.self) c.free_last.new.list.entries) same.3
+    (c.in-Err.ensures.frees (may-still c.args.list.now.entries c.args.index c.loop.counter c.requires.inside c.loop.list.entries (order_of c.args.caches.now) (order_of c.loop.caches) same.0 same.2 may)))
+
+pub returns-in-Err-clause-order : goal.returns-in-Err-clause-order
+returns-in-Err-clause-order g c = c.free_last.ensures.order ∙ c.loop.invariant.2
+
+pub returns-in-Err-clause-table : goal.returns-in-Err-clause-table
+returns-in-Err-clause-table g c = c.free_last.ensures.table ∙ c.loop.invariant.3
+
+pub returns-in-Err-clause-err : goal.returns-in-Err-clause-err
+returns-in-Err-clause-err g c = (c.loop.counter, c.in-Err.ensures.err ∙ c.loop.invariant.0)
+
+pub returns-in-Err-clause-held : goal.returns-in-Err-clause-held
+returns-in-Err-clause-held g c = c.free_last.ensures.held ∙ c.loop.invariant.1
+
+pub loop-preserved : goal.loop-preserved
+loop-preserved g c =
+    let same = c.loop.invariant in
+    let es = c.args.list.now.entries in (
+      c.in-Ok.ensures.ok ∙ ap (λ (l : List FreeEntry). shortened l c.args.index 1) same.0 ∙ shortened-more es c.args.index c.loop.counter,
+      c.free_last.ensures.held ∙ same.1,
+      c.free_last.ensures.order ∙ same.2,
+      c.free_last.ensures.table ∙ same.3,
+      λ may. frees-then g.S.Storage.state (table_of c.args.self.now) c.args.caches.now c.args.file.now (mark_of c.args.self.now) es c.loop.caches c.loop.file (mark_of c.loop.self) c.loop.list.entries freed c.free_last.new.caches c.free_last.new.file (mark_of c.free_last.new.self) c.free_last.new.list.entries
+          (same.4 may) (subst (λ (t : TableValue). Frees g.S.Storage.state t c.loop.caches c.loop.file (mark_of c.loop.self) c.loop.list.entries freed c.free_last.new.caches c.free_last.new.file (mark_of c.free_last.new.self) c.free_last.new.list.entries) same.3
+          (c.in-Ok.ensures.frees (may-still es c.args.index c.loop.counter c.requires.inside c.loop.list.entries (order_of c.args.caches.now) (order_of c.loop.caches) same.0 same.2 may))),
+    )
+
+pub remove-requires : goal.remove-requires
+remove-requires g c =
+    let es = c.args.list.now.entries in
+    let same : length c.loop.list.entries ≡ length es = ap (λ (l : List FreeEntry). length l) c.loop.invariant.0 ∙ length-set es c.args.index (shorter (entry_at es c.args.index) c.loop.counter) in
+    rw same c.requires.inside
+
+pub returns-clause-frees : goal.returns-clause-frees
+returns-clause-frees g c = λ may.
+    let state = g.S.Storage.state in
+    let table = table_of c.args.self.now in
+    let same = c.loop.invariant in
+    let es = c.args.list.now.entries in
+    let i = c.args.index in
+    let long : length c.loop.list.entries ≡ length es = ap (λ (l : List FreeEntry). length l) same.0 ∙ length-set es i (shorter (entry_at es i) c.loop.counter) in
+    let left : (entry_at c.loop.list.entries i).count ≡ (entry_at es i).count - c.loop.counter = ap (λ (l : List FreeEntry). (entry_at l i).count) same.0 ∙ ap (λ (e : FreeEntry). e.count) (entry-shortened es i c.loop.counter c.requires.inside) in
+    let count = c.count-2.view_is ∙ c.count.ensures ∙ ap (λ (e : FreeEntry). e.count) c.entry.ensures in
+    let test = c.loop-test.false in
+    let none : (entry_at c.loop.list.entries i).count ≡ 0 = omega (arith, left, count, test) in
+    let removed = empty-removed state table c.loop.caches c.loop.file (mark_of c.loop.self) c.loop.list.entries i (rw long c.requires.inside) none in
+    subst (λ (l : List FreeEntry). Frees state table c.args.caches.now c.args.file.now (mark_of c.args.self.now) es freed c.loop.caches c.loop.file (mark_of c.loop.self) l) (sym (ap (λ (l : FreeList). l.entries) c.remove.ensures.left))
+    (frees-then state table c.args.caches.now c.args.file.now (mark_of c.args.self.now) es c.loop.caches c.loop.file (mark_of c.loop.self) c.loop.list.entries freed c.loop.caches c.loop.file (mark_of c.loop.self) (remove c.loop.list.entries i) (same.4 may) removed)
+
+pub returns-clause-order : goal.returns-clause-order
+returns-clause-order g c = c.loop.invariant.2
+
+pub returns-clause-table : goal.returns-clause-table
+returns-clause-table g c = c.loop.invariant.3
+
+pub returns-clause-ok : goal.returns-clause-ok
+returns-clause-ok g c = ap (λ (l : FreeList). l.entries) c.remove.ensures.left ∙ ap (λ (l : List FreeEntry). remove l c.args.index) c.loop.invariant.0 ∙ removed-shortened c.args.list.now.entries c.args.index c.loop.counter c.requires.inside
+
+pub returns-clause-held : goal.returns-clause-held
+returns-clause-held g c = ap (λ (l : FreeList). l.held) c.remove.ensures.left ∙ c.loop.invariant.1

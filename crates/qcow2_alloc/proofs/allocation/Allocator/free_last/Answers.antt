@@ -1,0 +1,37 @@
+use Rattle.std.proofs.Common.{◌≡◌, ℕ, ◌+◌, ◌-◌, ◌≤◌, ◌^◌, List, Ok, Err, ap, sym, subst, ◌∙◌, min}
+use Rattle.qcow2_types.specs.Pending.{FreeEntry}
+use Rattle.qcow2_alloc.specs.Allocators.{table_of, mark_of, LowersCluster}
+use Rattle.qcow2_alloc.specs.FreeList.{FreeList}
+use Rattle.qcow2_alloc.specs.Freeing.{Frees}
+use Rattle.qcow2_alloc.proofs.FreeingEntries.{last-freed, far-refused}
+use Rattle.qcow2_alloc.proofs.FreeingLists.{last}
+use Rattle.qcow2_alloc.proofs.allocation.Allocator.free_last.Goals as goal
+
+pub returns-in_default-clause-frees : goal.returns-in_default-clause-frees
+returns-in_default-clause-frees g c = λ may.
+    far-refused g.S.Storage.state (table_of c.args.self.now) c.args.list.now.entries c.args.index c.requires.inside c.requires.some c.args.caches.now c.args.file.now (mark_of c.args.self.now)
+    (subst (λ (e : FreeEntry). 2 ^ 64 ≤ e.first + (e.count - 1)) c.entry.ensures c.in_default.ensures)
+
+pub returns-in-Ok-clause-frees : goal.returns-in-Ok-clause-frees
+returns-in-Ok-clause-frees g c = λ may.
+    let state = g.S.Storage.state in
+    let table = table_of c.args.self.now in
+    let es = c.args.list.now.entries in
+    let new = c.free_cluster.new in
+    let there : c.in-Some.last ≡ last es c.args.index c.requires.inside c.requires.some = c.in-Some.ensures ∙ ap (λ (e : FreeEntry). e.first + (e.count - 1)) c.entry.ensures in
+    let all = last-freed state table es c.args.index c.requires.inside c.requires.some c.args.caches.now c.args.file.now (mark_of c.args.self.now) (Ok tt) new.caches new.file may
+    (subst (λ (n : ℕ). LowersCluster state table n c.args.caches.now c.args.file.now (Ok tt) new.caches new.file) there c.in-Ok.ensures.lowered) in
+    let mark : mark_of new.self ≡ min (mark_of c.args.self.now) (last es c.args.index c.requires.inside c.requires.some) = c.in-Ok.ensures.marked ∙ ap (λ n. min (mark_of c.args.self.now) n) there in
+    subst (λ (n : ℕ). Frees state table c.args.caches.now c.args.file.now (mark_of c.args.self.now) es (Ok tt) new.caches new.file n c.shorten.new.self.entries) (sym mark)
+    (subst (λ (l : List FreeEntry). Frees state table c.args.caches.now c.args.file.now (mark_of c.args.self.now) es (Ok tt) new.caches new.file (min (mark_of c.args.self.now) (last es c.args.index c.requires.inside c.requires.some)) l) (sym (ap (λ (l : FreeList). l.entries) c.shorten.ensures)) all)
+
+pub returns-in-Err-clause-frees : goal.returns-in-Err-clause-frees
+returns-in-Err-clause-frees g c = λ may.
+    let state = g.S.Storage.state in
+    let table = table_of c.args.self.now in
+    let es = c.args.list.now.entries in
+    let new = c.free_cluster.new in
+    let there : c.in-Some.last ≡ last es c.args.index c.requires.inside c.requires.some = c.in-Some.ensures ∙ ap (λ (e : FreeEntry). e.first + (e.count - 1)) c.entry.ensures in
+    let all = last-freed state table es c.args.index c.requires.inside c.requires.some c.args.caches.now c.args.file.now (mark_of c.args.self.now) (Err c.in-Err.fault) new.caches new.file may
+    (subst (λ (n : ℕ). LowersCluster state table n c.args.caches.now c.args.file.now (Err c.in-Err.fault) new.caches new.file) there c.in-Err.ensures.lowered) in
+    subst (λ (n : ℕ). Frees state table c.args.caches.now c.args.file.now (mark_of c.args.self.now) es (Err c.in-Err.fault) new.caches new.file n es) (sym c.in-Err.ensures.stays) all

@@ -1,0 +1,36 @@
+use Rattle.std.proofs.Common.{refl, sym, ap, ◌∙◌, subst, inl}
+use Rattle.qcow2_metadata.specs.Tables.{TableValue}
+use Rattle.qcow2_alloc.specs.Allocators.{table_of, mark_of}
+use Rattle.qcow2_alloc.specs.Freeing.{Frees}
+use Rattle.qcow2_alloc.proofs.FreeingEntries.{frees-none, frees-then, freed, failed}
+use Rattle.qcow2_alloc.proofs.FreeingInTurn.{of_data, metadata-found, data-stays, all-data}
+use Rattle.qcow2_alloc.proofs.allocation.Allocator.free_metadata.Goals as goal
+
+pub loop-index-init : goal.loop-index-init
+loop-index-init g c = (refl, refl, refl, refl, frees-none g.S.Storage.state (table_of c.args.self.now) c.args.caches.now c.args.file.now (mark_of c.args.self.now) c.args.list.now.entries)
+
+pub loop-index-preserved : goal.loop-index-preserved
+loop-index-preserved g c =
+    let same = c.loop-index.invariant in
+    let l = c.loop-index in
+    let n = c.free_entry.new in
+    let found = metadata-found l.list.entries c.in-Some.index (sym c.in-Some.ensures) in (
+      c.free_entry.ensures.held ∙ same.0,
+      c.free_entry.ensures.order ∙ same.1,
+      c.free_entry.ensures.table ∙ same.2,
+      ap of_data c.in-Ok.ensures.ok ∙ data-stays l.list.entries c.in-Some.index found.0 found.1 ∙ same.3,
+      frees-then g.S.Storage.state (table_of c.args.self.now) c.args.caches.now c.args.file.now (mark_of c.args.self.now) c.args.list.now.entries l.caches l.file (mark_of l.self) l.list.entries freed n.caches n.file (mark_of n.self) n.list.entries same.4
+          (subst (λ (t : TableValue). Frees g.S.Storage.state t l.caches l.file (mark_of l.self) l.list.entries freed n.caches n.file (mark_of n.self) n.list.entries) same.2 (c.in-Ok.ensures.frees (inl found.1))),
+    )
+
+pub returns-in-Err-clause-frees : goal.returns-in-Err-clause-frees
+returns-in-Err-clause-frees g c =
+    let same = c.loop-index.invariant in
+    let l = c.loop-index in
+    let n = c.free_entry.new in
+    let found = metadata-found l.list.entries c.in-Some.index (sym c.in-Some.ensures) in
+    frees-then g.S.Storage.state (table_of c.args.self.now) c.args.caches.now c.args.file.now (mark_of c.args.self.now) c.args.list.now.entries l.caches l.file (mark_of l.self) l.list.entries (failed c.in-Err.fault) n.caches n.file (mark_of n.self) n.list.entries same.4
+    (subst (λ (t : TableValue). Frees g.S.Storage.state t l.caches l.file (mark_of l.self) l.list.entries (failed c.in-Err.fault) n.caches n.file (mark_of n.self) n.list.entries) same.2 (c.in-Err.ensures.frees (inl found.1)))
+
+pub returns-clause-ok : goal.returns-clause-ok
+returns-clause-ok g c = all-data c.loop-index.list.entries (sym c.in_default.ensures) ∙ c.loop-index.invariant.3

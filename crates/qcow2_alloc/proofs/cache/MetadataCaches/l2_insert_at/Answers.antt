@@ -1,0 +1,32 @@
+use Rattle.std.proofs.Common.{Ok, Err, subst, sym, Option, false}
+use Rattle.std.specs.Prelude.{nat_eq}
+use Rattle.qcow2_metadata.specs.Tables.{TableValue}
+use Rattle.qcow2_alloc.specs.declared.cache.MetadataCaches.{MetadataCaches}
+use Rattle.qcow2_alloc.specs.declared.file.ImageFile.{ImageFile}
+use Rattle.qcow2_alloc.specs.Cache.{Inserted}
+use Rattle.qcow2_alloc.specs.CachesLending.{table_flushes}
+use Rattle.qcow2_alloc.specs.Putting.{TableInserted}
+use Rattle.qcow2_alloc.proofs.Inserting.{IsBarred}
+use Rattle.qcow2_alloc.proofs.InsertingTables.{table-put-now, table-back}
+use Rattle.qcow2_alloc.proofs.cache.MetadataCaches.l2_insert_at.Goals as goal
+
+pub returns-in-Ok-None : goal.returns-in-Ok-None
+returns-in-Ok-None g c =
+    table-put-now g.S.Storage.state c.args.cluster c.args.table c.args.self.now c.l2_put.new.self c.args.file.now c.l2_put.new.file c.l2_put.ensures.others
+    (Ok c.in-Ok-None.field-0) (subst (λ (o : Option TableValue). IsBarred (Ok o) → ⊥) (sym c.in-Ok-None.field-0-is) (λ no. no)) c.in-Ok-None.ensures.inserted
+
+pub returns-in-Ok-Some : goal.returns-in-Ok-Some
+returns-in-Ok-Some g c =
+    let state = g.S.Storage.state in
+    let now = c.l2_put.new.self in
+    let old = c.args.self.now in
+    let inserted = subst (λ (o : Option TableValue). Inserted nat_eq (table_flushes state) old.l2.slots.cap false c.args.cluster c.args.table c.args.file.now old.l2.slots.entries (Ok o) c.l2_put.new.file now.l2.slots.entries) c.in-Ok-Some.field-0-is c.in-Ok-Some.ensures.inserted in
+    let back = table-back state c.args.cluster c.args.table old now c.args.file.now c.l2_put.new.file c.l2_put.ensures.others c.in-Ok-Some.table inserted in
+    subst (λ (v : TableValue). TableInserted state v c.args.cluster old c.args.file.now c.l2_put_over.result c.l2_put_over.new.self c.l2_put_over.new.file) back.1
+    (subst (λ (m : MetadataCaches g.row.S.Denot). TableInserted state c.in-Ok-Some.table c.args.cluster m c.args.file.now c.l2_put_over.result c.l2_put_over.new.self c.l2_put_over.new.file) back.0.caches
+    (subst (λ (f : ImageFile g.row.S.Denot). TableInserted state c.in-Ok-Some.table c.args.cluster now f c.l2_put_over.result c.l2_put_over.new.self c.l2_put_over.new.file) back.0.file c.l2_put_over.ensures))
+
+pub returns-in-Err : goal.returns-in-Err
+returns-in-Err g c =
+    table-put-now g.S.Storage.state c.args.cluster c.args.table c.args.self.now c.l2_put.new.self c.args.file.now c.l2_put.new.file c.l2_put.ensures.others
+    (Err c.in-Err.refused) (λ no. no) c.in-Err.ensures.inserted

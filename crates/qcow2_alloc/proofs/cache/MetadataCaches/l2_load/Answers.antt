@@ -1,0 +1,27 @@
+use Rattle.std.proofs.Common.{Ok, Err, ap}
+use Rattle.qcow2_alloc.proofs.SearchingTables.{rb-alone, table-found-full, table-found-halted}
+use Rattle.qcow2_alloc.proofs.cache.MetadataCaches.l2_load.Goals as goal
+
+pub returns-in-Ok-ready : goal.returns-in-Ok-ready
+returns-in-Ok-ready g c =
+    let old = c.args.self.now in
+    let mid = c.before_tables-written.new.self in
+    let done = c.in-Ok.ensures in
+    table-found-full g.S.Storage.state c.args.cluster old mid c.args.file.now c.before_tables-written.new.file c.requires.absent c.requires.full (rb-alone old mid done.others.0 done.others.1) done.others.2 done.kept (λ no. (done.idle no).1) done.room.blocks
+    done.going done.ready done.cause (Ok c.in-Ok-ready.field-0) c.ready.new.device (record mid { l2 = c.ready.new.self }) (ap (λ l. record mid { l2 = l }) c.ready.ensures.others) c.in-Ok-ready.ensures.readied
+
+pub returns-in-Err-ready : goal.returns-in-Err-ready
+returns-in-Err-ready g c =
+    let old = c.args.self.now in
+    let mid = c.before_tables-written.new.self in
+    let done = c.in-Ok.ensures in
+    table-found-full g.S.Storage.state c.args.cluster old mid c.args.file.now c.before_tables-written.new.file c.requires.absent c.requires.full (rb-alone old mid done.others.0 done.others.1) done.others.2 done.kept (λ no. (done.idle no).1) done.room.blocks
+    done.going done.ready done.cause (Err c.in-Err-ready.fault) c.ready.new.device (record mid { l2 = c.ready.new.self }) (ap (λ l. record mid { l2 = l }) c.ready.ensures.others) c.in-Err-ready.ensures.readied
+
+pub returns-in-Err : goal.returns-in-Err
+returns-in-Err g c =
+    let old = c.args.self.now in
+    let mid = c.before_tables-written.new.self in
+    let done = c.in-Err.ensures in
+    table-found-halted g.S.Storage.state c.args.cluster old mid c.args.file.now c.before_tables-written.new.file c.requires.absent c.requires.full (rb-alone old mid done.others.0 done.others.1) done.others.2 done.kept (λ no. (done.idle no).1) done.room.blocks
+    c.in-Err.fault done.going done.cause

@@ -1,0 +1,5 @@
+use Rattle.qcow2_alloc.proofs.MakingBlocks.{own-block-made}
+use Rattle.qcow2_alloc.proofs.laws.making_a_block_that_counts_itself.Goals as goal
+
+pub returns : goal.returns
+returns c = own-block-made

@@ -1,0 +1,5 @@
+use Rattle.qcow2_alloc.proofs.NamingBlocks.{counted-block-quietly, own-block-quietly, names-block}
+use Rattle.qcow2_alloc.proofs.laws.naming_a_block.Goals as goal
+
+pub returns : goal.returns
+returns c = record { counted = counted-block-quietly; own = own-block-quietly; names = names-block }

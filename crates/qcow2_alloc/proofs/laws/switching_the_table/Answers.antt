@@ -1,0 +1,5 @@
+use Rattle.qcow2_alloc.proofs.SwitchingTables.{switch-quietly, switch-names, pointer-loads, sound-sizes}
+use Rattle.qcow2_alloc.proofs.laws.switching_the_table.Goals as goal
+
+pub returns : goal.returns
+returns c = record { quietly = switch-quietly; names = switch-names; loads = pointer-loads; limits = sound-sizes }

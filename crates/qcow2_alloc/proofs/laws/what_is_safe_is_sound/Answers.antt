@@ -1,0 +1,5 @@
+use Rattle.qcow2_alloc.proofs.QuietEntries.{safe-sound}
+use Rattle.qcow2_alloc.proofs.laws.what_is_safe_is_sound.Goals as goal
+
+pub returns : goal.returns
+returns c = safe-sound

@@ -1,0 +1,5 @@
+use Rattle.qcow2_alloc.proofs.AtOnce.{put-whole}
+use Rattle.qcow2_alloc.proofs.laws.what_is_written_quietly.Goals as goal
+
+pub returns : goal.returns
+returns c = put-whole

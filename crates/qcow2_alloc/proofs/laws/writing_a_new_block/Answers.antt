@@ -1,0 +1,5 @@
+use Rattle.qcow2_alloc.proofs.FreeRuns.{block-quietly, block-counts}
+use Rattle.qcow2_alloc.proofs.laws.writing_a_new_block.Goals as goal
+
+pub returns : goal.returns
+returns c = record { quietly = block-quietly; counts = block-counts }

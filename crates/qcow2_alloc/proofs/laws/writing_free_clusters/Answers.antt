@@ -1,0 +1,5 @@
+use Rattle.qcow2_alloc.proofs.FreeRuns.{run-quietly, run-counts}
+use Rattle.qcow2_alloc.proofs.laws.writing_free_clusters.Goals as goal
+
+pub returns : goal.returns
+returns c = record { quietly = run-quietly; counts = run-counts }

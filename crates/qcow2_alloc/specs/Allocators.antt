@@ -1,0 +1,85 @@
+-- What contracts see of an allocator, and how a counter of a block is read or changed.
+use Rattle.std.specs.Prelude.{◌≡◌, ◌⊎◌, ℕ, ◌-◌, ◌/◌, ◌%◌, ◌<◌, ◌≤◌, ◌^◌, Option, Some, None, Result, Ok, Err, MatchOption, IfErr, IfOk, OnOk, nat_eq, if◌then◌else◌, ◌==◌, List, slice_index, length}
+use Rattle.std.specs.Option.{option_map}
+use Rattle.std.specs.Map.{lookup}
+use Rattle.imago_storage.specs.State.{StorageState}
+use Rattle.imago_storage.specs.Calls.{Kept}
+use Rattle.imago_storage.specs.declared.fault.Fault.{Fault}
+use Rattle.imago_storage.specs.declared.fault.Fault.TheVariants.{DamagedTable, Counter}
+use Rattle.qcow2_types.specs.Bytes.{bytes_of}
+use Rattle.qcow2_types.specs.Header.{Fields, cluster_size, refcount_table_entries, layout_of}
+use Rattle.qcow2_types.specs.Counts.{counters_of_block}
+use Rattle.qcow2_types.specs.Words.{block_offset, max_offset}
+use Rattle.qcow2_types.specs.Pending.{FreeEntry}
+use Rattle.qcow2_metadata.specs.Tables.{TableValue, WhyNotLoaded, block_words, words_in, table_in}
+use Rattle.qcow2_metadata.specs.Blocks.{Block, with_counter}
+use Rattle.qcow2_alloc.specs.declared.allocation.Allocator.{Allocator}
+use Rattle.qcow2_alloc.specs.declared.cache.MetadataCaches.{MetadataCaches}
+use Rattle.qcow2_alloc.specs.declared.file.ImageFile.{ImageFile}
+use Rattle.qcow2_alloc.specs.Cache.{hit}
+use Rattle.qcow2_alloc.specs.Caches.{cached_in, order_of}
+use Rattle.qcow2_alloc.specs.CachesLending.{with_blocks}
+use Rattle.qcow2_alloc.specs.Finding.{BlockFound}
+use Rattle.qcow2_alloc.specs.Quiet.{Metadata, IsTableOf}
+
+-- the refcount table in memory, and the cluster where the search for free ones begins
+abbrev pub table_of : Allocator → TableValue
+table_of a = a.reftable
+
+abbrev pub mark_of : Allocator → ℕ
+mark_of a = a.first_free_cluster
+
+-- the cluster of the block that a word of the refcount table names, if it names one
+abbrev pub named_block : TableValue → ℕ → Option ℕ
+named_block table i = if block_offset (slice_index table.words i) == 0 then None else Some (block_offset (slice_index table.words i) / 2 ^ table.layout.cluster_bits)
+
+-- all that contracts see of an image that is lent with its caches, its allocator and the list of clusters to free
+abbrev pub metadata_of : {S : Type 0} → (S → StorageState) → ImageFile S → MetadataCaches S → TableValue → List FreeEntry → Metadata
+metadata_of state file caches table pending = record {
+  file = bytes_of (state file.image).bytes;
+  header = file.header;
+  cached = cached_in caches;
+  order = order_of caches;
+  table = table;
+  pending = pending;
+}
+
+-- The block in a cluster is found and used so.
+pub record BlockUsed {S T : Type 0} (state : S → StorageState) (cluster : ℕ) (does : Block → Result T Fault → Block → Type 0) (old : MetadataCaches S) (before : ImageFile S) (result : Result T Fault) (new : MetadataCaches S) (after : ImageFile S) : Type 0 where
+  pub mid : MetadataCaches S
+  pub found : BlockFound state cluster old before (Ok tt) mid after
+  pub block : Block
+  pub block' : Block
+  pub there : option_map (λ s. s.value) (lookup (nat_eq cluster) (cached_in mid).blocks) ≡ Some block
+  pub used : does block result block'
+  pub left : new ≡ with_blocks mid (hit (nat_eq cluster) (cached_in mid).blocks block')
+
+-- It is found and used so, or the search is refused.
+abbrev pub UsesBlock : {S T : Type 0} → (S → StorageState) → ℕ → (Block → Result T Fault → Block → Type 0) → MetadataCaches S → ImageFile S → Result T Fault → MetadataCaches S → ImageFile S → Type 0
+UsesBlock state cluster does old before result new after = ((fault : Fault) × (result ≡ Err fault) × BlockFound state cluster old before (Err fault) new after) ⊎ BlockUsed state cluster does old before result new after
+
+-- How a counter of a block is lowered by 1: it is refused where there is no such counter or where it is 0.
+pub record Lowers (index : ℕ) (block : Block) (result : Result Unit Fault) (block' : Block) : Type 0 where
+  pub out : length block.counters ≤ index → (result ≡ Err DamagedTable) × (block' ≡ block)
+  pub none : index < length block.counters → slice_index block.counters index ≡ 0 → (result ≡ Err Counter) × (block' ≡ block)
+  pub some : index < length block.counters → 0 < slice_index block.counters index → (result ≡ Ok tt) × (block' ≡ with_counter block index (slice_index block.counters index - 1))
+
+-- A cluster is counted down in the block that counts it, as a word of the refcount table names it; where none does it isn't counted.
+abbrev pub LowersCluster : {S : Type 0} → (S → StorageState) → TableValue → ℕ → MetadataCaches S → ImageFile S → Result Unit Fault → MetadataCaches S → ImageFile S → Type 0
+LowersCluster state table cluster old before result new after = MatchOption (named_block table (cluster / counters_of_block before.header.fields))
+    ((result ≡ Err Counter) × (new ≡ old) × (after ≡ before))
+    (λ key. UsesBlock state key (Lowers (cluster % counters_of_block before.header.fields)) old before result new after)
+
+-- The refcount table begins with a cluster that words can name.
+pub record IsTablePlaced (h : Fields) : Type 0 where
+  pub aligned : h.refcount_table_offset % cluster_size h ≡ 0
+  pub reach : h.refcount_table_offset ≤ max_offset
+
+-- An allocator was loaded: its table is the file's, and of a consistent image names the blocks that the file's does.
+pub record LoadsAllocator (old : StorageState) (h : Fields) (result : Result Allocator Fault) (new : StorageState) : Type 0 where
+  pub ok : IfOk result (λ a. IsTablePlaced h × (table_of a ≡ table_in (bytes_of old.bytes) h (h.refcount_table_offset / cluster_size h) (refcount_table_entries h)) × (mark_of a ≡ 0))
+  pub table : IfOk result (λ a. 0 < refcount_table_entries h → IsTableOf (bytes_of old.bytes) h (table_of a))
+  pub out : (IsTablePlaced h → ⊥) → (result ≡ Err DamagedTable) × (new ≡ old)
+  pub err : IsTablePlaced h → IfErr result (WhyNotLoaded block_words (layout_of h) (words_in (bytes_of old.bytes) h.refcount_table_offset (refcount_table_entries h)) old.faults new.faults)
+  pub kept : Kept old new
+  pub faults : OnOk result (new.faults ≡ old.faults)

@@ -1,0 +1,95 @@
+-- Changes of what is cached: a counter of a block, or a word of a table. The entry that is changed was used, and so goes first.
+use Rattle.std.specs.Prelude.{◌≡◌, ◌≢◌, ℕ, ◌+◌, ◌*◌, ◌/◌, ◌%◌, ◌<◌, ◌≤◌, Bool, true, false, Option, Some, None, nat_eq}
+use Rattle.std.specs.Option.{option_map}
+use Rattle.std.specs.Map.{lookup}
+use Rattle.qcow2_types.specs.Bytes.{Bytes}
+use Rattle.qcow2_types.specs.Words.{Mapping, data_at, zeroes}
+use Rattle.qcow2_types.specs.Header.{Fields, Header, cluster_size, words_of_cluster}
+use Rattle.qcow2_types.specs.Entries.{l2_table}
+use Rattle.qcow2_types.specs.Counts.{block_at, counters_of_block}
+use Rattle.qcow2_types.specs.References.{of_mapping, of_copied, meets, refs}
+use Rattle.qcow2_types.specs.Slots.{slot as slot_in}
+use Rattle.qcow2_types.specs.Steps.{CounterWritten, SlotWritten}
+use Rattle.qcow2_types.specs.Versions.{named}
+use Rattle.qcow2_metadata.specs.Tables.{TableValue, with_word}
+use Rattle.qcow2_metadata.specs.Blocks.{Block, with_counter}
+use Rattle.qcow2_alloc.specs.declared.cache.CacheDependency.{CacheDependency}
+use Rattle.qcow2_alloc.specs.declared.cache.CacheDependency.TheVariants.{RbDependsOnL2}
+use Rattle.qcow2_alloc.specs.Cache.{hit}
+use Rattle.qcow2_alloc.specs.Memory.{Cached, memory}
+use Rattle.qcow2_alloc.specs.Safety.{Safe}
+
+-- What is cached stays safe, and means what it did.
+pub record StaysAsItIs (f : Bytes) (H : Header) (cached : Cached) (order : CacheDependency) (cached' : Cached) : Type 0 where
+  pub safe : Safe f H cached' order
+  pub memory_same : memory f H.fields cached' ≡ memory f H.fields cached
+
+-- This block, which counts cluster c, is cached at the key.
+pub record CachesBlock (f : Bytes) (h : Fields) (cached : Cached) (key c : ℕ) (block : Block) : Type 0 where
+  pub there : option_map (λ s. s.value) (lookup (nat_eq key) cached.blocks) ≡ Some block
+  pub counts : block_at f h (c / counters_of_block h) ≡ key * cluster_size h
+  pub some : key ≢ 0
+
+-- The counter of cluster c was set to n there.
+pub record SetsCounter (f : Bytes) (h : Fields) (cached : Cached) (key c n : ℕ) (cached' : Cached) : Type 0 where
+  pub block : Block
+  pub caches : CachesBlock f h cached key c block
+  pub blocks : cached'.blocks ≡ hit (nat_eq key) cached.blocks (with_counter block (c % counters_of_block h) n)
+  pub tables : cached'.tables ≡ cached.tables
+
+-- What is cached stays safe. In memory cluster c is counted n times then, and nothing else changed.
+pub record CounterChanged (f : Bytes) (H : Header) (order : CacheDependency) (cached : Cached) (c n : ℕ) (cached' : Cached) : Type 0 where
+  pub safe : Safe f H cached' order
+  pub written : CounterWritten (memory f H.fields cached) (memory f H.fields cached') H c n
+  pub names : (d : ℕ) → named f (memory f H.fields cached') H.fields d ≡ named f (memory f H.fields cached) H.fields d
+
+-- Where cluster c is counted n times what names it is covered: while the tables are to be written first what does in memory, and else
+-- also what does in the file.
+abbrev pub IsStillCovered : CacheDependency → Bytes → Bytes → Fields → ℕ → ℕ → Type 0
+IsStillCovered RbDependsOnL2 f g h c n = refs g h c ≤ n
+IsStillCovered order f g h c n = named f g h c ≤ n
+
+-- This L2 table, which word i of the L1 table names, is cached at the key.
+pub record CachesTable (f : Bytes) (h : Fields) (cached : Cached) (key i : ℕ) (table : TableValue) : Type 0 where
+  pub there : option_map (λ s. s.value) (lookup (nat_eq key) cached.tables) ≡ Some table
+  pub inside : i < h.l1_entries
+  pub place : l2_table f h i ≡ key * cluster_size h
+  pub some : key ≢ 0
+
+-- Word j was set to w there.
+pub record SetsWord (f : Bytes) (h : Fields) (cached : Cached) (key i j w : ℕ) (cached' : Cached) : Type 0 where
+  pub table : TableValue
+  pub caches : CachesTable f h cached key i table
+  pub inside : j < words_of_cluster h
+  pub tables : cached'.tables ≡ hit (nat_eq key) cached.tables (with_word table j w)
+  pub blocks : cached'.blocks ≡ cached.blocks
+
+-- What is cached stays safe. Word j of L2 table i meant `old` in memory, and means `new` then: what names a cluster changes by that, and
+-- nothing else.
+pub record WordChanged (f : Bytes) (H : Header) (order : CacheDependency) (cached : Cached) (i j : ℕ) (old new : Mapping) (cached' : Cached) : Type 0 where
+  pub safe : Safe f H cached' order
+  pub was : slot_in (memory f H.fields cached) H.fields i j ≡ old
+  pub written : SlotWritten (memory f H.fields cached) (memory f H.fields cached') H i j new
+  pub references : (c : ℕ) → refs (memory f H.fields cached') H.fields c + of_mapping H.fields (meets H.fields c) old ≡ refs (memory f H.fields cached) H.fields c + of_mapping H.fields (meets H.fields c) new
+
+-- The new mapping names no cluster that the old one didn't, and none as copied that wasn't.
+abbrev pub NamesNoMore : Fields → Mapping → Mapping → Type 0
+NamesNoMore h old new = (c : ℕ) → (of_mapping h (meets h c) new ≤ of_mapping h (meets h c) old) × (of_copied h (meets h c) new ≤ of_copied h (meets h c) old)
+
+-- The same, where the new mapping names no more: no cluster is named more often.
+pub record NamesDropped (f : Bytes) (H : Header) (order : CacheDependency) (cached : Cached) (i j : ℕ) (old new : Mapping) (cached' : Cached) : Type 0 where
+  pub changed : WordChanged f H order cached i j old new cached'
+  pub references : (c : ℕ) → refs (memory f H.fields cached') H.fields c ≤ refs (memory f H.fields cached) H.fields c
+  pub names : (c : ℕ) → named f (memory f H.fields cached') H.fields c ≤ named f (memory f H.fields cached) H.fields c
+
+-- The same, where it names cluster x, which nothing named: x is named once, and no other cluster more often than before.
+pub record ClusterNamed (f : Bytes) (H : Header) (order : CacheDependency) (cached : Cached) (i j : ℕ) (old : Mapping) (x : ℕ) (cached' : Cached) : Type 0 where
+  pub changed : WordChanged f H order cached i j old (data_at x true) cached'
+  pub references : refs (memory f H.fields cached') H.fields x ≡ 1
+  pub names : named f (memory f H.fields cached') H.fields x ≡ 1
+  pub others : (c : ℕ) → c ≢ x → named f (memory f H.fields cached') H.fields c ≤ named f (memory f H.fields cached) H.fields c
+
+-- what a word means that is zeroed, and keeps this host cluster with its mark, or none
+abbrev pub zeroed : Option (ℕ × Bool) → Mapping
+zeroed None = zeroes None false
+zeroed (Some kept) = zeroes (Some kept.0) kept.1

@@ -1,0 +1,22 @@
+-- How all that isn't pinned is dropped of a cache.
+use Rattle.std.specs.Prelude.{◌≡◌, [], OnOk, IfErr, List, Result, ℕ}
+use Rattle.imago_storage.specs.declared.fault.Fault.{Fault}
+use Rattle.imago_storage.specs.declared.fault.Fault.TheVariants.{CacheFull}
+use Rattle.qcow2_types.specs.Bytes.{Bytes}
+use Rattle.qcow2_types.specs.Header.{Header}
+use Rattle.qcow2_alloc.specs.declared.async_lru_cache.Slot.{Slot}
+use Rattle.qcow2_alloc.specs.declared.cache.CacheDependency.{CacheDependency}
+use Rattle.qcow2_alloc.specs.Cache.{kept_pinned}
+use Rattle.qcow2_alloc.specs.Memory.{Cached, memory}
+use Rattle.qcow2_alloc.specs.Safety.{Safe}
+
+-- What of the entries stays, and the answer.
+pub record Dropped {V : Type 0} (es : List (ℕ × Slot V)) (result : Result Unit Fault) (es' : List (ℕ × Slot V)) : Type 0 where
+  pub kept : es' ≡ kept_pinned es
+  pub ok : OnOk result (kept_pinned es ≡ [])
+  pub err : IfErr result (λ fault. (fault ≡ CacheFull) × (kept_pinned es ≡ [] → ⊥))
+
+-- An image of which nothing is to be written stays safe, and the same.
+pub record StaysSafe (old new : Cached) (order : CacheDependency) : Type 0 where
+  pub safe : (f : Bytes) (H : Header) → Safe f H old order → Safe f H new order
+  pub memory_same : (f : Bytes) (H : Header) → memory f H.fields new ≡ memory f H.fields old

@@ -1,0 +1,91 @@
+-- How L2 tables and refcount blocks are found in their caches, or loaded into them.
+use Rattle.std.specs.Prelude.{◌≡◌, ◌⊎◌, ℕ, ◌*◌, ◌<◌, ◌≤◌, ◌∷◌, ⊤, IsSome, OnOk, OnErr, Ok, Result, MatchResult, List, None, cond, length, map, nat_eq, nat_lt}
+use Rattle.std.specs.Option.{option_map_or}
+use Rattle.std.specs.List.{AllByRecursion}
+use Rattle.std.specs.Map.{lookup, remove_entry}
+use Rattle.imago_storage.specs.State.{StorageState, Rose}
+use Rattle.imago_storage.specs.Calls.{Kept}
+use Rattle.imago_storage.specs.declared.fault.Fault.{Fault}
+use Rattle.imago_storage.specs.declared.fault.Fault.TheVariants.{Memory, Storage, DamagedTable, CacheFull}
+use Rattle.qcow2_types.specs.Bytes.{Bytes, bytes_of}
+use Rattle.qcow2_types.specs.Header.{Fields, cluster_size, words_of_cluster, layout_of}
+use Rattle.qcow2_metadata.specs.Places.{IsInReach}
+use Rattle.qcow2_metadata.specs.Tables.{HasUnsound, l2_words, table_in, words_in}
+use Rattle.qcow2_metadata.specs.Blocks.{block_in}
+use Rattle.qcow2_alloc.specs.declared.async_lru_cache.Slot.{Slot}
+use Rattle.qcow2_alloc.specs.declared.cache.CacheDependency.TheVariants.{L2DependsOnRb, RbDependsOnL2}
+use Rattle.qcow2_alloc.specs.declared.cache.MetadataCaches.{MetadataCaches}
+use Rattle.qcow2_alloc.specs.declared.file.ImageFile.{ImageFile}
+use Rattle.qcow2_alloc.specs.Cache.{victim}
+use Rattle.qcow2_alloc.specs.Caches.{cached_in, order_of, HasRoomOf}
+use Rattle.qcow2_alloc.specs.Going.{Going, Always, IsWhole, AreTablesInReach, AreBlocksInReach}
+use Rattle.qcow2_alloc.specs.Memory.{written_table, written_block}
+
+module _ {V : Type 0} where
+  -- The entries of a cache of so many once there is room for one more: where it is full, the least recently used one that isn't pinned goes.
+  abbrev pub with_room : ℕ → List (ℕ × Slot V) → List (ℕ × Slot V)
+  with_room cap es = cond (nat_lt (length es) cap) es (option_map_or (λ key. remove_entry (nat_eq key) es) (victim es) es)
+
+  -- No room can be made: each entry is pinned.
+  pub record IsPinnedFull (cap : ℕ) (es : List (ℕ × Slot V)) : Type 0 where
+    pub full : cap ≤ length es
+    pub pinned : AllByRecursion (λ e. 0 < e.1.pins) es
+
+  -- No entry is pinned.
+  abbrev pub AreUnpinned : List (ℕ × Slot V) → Type 0
+  AreUnpinned = AllByRecursion (λ e. e.1.pins ≡ 0)
+
+  -- What the search of a key leaves of the entries of a cache of so many, where `read` is what the file has there and `written` an entry
+  -- once it is flushed. One that is there stays where it is; else what was read goes first.
+  pub record Sought (written : ℕ × Slot V → ℕ × Slot V) (cap key : ℕ) (read : V) (es : List (ℕ × Slot V)) (result : Result Unit Fault) (es' : List (ℕ × Slot V)) : Type 0 where
+    pub there : IsSome (lookup (nat_eq key) es) → es' ≡ es
+    pub loaded : lookup (nat_eq key) es ≡ None → OnOk result (es' ≡ (key, record { value = read; pins = 0 }) ∷ with_room cap es)
+    pub refused : OnErr result ((map written es' ≡ map written es) ⊎ (es' ≡ with_room cap es))
+    pub unpinned : AreUnpinned es → AreUnpinned es'
+
+-- Why a search was refused, by the counts of faults before and after, where `fine` says that words can name what is loaded and written
+-- and that what is loaded is sound. `Memory` may come behind a fault of the storage.
+abbrev pub WhyNotFound : Type 0 → Type 0 → ℕ → ℕ → Fault → Type 0
+WhyNotFound fine full before after Memory = ⊤
+WhyNotFound fine full before after Storage = Rose before after
+WhyNotFound fine full before after DamagedTable = fine → ⊥
+WhyNotFound fine full before after CacheFull = full
+WhyNotFound fine full before after fault = ⊥
+
+-- the count of faults after it
+abbrev pub CountsSearch : Type 0 → Type 0 → ℕ → ℕ → Result Unit Fault → Type 0
+CountsSearch fine full before after result = MatchResult result (λ _. after ≡ before) (WhyNotFound fine full before after)
+
+-- Words can name the table in this cluster, and the file has it sound.
+pub record IsTableFine (f : Bytes) (h : Fields) (cluster : ℕ) : Type 0 where
+  pub reach : IsInReach h.cluster_bits cluster
+  pub sound : HasUnsound l2_words (layout_of h) (words_in f (cluster * cluster_size h) (words_of_cluster h)) → ⊥
+
+-- What the search of an L2 table does.
+pub record TableFound {S : Type 0} (state : S → StorageState) (cluster : ℕ) (old : MetadataCaches S) (before : ImageFile S) (result : Result Unit Fault) (new : MetadataCaches S) (after : ImageFile S) : Type 0 where
+  pub going : Going before.header (order_of old) Always (IsWhole result) (state before.image) (cached_in old) (state after.image) (cached_in new)
+  -- One that is there is found: nothing else happens.
+  pub hit : IsSome (lookup (nat_eq cluster) (cached_in old).tables) → (result ≡ Ok tt) × (new ≡ old) × (after ≡ before)
+  pub there : OnOk result (IsSome (lookup (nat_eq cluster) (cached_in new).tables))
+  pub sought : Sought written_table old.l2.slots.cap cluster (table_in (bytes_of (state after.image).bytes) before.header.fields cluster (words_of_cluster before.header.fields)) (cached_in old).tables result (cached_in new).tables
+  -- Where there is room nothing is written,
+  pub roomy : length (cached_in old).tables < old.l2.slots.cap → Kept (state before.image) (state after.image) × (new.rb ≡ old.rb)
+  -- and blocks are only where they come first.
+  pub blocks : map written_block (cached_in new).blocks ≡ map written_block (cached_in old).blocks
+  pub apart : (order_of old ≡ L2DependsOnRb → ⊥) → new.rb ≡ old.rb
+  pub others : (new.order ≡ old.order) × (after.header ≡ before.header)
+  pub room : HasRoomOf old new
+  pub cause : CountsSearch (IsTableFine (bytes_of (state after.image).bytes) before.header.fields cluster × AreTablesInReach (cached_in old) × AreBlocksInReach (cached_in old)) (IsPinnedFull old.l2.slots.cap (cached_in old).tables) (state before.image).faults (state after.image).faults result
+
+-- The same of a refcount block.
+pub record BlockFound {S : Type 0} (state : S → StorageState) (cluster : ℕ) (old : MetadataCaches S) (before : ImageFile S) (result : Result Unit Fault) (new : MetadataCaches S) (after : ImageFile S) : Type 0 where
+  pub going : Going before.header (order_of old) Always (IsWhole result) (state before.image) (cached_in old) (state after.image) (cached_in new)
+  pub hit : IsSome (lookup (nat_eq cluster) (cached_in old).blocks) → (result ≡ Ok tt) × (new ≡ old) × (after ≡ before)
+  pub there : OnOk result (IsSome (lookup (nat_eq cluster) (cached_in new).blocks))
+  pub sought : Sought written_block old.rb.slots.cap cluster (block_in (bytes_of (state after.image).bytes) before.header.fields cluster) (cached_in old).blocks result (cached_in new).blocks
+  pub roomy : length (cached_in old).blocks < old.rb.slots.cap → Kept (state before.image) (state after.image) × (new.l2 ≡ old.l2)
+  pub tables : map written_table (cached_in new).tables ≡ map written_table (cached_in old).tables
+  pub apart : (order_of old ≡ RbDependsOnL2 → ⊥) → new.l2 ≡ old.l2
+  pub others : (new.order ≡ old.order) × (after.header ≡ before.header)
+  pub room : HasRoomOf old new
+  pub cause : CountsSearch (IsInReach before.header.fields.cluster_bits cluster × AreTablesInReach (cached_in old) × AreBlocksInReach (cached_in old)) (IsPinnedFull old.rb.slots.cap (cached_in old).blocks) (state before.image).faults (state after.image).faults result

@@ -1,0 +1,115 @@
+-- How room is made to count clusters: free clusters are written, and become blocks or another refcount table.
+use Rattle.std.specs.Prelude.{◌≡◌, ◌≢◌, ◌⊎◌, true, ℕ, ◌+◌, ◌*◌, ◌/◌, ◌%◌, ◌<◌, ◌≤◌, ◌==◌, if◌then◌else◌, Bool, IsTrue, Some, length, slice_index}
+use Rattle.std.specs.List.{AllByRecursion}
+use Rattle.qcow2_types.specs.Bytes.{Bytes, word}
+use Rattle.qcow2_types.specs.Header.{cluster_size, words_of_cluster, refcount_table_entries, layout_of}
+use Rattle.qcow2_types.specs.Words.{block_offset, block_word_sound}
+use Rattle.qcow2_types.specs.Counts.{block_at, count, counter, counters_of_block}
+use Rattle.qcow2_types.specs.Pending.{FreeEntry}
+use Rattle.qcow2_alloc.specs.FreeList.{covers}
+use Rattle.qcow2_metadata.specs.Blocks.{counters_in}
+use Rattle.qcow2_types.specs.References.{meets}
+use Rattle.qcow2_types.specs.Switched.{newly_named, with_reftable, with_refcount_table}
+use Rattle.qcow2_metadata.specs.Tables.{TableValue, with_word}
+use Rattle.qcow2_metadata.specs.Places.{IsInReach}
+use Rattle.qcow2_alloc.specs.Quiet.{Metadata, counted, referenced, named_at_all, waiting, one_at}
+
+-- Each cluster is counted and named as often as it was, in the file and in memory.
+pub record CountsTheSame (old new : Metadata) : Type 0 where
+  pub file : (c : ℕ) → count new.file new.header.fields c ≡ count old.file old.header.fields c
+  pub memory : (c : ℕ) → counted new c ≡ counted old c
+  pub references : (c : ℕ) → referenced new c ≡ referenced old c
+  pub names : (c : ℕ) → named_at_all new c ≡ named_at_all old c
+
+-- Cluster d can become block i, which there isn't yet: nothing names it and nothing waits to free it, and it has the bytes of a block that
+-- counts no cluster but perhaps itself. Where another block counts it, it is counted. What is cached of it has these counters.
+pub record IsReadyBlock (m : Metadata) (i d : ℕ) : Type 0 where
+  pub inside : i < refcount_table_entries m.header.fields
+  pub empty : block_offset (slice_index m.table.words i) ≡ 0
+  pub some : d ≢ 0
+  pub reach : IsInReach m.header.fields.cluster_bits d
+  pub unnamed : named_at_all m d ≡ 0
+  pub unlisted : waiting m d ≡ 0
+  pub counters : (c : ℕ) → c / counters_of_block m.header.fields ≡ i → counter m.file m.header.fields (d * cluster_size m.header.fields) (c % counters_of_block m.header.fields) ≡ one_at d c
+  pub counted : d / counters_of_block m.header.fields ≢ i → (1 ≤ count m.file m.header.fields d) × (1 ≤ counted m d)
+  pub cached : AllByRecursion (λ e. e.0 ≡ d → e.1.value.counters ≡ counters_in m.file m.header.fields (d * cluster_size m.header.fields)) m.cached.blocks
+
+-- The image with this file, where word i of the refcount table in memory names cluster d. The table may be marked as modified or not.
+abbrev pub with_block : Metadata → ℕ → ℕ → Bool → Bytes → Metadata
+with_block m i d modified file = record m { file = file; table = record (with_word m.table i (d * cluster_size m.header.fields)) { modified = modified } }
+
+-- Cluster d became block i: it is named, and counts its clusters as its bytes say. Nothing else is counted or named otherwise.
+pub record BlockNamed (old new : Metadata) (i d : ℕ) : Type 0 where
+  pub here : block_at new.file new.header.fields i ≡ d * cluster_size old.header.fields
+  pub blocks : (b : ℕ) → b ≢ i → block_at new.file new.header.fields b ≡ block_at old.file old.header.fields b
+  pub own : (c : ℕ) → c / counters_of_block old.header.fields ≡ i → (counted old c ≡ 0) × (counted new c ≡ one_at d c) × (count new.file new.header.fields c ≡ one_at d c)
+  pub others : (c : ℕ) → c / counters_of_block old.header.fields ≢ i → (counted new c ≡ counted old c) × (count new.file new.header.fields c ≡ count old.file old.header.fields c)
+  pub references : (c : ℕ) → referenced new c ≡ referenced old c + one_at d c
+  pub names : (c : ℕ) → named_at_all new c ≡ named_at_all old c + one_at d c
+
+-- How often cluster c is one of a new refcount table of n clusters at cluster t, or of the blocks that this names where the old one named
+-- none; and how often it is one of the old table.
+abbrev pub newly : Metadata → ℕ → ℕ → ℕ → ℕ
+newly m t n c = newly_named m.file m.header.fields (t * cluster_size m.header.fields) n (meets m.header.fields c)
+
+abbrev pub formerly : Metadata → ℕ → ℕ
+formerly m c = meets m.header.fields c m.header.fields.refcount_table_offset (m.header.fields.refcount_table_clusters * cluster_size m.header.fields)
+
+-- what of these an old block counts
+abbrev pub newly_counted : Metadata → ℕ → ℕ → ℕ → ℕ
+newly_counted m t n c = if block_at m.file m.header.fields (c / counters_of_block m.header.fields) == 0 then 0 else newly m t n c
+
+-- This table of n clusters stands at cluster t of the file, and can become the refcount table. It names the blocks that the old one does, and
+-- perhaps new ones, and stands apart from these, in clusters that nothing names and nothing waits to free. Each of them is counted: by an
+-- old block, in the file and in memory, or by a new one, which counts no other. What is cached of the new blocks has their counters.
+pub record IsReadyTable (m : Metadata) (table : TableValue) (t n : ℕ) : Type 0 where
+  pub layout : table.layout ≡ layout_of m.header.fields
+  pub long : length table.words ≡ n * words_of_cluster m.header.fields
+  pub placed : table.cluster ≡ Some t
+  pub written : (i : ℕ) → i < length table.words → word m.file (t * cluster_size m.header.fields) i ≡ slice_index table.words i
+  pub sane : (i : ℕ) → i < length table.words → IsTrue (block_word_sound m.header.fields.cluster_bits (slice_index table.words i))
+  pub olds : (i : ℕ) → i < length m.table.words → block_offset (slice_index m.table.words i) ≢ 0 → (i < length table.words) × (block_offset (slice_index table.words i) ≡ block_offset (slice_index m.table.words i))
+  pub once : (c : ℕ) → newly m t n c ≤ 1
+  pub free : (c : ℕ) → 0 < newly m t n c → (named_at_all m c ≡ 0) × (waiting m c ≡ 0)
+  pub own : (c : ℕ) → block_at m.file m.header.fields (c / counters_of_block m.header.fields) ≡ 0 → count m.file (with_reftable m.header.fields (t * cluster_size m.header.fields) n) c ≡ newly m t n c
+  pub others : (c : ℕ) → block_at m.file m.header.fields (c / counters_of_block m.header.fields) ≢ 0 → (newly m t n c ≤ count m.file m.header.fields c) × (newly m t n c ≤ counted m c)
+  pub cached : AllByRecursion (λ e. (b : ℕ) → block_at m.file m.header.fields b ≡ 0 → block_at m.file (with_reftable m.header.fields (t * cluster_size m.header.fields) n) b ≡ e.0 * cluster_size m.header.fields → e.0 ≢ 0
+      → e.1.value.counters ≡ counters_in m.file m.header.fields (e.0 * cluster_size m.header.fields)) m.cached.blocks
+
+-- The image with this file, where this table of n clusters at cluster t is the refcount table.
+abbrev pub with_table : Metadata → TableValue → ℕ → ℕ → Bytes → Metadata
+with_table m table t n file = record m { file = file; header = with_refcount_table m.header (t * cluster_size m.header.fields) n; table = table }
+
+-- It became the refcount table: its clusters and the new blocks are named, and the old table no longer.
+pub record TableSwitched (old new : Metadata) (t n : ℕ) : Type 0 where
+  pub own : (c : ℕ) → block_at old.file old.header.fields (c / counters_of_block old.header.fields) ≡ 0 → (counted old c ≡ 0) × (counted new c ≡ newly old t n c) × (count new.file new.header.fields c ≡ newly old t n c)
+  pub others : (c : ℕ) → block_at old.file old.header.fields (c / counters_of_block old.header.fields) ≢ 0 → (counted new c ≡ counted old c) × (count new.file new.header.fields c ≡ count old.file old.header.fields c)
+  pub references : (c : ℕ) → referenced new c + formerly old c ≡ referenced old c + newly old t n c
+  pub names : (c : ℕ) → named_at_all new c + formerly old c ≡ named_at_all old c + newly old t n c
+
+-- clusters in a row
+abbrev pub run_of : ℕ → ℕ → FreeEntry
+run_of first count = record { first = first; count = count; metadata = true }
+
+-- From cluster s on stand so many new blocks, and behind them this table of n clusters, where nothing was named and nothing waits to be
+-- freed. The table names the blocks from its word b on, where the old one names none, and else what that does. Each cluster of the run is
+-- counted: the new blocks count those that are theirs and no other, and old blocks the rest, in the file and in memory. What is cached of
+-- the new blocks has their counters.
+pub record IsGrownTable (m : Metadata) (table : TableValue) (s b blocks n : ℕ) : Type 0 where
+  pub layout : table.layout ≡ layout_of m.header.fields
+  pub long : length table.words ≡ n * words_of_cluster m.header.fields
+  pub placed : table.cluster ≡ Some (s + blocks)
+  pub written : (i : ℕ) → i < length table.words → word m.file ((s + blocks) * cluster_size m.header.fields) i ≡ slice_index table.words i
+  pub sane : (i : ℕ) → i < length table.words → IsTrue (block_word_sound m.header.fields.cluster_bits (slice_index table.words i))
+  pub longer : length m.table.words ≤ length table.words
+  pub inside : b + blocks ≤ length table.words
+  pub some : s ≢ 0
+  pub news : (j : ℕ) → j < blocks → block_offset (slice_index table.words (b + j)) ≡ (s + j) * cluster_size m.header.fields
+  pub empty : (j : ℕ) → j < blocks → block_offset (slice_index m.table.words (b + j)) ≡ 0
+  pub olds : (i : ℕ) → (i < b) ⊎ (b + blocks ≤ i) → block_offset (slice_index table.words i) ≡ block_offset (slice_index m.table.words i)
+  pub free : (c : ℕ) → 0 < covers c (run_of s (blocks + n)) → (named_at_all m c ≡ 0) × (waiting m c ≡ 0)
+  pub counters : (j c : ℕ) → j < blocks → c / counters_of_block m.header.fields ≡ b + j
+      → counter m.file m.header.fields ((s + j) * cluster_size m.header.fields) (c % counters_of_block m.header.fields) ≡ covers c (run_of s (blocks + n))
+  pub counted : (c : ℕ) → 0 < covers c (run_of s (blocks + n)) → (c / counters_of_block m.header.fields < b) ⊎ (b + blocks ≤ c / counters_of_block m.header.fields)
+      → (1 ≤ count m.file m.header.fields c) × (1 ≤ counted m c)
+  pub cached : AllByRecursion (λ e. (j : ℕ) → j < blocks → e.0 ≡ s + j → e.1.value.counters ≡ counters_in m.file m.header.fields (e.0 * cluster_size m.header.fields)) m.cached.blocks

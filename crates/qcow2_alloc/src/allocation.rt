@@ -1,0 +1,308 @@
+//! Who gets which cluster of an image file: allocation, and the freeing of what nothing names any more.
+ghost use Rattle.std.specs.Prelude.{◌≡◌, ◌≤◌, ◌<◌, ◌-◌, ◌%◌, ◌^◌, ◌+◌, ℕ, Ok, Err, OnOk, OnErr, IfOk, IfErr, Some, None, slice_index, length, min, not, [], Result, MatchOption};
+ghost use Rattle.imago_storage.specs.declared.fault.Fault.{Fault};
+ghost use Rattle.qcow2_metadata.specs.Blocks.{Block, with_counter};
+ghost use Rattle.qcow2_alloc.specs.Allocators.{table_of, mark_of, named_block, UsesBlock, Lowers, LowersCluster, LoadsAllocator};
+ghost use Rattle.std.specs.List.{filter, remove};
+ghost use Rattle.qcow2_alloc.specs.declared.cache.CacheDependency.TheVariants.{RbDependsOnL2};
+ghost use Rattle.qcow2_alloc.specs.Caches.{cached_in, order_of, HasRoomOf};
+ghost use Rattle.qcow2_alloc.specs.Dropping.{Dropped, StaysSafe};
+ghost use Rattle.qcow2_alloc.specs.Safety.{AreBlocksClean};
+ghost use Rattle.qcow2_alloc.specs.FreeList.{entry_at, shortened};
+ghost use Rattle.qcow2_alloc.specs.Freeing.{Frees, MayFree};
+ghost use Rattle.qcow2_alloc.specs.Finding.{BlockFound};
+
+use crate::cache::MetadataCaches;
+use crate::clusters_to_free::ClustersToFreeList;
+use crate::file::{ImageFile, is_in_reach};
+use imago_storage::{Fault, Storage};
+use qcow2_metadata::{RefBlock, RefTable, Table};
+use qcow2_types::{ClusterCount, ClustersToFreeEntry, HostCluster};
+use std::alloc::Global;
+
+#[cfg(test)]
+mod tests;
+
+/// The allocator of the clusters of an image file: its refcount table in memory, and where the search for free clusters begins.
+#[derive(Drop)]
+pub struct Allocator {
+    alloc: Global,
+    pub(crate) reftable: RefTable,
+    pub(crate) first_free_cluster: HostCluster,
+}
+
+impl Allocator {
+    /// The allocator of an image: its refcount table is loaded, and the search for free clusters begins at cluster 0.
+    ///
+    /// It refuses with `Fault::DamagedTable` where the table doesn't begin with a cluster that words can name, and then asks nothing of the
+    /// storage, or where one of its words has no meaning; with `Fault::Limit` where the table has more than 2^20 words; with `Fault::Memory`;
+    /// and with `Fault::Storage`.
+    pub fn new<S: Storage>(alloc: Global, file: &mut ImageFile<S>) -> Result<Allocator, Fault>
+        ensures loads { LoadsAllocator (S.state file.old.image) file.old.header.fields result (S.state file.new.image) }
+        ensures header { file.new.header ≡ file.old.header }
+    {
+        let bits = file.header.cluster_bits();
+        let Some(cluster) = file.header.reftable_offset().checked_cluster(bits) else {
+            return Err(Fault::DamagedTable);
+        };
+        if !is_in_reach(cluster, bits) {
+            return Err(Fault::DamagedTable);
+        }
+        let entries = file.header.reftable_entries();
+        match RefTable::load(alloc, &mut file.image, &file.header, cluster, entries) {
+            Ok(table) => Ok(Allocator::from_table(alloc, table, HostCluster(0))),
+            Err(fault) => Err(fault),
+        }
+    }
+
+    /// An allocator over this refcount table, which begins its search at `first_free`: each cluster before is counted.
+    pub fn from_table(alloc: Global, table: RefTable, first_free: HostCluster) -> Allocator
+        ensures table { table_of result ≡ table }
+        ensures mark { mark_of result ≡ first_free }
+    {
+        Allocator {
+            alloc,
+            reftable: table,
+            first_free_cluster: first_free,
+        }
+    }
+
+    // The cluster of the block at an index of the refcount table, if there is one.
+    fn block_cluster(&self, rt_index: usize) -> Option<HostCluster>
+        ensures { result ≡ named_block (table_of self.now) rt_index }
+    {
+        let bits = self.reftable.cluster_bits();
+        match self.reftable.get(rt_index).refblock_offset() {
+            Some(offset) => Some(offset.cluster(bits)),
+            None => None,
+        }
+    }
+
+    // Counts a cluster down. The search for free clusters begins there if it began behind.
+    fn free_cluster<S: Storage>(
+        &mut self,
+        file: &mut ImageFile<S>,
+        caches: &mut MetadataCaches<S>,
+        cluster: HostCluster,
+    ) -> Result<(), Fault>
+        ensures table { table_of self.new ≡ table_of self.old }
+        ensures marked { OnOk result (mark_of self.new ≡ min (mark_of self.old) cluster) }
+        ensures stays { OnErr result (mark_of self.new ≡ mark_of self.old) }
+        ensures lowered { LowersCluster S.state (table_of self.old) cluster caches.old file.old result caches.new file.new }
+    {
+        let (rt_index, rb_index) = cluster.rt_rb_indices(file.header.rb_bits());
+        let Some(rb_cluster) = self.block_cluster(rt_index) else {
+            return Err(Fault::Counter);
+        };
+        match lower_in(caches, file, rb_cluster, rb_index) {
+            Ok(()) => {
+                if cluster < self.first_free_cluster {
+                    self.first_free_cluster = cluster;
+                }
+                Ok(())
+            }
+            Err(fault) => Err(fault),
+        }
+    }
+
+    // Counts the last cluster of an entry down, and takes it off the entry.
+    fn free_last<S: Storage>(
+        &mut self,
+        file: &mut ImageFile<S>,
+        caches: &mut MetadataCaches<S>,
+        list: &mut ClustersToFreeList,
+        index: usize,
+    ) -> Result<(), Fault>
+        requires inside { index < length list.old.entries }
+        requires some { 0 < (entry_at list.old.entries index).count }
+        ensures frees { MayFree (order_of caches.old) (entry_at list.old.entries index) → Frees S.state (table_of self.old) caches.old file.old (mark_of self.old) list.old.entries result caches.new file.new (mark_of self.new) list.new.entries }
+        ensures order { order_of caches.new ≡ order_of caches.old }
+        ensures table { table_of self.new ≡ table_of self.old }
+        ensures ok { OnOk result (list.new.entries ≡ shortened list.old.entries index 1) }
+        ensures err { OnErr result (list.new.entries ≡ list.old.entries) }
+        ensures held { list.new.held ≡ list.old.held }
+    {
+        let Some(last) = last_cluster(list.entry(index)) else {
+            return Err(Fault::Counter);
+        };
+        match self.free_cluster(file, caches, last) {
+            Ok(()) => {
+                list.shorten(index, ClusterCount(1));
+                Ok(())
+            }
+            Err(fault) => Err(fault),
+        }
+    }
+
+    // Counts the clusters of an entry down, from the last to the first, and takes it off the list.
+    fn free_entry<S: Storage>(
+        &mut self,
+        file: &mut ImageFile<S>,
+        caches: &mut MetadataCaches<S>,
+        list: &mut ClustersToFreeList,
+        index: usize,
+    ) -> Result<(), Fault>
+        requires inside { index < length list.old.entries }
+        ensures frees { MayFree (order_of caches.old) (entry_at list.old.entries index) → Frees S.state (table_of self.old) caches.old file.old (mark_of self.old) list.old.entries result caches.new file.new (mark_of self.new) list.new.entries }
+        ensures order { order_of caches.new ≡ order_of caches.old }
+        ensures table { table_of self.new ≡ table_of self.old }
+        ensures ok { OnOk result (list.new.entries ≡ remove list.old.entries index) }
+        ensures err { OnErr result ((n : ℕ) × (list.new.entries ≡ shortened list.old.entries index n)) }
+        ensures held { list.new.held ≡ list.old.held }
+    {
+        let ClusterCount(count) = list.entry(index).count();
+        for _ in 0..count {
+            match self.free_last(file, caches, list, index) {
+                Ok(()) => (),
+                Err(fault) => return Err(fault),
+            }
+        }
+        let _parts = list.remove(index).into_parts();
+        Ok(())
+    }
+
+    // Counts the clusters of each entry that held metadata down.
+    fn free_metadata<S: Storage>(
+        &mut self,
+        file: &mut ImageFile<S>,
+        caches: &mut MetadataCaches<S>,
+        list: &mut ClustersToFreeList,
+    ) -> Result<(), Fault>
+        ensures frees { Frees S.state (table_of self.old) caches.old file.old (mark_of self.old) list.old.entries result caches.new file.new (mark_of self.new) list.new.entries }
+        ensures order { order_of caches.new ≡ order_of caches.old }
+        ensures table { table_of self.new ≡ table_of self.old }
+        ensures ok { OnOk result (list.new.entries ≡ filter (λ e. not e.metadata) list.old.entries) }
+        ensures held { list.new.held ≡ list.old.held }
+    {
+        while let Some(index) = list.position_of_metadata() {
+            match self.free_entry(file, caches, list, index) {
+                Ok(()) => (),
+                Err(fault) => return Err(fault),
+            }
+        }
+        Ok(())
+    }
+
+    // Counts the clusters of every entry down.
+    fn free_all<S: Storage>(
+        &mut self,
+        file: &mut ImageFile<S>,
+        caches: &mut MetadataCaches<S>,
+        list: &mut ClustersToFreeList,
+    ) -> Result<(), Fault>
+        ensures frees { order_of caches.old ≡ RbDependsOnL2 → Frees S.state (table_of self.old) caches.old file.old (mark_of self.old) list.old.entries result caches.new file.new (mark_of self.new) list.new.entries }
+        ensures order { order_of caches.new ≡ order_of caches.old }
+        ensures table { table_of self.new ≡ table_of self.old }
+        ensures ok { OnOk result (list.new.entries ≡ []) }
+        ensures held { list.new.held ≡ list.old.held }
+    {
+        while !list.is_empty() {
+            let last = list.len() - 1;
+            match self.free_entry(file, caches, list, last) {
+                Ok(()) => (),
+                Err(fault) => return Err(fault),
+            }
+        }
+        Ok(())
+    }
+
+    /// Counts down the clusters of each entry of the list: first those that held metadata, which nothing names, in the file or in memory; then,
+    /// once it was announced that tables are written before blocks, those of the guest's data. In an image whose data is in an
+    /// external file, nothing is counted for these: they are taken off the list.
+    ///
+    /// It refuses with `Fault::Memory`; with `Fault::Storage`; with `Fault::CacheFull` where each block of a full cache is pinned; and with
+    /// `Fault::Counter` and `Fault::DamagedTable`, which no sound image has. What wasn't counted down stays on the list, a part of an entry
+    /// included; the list takes no memory. The file of a sound image shows the same at each stop.
+    pub fn process_clusters_to_free<S: Storage>(
+        &mut self,
+        file: &mut ImageFile<S>,
+        caches: &mut MetadataCaches<S>,
+        list: &mut ClustersToFreeList,
+    ) -> Result<(), Fault>
+        ensures frees { Frees S.state (table_of self.old) caches.old file.old (mark_of self.old) list.old.entries result caches.new file.new (mark_of self.new) list.new.entries }
+        ensures table { table_of self.new ≡ table_of self.old }
+        ensures ok { OnOk result (list.new.entries ≡ []) }
+        ensures held { list.new.held ≡ list.old.held }
+    {
+        if let Err(fault) = self.free_metadata(file, caches, list) {
+            return Err(fault);
+        }
+        if list.is_empty() {
+            return Ok(());
+        }
+        if file.header.external_data_file() {
+            drop_entries(list);
+            return Ok(());
+        }
+        match caches.rb_depends_on_l2(file) {
+            Ok(()) => self.free_all(file, caches, list),
+            Err(fault) => Err(fault),
+        }
+    }
+
+    /// Drops each refcount block that isn't pinned from its cache, without writing it.
+    ///
+    /// It refuses with `Fault::CacheFull` where something stays. What was to be written is lost: an image stays safe where nothing was.
+    pub fn invalidate_rb_cache<S: Storage>(
+        &self,
+        caches: &mut MetadataCaches<S>,
+    ) -> Result<(), Fault>
+        ensures dropped { Dropped (cached_in caches.old).blocks result (cached_in caches.new).blocks }
+        ensures others { (caches.new.l2 ≡ caches.old.l2) × (caches.new.order ≡ caches.old.order) }
+        ensures room { HasRoomOf caches.old caches.new }
+        ensures safe { AreBlocksClean (cached_in caches.old) → StaysSafe (cached_in caches.old) (cached_in caches.new) (order_of caches.old) }
+    {
+        caches.invalidate_rb()
+    }
+}
+
+// The last cluster of an entry, or none where its number has more than 64 bits.
+fn last_cluster(entry: &ClustersToFreeEntry) -> Option<HostCluster>
+    requires { 0 < entry.now.count }
+    ensures { MatchOption result (2 ^ 64 ≤ entry.now.first + (entry.now.count - 1)) (λ last. last ≡ entry.now.first + (entry.now.count - 1)) }
+{
+    let HostCluster(first) = entry.first_cluster();
+    let ClusterCount(count) = entry.count();
+    match first.checked_add(count - 1) {
+        Some(last) => Some(HostCluster(last)),
+        None => None,
+    }
+}
+
+// Takes every entry off a list.
+fn drop_entries(list: &mut ClustersToFreeList)
+    ensures { list.new ≡ record { entries = []; held = list.old.held } }
+{
+    while !list.is_empty() {
+        let last = list.len() - 1;
+        let _parts = list.remove(last).into_parts();
+    }
+}
+
+// Lowers a counter of a block by 1.
+fn lower_counter(block: &mut RefBlock, index: usize) -> Result<(), Fault>
+    ensures { Lowers index block.old result block.new }
+{
+    if index >= block.entries() {
+        return Err(Fault::DamagedTable);
+    }
+    match block.lock_write().decrement(index) {
+        Ok(_) => Ok(()),
+        Err(fault) => Err(fault),
+    }
+}
+
+// Lowers a counter of the block in a cluster by 1.
+fn lower_in<S: Storage>(
+    caches: &mut MetadataCaches<S>,
+    file: &mut ImageFile<S>,
+    rb_cluster: HostCluster,
+    index: usize,
+) -> Result<(), Fault>
+    ensures { UsesBlock S.state rb_cluster (Lowers index) caches.old file.old result caches.new file.new }
+{
+    match caches.rb_get_or_insert(file, rb_cluster) {
+        Ok(block) => lower_counter(block, index),
+        Err(fault) => Err(fault),
+    }
+}

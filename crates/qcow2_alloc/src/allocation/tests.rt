@@ -1,0 +1,237 @@
+// The allocator over an image file of eight clusters that logs its requests: its refcount table is cluster 1, and names the block in
+// cluster 2, which counts clusters 0 to 7 once each.
+//
+// Where an allocation is refused a body ends with `Fault::Memory`, and its test runs it once more.
+use super::*;
+use crate::cache::CacheDependency;
+use imago_storage::{LogStorage, MemStorage};
+use qcow2_metadata::Header;
+use std::process::Abort;
+use std::test::Fail;
+
+// The header of an image with clusters of 512 bytes and counters of 16 bits, with these incompatible features.
+fn header(alloc: Global, table: u16, incompatible: u8) -> Result<Header, Fault> {
+    let mut bytes = [0u8; 104];
+    bytes[..8].copy_from_slice(&[0x51, 0x46, 0x49, 0xfb, 0, 0, 0, 3]);
+    bytes[23] = 9;
+    bytes[54..56].copy_from_slice(&table.to_be_bytes());
+    bytes[59] = 1;
+    bytes[79] = incompatible;
+    bytes[99] = 4;
+    bytes[103] = 104;
+    let mut image = MemStorage::from_bytes(Vec::from_slice(alloc, &bytes)?)?;
+    Header::load(alloc, &mut image, true)
+}
+
+fn logged(
+    alloc: Global,
+    table: u16,
+    incompatible: u8,
+) -> Result<ImageFile<LogStorage<MemStorage>>, Fault> {
+    let mut bytes = vec![in alloc; 0u8; 4_096]?;
+    bytes[518] = 4;
+    for counter in 0..8usize {
+        bytes[1_025 + 2 * counter] = 1;
+    }
+    Ok(ImageFile {
+        image: LogStorage::new(alloc, MemStorage::from_bytes(bytes)?)?,
+        header: header(alloc, table, incompatible)?,
+    })
+}
+
+// A list of these entries: first cluster, count, and whether it held metadata.
+fn waiting(alloc: Global, entries: &[(u64, u64, bool)]) -> Result<ClustersToFreeList, Fault> {
+    let mut list = ClustersToFreeList::new(alloc);
+    for &(first, count, metadata) in entries {
+        let first = HostCluster(first);
+        let count = ClusterCount(count);
+        let entry = if metadata {
+            ClustersToFreeEntry::metadata(first, count)
+        } else {
+            ClustersToFreeEntry::data(first, count)
+        };
+        if let Err((fault, entry)) = list.push(entry) {
+            let _parts = entry.into_parts();
+            return Err(fault);
+        }
+    }
+    Ok(list)
+}
+
+// The first eight counters in memory are these.
+fn assert_counted<S: Storage>(
+    rt: &impl Abort,
+    caches: &mut MetadataCaches<S>,
+    file: &mut ImageFile<S>,
+    want: [u64; 8],
+) -> Result<(), Fault> {
+    let block = caches.rb_get_or_insert(file, HostCluster(2))?;
+    assert_eq!(rt; block.entries(), 256);
+    for (index, count) in want.iter().enumerate() {
+        assert_eq!(rt; block.get(index), *count);
+    }
+    Ok(())
+}
+
+fn freed(rt: &impl Abort, alloc: Global) -> Result<(), Fault> {
+    let mut file = logged(alloc, 512, 0)?;
+    let mut caches = MetadataCaches::new(alloc, 2, 2)?;
+    let mut allocator = Allocator::new(alloc, &mut file)?;
+    allocator.first_free_cluster = HostCluster(8);
+    let mut list = waiting(alloc, &[(6, 1, true), (4, 1, true)])?;
+    allocator.process_clusters_to_free(&mut file, &mut caches, &mut list)?;
+    assert!(rt; list.is_empty());
+    assert!(rt; caches.order == CacheDependency::Unset);
+    assert!(rt; allocator.first_free_cluster == HostCluster(4));
+    assert_counted(rt, &mut caches, &mut file, [1, 1, 1, 1, 0, 1, 0, 1])?;
+    let mut list = waiting(alloc, &[(5, 1, false), (3, 1, true), (7, 1, false)])?;
+    allocator.process_clusters_to_free(&mut file, &mut caches, &mut list)?;
+    assert!(rt; list.is_empty());
+    assert!(rt; caches.order == CacheDependency::RbDependsOnL2);
+    assert!(rt; allocator.first_free_cluster == HostCluster(3));
+    assert_counted(rt, &mut caches, &mut file, [1, 1, 1, 0, 0, 0, 0, 0])?;
+    assert_eq!(rt; file.image.requests().len(), 0);
+    caches.flush_all(&mut file)?;
+    assert_eq!(rt; file.image.requests().len(), 1);
+    Ok(())
+}
+
+#[test]
+fn what_waits_is_counted_down(rt: HostRuntime) -> Result<(), Fail> {
+    let alloc = rt.alloc();
+    match freed(&rt, alloc) {
+        Err(Fault::Memory) => freed(&rt, alloc)?,
+        other => other?,
+    }
+    Ok(())
+}
+
+// Clusters 8 and 300 aren't counted, the latter by any block.
+fn refused(rt: &impl Abort, alloc: Global) -> Result<(), Fault> {
+    let mut file = logged(alloc, 512, 0)?;
+    let mut caches = MetadataCaches::new(alloc, 2, 2)?;
+    let mut allocator = Allocator::new(alloc, &mut file)?;
+    let mut list = waiting(alloc, &[(300, 1, false), (8, 1, false), (6, 2, false)])?;
+    match allocator.process_clusters_to_free(&mut file, &mut caches, &mut list) {
+        Err(Fault::Memory) => return Err(Fault::Memory),
+        answer => assert!(rt; answer == Err(Fault::Counter)),
+    }
+    assert_eq!(rt; list.len(), 2);
+    assert!(rt; list.entry(1).first_cluster() == HostCluster(8));
+    assert!(rt; list.entry(1).count() == ClusterCount(1));
+    assert_counted(rt, &mut caches, &mut file, [1, 1, 1, 1, 1, 1, 0, 0])?;
+    let mut list = waiting(alloc, &[(u64::MAX, 2, true)])?;
+    let answer = allocator.process_clusters_to_free(&mut file, &mut caches, &mut list);
+    assert!(rt; answer == Err(Fault::Counter));
+    assert_eq!(rt; list.len(), 1);
+    let mut list = waiting(alloc, &[(300, 1, true)])?;
+    let answer = allocator.process_clusters_to_free(&mut file, &mut caches, &mut list);
+    assert!(rt; answer == Err(Fault::Counter));
+    Ok(())
+}
+
+#[test]
+fn what_is_not_counted_stays_on_the_list(rt: HostRuntime) -> Result<(), Fail> {
+    let alloc = rt.alloc();
+    match refused(&rt, alloc) {
+        Err(Fault::Memory) => refused(&rt, alloc)?,
+        other => other?,
+    }
+    Ok(())
+}
+
+// Cluster 6 isn't counted any more.
+fn part_of_an_entry(rt: &impl Abort, alloc: Global) -> Result<(), Fault> {
+    let mut file = logged(alloc, 512, 0)?;
+    let mut caches = MetadataCaches::new(alloc, 2, 2)?;
+    let mut allocator = Allocator::new(alloc, &mut file)?;
+    let mut list = waiting(alloc, &[(6, 1, true)])?;
+    allocator.process_clusters_to_free(&mut file, &mut caches, &mut list)?;
+    let mut list = waiting(alloc, &[(6, 2, true)])?;
+    match allocator.process_clusters_to_free(&mut file, &mut caches, &mut list) {
+        Err(Fault::Memory) => return Err(Fault::Memory),
+        answer => assert!(rt; answer == Err(Fault::Counter)),
+    }
+    assert_eq!(rt; list.len(), 1);
+    assert!(rt; list.entry(0).first_cluster() == HostCluster(6));
+    assert!(rt; list.entry(0).count() == ClusterCount(1));
+    assert_counted(rt, &mut caches, &mut file, [1, 1, 1, 1, 1, 1, 0, 0])
+}
+
+#[test]
+fn a_part_of_an_entry_stays(rt: HostRuntime) -> Result<(), Fail> {
+    let alloc = rt.alloc();
+    match part_of_an_entry(&rt, alloc) {
+        Err(Fault::Memory) => part_of_an_entry(&rt, alloc)?,
+        other => other?,
+    }
+    Ok(())
+}
+
+// Where the data is in an external file, its clusters aren't counted.
+fn external(rt: &impl Abort, alloc: Global) -> Result<(), Fault> {
+    let mut file = logged(alloc, 512, 4)?;
+    let mut caches = MetadataCaches::new(alloc, 2, 2)?;
+    let mut allocator = Allocator::new(alloc, &mut file)?;
+    let mut list = waiting(alloc, &[(5, 1, false), (3, 1, true)])?;
+    allocator.process_clusters_to_free(&mut file, &mut caches, &mut list)?;
+    assert!(rt; list.is_empty());
+    assert!(rt; caches.order == CacheDependency::Unset);
+    assert_counted(rt, &mut caches, &mut file, [1, 1, 1, 0, 1, 1, 1, 1])
+}
+
+#[test]
+fn external_data_is_not_counted(rt: HostRuntime) -> Result<(), Fail> {
+    let alloc = rt.alloc();
+    match external(&rt, alloc) {
+        Err(Fault::Memory) => external(&rt, alloc)?,
+        other => other?,
+    }
+    Ok(())
+}
+
+// Each word has reserved bits set.
+fn damaged(rt: &impl Abort, alloc: Global) -> Result<(), Fault> {
+    let mut file = ImageFile {
+        image: MemStorage::from_bytes(vec![in alloc; 1u8; 1_024]?)?,
+        header: header(alloc, 512, 0)?,
+    };
+    match Allocator::new(alloc, &mut file) {
+        Err(Fault::Memory) => return Err(Fault::Memory),
+        answer => assert!(rt; matches!(answer, Err(Fault::DamagedTable))),
+    }
+    Ok(())
+}
+
+#[test]
+fn a_damaged_refcount_table_is_refused(rt: HostRuntime) -> Result<(), Fail> {
+    let alloc = rt.alloc();
+    match damaged(&rt, alloc) {
+        Err(Fault::Memory) => damaged(&rt, alloc)?,
+        other => other?,
+    }
+    Ok(())
+}
+
+fn dropped(rt: &impl Abort, alloc: Global) -> Result<(), Fault> {
+    let mut file = logged(alloc, 512, 0)?;
+    let mut caches = MetadataCaches::new(alloc, 2, 2)?;
+    let table = Allocator::new(alloc, &mut file)?.reftable;
+    let mut allocator = Allocator::from_table(alloc, table, HostCluster(8));
+    let mut list = waiting(alloc, &[(3, 1, true)])?;
+    allocator.process_clusters_to_free(&mut file, &mut caches, &mut list)?;
+    allocator.invalidate_rb_cache(&mut caches)?;
+    caches.flush_all(&mut file)?;
+    assert_eq!(rt; file.image.requests().len(), 0);
+    assert_counted(rt, &mut caches, &mut file, [1, 1, 1, 1, 1, 1, 1, 1])
+}
+
+#[test]
+fn counts_are_dropped_unwritten(rt: HostRuntime) -> Result<(), Fail> {
+    let alloc = rt.alloc();
+    match dropped(&rt, alloc) {
+        Err(Fault::Memory) => dropped(&rt, alloc)?,
+        other => other?,
+    }
+    Ok(())
+}
