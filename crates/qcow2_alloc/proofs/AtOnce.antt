@@ -53,7 +53,7 @@ at-once-file m at bytes old new is_in (Ok done) put keeps is = spliced-bytes old
 at-once-file m at bytes old new is_in (Err fault) put keeps is = absurd (cc is)
 
 -- A write that wasn't cut off succeeded.
-put-done : (old new : StorageState) (at : ℕ) (bytes : List ℕ) (result : Result Unit Fault) → Put old new at bytes result → IsWhole result → result ≡ Ok tt
+pub put-done : (old new : StorageState) (at : ℕ) (bytes : List ℕ) (result : Result Unit Fault) → Put old new at bytes result → IsWhole result → result ≡ Ok tt
 put-done old new at bytes (Ok done) put whole = refl
 put-done old new at bytes (Err fault) put mild = absurd (never-mild old.faults new.faults fault put.answer.cause mild)
 

@@ -35,9 +35,9 @@ module _ (m : Metadata) (sound : IsSound m) (c : ℕ) where
       let nothing : counted m c ≡ 0 = rw empty refl in
       omega (arith, some, nothing)
 
-  pub counted-block : 0 < counted m c → HasBlock
-  counted-block some =
-      let there = block-there some in
+  -- A word names it.
+  pub block-named : block_at m.file m.header.fields r ≢ 0 → HasBlock
+  block-named there =
       let inside = block-inside m.file m.header.fields r there in
       let place : IsTrue (is_place m.header.fields.cluster_bits (block_at m.file m.header.fields r)) = block-place m.file m.header.fields r (sound-words m.file m.header.fields sound.safe.consistent.readable.tables) inside in
       let near = place-near m.header.fields.cluster_bits (block_at m.file m.header.fields r) place in
@@ -56,3 +56,6 @@ module _ (m : Metadata) (sound : IsSound m) (c : ℕ) where
       by-word : (w bits : ℕ) → w ≡ block_at m.file m.header.fields r → bits ≡ m.header.fields.cluster_bits → block_at m.file m.header.fields r ≢ 0
           → (if w == 0 then None else Some (w / 2 ^ bits)) ≡ Some (block_at m.file m.header.fields r / 2 ^ m.header.fields.cluster_bits)
       by-word w bits is same there = rw (ne_eqb w 0 (λ none. there (sym is ∙ none))) (ap (λ n. Some (n / 2 ^ bits)) is ∙ ap (λ b. Some (block_at m.file m.header.fields r / 2 ^ b)) same)
+
+  pub counted-block : 0 < counted m c → HasBlock
+  counted-block some = block-named (block-there some)

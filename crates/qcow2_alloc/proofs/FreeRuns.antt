@@ -12,8 +12,9 @@ use Rattle.imago_storage.specs.Through.{Put, Stops}
 use Rattle.imago_storage.specs.declared.fault.Fault.{Fault}
 use Rattle.imago_storage.proofs.Composing.{stops_weaker}
 use Rattle.qcow2_types.specs.Bytes.{Bytes, bytes_of, splice}
+use Rattle.qcow2_types.specs.BlockBytes.{Packs}
 use Rattle.qcow2_types.specs.Words.{Mapping}
-use Rattle.qcow2_types.specs.Header.{Header, Shaped, cluster_size}
+use Rattle.qcow2_types.specs.Header.{Fields, Header, Shaped, cluster_size}
 use Rattle.qcow2_types.specs.Entries.{l2_table}
 use Rattle.qcow2_types.specs.Counts.{block_at, counter, counter_of, counters_of_block}
 use Rattle.qcow2_types.specs.Frames.{Same, Outside, touches}
@@ -173,6 +174,11 @@ spliced-outside : (old : List ℕ) (at : ℕ) (bytes new : List ℕ) → Spliced
 spliced-outside old at bytes new spliced p (inl before) = spliced.before p before
 spliced-outside old at bytes new spliced p (inr after) = spliced.after p after
 
+-- Where a write succeeded the rest of the file stays.
+pub put-outside : (old new : StorageState) (at : ℕ) (bytes : List ℕ) (result : Result Unit Fault) → Put old new at bytes result → IsTrue old.shape.keeps → result ≡ Ok tt → Outside (bytes_of old.bytes) (bytes_of new.bytes) at (length bytes)
+put-outside old new at bytes (Ok done) put keeps is = spliced-outside old.bytes at bytes new.bytes (put.answer.content keeps)
+put-outside old new at bytes (Err fault) put keeps is = absurd (cc is)
+
 -- The run is written, by any number of requests.
 module _ (m : Metadata) (c k at : ℕ) (bytes : List ℕ) (taken : ℕ → ℕ) (old new : StorageState) (is_in : IsIn old m) (low : c * cluster_size m.header.fields ≤ at) (high : at + length bytes ≤ (c + k + 1) * cluster_size m.header.fields)
     (free : IsSound m → (d : ℕ) → c ≤ d → d ≤ c + k → (named_at_all m d ≡ 0) × (IsUsed m d → 0 < taken d)) where
@@ -210,6 +216,14 @@ module _ (m : Metadata) (c k at : ℕ) (bytes : List ℕ) (taken : ℕ → ℕ) 
   run-counts (Ok done) put keeps sound is = (run-holds new.bytes (put.answer.content keeps) sound).2
   run-counts (Err fault) put keeps sound is = absurd (cc is)
 
+-- The bytes of a block fill no more than a cluster.
+pub block-short : (h : Fields) (block : Block) (bytes : List ℕ) → Packs block.order block.counters bytes → block.order ≡ h.refcount_order → length block.counters ≡ counters_of_block h → length bytes ≤ cluster_size h
+block-short h block bytes packs order long =
+    let size = packs.size in
+    let all : length block.counters * 2 ^ block.order ≡ counters_of_block h * 2 ^ h.refcount_order = ap (λ n. n * 2 ^ block.order) long ∙ ap (λ o. counters_of_block h * 2 ^ o) order in
+    let le : counters_of_block h * 2 ^ h.refcount_order ≤ cluster_size h * 8 = div-mul-le_self (cluster_size h * 8) (2 ^ h.refcount_order) in
+    omega (arith, size, all, le)
+
 -- A block is written so: its counters are in the file then.
 module _ (m : Metadata) (d : ℕ) (block : Block) (old new : StorageState) (is_in : IsIn old m) (order : block.order ≡ m.header.fields.refcount_order) (long : length block.counters ≡ counters_of_block m.header.fields) where
   module _ (shaped : Shaped m.header.fields) (result : Result Unit Fault) (put : BlockPut block (d * cluster_size m.header.fields) old new result) where
@@ -229,11 +243,9 @@ module _ (m : Metadata) (d : ℕ) (block : Block) (old new : StorageState) (is_i
 
   no-longer : (result : Result Unit Fault) (put : BlockPut block (d * cluster_size m.header.fields) old new result) → d * cluster_size m.header.fields + length put.bytes ≤ (d + 0 + 1) * cluster_size m.header.fields
   no-longer result put =
-      let size = put.packs.size in
-      let all : length block.counters * 2 ^ block.order ≡ counters_of_block m.header.fields * 2 ^ m.header.fields.refcount_order = ap (λ n. n * 2 ^ block.order) long ∙ ap (λ o. counters_of_block m.header.fields * 2 ^ o) order in
-      let le : counters_of_block m.header.fields * 2 ^ m.header.fields.refcount_order ≤ cluster_size m.header.fields * 8 = div-mul-le_self (cluster_size m.header.fields * 8) (2 ^ m.header.fields.refcount_order) in
+      let short = block-short m.header.fields block put.bytes put.packs order long in
       let next : (d + 0 + 1) * cluster_size m.header.fields ≡ d * cluster_size m.header.fields + cluster_size m.header.fields = omega arith in
-      omega (arith, size, all, le, next)
+      omega (arith, short, next)
 
   module _ (taken : ℕ → ℕ) (free : IsSound m → (named_at_all m d ≡ 0) × (IsUsed m d → 0 < taken d)) where
     free-there : IsSound m → (k : ℕ) → d ≤ k → k ≤ d + 0 → (named_at_all m k ≡ 0) × (IsUsed m k → 0 < taken k)

@@ -1,22 +1,17 @@
 -- A cluster that waits to be freed is counted down.
-use Rattle.std.proofs.Common.{◌≡◌, ◌≢◌, ℕ, ◌+◌, ◌-◌, ◌*◌, ◌/◌, ◌%◌, ◌^◌, ◌<◌, ◌≤◌, refl, arith, ap, sym, subst, ◌∙◌, List, [], ◌∷◌, length, Option, None, Some, Result, Ok, Err, inl, inr}
-use Rattle.std.specs.Prelude.{◌⊎◌, ⊤, IsTrue, nat_eq, slice_index, map, MatchOption}
+use Rattle.std.proofs.Common.{◌≡◌, ◌≢◌, ℕ, ◌+◌, ◌-◌, ◌*◌, ◌/◌, ◌%◌, ◌<◌, ◌≤◌, refl, arith, ap, sym, subst, ◌∙◌, List, length, Option, None, Some, Result, Ok, Err, inl, inr}
+use Rattle.std.specs.Prelude.{◌⊎◌, ⊤, IsTrue, nat_eq, slice_index, MatchOption}
 use Rattle.std.specs.Map.{lookup}
 use Rattle.std.specs.Option.{option_map}
-use Rattle.std.proofs.lemmas.List.{get_or_past}
 use Rattle.std.proofs.lemmas.Nat.{mod_below}
-use Rattle.std.proofs.lemmas.Bool.{cases_eq, cases_lt, ne_eqb}
+use Rattle.std.proofs.lemmas.Bool.{cases_eq, cases_lt}
 use Rattle.imago_storage.specs.State.{StorageState}
 use Rattle.imago_storage.specs.declared.fault.Fault.{Fault}
 use Rattle.imago_storage.specs.declared.fault.Fault.TheVariants.{Memory, Storage, DamagedTable, CacheFull, Counter}
 use Rattle.qcow2_types.specs.Bytes.{bytes_of}
-use Rattle.qcow2_types.specs.Header.{Header, cluster_size, refcount_table_entries}
-use Rattle.qcow2_types.specs.Words.{Layout, block_offset}
+use Rattle.qcow2_types.specs.Header.{Header, cluster_size}
 use Rattle.qcow2_types.specs.Counts.{block_at, count, counters_of_block}
 use Rattle.qcow2_types.specs.Pending.{FreeEntry}
-use Rattle.qcow2_types.proofs.BlockSteps.{block-place}
-use Rattle.qcow2_types.proofs.Sound.{sound-words}
-use Rattle.qcow2_types.proofs.WriteBack.{place-whole}
 use Rattle.qcow2_metadata.specs.Tables.{TableValue}
 use Rattle.qcow2_metadata.specs.Blocks.{Block, with_counter}
 use Rattle.qcow2_alloc.specs.declared.async_lru_cache.Slot.{Slot}
@@ -26,77 +21,34 @@ use Rattle.qcow2_alloc.specs.declared.cache.MetadataCaches.{MetadataCaches}
 use Rattle.qcow2_alloc.specs.declared.file.ImageFile.{ImageFile}
 use Rattle.qcow2_alloc.specs.Allocators.{metadata_of, named_block, Lowers, LowersCluster, UsesBlock, BlockUsed}
 use Rattle.qcow2_alloc.specs.Cache.{hit}
-use Rattle.qcow2_alloc.specs.Caches.{cached_in, order_of, HasRoomOf}
+use Rattle.qcow2_alloc.specs.Caches.{cached_in, order_of}
 use Rattle.qcow2_alloc.specs.CachesLending.{with_blocks}
 use Rattle.qcow2_alloc.specs.Changes.{CachesBlock, IsStillCovered}
-use Rattle.qcow2_alloc.specs.Finding.{BlockFound, AreUnpinned, IsPinnedFull, WhyNotFound}
+use Rattle.qcow2_alloc.specs.Finding.{BlockFound, IsPinnedFull, WhyNotFound}
 use Rattle.qcow2_alloc.specs.Freeing.{IsLoose, WhyNotFreed, CountsFreeing}
 use Rattle.qcow2_metadata.specs.Places.{IsInReach}
 use Rattle.qcow2_alloc.specs.FreeList.{listed}
 use Rattle.qcow2_alloc.specs.Going.{IsWhole, AreTablesInReach, AreBlocksInReach}
-use Rattle.qcow2_alloc.specs.Memory.{memory, written_table}
+use Rattle.qcow2_alloc.specs.Memory.{memory}
 use Rattle.qcow2_alloc.specs.Quiet.{Metadata, IsSound, IsQuiet, Quietly, counted, in_memory, metadata_in, one_at}
+use Rattle.qcow2_alloc.proofs.NamedBlocks.{named-block}
 use Rattle.qcow2_alloc.proofs.ChangingCounters.{cached-count, counter-lowered}
 use Rattle.qcow2_alloc.proofs.QuietCounters.{free-quiet, here-one, waiting-covered, metadata-covered}
 use Rattle.qcow2_alloc.proofs.QuietThen.{quietly-then}
 use Rattle.qcow2_alloc.proofs.Using.{block-used}
-use Rattle.qcow2_alloc.proofs.Places.{slot-of, place-of-key, place-hit}
-use Rattle.qcow2_alloc.proofs.Entries.{hit_missed}
+use Rattle.qcow2_alloc.proofs.Places.{slot-of}
 use Rattle.qcow2_alloc.proofs.SafeLaws.{safe-reach}
-use Rattle.qcow2_alloc.proofs.Searching.{all-at, all-removed}
+use Rattle.qcow2_alloc.proofs.Searching.{all-at}
 use Rattle.qcow2_alloc.proofs.Patches.{shaped-in}
 use Rattle.qcow2_alloc.specs.Safety.{IsCachedBlock}
 use Rattle.qcow2_types.proofs.Counters.{some-counters}
 use Rattle.qcow2_alloc.proofs.CountedBlocks.{counted-block}
+use Rattle.qcow2_alloc.proofs.Loose.{never-pinned, StaysLoose, named-stays}
 use Rattle.qcow2_alloc.proofs.QuietFlushes.{quiet-none, used-quiet, going-quietly, memory-quietly}
 
 -- The block that the refcount table in memory names stands where the file's does.
 pub named-there : (m : Metadata) (i key : ℕ) → IsSound m → named_block m.table i ≡ Some key → (block_at m.file m.header.fields i ≡ key * cluster_size m.header.fields) × (key ≢ 0)
-named-there m i key sound is = elim (cases_lt i (refcount_table_entries m.header.fields)) [
-  | inl lt ↦
-      let w = block_offset (slice_index m.table.words i) in
-      let word : w ≡ block_at m.file m.header.fields i = sound.table.names i lt in
-      elim (cases_eq w 0) [
-        | inl none ↦ absurd (let no : None ≡ Some key = sym (rw none refl) ∙ is in cc)
-        | inr some ↦
-            let named : Some (w / 2 ^ m.table.layout.cluster_bits) ≡ Some key = sym (rw (ne_eqb w 0 some) refl) ∙ is in
-            let bits : m.table.layout.cluster_bits ≡ m.header.fields.cluster_bits = ap (λ (l : Layout). l.cluster_bits) sound.table.layout in
-            let key-is : w / 2 ^ m.table.layout.cluster_bits ≡ key = (let e = named in cc) in
-            let place = place-whole m.header.fields.cluster_bits (block_at m.file m.header.fields i) (block-place m.file m.header.fields i (sound-words m.file m.header.fields sound.safe.consistent.readable.tables) lt) in
-            let at : block_at m.file m.header.fields i ≡ key * cluster_size m.header.fields =
-            sym place ∙ ap (λ n. n * 2 ^ m.header.fields.cluster_bits) (sym (sym key-is ∙ ap (λ n. n / 2 ^ m.table.layout.cluster_bits) word ∙ ap (λ b. block_at m.file m.header.fields i / 2 ^ b) bits)) in
-            (at, λ none. some (word ∙ at ∙ rw none (omega arith)))
-      ]
-  | inr past ↦
-      let long = sound.table.long in
-      absurd (let word : slice_index m.table.words i ≡ 0 = get_or_past m.table.words i 0 (omega (arith, long, past)) in let no : None ≡ Some key = sym (rw word refl) ∙ is in cc)
-]
-
-module _ (V : Type 0) where
-  -- No entry of a cache that has one is pinned.
-  never-pinned : {cap : ℕ} (es : List (ℕ × Slot V)) → AreUnpinned es → IsPinnedFull cap es → 0 < cap → ⊥
-  never-pinned [] none full some = let le = full.full in omega (arith, le, some)
-  never-pinned (e ∷ es) none full some = let off = none.0 in let on = full.pinned.0 in omega (arith, off, on)
-
-  -- Flushes keep pins,
-  pub unpinned-written : (written : ℕ × Slot V → ℕ × Slot V) → ((e : ℕ × Slot V) → (written e).1.pins ≡ e.1.pins) → (xs ys : List (ℕ × Slot V)) → map written xs ≡ map written ys → AreUnpinned ys → AreUnpinned xs
-  unpinned-written written pins [] ys same none = tt
-  unpinned-written written pins (x ∷ xs) [] same none = absurd (cc)
-  unpinned-written written pins (x ∷ xs) (y ∷ ys) same none =
-      let head : written x ≡ written y = (let e = same in cc) in
-      let tail : map written xs ≡ map written ys = (let e = same in cc) in
-      (sym (pins x) ∙ ap (λ (e : ℕ × Slot V). e.1.pins) head ∙ pins y ∙ none.0, unpinned-written written pins xs ys tail none.1)
-
-  -- and so does the use of an entry.
-  pub unpinned-hit : (key : ℕ) (es : List (ℕ × Slot V)) (value : V) → AreUnpinned es → AreUnpinned (hit (nat_eq key) es value)
-  unpinned-hit key es value none = by-slot (lookup (nat_eq key) es) refl
-    where
-      by-slot : (o : Option (Slot V)) → lookup (nat_eq key) es ≡ o → AreUnpinned (hit (nat_eq key) es value)
-      by-slot None is = subst (λ (l : List (ℕ × Slot V)). AreUnpinned l) (sym (hit_missed (nat_eq key) es is value)) none
-      by-slot (Some slot) is =
-          let p = place-of-key key es slot is in
-          subst (λ (l : List (ℕ × Slot V)). AreUnpinned l) (sym (place-hit key es slot p value))
-          (all-at (λ (e : ℕ × Slot V). e.1.pins ≡ 0) key es slot is none, subst (λ (l : List (ℕ × Slot V)). AreUnpinned l) p.removed (all-removed _ (nat_eq key) es none))
+named-there m i key sound is = let named = named-block m.file m.header m.table i sound.table key sound.safe.consistent is in (named.place, named.some)
 
 module _ {S : Type 0} (state : S → StorageState) (table : TableValue) where
   abbrev At : MetadataCaches S → ImageFile S → List FreeEntry → Metadata
@@ -327,38 +279,5 @@ module _ {S : Type 0} (state : S → StorageState) (table : TableValue) where
               subst (λ (m : MetadataCaches S). counted (At m after (left result)) d ≡ counted Old d) (sym same) (subst (λ (f : ImageFile S). counted (At old f (left result)) d ≡ counted Old d) (sym same') refl)
           by-name (Some key) named uses holds whole d away = by-uses key named uses holds whole d away
 
-      -- The header, the order and the room stay, and nothing is pinned by it.
-      pub record StaysLoose : Type 0 where
-        pub header : after.header ≡ before.header
-        pub order : new.order ≡ old.order
-        pub loose : IsLoose old → IsLoose new
-        pub room : HasRoomOf old new
-
-      pub freeing-stays : LowersCluster state table c old before result new after → StaysLoose
-      freeing-stays = by-name (named_block table (c / counters_of_block before.header.fields))
-        where
-          by-found : (key : ℕ) (answer : Result Unit Fault) (mid : MetadataCaches S) → BlockFound state key old before answer mid after → IsLoose old → IsLoose mid
-          by-found key answer mid found loose = record {
-            tables = unpinned-written TableValue written_table (λ e. refl) (cached_in mid).tables (cached_in old).tables found.tables loose.tables;
-            blocks = found.sought.unpinned loose.blocks;
-            room = subst (λ n. 0 < n) (sym found.room.blocks) loose.room;
-          }
-
-          by-uses : (key : ℕ) → UsesBlock state key (Lowers (c % counters_of_block before.header.fields)) old before result new after → StaysLoose
-          by-uses key (inl (fault, is, found)) = record { header = found.others.1; order = found.others.0; loose = by-found key (Err fault) new found; room = found.room }
-          by-uses key (inr u) = record {
-            header = u.found.others.1;
-            order = ap (λ (m : MetadataCaches S). m.order) u.left ∙ u.found.others.0;
-            loose = λ loose. let l = by-found key (Ok tt) u.mid u.found loose in
-                subst (λ (m : MetadataCaches S). IsLoose m) (sym u.left) (record { tables = l.tables; blocks = unpinned-hit Block key (cached_in u.mid).blocks u.block' l.blocks; room = l.room });
-            room = record { tables = ap (λ (m : MetadataCaches S). m.l2.slots.cap) u.left ∙ u.found.room.tables; blocks = ap (λ (m : MetadataCaches S). m.rb.slots.cap) u.left ∙ u.found.room.blocks };
-          }
-
-          by-name : (o : Option ℕ) → MatchOption o Nothing (λ key. UsesBlock state key (Lowers (c % counters_of_block before.header.fields)) old before result new after) → StaysLoose
-          by-name None (is, same, same') = record {
-            header = ap (λ (f : ImageFile S). f.header) same';
-            order = ap (λ (m : MetadataCaches S). m.order) same;
-            loose = λ loose. subst (λ (m : MetadataCaches S). IsLoose m) (sym same) loose;
-            room = record { tables = ap (λ (m : MetadataCaches S). m.l2.slots.cap) same; blocks = ap (λ (m : MetadataCaches S). m.rb.slots.cap) same };
-          }
-          by-name (Some key) uses = by-uses key uses
+      pub freeing-stays : LowersCluster state table c old before result new after → StaysLoose old before new after
+      freeing-stays = named-stays state (named_block table (c / counters_of_block before.header.fields)) (Lowers (c % counters_of_block before.header.fields)) (result ≡ Err Counter) old before result new after

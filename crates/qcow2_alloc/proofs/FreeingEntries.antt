@@ -130,7 +130,7 @@ module _ {S : Type 0} (state : S → StorageState) (table : TableValue) (es : Li
       }
 
 -- A cause stays one over more calls.
-why-freed-wider : (sound sound' loose loose' : Type 0) (a b c : ℕ) → (sound' → sound) → (loose' → loose) → b ≡ a → (fault : Fault) → WhyNotFreed sound loose b c fault → WhyNotFreed sound' loose' a c fault
+pub why-freed-wider : (sound sound' loose loose' : Type 0) (a b c : ℕ) → (sound' → sound) → (loose' → loose) → b ≡ a → (fault : Fault) → WhyNotFreed sound loose b c fault → WhyNotFreed sound' loose' a c fault
 why-freed-wider sound sound' loose loose' a b c from from' same Memory why = tt
 why-freed-wider sound sound' loose loose' a b c from from' same Storage why = subst (λ n. Rose n c) same why
 why-freed-wider sound sound' loose loose' a b c from from' same DamagedTable why = λ s. why (from s)

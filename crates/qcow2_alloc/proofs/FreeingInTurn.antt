@@ -27,7 +27,7 @@ use Rattle.qcow2_alloc.specs.Going.{Going, Always, IsMild, AreBlocksInReach, Cou
 use Rattle.qcow2_alloc.specs.Memory.{Cached, memory, written, written_block}
 use Rattle.qcow2_alloc.specs.Quiet.{Metadata, IsSound, Quietly}
 use Rattle.qcow2_alloc.specs.Safety.{Safe}
-use Rattle.qcow2_alloc.proofs.FreeingClusters.{unpinned-written}
+use Rattle.qcow2_alloc.proofs.Loose.{unpinned-written}
 use Rattle.qcow2_alloc.proofs.QuietAnnouncing.{announced-quietly, whole-quietly}
 use Rattle.qcow2_alloc.proofs.QuietFlushes.{memory-quietly}
 use Rattle.qcow2_alloc.proofs.SafeLaws.{safe-reach}

@@ -16,7 +16,9 @@ use Rattle.qcow2_metadata.specs.Blocks.{Block, BlockPut}
 use Rattle.qcow2_metadata.specs.Places.{IsInReach}
 use Rattle.qcow2_metadata.specs.Tables.{with_word, table_place}
 use Rattle.qcow2_alloc.specs.declared.cache.CacheDependency.TheVariants.{L2DependsOnRb}
-use Rattle.qcow2_alloc.specs.MakingRoom.{IsReadyBlock, with_block}
+use Rattle.qcow2_alloc.specs.MakingRoom.{IsReadyBlock, BlockNamed, with_block}
+use Rattle.qcow2_alloc.specs.Allocating.{OnlyRaised}
+use Rattle.imago_storage.proofs.Composing.{keeps_on}
 use Rattle.qcow2_alloc.specs.Quiet.{Metadata, in_memory, counted, referenced, named_at_all, waiting, one_at, IsUsed, IsSound, IsIn, Quietly}
 use Rattle.qcow2_alloc.specs.Safety.{AreBlocksClean}
 use Rattle.std.proofs.lemmas.Bool.{cases_eq}
@@ -26,9 +28,23 @@ use Rattle.qcow2_alloc.proofs.QuietThen.{quietly-otherwise}
 use Rattle.qcow2_alloc.proofs.FreeClusters.{uncounted-free, clean-counts}
 use Rattle.qcow2_alloc.proofs.FreeRuns.{block-quietly, block-counts}
 use Rattle.qcow2_alloc.proofs.MemoryWords.{places-in-memory}
-use Rattle.qcow2_alloc.proofs.NamingBlocks.{count-none, counted-block-quietly, own-block-quietly}
+use Rattle.qcow2_alloc.proofs.NamingBlocks.{count-none, counted-block-quietly, own-block-quietly, names-block}
 use Rattle.qcow2_alloc.proofs.NewBlocks.{zeroes-count, itself-counts, none-cached}
 use Rattle.qcow2_alloc.proofs.QuietGiven.{quietly-then-given}
+
+-- A block that is named raises the counts of its own clusters alone, and that from 0 to 1.
+only-named : (m m1 m2 : Metadata) (i d : ℕ) → ((c : ℕ) → counted m1 c ≡ counted m c) → BlockNamed m1 m2 i d → OnlyRaised m m2
+only-named m m1 m2 i d same names c =
+    let was = same c in
+    elim (cases_eq (c / counters_of_block m1.header.fields) i) [
+      | inr apart ↦ inl ((names.others c apart).0 ∙ was)
+      | inl own ↦
+          let counts = names.own c own in
+          elim (cases_eq c d) [
+            | inl here ↦ let one : one_at d c ≡ 1 = ap (one_at d) here ∙ here-one d in inr (omega (arith, counts.0, was), omega (arith, counts.1, one))
+            | inr away ↦ let none = away-none d c away in inl (omega (arith, counts.0, counts.1, was, none))
+          ]
+    ]
 
 -- Where the refcount table names no block nothing is counted.
 pub unnamed-uncounted : (m : Metadata) → IsSound m → (c : ℕ) → c / counters_of_block m.header.fields < refcount_table_entries m.header.fields → block_offset (slice_index m.table.words (c / counters_of_block m.header.fields)) ≡ 0 → counted m c ≡ 0
@@ -76,6 +92,16 @@ module _ (m : Metadata) (d : ℕ) (block : Block) (modified : Bool) (old mid new
         → Quietly (result ≡ Ok tt) (λ _. 0) (λ _. 0) old m new (with_block m i d modified (bytes_of new.bytes))
     own-block-made result named = quietly-then-given (done ≡ Ok tt) (result ≡ Ok tt) (λ _. 0) (λ _. 0) (λ _. 0) (λ _. 0) old m mid m1 new (with_block m i d modified (bytes_of new.bytes)) ok (λ sound c refers. refl) written named.put.shape named.put.later
         (λ keeps sound sound1 quiet. own-block-quietly m1 i d modified mid new refl (λ s. ready keeps sound sound1) refl result named)
+
+    -- Only what it counts is counted anew.
+    pub own-block-raises : IsTrue old.shape.keeps → IsSound m → (result : Result Unit Fault)
+        → PutAtOnce mid new (table_place (with_word m.table i (d * cluster_size m.header.fields)) + 8 * i) (to_be_bytes w64 (slice_index (with_word m.table i (d * cluster_size m.header.fields)).words i)) result
+        → result ≡ Ok tt → OnlyRaised m (with_block m i d modified (bytes_of new.bytes))
+    own-block-raises keeps sound result named is =
+        let all = block-counts m d block old mid is_in order long (λ _. 0)
+        (λ s. let f = uncounted-free m s first d (unnamed-uncounted m s d inside empty) in (f.0, λ used. absurd (f.2 used))) done put keeps sound ok in
+        only-named m m1 (with_block m i d modified (bytes_of new.bytes)) i d all.0.memory
+        (names-block m1 i d modified mid new refl (λ s. ready keeps sound s) (keeps_on old mid written.shape keeps) (written.holds keeps sound ok).0 result named is)
 
 -- A block of zeroes is made in a cluster that another block counts, which was handed out and of which all is flushed.
 module _ (m : Metadata) (i d : ℕ) (block : Block) (modified : Bool) (old mid new : StorageState) (is_in : IsIn old m) (order : block.order ≡ m.header.fields.refcount_order)
@@ -134,3 +160,11 @@ module _ (m : Metadata) (i d : ℕ) (block : Block) (modified : Bool) (old mid n
         (λ sound c. omega arith) (λ sound c used none. omega (arith, none))
         (quietly-then-given (done ≡ Ok tt) (result ≡ Ok tt) (one_at d) (one_at d) (λ _. 0) (one_at d) old m mid m2 new (with_block m i d modified (bytes_of new.bytes)) ok referenced-apart zeroes-written named.put.shape named.put.later
         (λ keeps sound sound2 quiet. counted-block-quietly m2 i d modified mid new refl (λ s. zeroes-ready keeps sound sound2) other result named))
+
+    pub other-block-raises : IsTrue old.shape.keeps → IsSound m → (result : Result Unit Fault)
+        → PutAtOnce mid new (table_place (with_word m.table i (d * cluster_size m.header.fields)) + 8 * i) (to_be_bytes w64 (slice_index (with_word m.table i (d * cluster_size m.header.fields)).words i)) result
+        → result ≡ Ok tt → OnlyRaised m (with_block m i d modified (bytes_of new.bytes))
+    other-block-raises keeps sound result named is =
+        let all = block-counts m d block old mid is_in order zeroes-long (one_at d) used-taken done put keeps sound ok in
+        only-named m m2 (with_block m i d modified (bytes_of new.bytes)) i d all.0.memory
+        (names-block m2 i d modified mid new refl (λ s. zeroes-ready keeps sound s) (keeps_on old mid zeroes-written.shape keeps) (zeroes-written.holds keeps sound ok).0 result named is)

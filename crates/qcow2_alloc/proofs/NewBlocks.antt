@@ -1,5 +1,5 @@
 -- What a block that is to be named counts, and what is cached of it.
-use Rattle.std.proofs.Common.{◌≡◌, ◌≢◌, ℕ, ◌+◌, ◌*◌, ◌/◌, ◌%◌, ◌<◌, arith, ap, sym, subst, ◌∙◌, List, [], ◌∷◌, ◌++◌, inl, inr, false, Some, None}
+use Rattle.std.proofs.Common.{◌≡◌, ◌≢◌, ℕ, ◌+◌, ◌*◌, ◌/◌, ◌%◌, ◌<◌, arith, ap, sym, subst, ◌∙◌, List, [], ◌∷◌, ◌++◌, length, inl, inr, false, Some, None}
 use Rattle.std.specs.Prelude.{nat_eq, slice_index, slice_set, replicate}
 use Rattle.std.specs.List.{AllByRecursion, IsDistinct}
 use Rattle.std.specs.Map.{keys_of, lookup}
@@ -80,3 +80,14 @@ one-cached key es block apart there =
     (all-append _ place.front ((key, found.0) ∷ place.back)
     (all-weaker _ _ (λ e away same. absurd (away (sym same))) place.front (others-before key found.0 place.front place.back apart'))
     ((λ same. ap (λ (b : Block). b.counters) found.2), all-weaker _ _ (λ e away same. absurd (away (sym same))) place.back (others-behind key found.0 place.front place.back apart')))
+
+-- A counter of a block of zeroes
+pub record ClearedAt (counters : List ℕ) (i : ℕ) : Type 0 where
+  pub inside : i < length counters
+  pub zero : slice_index counters i ≡ 0
+
+pub cleared-at : (counters : List ℕ) (i k c : ℕ) → counters ≡ replicate k 0 → 0 < k → i ≡ c % k → ClearedAt counters i
+cleared-at counters i k c is some at =
+    let lt = mod_below c k some in
+    let long = ap (λ (l : List ℕ). length l) is ∙ length-replicate {A = ℕ} k 0 in
+    record { inside = omega (arith, lt, long, at); zero = ap (λ (l : List ℕ). slice_index l i) is ∙ get_or-replicate k i 0 0 (omega (arith, lt, at)) }

@@ -34,7 +34,7 @@ announced-quietly m order' result old new cached' at going safe =
     }
 
 -- Writes that weren't cut off succeeded, where all is in reach,
-written-whole : (reach : Type 0) (before after : ℕ) (result : Result Unit Fault) → CountsWrites reach before after result → reach → IsWhole result → result ≡ Ok tt
+pub written-whole : (reach : Type 0) (before after : ℕ) (result : Result Unit Fault) → CountsWrites reach before after result → reach → IsWhole result → result ≡ Ok tt
 written-whole reach before after (Ok done) counts near whole = refl
 written-whole reach before after (Err Memory) counts near whole = absurd whole
 written-whole reach before after (Err Storage) counts near whole = absurd whole

@@ -15,3 +15,9 @@ pub mod Quiet
 pub mod Allocators
 pub mod Freeing
 pub mod MakingRoom
+pub mod SearchingClusters
+pub mod Scanning
+pub mod Allocating
+pub mod Growing
+pub mod MakingBlocks
+pub mod NewBlocks

@@ -1,7 +1,7 @@
 -- How room is made to count clusters: free clusters are written, and become blocks or another refcount table.
-use Rattle.std.specs.Prelude.{◌≡◌, ◌≢◌, ◌⊎◌, true, ℕ, ◌+◌, ◌*◌, ◌/◌, ◌%◌, ◌<◌, ◌≤◌, ◌==◌, if◌then◌else◌, Bool, IsTrue, Some, length, slice_index}
+use Rattle.std.specs.Prelude.{◌≡◌, ◌≢◌, true, false, ℕ, ◌+◌, ◌*◌, ◌/◌, ◌%◌, ◌<◌, ◌≤◌, ◌==◌, if◌then◌else◌, Bool, IsTrue, Some, length, slice_index}
 use Rattle.std.specs.List.{AllByRecursion}
-use Rattle.qcow2_types.specs.Bytes.{Bytes, word}
+use Rattle.qcow2_types.specs.Bytes.{Bytes, word, sum_below}
 use Rattle.qcow2_types.specs.Header.{cluster_size, words_of_cluster, refcount_table_entries, layout_of}
 use Rattle.qcow2_types.specs.Words.{block_offset, block_word_sound}
 use Rattle.qcow2_types.specs.Counts.{block_at, count, counter, counters_of_block}
@@ -91,25 +91,28 @@ pub record TableSwitched (old new : Metadata) (t n : ℕ) : Type 0 where
 abbrev pub run_of : ℕ → ℕ → FreeEntry
 run_of first count = record { first = first; count = count; metadata = true }
 
--- From cluster s on stand so many new blocks, and behind them this table of n clusters, where nothing was named and nothing waits to be
--- freed. The table names the blocks from its word b on, where the old one names none, and else what that does. Each cluster of the run is
+-- How many of the words before one name new blocks, where `new` tells which.
+abbrev pub rank : (ℕ → Bool) → ℕ → ℕ
+rank new i = sum_below i (λ j. if new j then 1 else 0)
+
+-- From cluster s on stand new blocks in a row, by their indices, and behind them this table of n clusters, where nothing was named and nothing
+-- waits to be freed. The table names each of them where the old one names none, and else what that does. Each cluster of the run is
 -- counted: the new blocks count those that are theirs and no other, and old blocks the rest, in the file and in memory. What is cached of
 -- the new blocks has their counters.
-pub record IsGrownTable (m : Metadata) (table : TableValue) (s b blocks n : ℕ) : Type 0 where
+pub record IsGrownTable (m : Metadata) (table : TableValue) (s : ℕ) (new : ℕ → Bool) (n : ℕ) : Type 0 where
   pub layout : table.layout ≡ layout_of m.header.fields
   pub long : length table.words ≡ n * words_of_cluster m.header.fields
-  pub placed : table.cluster ≡ Some (s + blocks)
-  pub written : (i : ℕ) → i < length table.words → word m.file ((s + blocks) * cluster_size m.header.fields) i ≡ slice_index table.words i
+  pub placed : table.cluster ≡ Some (s + rank new (length table.words))
+  pub written : (i : ℕ) → i < length table.words → word m.file ((s + rank new (length table.words)) * cluster_size m.header.fields) i ≡ slice_index table.words i
   pub sane : (i : ℕ) → i < length table.words → IsTrue (block_word_sound m.header.fields.cluster_bits (slice_index table.words i))
   pub longer : length m.table.words ≤ length table.words
-  pub inside : b + blocks ≤ length table.words
+  pub inside : (i : ℕ) → new i ≡ true → i < length table.words
   pub some : s ≢ 0
-  pub news : (j : ℕ) → j < blocks → block_offset (slice_index table.words (b + j)) ≡ (s + j) * cluster_size m.header.fields
-  pub empty : (j : ℕ) → j < blocks → block_offset (slice_index m.table.words (b + j)) ≡ 0
-  pub olds : (i : ℕ) → (i < b) ⊎ (b + blocks ≤ i) → block_offset (slice_index table.words i) ≡ block_offset (slice_index m.table.words i)
-  pub free : (c : ℕ) → 0 < covers c (run_of s (blocks + n)) → (named_at_all m c ≡ 0) × (waiting m c ≡ 0)
-  pub counters : (j c : ℕ) → j < blocks → c / counters_of_block m.header.fields ≡ b + j
-      → counter m.file m.header.fields ((s + j) * cluster_size m.header.fields) (c % counters_of_block m.header.fields) ≡ covers c (run_of s (blocks + n))
-  pub counted : (c : ℕ) → 0 < covers c (run_of s (blocks + n)) → (c / counters_of_block m.header.fields < b) ⊎ (b + blocks ≤ c / counters_of_block m.header.fields)
-      → (1 ≤ count m.file m.header.fields c) × (1 ≤ counted m c)
-  pub cached : AllByRecursion (λ e. (j : ℕ) → j < blocks → e.0 ≡ s + j → e.1.value.counters ≡ counters_in m.file m.header.fields (e.0 * cluster_size m.header.fields)) m.cached.blocks
+  pub news : (i : ℕ) → new i ≡ true → block_offset (slice_index table.words i) ≡ (s + rank new i) * cluster_size m.header.fields
+  pub empty : (i : ℕ) → new i ≡ true → block_offset (slice_index m.table.words i) ≡ 0
+  pub olds : (i : ℕ) → new i ≡ false → block_offset (slice_index table.words i) ≡ block_offset (slice_index m.table.words i)
+  pub free : (c : ℕ) → 0 < covers c (run_of s (rank new (length table.words) + n)) → (named_at_all m c ≡ 0) × (waiting m c ≡ 0)
+  pub counters : (i c : ℕ) → new i ≡ true → c / counters_of_block m.header.fields ≡ i
+      → counter m.file m.header.fields ((s + rank new i) * cluster_size m.header.fields) (c % counters_of_block m.header.fields) ≡ covers c (run_of s (rank new (length table.words) + n))
+  pub counted : (c : ℕ) → 0 < covers c (run_of s (rank new (length table.words) + n)) → new (c / counters_of_block m.header.fields) ≡ false → (1 ≤ count m.file m.header.fields c) × (1 ≤ counted m c)
+  pub cached : AllByRecursion (λ e. (i : ℕ) → new i ≡ true → e.0 ≡ s + rank new i → e.1.value.counters ≡ counters_in m.file m.header.fields (e.0 * cluster_size m.header.fields)) m.cached.blocks

@@ -20,8 +20,14 @@ use qcow2_metadata::{RefBlock, RefTable, Table};
 use qcow2_types::{ClusterCount, ClustersToFreeEntry, HostCluster};
 use std::alloc::Global;
 
+mod counting;
+mod ensuring_blocks;
+mod growing;
+mod making_blocks;
+mod searching;
 #[cfg(test)]
 mod tests;
+mod writing_blocks;
 
 /// The allocator of the clusters of an image file: its refcount table in memory, and where the search for free clusters begins.
 #[derive(Drop)]

@@ -1,8 +1,8 @@
 //! A cache of entries that a backend loads and flushes, the most recently used first.
-ghost use Rattle.std.specs.Prelude.{List, ◌≡◌, ◌<◌, ◌+◌, ◌-◌, ◌^◌, ℕ, [], IfOk, OnOk, IfErr, length, ◌∷◌, true, Ok, Err, None, IfSome, IsSome, Result, Some, Option};
+ghost use Rattle.std.specs.Prelude.{IsTrue, IsErr, ◌↔◌, List, ◌≡◌, ◌<◌, ◌+◌, ◌-◌, ◌^◌, ℕ, [], IfOk, OnOk, IfErr, length, ◌∷◌, true, Ok, Err, None, IfSome, IsSome, Result, Some, Option};
 ghost use Rattle.std.specs.Option.{option_map, option_copied};
 ghost use Rattle.std.specs.NonZero.{non_zero_usize_get};
-ghost use Rattle.std.specs.Map.{lookup, set_value};
+ghost use Rattle.std.specs.Map.{lookup, set_value, remove_entry};
 ghost use Rattle.imago_storage.specs.declared.fault.Fault.{Fault};
 ghost use Rattle.imago_storage.specs.declared.fault.Fault.TheVariants.{Memory};
 ghost use Rattle.qcow2_alloc.specs.Cache as spec;
@@ -390,6 +390,33 @@ impl<K: Copy + Eq + Hash, V: Drop, B: AsyncLruCacheBackend<Key = K, Value = V>> 
         } else {
             Err(Fault::CacheFull)
         }
+    }
+
+    // Whether someone holds on to the value at a key.
+    fn is_pinned(&self, key: K) -> bool
+        ensures { IsTrue result ↔ IsSomeAnd (lookup (K.eq key) self.now.slots.entries) (λ s. 0 < s.pins) }
+    {
+        let slot = self.slots.peek(&key);
+        match slot {
+            Some(slot) => slot.pins > 0,
+            None => false,
+        }
+    }
+
+    // Drops the value at a key, if it is there, without flushing it. It refuses with `Fault::CacheFull` where that is pinned, and then changes
+    // nothing.
+    pub(crate) fn forget(&mut self, key: K) -> Result<(), Fault>
+        ensures pinned { IsSomeAnd (lookup (K.eq key) self.old.slots.entries) (λ s. 0 < s.pins) → IsErr result }
+        ensures ok { OnOk result (self.new ≡ with_entries self.old (remove_entry (K.eq key) self.old.slots.entries)) }
+        ensures err { IfErr result (λ e. (e ≡ Fault.CacheFull) × IsSomeAnd (lookup (K.eq key) self.old.slots.entries) (λ s. 0 < s.pins) × (self.new ≡ self.old)) }
+    {
+        if self.is_pinned(key) {
+            return Err(Fault::CacheFull);
+        }
+        if let Some(slot) = self.slots.pop(&key) {
+            self.backend.evict(key, slot.value);
+        }
+        Ok(())
     }
 
     /// An empty cache of at most that many entries.

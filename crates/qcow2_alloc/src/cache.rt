@@ -169,9 +169,9 @@ impl<S: Storage> MetadataCaches<S> {
     ghost use Rattle.qcow2_alloc.specs.Finding.{TableFound, BlockFound};
     ghost use Rattle.qcow2_alloc.specs.CachesLending.{with_tables, with_blocks, table_loads, table_flushes, block_loads, block_flushes, lends_table, lends_block};
     ghost use Rattle.std.specs.Borrow.{sem};
-    ghost use Rattle.std.specs.Map.{lookup};
+    ghost use Rattle.std.specs.Map.{lookup, remove_entry};
     ghost use Rattle.std.specs.Option.{option_map};
-    ghost use Rattle.std.specs.Prelude.{nat_eq, length, None, Some, false, IsSome, IfSome};
+    ghost use Rattle.std.specs.Prelude.{nat_eq, length, None, Some, false, IsSome, IsSomeAnd, IfSome, IsErr, IfErr};
 
     /// Empty caches of at most so many L2 tables and refcount blocks, with no order announced.
     ///
@@ -637,6 +637,16 @@ impl<S: Storage> MetadataCaches<S> {
             Some(cluster) => self.rb_insert_at(file, cluster, block),
             None => unreachable!(),
         }
+    }
+
+    // Drops the refcount block in a cluster, if it is cached, without writing it: what was to be written of it is lost. It refuses with
+    // `Fault::CacheFull` where that is pinned, and then changes nothing.
+    pub(crate) fn rb_forget(&mut self, cluster: HostCluster) -> Result<(), Fault>
+        ensures pinned { IsSomeAnd (lookup (nat_eq cluster) (cached_in self.old).blocks) (λ s. 0 < s.pins) → IsErr result }
+        ensures ok { OnOk result (self.new ≡ with_blocks self.old (remove_entry (nat_eq cluster) (cached_in self.old).blocks)) }
+        ensures err { IfErr result (λ fault. (fault ≡ Fault.CacheFull) × IsSomeAnd (lookup (nat_eq cluster) (cached_in self.old).blocks) (λ s. 0 < s.pins) × (self.new ≡ self.old)) }
+    {
+        self.rb.forget(cluster)
     }
 
     /// Drops each refcount block that isn't pinned, without writing it.

@@ -1,6 +1,6 @@
 //! What callers may rest on beside the contract of each call. The functions do nothing, and their contracts are the laws.
 
-ghost use Rattle.std.specs.Prelude.{◌≡◌, ◌⊎◌, ◌==◌, if◌then◌else◌, ◌≢◌, ℕ, ◌+◌, ◌*◌, ◌/◌, ◌%◌, ◌^◌, ◌<◌, ◌≤◌, Bool, true, Some, ⊤, IsTrue, Result, Ok, OnOk, List, [], ◌∷◌, ◌++◌, length, nat_eq, slice_index, slice_set, replicate, None, IsFalse};
+ghost use Rattle.std.specs.Prelude.{◌≡◌, ◌⊎◌, ◌==◌, if◌then◌else◌, ◌≢◌, ℕ, ◌+◌, ◌*◌, ◌/◌, ◌%◌, ◌^◌, ◌<◌, ◌≤◌, Bool, true, false, Some, ⊤, IsTrue, Result, Ok, OnOk, List, [], ◌∷◌, ◌++◌, length, nat_eq, slice_index, slice_set, replicate, None, IsFalse};
 ghost use Rattle.std.specs.Int.{w64, to_be_bytes};
 ghost use Rattle.std.specs.List.{remove, AllByRecursion, IsDistinct};
 ghost use Rattle.std.specs.Option.{option_map};
@@ -33,7 +33,7 @@ ghost use Rattle.qcow2_alloc.specs.Memory.{Cached, memory};
 ghost use Rattle.qcow2_alloc.specs.Safety.{Safe, IsLeft, IsCalm, AreTablesClean, AreBlocksClean, IsSettled};
 ghost use Rattle.qcow2_alloc.specs.Going.{Going, Always, CountsWrites, IsWhole, AreTablesInReach, AreBlocksInReach};
 ghost use Rattle.qcow2_alloc.specs.Quiet.{IsTableOf, Metadata, metadata_in, covers_metadata, in_memory, counted, referenced, named_at_all, waiting, waiting_metadata, one_at, IsUsed, IsSound, ShowsEither, IsQuiet, IsIn, Quietly};
-ghost use Rattle.qcow2_alloc.specs.MakingRoom.{CountsTheSame, IsReadyBlock, BlockNamed, with_block, formerly, newly_counted, IsReadyTable, TableSwitched, with_table, newly, run_of, IsGrownTable};
+ghost use Rattle.qcow2_alloc.specs.MakingRoom.{CountsTheSame, IsReadyBlock, BlockNamed, with_block, formerly, newly_counted, IsReadyTable, TableSwitched, with_table, newly, run_of, rank, IsGrownTable};
 ghost use Rattle.qcow2_alloc.specs.FreeList.{entry_at, tail_of, shortened, covers, listed};
 
 /// Words can name the cluster of each table and block that is to be written of a safe image. So no flush of one is refused as damaged.
@@ -318,11 +318,11 @@ pub fn switching_the_table()
 /// A table that has grown, with new blocks before it, is ready: it names the run of their clusters anew. Of these an old block counts all but
 /// those that the new blocks do.
 pub fn what_has_grown_is_ready()
-    ensures ready { (m : Metadata) (table : TableValue) (s b blocks n : ℕ) → IsSound m → IsGrownTable m table s b blocks n → IsReadyTable m table (s + blocks) n }
-    ensures run { (m : Metadata) (table : TableValue) (s b blocks n : ℕ) → IsSound m → IsGrownTable m table s b blocks n → (c : ℕ) → newly m (s + blocks) n c ≡ covers c (run_of s (blocks + n)) }
-    ensures old { (m : Metadata) (table : TableValue) (s b blocks n : ℕ) → IsSound m → IsGrownTable m table s b blocks n → (c : ℕ) → (c / counters_of_block m.header.fields < b) ⊎ (b + blocks ≤ c / counters_of_block m.header.fields)
-        → newly_counted m (s + blocks) n c ≡ covers c (run_of s (blocks + n)) }
-    ensures new { (m : Metadata) (table : TableValue) (s b blocks n : ℕ) → IsSound m → IsGrownTable m table s b blocks n → (c j : ℕ) → j < blocks → c / counters_of_block m.header.fields ≡ b + j → newly_counted m (s + blocks) n c ≡ 0 }
+    ensures ready { (m : Metadata) (table : TableValue) (s n : ℕ) (new : ℕ → Bool) → IsSound m → IsGrownTable m table s new n → IsReadyTable m table (s + rank new (length table.words)) n }
+    ensures run { (m : Metadata) (table : TableValue) (s n : ℕ) (new : ℕ → Bool) → IsSound m → IsGrownTable m table s new n → (c : ℕ) → newly m (s + rank new (length table.words)) n c ≡ covers c (run_of s (rank new (length table.words) + n)) }
+    ensures old { (m : Metadata) (table : TableValue) (s n : ℕ) (new : ℕ → Bool) → IsSound m → IsGrownTable m table s new n → (c : ℕ) → new (c / counters_of_block m.header.fields) ≡ false
+        → newly_counted m (s + rank new (length table.words)) n c ≡ covers c (run_of s (rank new (length table.words) + n)) }
+    ensures new { (m : Metadata) (table : TableValue) (s n : ℕ) (new : ℕ → Bool) → IsSound m → IsGrownTable m table s new n → (c : ℕ) → new (c / counters_of_block m.header.fields) ≡ true → newly_counted m (s + rank new (length table.words)) n c ≡ 0 }
 {}
 
 /// The clusters of the refcount table that was replaced may be put among those that wait to be freed.

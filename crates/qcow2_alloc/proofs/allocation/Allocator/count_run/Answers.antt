@@ -1,0 +1,40 @@
+use Rattle.std.proofs.Common.{◌≡◌, ◌+◌, ℕ, arith, subst}
+use Rattle.qcow2_alloc.specs.Allocating.{RaisesCluster, CountsRun}
+use Rattle.qcow2_alloc.specs.Allocators.{table_of}
+use Rattle.qcow2_alloc.proofs.CountingClusters.{succeeded, cluster-counted}
+use Rattle.qcow2_alloc.proofs.CountingRuns.{run-none, run-then, run-within}
+use Rattle.qcow2_alloc.proofs.FreeingEntries.{failed}
+use Rattle.qcow2_alloc.proofs.allocation.Allocator.count_run.Goals as goal
+
+pub loop-index-init : goal.loop-index-init
+loop-index-init g c = λ pending. run-none g.S.Storage.state (table_of c.args.self.now) pending c.args.first c.args.caches.now c.args.file.now
+
+pub returns-in-Err : goal.returns-in-Err
+returns-in-Err g c = λ pending.
+    let state = g.S.Storage.state in
+    let table = table_of c.args.self.now in
+    let l = c.loop-index in
+    let new = c.count_cluster.new in
+    let inside = c.loop-index-test.true in
+    run-within state table pending c.args.first (l.index + 1) c.args.count (omega (arith, inside)) c.args.caches.now c.args.file.now c.in-Err.fault new.caches new.file
+    (run-then state table pending c.args.first l.index c.args.caches.now c.args.file.now l.caches l.file (failed c.in-Err.fault) new.caches new.file (l.invariant pending)
+    (cluster-counted state table pending (c.args.first + l.index) l.caches l.file (failed c.in-Err.fault) new.caches new.file
+    (subst (λ (n : ℕ). RaisesCluster state table (n + l.index) l.caches l.file (failed c.in-Err.fault) new.caches new.file) c.first.view_is c.in-Err.ensures)))
+
+pub loop-index-preserved : goal.loop-index-preserved
+loop-index-preserved g c = λ pending.
+    let state = g.S.Storage.state in
+    let table = table_of c.args.self.now in
+    let l = c.loop-index in
+    let new = c.count_cluster.new in
+    run-then state table pending c.args.first l.index c.args.caches.now c.args.file.now l.caches l.file succeeded new.caches new.file (l.invariant pending)
+    (cluster-counted state table pending (c.args.first + l.index) l.caches l.file succeeded new.caches new.file
+    (subst (λ (n : ℕ). RaisesCluster state table (n + l.index) l.caches l.file succeeded new.caches new.file) c.first.view_is c.in-Ok.ensures))
+
+pub returns : goal.returns
+returns g c = λ pending.
+    let l = c.loop-index in
+    let past = c.loop-index-test.false in
+    let end = l.auto.index-end in
+    let all : l.index ≡ c.args.count = omega (arith, past, end) in
+    subst (λ (n : ℕ). CountsRun g.S.Storage.state (table_of c.args.self.now) c.args.first n c.args.caches.now c.args.file.now succeeded l.caches l.file pending) all (l.invariant pending)

@@ -1,0 +1,73 @@
+use Rattle.std.proofs.Common.{◌≡◌, ◌+◌, ℕ, List, Option, Bool, true, [], refl, arith, subst, sym, ap, ◌∙◌}
+use Rattle.std.specs.Option.{is_some}
+use Rattle.qcow2_types.specs.Pending.{FreeEntry}
+use Rattle.qcow2_alloc.specs.declared.allocation.Allocator.{Allocator}
+use Rattle.qcow2_alloc.specs.declared.cache.MetadataCaches.{MetadataCaches}
+use Rattle.qcow2_alloc.specs.declared.file.ImageFile.{ImageFile}
+use Rattle.qcow2_alloc.specs.Allocating.{MakesBlocks}
+use Rattle.qcow2_alloc.specs.Allocators.{table_of, mark_of}
+use Rattle.qcow2_alloc.proofs.EnsuringBlocks.{so, blocks-none, blocks-there, blocks-then, blocks-within}
+use Rattle.qcow2_alloc.proofs.FreeingEntries.{failed}
+use Rattle.qcow2_alloc.proofs.NamedWords.{named-some, named-none}
+use Rattle.qcow2_alloc.proofs.CountingClusters.{succeeded}
+use Rattle.qcow2_alloc.proofs.allocation.Allocator.ensure_blocks.Goals as goal
+use Rattle.qcow2_alloc.proofs.allocation.Allocator.ensure_blocks.Goals.{then-is_none+in-Ok, else-is_none}
+
+pub loop-index-init : goal.loop-index-init
+loop-index-init g c = (λ pending. blocks-none g.S.Storage.state pending c.args.first (table_of c.args.self.now) c.args.caches.now c.args.file.now, refl)
+
+pub make_block-requires-clause-inside : goal.make_block-requires-clause-inside
+make_block-requires-clause-inside g c =
+    let long = (c.loop-index.invariant.0 []).long in
+    let inside = c.requires.inside in
+    let test = c.loop-index-test.true in
+    omega (arith, long, inside, test)
+
+pub returns-in-Err-clause-makes : goal.returns-in-Err-clause-makes
+returns-in-Err-clause-makes g c = λ pending.
+    let l = c.loop-index in
+    let new = c.make_block.new in
+    let inside = c.requires.inside in
+    let test = c.loop-index-test.true in
+    blocks-within g.S.Storage.state pending c.args.first (l.index + 1) c.args.end (omega (arith, test)) (table_of c.args.self.now) c.args.caches.now c.args.file.now c.in-Err.fault (table_of new.self) new.caches new.file
+    (blocks-then g.S.Storage.state pending c.args.first l.index (table_of c.args.self.now) c.args.caches.now c.args.file.now l.made (table_of l.self) l.caches l.file (l.invariant.0 pending) (omega (arith, inside, test))
+    (named-none (table_of l.self) l.index (ap (λ (o : Option ℕ). is_some o) (sym c.block_cluster.ensures) ∙ c.if-is_none.ensures)) l.auto.index (failed c.in-Err.fault) (table_of new.self) new.caches new.file (c.in-Err.ensures.makes pending))
+
+pub loop-index-preserved : goal.loop-index-preserved
+loop-index-preserved g c = elim c.if-is_none.branch [
+  | then-is_none+in-Ok w ↦
+      let l = c.loop-index in
+      let new = w.make_block.new in
+      let inside = c.requires.inside in
+      let test = c.loop-index-test.true in
+      so_still true new.self new.caches new.file w.made-is w.self-is w.caches-is w.file-is (
+        (λ pending. blocks-then g.S.Storage.state pending c.args.first l.index (table_of c.args.self.now) c.args.caches.now c.args.file.now l.made (table_of l.self) l.caches l.file (l.invariant.0 pending) (omega (arith, inside, test))
+            (named-none (table_of l.self) l.index (ap (λ (o : Option ℕ). is_some o) (sym c.block_cluster.ensures) ∙ w.if-is_none.ensures)) l.auto.index succeeded (table_of new.self) new.caches new.file (w.in-Ok.ensures.makes pending)),
+        w.in-Ok.ensures.mark ∙ l.invariant.1,
+      )
+  | else-is_none w ↦
+      let l = c.loop-index in
+      so_still l.made l.self l.caches l.file w.made-is w.self-is w.caches-is w.file-is (
+        (λ pending. blocks-there g.S.Storage.state pending c.args.first l.index (table_of c.args.self.now) c.args.caches.now c.args.file.now l.made (table_of l.self) l.caches l.file (l.invariant.0 pending) (named-some (table_of l.self) l.index (ap (λ (o : Option ℕ). is_some o) (sym c.block_cluster.ensures) ∙ w.if-is_none.ensures))),
+        l.invariant.1,
+      )
+]
+  where
+    P : Bool → Allocator → MetadataCaches g.row.S.Denot → ImageFile g.row.S.Denot → Type 0
+    P b s ca f = ((pending : List FreeEntry) → MakesBlocks g.S.Storage.state c.args.first (c.loop-index.index + 1) (table_of c.args.self.now) c.args.caches.now c.args.file.now (so b) (table_of s) ca f pending) × (mark_of s ≡ mark_of c.args.self.now)
+
+    so_still : (b : Bool) (s : Allocator) (ca : MetadataCaches g.row.S.Denot) (f : ImageFile g.row.S.Denot) → c.if-is_none.made ≡ b → c.if-is_none.self ≡ s → c.if-is_none.caches ≡ ca → c.if-is_none.file ≡ f → P b s ca f
+        → P c.if-is_none.made c.if-is_none.self c.if-is_none.caches c.if-is_none.file
+    so_still b s ca f made self caches file known =
+        subst (λ (x : Bool). P x c.if-is_none.self c.if-is_none.caches c.if-is_none.file) (sym made)
+        (subst (λ (x : Allocator). P b x c.if-is_none.caches c.if-is_none.file) (sym self)
+        (subst (λ (x : MetadataCaches g.row.S.Denot). P b s x c.if-is_none.file) (sym caches)
+        (subst (λ (x : ImageFile g.row.S.Denot). P b s ca x) (sym file) known)))
+
+pub returns-clause-makes : goal.returns-clause-makes
+returns-clause-makes g c = λ pending.
+    let l = c.loop-index in
+    let past = c.loop-index-test.false in
+    let end = l.auto.index-end c.requires.order in
+    let all : l.index ≡ c.args.end = omega (arith, past, end) in
+    subst (λ (n : ℕ). MakesBlocks g.S.Storage.state c.args.first n (table_of c.args.self.now) c.args.caches.now c.args.file.now (so l.made) (table_of l.self) l.caches l.file pending) all (l.invariant.0 pending)

@@ -1,0 +1,121 @@
+use Rattle.std.proofs.Common.{◌≡◌, ◌≤◌, ◌+◌, ◌*◌, ◌^◌, ℕ, arith, ap, subst, ◌∙◌, length, Ok, Err}
+use Rattle.std.proofs.Math.Nat.{mul-le-mul, pow-le-pow_right}
+use Rattle.qcow2_types.specs.Counts.{counters_of_block}
+use Rattle.qcow2_metadata.specs.Tables.{TableValue}
+use Rattle.qcow2_alloc.specs.declared.allocation.searching.Run.{Run}
+use Rattle.qcow2_alloc.specs.Allocators.{table_of}
+use Rattle.qcow2_alloc.specs.Growing.{lacking, needed_for, GrowsRoom}
+use Rattle.qcow2_alloc.proofs.FindingRoom.{needed-few}
+use Rattle.qcow2_alloc.proofs.SearchingRooms.{rooms-first, rooms-found, rooms-not-grown, rooms-then, rooms-fewer}
+use Rattle.qcow2_alloc.proofs.allocation.Allocator.find_room.Goals as goal
+
+-- A block has at least 64 counters, and at most 2^24.
+wide : (bits k : ℕ) → 2 ^ bits ≡ k → 6 ≤ bits → 64 ≤ k
+wide bits k size least = let le : 2 ^ 6 ≤ 2 ^ bits = pow-le-pow_right (omega arith) least in omega (arith, le, size)
+
+-- So the clusters of a table are fewer than 2^44.
+near : (len bits k : ℕ) → 2 ^ bits ≡ k → bits ≤ 24 → len ≤ 2 ^ 20 → len * k ≤ 2 ^ 20 * 2 ^ 24
+near len bits k size most few = let le : 2 ^ bits ≤ 2 ^ 24 = pow-le-pow_right (omega arith) most in let small : k ≤ 2 ^ 24 = omega (arith, le, size) in mul-le-mul few small
+
+as-needed : (table : TableValue) (bits k n m : ℕ) (run : Run) → 2 ^ bits ≡ k → m ≡ lacking table (2 ^ bits) run.first run.len → n + m ≡ needed_for table k n run
+as-needed table bits k n m run size is = ap (λ x. n + x) (is ∙ ap (λ x. lacking table x run.first run.len) size)
+
+pub overflow_add-needed : goal.overflow_add-needed
+overflow_add-needed g c =
+    let table = table_of c.args.self.now in
+    let k = counters_of_block c.args.file.now.header.fields in
+    let bits = c.rb_bits-rb_bits.ensures in
+    let run : Run = record { first = c.in-Ok.first; len = c.args.clusters } in
+    let is = as-needed table c.rb_bits-rb_bits.result k c.args.clusters c.lacking_for.result run bits.entries c.lacking_for.ensures in
+    let few = needed-few table k (wide c.rb_bits-rb_bits.result k bits.entries bits.bounds.0) c.args.clusters run (omega arith) in
+    let most = c.requires.few in
+    omega (arith, is, few, most)
+
+pub loop-needed-init : goal.loop-needed-init
+loop-needed-init g c =
+    let table = table_of c.args.self.now in
+    let k = counters_of_block c.args.file.now.header.fields in
+    let run : Run = record { first = c.in-Ok.first; len = c.args.clusters } in (
+      rooms-first g.S.Storage.state table c.args.from c.args.clusters c.args.caches.now c.args.file.now c.requires.near c.in-Ok.first c.find_run.new.caches c.find_run.new.file c.in-Ok.ensures,
+      as-needed table c.rb_bits-rb_bits.result k c.args.clusters c.lacking_for.result run c.rb_bits-rb_bits.ensures.entries c.lacking_for.ensures,
+    )
+
+pub returns-in-Err-grow_room : goal.returns-in-Err-grow_room
+returns-in-Err-grow_room g c =
+    let state = g.S.Storage.state in
+    let table = table_of c.args.self.now in
+    let l = c.loop-needed in
+    rooms-not-grown state table c.args.from c.args.clusters c.args.caches.now c.args.file.now l.room l.caches l.file l.invariant.0 c.in-Err-grow_room.fault c.grow_room.new.caches c.grow_room.new.file
+    (subst (λ (m : ℕ). GrowsRoom state table c.args.clusters m l.room l.caches l.file (Err c.in-Err-grow_room.fault) c.grow_room.new.caches c.grow_room.new.file) l.invariant.1 c.in-Err-grow_room.ensures)
+
+pub lacking_for-requires-in-loop-needed-clause-fits : goal.lacking_for-requires-in-loop-needed-clause-fits
+lacking_for-requires-in-loop-needed-clause-fits g c =
+    let table = table_of c.args.self.now in
+    let k = counters_of_block c.args.file.now.header.fields in
+    let bits = c.rb_bits-rb_bits.ensures in
+    let l = c.loop-needed in
+    let now = c.in-Ok-grow_room.next in
+    let len = c.len.ensures in
+    let test = c.loop-needed-test.true in
+    let is = l.invariant.1 in
+    let searched = rooms-then g.S.Storage.state table c.args.from c.args.clusters c.args.caches.now c.args.file.now l.room l.caches l.file l.invariant.0 (wide c.rb_bits-rb_bits.result k bits.entries bits.bounds.0) now c.grow_room.new.caches c.grow_room.new.file
+    (omega (arith, len, test, is)) (subst (λ (m : ℕ). GrowsRoom g.S.Storage.state table c.args.clusters m l.room l.caches l.file (Ok now) c.grow_room.new.caches c.grow_room.new.file) l.invariant.1 c.in-Ok-grow_room.ensures) in
+    let within = searched.within in
+    let few = searched.few in
+    let most = c.requires.few in
+    let far = near (length table.words) c.rb_bits-rb_bits.result k bits.entries bits.bounds.1 c.entries-words.ensures.table.long in
+    omega (arith, within, few, most, far)
+
+pub overflow_add-needed-in-loop-needed : goal.overflow_add-needed-in-loop-needed
+overflow_add-needed-in-loop-needed g c =
+    let table = table_of c.args.self.now in
+    let k = counters_of_block c.args.file.now.header.fields in
+    let bits = c.rb_bits-rb_bits.ensures in
+    let l = c.loop-needed in
+    let now = c.in-Ok-grow_room.next in
+    let len = c.len.ensures in
+    let test = c.loop-needed-test.true in
+    let at = l.invariant.1 in
+    let searched = rooms-then g.S.Storage.state table c.args.from c.args.clusters c.args.caches.now c.args.file.now l.room l.caches l.file l.invariant.0 (wide c.rb_bits-rb_bits.result k bits.entries bits.bounds.0) now c.grow_room.new.caches c.grow_room.new.file
+    (omega (arith, len, test, at)) (subst (λ (m : ℕ). GrowsRoom g.S.Storage.state table c.args.clusters m l.room l.caches l.file (Ok now) c.grow_room.new.caches c.grow_room.new.file) l.invariant.1 c.in-Ok-grow_room.ensures) in
+    let is = as-needed table c.rb_bits-rb_bits.result k c.args.clusters c.lacking_for-in-loop-needed.result now bits.entries c.lacking_for-in-loop-needed.ensures in
+    let few = needed-few table k (wide c.rb_bits-rb_bits.result k bits.entries bits.bounds.0) c.args.clusters now searched.few in
+    let most = c.requires.few in
+    omega (arith, is, few, most)
+
+pub loop-needed-smaller : goal.loop-needed-smaller
+loop-needed-smaller g c =
+    let table = table_of c.args.self.now in
+    let k = counters_of_block c.args.file.now.header.fields in
+    let bits = c.rb_bits-rb_bits.ensures in
+    let l = c.loop-needed in
+    let now = c.in-Ok-grow_room.next in
+    let len = c.len.ensures in
+    let test = c.loop-needed-test.true in
+    let is = l.invariant.1 in
+    rooms-fewer g.S.Storage.state table c.args.from c.args.clusters c.args.caches.now c.args.file.now l.room l.caches l.file l.invariant.0 (wide c.rb_bits-rb_bits.result k bits.entries bits.bounds.0) now c.grow_room.new.caches c.grow_room.new.file
+    (omega (arith, len, test, is)) (subst (λ (m : ℕ). GrowsRoom g.S.Storage.state table c.args.clusters m l.room l.caches l.file (Ok now) c.grow_room.new.caches c.grow_room.new.file) l.invariant.1 c.in-Ok-grow_room.ensures)
+
+pub loop-needed-preserved : goal.loop-needed-preserved
+loop-needed-preserved g c =
+    let table = table_of c.args.self.now in
+    let k = counters_of_block c.args.file.now.header.fields in
+    let bits = c.rb_bits-rb_bits.ensures in
+    let l = c.loop-needed in
+    let now = c.in-Ok-grow_room.next in
+    let len = c.len.ensures in
+    let test = c.loop-needed-test.true in
+    let is = l.invariant.1 in (
+      rooms-then g.S.Storage.state table c.args.from c.args.clusters c.args.caches.now c.args.file.now l.room l.caches l.file l.invariant.0 (wide c.rb_bits-rb_bits.result k bits.entries bits.bounds.0) now c.grow_room.new.caches c.grow_room.new.file
+          (omega (arith, len, test, is)) (subst (λ (m : ℕ). GrowsRoom g.S.Storage.state table c.args.clusters m l.room l.caches l.file (Ok now) c.grow_room.new.caches c.grow_room.new.file) l.invariant.1 c.in-Ok-grow_room.ensures),
+      as-needed table c.rb_bits-rb_bits.result k c.args.clusters c.lacking_for-in-loop-needed.result now bits.entries c.lacking_for-in-loop-needed.ensures,
+    )
+
+pub returns : goal.returns
+returns g c =
+    let table = table_of c.args.self.now in
+    let l = c.loop-needed in
+    let len = c.len.ensures in
+    let test = c.loop-needed-test.false in
+    let is = l.invariant.1 in
+    rooms-found g.S.Storage.state table c.args.from c.args.clusters c.args.caches.now c.args.file.now l.room l.caches l.file l.invariant.0 (omega (arith, len, test, is))

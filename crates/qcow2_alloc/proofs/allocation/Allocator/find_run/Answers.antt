@@ -1,0 +1,51 @@
+use Rattle.std.proofs.Common.{◌≡◌, ◌/◌, ◌^◌, ◌<◌, arith, ap, sym, subst, ◌∙◌, length, Result, Ok}
+use Rattle.imago_storage.specs.declared.fault.Fault.{Fault}
+use Rattle.qcow2_types.specs.Header.{Header}
+use Rattle.qcow2_types.specs.Counts.{counters_of_block}
+use Rattle.qcow2_alloc.specs.declared.allocation.searching.Run.{Run}
+use Rattle.qcow2_alloc.specs.Allocators.{table_of}
+use Rattle.qcow2_alloc.specs.Scanning.{next_of, ExtendsRun}
+use Rattle.qcow2_alloc.proofs.LookingForRuns.{searched-then, searched-refused, searched-long, searched-all}
+use Rattle.qcow2_alloc.proofs.SearchingRuns.{few-clusters}
+use Rattle.qcow2_alloc.proofs.allocation.Allocator.find_run.Goals as goal
+use Rattle.qcow2_alloc.proofs.allocation.Allocator.find_run.Goals.{then-loop-run-test+else-rt_index-entries, else-loop-run-test}
+
+pub loop-run-preserved : goal.loop-run-preserved
+loop-run-preserved g c =
+    let state = g.S.Storage.state in
+    let table = table_of c.args.self.now in
+    let extends : ExtendsRun state table c.args.count c.loop-run.run c.loop-run.caches c.loop-run.file (Ok c.in-Ok.longer) c.extend_run.new.caches c.extend_run.new.file =
+    subst (λ (r : Result Run Fault). ExtendsRun state table c.args.count c.loop-run.run c.loop-run.caches c.loop-run.file r c.extend_run.new.caches c.extend_run.new.file) c.in-Ok.is c.extend_run.ensures in
+    let k = counters_of_block c.loop-run.file.header.fields in
+    let bits = c.rb_bits-rb_bits.ensures in
+    let size : 2 ^ c.rb_bits-rb_bits.result ≡ k = bits.entries ∙ ap (λ (h : Header). counters_of_block h.fields) (sym c.loop-run.invariant.1) in
+    let at : c.rt_index.result ≡ next_of c.loop-run.run / k = c.rt_index.ensures ∙ ap (λ n. n / 2 ^ c.rb_bits-rb_bits.result) c.next.ensures ∙ ap (λ n. next_of c.loop-run.run / n) size in
+    let test = c.if-rt_index-entries.true in
+    let words = c.entries.ensures.value in
+    let inside : next_of c.loop-run.run / counters_of_block c.args.file.now.header.fields < length table.words = subst (λ (h : Header). next_of c.loop-run.run / counters_of_block h.fields < length table.words) c.loop-run.invariant.1 (omega (arith, test, words, at)) in
+    let few = few-clusters (next_of c.loop-run.run / k) k (length table.words) c.rb_bits-rb_bits.result (omega (arith, test, words, at)) c.entries.ensures.table.long size bits.bounds.1 in (
+      let near = extends.near in omega (arith, near, few),
+      extends.looked.header ∙ c.loop-run.invariant.1,
+      searched-then state table c.args.from c.args.count c.args.caches.now c.args.file.now c.loop-run.run c.loop-run.caches c.loop-run.file c.loop-run.invariant.2 inside c.in-Ok.longer c.extend_run.new.caches c.extend_run.new.file extends,
+    )
+
+pub returns-in-Err : goal.returns-in-Err
+returns-in-Err g c =
+    let state = g.S.Storage.state in
+    let table = table_of c.args.self.now in
+    searched-refused state table c.args.from c.args.count c.args.caches.now c.args.file.now c.loop-run.run c.loop-run.caches c.loop-run.file c.loop-run.invariant.2 c.in-Err.fault c.extend_run.new.caches c.extend_run.new.file
+    (subst (λ (r : Result Run Fault). ExtendsRun state table c.args.count c.loop-run.run c.loop-run.caches c.loop-run.file r c.extend_run.new.caches c.extend_run.new.file) c.in-Err.is c.extend_run.ensures)
+
+pub returns : goal.returns
+returns g c =
+    let state = g.S.Storage.state in
+    let table = table_of c.args.self.now in
+    elim c.loop-run-test.branch [
+      | then-loop-run-test+else-rt_index-entries w ↦
+          searched-all state table c.args.from c.args.count c.args.caches.now c.args.file.now c.loop-run.run c.loop-run.caches c.loop-run.file c.loop-run.invariant.2
+          (let at = w.rt_index.ensures ∙ ap (λ n. n / 2 ^ c.rb_bits-rb_bits.result) w.next.ensures ∙ ap (λ n. next_of c.loop-run.run / n) c.rb_bits-rb_bits.ensures.entries in
+          let past = w.if-rt_index-entries.false in
+          let words = w.entries.ensures.value in
+          omega (arith, at, past, words))
+      | else-loop-run-test w ↦ searched-long state table c.args.from c.args.count c.args.caches.now c.args.file.now c.loop-run.run c.loop-run.caches c.loop-run.file c.loop-run.invariant.2 w.loop-run-test.false
+    ]

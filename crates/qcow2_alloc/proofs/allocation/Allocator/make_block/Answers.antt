@@ -1,0 +1,27 @@
+use Rattle.qcow2_alloc.specs.Allocators.{table_of, mark_of}
+use Rattle.qcow2_alloc.proofs.MadeBlocks.{begins-makes}
+use Rattle.qcow2_alloc.proofs.SearchedPlaces.{looked-refused, looked-begins, found-free}
+use Rattle.qcow2_alloc.proofs.allocation.Allocator.make_block.Goals as goal
+
+pub returns-in-Ok-Some-clause-makes : goal.returns-in-Ok-Some-clause-makes
+returns-in-Ok-Some-clause-makes g c = λ pending.
+    let state = g.S.Storage.state in
+    let table = table_of c.args.self.now in
+    let mid = c.find_counted.new in
+    c.make_counted_block.ensures.makes c.args.caches.now c.args.file.now pending
+    (looked-begins state table pending c.args.caches.now c.args.file.now c.args.index mid.caches mid.file c.in-Ok-Some.field-0 c.in-Ok-Some.ensures.looked)
+    (found-free state table pending c.args.caches.now c.args.file.now c.args.index mid.caches mid.file (mark_of c.args.self.now) c.in-Ok-Some.place c.in-Ok-Some.field-0 c.in-Ok-Some.field-0-is c.in-Ok-Some.ensures)
+
+pub returns-in-Ok-None-clause-makes : goal.returns-in-Ok-None-clause-makes
+returns-in-Ok-None-clause-makes g c = λ pending.
+    let state = g.S.Storage.state in
+    let table = table_of c.args.self.now in
+    let mid = c.find_counted.new in
+    let new = c.make_own_block.new in
+    begins-makes state c.args.index table pending c.args.caches.now c.args.file.now mid.caches mid.file
+    (looked-begins state table pending c.args.caches.now c.args.file.now c.args.index mid.caches mid.file c.in-Ok-None.field-0 c.in-Ok-None.ensures.looked)
+    c.make_own_block.result (table_of new.self) new.caches new.file (c.make_own_block.ensures.makes pending)
+
+pub returns-in-Err-clause-makes : goal.returns-in-Err-clause-makes
+returns-in-Err-clause-makes g c = λ pending.
+    looked-refused g.S.Storage.state (table_of c.args.self.now) pending c.args.caches.now c.args.file.now c.args.index c.find_counted.new.caches c.find_counted.new.file c.in-Err.fault c.in-Err.ensures.looked

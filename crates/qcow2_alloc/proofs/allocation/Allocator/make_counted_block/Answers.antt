@@ -1,0 +1,73 @@
+use Rattle.std.proofs.Common.{◌≡◌, ◌*◌, ◌<◌, arith, ap, subst}
+use Rattle.qcow2_types.specs.Counts.{counters_of_block}
+use Rattle.qcow2_metadata.specs.Blocks.{Block}
+use Rattle.qcow2_metadata.specs.Places.{IsInReach}
+use Rattle.qcow2_alloc.specs.Allocating.{RaisesCluster}
+use Rattle.qcow2_alloc.specs.Allocators.{table_of, metadata_of}
+use Rattle.qcow2_alloc.specs.MakingBlocks.{WhyNotNamed}
+use Rattle.qcow2_alloc.specs.Quiet.{counted}
+use Rattle.qcow2_alloc.specs.declared.cache.MetadataCaches.{MetadataCaches}
+use Rattle.qcow2_alloc.proofs.CountingClusters.{succeeded}
+use Rattle.qcow2_alloc.proofs.FreeingEntries.{failed}
+use Rattle.qcow2_alloc.proofs.MadeBlocks.{first-counted, namable, unmade-place, unforgotten}
+use Rattle.qcow2_alloc.proofs.TakenBlocks.{uncounted-made, unwritten-made, taken-made-so}
+use Rattle.qcow2_alloc.proofs.allocation.Allocator.make_counted_block.Goals as goal
+
+pub returns-in-Err-clause-makes : goal.returns-in-Err-clause-makes
+returns-in-Err-clause-makes g c = λ first f pending begun free.
+    let state = g.S.Storage.state in
+    let table = table_of c.args.self.now in
+    let m = metadata_of state c.args.file.now c.args.caches.now table pending in
+    let own = c.own_place.ensures.first in
+    let below = c.if-place-own_place.false in
+    unmade-place state c.args.index table pending first f c.args.caches.now c.args.file.now begun c.args.place c.in-Err.fault (omega (arith, own, below))
+    (λ holds none.
+    let zero : counted m c.args.place ≡ 0 = (free holds.1 holds.0 holds.2).uncounted in
+    let at : counted m 0 ≡ 0 = subst (λ n. counted m n ≡ 0) none zero in
+    let some = first-counted m ((begun.quiet holds.1).holds holds.0 holds.2 tt).0 in
+    omega (arith, at, some))
+    (subst (λ b. WhyNotNamed table b c.args.place c.in-Err.fault) c.cluster_bits.ensures.value c.in-Err.ensures.err)
+
+pub returns-in-Err-rb_forget-clause-makes : goal.returns-in-Err-rb_forget-clause-makes
+returns-in-Err-rb_forget-clause-makes g c = λ first f pending begun free.
+    unforgotten g.S.Storage.state c.args.index (table_of c.args.self.now) pending first f c.args.caches.now c.args.file.now begun c.args.place c.in-Err-rb_forget.fault c.rb_forget.new.self c.in-Err-rb_forget.ensures.err
+
+pub returns-in-Err-count_cluster-clause-makes : goal.returns-in-Err-count_cluster-clause-makes
+returns-in-Err-count_cluster-clause-makes g c = λ first f pending begun free.
+    let state = g.S.Storage.state in
+    let table = table_of c.args.self.now in
+    let new = c.count_cluster.new in
+    uncounted-made state table pending first f c.args.index c.args.place c.args.caches.now c.args.file.now begun free c.in-Err-count_cluster.fault new.caches new.file
+    (subst (λ (m : MetadataCaches _). RaisesCluster state table c.args.place m c.args.file.now (failed c.in-Err-count_cluster.fault) new.caches new.file) c.in_default-rb_forget.ensures.ok c.in-Err-count_cluster.ensures)
+
+pub write_block-requires-clause-namable : goal.write_block-requires-clause-namable
+write_block-requires-clause-namable g c =
+    let named = c.in_default.ensures.ok in
+    namable (table_of c.args.self.now) c.cluster_bits.result c.args.place named.0 named.1 c.in-Ok.block.cluster (ap (λ (b : Block). b.cluster) c.in-Ok.ensures.ok)
+
+pub returns-in-Ok-flush_rb-clause-makes : goal.returns-in-Ok-flush_rb-clause-makes
+returns-in-Ok-flush_rb-clause-makes g c = λ first f pending begun free.
+    let state = g.S.Storage.state in
+    let table = table_of c.args.self.now in
+    let mid = c.count_cluster.new in
+    let flushed = c.flush_rb.new in
+    let new = c.write_block.new in
+    let done = c.in-Ok-flush_rb.ensures in
+    let named = c.in_default.ensures.ok in
+    let reach : IsInReach c.args.file.now.header.fields.cluster_bits c.args.place = subst (λ b. IsInReach b c.args.place) c.cluster_bits.ensures.value named.1 in
+    let own = c.own_place.ensures.first in
+    let ge = c.if-place-own_place.false in
+    let below : c.args.place < c.args.index * counters_of_block c.args.file.now.header.fields = omega (arith, own, ge) in
+    let raises = subst (λ (m : MetadataCaches _). RaisesCluster state table c.args.place m c.args.file.now succeeded mid.caches mid.file) c.in_default-rb_forget.ensures.ok c.in_default-count_cluster.ensures in
+    taken-made-so state table pending first f c.args.index c.args.place c.args.caches.now c.args.file.now begun free mid.caches mid.file raises flushed.self flushed.file done.going done.kept done.others done.room done.cause done.clean
+    c.requires.inside c.requires.empty c.cluster_bits.ensures.shaped.low named.0.some reach below c.in-Ok.block c.in-Ok.ensures.ok c.write_block.result (table_of new.self) new.file c.write_block.ensures.header c.write_block.ensures.names
+
+pub returns-in-Err-flush_rb-clause-makes : goal.returns-in-Err-flush_rb-clause-makes
+returns-in-Err-flush_rb-clause-makes g c = λ first f pending begun free.
+    let state = g.S.Storage.state in
+    let table = table_of c.args.self.now in
+    let mid = c.count_cluster.new in
+    let flushed = c.flush_rb.new in
+    let done = c.in-Err-flush_rb.ensures in
+    let raises = subst (λ (m : MetadataCaches _). RaisesCluster state table c.args.place m c.args.file.now succeeded mid.caches mid.file) c.in_default-rb_forget.ensures.ok c.in_default-count_cluster.ensures in
+    unwritten-made state table pending first f c.args.index c.args.place c.args.caches.now c.args.file.now begun free mid.caches mid.file raises c.in-Err-flush_rb.fault flushed.self flushed.file done.going done.kept done.others done.room done.cause

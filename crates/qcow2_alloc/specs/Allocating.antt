@@ -1,0 +1,136 @@
+-- How free clusters are counted, and made room to be counted in.
+use Rattle.std.specs.Prelude.{⊤, ◌==◌, if◌then◌else◌, Bool, true, false, IfOk, ◌≡◌, ◌≢◌, ◌⊎◌, ℕ, ◌+◌, ◌*◌, ◌/◌, ◌%◌, ◌<◌, ◌≤◌, IsTrue, Result, OnOk, Ok, Err, MatchResult, MatchOption, List, length, slice_index}
+use Rattle.std.specs.List.{sum_by}
+use Rattle.imago_storage.specs.State.{StorageState}
+use Rattle.imago_storage.specs.Calls.{Later}
+use Rattle.imago_storage.specs.declared.fault.Fault.{Fault}
+use Rattle.imago_storage.specs.declared.fault.Fault.TheVariants.{DamagedTable, Counter, Limit}
+use Rattle.qcow2_types.specs.Words.{block_offset}
+use Rattle.qcow2_types.specs.Counts.{counters_of_block}
+use Rattle.qcow2_types.specs.Header.{Header}
+use Rattle.qcow2_types.specs.Switched.{with_refcount_table}
+use Rattle.qcow2_types.specs.Pending.{FreeEntry}
+use Rattle.qcow2_metadata.specs.Tables.{TableValue}
+use Rattle.qcow2_metadata.specs.Blocks.{Block, with_counter}
+use Rattle.qcow2_metadata.specs.Places.{IsInReach}
+use Rattle.qcow2_alloc.specs.declared.cache.CacheDependency.TheVariants.{L2DependsOnRb}
+use Rattle.qcow2_alloc.specs.declared.cache.MetadataCaches.{MetadataCaches}
+use Rattle.qcow2_alloc.specs.declared.file.ImageFile.{ImageFile}
+use Rattle.qcow2_alloc.specs.Allocators.{metadata_of, named_block, UsesBlock}
+use Rattle.qcow2_alloc.specs.Caches.{order_of, HasRoomOf}
+use Rattle.qcow2_alloc.specs.FreeList.{covers}
+use Rattle.qcow2_alloc.specs.Freeing.{IsLoose, WhyNotFreed}
+use Rattle.qcow2_alloc.specs.Going.{IsWhole}
+use Rattle.qcow2_alloc.specs.MakingRoom.{run_of}
+use Rattle.qcow2_alloc.specs.Quiet.{Metadata, IsSound, Quietly, counted}
+
+-- How a counter of a block that is 0 is raised to 1: it is refused where there is no such counter or where it isn't 0.
+pub record Raises (index : ℕ) (block : Block) (result : Result Unit Fault) (block' : Block) : Type 0 where
+  pub out : length block.counters ≤ index → (result ≡ Err DamagedTable) × (block' ≡ block)
+  pub some : index < length block.counters → 0 < slice_index block.counters index → (result ≡ Err Counter) × (block' ≡ block)
+  pub none : index < length block.counters → slice_index block.counters index ≡ 0 → (result ≡ Ok tt) × (block' ≡ with_counter block index 1)
+
+-- A cluster that isn't counted is counted in its block, as a word of the refcount table names it; where none does it can't be.
+abbrev pub RaisesCluster : {S : Type 0} → (S → StorageState) → TableValue → ℕ → MetadataCaches S → ImageFile S → Result Unit Fault → MetadataCaches S → ImageFile S → Type 0
+RaisesCluster state table cluster old before result new after = MatchOption (named_block table (cluster / counters_of_block before.header.fields))
+    ((result ≡ Err Counter) × (new ≡ old) × (after ≡ before))
+    (λ key. UsesBlock state key (Raises (cluster % counters_of_block before.header.fields)) old before result new after)
+
+-- Counts are raised from 0 to 1 alone.
+abbrev pub OnlyRaised : Metadata → Metadata → Type 0
+OnlyRaised m m' = (c : ℕ) → (counted m' c ≡ counted m c) ⊎ ((counted m c ≡ 0) × (counted m' c ≡ 1))
+
+-- Why a call that counts clusters was refused: as one that frees them is, or since there is no place left.
+abbrev pub WhyNotAllocated : Type 0 → Type 0 → Type 0 → ℕ → ℕ → Fault → Type 0
+WhyNotAllocated sound loose full before after (Limit number) = full
+WhyNotAllocated sound loose full before after fault = WhyNotFreed sound loose before after fault
+
+-- Clusters of a run of n are counted, while blocks are written before tables: those that are handed out of a part of it, which is all of it
+-- unless that is cut off. No counter of a sound image stops it where no cluster of the run is counted and each is ready.
+pub record CountsPart {S : Type 0} (state : S → StorageState) (handed : ℕ → ℕ → ℕ) (ready : ℕ → Type 0) (table : TableValue) (first n : ℕ) (old : MetadataCaches S) (before : ImageFile S) (result : Result Unit Fault) (new : MetadataCaches S) (after : ImageFile S) (pending : List FreeEntry) : Type 0 where
+  pub part : ℕ
+  pub inside : part ≤ n
+  pub whole : OnOk result (part ≡ n)
+  pub shape : (state after.image).shape ≡ (state before.image).shape
+  pub later : Later (state before.image) (state after.image)
+  pub quiet : order_of old ≡ L2DependsOnRb → (IsSound (metadata_of state before old table pending) → (c : ℕ) → first ≤ c → c < first + n → counted (metadata_of state before old table pending) c ≡ 0)
+      → Quietly (IsWhole result) (handed part) (λ _. 0) (state before.image) (metadata_of state before old table pending) (state after.image) (metadata_of state after new table pending)
+  pub raised : order_of old ≡ L2DependsOnRb → IsTrue (state before.image).shape.keeps → IsSound (metadata_of state before old table pending)
+      → ((c : ℕ) → first ≤ c → c < first + n → counted (metadata_of state before old table pending) c ≡ 0) → IsWhole result
+      → (c : ℕ) → counted (metadata_of state after new table pending) c ≡ counted (metadata_of state before old table pending) c + handed part c
+  pub order : order_of new ≡ order_of old
+  pub header : after.header ≡ before.header
+  pub loose : IsLoose old → IsLoose new
+  pub room : HasRoomOf old new
+  pub cause : MatchResult result (λ _. (state after.image).faults ≡ (state before.image).faults)
+      (WhyNotFreed (IsTrue (state before.image).shape.keeps × (order_of old ≡ L2DependsOnRb) × IsSound (metadata_of state before old table pending)
+      × ((c : ℕ) → first ≤ c → c < first + n → (counted (metadata_of state before old table pending) c ≡ 0) × ready c))
+      (IsLoose old) (state before.image).faults (state after.image).faults)
+
+-- A run of n clusters is counted. Each needs a block that the refcount table names.
+abbrev pub CountsRun : {S : Type 0} → (S → StorageState) → TableValue → ℕ → ℕ → MetadataCaches S → ImageFile S → Result Unit Fault → MetadataCaches S → ImageFile S → List FreeEntry → Type 0
+CountsRun state table first n old before result new after pending = CountsPart state (λ part c. covers c (run_of first part))
+    (λ c. block_offset (slice_index table.words (c / counters_of_block before.header.fields)) ≢ 0) table first n old before result new after pending
+
+-- 1 where cluster c is one of so many of a run, and the refcount table names the block, of k counters, that counts it; else 0
+abbrev pub named_part : TableValue → ℕ → ℕ → ℕ → ℕ → ℕ
+named_part table k first part c = if block_offset (slice_index table.words (c / k)) == 0 then 0 else covers c (run_of first part)
+
+-- Those of a run of n clusters are counted for which the refcount table names a block. The others are passed over.
+abbrev pub CountsNamed : {S : Type 0} → (S → StorageState) → TableValue → ℕ → ℕ → MetadataCaches S → ImageFile S → Result Unit Fault → MetadataCaches S → ImageFile S → List FreeEntry → Type 0
+CountsNamed state table first n old before result new after pending = CountsPart state (named_part table (counters_of_block before.header.fields) first)
+    (λ _. ⊤) table first n old before result new after pending
+
+-- A block is made, where there was none, while blocks are written before tables: at the first place from the mark on that another block
+-- counts, or at the first cluster that it counts itself. Where that is cut off, the table in memory may name it already.
+pub record MakesBlock {S : Type 0} (state : S → StorageState) (index : ℕ) (table : TableValue) (old : MetadataCaches S) (before : ImageFile S) (result : Result Unit Fault) (table' : TableValue) (new : MetadataCaches S) (after : ImageFile S) (pending : List FreeEntry) : Type 0 where
+  pub quiet : order_of old ≡ L2DependsOnRb → Quietly (IsWhole result) (λ _. 0) (λ _. 0) (state before.image) (metadata_of state before old table pending) (state after.image) (metadata_of state after new table' pending)
+  pub raised : order_of old ≡ L2DependsOnRb → IsTrue (state before.image).shape.keeps → IsSound (metadata_of state before old table pending) → IsWhole result
+      → OnlyRaised (metadata_of state before old table pending) (metadata_of state after new table' pending)
+  pub named : OnOk result (block_offset (slice_index table'.words index) ≢ 0)
+  pub others : (i : ℕ) → i ≢ index → slice_index table'.words i ≡ slice_index table.words i
+  pub long : length table'.words ≡ length table.words
+  pub layout : table'.layout ≡ table.layout
+  pub placed : table'.cluster ≡ table.cluster
+  pub order : order_of new ≡ order_of old
+  pub header : after.header ≡ before.header
+  pub loose : IsLoose old → IsLoose new
+  pub room : HasRoomOf old new
+  pub cause : MatchResult result (λ _. (state after.image).faults ≡ (state before.image).faults)
+      (WhyNotAllocated (IsTrue (state before.image).shape.keeps × (order_of old ≡ L2DependsOnRb) × IsSound (metadata_of state before old table pending)) (IsLoose old)
+      (IsInReach before.header.fields.cluster_bits (index * counters_of_block before.header.fields) → ⊥) (state before.image).faults (state after.image).faults)
+
+-- how many words of a refcount table name no block
+abbrev pub missing : TableValue → ℕ
+missing table = sum_by (λ w. if block_offset w == 0 then 1 else 0) table.words
+
+-- The refcount table may stand elsewhere, and nothing else of the header changes.
+abbrev pub MovedTable : Header → Header → Type 0
+MovedTable H H' = (offset : ℕ) × (clusters : ℕ) × (H' ≡ with_refcount_table H offset clusters)
+
+-- What a call does that counts clusters, while blocks are written before tables, and hands out so many of them. Counts are raised from 0 to
+-- 1 alone. It wasn't cut off where `ok` holds.
+pub record Allocating {S : Type 0} (state : S → StorageState) (ok : Type 0) (handed : ℕ → ℕ) (table : TableValue) (old : MetadataCaches S) (before : ImageFile S) (pending : List FreeEntry) (table' : TableValue) (new : MetadataCaches S) (after : ImageFile S) (pending' : List FreeEntry) : Type 0 where
+  pub quiet : order_of old ≡ L2DependsOnRb → Quietly ok handed (λ _. 0) (state before.image) (metadata_of state before old table pending) (state after.image) (metadata_of state after new table' pending')
+  pub raised : order_of old ≡ L2DependsOnRb → IsTrue (state before.image).shape.keeps → IsSound (metadata_of state before old table pending) → ok
+      → OnlyRaised (metadata_of state before old table pending) (metadata_of state after new table' pending')
+  pub order : order_of new ≡ order_of old
+  pub moved : MovedTable before.header after.header
+  pub longer : length table.words ≤ length table'.words
+  pub loose : IsLoose old → IsLoose new
+  pub room : HasRoomOf old new
+
+-- The blocks at these indices are made that there aren't, and the answer is whether one was. Words that named a block stay.
+pub record MakesBlocks {S : Type 0} (state : S → StorageState) (first end : ℕ) (table : TableValue) (old : MetadataCaches S) (before : ImageFile S) (result : Result Bool Fault) (table' : TableValue) (new : MetadataCaches S) (after : ImageFile S) (pending : List FreeEntry) : Type 0 where
+  pub step : Allocating state (IsWhole result) (λ _. 0) table old before pending table' new after pending
+  pub named : OnOk result ((i : ℕ) → first ≤ i → i < end → block_offset (slice_index table'.words i) ≢ 0)
+  pub kept : (i : ℕ) → block_offset (slice_index table.words i) ≢ 0 → slice_index table'.words i ≡ slice_index table.words i
+  pub idle : IfOk result (λ made. made ≡ false → (table' ≡ table) × (new ≡ old) × (after ≡ before))
+  pub fewer : IfOk result (λ made. made ≡ true → missing table' < missing table)
+  pub long : length table'.words ≡ length table.words
+  pub layout : table'.layout ≡ table.layout
+  pub placed : table'.cluster ≡ table.cluster
+  pub header : after.header ≡ before.header
+  pub cause : MatchResult result (λ _. (state after.image).faults ≡ (state before.image).faults)
+      (WhyNotAllocated (IsTrue (state before.image).shape.keeps × (order_of old ≡ L2DependsOnRb) × IsSound (metadata_of state before old table pending)) (IsLoose old)
+      (((i : ℕ) → first ≤ i → i < end → IsInReach before.header.fields.cluster_bits (i * counters_of_block before.header.fields)) → ⊥) (state before.image).faults (state after.image).faults)

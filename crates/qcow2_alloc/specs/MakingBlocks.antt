@@ -1,0 +1,69 @@
+-- How a refcount block is made where there was none.
+use Rattle.std.specs.Prelude.{◌≡◌, ◌≢◌, ⊤, ℕ, ◌+◌, ◌*◌, ◌/◌, ◌<◌, Bool, IsTrue, Result, Ok, Err, List, slice_index}
+use Rattle.std.specs.Int.{w64, to_be_bytes}
+use Rattle.imago_storage.specs.State.{StorageState}
+use Rattle.imago_storage.specs.Calls.{Later}
+use Rattle.imago_storage.specs.Through.{PutAtOnce}
+use Rattle.imago_storage.specs.declared.fault.Fault.{Fault}
+use Rattle.imago_storage.specs.declared.fault.Fault.TheVariants.{DamagedTable, Limit}
+use Rattle.qcow2_types.specs.Counts.{counters_of_block}
+use Rattle.qcow2_types.specs.Pending.{FreeEntry}
+use Rattle.qcow2_types.specs.Words.{block_offset}
+use Rattle.qcow2_metadata.specs.Blocks.{Block, BlockPut}
+use Rattle.qcow2_metadata.specs.Places.{IsInReach, place_of}
+use Rattle.qcow2_metadata.specs.Tables.{TableValue, IsPlacedTable, with_word, table_place}
+use Rattle.qcow2_alloc.specs.declared.cache.CacheDependency.TheVariants.{L2DependsOnRb}
+use Rattle.qcow2_alloc.specs.declared.cache.MetadataCaches.{MetadataCaches}
+use Rattle.qcow2_alloc.specs.declared.file.ImageFile.{ImageFile}
+use Rattle.qcow2_alloc.specs.Allocating.{MakesBlock, OnlyRaised}
+use Rattle.qcow2_alloc.specs.Allocators.{metadata_of}
+use Rattle.qcow2_alloc.specs.Caches.{order_of, HasRoomOf}
+use Rattle.qcow2_alloc.specs.Freeing.{IsLoose}
+use Rattle.qcow2_alloc.specs.Quiet.{Metadata, IsSound, Quietly, counted}
+
+-- A word of the refcount table can be written, of an image whose clusters have 2 to this power of bytes, and name this cluster.
+pub record CanName (table : TableValue) (cluster_bits place : ℕ) : Type 0 where
+  pub placed : IsPlacedTable table
+  pub bits : table.layout.cluster_bits ≡ cluster_bits
+  pub some : place ≢ 0
+
+-- Why none can.
+abbrev pub WhyNotNamed : TableValue → ℕ → ℕ → Fault → Type 0
+WhyNotNamed table cluster_bits place DamagedTable = CanName table cluster_bits place → ⊥
+WhyNotNamed table cluster_bits place (Limit number) = IsInReach cluster_bits place → ⊥
+WhyNotNamed table cluster_bits place fault = ⊥
+
+-- A block is written, and then word i of the refcount table, which names it. Where the block wasn't written the table stays.
+pub record NamesWritten (table : TableValue) (i : ℕ) (block : Block) (old : StorageState) (result : Result Unit Fault) (table' : TableValue) (new : StorageState) : Type 0 where
+  pub done : Result Unit Fault
+  pub mid : StorageState
+  pub put : BlockPut block (place_of block.cluster_bits block.cluster) old mid done
+  pub stopped : (fault : Fault) → done ≡ Err fault → (result ≡ Err fault) × (new ≡ mid) × (table' ≡ table)
+  pub named : done ≡ Ok tt → PutAtOnce mid new (table_place (with_word table i (place_of block.cluster_bits block.cluster)) + 8 * i)
+      (to_be_bytes w64 (slice_index (with_word table i (place_of block.cluster_bits block.cluster)).words i)) result
+      × ((modified : Bool) × (table' ≡ record (with_word table i (place_of block.cluster_bits block.cluster)) { modified = modified }))
+
+-- A cluster that isn't counted, and that another block counts, before those that block i does.
+pub record IsFreePlace (m : Metadata) (i place : ℕ) : Type 0 where
+  pub below : place < i * counters_of_block m.header.fields
+  pub uncounted : counted m place ≡ 0
+  pub there : block_offset (slice_index m.table.words (place / counters_of_block m.header.fields)) ≢ 0
+
+-- So far came a call: these clusters were handed out, while blocks are written before tables, and nothing else changed.
+pub record Begins {S : Type 0} (state : S → StorageState) (table : TableValue) (pending : List FreeEntry) (old : MetadataCaches S) (before : ImageFile S) (handed : ℕ → ℕ) (new : MetadataCaches S) (after : ImageFile S) : Type 0 where
+  pub shape : (state after.image).shape ≡ (state before.image).shape
+  pub later : Later (state before.image) (state after.image)
+  pub quiet : order_of old ≡ L2DependsOnRb → Quietly ⊤ handed (λ _. 0) (state before.image) (metadata_of state before old table pending) (state after.image) (metadata_of state after new table pending)
+  pub raised : order_of old ≡ L2DependsOnRb → IsTrue (state before.image).shape.keeps → IsSound (metadata_of state before old table pending)
+      → OnlyRaised (metadata_of state before old table pending) (metadata_of state after new table pending)
+  pub faults : (state after.image).faults ≡ (state before.image).faults
+  pub header : after.header ≡ before.header
+  pub order : new.order ≡ old.order
+  pub loose : IsLoose old → IsLoose new
+  pub room : HasRoomOf old new
+
+-- A block is made in a cluster that another counts, by a call that came so far and knows by what the image was that this one is free.
+abbrev pub MakesIn : {S : Type 0} → (S → StorageState) → ℕ → ℕ → TableValue → MetadataCaches S → ImageFile S → Result Unit Fault → TableValue → MetadataCaches S → ImageFile S → Type 0
+MakesIn {S} state index place table old before result table' new after = (first : MetadataCaches S) (file : ImageFile S) (pending : List FreeEntry) → Begins state table pending first file (λ _. 0) old before
+    → (order_of first ≡ L2DependsOnRb → IsTrue (state file.image).shape.keeps → IsSound (metadata_of state file first table pending) → IsFreePlace (metadata_of state before old table pending) index place)
+    → MakesBlock state index table first file result table' new after pending

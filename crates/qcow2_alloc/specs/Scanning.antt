@@ -1,0 +1,58 @@
+-- What a search makes of the counters of one block.
+use Rattle.std.specs.Prelude.{◌≡◌, ◌≢◌, ℕ, ◌+◌, ◌*◌, ◌/◌, ◌<◌, ◌≤◌, Result, Err, IfOk, MatchResult, Option, MatchOption, List, length, slice_index}
+use Rattle.imago_storage.specs.State.{StorageState}
+use Rattle.imago_storage.specs.declared.fault.Fault.{Fault}
+use Rattle.imago_storage.specs.declared.fault.Fault.TheVariants.{DamagedTable}
+use Rattle.qcow2_types.specs.Counts.{counters_of_block}
+use Rattle.qcow2_metadata.specs.Tables.{TableValue}
+use Rattle.qcow2_metadata.specs.Blocks.{Block}
+use Rattle.qcow2_alloc.specs.declared.allocation.searching.Run.{Run}
+use Rattle.qcow2_alloc.specs.declared.cache.MetadataCaches.{MetadataCaches}
+use Rattle.qcow2_alloc.specs.declared.file.ImageFile.{ImageFile}
+use Rattle.qcow2_alloc.specs.SearchingClusters.{counts_in, IsSafeWith, Looked}
+
+-- the cluster behind a run
+abbrev pub next_of : Run → ℕ
+next_of run = run.first + run.len
+
+-- A run of clusters that aren't counted, as far as a search for n of them, from one on, has come: no longer one begins before it.
+pub record IsRunSoFar (counts : ℕ → ℕ) (from n : ℕ) (run : Run) : Type 0 where
+  pub behind : from ≤ run.first
+  pub free : (c : ℕ) → run.first ≤ c → c < next_of run → counts c ≡ 0
+  pub least : (z : ℕ) → from ≤ z → z < run.first → (c : ℕ) × (z ≤ c) × (c < z + n) × (0 < counts c)
+
+-- The counters of a block, whose first is that of cluster `base`, say how often clusters are counted.
+abbrev pub AreCounted : (ℕ → ℕ) → ℕ → List ℕ → Type 0
+AreCounted counts base counters = (j : ℕ) → j < length counters → counts (base + j) ≡ slice_index counters j
+
+-- The counters of a block from one index to another were scanned, from the cluster behind a run on.
+pub record Scans (counters : List ℕ) (n index stop : ℕ) (was now : Run) : Type 0 where
+  pub moved : next_of now + index ≡ next_of was + stop
+  pub rising : was.first ≤ now.first
+  pub so_far : (counts : ℕ → ℕ) (from base : ℕ) → next_of was ≡ base + index → AreCounted counts base counters → IsRunSoFar counts from n was → IsRunSoFar counts from n now
+
+-- One of them was at least.
+pub record ScansSome (counters : List ℕ) (n index : ℕ) (was now : Run) : Type 0 where
+  pub stop : ℕ
+  pub more : index < stop
+  pub inside : stop ≤ length counters
+  pub scans : Scans counters n index stop was now
+
+-- the first counter from an index on that is 0, if there is one
+abbrev pub FindsZero : ℕ → List ℕ → Option ℕ → Type 0
+FindsZero index counters found = MatchOption found ((j : ℕ) → index ≤ j → j < length counters → 0 < slice_index counters j)
+    (λ i. (index ≤ i) × (i < length counters) × (slice_index counters i ≡ 0) × ((j : ℕ) → index ≤ j → j < i → 0 < slice_index counters j))
+
+-- A block of k counters is read, and stays as it is. One of another length is refused.
+pub record Reads {T : Type 0} (k : ℕ) (P : List ℕ → T → Type 0) (block : Block) (result : Result T Fault) (block' : Block) : Type 0 where
+  pub same : block' ≡ block
+  pub odd : length block.counters ≢ k → result ≡ Err DamagedTable
+  pub even : length block.counters ≡ k → MatchResult result (P block.counters) (λ fault. ⊥)
+
+-- A run is extended, from the cluster behind it on, by clusters that one block counts.
+pub record ExtendsRun {S : Type 0} (state : S → StorageState) (table : TableValue) (n : ℕ) (was : Run) (old : MetadataCaches S) (before : ImageFile S) (result : Result Run Fault) (new : MetadataCaches S) (after : ImageFile S) : Type 0 where
+  pub looked : Looked state table old before result new after
+  pub more : IfOk result (λ now. next_of was < next_of now)
+  pub rising : IfOk result (λ now. was.first ≤ now.first)
+  pub near : IfOk result (λ now. next_of now ≤ (next_of was / counters_of_block before.header.fields + 1) * counters_of_block before.header.fields)
+  pub so_far : IsSafeWith state table old before → IfOk result (λ now. (from : ℕ) → IsRunSoFar (counts_in state old before) from n was → IsRunSoFar (counts_in state old before) from n now)

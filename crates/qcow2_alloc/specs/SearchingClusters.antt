@@ -1,0 +1,68 @@
+-- How free clusters are searched for: blocks are loaded, and nothing else changes.
+use Rattle.std.specs.Prelude.{max, length, ◌*◌, ◌≡◌, ◌≢◌, ℕ, ◌+◌, ◌/◌, ◌<◌, ◌≤◌, IsTrue, Result, IfOk, MatchResult, Option, MatchOption}
+use Rattle.imago_storage.specs.State.{StorageState}
+use Rattle.imago_storage.specs.declared.fault.Fault.{Fault}
+use Rattle.qcow2_types.specs.Bytes.{Bytes, bytes_of}
+use Rattle.qcow2_types.specs.Header.{Fields}
+use Rattle.qcow2_types.specs.Counts.{block_at, count, counters_of_block}
+use Rattle.qcow2_metadata.specs.Tables.{TableValue}
+use Rattle.qcow2_alloc.specs.declared.cache.MetadataCaches.{MetadataCaches}
+use Rattle.qcow2_alloc.specs.declared.file.ImageFile.{ImageFile}
+use Rattle.qcow2_alloc.specs.Caches.{cached_in, order_of, HasRoomOf}
+use Rattle.qcow2_alloc.specs.Freeing.{IsLoose, WhyNotFreed}
+use Rattle.qcow2_alloc.specs.Going.{Going, Always, IsWhole}
+use Rattle.qcow2_alloc.specs.Memory.{memory}
+use Rattle.qcow2_alloc.specs.Quiet.{IsTableOf}
+use Rattle.qcow2_alloc.specs.Safety.{Safe}
+
+-- The first run of n clusters, from one on, that aren't counted.
+pub record IsFirstRun (counts : ℕ → ℕ) (from n first : ℕ) : Type 0 where
+  pub behind : from ≤ first
+  pub free : (c : ℕ) → first ≤ c → c < first + n → counts c ≡ 0
+  pub least : (z : ℕ) → from ≤ z → z < first → (c : ℕ) × (z ≤ c) × (c < z + n) × (0 < counts c)
+
+-- a block counts the cluster
+abbrev pub HasCounter : Bytes → Fields → ℕ → Type 0
+HasCounter f h c = block_at f h (c / counters_of_block h) ≢ 0
+
+-- The first cluster of a range that a block counts, and counts 0 times, if there is one.
+pub record IsFirstFree (f : Bytes) (h : Fields) (counts : ℕ → ℕ) (from end c : ℕ) : Type 0 where
+  pub behind : from ≤ c
+  pub before : c < end
+  pub there : HasCounter f h c
+  pub free : counts c ≡ 0
+  pub least : (z : ℕ) → from ≤ z → z < c → HasCounter f h z → 0 < counts z
+
+abbrev pub FindsFree : Bytes → Fields → (ℕ → ℕ) → ℕ → ℕ → Option ℕ → Type 0
+FindsFree f h counts from end found = MatchOption found ((z : ℕ) → from ≤ z → z < end → HasCounter f h z → 0 < counts z) (IsFirstFree f h counts from end)
+
+module _ {S : Type 0} (state : S → StorageState) where
+  -- how often each cluster is counted in memory
+  abbrev pub counts_in : MetadataCaches S → ImageFile S → ℕ → ℕ
+  counts_in caches file = count (memory (bytes_of (state file.image).bytes) file.header.fields (cached_in caches)) file.header.fields
+
+  -- The storage keeps what is written, what is cached of it is safe, and this is its refcount table.
+  pub record IsSafeWith (table : TableValue) (caches : MetadataCaches S) (file : ImageFile S) : Type 0 where
+    pub keeps : IsTrue (state file.image).shape.keeps
+    pub safe : Safe (bytes_of (state file.image).bytes) file.header (cached_in caches) (order_of caches)
+    pub table_of_file : IsTableOf (bytes_of (state file.image).bytes) file.header.fields table
+
+  -- What a search does: blocks are loaded, in the place of others where the cache is full.
+  pub record Looked {T : Type 0} (table : TableValue) (old : MetadataCaches S) (before : ImageFile S) (result : Result T Fault) (new : MetadataCaches S) (after : ImageFile S) : Type 0 where
+    pub going : Going before.header (order_of old) Always (IsWhole result) (state before.image) (cached_in old) (state after.image) (cached_in new)
+    pub order : new.order ≡ old.order
+    pub header : after.header ≡ before.header
+    pub loose : IsLoose old → IsLoose new
+    pub room : HasRoomOf old new
+    pub cause : MatchResult result (λ _. (state after.image).faults ≡ (state before.image).faults) (WhyNotFreed (IsSafeWith table old before) (IsLoose old) (state before.image).faults (state after.image).faults)
+
+  -- The first run of n clusters that aren't counted, from one on, is searched for;
+  pub record LooksForRun (table : TableValue) (from n : ℕ) (old : MetadataCaches S) (before : ImageFile S) (result : Result ℕ Fault) (new : MetadataCaches S) (after : ImageFile S) : Type 0 where
+    pub looked : Looked table old before result new after
+    pub near : IfOk result (λ z. (from ≤ z) × (z ≤ max from (length table.words * counters_of_block before.header.fields)))
+    pub found : IsSafeWith table old before → IfOk result (IsFirstRun (counts_in old before) from n)
+
+  -- or the first of a range that a block counts.
+  pub record LooksForFree (table : TableValue) (from end : ℕ) (old : MetadataCaches S) (before : ImageFile S) (result : Result (Option ℕ) Fault) (new : MetadataCaches S) (after : ImageFile S) : Type 0 where
+    pub looked : Looked table old before result new after
+    pub found : IsSafeWith table old before → IfOk result (FindsFree (bytes_of (state before.image).bytes) before.header.fields (counts_in old before) from end)

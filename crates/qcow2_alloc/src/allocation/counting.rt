@@ -1,0 +1,106 @@
+//! Free clusters are counted.
+ghost use Rattle.std.specs.Prelude.{◌≤◌, ◌+◌, ◌^◌, List};
+ghost use Rattle.qcow2_metadata.specs.Blocks.{Block};
+ghost use Rattle.qcow2_types.specs.Pending.{FreeEntry};
+ghost use Rattle.qcow2_alloc.specs.Allocating.{Raises, RaisesCluster, CountsRun, CountsNamed};
+ghost use Rattle.qcow2_alloc.specs.Allocators.{table_of, UsesBlock};
+
+use crate::allocation::Allocator;
+use crate::allocation::searching::Run;
+use crate::cache::MetadataCaches;
+use crate::file::ImageFile;
+use imago_storage::{Fault, Storage};
+use qcow2_metadata::RefBlock;
+use qcow2_types::HostCluster;
+
+impl Allocator {
+    // Counts a cluster that isn't counted yet, in the block that a word of the refcount table names for it.
+    pub(crate) fn count_cluster<S: Storage>(
+        &self,
+        file: &mut ImageFile<S>,
+        caches: &mut MetadataCaches<S>,
+        cluster: HostCluster,
+    ) -> Result<(), Fault>
+        ensures { RaisesCluster S.state (table_of self.now) cluster caches.old file.old result caches.new file.new }
+    {
+        let (rt_index, rb_index) = cluster.rt_rb_indices(file.header.rb_bits());
+        let Some(rb_cluster) = self.block_cluster(rt_index) else {
+            return Err(Fault::Counter);
+        };
+        raise_in(caches, file, rb_cluster, rb_index)
+    }
+
+    // Counts clusters in a row that aren't counted yet, from the first to the last.
+    pub(crate) fn count_run<S: Storage>(
+        &self,
+        file: &mut ImageFile<S>,
+        caches: &mut MetadataCaches<S>,
+        first: HostCluster,
+        count: u64,
+    ) -> Result<(), Fault>
+        requires fits { first + count ≤ 2 ^ 64 }
+        ensures { (pending : List FreeEntry) → CountsRun S.state (table_of self.now) first count caches.old file.old result caches.new file.new pending }
+    {
+        for index in 0..count {
+            match self.count_cluster(file, caches, HostCluster(first.0 + index)) {
+                Ok(()) => (),
+                Err(fault) => return Err(fault),
+            }
+        }
+        Ok(())
+    }
+
+    // Counts those clusters of a run that a block counts which the refcount table names. The others are for new blocks to count.
+    pub(crate) fn count_named<S: Storage>(
+        &self,
+        file: &mut ImageFile<S>,
+        caches: &mut MetadataCaches<S>,
+        run: Run,
+    ) -> Result<(), Fault>
+        requires fits { run.first + run.len ≤ 2 ^ 64 }
+        ensures { (pending : List FreeEntry) → CountsNamed S.state (table_of self.now) run.first run.len caches.old file.old result caches.new file.new pending }
+    {
+        let rb_bits = file.header.rb_bits();
+        for index in 0..run.len() {
+            let cluster = HostCluster(run.first().0 + index);
+            if self.block_cluster(cluster.rt_index(rb_bits)).is_some() {
+                match self.count_cluster(file, caches, cluster) {
+                    Ok(()) => (),
+                    Err(fault) => return Err(fault),
+                }
+            }
+        }
+        Ok(())
+    }
+}
+
+// Raises a counter of a block from 0 to 1.
+fn raise_counter(block: &mut RefBlock, index: usize) -> Result<(), Fault>
+    ensures { Raises index block.old result block.new }
+{
+    if index >= block.entries() {
+        return Err(Fault::DamagedTable);
+    }
+    if !block.is_zero(index) {
+        return Err(Fault::Counter);
+    }
+    match block.lock_write().increment(index) {
+        Ok(_) => Ok(()),
+        Err(fault) => Err(fault),
+    }
+}
+
+// Raises a counter of the block in a cluster from 0 to 1.
+fn raise_in<S: Storage>(
+    caches: &mut MetadataCaches<S>,
+    file: &mut ImageFile<S>,
+    rb_cluster: HostCluster,
+    index: usize,
+) -> Result<(), Fault>
+    ensures { UsesBlock S.state rb_cluster (Raises index) caches.old file.old result caches.new file.new }
+{
+    match caches.rb_get_or_insert(file, rb_cluster) {
+        Ok(block) => raise_counter(block, index),
+        Err(fault) => Err(fault),
+    }
+}

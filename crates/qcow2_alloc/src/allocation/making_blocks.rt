@@ -1,0 +1,206 @@
+//! Refcount blocks are made where there were none.
+ghost use Rattle.std.specs.Prelude.{◌≡◌, ◌≢◌, ◌≤◌, ◌<◌, ◌*◌, ◌+◌, ◌/◌, ◌%◌, ◌^◌, ℕ, List, Some, true, OnOk, IfOk, IfErr, IsOkUnless, length, replicate, slice_index, slice_set};
+ghost use Rattle.qcow2_metadata.specs.Blocks.{block_of};
+ghost use Rattle.qcow2_metadata.specs.Places.{IsInReach, IsPlaced, place_of};
+ghost use Rattle.qcow2_metadata.specs.Tables.{IsPlacedTable, IsNamable};
+ghost use Rattle.qcow2_types.specs.Counts.{counters_of_block};
+ghost use Rattle.qcow2_types.specs.Pending.{FreeEntry};
+ghost use Rattle.qcow2_types.specs.Words.{block_offset};
+ghost use Rattle.qcow2_alloc.specs.Allocating.{MakesBlock};
+ghost use Rattle.qcow2_alloc.specs.Allocators.{table_of, mark_of};
+ghost use Rattle.qcow2_alloc.specs.MakingBlocks.{CanName, WhyNotNamed, NamesWritten, MakesIn};
+
+use crate::allocation::Allocator;
+use crate::cache::MetadataCaches;
+use crate::file::{ImageFile, is_in_reach};
+use imago_storage::{Fault, Storage};
+use qcow2_metadata::{Header, RefBlock, Table};
+use qcow2_types::{ClusterCount, ClustersToFreeEntry, HostCluster, PendingClusters};
+use std::alloc::Global;
+
+impl Allocator {
+    // Makes the block at an index of the refcount table, which has none there: in the first free cluster from the mark on that a block
+    // before it counts, or else in the first one that it counts itself.
+    //
+    // It refuses with `Fault::Limit` where that is out of reach; with `Fault::Memory`; with `Fault::Storage`; with `Fault::CacheFull`
+    // where blocks are pinned; and with `Fault::Counter` and `Fault::DamagedTable`, which no sound image has. Unless memory or the
+    // storage failed, nothing is handed out then.
+    pub(super) fn make_block<S: Storage>(
+        &mut self,
+        file: &mut ImageFile<S>,
+        caches: &mut MetadataCaches<S>,
+        index: usize,
+    ) -> Result<(), Fault>
+        requires inside { index < length (table_of self.old).words }
+        requires empty { block_offset (slice_index (table_of self.old).words index) ≡ 0 }
+        ensures makes { (pending : List FreeEntry) → MakesBlock S.state index (table_of self.old) caches.old file.old result (table_of self.new) caches.new file.new pending }
+        ensures mark { mark_of self.new ≡ mark_of self.old }
+    {
+        match self.find_counted(file, caches, self.first_free_cluster, index) {
+            Ok(Some(place)) => self.make_counted_block(file, caches, index, place),
+            Ok(None) => self.make_own_block(file, caches, index),
+            Err(fault) => Err(fault),
+        }
+    }
+
+    // Refuses a cluster that a word of the refcount table can't name: the first one, or one out of reach; and any, where the words
+    // themselves can't be written.
+    fn check_place(&self, bits: u32, place: HostCluster) -> Result<(), Fault>
+        requires { bits ≤ 21 }
+        ensures ok { OnOk result (CanName (table_of self.now) bits place × IsInReach bits place) }
+        ensures err { IfErr result (WhyNotNamed (table_of self.now) bits place) }
+    {
+        let Some(table) = self.reftable.get_cluster() else {
+            return Err(Fault::DamagedTable);
+        };
+        if place == HostCluster(0)
+            || self.reftable.cluster_bits() != bits
+            || !is_in_reach(table, bits)
+        {
+            return Err(Fault::DamagedTable);
+        }
+        if !is_in_reach(place, bits) {
+            return Err(Fault::Limit(place.0));
+        }
+        Ok(())
+    }
+
+    // The first cluster that the block at an index of the refcount table counts.
+    fn own_place(&self, index: usize, header: &Header) -> HostCluster
+        requires { index < length (table_of self.now).words }
+        ensures first { result ≡ index * counters_of_block header.now.fields }
+        ensures own { result / counters_of_block header.now.fields ≡ index }
+    {
+        // There are few words.
+        let _entries = self.reftable.entries();
+        HostCluster::from_ref_indices(index, 0, header.rb_bits())
+    }
+
+    // Writes a new block to its cluster, and then the word of the refcount table that names it. Where another block counts the cluster,
+    // it was taken for this one.
+    fn write_block<S: Storage>(
+        &mut self,
+        file: &mut ImageFile<S>,
+        index: usize,
+        mut block: RefBlock,
+        taken: Option<HostCluster>,
+    ) -> Result<(), Fault>
+        requires inside { index < length (table_of self.old).words }
+        requires placed { IsPlacedTable (table_of self.old) }
+        requires bits { block.cluster_bits ≡ (table_of self.old).layout.cluster_bits }
+        requires namable { IsNamable (table_of self.old).layout.cluster_bits block.cluster }
+        ensures names { NamesWritten (table_of self.old) index block (S.state file.old.image) result (table_of self.new) (S.state file.new.image) }
+        ensures header { file.new.header ≡ file.old.header }
+        ensures mark { mark_of self.new ≡ mark_of self.old }
+    {
+        match block.write(self.alloc, &mut file.image) {
+            Ok(()) => {
+                let pending = match taken {
+                    Some(cluster) => Some(pending_cluster(cluster)),
+                    None => None,
+                };
+                self.reftable.enter_refblock(index, &block, pending);
+                self.reftable
+                    .write_entry(self.alloc, &mut file.image, index)
+            }
+            Err(fault) => Err(fault),
+        }
+    }
+
+    // Makes a block in the first cluster that it counts.
+    fn make_own_block<S: Storage>(
+        &mut self,
+        file: &mut ImageFile<S>,
+        caches: &mut MetadataCaches<S>,
+        index: usize,
+    ) -> Result<(), Fault>
+        requires inside { index < length (table_of self.old).words }
+        requires empty { block_offset (slice_index (table_of self.old).words index) ≡ 0 }
+        ensures makes { (pending : List FreeEntry) → MakesBlock S.state index (table_of self.old) caches.old file.old result (table_of self.new) caches.new file.new pending }
+        ensures mark { mark_of self.new ≡ mark_of self.old }
+    {
+        let place = self.own_place(index, &file.header);
+        if let Err(fault) = self.check_place(file.header.cluster_bits(), place) {
+            return Err(fault);
+        }
+        let block = match own_block(self.alloc, &file.header, place) {
+            Ok(block) => block,
+            Err(fault) => return Err(fault),
+        };
+        // What is cached of this cluster was another block.
+        match caches.rb_forget(place) {
+            Ok(()) => self.write_block(file, index, block, None),
+            Err(fault) => Err(fault),
+        }
+    }
+
+    // Makes a block in a cluster that another block counts, where that isn't counted yet: it is, and is written so before a word names it.
+    fn make_counted_block<S: Storage>(
+        &mut self,
+        file: &mut ImageFile<S>,
+        caches: &mut MetadataCaches<S>,
+        index: usize,
+        place: HostCluster,
+    ) -> Result<(), Fault>
+        requires inside { index < length (table_of self.old).words }
+        requires empty { block_offset (slice_index (table_of self.old).words index) ≡ 0 }
+        ensures makes { MakesIn S.state index place (table_of self.old) caches.old file.old result (table_of self.new) caches.new file.new }
+        ensures mark { mark_of self.new ≡ mark_of self.old }
+    {
+        if place.0 >= self.own_place(index, &file.header).0 {
+            return Err(Fault::DamagedTable);
+        }
+        if let Err(fault) = self.check_place(file.header.cluster_bits(), place) {
+            return Err(fault);
+        }
+        let block = match cleared_block(self.alloc, &file.header, place) {
+            Ok(block) => block,
+            Err(fault) => return Err(fault),
+        };
+        // What is cached of this cluster was another block.
+        if let Err(fault) = caches.rb_forget(place) {
+            return Err(fault);
+        }
+        if let Err(fault) = self.count_cluster(file, caches, place) {
+            return Err(fault);
+        }
+        match caches.flush_rb(file) {
+            Ok(()) => self.write_block(file, index, block, Some(place)),
+            Err(fault) => Err(fault),
+        }
+    }
+}
+
+// A block that is to stand in a cluster, and counts nothing.
+fn cleared_block(alloc: Global, header: &Header, place: HostCluster) -> Result<RefBlock, Fault>
+    ensures ok { IfOk result (λ block. block ≡ block_of header.now.fields.cluster_bits header.now.fields.refcount_order (replicate (counters_of_block header.now.fields) 0) (Some place) true) }
+    ensures err { IsOkUnless result Fault.Memory }
+{
+    match RefBlock::new_cleared(alloc, header) {
+        Ok(mut block) => {
+            block.set_cluster(place);
+            Ok(block)
+        }
+        Err(fault) => Err(fault),
+    }
+}
+
+// A block that is to stand in a cluster, and counts this alone.
+fn own_block(alloc: Global, header: &Header, place: HostCluster) -> Result<RefBlock, Fault>
+    ensures ok { IfOk result (λ block. block ≡ block_of header.now.fields.cluster_bits header.now.fields.refcount_order (slice_set (replicate (counters_of_block header.now.fields) 0) (place % counters_of_block header.now.fields) 1) (Some place) true) }
+    ensures err { IsOkUnless result Fault.Memory }
+{
+    let (_, rb_index) = place.rt_rb_indices(header.rb_bits());
+    match cleared_block(alloc, header, place) {
+        Ok(mut block) => match block.lock_write().increment(rb_index) {
+            Ok(_) => Ok(block),
+            Err(_) => unreachable!(),
+        },
+        Err(fault) => Err(fault),
+    }
+}
+
+// A cluster that was counted, and is to be named.
+fn pending_cluster(cluster: HostCluster) -> PendingClusters {
+    PendingClusters::new(ClustersToFreeEntry::metadata(cluster, ClusterCount(1)))
+}
