@@ -6,8 +6,8 @@ use Rattle.imago_storage.specs.Calls.{Kept}
 use Rattle.imago_storage.specs.declared.fault.Fault.{Fault}
 use Rattle.imago_storage.specs.declared.fault.Fault.TheVariants.{Memory, Storage, Unsupported, MissingBelow}
 use Rattle.qimg.specs.Files.{file}
-use Rattle.qimg.specs.declared.plain.Format.{Format}
-use Rattle.qimg.specs.declared.plain.Format.TheVariants.{Raw, Qcow2, Vmdk}
+use Rattle.imago_access.specs.declared.format.Format.{Format}
+use Rattle.imago_access.specs.declared.format.Format.TheVariants.{Raw, Qcow2, Vmdk}
 use Rattle.qimg.specs.declared.plain.ChainFile.{ChainFile}
 use Rattle.qimg.specs.Plain.{SeenFile, seen_files, extras_of, faults_of, FilesKept, Refuses, FileRefuses, IsPlainRead, IsFileRead, NotPlainRead, MustRefuse, IsImageRead, NotImageRead}
 use Rattle.qimg.proofs.ScanLemmas.{kept-none}

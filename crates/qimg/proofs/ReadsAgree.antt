@@ -9,8 +9,8 @@ use Rattle.qcow2_types.specs.Header.{Header}
 use Rattle.qimg.specs.Files.{file}
 use Rattle.qimg.specs.Opened.{Opened, IsLive, Steps, shown}
 use Rattle.qimg.specs.Plain.{SeenFile, IsImageRead, IsFileRead, IsPlainRead}
-use Rattle.qimg.specs.declared.plain.Format.{Format}
-use Rattle.qimg.specs.declared.plain.Format.TheVariants.{Raw, Qcow2, Vmdk}
+use Rattle.imago_access.specs.declared.format.Format.{Format}
+use Rattle.imago_access.specs.declared.format.Format.TheVariants.{Raw, Qcow2, Vmdk}
 use Rattle.qimg.proofs.OpenedLemmas.{shown-value}
 
 one-byte : (a b : ℕ) → byte a ≡ byte b → a ≡ b

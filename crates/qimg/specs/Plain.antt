@@ -17,8 +17,8 @@ use Rattle.qimg.specs.Files.{file, chain_of, value_at}
 use Rattle.qimg.specs.Pieces.{ShowsRange}
 use Rattle.std.specs.Prelude.{Vec, String}
 use Rattle.std.specs.declared.alloc.Global.{Global}
-use Rattle.qimg.specs.declared.plain.Format.{Format}
-use Rattle.qimg.specs.declared.plain.Format.TheVariants.{Raw, Qcow2, Vmdk}
+use Rattle.imago_access.specs.declared.format.Format.{Format}
+use Rattle.imago_access.specs.declared.format.Format.TheVariants.{Raw, Qcow2, Vmdk}
 use Rattle.qimg.specs.declared.plain.ChainFile.{ChainFile}
 
 -- why a value can't be read, if it can't

@@ -14,21 +14,11 @@ mod tests;
 
 use crate::buffers::blank;
 use crate::file_end::words_before;
+use imago_access::Format;
 use imago_storage::{Fault, Storage};
 use pieces::read_tables;
 use qcow2_metadata::{Header, L1Table, Table};
 use std::alloc::Global;
-
-/// The format of a file of a chain.
-#[derive(Clone, Copy, Debug, PartialEq, Eq)]
-pub enum Format {
-    /// The disk's bytes, as they are.
-    Raw,
-    /// A qcow2 image.
-    Qcow2,
-    /// The descriptor of a VMDK disk.
-    Vmdk,
-}
 
 /// A file of a chain.
 #[derive(Drop)]

@@ -1,5 +1,5 @@
 use Rattle.std.proofs.Common.{◌∙◌, ap, subst, ◌∷◌, [], ◌++◌}
-use Rattle.qimg.specs.declared.plain.Format.TheVariants.{Qcow2}
+use Rattle.imago_access.specs.declared.format.Format.TheVariants.{Qcow2}
 use Rattle.qimg.specs.Plain.{IsPlainRead, seen_files}
 use Rattle.qimg.proofs.first.worked.plain_bytes.Goals as goal
 
