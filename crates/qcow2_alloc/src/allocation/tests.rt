@@ -106,7 +106,7 @@ fn what_waits_is_counted_down(rt: HostRuntime) -> Result<(), Fail> {
     Ok(())
 }
 
-// Clusters 8 and 300 aren't counted, the latter by any block.
+// Clusters 8 and 300 aren't counted, the latter by no block.
 fn refused(rt: &impl Abort, alloc: Global) -> Result<(), Fault> {
     let mut file = logged(alloc, 512, 0)?;
     let mut caches = MetadataCaches::new(alloc, 2, 2)?;
@@ -120,6 +120,14 @@ fn refused(rt: &impl Abort, alloc: Global) -> Result<(), Fault> {
     assert!(rt; list.entry(1).first_cluster() == HostCluster(8));
     assert!(rt; list.entry(1).count() == ClusterCount(1));
     assert_counted(rt, &mut caches, &mut file, [1, 1, 1, 1, 1, 1, 0, 0])?;
+    Ok(())
+}
+
+// No block counts cluster 300, and no cluster has a number of more than 64 bits.
+fn uncountable(rt: &impl Abort, alloc: Global) -> Result<(), Fault> {
+    let mut file = logged(alloc, 512, 0)?;
+    let mut caches = MetadataCaches::new(alloc, 2, 2)?;
+    let mut allocator = Allocator::new(alloc, &mut file)?;
     let mut list = waiting(alloc, &[(u64::MAX, 2, true)])?;
     let answer = allocator.process_clusters_to_free(&mut file, &mut caches, &mut list);
     assert!(rt; answer == Err(Fault::Counter));
@@ -127,6 +135,16 @@ fn refused(rt: &impl Abort, alloc: Global) -> Result<(), Fault> {
     let mut list = waiting(alloc, &[(300, 1, true)])?;
     let answer = allocator.process_clusters_to_free(&mut file, &mut caches, &mut list);
     assert!(rt; answer == Err(Fault::Counter));
+    Ok(())
+}
+
+#[test]
+fn what_no_block_counts_is_refused(rt: HostRuntime) -> Result<(), Fail> {
+    let alloc = rt.alloc();
+    match uncountable(&rt, alloc) {
+        Err(Fault::Memory) => uncountable(&rt, alloc)?,
+        other => other?,
+    }
     Ok(())
 }
 

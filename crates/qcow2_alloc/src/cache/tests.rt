@@ -354,6 +354,32 @@ fn loaded_block<S: Storage>(
     RefBlockCacheBackend::new(alloc).load(file, HostCluster(cluster))
 }
 
+// Puts the table that the file has in one cluster into another. It is modified there.
+fn put_table_of<S: Storage>(
+    rt: &impl Abort,
+    alloc: Global,
+    caches: &mut MetadataCaches<S>,
+    file: &mut ImageFile<S>,
+    [from, to]: [u64; 2],
+) -> Result<(), Fault> {
+    let mut table = loaded_table(alloc, file, from)?;
+    table.set_cluster(HostCluster(to));
+    taken_table(rt, caches, file, table)
+}
+
+// The same of a block.
+fn put_block_of<S: Storage>(
+    rt: &impl Abort,
+    alloc: Global,
+    caches: &mut MetadataCaches<S>,
+    file: &mut ImageFile<S>,
+    [from, to]: [u64; 2],
+) -> Result<(), Fault> {
+    let mut block = loaded_block(alloc, file, from)?;
+    block.set_cluster(HostCluster(to));
+    taken_block(rt, caches, file, block)
+}
+
 // What the put of a table that has a cluster answers.
 fn put_table<S: Storage>(
     rt: &impl Abort,
@@ -461,12 +487,8 @@ fn put_into_room(rt: &impl Abort, alloc: Global) -> Result<(), Fault> {
     caches.l2_depends_on_rb(&mut file)?;
     touch_table(&mut caches, &mut file, 1)?;
     touch_block(&mut caches, &mut file, 5)?;
-    let mut table = loaded_table(alloc, &mut file, 4)?;
-    table.set_cluster(HostCluster(3));
-    taken_table(rt, &mut caches, &mut file, table)?;
-    let mut block = loaded_block(alloc, &mut file, 7)?;
-    block.set_cluster(HostCluster(6));
-    taken_block(rt, &mut caches, &mut file, block)?;
+    put_table_of(rt, alloc, &mut caches, &mut file, [4, 3])?;
+    put_block_of(rt, alloc, &mut caches, &mut file, [7, 6])?;
     assert_written(rt, &file, &[]);
     assert!(rt; is_marked_table(caches.l2_get_or_insert(&mut file, HostCluster(3))?));
     assert!(rt; is_marked_block(caches.rb_get_or_insert(&mut file, HostCluster(6))?));
@@ -489,6 +511,35 @@ fn what_is_put_is_found_and_written_later(rt: HostRuntime) -> Result<(), Fail> {
     Ok(())
 }
 
+// Fills both caches under this order.
+fn fill<S: Storage>(
+    caches: &mut MetadataCaches<S>,
+    file: &mut ImageFile<S>,
+    order: CacheDependency,
+) -> Result<(), Fault> {
+    announce(caches, file, order)?;
+    touch_table(caches, file, 1)?;
+    touch_table(caches, file, 2)?;
+    touch_block(caches, file, 5)?;
+    touch_block(caches, file, 6)?;
+    touch_table(caches, file, 1)
+}
+
+// Which tables and blocks are cached.
+fn assert_cached<S: Storage>(
+    rt: &impl Abort,
+    caches: &mut MetadataCaches<S>,
+    tables: [(u64, bool); 3],
+    blocks: [(u64, bool); 3],
+) {
+    for (cluster, stays) in tables {
+        assert!(rt; caches.l2.get(HostCluster(cluster)).is_some() == stays);
+    }
+    for (cluster, stays) in blocks {
+        assert!(rt; caches.rb.get(HostCluster(cluster)).is_some() == stays);
+    }
+}
+
 // Fills both caches under this order, and puts one table and one block more.
 fn put_for_another(
     rt: &impl Abort,
@@ -499,25 +550,18 @@ fn put_for_another(
 ) -> Result<(), Fault> {
     let mut file = logged(alloc)?;
     let mut caches = MetadataCaches::new(alloc, 2, 2)?;
-    announce(&mut caches, &mut file, order)?;
-    touch_table(&mut caches, &mut file, 1)?;
-    touch_table(&mut caches, &mut file, 2)?;
-    touch_block(&mut caches, &mut file, 5)?;
-    touch_block(&mut caches, &mut file, 6)?;
-    touch_table(&mut caches, &mut file, 1)?;
-    let mut table = loaded_table(alloc, &mut file, 4)?;
-    table.set_cluster(HostCluster(3));
-    taken_table(rt, &mut caches, &mut file, table)?;
+    fill(&mut caches, &mut file, order)?;
+    put_table_of(rt, alloc, &mut caches, &mut file, [4, 3])?;
     assert_written(rt, &file, by_table);
     let block = loaded_block(alloc, &mut file, 7)?;
     taken_block(rt, &mut caches, &mut file, block)?;
     assert_written(rt, &file, by_block);
-    for (cluster, stays) in [(1, true), (2, false), (3, true)] {
-        assert!(rt; caches.l2.get(HostCluster(cluster)).is_some() == stays);
-    }
-    for (cluster, stays) in [(5, false), (6, true), (7, true)] {
-        assert!(rt; caches.rb.get(HostCluster(cluster)).is_some() == stays);
-    }
+    assert_cached(
+        rt,
+        &mut caches,
+        [(1, true), (2, false), (3, true)],
+        [(5, false), (6, true), (7, true)],
+    );
     Ok(())
 }
 
@@ -549,7 +593,22 @@ fn what_is_put_makes_room_in_the_order(rt: HostRuntime) -> Result<(), Fail> {
     Ok(())
 }
 
-// A table and a block are put over others, which aren't modified, and then over themselves, as modified.
+// A table and a block are put over others, which aren't modified.
+fn put_over_clean<S: Storage>(
+    rt: &impl Abort,
+    alloc: Global,
+    caches: &mut MetadataCaches<S>,
+    file: &mut ImageFile<S>,
+) -> Result<(), Fault> {
+    caches.l2_get_or_insert(file, HostCluster(1))?;
+    caches.rb_get_or_insert(file, HostCluster(5))?;
+    let table = loaded_table(alloc, file, 1)?;
+    taken_table(rt, caches, file, table)?;
+    let block = loaded_block(alloc, file, 5)?;
+    taken_block(rt, caches, file, block)
+}
+
+// They are put over others, and then over themselves, as modified.
 fn put_over(
     rt: &impl Abort,
     alloc: Global,
@@ -560,22 +619,13 @@ fn put_over(
     let mut file = marked(alloc)?;
     let mut caches = MetadataCaches::new(alloc, 2, 2)?;
     announce(&mut caches, &mut file, order)?;
-    caches.l2_get_or_insert(&mut file, HostCluster(1))?;
-    caches.rb_get_or_insert(&mut file, HostCluster(5))?;
-    let table = loaded_table(alloc, &mut file, 1)?;
-    taken_table(rt, &mut caches, &mut file, table)?;
-    let block = loaded_block(alloc, &mut file, 5)?;
-    taken_block(rt, &mut caches, &mut file, block)?;
+    put_over_clean(rt, alloc, &mut caches, &mut file)?;
     assert_written(rt, &file, &[]);
     touch_table(&mut caches, &mut file, 1)?;
     touch_block(&mut caches, &mut file, 5)?;
-    let mut table = loaded_table(alloc, &mut file, 4)?;
-    table.set_cluster(HostCluster(1));
-    taken_table(rt, &mut caches, &mut file, table)?;
+    put_table_of(rt, alloc, &mut caches, &mut file, [4, 1])?;
     assert_written(rt, &file, by_table);
-    let mut block = loaded_block(alloc, &mut file, 7)?;
-    block.set_cluster(HostCluster(5));
-    taken_block(rt, &mut caches, &mut file, block)?;
+    put_block_of(rt, alloc, &mut caches, &mut file, [7, 5])?;
     assert_written(rt, &file, by_block);
     assert!(rt; is_marked_table(caches.l2_get_or_insert(&mut file, HostCluster(1))?));
     assert!(rt; is_marked_block(caches.rb_get_or_insert(&mut file, HostCluster(5))?));
