@@ -24,7 +24,7 @@ moved-none H H' same = (H.fields.refcount_table_offset, H.fields.refcount_table_
 pub moved-then : (H H' H'' : Header) → MovedTable H H' → MovedTable H' H'' → MovedTable H H''
 moved-then H H' H'' (offset, clusters, is) (offset', clusters', is') = (offset', clusters', is' ∙ ap (λ (x : Header). with_refcount_table x offset' clusters') is)
 
-raised-then : (m m' m'' : Metadata) → OnlyRaised m m' → OnlyRaised m' m'' → OnlyRaised m m''
+pub raised-then : (m m' m'' : Metadata) → OnlyRaised m m' → OnlyRaised m' m'' → OnlyRaised m m''
 raised-then m m' m'' one two c = elim (one c) [
   | inl same ↦ elim (two c) [ inl same' ↦ inl (same' ∙ same) | inr up ↦ inr (sym same ∙ up.0, up.1) ]
   | inr up ↦ elim (two c) [ inl same' ↦ inr (up.0, same' ∙ up.1) | inr up' ↦ let a = up.1 in let b = up'.0 in absurd (omega (arith, a, b)) ]

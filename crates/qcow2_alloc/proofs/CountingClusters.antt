@@ -62,7 +62,7 @@ done_of (Ok done) = 1
 done_of (Err fault) = 0
 
 -- A run of one cluster has that cluster, and a run of none no cluster.
-one-run : (c d : ℕ) → covers d (run_of c 1) ≡ one_at c d
+pub one-run : (c d : ℕ) → covers d (run_of c 1) ≡ one_at c d
 one-run c d = covers-one d (run_of c 1) refl
 
 module _ {S : Type 0} (state : S → StorageState) (table : TableValue) (pending : List FreeEntry) (c : ℕ) where

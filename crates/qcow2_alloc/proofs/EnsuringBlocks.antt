@@ -42,7 +42,7 @@ made_by (Err fault) = Err fault
 
 -- A cause stays one over more calls.
 pub why-allocated-wider : (sound sound' loose loose' full full' : Type 0) (a b c : ℕ) → (sound' → sound) → (loose' → loose) → (full → full') → b ≡ a → (fault : Fault) → WhyNotAllocated sound loose full b c fault → WhyNotAllocated sound' loose' full' a c fault
-why-allocated-wider sound sound' loose loose' full full' a b c from from' on same (Limit number) why = on why
+why-allocated-wider sound sound' loose loose' full full' a b c from from' on same (Limit number) why = (on why.0, why.1 ∙ same)
 why-allocated-wider sound sound' loose loose' full full' a b c from from' on same Memory why = why-freed-wider sound sound' loose loose' a b c from from' same Memory why
 why-allocated-wider sound sound' loose loose' full full' a b c from from' on same Storage why = why-freed-wider sound sound' loose loose' a b c from from' same Storage why
 why-allocated-wider sound sound' loose loose' full full' a b c from from' on same DamagedTable why = why-freed-wider sound sound' loose loose' a b c from from' same DamagedTable why

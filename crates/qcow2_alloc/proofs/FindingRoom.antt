@@ -54,6 +54,81 @@ rank-longer p a (suc k) =
       | inr none ↦ let r = rank-old p (a + k) none in omega (arith, below, next, r)
     ]
 
+pub rank-next : (p : ℕ → Bool) (N : ℕ) → rank p N ≤ rank p (suc N)
+rank-next p N = elim (cases_Bool (p N)) [
+  | inl here ↦ let a = rank-new p N here in omega (arith, a)
+  | inr none ↦ let a = rank-old p N none in omega (arith, a)
+]
+
+-- Of less, where one is gone, there is less.
+pub rank-fewer : (p q : ℕ → Bool) (k N : ℕ) → ((i : ℕ) → i < N → p i ≡ true → q i ≡ true) → k < N → q k ≡ true → p k ≡ false → rank p N + 1 ≤ rank q N
+unfolding sum_below
+rank-fewer p q k zero from inside there gone = absurd (omega (arith, inside))
+rank-fewer p q k (suc N) from inside there gone = elim (cases_eq k N) [
+  | inl last ↦
+      let below = rank-more p q N (λ i lt. from i (omega (arith, lt))) in
+      let a = rank-old p N (subst (λ i. p i ≡ false) last gone) in
+      let b = rank-new q N (subst (λ i. q i ≡ true) last there) in
+      omega (arith, below, a, b)
+  | inr apart ↦
+      let below = rank-fewer p q k N (λ i lt. from i (omega (arith, lt))) (omega (arith, inside, apart)) there gone in
+      elim (cases_Bool (p N)) [
+        | inl here ↦ let a = rank-new p N here in let b = rank-new q N (from N (omega arith) here) in omega (arith, below, a, b)
+        | inr none ↦ elim (cases_Bool (q N)) [
+          | inl more ↦ let a = rank-old p N none in let b = rank-new q N more in omega (arith, below, a, b)
+          | inr same ↦ let a = rank-old p N none in let b = rank-old q N same in omega (arith, below, a, b)
+        ]
+      ]
+]
+
+-- Where one alone may be more, there is one more at most.
+pub rank-almost : (p q : ℕ → Bool) (k N : ℕ) → ((i : ℕ) → i ≢ k → q i ≡ true → p i ≡ true) → rank q N ≤ rank p N + 1
+unfolding sum_below
+rank-almost p q k zero from = omega arith
+rank-almost p q k (suc N) from = elim (cases_eq k N) [
+  | inl last ↦
+      let below = rank-more q p N (λ i lt. from i (omega (arith, lt, last))) in
+      elim (cases_Bool (q N)) [
+        | inl here ↦ let b = rank-new q N here in let a = rank-next p N in omega (arith, below, a, b)
+        | inr none ↦ let b = rank-old q N none in let a = rank-next p N in omega (arith, below, a, b)
+      ]
+  | inr apart ↦
+      let below = rank-almost p q k N from in
+      elim (cases_Bool (q N)) [
+        | inl here ↦ let b = rank-new q N here in let a = rank-new p N (from N (λ is. apart (sym is)) here) in omega (arith, below, a, b)
+        | inr none ↦ let b = rank-old q N none in let a = rank-next p N in omega (arith, below, a, b)
+      ]
+]
+
+-- What is of the one or of the other is of a third, but for as many of the first as lie in a window.
+pub rank-beside : (p q u : ℕ → Bool) (a b N : ℕ) → ((i : ℕ) → p i ≡ true → a ≤ i) → ((i : ℕ) → b ≤ i → p i ≡ true → (u i ≡ true) × (q i ≡ false)) → ((i : ℕ) → q i ≡ true → u i ≡ true) → ((i : ℕ) → q i ≡ true → b ≤ i)
+    → rank p N + rank q N ≤ rank u N + (N - a - (N - b))
+unfolding sum_below
+rank-beside p q u a b zero low both from high = omega arith
+rank-beside p q u a b (suc N) low both from high =
+    let below = rank-beside p q u a b N low both from high in
+    let up = rank-next u N in
+    elim (cases_Bool (p N)) [
+      | inr none ↦ let x = rank-old p N none in elim (cases_Bool (q N)) [
+        | inr none' ↦ let y = rank-old q N none' in omega (arith, below, up, x, y)
+        | inl here ↦ let y = rank-new q N here in let z = rank-new u N (from N here) in omega (arith, below, x, y, z)
+      ]
+      | inl here ↦
+          let x = rank-new p N here in
+          let ge = low N here in
+          elim (cases_lt N b) [
+            | inl before ↦ elim (cases_Bool (q N)) [
+              | inl there ↦ absurd (let h = high N there in omega (arith, before, h))
+              | inr none' ↦ let y = rank-old q N none' in omega (arith, below, up, x, y, ge, before)
+            ]
+            | inr past ↦
+                let two = both N past here in
+                let y = rank-old q N two.1 in
+                let z = rank-new u N two.0 in
+                omega (arith, below, x, y, z)
+          ]
+    ]
+
 -- What holds in a window of so many alone holds no more often.
 rank-window : (p : ℕ → Bool) (a M N : ℕ) → ((i : ℕ) → p i ≡ true → (a ≤ i) × (i < a + M)) → (rank p N ≤ N - a) × (rank p N ≤ M)
 unfolding sum_below
@@ -126,6 +201,16 @@ module _ (table : TableValue) (k : ℕ) where
   pub lacks-inside : (z t i : ℕ) → lacks table k z t i ≡ true → (z / k ≤ i) × (i * k < z + t)
   lacks-inside z t i is = tests-inside (block_offset (slice_index table.words i)) (z / k) i (i * k) z t is
 
+  -- and isn't there; where it isn't there and counts one, it is lacking.
+  pub lacks-none : (z t i : ℕ) → lacks table k z t i ≡ true → block_offset (slice_index table.words i) ≡ 0
+  lacks-none z t i is = elim (cases_eq (block_offset (slice_index table.words i)) 0) [
+    | inl none ↦ none
+    | inr some ↦ absurd (let no = tests-there (block_offset (slice_index table.words i)) (z / k) i (i * k) z t some in let both = sym no ∙ is in cc)
+  ]
+
+  pub lacks-so : (z t i : ℕ) → block_offset (slice_index table.words i) ≡ 0 → z / k ≤ i → i * k < z + t → lacks table k z t i ≡ true
+  lacks-so z t i none from to = tests-here (block_offset (slice_index table.words i)) (z / k) i (i * k) z t none from to
+
   -- What is counted one by one.
   pub lacking-there : (z t i : ℕ) → block_offset (slice_index table.words i) ≢ 0 → rank (lacks table k z t) (suc i) ≡ rank (lacks table k z t) i
   lacking-there z t i some = rank-old (lacks table k z t) i (tests-there (block_offset (slice_index table.words i)) (z / k) i (i * k) z t some)
@@ -134,7 +219,7 @@ module _ (table : TableValue) (k : ℕ) where
   lacking-here z t i none from to = rank-new (lacks table k z t) i (tests-here (block_offset (slice_index table.words i)) (z / k) i (i * k) z t none from to)
 
   -- No more blocks are lacking than a run meets.
-  lacking-few : 0 < k → (z t : ℕ) → lacking table k z t ≤ t / k + 2
+  pub lacking-few : 0 < k → (z t : ℕ) → lacking table k z t ≤ t / k + 2
   lacking-few some z t = (rank-window (lacks table k z t) (z / k) (t / k + 2) (z + t) (λ i is.
       let both = tests-inside (block_offset (slice_index table.words i)) (z / k) i (i * k) z t is in
       let from = both.0 in

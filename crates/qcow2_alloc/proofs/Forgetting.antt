@@ -84,7 +84,7 @@ module _ (m : Metadata) (key : ℕ) (sound : IsSound m) (unnamed : named_at_all 
   abbrev pub forgotten : Cached
   forgotten = record m.cached { blocks = remove_entry (nat_eq key) m.cached.blocks }
 
-  forgotten-stays : StaysAsItIs m.file m.header m.cached m.order forgotten
+  pub forgotten-stays : StaysAsItIs m.file m.header m.cached m.order forgotten
   forgotten-stays =
       let same : memory m.file m.header.fields forgotten ≡ in_memory m =
       ap (λ (l : List Patch). over m.file (filter_map (table_patch (cluster_size m.header.fields)) m.cached.tables ++ l)) (patches-removed (cluster_size m.header.fields) key m.cached.blocks unnamed-clean) in

@@ -56,7 +56,7 @@ module _ (m : Metadata) (table : TableValue) (t n : ℕ) (x : Bytes) (sound : Is
   abbrev e : FreeEntry
   e = run_of (m.header.fields.refcount_table_offset / cluster_size m.header.fields) m.header.fields.refcount_table_clusters
 
-  old-run : (c : ℕ) → covers c e ≡ formerly m c
+  pub old-run : (c : ℕ) → covers c e ≡ formerly m c
   old-run c =
       let limited = header-limited true m.file m.header sound.safe.consistent.readable.loads in
       covers-meets m.header.fields c e

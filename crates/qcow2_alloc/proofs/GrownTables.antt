@@ -31,13 +31,13 @@ sum-zeroes (suc n) = let below = sum-zeroes n in omega (arith, below)
 covers-two : (c s a n : ℕ) → covers c (run_of s a) + covers c (run_of (s + a) n) ≡ covers c (run_of s (a + n))
 covers-two c s a n = grind (arith, nat_tests)
 
-covers-most : (c s n : ℕ) → covers c (run_of s n) ≤ 1
+pub covers-most : (c s n : ℕ) → covers c (run_of s n) ≤ 1
 covers-most c s n = grind (arith, nat_tests)
 
-covers-inside : (c s n : ℕ) → s ≤ c → c < s + n → covers c (run_of s n) ≡ 1
+pub covers-inside : (c s n : ℕ) → s ≤ c → c < s + n → covers c (run_of s n) ≡ 1
 covers-inside c s n from to = grind (arith, nat_tests)
 
-covers-before : (c s n : ℕ) → c < s → covers c (run_of s n) ≡ 0
+pub covers-before : (c s n : ℕ) → c < s → covers c (run_of s n) ≡ 0
 covers-before c s n before = grind (arith, nat_tests)
 
 covers-behind : (c s n : ℕ) → s + n ≤ c → covers c (run_of s n) ≡ 0

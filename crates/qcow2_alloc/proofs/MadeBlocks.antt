@@ -1,5 +1,5 @@
 -- A refcount block is made, from the first of the call to its last.
-use Rattle.std.proofs.Common.{◌≡◌, ◌≢◌, ℕ, ◌+◌, ◌*◌, ◌^◌, ◌<◌, ◌≤◌, refl, arith, ap, sym, subst, ◌∙◌, inl, inr, List, length, Ok, Err, None, Some, Bool, true, Option, Result}
+use Rattle.std.proofs.Common.{◌≡◌, ◌≢◌, ℕ, ◌+◌, ◌*◌, ◌^◌, ◌<◌, ◌≤◌, refl, arith, ap, sym, subst, ◌∙◌, inl, List, length, Ok, Err, None, Some, Bool, true, Option, Result}
 use Rattle.std.specs.Prelude.{⊤, nat_eq, slice_index, IsTrue, OnOk, IsSomeAnd, MatchResult}
 use Rattle.std.specs.Int.{w64, to_be_bytes}
 use Rattle.std.specs.Map.{lookup}
@@ -39,6 +39,7 @@ use Rattle.qcow2_alloc.specs.Going.{IsWhole, WhyNotWritten}
 use Rattle.qcow2_alloc.specs.MakingBlocks.{Begins, CanName, WhyNotNamed, NamesWritten}
 use Rattle.qcow2_alloc.specs.MakingRoom.{with_block}
 use Rattle.qcow2_alloc.specs.Quiet.{Metadata, in_memory, counted, IsUsed, IsSound, Quietly}
+use Rattle.qcow2_alloc.proofs.Allocating.{raised-then}
 use Rattle.qcow2_alloc.proofs.AtOnce.{put-done}
 use Rattle.qcow2_alloc.proofs.FlushingTables.{never-mild}
 use Rattle.qcow2_alloc.proofs.FreeingEntries.{failed}
@@ -212,18 +213,12 @@ allocated-then sound sound' loose loose' full full' a b c from from' to same Sto
 allocated-then sound sound' loose loose' full full' a b c from from' to same DamagedTable why = λ s. why (from s)
 allocated-then sound sound' loose loose' full full' a b c from from' to same Counter why = λ s. why (from s)
 allocated-then sound sound' loose loose' full full' a b c from from' to same CacheFull why = λ l. why (from' l)
-allocated-then sound sound' loose loose' full full' a b c from from' to same (Limit number) why = to why
+allocated-then sound sound' loose loose' full full' a b c from from' to same (Limit number) why = (to why.0, why.1 ∙ same)
 allocated-then sound sound' loose loose' full full' a b c from from' to same other why = absurd why
 
 cause-then : (sound sound' loose loose' full full' : Type 0) (a b c : ℕ) → (sound' → sound) → (loose' → loose) → (full → full') → b ≡ a → (result : Result Unit Fault) → MatchResult result (λ _. c ≡ b) (WhyNotAllocated sound loose full b c) → MatchResult result (λ _. c ≡ a) (WhyNotAllocated sound' loose' full' a c)
 cause-then sound sound' loose loose' full full' a b c from from' to same (Ok done) counts = counts ∙ same
 cause-then sound sound' loose loose' full full' a b c from from' to same (Err fault) why = allocated-then sound sound' loose loose' full full' a b c from from' to same fault why
-
-raised-then : (m m1 m2 : Metadata) → OnlyRaised m m1 → OnlyRaised m1 m2 → OnlyRaised m m2
-raised-then m m1 m2 first second c = elim (first c) [
-  | inl same ↦ elim (second c) [ inl same' ↦ inl (same' ∙ same) | inr up ↦ inr (sym same ∙ up.0, up.1) ]
-  | inr up ↦ elim (second c) [ inl same' ↦ inr (up.0, same' ∙ up.1) | inr up' ↦ absurd (let one = up.1 in let zero = up'.0 in omega (arith, one, zero)) ]
-]
 
 module _ {S : Type 0} (state : S → StorageState) (i : ℕ) (table : TableValue) (pending : List FreeEntry) (old : MetadataCaches S) (before : ImageFile S) where
   abbrev m0 : Metadata
@@ -340,10 +335,13 @@ module _ {S : Type 0} (state : S → StorageState) (i : ℕ) (table : TableValue
       where
         by-fault : (fault : Fault) → WhyNotNamed table fC.header.fields.cluster_bits d fault → WhyNotAllocated Holds (IsLoose old) Full (state before.image).faults (state before.image).faults fault
         by-fault DamagedTable why = λ holds. why (can-name mU ((begins.quiet holds.1).holds holds.0 holds.2 tt).0 d (some holds))
-        by-fault (Limit number) why = λ reach.
-            let there : IsInReach fC.header.fields.cluster_bits (i * counters_of_block fC.header.fields) = subst (λ (h : Header). IsInReach h.fields.cluster_bits (i * counters_of_block h.fields)) (sym begins.header) reach in
-            let le = mul-le-mul_right (2 ^ fC.header.fields.cluster_bits) low in
-            why (omega (arith, le, there))
+        by-fault (Limit number) why = (
+          λ reach.
+              let there : IsInReach fC.header.fields.cluster_bits (i * counters_of_block fC.header.fields) = subst (λ (h : Header). IsInReach h.fields.cluster_bits (i * counters_of_block h.fields)) (sym begins.header) reach in
+              let le = mul-le-mul_right (2 ^ fC.header.fields.cluster_bits) low in
+              why (omega (arith, le, there)),
+          refl,
+        )
         by-fault other why = absurd why
 
     -- and where a block is pinned.

@@ -46,7 +46,7 @@ module _ (f g : Bytes) (h : Fields) (offset clusters c : ℕ) (tables : (i : ℕ
       ∙ sym (contents-slots f h (of_mapping h (meets h c)))
 
 -- In memory the structure has what it has in the file,
-structure-in-memory : (m : Metadata) → IsSound m → (w : Weight) → structure (in_memory m) m.header.fields w ≡ structure m.file m.header.fields w
+pub structure-in-memory : (m : Metadata) → IsSound m → (w : Weight) → structure (in_memory m) m.header.fields w ≡ structure m.file m.header.fields w
 structure-in-memory m sound w = structure-same m.file (in_memory m) m.header.fields (places-in-memory m.file m.header sound.safe.consistent m.cached sound.safe.tables sound.safe.blocks) w
 
 -- and a word names no more than all do.
@@ -109,7 +109,7 @@ module _ (m m1 : Metadata) (handed taken : ℕ → ℕ) (quiet : IsQuiet handed 
 
   module _ (sound : IsSound m) (sound1 : IsSound m1) where
     -- A cluster that holds no structure is named in memory as often as it was,
-    contents-then : (c : ℕ) → contents (in_memory m1) m1.header.fields (of_mapping m1.header.fields (meets m1.header.fields c)) ≡ contents (in_memory m) m.header.fields (of_mapping m.header.fields (meets m.header.fields c))
+    pub contents-then : (c : ℕ) → contents (in_memory m1) m1.header.fields (of_mapping m1.header.fields (meets m1.header.fields c)) ≡ contents (in_memory m) m.header.fields (of_mapping m.header.fields (meets m.header.fields c))
     contents-then c =
         subst (λ (K : Header). ((i : ℕ) → l2_table (in_memory m1) K.fields i ≡ l2_table (in_memory m) m.header.fields i)
         → ((i j : ℕ) → Live (l2_table (in_memory m) m.header.fields) m.header.fields i j → slot (in_memory m1) K.fields i j ≡ slot (in_memory m) m.header.fields i j)

@@ -1,11 +1,13 @@
 -- New blocks are written to clusters that nothing names, one behind the other.
-use Rattle.std.proofs.Common.{◌≡◌, ℕ, suc, ◌+◌, ◌-◌, ◌*◌, ◌/◌, ◌%◌, ◌^◌, ◌<◌, ◌≤◌, Bool, refl, arith, ap, sym, subst, ◌∙◌, inl, inr, true, Result, Ok, Err, Some}
-use Rattle.std.specs.Prelude.{⊤, ◌&&◌, nat_le, nat_lt, if◌then◌else◌, IsTrue}
+use Rattle.std.proofs.Common.{◌≡◌, ℕ, suc, ◌+◌, ◌-◌, ◌*◌, ◌/◌, ◌%◌, ◌^◌, ◌<◌, ◌≤◌, Bool, refl, arith, ap, sym, subst, ◌∙◌, inl, inr, true, Result, Ok, Err, Some, List}
+use Rattle.std.specs.Prelude.{⊤, ◌&&◌, nat_le, nat_lt, if◌then◌else◌, IsTrue, MatchResult}
 use Rattle.std.proofs.lemmas.Bool.{cases_lt}
 use Rattle.std.proofs.lemmas.Bool.Decides.{nat_tests}
 use Rattle.std.proofs.lemmas.Nat.{mod_below, pow_pos}
 use Rattle.std.proofs.Math.Nat.{div-add-mod, mul-le-mul, mul-le-mul_right}
 use Rattle.imago_storage.specs.State.{StorageState}
+use Rattle.imago_storage.specs.Calls.{Cause}
+use Rattle.imago_storage.specs.Through.{Put}
 use Rattle.imago_storage.specs.declared.fault.Fault.{Fault}
 use Rattle.imago_storage.specs.declared.fault.Fault.TheVariants.{Memory}
 use Rattle.imago_storage.proofs.Composing.{later_same, later_both, keeps_on}
@@ -36,6 +38,11 @@ use Rattle.qcow2_alloc.proofs.QuietFlushes.{memory-quietly, quiet-none}
 use Rattle.qcow2_alloc.proofs.QuietGiven.{quietly-then-given}
 use Rattle.qcow2_alloc.proofs.QuietThen.{quietly-otherwise, quiet-otherwise}
 use Rattle.qcow2_alloc.proofs.WordsKept.{structure-named, counters-same}
+
+-- What is known of the faults of a write.
+pub put-counts : (old new : StorageState) (at : ℕ) (bytes : List ℕ) (result : Result Unit Fault) → Put old new at bytes result → MatchResult result (λ _. new.faults ≡ old.faults) (Cause old.faults new.faults)
+put-counts old new at bytes (Ok done) put = put.answer.faults
+put-counts old new at bytes (Err fault) put = put.answer.cause
 
 -- A block is written to cluster d,
 module _ (h : Header) (index : ℕ) (run : Run) (d : ℕ) (block : Block) (own : CountsItsOwn h.fields index run block) (old new : StorageState) (result : Result Unit Fault) (put : BlockPut block (d * cluster_size h.fields) old new result) where
@@ -79,6 +86,7 @@ module _ (h : Header) (index : ℕ) (run : Run) (d : ℕ) (block : Block) (own :
       shape = put.put.put.shape;
       later = put.put.put.later;
       whole = put-done old new (d * cluster_size h.fields) put.bytes result put.put.put;
+      cause = put-counts old new (d * cluster_size h.fields) put.bytes result put.put.put;
       quiet = written-quietly;
       counts = λ m taken may keeps sound done. (written-counts m taken may keeps sound done).0;
       others = λ keeps done p off.
@@ -106,6 +114,7 @@ block-not-written h index run d s result failed = record {
     shape = refl;
     later = later_same s;
     whole = λ whole. absurd (subst (λ (r : Result Unit Fault). IsWhole r) failed whole);
+    cause = subst (λ (r : Result Unit Fault). MatchResult r (λ _. s.faults ≡ s.faults) (Cause s.faults s.faults)) (sym failed) refl;
     quiet = λ m taken may. memory-quietly (IsWhole result) taken taken s m (with_file m s) (λ sound whole. absurd (subst (λ (r : Result Unit Fault). IsWhole r) failed whole));
     counts = λ m taken may keeps sound done. absurd (refused done);
     others = λ keeps done p off. refl;
@@ -144,6 +153,7 @@ clusters-none h s n a = record {
   shape = refl;
   later = later_same a;
   whole = λ whole. refl;
+  cause = refl;
   quiet = λ m taken may. memory-quietly ⊤ taken taken a m (with_file m a) (λ sound whole.
       subst (λ (f : Bytes). IsSound (record m { file = f }) × IsQuiet taken taken m (record m { file = f })) may.file
       (sound, quiet-otherwise m m (λ _. 0) (λ _. 0) taken taken (λ c. omega arith) (λ c used none. refl) (quiet-none m sound)));
@@ -160,6 +170,7 @@ clusters-more h s n k a result c le writes = record {
   shape = writes.shape;
   later = writes.later;
   whole = writes.whole;
+  cause = writes.cause;
   quiet = λ m taken may. writes.quiet m taken (may-fewer h s n k taken a m le may);
   counts = λ m taken may. writes.counts m taken (may-fewer h s n k taken a m le may);
   others = λ keeps done p off. writes.others keeps done p (elim off [
@@ -238,6 +249,7 @@ module _ (h : Header) (s n : ℕ) (a b : StorageState) (result : Result Unit Fau
     shape = second.shape ∙ first.shape;
     later = later_both a b c first.later second.later;
     whole = second.whole;
+    cause = subst (λ (n : ℕ). MatchResult result (λ _. c.faults ≡ n) (Cause n c.faults)) first.cause second.cause;
     quiet = then-quietly;
     counts = then-counts;
     others = λ keeps done p off.
@@ -246,7 +258,7 @@ module _ (h : Header) (s n : ℕ) (a b : StorageState) (result : Result Unit Fau
   }
 
 -- A block counts what it did while its cluster keeps its bytes.
-own-still : (f g : Bytes) (h : Fields) (d i : ℕ) (run : Run) → 0 < counters_of_block h → Same f g (d * cluster_size h) (cluster_size h) → HasCountedOwn f h d i run → HasCountedOwn g h d i run
+pub own-still : (f g : Bytes) (h : Fields) (d i : ℕ) (run : Run) → 0 < counters_of_block h → Same f g (d * cluster_size h) (cluster_size h) → HasCountedOwn f h d i run → HasCountedOwn g h d i run
 own-still f g h d i run some same was c is =
     let less = mod_below c (counters_of_block h) some in
     counter-read g h (d * cluster_size h) (counters_in f h (d * cluster_size h)) (counters-same f g h (d * cluster_size h) same) (c % counters_of_block h) less

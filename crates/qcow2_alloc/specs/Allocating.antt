@@ -40,9 +40,9 @@ RaisesCluster state table cluster old before result new after = MatchOption (nam
 abbrev pub OnlyRaised : Metadata → Metadata → Type 0
 OnlyRaised m m' = (c : ℕ) → (counted m' c ≡ counted m c) ⊎ ((counted m c ≡ 0) × (counted m' c ≡ 1))
 
--- Why a call that counts clusters was refused: as one that frees them is, or since there is no place left.
+-- Why a call that counts clusters was refused: as one that frees them is, or since there is no place left, which no fault goes before.
 abbrev pub WhyNotAllocated : Type 0 → Type 0 → Type 0 → ℕ → ℕ → Fault → Type 0
-WhyNotAllocated sound loose full before after (Limit number) = full
+WhyNotAllocated sound loose full before after (Limit number) = full × (after ≡ before)
 WhyNotAllocated sound loose full before after fault = WhyNotFreed sound loose before after fault
 
 -- Clusters of a run of n are counted, while blocks are written before tables: those that are handed out of a part of it, which is all of it

@@ -21,3 +21,11 @@ pub mod Allocating
 pub mod Growing
 pub mod MakingBlocks
 pub mod NewBlocks
+pub mod GrowingTables
+pub mod ReadyingRuns
+pub mod ReadyingBlocks
+pub mod HandingOut
+pub mod HandingOutOne
+pub mod FillingBlocks
+pub mod Crowding
+pub mod MovingTables

@@ -1,7 +1,7 @@
 -- How the refcount blocks that are lacking for a run are written to its first clusters.
-use Rattle.std.specs.Prelude.{◌≡◌, ◌⊎◌, true, ℕ, ◌+◌, ◌*◌, ◌/◌, ◌%◌, ◌<◌, ◌≤◌, IsTrue, Result, Ok, length, slice_index}
+use Rattle.std.specs.Prelude.{◌≡◌, ◌⊎◌, true, ℕ, ◌+◌, ◌*◌, ◌/◌, ◌%◌, ◌<◌, ◌≤◌, IsTrue, Result, Ok, length, slice_index, MatchResult}
 use Rattle.imago_storage.specs.State.{StorageState}
-use Rattle.imago_storage.specs.Calls.{Later}
+use Rattle.imago_storage.specs.Calls.{Later, Cause}
 use Rattle.imago_storage.specs.declared.fault.Fault.{Fault}
 use Rattle.qcow2_types.specs.Bytes.{Bytes, bytes_of}
 use Rattle.qcow2_types.specs.Header.{Fields, Header, cluster_size}
@@ -42,6 +42,7 @@ pub record WritesClusters (h : Header) (first n : ℕ) (old : StorageState) (res
   pub shape : new.shape ≡ old.shape
   pub later : Later old new
   pub whole : IsWhole result → result ≡ Ok tt
+  pub cause : MatchResult result (λ _. new.faults ≡ old.faults) (Cause old.faults new.faults)
   pub quiet : (m : Metadata) (taken : ℕ → ℕ) → MayWrite h first n taken old m → Quietly (IsWhole result) taken taken old m new (with_file m new)
   pub counts : (m : Metadata) (taken : ℕ → ℕ) → MayWrite h first n taken old m → IsTrue old.shape.keeps → IsSound m → result ≡ Ok tt → CountsTheSame m (with_file m new)
   pub others : IsTrue old.shape.keeps → result ≡ Ok tt → (p : ℕ) → (p < first * cluster_size h.fields) ⊎ ((first + n) * cluster_size h.fields ≤ p) → bytes_of new.bytes p ≡ bytes_of old.bytes p

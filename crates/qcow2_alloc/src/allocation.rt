@@ -20,10 +20,15 @@ use qcow2_metadata::{RefBlock, RefTable, Table};
 use qcow2_types::{ClusterCount, ClustersToFreeEntry, HostCluster};
 use std::alloc::Global;
 
+mod allocating;
 mod counting;
 mod ensuring_blocks;
 mod growing;
+mod growing_table;
+mod handing_out;
 mod making_blocks;
+mod moving_table;
+mod readying_runs;
 mod searching;
 #[cfg(test)]
 mod tests;
@@ -71,6 +76,13 @@ impl Allocator {
             reftable: table,
             first_free_cluster: first_free,
         }
+    }
+
+    /// How many words the refcount table has.
+    pub fn reftable_entries(&self) -> usize
+        ensures { result ≡ length (table_of self.now).words }
+    {
+        self.reftable.entries()
     }
 
     // The cluster of the block at an index of the refcount table, if there is one.

@@ -2,6 +2,7 @@
 //
 // Where an allocation is refused a body ends with `Fault::Memory`, and its test runs it once more: so each test passes
 // whichever one allocation is refused, and fails where a call gives up with memory left.
+ghost use Rattle.std.specs.Prelude.{◌≤◌};
 ghost use Rattle.imago_storage.specs.State.{IsAlignment};
 
 use super::*;
@@ -66,8 +67,7 @@ fn answer(alloc: Global, changes: &[Piece], writable: bool) -> Result<Result<(),
     outcome(Header::load(alloc, &mut changed(alloc, changes)?, writable))
 }
 
-fn each_getter(rt: &impl Abort, alloc: Global) -> Result<(), Fault> {
-    let header = loaded(alloc, &[])?;
+fn assert_sizes(rt: &impl Abort, header: &Header) {
     assert_eq!(rt; header.version(), 3);
     assert_eq!(rt; header.size(), 65536);
     assert_eq!(rt; header.cluster_bits(), 9);
@@ -76,25 +76,42 @@ fn each_getter(rt: &impl Abort, alloc: Global) -> Result<(), Fault> {
     assert_eq!(rt; header.refcount_order(), 4);
     assert_eq!(rt; header.rb_bits(), 8);
     assert_eq!(rt; header.rb_entries(), 256);
+}
+
+fn assert_tables(rt: &impl Abort, header: &Header) {
     assert_eq!(rt; header.l1_table_offset(), HostOffset(1536));
     assert_eq!(rt; header.l1_table_entries(), 2);
     assert_eq!(rt; header.reftable_offset(), HostOffset(512));
     assert_eq!(rt; header.reftable_clusters(), ClusterCount(1));
     assert_eq!(rt; header.reftable_entries(), 64);
     assert_eq!(rt; header.snapshots(), 0);
+}
+
+fn assert_no_texts(rt: &impl Abort, header: &Header) {
     assert!(rt; !header.external_data_file());
     assert!(rt; header.backing_filename().is_none());
     assert!(rt; header.backing_format().is_none());
     assert!(rt; header.external_data_filename().is_none());
-    assert_eq!(rt; name(&header, FeatureType::Incompatible, 0), "dirty bit");
-    assert_eq!(rt; name(&header, FeatureType::Incompatible, 1), "corrupt bit");
+}
+
+fn assert_names(rt: &impl Abort, header: &Header) {
+    assert_eq!(rt; name(header, FeatureType::Incompatible, 0), "dirty bit");
+    assert_eq!(rt; name(header, FeatureType::Incompatible, 1), "corrupt bit");
     assert_eq!(rt;
-        name(&header, FeatureType::Incompatible, 2),
+        name(header, FeatureType::Incompatible, 2),
         "external data file"
     );
-    assert_eq!(rt; name(&header, FeatureType::Incompatible, 3), "none");
-    assert_eq!(rt; name(&header, FeatureType::Compatible, 0), "none");
-    assert_eq!(rt; name(&header, FeatureType::Autoclear, 0), "none");
+    assert_eq!(rt; name(header, FeatureType::Incompatible, 3), "none");
+    assert_eq!(rt; name(header, FeatureType::Compatible, 0), "none");
+    assert_eq!(rt; name(header, FeatureType::Autoclear, 0), "none");
+}
+
+fn each_getter(rt: &impl Abort, alloc: Global) -> Result<(), Fault> {
+    let header = loaded(alloc, &[])?;
+    assert_sizes(rt, &header);
+    assert_tables(rt, &header);
+    assert_no_texts(rt, &header);
+    assert_names(rt, &header);
     Ok(())
 }
 
@@ -176,18 +193,31 @@ fn short_files_are_damaged(rt: HostRuntime) -> Result<(), Fail> {
     Ok(())
 }
 
+// Read n of a load fails, and the next load succeeds.
+fn load_fault(
+    rt: &impl Abort,
+    alloc: Global,
+    image: &mut FuseStorage<MemStorage>,
+    n: u64,
+) -> Result<(), Fault>
+    requires { n ≤ 2 }
+{
+    let refused = Header::load(alloc, image, true);
+    assert_eq!(rt; outcome(refused)?, Err(Fault::Storage));
+    assert_eq!(rt; image.count(), n);
+    let again = Header::load(alloc, image, true);
+    assert_eq!(rt; outcome(again)?, Ok(()));
+    assert_eq!(rt; image.count(), n + 2);
+    Ok(())
+}
+
 // The first read fails, or the second; in units of 4,096 bytes, too.
 fn load_faults(rt: &impl Abort, alloc: Global, align: usize) -> Result<(), Fault>
     requires { IsAlignment align }
 {
     for n in 1..3u64 {
         let mut image = FuseStorage::new(changed(alloc, &[])?.with_align(align), n);
-        let refused = Header::load(alloc, &mut image, true);
-        assert_eq!(rt; outcome(refused)?, Err(Fault::Storage));
-        assert_eq!(rt; image.count(), n);
-        let again = Header::load(alloc, &mut image, true);
-        assert_eq!(rt; outcome(again)?, Ok(()));
-        assert_eq!(rt; image.count(), n + 2);
+        load_fault(rt, alloc, &mut image, n)?;
     }
     Ok(())
 }
@@ -218,20 +248,28 @@ const LATER_FORMAT: Piece = (272, b"\xe2\x79\x2a\xca\x00\x00\x00\x05qcow2");
 
 const DATA_FILE: Piece = (288, b"DATA\x00\x00\x00\x08data.raw");
 
-fn each_text(rt: &impl Abort, alloc: Global) -> Result<(), Fault> {
-    let header = loaded(alloc, &[BACKING, BACKING_NAME, FORMAT])?;
+fn assert_backing_texts(rt: &impl Abort, header: &Header) {
     assert_eq!(rt; header.backing_filename().unwrap_or(""), "base");
     assert_eq!(rt; header.backing_format().unwrap_or(""), "raw");
     assert!(rt; header.external_data_filename().is_none());
-    let header = loaded(alloc, &[FORMAT, LATER_FORMAT, DATA_FILE, (79, b"\x04")])?;
+}
+
+fn assert_data_file_texts(rt: &impl Abort, header: &Header) {
     assert!(rt; header.backing_filename().is_none());
     assert_eq!(rt; header.backing_format().unwrap_or(""), "qcow2");
     assert_eq!(rt; header.external_data_filename().unwrap_or(""), "data.raw");
     assert!(rt; header.external_data_file());
     assert_eq!(rt;
-        name(&header, FeatureType::Incompatible, 2),
+        name(header, FeatureType::Incompatible, 2),
         "external data file"
     );
+}
+
+fn each_text(rt: &impl Abort, alloc: Global) -> Result<(), Fault> {
+    let backed = loaded(alloc, &[BACKING, BACKING_NAME, FORMAT])?;
+    assert_backing_texts(rt, &backed);
+    let external = loaded(alloc, &[FORMAT, LATER_FORMAT, DATA_FILE, (79, b"\x04")])?;
+    assert_data_file_texts(rt, &external);
     Ok(())
 }
 

@@ -1,8 +1,12 @@
 //! Each cluster of a run gets a counter.
-ghost use Rattle.std.specs.Prelude.{◌≡◌, ◌≤◌, List, length};
+ghost use Rattle.std.specs.Prelude.{◌≡◌, ◌≤◌, IsTrue, List, OnOk, length};
 ghost use Rattle.qcow2_types.specs.Pending.{FreeEntry};
 ghost use Rattle.qcow2_alloc.specs.Allocating.{MakesBlocks};
-ghost use Rattle.qcow2_alloc.specs.Allocators.{table_of, mark_of};
+ghost use Rattle.qcow2_alloc.specs.declared.cache.CacheDependency.TheVariants.{L2DependsOnRb};
+ghost use Rattle.qcow2_alloc.specs.Allocators.{metadata_of, table_of, mark_of};
+ghost use Rattle.qcow2_alloc.specs.Caches.{order_of};
+ghost use Rattle.qcow2_alloc.specs.FillingBlocks.{FillsFrom};
+ghost use Rattle.qcow2_alloc.specs.Quiet.{IsSound};
 
 use crate::allocation::Allocator;
 use crate::cache::MetadataCaches;
@@ -21,6 +25,8 @@ impl Allocator {
         requires order { first ≤ end }
         requires inside { end ≤ length (table_of self.old).words }
         ensures makes { (pending : List FreeEntry) → MakesBlocks S.state first end (table_of self.old) caches.old file.old result (table_of self.new) caches.new file.new pending }
+        ensures fills { (pending : List FreeEntry) → order_of caches.old ≡ L2DependsOnRb → IsTrue (S.state file.old.image).shape.keeps → IsSound (metadata_of S.state file.old caches.old (table_of self.old) pending)
+            → OnOk result (FillsFrom (mark_of self.old) first end (metadata_of S.state file.old caches.old (table_of self.old) pending) (metadata_of S.state file.new caches.new (table_of self.new) pending)) }
         ensures mark { mark_of self.new ≡ mark_of self.old }
     {
         let mut made = false;

@@ -1,5 +1,5 @@
 //! The refcount table grows.
-ghost use Rattle.std.specs.Prelude.{◌≡◌, ◌≤◌, ◌<◌, ◌+◌, ◌*◌, ◌/◌, ◌^◌, length};
+ghost use Rattle.std.specs.Prelude.{◌≡◌, ◌≤◌, ◌<◌, ◌+◌, ◌*◌, ◌/◌, ◌^◌, IfOk, length};
 ghost use Rattle.qcow2_types.specs.Counts.{counters_of_block};
 ghost use Rattle.qcow2_alloc.specs.Allocators.{table_of};
 ghost use Rattle.qcow2_alloc.specs.Growing.{lacking, GrowsRoom, LooksForRoom};
@@ -15,7 +15,7 @@ use qcow2_types::HostCluster;
 impl Allocator {
     // How many blocks are lacking for a run: those that would count one of its clusters, and that the refcount table doesn't name. A block
     // has 2 to the power of `rb_bits` counters.
-    fn lacking_for(&self, run: Run, rb_bits: u32) -> u64
+    pub(super) fn lacking_for(&self, run: Run, rb_bits: u32) -> u64
         requires bits { rb_bits ≤ 24 }
         requires fits { run.first + run.len + 2 ^ 24 < 2 ^ 64 }
         ensures { result ≡ lacking (table_of self.now) (2 ^ rb_bits) run.first run.len }
@@ -33,7 +33,7 @@ impl Allocator {
     }
 
     // The first room, from a cluster on, for so many clusters and the blocks that are lacking for them: see `IsFirstRoom`.
-    fn find_room<S: Storage>(
+    pub(super) fn find_room<S: Storage>(
         &self,
         file: &mut ImageFile<S>,
         caches: &mut MetadataCaches<S>,
@@ -42,7 +42,9 @@ impl Allocator {
     ) -> Result<Run, Fault>
         requires near { from ≤ length (table_of self.now).words * counters_of_block file.old.header.fields }
         requires few { clusters ≤ 2 ^ 24 }
-        ensures { LooksForRoom S.state (table_of self.now) from clusters caches.old file.old result caches.new file.new }
+        ensures looks { LooksForRoom S.state (table_of self.now) from clusters caches.old file.old result caches.new file.new }
+        ensures within { IfOk result (λ room. (room.first ≤ length (table_of self.now).words * counters_of_block file.old.header.fields) × (room.len ≤ 2 * clusters + 4)) }
+        ensures enough { IfOk result (λ room. room.len ≡ clusters + lacking (table_of self.now) (counters_of_block file.old.header.fields) room.first room.len) }
     {
         let _words = self.reftable.entries();
         let rb_bits = file.header.rb_bits();

@@ -1,13 +1,18 @@
 //! Refcount blocks are made where there were none.
-ghost use Rattle.std.specs.Prelude.{◌≡◌, ◌≢◌, ◌≤◌, ◌<◌, ◌*◌, ◌+◌, ◌/◌, ◌%◌, ◌^◌, ℕ, List, Some, true, OnOk, IfOk, IfErr, IsOkUnless, length, replicate, slice_index, slice_set};
+ghost use Rattle.std.specs.Prelude.{IsTrue, ◌≡◌, ◌≢◌, ◌≤◌, ◌<◌, ◌*◌, ◌+◌, ◌/◌, ◌%◌, ◌^◌, ℕ, List, Some, true, OnOk, IfOk, IfErr, IsOkUnless, length, replicate, slice_index, slice_set};
 ghost use Rattle.qcow2_metadata.specs.Blocks.{block_of};
 ghost use Rattle.qcow2_metadata.specs.Places.{IsInReach, IsPlaced, place_of};
 ghost use Rattle.qcow2_metadata.specs.Tables.{IsPlacedTable, IsNamable};
 ghost use Rattle.qcow2_types.specs.Counts.{counters_of_block};
+ghost use Rattle.qcow2_types.specs.Header.{cluster_size};
 ghost use Rattle.qcow2_types.specs.Pending.{FreeEntry};
 ghost use Rattle.qcow2_types.specs.Words.{block_offset};
 ghost use Rattle.qcow2_alloc.specs.Allocating.{MakesBlock};
-ghost use Rattle.qcow2_alloc.specs.Allocators.{table_of, mark_of};
+ghost use Rattle.qcow2_alloc.specs.declared.cache.CacheDependency.TheVariants.{L2DependsOnRb};
+ghost use Rattle.qcow2_alloc.specs.Allocators.{metadata_of, table_of, mark_of};
+ghost use Rattle.qcow2_alloc.specs.Caches.{order_of};
+ghost use Rattle.qcow2_alloc.specs.FillingBlocks.{IsBlockPlaced};
+ghost use Rattle.qcow2_alloc.specs.Quiet.{IsSound};
 ghost use Rattle.qcow2_alloc.specs.MakingBlocks.{CanName, WhyNotNamed, NamesWritten, MakesIn};
 
 use crate::allocation::Allocator;
@@ -34,6 +39,8 @@ impl Allocator {
         requires inside { index < length (table_of self.old).words }
         requires empty { block_offset (slice_index (table_of self.old).words index) ≡ 0 }
         ensures makes { (pending : List FreeEntry) → MakesBlock S.state index (table_of self.old) caches.old file.old result (table_of self.new) caches.new file.new pending }
+        ensures placed { (pending : List FreeEntry) → order_of caches.old ≡ L2DependsOnRb → IsTrue (S.state file.old.image).shape.keeps → IsSound (metadata_of S.state file.old caches.old (table_of self.old) pending)
+            → OnOk result (IsBlockPlaced (mark_of self.old) index (metadata_of S.state file.old caches.old (table_of self.old) pending) (metadata_of S.state file.new caches.new (table_of self.new) pending)) }
         ensures mark { mark_of self.new ≡ mark_of self.old }
     {
         match self.find_counted(file, caches, self.first_free_cluster, index) {
@@ -45,7 +52,7 @@ impl Allocator {
 
     // Refuses a cluster that a word of the refcount table can't name: the first one, or one out of reach; and any, where the words
     // themselves can't be written.
-    fn check_place(&self, bits: u32, place: HostCluster) -> Result<(), Fault>
+    pub(super) fn check_place(&self, bits: u32, place: HostCluster) -> Result<(), Fault>
         requires { bits ≤ 21 }
         ensures ok { OnOk result (CanName (table_of self.now) bits place × IsInReach bits place) }
         ensures err { IfErr result (WhyNotNamed (table_of self.now) bits place) }
@@ -117,6 +124,7 @@ impl Allocator {
         requires inside { index < length (table_of self.old).words }
         requires empty { block_offset (slice_index (table_of self.old).words index) ≡ 0 }
         ensures makes { (pending : List FreeEntry) → MakesBlock S.state index (table_of self.old) caches.old file.old result (table_of self.new) caches.new file.new pending }
+        ensures at { OnOk result ((index * counters_of_block file.old.header.fields ≢ 0) × (block_offset (slice_index (table_of self.new).words index) ≡ index * counters_of_block file.old.header.fields * cluster_size file.old.header.fields)) }
         ensures mark { mark_of self.new ≡ mark_of self.old }
     {
         let place = self.own_place(index, &file.header);
@@ -145,6 +153,7 @@ impl Allocator {
         requires inside { index < length (table_of self.old).words }
         requires empty { block_offset (slice_index (table_of self.old).words index) ≡ 0 }
         ensures makes { MakesIn S.state index place (table_of self.old) caches.old file.old result (table_of self.new) caches.new file.new }
+        ensures at { OnOk result ((place ≢ 0) × (block_offset (slice_index (table_of self.new).words index) ≡ place * cluster_size file.old.header.fields)) }
         ensures mark { mark_of self.new ≡ mark_of self.old }
     {
         if place.0 >= self.own_place(index, &file.header).0 {

@@ -140,7 +140,7 @@ impl Allocator {
     }
 
     // The same in the block of that cluster.
-    fn find_in_block<S: Storage>(
+    pub(super) fn find_in_block<S: Storage>(
         &self,
         file: &mut ImageFile<S>,
         caches: &mut MetadataCaches<S>,

@@ -9,18 +9,30 @@ use qcow2_metadata::Header;
 use std::process::Abort;
 use std::test::Fail;
 
-// The header of an image with clusters of 512 bytes and counters of 16 bits, with these incompatible features.
-fn header(alloc: Global, table: u16, incompatible: u8) -> Result<Header, Fault> {
+mod handing_out;
+
+// The header of an image with clusters of 512 bytes and counters of 16 bits, whose refcount table has one cluster, with these changes:
+// where a byte stands, and what it is.
+fn header_of(alloc: Global, changes: &[(usize, u8)]) -> Result<Header, Fault> {
     let mut bytes = [0u8; 104];
     bytes[..8].copy_from_slice(&[0x51, 0x46, 0x49, 0xfb, 0, 0, 0, 3]);
     bytes[23] = 9;
-    bytes[54..56].copy_from_slice(&table.to_be_bytes());
     bytes[59] = 1;
-    bytes[79] = incompatible;
     bytes[99] = 4;
     bytes[103] = 104;
+    for &(at, byte) in changes {
+        if let Some(place) = bytes.get_mut(at) {
+            *place = byte;
+        }
+    }
     let mut image = MemStorage::from_bytes(Vec::from_slice(alloc, &bytes)?)?;
     Header::load(alloc, &mut image, true)
+}
+
+// The same with a refcount table at this offset, and with these incompatible features.
+fn header(alloc: Global, table: u16, incompatible: u8) -> Result<Header, Fault> {
+    let [high, low] = table.to_be_bytes();
+    header_of(alloc, &[(54, high), (55, low), (79, incompatible)])
 }
 
 fn logged(
@@ -73,27 +85,82 @@ fn assert_counted<S: Storage>(
     Ok(())
 }
 
-fn freed(rt: &impl Abort, alloc: Global) -> Result<(), Fault> {
-    let mut file = logged(alloc, 512, 0)?;
-    let mut caches = MetadataCaches::new(alloc, 2, 2)?;
-    let mut allocator = Allocator::new(alloc, &mut file)?;
-    allocator.first_free_cluster = HostCluster(8);
-    let mut list = waiting(alloc, &[(6, 1, true), (4, 1, true)])?;
-    allocator.process_clusters_to_free(&mut file, &mut caches, &mut list)?;
-    assert!(rt; list.is_empty());
+// What a test works on.
+#[derive(Drop)]
+struct Counted {
+    file: ImageFile<LogStorage<MemStorage>>,
+    caches: MetadataCaches<LogStorage<MemStorage>>,
+    allocator: Allocator,
+}
+
+fn all_counted(alloc: Global, incompatible: u8) -> Result<Counted, Fault> {
+    let mut file = logged(alloc, 512, incompatible)?;
+    let caches = MetadataCaches::new(alloc, 2, 2)?;
+    let allocator = Allocator::new(alloc, &mut file)?;
+    Ok(Counted {
+        file,
+        caches,
+        allocator,
+    })
+}
+
+// Frees these entries, and tells whether none waits then.
+fn free(alloc: Global, held: &mut Counted, entries: &[(u64, u64, bool)]) -> Result<bool, Fault> {
+    let Counted {
+        file,
+        caches,
+        allocator,
+    } = held;
+    let mut list = waiting(alloc, entries)?;
+    allocator.process_clusters_to_free(file, caches, &mut list)?;
+    Ok(list.is_empty())
+}
+
+fn assert_all_counted(rt: &impl Abort, held: &mut Counted, want: [u64; 8]) -> Result<(), Fault> {
+    let Counted { file, caches, .. } = held;
+    assert_counted(rt, caches, file, want)
+}
+
+fn freed_of_metadata(rt: &impl Abort, alloc: Global, held: &mut Counted) -> Result<(), Fault> {
+    assert!(rt; free(alloc, held, &[(6, 1, true), (4, 1, true)])?);
+    let Counted {
+        file,
+        caches,
+        allocator,
+    } = held;
     assert!(rt; caches.order == CacheDependency::Unset);
     assert!(rt; allocator.first_free_cluster == HostCluster(4));
-    assert_counted(rt, &mut caches, &mut file, [1, 1, 1, 1, 0, 1, 0, 1])?;
-    let mut list = waiting(alloc, &[(5, 1, false), (3, 1, true), (7, 1, false)])?;
-    allocator.process_clusters_to_free(&mut file, &mut caches, &mut list)?;
-    assert!(rt; list.is_empty());
+    assert_counted(rt, caches, file, [1, 1, 1, 1, 0, 1, 0, 1])
+}
+
+fn freed_of_both_kinds(rt: &impl Abort, alloc: Global, held: &mut Counted) -> Result<(), Fault> {
+    let entries = [(5, 1, false), (3, 1, true), (7, 1, false)];
+    assert!(rt; free(alloc, held, &entries)?);
+    let Counted {
+        file,
+        caches,
+        allocator,
+    } = held;
     assert!(rt; caches.order == CacheDependency::RbDependsOnL2);
     assert!(rt; allocator.first_free_cluster == HostCluster(3));
-    assert_counted(rt, &mut caches, &mut file, [1, 1, 1, 0, 0, 0, 0, 0])?;
+    assert_counted(rt, caches, file, [1, 1, 1, 0, 0, 0, 0, 0])
+}
+
+// Nothing was asked of the file so far, and a flush asks for one request.
+fn flush_once(rt: &impl Abort, held: &mut Counted) -> Result<(), Fault> {
+    let Counted { file, caches, .. } = held;
     assert_eq!(rt; file.image.requests().len(), 0);
-    caches.flush_all(&mut file)?;
+    caches.flush_all(file)?;
     assert_eq!(rt; file.image.requests().len(), 1);
     Ok(())
+}
+
+fn freed(rt: &impl Abort, alloc: Global) -> Result<(), Fault> {
+    let mut held = all_counted(alloc, 0)?;
+    held.allocator.first_free_cluster = HostCluster(8);
+    freed_of_metadata(rt, alloc, &mut held)?;
+    freed_of_both_kinds(rt, alloc, &mut held)?;
+    flush_once(rt, &mut held)
 }
 
 #[test]
@@ -106,35 +173,65 @@ fn what_waits_is_counted_down(rt: HostRuntime) -> Result<(), Fail> {
     Ok(())
 }
 
-// Clusters 8 and 300 aren't counted, the latter by no block.
-fn refused(rt: &impl Abort, alloc: Global) -> Result<(), Fault> {
-    let mut file = logged(alloc, 512, 0)?;
-    let mut caches = MetadataCaches::new(alloc, 2, 2)?;
-    let mut allocator = Allocator::new(alloc, &mut file)?;
-    let mut list = waiting(alloc, &[(300, 1, false), (8, 1, false), (6, 2, false)])?;
-    match allocator.process_clusters_to_free(&mut file, &mut caches, &mut list) {
+// Frees these entries, of which one isn't counted. What still waits is the answer.
+fn refused_list(
+    rt: &impl Abort,
+    alloc: Global,
+    held: &mut Counted,
+    entries: &[(u64, u64, bool)],
+) -> Result<ClustersToFreeList, Fault> {
+    let Counted {
+        file,
+        caches,
+        allocator,
+    } = held;
+    let mut list = waiting(alloc, entries)?;
+    match allocator.process_clusters_to_free(file, caches, &mut list) {
         Err(Fault::Memory) => return Err(Fault::Memory),
         answer => assert!(rt; answer == Err(Fault::Counter)),
     }
+    Ok(list)
+}
+
+// Clusters 8 and 300 aren't counted, the latter by no block.
+fn refused_after_others(rt: &impl Abort, alloc: Global, held: &mut Counted) -> Result<(), Fault> {
+    let entries = [(300, 1, false), (8, 1, false), (6, 2, false)];
+    let list = refused_list(rt, alloc, held, &entries)?;
     assert_eq!(rt; list.len(), 2);
     assert!(rt; list.entry(1).first_cluster() == HostCluster(8));
     assert!(rt; list.entry(1).count() == ClusterCount(1));
-    assert_counted(rt, &mut caches, &mut file, [1, 1, 1, 1, 1, 1, 0, 0])?;
     Ok(())
 }
 
+fn refused(rt: &impl Abort, alloc: Global) -> Result<(), Fault> {
+    let mut held = all_counted(alloc, 0)?;
+    refused_after_others(rt, alloc, &mut held)?;
+    assert_all_counted(rt, &mut held, [1, 1, 1, 1, 1, 1, 0, 0])
+}
+
 // No block counts cluster 300, and no cluster has a number of more than 64 bits.
-fn uncountable(rt: &impl Abort, alloc: Global) -> Result<(), Fault> {
-    let mut file = logged(alloc, 512, 0)?;
-    let mut caches = MetadataCaches::new(alloc, 2, 2)?;
-    let mut allocator = Allocator::new(alloc, &mut file)?;
+fn past_64_bits(rt: &impl Abort, alloc: Global, held: &mut Counted) -> Result<(), Fault> {
+    let Counted {
+        file,
+        caches,
+        allocator,
+    } = held;
     let mut list = waiting(alloc, &[(u64::MAX, 2, true)])?;
-    let answer = allocator.process_clusters_to_free(&mut file, &mut caches, &mut list);
+    let answer = allocator.process_clusters_to_free(file, caches, &mut list);
     assert!(rt; answer == Err(Fault::Counter));
     assert_eq!(rt; list.len(), 1);
-    let mut list = waiting(alloc, &[(300, 1, true)])?;
-    let answer = allocator.process_clusters_to_free(&mut file, &mut caches, &mut list);
+    Ok(())
+}
+
+fn past_the_blocks(rt: &impl Abort, alloc: Global, held: &mut Counted) {
+    let answer = free(alloc, held, &[(300, 1, true)]);
     assert!(rt; answer == Err(Fault::Counter));
+}
+
+fn uncountable(rt: &impl Abort, alloc: Global) -> Result<(), Fault> {
+    let mut held = all_counted(alloc, 0)?;
+    past_64_bits(rt, alloc, &mut held)?;
+    past_the_blocks(rt, alloc, &mut held);
     Ok(())
 }
 
@@ -159,21 +256,19 @@ fn what_is_not_counted_stays_on_the_list(rt: HostRuntime) -> Result<(), Fail> {
 }
 
 // Cluster 6 isn't counted any more.
-fn part_of_an_entry(rt: &impl Abort, alloc: Global) -> Result<(), Fault> {
-    let mut file = logged(alloc, 512, 0)?;
-    let mut caches = MetadataCaches::new(alloc, 2, 2)?;
-    let mut allocator = Allocator::new(alloc, &mut file)?;
-    let mut list = waiting(alloc, &[(6, 1, true)])?;
-    allocator.process_clusters_to_free(&mut file, &mut caches, &mut list)?;
-    let mut list = waiting(alloc, &[(6, 2, true)])?;
-    match allocator.process_clusters_to_free(&mut file, &mut caches, &mut list) {
-        Err(Fault::Memory) => return Err(Fault::Memory),
-        answer => assert!(rt; answer == Err(Fault::Counter)),
-    }
+fn refused_in_part(rt: &impl Abort, alloc: Global, held: &mut Counted) -> Result<(), Fault> {
+    let list = refused_list(rt, alloc, held, &[(6, 2, true)])?;
     assert_eq!(rt; list.len(), 1);
     assert!(rt; list.entry(0).first_cluster() == HostCluster(6));
     assert!(rt; list.entry(0).count() == ClusterCount(1));
-    assert_counted(rt, &mut caches, &mut file, [1, 1, 1, 1, 1, 1, 0, 0])
+    Ok(())
+}
+
+fn part_of_an_entry(rt: &impl Abort, alloc: Global) -> Result<(), Fault> {
+    let mut held = all_counted(alloc, 0)?;
+    free(alloc, &mut held, &[(6, 1, true)])?;
+    refused_in_part(rt, alloc, &mut held)?;
+    assert_all_counted(rt, &mut held, [1, 1, 1, 1, 1, 1, 0, 0])
 }
 
 #[test]
@@ -187,15 +282,16 @@ fn a_part_of_an_entry_stays(rt: HostRuntime) -> Result<(), Fail> {
 }
 
 // Where the data is in an external file, its clusters aren't counted.
-fn external(rt: &impl Abort, alloc: Global) -> Result<(), Fault> {
-    let mut file = logged(alloc, 512, 4)?;
-    let mut caches = MetadataCaches::new(alloc, 2, 2)?;
-    let mut allocator = Allocator::new(alloc, &mut file)?;
-    let mut list = waiting(alloc, &[(5, 1, false), (3, 1, true)])?;
-    allocator.process_clusters_to_free(&mut file, &mut caches, &mut list)?;
-    assert!(rt; list.is_empty());
+fn freed_of_external(rt: &impl Abort, alloc: Global, held: &mut Counted) -> Result<(), Fault> {
+    assert!(rt; free(alloc, held, &[(5, 1, false), (3, 1, true)])?);
+    let Counted { file, caches, .. } = held;
     assert!(rt; caches.order == CacheDependency::Unset);
-    assert_counted(rt, &mut caches, &mut file, [1, 1, 1, 0, 1, 1, 1, 1])
+    assert_counted(rt, caches, file, [1, 1, 1, 0, 1, 1, 1, 1])
+}
+
+fn external(rt: &impl Abort, alloc: Global) -> Result<(), Fault> {
+    let mut held = all_counted(alloc, 4)?;
+    freed_of_external(rt, alloc, &mut held)
 }
 
 #[test]
@@ -231,17 +327,38 @@ fn a_damaged_refcount_table_is_refused(rt: HostRuntime) -> Result<(), Fail> {
     Ok(())
 }
 
-fn dropped(rt: &impl Abort, alloc: Global) -> Result<(), Fault> {
-    let mut file = logged(alloc, 512, 0)?;
-    let mut caches = MetadataCaches::new(alloc, 2, 2)?;
-    let table = Allocator::new(alloc, &mut file)?.reftable;
-    let mut allocator = Allocator::from_table(alloc, table, HostCluster(8));
-    let mut list = waiting(alloc, &[(3, 1, true)])?;
-    allocator.process_clusters_to_free(&mut file, &mut caches, &mut list)?;
-    allocator.invalidate_rb_cache(&mut caches)?;
-    caches.flush_all(&mut file)?;
+// The allocator over the same table.
+fn with_allocator_of_table(alloc: Global, held: Counted) -> Counted {
+    let Counted {
+        file,
+        caches,
+        allocator,
+    } = held;
+    let allocator = Allocator::from_table(alloc, allocator.reftable, HostCluster(8));
+    Counted {
+        file,
+        caches,
+        allocator,
+    }
+}
+
+fn drop_counts(rt: &impl Abort, held: &mut Counted) -> Result<(), Fault> {
+    let Counted {
+        file,
+        caches,
+        allocator,
+    } = held;
+    allocator.invalidate_rb_cache(caches)?;
+    caches.flush_all(file)?;
     assert_eq!(rt; file.image.requests().len(), 0);
-    assert_counted(rt, &mut caches, &mut file, [1, 1, 1, 1, 1, 1, 1, 1])
+    Ok(())
+}
+
+fn dropped(rt: &impl Abort, alloc: Global) -> Result<(), Fault> {
+    let mut held = with_allocator_of_table(alloc, all_counted(alloc, 0)?);
+    free(alloc, &mut held, &[(3, 1, true)])?;
+    drop_counts(rt, &mut held)?;
+    assert_all_counted(rt, &mut held, [1, 1, 1, 1, 1, 1, 1, 1])
 }
 
 #[test]

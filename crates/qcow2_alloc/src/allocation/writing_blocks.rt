@@ -21,7 +21,11 @@ impl Allocator {
     // Writes the blocks that are lacking for a run to its first clusters, in the order of their indices. Nothing names them yet.
     //
     // It refuses with `Fault::Memory` and `Fault::Storage`.
-    fn write_new_blocks<S: Storage>(&self, file: &mut ImageFile<S>, run: Run) -> Result<(), Fault>
+    pub(super) fn write_new_blocks<S: Storage>(
+        &self,
+        file: &mut ImageFile<S>,
+        run: Run,
+    ) -> Result<(), Fault>
         requires reach { IsInReach file.old.header.fields.cluster_bits (run.first + (run.len - 1)) }
         requires room { lacking (table_of self.now) (counters_of_block file.old.header.fields) run.first run.len ≤ run.len }
         ensures writes { WritesLacking file.old.header (table_of self.now) run (S.state file.old.image) result (S.state file.new.image) }

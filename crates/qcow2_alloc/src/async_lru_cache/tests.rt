@@ -117,14 +117,20 @@ fn filled(
     Ok(cache)
 }
 
+// A value is found, and one for which no other may go isn't.
+fn find_unflushed(rt: &impl Abort, cache: &mut Cache, device: &mut Noted) -> Result<(), Fault> {
+    assert!(rt; found(cache, device, 0, false)? == Some(0));
+    assert_eq!(rt; device.loads, 3);
+    assert!(rt; found(cache, device, 3, false)? == None);
+    device.assert_flushed(rt, &[]);
+    assert_eq!(rt; device.loads, 3);
+    Ok(())
+}
+
 fn least_used(rt: &impl Abort, alloc: Global) -> Result<(), Fault> {
     let mut device = Noted::new();
     let mut cache = filled(alloc, SOUND, &mut device, 3, 3)?;
-    assert!(rt; found(&mut cache, &mut device, 0, false)? == Some(0));
-    assert_eq!(rt; device.loads, 3);
-    assert!(rt; found(&mut cache, &mut device, 3, false)? == None);
-    device.assert_flushed(rt, &[]);
-    assert_eq!(rt; device.loads, 3);
+    find_unflushed(rt, &mut cache, &mut device)?;
     assert!(rt; found(&mut cache, &mut device, 3, true)? == Some(3));
     device.assert_flushed(rt, &[(1, 1)]);
     assert!(rt; cache.get(1) == None);
@@ -197,23 +203,37 @@ fn inserted(
     }
 }
 
-fn put(rt: &impl Abort, alloc: Global) -> Result<(), Fault> {
-    let mut device = Noted::new();
-    let mut cache = AsyncLruCache::new(alloc, SOUND, 2)?;
-    assert!(rt; inserted(&mut cache, &mut device, 5, 5, false)? == None);
-    assert!(rt; inserted(&mut cache, &mut device, 6, 60, false)? == None);
-    assert!(rt; inserted(&mut cache, &mut device, 5, 55, false)? == Some(55));
+fn put_into_room(rt: &impl Abort, cache: &mut Cache, device: &mut Noted) -> Result<(), Fault> {
+    assert!(rt; inserted(cache, device, 5, 5, false)? == None);
+    assert!(rt; inserted(cache, device, 6, 60, false)? == None);
+    assert!(rt; inserted(cache, device, 5, 55, false)? == Some(55));
     assert!(rt; cache.get(5) == Some(&5));
     device.assert_flushed(rt, &[]);
-    assert!(rt; inserted(&mut cache, &mut device, 5, 55, true)? == None);
+    Ok(())
+}
+
+fn put_over(rt: &impl Abort, cache: &mut Cache, device: &mut Noted) -> Result<(), Fault> {
+    assert!(rt; inserted(cache, device, 5, 55, true)? == None);
     device.assert_flushed(rt, &[(5, 5)]);
     assert!(rt; cache.get(5) == Some(&55));
-    // The entry of 5 goes first, so that 6 has to go for another.
-    assert!(rt; inserted(&mut cache, &mut device, 7, 70, false)? == Some(70));
-    assert!(rt; inserted(&mut cache, &mut device, 7, 70, true)? == None);
+    Ok(())
+}
+
+// The entry of 5 goes first, so that 6 has to go for another.
+fn put_for_another(rt: &impl Abort, cache: &mut Cache, device: &mut Noted) -> Result<(), Fault> {
+    assert!(rt; inserted(cache, device, 7, 70, false)? == Some(70));
+    assert!(rt; inserted(cache, device, 7, 70, true)? == None);
     device.assert_flushed(rt, &[(6, 60)]);
     assert_eq!(rt; device.loads, 0);
     Ok(())
+}
+
+fn put(rt: &impl Abort, alloc: Global) -> Result<(), Fault> {
+    let mut device = Noted::new();
+    let mut cache = AsyncLruCache::new(alloc, SOUND, 2)?;
+    put_into_room(rt, &mut cache, &mut device)?;
+    put_over(rt, &mut cache, &mut device)?;
+    put_for_another(rt, &mut cache, &mut device)
 }
 
 #[test]
@@ -226,6 +246,26 @@ fn a_value_is_put_over_another(rt: HostRuntime) -> Result<(), Fail> {
     Ok(())
 }
 
+fn flush_past_faults(rt: &impl Abort, cache: &mut Cache, device: &mut Noted) {
+    assert!(rt; cache.flush(device) == Err(Fault::Storage));
+    assert_eq!(rt; device.flushes, 42);
+    for (turn, pair) in device.flushed[..42].iter().enumerate() {
+        assert!(rt; *pair == (turn as u64, turn as u64));
+    }
+    device.flushes = 0;
+}
+
+// The order of use is as it was.
+fn evict_past_faults(rt: &impl Abort, cache: &mut Cache, device: &mut Noted) -> Result<(), Fault> {
+    // The entry of key 0 can go.
+    assert!(rt; found(cache, device, 42, true)? == Some(42));
+    device.assert_flushed(rt, &[(0, 0)]);
+    // That of key 1 can't, and stays.
+    assert!(rt; found(cache, device, 43, true) == Err(Fault::Storage));
+    assert!(rt; cache.get(1) == Some(&1));
+    Ok(())
+}
+
 fn all_flushed(rt: &impl Abort, alloc: Global) -> Result<(), Fault> {
     let backend = Notes {
         fails_odd_flushes: true,
@@ -233,19 +273,8 @@ fn all_flushed(rt: &impl Abort, alloc: Global) -> Result<(), Fault> {
     };
     let mut device = Noted::new();
     let mut cache = filled(alloc, backend, &mut device, 42, 42)?;
-    assert!(rt; cache.flush(&mut device) == Err(Fault::Storage));
-    assert_eq!(rt; device.flushes, 42);
-    for (turn, pair) in device.flushed[..42].iter().enumerate() {
-        assert!(rt; *pair == (turn as u64, turn as u64));
-    }
-    // The order of use is as it was, and the entry of key 0 can go.
-    device.flushes = 0;
-    assert!(rt; found(&mut cache, &mut device, 42, true)? == Some(42));
-    device.assert_flushed(rt, &[(0, 0)]);
-    // That of key 1 can't, and stays.
-    assert!(rt; found(&mut cache, &mut device, 43, true) == Err(Fault::Storage));
-    assert!(rt; cache.get(1) == Some(&1));
-    Ok(())
+    flush_past_faults(rt, &mut cache, &mut device);
+    evict_past_faults(rt, &mut cache, &mut device)
 }
 
 #[test]
@@ -258,15 +287,20 @@ fn a_flush_goes_on_past_faults(rt: HostRuntime) -> Result<(), Fail> {
     Ok(())
 }
 
+// Drops the values at the keys 0 to 2, that at 1 once it isn't pinned any more.
+fn drop_all(rt: &impl Abort, cache: &mut Cache) {
+    pin(rt, cache, 1);
+    assert!(rt; cache.invalidate() == Err(Fault::CacheFull));
+    assert!(rt; (cache.get(0), cache.get(1), cache.get(2)) == (None, Some(&1), None));
+    unpin(rt, cache, 1);
+    assert!(rt; cache.invalidate() == Ok(()));
+    assert!(rt; cache.get(1) == None);
+}
+
 fn dropped(rt: &impl Abort, alloc: Global) -> Result<(), Fault> {
     let mut device = Noted::new();
     let mut cache = filled(alloc, SOUND, &mut device, 3, 3)?;
-    pin(rt, &mut cache, 1);
-    assert!(rt; cache.invalidate() == Err(Fault::CacheFull));
-    assert!(rt; (cache.get(0), cache.get(1), cache.get(2)) == (None, Some(&1), None));
-    unpin(rt, &mut cache, 1);
-    assert!(rt; cache.invalidate() == Ok(()));
-    assert!(rt; cache.get(1) == None);
+    drop_all(rt, &mut cache);
     device.assert_flushed(rt, &[]);
     assert!(rt; found(&mut cache, &mut device, 1, false)? == Some(1));
     assert_eq!(rt; device.loads, 4);

@@ -1,12 +1,18 @@
 // The caches over an image file that logs its requests.
 //
 // Where an allocation is refused a body ends with `Fault::Memory`, and its test runs it once more.
+ghost use Rattle.std.specs.Prelude.{◌<◌};
+
 use super::*;
 use imago_storage::{FuseStorage, LogStorage, MemStorage, Request};
 use qcow2_metadata::{Header, L2Mapping};
 use qcow2_types::GuestCluster;
 use std::process::Abort;
 use std::test::Fail;
+
+type Log = LogStorage<MemStorage>;
+
+type Fuse = FuseStorage<MemStorage>;
 
 // The header of an image with clusters of 512 bytes and counters of 16 bits.
 fn header(alloc: Global) -> Result<Header, Fault> {
@@ -20,12 +26,40 @@ fn header(alloc: Global) -> Result<Header, Fault> {
 }
 
 // A file of eight clusters of zeroes that logs what is asked of it.
-fn logged(alloc: Global) -> Result<ImageFile<LogStorage<MemStorage>>, Fault> {
+fn logged(alloc: Global) -> Result<ImageFile<Log>, Fault> {
     let bytes = vec![in alloc; 0u8; 4_096]?;
     Ok(ImageFile {
         image: LogStorage::new(alloc, MemStorage::from_bytes(bytes)?)?,
         header: header(alloc)?,
     })
+}
+
+// A file of eight clusters of zeroes whose call n fails.
+fn fused(alloc: Global, n: u64) -> Result<ImageFile<Fuse>, Fault> {
+    let bytes = vec![in alloc; 0u8; 4_096]?;
+    Ok(ImageFile {
+        image: FuseStorage::new(MemStorage::from_bytes(bytes)?, n),
+        header: header(alloc)?,
+    })
+}
+
+// What a test works on.
+#[derive(Drop)]
+struct Cached<S: Storage> {
+    file: ImageFile<S>,
+    caches: MetadataCaches<S>,
+}
+
+// A file with caches of so many tables and so many blocks.
+fn with_caches<S: Storage>(
+    alloc: Global,
+    file: ImageFile<S>,
+    entries: usize,
+) -> Result<Cached<S>, Fault>
+    requires { 0 < entries }
+{
+    let caches = MetadataCaches::new(alloc, entries, entries)?;
+    Ok(Cached { file, caches })
 }
 
 // Marks the table in a cluster as modified.
@@ -53,7 +87,7 @@ fn touch_block<S: Storage>(
 }
 
 // The requests so far are writes of these clusters, whole and in this order.
-fn assert_written(rt: &impl Abort, file: &ImageFile<LogStorage<MemStorage>>, clusters: &[u64]) {
+fn assert_written(rt: &impl Abort, file: &ImageFile<Log>, clusters: &[u64]) {
     let requests = file.image.requests();
     assert_eq!(rt; requests.len(), clusters.len());
     for (request, cluster) in requests.iter().zip(clusters.iter()) {
@@ -67,20 +101,30 @@ fn assert_written(rt: &impl Abort, file: &ImageFile<LogStorage<MemStorage>>, clu
     }
 }
 
-fn switched(rt: &impl Abort, alloc: Global) -> Result<(), Fault> {
-    let mut file = logged(alloc)?;
-    let mut caches = MetadataCaches::new(alloc, 2, 2)?;
-    touch_block(&mut caches, &mut file, 5)?;
-    caches.l2_depends_on_rb(&mut file)?;
-    assert_written(rt, &file, &[]);
-    caches.rb_depends_on_l2(&mut file)?;
-    assert_written(rt, &file, &[5]);
-    touch_table(&mut caches, &mut file, 3)?;
-    caches.rb_depends_on_l2(&mut file)?;
-    assert_written(rt, &file, &[5]);
-    caches.l2_depends_on_rb(&mut file)?;
-    assert_written(rt, &file, &[5, 3]);
+fn switch_to_tables_first(rt: &impl Abort, held: &mut Cached<Log>) -> Result<(), Fault> {
+    let Cached { file, caches } = held;
+    touch_block(caches, file, 5)?;
+    caches.l2_depends_on_rb(file)?;
+    assert_written(rt, file, &[]);
+    caches.rb_depends_on_l2(file)?;
+    assert_written(rt, file, &[5]);
     Ok(())
+}
+
+fn switch_back(rt: &impl Abort, held: &mut Cached<Log>) -> Result<(), Fault> {
+    let Cached { file, caches } = held;
+    touch_table(caches, file, 3)?;
+    caches.rb_depends_on_l2(file)?;
+    assert_written(rt, file, &[5]);
+    caches.l2_depends_on_rb(file)?;
+    assert_written(rt, file, &[5, 3]);
+    Ok(())
+}
+
+fn switched(rt: &impl Abort, alloc: Global) -> Result<(), Fault> {
+    let mut held = with_caches(alloc, logged(alloc)?, 2)?;
+    switch_to_tables_first(rt, &mut held)?;
+    switch_back(rt, &mut held)
 }
 
 #[test]
@@ -106,25 +150,38 @@ fn announce<S: Storage>(
     }
 }
 
-// Touches two tables and two blocks, and flushes both caches under this order.
+// Touches two tables and two blocks under this order.
+fn touch_two_of_each<S: Storage>(
+    held: &mut Cached<S>,
+    order: CacheDependency,
+) -> Result<(), Fault> {
+    let Cached { file, caches } = held;
+    announce(caches, file, order)?;
+    touch_block(caches, file, 5)?;
+    touch_table(caches, file, 3)?;
+    touch_table(caches, file, 4)?;
+    touch_block(caches, file, 6)
+}
+
+// Flushes both caches, of which the second flush writes nothing.
+fn flush_twice(rt: &impl Abort, held: &mut Cached<Log>, want: &[u64]) -> Result<(), Fault> {
+    let Cached { file, caches } = held;
+    caches.flush_all(file)?;
+    assert_written(rt, file, want);
+    caches.flush_all(file)?;
+    assert_written(rt, file, want);
+    Ok(())
+}
+
 fn flushed(
     rt: &impl Abort,
     alloc: Global,
     order: CacheDependency,
     want: &[u64],
 ) -> Result<(), Fault> {
-    let mut file = logged(alloc)?;
-    let mut caches = MetadataCaches::new(alloc, 2, 2)?;
-    announce(&mut caches, &mut file, order)?;
-    touch_block(&mut caches, &mut file, 5)?;
-    touch_table(&mut caches, &mut file, 3)?;
-    touch_table(&mut caches, &mut file, 4)?;
-    touch_block(&mut caches, &mut file, 6)?;
-    caches.flush_all(&mut file)?;
-    assert_written(rt, &file, want);
-    caches.flush_all(&mut file)?;
-    assert_written(rt, &file, want);
-    Ok(())
+    let mut held = with_caches(alloc, logged(alloc)?, 2)?;
+    touch_two_of_each(&mut held, order)?;
+    flush_twice(rt, &mut held, want)
 }
 
 fn each_order(rt: &impl Abort, alloc: Global) -> Result<(), Fault> {
@@ -143,18 +200,22 @@ fn a_flush_follows_the_order(rt: HostRuntime) -> Result<(), Fail> {
     Ok(())
 }
 
-fn blocks_only(rt: &impl Abort, alloc: Global) -> Result<(), Fault> {
-    let mut file = logged(alloc)?;
-    let mut caches = MetadataCaches::new(alloc, 2, 2)?;
-    touch_table(&mut caches, &mut file, 3)?;
-    touch_block(&mut caches, &mut file, 5)?;
-    caches.flush_rb(&mut file)?;
-    assert_written(rt, &file, &[5]);
-    caches.rb_depends_on_l2(&mut file)?;
-    touch_block(&mut caches, &mut file, 5)?;
-    caches.flush_rb(&mut file)?;
-    assert_written(rt, &file, &[5, 3, 5]);
+fn flush_blocks_twice(rt: &impl Abort, held: &mut Cached<Log>) -> Result<(), Fault> {
+    let Cached { file, caches } = held;
+    touch_table(caches, file, 3)?;
+    touch_block(caches, file, 5)?;
+    caches.flush_rb(file)?;
+    assert_written(rt, file, &[5]);
+    caches.rb_depends_on_l2(file)?;
+    touch_block(caches, file, 5)?;
+    caches.flush_rb(file)?;
+    assert_written(rt, file, &[5, 3, 5]);
     Ok(())
+}
+
+fn blocks_only(rt: &impl Abort, alloc: Global) -> Result<(), Fault> {
+    let mut held = with_caches(alloc, logged(alloc)?, 2)?;
+    flush_blocks_twice(rt, &mut held)
 }
 
 #[test]
@@ -167,25 +228,31 @@ fn blocks_wait_for_tables_that_come_first(rt: HostRuntime) -> Result<(), Fail> {
     Ok(())
 }
 
-fn refused(rt: &impl Abort, alloc: Global) -> Result<(), Fault> {
-    let bytes = vec![in alloc; 0u8; 4_096]?;
-    // The loads of a block and of a table are the first two calls, and the write of the block is the third.
-    let mut file = ImageFile {
-        image: FuseStorage::new(MemStorage::from_bytes(bytes)?, 3),
-        header: header(alloc)?,
-    };
-    let mut caches = MetadataCaches::new(alloc, 2, 2)?;
-    touch_block(&mut caches, &mut file, 5)?;
-    touch_table(&mut caches, &mut file, 3)?;
-    caches.l2_depends_on_rb(&mut file)?;
-    match caches.rb_depends_on_l2(&mut file) {
+// The third call, which is the write of the block, fails.
+fn refused_switch(rt: &impl Abort, held: &mut Cached<Fuse>) -> Result<(), Fault> {
+    let Cached { file, caches } = held;
+    touch_block(caches, file, 5)?;
+    touch_table(caches, file, 3)?;
+    caches.l2_depends_on_rb(file)?;
+    match caches.rb_depends_on_l2(file) {
         Err(Fault::Memory) => return Err(Fault::Memory),
         other => assert!(rt; other == Err(Fault::Storage)),
     }
     assert!(rt; caches.order == CacheDependency::L2DependsOnRb);
-    caches.rb_depends_on_l2(&mut file)?;
+    Ok(())
+}
+
+fn switch_again(rt: &impl Abort, held: &mut Cached<Fuse>) -> Result<(), Fault> {
+    let Cached { file, caches } = held;
+    caches.rb_depends_on_l2(file)?;
     assert!(rt; caches.order == CacheDependency::RbDependsOnL2);
     Ok(())
+}
+
+fn refused(rt: &impl Abort, alloc: Global) -> Result<(), Fault> {
+    let mut held = with_caches(alloc, fused(alloc, 3)?, 2)?;
+    refused_switch(rt, &mut held)?;
+    switch_again(rt, &mut held)
 }
 
 #[test]
@@ -198,7 +265,33 @@ fn a_refused_flush_leaves_the_order(rt: HostRuntime) -> Result<(), Fail> {
     Ok(())
 }
 
-// Fills both caches under this order, and touches one table and one block more.
+// Fills both caches under this order.
+fn fill<S: Storage>(held: &mut Cached<S>, order: CacheDependency) -> Result<(), Fault> {
+    let Cached { file, caches } = held;
+    announce(caches, file, order)?;
+    touch_table(caches, file, 1)?;
+    touch_table(caches, file, 2)?;
+    touch_block(caches, file, 5)?;
+    touch_block(caches, file, 6)?;
+    touch_table(caches, file, 1)
+}
+
+// Touches one table and one block more than there is room for.
+fn touch_more(
+    rt: &impl Abort,
+    held: &mut Cached<Log>,
+    by_table: &[u64],
+    by_block: &[u64],
+) -> Result<(), Fault> {
+    let Cached { file, caches } = held;
+    assert_written(rt, file, &[]);
+    touch_table(caches, file, 3)?;
+    assert_written(rt, file, by_table);
+    touch_block(caches, file, 7)?;
+    assert_written(rt, file, by_block);
+    Ok(())
+}
+
 fn evicted(
     rt: &impl Abort,
     alloc: Global,
@@ -206,20 +299,9 @@ fn evicted(
     by_table: &[u64],
     by_block: &[u64],
 ) -> Result<(), Fault> {
-    let mut file = logged(alloc)?;
-    let mut caches = MetadataCaches::new(alloc, 2, 2)?;
-    announce(&mut caches, &mut file, order)?;
-    touch_table(&mut caches, &mut file, 1)?;
-    touch_table(&mut caches, &mut file, 2)?;
-    touch_block(&mut caches, &mut file, 5)?;
-    touch_block(&mut caches, &mut file, 6)?;
-    touch_table(&mut caches, &mut file, 1)?;
-    assert_written(rt, &file, &[]);
-    touch_table(&mut caches, &mut file, 3)?;
-    assert_written(rt, &file, by_table);
-    touch_block(&mut caches, &mut file, 7)?;
-    assert_written(rt, &file, by_block);
-    Ok(())
+    let mut held = with_caches(alloc, logged(alloc)?, 2)?;
+    fill(&mut held, order)?;
+    touch_more(rt, &mut held, by_table, by_block)
 }
 
 fn each_eviction(rt: &impl Abort, alloc: Global) -> Result<(), Fault> {
@@ -250,24 +332,32 @@ fn what_makes_room_follows_the_order(rt: HostRuntime) -> Result<(), Fail> {
     Ok(())
 }
 
+fn plain(alloc: Global, bytes: Vec<u8>) -> Result<ImageFile<MemStorage>, Fault> {
+    Ok(ImageFile {
+        image: MemStorage::from_bytes(bytes)?,
+        header: header(alloc)?,
+    })
+}
+
+fn read_both(rt: &impl Abort, held: &mut Cached<MemStorage>) -> Result<(), Fault> {
+    let Cached { file, caches } = held;
+    let table = caches.l2_get_or_insert(file, HostCluster(1))?;
+    let mapping = table.get_mapping(GuestCluster(0));
+    assert!(rt; matches!(mapping, L2Mapping::DataFile { copied: true, .. }));
+    let block = caches.rb_get_or_insert(file, HostCluster(2))?;
+    assert_eq!(rt; block.entries(), 256);
+    assert_eq!(rt; block.get(3), 0x1234);
+    assert_eq!(rt; block.get(2), 0);
+    Ok(())
+}
+
 // Word 0 of a table in cluster 1, and counter 3 of a block in cluster 2.
 fn read_back(rt: &impl Abort, alloc: Global) -> Result<(), Fault> {
     let mut bytes = vec![in alloc; 0u8; 2_048]?;
     bytes[512..520].copy_from_slice(&[0x80, 0, 0, 0, 0, 0, 0x06, 0]);
     bytes[1_030..1_032].copy_from_slice(&[0x12, 0x34]);
-    let mut file = ImageFile {
-        image: MemStorage::from_bytes(bytes)?,
-        header: header(alloc)?,
-    };
-    let mut caches = MetadataCaches::new(alloc, 1, 1)?;
-    let table = caches.l2_get_or_insert(&mut file, HostCluster(1))?;
-    let mapping = table.get_mapping(GuestCluster(0));
-    assert!(rt; matches!(mapping, L2Mapping::DataFile { copied: true, .. }));
-    let block = caches.rb_get_or_insert(&mut file, HostCluster(2))?;
-    assert_eq!(rt; block.entries(), 256);
-    assert_eq!(rt; block.get(3), 0x1234);
-    assert_eq!(rt; block.get(2), 0);
-    Ok(())
+    let mut held = with_caches(alloc, plain(alloc, bytes)?, 1)?;
+    read_both(rt, &mut held)
 }
 
 #[test]
@@ -280,26 +370,40 @@ fn a_table_and_a_block_are_read(rt: HostRuntime) -> Result<(), Fail> {
     Ok(())
 }
 
-// The words of cluster 1 are none of an L2 table, words can't name the last cluster, and nothing lies past the greatest offset.
-fn damaged(rt: &impl Abort, alloc: Global) -> Result<(), Fault> {
-    let mut bytes = vec![in alloc; 0u8; 1_024]?;
-    bytes[519] = 2;
-    let mut file = ImageFile {
-        image: MemStorage::from_bytes(bytes)?,
-        header: header(alloc)?,
-    };
-    let mut caches = MetadataCaches::new(alloc, 1, 1)?;
-    for cluster in [1, u64::MAX] {
-        match caches.l2_get_or_insert(&mut file, HostCluster(cluster)) {
-            Err(Fault::Memory) => return Err(Fault::Memory),
-            answer => assert!(rt; matches!(answer, Err(Fault::DamagedTable))),
-        }
-    }
-    match caches.rb_get_or_insert(&mut file, HostCluster(u64::MAX)) {
+fn damaged_table(
+    rt: &impl Abort,
+    held: &mut Cached<MemStorage>,
+    cluster: u64,
+) -> Result<(), Fault> {
+    let Cached { file, caches } = held;
+    match caches.l2_get_or_insert(file, HostCluster(cluster)) {
         Err(Fault::Memory) => return Err(Fault::Memory),
         answer => assert!(rt; matches!(answer, Err(Fault::DamagedTable))),
     }
     Ok(())
+}
+
+fn damaged_block(
+    rt: &impl Abort,
+    held: &mut Cached<MemStorage>,
+    cluster: u64,
+) -> Result<(), Fault> {
+    let Cached { file, caches } = held;
+    match caches.rb_get_or_insert(file, HostCluster(cluster)) {
+        Err(Fault::Memory) => return Err(Fault::Memory),
+        answer => assert!(rt; matches!(answer, Err(Fault::DamagedTable))),
+    }
+    Ok(())
+}
+
+// The words of cluster 1 are none of an L2 table, words can't name the last cluster, and nothing lies past the greatest offset.
+fn damaged(rt: &impl Abort, alloc: Global) -> Result<(), Fault> {
+    let mut bytes = vec![in alloc; 0u8; 1_024]?;
+    bytes[519] = 2;
+    let mut held = with_caches(alloc, plain(alloc, bytes)?, 1)?;
+    damaged_table(rt, &mut held, 1)?;
+    damaged_table(rt, &mut held, u64::MAX)?;
+    damaged_block(rt, &mut held, u64::MAX)
 }
 
 #[test]
@@ -313,7 +417,7 @@ fn a_damaged_table_is_not_found(rt: HostRuntime) -> Result<(), Fail> {
 }
 
 // A logged file of zeroes, but for word 0 of a table in cluster 4 and counter 3 of a block in cluster 7.
-fn marked(alloc: Global) -> Result<ImageFile<LogStorage<MemStorage>>, Fault> {
+fn marked(alloc: Global) -> Result<ImageFile<Log>, Fault> {
     let mut bytes = vec![in alloc; 0u8; 4_096]?;
     bytes[2_048..2_056].copy_from_slice(&[0x80, 0, 0, 0, 0, 0, 0x06, 0]);
     bytes[3_590..3_592].copy_from_slice(&[0x12, 0x34]);
@@ -480,25 +584,56 @@ fn returned_block<S: Storage>(
     }
 }
 
-// A table and a block are put where there is room, each at a cluster of which the file has zeroes.
-fn put_into_room(rt: &impl Abort, alloc: Global) -> Result<(), Fault> {
-    let mut file = marked(alloc)?;
-    let mut caches = MetadataCaches::new(alloc, 2, 2)?;
-    caches.l2_depends_on_rb(&mut file)?;
-    touch_table(&mut caches, &mut file, 1)?;
-    touch_block(&mut caches, &mut file, 5)?;
-    put_table_of(rt, alloc, &mut caches, &mut file, [4, 3])?;
-    put_block_of(rt, alloc, &mut caches, &mut file, [7, 6])?;
-    assert_written(rt, &file, &[]);
-    assert!(rt; is_marked_table(caches.l2_get_or_insert(&mut file, HostCluster(3))?));
-    assert!(rt; is_marked_block(caches.rb_get_or_insert(&mut file, HostCluster(6))?));
-    caches.flush_all(&mut file)?;
-    assert_written(rt, &file, &[5, 6, 1, 3]);
-    let table = loaded_table(alloc, &mut file, 3)?;
+fn put_one_of_each(rt: &impl Abort, alloc: Global, held: &mut Cached<Log>) -> Result<(), Fault> {
+    let Cached { file, caches } = held;
+    caches.l2_depends_on_rb(file)?;
+    touch_table(caches, file, 1)?;
+    touch_block(caches, file, 5)?;
+    put_table_of(rt, alloc, caches, file, [4, 3])?;
+    put_block_of(rt, alloc, caches, file, [7, 6])?;
+    assert_written(rt, file, &[]);
+    Ok(())
+}
+
+// The table and the block that are found at these clusters are the marked ones.
+fn assert_marked(
+    rt: &impl Abort,
+    held: &mut Cached<Log>,
+    [table, block]: [u64; 2],
+) -> Result<(), Fault> {
+    let Cached { file, caches } = held;
+    assert!(rt; is_marked_table(caches.l2_get_or_insert(file, HostCluster(table))?));
+    assert!(rt; is_marked_block(caches.rb_get_or_insert(file, HostCluster(block))?));
+    Ok(())
+}
+
+// So are those that the file has there.
+fn assert_marked_in_file(
+    rt: &impl Abort,
+    alloc: Global,
+    file: &mut ImageFile<Log>,
+    [table, block]: [u64; 2],
+) -> Result<(), Fault> {
+    let table = loaded_table(alloc, file, table)?;
     assert!(rt; is_marked_table(&table));
-    let block = loaded_block(alloc, &mut file, 6)?;
+    let block = loaded_block(alloc, file, block)?;
     assert!(rt; is_marked_block(&block));
     Ok(())
+}
+
+fn flush_marked(rt: &impl Abort, alloc: Global, held: &mut Cached<Log>) -> Result<(), Fault> {
+    let Cached { file, caches } = held;
+    caches.flush_all(file)?;
+    assert_written(rt, file, &[5, 6, 1, 3]);
+    assert_marked_in_file(rt, alloc, file, [3, 6])
+}
+
+// A table and a block are put where there is room, each at a cluster of which the file has zeroes.
+fn put_into_room(rt: &impl Abort, alloc: Global) -> Result<(), Fault> {
+    let mut held = with_caches(alloc, marked(alloc)?, 2)?;
+    put_one_of_each(rt, alloc, &mut held)?;
+    assert_marked(rt, &mut held, [3, 6])?;
+    flush_marked(rt, alloc, &mut held)
 }
 
 #[test]
@@ -511,27 +646,14 @@ fn what_is_put_is_found_and_written_later(rt: HostRuntime) -> Result<(), Fail> {
     Ok(())
 }
 
-// Fills both caches under this order.
-fn fill<S: Storage>(
-    caches: &mut MetadataCaches<S>,
-    file: &mut ImageFile<S>,
-    order: CacheDependency,
-) -> Result<(), Fault> {
-    announce(caches, file, order)?;
-    touch_table(caches, file, 1)?;
-    touch_table(caches, file, 2)?;
-    touch_block(caches, file, 5)?;
-    touch_block(caches, file, 6)?;
-    touch_table(caches, file, 1)
-}
-
 // Which tables and blocks are cached.
 fn assert_cached<S: Storage>(
     rt: &impl Abort,
-    caches: &mut MetadataCaches<S>,
+    held: &mut Cached<S>,
     tables: [(u64, bool); 3],
     blocks: [(u64, bool); 3],
 ) {
+    let Cached { caches, .. } = held;
     for (cluster, stays) in tables {
         assert!(rt; caches.l2.get(HostCluster(cluster)).is_some() == stays);
     }
@@ -540,7 +662,23 @@ fn assert_cached<S: Storage>(
     }
 }
 
-// Fills both caches under this order, and puts one table and one block more.
+// Puts one table and one block more than there is room for.
+fn put_more(
+    rt: &impl Abort,
+    alloc: Global,
+    held: &mut Cached<Log>,
+    by_table: &[u64],
+    by_block: &[u64],
+) -> Result<(), Fault> {
+    let Cached { file, caches } = held;
+    put_table_of(rt, alloc, caches, file, [4, 3])?;
+    assert_written(rt, file, by_table);
+    let block = loaded_block(alloc, file, 7)?;
+    taken_block(rt, caches, file, block)?;
+    assert_written(rt, file, by_block);
+    Ok(())
+}
+
 fn put_for_another(
     rt: &impl Abort,
     alloc: Global,
@@ -548,17 +686,12 @@ fn put_for_another(
     by_table: &[u64],
     by_block: &[u64],
 ) -> Result<(), Fault> {
-    let mut file = logged(alloc)?;
-    let mut caches = MetadataCaches::new(alloc, 2, 2)?;
-    fill(&mut caches, &mut file, order)?;
-    put_table_of(rt, alloc, &mut caches, &mut file, [4, 3])?;
-    assert_written(rt, &file, by_table);
-    let block = loaded_block(alloc, &mut file, 7)?;
-    taken_block(rt, &mut caches, &mut file, block)?;
-    assert_written(rt, &file, by_block);
+    let mut held = with_caches(alloc, logged(alloc)?, 2)?;
+    fill(&mut held, order)?;
+    put_more(rt, alloc, &mut held, by_table, by_block)?;
     assert_cached(
         rt,
-        &mut caches,
+        &mut held,
         [(1, true), (2, false), (3, true)],
         [(5, false), (6, true), (7, true)],
     );
@@ -594,21 +727,42 @@ fn what_is_put_makes_room_in_the_order(rt: HostRuntime) -> Result<(), Fail> {
 }
 
 // A table and a block are put over others, which aren't modified.
-fn put_over_clean<S: Storage>(
+fn put_over_clean(
     rt: &impl Abort,
     alloc: Global,
-    caches: &mut MetadataCaches<S>,
-    file: &mut ImageFile<S>,
+    held: &mut Cached<Log>,
+    order: CacheDependency,
 ) -> Result<(), Fault> {
+    let Cached { file, caches } = held;
+    announce(caches, file, order)?;
     caches.l2_get_or_insert(file, HostCluster(1))?;
     caches.rb_get_or_insert(file, HostCluster(5))?;
     let table = loaded_table(alloc, file, 1)?;
     taken_table(rt, caches, file, table)?;
     let block = loaded_block(alloc, file, 5)?;
-    taken_block(rt, caches, file, block)
+    taken_block(rt, caches, file, block)?;
+    assert_written(rt, file, &[]);
+    Ok(())
 }
 
-// They are put over others, and then over themselves, as modified.
+// They are put over themselves, as modified.
+fn put_over_modified(
+    rt: &impl Abort,
+    alloc: Global,
+    held: &mut Cached<Log>,
+    by_table: &[u64],
+    by_block: &[u64],
+) -> Result<(), Fault> {
+    let Cached { file, caches } = held;
+    touch_table(caches, file, 1)?;
+    touch_block(caches, file, 5)?;
+    put_table_of(rt, alloc, caches, file, [4, 1])?;
+    assert_written(rt, file, by_table);
+    put_block_of(rt, alloc, caches, file, [7, 5])?;
+    assert_written(rt, file, by_block);
+    Ok(())
+}
+
 fn put_over(
     rt: &impl Abort,
     alloc: Global,
@@ -616,20 +770,10 @@ fn put_over(
     by_table: &[u64],
     by_block: &[u64],
 ) -> Result<(), Fault> {
-    let mut file = marked(alloc)?;
-    let mut caches = MetadataCaches::new(alloc, 2, 2)?;
-    announce(&mut caches, &mut file, order)?;
-    put_over_clean(rt, alloc, &mut caches, &mut file)?;
-    assert_written(rt, &file, &[]);
-    touch_table(&mut caches, &mut file, 1)?;
-    touch_block(&mut caches, &mut file, 5)?;
-    put_table_of(rt, alloc, &mut caches, &mut file, [4, 1])?;
-    assert_written(rt, &file, by_table);
-    put_block_of(rt, alloc, &mut caches, &mut file, [7, 5])?;
-    assert_written(rt, &file, by_block);
-    assert!(rt; is_marked_table(caches.l2_get_or_insert(&mut file, HostCluster(1))?));
-    assert!(rt; is_marked_block(caches.rb_get_or_insert(&mut file, HostCluster(5))?));
-    Ok(())
+    let mut held = with_caches(alloc, marked(alloc)?, 2)?;
+    put_over_clean(rt, alloc, &mut held, order)?;
+    put_over_modified(rt, alloc, &mut held, by_table, by_block)?;
+    assert_marked(rt, &mut held, [1, 5])
 }
 
 fn each_put_over(rt: &impl Abort, alloc: Global) -> Result<(), Fault> {
@@ -649,7 +793,8 @@ fn what_was_there_is_written_before_a_put(rt: HostRuntime) -> Result<(), Fail> {
 }
 
 // Pins the table and the block in a cluster each, which are there.
-fn pin<S: Storage>(rt: &impl Abort, caches: &mut MetadataCaches<S>, table: u64, block: u64) {
+fn pin<S: Storage>(rt: &impl Abort, held: &mut Cached<S>, table: u64, block: u64) {
+    let Cached { caches, .. } = held;
     match caches.l2.slots.peek(&HostCluster(table)) {
         Some(slot) if slot.pins < 8 => caches.l2.pin(HostCluster(table)),
         _ => assert!(rt; false),
@@ -660,24 +805,53 @@ fn pin<S: Storage>(rt: &impl Abort, caches: &mut MetadataCaches<S>, table: u64, 
     }
 }
 
-// The one table and the one block that there is room for are pinned.
-fn put_before_pinned(rt: &impl Abort, alloc: Global) -> Result<(), Fault> {
-    let mut file = marked(alloc)?;
-    let mut caches = MetadataCaches::new(alloc, 1, 1)?;
-    touch_table(&mut caches, &mut file, 1)?;
-    touch_block(&mut caches, &mut file, 5)?;
-    pin(rt, &mut caches, 1, 5);
-    let table = loaded_table(alloc, &mut file, 4)?;
-    let table = returned_table(rt, &mut caches, &mut file, table, Fault::CacheFull)?;
+fn put_table_before_pinned(
+    rt: &impl Abort,
+    alloc: Global,
+    held: &mut Cached<Log>,
+) -> Result<(), Fault> {
+    let Cached { file, caches } = held;
+    let table = loaded_table(alloc, file, 4)?;
+    let table = returned_table(rt, caches, file, table, Fault::CacheFull)?;
     assert!(rt; table.get_cluster() == Some(HostCluster(4)));
     assert!(rt; is_marked_table(&table) && !table.is_modified());
-    let block = loaded_block(alloc, &mut file, 7)?;
-    let block = returned_block(rt, &mut caches, &mut file, block, Fault::CacheFull)?;
+    Ok(())
+}
+
+fn put_block_before_pinned(
+    rt: &impl Abort,
+    alloc: Global,
+    held: &mut Cached<Log>,
+) -> Result<(), Fault> {
+    let Cached { file, caches } = held;
+    let block = loaded_block(alloc, file, 7)?;
+    let block = returned_block(rt, caches, file, block, Fault::CacheFull)?;
     assert!(rt; block.get_cluster() == Some(HostCluster(7)));
     assert!(rt; is_marked_block(&block) && !block.is_modified());
-    assert_written(rt, &file, &[]);
+    Ok(())
+}
+
+fn touch_one_of_each<S: Storage>(held: &mut Cached<S>) -> Result<(), Fault> {
+    let Cached { file, caches } = held;
+    touch_table(caches, file, 1)?;
+    touch_block(caches, file, 5)
+}
+
+fn assert_pinned_stay(rt: &impl Abort, held: &mut Cached<Log>) {
+    let Cached { file, caches } = held;
+    assert_written(rt, file, &[]);
     assert!(rt; caches.l2.get(HostCluster(1)).is_some());
     assert!(rt; caches.rb.get(HostCluster(5)).is_some());
+}
+
+// The one table and the one block that there is room for are pinned.
+fn put_before_pinned(rt: &impl Abort, alloc: Global) -> Result<(), Fault> {
+    let mut held = with_caches(alloc, marked(alloc)?, 1)?;
+    touch_one_of_each(&mut held)?;
+    pin(rt, &mut held, 1, 5);
+    put_table_before_pinned(rt, alloc, &mut held)?;
+    put_block_before_pinned(rt, alloc, &mut held)?;
+    assert_pinned_stay(rt, &mut held);
     Ok(())
 }
 
@@ -691,47 +865,62 @@ fn a_put_gives_back_what_has_no_room(rt: HostRuntime) -> Result<(), Fail> {
     Ok(())
 }
 
-// The fourth call is the first write: of the table that has to go.
-fn put_refused_table(rt: &impl Abort, alloc: Global) -> Result<(), Fault> {
-    let bytes = vec![in alloc; 0u8; 4_096]?;
-    let mut file = ImageFile {
-        image: FuseStorage::new(MemStorage::from_bytes(bytes)?, 4),
-        header: header(alloc)?,
-    };
-    let mut caches = MetadataCaches::new(alloc, 1, 1)?;
-    touch_table(&mut caches, &mut file, 1)?;
-    touch_block(&mut caches, &mut file, 5)?;
-    let table = loaded_table(alloc, &mut file, 3)?;
-    let table = returned_table(rt, &mut caches, &mut file, table, Fault::Storage)?;
+// The put of a table in cluster 3 is refused, and leaves the one in cluster 1 as it was; the next one succeeds.
+fn put_table_twice(rt: &impl Abort, alloc: Global, held: &mut Cached<Fuse>) -> Result<(), Fault> {
+    let Cached { file, caches } = held;
+    let table = loaded_table(alloc, file, 3)?;
+    let table = returned_table(rt, caches, file, table, Fault::Storage)?;
     assert!(rt; table.get_cluster() == Some(HostCluster(3)));
     assert!(rt; matches!(caches.l2.get(HostCluster(1)), Some(table) if table.is_modified()));
-    taken_table(rt, &mut caches, &mut file, table)?;
+    taken_table(rt, caches, file, table)
+}
+
+fn assert_table_taken(rt: &impl Abort, held: &mut Cached<Fuse>) {
+    let Cached { caches, .. } = held;
     assert!(rt; caches.l2.get(HostCluster(1)).is_none());
     assert!(rt; caches.l2.get(HostCluster(3)).is_some());
     assert!(rt; matches!(caches.rb.get(HostCluster(5)), Some(block) if block.is_modified()));
+}
+
+// The fourth call is the first write: of the table that has to go.
+fn put_refused_table(rt: &impl Abort, alloc: Global) -> Result<(), Fault> {
+    let mut held = with_caches(alloc, fused(alloc, 4)?, 1)?;
+    touch_one_of_each(&mut held)?;
+    put_table_twice(rt, alloc, &mut held)?;
+    assert_table_taken(rt, &mut held);
     Ok(())
+}
+
+// The same of a block in cluster 6, which needs the place of the one in cluster 5.
+fn put_block_twice(rt: &impl Abort, alloc: Global, held: &mut Cached<Fuse>) -> Result<(), Fault> {
+    let Cached { file, caches } = held;
+    let block = loaded_block(alloc, file, 6)?;
+    let block = returned_block(rt, caches, file, block, Fault::Storage)?;
+    assert!(rt; block.get_cluster() == Some(HostCluster(6)));
+    assert!(rt; matches!(caches.rb.get(HostCluster(5)), Some(block) if block.is_modified()));
+    assert!(rt; matches!(caches.l2.get(HostCluster(1)), Some(table) if table.is_modified()));
+    taken_block(rt, caches, file, block)
+}
+
+fn tables_first(held: &mut Cached<Fuse>) -> Result<(), Fault> {
+    let Cached { file, caches } = held;
+    caches.rb_depends_on_l2(file)
+}
+
+fn assert_block_taken(rt: &impl Abort, held: &mut Cached<Fuse>) {
+    let Cached { caches, .. } = held;
+    assert!(rt; caches.rb.get(HostCluster(5)).is_none());
+    assert!(rt; caches.rb.get(HostCluster(6)).is_some());
+    assert!(rt; matches!(caches.l2.get(HostCluster(1)), Some(table) if !table.is_modified()));
 }
 
 // The fourth call is the first write: of the table that comes before the block that has to go.
 fn put_refused_block(rt: &impl Abort, alloc: Global) -> Result<(), Fault> {
-    let bytes = vec![in alloc; 0u8; 4_096]?;
-    let mut file = ImageFile {
-        image: FuseStorage::new(MemStorage::from_bytes(bytes)?, 4),
-        header: header(alloc)?,
-    };
-    let mut caches = MetadataCaches::new(alloc, 1, 1)?;
-    caches.rb_depends_on_l2(&mut file)?;
-    touch_table(&mut caches, &mut file, 1)?;
-    touch_block(&mut caches, &mut file, 5)?;
-    let block = loaded_block(alloc, &mut file, 6)?;
-    let block = returned_block(rt, &mut caches, &mut file, block, Fault::Storage)?;
-    assert!(rt; block.get_cluster() == Some(HostCluster(6)));
-    assert!(rt; matches!(caches.rb.get(HostCluster(5)), Some(block) if block.is_modified()));
-    assert!(rt; matches!(caches.l2.get(HostCluster(1)), Some(table) if table.is_modified()));
-    taken_block(rt, &mut caches, &mut file, block)?;
-    assert!(rt; caches.rb.get(HostCluster(5)).is_none());
-    assert!(rt; caches.rb.get(HostCluster(6)).is_some());
-    assert!(rt; matches!(caches.l2.get(HostCluster(1)), Some(table) if !table.is_modified()));
+    let mut held = with_caches(alloc, fused(alloc, 4)?, 1)?;
+    tables_first(&mut held)?;
+    touch_one_of_each(&mut held)?;
+    put_block_twice(rt, alloc, &mut held)?;
+    assert_block_taken(rt, &mut held);
     Ok(())
 }
 
@@ -750,24 +939,41 @@ fn a_put_gives_back_what_a_fault_refuses(rt: HostRuntime) -> Result<(), Fail> {
     Ok(())
 }
 
-// Modified tables and blocks are dropped: none is written, then or later, and the others stay.
-fn dropped(rt: &impl Abort, alloc: Global) -> Result<(), Fault> {
-    let mut file = logged(alloc)?;
-    let mut caches = MetadataCaches::new(alloc, 2, 2)?;
-    touch_table(&mut caches, &mut file, 1)?;
-    touch_table(&mut caches, &mut file, 2)?;
-    touch_block(&mut caches, &mut file, 5)?;
-    touch_block(&mut caches, &mut file, 6)?;
+fn drop_tables(rt: &impl Abort, held: &mut Cached<Log>) {
+    let Cached { caches, .. } = held;
     assert!(rt; caches.invalidate_l2() == Ok(()));
     assert!(rt; caches.l2.get(HostCluster(1)).is_none());
     assert!(rt; caches.l2.get(HostCluster(2)).is_none());
-    touch_table(&mut caches, &mut file, 3)?;
+}
+
+fn drop_blocks(rt: &impl Abort, held: &mut Cached<Log>) {
+    let Cached { caches, .. } = held;
     assert!(rt; caches.invalidate_rb() == Ok(()));
     assert!(rt; caches.rb.get(HostCluster(5)).is_none());
     assert!(rt; caches.rb.get(HostCluster(6)).is_none());
-    caches.flush_all(&mut file)?;
-    assert_written(rt, &file, &[3]);
+}
+
+fn touch_third_table(held: &mut Cached<Log>) -> Result<(), Fault> {
+    let Cached { file, caches } = held;
+    touch_table(caches, file, 3)
+}
+
+// Flushes both caches, which writes these clusters.
+fn flush(rt: &impl Abort, held: &mut Cached<Log>, want: &[u64]) -> Result<(), Fault> {
+    let Cached { file, caches } = held;
+    caches.flush_all(file)?;
+    assert_written(rt, file, want);
     Ok(())
+}
+
+// Modified tables and blocks are dropped: none is written, then or later, and the others stay.
+fn dropped(rt: &impl Abort, alloc: Global) -> Result<(), Fault> {
+    let mut held = with_caches(alloc, logged(alloc)?, 2)?;
+    fill(&mut held, CacheDependency::Unset)?;
+    drop_tables(rt, &mut held);
+    touch_third_table(&mut held)?;
+    drop_blocks(rt, &mut held);
+    flush(rt, &mut held, &[3])
 }
 
 #[test]
@@ -780,25 +986,29 @@ fn what_is_dropped_is_not_written(rt: HostRuntime) -> Result<(), Fail> {
     Ok(())
 }
 
-// What is pinned stays, and is written by the next flush.
-fn dropped_but_pinned(rt: &impl Abort, alloc: Global) -> Result<(), Fault> {
-    let mut file = logged(alloc)?;
-    let mut caches = MetadataCaches::new(alloc, 2, 2)?;
-    touch_table(&mut caches, &mut file, 1)?;
-    touch_table(&mut caches, &mut file, 2)?;
-    touch_block(&mut caches, &mut file, 5)?;
-    touch_block(&mut caches, &mut file, 6)?;
-    pin(rt, &mut caches, 1, 6);
+fn drop_what_is_not_pinned(rt: &impl Abort, held: &mut Cached<Log>) {
+    let Cached { caches, .. } = held;
     assert!(rt; caches.invalidate_l2() == Err(Fault::CacheFull));
     assert!(rt; caches.invalidate_rb() == Err(Fault::CacheFull));
+}
+
+fn assert_pinned_alone_stay(rt: &impl Abort, held: &mut Cached<Log>) {
+    let Cached { file, caches } = held;
     assert!(rt; caches.l2.get(HostCluster(1)).is_some());
     assert!(rt; caches.l2.get(HostCluster(2)).is_none());
     assert!(rt; caches.rb.get(HostCluster(5)).is_none());
     assert!(rt; caches.rb.get(HostCluster(6)).is_some());
-    assert_written(rt, &file, &[]);
-    caches.flush_all(&mut file)?;
-    assert_written(rt, &file, &[1, 6]);
-    Ok(())
+    assert_written(rt, file, &[]);
+}
+
+// What is pinned stays, and is written by the next flush.
+fn dropped_but_pinned(rt: &impl Abort, alloc: Global) -> Result<(), Fault> {
+    let mut held = with_caches(alloc, logged(alloc)?, 2)?;
+    fill(&mut held, CacheDependency::Unset)?;
+    pin(rt, &mut held, 1, 6);
+    drop_what_is_not_pinned(rt, &mut held);
+    assert_pinned_alone_stay(rt, &mut held);
+    flush(rt, &mut held, &[1, 6])
 }
 
 #[test]

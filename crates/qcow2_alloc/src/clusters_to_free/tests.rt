@@ -85,18 +85,23 @@ fn assert_entries(rt: &impl Abort, list: &ClustersToFreeList, want: &[Parts]) {
     }
 }
 
-fn in_order(rt: &impl Abort, alloc: Global) -> Result<(), Fault> {
-    let mut list = ClustersToFreeList::new(alloc);
-    assert_entries(rt, &list, &[]);
-    push(rt, &mut list, 3, 1)?;
-    push(rt, &mut list, 5, 2)?;
-    push_metadata(rt, &mut list, 9, 4)?;
-    push(rt, &mut list, 13, 1)?;
+fn push_in_order(rt: &impl Abort, list: &mut ClustersToFreeList) -> Result<(), Fault> {
+    assert_entries(rt, list, &[]);
+    push(rt, list, 3, 1)?;
+    push(rt, list, 5, 2)?;
+    push_metadata(rt, list, 9, 4)?;
+    push(rt, list, 13, 1)?;
     assert_entries(
         rt,
-        &list,
+        list,
         &[(3, 1, false), (5, 2, false), (9, 4, true), (13, 1, false)],
     );
+    Ok(())
+}
+
+fn in_order(rt: &impl Abort, alloc: Global) -> Result<(), Fault> {
+    let mut list = ClustersToFreeList::new(alloc);
+    push_in_order(rt, &mut list)?;
     assert!(rt; list.position_of_metadata() == Some(2));
     assert!(rt; list.len() == 4);
     assert!(rt; into_parts(list.remove(2)) == (9, 4, true));

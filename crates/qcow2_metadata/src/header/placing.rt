@@ -1,6 +1,7 @@
 // Where the tables of an image stand, as its header says.
 ghost use Rattle.std.specs.Prelude.{◌≡◌, ◌+◌, ◌-◌, ◌*◌, ◌/◌, ◌%◌, ◌^◌, length, None};
 ghost use Rattle.qcow2_types.specs.Header.{first_fault, refcount_table_entries, rules_of_size};
+ghost use Rattle.qcow2_types.specs.HeaderSwitch.{FirstFieldsFit};
 ghost use Rattle.qcow2_metadata.specs.Tables.{IsPlacedTable, IsTable, block_words, table_place};
 
 use super::Header;
@@ -41,6 +42,8 @@ impl Header {
         ensures fields { self.new ≡ record self.old { fields = record self.old.fields { refcount_table_offset = table_place reftable.now; refcount_table_clusters = (8 * length reftable.now.words + (2 ^ self.old.fields.cluster_bits - 1)) / 2 ^ self.old.fields.cluster_bits } } }
         ensures whole { 8 * length reftable.now.words % 2 ^ self.old.fields.cluster_bits ≡ 0 → refcount_table_entries self.new.fields ≡ length reftable.now.words }
         ensures sizes { first_fault (rules_of_size self.old.fields) ≡ None → first_fault (rules_of_size self.new.fields) ≡ None }
+        // So they can be written.
+        ensures fit { FirstFieldsFit self.new.fields }
     {
         self.v2.refcount_table_offset = first_byte(reftable);
         self.v2.refcount_table_clusters = clusters_taken(reftable);

@@ -107,20 +107,30 @@ fn is_zero(block: &mut RefBlock, index: usize) -> Result<bool, Fault> {
     }
 }
 
+/// Raises a counter that is 0.
+fn raise_from_0(rt: &impl Abort, block: &mut RefBlock, index: usize) {
+    assert_eq!(rt; is_zero(block, index), Ok(true));
+    assert_eq!(rt; raise(block, index), Ok(1));
+    assert_eq!(rt; is_zero(block, index), Ok(false));
+}
+
+/// The bytes of a file into which the block was written at cluster 1.
+fn bytes_of(rt: &impl Abort, alloc: Global, block: &mut RefBlock) -> Result<Vec<u8>, Fault> {
+    place(block, 1);
+    let mut image = MemStorage::new(alloc);
+    block.write(alloc, &mut image)?;
+    assert!(rt; !block.is_modified());
+    image.into_bytes()
+}
+
 /// The bytes of a block in clusters of 512 bytes, after counters 0 to 6 were raised once.
 fn raised(rt: &impl Abort, alloc: Global, refcount_order: u32) -> Result<Vec<u8>, Fault> {
     let header = header(alloc, 9, refcount_order)?;
     let mut block = RefBlock::new_cleared(alloc, &header)?;
     for index in 0..7 {
-        assert_eq!(rt; is_zero(&mut block, index), Ok(true));
-        assert_eq!(rt; raise(&mut block, index), Ok(1));
-        assert_eq!(rt; is_zero(&mut block, index), Ok(false));
+        raise_from_0(rt, &mut block, index);
     }
-    place(&mut block, 1);
-    let mut image = MemStorage::new(alloc);
-    block.write(alloc, &mut image)?;
-    assert!(rt; !block.is_modified());
-    let bytes = image.into_bytes()?;
+    let bytes = bytes_of(rt, alloc, &mut block)?;
     assert_eq!(rt; bytes.len(), 1024);
     Ok(bytes)
 }
@@ -137,18 +147,19 @@ fn check_start(rt: &impl Abort, bytes: &[u8], start: &[u8]) {
     }
 }
 
-fn each_width(rt: &impl Abort, alloc: Global) -> Result<(), Fault> {
-    check_start(rt, &raised(rt, alloc, 0)?, &[0x7f]);
-    check_start(rt, &raised(rt, alloc, 1)?, &[0x55, 0x15]);
-    check_start(rt, &raised(rt, alloc, 2)?, &[0x11, 0x11, 0x11, 0x01]);
-    check_start(rt, &raised(rt, alloc, 3)?, &[1, 1, 1, 1, 1, 1, 1]);
-    let two_bytes = [0, 1, 0, 1, 0, 1, 0, 1, 0, 1, 0, 1, 0, 1];
-    check_start(rt, &raised(rt, alloc, 4)?, &two_bytes);
-    let four_bytes = [
-        0, 0, 0, 1, 0, 0, 0, 1, 0, 0, 0, 1, 0, 0, 0, 1, 0, 0, 0, 1, 0, 0, 0, 1, 0, 0, 0, 1,
-    ];
-    check_start(rt, &raised(rt, alloc, 5)?, &four_bytes);
-    for (at, byte) in raised(rt, alloc, 6)?.iter().enumerate() {
+fn check_width(
+    rt: &impl Abort,
+    alloc: Global,
+    refcount_order: u32,
+    start: &[u8],
+) -> Result<(), Fault> {
+    check_start(rt, &raised(rt, alloc, refcount_order)?, start);
+    Ok(())
+}
+
+// At 64 bits each eighth byte is 1.
+fn check_greatest_width(rt: &impl Abort, bytes: &[u8]) {
+    for (at, byte) in bytes.iter().enumerate() {
         let wanted = if at > 512 && at < 568 && at % 8 == 7 {
             1
         } else {
@@ -156,6 +167,20 @@ fn each_width(rt: &impl Abort, alloc: Global) -> Result<(), Fault> {
         };
         assert_eq!(rt; *byte, wanted, "at {at}");
     }
+}
+
+fn each_width(rt: &impl Abort, alloc: Global) -> Result<(), Fault> {
+    check_width(rt, alloc, 0, &[0x7f])?;
+    check_width(rt, alloc, 1, &[0x55, 0x15])?;
+    check_width(rt, alloc, 2, &[0x11, 0x11, 0x11, 0x01])?;
+    check_width(rt, alloc, 3, &[1, 1, 1, 1, 1, 1, 1])?;
+    let two_bytes = [0, 1, 0, 1, 0, 1, 0, 1, 0, 1, 0, 1, 0, 1];
+    check_width(rt, alloc, 4, &two_bytes)?;
+    let four_bytes = [
+        0, 0, 0, 1, 0, 0, 0, 1, 0, 0, 0, 1, 0, 0, 0, 1, 0, 0, 0, 1, 0, 0, 0, 1, 0, 0, 0, 1,
+    ];
+    check_width(rt, alloc, 5, &four_bytes)?;
+    check_greatest_width(rt, &raised(rt, alloc, 6)?);
     Ok(())
 }
 
@@ -169,19 +194,27 @@ fn counters_are_raised_at_each_width(rt: HostRuntime) -> Result<(), Fail> {
     Ok(())
 }
 
+fn reach_both_ends(rt: &impl Abort, block: &mut RefBlock) {
+    assert_eq!(rt; lower(block, 0), Err(Fault::Counter));
+    assert_eq!(rt; raise(block, 0), Ok(1));
+    assert_eq!(rt; raise(block, 0), Err(Fault::Counter));
+    assert_eq!(rt; raise(block, 4095), Ok(1));
+    assert_eq!(rt; lower(block, 0), Ok(0));
+}
+
+fn assert_last_raised(rt: &impl Abort, block: &RefBlock) {
+    assert_eq!(rt; count(block, 0), Ok(0));
+    assert_eq!(rt; count(block, 4095), Ok(1));
+    assert_eq!(rt; count(block, 4094), Ok(0));
+}
+
 /// Counters of one bit end at 0 and 1.
 fn both_ends(rt: &impl Abort, alloc: Global) -> Result<(), Fault> {
     let header = header(alloc, 9, 0)?;
     let mut block = RefBlock::new_cleared(alloc, &header)?;
     assert_eq!(rt; block.entries(), 4096);
-    assert_eq!(rt; lower(&mut block, 0), Err(Fault::Counter));
-    assert_eq!(rt; raise(&mut block, 0), Ok(1));
-    assert_eq!(rt; raise(&mut block, 0), Err(Fault::Counter));
-    assert_eq!(rt; raise(&mut block, 4095), Ok(1));
-    assert_eq!(rt; lower(&mut block, 0), Ok(0));
-    assert_eq!(rt; count(&block, 0), Ok(0));
-    assert_eq!(rt; count(&block, 4095), Ok(1));
-    assert_eq!(rt; count(&block, 4094), Ok(0));
+    reach_both_ends(rt, &mut block);
+    assert_last_raised(rt, &block);
     Ok(())
 }
 
@@ -233,6 +266,34 @@ fn a_block_is_loaded(rt: HostRuntime) -> Result<(), Fail> {
     Ok(())
 }
 
+/// Writes the block in cluster 2 where it is modified, and where it isn't.
+fn write_twice(
+    rt: &impl Abort,
+    alloc: Global,
+    image: &mut LogStorage<MemStorage>,
+) -> Result<(), Fault> {
+    let header = header(alloc, 9, 4)?;
+    let mut block = load(alloc, image, &header, 2)?;
+    assert_eq!(rt; raise(&mut block, 1), Ok(1));
+    write(alloc, &mut block, image, 2)?;
+    assert_eq!(rt; image.requests().len(), 1);
+    write(alloc, &mut block, image, 2)?;
+    assert_eq!(rt; image.requests().len(), 1);
+    Ok(())
+}
+
+/// Checks that counter 1 of the block in cluster 2 is 1, and its others 0, among bytes a5.
+fn check_block(rt: &impl Abort, bytes: &[u8]) {
+    for (at, byte) in bytes.iter().enumerate() {
+        let wanted = match at {
+            1027 => 1,
+            1024..1536 => 0,
+            _ => 0xa5,
+        };
+        assert_eq!(rt; *byte, wanted, "at {at}");
+    }
+}
+
 /// At each alignment a block is written by one request, and no byte outside it changes.
 fn written_at(rt: &impl Abort, alloc: Global, align: usize) -> Result<(), Fault>
     requires { IsAlignment align }
@@ -241,22 +302,8 @@ fn written_at(rt: &impl Abort, alloc: Global, align: usize) -> Result<(), Fault>
     bytes[1024..1536].fill(0);
     let memory = MemStorage::from_bytes(Vec::from_slice(alloc, &bytes)?)?.with_align(align);
     let mut image = LogStorage::new(alloc, memory)?;
-    let header = header(alloc, 9, 4)?;
-    let mut block = load(alloc, &mut image, &header, 2)?;
-    assert_eq!(rt; raise(&mut block, 1), Ok(1));
-    write(alloc, &mut block, &mut image, 2)?;
-    assert_eq!(rt; image.requests().len(), 1);
-    write(alloc, &mut block, &mut image, 2)?;
-    assert_eq!(rt; image.requests().len(), 1);
-    let written = image.into_inner().into_bytes()?;
-    for (at, byte) in written.iter().enumerate() {
-        let wanted = match at {
-            1027 => 1,
-            1024..1536 => 0,
-            _ => 0xa5,
-        };
-        assert_eq!(rt; *byte, wanted, "at {at}");
-    }
+    write_twice(rt, alloc, &mut image)?;
+    check_block(rt, &image.into_inner().into_bytes()?);
     Ok(())
 }
 
@@ -277,6 +324,45 @@ fn a_block_is_written_at_once(rt: HostRuntime) -> Result<(), Fail> {
     Ok(())
 }
 
+/// A write whose call n fails leaves the block modified and the file as it was.
+fn refused_write(
+    rt: &impl Abort,
+    alloc: Global,
+    block: &mut RefBlock,
+    image: &mut FuseStorage<MemStorage>,
+    n: u64,
+) -> Result<(), Fault> {
+    place(block, 1);
+    block.clear_modified();
+    let refused = block.write(alloc, image);
+    if refused == Err(Fault::Memory) {
+        return Err(Fault::Memory);
+    }
+    assert_eq!(rt; refused, Err(Fault::Storage), "of call {n}");
+    assert!(rt; block.is_modified());
+    let mut bytes = [0; 4096];
+    image.read(alloc, &mut bytes, 0)?;
+    assert!(rt; bytes.iter().all(|byte| *byte == 0xa5));
+    Ok(())
+}
+
+/// The next write of the block, which is all zeroes, succeeds, and so many calls were made.
+fn next_write(
+    rt: &impl Abort,
+    alloc: Global,
+    block: &mut RefBlock,
+    image: &mut FuseStorage<MemStorage>,
+    calls: u64,
+) -> Result<(), Fault> {
+    write(alloc, block, image, 1)?;
+    assert!(rt; !block.is_modified());
+    let mut bytes = [0; 4096];
+    image.read(alloc, &mut bytes, 0)?;
+    assert!(rt; bytes[512..1024].iter().all(|byte| *byte == 0));
+    assert_eq!(rt; image.count(), calls);
+    Ok(())
+}
+
 /// Each call that a write asks for fails: that leaves the block modified and the file as it was, and the next write succeeds.
 fn write_faults(rt: &impl Abort, alloc: Global, align: usize, calls: u64) -> Result<(), Fault>
     requires align { IsAlignment align }
@@ -285,24 +371,10 @@ fn write_faults(rt: &impl Abort, alloc: Global, align: usize, calls: u64) -> Res
     let header = header(alloc, 9, 4)?;
     let mut block = RefBlock::new_cleared(alloc, &header)?;
     for n in 1..calls + 1 {
-        place(&mut block, 1);
-        block.clear_modified();
         let file = MemStorage::from_bytes(Vec::from_slice(alloc, &[0xa5; 4096])?)?;
         let mut image = FuseStorage::new(file.with_align(align), n);
-        let refused = block.write(alloc, &mut image);
-        if refused == Err(Fault::Memory) {
-            return Err(Fault::Memory);
-        }
-        assert_eq!(rt; refused, Err(Fault::Storage), "of call {n}");
-        assert!(rt; block.is_modified());
-        let mut bytes = [0; 4096];
-        image.read(alloc, &mut bytes, 0)?;
-        assert!(rt; bytes.iter().all(|byte| *byte == 0xa5));
-        write(alloc, &mut block, &mut image, 1)?;
-        assert!(rt; !block.is_modified());
-        image.read(alloc, &mut bytes, 0)?;
-        assert!(rt; bytes[512..1024].iter().all(|byte| *byte == 0));
-        assert_eq!(rt; image.count(), n + calls + 2);
+        refused_write(rt, alloc, &mut block, &mut image, n)?;
+        next_write(rt, alloc, &mut block, &mut image, n + calls + 2)?;
     }
     Ok(())
 }

@@ -148,43 +148,56 @@ fn filled(alloc: Global, size: usize) -> Result<Vec<u8>, Fault> {
     Ok(bytes)
 }
 
-fn words(rt: &impl Abort, alloc: Global) -> Result<(), Fault> {
-    let v3 = header(alloc, 3, 9, 4)?;
-    let entry = L1Entry::try_from_plain(0x8000_0000_0000_0800, &v3)?;
+fn l1_words(rt: &impl Abort, header: &Header) -> Result<(), Fault> {
+    let entry = L1Entry::try_from_plain(0x8000_0000_0000_0800, header)?;
     assert_eq!(rt; entry.l2_offset(), Some(HostOffset(2048)));
     assert!(rt; entry.is_copied());
     assert_eq!(rt; entry.reserved_bits(), 0);
     let damaged = Err(Fault::DamagedTable);
     assert_eq!(rt;
-        L1Entry::try_from_plain(0x8000_0000_0000_0801, &v3),
+        L1Entry::try_from_plain(0x8000_0000_0000_0801, header),
         damaged
     );
     assert_eq!(rt;
-        L1Entry::try_from_plain(0x4000_0000_0000_0800, &v3),
+        L1Entry::try_from_plain(0x4000_0000_0000_0800, header),
         damaged
     );
-    let entry = RefTableEntry::try_from_plain(1024, &v3)?;
+    Ok(())
+}
+
+fn refcount_table_words(rt: &impl Abort, header: &Header) -> Result<(), Fault> {
+    let entry = RefTableEntry::try_from_plain(1024, header)?;
     assert_eq!(rt; entry.refblock_offset(), Some(HostOffset(1024)));
     assert_eq!(rt; entry.reserved_bits(), 0);
     assert_eq!(rt;
-        RefTableEntry::try_from_plain(1025, &v3),
+        RefTableEntry::try_from_plain(1025, header),
         Err(Fault::DamagedTable)
     );
-    let entry = L2Entry::try_from_plain(0x8000_0000_0000_0a01, &v3)?;
+    Ok(())
+}
+
+fn l2_words(rt: &impl Abort, header: &Header) -> Result<(), Fault> {
+    let entry = L2Entry::try_from_plain(0x8000_0000_0000_0a01, header)?;
     assert!(rt; entry.is_zero() && entry.is_copied() && !entry.is_compressed());
     assert_eq!(rt; entry.cluster_offset(false), Some(HostOffset(2560)));
     assert_eq!(rt; entry.without_copied().to_plain(), 0xa01);
     assert_eq!(rt; entry.reserved_bits(), 0);
-    let v2 = header(alloc, 2, 9, 4)?;
+    Ok(())
+}
+
+fn damaged_l2_words(rt: &impl Abort, v2: &Header, v3: &Header) {
     let damaged = Err(Fault::DamagedTable);
-    assert_eq!(rt;
-        L2Entry::try_from_plain(0x8000_0000_0000_0a01, &v2),
-        damaged
-    );
-    assert_eq!(rt;
-        L2Entry::try_from_plain(0x8000_0000_0000_0a02, &v3),
-        damaged
-    );
+    assert_eq!(rt; L2Entry::try_from_plain(0x8000_0000_0000_0a01, v2), damaged);
+    assert_eq!(rt; L2Entry::try_from_plain(0x8000_0000_0000_0a02, v3), damaged);
+}
+
+fn words(rt: &impl Abort, alloc: Global) -> Result<(), Fault> {
+    let v3 = header(alloc, 3, 9, 4)?;
+    l1_words(rt, &v3)?;
+    refcount_table_words(rt, &v3)?;
+    l2_words(rt, &v3)?;
+    let v2 = header(alloc, 2, 9, 4)?;
+    damaged_l2_words(rt, &v2, &v3);
     Ok(())
 }
 
@@ -198,16 +211,23 @@ fn words_of_each_table(rt: HostRuntime) -> Result<(), Fail> {
     Ok(())
 }
 
-fn ranges(rt: &impl Abort, alloc: Global) -> Result<(), Fault> {
-    let small = header(alloc, 3, 9, 4)?;
-    let entry = L2Entry::try_from_plain(0x6000_0000_0000_0a01, &small)?;
+fn small_range(rt: &impl Abort, header: &Header) -> Result<(), Fault> {
+    let entry = L2Entry::try_from_plain(0x6000_0000_0000_0a01, header)?;
     assert!(rt; entry.is_compressed());
     assert_eq!(rt; entry.compressed_range(9), Some((HostOffset(2561), 1023)));
     assert_eq!(rt; entry.compressed_descriptor(), 0x2000_0000_0000_0a01);
-    let large = header(alloc, 3, 16, 4)?;
-    let entry = L2Entry::try_from_plain(0x4040_0000_0001_0200, &large)?;
+    Ok(())
+}
+
+fn large_range(rt: &impl Abort, header: &Header) -> Result<(), Fault> {
+    let entry = L2Entry::try_from_plain(0x4040_0000_0001_0200, header)?;
     assert_eq!(rt; entry.compressed_range(16), Some((HostOffset(66048), 1024)));
     Ok(())
+}
+
+fn ranges(rt: &impl Abort, alloc: Global) -> Result<(), Fault> {
+    small_range(rt, &header(alloc, 3, 9, 4)?)?;
+    large_range(rt, &header(alloc, 3, 16, 4)?)
 }
 
 #[test]
@@ -232,18 +252,24 @@ fn worked_image(alloc: Global) -> Result<MemStorage, Fault> {
     Ok(image)
 }
 
+fn assert_worked_l1(rt: &impl Abort, table: &L1Table) {
+    assert_eq!(rt; table.entries(), 2);
+    assert_eq!(rt; table.get(0).l2_offset(), Some(HostOffset(2048)));
+    assert_eq!(rt; table.get(1).l2_offset(), None);
+    assert_eq!(rt; table.get(2).to_plain(), 0);
+    assert!(rt; !table.is_modified() && table.in_bounds(1) && !table.in_bounds(2));
+}
+
+fn assert_worked_refs(rt: &impl Abort, table: &RefTable) {
+    assert_eq!(rt; table.get(0).refblock_offset(), Some(HostOffset(1024)));
+    assert_eq!(rt; table.get(1).refblock_offset(), None);
+}
+
 fn worked_upper_tables(rt: &impl Abort, alloc: Global) -> Result<(), Fault> {
     let mut image = worked_image(alloc)?;
     let header = header(alloc, 3, 9, 4)?;
-    let l1_table = load_l1(alloc, &mut image, &header, 3, 2)?;
-    assert_eq!(rt; l1_table.entries(), 2);
-    assert_eq!(rt; l1_table.get(0).l2_offset(), Some(HostOffset(2048)));
-    assert_eq!(rt; l1_table.get(1).l2_offset(), None);
-    assert_eq!(rt; l1_table.get(2).to_plain(), 0);
-    assert!(rt; !l1_table.is_modified() && l1_table.in_bounds(1) && !l1_table.in_bounds(2));
-    let ref_table = load_refs(alloc, &mut image, &header, 1, 64)?;
-    assert_eq!(rt; ref_table.get(0).refblock_offset(), Some(HostOffset(1024)));
-    assert_eq!(rt; ref_table.get(1).refblock_offset(), None);
+    assert_worked_l1(rt, &load_l1(alloc, &mut image, &header, 3, 2)?);
+    assert_worked_refs(rt, &load_refs(alloc, &mut image, &header, 1, 64)?);
     Ok(())
 }
 
@@ -255,26 +281,33 @@ fn data_in(cluster: u64, copied: bool) -> L2Mapping {
     }
 }
 
-fn worked_l2_table(rt: &impl Abort, alloc: Global) -> Result<(), Fault> {
-    let mut image = worked_image(alloc)?;
-    let header = header(alloc, 3, 9, 4)?;
-    let table = load_l2(alloc, &mut image, &header, 4)?;
+fn assert_worked_l2(rt: &impl Abort, table: &L2Table) {
     assert_eq!(rt; table.get_cluster(), Some(HostCluster(4)));
     assert_eq!(rt; table.byte_size(), 512);
     assert_eq!(rt; table.cluster_count(), ClusterCount(1));
     let data = data_in(5, true);
-    assert_eq!(rt; mapping(&table, 0), data);
+    assert_eq!(rt; mapping(table, 0), data);
     let next = data_in(6, true);
-    assert_eq!(rt; mapping(&table, 65), next);
+    assert_eq!(rt; mapping(table, 65), next);
     assert!(rt; next.is_consecutive(&data, 9) && !data.is_consecutive(&next, 9));
     let below = L2Mapping::Backing {
         backing_offset: 1024,
     };
-    assert_eq!(rt; mapping(&table, 2), below);
-    let copy = table.clone(alloc)?;
-    assert_eq!(rt; mapping(&copy, 0), data_in(5, false));
+    assert_eq!(rt; mapping(table, 2), below);
+}
+
+fn assert_copy(rt: &impl Abort, copy: &L2Table) {
+    assert_eq!(rt; mapping(copy, 0), data_in(5, false));
     assert_eq!(rt; copy.get_cluster(), None);
     assert!(rt; copy.is_modified());
+}
+
+fn worked_l2_table(rt: &impl Abort, alloc: Global) -> Result<(), Fault> {
+    let mut image = worked_image(alloc)?;
+    let header = header(alloc, 3, 9, 4)?;
+    let table = load_l2(alloc, &mut image, &header, 4)?;
+    assert_worked_l2(rt, &table);
+    assert_copy(rt, &table.clone(alloc)?);
     Ok(())
 }
 
@@ -293,18 +326,28 @@ fn tables_of_the_worked_image(rt: HostRuntime) -> Result<(), Fail> {
     Ok(())
 }
 
-fn damaged_and_too_long(rt: &impl Abort, alloc: Global) -> Result<(), Fault> {
-    let mut image = MemStorage::from_bytes(filled(alloc, 2048)?)?;
-    let header = header(alloc, 3, 9, 4)?;
-    match load_l1(alloc, &mut image, &header, 3, 2) {
+fn refused_loads(
+    rt: &impl Abort,
+    alloc: Global,
+    image: &mut MemStorage,
+    header: &Header,
+) -> Result<(), Fault> {
+    match load_l1(alloc, image, header, 3, 2) {
         Err(Fault::DamagedTable) => {}
         Err(Fault::Memory) => return Err(Fault::Memory),
         _ => return Err(Fault::BadArgument),
     }
-    match load_l1(alloc, &mut image, &header, 3, 4_194_305) {
+    match load_l1(alloc, image, header, 3, 4_194_305) {
         Err(fault) => assert_eq!(rt; fault, Fault::Limit(4_194_305)),
         Ok(_) => return Err(Fault::BadArgument),
     }
+    Ok(())
+}
+
+fn damaged_and_too_long(rt: &impl Abort, alloc: Global) -> Result<(), Fault> {
+    let mut image = MemStorage::from_bytes(filled(alloc, 2048)?)?;
+    let header = header(alloc, 3, 9, 4)?;
+    refused_loads(rt, alloc, &mut image, &header)?;
     let none = load_l1(alloc, &mut image, &header, 3, 0)?;
     assert_eq!(rt; none.get_cluster(), None);
     Ok(())
@@ -351,15 +394,8 @@ fn write_word<S: Storage>(
     table.write_entry(alloc, image, index)
 }
 
-fn one_word(rt: &impl Abort, alloc: Global) -> Result<(), Fault> {
-    let header = header(alloc, 3, 9, 4)?;
-    let mut table = entered(alloc, &header)?;
-    assert_eq!(rt; table.get(300).to_plain(), 0x8000_0000_0001_0000);
-    let file = MemStorage::from_bytes(filled(alloc, 16384)?)?.with_align(4096);
-    let mut image = LogStorage::new(alloc, file)?;
-    write_word(alloc, &mut table, &mut image, 300)?;
-    assert_eq!(rt; image.requests().len(), 1);
-    let bytes = image.into_inner().into_bytes()?;
+// Checks that word 300 of the table in cluster 8 stands among bytes a5.
+fn check_word(rt: &impl Abort, bytes: &[u8]) {
     assert_eq!(rt; bytes.len(), 16384);
     let word = [0x80, 0, 0, 0, 0, 1, 0, 0];
     for (at, byte) in bytes.iter().enumerate() {
@@ -370,6 +406,21 @@ fn one_word(rt: &impl Abort, alloc: Global) -> Result<(), Fault> {
         };
         assert_eq!(rt; *byte, wanted, "at {at}");
     }
+}
+
+// An L1 table of an image with clusters of 512 bytes.
+fn entered_once(alloc: Global) -> Result<L1Table, Fault> {
+    entered(alloc, &header(alloc, 3, 9, 4)?)
+}
+
+fn one_word(rt: &impl Abort, alloc: Global) -> Result<(), Fault> {
+    let mut table = entered_once(alloc)?;
+    assert_eq!(rt; table.get(300).to_plain(), 0x8000_0000_0001_0000);
+    let file = MemStorage::from_bytes(filled(alloc, 16384)?)?.with_align(4096);
+    let mut image = LogStorage::new(alloc, file)?;
+    write_word(alloc, &mut table, &mut image, 300)?;
+    assert_eq!(rt; image.requests().len(), 1);
+    check_word(rt, &image.into_inner().into_bytes()?);
     Ok(())
 }
 
@@ -394,24 +445,40 @@ fn grown(alloc: Global, table: &RefTable, header: &Header, at: usize) -> Result<
     table.clone_and_grow(alloc, header, at)
 }
 
+// What refused a growth past the limit.
+fn refusal<T: Drop>(grown: Result<T, Fault>) -> Option<Fault> {
+    match grown {
+        Ok(_) => None,
+        Err(fault) => Some(fault),
+    }
+}
+
+fn assert_grown_refs(rt: &impl Abort, alloc: Global, table: &RefTable, header: &Header)
+    requires { table.now.layout ≡ layout_of header.now.fields }
+{
+    assert_eq!(rt; table.entries(), 4160);
+    assert_eq!(rt; table.cluster_count(), ClusterCount(65));
+    let refused = refusal(grown(alloc, table, header, 1_048_576));
+    assert_eq!(rt; refused, Some(Fault::Limit(1_048_640)));
+}
+
+fn assert_grown_l1(rt: &impl Abort, alloc: Global, table: &L1Table, header: &Header)
+    requires { table.now.layout ≡ layout_of header.now.fields }
+{
+    assert_eq!(rt; table.entries(), 6);
+    let refused = refusal(table.clone_and_grow(alloc, 4_194_304, header));
+    assert_eq!(rt; refused, Some(Fault::Limit(4_194_305)));
+}
+
 fn growth(rt: &impl Abort, alloc: Global) -> Result<(), Fault> {
     let header = header(alloc, 3, 9, 6)?;
     let mut empty = MemStorage::new(alloc);
     let table = load_refs(alloc, &mut empty, &header, 1, 4096)?;
     let table = grown(alloc, &table, &header, 4096)?;
-    assert_eq!(rt; table.entries(), 4160);
-    assert_eq!(rt; table.cluster_count(), ClusterCount(65));
-    match grown(alloc, &table, &header, 1_048_576) {
-        Err(fault) => assert_eq!(rt; fault, Fault::Limit(1_048_640)),
-        Ok(_) => return Err(Fault::BadArgument),
-    }
+    assert_grown_refs(rt, alloc, &table, &header);
     let table = load_l1(alloc, &mut empty, &header, 1, 2)?;
     let table = table.clone_and_grow(alloc, 5, &header)?;
-    assert_eq!(rt; table.entries(), 6);
-    match table.clone_and_grow(alloc, 4_194_304, &header) {
-        Err(fault) => assert_eq!(rt; fault, Fault::Limit(4_194_305)),
-        Ok(_) => return Err(Fault::BadArgument),
-    }
+    assert_grown_l1(rt, alloc, &table, &header);
     Ok(())
 }
 
@@ -433,26 +500,41 @@ fn write<S: Storage>(alloc: Global, table: &mut L2Table, image: &mut S) -> Resul
     table.write_if_modified(alloc, image, HostCluster(4))
 }
 
-fn edits(rt: &impl Abort, alloc: Global) -> Result<(), Fault> {
-    let v3 = header(alloc, 3, 9, 4)?;
-    let mut table = L2Table::new_cleared(alloc, &v3)?;
-    assert_eq!(rt; map(&mut table, 1, 5)?, None);
-    assert_eq!(rt; map(&mut table, 1, 5)?, None);
-    assert_eq!(rt; map(&mut table, 1, 6)?, Some((5, 1)));
-    assert_eq!(rt; zero(&mut table, 1, true)?, None);
+// Guest cluster 1 is mapped twice and zeroed twice.
+fn edit_cluster_1(rt: &impl Abort, table: &mut L2Table) -> Result<(), Fault> {
+    assert_eq!(rt; map(table, 1, 5)?, None);
+    assert_eq!(rt; map(table, 1, 5)?, None);
+    assert_eq!(rt; map(table, 1, 6)?, Some((5, 1)));
+    assert_eq!(rt; zero(table, 1, true)?, None);
     let kept = L2Mapping::Zero {
         host_cluster: Some(HostCluster(6)),
         copied: true,
     };
-    assert_eq!(rt; mapping(&table, 1), kept);
-    assert_eq!(rt; zero(&mut table, 1, false)?, Some((6, 1)));
-    assert_eq!(rt; map(&mut table, 2, 7)?, None);
-    assert_eq!(rt; discard(&mut table, 2)?, Some((7, 1)));
-    assert_eq!(rt; map(&mut table, 3, 8)?, None);
-    let mut image = MemStorage::new(alloc);
-    write(alloc, &mut table, &mut image)?;
+    assert_eq!(rt; mapping(table, 1), kept);
+    assert_eq!(rt; zero(table, 1, false)?, Some((6, 1)));
+    Ok(())
+}
+
+// Guest cluster 2 is mapped and discarded, and 3 is mapped.
+fn edit_next_clusters(rt: &impl Abort, table: &mut L2Table) -> Result<(), Fault> {
+    assert_eq!(rt; map(table, 2, 7)?, None);
+    assert_eq!(rt; discard(table, 2)?, Some((7, 1)));
+    assert_eq!(rt; map(table, 3, 8)?, None);
+    Ok(())
+}
+
+fn write_edited(
+    rt: &impl Abort,
+    alloc: Global,
+    table: &mut L2Table,
+    image: &mut MemStorage,
+) -> Result<(), Fault> {
+    write(alloc, table, image)?;
     assert!(rt; !table.is_modified());
-    let bytes = image.into_bytes()?;
+    Ok(())
+}
+
+fn check_edited(rt: &impl Abort, bytes: &[u8]) {
     assert_eq!(rt; bytes.len(), 2560);
     for (at, byte) in bytes.iter().enumerate() {
         let wanted = match at {
@@ -463,8 +545,20 @@ fn edits(rt: &impl Abort, alloc: Global) -> Result<(), Fault> {
         };
         assert_eq!(rt; *byte, wanted, "at {at}");
     }
-    let v2 = header(alloc, 2, 9, 4)?;
-    let mut table = L2Table::new_cleared(alloc, &v2)?;
+}
+
+fn cleared(alloc: Global, version: u32) -> Result<L2Table, Fault> {
+    L2Table::new_cleared(alloc, &header(alloc, version, 9, 4)?)
+}
+
+fn edits(rt: &impl Abort, alloc: Global) -> Result<(), Fault> {
+    let mut table = cleared(alloc, 3)?;
+    edit_cluster_1(rt, &mut table)?;
+    edit_next_clusters(rt, &mut table)?;
+    let mut image = MemStorage::new(alloc);
+    write_edited(rt, alloc, &mut table, &mut image)?;
+    check_edited(rt, &image.into_bytes()?);
+    let mut table = cleared(alloc, 2)?;
     assert_eq!(rt; zero(&mut table, 1, true), Err(Fault::VersionLimit));
     Ok(())
 }
@@ -480,11 +574,13 @@ fn edits_of_an_l2_table(rt: HostRuntime) -> Result<(), Fail> {
 }
 
 // An L2 table of an image with clusters of 512 bytes whose first word names compressed bytes.
-fn compressed_reads(rt: &impl Abort, alloc: Global) -> Result<(), Fault> {
+fn compressed_table(alloc: Global) -> Result<L2Table, Fault> {
     let mut image = MemStorage::new(alloc);
     image.write(alloc, &[0x60, 0, 0, 0, 0, 0, 10, 1], 2048)?;
-    let header = header(alloc, 3, 9, 4)?;
-    let mut table = load_l2(alloc, &mut image, &header, 4)?;
+    load_l2(alloc, &mut image, &header(alloc, 3, 9, 4)?, 4)
+}
+
+fn read_compressed(rt: &impl Abort, table: &mut L2Table) -> Result<(), Fault> {
     match table.lock_compressed_read(GuestCluster(0)) {
         Some(guard) => {
             assert_eq!(rt; guard.host_offset(), HostOffset(2561));
@@ -494,8 +590,13 @@ fn compressed_reads(rt: &impl Abort, alloc: Global) -> Result<(), Fault> {
     }
     assert!(rt; table.lock_compressed_read(GuestCluster(1)).is_none());
     // Bytes 2561 to 3583 lie in the clusters 5 and 6.
-    assert_eq!(rt; discard(&mut table, 0)?, Some((5, 2)));
+    assert_eq!(rt; discard(table, 0)?, Some((5, 2)));
     Ok(())
+}
+
+fn compressed_reads(rt: &impl Abort, alloc: Global) -> Result<(), Fault> {
+    let mut table = compressed_table(alloc)?;
+    read_compressed(rt, &mut table)
 }
 
 #[test]

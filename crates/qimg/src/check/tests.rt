@@ -8,6 +8,7 @@ use imago_storage::{FuseStorage, MemStorage, StorageExt};
 use std::process::Abort;
 use std::test::Fail;
 
+mod allocations;
 mod contents;
 mod ends;
 mod findings;

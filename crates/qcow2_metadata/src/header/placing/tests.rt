@@ -48,24 +48,44 @@ fn name_reftable<S: Storage>(
     Ok(())
 }
 
-fn places(rt: &impl Abort, alloc: Global) -> Result<(), Fault> {
-    let mut header = Header::new(alloc, 9, 4, None, None, None)?;
-    let mut image = MemStorage::new(alloc);
-    name_l1(alloc, &mut image, &mut header, 3, 65)?;
+fn assert_l1_place(rt: &impl Abort, header: &Header) {
     assert_eq!(rt; header.l1_table_offset(), HostOffset(1536));
     assert_eq!(rt; header.l1_table_entries(), 65);
-    // 65 words of 8 bytes begin a second cluster, of which each has 64 words.
-    name_reftable(alloc, &mut image, &mut header, 5, 65)?;
+}
+
+// 65 words of 8 bytes begin a second cluster, of which each has 64 words.
+fn assert_reftable_place(rt: &impl Abort, header: &Header) {
     assert_eq!(rt; header.reftable_offset(), HostOffset(2560));
     assert_eq!(rt; header.reftable_clusters(), ClusterCount(2));
     assert_eq!(rt; header.reftable_entries(), 128);
-    header.write_reftable_pointer(alloc, &mut image)?;
-    let bytes = image.into_bytes()?;
+}
+
+fn assert_pointers(rt: &impl Abort, bytes: &[u8]) {
     assert_eq!(rt; bytes.len(), 64);
     assert_eq!(rt;
         &bytes[36..60],
         b"\x00\x00\x00\x41\x00\x00\x00\x00\x00\x00\x06\x00\x00\x00\x00\x00\x00\x00\x0a\x00\x00\x00\x00\x02".as_slice()
     );
+}
+
+fn name_both(
+    rt: &impl Abort,
+    alloc: Global,
+    image: &mut MemStorage,
+    header: &mut Header,
+) -> Result<(), Fault> {
+    name_l1(alloc, image, header, 3, 65)?;
+    assert_l1_place(rt, header);
+    name_reftable(alloc, image, header, 5, 65)?;
+    assert_reftable_place(rt, header);
+    header.write_reftable_pointer(alloc, image)
+}
+
+fn places(rt: &impl Abort, alloc: Global) -> Result<(), Fault> {
+    let mut header = Header::new(alloc, 9, 4, None, None, None)?;
+    let mut image = MemStorage::new(alloc);
+    name_both(rt, alloc, &mut image, &mut header)?;
+    assert_pointers(rt, &image.into_bytes()?);
     Ok(())
 }
 

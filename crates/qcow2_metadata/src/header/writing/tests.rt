@@ -86,16 +86,25 @@ fn bytes_written(alloc: Global, header: &mut Header) -> Result<Vec<u8>, Fault> {
     image.into_bytes()
 }
 
+// The header writes these bytes into an empty file.
+fn assert_written(
+    rt: &impl Abort,
+    alloc: Global,
+    header: &mut Header,
+    expected: &[u8],
+) -> Result<(), Fault> {
+    let bytes = bytes_written(alloc, header)?;
+    assert_eq!(rt; bytes.as_slice(), expected);
+    Ok(())
+}
+
 fn new_header(rt: &impl Abort, alloc: Global) -> Result<(), Fault> {
     let mut expected = [0u8; 264];
     put(&mut expected, 0, &FIELDS);
     put_names(&mut expected, 104);
     let mut header = plain(alloc)?;
-    let first = bytes_written(alloc, &mut header)?;
-    assert_eq!(rt; first.as_slice(), expected.as_slice());
-    let second = bytes_written(alloc, &mut header)?;
-    assert_eq!(rt; second.as_slice(), expected.as_slice());
-    Ok(())
+    assert_written(rt, alloc, &mut header, &expected)?;
+    assert_written(rt, alloc, &mut header, &expected)
 }
 
 #[test]
@@ -108,7 +117,12 @@ fn a_new_header_has_these_bytes(rt: HostRuntime) -> Result<(), Fail> {
     Ok(())
 }
 
-fn with_texts(rt: &impl Abort, alloc: Global) -> Result<(), Fault> {
+fn assert_backing(rt: &impl Abort, header: &Header) {
+    assert_eq!(rt; header.backing_filename().unwrap_or(""), "base");
+    assert_eq!(rt; header.backing_format().unwrap_or(""), "raw");
+}
+
+fn bytes_with_texts() -> [u8; 284] {
     let mut expected = [0u8; 284];
     put(&mut expected, 0, &FIELDS);
     put(&mut expected, 0, &[(14, b"\x01\x18\x00\x00\x00\x04")]);
@@ -119,6 +133,10 @@ fn with_texts(rt: &impl Abort, alloc: Global) -> Result<(), Fault> {
     );
     put_names(&mut expected, 120);
     put(&mut expected, 280, &[(0, b"base")]);
+    expected
+}
+
+fn with_texts(rt: &impl Abort, alloc: Global) -> Result<(), Fault> {
     let mut header = filled(Header::new(
         alloc,
         9,
@@ -127,15 +145,13 @@ fn with_texts(rt: &impl Abort, alloc: Global) -> Result<(), Fault> {
         text(alloc, "raw")?,
         None,
     )?);
-    let bytes = bytes_written(alloc, &mut header)?;
-    assert_eq!(rt; bytes.as_slice(), expected.as_slice());
-    assert_eq!(rt; header.backing_filename().unwrap_or(""), "base");
-    assert_eq!(rt; header.backing_format().unwrap_or(""), "raw");
+    assert_written(rt, alloc, &mut header, &bytes_with_texts())?;
+    assert_backing(rt, &header);
     Ok(())
 }
 
 // Both extensions before the names: the format's, filled up with 4 bytes, and the data file's, with none.
-fn with_data_file(rt: &impl Abort, alloc: Global) -> Result<(), Fault> {
+fn bytes_with_data_file() -> [u8; 296] {
     let mut expected = [0u8; 296];
     put(&mut expected, 0, &FIELDS);
     put(&mut expected, 0, &[(79, b"\x04")]);
@@ -150,6 +166,10 @@ fn with_data_file(rt: &impl Abort, alloc: Global) -> Result<(), Fault> {
         &[(0, b"\x44\x41\x54\x41\x00\x00\x00\x08data.raw")],
     );
     put_names(&mut expected, 136);
+    expected
+}
+
+fn with_data_file(rt: &impl Abort, alloc: Global) -> Result<(), Fault> {
     let mut header = filled(Header::new(
         alloc,
         9,
@@ -159,32 +179,34 @@ fn with_data_file(rt: &impl Abort, alloc: Global) -> Result<(), Fault> {
         text(alloc, "data.raw")?,
     )?);
     assert!(rt; header.external_data_file());
-    let bytes = bytes_written(alloc, &mut header)?;
-    assert_eq!(rt; bytes.as_slice(), expected.as_slice());
-    Ok(())
+    assert_written(rt, alloc, &mut header, &bytes_with_data_file())
 }
 
-// A header of version 2: 72 bytes of fields, the end of the extensions, and the name, which stood at 384 before.
-fn older(rt: &impl Abort, alloc: Global) -> Result<(), Fault> {
-    let older: Piece = (7, b"\x02");
+const OLDER: Piece = (7, b"\x02");
+
+// A header of version 2 whose name stands at 384.
+fn older_header(alloc: Global) -> Result<Header, Fault> {
     let mut file = vec![in alloc; 0u8; 512]?;
     put(&mut file, 0, &FIELDS[..7]);
     put(
         &mut file,
         0,
-        &[older, (14, b"\x01\x80\x00\x00\x00\x04"), (384, b"base")],
+        &[OLDER, (14, b"\x01\x80\x00\x00\x00\x04"), (384, b"base")],
     );
-    let mut header = Header::load(alloc, &mut MemStorage::from_bytes(file)?, true)?;
+    Header::load(alloc, &mut MemStorage::from_bytes(file)?, true)
+}
+
+// It is written as 72 bytes of fields, the end of the extensions, and the name.
+fn older(rt: &impl Abort, alloc: Global) -> Result<(), Fault> {
+    let mut header = older_header(alloc)?;
     let mut expected = [0u8; 84];
     put(&mut expected, 0, &FIELDS[..7]);
     put(
         &mut expected,
         0,
-        &[older, (14, b"\x00\x50\x00\x00\x00\x04"), (80, b"base")],
+        &[OLDER, (14, b"\x00\x50\x00\x00\x00\x04"), (80, b"base")],
     );
-    let bytes = bytes_written(alloc, &mut header)?;
-    assert_eq!(rt; bytes.as_slice(), expected.as_slice());
-    Ok(())
+    assert_written(rt, alloc, &mut header, &expected)
 }
 
 // A name of 48 bytes is cut to 46.
@@ -294,23 +316,35 @@ fn write_pointer<S: Storage>(
     }
 }
 
-// One into a file of 8,192 bytes aa: one request, and every other byte stays.
+// One is one request.
+fn write_pointer_once(
+    rt: &impl Abort,
+    alloc: Global,
+    image: &mut LogStorage<MemStorage>,
+    which: u8,
+) -> Result<(), Fault> {
+    let header = plain(alloc)?;
+    write_pointer(alloc, &header, image, which)?;
+    assert_eq!(rt; image.requests().len(), 1);
+    Ok(())
+}
+
+// The order stands behind the first 64 bytes, and all other fields in them.
+fn assert_first_fields(rt: &impl Abort, bytes: &[u8]) {
+    let mut expected = [0xaau8; 8192];
+    expected[..64].fill(0);
+    put(&mut expected, 0, &FIELDS[..7]);
+    assert_eq!(rt; bytes, expected.as_slice());
+}
+
+// One into a file of 8,192 bytes aa: every other byte stays.
 fn pointer_write(rt: &impl Abort, alloc: Global, align: usize, which: u8) -> Result<(), Fault>
     requires { IsAlignment align }
 {
-    let mut expected = vec![in alloc; 0xaau8; 8192]?;
-    for byte in expected.iter_mut().take(64) {
-        *byte = 0;
-    }
-    // All but the order stand in the first 64 bytes.
-    put(&mut expected, 0, &FIELDS[..7]);
     let file = MemStorage::from_bytes(vec![in alloc; 0xaau8; 8192]?)?.with_align(align);
     let mut image = LogStorage::new(alloc, file)?;
-    let header = plain(alloc)?;
-    write_pointer(alloc, &header, &mut image, which)?;
-    assert_eq!(rt; image.requests().len(), 1);
-    let bytes = image.into_inner().into_bytes()?;
-    assert_eq!(rt; bytes.as_slice(), expected.as_slice());
+    write_pointer_once(rt, alloc, &mut image, which)?;
+    assert_first_fields(rt, &image.into_inner().into_bytes()?);
     Ok(())
 }
 
@@ -334,6 +368,38 @@ fn pointer_writes_leave_other_bytes(rt: HostRuntime) -> Result<(), Fail> {
     Ok(())
 }
 
+// Call n of a write fails: the header stays as it was.
+fn refused_write(
+    rt: &impl Abort,
+    alloc: Global,
+    header: &mut Header,
+    image: &mut FuseStorage<MemStorage>,
+    n: u64,
+) -> Result<(), Fault> {
+    let refused = header.write(alloc, image);
+    if refused == Err(Fault::Memory) {
+        return Err(Fault::Memory);
+    }
+    assert_eq!(rt; refused, Err(Fault::Storage), "of call {n}");
+    assert_eq!(rt; image.count(), n);
+    assert_eq!(rt; header.v2.backing_filename_offset, 0);
+    Ok(())
+}
+
+// The next write succeeds, and so many calls were made.
+fn next_write(
+    rt: &impl Abort,
+    alloc: Global,
+    header: &mut Header,
+    image: &mut FuseStorage<MemStorage>,
+    calls: u64,
+) -> Result<(), Fault> {
+    header.write(alloc, image)?;
+    assert_eq!(rt; image.count(), calls);
+    assert_eq!(rt; header.v2.backing_filename_offset, 264);
+    Ok(())
+}
+
 // Each call that a write asks for fails: the header stays as it was, and the next write succeeds.
 fn write_faults(rt: &impl Abort, alloc: Global, align: usize, calls: u64) -> Result<(), Fault>
     requires align { IsAlignment align }
@@ -342,17 +408,25 @@ fn write_faults(rt: &impl Abort, alloc: Global, align: usize, calls: u64) -> Res
     for n in 1..calls + 1 {
         let mut image = FuseStorage::new(MemStorage::new(alloc).with_align(align), n);
         let mut header = Header::new(alloc, 9, 4, text(alloc, "base")?, None, None)?;
-        let refused = header.write(alloc, &mut image);
-        if refused == Err(Fault::Memory) {
-            return Err(Fault::Memory);
-        }
-        assert_eq!(rt; refused, Err(Fault::Storage), "of call {n}");
-        assert_eq!(rt; image.count(), n);
-        assert_eq!(rt; header.v2.backing_filename_offset, 0);
-        header.write(alloc, &mut image)?;
-        assert_eq!(rt; image.count(), n + calls);
-        assert_eq!(rt; header.v2.backing_filename_offset, 264);
+        refused_write(rt, alloc, &mut header, &mut image, n)?;
+        next_write(rt, alloc, &mut header, &mut image, n + calls)?;
     }
+    Ok(())
+}
+
+fn refused_pointer(
+    rt: &impl Abort,
+    alloc: Global,
+    header: &Header,
+    image: &mut FuseStorage<MemStorage>,
+    n: u64,
+    which: u8,
+) -> Result<(), Fault> {
+    let refused = write_pointer(alloc, header, image, which);
+    if refused == Err(Fault::Memory) {
+        return Err(Fault::Memory);
+    }
+    assert_eq!(rt; refused, Err(Fault::Storage), "of call {n}");
     Ok(())
 }
 
@@ -370,11 +444,7 @@ fn pointer_faults(
     let header = plain(alloc)?;
     for n in 1..calls + 1 {
         let mut image = FuseStorage::new(MemStorage::new(alloc).with_align(align), n);
-        let refused = write_pointer(alloc, &header, &mut image, which);
-        if refused == Err(Fault::Memory) {
-            return Err(Fault::Memory);
-        }
-        assert_eq!(rt; refused, Err(Fault::Storage), "of call {n}");
+        refused_pointer(rt, alloc, &header, &mut image, n, which)?;
         write_pointer(alloc, &header, &mut image, which)?;
         assert_eq!(rt; image.count(), n + calls);
     }

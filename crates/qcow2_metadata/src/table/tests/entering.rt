@@ -34,6 +34,24 @@ fn enter_block<S: Storage>(
     table.write_entry(alloc, image, index)
 }
 
+fn assert_entered(rt: &impl Abort, table: &RefTable) {
+    assert!(rt; table.is_modified());
+    assert_eq!(rt; table.get(3).to_plain(), 2560);
+    assert_eq!(rt; table.get(3).refblock_offset(), Some(HostOffset(2560)));
+    assert_eq!(rt; table.get(0).to_plain(), 1024);
+    assert_eq!(rt; table.get(2).to_plain(), 0);
+    assert_eq!(rt; table.get(4).to_plain(), 0);
+}
+
+// Word 3 of the table in cluster 1 alone has changed.
+fn check_entered(rt: &impl Abort, before: &[u8], after: &[u8]) {
+    assert_eq!(rt; after.len(), before.len());
+    for (at, byte) in after.iter().enumerate() {
+        let wanted = if at == 542 { 10 } else { before[at] };
+        assert_eq!(rt; *byte, wanted, "at {at}");
+    }
+}
+
 // Byte 2560, where cluster 5 begins, is 0xa00; word 3 stands at 536.
 fn entered_block(rt: &impl Abort, alloc: Global) -> Result<(), Fault> {
     let mut image = worked_image(alloc)?;
@@ -43,19 +61,9 @@ fn entered_block(rt: &impl Abort, alloc: Global) -> Result<(), Fault> {
     let before = image.bytes()?;
     let mut image = LogStorage::new(alloc, image)?;
     enter_block(alloc, &mut table, &header, &mut image, 3)?;
-    assert!(rt; table.is_modified());
-    assert_eq!(rt; table.get(3).to_plain(), 2560);
-    assert_eq!(rt; table.get(3).refblock_offset(), Some(HostOffset(2560)));
-    assert_eq!(rt; table.get(0).to_plain(), 1024);
-    assert_eq!(rt; table.get(2).to_plain(), 0);
-    assert_eq!(rt; table.get(4).to_plain(), 0);
+    assert_entered(rt, &table);
     assert_eq!(rt; image.requests().len(), 1);
-    let after = image.into_inner().into_bytes()?;
-    assert_eq!(rt; after.len(), before.len());
-    for (at, byte) in after.iter().enumerate() {
-        let wanted = if at == 542 { 10 } else { before[at] };
-        assert_eq!(rt; *byte, wanted, "at {at}");
-    }
+    check_entered(rt, &before, &image.into_inner().into_bytes()?);
     Ok(())
 }
 

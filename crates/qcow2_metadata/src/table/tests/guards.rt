@@ -50,35 +50,40 @@ fn map_pending(table: &mut L2Table, index: usize, cluster: u64) -> Result<Option
 }
 
 // Guest cluster 64 has word 0 of its table, as cluster 0 has.
-fn mappings(rt: &impl Abort, alloc: Global) -> Result<(), Fault> {
-    let mut table = table_of_each_kind(alloc)?;
+fn assert_mappings(rt: &impl Abort, table: &mut L2Table) {
     let packed = L2Mapping::Compressed {
         host_offset: HostOffset(2561),
         length: 1023,
     };
-    assert_eq!(rt; guarded_mapping(&mut table, 64), packed);
+    assert_eq!(rt; guarded_mapping(table, 64), packed);
     let zeroes = L2Mapping::Zero {
         host_cluster: Some(HostCluster(5)),
         copied: true,
     };
-    assert_eq!(rt; guarded_mapping(&mut table, 65), zeroes);
+    assert_eq!(rt; guarded_mapping(table, 65), zeroes);
     let data = L2Mapping::DataFile {
         host_cluster: HostCluster(6),
         copied: true,
     };
-    assert_eq!(rt; guarded_mapping(&mut table, 2), data);
+    assert_eq!(rt; guarded_mapping(table, 2), data);
     // 67 times 512.
     let below = L2Mapping::Backing {
         backing_offset: 34_304,
     };
-    assert_eq!(rt; guarded_mapping(&mut table, 67), below);
-    assert_eq!(rt;
-        guarded_range(&mut table, 64),
-        Some((HostOffset(2561), 1023))
-    );
-    assert_eq!(rt; guarded_range(&mut table, 65), None);
-    assert_eq!(rt; guarded_range(&mut table, 2), None);
+    assert_eq!(rt; guarded_mapping(table, 67), below);
+}
+
+fn assert_ranges(rt: &impl Abort, table: &mut L2Table) {
+    assert_eq!(rt; guarded_range(table, 64), Some((HostOffset(2561), 1023)));
+    assert_eq!(rt; guarded_range(table, 65), None);
+    assert_eq!(rt; guarded_range(table, 2), None);
     assert!(rt; !table.is_modified());
+}
+
+fn mappings(rt: &impl Abort, alloc: Global) -> Result<(), Fault> {
+    let mut table = table_of_each_kind(alloc)?;
+    assert_mappings(rt, &mut table);
+    assert_ranges(rt, &mut table);
     Ok(())
 }
 
@@ -93,28 +98,40 @@ fn mappings_by_the_guard(rt: HostRuntime) -> Result<(), Fail> {
 }
 
 // Bytes 2561 to 3583 lie in the clusters 5 and 6.
-fn replaced_words(rt: &impl Abort, alloc: Global) -> Result<(), Fault> {
-    let mut table = table_of_each_kind(alloc)?;
-    assert_eq!(rt; map_pending(&mut table, 0, 7)?, Some((5, 2)));
+fn map_words(rt: &impl Abort, table: &mut L2Table) -> Result<(), Fault> {
+    assert_eq!(rt; map_pending(table, 0, 7)?, Some((5, 2)));
     assert!(rt; table.is_modified());
     assert_eq!(rt; table.get(0).to_plain(), 0x8000_0000_0000_0e00);
-    assert_eq!(rt; guarded_range(&mut table, 0), None);
-    assert_eq!(rt; map_pending(&mut table, 1, 5)?, None);
+    assert_eq!(rt; guarded_range(table, 0), None);
+    assert_eq!(rt; map_pending(table, 1, 5)?, None);
     assert_eq!(rt; table.get(1).to_plain(), 0x8000_0000_0000_0a00);
-    assert_eq!(rt; map_pending(&mut table, 3, 8)?, None);
-    assert_eq!(rt; discard(&mut table, 4)?, None);
-    // A compressed cluster keeps none.
-    let mut table = table_of_each_kind(alloc)?;
-    assert_eq!(rt; zero(&mut table, 0, true)?, Some((5, 2)));
+    assert_eq!(rt; map_pending(table, 3, 8)?, None);
+    assert_eq!(rt; discard(table, 4)?, None);
+    Ok(())
+}
+
+// A compressed cluster keeps none.
+fn zero_words(rt: &impl Abort, table: &mut L2Table) -> Result<(), Fault> {
+    assert_eq!(rt; zero(table, 0, true)?, Some((5, 2)));
     assert_eq!(rt; table.get(0).to_plain(), 1);
-    assert_eq!(rt; zero(&mut table, 3, true)?, None);
+    assert_eq!(rt; zero(table, 3, true)?, None);
     assert_eq!(rt; table.get(3).to_plain(), 1);
-    // A copy has no copied marks, and compressed words stay.
-    let copy = table_of_each_kind(alloc)?.clone(alloc)?;
+    Ok(())
+}
+
+// A copy has no copied marks, and compressed words stay.
+fn assert_copied_words(rt: &impl Abort, copy: &L2Table) {
     assert_eq!(rt; copy.get(0).to_plain(), 0x6000_0000_0000_0a01);
     assert_eq!(rt; copy.get(1).to_plain(), 0xa01);
     assert_eq!(rt; copy.get(2).to_plain(), 0xc00);
     assert_eq!(rt; copy.get(3).to_plain(), 0);
+}
+
+fn replaced_words(rt: &impl Abort, alloc: Global) -> Result<(), Fault> {
+    map_words(rt, &mut table_of_each_kind(alloc)?)?;
+    zero_words(rt, &mut table_of_each_kind(alloc)?)?;
+    let table = table_of_each_kind(alloc)?;
+    assert_copied_words(rt, &table.clone(alloc)?);
     Ok(())
 }
 
@@ -142,11 +159,22 @@ fn external_header(alloc: Global) -> Result<Header, Fault> {
 
 // Cluster 0 of an external data file is named by the copied mark alone: as data, and as kept for zeroes. A copy keeps both.
 fn words_for_an_external_file(rt: &impl Abort, alloc: Global) -> Result<(), Fault> {
+    let table = external_table(alloc)?;
+    assert_external(rt, &table);
+    let copy = table.clone(alloc)?;
+    assert_external(rt, &copy);
+    assert_eq!(rt; copy.get(2).to_plain(), 0);
+    Ok(())
+}
+
+fn external_table(alloc: Global) -> Result<L2Table, Fault> {
     let mut image = MemStorage::new(alloc);
     image.write(alloc, &[0x80, 0, 0, 0, 0, 0, 0, 0], 2048)?;
     image.write(alloc, &[0x80, 0, 0, 0, 0, 0, 0, 1], 2056)?;
-    let header = external_header(alloc)?;
-    let table = load_l2(alloc, &mut image, &header, 4)?;
+    load_l2(alloc, &mut image, &external_header(alloc)?, 4)
+}
+
+fn assert_external(rt: &impl Abort, table: &L2Table) {
     let data = L2Mapping::DataFile {
         host_cluster: HostCluster(0),
         copied: true,
@@ -155,13 +183,8 @@ fn words_for_an_external_file(rt: &impl Abort, alloc: Global) -> Result<(), Faul
         host_cluster: Some(HostCluster(0)),
         copied: true,
     };
-    assert_eq!(rt; mapping(&table, 0), data);
-    assert_eq!(rt; mapping(&table, 1), kept);
-    let copy = table.clone(alloc)?;
-    assert_eq!(rt; mapping(&copy, 0), data);
-    assert_eq!(rt; mapping(&copy, 1), kept);
-    assert_eq!(rt; copy.get(2).to_plain(), 0);
-    Ok(())
+    assert_eq!(rt; mapping(table, 0), data);
+    assert_eq!(rt; mapping(table, 1), kept);
 }
 
 #[test]

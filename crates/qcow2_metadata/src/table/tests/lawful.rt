@@ -49,26 +49,35 @@ fn words_are_read_back(rt: HostRuntime) -> Result<(), Fail> {
     Ok(())
 }
 
+fn mapped(rt: &impl Abort, alloc: Global, table: &mut L2Table) -> Result<(), Fault> {
+    assert_eq!(rt; map(table, 2, 7)?, None);
+    assert_eq!(rt; mapping(table, 2), data_in(7, true));
+    assert_eq!(rt; mapping(&table.clone(alloc)?, 2), data_in(7, false));
+    Ok(())
+}
+
+fn zeroed_and_discarded(rt: &impl Abort, table: &mut L2Table) -> Result<(), Fault> {
+    assert_eq!(rt; zero(table, 2, false)?, Some((7, 1)));
+    let zeroes = L2Mapping::Zero {
+        host_cluster: None,
+        copied: false,
+    };
+    assert_eq!(rt; mapping(table, 2), zeroes);
+    assert_eq!(rt; discard(table, 2)?, None);
+    let below = L2Mapping::Backing {
+        backing_offset: 1024,
+    };
+    assert_eq!(rt; mapping(table, 2), below);
+    Ok(())
+}
+
 // Guest cluster 2, which isn't mapped, mapped to host cluster 7, zeroed and discarded.
 fn decoded(rt: &impl Abort, alloc: Global) -> Result<(), Fault> {
     let header = header(alloc, 3, 9, 4)?;
     let mut image = worked_image(alloc)?;
     let mut table = load_l2(alloc, &mut image, &header, 4)?;
-    assert_eq!(rt; map(&mut table, 2, 7)?, None);
-    assert_eq!(rt; mapping(&table, 2), data_in(7, true));
-    assert_eq!(rt; mapping(&table.clone(alloc)?, 2), data_in(7, false));
-    assert_eq!(rt; zero(&mut table, 2, false)?, Some((7, 1)));
-    let zeroes = L2Mapping::Zero {
-        host_cluster: None,
-        copied: false,
-    };
-    assert_eq!(rt; mapping(&table, 2), zeroes);
-    assert_eq!(rt; discard(&mut table, 2)?, None);
-    let below = L2Mapping::Backing {
-        backing_offset: 1024,
-    };
-    assert_eq!(rt; mapping(&table, 2), below);
-    Ok(())
+    mapped(rt, alloc, &mut table)?;
+    zeroed_and_discarded(rt, &mut table)
 }
 
 #[test]

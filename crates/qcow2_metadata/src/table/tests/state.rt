@@ -23,26 +23,35 @@ fn offsets<T: Table>(table: &mut T) -> (Option<HostOffset>, Option<HostOffset>) 
     (placed, table.get_offset())
 }
 
+fn l1_places(rt: &impl Abort, table: &mut L1Table) {
+    assert_eq!(rt; offsets(table), (Some(HostOffset(1536)), None));
+    assert_eq!(rt; table.get_cluster(), None);
+    // A new place has to be written, and one that is taken away hasn't.
+    assert!(rt; table.is_modified());
+    table.clear_modified();
+    table.unset_cluster();
+    assert!(rt; !table.is_modified());
+    table.set_modified();
+    assert!(rt; table.is_modified());
+}
+
+fn refs_places(rt: &impl Abort, table: &mut RefTable) {
+    assert_eq!(rt; offsets(table), (Some(HostOffset(1536)), None));
+}
+
+fn l2_places(rt: &impl Abort, table: &mut L2Table) {
+    assert_eq!(rt; table.cluster_bits(), 21);
+    // 3 times 2 MiB.
+    assert_eq!(rt; offsets(table), (Some(HostOffset(6_291_456)), None));
+}
+
 fn places(rt: &impl Abort, alloc: Global) -> Result<(), Fault> {
     let mut image = worked_image(alloc)?;
     let small = header(alloc, 3, 9, 4)?;
-    let mut l1_table = load_l1(alloc, &mut image, &small, 3, 2)?;
-    assert_eq!(rt; offsets(&mut l1_table), (Some(HostOffset(1536)), None));
-    assert_eq!(rt; l1_table.get_cluster(), None);
-    // A new place has to be written, and one that is taken away hasn't.
-    assert!(rt; l1_table.is_modified());
-    l1_table.clear_modified();
-    l1_table.unset_cluster();
-    assert!(rt; !l1_table.is_modified());
-    l1_table.set_modified();
-    assert!(rt; l1_table.is_modified());
-    let mut ref_table = load_refs(alloc, &mut image, &small, 1, 64)?;
-    assert_eq!(rt; offsets(&mut ref_table), (Some(HostOffset(1536)), None));
+    l1_places(rt, &mut load_l1(alloc, &mut image, &small, 3, 2)?);
+    refs_places(rt, &mut load_refs(alloc, &mut image, &small, 1, 64)?);
     let large = header(alloc, 3, 21, 4)?;
-    let mut l2_table = L2Table::new_cleared(alloc, &large)?;
-    assert_eq!(rt; l2_table.cluster_bits(), 21);
-    // 3 times 2 MiB.
-    assert_eq!(rt; offsets(&mut l2_table), (Some(HostOffset(6_291_456)), None));
+    l2_places(rt, &mut L2Table::new_cleared(alloc, &large)?);
     Ok(())
 }
 
@@ -56,25 +65,34 @@ fn places_of_tables(rt: HostRuntime) -> Result<(), Fail> {
     Ok(())
 }
 
+fn assert_l1_words(rt: &impl Abort, table: &L1Table) {
+    assert_eq!(rt; plain(table.get_ref(0)), Some(0x8000_0000_0000_0800));
+    assert_eq!(rt; plain(table.get_ref(1)), Some(0));
+    assert_eq!(rt; plain(table.get_ref(2)), None);
+}
+
+fn assert_refs_words(rt: &impl Abort, table: &RefTable) {
+    assert_eq!(rt; plain(table.get_ref(0)), Some(1024));
+    assert_eq!(rt; plain(table.get_ref(63)), Some(0));
+    assert_eq!(rt; plain(table.get_ref(64)), None);
+    assert_eq!(rt; table.get(64).to_plain(), 0);
+    assert!(rt; table.in_bounds(63) && !table.in_bounds(64));
+}
+
+fn assert_l2_words(rt: &impl Abort, table: &L2Table) {
+    assert_eq!(rt; plain(table.get_ref(1)), Some(0x8000_0000_0000_0c00));
+    assert_eq!(rt; plain(table.get_ref(64)), None);
+    assert_eq!(rt; table.get(0).to_plain(), 0x8000_0000_0000_0a00);
+    assert_eq!(rt; table.get(64).to_plain(), 0);
+    assert_eq!(rt; table.entries(), 64);
+}
+
 fn single_words(rt: &impl Abort, alloc: Global) -> Result<(), Fault> {
     let mut image = worked_image(alloc)?;
     let header = header(alloc, 3, 9, 4)?;
-    let l1_table = load_l1(alloc, &mut image, &header, 3, 2)?;
-    assert_eq!(rt; plain(l1_table.get_ref(0)), Some(0x8000_0000_0000_0800));
-    assert_eq!(rt; plain(l1_table.get_ref(1)), Some(0));
-    assert_eq!(rt; plain(l1_table.get_ref(2)), None);
-    let ref_table = load_refs(alloc, &mut image, &header, 1, 64)?;
-    assert_eq!(rt; plain(ref_table.get_ref(0)), Some(1024));
-    assert_eq!(rt; plain(ref_table.get_ref(63)), Some(0));
-    assert_eq!(rt; plain(ref_table.get_ref(64)), None);
-    assert_eq!(rt; ref_table.get(64).to_plain(), 0);
-    assert!(rt; ref_table.in_bounds(63) && !ref_table.in_bounds(64));
-    let l2_table = load_l2(alloc, &mut image, &header, 4)?;
-    assert_eq!(rt; plain(l2_table.get_ref(1)), Some(0x8000_0000_0000_0c00));
-    assert_eq!(rt; plain(l2_table.get_ref(64)), None);
-    assert_eq!(rt; l2_table.get(0).to_plain(), 0x8000_0000_0000_0a00);
-    assert_eq!(rt; l2_table.get(64).to_plain(), 0);
-    assert_eq!(rt; l2_table.entries(), 64);
+    assert_l1_words(rt, &load_l1(alloc, &mut image, &header, 3, 2)?);
+    assert_refs_words(rt, &load_refs(alloc, &mut image, &header, 1, 64)?);
+    assert_l2_words(rt, &load_l2(alloc, &mut image, &header, 4)?);
     Ok(())
 }
 
@@ -88,8 +106,18 @@ fn words_at_an_index(rt: HostRuntime) -> Result<(), Fail> {
     Ok(())
 }
 
+fn assert_l1_size(rt: &impl Abort, table: &L1Table, entries: usize, bytes: usize, clusters: u64) {
+    assert_eq!(rt; table.entries(), entries);
+    assert_eq!(rt; table.byte_size(), bytes, "of {entries}");
+    assert_eq!(rt;
+        table.cluster_count(),
+        ClusterCount(clusters),
+        "of {entries}"
+    );
+}
+
 // The bytes and clusters of L1 tables of so many words, in clusters of 512 bytes: 64 words fill one.
-fn sizes(rt: &impl Abort, alloc: Global) -> Result<(), Fault> {
+fn l1_sizes(rt: &impl Abort, alloc: Global) -> Result<(), Fault> {
     let small = header(alloc, 3, 9, 4)?;
     let mut empty = MemStorage::new(alloc);
     let wanted = [
@@ -102,23 +130,34 @@ fn sizes(rt: &impl Abort, alloc: Global) -> Result<(), Fault> {
     ];
     for (entries, bytes, clusters) in wanted {
         let table = load_l1(alloc, &mut empty, &small, 3, entries)?;
-        assert_eq!(rt; table.entries(), entries);
-        assert_eq!(rt; table.byte_size(), bytes, "of {entries}");
-        assert_eq!(rt;
-            table.cluster_count(),
-            ClusterCount(clusters),
-            "of {entries}"
-        );
+        assert_l1_size(rt, &table, entries, bytes, clusters);
     }
-    let large = header(alloc, 3, 16, 4)?;
-    let table = load_refs(alloc, &mut empty, &large, 3, 8193)?;
+    Ok(())
+}
+
+fn assert_refs_size(rt: &impl Abort, table: &RefTable) {
     assert_eq!(rt; table.byte_size(), 65_544);
     assert_eq!(rt; table.cluster_count(), ClusterCount(2));
-    let table = L2Table::new_cleared(alloc, &large)?;
+}
+
+fn assert_l2_size(rt: &impl Abort, table: &L2Table) {
     assert_eq!(rt; table.entries(), 8192);
     assert_eq!(rt; table.byte_size(), 65_536);
     assert_eq!(rt; table.cluster_count(), ClusterCount(1));
+}
+
+// In clusters of 65,536 bytes 8,192 words fill one.
+fn large_sizes(rt: &impl Abort, alloc: Global) -> Result<(), Fault> {
+    let large = header(alloc, 3, 16, 4)?;
+    let mut empty = MemStorage::new(alloc);
+    assert_refs_size(rt, &load_refs(alloc, &mut empty, &large, 3, 8193)?);
+    assert_l2_size(rt, &L2Table::new_cleared(alloc, &large)?);
     Ok(())
+}
+
+fn sizes(rt: &impl Abort, alloc: Global) -> Result<(), Fault> {
+    l1_sizes(rt, alloc)?;
+    large_sizes(rt, alloc)
 }
 
 #[test]
@@ -153,20 +192,26 @@ fn made_again(alloc: Global, table: &L1Table, header: &Header) -> Result<L1Table
     }
 }
 
-fn from_words(rt: &impl Abort, alloc: Global) -> Result<(), Fault> {
-    let mut image = worked_image(alloc)?;
-    let header = header(alloc, 3, 9, 4)?;
-    let loaded = load_l1(alloc, &mut image, &header, 3, 2)?;
-    let table = made_again(alloc, &loaded, &header)?;
+fn assert_made(rt: &impl Abort, table: &L1Table) {
     assert_eq!(rt; table.entries(), 2);
     assert_eq!(rt; table.get(0).to_plain(), 0x8000_0000_0000_0800);
     assert_eq!(rt; table.get(1).to_plain(), 0);
     assert_eq!(rt; table.get_cluster(), None);
     assert!(rt; table.is_modified());
     assert_eq!(rt; table.cluster_bits(), 9);
-    let none = RefTable::from_data(Vec::new(alloc), &header);
-    assert_eq!(rt; none.entries(), 0);
-    assert!(rt; none.is_modified() && none.get_cluster().is_none());
+}
+
+fn assert_empty(rt: &impl Abort, table: &RefTable) {
+    assert_eq!(rt; table.entries(), 0);
+    assert!(rt; table.is_modified() && table.get_cluster().is_none());
+}
+
+fn from_words(rt: &impl Abort, alloc: Global) -> Result<(), Fault> {
+    let mut image = worked_image(alloc)?;
+    let header = header(alloc, 3, 9, 4)?;
+    let loaded = load_l1(alloc, &mut image, &header, 3, 2)?;
+    assert_made(rt, &made_again(alloc, &loaded, &header)?);
+    assert_empty(rt, &RefTable::from_data(Vec::new(alloc), &header));
     Ok(())
 }
 

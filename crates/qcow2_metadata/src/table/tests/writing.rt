@@ -76,8 +76,12 @@ fn written_by(
     write_at_3(alloc, &mut table, &mut image)?;
     assert!(rt; !table.is_modified());
     assert_eq!(rt; image.requests().len(), requests, "at alignment {align}");
-    let bytes = image.into_inner().into_bytes()?;
-    check_l1(rt, &bytes, entries, 1536 + 8 * entries);
+    check_l1(
+        rt,
+        &image.into_inner().into_bytes()?,
+        entries,
+        1536 + 8 * entries,
+    );
     Ok(())
 }
 
@@ -125,6 +129,34 @@ fn answered<T: Drop>(answer: Result<T, Fault>) -> Result<Option<Fault>, Fault> {
     }
 }
 
+// A write that is refused leaves what was written before some byte, and the table as modified.
+fn refused_write(
+    rt: &impl Abort,
+    alloc: Global,
+    table: &mut L1Table,
+    image: &mut FuseStorage<MemStorage>,
+    end: usize,
+) -> Result<(), Fault> {
+    let refused = write_at_3(alloc, table, image);
+    assert_eq!(rt; answered(refused)?, Some(Fault::Storage));
+    assert!(rt; table.is_modified());
+    check_l1(rt, &content(alloc, image, 8192)?, 200, end);
+    Ok(())
+}
+
+// The next one writes all of it.
+fn next_write(
+    rt: &impl Abort,
+    alloc: Global,
+    table: &mut L1Table,
+    image: &mut FuseStorage<MemStorage>,
+) -> Result<(), Fault> {
+    write_at_3(alloc, table, image)?;
+    assert!(rt; !table.is_modified());
+    check_l1(rt, &content(alloc, image, 8192)?, 200, 3136);
+    Ok(())
+}
+
 // Each of the five calls that 200 words ask for in units of 1,024 fails: the first unit is read and written, the next is
 // written, and the last is read and written. What was written by then stays.
 fn faults_of_a_write(rt: &impl Abort, alloc: Global) -> Result<(), Fault> {
@@ -142,13 +174,8 @@ fn faults_of_a_write(rt: &impl Abort, alloc: Global) -> Result<(), Fault> {
     ];
     for (n, end) in reached {
         let mut image = FuseStorage::new(file(alloc, 1024)?, n);
-        let refused = write_at_3(alloc, &mut table, &mut image);
-        assert_eq!(rt; answered(refused)?, Some(Fault::Storage));
-        assert!(rt; table.is_modified());
-        check_l1(rt, &content(alloc, &mut image, 8192)?, 200, end);
-        write_at_3(alloc, &mut table, &mut image)?;
-        assert!(rt; !table.is_modified());
-        check_l1(rt, &content(alloc, &mut image, 8192)?, 200, 3136);
+        refused_write(rt, alloc, &mut table, &mut image, end)?;
+        next_write(rt, alloc, &mut table, &mut image)?;
     }
     Ok(())
 }
@@ -179,35 +206,48 @@ fn write_word_1<T: Table, S: Storage>(
     table.write_entry(alloc, image, 1)
 }
 
+fn refused_word(
+    rt: &impl Abort,
+    alloc: Global,
+    table: &mut L1Table,
+    image: &mut FuseStorage<MemStorage>,
+) -> Result<(), Fault> {
+    let refused = write_word_1(alloc, table, image);
+    assert_eq!(rt; answered(refused)?, Some(Fault::Storage));
+    assert!(rt; table.is_modified());
+    Ok(())
+}
+
+fn check_unwritten(rt: &impl Abort, bytes: &[u8]) {
+    assert!(rt; bytes.iter().all(|byte| *byte == 0xa5));
+}
+
+fn check_word_1(rt: &impl Abort, bytes: &[u8]) {
+    for (at, byte) in bytes.iter().enumerate() {
+        let wanted = match at {
+            1544 => 0x80,
+            1550 => 10,
+            1544..1552 => 0,
+            _ => 0xa5,
+        };
+        assert_eq!(rt; *byte, wanted, "at {at}");
+    }
+}
+
 // A word is written by one read and one write in units of 4,096, and each of them fails; word 1 is the last of the table.
 fn faults_of_a_word(rt: &impl Abort, alloc: Global) -> Result<(), Fault> {
     let header = header(alloc, 3, 9, 4)?;
     let mut table = l1_of(alloc, &header, 2)?;
     for n in 1..3u64 {
         let mut image = FuseStorage::new(file(alloc, 4096)?, n);
-        let refused = write_word_1(alloc, &mut table, &mut image);
-        assert_eq!(rt; answered(refused)?, Some(Fault::Storage));
-        assert!(rt; table.is_modified());
-        let bytes = content(alloc, &mut image, 8192)?;
-        assert!(rt; bytes.iter().all(|byte| *byte == 0xa5));
+        refused_word(rt, alloc, &mut table, &mut image)?;
+        check_unwritten(rt, &content(alloc, &mut image, 8192)?);
         write_word_1(alloc, &mut table, &mut image)?;
         assert!(rt; !table.is_modified());
-        let bytes = content(alloc, &mut image, 8192)?;
-        for (at, byte) in bytes.iter().enumerate() {
-            let wanted = match at {
-                1544 => 0x80,
-                1550 => 10,
-                1544..1552 => 0,
-                _ => 0xa5,
-            };
-            assert_eq!(rt; *byte, wanted, "at {at}");
-        }
+        check_word_1(rt, &content(alloc, &mut image, 8192)?);
     }
     let mut image = FuseStorage::new(file(alloc, 8)?, 1);
-    let refused = write_word_1(alloc, &mut table, &mut image);
-    assert_eq!(rt; answered(refused)?, Some(Fault::Storage));
-    assert!(rt; table.is_modified());
-    Ok(())
+    refused_word(rt, alloc, &mut table, &mut image)
 }
 
 #[test]
@@ -220,6 +260,46 @@ fn a_fault_leaves_a_word_as_it_was(rt: HostRuntime) -> Result<(), Fail> {
     Ok(())
 }
 
+// The first load of a table fails, and the next one succeeds.
+fn fault_of_an_l1_load<S: Storage>(
+    rt: &impl Abort,
+    alloc: Global,
+    image: &mut S,
+    header: &Header,
+) -> Result<(), Fault> {
+    let refused = load_l1(alloc, image, header, 3, 2);
+    assert_eq!(rt; answered(refused)?, Some(Fault::Storage));
+    let table = load_l1(alloc, image, header, 3, 2)?;
+    assert_eq!(rt; table.get(0).to_plain(), 0x8000_0000_0000_0800);
+    Ok(())
+}
+
+fn fault_of_an_l2_load<S: Storage>(
+    rt: &impl Abort,
+    alloc: Global,
+    image: &mut S,
+    header: &Header,
+) -> Result<(), Fault> {
+    let refused = load_l2(alloc, image, header, 4);
+    assert_eq!(rt; answered(refused)?, Some(Fault::Storage));
+    let table = load_l2(alloc, image, header, 4)?;
+    assert_eq!(rt; table.get(0).to_plain(), 0x8000_0000_0000_0a00);
+    Ok(())
+}
+
+fn fault_of_a_refs_load<S: Storage>(
+    rt: &impl Abort,
+    alloc: Global,
+    image: &mut S,
+    header: &Header,
+) -> Result<(), Fault> {
+    let refused = load_refs(alloc, image, header, 1, 64);
+    assert_eq!(rt; answered(refused)?, Some(Fault::Storage));
+    let table = load_refs(alloc, image, header, 1, 64)?;
+    assert_eq!(rt; table.get(0).to_plain(), 1024);
+    Ok(())
+}
+
 // A load asks for one read at each alignment.
 fn faults_of_a_load(rt: &impl Abort, alloc: Global, align: usize) -> Result<(), Fault>
     requires { IsAlignment align }
@@ -228,22 +308,12 @@ fn faults_of_a_load(rt: &impl Abort, alloc: Global, align: usize) -> Result<(), 
     let bytes = worked_image(alloc)?.into_bytes()?;
     let file = MemStorage::from_bytes(bytes)?.with_align(align);
     let mut image = FuseStorage::new(file, 1);
-    let refused = load_l1(alloc, &mut image, &header, 3, 2);
-    assert_eq!(rt; answered(refused)?, Some(Fault::Storage));
-    let table = load_l1(alloc, &mut image, &header, 3, 2)?;
-    assert_eq!(rt; table.get(0).to_plain(), 0x8000_0000_0000_0800);
+    fault_of_an_l1_load(rt, alloc, &mut image, &header)?;
     assert_eq!(rt; image.count(), 2);
     let mut image = FuseStorage::new(image, 1);
-    let refused = load_l2(alloc, &mut image, &header, 4);
-    assert_eq!(rt; answered(refused)?, Some(Fault::Storage));
-    let table = load_l2(alloc, &mut image, &header, 4)?;
-    assert_eq!(rt; table.get(0).to_plain(), 0x8000_0000_0000_0a00);
+    fault_of_an_l2_load(rt, alloc, &mut image, &header)?;
     let mut image = FuseStorage::new(image, 1);
-    let refused = load_refs(alloc, &mut image, &header, 1, 64);
-    assert_eq!(rt; answered(refused)?, Some(Fault::Storage));
-    let table = load_refs(alloc, &mut image, &header, 1, 64)?;
-    assert_eq!(rt; table.get(0).to_plain(), 1024);
-    Ok(())
+    fault_of_a_refs_load(rt, alloc, &mut image, &header)
 }
 
 fn faults_of_loads(rt: &impl Abort, alloc: Global) -> Result<(), Fault> {
@@ -261,24 +331,37 @@ fn faults_of_loads_are_passed_on(rt: HostRuntime) -> Result<(), Fail> {
     Ok(())
 }
 
+fn refused_l2_write(
+    rt: &impl Abort,
+    alloc: Global,
+    table: &mut L2Table,
+    image: &mut FuseStorage<MemStorage>,
+) -> Result<(), Fault> {
+    let refused = write(alloc, table, image);
+    assert_eq!(rt; answered(refused)?, Some(Fault::Storage));
+    assert!(rt; table.is_modified());
+    Ok(())
+}
+
+// Checks that cluster 4 has zeroes among bytes a5.
+fn check_zeroes(rt: &impl Abort, bytes: &[u8]) {
+    for (at, byte) in bytes.iter().enumerate() {
+        let wanted = if at < 2048 || at >= 2560 { 0xa5 } else { 0 };
+        assert_eq!(rt; *byte, wanted, "at {at}");
+    }
+}
+
 // An L2 table is written by one request; in units of 4,096 a read comes before.
 fn faults_of_an_l2_table(rt: &impl Abort, alloc: Global) -> Result<(), Fault> {
     let header = header(alloc, 3, 9, 4)?;
     let mut table = L2Table::new_cleared(alloc, &header)?;
     for n in 1..3u64 {
         let mut image = FuseStorage::new(file(alloc, 4096)?, n);
-        let refused = write(alloc, &mut table, &mut image);
-        assert_eq!(rt; answered(refused)?, Some(Fault::Storage));
-        assert!(rt; table.is_modified());
-        let bytes = content(alloc, &mut image, 8192)?;
-        assert!(rt; bytes.iter().all(|byte| *byte == 0xa5));
+        refused_l2_write(rt, alloc, &mut table, &mut image)?;
+        check_unwritten(rt, &content(alloc, &mut image, 8192)?);
         write(alloc, &mut table, &mut image)?;
         assert!(rt; !table.is_modified());
-        let bytes = content(alloc, &mut image, 8192)?;
-        for (at, byte) in bytes.iter().enumerate() {
-            let wanted = if at < 2048 || at >= 2560 { 0xa5 } else { 0 };
-            assert_eq!(rt; *byte, wanted, "at {at}");
-        }
+        check_zeroes(rt, &content(alloc, &mut image, 8192)?);
     }
     Ok(())
 }

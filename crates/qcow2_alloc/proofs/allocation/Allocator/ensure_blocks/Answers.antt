@@ -5,7 +5,13 @@ use Rattle.qcow2_alloc.specs.declared.allocation.Allocator.{Allocator}
 use Rattle.qcow2_alloc.specs.declared.cache.MetadataCaches.{MetadataCaches}
 use Rattle.qcow2_alloc.specs.declared.file.ImageFile.{ImageFile}
 use Rattle.qcow2_alloc.specs.Allocating.{MakesBlocks}
-use Rattle.qcow2_alloc.specs.Allocators.{table_of, mark_of}
+use Rattle.std.specs.Prelude.{IsTrue}
+use Rattle.qcow2_alloc.specs.declared.cache.CacheDependency.TheVariants.{L2DependsOnRb}
+use Rattle.qcow2_alloc.specs.Allocators.{metadata_of, table_of, mark_of}
+use Rattle.qcow2_alloc.specs.Caches.{order_of}
+use Rattle.qcow2_alloc.specs.FillingBlocks.{FillsFrom, IsBlockPlaced}
+use Rattle.qcow2_alloc.specs.Quiet.{IsSound}
+use Rattle.qcow2_alloc.proofs.FillingBlocks.{fills-none, fills-there, turn-fills}
 use Rattle.qcow2_alloc.proofs.EnsuringBlocks.{so, blocks-none, blocks-there, blocks-then, blocks-within}
 use Rattle.qcow2_alloc.proofs.FreeingEntries.{failed}
 use Rattle.qcow2_alloc.proofs.NamedWords.{named-some, named-none}
@@ -14,7 +20,11 @@ use Rattle.qcow2_alloc.proofs.allocation.Allocator.ensure_blocks.Goals as goal
 use Rattle.qcow2_alloc.proofs.allocation.Allocator.ensure_blocks.Goals.{then-is_none+in-Ok, else-is_none}
 
 pub loop-index-init : goal.loop-index-init
-loop-index-init g c = (λ pending. blocks-none g.S.Storage.state pending c.args.first (table_of c.args.self.now) c.args.caches.now c.args.file.now, refl)
+loop-index-init g c = (
+  λ pending. blocks-none g.S.Storage.state pending c.args.first (table_of c.args.self.now) c.args.caches.now c.args.file.now,
+  refl,
+  λ pending order keeps sound. fills-none (mark_of c.args.self.now) c.args.first (metadata_of g.S.Storage.state c.args.file.now c.args.caches.now (table_of c.args.self.now) pending),
+)
 
 pub make_block-requires-clause-inside : goal.make_block-requires-clause-inside
 make_block-requires-clause-inside g c =
@@ -44,17 +54,26 @@ loop-index-preserved g c = elim c.if-is_none.branch [
         (λ pending. blocks-then g.S.Storage.state pending c.args.first l.index (table_of c.args.self.now) c.args.caches.now c.args.file.now l.made (table_of l.self) l.caches l.file (l.invariant.0 pending) (omega (arith, inside, test))
             (named-none (table_of l.self) l.index (ap (λ (o : Option ℕ). is_some o) (sym c.block_cluster.ensures) ∙ w.if-is_none.ensures)) l.auto.index succeeded (table_of new.self) new.caches new.file (w.in-Ok.ensures.makes pending)),
         w.in-Ok.ensures.mark ∙ l.invariant.1,
+        λ pending order keeps sound.
+            turn-fills g.S.Storage.state (mark_of c.args.self.now) pending c.args.first l.index (table_of c.args.self.now) c.args.caches.now c.args.file.now l.made (table_of l.self) l.caches l.file (l.invariant.0 pending)
+            (named-none (table_of l.self) l.index (ap (λ (o : Option ℕ). is_some o) (sym c.block_cluster.ensures) ∙ w.if-is_none.ensures)) l.auto.index (table_of new.self) new.caches new.file (w.in-Ok.ensures.makes pending)
+            (subst (λ (m : ℕ). order_of l.caches ≡ L2DependsOnRb → IsTrue (g.S.Storage.state l.file.image).shape.keeps → IsSound (metadata_of g.S.Storage.state l.file l.caches (table_of l.self) pending)
+            → IsBlockPlaced m l.index (metadata_of g.S.Storage.state l.file l.caches (table_of l.self) pending) (metadata_of g.S.Storage.state new.file new.caches (table_of new.self) pending)) l.invariant.1 (w.in-Ok.ensures.placed pending))
+            order keeps sound (l.invariant.2 pending order keeps sound),
       )
   | else-is_none w ↦
       let l = c.loop-index in
       so_still l.made l.self l.caches l.file w.made-is w.self-is w.caches-is w.file-is (
         (λ pending. blocks-there g.S.Storage.state pending c.args.first l.index (table_of c.args.self.now) c.args.caches.now c.args.file.now l.made (table_of l.self) l.caches l.file (l.invariant.0 pending) (named-some (table_of l.self) l.index (ap (λ (o : Option ℕ). is_some o) (sym c.block_cluster.ensures) ∙ w.if-is_none.ensures))),
         l.invariant.1,
+        λ pending order keeps sound. fills-there (mark_of c.args.self.now) c.args.first (metadata_of g.S.Storage.state c.args.file.now c.args.caches.now (table_of c.args.self.now) pending) l.index (metadata_of g.S.Storage.state l.file l.caches (table_of l.self) pending) (l.invariant.2 pending order keeps sound),
       )
 ]
   where
     P : Bool → Allocator → MetadataCaches g.row.S.Denot → ImageFile g.row.S.Denot → Type 0
     P b s ca f = ((pending : List FreeEntry) → MakesBlocks g.S.Storage.state c.args.first (c.loop-index.index + 1) (table_of c.args.self.now) c.args.caches.now c.args.file.now (so b) (table_of s) ca f pending) × (mark_of s ≡ mark_of c.args.self.now)
+        × ((pending : List FreeEntry) → order_of c.args.caches.now ≡ L2DependsOnRb → IsTrue (g.S.Storage.state c.args.file.now.image).shape.keeps → IsSound (metadata_of g.S.Storage.state c.args.file.now c.args.caches.now (table_of c.args.self.now) pending)
+        → FillsFrom (mark_of c.args.self.now) c.args.first (c.loop-index.index + 1) (metadata_of g.S.Storage.state c.args.file.now c.args.caches.now (table_of c.args.self.now) pending) (metadata_of g.S.Storage.state f ca (table_of s) pending))
 
     so_still : (b : Bool) (s : Allocator) (ca : MetadataCaches g.row.S.Denot) (f : ImageFile g.row.S.Denot) → c.if-is_none.made ≡ b → c.if-is_none.self ≡ s → c.if-is_none.caches ≡ ca → c.if-is_none.file ≡ f → P b s ca f
         → P c.if-is_none.made c.if-is_none.self c.if-is_none.caches c.if-is_none.file
@@ -71,3 +90,11 @@ returns-clause-makes g c = λ pending.
     let end = l.auto.index-end c.requires.order in
     let all : l.index ≡ c.args.end = omega (arith, past, end) in
     subst (λ (n : ℕ). MakesBlocks g.S.Storage.state c.args.first n (table_of c.args.self.now) c.args.caches.now c.args.file.now (so l.made) (table_of l.self) l.caches l.file pending) all (l.invariant.0 pending)
+
+pub returns-clause-fills : goal.returns-clause-fills
+returns-clause-fills g c = λ pending order keeps sound.
+    let l = c.loop-index in
+    let past = c.loop-index-test.false in
+    let end = l.auto.index-end c.requires.order in
+    let all : l.index ≡ c.args.end = omega (arith, past, end) in
+    subst (λ (n : ℕ). FillsFrom (mark_of c.args.self.now) c.args.first n (metadata_of g.S.Storage.state c.args.file.now c.args.caches.now (table_of c.args.self.now) pending) (metadata_of g.S.Storage.state l.file l.caches (table_of l.self) pending)) all (l.invariant.2 pending order keeps sound)

@@ -40,8 +40,8 @@ loop-needed-init g c =
       as-needed table c.rb_bits-rb_bits.result k c.args.clusters c.lacking_for.result run c.rb_bits-rb_bits.ensures.entries c.lacking_for.ensures,
     )
 
-pub returns-in-Err-grow_room : goal.returns-in-Err-grow_room
-returns-in-Err-grow_room g c =
+pub returns-in-Err-grow_room-clause-looks : goal.returns-in-Err-grow_room-clause-looks
+returns-in-Err-grow_room-clause-looks g c =
     let state = g.S.Storage.state in
     let table = table_of c.args.self.now in
     let l = c.loop-needed in
@@ -111,11 +111,22 @@ loop-needed-preserved g c =
       as-needed table c.rb_bits-rb_bits.result k c.args.clusters c.lacking_for-in-loop-needed.result now bits.entries c.lacking_for-in-loop-needed.ensures,
     )
 
-pub returns : goal.returns
-returns g c =
+pub returns-clause-looks : goal.returns-clause-looks
+returns-clause-looks g c =
     let table = table_of c.args.self.now in
     let l = c.loop-needed in
     let len = c.len.ensures in
     let test = c.loop-needed-test.false in
     let is = l.invariant.1 in
     rooms-found g.S.Storage.state table c.args.from c.args.clusters c.args.caches.now c.args.file.now l.room l.caches l.file l.invariant.0 (omega (arith, len, test, is))
+
+pub returns-clause-within : goal.returns-clause-within
+returns-clause-within g c = let searched = c.loop-needed.invariant.0 in (searched.within, searched.few)
+
+pub returns-clause-enough : goal.returns-clause-enough
+returns-clause-enough g c =
+    let len = c.len.ensures in
+    let test = c.loop-needed-test.false in
+    let is = c.loop-needed.invariant.1 in
+    let short = c.loop-needed.invariant.0.short in
+    omega (arith, len, test, is, short)

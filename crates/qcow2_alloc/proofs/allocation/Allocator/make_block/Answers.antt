@@ -2,6 +2,7 @@ use Rattle.qcow2_alloc.specs.Allocators.{table_of, mark_of}
 use Rattle.qcow2_alloc.proofs.MadeBlocks.{begins-makes}
 use Rattle.qcow2_alloc.proofs.SearchedPlaces.{looked-refused, looked-begins, found-free}
 use Rattle.qcow2_alloc.proofs.allocation.Allocator.make_block.Goals as goal
+use Rattle.qcow2_alloc.proofs.PlacedBlocks.{placed-found, placed-itself}
 
 pub returns-in-Ok-Some-clause-makes : goal.returns-in-Ok-Some-clause-makes
 returns-in-Ok-Some-clause-makes g c = λ pending.
@@ -25,3 +26,17 @@ returns-in-Ok-None-clause-makes g c = λ pending.
 pub returns-in-Err-clause-makes : goal.returns-in-Err-clause-makes
 returns-in-Err-clause-makes g c = λ pending.
     looked-refused g.S.Storage.state (table_of c.args.self.now) pending c.args.caches.now c.args.file.now c.args.index c.find_counted.new.caches c.find_counted.new.file c.in-Err.fault c.in-Err.ensures.looked
+
+pub returns-in-Ok-Some-clause-placed : goal.returns-in-Ok-Some-clause-placed
+returns-in-Ok-Some-clause-placed g c = λ pending.
+    let mid = c.find_counted.new in
+    let new = c.make_counted_block.new in
+    placed-found g.S.Storage.state (mark_of c.args.self.now) c.args.index (table_of c.args.self.now) c.args.caches.now c.args.file.now mid.caches mid.file c.in-Ok-Some.field-0 c.in-Ok-Some.ensures c.requires.inside c.requires.empty (table_of new.self) new.caches new.file pending
+    c.in-Ok-Some.place c.in-Ok-Some.field-0-is c.make_counted_block.result (returns-in-Ok-Some-clause-makes g c pending) c.make_counted_block.ensures.at
+
+pub returns-in-Ok-None-clause-placed : goal.returns-in-Ok-None-clause-placed
+returns-in-Ok-None-clause-placed g c = λ pending.
+    let mid = c.find_counted.new in
+    let new = c.make_own_block.new in
+    placed-itself g.S.Storage.state (mark_of c.args.self.now) c.args.index (table_of c.args.self.now) c.args.caches.now c.args.file.now mid.caches mid.file c.in-Ok-None.field-0 c.in-Ok-None.ensures c.requires.inside c.requires.empty (table_of new.self) new.caches new.file pending
+    c.in-Ok-None.field-0-is c.make_own_block.result (returns-in-Ok-None-clause-makes g c pending) c.make_own_block.ensures.at

@@ -12,6 +12,7 @@ use Rattle.qcow2_alloc.proofs.FreeingEntries.{failed}
 use Rattle.qcow2_alloc.proofs.MadeBlocks.{first-counted, namable, unmade-place, unforgotten}
 use Rattle.qcow2_alloc.proofs.TakenBlocks.{uncounted-made, unwritten-made, taken-made-so}
 use Rattle.qcow2_alloc.proofs.allocation.Allocator.make_counted_block.Goals as goal
+use Rattle.qcow2_alloc.proofs.PlacedBlocks.{written-on-ok}
 
 pub returns-in-Err-clause-makes : goal.returns-in-Err-clause-makes
 returns-in-Err-clause-makes g c = λ first f pending begun free.
@@ -71,3 +72,12 @@ returns-in-Err-flush_rb-clause-makes g c = λ first f pending begun free.
     let done = c.in-Err-flush_rb.ensures in
     let raises = subst (λ (m : MetadataCaches _). RaisesCluster state table c.args.place m c.args.file.now succeeded mid.caches mid.file) c.in_default-rb_forget.ensures.ok c.in_default-count_cluster.ensures in
     unwritten-made state table pending first f c.args.index c.args.place c.args.caches.now c.args.file.now begun free mid.caches mid.file raises c.in-Err-flush_rb.fault flushed.self flushed.file done.going done.kept done.others done.room done.cause
+
+pub returns-in-Ok-flush_rb-clause-at : goal.returns-in-Ok-flush_rb-clause-at
+returns-in-Ok-flush_rb-clause-at g c =
+    let table = table_of c.args.self.now in
+    let h = c.args.file.now.header.fields in
+    let named = c.in_default.ensures.ok in
+    let reach : IsInReach h.cluster_bits c.args.place = subst (λ b. IsInReach b c.args.place) c.cluster_bits.ensures.value named.1 in
+    written-on-ok table c.args.index c.args.place h.cluster_bits c.in-Ok.block _ _ (table_of c.write_block.new.self) c.write_block.result c.requires.inside c.cluster_bits.ensures.shaped.low reach
+    (ap (λ (b : Block). b.cluster_bits) c.in-Ok.ensures.ok) (ap (λ (b : Block). b.cluster) c.in-Ok.ensures.ok) named.0.some c.write_block.ensures.names

@@ -6,6 +6,11 @@ use Rattle.qcow2_alloc.specs.Quiet.{IsSound, counted}
 use Rattle.qcow2_alloc.proofs.MadeBlocks.{begins-none, first-counted, unmade-place, unforgotten}
 use Rattle.qcow2_alloc.proofs.OwnBlocks.{own-uncounted, own-made-at}
 use Rattle.qcow2_alloc.proofs.allocation.Allocator.make_own_block.Goals as goal
+use Rattle.std.proofs.Common.{ℕ, ◌*◌, ap, ◌≢◌}
+use Rattle.std.specs.Prelude.{slice_index, OnOk, ◌^◌}
+use Rattle.qcow2_types.specs.Words.{block_offset}
+use Rattle.qcow2_metadata.specs.Blocks.{Block}
+use Rattle.qcow2_alloc.proofs.PlacedBlocks.{written-on-ok}
 
 pub returns-in-Err-clause-makes : goal.returns-in-Err-clause-makes
 returns-in-Err-clause-makes g c = λ pending.
@@ -41,3 +46,14 @@ returns-in-Err-rb_forget-clause-makes g c = λ pending.
     let state = g.S.Storage.state in
     let table = table_of c.args.self.now in
     unforgotten state c.args.index table pending c.args.caches.now c.args.file.now c.args.caches.now c.args.file.now (begins-none state c.args.index table pending c.args.caches.now c.args.file.now) c.own_place-place.result c.in-Err-rb_forget.fault c.rb_forget.new.self c.in-Err-rb_forget.ensures.err
+
+pub returns-in-Ok-rb_forget-clause-at : goal.returns-in-Ok-rb_forget-clause-at
+returns-in-Ok-rb_forget-clause-at g c =
+    let table = table_of c.args.self.now in
+    let d = c.own_place-place.result in
+    let h = c.args.file.now.header.fields in
+    let named = c.in_default.ensures.ok in
+    let reach : IsInReach h.cluster_bits d = subst (λ b. IsInReach b d) c.cluster_bits.ensures.value named.1 in
+    subst (λ (n : ℕ). OnOk c.write_block.result ((n ≢ 0) × (block_offset (slice_index (table_of c.write_block.new.self).words c.args.index) ≡ n * 2 ^ h.cluster_bits))) c.own_place-place.ensures.first
+    (written-on-ok table c.args.index d h.cluster_bits c.in-Ok.block _ _ (table_of c.write_block.new.self) c.write_block.result c.requires.inside c.cluster_bits.ensures.shaped.low reach
+    (ap (λ (b : Block). b.cluster_bits) c.in-Ok.ensures.ok) (ap (λ (b : Block). b.cluster) c.in-Ok.ensures.ok) named.0.some c.write_block.ensures.names)

@@ -1,0 +1,301 @@
+-- Clusters are handed out once the order of writes was announced.
+use Rattle.std.proofs.Common.{◌≡◌, ◌≢◌, ℕ, ◌+◌, ◌-◌, ◌/◌, ◌<◌, ◌≤◌, [], Bool, refl, arith, subst, ◌∙◌, inl, inr, List, length, Option, None, Some, Result, Ok, Err}
+use Rattle.std.specs.Prelude.{⊤, IsTrue, OnOk, IfOk, MatchResult}
+use Rattle.std.proofs.lemmas.Bool.{le-leb, lt-ltb}
+use Rattle.imago_storage.specs.State.{StorageState}
+use Rattle.imago_storage.specs.declared.fault.Fault.{Fault}
+use Rattle.imago_storage.specs.declared.fault.Fault.TheVariants.{Limit}
+use Rattle.imago_storage.proofs.Composing.{keeps_on}
+use Rattle.qcow2_types.specs.Counts.{counters_of_block}
+use Rattle.qcow2_types.specs.Header.{Header}
+use Rattle.qcow2_types.specs.Pending.{FreeEntry}
+use Rattle.qcow2_metadata.specs.Places.{IsInReach}
+use Rattle.qcow2_metadata.specs.Tables.{TableValue}
+use Rattle.qcow2_alloc.specs.declared.cache.CacheDependency.TheVariants.{L2DependsOnRb}
+use Rattle.qcow2_alloc.specs.declared.cache.MetadataCaches.{MetadataCaches}
+use Rattle.qcow2_alloc.specs.declared.file.ImageFile.{ImageFile}
+use Rattle.qcow2_alloc.specs.Allocating.{MovedTable, OnlyRaised, WhyNotAllocated}
+use Rattle.qcow2_alloc.specs.Allocators.{metadata_of}
+use Rattle.qcow2_alloc.specs.Caches.{order_of}
+use Rattle.qcow2_alloc.specs.Crowding.{IsCrowded}
+use Rattle.qcow2_alloc.specs.Freeing.{Frees, IsLoose, IsMarked, WhyNotFreed}
+use Rattle.qcow2_alloc.specs.FreeList.{covers}
+use Rattle.qcow2_alloc.specs.Going.{IsWhole}
+use Rattle.qcow2_alloc.specs.GrowingTables.{NoPlaceToGrow}
+use Rattle.qcow2_alloc.specs.HandingOut.{AllocatesClusterAt, AllocatesClusters, AreUnnamed, IsBarred, IsFreed, IsHandedAt, IsOneAt, IsSearched, StaysInShape, handed_at}
+use Rattle.qcow2_alloc.specs.HandingOutOne.{AllocatesAt}
+use Rattle.qcow2_alloc.specs.Quiet.{Metadata, IsSound, Quietly, counted}
+use Rattle.qcow2_alloc.specs.ReadyingRuns.{Allocates, IsLengthened, IsRunCounted, handed_by}
+use Rattle.qcow2_alloc.proofs.Allocating.{moved-none}
+use Rattle.qcow2_alloc.proofs.AnnouncedOrders.{Announced, no-place-as, quiet-behind, sound-behind, raised-behind, marked-behind, caused-behind}
+use Rattle.qcow2_alloc.proofs.CountingOne.{not_handed}
+use Rattle.qcow2_alloc.proofs.EnsuringBlocks.{why-allocated-wider}
+use Rattle.qcow2_alloc.proofs.FreeingEntries.{failed}
+use Rattle.qcow2_alloc.proofs.GrowingReftables.{shape-behind}
+use Rattle.qcow2_alloc.proofs.HandedOut.{handed-unnamed}
+use Rattle.qcow2_alloc.proofs.MadeBlocks.{allocated-wider}
+use Rattle.qcow2_alloc.proofs.QuietThen.{quietly-then, quietly-otherwise}
+use Rattle.qcow2_alloc.proofs.ReadyingBlocks.{leaks-none, lengthened-none}
+
+module _ {S : Type 0} (state : S → StorageState) (mark cluster : ℕ) (table : TableValue) (old : MetadataCaches S) (before : ImageFile S) (pending : List FreeEntry) (mid : MetadataCaches S) (between : ImageFile S) where
+  abbrev Start : Metadata
+  Start = metadata_of state before old table pending
+
+  abbrev Mid : Metadata
+  Mid = metadata_of state between mid table pending
+
+  -- One cluster isn't where that was refused,
+  pub at-not-announced : (fault : Fault) → Announced state table pending old before (failed fault) mid between → AllocatesClusterAt state mark cluster table old before pending (not_handed fault) table mid between pending mark
+  at-not-announced fault first = record {
+    leaked = λ _. 0;
+    leaks = leaks-none (IsLoose old) (not_handed fault);
+    quiet = first.quiet;
+    raised = λ keeps sound whole c. inl (first.counts keeps sound whole c);
+    one = tt;
+    answer = λ keeps sound. tt;
+    further = tt;
+    stays = refl;
+    marked = λ keeps sound whole marked c below. let same = first.counts keeps sound whole c in let was = marked c below in omega (arith, same, was);
+    order = tt;
+    shape = shape-behind state mark cluster table old before pending mid between (failed fault) mid between first (moved-none between.header between.header refl) (λ loose. loose) (record { tables = refl; blocks = refl });
+    list = lengthened-none pending;
+    cause = allocated-wider _ _ _ _ _ _ _ _ (λ holds. holds) (λ loose. loose) refl fault first.cause;
+  }
+
+  -- and else as it is under that order.
+  module _ (first : Announced state table pending old before (Ok tt) mid between) (result : Result (Option FreeEntry) Fault) (table' : TableValue) (new : MetadataCaches S) (after : ImageFile S) (pending' : List FreeEntry) (mark' : ℕ)
+      (at : AllocatesAt state (λ m. IsBarred m mark cluster) mark cluster table mid between pending result table' new after pending' mark') where
+    abbrev End : Metadata
+    End = metadata_of state after new table' pending'
+
+    answered : (r : Result (Option FreeEntry) Fault) → IsTrue (state before.image).shape.keeps → IsSound Start → IfOk r (IsHandedAt (IsBarred Mid mark cluster) cluster Mid End) → IfOk r (IsHandedAt (IsBarred Start mark cluster) cluster Start End)
+    answered (Ok (Some entry)) keeps sound (zero, is, unnamed, free) = (let same = first.counts keeps sound tt cluster in omega (arith, same, zero), is, unnamed, free)
+    answered (Ok None) keeps sound (inl more) = inl more
+    answered (Ok None) keeps sound (inr (inl far)) = inr (inl (subst (λ (H : Header). IsInReach H.fields.cluster_bits cluster → ⊥) first.header far))
+    answered (Ok None) keeps sound (inr (inr (past, none))) = inr (inr (
+      subst (λ (H : Header). length table.words ≤ cluster / counters_of_block H.fields) first.header past,
+      no-place-as Start Mid first.header refl (first.counts keeps sound tt) mark (cluster / counters_of_block before.header.fields) (subst (λ (H : Header). NoPlaceToGrow Mid mark (cluster / counters_of_block H.fields)) first.header none),
+    ))
+    answered (Err fault) keeps sound said = tt
+
+    ordered : (r : Result (Option FreeEntry) Fault) → OnOk r (order_of new ≡ L2DependsOnRb)
+    ordered (Ok found) = at.did.step.order ∙ first.order
+    ordered (Err fault) = tt
+
+    caused : (r : Result (Option FreeEntry) Fault)
+        → MatchResult r (λ _. (state after.image).faults ≡ (state between.image).faults)
+        (WhyNotAllocated (IsTrue (state between.image).shape.keeps × (order_of mid ≡ L2DependsOnRb) × IsSound Mid) (IsLoose mid) ⊥ (state between.image).faults (state after.image).faults)
+        → MatchResult r (λ _. (state after.image).faults ≡ (state before.image).faults)
+        (WhyNotAllocated (IsTrue (state before.image).shape.keeps × IsSound Start) (IsLoose old) ⊥ (state before.image).faults (state after.image).faults)
+    caused (Ok found) same = same ∙ first.cause
+    caused (Err fault) why = caused-behind state table pending old before mid between first _ _ (state after.image).faults (λ full. full) fault why
+
+    pub at-announced : AllocatesClusterAt state mark cluster table old before pending result table' new after pending' mark'
+    at-announced = record {
+      leaked = at.did.leaked;
+      leaks = record { none = at.did.leaks.none; pinned = λ loose. at.did.leaks.pinned (first.loose loose) };
+      quiet = quiet-behind state table pending old before mid between first (IsWhole result) (handed_at result at.did.leaked) (state after.image) End at.did.step.quiet;
+      raised = λ keeps sound whole. let still = sound-behind state table pending old before mid between first keeps sound in
+          raised-behind state table pending old before mid between first End keeps sound (at.did.step.raised first.order still.0 still.1 whole);
+      one = subst (λ (H : Header). IfOk result (IsOneAt cluster H.fields.cluster_bits)) first.header at.one;
+      answer = λ keeps sound. let still = sound-behind state table pending old before mid between first keeps sound in answered result keeps sound (at.answer first.order still.0 still.1);
+      further = at.further;
+      stays = at.stays;
+      marked = λ keeps sound whole marked. let still = sound-behind state table pending old before mid between first keeps sound in
+          at.marked first.order still.0 still.1 whole (marked-behind state table pending old before mid between first mark keeps sound marked);
+      order = ordered result;
+      shape = shape-behind state mark cluster table old before pending mid between (Ok tt) new after first at.did.step.moved at.did.step.loose at.did.step.room;
+      list = at.did.list;
+      cause = caused result at.did.cause;
+    }
+
+-- what is answered with a run, and where that is refused
+abbrev pub run_so : FreeEntry → Result FreeEntry Fault
+run_so entry = Ok entry
+
+abbrev pub refused_run : Fault → Result FreeEntry Fault
+refused_run fault = Err fault
+
+-- A cluster of an entry is covered by it.
+covers-inside : (c : ℕ) (e : FreeEntry) → e.first ≤ c → c < e.first + e.count → covers c e ≡ 1
+covers-inside c e above below = rw (le-leb e.first c above, lt-ltb c (e.first + e.count) below) refl
+
+-- Clusters in a row are handed out: what waits is freed first.
+module _ {S : Type 0} (state : S → StorageState) (mark n : ℕ) (metadata : Bool) (table : TableValue) (old : MetadataCaches S) (before : ImageFile S) (pending : List FreeEntry) where
+  abbrev First : Metadata
+  First = metadata_of state before old table pending
+
+  -- That was refused,
+  module _ (fault : Fault) (mark1 : ℕ) (A : MetadataCaches S) (fA : ImageFile S) (pA : List FreeEntry) (frees : Frees state table old before mark pending (failed fault) A fA mark1 pA) where
+    not-limited : IsSearched (refused_run fault) → WhyNotFreed (IsTrue (state before.image).shape.keeps × IsSound First) (IsLoose old) (state before.image).faults (state fA.image).faults fault → ⊥
+    not-limited searched why = by-fault fault searched why
+      where
+        by-fault : (f : Fault) → IsSearched (refused_run f) → WhyNotFreed (IsTrue (state before.image).shape.keeps × IsSound First) (IsLoose old) (state before.image).faults (state fA.image).faults f → ⊥
+        by-fault (Limit number) searched why = why
+        by-fault f searched why = searched
+
+    pub run-not-freed : AllocatesClusters state mark n metadata table old before pending (refused_run fault) table A fA pA mark1
+    run-not-freed = record {
+      leaked = λ _. 0;
+      leaks = leaks-none (IsLoose old) (refused_run fault);
+      quiet = frees.quiet;
+      run = tt;
+      unnamed = λ keeps sound. tt;
+      mid = First;
+      mid_mark = mark;
+      freed = λ keeps sound searched. absurd (not-limited searched frees.cause);
+      fresh = λ keeps sound. tt;
+      taken = λ keeps sound. tt;
+      raised = λ keeps sound. tt;
+      marked = frees.marked;
+      further = tt;
+      order = tt;
+      shape = record { moved = moved-none before.header fA.header frees.header; loose = frees.loose; room = frees.room };
+      list = tt;
+      cause = allocated-wider _ _ _ _ _ _ _ _ (λ holds. holds) (λ loose. loose) refl fault frees.cause;
+    }
+
+  -- or there was nothing left.
+  module _ (mark1 : ℕ) (A : MetadataCaches S) (fA : ImageFile S) (frees : Frees state table old before mark pending (Ok tt) A fA mark1 []) (B : MetadataCaches S) (fB : ImageFile S) where
+    abbrev Freed : Metadata
+    Freed = metadata_of state fA A table []
+
+    abbrev Ready : Metadata
+    Ready = metadata_of state fB B table []
+
+    still-sound : IsTrue (state before.image).shape.keeps → IsSound First → IsTrue (state fA.image).shape.keeps × IsSound Freed
+    still-sound keeps sound = (keeps_on (state before.image) (state fA.image) frees.quiet.shape keeps, (frees.quiet.holds keeps sound tt).0)
+
+    quiet-on : (ok : Type 0) (handed : ℕ → ℕ) (s : StorageState) (m : Metadata) → Quietly ok handed (λ _. 0) (state fA.image) Freed s m → Quietly ok handed (λ _. 0) (state before.image) First s m
+    quiet-on ok handed s m second =
+        quietly-otherwise ok (λ c. 0 + handed c) (λ c. 0 + 0) handed (λ _. 0) (state before.image) First s m (λ sound c. omega arith) (λ sound c used none. omega arith)
+        (quietly-then ⊤ ok (λ _. 0) (λ _. 0) handed (λ _. 0) (state before.image) First (state fA.image) Freed s m tt (λ sound c some. refl) frees.quiet second)
+
+    -- The announcement was refused,
+    pub run-not-announced : (fault : Fault) → Announced state table [] A fA (failed fault) B fB → AllocatesClusters state mark n metadata table old before pending (refused_run fault) table B fB [] mark1
+    run-not-announced fault second = record {
+      leaked = λ _. 0;
+      leaks = leaks-none (IsLoose old) (refused_run fault);
+      quiet = quiet-on (IsWhole (refused_run fault)) (λ _. 0) (state fB.image) Ready second.quiet;
+      run = tt;
+      unnamed = λ keeps sound. tt;
+      mid = First;
+      mid_mark = mark;
+      freed = λ keeps sound searched. absurd (never fault searched second.cause);
+      fresh = λ keeps sound. tt;
+      taken = λ keeps sound. tt;
+      raised = λ keeps sound. tt;
+      marked = λ keeps sound whole marked.
+          let still = still-sound keeps sound in
+          let was = frees.marked keeps sound tt marked in
+          λ c below. let same = second.counts still.0 still.1 whole c in let more = was c below in omega (arith, same, more);
+      further = tt;
+      order = tt;
+      shape = record {
+        moved = moved-none before.header fB.header (second.header ∙ frees.header);
+        loose = λ loose. second.loose (frees.loose loose);
+        room = record { tables = second.room.tables ∙ frees.room.tables; blocks = second.room.blocks ∙ frees.room.blocks };
+      };
+      list = tt;
+      cause = allocated-wider _ _ _ _ _ _ _ _ (λ holds. still-sound holds.0 holds.1) frees.loose frees.cause fault second.cause;
+    }
+      where
+        never : (f : Fault) → IsSearched (refused_run f) → WhyNotFreed (IsTrue (state fA.image).shape.keeps × IsSound Freed) (IsLoose A) (state fA.image).faults (state fB.image).faults f → ⊥
+        never (Limit number) searched why = why
+        never f searched why = searched
+
+    -- or a run was searched for.
+    module _ (second : Announced state table [] A fA (Ok tt) B fB) (result : Result FreeEntry Fault) (table' : TableValue) (new : MetadataCaches S) (after : ImageFile S) (pending' : List FreeEntry) (mark' : ℕ)
+        (third : Allocates state mark1 n metadata table B fB [] result table' new after pending' mark') where
+      abbrev Last : Metadata
+      Last = metadata_of state after new table' pending'
+
+      ready-sound : IsTrue (state before.image).shape.keeps → IsSound First → IsTrue (state fB.image).shape.keeps × IsSound Ready
+      ready-sound keeps sound = let still = still-sound keeps sound in sound-behind state table [] A fA B fB second still.0 still.1
+
+      ready-marked : IsTrue (state before.image).shape.keeps → IsSound First → IsMarked First mark → IsMarked Ready mark1
+      ready-marked keeps sound marked = let still = still-sound keeps sound in marked-behind state table [] A fA B fB second mark1 still.0 still.1 (frees.marked keeps sound tt marked)
+
+      is-freed : IsTrue (state before.image).shape.keeps → IsSound First → IsFreed First mark Ready mark1
+      is-freed keeps sound = record {
+        sound = (ready-sound keeps sound).1;
+        quiet = ((quiet-on ⊤ (λ _. 0) (state fB.image) Ready second.quiet).holds keeps sound tt).1;
+        header = second.header ∙ frees.header;
+        table = refl;
+        order = second.order;
+        empty = refl;
+        lower = frees.lower;
+        marked = ready-marked keeps sound;
+      }
+
+      same-shape : StaysInShape old before new after
+      same-shape = record {
+        moved = subst (λ (H : Header). MovedTable H after.header) (second.header ∙ frees.header) third.step.moved;
+        loose = λ loose. third.step.loose (second.loose (frees.loose loose));
+        room = record { tables = third.step.room.tables ∙ second.room.tables ∙ frees.room.tables; blocks = third.step.room.blocks ∙ second.room.blocks ∙ frees.room.blocks };
+      }
+
+      abbrev RunIs : ℕ → FreeEntry → Type 0
+      RunIs bits entry = (entry.count ≡ n) × (entry.metadata ≡ metadata) × (entry.first ≢ 0) × IsInReach bits (entry.first + (n - 1))
+
+      runs : IfOk result (RunIs before.header.fields.cluster_bits)
+      runs = subst (λ (H : Header). IfOk result (RunIs H.fields.cluster_bits)) (second.header ∙ frees.header) third.run
+
+      unnamed-run : IsTrue (state before.image).shape.keeps → IsSound First → (r : Result FreeEntry Fault) → result ≡ r → IfOk r (RunIs before.header.fields.cluster_bits) → IfOk r (IsRunCounted mark1 n Last)
+          → IfOk r (λ entry. (c : ℕ) → entry.first ≤ c → c < entry.first + n → counted Ready c ≡ 0) → IfOk r (AreUnnamed Last)
+      unnamed-run keeps sound (Err fault) is run taken fresh = tt
+      unnamed-run keeps sound (Ok entry) is run taken fresh = λ c above below.
+          let still = ready-sound keeps sound in
+          let quiet : Quietly (IsWhole (run_so entry)) (handed_by (run_so entry) third.leaked) (λ _. 0) (state fB.image) Ready (state after.image) Last =
+          subst (λ (r : Result FreeEntry Fault). Quietly (IsWhole r) (handed_by r third.leaked) (λ _. 0) (state fB.image) Ready (state after.image) Last) is (third.step.quiet second.order) in
+          let held = quiet.holds still.0 still.1 tt in
+          let length-is = run.0 in
+          let inside : c < entry.first + n = omega (arith, below, length-is) in
+          handed-unnamed Ready Last (λ d. covers d entry) c still.1 held.0 second.order held.1 (fresh c above inside) (taken.once c above inside) (covers-inside c entry above below)
+
+      run-ordered : (r : Result FreeEntry Fault) → OnOk r (order_of new ≡ L2DependsOnRb)
+      run-ordered (Ok entry) = third.step.order ∙ second.order
+      run-ordered (Err fault) = tt
+
+      on-ok : (r : Result FreeEntry Fault) (P : Type 0) → P → OnOk r P
+      on-ok (Ok entry) P p = p
+      on-ok (Err fault) P p = tt
+
+      raised-ok : (r : Result FreeEntry Fault) → (IsWhole r → OnlyRaised Ready Last) → OnOk r (OnlyRaised Ready Last)
+      raised-ok (Ok entry) raised = raised tt
+      raised-ok (Err fault) raised = tt
+
+      run-caused : (r : Result FreeEntry Fault)
+          → MatchResult r (λ _. (state after.image).faults ≡ (state fB.image).faults)
+          (WhyNotAllocated (IsTrue (state fB.image).shape.keeps × (order_of B ≡ L2DependsOnRb) × IsSound Ready) (IsLoose B)
+          (order_of B ≡ L2DependsOnRb → IsTrue (state fB.image).shape.keeps → IsSound Ready → IsCrowded Ready mark1 n) (state fB.image).faults (state after.image).faults)
+          → MatchResult r (λ _. (state after.image).faults ≡ (state before.image).faults)
+          (WhyNotAllocated (IsTrue (state before.image).shape.keeps × IsSound First) (IsLoose old)
+          (IsTrue (state before.image).shape.keeps → IsSound First → IsCrowded Ready mark1 n) (state before.image).faults (state after.image).faults)
+      run-caused (Ok entry) same = same ∙ second.cause ∙ frees.cause
+      run-caused (Err fault) why =
+          why-allocated-wider _ _ _ _ _ _ _ _ _ (λ holds. still-sound holds.0 holds.1) frees.loose (λ full keeps sound. let still = still-sound keeps sound in full still.0 still.1) frees.cause fault
+          (caused-behind state table [] A fA B fB second _ (IsTrue (state fA.image).shape.keeps → IsSound Freed → IsCrowded Ready mark1 n) (state after.image).faults
+          (λ full keeps sound. let still = sound-behind state table [] A fA B fB second keeps sound in full second.order still.0 still.1) fault why)
+
+      pub run-announced : AllocatesClusters state mark n metadata table old before pending result table' new after pending' mark'
+      run-announced = record {
+        leaked = third.leaked;
+        leaks = record { none = third.leaks.none; pinned = λ loose. third.leaks.pinned (second.loose (frees.loose loose)) };
+        quiet = quiet-on (IsWhole result) (handed_by result third.leaked) (state after.image) Last
+            (quiet-behind state table [] A fA B fB second (IsWhole result) (handed_by result third.leaked) (state after.image) Last third.step.quiet);
+        run = runs;
+        unnamed = λ keeps sound. let still = ready-sound keeps sound in unnamed-run keeps sound result refl runs (third.taken second.order still.0 still.1) (third.fresh second.order still.0 still.1);
+        mid = Ready;
+        mid_mark = mark1;
+        freed = λ keeps sound searched. is-freed keeps sound;
+        fresh = λ keeps sound. let still = ready-sound keeps sound in third.fresh second.order still.0 still.1;
+        taken = λ keeps sound. let still = ready-sound keeps sound in third.taken second.order still.0 still.1;
+        raised = λ keeps sound. let still = ready-sound keeps sound in raised-ok result (third.step.raised second.order still.0 still.1);
+        marked = λ keeps sound whole marked. let still = ready-sound keeps sound in third.marked second.order still.0 still.1 whole (ready-marked keeps sound marked);
+        further = third.moved;
+        order = run-ordered result;
+        shape = same-shape;
+        list = on-ok result (IsLengthened [] pending') third.list;
+        cause = run-caused result third.cause;
+      }

@@ -1,0 +1,198 @@
+-- A cluster is given a counter: a word of the refcount table, and a block.
+use Rattle.std.proofs.Common.{◌≡◌, ◌≢◌, ℕ, ◌+◌, ◌*◌, ◌/◌, ◌^◌, ◌<◌, ◌≤◌, ◌++◌, true, false, refl, arith, ap, sym, subst, ◌∙◌, inr, List, length, Bool, Result, Ok, Err}
+use Rattle.std.specs.Prelude.{⊤, IsTrue, OnOk, OnErr, slice_index, MatchResult}
+use Rattle.std.proofs.lemmas.Nat.{div-add-mod'}
+use Rattle.std.proofs.Math.Nat.{mul-le-mul_right}
+use Rattle.imago_storage.specs.State.{StorageState}
+use Rattle.imago_storage.specs.Fault.{number_of}
+use Rattle.imago_storage.specs.declared.fault.Fault.{Fault}
+use Rattle.imago_storage.specs.declared.fault.Fault.TheVariants.{Memory, Storage, DamagedTable, CacheFull, Counter, Limit}
+use Rattle.imago_storage.proofs.Composing.{keeps_on}
+use Rattle.qcow2_types.specs.Counts.{counters_of_block}
+use Rattle.qcow2_types.specs.Header.{Header, words_of_cluster}
+use Rattle.qcow2_types.specs.Switched.{with_refcount_table}
+use Rattle.qcow2_types.specs.Pending.{FreeEntry}
+use Rattle.qcow2_types.specs.Words.{block_offset}
+use Rattle.qcow2_metadata.specs.Growth.{IsGrownLength}
+use Rattle.qcow2_metadata.specs.Places.{IsInReach}
+use Rattle.qcow2_metadata.specs.Tables.{TableValue}
+use Rattle.qcow2_alloc.specs.declared.cache.CacheDependency.TheVariants.{L2DependsOnRb}
+use Rattle.qcow2_alloc.specs.declared.cache.MetadataCaches.{MetadataCaches}
+use Rattle.qcow2_alloc.specs.declared.file.ImageFile.{ImageFile}
+use Rattle.qcow2_alloc.specs.Allocating.{Allocating, MakesBlocks, MovedTable, WhyNotAllocated}
+use Rattle.qcow2_alloc.specs.Allocators.{metadata_of}
+use Rattle.qcow2_alloc.specs.Caches.{order_of}
+use Rattle.qcow2_alloc.specs.Freeing.{IsLoose}
+use Rattle.qcow2_alloc.specs.Going.{IsWhole}
+use Rattle.qcow2_alloc.specs.GrowingTables.{GrowsTable, NoPlaceToGrow, table_run}
+use Rattle.qcow2_alloc.specs.HandingOutOne.{HandsOut, ReadiesCounter, ReadiesWord, leaked_by}
+use Rattle.qcow2_alloc.specs.Quiet.{IsSound}
+use Rattle.qcow2_alloc.specs.ReadyingRuns.{IsLengthened}
+use Rattle.qcow2_alloc.proofs.Allocating.{allocating-none, allocating-as, allocating-then}
+use Rattle.qcow2_alloc.proofs.ReadyingBlocks.{leaks-none, lengthened-by-table, lengthened-none}
+use Rattle.qcow2_alloc.proofs.EnsuringBlocks.{so, refused, why-allocated-wider}
+
+-- What isn't refused for want of a place is refused for another cause.
+pub never-limit : (sound loose full full' : Type 0) (before after : ℕ) (fault : Fault) → ((number : ℕ) → fault ≢ Limit number) → WhyNotAllocated sound loose full before after fault → WhyNotAllocated sound loose full' before after fault
+never-limit sound loose full full' before after (Limit number) other why = absurd (other number refl)
+never-limit sound loose full full' before after Memory other why = why
+never-limit sound loose full full' before after Storage other why = why
+never-limit sound loose full full' before after DamagedTable other why = why
+never-limit sound loose full full' before after Counter other why = why
+never-limit sound loose full full' before after CacheFull other why = why
+never-limit sound loose full full' before after fault other why = absurd why
+
+-- The fault with this number is that of a limit.
+pub limit-numbered : (fault : Fault) → number_of fault ≡ 12 → (number : ℕ) × (fault ≡ Limit number)
+limit-numbered (Limit number) is = (number, refl)
+limit-numbered fault is = absurd (cc is)
+
+pub other-numbered : (fault : Fault) → number_of fault ≢ 12 → (number : ℕ) → fault ≢ Limit number
+other-numbered fault apart number is = apart (ap (λ (f : Fault). number_of f) is)
+
+module _ {S : Type 0} (state : S → StorageState) (mark cluster : ℕ) (table : TableValue) (old : MetadataCaches S) (before : ImageFile S) (pending : List FreeEntry) where
+  abbrev k : ℕ
+  k = counters_of_block before.header.fields
+
+  -- Nothing was to be done.
+  stands : (there : Bool) → HandsOut state leaked_by table old before pending (so there) table old before pending
+  stands there = record {
+    leaked = λ _. 0;
+    leaks = leaks-none (IsLoose old) (so there);
+    step = allocating-none state table old before pending;
+    list = lengthened-none pending;
+    cause = refl;
+  }
+
+  pub counter-stands : block_offset (slice_index table.words (cluster / k)) ≢ 0 → ReadiesCounter state mark cluster table old before pending (so true) table old before pending
+  counter-stands some = record { did = stands true; there = λ yes. some; barred = λ order keeps sound no. cc no }
+
+  pub word-stands : cluster / k < length table.words → ReadiesWord state mark cluster table old before pending (so true) table old before pending
+  word-stands inside = record { did = stands true; there = λ yes. inside; barred = λ order keeps sound no. cc no }
+
+  -- The table has grown,
+  module _ (result : Result Unit Fault) (table' : TableValue) (new : MetadataCaches S) (after : ImageFile S) (pending' : List FreeEntry) (grows : GrowsTable state mark (cluster / k) table old before pending result table' new after pending') where
+    grown-list : (r : Result Unit Fault) → OnOk r (pending' ≡ pending ++ table_run before.header.fields) → OnErr r (pending' ≡ pending) → IsLengthened pending pending'
+    grown-list (Ok done) waits kept = lengthened-by-table pending pending' before.header.fields waits
+    grown-list (Err fault) waits kept = subst (λ l. IsLengthened pending l) (sym kept) (lengthened-none pending)
+
+    no-leak : (result ≡ Err CacheFull → ⊥) → (c : ℕ) → grows.leaked c ≡ 0
+    no-leak = grows.leaks.none
+
+    pub word-made : result ≡ Ok tt → ReadiesWord state mark cluster table old before pending (so true) table' new after pending'
+    word-made ok = record {
+      did = record {
+        leaked = λ _. 0;
+        leaks = leaks-none (IsLoose old) (so true);
+        step = allocating-as state (IsWhole result) (IsWhole (so true)) grows.leaked (λ _. 0) table old before pending table' new after pending' (λ whole. subst (λ (r : Result Unit Fault). IsWhole r) (sym ok) tt) (no-leak (λ full. let e = sym ok ∙ full in cc)) grows.step;
+        list = grown-list result grows.waits grows.kept;
+        cause = by-cause _ result ok grows.cause;
+      };
+      there = λ yes. (by-length result ok grows.enough).enough.above;
+      barred = λ order keeps sound no. cc no;
+    }
+      where
+        by-length : (r : Result Unit Fault) → r ≡ Ok tt → OnOk r (IsGrownLength (words_of_cluster before.header.fields) k (cluster / k) (length table'.words)) → IsGrownLength (words_of_cluster before.header.fields) k (cluster / k) (length table'.words)
+        by-length (Ok done) is grown = grown
+        by-length (Err fault) is grown = absurd (cc is)
+
+        by-cause : (P : Fault → Type 0) (r : Result Unit Fault) → r ≡ Ok tt → MatchResult r (λ _. (state after.image).faults ≡ (state before.image).faults) P → (state after.image).faults ≡ (state before.image).faults
+        by-cause P (Ok done) is same = same
+        by-cause P (Err fault) is same = absurd (cc is)
+
+    -- or has no place,
+    pub word-barred : length table.words ≤ cluster / k → (number : ℕ) → result ≡ Err (Limit number) → ReadiesWord state mark cluster table old before pending (so false) table' new after pending'
+    word-barred past number limit = record {
+      did = record {
+        leaked = λ _. 0;
+        leaks = leaks-none (IsLoose old) (so false);
+        step = allocating-as state (IsWhole result) (IsWhole (so false)) grows.leaked (λ _. 0) table old before pending table' new after pending' (λ whole. subst (λ (r : Result Unit Fault). IsWhole r) (sym limit) tt) (no-leak (λ full. let e = sym limit ∙ full in cc)) grows.step;
+        list = grown-list result grows.waits grows.kept;
+        cause = cause.1;
+      };
+      there = λ yes. cc yes;
+      barred = λ order keeps sound no. inr (past, cause.0 order keeps sound);
+    }
+      where
+        cause : (order_of old ≡ L2DependsOnRb → IsTrue (state before.image).shape.keeps → IsSound (metadata_of state before old table pending) → NoPlaceToGrow (metadata_of state before old table pending) mark (cluster / k)) × ((state after.image).faults ≡ (state before.image).faults)
+        cause = subst (λ (r : Result Unit Fault). MatchResult r (λ _. (state after.image).faults ≡ (state before.image).faults)
+            (WhyNotAllocated (IsTrue (state before.image).shape.keeps × (order_of old ≡ L2DependsOnRb) × IsSound (metadata_of state before old table pending)) (IsLoose old)
+            (order_of old ≡ L2DependsOnRb → IsTrue (state before.image).shape.keeps → IsSound (metadata_of state before old table pending) → NoPlaceToGrow (metadata_of state before old table pending) mark (cluster / k))
+            (state before.image).faults (state after.image).faults)) limit grows.cause
+
+    -- or was refused.
+    pub word-refused : (fault : Fault) → result ≡ Err fault → ((number : ℕ) → fault ≢ Limit number) → ReadiesWord state mark cluster table old before pending (refused fault) table' new after pending'
+    word-refused fault is other = record {
+      did = record {
+        leaked = grows.leaked;
+        leaks = record { none = λ full. grows.leaks.none (λ at. full (let e = sym is ∙ at in cc)); pinned = grows.leaks.pinned };
+        step = allocating-as state (IsWhole result) (IsWhole (refused fault)) grows.leaked grows.leaked table old before pending table' new after pending' (λ whole. subst (λ (r : Result Unit Fault). IsWhole r) (sym is) whole) (λ c. refl) grows.step;
+        list = grown-list result grows.waits grows.kept;
+        cause = never-limit _ _ _ _ _ _ fault other (subst (λ (r : Result Unit Fault). MatchResult r (λ _. (state after.image).faults ≡ (state before.image).faults)
+            (WhyNotAllocated (IsTrue (state before.image).shape.keeps × (order_of old ≡ L2DependsOnRb) × IsSound (metadata_of state before old table pending)) (IsLoose old)
+            (order_of old ≡ L2DependsOnRb → IsTrue (state before.image).shape.keeps → IsSound (metadata_of state before old table pending) → NoPlaceToGrow (metadata_of state before old table pending) mark (cluster / k))
+            (state before.image).faults (state after.image).faults)) is grows.cause);
+      };
+      there = tt;
+      barred = λ order keeps sound. tt;
+    }
+
+  -- There is a word for the cluster, and its block is made.
+  module _ (mid_table : TableValue) (mid : MetadataCaches S) (between : ImageFile S) (mid_pending : List FreeEntry) where
+    -- There was no place for one,
+    pub counter-barred : ReadiesWord state mark cluster table old before pending (so false) mid_table mid between mid_pending → ReadiesCounter state mark cluster table old before pending (so false) mid_table mid between mid_pending
+    counter-barred word = record { did = word.did; there = λ yes. cc yes; barred = word.barred }
+
+    -- it wasn't to be had,
+    pub counter-refused : (fault : Fault) → ReadiesWord state mark cluster table old before pending (refused fault) mid_table mid between mid_pending → ReadiesCounter state mark cluster table old before pending (refused fault) mid_table mid between mid_pending
+    counter-refused fault word = record { did = word.did; there = tt; barred = word.barred }
+
+    module _ (word : ReadiesWord state mark cluster table old before pending (so true) mid_table mid between mid_pending) (reach : IsInReach before.header.fields.cluster_bits cluster) (table' : TableValue) (new : MetadataCaches S) (after : ImageFile S) where
+      header-moved : (P : Header → Type 0) → P (with_refcount_table before.header word.did.step.moved.0 word.did.step.moved.1) → P between.header
+      header-moved P p = subst P (sym word.did.step.moved.2) p
+
+      near : (i : ℕ) → cluster / k ≤ i → i < cluster / k + 1 → IsInReach between.header.fields.cluster_bits (i * counters_of_block between.header.fields)
+      near i above below = header-moved (λ (H : Header). IsInReach H.fields.cluster_bits (i * counters_of_block H.fields)) (
+          let le : cluster / k * k ≤ cluster = (let shape = div-add-mod' cluster k in omega (arith, shape)) in
+          let more = mul-le-mul_right (2 ^ before.header.fields.cluster_bits) le in
+          let at : i ≡ cluster / k = omega (arith, above, below) in
+          subst (λ j. IsInReach before.header.fields.cluster_bits (j * k)) (sym at) (omega (arith, reach, more)))
+
+      both : (ok' : Type 0) → Allocating state ok' (λ _. 0) mid_table mid between mid_pending table' new after mid_pending → Allocating state ok' (λ _. 0) table old before pending table' new after mid_pending
+      both ok' two = allocating-as state ok' ok' (λ c. leaked_by (so true) word.did.leaked c + 0) (λ _. 0) table old before pending table' new after mid_pending (λ o. o) (λ c. omega arith)
+          (allocating-then state ⊤ ok' (leaked_by (so true) word.did.leaked) (λ _. 0) table old before pending mid_table mid between mid_pending table' new after mid_pending tt word.did.step two)
+
+      holds-still : IsTrue (state before.image).shape.keeps × (order_of old ≡ L2DependsOnRb) × IsSound (metadata_of state before old table pending) → IsTrue (state between.image).shape.keeps × (order_of mid ≡ L2DependsOnRb) × IsSound (metadata_of state between mid mid_table mid_pending)
+      holds-still holds = let quiet = word.did.step.quiet holds.1 in (keeps_on (state before.image) (state between.image) quiet.shape holds.0, word.did.step.order ∙ holds.1, (quiet.holds holds.0 holds.2 tt).0)
+
+      -- or now there is a block,
+      pub counter-made : (made : Bool) → MakesBlocks state (cluster / k) (cluster / k + 1) mid_table mid between (so made) table' new after mid_pending → ReadiesCounter state mark cluster table old before pending (so true) table' new after mid_pending
+      counter-made made blocks = record {
+        did = record {
+          leaked = λ _. 0;
+          leaks = leaks-none (IsLoose old) (so true);
+          step = both ⊤ blocks.step;
+          list = word.did.list;
+          cause = blocks.cause ∙ word.did.cause;
+        };
+        there = λ yes. blocks.named (cluster / k) (omega arith) (omega arith);
+        barred = λ order keeps sound no. cc no;
+      }
+
+      -- or none could be made.
+      pub counter-unmade : (fault : Fault) → MakesBlocks state (cluster / k) (cluster / k + 1) mid_table mid between (refused fault) table' new after mid_pending → ReadiesCounter state mark cluster table old before pending (refused fault) table' new after mid_pending
+      counter-unmade fault blocks = record {
+        did = record {
+          leaked = λ _. 0;
+          leaks = leaks-none (IsLoose old) (refused fault);
+          step = both (IsWhole (refused fault)) blocks.step;
+          list = word.did.list;
+          cause = why-allocated-wider _ _ _ _ _ _ _ _ _ holds-still word.did.step.loose (λ far. far near) word.did.cause fault blocks.cause;
+        };
+        there = tt;
+        barred = λ order keeps sound. tt;
+      }
+
+-- Where the header moved its refcount table alone, a cluster has the block that it had.
+pub index-moved : (H H' : Header) → MovedTable H H' → (cluster index : ℕ) → index ≡ cluster / counters_of_block H'.fields → index ≡ cluster / counters_of_block H.fields
+index-moved H H' (offset, clusters, is) cluster index at = subst (λ (x : Header). index ≡ cluster / counters_of_block x.fields) is at

@@ -1,0 +1,226 @@
+-- A run of clusters is searched for and made ready, turn by turn.
+use Rattle.std.proofs.Common.{◌≡◌, ◌≢◌, ℕ, ◌+◌, ◌-◌, ◌*◌, ◌/◌, ◌^◌, ◌<◌, ◌≤◌, refl, arith, ap, sym, subst, ◌∙◌, List, length, Bool, true, false, Result, Ok, Err, inl, inr}
+use Rattle.std.specs.Prelude.{⊤, min, IsTrue, slice_index, ◌==◌}
+use Rattle.std.proofs.lemmas.List.Sums.{count_by-le-length}
+use Rattle.std.proofs.lemmas.Nat.{le-div}
+use Rattle.std.proofs.Math.Nat.{div-mul-le_self, mul-le-mul}
+use Rattle.imago_storage.specs.State.{StorageState}
+use Rattle.imago_storage.specs.declared.fault.Fault.{Fault}
+use Rattle.imago_storage.specs.declared.fault.Fault.TheVariants.{DamagedTable, Limit}
+use Rattle.imago_storage.proofs.Composing.{keeps_on}
+use Rattle.qcow2_types.specs.Counts.{counters_of_block}
+use Rattle.qcow2_types.specs.Header.{Header}
+use Rattle.qcow2_types.specs.Pending.{FreeEntry}
+use Rattle.qcow2_types.specs.Words.{block_offset}
+use Rattle.qcow2_metadata.specs.Places.{IsInReach}
+use Rattle.qcow2_metadata.specs.Tables.{TableValue}
+use Rattle.qcow2_alloc.specs.declared.cache.CacheDependency.TheVariants.{L2DependsOnRb}
+use Rattle.qcow2_alloc.specs.declared.cache.MetadataCaches.{MetadataCaches}
+use Rattle.qcow2_alloc.specs.declared.file.ImageFile.{ImageFile}
+use Rattle.qcow2_alloc.specs.Allocating.{Allocating, MovedTable, WhyNotAllocated, missing}
+use Rattle.qcow2_alloc.specs.Allocators.{metadata_of}
+use Rattle.qcow2_alloc.specs.Caches.{order_of}
+use Rattle.qcow2_alloc.specs.Freeing.{IsLoose}
+use Rattle.qcow2_alloc.specs.Going.{IsWhole}
+use Rattle.qcow2_alloc.specs.Quiet.{IsSound, counted}
+use Rattle.qcow2_alloc.specs.ReadyingBlocks.{HasMore, ReadiesBlocks, WhyNotFit}
+use Rattle.qcow2_alloc.specs.ReadyingRuns.{IsLengthened, ReadiesRun}
+use Rattle.qcow2_alloc.specs.SearchingClusters.{IsFirstRun, IsSafeWith, LooksForRun, counts_in}
+use Rattle.qcow2_alloc.proofs.Allocating.{allocating-none, allocating-then, allocating-as}
+use Rattle.qcow2_alloc.proofs.EnsuringBlocks.{why-allocated-wider}
+use Rattle.qcow2_alloc.proofs.GrowingRooms.{first-run-same}
+use Rattle.qcow2_alloc.proofs.Looking.{counts-still}
+use Rattle.qcow2_alloc.proofs.LookingAt.{looked-allocates, counts-looked}
+use Rattle.qcow2_alloc.specs.Crowding.{IsCrowded, IsRoomy}
+use Rattle.qcow2_alloc.proofs.RoomyRuns.{RoomStays, stays-start, stays-searched, run-fits, can-make, stays-made}
+use Rattle.qcow2_alloc.proofs.MadeBlocks.{allocated-wider, first-counted}
+use Rattle.qcow2_alloc.proofs.ReadyingBlocks.{leaks-none, leaks-on, leaks-ok, lengthened-none, lengthened-then}
+
+-- What a call came to that has counted clusters, of which it handed out none, and wasn't refused yet.
+pub record Readying {S : Type 0} (state : S → StorageState) (table : TableValue) (old : MetadataCaches S) (before : ImageFile S) (pending : List FreeEntry) (table' : TableValue) (new : MetadataCaches S) (after : ImageFile S) (pending' : List FreeEntry) : Type 0 where
+  pub step : Allocating state ⊤ (λ _. 0) table old before pending table' new after pending'
+  pub list : IsLengthened pending pending'
+  pub faults : (state after.image).faults ≡ (state before.image).faults
+
+-- A cluster of a run is counted by a block between those of the first and the last one.
+between-blocks : (k first n c : ℕ) → 0 < k → first ≤ c → c < first + n → (first / k ≤ c / k) × (c / k ≤ (first + (n - 1)) / k)
+between-blocks k first n c some above below =
+    let low = div-mul-le_self first k in
+    let high = div-mul-le_self c k in (
+      le-div (first / k) c k some (omega (arith, low, above)),
+      le-div (c / k) (first + (n - 1)) k some (omega (arith, high, below)),
+    )
+
+module _ {S : Type 0} (state : S → StorageState) (table : TableValue) (old : MetadataCaches S) (before : ImageFile S) (pending : List FreeEntry) where
+  pub readying-none : Readying state table old before pending table old before pending
+  readying-none = record { step = allocating-none state table old before pending; list = lengthened-none pending; faults = refl }
+
+  abbrev Holds : TableValue → MetadataCaches S → ImageFile S → List FreeEntry → Type 0
+  Holds t caches file es = IsTrue (state file.image).shape.keeps × (order_of caches ≡ L2DependsOnRb) × IsSound (metadata_of state file caches t es)
+
+  -- Where there is room for n clusters, so much of it is left.
+  abbrev pub Stays : (mark n : ℕ) → TableValue → MetadataCaches S → ImageFile S → List FreeEntry → Type 0
+  Stays mark n t caches file es = Holds table old before pending → (roomy : IsRoomy (metadata_of state before old table pending) mark n) → RoomStays mark n (metadata_of state before old table pending) (metadata_of state file caches t es) roomy
+
+  pub stays-none : (mark n : ℕ) → 1 ≤ n → Stays mark n table old before pending
+  stays-none mark n some holds roomy = stays-start mark n some (metadata_of state before old table pending) holds.2 roomy
+
+  module _ (tA : TableValue) (A : MetadataCaches S) (fA : ImageFile S) (pA : List FreeEntry) (so_far : Readying state table old before pending tA A fA pA) where
+    holds-on : Holds table old before pending → Holds tA A fA pA
+    holds-on holds = let quiet = so_far.step.quiet holds.1 in (keeps_on (state before.image) (state fA.image) quiet.shape holds.0, so_far.step.order ∙ holds.1, (quiet.holds holds.0 holds.2 tt).0)
+
+    safe-with : Holds table old before pending → IsSafeWith state tA A fA
+    safe-with holds = let there = holds-on holds in record { keeps = there.0; safe = there.2.safe; table_of_file = there.2.table }
+
+    step-on : {T : Type 0} (result : Result T Fault) (leaked : ℕ → ℕ) (tB : TableValue) (B : MetadataCaches S) (fB : ImageFile S) (pB : List FreeEntry) → Allocating state (IsWhole result) leaked tA A fA pA tB B fB pB → Allocating state (IsWhole result) leaked table old before pending tB B fB pB
+    step-on result leaked tB B fB pB step =
+        allocating-as state (IsWhole result) (IsWhole result) (λ c. 0 + leaked c) leaked table old before pending tB B fB pB (λ whole. whole) (λ c. omega arith)
+        (allocating-then state ⊤ (IsWhole result) (λ _. 0) leaked table old before pending tA A fA pA tB B fB pB tt so_far.step step)
+
+    -- It goes on with a search,
+    pub readying-searched : (mark n z : ℕ) (B : MetadataCaches S) (fB : ImageFile S) → LooksForRun state tA mark n A fA (Ok z) B fB → Readying state table old before pending tA B fB pA
+    readying-searched mark n z B fB looks = record {
+      step = step-on {T = ℕ} (Ok z) (λ _. 0) tA B fB pA (looked-allocates state tA pA A fA ℕ (Ok z) B fB looks.looked);
+      list = so_far.list;
+      faults = looks.looked.cause ∙ so_far.faults;
+    }
+
+    -- or with what is made,
+    pub readying-made : (mark at first last : ℕ) (made : Bool) (tB : TableValue) (B : MetadataCaches S) (fB : ImageFile S) (pB : List FreeEntry) → ReadiesBlocks state mark at first last tA A fA pA (Ok made) tB B fB pB → Readying state table old before pending tB B fB pB
+    readying-made mark at first last made tB B fB pB makes = record {
+      step = step-on {T = Bool} (Ok made) (λ _. 0) tB B fB pB
+          (allocating-as state ⊤ ⊤ makes.leaked (λ _. 0) tA A fA pA tB B fB pB (λ whole. whole) (leaks-ok (IsLoose A) made makes.leaked makes.leaks) makes.step);
+      list = lengthened-then pending pA pB so_far.list makes.list;
+      faults = makes.cause ∙ so_far.faults;
+    }
+
+    -- and where there was room for it there is still.
+    pub stays-found : (mark n z : ℕ) → 1 ≤ n → (B : MetadataCaches S) (fB : ImageFile S) → LooksForRun state tA mark n A fA (Ok z) B fB → Stays mark n tA A fA pA → Stays mark n tA B fB pA
+    stays-found mark n z some B fB looks stays holds roomy =
+        let there = holds-on holds in
+        stays-searched mark n some (metadata_of state before old table pending) holds.2 roomy (metadata_of state fA A tA pA) (stays holds roomy) (metadata_of state fB B tA pA) refl
+        (counts-looked state tA pA A fA ℕ (Ok z) B fB looks.looked there.0 there.2 tt)
+
+    pub stays-on : (mark n z first last : ℕ) → 1 ≤ n → (Holds table old before pending → IsFirstRun (counted (metadata_of state fA A tA pA)) mark n z) → first ≡ z / counters_of_block fA.header.fields → last ≡ (z + (n - 1)) / counters_of_block fA.header.fields
+        → Stays mark n tA A fA pA → (tB : TableValue) (B : MetadataCaches S) (fB : ImageFile S) (pB : List FreeEntry) → ReadiesBlocks state mark (last + (n / counters_of_block fA.header.fields + 2)) first last tA A fA pA (Ok true) tB B fB pB → Stays mark n tB B fB pB
+    stays-on mark n z first last some run first-is last-is stays tB B fB pB makes holds roomy =
+        let there = holds-on holds in
+        stays-made mark n some (metadata_of state before old table pending) holds.2 roomy (metadata_of state fA A tA pA) (stays holds roomy) so_far.step.moved (so_far.step.raised holds.1 holds.0 holds.2 tt) there.2 z (run holds) first last first-is last-is
+        (metadata_of state fB B tB pB) (makes.made there.1 there.0 there.2 refl)
+
+    -- or is refused as it searches,
+    pub search-refused : (mark n : ℕ) (fault : Fault) (B : MetadataCaches S) (fB : ImageFile S) → LooksForRun state tA mark n A fA (Err fault) B fB → ReadiesRun state mark n table old before pending (Err fault) tA B fB pA
+    search-refused mark n fault B fB looks = record {
+      leaked = λ _. 0;
+      leaks = leaks-none (IsLoose old) (Err fault);
+      step = step-on {T = ℕ} (Err fault) (λ _. 0) tA B fB pA (looked-allocates state tA pA A fA ℕ (Err fault) B fB looks.looked);
+      found = λ order keeps sound. tt;
+      ready = tt;
+      reach = tt;
+      some = tt;
+      list = so_far.list;
+      cause = allocated-wider _ _ _ _ _ _ _ _ safe-with so_far.step.loose so_far.faults fault looks.looked.cause;
+    }
+
+    -- or as it makes something,
+    pub making-refused : (mark n z first last : ℕ) → 1 ≤ n → (Holds table old before pending → IsFirstRun (counted (metadata_of state fA A tA pA)) mark n z) → first ≡ z / counters_of_block fA.header.fields → last ≡ (z + (n - 1)) / counters_of_block fA.header.fields
+        → Stays mark n tA A fA pA → (fault : Fault) (tB : TableValue) (B : MetadataCaches S) (fB : ImageFile S) (pB : List FreeEntry) → ReadiesBlocks state mark (last + (n / counters_of_block fA.header.fields + 2)) first last tA A fA pA (Err fault) tB B fB pB → ReadiesRun state mark n table old before pending (Err fault) tB B fB pB
+    making-refused mark n z first last positive run first-is last-is stays fault tB B fB pB makes = record {
+      leaked = makes.leaked;
+      leaks = leaks-on (IsLoose A) (IsLoose old) fault makes.leaked so_far.step.loose makes.leaks;
+      step = step-on {T = ℕ} (Err fault) makes.leaked tB B fB pB makes.step;
+      found = λ order keeps sound. tt;
+      ready = tt;
+      reach = tt;
+      some = tt;
+      list = lengthened-then pending pA pB so_far.list makes.list;
+      cause = why-allocated-wider _ _ _ _ _ _ _ _ _ holds-on so_far.step.loose
+          (λ none order keeps sound roomy.
+          let holds : Holds table old before pending = (keeps, order, sound) in
+          let there = holds-on holds in
+          can-make mark n positive (metadata_of state before old table pending) sound roomy (metadata_of state fA A tA pA) (stays holds roomy) so_far.step.moved (so_far.step.raised order keeps sound tt) there.2 z (run holds) first last first-is last-is
+          (none there.1 there.0 there.2)) so_far.faults fault makes.cause;
+    }
+
+    module _ (mark n z : ℕ) (some : 1 ≤ n) (B : MetadataCaches S) (fB : ImageFile S) (looks : LooksForRun state tA mark n A fA (Ok z) B fB) where
+      -- What it found isn't counted.
+      pub found-run : Holds table old before pending → IsFirstRun (counts_in state B fB) mark n z
+      found-run holds =
+          let safe = safe-with holds in
+          first-run-same (counts_in state A fA) (counts_in state B fB) mark n z (counts-still state tA A fA z B fB looks.looked safe) (looks.found safe)
+
+      -- It is refused as no run begins there that can be counted,
+      pub unfit-refused : (fault : Fault) → WhyNotFit fB.header.fields n z fault → Stays mark n tA A fA pA → ReadiesRun state mark n table old before pending (Err fault) tA B fB pA
+      unfit-refused fault why stays =
+          let searched = readying-searched mark n z B fB looks in record {
+            leaked = λ _. 0;
+            leaks = leaks-none (IsLoose old) (Err fault);
+            step = allocating-as state ⊤ (IsWhole {T = ℕ} (Err fault)) (λ _. 0) (λ _. 0) table old before pending tA B fB pA (λ whole. tt) (λ c. refl) searched.step;
+            found = λ order keeps sound. tt;
+            ready = tt;
+            reach = tt;
+            some = tt;
+            list = so_far.list;
+            cause = caused fault why;
+          }
+        where
+          never : z ≡ 0 → Holds table old before pending → ⊥
+          never is holds =
+              let there = holds-on holds in
+              let run = (looks.found (safe-with holds)).free z (omega arith) (omega (arith, some)) in
+              let counts : 0 < counted (metadata_of state fA A tA pA) 0 = first-counted (metadata_of state fA A tA pA) there.2 in
+              let none : counted (metadata_of state fA A tA pA) 0 ≡ 0 = subst (λ c. counted (metadata_of state fA A tA pA) c ≡ 0) is run in
+              omega (arith, counts, none)
+
+          crowded : (IsInReach fB.header.fields.cluster_bits (z + (n - 1)) → 2 ^ 20 ≤ (z + (n - 1)) / counters_of_block fB.header.fields) → order_of old ≡ L2DependsOnRb → IsTrue (state before.image).shape.keeps → IsSound (metadata_of state before old table pending) → IsCrowded (metadata_of state before old table pending) mark n
+          crowded far order keeps sound roomy =
+              let holds : Holds table old before pending = (keeps, order, sound) in
+              let there = holds-on holds in
+              run-fits mark n some (metadata_of state before old table pending) sound roomy (metadata_of state fA A tA pA) (stays holds roomy) so_far.step.moved (so_far.step.raised order keeps sound tt) there.2 z (looks.found (safe-with holds))
+              (subst (λ (H : Header). IsInReach H.fields.cluster_bits (z + (n - 1)) → 2 ^ 20 ≤ (z + (n - 1)) / counters_of_block H.fields) looks.looked.header far)
+
+          caused : (f : Fault) → WhyNotFit fB.header.fields n z f → WhyNotAllocated (Holds table old before pending) (IsLoose old)
+              (order_of old ≡ L2DependsOnRb → IsTrue (state before.image).shape.keeps → IsSound (metadata_of state before old table pending) → IsCrowded (metadata_of state before old table pending) mark n) (state before.image).faults (state fB.image).faults f
+          caused DamagedTable is = never is
+          caused (Limit number) far = (crowded far, looks.looked.cause ∙ so_far.faults)
+          caused other is = absurd is
+
+      -- and ends where each cluster of the run has a block.
+      module _ (tC : TableValue) (C : MetadataCaches S) (fC : ImageFile S) (pC : List FreeEntry) (k last : ℕ) (size : counters_of_block fB.header.fields ≡ k) (at : ℕ) (made : ReadiesBlocks state mark at (z / k) last tA B fB pA (Ok false) tC C fC pC)
+          (done : Readying state table old before pending tC C fC pC) where
+        pub run-ready : 0 < k → z ≢ 0 → IsInReach fB.header.fields.cluster_bits (z + (n - 1)) → last ≡ (z + (n - 1)) / k → ReadiesRun state mark n table old before pending (Ok z) tC C fC pC
+        run-ready wide apart reach at = record {
+          leaked = λ _. 0;
+          leaks = leaks-none (IsLoose old) (Ok z);
+          step = done.step;
+          found = λ order keeps sound.
+              subst (λ (ca : MetadataCaches S). IsFirstRun (counts_in state ca fC) mark n z) (sym (made.idle refl).1)
+              (subst (λ (f : ImageFile S). IsFirstRun (counts_in state B f) mark n z) (sym (made.idle refl).2) (found-run (keeps, order, sound)));
+          ready = λ c above below.
+              let both = between-blocks k z n c wide above below in
+              let le = both.1 in
+              subst (λ b. block_offset (slice_index tC.words (c / b)) ≢ 0) (sym size ∙ ap (λ (H : Header). counters_of_block H.fields) moved.2) (made.ready refl (c / k) both.0 (omega (arith, le, at)));
+          reach = subst (λ (H : Header). IsInReach H.fields.cluster_bits (z + (n - 1))) moved.2 reach;
+          some = apart;
+          list = done.list;
+          cause = done.faults;
+        }
+          where
+            moved : MovedTable before.header fB.header
+            moved = (readying-searched mark n z B fB looks).step.moved
+
+-- How far the turns are from their end: with each the refcount table becomes longer, or as long names more blocks.
+abbrev pub turns_left : TableValue → ℕ
+turns_left table = (2 ^ 20 + 1 - length table.words) * (2 ^ 20 + 1) + min (2 ^ 20) (missing table)
+
+pub turns-fewer : (table table' : TableValue) → length table.words ≤ 2 ^ 20 → HasMore table table' → turns_left table' < turns_left table
+turns-fewer table table' short more = elim more [
+  | inl longer ↦
+      let step : (2 ^ 20 + 1 - length table'.words + 1) * (2 ^ 20 + 1) ≤ (2 ^ 20 + 1 - length table.words) * (2 ^ 20 + 1) = mul-le-mul (omega (arith, short, longer)) (omega arith) in
+      omega (arith, step)
+  | inr both ↦
+      let same = both.0 in
+      let fewer = both.1 in
+      let few : missing table ≤ length table.words = count_by-le-length (λ w. block_offset w == 0) table.words in
+      omega (arith, same, fewer, few, short)
+]

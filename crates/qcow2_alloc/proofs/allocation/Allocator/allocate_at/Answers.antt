@@ -1,0 +1,43 @@
+use Rattle.std.proofs.Common.{Bool, true, false, None, ◌≡◌, ℕ, sym, subst}
+use Rattle.std.specs.Prelude.{IsTrue}
+use Rattle.qcow2_metadata.specs.Places.{IsInReach}
+use Rattle.qcow2_alloc.specs.Allocators.{table_of, mark_of}
+use Rattle.qcow2_alloc.specs.HandingOut.{IsBarred}
+use Rattle.qcow2_alloc.specs.HandingOutOne.{AllocatesAt, ReadiesCounter}
+use Rattle.qcow2_alloc.proofs.AllocatingReadied.{out-of-reach, uncounted-at, refused-at, readied-at}
+use Rattle.qcow2_alloc.proofs.CountingOne.{handed_so, not_handed}
+use Rattle.qcow2_alloc.proofs.EnsuringBlocks.{so}
+use Rattle.qcow2_alloc.proofs.allocation.Allocator.allocate_at.Goals as goal
+
+never : (b : Bool) → b ≡ false → IsTrue b → ⊥
+never false is holds = cc holds
+never true is holds = cc is
+
+pub returns-then-not-is_in_reach-clause-allocates : goal.returns-then-not-is_in_reach-clause-allocates
+returns-then-not-is_in_reach-clause-allocates g c =
+    out-of-reach g.S.Storage.state (mark_of c.args.self.now) c.args.cluster (table_of c.args.self.now) c.args.caches.now c.args.file.now c.args.list.now.entries
+    (λ near. never c.is_in_reach.result c.if-not-is_in_reach.true (c.is_in_reach.ensures.1 (subst (λ (b : ℕ). IsInReach b c.args.cluster) (sym c.cluster_bits.ensures.value) near)))
+
+pub returns-in-Ok-true-clause-allocates : goal.returns-in-Ok-true-clause-allocates
+returns-in-Ok-true-clause-allocates g c =
+    let state = g.S.Storage.state in
+    let mid = c.ensure_counter.new in
+    let new = c.allocate_one.new in
+    let counter = subst (λ (b : Bool). ReadiesCounter state (mark_of c.args.self.now) c.args.cluster (table_of c.args.self.now) c.args.caches.now c.args.file.now c.args.list.now.entries (so b) (table_of mid.self) mid.caches mid.file mid.list.entries) c.in-Ok-true.field-0-test c.in-Ok-true.ensures.readies in
+    readied-at state (mark_of c.args.self.now) c.args.cluster (table_of c.args.self.now) c.args.caches.now c.args.file.now c.args.list.now.entries (table_of mid.self) mid.caches mid.file mid.list.entries counter c.allocate_one.result (table_of new.self) new.caches new.file new.list.entries (mark_of new.self)
+    (subst (λ (m : ℕ). AllocatesAt state (λ _. ⊥) m c.args.cluster (table_of mid.self) mid.caches mid.file mid.list.entries c.allocate_one.result (table_of new.self) new.caches new.file new.list.entries (mark_of new.self)) c.in-Ok-true.ensures.mark c.allocate_one.ensures.allocates)
+
+pub returns-in-Ok-false-clause-allocates : goal.returns-in-Ok-false-clause-allocates
+returns-in-Ok-false-clause-allocates g c =
+    let state = g.S.Storage.state in
+    let mid = c.ensure_counter.new in
+    subst (λ (m : ℕ). AllocatesAt state (λ m'. IsBarred m' (mark_of c.args.self.now) c.args.cluster) (mark_of c.args.self.now) c.args.cluster (table_of c.args.self.now) c.args.caches.now c.args.file.now c.args.list.now.entries (handed_so None) (table_of mid.self) mid.caches mid.file mid.list.entries m) (sym c.in-Ok-false.ensures.mark)
+    (uncounted-at state (mark_of c.args.self.now) c.args.cluster (table_of c.args.self.now) c.args.caches.now c.args.file.now c.args.list.now.entries (table_of mid.self) mid.caches mid.file mid.list.entries
+    (subst (λ (b : Bool). ReadiesCounter state (mark_of c.args.self.now) c.args.cluster (table_of c.args.self.now) c.args.caches.now c.args.file.now c.args.list.now.entries (so b) (table_of mid.self) mid.caches mid.file mid.list.entries) c.in-Ok-false.field-0-test c.in-Ok-false.ensures.readies))
+
+pub returns-in-Err-clause-allocates : goal.returns-in-Err-clause-allocates
+returns-in-Err-clause-allocates g c =
+    let state = g.S.Storage.state in
+    let mid = c.ensure_counter.new in
+    subst (λ (m : ℕ). AllocatesAt state (λ m'. IsBarred m' (mark_of c.args.self.now) c.args.cluster) (mark_of c.args.self.now) c.args.cluster (table_of c.args.self.now) c.args.caches.now c.args.file.now c.args.list.now.entries (not_handed c.in-Err.fault) (table_of mid.self) mid.caches mid.file mid.list.entries m) (sym c.in-Err.ensures.mark)
+    (refused-at state (mark_of c.args.self.now) c.args.cluster (table_of c.args.self.now) c.args.caches.now c.args.file.now c.args.list.now.entries (table_of mid.self) mid.caches mid.file mid.list.entries c.in-Err.fault c.in-Err.ensures.readies)

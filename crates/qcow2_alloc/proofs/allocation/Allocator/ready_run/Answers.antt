@@ -1,0 +1,103 @@
+use Rattle.std.proofs.Common.{◌≡◌, ◌<◌, ◌/◌, ◌^◌, ℕ, Bool, false, refl, arith, ap, subst, ◌∙◌, pow_pos, Ok, Err, ◌+◌, true, sym}
+use Rattle.qcow2_types.specs.Counts.{counters_of_block}
+use Rattle.qcow2_alloc.specs.Allocators.{table_of, mark_of}
+use Rattle.qcow2_alloc.specs.ReadyingBlocks.{ReadiesBlocks}
+use Rattle.qcow2_alloc.specs.ReadyingRuns.{ReadiesRun}
+use Rattle.qcow2_alloc.proofs.ReadyingRuns.{Stays, stays-none, stays-found, stays-on, found-run, readying-none, readying-searched, readying-made, search-refused, making-refused, unfit-refused, run-ready, turns-fewer}
+use Rattle.qcow2_alloc.proofs.allocation.Allocator.ready_run.Goals as goal
+
+pub loop-first-init : goal.loop-first-init
+loop-first-init g c = (readying-none g.S.Storage.state (table_of c.args.self.now) c.args.caches.now c.args.file.now c.args.list.now.entries, refl, refl, stays-none g.S.Storage.state (table_of c.args.self.now) c.args.caches.now c.args.file.now c.args.list.now.entries (mark_of c.args.self.now) c.args.count c.requires.some)
+
+pub returns-in-Err-clause-readies : goal.returns-in-Err-clause-readies
+returns-in-Err-clause-readies g c =
+    let state = g.S.Storage.state in
+    let l = c.loop-first in
+    let new = c.find_run.new in
+    subst (λ (m : ℕ). ReadiesRun state m c.args.count (table_of c.args.self.now) c.args.caches.now c.args.file.now c.args.list.now.entries (Err c.in-Err.fault) (table_of l.self) new.caches new.file l.list.entries) l.invariant.1
+    (search-refused state (table_of c.args.self.now) c.args.caches.now c.args.file.now c.args.list.now.entries (table_of l.self) l.caches l.file l.list.entries l.invariant.0 (mark_of l.self) c.args.count c.in-Err.fault new.caches new.file c.in-Err.ensures)
+
+pub returns-in-Err-last_index-clause-readies : goal.returns-in-Err-last_index-clause-readies
+returns-in-Err-last_index-clause-readies g c =
+    let state = g.S.Storage.state in
+    let l = c.loop-first in
+    let new = c.find_run.new in
+    subst (λ (m : ℕ). ReadiesRun state m c.args.count (table_of c.args.self.now) c.args.caches.now c.args.file.now c.args.list.now.entries (Err c.in-Err-last_index.fault) (table_of l.self) new.caches new.file l.list.entries) l.invariant.1
+    (unfit-refused state (table_of c.args.self.now) c.args.caches.now c.args.file.now c.args.list.now.entries (table_of l.self) l.caches l.file l.list.entries l.invariant.0 (mark_of l.self) c.args.count c.in-Ok.first c.requires.some new.caches new.file c.in-Ok.ensures
+    c.in-Err-last_index.fault c.in-Err-last_index.ensures.err
+    (subst (λ (m : ℕ). Stays state (table_of c.args.self.now) c.args.caches.now c.args.file.now c.args.list.now.entries m c.args.count (table_of l.self) l.caches l.file l.list.entries) (sym l.invariant.1) l.invariant.3))
+
+pub loop-first-smaller : goal.loop-first-smaller
+loop-first-smaller g c =
+    let l = c.loop-first in
+    let made = c.in-Ok-true.ensures in
+    turns-fewer (table_of l.self) (table_of c.ready_blocks.new.self) made.short (made.readies.further c.in-Ok-true.field-0-test)
+
+pub loop-first-preserved : goal.loop-first-preserved
+loop-first-preserved g c =
+    let state = g.S.Storage.state in
+    let l = c.loop-first in
+    let searched = c.find_run.new in
+    let new = c.ready_blocks.new in
+    let made = c.in-Ok-true.ensures in
+    let bits = c.rb_bits.ensures in
+    let k = counters_of_block searched.file.header.fields in
+    let at = c.in-Ok-last_index.index + (c.args.count / k + 2) in
+    let found = readying-searched state (table_of c.args.self.now) c.args.caches.now c.args.file.now c.args.list.now.entries (table_of l.self) l.caches l.file l.list.entries l.invariant.0 (mark_of l.self) c.args.count c.in-Ok.first searched.caches searched.file c.in-Ok.ensures in
+    let kept = stays-found state (table_of c.args.self.now) c.args.caches.now c.args.file.now c.args.list.now.entries (table_of l.self) l.caches l.file l.list.entries l.invariant.0 (mark_of l.self) c.args.count c.in-Ok.first c.requires.some searched.caches searched.file c.in-Ok.ensures
+    (subst (λ (m : ℕ). Stays state (table_of c.args.self.now) c.args.caches.now c.args.file.now c.args.list.now.entries m c.args.count (table_of l.self) l.caches l.file l.list.entries) (sym l.invariant.1) l.invariant.3) in
+    let index : c.rt_index-first_index.result ≡ c.in-Ok.first / k = c.rt_index-first_index.ensures ∙ ap (λ (m : ℕ). c.in-Ok.first / m) bits.entries in
+    let readies = subst (λ (b : Bool). ReadiesBlocks state (mark_of l.self) at c.rt_index-first_index.result c.in-Ok-last_index.index (table_of l.self) searched.caches searched.file l.list.entries (Ok b) (table_of new.self) new.caches new.file new.list.entries) c.in-Ok-true.field-0-test made.readies in (
+      readying-made state (table_of c.args.self.now) c.args.caches.now c.args.file.now c.args.list.now.entries (table_of l.self) searched.caches searched.file l.list.entries found
+          (mark_of l.self) at c.rt_index-first_index.result c.in-Ok-last_index.index true (table_of new.self) new.caches new.file new.list.entries readies,
+      made.mark ∙ l.invariant.1,
+      made.held ∙ l.invariant.2,
+      subst (λ (m : ℕ). Stays state (table_of c.args.self.now) c.args.caches.now c.args.file.now c.args.list.now.entries m c.args.count (table_of new.self) new.caches new.file new.list.entries) l.invariant.1
+          (stays-on state (table_of c.args.self.now) c.args.caches.now c.args.file.now c.args.list.now.entries (table_of l.self) searched.caches searched.file l.list.entries found (mark_of l.self) c.args.count c.in-Ok.first c.rt_index-first_index.result c.in-Ok-last_index.index c.requires.some
+          (found-run state (table_of c.args.self.now) c.args.caches.now c.args.file.now c.args.list.now.entries (table_of l.self) l.caches l.file l.list.entries l.invariant.0 (mark_of l.self) c.args.count c.in-Ok.first c.requires.some searched.caches searched.file c.in-Ok.ensures)
+          index c.in-Ok-last_index.ensures.index kept (table_of new.self) new.caches new.file new.list.entries readies),
+    )
+
+pub returns-in-Ok-false-clause-readies : goal.returns-in-Ok-false-clause-readies
+returns-in-Ok-false-clause-readies g c =
+    let state = g.S.Storage.state in
+    let l = c.loop-first in
+    let searched = c.find_run.new in
+    let new = c.ready_blocks.new in
+    let k = counters_of_block searched.file.header.fields in
+    let at = c.in-Ok-last_index.index + (c.args.count / k + 2) in
+    let bits = c.rb_bits.ensures in
+    let index : c.rt_index-first_index.result ≡ c.in-Ok.first / k = c.rt_index-first_index.ensures ∙ ap (λ (m : ℕ). c.in-Ok.first / m) bits.entries in
+    let last = c.in-Ok-last_index.ensures in
+    let made = c.in-Ok-false.ensures in
+    let found = readying-searched state (table_of c.args.self.now) c.args.caches.now c.args.file.now c.args.list.now.entries (table_of l.self) l.caches l.file l.list.entries l.invariant.0 (mark_of l.self) c.args.count c.in-Ok.first searched.caches searched.file
+    c.in-Ok.ensures in
+    let done = readying-made state (table_of c.args.self.now) c.args.caches.now c.args.file.now c.args.list.now.entries (table_of l.self) searched.caches searched.file l.list.entries found
+    (mark_of l.self) at c.rt_index-first_index.result c.in-Ok-last_index.index c.in-Ok-false.field-0 (table_of new.self) new.caches new.file new.list.entries made.readies in
+    let none : ReadiesBlocks state (mark_of l.self) at (c.in-Ok.first / k) c.in-Ok-last_index.index (table_of l.self) searched.caches searched.file l.list.entries (Ok false) (table_of new.self) new.caches new.file new.list.entries =
+    subst (λ (m : ℕ). ReadiesBlocks state (mark_of l.self) at m c.in-Ok-last_index.index (table_of l.self) searched.caches searched.file l.list.entries (Ok false) (table_of new.self) new.caches new.file new.list.entries) index
+    (subst (λ (b : Bool). ReadiesBlocks state (mark_of l.self) at c.rt_index-first_index.result c.in-Ok-last_index.index (table_of l.self) searched.caches searched.file l.list.entries (Ok b) (table_of new.self) new.caches new.file new.list.entries) c.in-Ok-false.field-0-test made.readies) in
+    subst (λ (m : ℕ). ReadiesRun state m c.args.count (table_of c.args.self.now) c.args.caches.now c.args.file.now c.args.list.now.entries (Ok c.in-Ok.first) (table_of new.self) new.caches new.file new.list.entries) l.invariant.1
+    (run-ready state (table_of c.args.self.now) c.args.caches.now c.args.file.now c.args.list.now.entries (table_of l.self) l.caches l.file l.list.entries l.invariant.0 (mark_of l.self) c.args.count c.in-Ok.first c.requires.some searched.caches searched.file c.in-Ok.ensures
+    (table_of new.self) new.caches new.file new.list.entries k c.in-Ok-last_index.index refl at none done (wide c.rb_bits.result k bits.entries) last.start last.reach last.index)
+  where
+    wide : (bits k : ℕ) → 2 ^ bits ≡ k → 0 < k
+    wide bits k size = let some = pow_pos bits in omega (arith, some, size)
+
+pub returns-in-Err-ready_blocks-clause-readies : goal.returns-in-Err-ready_blocks-clause-readies
+returns-in-Err-ready_blocks-clause-readies g c =
+    let state = g.S.Storage.state in
+    let l = c.loop-first in
+    let searched = c.find_run.new in
+    let new = c.ready_blocks.new in
+    let bits = c.rb_bits.ensures in
+    let k = counters_of_block searched.file.header.fields in
+    let index : c.rt_index-first_index.result ≡ c.in-Ok.first / k = c.rt_index-first_index.ensures ∙ ap (λ (m : ℕ). c.in-Ok.first / m) bits.entries in
+    let kept = stays-found state (table_of c.args.self.now) c.args.caches.now c.args.file.now c.args.list.now.entries (table_of l.self) l.caches l.file l.list.entries l.invariant.0 (mark_of l.self) c.args.count c.in-Ok.first c.requires.some searched.caches searched.file c.in-Ok.ensures
+    (subst (λ (m : ℕ). Stays state (table_of c.args.self.now) c.args.caches.now c.args.file.now c.args.list.now.entries m c.args.count (table_of l.self) l.caches l.file l.list.entries) (sym l.invariant.1) l.invariant.3) in
+    subst (λ (m : ℕ). ReadiesRun state m c.args.count (table_of c.args.self.now) c.args.caches.now c.args.file.now c.args.list.now.entries (Err c.in-Err-ready_blocks.fault) (table_of new.self) new.caches new.file new.list.entries) l.invariant.1
+    (making-refused state (table_of c.args.self.now) c.args.caches.now c.args.file.now c.args.list.now.entries (table_of l.self) searched.caches searched.file l.list.entries
+    (readying-searched state (table_of c.args.self.now) c.args.caches.now c.args.file.now c.args.list.now.entries (table_of l.self) l.caches l.file l.list.entries l.invariant.0 (mark_of l.self) c.args.count c.in-Ok.first searched.caches searched.file c.in-Ok.ensures)
+    (mark_of l.self) c.args.count c.in-Ok.first c.rt_index-first_index.result c.in-Ok-last_index.index c.requires.some
+    (found-run state (table_of c.args.self.now) c.args.caches.now c.args.file.now c.args.list.now.entries (table_of l.self) l.caches l.file l.list.entries l.invariant.0 (mark_of l.self) c.args.count c.in-Ok.first c.requires.some searched.caches searched.file c.in-Ok.ensures)
+    index c.in-Ok-last_index.ensures.index kept c.in-Err-ready_blocks.fault (table_of new.self) new.caches new.file new.list.entries c.in-Err-ready_blocks.ensures.readies)

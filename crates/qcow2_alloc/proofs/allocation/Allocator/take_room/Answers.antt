@@ -1,0 +1,86 @@
+use Rattle.std.proofs.Common.{◌≡◌, ◌≤◌, ◌<◌, ◌+◌, ◌-◌, ◌^◌, ◌∙◌, ℕ, arith, ap, sym, subst, Ok, Err, []}
+use Rattle.std.proofs.lemmas.Nat.{pow_pos}
+use Rattle.qcow2_types.specs.Counts.{counters_of_block}
+use Rattle.qcow2_types.specs.Header.{Header}
+use Rattle.qcow2_metadata.specs.Places.{IsInReach}
+use Rattle.qcow2_metadata.specs.Tables.{TableValue}
+use Rattle.qcow2_alloc.specs.declared.allocation.searching.Run.{Run}
+use Rattle.qcow2_alloc.specs.Allocators.{table_of}
+use Rattle.qcow2_alloc.specs.Caches.{cached_in}
+use Rattle.qcow2_alloc.specs.Growing.{lacking}
+use Rattle.qcow2_alloc.specs.MovingTables.{ForgetsRun}
+use Rattle.qcow2_alloc.proofs.WritingNewBlocks.{run-fits}
+use Rattle.qcow2_alloc.proofs.TakingRoom.{flushed-then, room-not-forgotten, room-taken}
+use Rattle.qcow2_alloc.proofs.allocation.Allocator.take_room.Goals as goal
+
+pub returns-in-Err-flush_rb : goal.returns-in-Err-flush_rb
+returns-in-Err-flush_rb g c = λ pending.
+    let state = g.S.Storage.state in
+    let table = table_of c.args.self.now in
+    let C = c.count_named.new in
+    let D = c.flush_rb.new in
+    let e = c.in-Err-flush_rb.ensures in
+    record {
+      counts = flushed-then state table pending c.args.room c.args.caches.now c.args.file.now C.caches C.file (c.in_default.ensures pending) (Err c.in-Err-flush_rb.fault) D.self D.file e.going e.kept e.others e.room e.cause;
+      taken = λ order keeps sound zero. tt;
+    }
+
+-- how many blocks are lacking, by the header as it is then and as it was
+lacking-so : (table : TableValue) (run : Run) (h h' : Header) (bits n : ℕ) → h' ≡ h → 2 ^ bits ≡ counters_of_block h'.fields → n ≡ lacking table (2 ^ bits) run.first run.len → lacking table (counters_of_block h.fields) run.first run.len ≤ run.len
+    → (n ≡ lacking table (counters_of_block h'.fields) run.first run.len) × (n ≤ run.len)
+lacking-so table run h h' bits n same size is few =
+    let there : n ≡ lacking table (counters_of_block h'.fields) run.first run.len = is ∙ ap (λ k. lacking table k run.first run.len) size in
+    let was : n ≡ lacking table (counters_of_block h.fields) run.first run.len = there ∙ ap (λ (H : Header). lacking table (counters_of_block H.fields) run.first run.len) same in
+    (there, omega (arith, was, few))
+
+pub forget_run-requires : goal.forget_run-requires
+forget_run-requires g c =
+    let C = c.count_named.new in
+    let D = c.flush_rb.new in
+    let header = c.in_default-flush_rb.ensures.others.1 ∙ (c.in_default.ensures []).header in
+    let n = lacking-so (table_of c.args.self.now) c.args.room c.args.file.now.header D.file.header c.rb_bits.result c.lacking_for-blocks.result header c.rb_bits.ensures.entries c.lacking_for-blocks.ensures c.requires.few in
+    let few = n.1 in
+    let first = c.first.ensures in
+    let fits = run-fits c.args.file.now.header.fields.cluster_bits c.args.room.first c.args.room.len c.requires.reach in
+    record { fits = omega (arith, few, first, fits) }
+
+pub write_new_blocks-requires-clause-reach : goal.write_new_blocks-requires-clause-reach
+write_new_blocks-requires-clause-reach g c =
+    let header = c.in_default-flush_rb.ensures.others.1 ∙ (c.in_default.ensures []).header in
+    subst (λ (h : Header). IsInReach h.fields.cluster_bits (c.args.room.first + (c.args.room.len - 1))) (sym header) c.requires.reach
+
+pub write_new_blocks-requires-clause-room : goal.write_new_blocks-requires-clause-room
+write_new_blocks-requires-clause-room g c =
+    let header = c.in_default-flush_rb.ensures.others.1 ∙ (c.in_default.ensures []).header in
+    subst (λ (h : Header). lacking (table_of c.args.self.now) (counters_of_block h.fields) c.args.room.first c.args.room.len ≤ c.args.room.len) (sym header) c.requires.few
+
+pub returns-in-Ok : goal.returns-in-Ok
+returns-in-Ok g c = λ pending.
+    let state = g.S.Storage.state in
+    let table = table_of c.args.self.now in
+    let C = c.count_named.new in
+    let D = c.flush_rb.new in
+    let e = c.in_default-flush_rb.ensures in
+    let f = c.in-Ok.ensures in
+    let header = e.others.1 ∙ (c.in_default.ensures []).header in
+    let n = lacking-so table c.args.room c.args.file.now.header D.file.header c.rb_bits.result c.lacking_for-blocks.result header c.rb_bits.ensures.entries c.lacking_for-blocks.ensures c.requires.few in
+    let some : 0 < counters_of_block D.file.header.fields = (let is = c.rb_bits.ensures.entries in let there = pow_pos c.rb_bits.result in omega (arith, is, there)) in
+    let forgets : ForgetsRun c.args.room.first c.lacking_for-blocks.result (cached_in D.self) (Ok tt) (cached_in c.forget_run.new.caches) =
+    subst (λ (d : ℕ). ForgetsRun d c.lacking_for-blocks.result (cached_in D.self) (Ok tt) (cached_in c.forget_run.new.caches)) c.first.ensures f.forgets in
+    room-taken state table pending c.args.room c.args.caches.now c.args.file.now C.caches C.file (c.in_default.ensures pending) D.self D.file e.going e.kept e.others e.room e.cause e.clean c.lacking_for-blocks.result n.1
+    c.forget_run.new.caches forgets f.order f.loose f.room n.0 some c.write_new_blocks.result c.write_new_blocks.new.file c.write_new_blocks.ensures.header c.write_new_blocks.ensures.writes
+
+pub returns-in-Err-forget_run : goal.returns-in-Err-forget_run
+returns-in-Err-forget_run g c = λ pending.
+    let state = g.S.Storage.state in
+    let table = table_of c.args.self.now in
+    let C = c.count_named.new in
+    let D = c.flush_rb.new in
+    let e = c.in_default-flush_rb.ensures in
+    let f = c.in-Err-forget_run.ensures in
+    let header = e.others.1 ∙ (c.in_default.ensures []).header in
+    let n = lacking-so table c.args.room c.args.file.now.header D.file.header c.rb_bits.result c.lacking_for-blocks.result header c.rb_bits.ensures.entries c.lacking_for-blocks.ensures c.requires.few in
+    let forgets : ForgetsRun c.args.room.first c.lacking_for-blocks.result (cached_in D.self) (Err c.in-Err-forget_run.fault) (cached_in c.forget_run.new.caches) =
+    subst (λ (d : ℕ). ForgetsRun d c.lacking_for-blocks.result (cached_in D.self) (Err c.in-Err-forget_run.fault) (cached_in c.forget_run.new.caches)) c.first.ensures f.forgets in
+    room-not-forgotten state table pending c.args.room c.args.caches.now c.args.file.now C.caches C.file (c.in_default.ensures pending) D.self D.file e.going e.kept e.others e.room e.cause e.clean c.lacking_for-blocks.result n.1
+    c.in-Err-forget_run.fault c.forget_run.new.caches forgets f.order f.loose f.room f.err

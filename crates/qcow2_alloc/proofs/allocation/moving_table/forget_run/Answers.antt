@@ -1,0 +1,28 @@
+use Rattle.std.proofs.Common.{◌≡◌, ◌+◌, ◌∙◌, ℕ, refl, ap, subst}
+use Rattle.std.specs.Prelude.{nat_eq}
+use Rattle.std.specs.Map.{remove_entry}
+use Rattle.qcow2_alloc.specs.declared.cache.MetadataCaches.{MetadataCaches}
+use Rattle.qcow2_alloc.specs.Caches.{cached_in}
+use Rattle.qcow2_alloc.specs.CachesLending.{with_blocks}
+use Rattle.qcow2_alloc.proofs.ForgettingRuns.{forgets-none, forgets-then, forgotten-leaves, pinned-never}
+use Rattle.qcow2_alloc.proofs.allocation.moving_table.forget_run.Goals as goal
+
+pub loop-index-init : goal.loop-index-init
+loop-index-init g c = (forgets-none c.args.first (cached_in c.args.caches.now), refl, λ loose. loose, record { tables = refl; blocks = refl })
+
+pub returns-in-Err-clause-err : goal.returns-in-Err-clause-err
+returns-in-Err-clause-err g c =
+    (c.in-Err.ensures.err.0, λ loose. pinned-never c.loop-index.caches (c.first.inside.0 + c.loop-index.index) c.in-Err.ensures.err.1 (c.loop-index.invariant.2 loose))
+
+pub loop-index-preserved : goal.loop-index-preserved
+loop-index-preserved g c =
+    let l = c.loop-index in
+    let new = c.rb_forget.new.self in
+    let is : new ≡ with_blocks l.caches (remove_entry (nat_eq (c.args.first + l.index)) (cached_in l.caches).blocks) =
+    subst (λ (n : ℕ). new ≡ with_blocks l.caches (remove_entry (nat_eq (n + l.index)) (cached_in l.caches).blocks)) c.first.view_is c.in-Ok.ensures.ok in
+    let leaves = forgotten-leaves l.caches new (c.args.first + l.index) is in (
+      forgets-then c.args.first l.index (cached_in c.args.caches.now) (cached_in l.caches) (cached_in new) (ap (λ (m : MetadataCaches _). cached_in m) is) l.invariant.0,
+      leaves.0 ∙ l.invariant.1,
+      λ loose. leaves.1 (l.invariant.2 loose),
+      record { tables = leaves.2.tables ∙ l.invariant.3.tables; blocks = leaves.2.blocks ∙ l.invariant.3.blocks },
+    )

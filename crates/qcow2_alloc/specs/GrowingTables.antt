@@ -1,0 +1,84 @@
+-- How the refcount table grows.
+use Rattle.std.specs.Prelude.{◌≡◌, ◌⊎◌, ℕ, ◌+◌, ◌-◌, ◌*◌, ◌/◌, ◌^◌, ◌<◌, ◌≤◌, ◌==◌, ◌++◌, ◌∷◌, [], IsTrue, min, true, if◌then◌else◌, List, Some, Result, Err, OnOk, OnErr, IfErr, MatchResult, length, slice_index}
+use Rattle.imago_storage.specs.State.{StorageState}
+use Rattle.imago_storage.specs.declared.fault.Fault.{Fault}
+use Rattle.imago_storage.specs.declared.fault.Fault.TheVariants.{CacheFull}
+use Rattle.qcow2_types.specs.Header.{Fields, cluster_size, words_of_cluster}
+use Rattle.qcow2_types.specs.Words.{block_offset}
+use Rattle.qcow2_types.specs.Counts.{counters_of_block}
+use Rattle.qcow2_types.specs.Pending.{FreeEntry}
+use Rattle.qcow2_metadata.specs.Growth.{IsEnough, IsGrownLength}
+use Rattle.qcow2_metadata.specs.Places.{IsInReach}
+use Rattle.qcow2_metadata.specs.Tables.{TableValue}
+use Rattle.qcow2_alloc.specs.declared.cache.CacheDependency.TheVariants.{L2DependsOnRb}
+use Rattle.qcow2_alloc.specs.declared.cache.MetadataCaches.{MetadataCaches}
+use Rattle.qcow2_alloc.specs.declared.file.ImageFile.{ImageFile}
+use Rattle.qcow2_alloc.specs.Allocating.{Allocating, WhyNotAllocated}
+use Rattle.qcow2_alloc.specs.Allocators.{metadata_of}
+use Rattle.qcow2_alloc.specs.Caches.{order_of}
+use Rattle.qcow2_alloc.specs.FreeList.{covers}
+use Rattle.qcow2_alloc.specs.Freeing.{IsLoose}
+use Rattle.qcow2_alloc.specs.Going.{IsWhole, IsMild}
+use Rattle.qcow2_alloc.specs.Growing.{lacks, lacking, IsFirstRoom}
+use Rattle.qcow2_alloc.specs.MakingRoom.{run_of, rank}
+use Rattle.qcow2_alloc.specs.Quiet.{Metadata, IsSound, counted}
+
+-- the clusters of the refcount table of an image, if there are any
+abbrev pub table_run : Fields → List FreeEntry
+table_run h = if h.refcount_table_clusters == 0 then [] else run_of (h.refcount_table_offset / cluster_size h) h.refcount_table_clusters ∷ []
+
+-- where the search of a room begins: at the mark, or where the clusters end that the table can count
+abbrev pub room_from : Metadata → ℕ → ℕ
+room_from m mark = min mark (length m.table.words * counters_of_block m.header.fields)
+
+-- A room of `total` clusters from `first` on is the first one for the table, grown to so many clusters for an index.
+pub record IsRoomToGrow (m : Metadata) (mark at first total clusters : ℕ) : Type 0 where
+  pub long : IsGrownLength (words_of_cluster m.header.fields) (counters_of_block m.header.fields) at (clusters * words_of_cluster m.header.fields)
+  pub room : IsFirstRoom m.table (counters_of_block m.header.fields) (counted m) (room_from m mark) clusters first total
+
+-- Words can name the clusters of the room, and the grown table can name a block for each.
+pub record IsRoomInReach (m : Metadata) (first total clusters : ℕ) : Type 0 where
+  pub reach : IsInReach m.header.fields.cluster_bits (first + (total - 1))
+  pub inside : first + total ≤ clusters * words_of_cluster m.header.fields * counters_of_block m.header.fields
+
+-- There is no place for a table that holds an index: it would be too long, or its room out of reach.
+abbrev pub NoPlaceToGrow : Metadata → ℕ → ℕ → Type 0
+NoPlaceToGrow m mark at = ((n : ℕ) → IsEnough (words_of_cluster m.header.fields) (counters_of_block m.header.fields) at n → 2 ^ 20 < n)
+    ⊎ ((first : ℕ) × (total : ℕ) × (clusters : ℕ) × IsRoomToGrow m mark at first total clusters × (IsRoomInReach m first total clusters → ⊥))
+
+-- The table has grown for an index: it stands in its room behind the blocks that were lacking for that, in the order of their indices. Its words
+-- name these blocks, and those that they named before. Each cluster of the room is counted, and no other count changed.
+pub record TableGrown (mark at : ℕ) (m m' : Metadata) : Type 0 where
+  pub first : ℕ
+  pub total : ℕ
+  pub clusters : ℕ
+  pub room : IsRoomToGrow m mark at first total clusters
+  pub reach : IsRoomInReach m first total clusters
+  pub long : length m'.table.words ≡ clusters * words_of_cluster m.header.fields
+  pub placed : m'.table.cluster ≡ Some (first + lacking m.table (counters_of_block m.header.fields) first total)
+  pub news : (i : ℕ) → lacks m.table (counters_of_block m.header.fields) first total i ≡ true
+      → block_offset (slice_index m'.table.words i) ≡ (first + rank (lacks m.table (counters_of_block m.header.fields) first total) i) * cluster_size m.header.fields
+  pub olds : (i : ℕ) → (lacks m.table (counters_of_block m.header.fields) first total i ≡ true → ⊥) → block_offset (slice_index m'.table.words i) ≡ block_offset (slice_index m.table.words i)
+  pub counts : (c : ℕ) → counted m' c ≡ counted m c + covers c (run_of first total)
+
+-- What a refused call has counted and nobody was handed: only one that found the cache full has, and so none unless something is pinned.
+pub record Leaks {T : Type 0} (loose : Type 0) (result : Result T Fault) (leaked : ℕ → ℕ) : Type 0 where
+  pub none : (result ≡ Err CacheFull → ⊥) → (c : ℕ) → leaked c ≡ 0
+  pub pinned : loose → (c : ℕ) → leaked c ≡ 0
+
+-- The refcount table grows until it holds an index, while blocks are written before tables. The old table waits to be freed then. Refused without
+-- being cut off, table, header and list are what they were, and unless something is pinned nothing is counted otherwise.
+pub record GrowsTable {S : Type 0} (state : S → StorageState) (mark at : ℕ) (table : TableValue) (old : MetadataCaches S) (before : ImageFile S) (pending : List FreeEntry) (result : Result Unit Fault) (table' : TableValue) (new : MetadataCaches S) (after : ImageFile S) (pending' : List FreeEntry) : Type 0 where
+  pub leaked : ℕ → ℕ
+  pub leaks : Leaks (IsLoose old) result leaked
+  pub step : Allocating state (IsWhole result) leaked table old before pending table' new after pending'
+  pub grown : order_of old ≡ L2DependsOnRb → IsTrue (state before.image).shape.keeps → IsSound (metadata_of state before old table pending)
+      → OnOk result (TableGrown mark at (metadata_of state before old table pending) (metadata_of state after new table' pending'))
+  pub enough : OnOk result (IsGrownLength (words_of_cluster before.header.fields) (counters_of_block before.header.fields) at (length table'.words))
+  pub waits : OnOk result (pending' ≡ pending ++ table_run before.header.fields)
+  pub kept : OnErr result (pending' ≡ pending)
+  pub stays : IfErr result (λ fault. IsMild fault → (table' ≡ table) × (after.header ≡ before.header))
+  pub cause : MatchResult result (λ _. (state after.image).faults ≡ (state before.image).faults)
+      (WhyNotAllocated (IsTrue (state before.image).shape.keeps × (order_of old ≡ L2DependsOnRb) × IsSound (metadata_of state before old table pending)) (IsLoose old)
+      (order_of old ≡ L2DependsOnRb → IsTrue (state before.image).shape.keeps → IsSound (metadata_of state before old table pending) → NoPlaceToGrow (metadata_of state before old table pending) mark at)
+      (state before.image).faults (state after.image).faults)

@@ -1,0 +1,199 @@
+-- How a refcount table that has grown takes its room, and becomes the image's.
+use Rattle.std.specs.Prelude.{◌≡◌, ◌≢◌, ⊤, true, ℕ, ◌+◌, ◌-◌, ◌*◌, ◌/◌, ◌%◌, ◌^◌, ◌<◌, ◌≤◌, ◌++◌, false, IsTrue, List, Some, None, Result, Ok, Err, OnOk, OnErr, IfErr, MatchResult, length, slice_index, nat_eq}
+use Rattle.std.specs.Map.{lookup}
+use Rattle.imago_storage.specs.State.{StorageState}
+use Rattle.imago_storage.specs.Calls.{Later}
+use Rattle.imago_storage.specs.Through.{Put, PutAtOnce}
+use Rattle.imago_storage.specs.declared.fault.Fault.{Fault}
+use Rattle.imago_storage.specs.declared.fault.Fault.TheVariants.{Memory, DamagedTable, Limit}
+use Rattle.qcow2_types.specs.Counts.{count, counters_of_block}
+use Rattle.qcow2_types.specs.Header.{Fields, Header, first_fault, rules_of_size, cluster_size, words_of_cluster, layout_of}
+use Rattle.qcow2_types.specs.HeaderBytes.{first_bytes}
+use Rattle.qcow2_types.specs.HeaderSwitch.{FirstFieldsFit}
+use Rattle.qcow2_types.specs.Pending.{FreeEntry}
+use Rattle.qcow2_types.specs.Switched.{with_refcount_table}
+use Rattle.qcow2_types.specs.TableBytes.{AreFit, table_bytes}
+use Rattle.qcow2_types.specs.Words.{block_offset, block_word_sound}
+use Rattle.qcow2_metadata.specs.Growth.{IsEnough, IsGrownLength}
+use Rattle.qcow2_metadata.specs.Places.{IsInReach}
+use Rattle.qcow2_metadata.specs.Tables.{TableValue, IsPlacedTable, padded, table_place}
+use Rattle.qcow2_alloc.specs.declared.allocation.searching.Run.{Run}
+use Rattle.qcow2_alloc.specs.declared.cache.CacheDependency.TheVariants.{L2DependsOnRb}
+use Rattle.qcow2_alloc.specs.declared.cache.MetadataCaches.{MetadataCaches}
+use Rattle.qcow2_alloc.specs.declared.file.ImageFile.{ImageFile}
+use Rattle.qcow2_alloc.specs.Allocating.{CountsNamed, MovedTable, OnlyRaised}
+use Rattle.qcow2_alloc.specs.Allocators.{metadata_of}
+use Rattle.qcow2_alloc.specs.Caches.{order_of, HasRoomOf}
+use Rattle.qcow2_alloc.specs.FreeList.{covers}
+use Rattle.qcow2_alloc.specs.Freeing.{IsLoose, WhyNotFreed}
+use Rattle.qcow2_alloc.specs.Going.{IsWhole, IsMild}
+use Rattle.qcow2_alloc.specs.Growing.{lacks, lacking}
+use Rattle.qcow2_alloc.specs.GrowingTables.{Leaks, table_run}
+use Rattle.qcow2_alloc.specs.MakingRoom.{run_of, rank}
+use Rattle.qcow2_alloc.specs.MakingBlocks.{CanName}
+use Rattle.qcow2_alloc.specs.Memory.{Cached}
+use Rattle.qcow2_alloc.specs.NewBlocks.{HasCountedOwn}
+use Rattle.qcow2_alloc.specs.Quiet.{Metadata, in_memory, counted, named_at_all, IsSound, IsQuiet, Quietly}
+
+-- how many clusters the words of a table take, where a cluster has 2 to this power of bytes
+abbrev pub clusters_of : TableValue → ℕ → ℕ
+clusters_of table cluster_bits = (8 * length table.words + (2 ^ cluster_bits - 1)) / 2 ^ cluster_bits
+
+-- the header that names a table in place of the refcount table that it named
+abbrev pub naming_table : Header → TableValue → Header
+naming_table H table = with_refcount_table H (table_place table) (clusters_of table H.fields.cluster_bits)
+
+-- A table is written to its place, and then the header's pointer to it. Where this is refused the image has the table that it had.
+pub record MovesTable {S : Type 0} (state : S → StorageState) (table was : TableValue) (before : ImageFile S) (result : Result Unit Fault) (now : TableValue) (after : ImageFile S) : Type 0 where
+  pub done : Result Unit Fault
+  pub mid : S
+  pub put : Put (state before.image) (state mid) (table_place table) (table_bytes table.words) done
+  pub stopped : (fault : Fault) → done ≡ Err fault → (result ≡ Err fault) × (after ≡ record { image = mid; header = before.header })
+  pub pointed : done ≡ Ok tt → PutAtOnce (state mid) (state after.image) 0 (first_bytes (naming_table before.header table).fields) result
+  pub fit : done ≡ Ok tt → FirstFieldsFit (naming_table before.header table).fields
+  pub sizes : done ≡ Ok tt → first_fault (rules_of_size before.header.fields) ≡ None → first_fault (rules_of_size (naming_table before.header table).fields) ≡ None
+  pub ok : OnOk result ((now ≡ record table { modified = false }) × (after.header ≡ naming_table before.header table))
+  pub err : OnErr result ((now ≡ was) × MovedTable before.header after.header)
+
+-- The blocks that are lacking for a run are named, in its first clusters, by the words of a table. The other words stay.
+pub record NamesNewBlocks (h : Fields) (was : TableValue) (run : Run) (old new : TableValue) : Type 0 where
+  pub layout : new.layout ≡ old.layout
+  pub placed : new.cluster ≡ old.cluster
+  pub long : length new.words ≡ length old.words
+  pub news : (i : ℕ) → lacks was (counters_of_block h) run.first run.len i ≡ true → block_offset (slice_index new.words i) ≡ (run.first + rank (lacks was (counters_of_block h) run.first run.len) i) * cluster_size h
+  pub olds : (i : ℕ) → lacks was (counters_of_block h) run.first run.len i ≡ false → slice_index new.words i ≡ slice_index old.words i
+
+-- A copy of the refcount table, grown to n clusters, is to stand in a run behind the blocks that are lacking for it. Its words name these, and
+-- what the old ones name.
+pub record IsGrownCopy (h : Fields) (table : TableValue) (run : Run) (n : ℕ) (copy : TableValue) : Type 0 where
+  pub layout : copy.layout ≡ layout_of h
+  pub long : length copy.words ≡ n * words_of_cluster h
+  pub longer : length table.words ≤ length copy.words
+  pub placed : copy.cluster ≡ Some (run.first + lacking table (counters_of_block h) run.first run.len)
+  pub sane : (i : ℕ) → i < length copy.words → IsTrue (block_word_sound h.cluster_bits (slice_index copy.words i))
+  pub fit : AreFit copy.words
+  pub news : (i : ℕ) → lacks table (counters_of_block h) run.first run.len i ≡ true → block_offset (slice_index copy.words i) ≡ (run.first + rank (lacks table (counters_of_block h) run.first run.len) i) * cluster_size h
+  pub olds : (i : ℕ) → lacks table (counters_of_block h) run.first run.len i ≡ false → block_offset (slice_index copy.words i) ≡ block_offset (slice_index table.words i)
+
+-- The run has room for both, in reach of words and of the counters of the copy's blocks.
+pub record HasRoomFor (h : Fields) (table : TableValue) (run : Run) (n : ℕ) : Type 0 where
+  pub some : run.first ≢ 0
+  pub more : 1 ≤ n
+  pub enough : run.len ≡ n + lacking table (counters_of_block h) run.first run.len
+  pub reach : IsInReach h.cluster_bits (run.first + (run.len - 1))
+  pub inside : run.first + run.len ≤ n * words_of_cluster h * counters_of_block h
+
+-- A copy of the refcount table may take a run, and the header name it. The old table stands where words can name it.
+pub record IsPlan (h : Fields) (table : TableValue) (run : Run) (copy : TableValue) : Type 0 where
+  pub grown : IsGrownCopy h table run (clusters_of copy h.cluster_bits) copy
+  pub room : HasRoomFor h table run (clusters_of copy h.cluster_bits)
+  pub placed : IsPlacedTable table
+  pub bits : table.layout.cluster_bits ≡ h.cluster_bits
+
+-- The refcount table, grown in memory until it holds an index: what is added is 0, and it stands nowhere yet.
+pub record IsGrownFor (h : Fields) (table : TableValue) (at : ℕ) (copy : TableValue) : Type 0 where
+  pub copied : copy ≡ record { layout = layout_of h; words = padded table.words (length copy.words); cluster = None; modified = true }
+  pub long : IsGrownLength (words_of_cluster h) (counters_of_block h) at (length copy.words)
+  pub bits : table.layout.cluster_bits ≡ h.cluster_bits
+
+-- Why it can't be, but for want of memory: it is the table of another image, or would be too long.
+abbrev pub WhyNotGrown : Fields → TableValue → ℕ → Fault → Type 0
+WhyNotGrown h table at Memory = ⊤
+WhyNotGrown h table at DamagedTable = table.layout.cluster_bits ≢ h.cluster_bits
+WhyNotGrown h table at (Limit number) = (n : ℕ) → IsEnough (words_of_cluster h) (counters_of_block h) at n → 2 ^ 20 < n
+WhyNotGrown h table at fault = ⊥
+
+-- A copy of the refcount table has grown in memory by whole clusters of empty words, and a run has room for it.
+pub record IsCopyFor (h : Fields) (table : TableValue) (run : Run) (copy : TableValue) : Type 0 where
+  pub copied : copy ≡ record { layout = layout_of h; words = padded table.words (length copy.words); cluster = None; modified = true }
+  pub whole : length copy.words % words_of_cluster h ≡ 0
+  pub longer : length table.words ≤ length copy.words
+  pub more : 1 ≤ clusters_of copy h.cluster_bits
+  pub enough : run.len ≡ clusters_of copy h.cluster_bits + lacking table (counters_of_block h) run.first run.len
+
+-- Why such a copy can't take the run, but for want of memory: it begins with the first cluster, or the table's words can't be written; or it
+-- is out of reach.
+abbrev pub WhyNotPlaced : Fields → TableValue → Run → TableValue → Fault → Type 0
+WhyNotPlaced h table run copy Memory = ⊤
+WhyNotPlaced h table run copy DamagedTable = (run.first ≢ 0) × CanName table h.cluster_bits (run.first + (run.len - 1)) → ⊥
+WhyNotPlaced h table run copy (Limit number) = IsInReach h.cluster_bits (run.first + (run.len - 1)) × (run.first + run.len ≤ length copy.words * counters_of_block h) → ⊥
+WhyNotPlaced h table run copy fault = ⊥
+
+-- The image shows the same, with the same in memory.
+pub record StaysInMemory (m m' : Metadata) : Type 0 where
+  pub sound : IsSound m'
+  pub quiet : IsQuiet (λ _. 0) (λ _. 0) m m'
+  pub memory_same : in_memory m' ≡ in_memory m
+
+abbrev pub with_cached : Metadata → Cached → Metadata
+with_cached m cached = record m { cached = cached }
+
+-- What is cached of the blocks in a run, which nothing names, is forgotten.
+pub record ForgetsRun (first n : ℕ) (old : Cached) (result : Result Unit Fault) (new : Cached) : Type 0 where
+  pub stays : (m : Metadata) → IsSound (with_cached m old) → ((d : ℕ) → first ≤ d → d < first + n → named_at_all (with_cached m old) d ≡ 0)
+      → StaysInMemory (with_cached m old) (with_cached m new) × OnOk result ((d : ℕ) → first ≤ d → d < first + n → lookup (nat_eq d) new.blocks ≡ None)
+
+-- The run of an image is counted, and has the blocks that are lacking for it in its first clusters. Nothing names it yet.
+pub record IsTaken (m : Metadata) (run : Run) : Type 0 where
+  pub free : (c : ℕ) → run.first ≤ c → c < run.first + run.len → named_at_all m c ≡ 0
+  pub counters : (i : ℕ) → lacks m.table (counters_of_block m.header.fields) run.first run.len i ≡ true
+      → HasCountedOwn m.file m.header.fields (run.first + rank (lacks m.table (counters_of_block m.header.fields) run.first run.len) i) i run
+  pub written : (c : ℕ) → count m.file m.header.fields c ≡ counted m c
+  pub uncached : (i : ℕ) → lacks m.table (counters_of_block m.header.fields) run.first run.len i ≡ true
+      → lookup (nat_eq (run.first + rank (lacks m.table (counters_of_block m.header.fields) run.first run.len) i)) m.cached.blocks ≡ None
+
+-- nothing of a run is counted
+abbrev pub IsUncounted : Metadata → Run → Type 0
+IsUncounted m run = (c : ℕ) → run.first ≤ c → c < run.first + run.len → counted m c ≡ 0
+
+-- what waits to be freed once a table has grown: the clusters of the old one too
+abbrev pub waiting_then : Result Unit Fault → Fields → List FreeEntry → List FreeEntry
+waiting_then (Ok done) h pending = pending ++ table_run h
+waiting_then (Err fault) h pending = pending
+
+module _ {S : Type 0} (state : S → StorageState) where
+  -- A run that wasn't counted is taken: those of its clusters are counted that an old block counts, and the blocks that are lacking for it are
+  -- written.
+  pub record TakesRoom (table : TableValue) (run : Run) (old : MetadataCaches S) (before : ImageFile S) (result : Result Unit Fault) (new : MetadataCaches S) (after : ImageFile S) (pending : List FreeEntry) : Type 0 where
+    pub counts : CountsNamed state table run.first run.len old before result new after pending
+    pub taken : order_of old ≡ L2DependsOnRb → IsTrue (state before.image).shape.keeps → IsSound (metadata_of state before old table pending) → IsUncounted (metadata_of state before old table pending) run
+        → OnOk result (IsTaken (metadata_of state after new table pending) run)
+
+  -- A copy of the refcount table takes a run, and becomes the image's, while the old one comes to wait; where something is known of the image
+  -- that says that the run isn't counted.
+  pub record FillsRoom (known : Type 0) (run : Run) (copy table : TableValue) (old : MetadataCaches S) (before : ImageFile S) (result : Result Unit Fault) (table' : TableValue) (new : MetadataCaches S) (after : ImageFile S) (pending pending' : List FreeEntry) : Type 0 where
+    pub leaked : ℕ → ℕ
+    pub leaks : Leaks (IsLoose old) result leaked
+    pub shape : (state after.image).shape ≡ (state before.image).shape
+    pub later : Later (state before.image) (state after.image)
+    pub quiet : known → Quietly (IsWhole result) leaked (λ _. 0) (state before.image) (metadata_of state before old table pending) (state after.image) (metadata_of state after new table' pending')
+    pub raised : known → IsTrue (state before.image).shape.keeps → IsSound (metadata_of state before old table pending) → IsWhole result
+        → OnlyRaised (metadata_of state before old table pending) (metadata_of state after new table' pending')
+    pub counts : known → IsTrue (state before.image).shape.keeps → IsSound (metadata_of state before old table pending)
+        → OnOk result ((c : ℕ) → counted (metadata_of state after new table' pending') c ≡ counted (metadata_of state before old table pending) c + covers c (run_of run.first run.len))
+    pub order : order_of new ≡ order_of old
+    pub moved : MovedTable before.header after.header
+    pub longer : length table.words ≤ length table'.words
+    pub loose : IsLoose old → IsLoose new
+    pub room : HasRoomOf old new
+    pub table_is : OnOk result (table' ≡ record copy { modified = false })
+    pub stays : IfErr result (λ fault. IsMild fault → (table' ≡ table) × (after.header ≡ before.header))
+    pub cause : MatchResult result (λ _. (state after.image).faults ≡ (state before.image).faults)
+        (WhyNotFreed (known × IsTrue (state before.image).shape.keeps × IsSound (metadata_of state before old table pending)) (IsLoose old) (state before.image).faults (state after.image).faults)
+
+  -- blocks are written first, and the run isn't counted
+  abbrev pub IsFreeIn : Run → TableValue → MetadataCaches S → ImageFile S → List FreeEntry → Type 0
+  IsFreeIn run table old before pending = (order_of old ≡ L2DependsOnRb) × IsUncounted (metadata_of state before old table pending) run
+
+  -- it was sound before, in an image that keeps what is written
+  abbrev pub WasSound : MetadataCaches S → ImageFile S → TableValue → List FreeEntry → Type 0
+  WasSound first file table pending = (order_of first ≡ L2DependsOnRb) × IsTrue (state file.image).shape.keeps × IsSound (metadata_of state file first table pending)
+
+  abbrev pub FillsFree : Run → TableValue → TableValue → MetadataCaches S → ImageFile S → Result Unit Fault → TableValue → MetadataCaches S → ImageFile S → Type 0
+  FillsFree run copy table old before result table' new after = (pending : List FreeEntry) (first : MetadataCaches S) (file : ImageFile S) → (WasSound first file table pending → IsFreeIn run table old before pending)
+      → FillsRoom (WasSound first file table pending) run copy table old before result table' new after pending (waiting_then result before.header.fields pending)
+
+  -- the same, by what waits to be freed
+  abbrev pub EntersFree : Run → TableValue → TableValue → MetadataCaches S → ImageFile S → List FreeEntry → Result Unit Fault → TableValue → MetadataCaches S → ImageFile S → List FreeEntry → Type 0
+  EntersFree run copy table old before pending result table' new after pending' = (first : MetadataCaches S) (file : ImageFile S) → (WasSound first file table pending → IsFreeIn run table old before pending)
+      → FillsRoom (WasSound first file table pending) run copy table old before result table' new after pending pending'

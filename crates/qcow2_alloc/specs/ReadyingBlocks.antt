@@ -1,0 +1,58 @@
+-- What a run of clusters needs before it can be counted.
+use Rattle.std.specs.Prelude.{◌≡◌, ◌≢◌, ◌⊎◌, ℕ, ◌+◌, ◌-◌, ◌*◌, ◌/◌, ◌^◌, ◌<◌, ◌≤◌, Bool, true, false, IsTrue, List, Result, IfOk, MatchResult, length, slice_index}
+use Rattle.imago_storage.specs.State.{StorageState}
+use Rattle.imago_storage.specs.declared.fault.Fault.{Fault}
+use Rattle.imago_storage.specs.declared.fault.Fault.TheVariants.{DamagedTable, Limit}
+use Rattle.qcow2_types.specs.Counts.{counters_of_block}
+use Rattle.qcow2_types.specs.Header.{Fields}
+use Rattle.qcow2_types.specs.Words.{block_offset}
+use Rattle.qcow2_types.specs.Pending.{FreeEntry}
+use Rattle.qcow2_metadata.specs.Places.{IsInReach}
+use Rattle.qcow2_metadata.specs.Tables.{TableValue}
+use Rattle.qcow2_alloc.specs.declared.cache.CacheDependency.TheVariants.{L2DependsOnRb}
+use Rattle.qcow2_alloc.specs.declared.cache.MetadataCaches.{MetadataCaches}
+use Rattle.qcow2_alloc.specs.declared.file.ImageFile.{ImageFile}
+use Rattle.qcow2_alloc.specs.Allocating.{Allocating, WhyNotAllocated, missing}
+use Rattle.qcow2_alloc.specs.Allocators.{metadata_of}
+use Rattle.qcow2_alloc.specs.Caches.{order_of}
+use Rattle.qcow2_alloc.specs.FillingBlocks.{FillsFrom}
+use Rattle.qcow2_alloc.specs.Freeing.{IsLoose}
+use Rattle.qcow2_alloc.specs.Going.{IsWhole}
+use Rattle.qcow2_alloc.specs.GrowingTables.{Leaks, NoPlaceToGrow, TableGrown}
+use Rattle.qcow2_alloc.specs.Quiet.{Metadata, IsSound}
+use Rattle.qcow2_alloc.specs.ReadyingRuns.{IsLengthened}
+
+-- Why no run can be counted that begins at a cluster: it is the first of the file, which holds the header, or the run ends too far behind.
+abbrev pub WhyNotFit : Fields → ℕ → ℕ → Fault → Type 0
+WhyNotFit h n first DamagedTable = first ≡ 0
+WhyNotFit h n first (Limit number) = IsInReach h.cluster_bits (first + (n - 1)) → 2 ^ 20 ≤ (first + (n - 1)) / counters_of_block h
+WhyNotFit h n first fault = ⊥
+
+-- A refcount table became longer, or as long names a block where it named none.
+abbrev pub HasMore : TableValue → TableValue → Type 0
+HasMore table table' = (length table.words < length table'.words) ⊎ ((length table'.words ≡ length table.words) × (missing table' < missing table))
+
+-- What was done: the blocks that were lacking were made, where the table has words for them, or it has grown.
+abbrev pub HasMade : (mark at first last : ℕ) → Metadata → Metadata → Type 0
+HasMade mark at first last m m' = ((last < length m.table.words) × (length m'.table.words ≡ length m.table.words) × FillsFrom mark first (last + 1) m m') ⊎ ((length m.table.words ≤ last) × TableGrown mark at m m')
+
+-- Why neither could be: words can't name the first cluster that one of the blocks counts, or there is no place for the table.
+abbrev pub NoneCanBeMade : (mark at first last : ℕ) → Metadata → Type 0
+NoneCanBeMade mark at first last m = (((i : ℕ) → first ≤ i → i ≤ last → IsInReach m.header.fields.cluster_bits (i * counters_of_block m.header.fields)) → ⊥) ⊎ ((length m.table.words ≤ last) × NoPlaceToGrow m mark at)
+
+-- The refcount table has a block at each index of a range, or has more than it had: it grows until it holds the index `at` where it has no word for
+-- the last of these. The answer is whether it does.
+pub record ReadiesBlocks {S : Type 0} (state : S → StorageState) (mark at first last : ℕ) (table : TableValue) (old : MetadataCaches S) (before : ImageFile S) (pending : List FreeEntry) (result : Result Bool Fault) (table' : TableValue) (new : MetadataCaches S) (after : ImageFile S) (pending' : List FreeEntry) : Type 0 where
+  pub leaked : ℕ → ℕ
+  pub leaks : Leaks (IsLoose old) result leaked
+  pub step : Allocating state (IsWhole result) leaked table old before pending table' new after pending'
+  pub idle : IfOk result (λ made. made ≡ false → (table' ≡ table) × (new ≡ old) × (after ≡ before))
+  pub ready : IfOk result (λ made. made ≡ false → (i : ℕ) → first ≤ i → i ≤ last → block_offset (slice_index table'.words i) ≢ 0)
+  pub further : IfOk result (λ made. made ≡ true → HasMore table table')
+  pub made : order_of old ≡ L2DependsOnRb → IsTrue (state before.image).shape.keeps → IsSound (metadata_of state before old table pending)
+      → IfOk result (λ made. made ≡ true → HasMade mark at first last (metadata_of state before old table pending) (metadata_of state after new table' pending'))
+  pub list : IsLengthened pending pending'
+  pub cause : MatchResult result (λ _. (state after.image).faults ≡ (state before.image).faults)
+      (WhyNotAllocated (IsTrue (state before.image).shape.keeps × (order_of old ≡ L2DependsOnRb) × IsSound (metadata_of state before old table pending)) (IsLoose old)
+      (order_of old ≡ L2DependsOnRb → IsTrue (state before.image).shape.keeps → IsSound (metadata_of state before old table pending) → NoneCanBeMade mark at first last (metadata_of state before old table pending))
+      (state before.image).faults (state after.image).faults)

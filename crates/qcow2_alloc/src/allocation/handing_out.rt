@@ -1,0 +1,256 @@
+//! Clusters are handed out, and the refcount table grows, for callers above.
+ghost use Rattle.std.specs.Prelude.{◌≡◌, ◌≢◌, ◌==◌, ◌≤◌, ◌/◌, ℕ, List, IfOk, OnErr, length, slice_index};
+ghost use Rattle.imago_storage.specs.Fault.{number_of};
+ghost use Rattle.qcow2_types.specs.Counts.{counters_of_block};
+ghost use Rattle.qcow2_types.specs.Pending.{FreeEntry};
+ghost use Rattle.qcow2_types.specs.Words.{block_offset};
+ghost use Rattle.qcow2_metadata.specs.Places.{IsInReach};
+ghost use Rattle.qcow2_alloc.specs.Allocators.{table_of, mark_of};
+ghost use Rattle.qcow2_alloc.specs.HandingOut.{AllocatesClusters, AllocatesClusterAt, GrowsReftable, IsBarred, held_at, held_by, mark_past};
+ghost use Rattle.qcow2_alloc.specs.HandingOutOne.{AllocatesAt, CountsOne, ReadiesCounter, ReadiesWord};
+
+use crate::allocation::Allocator;
+use crate::cache::MetadataCaches;
+use crate::clusters_to_free::ClustersToFreeList;
+use crate::file::{ImageFile, is_in_reach};
+use imago_storage::{Fault, Storage};
+use qcow2_metadata::Table;
+use qcow2_types::{ClusterCount, ClustersToFreeEntry, HostCluster, PendingClusters};
+
+impl Allocator {
+    /// Hands out so many clusters in a row, at least one, for metadata or for the guest's data: first what waits on the list is freed, by
+    /// `process_clusters_to_free`; then it is announced that blocks are written before tables; and then the first run of free clusters
+    /// from the mark on is counted. No table names one of them, in the file or in memory.
+    ///
+    /// The answer is to be spent: by its `make_persistent` once a table names the clusters, and the list's `release`; or by the list's
+    /// `give_back`, for which room is held.
+    ///
+    /// It refuses with `Fault::Limit` only where no quarter of the space is free in a row from the mark on, or more than a sixteenth of it
+    /// is asked for; with `Fault::Memory`; with `Fault::Storage`; with `Fault::CacheFull` where entries of a cache are pinned; and with
+    /// `Fault::Counter` and `Fault::DamagedTable`, which no sound image has. Nothing is handed out then, and no room is held. Blocks may
+    /// have been made, and the refcount table may have grown and moved, whatever is answered: the old table's clusters wait on the list
+    /// then. The file of a sound image shows the same at each stop, where the storage tells its stops and has refused no change.
+    pub fn allocate_clusters<S: Storage>(
+        &mut self,
+        file: &mut ImageFile<S>,
+        caches: &mut MetadataCaches<S>,
+        list: &mut ClustersToFreeList,
+        count: ClusterCount,
+        metadata: bool,
+    ) -> Result<PendingClusters, Fault>
+        requires some { 1 ≤ count }
+        ensures allocates { AllocatesClusters S.state (mark_of self.old) count metadata (table_of self.old) caches.old file.old list.old.entries result (table_of self.new) caches.new file.new list.new.entries (mark_of self.new) }
+        ensures held { list.new.held ≡ held_by result list.old.held }
+    {
+        if let Err(fault) = self.process_clusters_to_free(file, caches, list) {
+            return Err(fault);
+        }
+        match caches.l2_depends_on_rb(file) {
+            Ok(()) => self.allocate(file, caches, list, count, metadata),
+            Err(fault) => Err(fault),
+        }
+    }
+
+    /// Hands out this cluster for the guest's data, where it is free: first it is announced that blocks are written before tables. What
+    /// waits on the list isn't freed. It answers none where the cluster is counted, also where this call has taken it for a block or for
+    /// the refcount table; and where there is no place for it, for the block that counts it, or for a refcount table that names this one.
+    ///
+    /// The answer is to be spent as that of `allocate_clusters`.
+    ///
+    /// It refuses with `Fault::Memory`; with `Fault::Storage`; with `Fault::CacheFull` where entries of a cache are pinned; and with
+    /// `Fault::Counter` and `Fault::DamagedTable`, which no sound image has. Nothing is handed out then, and no room is held. A block may
+    /// have been made, and the refcount table may have grown and moved, whatever is answered: the old table's clusters wait on the list
+    /// then. The file of a sound image shows the same at each stop, where the storage tells its stops and has refused no change.
+    pub fn allocate_cluster_at<S: Storage>(
+        &mut self,
+        file: &mut ImageFile<S>,
+        caches: &mut MetadataCaches<S>,
+        list: &mut ClustersToFreeList,
+        cluster: HostCluster,
+    ) -> Result<Option<PendingClusters>, Fault>
+        ensures allocates { AllocatesClusterAt S.state (mark_of self.old) cluster (table_of self.old) caches.old file.old list.old.entries result (table_of self.new) caches.new file.new list.new.entries (mark_of self.new) }
+        ensures held { list.new.held ≡ held_at result list.old.held }
+    {
+        match caches.l2_depends_on_rb(file) {
+            Ok(()) => self.allocate_at(file, caches, list, cluster),
+            Err(fault) => Err(fault),
+        }
+    }
+
+    /// Lets the refcount table grow until it has a word at an index, which it has none at yet: first it is announced that blocks are
+    /// written before tables. It gets the least length that fills its clusters and leaves room to count these, and stands in the first
+    /// free room from the mark on, or from where the clusters end that the old table can count, behind the blocks that are lacking there. The clusters of the old table are put on the list.
+    ///
+    /// It refuses with `Fault::Limit` where the table would have more than 2^20 words, or its room ends out of reach of words or behind
+    /// what the table could count; with `Fault::Memory`; with `Fault::Storage`; with `Fault::CacheFull` where entries of a cache are
+    /// pinned; and with `Fault::Counter` and `Fault::DamagedTable`, which no sound image has. The list stays then, and unless memory or
+    /// the storage failed so do table and header; where an entry is pinned, clusters may leak. The file of a sound image shows the same
+    /// at each stop, where the storage tells its stops and has refused no change.
+    pub fn grow_reftable<S: Storage>(
+        &mut self,
+        file: &mut ImageFile<S>,
+        caches: &mut MetadataCaches<S>,
+        list: &mut ClustersToFreeList,
+        index: usize,
+    ) -> Result<(), Fault>
+        requires past { length (table_of self.old).words ≤ index }
+        ensures grows { GrowsReftable S.state (mark_of self.old) index (table_of self.old) caches.old file.old list.old.entries result (table_of self.new) caches.new file.new list.new.entries }
+        ensures mark { mark_of self.new ≡ mark_of self.old }
+        ensures held { list.new.held ≡ list.old.held }
+    {
+        match caches.l2_depends_on_rb(file) {
+            Ok(()) => self.grow_table(file, caches, list, index),
+            Err(fault) => Err(fault),
+        }
+    }
+
+    // Hands out a cluster where it is free, while blocks are written before tables.
+    fn allocate_at<S: Storage>(
+        &mut self,
+        file: &mut ImageFile<S>,
+        caches: &mut MetadataCaches<S>,
+        list: &mut ClustersToFreeList,
+        cluster: HostCluster,
+    ) -> Result<Option<PendingClusters>, Fault>
+        ensures allocates { AllocatesAt S.state (λ m. IsBarred m (mark_of self.old) cluster) (mark_of self.old) cluster (table_of self.old) caches.old file.old list.old.entries result (table_of self.new) caches.new file.new list.new.entries (mark_of self.new) }
+        ensures held { list.new.held ≡ held_at result list.old.held }
+    {
+        if !is_in_reach(cluster, file.header.cluster_bits()) {
+            return Ok(None);
+        }
+        match self.ensure_counter(file, caches, list, cluster) {
+            Ok(true) => self.allocate_one(file, caches, list, cluster),
+            Ok(false) => Ok(None),
+            Err(fault) => Err(fault),
+        }
+    }
+
+    // Lets the refcount table grow until it has a word for a cluster. It answers whether there is one: none is where there is no place
+    // for a table that long.
+    fn ensure_word<S: Storage>(
+        &mut self,
+        file: &mut ImageFile<S>,
+        caches: &mut MetadataCaches<S>,
+        list: &mut ClustersToFreeList,
+        cluster: HostCluster,
+    ) -> Result<bool, Fault>
+        ensures readies { ReadiesWord S.state (mark_of self.old) cluster (table_of self.old) caches.old file.old list.old.entries result (table_of self.new) caches.new file.new list.new.entries }
+        ensures mark { mark_of self.new ≡ mark_of self.old }
+        ensures held { list.new.held ≡ list.old.held }
+    {
+        let index = cluster.rt_index(file.header.rb_bits());
+        if index < self.reftable.entries() {
+            return Ok(true);
+        }
+        match self.grow_table(file, caches, list, index) {
+            Ok(()) => Ok(true),
+            Err(fault) => {
+                if is_limit(fault) {
+                    Ok(false)
+                } else {
+                    Err(fault)
+                }
+            }
+        }
+    }
+
+    // Gives a cluster that words can name a counter. It answers whether it has one: none has where there is no place for a refcount table that
+    // names its block.
+    fn ensure_counter<S: Storage>(
+        &mut self,
+        file: &mut ImageFile<S>,
+        caches: &mut MetadataCaches<S>,
+        list: &mut ClustersToFreeList,
+        cluster: HostCluster,
+    ) -> Result<bool, Fault>
+        requires reach { IsInReach file.old.header.fields.cluster_bits cluster }
+        ensures readies { ReadiesCounter S.state (mark_of self.old) cluster (table_of self.old) caches.old file.old list.old.entries result (table_of self.new) caches.new file.new list.new.entries }
+        ensures mark { mark_of self.new ≡ mark_of self.old }
+        ensures held { list.new.held ≡ list.old.held }
+    {
+        match self.ensure_word(file, caches, list, cluster) {
+            Ok(true) => {
+                let index = cluster.rt_index(file.header.rb_bits());
+                match self.ensure_blocks(file, caches, index, index + 1) {
+                    Ok(_made) => Ok(true),
+                    Err(fault) => Err(fault),
+                }
+            }
+            Ok(false) => Ok(false),
+            Err(fault) => Err(fault),
+        }
+    }
+
+    // Hands out a cluster that a block counts, where it is free.
+    fn allocate_one<S: Storage>(
+        &mut self,
+        file: &mut ImageFile<S>,
+        caches: &mut MetadataCaches<S>,
+        list: &mut ClustersToFreeList,
+        cluster: HostCluster,
+    ) -> Result<Option<PendingClusters>, Fault>
+        requires there { block_offset (slice_index (table_of self.old).words (cluster / counters_of_block file.old.header.fields)) ≢ 0 }
+        requires reach { IsInReach file.old.header.fields.cluster_bits cluster }
+        ensures allocates { AllocatesAt S.state (λ _. ⊥) (mark_of self.old) cluster (table_of self.old) caches.old file.old list.old.entries result (table_of self.new) caches.new file.new list.new.entries (mark_of self.new) }
+        ensures held { list.new.held ≡ held_at result list.old.held }
+    {
+        let found = match self.find_in_block(file, caches, cluster) {
+            Ok(found) => found,
+            Err(fault) => return Err(fault),
+        };
+        if found != Some(cluster) {
+            return Ok(None);
+        }
+        self.count_one(file, caches, list, cluster)
+    }
+
+    // Counts a cluster that isn't counted yet, once room is held for its entry. The search for free clusters goes on behind it where it
+    // would have begun there.
+    fn count_one<S: Storage>(
+        &mut self,
+        file: &mut ImageFile<S>,
+        caches: &mut MetadataCaches<S>,
+        list: &mut ClustersToFreeList,
+        cluster: HostCluster,
+    ) -> Result<Option<PendingClusters>, Fault>
+        requires reach { IsInReach file.old.header.fields.cluster_bits cluster }
+        ensures counts { (pending : List FreeEntry) → CountsOne S.state cluster (table_of self.old) caches.old file.old pending result caches.new file.new }
+        ensures table { table_of self.new ≡ table_of self.old }
+        ensures list { list.new.entries ≡ list.old.entries }
+        ensures held { list.new.held ≡ held_at result list.old.held }
+        ensures further { IfOk result (λ found. mark_of self.new ≡ mark_past (mark_of self.old) cluster found) }
+        ensures stays { OnErr result (mark_of self.new ≡ mark_of self.old) }
+    {
+        if cluster == HostCluster(0) {
+            return Err(Fault::DamagedTable);
+        }
+        let entry = ClustersToFreeEntry::data(cluster, ClusterCount(1));
+        let pending = match list.pending_guard(entry) {
+            Ok(pending) => pending,
+            Err((fault, entry)) => {
+                let _parts = entry.into_parts();
+                return Err(fault);
+            }
+        };
+        match self.count_cluster(file, caches, cluster) {
+            Ok(()) => {
+                if cluster == self.first_free_cluster {
+                    self.first_free_cluster = HostCluster(cluster.0 + 1);
+                }
+                Ok(Some(pending))
+            }
+            Err(fault) => {
+                pending.make_persistent();
+                list.release();
+                Err(fault)
+            }
+        }
+    }
+}
+
+// Whether a call was refused since there is no place left.
+fn is_limit(fault: Fault) -> bool
+    ensures { result ≡ (number_of fault == 12) }
+{
+    fault.number() == Fault::Limit(0).number()
+}

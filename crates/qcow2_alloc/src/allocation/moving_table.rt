@@ -1,0 +1,158 @@
+//! A refcount table that has grown takes its room, and becomes the image's.
+ghost use Rattle.std.specs.Prelude.{◌≡◌, ◌≢◌, ◌≤◌, ◌<◌, ◌+◌, ◌-◌, ◌*◌, ◌^◌, ℕ, List, OnOk, OnErr, IfErr, IsOkUnless, length};
+ghost use Rattle.qcow2_metadata.specs.Places.{IsInReach};
+ghost use Rattle.qcow2_metadata.specs.Tables.{IsPlacedTable};
+ghost use Rattle.qcow2_types.specs.Counts.{counters_of_block};
+ghost use Rattle.qcow2_types.specs.Pending.{FreeEntry};
+ghost use Rattle.qcow2_alloc.specs.Allocators.{table_of, mark_of};
+ghost use Rattle.qcow2_alloc.specs.Caches.{cached_in, HasRoomOf};
+ghost use Rattle.qcow2_alloc.specs.Freeing.{IsLoose};
+ghost use Rattle.qcow2_alloc.specs.Growing.{lacking};
+ghost use Rattle.qcow2_alloc.specs.MovingTables.{MovesTable, NamesNewBlocks, ForgetsRun, TakesRoom, IsPlan, FillsFree};
+
+use crate::allocation::Allocator;
+use crate::allocation::searching::Run;
+use crate::cache::MetadataCaches;
+use crate::file::ImageFile;
+use imago_storage::{Fault, Storage};
+use qcow2_metadata::{Header, RefBlock, RefTable, Table};
+use qcow2_types::HostCluster;
+
+impl Allocator {
+    // Lets a copy of the refcount table that has grown take its room, which isn't counted, and become the image's.
+    //
+    // It refuses with `Fault::Memory`; with `Fault::Storage`; with `Fault::CacheFull` where blocks are pinned, and then some of the room
+    // may be counted; and with `Fault::Counter` and `Fault::DamagedTable`, which no sound image has.
+    pub(super) fn fill_room<S: Storage>(
+        &mut self,
+        file: &mut ImageFile<S>,
+        caches: &mut MetadataCaches<S>,
+        table: RefTable,
+        room: Run,
+    ) -> Result<(), Fault>
+        requires { IsPlan file.old.header.fields (table_of self.old) room table }
+        ensures fills { FillsFree S.state room table (table_of self.old) caches.old file.old result (table_of self.new) caches.new file.new }
+        ensures mark { mark_of self.new ≡ mark_of self.old }
+    {
+        match self.take_room(file, caches, room) {
+            Ok(()) => self.move_table(file, table),
+            Err(fault) => Err(fault),
+        }
+    }
+
+    // Counts a run of clusters that aren't counted, and writes the blocks that are lacking for that to its first ones. Those that old blocks
+    // count are counted in the file before new blocks are named.
+    fn take_room<S: Storage>(
+        &self,
+        file: &mut ImageFile<S>,
+        caches: &mut MetadataCaches<S>,
+        room: Run,
+    ) -> Result<(), Fault>
+        requires reach { IsInReach file.old.header.fields.cluster_bits (room.first + (room.len - 1)) }
+        requires few { lacking (table_of self.now) (counters_of_block file.old.header.fields) room.first room.len ≤ room.len }
+        ensures { (pending : List FreeEntry) → TakesRoom S.state (table_of self.now) room caches.old file.old result caches.new file.new pending }
+    {
+        if let Err(fault) = self.count_named(file, caches, room) {
+            return Err(fault);
+        }
+        if let Err(fault) = caches.flush_rb(file) {
+            return Err(fault);
+        }
+        // What is cached of these clusters was other blocks.
+        let blocks = self.lacking_for(room, file.header.rb_bits());
+        match forget_run(caches, room.first(), blocks) {
+            Ok(()) => self.write_new_blocks(file, room),
+            Err(fault) => Err(fault),
+        }
+    }
+
+    // Writes a table to its place, and then lets the header name it in place of the refcount table.
+    fn move_table<S: Storage>(
+        &mut self,
+        file: &mut ImageFile<S>,
+        mut table: RefTable,
+    ) -> Result<(), Fault>
+        requires placed { IsPlacedTable table }
+        requires bits { table.layout.cluster_bits ≡ file.old.header.fields.cluster_bits }
+        requires old_placed { IsPlacedTable (table_of self.old) }
+        requires old_bits { (table_of self.old).layout.cluster_bits ≡ file.old.header.fields.cluster_bits }
+        ensures moves { MovesTable S.state table (table_of self.old) file.old result (table_of self.new) file.new }
+        ensures mark { mark_of self.new ≡ mark_of self.old }
+    {
+        if let Err(fault) = table.write(self.alloc, &mut file.image) {
+            return Err(fault);
+        }
+        file.header.set_reftable(&table);
+        match file
+            .header
+            .write_reftable_pointer(self.alloc, &mut file.image)
+        {
+            Ok(()) => {
+                self.reftable = table;
+                Ok(())
+            }
+            Err(fault) => {
+                file.header.set_reftable(&self.reftable);
+                Err(fault)
+            }
+        }
+    }
+
+    // Names the blocks that are lacking for a run by the words of a table: they are to stand in its first clusters, in the order of their
+    // indices.
+    pub(super) fn name_new_blocks(
+        &self,
+        table: &mut RefTable,
+        header: &Header,
+        run: Run,
+    ) -> Result<(), Fault>
+        requires bits { table.old.layout.cluster_bits ≡ header.now.fields.cluster_bits }
+        requires some { run.first ≢ 0 }
+        requires reach { IsInReach header.now.fields.cluster_bits (run.first + (run.len - 1)) }
+        requires inside { run.first + run.len ≤ length table.old.words * counters_of_block header.now.fields }
+        requires room { lacking (table_of self.now) (counters_of_block header.now.fields) run.first run.len ≤ run.len }
+        ensures ok { OnOk result (NamesNewBlocks header.now.fields (table_of self.now) run table.old table.new) }
+        ensures err { IsOkUnless result Fault.Memory }
+    {
+        // It lends its place to each word.
+        let mut block = match RefBlock::new_cleared(self.alloc, header) {
+            Ok(block) => block,
+            Err(fault) => return Err(fault),
+        };
+        let rb_bits = header.rb_bits();
+        let HostCluster(end) = run.next();
+        let HostCluster(mut place) = run.first();
+        let mut index = run.first().rt_index(rb_bits);
+        while HostCluster::from_ref_indices(index, 0, rb_bits).0 < end {
+            if self.block_cluster(index).is_none() {
+                block.set_cluster(HostCluster(place));
+                table.enter_refblock(index, &block, None);
+                place += 1;
+            }
+            index += 1;
+        }
+        Ok(())
+    }
+}
+
+// Drops the refcount blocks in so many clusters from one on, as far as they are cached, without writing them.
+fn forget_run<S: Storage>(
+    caches: &mut MetadataCaches<S>,
+    first: HostCluster,
+    count: u64,
+) -> Result<(), Fault>
+    requires fits { first + count ≤ 2 ^ 64 }
+    ensures forgets { ForgetsRun first count (cached_in caches.old) result (cached_in caches.new) }
+    ensures order { caches.new.order ≡ caches.old.order }
+    ensures loose { IsLoose caches.old → IsLoose caches.new }
+    ensures room { HasRoomOf caches.old caches.new }
+    ensures err { IfErr result (λ fault. (fault ≡ Fault.CacheFull) × (IsLoose caches.old → ⊥)) }
+{
+    for index in 0..count {
+        match caches.rb_forget(HostCluster(first.0 + index)) {
+            Ok(()) => (),
+            Err(fault) => return Err(fault),
+        }
+    }
+    Ok(())
+}

@@ -1,0 +1,107 @@
+//! A run of free clusters is made ready to be counted.
+ghost use Rattle.std.specs.Prelude.{◌≡◌, ◌≢◌, ◌≤◌, ◌<◌, ◌+◌, ◌-◌, ◌/◌, ◌^◌, IfOk, IfErr, length};
+ghost use Rattle.qcow2_types.specs.Counts.{counters_of_block};
+ghost use Rattle.qcow2_metadata.specs.Places.{IsInReach};
+ghost use Rattle.qcow2_alloc.specs.Allocators.{table_of, mark_of};
+ghost use Rattle.qcow2_alloc.specs.ReadyingBlocks.{ReadiesBlocks, WhyNotFit};
+ghost use Rattle.qcow2_alloc.specs.ReadyingRuns.{ReadiesRun};
+
+use crate::allocation::Allocator;
+use crate::cache::MetadataCaches;
+use crate::clusters_to_free::ClustersToFreeList;
+use crate::file::{ImageFile, is_in_reach};
+use imago_storage::{Fault, Storage};
+use qcow2_metadata::{Header, Table};
+use qcow2_types::HostCluster;
+
+// A refcount table has no more words than this.
+const MAX_WORDS: usize = 1 << 20;
+
+impl Allocator {
+    // Finds the first run of so many clusters, from the mark on, that aren't counted, and sees to it that each has a block. A block or
+    // a table that is made for that takes clusters itself, so the run is searched for again then.
+    pub(super) fn ready_run<S: Storage>(
+        &mut self,
+        file: &mut ImageFile<S>,
+        caches: &mut MetadataCaches<S>,
+        list: &mut ClustersToFreeList,
+        count: u64,
+    ) -> Result<HostCluster, Fault>
+        requires some { 1 ≤ count }
+        ensures readies { ReadiesRun S.state (mark_of self.old) count (table_of self.old) caches.old file.old list.old.entries result (table_of self.new) caches.new file.new list.new.entries }
+        ensures mark { mark_of self.new ≡ mark_of self.old }
+        ensures held { list.new.held ≡ list.old.held }
+    {
+        loop {
+            let first = match self.find_run(file, caches, self.first_free_cluster, count) {
+                Ok(first) => first,
+                Err(fault) => return Err(fault),
+            };
+            let last_index = match last_index(first, count, &file.header) {
+                Ok(index) => index,
+                Err(fault) => return Err(fault),
+            };
+            let first_index = first.rt_index(file.header.rb_bits());
+            match self.ready_blocks(file, caches, list, first_index, last_index, count) {
+                Ok(true) => (),
+                Ok(false) => return Ok(first),
+                Err(fault) => return Err(fault),
+            }
+        }
+    }
+
+    // Makes the blocks that there aren't yet from an index to another, where the refcount table has words for them, and else lets it grow:
+    // for a run of so many clusters, and beyond, as it takes clusters itself. It answers whether it did anything.
+    fn ready_blocks<S: Storage>(
+        &mut self,
+        file: &mut ImageFile<S>,
+        caches: &mut MetadataCaches<S>,
+        list: &mut ClustersToFreeList,
+        first: usize,
+        last: usize,
+        count: u64,
+    ) -> Result<bool, Fault>
+        requires order { first ≤ last }
+        requires few { last < 2 ^ 20 }
+        ensures readies { ReadiesBlocks S.state (mark_of self.old) (last + (count / counters_of_block file.old.header.fields + 2)) first last (table_of self.old) caches.old file.old list.old.entries result (table_of self.new) caches.new file.new list.new.entries }
+        ensures short { length (table_of self.old).words ≤ 2 ^ 20 }
+        ensures mark { mark_of self.new ≡ mark_of self.old }
+        ensures held { list.new.held ≡ list.old.held }
+    {
+        if last < self.reftable.entries() {
+            return self.ensure_blocks(file, caches, first, last + 1);
+        }
+        let spare = count / file.header.rb_entries() as u64 + 2;
+        match self.grow_table(file, caches, list, last + spare as usize) {
+            Ok(()) => Ok(true),
+            Err(fault) => Err(fault),
+        }
+    }
+}
+
+// The index of the block that counts the last cluster of a run, unless no such run can be counted: words can't name its last cluster, or
+// no refcount table has a word for that one's block.
+fn last_index(first: HostCluster, count: u64, header: &Header) -> Result<usize, Fault>
+    requires some { 1 ≤ count }
+    ensures start { IfOk result (λ last. first ≢ 0) }
+    ensures reach { IfOk result (λ last. IsInReach header.now.fields.cluster_bits (first + (count - 1))) }
+    ensures index { IfOk result (λ last. last ≡ (first + (count - 1)) / counters_of_block header.now.fields) }
+    ensures few { IfOk result (λ last. last < 2 ^ 20) }
+    ensures err { IfErr result (WhyNotFit header.now.fields count first) }
+{
+    if first == HostCluster(0) {
+        return Err(Fault::DamagedTable);
+    }
+    let Some(last) = first.0.checked_add(count - 1) else {
+        return Err(Fault::Limit(first.0));
+    };
+    if !is_in_reach(HostCluster(last), header.cluster_bits()) {
+        return Err(Fault::Limit(last));
+    }
+    let index = HostCluster(last).rt_index(header.rb_bits());
+    if index < MAX_WORDS {
+        Ok(index)
+    } else {
+        Err(Fault::Limit(last))
+    }
+}
