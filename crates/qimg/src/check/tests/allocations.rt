@@ -122,20 +122,21 @@ fn hand_out_at(opened: &mut OpenImage, cluster: u16, keeps: bool) -> Result<(), 
 
 fn grow(opened: &mut OpenImage, more: u16) -> Result<(), Fault> {
     let entries = opened.allocator.reftable_entries();
-    opened.allocator.grow_reftable(
-        &mut opened.file,
-        &mut opened.caches,
-        &mut opened.list,
-        entries + usize::from(more),
-    )
+    match entries.checked_add(usize::from(more)) {
+        Some(index) => opened.allocator.grow_reftable(
+            &mut opened.file,
+            &mut opened.caches,
+            &mut opened.list,
+            index,
+        ),
+        None => Err(Fault::RangeOverflow),
+    }
 }
 
 fn free(opened: &mut OpenImage) -> Result<(), Fault> {
-    opened.allocator.process_clusters_to_free(
-        &mut opened.file,
-        &mut opened.caches,
-        &mut opened.list,
-    )
+    opened
+        .allocator
+        .process_clusters_to_free(&mut opened.file, &mut opened.caches, &mut opened.list)
 }
 
 fn turn(opened: &mut OpenImage, random: &mut Random) -> Result<(), Fault> {
@@ -155,7 +156,9 @@ fn turn(opened: &mut OpenImage, random: &mut Random) -> Result<(), Fault> {
 
 // Each stop passes the checker.
 fn stops_pass(rt: &impl Abort, alloc: Global, log: &mut Logged) -> Result<(), Fault> {
-    for k in 0..log.requests().len() + 1 {
+    let count = log.requests().len();
+    for k in 0..count + 1 {
+        assert!(rt; k <= log.requests().len());
         let image = MemStorage::from_bytes(log.stop_at(k)?)?;
         match verdict(alloc, image)? {
             Ok(_leaks) => (),
