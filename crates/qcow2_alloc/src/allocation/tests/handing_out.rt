@@ -6,6 +6,7 @@ use super::*;
 use imago_storage::{FuseStorage, Request, StorageExt};
 
 mod growing;
+mod refused;
 
 // An image that is open, with room for one table and one block in its caches, and what waits to be freed in it.
 #[derive(Drop)]
