@@ -232,7 +232,7 @@ pub trait FormatDriverInstance {
         ensures ok { OnOk result (Spends claim tag mapping.state (layer self.old) (layer self.new) (IsFree (layer self.new) × (IsTrue (layer self.old).fixed.keeps → safe self.old → Committed (layer self.old) (layer self.new)))) }
         ensures went { Went layer image extras safe lasts (IsOk result) (IsOk result × IsMine claim tag mapping.state (layer self.old)) self.old self.new }
         ensures back { IfErr result (λ e. IfSome e.1 (λ m. (m ≡ mapping) × (layer self.new ≡ layer self.old) × GivenBack tag mapping.state (layer self.old) e.0 × (safe self.old → safe self.new))) }
-        ensures at_once { (f : Fault) → commit_refusal tag mapping.state (layer self.old) ≡ Some f → MatchResult result (λ _. ⊥) (λ e. e.0 ≡ f) }
+        ensures at_once { (f : Fault) → commit_refusal tag mapping.state (layer self.old) ≡ Some f → MatchResult result (λ _. ⊥) (λ e. (e.0 ≡ f) × IsSome e.1) }
         ensures spent { IfErr result (λ e. e.1 ≡ None → IsSome mapping.state × IsTrue (layer self.new).failed × Spends claim tag mapping.state (layer self.old) (layer self.new) (IsFree (layer self.new) × (safe self.old → IsMild e.0 → ⊥))) }
         ensures size { (layer self.new).size ≡ (layer self.old).size }
         ensures room { IsTrue (layer self.old).fixed.keeps → safe self.old → IsMine claim tag mapping.state (layer self.old) → OnOk result (Takes vacant has_room zeroed (λ p. (layer self.old).held p ≡ loose) self.old self.new) }

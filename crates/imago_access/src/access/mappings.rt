@@ -70,7 +70,7 @@ impl<D: FormatDriverInstance> FormatAccess<D> {
         ensures own { IsForeignTo D.tag mapping.state (D.layer self.old.0) → IsErr result }
         ensures home { IsIntactChain D.layer D.safe D.sees self.old → IsMine D.claim D.tag mapping.state (D.layer self.old.0) → OnOk result ((p : ℕ) (place : ℕ × ℕ) → (D.layer self.old.0).home p ≡ Some place → (D.layer self.new.0).home p ≡ Some place) }
         ensures back { IfErr result (λ e. IfSome e.1 (λ m. (m ≡ mapping) × (D.layer self.new.0 ≡ D.layer self.old.0) × GivenBack D.tag mapping.state (D.layer self.old.0) e.0 × (D.safe self.old.0 → D.safe self.new.0))) }
-        ensures at_once { (f : Fault) → commit_refusal D.tag mapping.state (D.layer self.old.0) ≡ Some f → MatchResult result (λ _. ⊥) (λ e. e.0 ≡ f) }
+        ensures at_once { (f : Fault) → commit_refusal D.tag mapping.state (D.layer self.old.0) ≡ Some f → MatchResult result (λ _. ⊥) (λ e. (e.0 ≡ f) × IsSome e.1) }
         ensures spent { IfErr result (λ e. e.1 ≡ None → IsSome mapping.state × IsTrue (D.layer self.new.0).failed × Spends D.claim D.tag mapping.state (D.layer self.old.0) (D.layer self.new.0) (IsFree (D.layer self.new.0) × (D.safe self.old.0 → IsMild e.0 → ⊥))) }
         ensures free { IsMine D.claim D.tag mapping.state (D.layer self.old.0) → IsSome mapping.state → OnOk result (IsFree (D.layer self.new.0)) }
         ensures size { (D.layer self.new.0).size ≡ (D.layer self.old.0).size }

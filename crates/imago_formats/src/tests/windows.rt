@@ -270,7 +270,7 @@ impl<S: Storage> FormatDriverInstance for Image<S> {
     ) -> Result<(), (Fault, Option<PreparedDataMapping<NoState>>)>
         ensures ok { let d = ⟦<Image<S> as FormatDriverInstance>⟧ in OnOk result (Spends d.claim d.tag mapping.state (d.layer self.old) (d.layer self.new) (IsFree (d.layer self.new) × (IsTrue (d.layer self.old).fixed.keeps → d.safe self.old → Committed (d.layer self.old) (d.layer self.new)))) }
         ensures went { let d = ⟦<Image<S> as FormatDriverInstance>⟧ in Went d.layer d.image d.extras d.safe d.lasts (IsOk result) (IsOk result × IsMine d.claim d.tag mapping.state (d.layer self.old)) self.old self.new }
-        ensures at_once { let d = ⟦<Image<S> as FormatDriverInstance>⟧ in (f : Fault) → commit_refusal d.tag mapping.state (d.layer self.old) ≡ Some f → MatchResult result (λ _. ⊥) (λ e. e.0 ≡ f) }
+        ensures at_once { let d = ⟦<Image<S> as FormatDriverInstance>⟧ in (f : Fault) → commit_refusal d.tag mapping.state (d.layer self.old) ≡ Some f → MatchResult result (λ _. ⊥) (λ e. (e.0 ≡ f) × IsSome e.1) }
         ensures back { let d = ⟦<Image<S> as FormatDriverInstance>⟧ in IfErr result (λ e. IfSome e.1 (λ m. (m ≡ mapping) × (d.layer self.new ≡ d.layer self.old) × GivenBack d.tag mapping.state (d.layer self.old) e.0 × (d.safe self.old → d.safe self.new))) }
         ensures spent { let d = ⟦<Image<S> as FormatDriverInstance>⟧ in IfErr result (λ e. e.1 ≡ None → IsSome mapping.state × IsTrue (d.layer self.new).failed × Spends d.claim d.tag mapping.state (d.layer self.old) (d.layer self.new) (IsFree (d.layer self.new) × (d.safe self.old → IsMild e.0 → ⊥))) }
         ensures size { let d = ⟦<Image<S> as FormatDriverInstance>⟧ in (d.layer self.new).size ≡ (d.layer self.old).size }
