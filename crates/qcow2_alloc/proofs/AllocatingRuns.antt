@@ -1,6 +1,6 @@
 -- A run that was made ready is counted, and handed out.
 use Rattle.std.proofs.Common.{◌≡◌, ◌≢◌, ℕ, ◌+◌, ◌/◌, ◌<◌, ◌≤◌, refl, arith, ap, sym, subst, ◌∙◌, List, Bool, Result, Ok, Err, inl, inr}
-use Rattle.std.specs.Prelude.{⊤, IsTrue, slice_index}
+use Rattle.std.specs.Prelude.{⊤, IsTrue, IfOk, IfErr, slice_index}
 use Rattle.std.proofs.lemmas.Bool.{cases_eq, cases_lt}
 use Rattle.std.proofs.lemmas.Bool.Decides.{nat_tests}
 use Rattle.imago_storage.specs.State.{StorageState}
@@ -18,17 +18,17 @@ use Rattle.qcow2_alloc.specs.declared.file.ImageFile.{ImageFile}
 use Rattle.qcow2_alloc.specs.Allocating.{Allocating, CountsRun, MovedTable, OnlyRaised}
 use Rattle.qcow2_alloc.specs.Allocators.{metadata_of}
 use Rattle.qcow2_alloc.specs.Caches.{order_of}
-use Rattle.qcow2_alloc.specs.FreeList.{covers}
+use Rattle.qcow2_alloc.specs.FreeList.{FreeList, covers}
 use Rattle.qcow2_alloc.specs.Freeing.{IsLoose, IsMarked, WhyNotFreed}
 use Rattle.qcow2_alloc.specs.Going.{IsWhole}
 use Rattle.qcow2_alloc.specs.MakingRoom.{run_of}
 use Rattle.qcow2_alloc.specs.Quiet.{Metadata, IsSound, counted}
 use Rattle.qcow2_alloc.specs.ReadyingRuns.{Allocates, IsRunCounted, ReadiesRun, handed_by, mark_behind}
-use Rattle.qcow2_alloc.proofs.Allocating.{allocating-as, raised-then}
+use Rattle.qcow2_alloc.proofs.Allocating.{allocating-none, allocating-as, raised-then}
 use Rattle.qcow2_alloc.proofs.MadeBlocks.{allocated-wider}
 use Rattle.qcow2_alloc.proofs.QuietGiven.{quietly-then-given}
 use Rattle.qcow2_alloc.proofs.QuietThen.{quietly-otherwise}
-use Rattle.qcow2_alloc.proofs.ReadyingBlocks.{leaks-on, leaks-ok}
+use Rattle.qcow2_alloc.proofs.ReadyingBlocks.{leaks-on, leaks-ok, lengthened-none}
 
 -- A cluster of a run is covered by it once, and no other one.
 covers-inside : (c first n : ℕ) → first ≤ c → c < first + n → covers c (run_of first n) ≡ 1
@@ -123,6 +123,53 @@ module _ {S : Type 0} (state : S → StorageState) (mark n : ℕ) (metadata : Bo
     loose = step.loose;
     room = step.room;
   }
+
+  -- A run of no clusters is handed out at the mark,
+  none-allocated : n ≡ 0 → Handing (Ok (record { first = mark; count = n; metadata = metadata })) table old before pending mark
+  none-allocated zero = record {
+    leaked = λ _. 0;
+    leaks = record { none = λ other c. refl; pinned = λ all c. refl };
+    step = allocating-as state ⊤ ⊤ (λ _. 0) (λ c. covers c (run_of mark n)) table old before pending table old before pending (λ whole. whole) (λ c. sym (covers-outside c mark n (λ above below. omega (arith, above, below, zero))))
+        (allocating-none state table old before pending);
+    run = (refl, refl, λ some. absurd (omega (arith, some, zero)));
+    taken = λ order keeps sound. record {
+      behind = omega arith;
+      once = λ c above below. absurd (omega (arith, above, below, zero));
+      least = λ z above below. absurd (omega (arith, above, below));
+    };
+    fresh = λ order keeps sound c above below. absurd (omega (arith, above, below, zero));
+    moved = sym (behind-here mark n mark refl ∙ omega (arith, zero));
+    stays = tt;
+    marked = λ order keeps sound whole marked. marked;
+    list = lengthened-none pending;
+    cause = refl;
+  }
+
+  -- or there is no room to take it back.
+  none-refused : Handing (Err Memory) table old before pending mark
+  none-refused = record {
+    leaked = λ _. 0;
+    leaks = record { none = λ other c. refl; pinned = λ all c. refl };
+    step = allocating-as state ⊤ (IsWhole {T = FreeEntry} (Err Memory)) (λ _. 0) (λ _. 0) table old before pending table old before pending (λ whole. tt) (λ c. refl) (allocating-none state table old before pending);
+    run = tt;
+    taken = λ order keeps sound. tt;
+    fresh = λ order keeps sound. tt;
+    moved = tt;
+    stays = refl;
+    marked = λ order keeps sound whole. absurd whole;
+    list = lengthened-none pending;
+    cause = tt;
+  }
+
+  -- So it is, whether there is room or not.
+  pub none-handed : n ≡ 0 → (run : FreeEntry) → run ≡ record { first = mark; count = n; metadata = metadata } → (result : Result FreeEntry Fault) (list list' : FreeList) → list.entries ≡ pending
+      → IfOk result (λ entry. (entry ≡ run) × (list' ≡ record { entries = list.entries; held = list.held + 1 })) → IfErr result (λ fault. (fault ≡ Memory) × (list' ≡ list)) → Handing result table old before list'.entries mark
+  none-handed zero run is (Ok entry) list list' same ok err =
+      subst (λ (es : List FreeEntry). Handing (Ok entry) table old before es mark) (sym (ap (λ (l : FreeList). l.entries) ok.1 ∙ same))
+      (subst (λ (e : FreeEntry). Handing (Ok e) table old before pending mark) (sym (ok.0 ∙ is)) (none-allocated zero))
+  none-handed zero run is (Err fault) list list' same ok err =
+      subst (λ (es : List FreeEntry). Handing (Err fault) table old before es mark) (sym (ap (λ (l : FreeList). l.entries) err.1 ∙ same))
+      (subst (λ (f : Fault). Handing (Err f) table old before pending mark) (sym err.0) none-refused)
 
   module _ (tB : TableValue) (B : MetadataCaches S) (fB : ImageFile S) (pB : List FreeEntry) where
     abbrev mB : Metadata
@@ -276,13 +323,13 @@ module _ {S : Type 0} (state : S → StorageState) (mark n : ℕ) (metadata : Bo
                     );
               }
 
-          pub run-allocated : 1 ≤ n → Handing (Ok entry) tB C fC pB (mark_behind mark n first)
-          run-allocated some = record {
+          pub run-allocated : Handing (Ok entry) tB C fC pB (mark_behind mark n first)
+          run-allocated = record {
             leaked = λ _. 0;
             leaks = record { none = λ other c. refl; pinned = λ all c. refl };
             step = allocating-as state ⊤ ⊤ (λ c. covers c (run_of first counts.part)) (handed_by (Ok entry) (λ _. 0)) table old before pending tB C fC pB (λ whole. whole)
                 (λ c. ap (λ k. covers c (run_of first k)) counts.whole) (part-allocates (Ok tt) counts);
-            run = (refl, refl, ready.some, ready.reach);
+            run = (refl, refl, λ some. (ready.some, ready.reach));
             taken = run-counted;
             fresh = λ order keeps sound c above below. elim (begun.raised order keeps sound tt c) [
               | inl same ↦ let none = free order keeps sound c above below in omega (arith, same, none)

@@ -236,7 +236,7 @@ module _ {S : Type 0} (state : S → StorageState) (mark n : ℕ) (metadata : Bo
       }
 
       abbrev RunIs : ℕ → FreeEntry → Type 0
-      RunIs bits entry = (entry.count ≡ n) × (entry.metadata ≡ metadata) × (entry.first ≢ 0) × IsInReach bits (entry.first + (n - 1))
+      RunIs bits entry = (entry.count ≡ n) × (entry.metadata ≡ metadata) × (0 < n → (entry.first ≢ 0) × IsInReach bits (entry.first + (n - 1)))
 
       runs : IfOk result (RunIs before.header.fields.cluster_bits)
       runs = subst (λ (H : Header). IfOk result (RunIs H.fields.cluster_bits)) (second.header ∙ frees.header) third.run

@@ -76,7 +76,7 @@ pub record AllocatesClusters {S : Type 0} (state : S → StorageState) (mark n :
   pub leaked : ℕ → ℕ
   pub leaks : Leaks (IsLoose old) result leaked
   pub quiet : Quietly (IsWhole result) (handed_by result leaked) (λ _. 0) (state before.image) (metadata_of state before old table pending) (state after.image) (metadata_of state after new table' pending')
-  pub run : IfOk result (λ entry. (entry.count ≡ n) × (entry.metadata ≡ metadata) × (entry.first ≢ 0) × IsInReach before.header.fields.cluster_bits (entry.first + (n - 1)))
+  pub run : IfOk result (λ entry. (entry.count ≡ n) × (entry.metadata ≡ metadata) × (0 < n → (entry.first ≢ 0) × IsInReach before.header.fields.cluster_bits (entry.first + (n - 1))))
   pub unnamed : IsTrue (state before.image).shape.keeps → IsSound (metadata_of state before old table pending) → IfOk result (AreUnnamed (metadata_of state after new table' pending'))
   -- the image once what waited was freed
   pub mid : Metadata

@@ -58,12 +58,12 @@ pub record IsRunCounted (mark n : ℕ) (m' : Metadata) (entry : FreeEntry) : Typ
   pub once : (c : ℕ) → entry.first ≤ c → c < entry.first + n → counted m' c ≡ 1
   pub least : (z : ℕ) → mark ≤ z → z < entry.first → (c : ℕ) × (z ≤ c) × (c < z + n) × (covers c entry ≡ 0) × (0 < counted m' c)
 
--- A run of n clusters is handed out, while blocks are written before tables.
+-- A run of n clusters is handed out, while blocks are written before tables. One of none begins at the mark.
 pub record Allocates {S : Type 0} (state : S → StorageState) (mark n : ℕ) (metadata : Bool) (table : TableValue) (old : MetadataCaches S) (before : ImageFile S) (pending : List FreeEntry) (result : Result FreeEntry Fault) (table' : TableValue) (new : MetadataCaches S) (after : ImageFile S) (pending' : List FreeEntry) (mark' : ℕ) : Type 0 where
   pub leaked : ℕ → ℕ
   pub leaks : Leaks (IsLoose old) result leaked
   pub step : Allocating state (IsWhole result) (handed_by result leaked) table old before pending table' new after pending'
-  pub run : IfOk result (λ entry. (entry.count ≡ n) × (entry.metadata ≡ metadata) × (entry.first ≢ 0) × IsInReach before.header.fields.cluster_bits (entry.first + (n - 1)))
+  pub run : IfOk result (λ entry. (entry.count ≡ n) × (entry.metadata ≡ metadata) × (0 < n → (entry.first ≢ 0) × IsInReach before.header.fields.cluster_bits (entry.first + (n - 1))))
   pub taken : order_of old ≡ L2DependsOnRb → IsTrue (state before.image).shape.keeps → IsSound (metadata_of state before old table pending) → IfOk result (IsRunCounted mark n (metadata_of state after new table' pending'))
   pub fresh : order_of old ≡ L2DependsOnRb → IsTrue (state before.image).shape.keeps → IsSound (metadata_of state before old table pending)
       → IfOk result (λ entry. (c : ℕ) → entry.first ≤ c → c < entry.first + n → counted (metadata_of state before old table pending) c ≡ 0)

@@ -5,6 +5,7 @@ ghost use Rattle.qcow2_alloc.specs.GrowingTables.{GrowsTable, table_run};
 ghost use Rattle.qcow2_alloc.specs.MovingTables.{IsPlan, IsCopyFor, WhyNotPlaced, IsGrownFor, WhyNotGrown, EntersFree};
 
 use crate::allocation::Allocator;
+use crate::allocation::allocating::hold_room;
 use crate::allocation::searching::Run;
 use crate::cache::MetadataCaches;
 use crate::clusters_to_free::ClustersToFreeList;
@@ -70,12 +71,9 @@ impl Allocator {
         }
         let offset = file.header.reftable_offset();
         let first = offset.cluster(file.header.cluster_bits());
-        let old = match list.pending_guard(ClustersToFreeEntry::metadata(first, clusters)) {
+        let old = match hold_room(list, ClustersToFreeEntry::metadata(first, clusters)) {
             Ok(old) => old,
-            Err((fault, entry)) => {
-                let _parts = entry.into_parts();
-                return Err(fault);
-            }
+            Err(fault) => return Err(fault),
         };
         match self.fill_room(file, caches, table, room) {
             Ok(()) => {

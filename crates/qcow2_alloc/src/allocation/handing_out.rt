@@ -10,6 +10,7 @@ ghost use Rattle.qcow2_alloc.specs.HandingOut.{AllocatesClusters, AllocatesClust
 ghost use Rattle.qcow2_alloc.specs.HandingOutOne.{AllocatesAt, CountsOne, ReadiesCounter, ReadiesWord};
 
 use crate::allocation::Allocator;
+use crate::allocation::allocating::hold_room;
 use crate::cache::MetadataCaches;
 use crate::clusters_to_free::ClustersToFreeList;
 use crate::file::{ImageFile, is_in_reach};
@@ -18,9 +19,9 @@ use qcow2_metadata::Table;
 use qcow2_types::{ClusterCount, ClustersToFreeEntry, HostCluster, PendingClusters};
 
 impl Allocator {
-    /// Hands out so many clusters in a row, at least one, for metadata or for the guest's data: first what waits on the list is freed, by
+    /// Hands out so many clusters in a row, for metadata or for the guest's data: first what waits on the list is freed, by
     /// `process_clusters_to_free`; then it is announced that blocks are written before tables; and then the first run of free clusters
-    /// from the mark on is counted. No table names one of them, in the file or in memory.
+    /// from the mark on is counted. No table names one of them, in the file or in memory. A run of no clusters begins at the mark.
     ///
     /// The answer is to be spent: by its `make_persistent` once a table names the clusters, and the list's `release`; or by the list's
     /// `give_back`, for which room is held.
@@ -38,7 +39,6 @@ impl Allocator {
         count: ClusterCount,
         metadata: bool,
     ) -> Result<PendingClusters, Fault>
-        requires some { 1 ≤ count }
         ensures allocates { AllocatesClusters S.state (mark_of self.old) count metadata (table_of self.old) caches.old file.old list.old.entries result (table_of self.new) caches.new file.new list.new.entries (mark_of self.new) }
         ensures held { list.new.held ≡ held_by result list.old.held }
     {
@@ -225,12 +225,9 @@ impl Allocator {
             return Err(Fault::DamagedTable);
         }
         let entry = ClustersToFreeEntry::data(cluster, ClusterCount(1));
-        let pending = match list.pending_guard(entry) {
+        let pending = match hold_room(list, entry) {
             Ok(pending) => pending,
-            Err((fault, entry)) => {
-                let _parts = entry.into_parts();
-                return Err(fault);
-            }
+            Err(fault) => return Err(fault),
         };
         match self.count_cluster(file, caches, cluster) {
             Ok(()) => {

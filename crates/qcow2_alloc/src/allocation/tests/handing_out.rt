@@ -1,6 +1,6 @@
 // Clusters are handed out of that image of eight clusters, and of one of 64 clusters whose counters have 64 bits: its refcount table
 // is cluster 1, and names the block in cluster 2, which counts these 64 clusters and no others.
-ghost use Rattle.std.specs.Prelude.{◌≤◌, ◌<◌, ◌^◌, IfOk};
+ghost use Rattle.std.specs.Prelude.{◌<◌, ◌^◌, IfOk};
 
 use super::*;
 use imago_storage::{FuseStorage, Request, StorageExt};
@@ -131,10 +131,8 @@ fn assert_sound<S: Storage>(rt: &impl Abort, alloc: Global, image: &mut S) -> Re
 }
 
 impl<S: Storage> Image<S> {
-    // Hands out clusters in a row, at least one, which are named then: the first of them.
-    fn take(&mut self, rt: &impl Abort, count: u64, metadata: bool) -> Result<u64, Fault>
-        requires { 1 ≤ count }
-    {
+    // Hands out clusters in a row, which are named then: the first of them.
+    fn take(&mut self, rt: &impl Abort, count: u64, metadata: bool) -> Result<u64, Fault> {
         let pending = self.allocator.allocate_clusters(
             &mut self.file,
             &mut self.caches,
@@ -182,19 +180,20 @@ impl<S: Storage> Image<S> {
     }
 }
 
-// Where the search begins, how many clusters are taken, the first of them, and where the search goes on.
-const RUNS: [(u64, u64, u64, u64); 5] = [
+// Where the search begins, how many clusters are taken, the first of them, and where the search goes on. A run of none begins where the
+// search does, also at a counted cluster.
+const RUNS: [(u64, u64, u64, u64); 6] = [
     (8, 2, 8, 10),
     (10, 1, 10, 11),
     (3, 2, 11, 3),
     (3, 1, 13, 14),
+    (5, 0, 5, 5),
     (0, 1, 14, 15),
 ];
 
 fn each_run(rt: &impl Abort, image: &mut Image<LogStorage<MemStorage>>) -> Result<(), Fault> {
     for (from, count, first, mark) in RUNS {
         image.allocator.first_free_cluster = HostCluster(from);
-        assert!(rt; count > 0);
         assert_eq!(rt; image.take(rt, count, count == 2)?, first);
         assert!(rt; image.allocator.first_free_cluster == HostCluster(mark));
     }
@@ -393,9 +392,7 @@ fn take_wide(
     image: &mut Image<LogStorage<MemStorage>>,
     count: u64,
     block: u64,
-) -> Result<(), Fault>
-    requires { 1 ≤ count }
-{
+) -> Result<(), Fault> {
     assert!(rt; block < 4_000 && count < 64);
     assert_eq!(rt; image.take(rt, count, false)?, block + 1);
     image.caches.flush_all(&mut image.file)?;

@@ -17,7 +17,7 @@ returns-then-eq-clause-counts g c = λ pending. first-uncounted g.S.Storage.stat
 pub returns-in-Err-clause-counts : goal.returns-in-Err-clause-counts
 returns-in-Err-clause-counts g c = λ pending.
     subst (λ (f : Fault). CountsOne g.S.Storage.state c.args.cluster (table_of c.args.self.now) c.args.caches.now c.args.file.now pending (not_handed f) c.args.caches.now c.args.file.now)
-    (sym (ap (λ (e : Fault × FreeEntry). e.0) c.in-Err.ensures.err.0))
+    (sym c.in-Err.ensures.err.0)
     (memory-uncounted g.S.Storage.state (table_of c.args.self.now) pending c.args.cluster c.args.caches.now c.args.file.now)
 
 pub returns-after-eq-2-clause-counts : goal.returns-after-eq-2-clause-counts

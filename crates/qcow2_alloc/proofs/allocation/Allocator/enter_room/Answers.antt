@@ -26,8 +26,8 @@ returns-in-Err-clause-fills g c = λ before file free.
     let state = g.S.Storage.state in
     let table = table_of c.args.self.now in
     let known = WasSound g.S.Storage.state before file (table_of c.args.self.now) c.args.list.now.entries in
-    let same : c.pending_guard.new.self ≡ c.args.list.now = c.in-Err.ensures.err.1 in
-    let fault : c.in-Err.fault ≡ Memory = ap (λ (e : Fault × FreeEntry). e.0) c.in-Err.ensures.err.0 in
+    let same : c.hold_room.new.list ≡ c.args.list.now = c.in-Err.ensures.err.1 in
+    let fault : c.in-Err.fault ≡ Memory = c.in-Err.ensures.err.0 in
     subst (λ (l : FreeList). FillsRoom state known c.args.room c.args.table table c.args.caches.now c.args.file.now (Err c.in-Err.fault) table c.args.caches.now c.args.file.now c.args.list.now.entries l.entries) (sym same)
     (subst (λ (f : Fault). FillsRoom state known c.args.room c.args.table table c.args.caches.now c.args.file.now (Err f) table c.args.caches.now c.args.file.now c.args.list.now.entries c.args.list.now.entries) (sym fault)
     (not-begun state known table c.args.list.now.entries c.args.room c.args.table c.args.caches.now c.args.file.now Memory tt))

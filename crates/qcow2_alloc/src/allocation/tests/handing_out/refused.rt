@@ -1,5 +1,4 @@
 // What those images refuse, each for a cause of its own.
-ghost use Rattle.std.specs.Prelude.{◌≤◌};
 
 use super::*;
 
@@ -10,9 +9,7 @@ fn assert_refused(
     count: u64,
     number: u8,
     changes: usize,
-) -> Result<(), Fault>
-    requires { 1 ≤ count }
-{
+) -> Result<(), Fault> {
     match image.take(rt, count, false) {
         Ok(_) => assert!(rt; false),
         Err(Fault::Memory) => return Err(Fault::Memory),
