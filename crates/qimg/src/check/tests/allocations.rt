@@ -85,9 +85,7 @@ fn settle(opened: &mut OpenImage, pending: PendingClusters, count: u16, keeps: b
     }
 }
 
-fn hand_out(opened: &mut OpenImage, count: u16, metadata: bool, keeps: bool) -> Result<(), Fault>
-    requires { 0 < count }
-{
+fn hand_out(opened: &mut OpenImage, count: u16, metadata: bool, keeps: bool) -> Result<(), Fault> {
     let count_of = ClusterCount(u64::from(count));
     match opened.allocator.allocate_clusters(
         &mut opened.file,
@@ -143,7 +141,7 @@ fn turn(opened: &mut OpenImage, random: &mut Random) -> Result<(), Fault> {
     let keeps = random.below(2) == 0;
     match random.below(9) {
         0 | 1 | 2 => {
-            let count = 1 + random.below(30);
+            let count = random.below(31);
             hand_out(opened, count, random.below(2) == 0, keeps)
         }
         3 | 4 => hand_out_at(opened, random.below(6_000), keeps),
