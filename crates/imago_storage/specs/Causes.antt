@@ -1,11 +1,7 @@
 -- Why a call of a disk may be refused, and what a refusal leaves.
 use Rattle.std.specs.Prelude.{◌≡◌, ◌⊎◌, ℕ, ◌+◌, ◌<◌, Bool, true, length, IsTrue, IsFalse}
-use Rattle.imago_storage.specs.State.{Rose}
-use Rattle.imago_storage.specs.Through.{Overflows}
 use Rattle.imago_storage.specs.Disk.{Value, Disk}
 use Rattle.imago_storage.specs.Steps.{Call, read, write, write_zeroes, discard_to_zero, discard_to_any, discard_to_backing, prepare, commit, cancel, ensure, write_mapped, lookup, grow, shrink, IsOut, ToBytes, ToZero, ToAny, ToBelow}
-use Rattle.imago_storage.specs.declared.fault.Fault.{Fault}
-use Rattle.imago_storage.specs.declared.fault.Fault.TheVariants.{ReadOnly, PastEnd, RangeOverflow, Foreign, Memory, Storage}
 
 -- the range of a call, in bytes; none for calls that have none
 abbrev pub offset_of : Call → ℕ
@@ -55,17 +51,6 @@ abbrev pub IsForeign : Call → Type 0
 IsForeign (commit true own) = IsFalse own
 IsForeign (cancel true own) = IsFalse own
 IsForeign _ = ⊥
-
--- The causes that every kind of image has, with the alignment of its chain, whether it was opened for writing, and its count of
--- faults before and after. The kinds of images add their own, as a place that can't be read or a limit.
-abbrev pub CommonCause : ℕ → Bool → Disk → Call → ℕ → ℕ → Fault → Type 0
-CommonCause unit writable disk call before after ReadOnly = Alters disk call × IsFalse writable
-CommonCause unit writable disk call before after PastEnd = Alters disk call × (disk.size < offset_of call + length_of call)
-CommonCause unit writable disk call before after RangeOverflow = Overflows unit (offset_of call) (length_of call)
-CommonCause unit writable disk call before after Foreign = IsForeign call
-CommonCause unit writable disk call before after Memory = after ≡ before
-CommonCause unit writable disk call before after Storage = Rose before after
-CommonCause unit writable disk call before after fault = ⊥
 
 -- what a write, a zeroing or a discard gives at a place of its range
 abbrev pub Gives : (ℕ → Value) → Call → ℕ → Value → Value → Type 0

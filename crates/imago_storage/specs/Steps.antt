@@ -155,7 +155,7 @@ Unless Idle P Q = (Idle × P) ⊎ ((Idle → ⊥) × Q)
 
 -- what a kind says of a place of its run
 abbrev pub IsOfKind : (ℕ → Value) → Kind → ℕ → Value → Type 0
-IsOfKind below stored p v = IsByte v
+IsOfKind below stored p v = (b : ℕ) × (v ≡ byte b)
 IsOfKind below zero_run p v = v ≡ byte 0
 IsOfKind below special p v = v ≡ barred
 IsOfKind below indirect p v = v ≡ below p

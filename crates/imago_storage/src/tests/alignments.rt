@@ -3,35 +3,23 @@ ghost use Rattle.std.proofs.Common.{lit<, lit≤, refl};
 ghost use Rattle.std.specs.Prelude.{◌≡◌};
 ghost use Rattle.imago_storage.specs.MemStorage.{mem_shape, mem_state};
 
+use super::passing::Called;
+use super::{assert_part, is_refused, succeeds};
 use crate::{Fault, MemStorage, PreallocateMode, Storage, StorageExt, write_full_zeroes};
 use std::alloc::Global;
 use std::process::Abort;
-use std::test::Fail;
 
-// A call with a range, in bytes.
-#[derive(Clone, Copy, Debug, PartialEq, Eq)]
-enum Asked {
-    Nothing,
-    Read { offset: u64, length: u64 },
-    Write { offset: u64, length: u64 },
-    Zeroes { offset: u64, length: u64 },
-    AllocatedZeroes { offset: u64, length: u64 },
-    Discard { offset: u64, length: u64 },
-}
-
-impl Asked {
-    // Its range is one that a storage of these alignments takes.
-    fn is_aligned(&self) -> bool {
-        match self {
-            Asked::Nothing => true,
-            Asked::Read { offset, length } | Asked::Write { offset, length } => {
-                *offset % 512 == 0 && *length % 512 == 0
-            }
-            Asked::Zeroes { offset, length } | Asked::AllocatedZeroes { offset, length } => {
-                *offset % 4_096 == 0 && *length % 4_096 == 0
-            }
-            Asked::Discard { offset, length } => *offset % 65_536 == 0 && *length % 65_536 == 0,
+// The call has a range that a storage of these alignments takes.
+fn is_aligned(call: &Called) -> bool {
+    match call {
+        Called::Read { offset, length } | Called::Write { offset, length } => {
+            *offset % 512 == 0 && *length % 512 == 0
         }
+        Called::Zeroes { offset, length } | Called::AllocatedZeroes { offset, length } => {
+            *offset % 4_096 == 0 && *length % 4_096 == 0
+        }
+        Called::Discard { offset, length } => *offset % 65_536 == 0 && *length % 65_536 == 0,
+        _ => true,
     }
 }
 
@@ -39,13 +27,13 @@ impl Asked {
 #[derive(Drop)]
 struct Uneven {
     inner: MemStorage,
-    asked: [Asked; 16],
+    asked: [Called; 16],
     count: usize,
     ghost shape: { (mem_state inner).shape ≡ mem_shape 1 },
 }
 
 impl Uneven {
-    fn note(&mut self, asked: Asked)
+    fn note(&mut self, asked: Called)
         ensures { self.new.inner ≡ self.old.inner }
     {
         if let Some(place) = self.asked.get_mut(self.count) {
@@ -55,11 +43,11 @@ impl Uneven {
     }
 
     // The calls since the last time, where they are few enough to be noted, each of which is aligned.
-    fn assert_asked(&mut self, rt: &impl Abort, want: &[Asked])
+    fn assert_asked(&mut self, rt: &impl Abort, want: &[Called])
         ensures { self.new.inner ≡ self.old.inner }
     {
-        assert_eq!(rt; self.asked.get(..self.count), Some(want));
-        assert!(rt; want.iter().all(|asked| asked.is_aligned()));
+        same!(rt; self.asked.get(..self.count), Some(want));
+        holds!(rt; want.iter().all(is_aligned));
         self.count = 0;
     }
 }
@@ -95,28 +83,28 @@ impl Storage for Uneven {
 
     fn pure_read(&mut self, buf: &mut [u8], offset: u64) -> Result<(), Fault> {
         let length = buf.len() as u64;
-        self.note(Asked::Read { offset, length });
+        self.note(Called::Read { offset, length });
         self.inner.pure_read(buf, offset)
     }
 
     fn pure_write(&mut self, data: &[u8], offset: u64) -> Result<(), Fault> {
         let length = data.len() as u64;
-        self.note(Asked::Write { offset, length });
+        self.note(Called::Write { offset, length });
         self.inner.pure_write(data, offset)
     }
 
     fn pure_write_zeroes(&mut self, offset: u64, length: u64) -> Result<(), Fault> {
-        self.note(Asked::Zeroes { offset, length });
+        self.note(Called::Zeroes { offset, length });
         self.inner.pure_write_zeroes(offset, length)
     }
 
     fn pure_write_allocated_zeroes(&mut self, offset: u64, length: u64) -> Result<(), Fault> {
-        self.note(Asked::AllocatedZeroes { offset, length });
+        self.note(Called::AllocatedZeroes { offset, length });
         self.inner.pure_write_allocated_zeroes(offset, length)
     }
 
     fn pure_discard(&mut self, offset: u64, length: u64) -> Result<(), Fault> {
-        self.note(Asked::Discard { offset, length });
+        self.note(Called::Discard { offset, length });
         self.inner.pure_discard(offset, length)
     }
 
@@ -143,7 +131,7 @@ fn filled(alloc: Global) -> Result<Uneven, Fault> {
     bytes.resize(262_144, 0xaa)?;
     Ok(Uneven {
         inner: MemStorage::from_bytes(bytes)?,
-        asked: [Asked::Nothing; 16],
+        asked: [Called::Nothing; 16],
         count: 0,
     })
 }
@@ -151,11 +139,8 @@ fn filled(alloc: Global) -> Result<Uneven, Fault> {
 // The bytes are these from 10 up to 200,000, and as they were elsewhere.
 fn assert_bytes(rt: &impl Abort, storage: &Uneven, want: u8) -> Result<(), Fault> {
     let bytes = storage.inner.bytes()?;
-    assert_eq!(rt; bytes.len(), 262_144);
-    for (i, byte) in bytes.iter().enumerate() {
-        let inside = i >= 10 && i < 200_000;
-        assert_eq!(rt; *byte, if inside { want } else { 0xaa }, "at {i}");
-    }
+    same!(rt; bytes.len(), 262_144);
+    assert_part(rt, &bytes, 10, 200_000, want, 0xaa);
     Ok(())
 }
 
@@ -167,23 +152,23 @@ fn written(rt: &impl Abort, alloc: Global) -> Result<(), Fault> {
     bytes.resize(199_990, 1)?;
     storage.write(alloc, &bytes, 10)?;
     let want = [
-        Asked::Read {
+        Called::Read {
             offset: 0,
             length: 512,
         },
-        Asked::Write {
+        Called::Write {
             offset: 0,
             length: 512,
         },
-        Asked::Write {
+        Called::Write {
             offset: 512,
             length: 199_168,
         },
-        Asked::Read {
+        Called::Read {
             offset: 199_680,
             length: 512,
         },
-        Asked::Write {
+        Called::Write {
             offset: 199_680,
             length: 512,
         },
@@ -198,34 +183,34 @@ fn zeroed(rt: &impl Abort, alloc: Global, allocated: bool) -> Result<(), Fault> 
     let (offset, length) = (4_096, 192_512);
     let whole = if allocated {
         storage.write_allocated_zeroes(alloc, 10, 199_990)?;
-        Asked::AllocatedZeroes { offset, length }
+        Called::AllocatedZeroes { offset, length }
     } else {
         storage.write_zeroes(alloc, 10, 199_990)?;
-        Asked::Zeroes { offset, length }
+        Called::Zeroes { offset, length }
     };
     let want = [
         whole,
-        Asked::Read {
+        Called::Read {
             offset: 0,
             length: 512,
         },
-        Asked::Write {
+        Called::Write {
             offset: 0,
             length: 512,
         },
-        Asked::Write {
+        Called::Write {
             offset: 512,
             length: 3_584,
         },
-        Asked::Write {
+        Called::Write {
             offset: 196_608,
             length: 3_072,
         },
-        Asked::Read {
+        Called::Read {
             offset: 199_680,
             length: 512,
         },
-        Asked::Write {
+        Called::Write {
             offset: 199_680,
             length: 512,
         },
@@ -239,35 +224,35 @@ fn zeroes_written(rt: &impl Abort, alloc: Global) -> Result<(), Fault> {
     let mut storage = filled(alloc)?;
     write_full_zeroes(&mut storage, alloc, 10, 199_990)?;
     let want = [
-        Asked::Read {
+        Called::Read {
             offset: 0,
             length: 512,
         },
-        Asked::Write {
+        Called::Write {
             offset: 0,
             length: 512,
         },
-        Asked::Write {
+        Called::Write {
             offset: 512,
             length: 65_024,
         },
-        Asked::Write {
+        Called::Write {
             offset: 65_536,
             length: 65_536,
         },
-        Asked::Write {
+        Called::Write {
             offset: 131_072,
             length: 65_536,
         },
-        Asked::Write {
+        Called::Write {
             offset: 196_608,
             length: 3_072,
         },
-        Asked::Read {
+        Called::Read {
             offset: 199_680,
             length: 512,
         },
-        Asked::Write {
+        Called::Write {
             offset: 199_680,
             length: 512,
         },
@@ -281,11 +266,9 @@ fn discarded(rt: &impl Abort, alloc: Global) -> Result<(), Fault> {
     let mut storage = filled(alloc)?;
     storage.discard(10, 199_990)?;
     let (offset, length) = (65_536, 131_072);
-    storage.assert_asked(rt, &[Asked::Discard { offset, length }]);
-    for (i, byte) in storage.inner.bytes()?.iter().enumerate() {
-        let inside = i >= 65_536 && i < 196_608;
-        assert_eq!(rt; *byte, if inside { 0 } else { 0xaa }, "at {i}");
-    }
+    storage.assert_asked(rt, &[Called::Discard { offset, length }]);
+    let bytes = storage.inner.bytes()?;
+    assert_part(rt, &bytes, 65_536, 196_608, 0, 0xaa);
     Ok(())
 }
 
@@ -295,8 +278,8 @@ fn read(rt: &impl Abort, alloc: Global) -> Result<(), Fault> {
     let mut buf = [0u8; 600];
     storage.read(alloc, &mut buf, 500)?;
     let (offset, length) = (0, 1_536);
-    storage.assert_asked(rt, &[Asked::Read { offset, length }]);
-    assert_eq!(rt; buf, [0xaa; 600]);
+    storage.assert_asked(rt, &[Called::Read { offset, length }]);
+    same!(rt; buf, [0xaa; 600]);
     Ok(())
 }
 
@@ -310,11 +293,9 @@ fn aligned(rt: &impl Abort, alloc: Global) -> Result<(), Fault> {
 }
 
 #[test]
-fn requests_are_aligned_by_their_kind(rt: HostRuntime) -> Result<(), Fail> {
+fn requests_are_aligned_by_their_kind(rt: HostRuntime) {
     let alloc = rt.alloc();
-    match aligned(&rt, alloc) {
-        Err(Fault::Memory) => aligned(&rt, alloc)?,
-        answer => answer?,
+    if is_refused(&rt, aligned(&rt, alloc)) {
+        succeeds(&rt, aligned(&rt, alloc));
     }
-    Ok(())
 }

@@ -4,10 +4,10 @@
 // The file has 200,000 bytes at a unit of 512, and 100 up to 150,000 is written or zeroed. Its whole units are those from 512 up
 // to 149,504, and its pieces end at 65,536, at 131,072 and with the range.
 use super::zeroing::Plain;
+use super::{assert_part, is_refused, refused_with, succeeds};
 use crate::{Fault, FuseStorage, MemStorage, Storage, StorageExt, write_full_zeroes};
 use std::alloc::Global;
 use std::process::Abort;
-use std::test::Fail;
 
 fn filled(alloc: Global) -> Result<Plain, Fault> {
     let mut bytes = Vec::new(alloc);
@@ -25,14 +25,11 @@ fn assert_range(
     start: usize,
     end: usize,
 ) -> Result<(), Fault> {
-    assert_eq!(rt; storage.size(), 200_000);
+    same!(rt; storage.size(), 200_000);
     let mut bytes = Vec::new(alloc);
     bytes.resize(200_000, 7u8)?;
     storage.read(alloc, &mut bytes, 0)?;
-    for (i, byte) in bytes.iter().enumerate() {
-        let want = if i >= start && i < end { value } else { 0xaa };
-        assert_eq!(rt; *byte, want, "at {i}, of {start} to {end}");
-    }
+    assert_part(rt, &bytes, start, end, value, 0xaa);
     Ok(())
 }
 
@@ -62,58 +59,6 @@ const ASKED_FOR: [Left; 7] = [
     (7, 100, 149_504),
 ];
 
-// The call fails, and is then made once more, which ends it.
-fn instead_fails(rt: &impl Abort, alloc: Global, left: Left) -> Result<(), Fault> {
-    let (n, start, end) = left;
-    let mut storage = FuseStorage::new(filled(alloc)?, n);
-    match storage.write_zeroes(alloc, 100, 149_900) {
-        Err(Fault::Memory) => return Err(Fault::Memory),
-        answer => assert_eq!(rt; answer, Err(Fault::Storage), "at {n}"),
-    }
-    assert_range(rt, alloc, &mut storage, 0, start, end)?;
-    storage.write_zeroes(alloc, 100, 149_900)?;
-    assert_range(rt, alloc, &mut storage, 0, 100, 150_000)
-}
-
-fn asked_for_fails(rt: &impl Abort, alloc: Global, left: Left) -> Result<(), Fault> {
-    let (n, start, end) = left;
-    let mut storage = FuseStorage::new(filled(alloc)?, n);
-    match write_full_zeroes(&mut storage, alloc, 100, 149_900) {
-        Err(Fault::Memory) => return Err(Fault::Memory),
-        answer => assert_eq!(rt; answer, Err(Fault::Storage), "at {n}"),
-    }
-    assert_range(rt, alloc, &mut storage, 0, start, end)?;
-    write_full_zeroes(&mut storage, alloc, 100, 149_900)?;
-    assert_range(rt, alloc, &mut storage, 0, 100, 150_000)
-}
-
-// There is no other call than these.
-fn failing_each(rt: &impl Abort, alloc: Global) -> Result<(), Fault> {
-    for left in INSTEAD {
-        instead_fails(rt, alloc, left)?;
-    }
-    let mut storage = FuseStorage::new(filled(alloc)?, 9);
-    storage.write_zeroes(alloc, 100, 149_900)?;
-    assert_eq!(rt; storage.count(), 8);
-    for left in ASKED_FOR {
-        asked_for_fails(rt, alloc, left)?;
-    }
-    let mut storage = FuseStorage::new(filled(alloc)?, 8);
-    write_full_zeroes(&mut storage, alloc, 100, 149_900)?;
-    assert_eq!(rt; storage.count(), 7);
-    Ok(())
-}
-
-#[test]
-fn a_fault_in_a_piece_leaves_the_pieces_before(rt: HostRuntime) -> Result<(), Fail> {
-    let alloc = rt.alloc();
-    match failing_each(&rt, alloc) {
-        Err(Fault::Memory) => failing_each(&rt, alloc)?,
-        answer => answer?,
-    }
-    Ok(())
-}
-
 // A read and a write of the first edge, the whole units, and a read and a write of the last edge.
 const WRITTEN: [Left; 5] = [
     (1, 0, 0),
@@ -123,50 +68,107 @@ const WRITTEN: [Left; 5] = [
     (5, 100, 149_504),
 ];
 
-fn write_fails(rt: &impl Abort, alloc: Global, data: &[u8], left: Left) -> Result<(), Fault> {
+// A change of the range.
+#[derive(Clone, Copy)]
+enum Change {
+    Zeroes,
+    FullZeroes,
+    Ones,
+}
+
+impl Change {
+    // The new value of its bytes.
+    fn value(self) -> u8 {
+        match self {
+            Change::Zeroes | Change::FullZeroes => 0,
+            Change::Ones => 1,
+        }
+    }
+
+    fn make(
+        self,
+        alloc: Global,
+        storage: &mut FuseStorage<Plain>,
+        ones: &[u8],
+    ) -> Result<(), Fault> {
+        match self {
+            Change::Zeroes => storage.write_zeroes(alloc, 100, 149_900),
+            Change::FullZeroes => write_full_zeroes(storage, alloc, 100, 149_900),
+            Change::Ones => storage.write(alloc, ones, 100),
+        }
+    }
+}
+
+// The call fails, and is then made once more, which ends it.
+fn fails(
+    rt: &impl Abort,
+    alloc: Global,
+    change: Change,
+    ones: &[u8],
+    left: Left,
+) -> Result<(), Fault> {
     let (n, start, end) = left;
     let mut storage = FuseStorage::new(filled(alloc)?, n);
-    match storage.write(alloc, data, 100) {
-        Err(Fault::Memory) => return Err(Fault::Memory),
-        answer => assert_eq!(rt; answer, Err(Fault::Storage), "at {n}"),
+    let answer = change.make(alloc, &mut storage, ones);
+    refused_with(rt, Fault::Storage, n, answer)?;
+    assert_range(rt, alloc, &mut storage, change.value(), start, end)?;
+    change.make(alloc, &mut storage, ones)?;
+    assert_range(rt, alloc, &mut storage, change.value(), 100, 150_000)
+}
+
+// There is no other call than these.
+fn fails_at_each(
+    rt: &impl Abort,
+    alloc: Global,
+    change: Change,
+    each: &[Left],
+) -> Result<(), Fault> {
+    let mut ones = Vec::new(alloc);
+    ones.resize(149_900, 1)?;
+    for left in each {
+        fails(rt, alloc, change, &ones, *left)?;
     }
-    assert_range(rt, alloc, &mut storage, 1, start, end)?;
-    storage.write(alloc, data, 100)?;
-    assert_range(rt, alloc, &mut storage, 1, 100, 150_000)
+    let count = each.len() as u64;
+    let mut storage = FuseStorage::new(filled(alloc)?, count.saturating_add(1));
+    change.make(alloc, &mut storage, &ones)?;
+    same!(rt; storage.count(), count);
+    Ok(())
+}
+
+fn zeroing_fails(rt: &impl Abort, alloc: Global) -> Result<(), Fault> {
+    fails_at_each(rt, alloc, Change::Zeroes, &INSTEAD)?;
+    fails_at_each(rt, alloc, Change::FullZeroes, &ASKED_FOR)
+}
+
+#[test]
+fn a_fault_in_a_piece_leaves_the_pieces_before(rt: HostRuntime) {
+    let alloc = rt.alloc();
+    if is_refused(&rt, zeroing_fails(&rt, alloc)) {
+        succeeds(&rt, zeroing_fails(&rt, alloc));
+    }
 }
 
 // A read is one call, which changes nothing where it fails.
 fn read_fails(rt: &impl Abort, alloc: Global) -> Result<(), Fault> {
     let mut storage = FuseStorage::new(filled(alloc)?, 1);
     let mut buf = [7u8; 10];
-    match storage.read(alloc, &mut buf, 100) {
-        Err(Fault::Memory) => return Err(Fault::Memory),
-        answer => assert_eq!(rt; answer, Err(Fault::Storage)),
-    }
+    let answer = storage.read(alloc, &mut buf, 100);
+    refused_with(rt, Fault::Storage, 1, answer)?;
     storage.read(alloc, &mut buf, 100)?;
-    assert_eq!(rt; buf, [0xaa; 10]);
-    assert_eq!(rt; storage.count(), 2);
+    same!(rt; buf, [0xaa; 10]);
+    same!(rt; storage.count(), 2);
     assert_range(rt, alloc, &mut storage, 0, 0, 0)
 }
 
-fn reading_and_writing(rt: &impl Abort, alloc: Global) -> Result<(), Fault> {
-    let mut data = Vec::new(alloc);
-    data.resize(149_900, 1)?;
-    for left in WRITTEN {
-        write_fails(rt, alloc, &data, left)?;
-    }
-    let mut storage = FuseStorage::new(filled(alloc)?, 6);
-    storage.write(alloc, &data, 100)?;
-    assert_eq!(rt; storage.count(), 5);
+fn reading_and_writing_fails(rt: &impl Abort, alloc: Global) -> Result<(), Fault> {
+    fails_at_each(rt, alloc, Change::Ones, &WRITTEN)?;
     read_fails(rt, alloc)
 }
 
 #[test]
-fn a_fault_in_a_part_of_a_write_leaves_the_parts_before(rt: HostRuntime) -> Result<(), Fail> {
+fn a_fault_in_a_part_of_a_write_leaves_the_parts_before(rt: HostRuntime) {
     let alloc = rt.alloc();
-    match reading_and_writing(&rt, alloc) {
-        Err(Fault::Memory) => reading_and_writing(&rt, alloc)?,
-        answer => answer?,
+    if is_refused(&rt, reading_and_writing_fails(&rt, alloc)) {
+        succeeds(&rt, reading_and_writing_fails(&rt, alloc));
     }
-    Ok(())
 }

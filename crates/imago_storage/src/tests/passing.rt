@@ -1,22 +1,21 @@
 // What a fuse and a log pass on to the storage below, by a storage that notes what it was asked.
 ghost use Rattle.std.specs.Prelude.{◌≡◌};
-ghost use Rattle.imago_storage.specs.State.{unit_of};
 ghost use Rattle.imago_storage.specs.Null.{null_state, zeroes, null_aligned};
 
+use super::{has_unit, is_refused, succeeds};
 use crate::{
     Fault, FuseStorage, LogStorage, Null, PreallocateMode, Storage, StorageExt, write_full_zeroes,
 };
 use std::alloc::Global;
 use std::cell::Cell;
 use std::process::Abort;
-use std::test::Fail;
 
 // What a storage was asked for.
 #[derive(Clone, Copy, Debug, PartialEq, Eq)]
-enum Called {
+pub enum Called {
     Nothing,
-    Read { offset: u64, length: usize },
-    Write { offset: u64, length: usize },
+    Read { offset: u64, length: u64 },
+    Write { offset: u64, length: u64 },
     Zeroes { offset: u64, length: u64 },
     AllocatedZeroes { offset: u64, length: u64 },
     Discard { offset: u64, length: u64 },
@@ -90,13 +89,13 @@ impl<'a> Storage for Recorder<'a> {
     }
 
     fn pure_read(&mut self, buf: &mut [u8], offset: u64) -> Result<(), Fault> {
-        let length = buf.len();
+        let length = buf.len() as u64;
         self.noted(Called::Read { offset, length });
         self.below.pure_read(buf, offset)
     }
 
     fn pure_write(&mut self, data: &[u8], offset: u64) -> Result<(), Fault> {
-        let length = data.len();
+        let length = data.len() as u64;
         self.noted(Called::Write { offset, length });
         self.below.pure_write(data, offset)
     }
@@ -142,32 +141,45 @@ fn ranges_pass<S: Storage>(
     rt: &impl Abort,
     storage: &mut S,
     note: &Cell<Called>,
-) -> Result<(), Fault>
-    requires unit { unit_of (S.state storage.old).shape ≡ 1 }
-    requires zeroes { (S.state storage.old).shape.zero_align ≡ 1 }
-    ensures shape { (S.state storage.new).shape ≡ (S.state storage.old).shape }
-{
+) -> Result<(), Fault> {
+    if !has_unit(storage, 1) {
+        return Err(Fault::BadArgument);
+    }
     let nothing = Called::Nothing;
     storage.pure_write(&[1; 5], 3)?;
     let (offset, length) = (3, 5);
-    assert_eq!(rt; note.replace(nothing), Called::Write { offset, length });
+    same!(rt; note.replace(nothing), Called::Write { offset, length });
     storage.pure_read(&mut [0; 2], 4)?;
     let (offset, length) = (4, 2);
-    assert_eq!(rt; note.replace(nothing), Called::Read { offset, length });
+    same!(rt; note.replace(nothing), Called::Read { offset, length });
     storage.pure_write_zeroes(1, 6)?;
     let (offset, length) = (1, 6);
-    assert_eq!(rt; note.replace(nothing), Called::Zeroes { offset, length });
+    same!(rt; note.replace(nothing), Called::Zeroes { offset, length });
     storage.pure_write_allocated_zeroes(2, 7)?;
     let (offset, length) = (2, 7);
-    let want = Called::AllocatedZeroes { offset, length };
-    assert_eq!(rt; note.replace(nothing), want);
+    same!(rt; note.replace(nothing), Called::AllocatedZeroes { offset, length });
+    Ok(())
+}
+
+// What a discard answers, and what the storage below was asked.
+fn discard_passes<S: Storage>(
+    rt: &impl Abort,
+    storage: &mut S,
+    note: &Cell<Called>,
+    answer: Result<(), Fault>,
+    asked: Called,
+) -> Result<(), Fault> {
+    if !has_unit(storage, 1) {
+        return Err(Fault::BadArgument);
+    }
+    same!(rt; storage.pure_discard(3, 4), answer);
+    same!(rt; note.replace(Called::Nothing), asked);
     Ok(())
 }
 
 // So do calls without one.
-fn others_pass<S: Storage>(
+fn resizes_pass<S: Storage>(
     rt: &impl Abort,
-    alloc: Global,
     storage: &mut S,
     note: &Cell<Called>,
 ) -> Result<(), Fault> {
@@ -177,71 +189,93 @@ fn others_pass<S: Storage>(
         PreallocateMode::Allocate,
         PreallocateMode::WriteData,
     ];
-    let nothing = Called::Nothing;
     for (size, mode) in (20u64..).zip(modes) {
         storage.resize(size, mode)?;
-        assert_eq!(rt; note.replace(nothing), Called::Resize { size, mode });
+        same!(rt; note.replace(Called::Nothing), Called::Resize { size, mode });
     }
-    storage.flush()?;
-    assert_eq!(rt; note.replace(nothing), Called::Flush);
-    storage.sync()?;
-    assert_eq!(rt; note.replace(nothing), Called::Sync);
-    storage.invalidate_cache()?;
-    assert_eq!(rt; note.replace(nothing), Called::InvalidateCache);
-    let path = storage.resolve_relative_path(alloc, "name")?;
-    assert_eq!(rt; path.as_str(), "below/name");
-    assert_eq!(rt; note.replace(nothing), Called::Resolve);
     Ok(())
+}
+
+fn others_pass<S: Storage>(
+    rt: &impl Abort,
+    alloc: Global,
+    storage: &mut S,
+    note: &Cell<Called>,
+) -> Result<(), Fault> {
+    let nothing = Called::Nothing;
+    resizes_pass(rt, storage, note)?;
+    storage.flush()?;
+    same!(rt; note.replace(nothing), Called::Flush);
+    storage.sync()?;
+    same!(rt; note.replace(nothing), Called::Sync);
+    storage.invalidate_cache()?;
+    same!(rt; note.replace(nothing), Called::InvalidateCache);
+    let path = storage.resolve_relative_path(alloc, "name")?;
+    same!(rt; path.as_str(), "below/name");
+    same!(rt; note.replace(nothing), Called::Resolve);
+    Ok(())
+}
+
+fn all_pass<S: Storage>(
+    rt: &impl Abort,
+    alloc: Global,
+    storage: &mut S,
+    note: &Cell<Called>,
+    answer: Result<(), Fault>,
+    asked: Called,
+) -> Result<(), Fault> {
+    ranges_pass(rt, storage, note)?;
+    discard_passes(rt, storage, note, answer, asked)?;
+    others_pass(rt, alloc, storage, note)
 }
 
 fn fuse_passes(rt: &impl Abort, alloc: Global) -> Result<(), Fault> {
     let note = Cell::new(Called::Nothing);
     let mut fuse = FuseStorage::new(Recorder::new(&note), 0);
-    ranges_pass(rt, &mut fuse, &note)?;
-    fuse.pure_discard(3, 4)?;
     let (offset, length) = (3, 4);
-    let want = Called::Discard { offset, length };
-    assert_eq!(rt; note.replace(Called::Nothing), want);
-    others_pass(rt, alloc, &mut fuse, &note)
+    let asked = Called::Discard { offset, length };
+    all_pass(rt, alloc, &mut fuse, &note, Ok(()), asked)
 }
 
 #[test]
-fn a_fuse_passes_each_call_as_it_is(rt: HostRuntime) -> Result<(), Fail> {
+fn a_fuse_passes_each_call_as_it_is(rt: HostRuntime) {
     let alloc = rt.alloc();
-    match fuse_passes(&rt, alloc) {
-        Err(Fault::Memory) => fuse_passes(&rt, alloc)?,
-        answer => answer?,
+    if is_refused(&rt, fuse_passes(&rt, alloc)) {
+        succeeds(&rt, fuse_passes(&rt, alloc));
     }
-    Ok(())
 }
 
 // The whole units of a range are zeroed or discarded by the call of that kind.
-fn kinds_are_asked_for(rt: &impl Abort, alloc: Global) -> Result<(), Fault> {
+fn kinds_are_asked_for(
+    rt: &impl Abort,
+    alloc: Global,
+    storage: &mut Recorder<'_>,
+    note: &Cell<Called>,
+) -> Result<(), Fault> {
     let nothing = Called::Nothing;
-    let note = Cell::new(nothing);
-    let mut storage = Recorder::new(&note);
     let (offset, length) = (3, 10);
     storage.write_zeroes(alloc, offset, length)?;
-    assert_eq!(rt; note.replace(nothing), Called::Zeroes { offset, length });
+    same!(rt; note.replace(nothing), Called::Zeroes { offset, length });
     storage.write_allocated_zeroes(alloc, offset, length)?;
-    let want = Called::AllocatedZeroes { offset, length };
-    assert_eq!(rt; note.replace(nothing), want);
+    same!(rt; note.replace(nothing), Called::AllocatedZeroes { offset, length });
     storage.discard(offset, length)?;
-    assert_eq!(rt; note.replace(nothing), Called::Discard { offset, length });
-    write_full_zeroes(&mut storage, alloc, offset, length)?;
-    let want = Called::Write { offset, length: 10 };
-    assert_eq!(rt; note.replace(nothing), want);
+    same!(rt; note.replace(nothing), Called::Discard { offset, length });
+    write_full_zeroes(storage, alloc, offset, length)?;
+    same!(rt; note.replace(nothing), Called::Write { offset, length });
     Ok(())
 }
 
+fn kinds_pass(rt: &impl Abort, alloc: Global) -> Result<(), Fault> {
+    let note = Cell::new(Called::Nothing);
+    kinds_are_asked_for(rt, alloc, &mut Recorder::new(&note), &note)
+}
+
 #[test]
-fn zeroing_and_discards_ask_for_the_call_of_their_kind(rt: HostRuntime) -> Result<(), Fail> {
+fn zeroing_and_discards_ask_for_the_call_of_their_kind(rt: HostRuntime) {
     let alloc = rt.alloc();
-    match kinds_are_asked_for(&rt, alloc) {
-        Err(Fault::Memory) => kinds_are_asked_for(&rt, alloc)?,
-        answer => answer?,
+    if is_refused(&rt, kinds_pass(&rt, alloc)) {
+        succeeds(&rt, kinds_pass(&rt, alloc));
     }
-    Ok(())
 }
 
 // Making the log reads the bytes below, and a discard isn't passed on.
@@ -249,18 +283,14 @@ fn log_passes(rt: &impl Abort, alloc: Global) -> Result<(), Fault> {
     let note = Cell::new(Called::Nothing);
     let mut log = LogStorage::new(alloc, Recorder::new(&note))?;
     note.set(Called::Nothing);
-    ranges_pass(rt, &mut log, &note)?;
-    assert_eq!(rt; log.pure_discard(3, 4), Err(Fault::Unsupported));
-    assert_eq!(rt; note.get(), Called::Nothing);
-    others_pass(rt, alloc, &mut log, &note)
+    let answer = Err(Fault::Unsupported);
+    all_pass(rt, alloc, &mut log, &note, answer, Called::Nothing)
 }
 
 #[test]
-fn a_log_passes_each_call_as_it_is(rt: HostRuntime) -> Result<(), Fail> {
+fn a_log_passes_each_call_as_it_is(rt: HostRuntime) {
     let alloc = rt.alloc();
-    match log_passes(&rt, alloc) {
-        Err(Fault::Memory) => log_passes(&rt, alloc)?,
-        answer => answer?,
+    if is_refused(&rt, log_passes(&rt, alloc)) {
+        succeeds(&rt, log_passes(&rt, alloc));
     }
-    Ok(())
 }

@@ -2,13 +2,11 @@
 ghost use Rattle.std.specs.Prelude.{◌<◌, ◌≤◌, ◌^◌, ◌≡◌};
 ghost use Rattle.imago_storage.specs.State.{IsAlignment};
 
-use crate::{
-    Fault, FuseStorage, LogStorage, MemStorage, Null, PreallocateMode, Storage, StorageExt,
-    write_full_zeroes,
-};
+use super::zeroing::{Call, zero};
+use super::{empty_log, is_refused, stop, succeeds};
+use crate::{Fault, FuseStorage, MemStorage, Null, PreallocateMode, Storage, StorageExt};
 use std::alloc::Global;
 use std::process::Abort;
-use std::test::Fail;
 
 // Numbers that follow each other by a linear congruence.
 #[derive(Drop)]
@@ -101,6 +99,71 @@ impl Model {
     }
 }
 
+// Random bytes are written, to both.
+fn write_both<S: Storage>(
+    alloc: Global,
+    storage: &mut S,
+    model: &mut Model,
+    random: &mut Random,
+    at: u16,
+    n: u16,
+) -> Result<(), Fault>
+    requires positive { 0 < model.old.kind.unit }
+    requires small { model.old.kind.unit ≤ 2 ^ 20 }
+    ensures { model.new.kind ≡ model.old.kind }
+{
+    let mut bytes = Vec::new(alloc);
+    bytes.resize(usize::from(n), 0)?;
+    for byte in bytes.iter_mut() {
+        *byte = random.below(256) as u8;
+    }
+    storage.write(alloc, &bytes, u64::from(at))?;
+    model.lengthen(at, n)?;
+    model.write(at, &bytes);
+    Ok(())
+}
+
+fn zero_both<S: Storage>(
+    alloc: Global,
+    storage: &mut S,
+    model: &mut Model,
+    call: Call,
+    at: u16,
+    n: u16,
+) -> Result<(), Fault>
+    requires positive { 0 < model.old.kind.unit }
+    requires small { model.old.kind.unit ≤ 2 ^ 20 }
+    ensures { model.new.kind ≡ model.old.kind }
+{
+    zero(storage, alloc, call, u64::from(at), u64::from(n))?;
+    model.lengthen(at, n)?;
+    model.zero(usize::from(at), usize::from(n));
+    Ok(())
+}
+
+fn discard_both<S: Storage>(
+    storage: &mut S,
+    model: &mut Model,
+    at: u16,
+    n: u16,
+) -> Result<(), Fault>
+    requires positive { 0 < model.old.kind.unit }
+    requires small { model.old.kind.unit ≤ 2 ^ 20 }
+    ensures { model.new.kind ≡ model.old.kind }
+{
+    storage.discard(u64::from(at), u64::from(n))?;
+    model.discard(at, n);
+    Ok(())
+}
+
+fn resize_both<S: Storage>(storage: &mut S, model: &mut Model, at: u16) -> Result<(), Fault>
+    ensures { model.new.kind ≡ model.old.kind }
+{
+    storage.resize(u64::from(at), PreallocateMode::None)?;
+    model.bytes.resize(usize::from(at), 0)?;
+    Ok(())
+}
+
 // One change of the storage, and the same of the list.
 fn change<S: Storage>(
     alloc: Global,
@@ -114,43 +177,14 @@ fn change<S: Storage>(
     requires small { model.old.kind.unit ≤ 2 ^ 20 }
     ensures { model.new.kind ≡ model.old.kind }
 {
-    let (offset, length) = (u64::from(at), u64::from(n));
     match random.below(7) {
-        0 | 1 => {
-            let mut bytes = Vec::new(alloc);
-            bytes.resize(usize::from(n), 0)?;
-            for byte in bytes.iter_mut() {
-                *byte = random.below(256) as u8;
-            }
-            storage.write(alloc, &bytes, offset)?;
-            model.lengthen(at, n)?;
-            model.write(at, &bytes);
-        }
-        2 => {
-            storage.write_zeroes(alloc, offset, length)?;
-            model.lengthen(at, n)?;
-            model.zero(usize::from(at), usize::from(n));
-        }
-        3 => {
-            storage.write_allocated_zeroes(alloc, offset, length)?;
-            model.lengthen(at, n)?;
-            model.zero(usize::from(at), usize::from(n));
-        }
-        4 => {
-            write_full_zeroes(storage, alloc, offset, length)?;
-            model.lengthen(at, n)?;
-            model.zero(usize::from(at), usize::from(n));
-        }
-        5 => {
-            storage.discard(offset, length)?;
-            model.discard(at, n);
-        }
-        _ => {
-            storage.resize(offset, PreallocateMode::None)?;
-            model.bytes.resize(usize::from(at), 0)?;
-        }
+        0 | 1 => write_both(alloc, storage, model, random, at, n),
+        2 => zero_both(alloc, storage, model, Call::Zeroes, at, n),
+        3 => zero_both(alloc, storage, model, Call::AllocatedZeroes, at, n),
+        4 => zero_both(alloc, storage, model, Call::FullZeroes, at, n),
+        5 => discard_both(storage, model, at, n),
+        _ => resize_both(storage, model, at),
     }
-    Ok(())
 }
 
 // One change; then both are compared as a whole, with what lies behind them, or where they are long the range of the change.
@@ -183,16 +217,16 @@ fn compare<S: Storage>(
     at: u16,
     n: u16,
 ) -> Result<(), Fault> {
-    assert_eq!(rt; storage.size(), model.bytes.len() as u64);
+    same!(rt; storage.size(), model.bytes.len() as u64);
     let mut bytes = Vec::new(alloc);
     bytes.resize(usize::from(n), 7u8)?;
     storage.read(alloc, &mut bytes, u64::from(at))?;
     let there = model.bytes.len().saturating_sub(usize::from(at));
     for (got, want) in bytes.iter().zip(model.bytes.iter().skip(usize::from(at))) {
-        assert_eq!(rt; *got, *want);
+        same!(rt; *got, *want);
     }
     for got in bytes.iter().skip(there) {
-        assert_eq!(rt; *got, 0);
+        same!(rt; *got, 0);
     }
     Ok(())
 }
@@ -231,6 +265,25 @@ fn of_memory(rt: &impl Abort, alloc: Global, unit: usize, count: u16) -> Result<
     calls(rt, alloc, &mut memory, kind, count)
 }
 
+fn of_fuse(rt: &impl Abort, alloc: Global, kind: Kind, count: u16) -> Result<(), Fault>
+    requires { IsAlignment kind.unit }
+{
+    let mut fuse = FuseStorage::new(empty_log(alloc, kind.unit)?, 0);
+    calls(rt, alloc, &mut fuse, kind, count)
+}
+
+fn of_log(rt: &impl Abort, alloc: Global, kind: Kind, count: u16) -> Result<(), Fault>
+    requires { IsAlignment kind.unit }
+{
+    let mut log = empty_log(alloc, kind.unit)?;
+    calls(rt, alloc, &mut log, kind, count)?;
+    let last = log.requests().len();
+    let left = stop(&mut log, last)?;
+    let now = log.into_inner().into_bytes()?;
+    same!(rt; left.as_slice(), now.as_slice());
+    Ok(())
+}
+
 fn of_wrappers(rt: &impl Abort, alloc: Global, unit: usize, count: u16) -> Result<(), Fault>
     requires { IsAlignment unit }
 {
@@ -239,15 +292,8 @@ fn of_wrappers(rt: &impl Abort, alloc: Global, unit: usize, count: u16) -> Resul
         keeps: true,
         discards: false,
     };
-    let log = LogStorage::new(alloc, MemStorage::new(alloc).with_align(unit))?;
-    let mut fuse = FuseStorage::new(log, 0);
-    calls(rt, alloc, &mut fuse, kind, count)?;
-    let mut log = LogStorage::new(alloc, MemStorage::new(alloc).with_align(unit))?;
-    calls(rt, alloc, &mut log, kind, count)?;
-    let stop = log.stop_at(log.requests().len())?;
-    let now = log.into_inner().into_bytes()?;
-    assert_eq!(rt; stop.as_slice(), now.as_slice());
-    Ok(())
+    of_fuse(rt, alloc, kind, count)?;
+    of_log(rt, alloc, kind, count)
 }
 
 fn of_null(rt: &impl Abort, alloc: Global, count: u16) -> Result<(), Fault> {
@@ -270,11 +316,9 @@ fn of_each(rt: &impl Abort, alloc: Global) -> Result<(), Fault> {
 }
 
 #[test]
-fn random_calls_show_one_list_of_bytes(rt: HostRuntime) -> Result<(), Fail> {
+fn random_calls_show_one_list_of_bytes(rt: HostRuntime) {
     let alloc = rt.alloc();
-    match of_each(&rt, alloc) {
-        Err(Fault::Memory) => of_each(&rt, alloc)?,
-        answer => answer?,
+    if is_refused(&rt, of_each(&rt, alloc)) {
+        succeeds(&rt, of_each(&rt, alloc));
     }
-    Ok(())
 }
