@@ -1,6 +1,8 @@
 //! The metadata of a qcow2 image: its header, tables and refcount blocks, as they are in memory and in the file.
 #![tactic(auto)]
 
+#[cfg(test)]
+mod asserting;
 mod clusters;
 mod counter;
 mod endian;

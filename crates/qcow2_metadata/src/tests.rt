@@ -6,11 +6,11 @@ ghost use Rattle.std.specs.Prelude.{◌≤◌};
 ghost use Rattle.imago_storage.specs.State.{IsAlignment};
 
 use super::*;
+use crate::asserting::{holds, is_refused, same, succeeds};
 use imago_storage::{Fault, FuseStorage, MemStorage};
 use qcow2_types::{ClusterCount, FeatureType, HostOffset};
 use std::alloc::Global;
 use std::process::Abort;
-use std::test::Fail;
 
 /// Bytes and where they stand.
 type Piece = (usize, &'static [u8]);
@@ -68,42 +68,39 @@ fn answer(alloc: Global, changes: &[Piece], writable: bool) -> Result<Result<(),
 }
 
 fn assert_sizes(rt: &impl Abort, header: &Header) {
-    assert_eq!(rt; header.version(), 3);
-    assert_eq!(rt; header.size(), 65536);
-    assert_eq!(rt; header.cluster_bits(), 9);
-    assert_eq!(rt; header.cluster_size(), 512);
-    assert_eq!(rt; header.l2_entries(), 64);
-    assert_eq!(rt; header.refcount_order(), 4);
-    assert_eq!(rt; header.rb_bits(), 8);
-    assert_eq!(rt; header.rb_entries(), 256);
+    same!(rt; header.version(), 3);
+    same!(rt; header.size(), 65536);
+    same!(rt; header.cluster_bits(), 9);
+    same!(rt; header.cluster_size(), 512);
+    same!(rt; header.l2_entries(), 64);
+    same!(rt; header.refcount_order(), 4);
+    same!(rt; header.rb_bits(), 8);
+    same!(rt; header.rb_entries(), 256);
 }
 
 fn assert_tables(rt: &impl Abort, header: &Header) {
-    assert_eq!(rt; header.l1_table_offset(), HostOffset(1536));
-    assert_eq!(rt; header.l1_table_entries(), 2);
-    assert_eq!(rt; header.reftable_offset(), HostOffset(512));
-    assert_eq!(rt; header.reftable_clusters(), ClusterCount(1));
-    assert_eq!(rt; header.reftable_entries(), 64);
-    assert_eq!(rt; header.snapshots(), 0);
+    same!(rt; header.l1_table_offset(), HostOffset(1536));
+    same!(rt; header.l1_table_entries(), 2);
+    same!(rt; header.reftable_offset(), HostOffset(512));
+    same!(rt; header.reftable_clusters(), ClusterCount(1));
+    same!(rt; header.reftable_entries(), 64);
+    same!(rt; header.snapshots(), 0);
 }
 
 fn assert_no_texts(rt: &impl Abort, header: &Header) {
-    assert!(rt; !header.external_data_file());
-    assert!(rt; header.backing_filename().is_none());
-    assert!(rt; header.backing_format().is_none());
-    assert!(rt; header.external_data_filename().is_none());
+    holds!(rt; !header.external_data_file());
+    holds!(rt; header.backing_filename().is_none());
+    holds!(rt; header.backing_format().is_none());
+    holds!(rt; header.external_data_filename().is_none());
 }
 
 fn assert_names(rt: &impl Abort, header: &Header) {
-    assert_eq!(rt; name(header, FeatureType::Incompatible, 0), "dirty bit");
-    assert_eq!(rt; name(header, FeatureType::Incompatible, 1), "corrupt bit");
-    assert_eq!(rt;
-        name(header, FeatureType::Incompatible, 2),
-        "external data file"
-    );
-    assert_eq!(rt; name(header, FeatureType::Incompatible, 3), "none");
-    assert_eq!(rt; name(header, FeatureType::Compatible, 0), "none");
-    assert_eq!(rt; name(header, FeatureType::Autoclear, 0), "none");
+    same!(rt; name(header, FeatureType::Incompatible, 0), "dirty bit");
+    same!(rt; name(header, FeatureType::Incompatible, 1), "corrupt bit");
+    same!(rt; name(header, FeatureType::Incompatible, 2), "external data file");
+    same!(rt; name(header, FeatureType::Incompatible, 3), "none");
+    same!(rt; name(header, FeatureType::Compatible, 0), "none");
+    same!(rt; name(header, FeatureType::Autoclear, 0), "none");
 }
 
 fn each_getter(rt: &impl Abort, alloc: Global) -> Result<(), Fault> {
@@ -120,13 +117,11 @@ fn name(header: &Header, kind: FeatureType, bit: u32) -> &str {
 }
 
 #[test]
-fn each_getter_answers_its_field(rt: HostRuntime) -> Result<(), Fail> {
+fn each_getter_answers_its_field(rt: HostRuntime) {
     let alloc = rt.alloc();
-    match each_getter(&rt, alloc) {
-        Err(Fault::Memory) => each_getter(&rt, alloc)?,
-        answer => answer?,
+    if is_refused(&rt, each_getter(&rt, alloc)) {
+        succeeds(&rt, each_getter(&rt, alloc));
     }
-    Ok(())
 }
 
 fn each_refusal(rt: &impl Abort, alloc: Global) -> Result<(), Fault> {
@@ -143,54 +138,47 @@ fn each_refusal(rt: &impl Abort, alloc: Global) -> Result<(), Fault> {
         ((47, b"\x01"), Fault::DamagedHeader),
     ];
     for (change, fault) in refused {
-        assert_eq!(rt; answer(alloc, &[change], false)?, Err(fault));
+        same!(rt; answer(alloc, &[change], false)?, Err(fault));
     }
     // A dirty image, one that is corrupt, and one with an autoclear bit are read, and not written.
     for change in [(79, b"\x01" as &[u8]), (79, b"\x02"), (95, b"\x01")] {
-        assert_eq!(rt; answer(alloc, &[change], false)?, Ok(()));
-        assert_eq!(rt; answer(alloc, &[change], true)?, Err(Fault::Unsupported));
+        same!(rt; answer(alloc, &[change], false)?, Ok(()));
+        same!(rt; answer(alloc, &[change], true)?, Err(Fault::Unsupported));
     }
     // So is one whose backing file's name begins in bytes 0 to 63; from byte 64 on it is also written.
     for place in [b"\x18" as &[u8], b"\x3f"] {
         let named = [(15, place), (19, b"\x08")];
-        assert_eq!(rt; answer(alloc, &named, false)?, Ok(()));
-        assert_eq!(rt; answer(alloc, &named, true)?, Err(Fault::Unsupported));
+        same!(rt; answer(alloc, &named, false)?, Ok(()));
+        same!(rt; answer(alloc, &named, true)?, Err(Fault::Unsupported));
     }
-    assert_eq!(rt;
-        answer(alloc, &[(15, b"\x40"), (19, b"\x08")], true)?,
-        Ok(())
-    );
+    same!(rt; answer(alloc, &[(15, b"\x40"), (19, b"\x08")], true)?, Ok(()));
     Ok(())
 }
 
 #[test]
-fn broken_rules_are_refused(rt: HostRuntime) -> Result<(), Fail> {
+fn broken_rules_are_refused(rt: HostRuntime) {
     let alloc = rt.alloc();
-    match each_refusal(&rt, alloc) {
-        Err(Fault::Memory) => each_refusal(&rt, alloc)?,
-        answer => answer?,
+    if is_refused(&rt, each_refusal(&rt, alloc)) {
+        succeeds(&rt, each_refusal(&rt, alloc));
     }
-    Ok(())
 }
 
 fn short_files(rt: &impl Abort, alloc: Global) -> Result<(), Fault> {
     let empty = Header::load(alloc, &mut MemStorage::new(alloc), false);
-    assert_eq!(rt; outcome(empty)?, Err(Fault::DamagedHeader));
+    same!(rt; outcome(empty)?, Err(Fault::DamagedHeader));
     let mut bytes = changed(alloc, &[])?.into_bytes()?;
     bytes.truncate(72);
     let cut = Header::load(alloc, &mut MemStorage::from_bytes(bytes)?, false);
-    assert_eq!(rt; outcome(cut)?, Err(Fault::DamagedHeader));
+    same!(rt; outcome(cut)?, Err(Fault::DamagedHeader));
     Ok(())
 }
 
 #[test]
-fn short_files_are_damaged(rt: HostRuntime) -> Result<(), Fail> {
+fn short_files_are_damaged(rt: HostRuntime) {
     let alloc = rt.alloc();
-    match short_files(&rt, alloc) {
-        Err(Fault::Memory) => short_files(&rt, alloc)?,
-        answer => answer?,
+    if is_refused(&rt, short_files(&rt, alloc)) {
+        succeeds(&rt, short_files(&rt, alloc));
     }
-    Ok(())
 }
 
 // Read n of a load fails, and the next load succeeds.
@@ -203,11 +191,11 @@ fn load_fault(
     requires { n ≤ 2 }
 {
     let refused = Header::load(alloc, image, true);
-    assert_eq!(rt; outcome(refused)?, Err(Fault::Storage));
-    assert_eq!(rt; image.count(), n);
+    same!(rt; outcome(refused)?, Err(Fault::Storage));
+    same!(rt; image.count(), n);
     let again = Header::load(alloc, image, true);
-    assert_eq!(rt; outcome(again)?, Ok(()));
-    assert_eq!(rt; image.count(), n + 2);
+    same!(rt; outcome(again)?, Ok(()));
+    same!(rt; image.count(), n + 2);
     Ok(())
 }
 
@@ -228,13 +216,11 @@ fn faults_of_storage(rt: &impl Abort, alloc: Global) -> Result<(), Fault> {
 }
 
 #[test]
-fn faults_of_the_storage_are_passed_on(rt: HostRuntime) -> Result<(), Fail> {
+fn faults_of_the_storage_are_passed_on(rt: HostRuntime) {
     let alloc = rt.alloc();
-    match faults_of_storage(&rt, alloc) {
-        Err(Fault::Memory) => faults_of_storage(&rt, alloc)?,
-        answer => answer?,
+    if is_refused(&rt, faults_of_storage(&rt, alloc)) {
+        succeeds(&rt, faults_of_storage(&rt, alloc));
     }
-    Ok(())
 }
 
 // A backing file's name at 384, where the extensions end, with its format, twice, and an external data file's name.
@@ -249,20 +235,17 @@ const LATER_FORMAT: Piece = (272, b"\xe2\x79\x2a\xca\x00\x00\x00\x05qcow2");
 const DATA_FILE: Piece = (288, b"DATA\x00\x00\x00\x08data.raw");
 
 fn assert_backing_texts(rt: &impl Abort, header: &Header) {
-    assert_eq!(rt; header.backing_filename().unwrap_or(""), "base");
-    assert_eq!(rt; header.backing_format().unwrap_or(""), "raw");
-    assert!(rt; header.external_data_filename().is_none());
+    same!(rt; header.backing_filename().unwrap_or(""), "base");
+    same!(rt; header.backing_format().unwrap_or(""), "raw");
+    holds!(rt; header.external_data_filename().is_none());
 }
 
 fn assert_data_file_texts(rt: &impl Abort, header: &Header) {
-    assert!(rt; header.backing_filename().is_none());
-    assert_eq!(rt; header.backing_format().unwrap_or(""), "qcow2");
-    assert_eq!(rt; header.external_data_filename().unwrap_or(""), "data.raw");
-    assert!(rt; header.external_data_file());
-    assert_eq!(rt;
-        name(header, FeatureType::Incompatible, 2),
-        "external data file"
-    );
+    holds!(rt; header.backing_filename().is_none());
+    same!(rt; header.backing_format().unwrap_or(""), "qcow2");
+    same!(rt; header.external_data_filename().unwrap_or(""), "data.raw");
+    holds!(rt; header.external_data_file());
+    same!(rt; name(header, FeatureType::Incompatible, 2), "external data file");
 }
 
 fn each_text(rt: &impl Abort, alloc: Global) -> Result<(), Fault> {
@@ -274,13 +257,11 @@ fn each_text(rt: &impl Abort, alloc: Global) -> Result<(), Fault> {
 }
 
 #[test]
-fn texts_are_loaded(rt: HostRuntime) -> Result<(), Fail> {
+fn texts_are_loaded(rt: HostRuntime) {
     let alloc = rt.alloc();
-    match each_text(&rt, alloc) {
-        Err(Fault::Memory) => each_text(&rt, alloc)?,
-        answer => answer?,
+    if is_refused(&rt, each_text(&rt, alloc)) {
+        succeeds(&rt, each_text(&rt, alloc));
     }
-    Ok(())
 }
 
 fn damaged_texts(rt: &impl Abort, alloc: Global) -> Result<(), Fault> {
@@ -308,7 +289,7 @@ fn damaged_texts(rt: &impl Abort, alloc: Global) -> Result<(), Fault> {
         &[FORMAT, LATER_FORMAT, DATA_FILE, (296, b"\xc0\x80")],
     ];
     for changes in damaged {
-        assert_eq!(rt; answer(alloc, changes, false)?, Err(Fault::DamagedHeader));
+        same!(rt; answer(alloc, changes, false)?, Err(Fault::DamagedHeader));
     }
     Ok(())
 }
@@ -332,7 +313,7 @@ fn texts_that_fit(rt: &impl Abort, alloc: Global) -> Result<(), Fault> {
         ],
     ];
     for changes in fits {
-        assert_eq!(rt; answer(alloc, changes, true)?, Ok(()));
+        same!(rt; answer(alloc, changes, true)?, Ok(()));
     }
     Ok(())
 }
@@ -343,77 +324,70 @@ fn texts_at_their_limits(rt: &impl Abort, alloc: Global) -> Result<(), Fault> {
 }
 
 #[test]
-fn damaged_texts_are_refused(rt: HostRuntime) -> Result<(), Fail> {
+fn damaged_texts_are_refused(rt: HostRuntime) {
     let alloc = rt.alloc();
-    match texts_at_their_limits(&rt, alloc) {
-        Err(Fault::Memory) => texts_at_their_limits(&rt, alloc)?,
-        answer => answer?,
+    if is_refused(&rt, texts_at_their_limits(&rt, alloc)) {
+        succeeds(&rt, texts_at_their_limits(&rt, alloc));
     }
-    Ok(())
 }
 
 // The names as they stand: one that a 0 ends, one that isn't UTF-8, one of another kind, and two of one bit.
 fn odd_names(rt: &impl Abort, alloc: Global) -> Result<(), Fault> {
     let header = loaded(alloc, &[(117, b"\x00")])?;
-    assert_eq!(rt; name(&header, FeatureType::Incompatible, 0), "dir");
+    same!(rt; name(&header, FeatureType::Incompatible, 0), "dir");
     let header = loaded(alloc, &[(162, b"\xff")])?;
-    assert_eq!(rt; name(&header, FeatureType::Incompatible, 0), "dirty bit");
-    assert_eq!(rt; name(&header, FeatureType::Incompatible, 1), "none");
-    assert_eq!(rt;
-        name(&header, FeatureType::Incompatible, 2),
-        "external data file"
-    );
+    same!(rt; name(&header, FeatureType::Incompatible, 0), "dirty bit");
+    same!(rt; name(&header, FeatureType::Incompatible, 1), "none");
+    same!(rt; name(&header, FeatureType::Incompatible, 2), "external data file");
     let header = loaded(alloc, &[(112, b"\x02\x07"), (160, b"\x03")])?;
-    assert_eq!(rt; name(&header, FeatureType::Autoclear, 7), "dirty bit");
-    assert_eq!(rt; name(&header, FeatureType::Autoclear, 263), "none");
-    assert_eq!(rt; name(&header, FeatureType::Incompatible, 1), "none");
+    same!(rt; name(&header, FeatureType::Autoclear, 7), "dirty bit");
+    same!(rt; name(&header, FeatureType::Autoclear, 263), "none");
+    same!(rt; name(&header, FeatureType::Incompatible, 1), "none");
     let header = loaded(alloc, &[(209, b"\x00")])?;
-    assert_eq!(rt;
-        name(&header, FeatureType::Incompatible, 0),
-        "external data file"
-    );
-    assert_eq!(rt; name(&header, FeatureType::Incompatible, 2), "none");
+    same!(rt; name(&header, FeatureType::Incompatible, 0), "external data file");
+    same!(rt; name(&header, FeatureType::Incompatible, 2), "none");
     Ok(())
 }
 
 #[test]
-fn names_of_features_are_loaded(rt: HostRuntime) -> Result<(), Fail> {
+fn names_of_features_are_loaded(rt: HostRuntime) {
     let alloc = rt.alloc();
-    match odd_names(&rt, alloc) {
-        Err(Fault::Memory) => odd_names(&rt, alloc)?,
-        answer => answer?,
+    if is_refused(&rt, odd_names(&rt, alloc)) {
+        succeeds(&rt, odd_names(&rt, alloc));
     }
-    Ok(())
 }
 
 // Version 2 has no extensions, whatever stands behind its 72 bytes, and no feature bits.
 fn older(rt: &impl Abort, alloc: Global) -> Result<(), Fault> {
     let format: Piece = (72, b"\xe2\x79\x2a\xca\xff\xff\xff\xff");
     let header = loaded(alloc, &[(7, b"\x02"), BACKING, BACKING_NAME, format])?;
-    assert_eq!(rt; header.version(), 2);
-    assert_eq!(rt; header.refcount_order(), 4);
-    assert_eq!(rt; header.backing_filename().unwrap_or(""), "base");
-    assert!(rt; header.backing_format().is_none());
-    assert!(rt; !header.external_data_file());
-    assert_eq!(rt; name(&header, FeatureType::Incompatible, 0), "none");
-    assert_eq!(rt; header.require_version(2), Ok(()));
-    assert_eq!(rt; header.require_version(3), Err(Fault::VersionLimit));
+    same!(rt; header.version(), 2);
+    same!(rt; header.refcount_order(), 4);
+    same!(rt; header.backing_filename().unwrap_or(""), "base");
+    holds!(rt; header.backing_format().is_none());
+    holds!(rt; !header.external_data_file());
+    same!(rt; name(&header, FeatureType::Incompatible, 0), "none");
+    same!(rt; header.require_version(2), Ok(()));
+    same!(rt; header.require_version(3), Err(Fault::VersionLimit));
     Ok(())
 }
 
 #[test]
-fn version_2_has_no_extensions(rt: HostRuntime) -> Result<(), Fail> {
+fn version_2_has_no_extensions(rt: HostRuntime) {
     let alloc = rt.alloc();
-    match older(&rt, alloc) {
-        Err(Fault::Memory) => older(&rt, alloc)?,
-        answer => answer?,
+    if is_refused(&rt, older(&rt, alloc)) {
+        succeeds(&rt, older(&rt, alloc));
     }
-    Ok(())
 }
 
 // A greater disk whose tables have moved is taken over; another header isn't.
 fn updates(rt: &impl Abort, alloc: Global) -> Result<(), Fault> {
     let mut header = loaded(alloc, &[])?;
+    tables_move(rt, alloc, &mut header)?;
+    others_are_refused(rt, alloc, &mut header)
+}
+
+fn tables_move(rt: &impl Abort, alloc: Global, header: &mut Header) -> Result<(), Fault> {
     let moved = [
         (28, b"\x01" as &[u8]),
         (39, b"\x03"),
@@ -421,14 +395,18 @@ fn updates(rt: &impl Abort, alloc: Global) -> Result<(), Fault> {
         (54, b"\x04"),
         (59, b"\x02"),
     ];
-    assert_eq!(rt; header.update(&loaded(alloc, &moved)?), Ok(()));
-    assert_eq!(rt; header.size(), (1 << 24) + 65536);
-    assert_eq!(rt; header.l1_table_entries(), 3);
-    assert_eq!(rt; header.l1_table_offset(), HostOffset(2560));
-    assert_eq!(rt; header.reftable_offset(), HostOffset(1024));
-    assert_eq!(rt; header.reftable_clusters(), ClusterCount(2));
+    same!(rt; header.update(&loaded(alloc, &moved)?), Ok(()));
+    same!(rt; header.size(), (1 << 24) + 65536);
+    same!(rt; header.l1_table_entries(), 3);
+    same!(rt; header.l1_table_offset(), HostOffset(2560));
+    same!(rt; header.reftable_offset(), HostOffset(1024));
+    same!(rt; header.reftable_clusters(), ClusterCount(2));
+    Ok(())
+}
+
+fn others_are_refused(rt: &impl Abort, alloc: Global, header: &mut Header) -> Result<(), Fault> {
     header.set_size(7);
-    assert_eq!(rt; header.size(), 7);
+    same!(rt; header.size(), 7);
     let others: [&[Piece]; 6] = [
         &[(23, b"\x0a"), (46, b"\x08"), (54, b"\x04")],
         &[(63, b"\x01")],
@@ -438,22 +416,17 @@ fn updates(rt: &impl Abort, alloc: Global) -> Result<(), Fault> {
         &[(114, b"D")],
     ];
     for changes in others {
-        assert_eq!(rt;
-            header.update(&loaded(alloc, changes)?),
-            Err(Fault::Unsupported)
-        );
+        same!(rt; header.update(&loaded(alloc, changes)?), Err(Fault::Unsupported));
     }
-    assert_eq!(rt; header.size(), 7);
-    assert_eq!(rt; header.l1_table_entries(), 3);
+    same!(rt; header.size(), 7);
+    same!(rt; header.l1_table_entries(), 3);
     Ok(())
 }
 
 #[test]
-fn sizes_and_places_are_taken_over(rt: HostRuntime) -> Result<(), Fail> {
+fn sizes_and_places_are_taken_over(rt: HostRuntime) {
     let alloc = rt.alloc();
-    match updates(&rt, alloc) {
-        Err(Fault::Memory) => updates(&rt, alloc)?,
-        answer => answer?,
+    if is_refused(&rt, updates(&rt, alloc)) {
+        succeeds(&rt, updates(&rt, alloc));
     }
-    Ok(())
 }

@@ -173,19 +173,15 @@ pub(crate) fn l2_mapping(
 #[cfg(test)]
 mod tests {
     use super::*;
-    use std::test::Fail;
+    use crate::asserting::same;
 
     #[test]
-    fn words_and_their_places_are_read(rt: HostRuntime) -> Result<(), Fail> {
+    fn words_and_their_places_are_read(rt: HostRuntime) {
         let bytes = [128, 0, 0, 0, 0, 0, 14, 0, 0, 0, 0, 0, 0, 0, 4, 1];
-        assert_eq!(rt; word_at(&bytes, 0), 0x8000_0000_0000_0e00);
+        same!(&rt; word_at(&bytes, 0), 0x8000_0000_0000_0e00);
         // Past the end there are zeroes.
-        assert_eq!(rt; word_at(&bytes, 12), 0x0000_0401_0000_0000);
-        assert_eq!(rt; offset_in(0x8000_0000_0000_0e01), 0x0e00);
-        assert_eq!(rt;
-            block_offset_in(0x8000_0000_0000_0401),
-            0x8000_0000_0000_0400
-        );
-        Ok(())
+        same!(&rt; word_at(&bytes, 12), 0x0000_0401_0000_0000);
+        same!(&rt; offset_in(0x8000_0000_0000_0e01), 0x0e00);
+        same!(&rt; block_offset_in(0x8000_0000_0000_0401), 0x8000_0000_0000_0400);
     }
 }

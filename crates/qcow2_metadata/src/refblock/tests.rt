@@ -8,9 +8,9 @@ ghost use Rattle.qcow2_metadata.specs.Blocks.{with_counter};
 ghost use Rattle.qcow2_metadata.specs.Places.{IsPlaced};
 
 use super::*;
+use crate::asserting::{holds, is_refused, refused_with, same, same_at, succeeds};
 use imago_storage::{FuseStorage, LogStorage, MemStorage, StorageExt};
 use std::process::Abort;
-use std::test::Fail;
 
 /// The header of an image with clusters of 2^`cluster_bits` bytes and counters of 2^`refcount_order` bits.
 fn header(alloc: Global, cluster_bits: u32, refcount_order: u32) -> Result<Header, Fault> {
@@ -109,9 +109,9 @@ fn is_zero(block: &mut RefBlock, index: usize) -> Result<bool, Fault> {
 
 /// Raises a counter that is 0.
 fn raise_from_0(rt: &impl Abort, block: &mut RefBlock, index: usize) {
-    assert_eq!(rt; is_zero(block, index), Ok(true));
-    assert_eq!(rt; raise(block, index), Ok(1));
-    assert_eq!(rt; is_zero(block, index), Ok(false));
+    same!(rt; is_zero(block, index), Ok(true));
+    same!(rt; raise(block, index), Ok(1));
+    same!(rt; is_zero(block, index), Ok(false));
 }
 
 /// The bytes of a file into which the block was written at cluster 1.
@@ -119,7 +119,7 @@ fn bytes_of(rt: &impl Abort, alloc: Global, block: &mut RefBlock) -> Result<Vec<
     place(block, 1);
     let mut image = MemStorage::new(alloc);
     block.write(alloc, &mut image)?;
-    assert!(rt; !block.is_modified());
+    holds!(rt; !block.is_modified());
     image.into_bytes()
 }
 
@@ -131,7 +131,7 @@ fn raised(rt: &impl Abort, alloc: Global, refcount_order: u32) -> Result<Vec<u8>
         raise_from_0(rt, &mut block, index);
     }
     let bytes = bytes_of(rt, alloc, &mut block)?;
-    assert_eq!(rt; bytes.len(), 1024);
+    same!(rt; bytes.len(), 1024);
     Ok(bytes)
 }
 
@@ -143,7 +143,7 @@ fn check_start(rt: &impl Abort, bytes: &[u8], start: &[u8]) {
         } else {
             start.get(at - 512).copied().unwrap_or(0)
         };
-        assert_eq!(rt; *byte, wanted, "at {at}");
+        same_at(rt, at as u64, *byte, wanted);
     }
 }
 
@@ -165,7 +165,7 @@ fn check_greatest_width(rt: &impl Abort, bytes: &[u8]) {
         } else {
             0
         };
-        assert_eq!(rt; *byte, wanted, "at {at}");
+        same_at(rt, at as u64, *byte, wanted);
     }
 }
 
@@ -185,85 +185,98 @@ fn each_width(rt: &impl Abort, alloc: Global) -> Result<(), Fault> {
 }
 
 #[test]
-fn counters_are_raised_at_each_width(rt: HostRuntime) -> Result<(), Fail> {
+fn counters_are_raised_at_each_width(rt: HostRuntime) {
     let alloc = rt.alloc();
-    match each_width(&rt, alloc) {
-        Err(Fault::Memory) => each_width(&rt, alloc)?,
-        answer => answer?,
+    if is_refused(&rt, each_width(&rt, alloc)) {
+        succeeds(&rt, each_width(&rt, alloc));
     }
-    Ok(())
 }
 
 fn reach_both_ends(rt: &impl Abort, block: &mut RefBlock) {
-    assert_eq!(rt; lower(block, 0), Err(Fault::Counter));
-    assert_eq!(rt; raise(block, 0), Ok(1));
-    assert_eq!(rt; raise(block, 0), Err(Fault::Counter));
-    assert_eq!(rt; raise(block, 4095), Ok(1));
-    assert_eq!(rt; lower(block, 0), Ok(0));
+    same!(rt; lower(block, 0), Err(Fault::Counter));
+    same!(rt; raise(block, 0), Ok(1));
+    same!(rt; raise(block, 0), Err(Fault::Counter));
+    same!(rt; raise(block, 4095), Ok(1));
+    same!(rt; lower(block, 0), Ok(0));
 }
 
 fn assert_last_raised(rt: &impl Abort, block: &RefBlock) {
-    assert_eq!(rt; count(block, 0), Ok(0));
-    assert_eq!(rt; count(block, 4095), Ok(1));
-    assert_eq!(rt; count(block, 4094), Ok(0));
+    same!(rt; count(block, 0), Ok(0));
+    same!(rt; count(block, 4095), Ok(1));
+    same!(rt; count(block, 4094), Ok(0));
 }
 
 /// Counters of one bit end at 0 and 1.
 fn both_ends(rt: &impl Abort, alloc: Global) -> Result<(), Fault> {
     let header = header(alloc, 9, 0)?;
     let mut block = RefBlock::new_cleared(alloc, &header)?;
-    assert_eq!(rt; block.entries(), 4096);
+    same!(rt; block.entries(), 4096);
     reach_both_ends(rt, &mut block);
     assert_last_raised(rt, &block);
     Ok(())
 }
 
 #[test]
-fn counters_are_refused_at_either_end(rt: HostRuntime) -> Result<(), Fail> {
+fn counters_are_refused_at_either_end(rt: HostRuntime) {
     let alloc = rt.alloc();
-    match both_ends(&rt, alloc) {
-        Err(Fault::Memory) => both_ends(&rt, alloc)?,
-        answer => answer?,
+    if is_refused(&rt, both_ends(&rt, alloc)) {
+        succeeds(&rt, both_ends(&rt, alloc));
     }
-    Ok(())
 }
 
-/// A block of 32 counters of 16 bits, in a cluster of 512 bytes that begins at 512, is loaded.
-fn loaded(rt: &impl Abort, alloc: Global) -> Result<(), Fault> {
+/// A block of 256 counters of 16 bits, in a cluster of 512 bytes that begins at 512.
+fn loaded_block(alloc: Global) -> Result<RefBlock, Fault> {
     let mut bytes = [0u8; 1024];
     bytes[512..518].copy_from_slice(&[0, 1, 0xff, 0xff, 0x12, 0x34]);
     bytes[1023] = 9;
     let mut image = MemStorage::from_bytes(Vec::from_slice(alloc, &bytes)?)?;
-    let header = header(alloc, 9, 4)?;
-    let mut block = load(alloc, &mut image, &header, 1)?;
-    assert_eq!(rt; block.entries(), 256);
-    assert_eq!(rt; block.cluster_bits(), 9);
-    assert_eq!(rt; count(&block, 0), Ok(1));
-    assert_eq!(rt; count(&block, 1), Ok(0xffff));
-    assert_eq!(rt; count(&block, 2), Ok(0x1234));
-    assert_eq!(rt; count(&block, 3), Ok(0));
-    assert_eq!(rt; count(&block, 255), Ok(9));
-    assert_eq!(rt; block.get_cluster(), Some(HostCluster(1)));
-    assert_eq!(rt; block.get_offset(), Some(HostOffset(512)));
-    assert!(rt; !block.is_modified());
+    load(alloc, &mut image, &header(alloc, 9, 4)?, 1)
+}
+
+// Where the block in cluster 1 begins.
+#[tactic(auto, using(crate::proofs::PlaceLemmas::near_reach))]
+fn offset(block: &RefBlock) -> Option<HostOffset> {
+    let _bits = block.cluster_bits();
+    if block.get_cluster() != Some(HostCluster(1)) {
+        return None;
+    }
+    block.get_offset()
+}
+
+fn assert_loaded(rt: &impl Abort, block: &RefBlock) {
+    same!(rt; block.entries(), 256);
+    same!(rt; block.cluster_bits(), 9);
+    for (index, counter) in [(0, 1), (1, 0xffff), (2, 0x1234), (3, 0), (255, 9)] {
+        same_at(rt, index as u64, count(block, index), Ok(counter));
+    }
+    same!(rt; block.get_cluster(), Some(HostCluster(1)));
+    same!(rt; offset(block), Some(HostOffset(512)));
+    holds!(rt; !block.is_modified());
+}
+
+fn assert_marks(rt: &impl Abort, block: &mut RefBlock) {
     block.set_modified();
-    assert!(rt; block.is_modified());
+    holds!(rt; block.is_modified());
     block.clear_modified();
-    assert!(rt; !block.is_modified());
-    place(&mut block, 2);
-    assert!(rt; block.is_modified());
-    assert_eq!(rt; block.get_offset(), Some(HostOffset(1024)));
+    holds!(rt; !block.is_modified());
+    place(block, 2);
+    holds!(rt; block.is_modified());
+    same!(rt; block.get_offset(), Some(HostOffset(1024)));
+}
+
+fn loaded(rt: &impl Abort, alloc: Global) -> Result<(), Fault> {
+    let mut block = loaded_block(alloc)?;
+    assert_loaded(rt, &block);
+    assert_marks(rt, &mut block);
     Ok(())
 }
 
 #[test]
-fn a_block_is_loaded(rt: HostRuntime) -> Result<(), Fail> {
+fn a_block_is_loaded(rt: HostRuntime) {
     let alloc = rt.alloc();
-    match loaded(&rt, alloc) {
-        Err(Fault::Memory) => loaded(&rt, alloc)?,
-        answer => answer?,
+    if is_refused(&rt, loaded(&rt, alloc)) {
+        succeeds(&rt, loaded(&rt, alloc));
     }
-    Ok(())
 }
 
 /// Writes the block in cluster 2 where it is modified, and where it isn't.
@@ -274,11 +287,11 @@ fn write_twice(
 ) -> Result<(), Fault> {
     let header = header(alloc, 9, 4)?;
     let mut block = load(alloc, image, &header, 2)?;
-    assert_eq!(rt; raise(&mut block, 1), Ok(1));
+    same!(rt; raise(&mut block, 1), Ok(1));
     write(alloc, &mut block, image, 2)?;
-    assert_eq!(rt; image.requests().len(), 1);
+    same!(rt; image.requests().len(), 1);
     write(alloc, &mut block, image, 2)?;
-    assert_eq!(rt; image.requests().len(), 1);
+    same!(rt; image.requests().len(), 1);
     Ok(())
 }
 
@@ -290,7 +303,7 @@ fn check_block(rt: &impl Abort, bytes: &[u8]) {
             1024..1536 => 0,
             _ => 0xa5,
         };
-        assert_eq!(rt; *byte, wanted, "at {at}");
+        same_at(rt, at as u64, *byte, wanted);
     }
 }
 
@@ -315,13 +328,11 @@ fn written(rt: &impl Abort, alloc: Global) -> Result<(), Fault> {
 }
 
 #[test]
-fn a_block_is_written_at_once(rt: HostRuntime) -> Result<(), Fail> {
+fn a_block_is_written_at_once(rt: HostRuntime) {
     let alloc = rt.alloc();
-    match written(&rt, alloc) {
-        Err(Fault::Memory) => written(&rt, alloc)?,
-        answer => answer?,
+    if is_refused(&rt, written(&rt, alloc)) {
+        succeeds(&rt, written(&rt, alloc));
     }
-    Ok(())
 }
 
 /// A write whose call n fails leaves the block modified and the file as it was.
@@ -335,14 +346,11 @@ fn refused_write(
     place(block, 1);
     block.clear_modified();
     let refused = block.write(alloc, image);
-    if refused == Err(Fault::Memory) {
-        return Err(Fault::Memory);
-    }
-    assert_eq!(rt; refused, Err(Fault::Storage), "of call {n}");
-    assert!(rt; block.is_modified());
+    refused_with(rt, Fault::Storage, n, refused)?;
+    holds!(rt; block.is_modified());
     let mut bytes = [0; 4096];
     image.read(alloc, &mut bytes, 0)?;
-    assert!(rt; bytes.iter().all(|byte| *byte == 0xa5));
+    holds!(rt; bytes.iter().all(|byte| *byte == 0xa5));
     Ok(())
 }
 
@@ -355,12 +363,20 @@ fn next_write(
     calls: u64,
 ) -> Result<(), Fault> {
     write(alloc, block, image, 1)?;
-    assert!(rt; !block.is_modified());
+    holds!(rt; !block.is_modified());
     let mut bytes = [0; 4096];
     image.read(alloc, &mut bytes, 0)?;
-    assert!(rt; bytes[512..1024].iter().all(|byte| *byte == 0));
-    assert_eq!(rt; image.count(), calls);
+    holds!(rt; bytes[512..1024].iter().all(|byte| *byte == 0));
+    same!(rt; image.count(), calls);
     Ok(())
+}
+
+/// A file of 4,096 bytes a5.
+fn file(alloc: Global, align: usize) -> Result<MemStorage, Fault>
+    requires { IsAlignment align }
+{
+    let bytes = Vec::from_slice(alloc, &[0xa5; 4096])?;
+    Ok(MemStorage::from_bytes(bytes)?.with_align(align))
 }
 
 /// Each call that a write asks for fails: that leaves the block modified and the file as it was, and the next write succeeds.
@@ -368,11 +384,9 @@ fn write_faults(rt: &impl Abort, alloc: Global, align: usize, calls: u64) -> Res
     requires align { IsAlignment align }
     requires few { calls ≤ 2 }
 {
-    let header = header(alloc, 9, 4)?;
-    let mut block = RefBlock::new_cleared(alloc, &header)?;
+    let mut block = RefBlock::new_cleared(alloc, &header(alloc, 9, 4)?)?;
     for n in 1..calls + 1 {
-        let file = MemStorage::from_bytes(Vec::from_slice(alloc, &[0xa5; 4096])?)?;
-        let mut image = FuseStorage::new(file.with_align(align), n);
+        let mut image = FuseStorage::new(file(alloc, align)?, n);
         refused_write(rt, alloc, &mut block, &mut image, n)?;
         next_write(rt, alloc, &mut block, &mut image, n + calls + 2)?;
     }
@@ -380,20 +394,29 @@ fn write_faults(rt: &impl Abort, alloc: Global, align: usize, calls: u64) -> Res
 }
 
 /// A load that the storage fails; the next one succeeds. It asks for one read at each alignment.
-fn load_faults(rt: &impl Abort, alloc: Global, align: usize) -> Result<(), Fault>
-    requires { IsAlignment align }
-{
-    let header = header(alloc, 9, 4)?;
-    let mut image = FuseStorage::new(MemStorage::new(alloc).with_align(align), 1);
-    match load(alloc, &mut image, &header, 1) {
+fn load_fault(
+    rt: &impl Abort,
+    alloc: Global,
+    header: &Header,
+    image: &mut FuseStorage<MemStorage>,
+) -> Result<(), Fault> {
+    match load(alloc, image, header, 1) {
         Err(Fault::Storage) => {}
         Err(fault) => return Err(fault),
         Ok(_) => return Err(Fault::BadArgument),
     }
-    let block = load(alloc, &mut image, &header, 1)?;
-    assert_eq!(rt; count(&block, 255), Ok(0));
-    assert_eq!(rt; image.count(), 2);
+    let block = load(alloc, image, header, 1)?;
+    same!(rt; count(&block, 255), Ok(0));
+    same!(rt; image.count(), 2);
     Ok(())
+}
+
+fn load_faults(rt: &impl Abort, alloc: Global, align: usize) -> Result<(), Fault>
+    requires { IsAlignment align }
+{
+    let header = header(alloc, 9, 4)?;
+    let image = MemStorage::new(alloc).with_align(align);
+    load_fault(rt, alloc, &header, &mut FuseStorage::new(image, 1))
 }
 
 fn failed(rt: &impl Abort, alloc: Global) -> Result<(), Fault> {
@@ -405,11 +428,9 @@ fn failed(rt: &impl Abort, alloc: Global) -> Result<(), Fault> {
 }
 
 #[test]
-fn a_failed_write_leaves_the_block_modified(rt: HostRuntime) -> Result<(), Fail> {
+fn a_failed_write_leaves_the_block_modified(rt: HostRuntime) {
     let alloc = rt.alloc();
-    match failed(&rt, alloc) {
-        Err(Fault::Memory) => failed(&rt, alloc)?,
-        answer => answer?,
+    if is_refused(&rt, failed(&rt, alloc)) {
+        succeeds(&rt, failed(&rt, alloc));
     }
-    Ok(())
 }

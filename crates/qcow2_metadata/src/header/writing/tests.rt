@@ -6,11 +6,11 @@ ghost use Rattle.std.specs.Prelude.{◌≤◌};
 ghost use Rattle.imago_storage.specs.State.{IsAlignment};
 
 use super::*;
+use crate::asserting::{holds, is_refused, refused_with, same, succeeds};
 use crate::features::FeatureName;
 use imago_storage::{FuseStorage, LogStorage, MemStorage};
 use qcow2_types::FeatureType;
 use std::process::Abort;
-use std::test::Fail;
 
 /// Bytes and where they stand.
 type Piece = (usize, &'static [u8]);
@@ -94,7 +94,7 @@ fn assert_written(
     expected: &[u8],
 ) -> Result<(), Fault> {
     let bytes = bytes_written(alloc, header)?;
-    assert_eq!(rt; bytes.as_slice(), expected);
+    same!(rt; bytes.as_slice(), expected);
     Ok(())
 }
 
@@ -108,18 +108,16 @@ fn new_header(rt: &impl Abort, alloc: Global) -> Result<(), Fault> {
 }
 
 #[test]
-fn a_new_header_has_these_bytes(rt: HostRuntime) -> Result<(), Fail> {
+fn a_new_header_has_these_bytes(rt: HostRuntime) {
     let alloc = rt.alloc();
-    match new_header(&rt, alloc) {
-        Err(Fault::Memory) => new_header(&rt, alloc)?,
-        answer => answer?,
+    if is_refused(&rt, new_header(&rt, alloc)) {
+        succeeds(&rt, new_header(&rt, alloc));
     }
-    Ok(())
 }
 
 fn assert_backing(rt: &impl Abort, header: &Header) {
-    assert_eq!(rt; header.backing_filename().unwrap_or(""), "base");
-    assert_eq!(rt; header.backing_format().unwrap_or(""), "raw");
+    same!(rt; header.backing_filename().unwrap_or(""), "base");
+    same!(rt; header.backing_format().unwrap_or(""), "raw");
 }
 
 fn bytes_with_texts() -> [u8; 284] {
@@ -178,7 +176,7 @@ fn with_data_file(rt: &impl Abort, alloc: Global) -> Result<(), Fault> {
         text(alloc, "qcow2")?,
         text(alloc, "data.raw")?,
     )?);
-    assert!(rt; header.external_data_file());
+    holds!(rt; header.external_data_file());
     assert_written(rt, alloc, &mut header, &bytes_with_data_file())
 }
 
@@ -221,33 +219,25 @@ fn with_long_name(rt: &impl Abort, alloc: Global) -> Result<(), Fault> {
     names.push(name)?;
     let mut bytes = Vec::new(alloc);
     push_names(&mut bytes, alloc, &names)?;
-    assert_eq!(rt;
-        bytes.as_slice(),
-        b"\x68\x03\xf8\x57\x00\x00\x00\x30\x02\x3fa name that has two bytes more than there are.".as_slice()
-    );
+    same!(rt; bytes.as_slice(), b"\x68\x03\xf8\x57\x00\x00\x00\x30\x02\x3fa name that has two bytes more than there are.".as_slice());
     Ok(())
 }
 
 #[test]
-fn texts_are_written(rt: HostRuntime) -> Result<(), Fail> {
+fn texts_are_written(rt: HostRuntime) {
     let alloc = rt.alloc();
-    match with_texts(&rt, alloc) {
-        Err(Fault::Memory) => with_texts(&rt, alloc)?,
-        answer => answer?,
+    if is_refused(&rt, with_texts(&rt, alloc)) {
+        succeeds(&rt, with_texts(&rt, alloc));
     }
-    match with_data_file(&rt, alloc) {
-        Err(Fault::Memory) => with_data_file(&rt, alloc)?,
-        answer => answer?,
+    if is_refused(&rt, with_data_file(&rt, alloc)) {
+        succeeds(&rt, with_data_file(&rt, alloc));
     }
-    match older(&rt, alloc) {
-        Err(Fault::Memory) => older(&rt, alloc)?,
-        answer => answer?,
+    if is_refused(&rt, older(&rt, alloc)) {
+        succeeds(&rt, older(&rt, alloc));
     }
-    match with_long_name(&rt, alloc) {
-        Err(Fault::Memory) => with_long_name(&rt, alloc)?,
-        answer => answer?,
+    if is_refused(&rt, with_long_name(&rt, alloc)) {
+        succeeds(&rt, with_long_name(&rt, alloc));
     }
-    Ok(())
 }
 
 // What a write into an empty file answers, where it isn't want of memory, and how long the file is then.
@@ -278,28 +268,26 @@ fn outcome(
 // 264 bytes and the name.
 fn limits(rt: &impl Abort, alloc: Global) -> Result<(), Fault> {
     let (answer, written) = outcome(alloc, 12, 1024)?;
-    assert_eq!(rt; answer, Err(Fault::Limit(1288)));
-    assert_eq!(rt; written, 0);
+    same!(rt; answer, Err(Fault::Limit(1288)));
+    same!(rt; written, 0);
     let (answer, written) = outcome(alloc, 12, 1023)?;
-    assert_eq!(rt; answer, Ok(()));
-    assert_eq!(rt; written, 1287);
+    same!(rt; answer, Ok(()));
+    same!(rt; written, 1287);
     let (answer, written) = outcome(alloc, 9, 249)?;
-    assert_eq!(rt; answer, Err(Fault::Limit(513)));
-    assert_eq!(rt; written, 0);
+    same!(rt; answer, Err(Fault::Limit(513)));
+    same!(rt; written, 0);
     let (answer, written) = outcome(alloc, 9, 248)?;
-    assert_eq!(rt; answer, Ok(()));
-    assert_eq!(rt; written, 512);
+    same!(rt; answer, Ok(()));
+    same!(rt; written, 512);
     Ok(())
 }
 
 #[test]
-fn a_header_that_does_not_fit_is_refused(rt: HostRuntime) -> Result<(), Fail> {
+fn a_header_that_does_not_fit_is_refused(rt: HostRuntime) {
     let alloc = rt.alloc();
-    match limits(&rt, alloc) {
-        Err(Fault::Memory) => limits(&rt, alloc)?,
-        answer => answer?,
+    if is_refused(&rt, limits(&rt, alloc)) {
+        succeeds(&rt, limits(&rt, alloc));
     }
-    Ok(())
 }
 
 // One pointer write of three.
@@ -325,7 +313,7 @@ fn write_pointer_once(
 ) -> Result<(), Fault> {
     let header = plain(alloc)?;
     write_pointer(alloc, &header, image, which)?;
-    assert_eq!(rt; image.requests().len(), 1);
+    same!(rt; image.requests().len(), 1);
     Ok(())
 }
 
@@ -334,15 +322,22 @@ fn assert_first_fields(rt: &impl Abort, bytes: &[u8]) {
     let mut expected = [0xaau8; 8192];
     expected[..64].fill(0);
     put(&mut expected, 0, &FIELDS[..7]);
-    assert_eq!(rt; bytes, expected.as_slice());
+    same!(rt; bytes, expected.as_slice());
+}
+
+// A file of 8,192 bytes aa.
+fn logged_file(alloc: Global, align: usize) -> Result<LogStorage<MemStorage>, Fault>
+    requires { IsAlignment align }
+{
+    let bytes = vec![in alloc; 0xaau8; 8192]?;
+    LogStorage::new(alloc, MemStorage::from_bytes(bytes)?.with_align(align))
 }
 
 // One into a file of 8,192 bytes aa: every other byte stays.
 fn pointer_write(rt: &impl Abort, alloc: Global, align: usize, which: u8) -> Result<(), Fault>
     requires { IsAlignment align }
 {
-    let file = MemStorage::from_bytes(vec![in alloc; 0xaau8; 8192]?)?.with_align(align);
-    let mut image = LogStorage::new(alloc, file)?;
+    let mut image = logged_file(alloc, align)?;
     write_pointer_once(rt, alloc, &mut image, which)?;
     assert_first_fields(rt, &image.into_inner().into_bytes()?);
     Ok(())
@@ -359,13 +354,11 @@ fn pointer_writes(rt: &impl Abort, alloc: Global) -> Result<(), Fault> {
 }
 
 #[test]
-fn pointer_writes_leave_other_bytes(rt: HostRuntime) -> Result<(), Fail> {
+fn pointer_writes_leave_other_bytes(rt: HostRuntime) {
     let alloc = rt.alloc();
-    match pointer_writes(&rt, alloc) {
-        Err(Fault::Memory) => pointer_writes(&rt, alloc)?,
-        answer => answer?,
+    if is_refused(&rt, pointer_writes(&rt, alloc)) {
+        succeeds(&rt, pointer_writes(&rt, alloc));
     }
-    Ok(())
 }
 
 // Call n of a write fails: the header stays as it was.
@@ -377,12 +370,9 @@ fn refused_write(
     n: u64,
 ) -> Result<(), Fault> {
     let refused = header.write(alloc, image);
-    if refused == Err(Fault::Memory) {
-        return Err(Fault::Memory);
-    }
-    assert_eq!(rt; refused, Err(Fault::Storage), "of call {n}");
-    assert_eq!(rt; image.count(), n);
-    assert_eq!(rt; header.v2.backing_filename_offset, 0);
+    refused_with(rt, Fault::Storage, n, refused)?;
+    same!(rt; image.count(), n);
+    same!(rt; header.v2.backing_filename_offset, 0);
     Ok(())
 }
 
@@ -395,9 +385,25 @@ fn next_write(
     calls: u64,
 ) -> Result<(), Fault> {
     header.write(alloc, image)?;
-    assert_eq!(rt; image.count(), calls);
-    assert_eq!(rt; header.v2.backing_filename_offset, 264);
+    same!(rt; image.count(), calls);
+    same!(rt; header.v2.backing_filename_offset, 264);
     Ok(())
+}
+
+fn backed_header(alloc: Global) -> Result<Header, Fault> {
+    Header::new(alloc, 9, 4, text(alloc, "base")?, None, None)
+}
+
+fn write_fault(
+    rt: &impl Abort,
+    alloc: Global,
+    image: &mut FuseStorage<MemStorage>,
+    n: u64,
+    calls: u64,
+) -> Result<(), Fault> {
+    let mut header = backed_header(alloc)?;
+    refused_write(rt, alloc, &mut header, image, n)?;
+    next_write(rt, alloc, &mut header, image, calls)
 }
 
 // Each call that a write asks for fails: the header stays as it was, and the next write succeeds.
@@ -407,9 +413,7 @@ fn write_faults(rt: &impl Abort, alloc: Global, align: usize, calls: u64) -> Res
 {
     for n in 1..calls + 1 {
         let mut image = FuseStorage::new(MemStorage::new(alloc).with_align(align), n);
-        let mut header = Header::new(alloc, 9, 4, text(alloc, "base")?, None, None)?;
-        refused_write(rt, alloc, &mut header, &mut image, n)?;
-        next_write(rt, alloc, &mut header, &mut image, n + calls)?;
+        write_fault(rt, alloc, &mut image, n, n + calls)?;
     }
     Ok(())
 }
@@ -423,10 +427,7 @@ fn refused_pointer(
     which: u8,
 ) -> Result<(), Fault> {
     let refused = write_pointer(alloc, header, image, which);
-    if refused == Err(Fault::Memory) {
-        return Err(Fault::Memory);
-    }
-    assert_eq!(rt; refused, Err(Fault::Storage), "of call {n}");
+    refused_with(rt, Fault::Storage, n, refused)?;
     Ok(())
 }
 
@@ -446,7 +447,7 @@ fn pointer_faults(
         let mut image = FuseStorage::new(MemStorage::new(alloc).with_align(align), n);
         refused_pointer(rt, alloc, &header, &mut image, n, which)?;
         write_pointer(alloc, &header, &mut image, which)?;
-        assert_eq!(rt; image.count(), n + calls);
+        same!(rt; image.count(), n + calls);
     }
     Ok(())
 }
@@ -465,11 +466,9 @@ fn faults(rt: &impl Abort, alloc: Global) -> Result<(), Fault> {
 }
 
 #[test]
-fn faults_of_the_storage_are_passed_on(rt: HostRuntime) -> Result<(), Fail> {
+fn faults_of_the_storage_are_passed_on(rt: HostRuntime) {
     let alloc = rt.alloc();
-    match faults(&rt, alloc) {
-        Err(Fault::Memory) => faults(&rt, alloc)?,
-        answer => answer?,
+    if is_refused(&rt, faults(&rt, alloc)) {
+        succeeds(&rt, faults(&rt, alloc));
     }
-    Ok(())
 }

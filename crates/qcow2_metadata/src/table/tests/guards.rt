@@ -2,6 +2,7 @@
 ghost use Rattle.std.specs.Prelude.{◌≤◌};
 
 use super::*;
+use crate::asserting::{holds, is_refused, same, succeeds};
 use qcow2_types::PendingClusters;
 
 // The table in cluster 4 of an image with clusters of 512 bytes. Its first four words: compressed bytes from 2561 on, in two
@@ -55,29 +56,29 @@ fn assert_mappings(rt: &impl Abort, table: &mut L2Table) {
         host_offset: HostOffset(2561),
         length: 1023,
     };
-    assert_eq!(rt; guarded_mapping(table, 64), packed);
+    same!(rt; guarded_mapping(table, 64), packed);
     let zeroes = L2Mapping::Zero {
         host_cluster: Some(HostCluster(5)),
         copied: true,
     };
-    assert_eq!(rt; guarded_mapping(table, 65), zeroes);
+    same!(rt; guarded_mapping(table, 65), zeroes);
     let data = L2Mapping::DataFile {
         host_cluster: HostCluster(6),
         copied: true,
     };
-    assert_eq!(rt; guarded_mapping(table, 2), data);
+    same!(rt; guarded_mapping(table, 2), data);
     // 67 times 512.
     let below = L2Mapping::Backing {
         backing_offset: 34_304,
     };
-    assert_eq!(rt; guarded_mapping(table, 67), below);
+    same!(rt; guarded_mapping(table, 67), below);
 }
 
 fn assert_ranges(rt: &impl Abort, table: &mut L2Table) {
-    assert_eq!(rt; guarded_range(table, 64), Some((HostOffset(2561), 1023)));
-    assert_eq!(rt; guarded_range(table, 65), None);
-    assert_eq!(rt; guarded_range(table, 2), None);
-    assert!(rt; !table.is_modified());
+    same!(rt; guarded_range(table, 64), Some((HostOffset(2561), 1023)));
+    same!(rt; guarded_range(table, 65), None);
+    same!(rt; guarded_range(table, 2), None);
+    holds!(rt; !table.is_modified());
 }
 
 fn mappings(rt: &impl Abort, alloc: Global) -> Result<(), Fault> {
@@ -88,43 +89,41 @@ fn mappings(rt: &impl Abort, alloc: Global) -> Result<(), Fault> {
 }
 
 #[test]
-fn mappings_by_the_guard(rt: HostRuntime) -> Result<(), Fail> {
+fn mappings_by_the_guard(rt: HostRuntime) {
     let alloc = rt.alloc();
-    match mappings(&rt, alloc) {
-        Err(Fault::Memory) => mappings(&rt, alloc)?,
-        answer => answer?,
+    if is_refused(&rt, mappings(&rt, alloc)) {
+        succeeds(&rt, mappings(&rt, alloc));
     }
-    Ok(())
 }
 
 // Bytes 2561 to 3583 lie in the clusters 5 and 6.
 fn map_words(rt: &impl Abort, table: &mut L2Table) -> Result<(), Fault> {
-    assert_eq!(rt; map_pending(table, 0, 7)?, Some((5, 2)));
-    assert!(rt; table.is_modified());
-    assert_eq!(rt; table.get(0).to_plain(), 0x8000_0000_0000_0e00);
-    assert_eq!(rt; guarded_range(table, 0), None);
-    assert_eq!(rt; map_pending(table, 1, 5)?, None);
-    assert_eq!(rt; table.get(1).to_plain(), 0x8000_0000_0000_0a00);
-    assert_eq!(rt; map_pending(table, 3, 8)?, None);
-    assert_eq!(rt; discard(table, 4)?, None);
+    same!(rt; map_pending(table, 0, 7)?, Some((5, 2)));
+    holds!(rt; table.is_modified());
+    same!(rt; table.get(0).to_plain(), 0x8000_0000_0000_0e00);
+    same!(rt; guarded_range(table, 0), None);
+    same!(rt; map_pending(table, 1, 5)?, None);
+    same!(rt; table.get(1).to_plain(), 0x8000_0000_0000_0a00);
+    same!(rt; map_pending(table, 3, 8)?, None);
+    same!(rt; discard(table, 4)?, None);
     Ok(())
 }
 
 // A compressed cluster keeps none.
 fn zero_words(rt: &impl Abort, table: &mut L2Table) -> Result<(), Fault> {
-    assert_eq!(rt; zero(table, 0, true)?, Some((5, 2)));
-    assert_eq!(rt; table.get(0).to_plain(), 1);
-    assert_eq!(rt; zero(table, 3, true)?, None);
-    assert_eq!(rt; table.get(3).to_plain(), 1);
+    same!(rt; zero(table, 0, true)?, Some((5, 2)));
+    same!(rt; table.get(0).to_plain(), 1);
+    same!(rt; zero(table, 3, true)?, None);
+    same!(rt; table.get(3).to_plain(), 1);
     Ok(())
 }
 
 // A copy has no copied marks, and compressed words stay.
 fn assert_copied_words(rt: &impl Abort, copy: &L2Table) {
-    assert_eq!(rt; copy.get(0).to_plain(), 0x6000_0000_0000_0a01);
-    assert_eq!(rt; copy.get(1).to_plain(), 0xa01);
-    assert_eq!(rt; copy.get(2).to_plain(), 0xc00);
-    assert_eq!(rt; copy.get(3).to_plain(), 0);
+    same!(rt; copy.get(0).to_plain(), 0x6000_0000_0000_0a01);
+    same!(rt; copy.get(1).to_plain(), 0xa01);
+    same!(rt; copy.get(2).to_plain(), 0xc00);
+    same!(rt; copy.get(3).to_plain(), 0);
 }
 
 fn replaced_words(rt: &impl Abort, alloc: Global) -> Result<(), Fault> {
@@ -136,13 +135,11 @@ fn replaced_words(rt: &impl Abort, alloc: Global) -> Result<(), Fault> {
 }
 
 #[test]
-fn clusters_of_replaced_words(rt: HostRuntime) -> Result<(), Fail> {
+fn clusters_of_replaced_words(rt: HostRuntime) {
     let alloc = rt.alloc();
-    match replaced_words(&rt, alloc) {
-        Err(Fault::Memory) => replaced_words(&rt, alloc)?,
-        answer => answer?,
+    if is_refused(&rt, replaced_words(&rt, alloc)) {
+        succeeds(&rt, replaced_words(&rt, alloc));
     }
-    Ok(())
 }
 
 // The header of an image of version 3 with clusters of 512 bytes whose data is in an external file: incompatible feature bit 2.
@@ -163,7 +160,7 @@ fn words_for_an_external_file(rt: &impl Abort, alloc: Global) -> Result<(), Faul
     assert_external(rt, &table);
     let copy = table.clone(alloc)?;
     assert_external(rt, &copy);
-    assert_eq!(rt; copy.get(2).to_plain(), 0);
+    same!(rt; copy.get(2).to_plain(), 0);
     Ok(())
 }
 
@@ -183,16 +180,14 @@ fn assert_external(rt: &impl Abort, table: &L2Table) {
         host_cluster: Some(HostCluster(0)),
         copied: true,
     };
-    assert_eq!(rt; mapping(table, 0), data);
-    assert_eq!(rt; mapping(table, 1), kept);
+    same!(rt; mapping(table, 0), data);
+    same!(rt; mapping(table, 1), kept);
 }
 
 #[test]
-fn external_data_is_named_by_its_mark(rt: HostRuntime) -> Result<(), Fail> {
+fn external_data_is_named_by_its_mark(rt: HostRuntime) {
     let alloc = rt.alloc();
-    match words_for_an_external_file(&rt, alloc) {
-        Err(Fault::Memory) => words_for_an_external_file(&rt, alloc)?,
-        answer => answer?,
+    if is_refused(&rt, words_for_an_external_file(&rt, alloc)) {
+        succeeds(&rt, words_for_an_external_file(&rt, alloc));
     }
-    Ok(())
 }

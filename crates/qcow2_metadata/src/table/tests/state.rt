@@ -3,6 +3,7 @@ ghost use Rattle.std.specs.Prelude.{◌≡◌, ◌≤◌};
 ghost use Rattle.qcow2_types.specs.Header.{layout_of};
 
 use super::*;
+use crate::asserting::{holds, is_refused, same, same_at, succeeds};
 use crate::table::longer_content;
 
 // The word itself, where there is one.
@@ -24,25 +25,25 @@ fn offsets<T: Table>(table: &mut T) -> (Option<HostOffset>, Option<HostOffset>) 
 }
 
 fn l1_places(rt: &impl Abort, table: &mut L1Table) {
-    assert_eq!(rt; offsets(table), (Some(HostOffset(1536)), None));
-    assert_eq!(rt; table.get_cluster(), None);
+    same!(rt; offsets(table), (Some(HostOffset(1536)), None));
+    same!(rt; table.get_cluster(), None);
     // A new place has to be written, and one that is taken away hasn't.
-    assert!(rt; table.is_modified());
+    holds!(rt; table.is_modified());
     table.clear_modified();
     table.unset_cluster();
-    assert!(rt; !table.is_modified());
+    holds!(rt; !table.is_modified());
     table.set_modified();
-    assert!(rt; table.is_modified());
+    holds!(rt; table.is_modified());
 }
 
 fn refs_places(rt: &impl Abort, table: &mut RefTable) {
-    assert_eq!(rt; offsets(table), (Some(HostOffset(1536)), None));
+    same!(rt; offsets(table), (Some(HostOffset(1536)), None));
 }
 
 fn l2_places(rt: &impl Abort, table: &mut L2Table) {
-    assert_eq!(rt; table.cluster_bits(), 21);
+    same!(rt; table.cluster_bits(), 21);
     // 3 times 2 MiB.
-    assert_eq!(rt; offsets(table), (Some(HostOffset(6_291_456)), None));
+    same!(rt; offsets(table), (Some(HostOffset(6_291_456)), None));
 }
 
 fn places(rt: &impl Abort, alloc: Global) -> Result<(), Fault> {
@@ -56,35 +57,33 @@ fn places(rt: &impl Abort, alloc: Global) -> Result<(), Fault> {
 }
 
 #[test]
-fn places_of_tables(rt: HostRuntime) -> Result<(), Fail> {
+fn places_of_tables(rt: HostRuntime) {
     let alloc = rt.alloc();
-    match places(&rt, alloc) {
-        Err(Fault::Memory) => places(&rt, alloc)?,
-        answer => answer?,
+    if is_refused(&rt, places(&rt, alloc)) {
+        succeeds(&rt, places(&rt, alloc));
     }
-    Ok(())
 }
 
 fn assert_l1_words(rt: &impl Abort, table: &L1Table) {
-    assert_eq!(rt; plain(table.get_ref(0)), Some(0x8000_0000_0000_0800));
-    assert_eq!(rt; plain(table.get_ref(1)), Some(0));
-    assert_eq!(rt; plain(table.get_ref(2)), None);
+    same!(rt; plain(table.get_ref(0)), Some(0x8000_0000_0000_0800));
+    same!(rt; plain(table.get_ref(1)), Some(0));
+    same!(rt; plain(table.get_ref(2)), None);
 }
 
 fn assert_refs_words(rt: &impl Abort, table: &RefTable) {
-    assert_eq!(rt; plain(table.get_ref(0)), Some(1024));
-    assert_eq!(rt; plain(table.get_ref(63)), Some(0));
-    assert_eq!(rt; plain(table.get_ref(64)), None);
-    assert_eq!(rt; table.get(64).to_plain(), 0);
-    assert!(rt; table.in_bounds(63) && !table.in_bounds(64));
+    same!(rt; plain(table.get_ref(0)), Some(1024));
+    same!(rt; plain(table.get_ref(63)), Some(0));
+    same!(rt; plain(table.get_ref(64)), None);
+    same!(rt; table.get(64).to_plain(), 0);
+    holds!(rt; table.in_bounds(63) && !table.in_bounds(64));
 }
 
 fn assert_l2_words(rt: &impl Abort, table: &L2Table) {
-    assert_eq!(rt; plain(table.get_ref(1)), Some(0x8000_0000_0000_0c00));
-    assert_eq!(rt; plain(table.get_ref(64)), None);
-    assert_eq!(rt; table.get(0).to_plain(), 0x8000_0000_0000_0a00);
-    assert_eq!(rt; table.get(64).to_plain(), 0);
-    assert_eq!(rt; table.entries(), 64);
+    same!(rt; plain(table.get_ref(1)), Some(0x8000_0000_0000_0c00));
+    same!(rt; plain(table.get_ref(64)), None);
+    same!(rt; table.get(0).to_plain(), 0x8000_0000_0000_0a00);
+    same!(rt; table.get(64).to_plain(), 0);
+    same!(rt; table.entries(), 64);
 }
 
 fn single_words(rt: &impl Abort, alloc: Global) -> Result<(), Fault> {
@@ -97,22 +96,21 @@ fn single_words(rt: &impl Abort, alloc: Global) -> Result<(), Fault> {
 }
 
 #[test]
-fn words_at_an_index(rt: HostRuntime) -> Result<(), Fail> {
+fn words_at_an_index(rt: HostRuntime) {
     let alloc = rt.alloc();
-    match single_words(&rt, alloc) {
-        Err(Fault::Memory) => single_words(&rt, alloc)?,
-        answer => answer?,
+    if is_refused(&rt, single_words(&rt, alloc)) {
+        succeeds(&rt, single_words(&rt, alloc));
     }
-    Ok(())
 }
 
 fn assert_l1_size(rt: &impl Abort, table: &L1Table, entries: usize, bytes: usize, clusters: u64) {
-    assert_eq!(rt; table.entries(), entries);
-    assert_eq!(rt; table.byte_size(), bytes, "of {entries}");
-    assert_eq!(rt;
+    same!(rt; table.entries(), entries);
+    same_at(rt, entries as u64, table.byte_size(), bytes);
+    same_at(
+        rt,
+        entries as u64,
         table.cluster_count(),
         ClusterCount(clusters),
-        "of {entries}"
     );
 }
 
@@ -136,14 +134,14 @@ fn l1_sizes(rt: &impl Abort, alloc: Global) -> Result<(), Fault> {
 }
 
 fn assert_refs_size(rt: &impl Abort, table: &RefTable) {
-    assert_eq!(rt; table.byte_size(), 65_544);
-    assert_eq!(rt; table.cluster_count(), ClusterCount(2));
+    same!(rt; table.byte_size(), 65_544);
+    same!(rt; table.cluster_count(), ClusterCount(2));
 }
 
 fn assert_l2_size(rt: &impl Abort, table: &L2Table) {
-    assert_eq!(rt; table.entries(), 8192);
-    assert_eq!(rt; table.byte_size(), 65_536);
-    assert_eq!(rt; table.cluster_count(), ClusterCount(1));
+    same!(rt; table.entries(), 8192);
+    same!(rt; table.byte_size(), 65_536);
+    same!(rt; table.cluster_count(), ClusterCount(1));
 }
 
 // In clusters of 65,536 bytes 8,192 words fill one.
@@ -161,24 +159,22 @@ fn sizes(rt: &impl Abort, alloc: Global) -> Result<(), Fault> {
 }
 
 #[test]
-fn sizes_of_tables(rt: HostRuntime) -> Result<(), Fail> {
+fn sizes_of_tables(rt: HostRuntime) {
     let alloc = rt.alloc();
-    match sizes(&rt, alloc) {
-        Err(Fault::Memory) => sizes(&rt, alloc)?,
-        answer => answer?,
+    if is_refused(&rt, sizes(&rt, alloc)) {
+        succeeds(&rt, sizes(&rt, alloc));
     }
-    Ok(())
 }
 
 #[test]
 fn names_and_limits_of_tables(rt: HostRuntime) {
-    assert_eq!(rt; L1Table::NAME, "L1 table");
-    assert_eq!(rt; L2Table::NAME, "L2 table");
-    assert_eq!(rt; RefTable::NAME, "refcount table");
+    same!(&rt; L1Table::NAME, "L1 table");
+    same!(&rt; L2Table::NAME, "L2 table");
+    same!(&rt; RefTable::NAME, "refcount table");
     // 2^22 words, as many as fill the greatest cluster, and 2^20.
-    assert_eq!(rt; L1Table::MAX_ENTRIES, 4_194_304);
-    assert_eq!(rt; L2Table::MAX_ENTRIES, 262_144);
-    assert_eq!(rt; RefTable::MAX_ENTRIES, 1_048_576);
+    same!(&rt; L1Table::MAX_ENTRIES, 4_194_304);
+    same!(&rt; L2Table::MAX_ENTRIES, 262_144);
+    same!(&rt; RefTable::MAX_ENTRIES, 1_048_576);
 }
 
 // The table of the same words.
@@ -193,17 +189,17 @@ fn made_again(alloc: Global, table: &L1Table, header: &Header) -> Result<L1Table
 }
 
 fn assert_made(rt: &impl Abort, table: &L1Table) {
-    assert_eq!(rt; table.entries(), 2);
-    assert_eq!(rt; table.get(0).to_plain(), 0x8000_0000_0000_0800);
-    assert_eq!(rt; table.get(1).to_plain(), 0);
-    assert_eq!(rt; table.get_cluster(), None);
-    assert!(rt; table.is_modified());
-    assert_eq!(rt; table.cluster_bits(), 9);
+    same!(rt; table.entries(), 2);
+    same!(rt; table.get(0).to_plain(), 0x8000_0000_0000_0800);
+    same!(rt; table.get(1).to_plain(), 0);
+    same!(rt; table.get_cluster(), None);
+    holds!(rt; table.is_modified());
+    same!(rt; table.cluster_bits(), 9);
 }
 
 fn assert_empty(rt: &impl Abort, table: &RefTable) {
-    assert_eq!(rt; table.entries(), 0);
-    assert!(rt; table.is_modified() && table.get_cluster().is_none());
+    same!(rt; table.entries(), 0);
+    holds!(rt; table.is_modified() && table.get_cluster().is_none());
 }
 
 fn from_words(rt: &impl Abort, alloc: Global) -> Result<(), Fault> {
@@ -216,11 +212,9 @@ fn from_words(rt: &impl Abort, alloc: Global) -> Result<(), Fault> {
 }
 
 #[test]
-fn tables_are_made_of_words(rt: HostRuntime) -> Result<(), Fail> {
+fn tables_are_made_of_words(rt: HostRuntime) {
     let alloc = rt.alloc();
-    match from_words(&rt, alloc) {
-        Err(Fault::Memory) => from_words(&rt, alloc)?,
-        answer => answer?,
+    if is_refused(&rt, from_words(&rt, alloc)) {
+        succeeds(&rt, from_words(&rt, alloc));
     }
-    Ok(())
 }

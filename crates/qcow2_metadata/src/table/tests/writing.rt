@@ -4,6 +4,7 @@ ghost use Rattle.imago_storage.specs.State.{IsAlignment};
 ghost use Rattle.qcow2_types.specs.Header.{layout_of};
 
 use super::*;
+use crate::asserting::{holds, is_refused, same, same_at, succeeds};
 use imago_storage::FuseStorage;
 
 // An L1 table whose first word names the L2 table at 2048, and whose last one names that at 2560: bytes from 1536 on.
@@ -34,7 +35,7 @@ fn write_at_3<T: Table, S: Storage>(
 fn check_l1(rt: &impl Abort, bytes: &[u8], entries: usize, reached: usize)
     requires { entries ≤ 4096 }
 {
-    assert_eq!(rt; bytes.len(), 8192);
+    same!(rt; bytes.len(), 8192);
     let last = 1528 + 8 * entries;
     for (at, byte) in bytes.iter().enumerate() {
         let wanted = if at < 1536 || at >= reached {
@@ -48,7 +49,7 @@ fn check_l1(rt: &impl Abort, bytes: &[u8], entries: usize, reached: usize)
         } else {
             0
         };
-        assert_eq!(rt; *byte, wanted, "at {at} of {entries} words");
+        same_at(rt, at as u64, *byte, wanted);
     }
 }
 
@@ -74,8 +75,8 @@ fn written_by(
     let mut table = l1_of(alloc, &header, entries)?;
     let mut image = LogStorage::new(alloc, file(alloc, align)?)?;
     write_at_3(alloc, &mut table, &mut image)?;
-    assert!(rt; !table.is_modified());
-    assert_eq!(rt; image.requests().len(), requests, "at alignment {align}");
+    holds!(rt; !table.is_modified());
+    same_at(rt, align as u64, image.requests().len(), requests);
     check_l1(
         rt,
         &image.into_inner().into_bytes()?,
@@ -102,13 +103,11 @@ fn each_size(rt: &impl Abort, alloc: Global) -> Result<(), Fault> {
 }
 
 #[test]
-fn tables_of_other_sizes_than_a_cluster_are_written(rt: HostRuntime) -> Result<(), Fail> {
+fn tables_of_other_sizes_than_a_cluster_are_written(rt: HostRuntime) {
     let alloc = rt.alloc();
-    match each_size(&rt, alloc) {
-        Err(Fault::Memory) => each_size(&rt, alloc)?,
-        answer => answer?,
+    if is_refused(&rt, each_size(&rt, alloc)) {
+        succeeds(&rt, each_size(&rt, alloc));
     }
-    Ok(())
 }
 
 // All of the file.
@@ -138,8 +137,8 @@ fn refused_write(
     end: usize,
 ) -> Result<(), Fault> {
     let refused = write_at_3(alloc, table, image);
-    assert_eq!(rt; answered(refused)?, Some(Fault::Storage));
-    assert!(rt; table.is_modified());
+    same!(rt; answered(refused)?, Some(Fault::Storage));
+    holds!(rt; table.is_modified());
     check_l1(rt, &content(alloc, image, 8192)?, 200, end);
     Ok(())
 }
@@ -152,7 +151,7 @@ fn next_write(
     image: &mut FuseStorage<MemStorage>,
 ) -> Result<(), Fault> {
     write_at_3(alloc, table, image)?;
-    assert!(rt; !table.is_modified());
+    holds!(rt; !table.is_modified());
     check_l1(rt, &content(alloc, image, 8192)?, 200, 3136);
     Ok(())
 }
@@ -164,7 +163,7 @@ fn faults_of_a_write(rt: &impl Abort, alloc: Global) -> Result<(), Fault> {
     let mut table = l1_of(alloc, &header, 200)?;
     let mut image = FuseStorage::new(file(alloc, 1024)?, 0);
     write_at_3(alloc, &mut table, &mut image)?;
-    assert_eq!(rt; image.count(), 5);
+    same!(rt; image.count(), 5);
     let reached = [
         (1u64, 1536usize),
         (2, 1536),
@@ -181,13 +180,11 @@ fn faults_of_a_write(rt: &impl Abort, alloc: Global) -> Result<(), Fault> {
 }
 
 #[test]
-fn a_fault_leaves_old_or_new_bytes_of_a_table(rt: HostRuntime) -> Result<(), Fail> {
+fn a_fault_leaves_old_or_new_bytes_of_a_table(rt: HostRuntime) {
     let alloc = rt.alloc();
-    match faults_of_a_write(&rt, alloc) {
-        Err(Fault::Memory) => faults_of_a_write(&rt, alloc)?,
-        answer => answer?,
+    if is_refused(&rt, faults_of_a_write(&rt, alloc)) {
+        succeeds(&rt, faults_of_a_write(&rt, alloc));
     }
-    Ok(())
 }
 
 // Writes word 1 of a table in cluster 3, of which there are two at least.
@@ -213,13 +210,13 @@ fn refused_word(
     image: &mut FuseStorage<MemStorage>,
 ) -> Result<(), Fault> {
     let refused = write_word_1(alloc, table, image);
-    assert_eq!(rt; answered(refused)?, Some(Fault::Storage));
-    assert!(rt; table.is_modified());
+    same!(rt; answered(refused)?, Some(Fault::Storage));
+    holds!(rt; table.is_modified());
     Ok(())
 }
 
 fn check_unwritten(rt: &impl Abort, bytes: &[u8]) {
-    assert!(rt; bytes.iter().all(|byte| *byte == 0xa5));
+    holds!(rt; bytes.iter().all(|byte| *byte == 0xa5));
 }
 
 fn check_word_1(rt: &impl Abort, bytes: &[u8]) {
@@ -230,7 +227,7 @@ fn check_word_1(rt: &impl Abort, bytes: &[u8]) {
             1544..1552 => 0,
             _ => 0xa5,
         };
-        assert_eq!(rt; *byte, wanted, "at {at}");
+        same_at(rt, at as u64, *byte, wanted);
     }
 }
 
@@ -243,7 +240,7 @@ fn faults_of_a_word(rt: &impl Abort, alloc: Global) -> Result<(), Fault> {
         refused_word(rt, alloc, &mut table, &mut image)?;
         check_unwritten(rt, &content(alloc, &mut image, 8192)?);
         write_word_1(alloc, &mut table, &mut image)?;
-        assert!(rt; !table.is_modified());
+        holds!(rt; !table.is_modified());
         check_word_1(rt, &content(alloc, &mut image, 8192)?);
     }
     let mut image = FuseStorage::new(file(alloc, 8)?, 1);
@@ -251,13 +248,11 @@ fn faults_of_a_word(rt: &impl Abort, alloc: Global) -> Result<(), Fault> {
 }
 
 #[test]
-fn a_fault_leaves_a_word_as_it_was(rt: HostRuntime) -> Result<(), Fail> {
+fn a_fault_leaves_a_word_as_it_was(rt: HostRuntime) {
     let alloc = rt.alloc();
-    match faults_of_a_word(&rt, alloc) {
-        Err(Fault::Memory) => faults_of_a_word(&rt, alloc)?,
-        answer => answer?,
+    if is_refused(&rt, faults_of_a_word(&rt, alloc)) {
+        succeeds(&rt, faults_of_a_word(&rt, alloc));
     }
-    Ok(())
 }
 
 // The first load of a table fails, and the next one succeeds.
@@ -268,9 +263,9 @@ fn fault_of_an_l1_load<S: Storage>(
     header: &Header,
 ) -> Result<(), Fault> {
     let refused = load_l1(alloc, image, header, 3, 2);
-    assert_eq!(rt; answered(refused)?, Some(Fault::Storage));
+    same!(rt; answered(refused)?, Some(Fault::Storage));
     let table = load_l1(alloc, image, header, 3, 2)?;
-    assert_eq!(rt; table.get(0).to_plain(), 0x8000_0000_0000_0800);
+    same!(rt; table.get(0).to_plain(), 0x8000_0000_0000_0800);
     Ok(())
 }
 
@@ -281,9 +276,9 @@ fn fault_of_an_l2_load<S: Storage>(
     header: &Header,
 ) -> Result<(), Fault> {
     let refused = load_l2(alloc, image, header, 4);
-    assert_eq!(rt; answered(refused)?, Some(Fault::Storage));
+    same!(rt; answered(refused)?, Some(Fault::Storage));
     let table = load_l2(alloc, image, header, 4)?;
-    assert_eq!(rt; table.get(0).to_plain(), 0x8000_0000_0000_0a00);
+    same!(rt; table.get(0).to_plain(), 0x8000_0000_0000_0a00);
     Ok(())
 }
 
@@ -294,9 +289,9 @@ fn fault_of_a_refs_load<S: Storage>(
     header: &Header,
 ) -> Result<(), Fault> {
     let refused = load_refs(alloc, image, header, 1, 64);
-    assert_eq!(rt; answered(refused)?, Some(Fault::Storage));
+    same!(rt; answered(refused)?, Some(Fault::Storage));
     let table = load_refs(alloc, image, header, 1, 64)?;
-    assert_eq!(rt; table.get(0).to_plain(), 1024);
+    same!(rt; table.get(0).to_plain(), 1024);
     Ok(())
 }
 
@@ -309,7 +304,7 @@ fn faults_of_a_load(rt: &impl Abort, alloc: Global, align: usize) -> Result<(), 
     let file = MemStorage::from_bytes(bytes)?.with_align(align);
     let mut image = FuseStorage::new(file, 1);
     fault_of_an_l1_load(rt, alloc, &mut image, &header)?;
-    assert_eq!(rt; image.count(), 2);
+    same!(rt; image.count(), 2);
     let mut image = FuseStorage::new(image, 1);
     fault_of_an_l2_load(rt, alloc, &mut image, &header)?;
     let mut image = FuseStorage::new(image, 1);
@@ -322,13 +317,11 @@ fn faults_of_loads(rt: &impl Abort, alloc: Global) -> Result<(), Fault> {
 }
 
 #[test]
-fn faults_of_loads_are_passed_on(rt: HostRuntime) -> Result<(), Fail> {
+fn faults_of_loads_are_passed_on(rt: HostRuntime) {
     let alloc = rt.alloc();
-    match faults_of_loads(&rt, alloc) {
-        Err(Fault::Memory) => faults_of_loads(&rt, alloc)?,
-        answer => answer?,
+    if is_refused(&rt, faults_of_loads(&rt, alloc)) {
+        succeeds(&rt, faults_of_loads(&rt, alloc));
     }
-    Ok(())
 }
 
 fn refused_l2_write(
@@ -338,8 +331,8 @@ fn refused_l2_write(
     image: &mut FuseStorage<MemStorage>,
 ) -> Result<(), Fault> {
     let refused = write(alloc, table, image);
-    assert_eq!(rt; answered(refused)?, Some(Fault::Storage));
-    assert!(rt; table.is_modified());
+    same!(rt; answered(refused)?, Some(Fault::Storage));
+    holds!(rt; table.is_modified());
     Ok(())
 }
 
@@ -347,7 +340,7 @@ fn refused_l2_write(
 fn check_zeroes(rt: &impl Abort, bytes: &[u8]) {
     for (at, byte) in bytes.iter().enumerate() {
         let wanted = if at < 2048 || at >= 2560 { 0xa5 } else { 0 };
-        assert_eq!(rt; *byte, wanted, "at {at}");
+        same_at(rt, at as u64, *byte, wanted);
     }
 }
 
@@ -360,18 +353,16 @@ fn faults_of_an_l2_table(rt: &impl Abort, alloc: Global) -> Result<(), Fault> {
         refused_l2_write(rt, alloc, &mut table, &mut image)?;
         check_unwritten(rt, &content(alloc, &mut image, 8192)?);
         write(alloc, &mut table, &mut image)?;
-        assert!(rt; !table.is_modified());
+        holds!(rt; !table.is_modified());
         check_zeroes(rt, &content(alloc, &mut image, 8192)?);
     }
     Ok(())
 }
 
 #[test]
-fn a_fault_leaves_an_l2_table_modified(rt: HostRuntime) -> Result<(), Fail> {
+fn a_fault_leaves_an_l2_table_modified(rt: HostRuntime) {
     let alloc = rt.alloc();
-    match faults_of_an_l2_table(&rt, alloc) {
-        Err(Fault::Memory) => faults_of_an_l2_table(&rt, alloc)?,
-        answer => answer?,
+    if is_refused(&rt, faults_of_an_l2_table(&rt, alloc)) {
+        succeeds(&rt, faults_of_an_l2_table(&rt, alloc));
     }
-    Ok(())
 }
