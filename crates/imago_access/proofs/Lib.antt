@@ -6,6 +6,7 @@ pub mod Units
 pub mod Looking
 pub mod Reading
 pub mod Deeper
+pub mod LookedUp
 pub mod Running
 pub mod ChangeCauses
 pub mod ResizeCauses

@@ -73,3 +73,7 @@ IsStale fault = ⊥
 abbrev pub files_of : {D : Type 0} → (D → StorageState) → (D → List StorageState) → List D → List StorageState
 files_of image extras [] = []
 files_of image extras (d ∷ ds) = (image d ∷ extras d) ++ files_of image extras ds
+
+-- nothing was asked of the files of a driver
+abbrev pub Unasked : {D : Type 0} → (D → StorageState) → (D → List StorageState) → D → D → Type 0
+Unasked image extras old new = (image new ≡ image old) × (extras new ≡ extras old)

@@ -4,6 +4,7 @@ pub mod Chain
 pub mod Layers
 pub mod Files
 pub mod Mappings
+pub mod Kinds
 pub mod Refusals
 pub mod Changes
 pub mod Spending

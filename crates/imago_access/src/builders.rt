@@ -2,7 +2,7 @@
 ghost use Rattle.std.specs.Prelude.{◌≡◌, ◌⊎◌, true, false, Bool, ℕ, Some, None, Ok, Err, Option, Result, MatchOption, IsOkUnless, IfOk, IfErr, IsTrue};
 ghost use Rattle.imago_storage.specs.Options.{OpenOptions};
 ghost use Rattle.imago_storage.specs.declared.fault.Fault.{Fault};
-ghost use Rattle.imago_access.specs.Building.{options_with};
+ghost use Rattle.imago_access.specs.Building.{options_with, OpensForWriting};
 ghost use Rattle.imago_access.specs.declared.format.Format.{Format};
 ghost use Rattle.imago_access.specs.declared.format.PreallocateMode.{PreallocateMode};
 ghost use Rattle.imago_access.specs.declared.format.PreallocateMode.TheVariants as mode;
@@ -336,5 +336,5 @@ pub trait FormatCreateBuilder<S: Storage> {
         ensures ok { IfOk result (λ d. (s : S) × (b : Self.DriverBuilder) × hands self s × F.makes open_builder s (Ok b) × opens self b d) }
         ensures format { IfOk result (λ d. (Self.DriverBuilder.Format.layer d).fixed.format ≡ FORMAT) }
         ensures writable { IfOk result (λ d. IsTrue (Self.DriverBuilder.Format.layer d).fixed.writable) }
-        ensures err { IfErr result (λ e. refuses self e ⊎ (((s : S) × hands self s × F.makes open_builder s (Err e)) ⊎ ((b : Self.DriverBuilder) × Self.DriverBuilder.refuses b e))) };
+        ensures err { IfErr result (λ e. refuses self e ⊎ (((s : S) × hands self s × F.makes open_builder s (Err e)) ⊎ ((s : S) × (b b' : Self.DriverBuilder) × hands self s × F.makes open_builder s (Ok b) × OpensForWriting Self.DriverBuilder.image_of Self.DriverBuilder.options_of Self.DriverBuilder.writable_of b b' × Self.DriverBuilder.refuses b' e))) };
 }

@@ -7,7 +7,7 @@ ghost use Rattle.imago_storage.specs.Disk.{byte};
 ghost use Rattle.imago_access.specs.Layer.{Layer, own, unmapped, loose, IsFree, IsLike, unit_of_layer};
 ghost use Rattle.imago_access.specs.Chain.{at, IsBacked};
 ghost use Rattle.imago_access.specs.Room.{IsApart, IsUncutAt, Reaches, Takes, GivesUp};
-ghost use Rattle.imago_access.specs.Files.{Pairs, IsKept, ImageCause, IsMild, IsWhole, IsAnswered, IsStale};
+ghost use Rattle.imago_access.specs.Files.{Pairs, IsKept, ImageCause, IsMild, IsWhole, IsAnswered, IsStale, Unasked};
 ghost use Rattle.imago_access.specs.Going.{Looked, LookedUnder, Went};
 ghost use Rattle.imago_access.specs.Mappings.{IsRun, Looks};
 ghost use Rattle.imago_access.specs.Refusals.{barrier, change_refusal, LookCause, ReadMappedCause, InvalidateCause};
@@ -146,6 +146,7 @@ pub trait FormatDriverInstance {
         ensures looks { sees self.old → IfOk result (λ r. Looks (layer self.old) (stored self.new) offset max_length r.0 r.1) }
         ensures idle { max_length ≡ 0 → barrier (layer self.old) ≡ None → IsOk result }
         ensures barred { (f : Fault) → barrier (layer self.old) ≡ Some f → IsErrOf result f }
+        ensures unasked { (max_length ≡ 0) ⊎ IsSome (barrier (layer self.old)) → Unasked image extras self.old self.new }
         ensures looked { Looked layer image extras sees safe still lasts sound (IsOk result) (IsWhole result) self.old self.new }
         ensures began { OnOk result ((d : Self) (call : Call) → began d call self.old → began d call self.new) }
         ensures failed { IfErr result (ImageCause (image self.old ∷ extras self.old) (image self.new ∷ extras self.new)) }
@@ -165,6 +166,7 @@ pub trait FormatDriverInstance {
         ensures bytes { OnOk result ((i : ℕ) → i < length buf.old → slice_index buf.new i ≡ stored self.old storage (place + i)) }
         ensures idle { length buf.old ≡ 0 → barrier (layer self.old) ≡ None → IsOk result }
         ensures barred { (f : Fault) → barrier (layer self.old) ≡ Some f → IsErrOf result f }
+        ensures unasked { (length buf.old ≡ 0) ⊎ IsSome (barrier (layer self.old)) → Unasked image extras self.old self.new }
         ensures looked { Looked layer image extras sees safe still lasts sound (IsOk result) (IsWhole result) self.old self.new }
         ensures began { OnOk result ((d : Self) (call : Call) → began d call self.old → began d call self.new) }
         ensures none { MakesNone (image self.old) (image self.new) }
@@ -209,6 +211,7 @@ pub trait FormatDriverInstance {
         ensures err { IsTrue (layer self.old).fixed.keeps → safe self.old → B.sees_under below.old → IfErr result (λ e. IsMild e → NotPrepared (layer self.old) (layer self.new)) }
         ensures at_once { (f : Fault) → change_refusal (unit_of_layer (layer self.old)) (layer self.old) offset length ≡ Some f → IsErrOf result f }
         ensures idle { length ≡ 0 → barrier (layer self.old) ≡ None → IsOk result }
+        ensures unasked { (length ≡ 0) ⊎ IsSome (change_refusal (unit_of_layer (layer self.old)) (layer self.old) offset length) → Unasked image extras self.old self.new × (below.new ≡ below.old) }
         ensures size { (layer self.new).size ≡ (layer self.old).size }
         ensures free { IsErr result → IsFree (layer self.new) }
         ensures room { IsTrue (layer self.old).fixed.keeps → safe self.old → B.sees_under below.old → IsWhole result → Takes vacant has_room zeroed (λ _. ⊤) self.old self.new }
@@ -233,6 +236,7 @@ pub trait FormatDriverInstance {
         ensures went { Went layer image extras safe lasts (IsOk result) (IsOk result × IsMine claim tag mapping.state (layer self.old)) self.old self.new }
         ensures back { IfErr result (λ e. IfSome e.1 (λ m. (m ≡ mapping) × (layer self.new ≡ layer self.old) × GivenBack tag mapping.state (layer self.old) e.0 × (safe self.old → safe self.new))) }
         ensures at_once { (f : Fault) → commit_refusal tag mapping.state (layer self.old) ≡ Some f → MatchResult result (λ _. ⊥) (λ e. (e.0 ≡ f) × IsSome e.1) }
+        ensures unasked { (mapping.state ≡ None) ⊎ IsSome (commit_refusal tag mapping.state (layer self.old)) → Unasked image extras self.old self.new }
         ensures spent { IfErr result (λ e. e.1 ≡ None → IsSome mapping.state × IsTrue (layer self.new).failed × Spends claim tag mapping.state (layer self.old) (layer self.new) (IsFree (layer self.new) × (safe self.old → IsMild e.0 → ⊥))) }
         ensures size { (layer self.new).size ≡ (layer self.old).size }
         ensures room { IsTrue (layer self.old).fixed.keeps → safe self.old → IsMine claim tag mapping.state (layer self.old) → OnOk result (Takes vacant has_room zeroed (λ p. (layer self.old).held p ≡ loose) self.old self.new) }
@@ -273,6 +277,7 @@ pub trait FormatDriverInstance {
         ensures err { IsTrue (layer self.old).fixed.keeps → safe self.old → IfErr result (λ e. IsMild e → layer self.new ≡ layer self.old) }
         ensures at_once { (f : Fault) → change_refusal (unit_of_layer (layer self.old)) (layer self.old) guest (length bytes.now) ≡ Some f → IsErrOf result f }
         ensures idle { length bytes.now ≡ 0 → barrier (layer self.old) ≡ None → IsOk result }
+        ensures unasked { (length bytes.now ≡ 0) ⊎ IsSome (change_refusal (unit_of_layer (layer self.old)) (layer self.old) guest (length bytes.now)) → Unasked image extras self.old self.new }
         ensures like { IsLike (layer self.old) (layer self.new) }
         ensures room { IsTrue (layer self.old).fixed.keeps → safe self.old → IsWhole result → Takes vacant has_room zeroed (λ _. ⊤) self.old self.new }
         ensures went { Went layer image extras safe lasts (IsOk result) (IsWhole result) self.old self.new }
@@ -301,6 +306,7 @@ pub trait FormatDriverInstance {
         ensures err { IsTrue (layer self.old).fixed.keeps → safe self.old → IfErr result (λ e. IsMild e → PartRewrites ToZero (layer self.old) (layer self.new) offset length) }
         ensures at_once { (f : Fault) → change_refusal (unit_of_layer (layer self.old)) (layer self.old) offset length ≡ Some f → IsErrOf result f }
         ensures idle { length ≡ 0 → barrier (layer self.old) ≡ None → IsOk result }
+        ensures unasked { (length ≡ 0) ⊎ IsSome (change_refusal (unit_of_layer (layer self.old)) (layer self.old) offset length) → Unasked image extras self.old self.new }
         ensures like { IsLike (layer self.old) (layer self.new) }
         ensures room { IsTrue (layer self.old).fixed.keeps → safe self.old → IsWhole result → Takes vacant has_room zeroed (IsOut offset length) self.old self.new }
         ensures given { IsTrue (layer self.old).fixed.keeps → safe self.old → IfOk result (λ r. (p : ℕ) → IsIn r.0 r.1 p → zeroed self.new p) }
@@ -331,6 +337,7 @@ pub trait FormatDriverInstance {
         ensures err { IsTrue (layer self.old).fixed.keeps → safe self.old → IfErr result (λ e. IsMild e → PartRewrites ToZero (layer self.old) (layer self.new) offset length) }
         ensures at_once { (f : Fault) → change_refusal (unit_of_layer (layer self.old)) (layer self.old) offset length ≡ Some f → IsErrOf result f }
         ensures idle { length ≡ 0 → barrier (layer self.old) ≡ None → IsOk result }
+        ensures unasked { (length ≡ 0) ⊎ IsSome (change_refusal (unit_of_layer (layer self.old)) (layer self.old) offset length) → Unasked image extras self.old self.new }
         ensures like { IsLike (layer self.old) (layer self.new) }
         ensures room { IsTrue (layer self.old).fixed.keeps → safe self.old → IsWhole result → GivesUp vacant has_room zeroed offset length self.old self.new }
         ensures given { IsTrue (layer self.old).fixed.keeps → safe self.old → IfOk result (λ r. (p : ℕ) → IsIn r.0 r.1 p → vacant self.new p) }
@@ -361,6 +368,7 @@ pub trait FormatDriverInstance {
         ensures err { IsTrue (layer self.old).fixed.keeps → safe self.old → IfErr result (λ e. IsMild e → PartRewrites ToAny (layer self.old) (layer self.new) offset length) }
         ensures at_once { (f : Fault) → change_refusal (unit_of_layer (layer self.old)) (layer self.old) offset length ≡ Some f → IsErrOf result f }
         ensures idle { length ≡ 0 → barrier (layer self.old) ≡ None → IsOk result }
+        ensures unasked { (length ≡ 0) ⊎ IsSome (change_refusal (unit_of_layer (layer self.old)) (layer self.old) offset length) → Unasked image extras self.old self.new }
         ensures like { IsLike (layer self.old) (layer self.new) }
         ensures room { IsTrue (layer self.old).fixed.keeps → safe self.old → IsWhole result → GivesUp vacant has_room zeroed offset length self.old self.new }
         ensures given { IsTrue (layer self.old).fixed.keeps → safe self.old → IfOk result (λ r. (p : ℕ) → IsIn r.0 r.1 p → vacant self.new p) }
@@ -391,6 +399,7 @@ pub trait FormatDriverInstance {
         ensures err { IsTrue (layer self.old).fixed.keeps → safe self.old → IfErr result (λ e. IsMild e → PartRewrites (ToBelow (layer self.old).fixed.blank) (layer self.old) (layer self.new) offset length) }
         ensures at_once { (f : Fault) → change_refusal (unit_of_layer (layer self.old)) (layer self.old) offset length ≡ Some f → IsErrOf result f }
         ensures idle { length ≡ 0 → barrier (layer self.old) ≡ None → IsOk result }
+        ensures unasked { (length ≡ 0) ⊎ IsSome (change_refusal (unit_of_layer (layer self.old)) (layer self.old) offset length) → Unasked image extras self.old self.new }
         ensures like { IsLike (layer self.old) (layer self.new) }
         ensures room { IsTrue (layer self.old).fixed.keeps → safe self.old → IsWhole result → GivesUp vacant has_room zeroed offset length self.old self.new }
         ensures given { IsTrue (layer self.old).fixed.keeps → safe self.old → IfOk result (λ r. (p : ℕ) → IsIn r.0 r.1 p → vacant self.new p) }
@@ -409,6 +418,7 @@ pub trait FormatDriverInstance {
         ensures still { OnOk result (still self.new) }
         ensures written { IsTrue (layer self.old).fixed.keeps → safe self.old → IsFree (layer self.old) → OnOk result (IsMeant (layer self.new) (image self.new).bytes) }
         ensures barred { (f : Fault) → barrier (layer self.old) ≡ Some f → IsErrOf result f }
+        ensures unasked { IsSome (barrier (layer self.old)) → Unasked image extras self.old self.new }
         ensures like { IsLike (layer self.old) (layer self.new) }
         ensures went { Went layer image extras safe lasts (IsOk result) (IsWhole result) self.old self.new }
         ensures stops { IsTrue (layer self.old).fixed.keeps → safe self.old → (below : List Layer) → KeepsStops below (layer self.old) sound (GivesNone) (image self.old) (image self.new) }
@@ -423,6 +433,7 @@ pub trait FormatDriverInstance {
         ensures kept { Pairs IsKept (image self.old ∷ extras self.old) (image self.new ∷ extras self.new) }
         ensures still { still self.old → still self.new }
         ensures barred { (f : Fault) → barrier (layer self.old) ≡ Some f → IsErrOf result f }
+        ensures unasked { IsSome (barrier (layer self.old)) → Unasked image extras self.old self.new }
         ensures like { IsLike (layer self.old) (layer self.new) }
         ensures went { Went layer image extras safe lasts (IsOk result) (IsWhole result) self.old self.new }
         ensures sees { sees self.old → sees self.new }
@@ -439,6 +450,7 @@ pub trait FormatDriverInstance {
         ensures kept { Pairs IsKept (image self.old ∷ extras self.old) (image self.new ∷ extras self.new) }
         ensures still { OnOk result (still self.new) }
         ensures barred { (f : Fault) → barrier (layer self.old) ≡ Some f → IsErrOf result f }
+        ensures unasked { IsSome (barrier (layer self.old)) → Unasked image extras self.old self.new }
         ensures went { Went layer image extras safe lasts (IsOk result) (IsOk result) self.old self.new }
         ensures free { IsFree (layer self.new) }
         ensures failed { IfErr result (λ e. IsStale e → IsTrue (layer self.new).failed) }
@@ -462,6 +474,7 @@ pub trait FormatDriverInstance {
         ensures err { IsTrue (layer self.old).fixed.keeps → safe self.old → B.sees_under below.old → IfErr result (λ e. IsMild e → NotGrown (at (B.under below.old)) (layer self.old) (layer self.new)) }
         ensures barred { (f : Fault) → barrier (layer self.old) ≡ Some f → IsErrOf result f }
         ensures read_only { barrier (layer self.old) ≡ None → (layer self.old).size < size → IsFalse (layer self.old).fixed.writable → IsErrOf result ReadOnly }
+        ensures unasked { (size ≤ (layer self.old).size) ⊎ (IsSome (barrier (layer self.old)) ⊎ IsFalse (layer self.old).fixed.writable) → Unasked image extras self.old self.new × (below.new ≡ below.old) }
         ensures free { IsFree (layer self.new) }
         ensures went { Went layer image extras safe lasts (IsOk result) (IsWhole result × B.sees_under below.old) self.old self.new }
         ensures stops { IsTrue (layer self.old).fixed.keeps → safe self.old → B.sees_under below.old → KeepsStopsTo (B.under below.old) (layer self.old) sound (layer self.old).size (GivesPast (layer self.old).size) (image self.old) (image self.new) }
@@ -481,6 +494,7 @@ pub trait FormatDriverInstance {
         ensures err { IsTrue (layer self.old).fixed.keeps → safe self.old → IfErr result (λ e. IsMild e → NotShrunk (layer self.old) (layer self.new)) }
         ensures barred { (f : Fault) → barrier (layer self.old) ≡ Some f → IsErrOf result f }
         ensures read_only { barrier (layer self.old) ≡ None → size < (layer self.old).size → IsFalse (layer self.old).fixed.writable → IsErrOf result ReadOnly }
+        ensures unasked { ((layer self.old).size ≤ size) ⊎ (IsSome (barrier (layer self.old)) ⊎ IsFalse (layer self.old).fixed.writable) → Unasked image extras self.old self.new }
         ensures went { Went layer image extras safe lasts (IsOk result) (IsWhole result) self.old self.new }
         ensures free { IsFree (layer self.new) }
         ensures stops { IsTrue (layer self.old).fixed.keeps → safe self.old → (below : List Layer) → IsBacked below (layer self.old) → KeepsStopsTo below (layer self.old) sound size (GivesBelowPast below size) (image self.old) (image self.new) }

@@ -1,6 +1,7 @@
 // How raw images are opened and created.
-ghost use Rattle.std.specs.Prelude.{◌≡◌, length, true, false, None, IfOk, IfErr};
+ghost use Rattle.std.specs.Prelude.{◌≡◌, ◌⊎◌, length, true, false, Ok, Err, None, IsTrue, IfOk, IfErr};
 ghost use Rattle.imago_storage.specs.State.{StorageState};
+ghost use Rattle.imago_access.specs.Building.{OpensForWriting};
 ghost use Rattle.imago_access.specs.declared.format.Format.TheVariants as format;
 ghost use Rattle.imago_access.specs.declared.format.PreallocateMode.TheVariants as mode;
 ghost use Rattle.imago_formats.specs.RawLayer.{raw_layer};
@@ -149,7 +150,15 @@ impl<S: Storage> FormatCreateBuilder<S> for RawCreateBuilder<S> {
         alloc: Global,
         gate: &mut G,
         open_builder: F,
-    ) -> Result<Raw<S>, Fault> {
+    ) -> Result<Raw<S>, Fault>
+        requires { (s : S) → F.takes open_builder s }
+        ensures ok { let c = ⟦<RawCreateBuilder<S> as FormatCreateBuilder<S>>⟧ in IfOk result (λ d. (s : S) × (b : _) × c.hands self s × F.makes open_builder s (Ok b) × c.opens self b d) }
+        ensures format { IfOk result (λ d. (⟦<Raw<S> as FormatDriverInstance>⟧.layer d).fixed.format ≡ format.Raw) }
+        ensures writable { IfOk result (λ d. IsTrue (⟦<Raw<S> as FormatDriverInstance>⟧.layer d).fixed.writable) }
+        ensures err { let c = ⟦<RawCreateBuilder<S> as FormatCreateBuilder<S>>⟧ in IfErr result (λ e. c.refuses self e ⊎ (((s : S) × c.hands self s × F.makes open_builder s (Err e)) ⊎ ((s : S) × (b b' : _) × c.hands self s × F.makes open_builder s (Ok b) × (let o = ⟦<RawOpenBuilder<S> as FormatDriverBuilder<S>>⟧ in OpensForWriting o.image_of o.options_of o.writable_of b b' × o.refuses b' e)))) }
+        // The gate isn't asked.
+        ensures gate { gate.new ≡ gate.old }
+    {
         let image = match self.create(alloc) {
             Ok(image) => image,
             Err(fault) => return Err(fault),

@@ -1,5 +1,5 @@
 // A raw image: the disk is the storage's bytes.
-ghost use Rattle.std.specs.Prelude.{◌≡◌, ◌+◌, ◌≤◌, ◌<◌, ◌^◌, ◌∷◌, [], ⊤, refl, ℕ, List, length, slice_index, replicate, OnOk, IfOk, IfErr, IfSome, IsSome, IsTrue, IsOk, IsErrOf, MatchResult, None, Some, true, ◌++◌, IsFalse};
+ghost use Rattle.std.specs.Prelude.{◌≡◌, ◌⊎◌, min, ◌-◌, ◌+◌, ◌≤◌, ◌<◌, ◌^◌, ◌∷◌, [], ⊤, refl, ℕ, List, length, slice_index, replicate, OnOk, IfOk, IfErr, IfSome, IsSome, IsTrue, IsOk, IsErrOf, MatchResult, None, Some, true, ◌++◌, IsFalse};
 ghost use Rattle.std.proofs.Common.{inr};
 ghost use Rattle.imago_storage.specs.State.{StorageState, unit_of};
 ghost use Rattle.imago_storage.specs.Steps.{Call, shrink};
@@ -12,8 +12,9 @@ ghost use Rattle.imago_access.specs.Room.{Takes};
 ghost use Rattle.imago_access.specs.Changes.{Committed, Cancelled, Rewrites, ToZero};
 ghost use Rattle.imago_access.specs.Files as Files;
 ghost use Rattle.imago_access.specs.Files.{IsMild, SomeRose, ImageCause};
-ghost use Rattle.imago_access.specs.Going.{Went, LookedUnder};
-ghost use Rattle.imago_access.specs.Refusals.{change_refusal, barrier};
+ghost use Rattle.imago_access.specs.Going.{Looked, Went, LookedUnder};
+ghost use Rattle.imago_access.specs.Refusals.{change_refusal, barrier, LookCause};
+ghost use Rattle.imago_access.specs.Mappings.{IsRun, Looks};
 ghost use Rattle.imago_access.specs.Parts.{DeclinableCause, GrowthCause, ShrinkCause};
 ghost use Rattle.imago_access.specs.Spending.{IsMine, Spends, commit_refusal, GivenBack, IsForeignTo};
 ghost use Rattle.imago_access.specs.Stops.{KeepsStops, GivesSettled, GivesZero, KeepsStopsTo, GivesBelowPast, GivesPast};
@@ -159,6 +160,7 @@ impl<S: Storage> Raw<S> {
         ensures err { let d = ⟦<Raw<S> as FormatDriverInstance>⟧ in IfErr result (λ e. IsMild e → self.new ≡ self.old) }
         ensures at_once { let d = ⟦<Raw<S> as FormatDriverInstance>⟧ in (f : Fault) → change_refusal (unit_of_layer (d.layer self.old)) (d.layer self.old) offset length ≡ Some f → IsErrOf result f }
         ensures idle { length ≡ 0 → IsOk result }
+        ensures unasked { let d = ⟦<Raw<S> as FormatDriverInstance>⟧ in (length ≡ 0) ⊎ IsSome (change_refusal (unit_of_layer (d.layer self.old)) (d.layer self.old) offset length) → Files.Unasked d.image d.extras self.old self.new }
         ensures like { let d = ⟦<Raw<S> as FormatDriverInstance>⟧ in IsLike (d.layer self.old) (d.layer self.new) }
         ensures went { let d = ⟦<Raw<S> as FormatDriverInstance>⟧ in Went d.layer d.image d.extras d.safe d.lasts (IsOk result) (Files.IsWhole result) self.old self.new }
         ensures stops { let d = ⟦<Raw<S> as FormatDriverInstance>⟧ in d.safe self.old → (below : List Layer) → KeepsStops below (d.layer self.old) d.sound (GivesZero offset length) (d.image self.old) (d.image self.new) }
@@ -314,7 +316,19 @@ impl<S: Storage> FormatDriverInstance for Raw<S> {
         _alloc: Global,
         offset: u64,
         max_length: u64,
-    ) -> Result<(ShallowMapping, u64), Fault> {
+    ) -> Result<(ShallowMapping, u64), Fault>
+        ensures run { let d = ⟦<Raw<S> as FormatDriverInstance>⟧ in IfOk result (λ r. IsRun (d.layer self.old) offset max_length r.0 r.1) }
+        ensures looks { let d = ⟦<Raw<S> as FormatDriverInstance>⟧ in d.sees self.old → IfOk result (λ r. Looks (d.layer self.old) (d.stored self.new) offset max_length r.0 r.1) }
+        ensures idle { let d = ⟦<Raw<S> as FormatDriverInstance>⟧ in max_length ≡ 0 → barrier (d.layer self.old) ≡ None → IsOk result }
+        ensures barred { let d = ⟦<Raw<S> as FormatDriverInstance>⟧ in (f : Fault) → barrier (d.layer self.old) ≡ Some f → IsErrOf result f }
+        ensures unasked { let d = ⟦<Raw<S> as FormatDriverInstance>⟧ in (max_length ≡ 0) ⊎ IsSome (barrier (d.layer self.old)) → Files.Unasked d.image d.extras self.old self.new }
+        ensures looked { let d = ⟦<Raw<S> as FormatDriverInstance>⟧ in Looked d.layer d.image d.extras d.sees d.safe d.still d.lasts d.sound (IsOk result) (Files.IsWhole result) self.old self.new }
+        ensures began { let d = ⟦<Raw<S> as FormatDriverInstance>⟧ in OnOk result ((e : _) (call : Call) → d.began e call self.old → d.began e call self.new) }
+        ensures failed { let d = ⟦<Raw<S> as FormatDriverInstance>⟧ in IfErr result (ImageCause (d.image self.old ∷ d.extras self.old) (d.image self.new ∷ d.extras self.new)) }
+        ensures cause { let d = ⟦<Raw<S> as FormatDriverInstance>⟧ in d.sees self.old → IfErr result (LookCause (d.layer self.old) offset max_length (d.image self.old ∷ d.extras self.old) (d.image self.new ∷ d.extras self.new)) }
+        // All of the range that lies in the disk is one run.
+        ensures whole { offset < self.old.size → IfOk result (λ r. r.1 ≡ min max_length (self.old.size - offset)) }
+    {
         if offset >= self.size {
             return Ok((ShallowMapping::Eof, 0));
         }
@@ -366,6 +380,7 @@ impl<S: Storage> FormatDriverInstance for Raw<S> {
         ensures went { let d = ⟦<Raw<S> as FormatDriverInstance>⟧ in Went d.layer d.image d.extras d.safe d.lasts (IsOk result) (IsOk result × IsMine d.claim d.tag mapping.state (d.layer self.old)) self.old self.new }
         ensures back { let d = ⟦<Raw<S> as FormatDriverInstance>⟧ in IfErr result (λ e. IfSome e.1 (λ m. (m ≡ mapping) × (d.layer self.new ≡ d.layer self.old) × GivenBack d.tag mapping.state (d.layer self.old) e.0 × (d.safe self.old → d.safe self.new))) }
         ensures at_once { let d = ⟦<Raw<S> as FormatDriverInstance>⟧ in (f : Fault) → commit_refusal d.tag mapping.state (d.layer self.old) ≡ Some f → MatchResult result (λ _. ⊥) (λ e. (e.0 ≡ f) × IsSome e.1) }
+        ensures unasked { let d = ⟦<Raw<S> as FormatDriverInstance>⟧ in (mapping.state ≡ None) ⊎ IsSome (commit_refusal d.tag mapping.state (d.layer self.old)) → Files.Unasked d.image d.extras self.old self.new }
         ensures spent { let d = ⟦<Raw<S> as FormatDriverInstance>⟧ in IfErr result (λ e. e.1 ≡ None → IsSome mapping.state × IsTrue (d.layer self.new).failed × Spends d.claim d.tag mapping.state (d.layer self.old) (d.layer self.new) (IsFree (d.layer self.new) × (d.safe self.old → IsMild e.0 → ⊥))) }
         ensures size { let d = ⟦<Raw<S> as FormatDriverInstance>⟧ in (d.layer self.new).size ≡ (d.layer self.old).size }
         ensures room { let d = ⟦<Raw<S> as FormatDriverInstance>⟧ in IsTrue (d.layer self.old).fixed.keeps → d.safe self.old → IsMine d.claim d.tag mapping.state (d.layer self.old) → OnOk result (Takes d.vacant d.has_room d.zeroed (λ p. (d.layer self.old).held p ≡ loose) self.old self.new) }
@@ -497,6 +512,7 @@ impl<S: Storage> FormatDriverInstance for Raw<S> {
         ensures err { let d = ⟦<Raw<S> as FormatDriverInstance>⟧ in IsTrue (d.layer self.old).fixed.keeps → d.safe self.old → B.sees_under _below.old → IfErr result (λ e. IsMild e → Resizes.NotGrown (at (B.under _below.old)) (d.layer self.old) (d.layer self.new)) }
         ensures barred { let d = ⟦<Raw<S> as FormatDriverInstance>⟧ in (f : Fault) → barrier (d.layer self.old) ≡ Some f → IsErrOf result f }
         ensures read_only { let d = ⟦<Raw<S> as FormatDriverInstance>⟧ in barrier (d.layer self.old) ≡ None → (d.layer self.old).size < size → IsFalse (d.layer self.old).fixed.writable → IsErrOf result ReadOnly }
+        ensures unasked { let d = ⟦<Raw<S> as FormatDriverInstance>⟧ in (size ≤ (d.layer self.old).size) ⊎ (IsSome (barrier (d.layer self.old)) ⊎ IsFalse (d.layer self.old).fixed.writable) → Files.Unasked d.image d.extras self.old self.new × (_below.new ≡ _below.old) }
         ensures free { let d = ⟦<Raw<S> as FormatDriverInstance>⟧ in IsFree (d.layer self.new) }
         ensures went { let d = ⟦<Raw<S> as FormatDriverInstance>⟧ in Went d.layer d.image d.extras d.safe d.lasts (IsOk result) (Files.IsWhole result × B.sees_under _below.old) self.old self.new }
         ensures stops { let d = ⟦<Raw<S> as FormatDriverInstance>⟧ in IsTrue (d.layer self.old).fixed.keeps → d.safe self.old → B.sees_under _below.old → KeepsStopsTo (B.under _below.old) (d.layer self.old) d.sound (d.layer self.old).size (GivesPast (d.layer self.old).size) (d.image self.old) (d.image self.new) }
@@ -530,6 +546,7 @@ impl<S: Storage> FormatDriverInstance for Raw<S> {
         ensures err { let d = ⟦<Raw<S> as FormatDriverInstance>⟧ in IsTrue (d.layer self.old).fixed.keeps → d.safe self.old → IfErr result (λ e. IsMild e → NotShrunk (d.layer self.old) (d.layer self.new)) }
         ensures barred { let d = ⟦<Raw<S> as FormatDriverInstance>⟧ in (f : Fault) → barrier (d.layer self.old) ≡ Some f → IsErrOf result f }
         ensures read_only { let d = ⟦<Raw<S> as FormatDriverInstance>⟧ in barrier (d.layer self.old) ≡ None → size < (d.layer self.old).size → IsFalse (d.layer self.old).fixed.writable → IsErrOf result ReadOnly }
+        ensures unasked { let d = ⟦<Raw<S> as FormatDriverInstance>⟧ in ((d.layer self.old).size ≤ size) ⊎ (IsSome (barrier (d.layer self.old)) ⊎ IsFalse (d.layer self.old).fixed.writable) → Files.Unasked d.image d.extras self.old self.new }
         ensures went { let d = ⟦<Raw<S> as FormatDriverInstance>⟧ in Went d.layer d.image d.extras d.safe d.lasts (IsOk result) (Files.IsWhole result) self.old self.new }
         ensures free { let d = ⟦<Raw<S> as FormatDriverInstance>⟧ in IsFree (d.layer self.new) }
         ensures stops { let d = ⟦<Raw<S> as FormatDriverInstance>⟧ in IsTrue (d.layer self.old).fixed.keeps → d.safe self.old → (below : List Layer) → IsBacked below (d.layer self.old) → KeepsStopsTo below (d.layer self.old) d.sound size (GivesBelowPast below size) (d.image self.old) (d.image self.new) }

@@ -1,5 +1,5 @@
 // Discards that may leave parts of their range as they are.
-ghost use Rattle.std.specs.Prelude.{ℕ, ◌≡◌, ◌↔◌, ◌⊎◌, ◌<◌, ◌≤◌, ◌+◌, ◌^◌, ◌∷◌, List, IsTrue, length, map, IsOk, IfOk, IfErr, OnOk, IsErrOf, Some};
+ghost use Rattle.std.specs.Prelude.{ℕ, ◌≡◌, ◌↔◌, ◌⊎◌, ◌<◌, ◌≤◌, ◌+◌, ◌^◌, ◌∷◌, List, IsTrue, length, map, IsOk, IfOk, IfErr, OnOk, IsErrOf, IsSome, Some};
 ghost use Rattle.imago_storage.specs.Steps.{Call, Step, discard_to_any, discard_to_backing, done, IsIn};
 ghost use Rattle.imago_storage.specs.Causes.{PartlyDone};
 ghost use Rattle.imago_access.specs.Layer.{Layer, IsFree, IsLike};
@@ -74,6 +74,7 @@ fn discard_all<D: FormatDriverInstance>(
     requires free { IsFree (D.layer driver.old) }
     requires fits { offset + n < 2 ^ 64 }
     ensures idle { n ≡ 0 → IsOk result }
+    ensures untouched { n ≡ 0 → driver.new ≡ driver.old }
     ensures values { IsTrue (D.layer driver.old).fixed.keeps → D.safe driver.old → (below : List Layer) → IsBacked below (D.layer driver.old) → IsWhole result → IsBetween (GivesDiscarded discarding below offset n) below (D.layer driver.old) (D.layer driver.new) }
     ensures like { IsLike (D.layer driver.old) (D.layer driver.new) }
     ensures went { Went D.layer D.image D.extras D.safe D.lasts (IsOk result) (IsWhole result) driver.old driver.new }
@@ -110,6 +111,7 @@ impl<D: FormatDriverInstance> FormatAccess<D> {
         ensures err { IsIntactChain D.layer D.safe D.sees self.old → IfErr result (λ e. IsMild e → PartlyDone (below_of D.layer self.old) (discard_to_any offset length) (chain_disk D.layer self.old) (chain_disk D.layer self.new)) }
         ensures at_once { (f : Fault) → change_refusal (unit_of_chain (map D.layer (chain self.old))) (D.layer self.old.0) offset length ≡ Some f → IsErrOf result f }
         ensures idle { length ≡ 0 → barrier (D.layer self.old.0) ≡ None → IsOk result }
+        ensures untouched { (length ≡ 0) ⊎ IsSome (change_refusal (unit_of_chain (map D.layer (chain self.old))) (D.layer self.old.0) offset length) → self.new ≡ self.old }
         ensures like { IsLike (D.layer self.old.0) (D.layer self.new.0) }
         ensures ran { RanChain D.layer D.image D.extras D.sees D.safe D.still D.lasts D.sound (IsOk result) (IsWhole result) (GivesAny offset length) self.old self.new }
         ensures below { self.new.1 ≡ self.old.1 }
@@ -137,6 +139,7 @@ impl<D: FormatDriverInstance> FormatAccess<D> {
         ensures err { IsIntactChain D.layer D.safe D.sees self.old → IfErr result (λ e. IsMild e → PartlyDone (below_of D.layer self.old) (discard_to_backing offset length) (chain_disk D.layer self.old) (chain_disk D.layer self.new)) }
         ensures at_once { (f : Fault) → change_refusal (unit_of_chain (map D.layer (chain self.old))) (D.layer self.old.0) offset length ≡ Some f → IsErrOf result f }
         ensures idle { length ≡ 0 → barrier (D.layer self.old.0) ≡ None → IsOk result }
+        ensures untouched { (length ≡ 0) ⊎ IsSome (change_refusal (unit_of_chain (map D.layer (chain self.old))) (D.layer self.old.0) offset length) → self.new ≡ self.old }
         ensures like { IsLike (D.layer self.old.0) (D.layer self.new.0) }
         ensures ran { RanChain D.layer D.image D.extras D.sees D.safe D.still D.lasts D.sound (IsOk result) (IsWhole result) (GivesBelow (map D.layer self.old.1) offset length) self.old self.new }
         ensures below { self.new.1 ≡ self.old.1 }

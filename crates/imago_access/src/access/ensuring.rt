@@ -1,10 +1,10 @@
 // Runs that are mapped as part of the disk at once.
-ghost use Rattle.std.specs.Prelude.{◌≡◌, IsTrue, map, IsOk, IfOk, IfErr, IsErrOf, Some, None};
+ghost use Rattle.std.specs.Prelude.{◌≡◌, ◌⊎◌, IsTrue, map, IsOk, IfOk, IfErr, IsErrOf, IsSome, Some, None};
 ghost use Rattle.imago_storage.specs.Steps.{Step, Stays, ensure, run};
 ghost use Rattle.imago_access.specs.Layer.{IsFree, IsLike};
 ghost use Rattle.imago_access.specs.Chain.{unit_of_chain};
 ghost use Rattle.imago_access.specs.Layers.{chain};
-ghost use Rattle.imago_access.specs.Files.{IsWhole, IsMild, ImageCause, files_of};
+ghost use Rattle.imago_access.specs.Files.{IsWhole, IsMild, ImageCause, Unasked, files_of};
 ghost use Rattle.imago_access.specs.Mappings.{IsHomeRun};
 ghost use Rattle.imago_access.specs.Refusals.{barrier, change_refusal, ChangeCause};
 ghost use Rattle.imago_access.specs.Stops.{GivesAnnounced};
@@ -36,6 +36,7 @@ impl<D: FormatDriverInstance> FormatAccess<D> {
         ensures err { IsIntactChain D.layer D.safe D.sees self.old → IfErr result (λ e. IsMild e → Stays (chain_disk D.layer self.old) (chain_disk D.layer self.new)) }
         ensures at_once { (f : Fault) → change_refusal (unit_of_chain (map D.layer (chain self.old))) (D.layer self.old.0) offset length ≡ Some f → IsErrOf result f }
         ensures idle { length ≡ 0 → barrier (D.layer self.old.0) ≡ None → IsOk result }
+        ensures unasked { (length ≡ 0) ⊎ IsSome (change_refusal (unit_of_chain (map D.layer (chain self.old))) (D.layer self.old.0) offset length) → Unasked D.image D.extras self.old.0 self.new.0 × (self.new.1 ≡ self.old.1) }
         ensures like { IsLike (D.layer self.old.0) (D.layer self.new.0) }
         ensures ran { RanChain D.layer D.image D.extras D.sees D.safe D.still D.lasts D.sound (IsOk result) (IsWhole result) (GivesAnnounced overwrite offset length) self.old self.new }
         ensures failed { IfErr result (ImageCause (files_of D.image D.extras (chain self.old)) (files_of D.image D.extras (chain self.new))) }

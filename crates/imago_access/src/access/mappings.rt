@@ -6,7 +6,7 @@ ghost use Rattle.imago_storage.specs.declared.fault.Fault.TheVariants.{Foreign, 
 ghost use Rattle.imago_access.specs.Layer.{IsFree, IsLike};
 ghost use Rattle.imago_access.specs.Chain.{unit_of_chain};
 ghost use Rattle.imago_access.specs.Layers.{chain};
-ghost use Rattle.imago_access.specs.Files.{IsWhole, IsMild, ImageCause, files_of};
+ghost use Rattle.imago_access.specs.Files.{IsWhole, IsMild, ImageCause, Unasked, files_of};
 ghost use Rattle.imago_access.specs.Going.{Went};
 ghost use Rattle.imago_access.specs.Spending.{IsMine, is_own, Spends, commit_refusal, GivenBack, IsForeignTo};
 ghost use Rattle.imago_access.specs.Parts.{IsMappedAt};
@@ -45,6 +45,7 @@ impl<D: FormatDriverInstance> FormatAccess<D> {
         ensures err { IsIntactChain D.layer D.safe D.sees self.old → IfErr result (λ e. IsMild e → Stays (chain_disk D.layer self.old) (chain_disk D.layer self.new)) }
         ensures at_once { (f : Fault) → change_refusal (unit_of_chain (map D.layer (chain self.old))) (D.layer self.old.0) offset length ≡ Some f → IsErrOf result f }
         ensures idle { length ≡ 0 → barrier (D.layer self.old.0) ≡ None → IsOk result }
+        ensures unasked { (length ≡ 0) ⊎ IsSome (change_refusal (unit_of_chain (map D.layer (chain self.old))) (D.layer self.old.0) offset length) → Unasked D.image D.extras self.old.0 self.new.0 × (self.new.1 ≡ self.old.1) }
         ensures free { IsErr result → IsFree (D.layer self.new.0) }
         ensures ran { RanChain D.layer D.image D.extras D.sees D.safe D.still D.lasts D.sound (IsOk result) (IsWhole result) GivesNone self.old self.new }
         ensures failed { IfErr result (ImageCause (files_of D.image D.extras (chain self.old)) (files_of D.image D.extras (chain self.new))) }
@@ -71,6 +72,7 @@ impl<D: FormatDriverInstance> FormatAccess<D> {
         ensures home { IsIntactChain D.layer D.safe D.sees self.old → IsMine D.claim D.tag mapping.state (D.layer self.old.0) → OnOk result ((p : ℕ) (place : ℕ × ℕ) → (D.layer self.old.0).home p ≡ Some place → (D.layer self.new.0).home p ≡ Some place) }
         ensures back { IfErr result (λ e. IfSome e.1 (λ m. (m ≡ mapping) × (D.layer self.new.0 ≡ D.layer self.old.0) × GivenBack D.tag mapping.state (D.layer self.old.0) e.0 × (D.safe self.old.0 → D.safe self.new.0))) }
         ensures at_once { (f : Fault) → commit_refusal D.tag mapping.state (D.layer self.old.0) ≡ Some f → MatchResult result (λ _. ⊥) (λ e. (e.0 ≡ f) × IsSome e.1) }
+        ensures unasked { (mapping.state ≡ None) ⊎ IsSome (commit_refusal D.tag mapping.state (D.layer self.old.0)) → Unasked D.image D.extras self.old.0 self.new.0 }
         ensures spent { IfErr result (λ e. e.1 ≡ None → IsSome mapping.state × IsTrue (D.layer self.new.0).failed × Spends D.claim D.tag mapping.state (D.layer self.old.0) (D.layer self.new.0) (IsFree (D.layer self.new.0) × (D.safe self.old.0 → IsMild e.0 → ⊥))) }
         ensures free { IsMine D.claim D.tag mapping.state (D.layer self.old.0) → IsSome mapping.state → OnOk result (IsFree (D.layer self.new.0)) }
         ensures size { (D.layer self.new.0).size ≡ (D.layer self.old.0).size }
@@ -122,6 +124,7 @@ impl<D: FormatDriverInstance> FormatAccess<D> {
         ensures err { IsIntactChain D.layer D.safe D.sees self.old → IfErr result (λ e. IsMild e → D.layer self.new.0 ≡ D.layer self.old.0) }
         ensures at_once { (f : Fault) → change_refusal (unit_of_chain (map D.layer (chain self.old))) (D.layer self.old.0) guest (length bytes.now) ≡ Some f → IsErrOf result f }
         ensures idle { length bytes.now ≡ 0 → barrier (D.layer self.old.0) ≡ None → IsOk result }
+        ensures unasked { (length bytes.now ≡ 0) ⊎ IsSome (change_refusal (unit_of_chain (map D.layer (chain self.old))) (D.layer self.old.0) guest (length bytes.now)) → Unasked D.image D.extras self.old.0 self.new.0 }
         ensures like { IsLike (D.layer self.old.0) (D.layer self.new.0) }
         ensures ran { RanChain D.layer D.image D.extras D.sees D.safe D.still D.lasts D.sound (IsOk result) (IsWhole result) (GivesBytes guest bytes.now) self.old self.new }
         ensures below { self.new.1 ≡ self.old.1 }

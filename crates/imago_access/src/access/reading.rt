@@ -1,5 +1,5 @@
 // Reads and lookups, from the top layer downward.
-ghost use Rattle.std.specs.Prelude.{◌≡◌, ◌∷◌, ◌<◌, ◌≤◌, ◌+◌, ◌^◌, ℕ, List, length, slice_index, map, IsTrue, IsOk, IfOk, IfErr, OnOk, IsErrOf, Some, None};
+ghost use Rattle.std.specs.Prelude.{◌≡◌, ◌⊎◌, ◌∷◌, ◌<◌, ◌≤◌, ◌+◌, ◌^◌, ℕ, List, length, slice_index, map, IsTrue, IsOk, IfOk, IfErr, OnOk, IsErrOf, IsSome, Some, None};
 ghost use Rattle.imago_storage.specs.Disk.{Shows, byte};
 ghost use Rattle.imago_storage.specs.Through.{Overflows};
 ghost use Rattle.imago_storage.specs.Steps.{Step, read, bytes_read};
@@ -29,6 +29,7 @@ impl<D: FormatDriverInstance> FormatAccess<D> {
         ensures ok { Each D.sees (chain self.old) → OnOk result (Step (at (map D.layer self.old.1)) (disk_of (map D.layer self.old.1) (D.layer self.old.0)) (read offset (length buf.old)) (bytes_read buf.new) (disk_of (map D.layer self.new.1) (D.layer self.new.0))) }
         ensures at_once { (f : Fault) → look_refusal (unit_of_chain (map D.layer (chain self.old))) (D.layer self.old.0) offset (length buf.old) ≡ Some f → IsErrOf result f }
         ensures idle { length buf.old ≡ 0 → barrier (D.layer self.old.0) ≡ None → IsOk result }
+        ensures untouched { (length buf.old ≡ 0) ⊎ IsSome (look_refusal (unit_of_chain (map D.layer (chain self.old))) (D.layer self.old.0) offset (length buf.old)) → self.new ≡ self.old }
         ensures looked { Pairs (Looked D.layer D.image D.extras D.sees D.safe D.still D.lasts D.sound (IsOk result) (IsWhole result)) (chain self.old) (chain self.new) }
         ensures failed { IfErr result (ImageCause (files_of D.image D.extras (chain self.old)) (files_of D.image D.extras (chain self.new))) }
         ensures cause { Each D.sees (chain self.old) → IfErr result (ReadCause (map D.layer (chain self.old)) (at (map D.layer (chain self.old))) (unit_of_chain (map D.layer (chain self.old))) offset (length buf.old) (files_of D.image D.extras (chain self.old)) (files_of D.image D.extras (chain self.new))) }

@@ -1,12 +1,12 @@
 // Changes of the size of a disk.
-ghost use Rattle.std.specs.Prelude.{◌≡◌, ◌∷◌, ◌≢◌, ◌<◌, ◌≤◌, IsTrue, IsFalse, map, IsOk, IfErr, OnOk, IsErrOf, Some, None};
+ghost use Rattle.std.specs.Prelude.{◌≡◌, ◌⊎◌, ◌∷◌, ◌≢◌, ◌<◌, ◌≤◌, IsTrue, IsFalse, map, IsOk, IfErr, OnOk, IsErrOf, IsSome, Some, None};
 ghost use Rattle.imago_storage.specs.Steps.{Step, Stays, grow, shrink, done};
 ghost use Rattle.imago_storage.specs.declared.fault.Fault.{Fault};
 ghost use Rattle.imago_storage.specs.declared.fault.Fault.TheVariants.{ReadOnly};
 ghost use Rattle.imago_access.specs.Layer.{IsFree};
 ghost use Rattle.imago_access.specs.Chain.{Each};
 ghost use Rattle.imago_access.specs.Layers.{chain};
-ghost use Rattle.imago_access.specs.Files.{IsWhole, IsMild, ImageCause, files_of};
+ghost use Rattle.imago_access.specs.Files.{IsWhole, IsMild, ImageCause, Unasked, files_of};
 ghost use Rattle.imago_access.specs.Going.{Went, LookedUnder};
 ghost use Rattle.imago_access.specs.Parts.{GrowthCause, ShrinkCause};
 ghost use Rattle.imago_access.specs.Refusals.{barrier};
@@ -38,6 +38,7 @@ impl<D: FormatDriverInstance> FormatAccess<D> {
         ensures idle { size ≤ (D.layer self.old.0).size → barrier (D.layer self.old.0) ≡ None → IsOk result }
         ensures barred { (f : Fault) → barrier (D.layer self.old.0) ≡ Some f → IsErrOf result f }
         ensures read_only { barrier (D.layer self.old.0) ≡ None → (D.layer self.old.0).size < size → IsFalse (D.layer self.old.0).fixed.writable → IsErrOf result ReadOnly }
+        ensures unasked { (size ≤ (D.layer self.old.0).size) ⊎ (IsSome (barrier (D.layer self.old.0)) ⊎ IsFalse (D.layer self.old.0).fixed.writable) → Unasked D.image D.extras self.old.0 self.new.0 × (self.new.1 ≡ self.old.1) }
         ensures free { IsFree (D.layer self.new.0) }
         ensures went { Went D.layer D.image D.extras D.safe D.lasts (IsOk result) (IsWhole result × Each D.sees self.old.1) self.old.0 self.new.0 }
         ensures below { LookedUnder (map D.layer) (files_of D.image D.extras) (Each D.sees) (Each D.safe) (Each D.still) (Each D.lasts) (IsOk result) (IsWhole result) self.old.1 self.new.1 }
@@ -60,6 +61,7 @@ impl<D: FormatDriverInstance> FormatAccess<D> {
         ensures idle { (D.layer self.old.0).size ≤ size → barrier (D.layer self.old.0) ≡ None → IsOk result }
         ensures barred { (f : Fault) → barrier (D.layer self.old.0) ≡ Some f → IsErrOf result f }
         ensures read_only { barrier (D.layer self.old.0) ≡ None → size < (D.layer self.old.0).size → IsFalse (D.layer self.old.0).fixed.writable → IsErrOf result ReadOnly }
+        ensures unasked { ((D.layer self.old.0).size ≤ size) ⊎ (IsSome (barrier (D.layer self.old.0)) ⊎ IsFalse (D.layer self.old.0).fixed.writable) → Unasked D.image D.extras self.old.0 self.new.0 }
         ensures free { IsFree (D.layer self.new.0) }
         ensures went { Went D.layer D.image D.extras D.safe D.lasts (IsOk result) (IsWhole result) self.old.0 self.new.0 }
         ensures below { self.new.1 ≡ self.old.1 }
@@ -81,6 +83,7 @@ impl<D: FormatDriverInstance> FormatAccess<D> {
         ensures idle { size ≡ (D.layer self.old.0).size → barrier (D.layer self.old.0) ≡ None → IsOk result }
         ensures barred { (f : Fault) → barrier (D.layer self.old.0) ≡ Some f → IsErrOf result f }
         ensures read_only { barrier (D.layer self.old.0) ≡ None → size ≢ (D.layer self.old.0).size → IsFalse (D.layer self.old.0).fixed.writable → IsErrOf result ReadOnly }
+        ensures unasked { (size ≡ (D.layer self.old.0).size) ⊎ (IsSome (barrier (D.layer self.old.0)) ⊎ IsFalse (D.layer self.old.0).fixed.writable) → Unasked D.image D.extras self.old.0 self.new.0 × (self.new.1 ≡ self.old.1) }
         ensures free { IsFree (D.layer self.new.0) }
         ensures went { Went D.layer D.image D.extras D.safe D.lasts (IsOk result) (IsWhole result × Each D.sees self.old.1) self.old.0 self.new.0 }
         ensures below { LookedUnder (map D.layer) (files_of D.image D.extras) (Each D.sees) (Each D.safe) (Each D.still) (Each D.lasts) (IsOk result) (IsWhole result) self.old.1 self.new.1 }

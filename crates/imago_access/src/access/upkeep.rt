@@ -1,11 +1,11 @@
 // Calls that keep an image and its files in step.
-ghost use Rattle.std.specs.Prelude.{◌≡◌, ◌∷◌, IsTrue, map, IsOk, IfErr, OnOk, IsErrOf, Some};
+ghost use Rattle.std.specs.Prelude.{◌≡◌, ◌∷◌, IsTrue, map, IsOk, IfErr, OnOk, IsErrOf, IsSome, Some};
 ghost use Rattle.imago_storage.specs.Steps.{Step, flush, sync, done};
 ghost use Rattle.imago_storage.specs.declared.fault.Fault.{Fault};
 ghost use Rattle.imago_access.specs.Layer.{IsFree, IsLike};
 ghost use Rattle.imago_access.specs.Chain.{Each, EndsAt};
 ghost use Rattle.imago_access.specs.Layers.{chain, layers};
-ghost use Rattle.imago_access.specs.Files.{Pairs, IsKept, IsStale, ImageCause, files_of};
+ghost use Rattle.imago_access.specs.Files.{Pairs, IsKept, IsStale, ImageCause, Unasked, files_of};
 ghost use Rattle.imago_access.specs.Going.{Went};
 ghost use Rattle.imago_access.specs.Parts.{PlainCause};
 ghost use Rattle.imago_access.specs.Refusals.{barrier, SomeFailed, InvalidateCause};
@@ -28,6 +28,7 @@ impl<D: FormatDriverInstance> FormatAccess<D> {
         ensures still { OnOk result (D.still self.new.0) }
         ensures written { IsIntactChain D.layer D.safe D.sees self.old → IsFree (D.layer self.old.0) → OnOk result (IsMeant (D.layer self.new.0) (D.image self.new.0).bytes) }
         ensures barred { (f : Fault) → barrier (D.layer self.old.0) ≡ Some f → IsErrOf result f }
+        ensures unasked { IsSome (barrier (D.layer self.old.0)) → Unasked D.image D.extras self.old.0 self.new.0 }
         ensures like { IsLike (D.layer self.old.0) (D.layer self.new.0) }
         ensures ran { RanChain D.layer D.image D.extras D.sees D.safe D.still D.lasts D.sound (IsOk result) (IsOk result) GivesNone self.old self.new }
         ensures below { self.new.1 ≡ self.old.1 }
@@ -46,6 +47,7 @@ impl<D: FormatDriverInstance> FormatAccess<D> {
         ensures kept { Pairs IsKept (D.image self.old.0 ∷ D.extras self.old.0) (D.image self.new.0 ∷ D.extras self.new.0) }
         ensures still { D.still self.old.0 → D.still self.new.0 }
         ensures barred { (f : Fault) → barrier (D.layer self.old.0) ≡ Some f → IsErrOf result f }
+        ensures unasked { IsSome (barrier (D.layer self.old.0)) → Unasked D.image D.extras self.old.0 self.new.0 }
         ensures like { IsLike (D.layer self.old.0) (D.layer self.new.0) }
         ensures ran { RanChain D.layer D.image D.extras D.sees D.safe D.still D.lasts D.sound (IsOk result) (IsOk result) GivesNone self.old self.new }
         ensures below { self.new.1 ≡ self.old.1 }
@@ -68,6 +70,7 @@ impl<D: FormatDriverInstance> FormatAccess<D> {
         ensures kept { Pairs IsKept (files_of D.image D.extras (chain self.old)) (files_of D.image D.extras (chain self.new)) }
         ensures still { OnOk result (Each D.still (chain self.new)) }
         ensures barred { (f : Fault) → barrier (D.layer self.old.0) ≡ Some f → IsErrOf result f }
+        ensures unasked { IsSome (barrier (D.layer self.old.0)) → Unasked D.image D.extras self.old.0 self.new.0 × (self.new.1 ≡ self.old.1) }
         ensures went { Pairs (Went D.layer D.image D.extras D.safe D.lasts (IsOk result) (IsOk result)) (chain self.old) (chain self.new) }
         ensures free { Each (λ d. IsFree (D.layer d)) (chain self.new) }
         ensures downward { IfErr result (λ _. EndsAt D.still (chain self.old) (chain self.new)) }
@@ -90,6 +93,7 @@ impl<D: FormatDriverInstance> FormatAccess<D> {
         ensures kept { Pairs IsKept (files_of D.image D.extras (driver.old ∷ layers below.old)) (files_of D.image D.extras (driver.new ∷ layers below.new)) }
         ensures still { OnOk result (Each D.still (driver.new ∷ layers below.new)) }
         ensures barred { (f : Fault) → barrier (D.layer driver.old) ≡ Some f → IsErrOf result f }
+        ensures unasked { IsSome (barrier (D.layer driver.old)) → Unasked D.image D.extras driver.old driver.new × (layers below.new ≡ layers below.old) }
         ensures went { Pairs (Went D.layer D.image D.extras D.safe D.lasts (IsOk result) (IsOk result)) (driver.old ∷ layers below.old) (driver.new ∷ layers below.new) }
         ensures free { Each (λ d. IsFree (D.layer d)) (driver.new ∷ layers below.new) }
         ensures downward { IfErr result (λ _. EndsAt D.still (driver.old ∷ layers below.old) (driver.new ∷ layers below.new)) }

@@ -1,5 +1,5 @@
 // Writes, through mappings that are prepared and committed run by run.
-ghost use Rattle.std.specs.Prelude.{⊤, ◌≡◌, ◌<◌, ◌≤◌, ◌+◌, ◌∷◌, ◌++◌, ℕ, List, IsTrue, true, length, slice_index, map, IsOk, IfOk, IfErr, OnOk, IsErr, IsErrOf, Some, None};
+ghost use Rattle.std.specs.Prelude.{⊤, ◌≡◌, ◌⊎◌, ◌<◌, ◌≤◌, ◌+◌, ◌∷◌, ◌++◌, ℕ, List, IsTrue, true, length, slice_index, map, IsOk, IfOk, IfErr, OnOk, IsErr, IsErrOf, IsSome, Some, None};
 ghost use Rattle.imago_storage.specs.State.{StorageState};
 ghost use Rattle.imago_storage.specs.Disk.{byte};
 ghost use Rattle.imago_storage.specs.Through.{Overflows};
@@ -9,7 +9,7 @@ ghost use Rattle.imago_access.specs.Layer.{Layer, loose, IsFree, IsLike, unit_of
 ghost use Rattle.imago_access.specs.Room.{IsApart, IsUncutAt, Takes};
 ghost use Rattle.imago_access.specs.Chain.{at, unit_of_chain};
 ghost use Rattle.imago_access.specs.Layers.{chain};
-ghost use Rattle.imago_access.specs.Files.{IsWhole, IsMild, ImageCause, files_of};
+ghost use Rattle.imago_access.specs.Files.{IsWhole, IsMild, ImageCause, Unasked, files_of};
 ghost use Rattle.imago_access.specs.Going.{Went};
 ghost use Rattle.imago_access.specs.Changes.{Committed, Cancelled};
 ghost use Rattle.imago_access.specs.Spending.{IsMine, Spends};
@@ -55,6 +55,7 @@ pub(crate) fn settle<D: FormatDriverInstance>(
     ensures err { D.safe driver.old → IfErr result (λ e. IsMild e → Spends D.claim D.tag mapping.state (D.layer driver.old) (D.layer driver.new) (Cancelled (D.layer driver.old) (D.layer driver.new))) }
     ensures free { (mapping.state ≡ None → IsFree (D.layer driver.old)) → IsFree (D.layer driver.new) }
     ensures idle { mapping.state ≡ None → barrier (D.layer driver.old) ≡ None → IsOk result }
+    ensures unasked { mapping.state ≡ None → Unasked D.image D.extras driver.old driver.new }
     ensures size { (D.layer driver.new).size ≡ (D.layer driver.old).size }
     ensures room { IsTrue (D.layer driver.old).fixed.keeps → D.safe driver.old → IsWhole result → Takes D.vacant D.has_room D.zeroed (λ p. (D.layer driver.old).held p ≡ loose) driver.old driver.new }
     ensures went { Went D.layer D.image D.extras D.safe D.lasts (IsOk result) (IsWhole result) driver.old driver.new }
@@ -128,6 +129,7 @@ pub(crate) fn write_all<D: FormatDriverInstance, B: ReadBelow>(
     requires inside { 0 < length bytes.now → offset + length bytes.now ≤ (D.layer driver.old).size }
     ensures shown { IsIntact (B.under below.old) (D.layer driver.old) (D.safe driver.old) (B.sees_under below.old) → OnOk result ((i : ℕ) → i < length bytes.now → at (D.layer driver.new ∷ B.under below.old) (offset + i) ≡ byte (slice_index bytes.now i)) }
     ensures idle { length bytes.now ≡ 0 → IsOk result }
+    ensures untouched { length bytes.now ≡ 0 → (driver.new ≡ driver.old) × (below.new ≡ below.old) }
     ensures free { IsFree (D.layer driver.new) }
     ensures room { IsIntact (B.under below.old) (D.layer driver.old) (D.safe driver.old) (B.sees_under below.old) → IsWhole result → Takes D.vacant D.has_room D.zeroed (IsApart (D.layer driver.old).fixed.unit offset (length bytes.now)) driver.old driver.new }
     ensures ran { Ran D.layer D.image D.extras D.safe D.lasts B.under B.files_under B.sees_under B.safe_under B.still_under B.lasts_under D.sound (IsOk result) (IsWhole result) (GivesBytes offset bytes.now) driver.old driver.new below.old below.new }
@@ -184,6 +186,7 @@ impl<D: FormatDriverInstance> FormatAccess<D> {
         ensures err { IsIntactChain D.layer D.safe D.sees self.old → IfErr result (λ e. IsMild e → PartlyDone (below_of D.layer self.old) (write offset bytes.now) (chain_disk D.layer self.old) (chain_disk D.layer self.new)) }
         ensures at_once { (f : Fault) → change_refusal (unit_of_chain (map D.layer (chain self.old))) (D.layer self.old.0) offset (length bytes.now) ≡ Some f → IsErrOf result f }
         ensures idle { length bytes.now ≡ 0 → barrier (D.layer self.old.0) ≡ None → IsOk result }
+        ensures untouched { (length bytes.now ≡ 0) ⊎ IsSome (change_refusal (unit_of_chain (map D.layer (chain self.old))) (D.layer self.old.0) offset (length bytes.now)) → self.new ≡ self.old }
         ensures like { IsLike (D.layer self.old.0) (D.layer self.new.0) }
         ensures ran { RanChain D.layer D.image D.extras D.sees D.safe D.still D.lasts D.sound (IsOk result) (IsWhole result) (GivesBytes offset bytes.now) self.old self.new }
         ensures room { IsIntactChain D.layer D.safe D.sees self.old → IsWhole result → Takes D.vacant D.has_room D.zeroed (IsApart (D.layer self.old.0).fixed.unit offset (length bytes.now)) self.old.0 self.new.0 }

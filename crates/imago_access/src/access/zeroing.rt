@@ -1,5 +1,5 @@
 // Zeroing of ranges: by the driver where it can, and else by writing zeroes.
-ghost use Rattle.std.specs.Prelude.{⊤, ◌≡◌, ◌⊎◌, ◌<◌, ◌≤◌, ◌+◌, ◌-◌, ◌^◌, ◌∷◌, ◌++◌, ℕ, List, IsTrue, true, length, slice_index, map, IsOk, IfOk, IfErr, OnOk, IsErrOf, Some, replicate};
+ghost use Rattle.std.specs.Prelude.{⊤, ◌≡◌, ◌⊎◌, ◌<◌, ◌≤◌, ◌+◌, ◌-◌, ◌^◌, ◌∷◌, ◌++◌, ℕ, List, IsTrue, true, length, slice_index, map, IsOk, IfOk, IfErr, OnOk, IsErrOf, IsSome, Some, replicate};
 ghost use Rattle.imago_storage.specs.Disk.{byte};
 ghost use Rattle.imago_storage.specs.Steps.{Call, Step, write_zeroes, discard_to_zero, done, IsIn, IsOut};
 ghost use Rattle.imago_storage.specs.Causes.{PartlyDone};
@@ -257,6 +257,7 @@ fn zero_all<D: FormatDriverInstance, B: ReadBelow>(
     requires fits { offset + n < 2 ^ 64 }
     requires inside { 0 < n → offset + n ≤ (D.layer driver.old).size }
     ensures idle { n ≡ 0 → IsOk result }
+    ensures untouched { n ≡ 0 → (driver.new ≡ driver.old) × (below.new ≡ below.old) }
     ensures shown { IsIntact (B.under below.old) (D.layer driver.old) (D.safe driver.old) (B.sees_under below.old) → OnOk result ((p : ℕ) → IsIn offset n p → at (D.layer driver.new ∷ B.under below.old) p ≡ byte 0) }
     ensures free { IsFree (D.layer driver.new) }
     ensures room { IsIntact (B.under below.old) (D.layer driver.old) (D.safe driver.old) (B.sees_under below.old) → IsWhole result → LeavesRoom D.vacant D.has_room D.zeroed (λ p. (zeroing ≡ zeroing_is.Keep) ⊎ IsOut offset n p) (IsApart (D.layer driver.old).fixed.unit offset n) driver.old driver.new }
@@ -290,6 +291,7 @@ impl<D: FormatDriverInstance> FormatAccess<D> {
         ensures err { IsIntactChain D.layer D.safe D.sees self.old → IfErr result (λ e. IsMild e → PartlyDone (below_of D.layer self.old) (write_zeroes offset length) (chain_disk D.layer self.old) (chain_disk D.layer self.new)) }
         ensures at_once { (f : Fault) → change_refusal (unit_of_chain (map D.layer (chain self.old))) (D.layer self.old.0) offset length ≡ Some f → IsErrOf result f }
         ensures idle { length ≡ 0 → barrier (D.layer self.old.0) ≡ None → IsOk result }
+        ensures untouched { (length ≡ 0) ⊎ IsSome (change_refusal (unit_of_chain (map D.layer (chain self.old))) (D.layer self.old.0) offset length) → self.new ≡ self.old }
         ensures like { IsLike (D.layer self.old.0) (D.layer self.new.0) }
         ensures ran { RanChain D.layer D.image D.extras D.sees D.safe D.still D.lasts D.sound (IsOk result) (IsWhole result) (GivesZero offset length) self.old self.new }
         ensures room { IsIntactChain D.layer D.safe D.sees self.old → IsWhole result → Takes D.vacant D.has_room D.zeroed (IsApart (D.layer self.old.0).fixed.unit offset length) self.old.0 self.new.0 }
@@ -318,6 +320,7 @@ impl<D: FormatDriverInstance> FormatAccess<D> {
         ensures err { IsIntactChain D.layer D.safe D.sees self.old → IfErr result (λ e. IsMild e → PartlyDone (below_of D.layer self.old) (discard_to_zero offset length) (chain_disk D.layer self.old) (chain_disk D.layer self.new)) }
         ensures at_once { (f : Fault) → change_refusal (unit_of_chain (map D.layer (chain self.old))) (D.layer self.old.0) offset length ≡ Some f → IsErrOf result f }
         ensures idle { length ≡ 0 → barrier (D.layer self.old.0) ≡ None → IsOk result }
+        ensures untouched { (length ≡ 0) ⊎ IsSome (change_refusal (unit_of_chain (map D.layer (chain self.old))) (D.layer self.old.0) offset length) → self.new ≡ self.old }
         ensures like { IsLike (D.layer self.old.0) (D.layer self.new.0) }
         ensures ran { RanChain D.layer D.image D.extras D.sees D.safe D.still D.lasts D.sound (IsOk result) (IsWhole result) (GivesZero offset length) self.old self.new }
         ensures room { IsIntactChain D.layer D.safe D.sees self.old → IsWhole result → LeavesRoom D.vacant D.has_room D.zeroed (IsOut offset length) (IsApart (D.layer self.old.0).fixed.unit offset length) self.old.0 self.new.0 }

@@ -1,5 +1,5 @@
 // A driver of two kinds: raw images, and windows onto the layer below, which hold no byte.
-ghost use Rattle.std.specs.Prelude.{◌≡◌, ◌+◌, ◌≤◌, ◌<◌, ◌∷◌, [], ⊤, refl, ℕ, List, length, slice_index, OnOk, IfOk, IfErr, IfSome, IsSome, IsTrue, IsOk, IsErr, IsErrOf, MatchResult, None, Some, true, false};
+ghost use Rattle.std.specs.Prelude.{◌≡◌, ◌⊎◌, ◌+◌, ◌≤◌, ◌<◌, ◌∷◌, [], ⊤, refl, ℕ, List, length, slice_index, OnOk, IfOk, IfErr, IfSome, IsSome, IsTrue, IsOk, IsErr, IsErrOf, MatchResult, None, Some, true, false};
 ghost use Rattle.std.proofs.Common.{inl, inr, arith};
 ghost use Rattle.imago_storage.specs.State.{StorageState, IsAlignment};
 ghost use Rattle.imago_storage.specs.Steps.{Call};
@@ -9,7 +9,7 @@ ghost use Rattle.imago_access.specs.Layer.{Layer, loose, IsFree};
 ghost use Rattle.imago_access.specs.Room.{Takes};
 ghost use Rattle.imago_access.specs.Layers.{chain};
 ghost use Rattle.imago_access.specs.Changes.{Committed, Cancelled};
-ghost use Rattle.imago_access.specs.Files.{IsMild, ImageCause};
+ghost use Rattle.imago_access.specs.Files.{IsMild, ImageCause, Unasked};
 ghost use Rattle.imago_access.specs.Going.{Went};
 ghost use Rattle.imago_access.specs.Refusals.{change_refusal};
 ghost use Rattle.imago_access.specs.Parts.{PartCause, DeclinableCause};
@@ -271,6 +271,7 @@ impl<S: Storage> FormatDriverInstance for Image<S> {
         ensures ok { let d = ⟦<Image<S> as FormatDriverInstance>⟧ in OnOk result (Spends d.claim d.tag mapping.state (d.layer self.old) (d.layer self.new) (IsFree (d.layer self.new) × (IsTrue (d.layer self.old).fixed.keeps → d.safe self.old → Committed (d.layer self.old) (d.layer self.new)))) }
         ensures went { let d = ⟦<Image<S> as FormatDriverInstance>⟧ in Went d.layer d.image d.extras d.safe d.lasts (IsOk result) (IsOk result × IsMine d.claim d.tag mapping.state (d.layer self.old)) self.old self.new }
         ensures at_once { let d = ⟦<Image<S> as FormatDriverInstance>⟧ in (f : Fault) → commit_refusal d.tag mapping.state (d.layer self.old) ≡ Some f → MatchResult result (λ _. ⊥) (λ e. (e.0 ≡ f) × IsSome e.1) }
+        ensures unasked { let d = ⟦<Image<S> as FormatDriverInstance>⟧ in (mapping.state ≡ None) ⊎ IsSome (commit_refusal d.tag mapping.state (d.layer self.old)) → Unasked d.image d.extras self.old self.new }
         ensures back { let d = ⟦<Image<S> as FormatDriverInstance>⟧ in IfErr result (λ e. IfSome e.1 (λ m. (m ≡ mapping) × (d.layer self.new ≡ d.layer self.old) × GivenBack d.tag mapping.state (d.layer self.old) e.0 × (d.safe self.old → d.safe self.new))) }
         ensures spent { let d = ⟦<Image<S> as FormatDriverInstance>⟧ in IfErr result (λ e. e.1 ≡ None → IsSome mapping.state × IsTrue (d.layer self.new).failed × Spends d.claim d.tag mapping.state (d.layer self.old) (d.layer self.new) (IsFree (d.layer self.new) × (d.safe self.old → IsMild e.0 → ⊥))) }
         ensures size { let d = ⟦<Image<S> as FormatDriverInstance>⟧ in (d.layer self.new).size ≡ (d.layer self.old).size }

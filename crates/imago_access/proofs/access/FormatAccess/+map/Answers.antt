@@ -1,12 +1,13 @@
 use Rattle.std.proofs.Common.{rules, arith, sym, subst, ◌≡◌, ◌∷◌, map, true, false}
-use Rattle.std.specs.Prelude.{⊤}
+use Rattle.std.specs.Prelude.{⊤, IsOk}
 use Rattle.imago_access.specs.Chain.{at}
 use Rattle.imago_access.specs.Layers.{layers}
-use Rattle.imago_access.specs.Files.{IsMild, files_of}
+use Rattle.imago_access.specs.Files.{IsMild, IsWhole, files_of}
 use Rattle.imago_access.specs.Mappings.{NamesHome, DeepNames, stored_at, lower}
 use Rattle.imago_access.specs.declared.mapping.Mapping.{Mapping}
-use Rattle.imago_access.proofs.Looking.{all_looked_same}
+use Rattle.imago_access.proofs.Looking.{all_looked_same, chain_same}
 use Rattle.imago_access.proofs.ReadCauses.{indirect_free}
+use Rattle.imago_access.proofs.LookedUp.{deep_step}
 use Rattle.imago_access.proofs.Deeper.{names_lower, writable_here, run_inside, indirect_run, indirect_writable, deep_look_top, deep_look_below}
 use Rattle.imago_access.proofs.ImageCauses.{failed_left, failed_right}
 use Rattle.imago_access.proofs.access.FormatAccess.+map.Goals as goal
@@ -71,3 +72,10 @@ map_part-returns-in-Err-map_under-clause-cause g t c = λ see. let d = g.D.Forma
     let run = indirect_run (d.layer c.args.driver.now) c.args.offset c.args.max_length n c.in-Indirect.offset c.in-Indirect.writable (c.in-Ok.run').0 c.in-Indirect.is c.in-Ok.ensures.run in
     let free = indirect_free (d.layer c.args.driver.now) (d.stored c.get_mapping.new.self) c.args.offset c.args.max_length (c.in-Ok.run').0 n looks c.in-Indirect.offset c.in-Indirect.writable c.in-Indirect.is in
     deep_look_below (d.layer c.args.driver.now) (map d.layer (layers c.args.below.now)) c.args.offset n c.args.max_length (d.image c.args.driver.now ∷ d.extras c.args.driver.now) (d.image c.get_mapping.new.self ∷ d.extras c.get_mapping.new.self) (files_of d.image d.extras (layers c.args.below.now)) (files_of d.image d.extras (layers c.map_under.new.below)) c.in-Err-map_under.fault (c.in-Err-map_under.ensures.cause see.1) free run.2 run.1 c.in-Ok.ensures.looked.later
+
+pub get_mapping-returns-clause-ok : goal.get_mapping-returns-clause-ok
+get_mapping-returns-clause-ok g t c = let d = g.D.FormatDriverInstance in
+    let below = layers c.self.inside.below in let after = layers c.map_part.new.below in let looked = c.map_part.ensures.looked in
+    rw (← c.self.view_is) (λ few see. deep_step (d.layer c.self.inside.driver) (map d.layer below) (stored_at d.stored (c.map_part.new.driver ∷ after)) c.args.offset c.args.max_length (d.layer c.map_part.new.driver) (map d.layer after) c.map_part.result
+    c.map_part.ensures.run (c.map_part.ensures.names few see)
+    (λ whole. ((looked.0.stays whole see.0).0, chain_same d.layer d.image d.extras d.sees d.safe d.still d.lasts d.sound (IsOk c.map_part.result) (IsWhole c.map_part.result) below after whole see.1 looked.1)))

@@ -181,3 +181,12 @@ returns-clause-ran g c = let d = g.D.FormatDriverInstance in
     (ran_ensured d.layer d.image d.extras d.safe d.lasts (λ b. map d.layer (layers b)) (λ b. files_of d.image d.extras (layers b)) (λ b. Each d.sees (layers b)) (λ b. Each d.safe (layers b)) (λ b. Each d.still (layers b)) (λ b. Each d.lasts (layers b)) d.sound (true ≡ true) ⊤ a0 a1 a2 x0 x1 c.args.offset c.args.length c.args.overwrite m.storage m.offset m.length claim c.in-Ok.ensures.run.0 (λ i. c.in-Ok.ensures.ok i.keeps i.is_safe i.is_seen)
     (ran_mapped d.layer d.image d.extras d.safe d.lasts (λ b. map d.layer (layers b)) (λ b. files_of d.image d.extras (layers b)) (λ b. Each d.sees (layers b)) (λ b. Each d.safe (layers b)) (λ b. Each d.still (layers b)) (λ b. Each d.lasts (layers b)) d.sound d.claim m.state a0 a1 x0 x1 c.args.offset c.args.length c.args.overwrite m.storage m.offset m.length (laws.free_loose a0 free) c.in-Ok.ensures.size c.in-Ok.ensures.went c.in-Ok.ensures.below c.in-Ok.ensures.ok c.in-Ok.ensures.stops)
     (ran_settled d.layer d.image d.extras d.safe d.lasts (λ b. map d.layer (layers b)) (λ b. files_of d.image d.extras (layers b)) (λ b. Each d.sees (layers b)) (λ b. Each d.safe (layers b)) (λ b. Each d.still (layers b)) (λ b. Each d.lasts (layers b)) d.sound d.claim d.tag m.state (true ≡ true) ⊤ a1 a2 x1 laws.free_loose s.size s.went c.in-Ok.ensures.mine c.in-Ok.ensures.stateless (s.free c.in-Ok.ensures.stateless) (λ w keeps safe. spends_more d.claim d.tag m.state (d.layer a1) (d.layer a2) (IsTrue (d.layer a1).fixed.keeps → d.safe a1 → Committed (d.layer a1) (d.layer a2)) (Committed (d.layer a1) (d.layer a2)) (λ h. h keeps safe) s.ok) s.stops)))
+
+pub returns-clause-unasked : goal.returns-clause-unasked
+returns-clause-unasked g c = λ how.
+    let calm = c.in_ok-check_change.ensures.ok in
+    let empty : c.args.length ≡ 0 = elim how [ inl none ↦ none | inr some ↦ absurd (grind (arith, some, calm)) ] in
+    let first = c.in-Ok.ensures.unasked (inl empty) in
+    let state : c.in-Ok.prepared.state ≡ None = ap (λ m. m.state) (c.in-Ok.ensures.empty empty).0 in
+    let second = c.in_default.ensures.unasked state in
+    rw (← c.self.view_is) ((second.0 ∙ first.0.0, second.1 ∙ first.0.1), ap layers first.1)

@@ -17,6 +17,7 @@ use Rattle.imago_access.proofs.access.discarding.discard_all.Goals as goal
 pub loop-at-init : goal.loop-at-init
 loop-at-init g c = let d = g.D.FormatDriverInstance in record {
   from = omega arith;
+  untouched = λ none. refl;
   like = record { fixed = refl; size = refl; unspent = refl };
   ran = λ below. ran_same {B = List Layer} d.layer d.image d.extras d.safe d.lasts (λ x. x) (λ x. []) (λ x. ⊤) (λ x. ⊤) (λ x. ⊤) (λ x. ⊤) d.sound ⊤ ⊤ (GivesDiscarded c.args.discarding below c.args.offset c.args.n) c.args.driver.now below;
   room = λ keeps safe. room_same d.vacant d.has_room d.zeroed (IsOut c.args.offset c.args.n) (λ _. ⊤) c.args.driver.now;
@@ -33,6 +34,7 @@ loop-at-preserved g c = let d = g.D.FormatDriverInstance in
     let safe_on : d.safe first → d.safe mid = (l.ran []).went.safely (tt, tt) in
     record {
       from = omega (arith, l.from, done.part.0);
+      untouched = λ none. absurd (omega (arith, none, l.from));
       like = like_both (d.layer c.args.driver.now) (d.layer c.loop-at.driver) (d.layer c.discard_part.new.driver) l.like done.like;
       ran = λ below. then_discarded d.layer d.image d.extras d.safe d.lasts d.sound g.met.D.FormatDriverInstance.free_loose ⊤ ⊤ c.args.discarding below c.args.offset c.args.n c.loop-at.at (c.args.offset + c.args.n - c.loop-at.at) c.args.driver.now c.loop-at.driver c.discard_part.new.driver
           l.from (omega (arith, l.from)) (l.like.unspent ∙ c.requires.free) (l.ran below) done.like done.went done.values done.stops;
@@ -56,6 +58,7 @@ returns-in-Ok-2 g c = let d = g.D.FormatDriverInstance in
     let safe_on : d.safe first → d.safe mid = (l.ran []).went.safely (tt, tt) in
     record {
       idle = λ none. refl;
+      untouched = λ none. absurd (omega (arith, none, l.from));
       values = λ keeps safe below backed whole. (ran below).values whole (intact_alone d.layer d.image d.extras d.safe d.lasts d.sound g.met.D.FormatDriverInstance.free_loose below c.args.driver.now c.requires.free keeps safe backed);
       like = like_both (d.layer c.args.driver.now) (d.layer c.loop-at.driver) (d.layer c.discard_part.new.driver) l.like done.like;
       went = went_weaker d.layer d.image d.extras d.safe d.lasts ⊤ ⊤ (true ≡ true) ⊤ c.args.driver.now c.discard_part.new.driver (λ x. tt) (λ x. x) (went_alone d.layer d.image d.extras d.safe d.lasts d.sound g.met.D.FormatDriverInstance.free_loose ⊤ ⊤ (GivesDiscarded c.args.discarding [] c.args.offset c.args.n) [] c.args.driver.now c.discard_part.new.driver (ran []));
@@ -83,6 +86,7 @@ returns-in-Err g c = let d = g.D.FormatDriverInstance in
     let safe_on : d.safe first → d.safe mid = (l.ran []).went.safely (tt, tt) in
     record {
       idle = λ none. refl;
+      untouched = λ none. absurd (omega (arith, none, l.from));
       values = λ keeps safe below backed whole. (ran below).values whole (intact_alone d.layer d.image d.extras d.safe d.lasts d.sound g.met.D.FormatDriverInstance.free_loose below c.args.driver.now c.requires.free keeps safe backed);
       like = like_both (d.layer c.args.driver.now) (d.layer c.loop-at.driver) (d.layer c.discard_part.new.driver) l.like done.like;
       went = went_weaker d.layer d.image d.extras d.safe d.lasts ⊤ ⊤ (true ≡ true) ⊤ c.args.driver.now c.discard_part.new.driver (λ x. tt) (λ x. x) (went_alone d.layer d.image d.extras d.safe d.lasts d.sound g.met.D.FormatDriverInstance.free_loose ⊤ ⊤ (GivesDiscarded c.args.discarding [] c.args.offset c.args.n) [] c.args.driver.now c.discard_part.new.driver (ran []));
@@ -105,6 +109,7 @@ returns-in-Err-2 g c = let d = g.D.FormatDriverInstance in
     let safe_on : d.safe first → d.safe mid = (l.ran []).went.safely (tt, tt) in
     record {
       idle = λ none. absurd (omega (arith, none, l.from));
+      untouched = λ none. absurd (omega (arith, none, l.from));
       values = λ keeps safe below backed whole. (ran below).values whole (intact_alone d.layer d.image d.extras d.safe d.lasts d.sound g.met.D.FormatDriverInstance.free_loose below c.args.driver.now c.requires.free keeps safe backed);
       like = like_both (d.layer c.args.driver.now) (d.layer c.loop-at.driver) (d.layer c.discard_part.new.driver) l.like done.like;
       went = went_alone d.layer d.image d.extras d.safe d.lasts d.sound g.met.D.FormatDriverInstance.free_loose (false ≡ true) (IsMild c.in-Err.fault) (GivesDiscarded c.args.discarding [] c.args.offset c.args.n) [] c.args.driver.now c.discard_part.new.driver (ran []);

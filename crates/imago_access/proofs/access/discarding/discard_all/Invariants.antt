@@ -1,4 +1,4 @@
-use Rattle.std.proofs.Common.{◌-◌, ◌≤◌, List}
+use Rattle.std.proofs.Common.{◌-◌, ◌≡◌, ◌≤◌, List}
 use Rattle.std.specs.Prelude.{⊤, IsTrue}
 use Rattle.imago_storage.specs.Steps.{Call}
 use Rattle.imago_access.specs.Layer.{Layer, IsLike}
@@ -11,6 +11,7 @@ use Rattle.imago_access.proofs.access.discarding.discard_all.Given as goal
 abbrev pub invariant-loop-at : goal.invariant-loop-at
 invariant-loop-at g l = let d = g.D.FormatDriverInstance in record {
   from : l.offset ≤ l.at;
+  untouched : l.n ≡ 0 → l.driver ≡ l.fn.driver;
   like : IsLike (d.layer l.fn.driver) (d.layer l.driver);
   ran : (below : List Layer) → RanAlone d.layer d.image d.extras d.safe d.lasts d.sound ⊤ ⊤ (GivesDiscarded l.discarding below l.offset l.n) below l.fn.driver l.driver;
   room : IsTrue (d.layer l.fn.driver).fixed.keeps → d.safe l.fn.driver → GivesUp d.vacant d.has_room d.zeroed l.offset l.n l.fn.driver l.driver;

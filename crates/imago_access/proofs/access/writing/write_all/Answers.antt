@@ -22,6 +22,7 @@ pub loop-done-init : goal.loop-done-init
 loop-done-init g c = let d = g.D.FormatDriverInstance in let b = g.B.ReadBelow in record {
   inside = omega arith;
   free = c.requires.free;
+  untouched = λ none. (refl, refl);
   shown = λ i. shown_none (b.under c.args.below.now) (d.layer c.args.driver.now) c.args.offset c.args.bytes.now;
   uncut = λ i. subst (IsUncutAt (d.layer c.args.driver.now).fixed.unit (d.layer c.args.driver.now).size c.args.offset (length c.args.bytes.now)) (omega arith) (uncut_start (d.layer c.args.driver.now).fixed.unit (d.layer c.args.driver.now).size c.args.offset (length c.args.bytes.now));
   room = λ i. room_same d.vacant d.has_room d.zeroed (λ _. ⊤) (IsApart (d.layer c.args.driver.now).fixed.unit c.args.offset (length c.args.bytes.now)) c.args.driver.now;
@@ -36,6 +37,7 @@ loop-done-preserved g c = let d = g.D.FormatDriverInstance in let b = g.B.ReadBe
     record {
       inside = fits;
       free = c.in-Ok.ensures.free;
+      untouched = λ none. absurd (omega (arith, none, c.loop-done-test.true));
       shown = λ i.
           let mid = l.ran.intact tt i in
           let same : b.under x1 ≡ b.under x0 = (l.ran.looked.stays tt i.is_seen).0 in

@@ -14,6 +14,7 @@ abbrev pub invariant-loop-done : goal.invariant-loop-done
 invariant-loop-done g l = record {
   inside : l.done ≤ length l.bytes;
   free : IsFree (g.D.FormatDriverInstance.layer l.driver);
+  untouched : length l.bytes ≡ 0 → (l.driver ≡ l.fn.driver) × (l.below ≡ l.fn.below);
   shown : IsIntact (g.B.ReadBelow.under l.fn.below) (g.D.FormatDriverInstance.layer l.fn.driver) (g.D.FormatDriverInstance.safe l.fn.driver) (g.B.ReadBelow.sees_under l.fn.below) → (i : ℕ) → i < l.done → at (g.D.FormatDriverInstance.layer l.driver ∷ g.B.ReadBelow.under l.fn.below) (l.offset + i) ≡ byte (slice_index l.bytes i);
   uncut : IsIntact (g.B.ReadBelow.under l.fn.below) (g.D.FormatDriverInstance.layer l.fn.driver) (g.D.FormatDriverInstance.safe l.fn.driver) (g.B.ReadBelow.sees_under l.fn.below) → IsUncutAt (g.D.FormatDriverInstance.layer l.fn.driver).fixed.unit (g.D.FormatDriverInstance.layer l.fn.driver).size l.offset (length l.bytes) (l.offset + l.done);
   room : IsIntact (g.B.ReadBelow.under l.fn.below) (g.D.FormatDriverInstance.layer l.fn.driver) (g.D.FormatDriverInstance.safe l.fn.driver) (g.B.ReadBelow.sees_under l.fn.below) → Takes g.D.FormatDriverInstance.vacant g.D.FormatDriverInstance.has_room g.D.FormatDriverInstance.zeroed (IsApart (g.D.FormatDriverInstance.layer l.fn.driver).fixed.unit l.offset (length l.bytes)) l.fn.driver l.driver;

@@ -23,6 +23,7 @@ loop-at-init g c = let d = g.D.FormatDriverInstance in let b = g.B.ReadBelow in 
   from = omega arith;
   inside = omega arith;
   free = c.requires.free;
+  untouched = λ none. (refl, refl);
   shown = λ i p from to. absurd (omega (arith, from, to));
   uncut = λ i. uncut_start (d.layer c.args.driver.now).fixed.unit (d.layer c.args.driver.now).size c.args.offset c.args.n;
   room = λ i. room_same d.vacant d.has_room d.zeroed (λ p. (c.args.zeroing ≡ zeroing_is.Keep) ⊎ IsOut c.args.offset c.args.n p) (IsApart (d.layer c.args.driver.now).fixed.unit c.args.offset c.args.n) c.args.driver.now;
@@ -41,6 +42,7 @@ loop-at-preserved g c = let d = g.D.FormatDriverInstance in let b = g.B.ReadBelo
       from = omega (arith, l.from, done.run.0);
       inside = omega (arith, l.inside, done.run.1);
       free = done.free;
+      untouched = λ none. absurd (omega (arith, none, l.from, c.loop-at-test.true));
       shown = λ i p from to.
           let mid = l.ran.intact tt i in
           let same : b.under x1 ≡ b.under x0 = (l.ran.looked.stays tt i.is_seen).0 in

@@ -18,6 +18,7 @@ invariant-loop-at g l = let d = g.D.FormatDriverInstance in let b = g.B.ReadBelo
   from : l.offset ≤ l.at;
   inside : l.at ≤ l.offset + l.n;
   free : IsFree (d.layer l.driver);
+  untouched : l.n ≡ 0 → (l.driver ≡ l.fn.driver) × (l.below ≡ l.fn.below);
   shown : IsIntact (b.under l.fn.below) (d.layer l.fn.driver) (d.safe l.fn.driver) (b.sees_under l.fn.below) → (p : ℕ) → l.offset ≤ p → p < l.at → at (d.layer l.driver ∷ b.under l.fn.below) p ≡ byte 0;
   uncut : IsIntact (b.under l.fn.below) (d.layer l.fn.driver) (d.safe l.fn.driver) (b.sees_under l.fn.below) → IsUncutAt (d.layer l.fn.driver).fixed.unit (d.layer l.fn.driver).size l.offset l.n l.at;
   room : IsIntact (b.under l.fn.below) (d.layer l.fn.driver) (d.safe l.fn.driver) (b.sees_under l.fn.below) → LeavesRoom d.vacant d.has_room d.zeroed (λ p. (l.zeroing ≡ zeroing_is.Keep) ⊎ IsOut l.offset l.n p) (IsApart (d.layer l.fn.driver).fixed.unit l.offset l.n) l.fn.driver l.driver;
