@@ -37,7 +37,7 @@ use Rattle.qcow2_alloc.proofs.QuietCounters.{here-one, away-none}
 use Rattle.qcow2_alloc.proofs.QuietFlushes.{quietly-weaker}
 use Rattle.qcow2_alloc.proofs.QuietGiven.{quietly-then-given}
 use Rattle.qcow2_alloc.proofs.QuietThen.{quietly-otherwise}
-use Rattle.qcow2_alloc.proofs.ReadyingBlocks.{leaks-none, lengthened-none}
+use Rattle.qcow2_alloc.proofs.ReadyingBlocks.{leaks-none}
 
 -- The place that was found is the one, or isn't.
 pub other-place : (found : Option ℕ) (c : ℕ) → not (option_eq nat_eq found (Some c)) ≡ true → found ≢ Some c
@@ -68,7 +68,7 @@ module _ {S : Type 0} (state : S → StorageState) (mark cluster : ℕ) (table :
       leaked = λ _. 0;
       leaks = leaks-none (IsLoose old) (not_handed fault);
       step = looked-allocates state table pending old before (Option ℕ) (Err fault) mid between looks.looked;
-      list = lengthened-none pending;
+      list = inl refl;
       cause = allocated-wider _ _ _ _ _ _ _ _ (λ holds. sound-safe state table pending old before holds.0 holds.2) (λ loose. loose) refl fault looks.looked.cause;
     };
     one = tt;
@@ -95,11 +95,14 @@ module _ {S : Type 0} (state : S → StorageState) (mark cluster : ℕ) (table :
         leaked = λ _. 0;
         leaks = leaks-none (IsLoose old) (handed_so None);
         step = looked-allocates state table pending old before (Option ℕ) (Ok found) mid between looks.looked;
-        list = lengthened-none pending;
+        list = inl refl;
         cause = looks.looked.cause;
       };
       one = tt;
-      answer = λ order keeps sound. inl (counted-found state table pending old before cluster some found mid between looks keeps sound other);
+      answer = λ order keeps sound.
+          let same = counts-same keeps sound cluster in
+          let more = counted-found state table pending old before cluster some found mid between looks keeps sound other in
+          inl (omega (arith, same, more));
       further = refl;
       stays = tt;
       marked = λ order keeps sound whole marked c below. let same = counts-same keeps sound c in let was = marked c below in omega (arith, same, was);
@@ -220,7 +223,7 @@ module _ {S : Type 0} (state : S → StorageState) (mark cluster : ℕ) (table :
           leaked = λ _. 0;
           leaks = leaks-none (IsLoose old) (not_handed fault);
           step = subst (λ (r : Result (Option FreeEntry) Fault). Allocating state (IsWhole r) (λ _. 0) table old before pending table new after pending) refused (step (λ _. 0) (given-none none));
-          list = lengthened-none pending;
+          list = inl refl;
           cause = allocated-wider _ _ _ _ _ _ _ _ knows looked-step.loose looks.looked.cause fault
               (subst (λ (r : Result (Option FreeEntry) Fault). MatchResult (counting_of r) (λ _. (state after.image).faults ≡ (state between.image).faults)
               (WhyNotFreed (IsTrue (state between.image).shape.keeps × (order_of mid ≡ L2DependsOnRb) × IsSound Mid × ((c : ℕ) → cluster ≤ c → c < cluster + 1 → (counted Mid c ≡ 0) × (block_offset (slice_index table.words (c / counters_of_block between.header.fields)) ≢ 0)))
@@ -251,7 +254,7 @@ module _ {S : Type 0} (state : S → StorageState) (mark cluster : ℕ) (table :
           leaked = λ _. 0;
           leaks = leaks-none (IsLoose old) (handed_so (Some itself));
           step = subst (λ (r : Result (Option FreeEntry) Fault). Allocating state (IsWhole r) (one_at cluster) table old before pending table new after pending) ok (step (one_at cluster) (given-one one));
-          list = lengthened-none pending;
+          list = inl refl;
           cause = faults ∙ looks.looked.cause;
         };
         one = (refl, some-place, reach);

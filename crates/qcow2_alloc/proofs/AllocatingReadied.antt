@@ -1,17 +1,19 @@
 -- A cluster gets a counter, and is handed out where it is free.
-use Rattle.std.proofs.Common.{◌≡◌, ℕ, ◌+◌, true, false, refl, arith, subst, ◌∙◌, inl, inr, List, Option, None, Some, Result, Ok, Err}
-use Rattle.std.specs.Prelude.{⊤, IsTrue, IfOk, MatchResult}
+use Rattle.std.proofs.Common.{◌≡◌, ℕ, ◌+◌, ◌<◌, true, false, refl, arith, sym, subst, ◌∙◌, inl, inr, List, Option, None, Some, Result, Ok, Err}
+use Rattle.std.specs.Prelude.{⊤, ◌⊎◌, IsTrue, IfOk, MatchResult}
+use Rattle.std.proofs.lemmas.Bool.{cases_lt}
 use Rattle.imago_storage.specs.State.{StorageState}
 use Rattle.imago_storage.specs.declared.fault.Fault.{Fault}
 use Rattle.imago_storage.proofs.Composing.{keeps_on}
 use Rattle.qcow2_types.specs.Header.{Header}
 use Rattle.qcow2_types.specs.Pending.{FreeEntry}
+use Rattle.qcow2_types.specs.References.{structure, meets}
 use Rattle.qcow2_metadata.specs.Places.{IsInReach}
 use Rattle.qcow2_metadata.specs.Tables.{TableValue}
 use Rattle.qcow2_alloc.specs.declared.cache.CacheDependency.TheVariants.{L2DependsOnRb}
 use Rattle.qcow2_alloc.specs.declared.cache.MetadataCaches.{MetadataCaches}
 use Rattle.qcow2_alloc.specs.declared.file.ImageFile.{ImageFile}
-use Rattle.qcow2_alloc.specs.Allocating.{OnlyRaised, WhyNotAllocated}
+use Rattle.qcow2_alloc.specs.Allocating.{Allocating, OnlyRaised, WhyNotAllocated}
 use Rattle.qcow2_alloc.specs.Allocators.{metadata_of}
 use Rattle.qcow2_alloc.specs.Caches.{order_of}
 use Rattle.qcow2_alloc.specs.Freeing.{IsLoose, IsMarked}
@@ -20,15 +22,17 @@ use Rattle.qcow2_alloc.specs.HandingOut.{handed_at, IsBarred, IsHandedAt, IsOneA
 use Rattle.qcow2_alloc.specs.HandingOutOne.{AllocatesAt, ReadiesCounter, leaked_by}
 use Rattle.qcow2_alloc.specs.Quiet.{Metadata, IsSound, counted}
 use Rattle.qcow2_alloc.proofs.Allocating.{allocating-none, allocating-as, allocating-then}
-use Rattle.qcow2_alloc.proofs.ReadyingBlocks.{leaks-none, lengthened-none, lengthened-then}
+use Rattle.qcow2_alloc.proofs.ReadyingBlocks.{leaks-none}
+use Rattle.qcow2_alloc.proofs.HandedOut.{stands-there}
 use Rattle.qcow2_alloc.proofs.CountingOne.{handed_so, not_handed}
 use Rattle.qcow2_alloc.proofs.EnsuringBlocks.{so, refused, why-allocated-wider}
 
 -- What is counted stays so where counts are raised alone,
+counted-still : (m m' : Metadata) (c : ℕ) → OnlyRaised m m' → 0 < counted m c → 0 < counted m' c
+counted-still m m' c raised was = elim (raised c) [ inl same ↦ omega (arith, same, was) | inr up ↦ let zero = up.0 in absurd (omega (arith, zero, was)) ]
+
 pub marked-raised : (m m' : Metadata) (mark : ℕ) → OnlyRaised m m' → IsMarked m mark → IsMarked m' mark
-marked-raised m m' mark raised marked c below =
-    let was = marked c below in
-    elim (raised c) [ inl same ↦ omega (arith, same, was) | inr up ↦ let zero = up.0 in absurd (omega (arith, zero, was)) ]
+marked-raised m m' mark raised marked c below = counted-still m m' c raised (marked c below)
 
 -- and what isn't counted then wasn't before.
 pub free-raised : (m m' : Metadata) (c : ℕ) → OnlyRaised m m' → counted m' c ≡ 0 → counted m c ≡ 0
@@ -48,11 +52,11 @@ module _ {S : Type 0} (state : S → StorageState) (mark cluster : ℕ) (table :
       leaked = λ _. 0;
       leaks = leaks-none (IsLoose old) (handed_so None);
       step = allocating-none state table old before pending;
-      list = lengthened-none pending;
+      list = inl refl;
       cause = refl;
     };
     one = tt;
-    answer = λ order keeps sound. inr (inl far);
+    answer = λ order keeps sound. inr (inr (inl far));
     further = refl;
     stays = tt;
     marked = λ order keeps sound whole marked. marked;
@@ -67,7 +71,7 @@ module _ {S : Type 0} (state : S → StorageState) (mark cluster : ℕ) (table :
     uncounted-at counter = record {
       did = record { leaked = λ _. 0; leaks = leaks-none (IsLoose old) (handed_so None); step = counter.did.step; list = counter.did.list; cause = counter.did.cause };
       one = tt;
-      answer = λ order keeps sound. inr (counter.barred order keeps sound refl);
+      answer = λ order keeps sound. inr (inr (counter.barred order keeps sound refl));
       further = refl;
       stays = tt;
       marked = λ order keeps sound whole marked. marked-raised Old Mid mark (counter.did.step.raised order keeps sound tt) marked;
@@ -90,19 +94,37 @@ module _ {S : Type 0} (state : S → StorageState) (mark cluster : ℕ) (table :
       marked = λ order keeps sound whole marked. marked-raised Old Mid mark (counter.did.step.raised order keeps sound whole) marked;
     }
 
-    module _ (counter : ReadiesCounter state mark cluster table old before pending (so true) mid_table mid between mid_pending) (result : Result (Option FreeEntry) Fault) (table' : TableValue) (new : MetadataCaches S) (after : ImageFile S) (pending' : List FreeEntry) (mark' : ℕ)
-        (one : AllocatesAt state (λ _. ⊥) mark cluster mid_table mid between mid_pending result table' new after pending' mark') where
+    module _ (counter : ReadiesCounter state mark cluster table old before pending (so true) mid_table mid between mid_pending) (result : Result (Option FreeEntry) Fault) (new : MetadataCaches S) (after : ImageFile S) (mark' : ℕ)
+        (one : AllocatesAt state (λ _. ⊥) mark cluster mid_table mid between mid_pending result mid_table new after mid_pending mark') where
       abbrev New : Metadata
-      New = metadata_of state after new table' pending'
+      New = metadata_of state after new mid_table mid_pending
 
       holds-still : IsTrue (state before.image).shape.keeps × (order_of old ≡ L2DependsOnRb) × IsSound Old → IsTrue (state between.image).shape.keeps × (order_of mid ≡ L2DependsOnRb) × IsSound Mid
       holds-still holds = let quiet = counter.did.step.quiet holds.1 in (keeps_on (state before.image) (state between.image) quiet.shape holds.0, counter.did.step.order ∙ holds.1, (quiet.holds holds.0 holds.2 tt).0)
 
-      answered : (r : Result (Option FreeEntry) Fault) → OnlyRaised Old Mid → IfOk r (IsHandedAt ⊥ cluster Mid New) → IfOk r (IsHandedAt (Barred Old) cluster Old New)
-      answered (Ok (Some entry)) raised (zero, is, unnamed, free) = (free-raised Old Mid cluster raised zero, is, unnamed, free)
-      answered (Ok None) raised (inl more) = inl more
-      answered (Ok None) raised (inr never) = absurd never
-      answered (Err fault) raised said = tt
+      both : Allocating state (IsWhole result) (handed_at result one.did.leaked) table old before pending mid_table new after mid_pending
+      both = allocating-as state (IsWhole result) (IsWhole result) (λ c. leaked_by (so true) counter.did.leaked c + handed_at result one.did.leaked c) (handed_at result one.did.leaked) table old before pending mid_table new after mid_pending (λ w. w) (λ c. omega arith)
+          (allocating-then state ⊤ (IsWhole result) (leaked_by (so true) counter.did.leaked) (handed_at result one.did.leaked) table old before pending mid_table mid between mid_pending mid_table new after mid_pending tt counter.did.step one.did.step)
+
+      -- None is answered of a cluster that is counted by now: it was before, or something stands in it.
+      taken-by : result ≡ Ok None → order_of old ≡ L2DependsOnRb → IsTrue (state before.image).shape.keeps → IsSound Old → 0 < counted Mid cluster → (0 < counted Old cluster) ⊎ (0 < structure New.file New.header.fields (meets New.header.fields cluster))
+      taken-by none order keeps sound more =
+          let whole : IsWhole result = subst (λ (r : Result (Option FreeEntry) Fault). IsWhole r) (sym none) tt in
+          let held = holds-still (keeps, order, sound) in
+          let after-all = (both.quiet order).holds keeps sound whole in
+          let kept : handed_at result one.did.leaked cluster ≡ 0 = subst (λ (r : Result (Option FreeEntry) Fault). handed_at r one.did.leaked cluster ≡ 0) (sym none) refl in
+          elim (cases_lt 0 (counted Old cluster)) [
+            | inl was ↦ inl was
+            | inr none' ↦ inr (stands-there Old New (handed_at result one.did.leaked) cluster sound after-all.0 after-all.1 counter.did.list (omega (arith, none')) kept
+                (counted-still Mid New cluster (one.did.step.raised held.1 held.0 held.2 whole) more))
+          ]
+
+      answered : (r : Result (Option FreeEntry) Fault) → result ≡ r → order_of old ≡ L2DependsOnRb → IsTrue (state before.image).shape.keeps → IsSound Old → IfOk r (IsHandedAt ⊥ cluster Mid New) → IfOk r (IsHandedAt (Barred Old) cluster Old New)
+      answered (Ok (Some entry)) is order keeps sound (zero, once, unnamed, free) = (free-raised Old Mid cluster (counter.did.step.raised order keeps sound tt) zero, once, unnamed, free)
+      answered (Ok None) is order keeps sound (inl more) = elim (taken-by is order keeps sound more) [ inl was ↦ inl was | inr stands ↦ inr (inl stands) ]
+      answered (Ok None) is order keeps sound (inr (inl stands)) = inr (inl stands)
+      answered (Ok None) is order keeps sound (inr (inr never)) = absurd never
+      answered (Err fault) is order keeps sound said = tt
 
       caused : (r : Result (Option FreeEntry) Fault)
           → MatchResult r (λ _. (state after.image).faults ≡ (state between.image).faults) (WhyNotAllocated (IsTrue (state between.image).shape.keeps × (order_of mid ≡ L2DependsOnRb) × IsSound Mid) (IsLoose mid) ⊥ (state between.image).faults (state after.image).faults)
@@ -111,18 +133,17 @@ module _ {S : Type 0} (state : S → StorageState) (mark cluster : ℕ) (table :
       caused (Err fault) why = why-allocated-wider _ _ _ _ _ _ _ _ _ holds-still counter.did.step.loose (λ full. full) counter.did.cause fault why
 
       -- Else it is handed out where it is free.
-      pub readied-at : AllocatesAt state Barred mark cluster table old before pending result table' new after pending' mark'
+      pub readied-at : AllocatesAt state Barred mark cluster table old before pending result mid_table new after mid_pending mark'
       readied-at = record {
         did = record {
           leaked = one.did.leaked;
           leaks = record { none = one.did.leaks.none; pinned = λ loose. one.did.leaks.pinned (counter.did.step.loose loose) };
-          step = allocating-as state (IsWhole result) (IsWhole result) (λ c. leaked_by (so true) counter.did.leaked c + handed_at result one.did.leaked c) (handed_at result one.did.leaked) table old before pending table' new after pending' (λ w. w) (λ c. omega arith)
-              (allocating-then state ⊤ (IsWhole result) (leaked_by (so true) counter.did.leaked) (handed_at result one.did.leaked) table old before pending mid_table mid between mid_pending table' new after pending' tt counter.did.step one.did.step);
-          list = lengthened-then pending mid_pending pending' counter.did.list one.did.list;
+          step = both;
+          list = counter.did.list;
           cause = caused result one.did.cause;
         };
         one = subst (λ (H : Header). IfOk result (IsOneAt cluster H.fields.cluster_bits)) counter.did.step.moved.2 one.one;
-        answer = λ order keeps sound. let held = holds-still (keeps, order, sound) in answered result (counter.did.step.raised order keeps sound tt) (one.answer held.1 held.0 held.2);
+        answer = λ order keeps sound. let held = holds-still (keeps, order, sound) in answered result refl order keeps sound (one.answer held.1 held.0 held.2);
         further = one.further;
         stays = one.stays;
         marked = λ order keeps sound whole marked. let held = holds-still (keeps, order, sound) in one.marked held.1 held.0 held.2 whole (marked-raised Old Mid mark (counter.did.step.raised order keeps sound tt) marked);

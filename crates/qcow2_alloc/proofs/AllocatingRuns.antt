@@ -1,6 +1,6 @@
 -- A run that was made ready is counted, and handed out.
 use Rattle.std.proofs.Common.{◌≡◌, ◌≢◌, ℕ, ◌+◌, ◌/◌, ◌<◌, ◌≤◌, refl, arith, ap, sym, subst, ◌∙◌, List, Bool, Result, Ok, Err, inl, inr}
-use Rattle.std.specs.Prelude.{⊤, IsTrue, IfOk, IfErr, slice_index}
+use Rattle.std.specs.Prelude.{⊤, IsTrue, slice_index}
 use Rattle.std.proofs.lemmas.Bool.{cases_eq, cases_lt}
 use Rattle.std.proofs.lemmas.Bool.Decides.{nat_tests}
 use Rattle.imago_storage.specs.State.{StorageState}
@@ -18,7 +18,7 @@ use Rattle.qcow2_alloc.specs.declared.file.ImageFile.{ImageFile}
 use Rattle.qcow2_alloc.specs.Allocating.{Allocating, CountsRun, MovedTable, OnlyRaised}
 use Rattle.qcow2_alloc.specs.Allocators.{metadata_of}
 use Rattle.qcow2_alloc.specs.Caches.{order_of}
-use Rattle.qcow2_alloc.specs.FreeList.{FreeList, covers}
+use Rattle.qcow2_alloc.specs.FreeList.{covers}
 use Rattle.qcow2_alloc.specs.Freeing.{IsLoose, IsMarked, WhyNotFreed}
 use Rattle.qcow2_alloc.specs.Going.{IsWhole}
 use Rattle.qcow2_alloc.specs.MakingRoom.{run_of}
@@ -124,8 +124,8 @@ module _ {S : Type 0} (state : S → StorageState) (mark n : ℕ) (metadata : Bo
     room = step.room;
   }
 
-  -- A run of no clusters is handed out at the mark,
-  none-allocated : n ≡ 0 → Handing (Ok (record { first = mark; count = n; metadata = metadata })) table old before pending mark
+  -- A run of no clusters is handed out at the mark.
+  pub none-allocated : n ≡ 0 → Handing (Ok (record { first = mark; count = n; metadata = metadata })) table old before pending mark
   none-allocated zero = record {
     leaked = λ _. 0;
     leaks = record { none = λ other c. refl; pinned = λ all c. refl };
@@ -141,35 +141,9 @@ module _ {S : Type 0} (state : S → StorageState) (mark n : ℕ) (metadata : Bo
     moved = sym (behind-here mark n mark refl ∙ omega (arith, zero));
     stays = tt;
     marked = λ order keeps sound whole marked. marked;
-    list = lengthened-none pending;
+    list = lengthened-none table table pending;
     cause = refl;
   }
-
-  -- or there is no room to take it back.
-  none-refused : Handing (Err Memory) table old before pending mark
-  none-refused = record {
-    leaked = λ _. 0;
-    leaks = record { none = λ other c. refl; pinned = λ all c. refl };
-    step = allocating-as state ⊤ (IsWhole {T = FreeEntry} (Err Memory)) (λ _. 0) (λ _. 0) table old before pending table old before pending (λ whole. tt) (λ c. refl) (allocating-none state table old before pending);
-    run = tt;
-    taken = λ order keeps sound. tt;
-    fresh = λ order keeps sound. tt;
-    moved = tt;
-    stays = refl;
-    marked = λ order keeps sound whole. absurd whole;
-    list = lengthened-none pending;
-    cause = tt;
-  }
-
-  -- So it is, whether there is room or not.
-  pub none-handed : n ≡ 0 → (run : FreeEntry) → run ≡ record { first = mark; count = n; metadata = metadata } → (result : Result FreeEntry Fault) (list list' : FreeList) → list.entries ≡ pending
-      → IfOk result (λ entry. (entry ≡ run) × (list' ≡ record { entries = list.entries; held = list.held + 1 })) → IfErr result (λ fault. (fault ≡ Memory) × (list' ≡ list)) → Handing result table old before list'.entries mark
-  none-handed zero run is (Ok entry) list list' same ok err =
-      subst (λ (es : List FreeEntry). Handing (Ok entry) table old before es mark) (sym (ap (λ (l : FreeList). l.entries) ok.1 ∙ same))
-      (subst (λ (e : FreeEntry). Handing (Ok e) table old before pending mark) (sym (ok.0 ∙ is)) (none-allocated zero))
-  none-handed zero run is (Err fault) list list' same ok err =
-      subst (λ (es : List FreeEntry). Handing (Err fault) table old before es mark) (sym (ap (λ (l : FreeList). l.entries) err.1 ∙ same))
-      (subst (λ (f : Fault). Handing (Err f) table old before pending mark) (sym err.0) none-refused)
 
   module _ (tB : TableValue) (B : MetadataCaches S) (fB : ImageFile S) (pB : List FreeEntry) where
     abbrev mB : Metadata
@@ -198,22 +172,6 @@ module _ {S : Type 0} (state : S → StorageState) (mark n : ℕ) (metadata : Bo
 
       free : order_of old ≡ L2DependsOnRb → Keeps → IsSound mA → (c : ℕ) → first ≤ c → c < first + n → counted mB c ≡ 0
       free order keeps sound = (ready.found order keeps sound).free
-
-      -- There is no room to take them back.
-      pub room-refused : Handing (Err Memory) tB B fB pB mark
-      room-refused = record {
-        leaked = λ _. 0;
-        leaks = record { none = λ other c. refl; pinned = λ all c. refl };
-        step = allocating-as state ⊤ (IsWhole {T = FreeEntry} (Err Memory)) (λ _. 0) (handed_by (Err Memory) (λ _. 0)) table old before pending tB B fB pB (λ whole. tt) (λ c. refl) begun;
-        run = tt;
-        taken = λ order keeps sound. tt;
-        fresh = λ order keeps sound. tt;
-        moved = tt;
-        stays = refl;
-        marked = λ order keeps sound whole. absurd whole;
-        list = ready.list;
-        cause = tt;
-      }
 
       -- Each can be counted.
       abbrev CanCount : Type 0

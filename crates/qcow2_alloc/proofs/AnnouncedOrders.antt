@@ -20,18 +20,18 @@ use Rattle.qcow2_alloc.specs.declared.file.ImageFile.{ImageFile}
 use Rattle.qcow2_alloc.specs.Allocating.{OnlyRaised, WhyNotAllocated}
 use Rattle.qcow2_alloc.specs.Allocators.{metadata_of}
 use Rattle.qcow2_alloc.specs.Caches.{cached_in, order_of, HasRoomOf}
-use Rattle.qcow2_alloc.specs.Finding.{AreUnpinned}
+use Rattle.qcow2_alloc.specs.Finding.{pinned_in}
 use Rattle.qcow2_alloc.specs.Freeing.{IsLoose, IsMarked, CountsFreeing, WhyNotFreed}
 use Rattle.qcow2_alloc.specs.Going.{Going, Always, IsMild, IsWhole, AreTablesInReach, CountsWrites, WhyNotWritten}
 use Rattle.qcow2_alloc.specs.Growing.{IsFirstRoom, lacks, lacking}
 use Rattle.qcow2_alloc.specs.GrowingTables.{IsRoomToGrow, IsRoomInReach, NoPlaceToGrow, TableGrown}
 use Rattle.qcow2_alloc.specs.MakingRoom.{rank}
-use Rattle.qcow2_alloc.specs.Memory.{Cached, memory, written, written_table}
+use Rattle.qcow2_alloc.specs.Memory.{memory, written}
 use Rattle.qcow2_alloc.specs.Quiet.{Metadata, IsSound, Quietly, counted}
 use Rattle.qcow2_alloc.specs.Safety.{Safe}
 use Rattle.qcow2_alloc.proofs.EnsuringBlocks.{why-allocated-wider}
-use Rattle.qcow2_alloc.proofs.Loose.{unpinned-written}
 use Rattle.qcow2_alloc.proofs.QuietAnnouncing.{announced-quietly, whole-quietly}
+use Rattle.qcow2_alloc.proofs.QuietFlushes.{memory-quietly}
 use Rattle.qcow2_alloc.proofs.QuietThen.{quietly-then, quietly-otherwise}
 use Rattle.qcow2_alloc.proofs.SafeLaws.{safe-reach}
 
@@ -45,6 +45,20 @@ pub record Announced {S : Type 0} (state : S → StorageState) (table : TableVal
   pub room : HasRoomOf old new
   pub cause : CountsFreeing (IsTrue (state before.image).shape.keeps × IsSound (metadata_of state before old table pending)) (IsLoose old) (state before.image).faults (state after.image).faults result
 
+-- Nothing was announced, and nothing has changed, for want of memory.
+pub not-begun : {S : Type 0} (state : S → StorageState) (table : TableValue) (pending : List FreeEntry) (old : MetadataCaches S) (before : ImageFile S) → Announced state table pending old before (Err Memory) old before
+not-begun state table pending old before =
+    let m = metadata_of state before old table pending in
+    record {
+      quiet = memory-quietly (IsWhole {T = Unit {0}} (Err Memory)) (λ _. 0) (λ _. 0) (state before.image) m m (λ sound whole. absurd whole);
+      counts = λ keeps sound whole. absurd whole;
+      order = tt;
+      header = refl;
+      loose = λ loose. loose;
+      room = record { tables = refl; blocks = refl };
+      cause = tt;
+    }
+
 module _ {S : Type 0} (state : S → StorageState) (table : TableValue) (pending : List FreeEntry) (old : MetadataCaches S) (before : ImageFile S) (new : MetadataCaches S) (after : ImageFile S)
     (kept : written (cached_in new) ≡ written (cached_in old)) (blocks : new.rb ≡ old.rb) (header : after.header ≡ before.header) (room : HasRoomOf old new) where
   abbrev Old : Metadata
@@ -55,8 +69,7 @@ module _ {S : Type 0} (state : S → StorageState) (table : TableValue) (pending
 
   loose-still : IsLoose old → IsLoose new
   loose-still loose = record {
-    tables = unpinned-written TableValue written_table (λ e. refl) (cached_in new).tables (cached_in old).tables (ap (λ (c : Cached). c.tables) kept) loose.tables;
-    blocks = subst (λ l. AreUnpinned l) (sym (ap (λ l. l.slots.entries) blocks)) loose.blocks;
+    blocks = subst (λ l. pinned_in l ≡ 0) (sym (ap (λ l. l.slots.entries) blocks)) loose.blocks;
     room = subst (λ n. 0 < n) (sym room.blocks) loose.room;
   }
 

@@ -6,7 +6,7 @@ use Rattle.std.specs.Option.{option_map_or}
 use Rattle.std.proofs.lemmas.Bool.{cases_Bool, cases_eq, cases_lt, ne_eqb}
 use Rattle.std.proofs.lemmas.Nat.{pow_pos}
 use Rattle.imago_storage.specs.State.{StorageState}
-use Rattle.imago_storage.specs.declared.fault.Fault.TheVariants.{Counter}
+use Rattle.imago_storage.specs.declared.fault.Fault.TheVariants.{DamagedTable}
 use Rattle.qcow2_types.specs.Bytes.{bytes_of}
 use Rattle.qcow2_types.specs.Header.{Header, cluster_size}
 use Rattle.qcow2_types.specs.Counts.{counters_of_block}
@@ -133,7 +133,7 @@ module _ {S : Type 0} (state : S → StorageState) (table : TableValue) (pending
     pub counted-apart : RaisesCluster state table c old before (Ok tt) new after → Apart
     counted-apart = by-name (named_block table i) refl
       where
-        by-name : (o : Option ℕ) → named_block table i ≡ o → MatchOption o ((succeeded ≡ Err Counter) × (new ≡ old) × (after ≡ before)) (λ key. UsesBlock state key (Raises (c % counters_of_block before.header.fields)) old before (Ok tt) new after) → Apart
+        by-name : (o : Option ℕ) → named_block table i ≡ o → MatchOption o ((succeeded ≡ Err DamagedTable) × (new ≡ old) × (after ≡ before)) (λ key. UsesBlock state key (Raises (c % counters_of_block before.header.fields)) old before (Ok tt) new after) → Apart
         by-name None names (is, same, same') = absurd (cc is)
         by-name (Some key) names (inl (fault, is, found)) = absurd (cc is)
         by-name (Some key) names (inr u) = by-use key names u

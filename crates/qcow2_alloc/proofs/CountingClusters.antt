@@ -280,7 +280,7 @@ module _ {S : Type 0} (state : S → StorageState) (table : TableValue) (pending
     pub one-counted : RaisesCluster state table c old before result new after → CountsOne result new after
     one-counted = by-name (named_block table i) refl
       where
-        refused : named_block table i ≡ None → CountsOne (failed Counter) old before
+        refused : named_block table i ≡ None → CountsOne (failed DamagedTable) old before
         refused named =
             let still = memory-quietly ⊤ (λ _. 0) (λ _. 0) (state before.image) Old Old (λ sound whole. (sound, quiet-none Old sound)) in (
               record {
@@ -289,7 +289,7 @@ module _ {S : Type 0} (state : S → StorageState) (table : TableValue) (pending
                 whole = tt;
                 shape = refl;
                 later = later_same (state before.image);
-                quiet = λ order free. none-given Counter old before still;
+                quiet = λ order free. none-given DamagedTable old before still;
                 raised = λ order keeps sound free whole d. let zero = covers-none d (run_of c 0) refl in omega (arith, zero);
                 order = refl;
                 header = refl;
@@ -303,11 +303,11 @@ module _ {S : Type 0} (state : S → StorageState) (table : TableValue) (pending
             unnamed : (w bits : ℕ) → w ≢ 0 → (if w == 0 then None else Some (w / 2 ^ bits)) ≡ None → ⊥
             unnamed w bits some none = let no : Some (w / 2 ^ bits) ≡ None = sym (rw (ne_eqb w 0 some) refl) ∙ none in cc
 
-        by-name : (o : Option ℕ) → named_block table i ≡ o → MatchOption o ((result ≡ Err Counter) × (new ≡ old) × (after ≡ before)) (λ key. UsesBlock state key Does old before result new after) → CountsOne result new after
+        by-name : (o : Option ℕ) → named_block table i ≡ o → MatchOption o ((result ≡ Err DamagedTable) × (new ≡ old) × (after ≡ before)) (λ key. UsesBlock state key Does old before result new after) → CountsOne result new after
         by-name None named (is, same, same') =
             subst (λ (q : Result Unit Fault). CountsOne q new after) (sym is)
-            (subst (λ (m : MetadataCaches S). CountsOne (failed Counter) m after) (sym same)
-            (subst (λ (f : ImageFile S). CountsOne (failed Counter) old f) (sym same') (refused named)))
+            (subst (λ (m : MetadataCaches S). CountsOne (failed DamagedTable) m after) (sym same)
+            (subst (λ (f : ImageFile S). CountsOne (failed DamagedTable) old f) (sym same') (refused named)))
         by-name (Some key) named (inl (fault, is, found)) = subst (λ (q : Result Unit Fault). CountsOne q new after) (sym is) (not-found key named fault found)
         by-name (Some key) named (inr u) = used-run key named u
 

@@ -2,7 +2,7 @@
 use Rattle.std.proofs.Common.{false, ◌≡◌, ◌≢◌, ℕ, refl, arith, subst, List, Option, Some, Result, Ok, Err}
 use Rattle.imago_storage.specs.State.{StorageState}
 use Rattle.imago_storage.specs.declared.fault.Fault.{Fault}
-use Rattle.imago_storage.specs.declared.fault.Fault.TheVariants.{Memory, DamagedTable}
+use Rattle.imago_storage.specs.declared.fault.Fault.TheVariants.{DamagedTable}
 use Rattle.imago_storage.proofs.Composing.{later_same}
 use Rattle.qcow2_types.specs.Pending.{FreeEntry}
 use Rattle.qcow2_metadata.specs.Tables.{TableValue}
@@ -56,13 +56,9 @@ module _ {S : Type 0} (state : S → StorageState) (table : TableValue) (pending
     some = tt;
   }
 
-  -- The first cluster is counted for the header,
+  -- The first cluster is counted for the header.
   pub first-uncounted : c ≡ 0 → CountsOne state c table old before pending (not_handed DamagedTable) old before
   first-uncounted first = uncounted DamagedTable (λ sound from holds. let both = from holds in let some = first-counted Old both.0 in let zero = subst (λ n. counted Old n ≡ 0) first both.1 in omega (arith, some, zero))
-
-  -- and without memory none is.
-  pub memory-uncounted : CountsOne state c table old before pending (not_handed Memory) old before
-  memory-uncounted = uncounted Memory (λ sound from. tt)
 
   pub raised-one : (new : MetadataCaches S) (after : ImageFile S) → c ≢ 0 → (found : Option FreeEntry) → found ≡ Some (record { first = c; count = 1; metadata = false }) → RaisesCluster state table c old before (Ok tt) new after
       → CountsOne state c table old before pending (handed_so found) new after

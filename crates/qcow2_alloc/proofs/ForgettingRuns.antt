@@ -19,7 +19,7 @@ use Rattle.qcow2_alloc.specs.Quiet.{Metadata, counted, named_at_all, IsSound}
 use Rattle.qcow2_alloc.proofs.Entries.{remove_absent}
 use Rattle.qcow2_alloc.proofs.Forgetting.{forgotten-quiet, forgotten-stays, removed-apart}
 use Rattle.qcow2_alloc.proofs.QuietFlushes.{quiet-none}
-use Rattle.qcow2_alloc.proofs.Searching.{all-at, all-removed}
+use Rattle.qcow2_alloc.proofs.Pins.{pinned-none, pinned-removed}
 use Rattle.qcow2_alloc.proofs.QuietThen.{quiet-then, quiet-otherwise}
 
 -- What stays in memory is counted and named as it was.
@@ -71,7 +71,7 @@ forgets-refused first n all old mid new fault le is one = subst (λ (c : Cached)
 pub forgotten-leaves : {S : Type 0} (mid new : MetadataCaches S) (key : ℕ) → new ≡ with_blocks mid (remove_entry (nat_eq key) (cached_in mid).blocks) → (new.order ≡ mid.order) × (IsLoose mid → IsLoose new) × HasRoomOf mid new
 forgotten-leaves {S} mid new key is = subst (λ (c : MetadataCaches S). (c.order ≡ mid.order) × (IsLoose mid → IsLoose c) × HasRoomOf mid c) (sym is) (
   refl,
-  λ loose. record { tables = loose.tables; blocks = all-removed _ (nat_eq key) (cached_in mid).blocks loose.blocks; room = loose.room },
+  λ loose. record { blocks = (let le = pinned-removed (nat_eq key) (cached_in mid).blocks in let none = loose.blocks in omega (arith, le, none)); room = loose.room },
   record { tables = refl; blocks = refl },
 )
 
@@ -81,4 +81,4 @@ pinned-never caches key pinned loose = never (lookup (nat_eq key) (cached_in cac
   where
     never : (o : Option (Slot Block)) → lookup (nat_eq key) (cached_in caches).blocks ≡ o → IsSomeAnd o (λ s. 0 < s.pins) → ⊥
     never None there pinned = pinned
-    never (Some slot) there pinned = let off = all-at (λ (e : ℕ × Slot Block). e.1.pins ≡ 0) key (cached_in caches).blocks slot there loose.blocks in omega (arith, off, pinned)
+    never (Some slot) there pinned = let off = pinned-none key (cached_in caches).blocks slot there loose.blocks in omega (arith, off, pinned)

@@ -25,7 +25,7 @@ use Rattle.qcow2_alloc.specs.Caches.{cached_in, order_of}
 use Rattle.qcow2_alloc.specs.CachesLending.{with_blocks}
 use Rattle.qcow2_alloc.specs.Changes.{CachesBlock, IsStillCovered}
 use Rattle.qcow2_alloc.specs.Finding.{BlockFound, IsPinnedFull, WhyNotFound}
-use Rattle.qcow2_alloc.specs.Freeing.{IsLoose, WhyNotFreed, CountsFreeing}
+use Rattle.qcow2_alloc.specs.Freeing.{HasSpareRoom, WhyNotFreed, CountsFreeing, IsWholeOrCalm}
 use Rattle.qcow2_metadata.specs.Places.{IsInReach}
 use Rattle.qcow2_alloc.specs.FreeList.{listed}
 use Rattle.qcow2_alloc.specs.Going.{IsWhole, AreTablesInReach, AreBlocksInReach}
@@ -43,8 +43,9 @@ use Rattle.qcow2_alloc.proofs.Patches.{shaped-in}
 use Rattle.qcow2_alloc.specs.Safety.{IsCachedBlock}
 use Rattle.qcow2_types.proofs.Counters.{some-counters}
 use Rattle.qcow2_alloc.proofs.CountedBlocks.{counted-block}
-use Rattle.qcow2_alloc.proofs.Loose.{never-pinned, StaysLoose, named-stays}
-use Rattle.qcow2_alloc.proofs.QuietFlushes.{quiet-none, used-quiet, going-quietly, memory-quietly}
+use Rattle.qcow2_alloc.proofs.Loose.{KeepsPins, named-keeps}
+use Rattle.qcow2_alloc.proofs.Pins.{full-pinned}
+use Rattle.qcow2_alloc.proofs.QuietFlushes.{quiet-none, used-quiet, flushes-quietly, quietly-weaker, memory-quietly}
 
 -- The block that the refcount table in memory names stands where the file's does.
 pub named-there : (m : Metadata) (i key : ℕ) → IsSound m → named_block m.table i ≡ Some key → (block_at m.file m.header.fields i ≡ key * cluster_size m.header.fields) × (key ≢ 0)
@@ -58,13 +59,18 @@ module _ {S : Type 0} (state : S → StorageState) (table : TableValue) where
   still c = 0
 
   -- A search of a block is quiet.
+  pub search-calmly : (key : ℕ) (pending : List FreeEntry) (old : MetadataCaches S) (before : ImageFile S) (answer : Result Unit Fault) (mid : MetadataCaches S) (after : ImageFile S) → BlockFound state key old before answer mid after
+      → Quietly (IsWholeOrCalm answer (state before.image) (state after.image)) still still (state before.image) (At old before pending) (state after.image) (At mid after pending)
+  search-calmly key pending old before answer mid after found =
+      let m = At old before pending in
+      let quiet = flushes-quietly m (IsWhole answer) (state before.image) (state after.image) (cached_in mid) refl found.going in
+      subst (λ (h : Header). Quietly (IsWholeOrCalm answer (state before.image) (state after.image)) still still (state before.image) m (state after.image) (record m { file = bytes_of (state after.image).bytes; cached = cached_in mid; header = h; order = order_of mid })) (sym found.others.1)
+      (subst (λ (o : CacheDependency). Quietly (IsWholeOrCalm answer (state before.image) (state after.image)) still still (state before.image) m (state after.image) (record m { file = bytes_of (state after.image).bytes; cached = cached_in mid; order = o })) (sym found.others.0) quiet)
+
   pub search-quietly : (key : ℕ) (pending : List FreeEntry) (old : MetadataCaches S) (before : ImageFile S) (answer : Result Unit Fault) (mid : MetadataCaches S) (after : ImageFile S) → BlockFound state key old before answer mid after
       → Quietly (IsWhole answer) still still (state before.image) (At old before pending) (state after.image) (At mid after pending)
   search-quietly key pending old before answer mid after found =
-      let m = At old before pending in
-      let quiet = going-quietly m (IsWhole answer) (state before.image) (state after.image) (cached_in mid) refl found.going in
-      subst (λ (h : Header). Quietly (IsWhole answer) still still (state before.image) m (state after.image) (record m { file = bytes_of (state after.image).bytes; cached = cached_in mid; header = h; order = order_of mid })) (sym found.others.1)
-      (subst (λ (o : CacheDependency). Quietly (IsWhole answer) still still (state before.image) m (state after.image) (record m { file = bytes_of (state after.image).bytes; cached = cached_in mid; order = o })) (sym found.others.0) quiet)
+      quietly-weaker _ (IsWhole answer) still still (state before.image) (At old before pending) (state after.image) (At mid after pending) (λ sound whole. inl whole) (search-calmly key pending old before answer mid after found)
 
   module _ (c : ℕ) (pending pending' : List FreeEntry) where
     -- what waits once the answer is known
@@ -106,9 +112,9 @@ module _ {S : Type 0} (state : S → StorageState) (table : TableValue) where
           (record { block = block; caches = caches-it sound; blocks = refl; tables = refl }) (is ∙ omega (arith, some)) loses.one loses.metadata
 
       -- Once it is found it is lowered, or that is refused.
-      pub lower-quietly : (result : Result Unit Fault) (block' : Block) → Lowers index block result block'
-          → Quietly (IsWhole result) still still (state after.image) Was (state after.image) (At (with_blocks mid (hit (nat_eq key) (cached_in mid).blocks block')) after (left result))
-      lower-quietly result block' lowers = memory-quietly (IsWhole result) still still (state after.image) Was _ (λ sound whole. elim (cases_lt index (length block.counters)) [
+      pub lower-quietly : (ok : Type 0) (result : Result Unit Fault) (block' : Block) → Lowers index block result block'
+          → Quietly ok still still (state after.image) Was (state after.image) (At (with_blocks mid (hit (nat_eq key) (cached_in mid).blocks block')) after (left result))
+      lower-quietly ok result block' lowers = memory-quietly ok still still (state after.image) Was _ (λ sound whole. elim (cases_lt index (length block.counters)) [
         | inr past ↦ let out = lowers.out past in so (Err DamagedTable) block out.0 out.1 (refused DamagedTable sound)
         | inl inside ↦ elim (cases_eq (slice_index block.counters index) 0) [
           | inl none ↦ let out = lowers.none inside none in so (Err Counter) block out.0 out.1 (refused Counter sound)
@@ -163,6 +169,9 @@ module _ {S : Type 0} (state : S → StorageState) (table : TableValue) where
       abbrev New : Metadata
       New = At new after (left result)
 
+      abbrev Done : Type 0
+      Done = IsWholeOrCalm result (state before.image) (state after.image)
+
       loses-still : (mid : MetadataCaches S) → mid.order ≡ old.order → LosesOne mid
       loses-still mid same = record { one = loses.one; metadata = loses.metadata; may = elim loses.may [ inl order ↦ inl (same ∙ order) | inr some ↦ inr some ] }
 
@@ -170,36 +179,36 @@ module _ {S : Type 0} (state : S → StorageState) (table : TableValue) where
       named-still key named same = subst (λ (h : Header). named_block table (c / counters_of_block h.fields) ≡ Some key) (sym same) named
 
       used-quietly : (key : ℕ) → named_block table (c / counters_of_block before.header.fields) ≡ Some key → BlockUsed state key (Lowers (c % counters_of_block before.header.fields)) old before result new after
-          → Quietly (IsWhole result) still still (state before.image) Old (state after.image) New
+          → Quietly Done still still (state before.image) Old (state after.image) New
       used-quietly key named u =
           let header = u.found.others.1 in
           let lowers : Lowers (c % counters_of_block after.header.fields) u.block result u.block' = subst (λ (h : Header). Lowers (c % counters_of_block h.fields) u.block result u.block') (sym header) u.used in
-          subst (λ (m : MetadataCaches S). Quietly (IsWhole result) still still (state before.image) Old (state after.image) (At m after (left result))) (sym u.left)
-          (quietly-then ⊤ (IsWhole result) still still still still (state before.image) Old (state after.image) (At u.mid after pending) (state after.image) _ tt (λ sound d some. refl)
+          subst (λ (m : MetadataCaches S). Quietly Done still still (state before.image) Old (state after.image) (At m after (left result))) (sym u.left)
+          (quietly-then ⊤ Done still still still still (state before.image) Old (state after.image) (At u.mid after pending) (state after.image) _ tt (λ sound d some. refl)
           (search-quietly key pending old before (Ok tt) u.mid after u.found)
-          (lower-quietly key u.mid after (loses-still u.mid u.found.others.0) (named-still key named header) u.block u.there result u.block' lowers))
+          (lower-quietly key u.mid after (loses-still u.mid u.found.others.0) (named-still key named header) u.block u.there Done result u.block' lowers))
 
       uses-quietly : (key : ℕ) → named_block table (c / counters_of_block before.header.fields) ≡ Some key → UsesBlock state key (Lowers (c % counters_of_block before.header.fields)) old before result new after
-          → Quietly (IsWhole result) still still (state before.image) Old (state after.image) New
+          → Quietly Done still still (state before.image) Old (state after.image) New
       uses-quietly key named (inl (fault, is, found)) =
-          subst (λ (q : Result Unit Fault). Quietly (IsWhole q) still still (state before.image) Old (state after.image) (At new after (left q))) (sym is) (search-quietly key pending old before (Err fault) new after found)
+          subst (λ (q : Result Unit Fault). Quietly (IsWholeOrCalm q (state before.image) (state after.image)) still still (state before.image) Old (state after.image) (At new after (left q))) (sym is) (search-calmly key pending old before (Err fault) new after found)
       uses-quietly key named (inr u) = used-quietly key named u
 
       abbrev Nothing : Type 0
-      Nothing = (result ≡ Err Counter) × (new ≡ old) × (after ≡ before)
+      Nothing = (result ≡ Err DamagedTable) × (new ≡ old) × (after ≡ before)
 
-      stays-quietly : Nothing → Quietly (IsWhole result) still still (state before.image) Old (state after.image) New
+      stays-quietly : Nothing → Quietly Done still still (state before.image) Old (state after.image) New
       stays-quietly (is, same, same') =
-          subst (λ (q : Result Unit Fault). Quietly (IsWhole q) still still (state before.image) Old (state after.image) (At new after (left q))) (sym is)
-          (subst (λ (m : MetadataCaches S). Quietly ⊤ still still (state before.image) Old (state after.image) (At m after pending)) (sym same)
-          (subst (λ (f : ImageFile S). Quietly ⊤ still still (state before.image) Old (state f.image) (At old f pending)) (sym same')
-          (memory-quietly ⊤ still still (state before.image) Old Old (λ sound whole. (sound, quiet-none Old sound)))))
+          subst (λ (q : Result Unit Fault). Quietly Done still still (state before.image) Old (state after.image) (At new after (left q))) (sym is)
+          (subst (λ (m : MetadataCaches S). Quietly Done still still (state before.image) Old (state after.image) (At m after pending)) (sym same)
+          (subst (λ (f : ImageFile S). Quietly Done still still (state before.image) Old (state f.image) (At old f pending)) (sym same')
+          (memory-quietly Done still still (state before.image) Old Old (λ sound whole. (sound, quiet-none Old sound)))))
 
-      pub cluster-freed : LowersCluster state table c old before result new after → Quietly (IsWhole result) still still (state before.image) Old (state after.image) New
+      pub cluster-freed : LowersCluster state table c old before result new after → Quietly Done still still (state before.image) Old (state after.image) New
       cluster-freed = by-name (named_block table (c / counters_of_block before.header.fields)) refl
         where
           by-name : (o : Option ℕ) → named_block table (c / counters_of_block before.header.fields) ≡ o → MatchOption o Nothing (λ key. UsesBlock state key (Lowers (c % counters_of_block before.header.fields)) old before result new after)
-              → Quietly (IsWhole result) still still (state before.image) Old (state after.image) New
+              → Quietly Done still still (state before.image) Old (state after.image) New
           by-name None named nothing = stays-quietly nothing
           by-name (Some key) named uses = uses-quietly key named uses
 
@@ -208,11 +217,11 @@ module _ {S : Type 0} (state : S → StorageState) (table : TableValue) where
 
       -- Why it is refused, where the cluster waits.
       abbrev Counts : Result Unit Fault → Type 0
-      Counts q = CountsFreeing Holds (IsLoose old) (state before.image).faults (state after.image).faults q
+      Counts q = CountsFreeing Holds (HasSpareRoom old) (state before.image).faults (state after.image).faults q
 
       by-search : (key : ℕ) → named_block table (c / counters_of_block before.header.fields) ≡ Some key → 0 < listed pending c → (fault : Fault)
           → WhyNotFound (IsInReach before.header.fields.cluster_bits key × AreTablesInReach (cached_in old) × AreBlocksInReach (cached_in old)) (IsPinnedFull old.rb.slots.cap (cached_in old).blocks) (state before.image).faults (state after.image).faults fault
-          → WhyNotFreed Holds (IsLoose old) (state before.image).faults (state after.image).faults fault
+          → WhyNotFreed Holds (HasSpareRoom old) (state before.image).faults (state after.image).faults fault
       by-search key named waits Memory why = tt
       by-search key named waits Storage why = why
       by-search key named waits DamagedTable why = λ holds.
@@ -221,7 +230,7 @@ module _ {S : Type 0} (state : S → StorageState) (table : TableValue) where
           let same : there.key ≡ key = (let e = sym there.names ∙ named in cc) in
           let reach = safe-reach Old.file Old.header Old.cached Old.order holds.1.safe in
           why (subst (λ n. IsInReach before.header.fields.cluster_bits n) same there.reach, reach.0, reach.1)
-      by-search key named waits CacheFull why = λ loose. never-pinned Block (cached_in old).blocks loose.blocks why loose.room
+      by-search key named waits CacheFull why = λ spare. let full = full-pinned (cached_in old).blocks why in omega (arith, full, spare)
       by-search key named waits other why = absurd why
 
       used-caused : (key : ℕ) → named_block table (c / counters_of_block before.header.fields) ≡ Some key → BlockUsed state key (Lowers (c % counters_of_block before.header.fields)) old before result new after → 0 < listed pending c → Counts result
@@ -253,12 +262,12 @@ module _ {S : Type 0} (state : S → StorageState) (table : TableValue) where
           by-name (Some key) named uses waits = by-uses key named uses waits
 
       -- Other clusters are counted as they were.
-      pub counts-stay : LowersCluster state table c old before result new after → Holds → IsWhole result → (d : ℕ) → d ≢ c → counted New d ≡ counted Old d
+      pub counts-stay : LowersCluster state table c old before result new after → Holds → Done → (d : ℕ) → d ≢ c → counted New d ≡ counted Old d
       counts-stay = by-name (named_block table (c / counters_of_block before.header.fields)) refl
         where
-          in-mid : (key : ℕ) (answer : Result Unit Fault) (mid : MetadataCaches S) → BlockFound state key old before answer mid after → Holds → IsWhole answer → (d : ℕ) → counted (At mid after pending) d ≡ counted Old d
-          in-mid key answer mid found holds whole d =
-              let settled = found.going.holds holds.0 holds.1.safe tt (inl whole) in
+          in-mid : (key : ℕ) (answer : Result Unit Fault) (mid : MetadataCaches S) → BlockFound state key old before answer mid after → Holds → IsWholeOrCalm answer (state before.image) (state after.image) → (d : ℕ) → counted (At mid after pending) d ≡ counted Old d
+          in-mid key answer mid found holds why d =
+              let settled = found.going.holds holds.0 holds.1.safe tt why in
               subst (λ (h : Header). count (memory (bytes_of (state after.image).bytes) h.fields (cached_in mid)) h.fields d ≡ counted Old d) (sym found.others.1) (ap (λ g. count g before.header.fields d) settled.memory_same)
 
           by-used : (key : ℕ) → named_block table (c / counters_of_block before.header.fields) ≡ Some key → BlockUsed state key (Lowers (c % counters_of_block before.header.fields)) old before result new after → Holds → (d : ℕ) → d ≢ c → counted New d ≡ counted Old d
@@ -267,17 +276,17 @@ module _ {S : Type 0} (state : S → StorageState) (table : TableValue) where
               let lowers : Lowers (c % counters_of_block after.header.fields) u.block result u.block' = subst (λ (h : Header). Lowers (c % counters_of_block h.fields) u.block result u.block') (sym header) u.used in
               subst (λ (m : MetadataCaches S). counted (At m after (left result)) d ≡ counted Old d) (sym u.left)
               (others-counted key u.mid after (loses-still u.mid u.found.others.0) (named-still key named header) u.block u.there ((search-quietly key pending old before (Ok tt) u.mid after u.found).holds holds.0 holds.1 tt).0 result u.block' lowers d away
-              ∙ in-mid key (Ok tt) u.mid u.found holds tt d)
+              ∙ in-mid key (Ok tt) u.mid u.found holds (inl tt) d)
 
-          by-uses : (key : ℕ) → named_block table (c / counters_of_block before.header.fields) ≡ Some key → UsesBlock state key (Lowers (c % counters_of_block before.header.fields)) old before result new after → Holds → IsWhole result → (d : ℕ) → d ≢ c → counted New d ≡ counted Old d
-          by-uses key named (inl (fault, is, found)) holds whole d away = in-mid key (Err fault) new found holds (subst (λ (q : Result Unit Fault). IsWhole q) is whole) d
-          by-uses key named (inr u) holds whole d away = by-used key named u holds d away
+          by-uses : (key : ℕ) → named_block table (c / counters_of_block before.header.fields) ≡ Some key → UsesBlock state key (Lowers (c % counters_of_block before.header.fields)) old before result new after → Holds → Done → (d : ℕ) → d ≢ c → counted New d ≡ counted Old d
+          by-uses key named (inl (fault, is, found)) holds why d away = in-mid key (Err fault) new found holds (subst (λ (q : Result Unit Fault). IsWholeOrCalm q (state before.image) (state after.image)) is why) d
+          by-uses key named (inr u) holds why d away = by-used key named u holds d away
 
           by-name : (o : Option ℕ) → named_block table (c / counters_of_block before.header.fields) ≡ o → MatchOption o Nothing (λ key. UsesBlock state key (Lowers (c % counters_of_block before.header.fields)) old before result new after)
-              → Holds → IsWhole result → (d : ℕ) → d ≢ c → counted New d ≡ counted Old d
-          by-name None named (is, same, same') holds whole d away =
+              → Holds → Done → (d : ℕ) → d ≢ c → counted New d ≡ counted Old d
+          by-name None named (is, same, same') holds why d away =
               subst (λ (m : MetadataCaches S). counted (At m after (left result)) d ≡ counted Old d) (sym same) (subst (λ (f : ImageFile S). counted (At old f (left result)) d ≡ counted Old d) (sym same') refl)
-          by-name (Some key) named uses holds whole d away = by-uses key named uses holds whole d away
+          by-name (Some key) named uses holds why d away = by-uses key named uses holds why d away
 
-      pub freeing-stays : LowersCluster state table c old before result new after → StaysLoose old before new after
-      freeing-stays = named-stays state (named_block table (c / counters_of_block before.header.fields)) (Lowers (c % counters_of_block before.header.fields)) (result ≡ Err Counter) old before result new after
+      pub freeing-stays : LowersCluster state table c old before result new after → KeepsPins old before new after
+      freeing-stays = named-keeps state (named_block table (c / counters_of_block before.header.fields)) (Lowers (c % counters_of_block before.header.fields)) (result ≡ Err DamagedTable) old before result new after

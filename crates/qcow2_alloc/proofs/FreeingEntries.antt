@@ -1,8 +1,8 @@
 -- Entries of the list of clusters to free are counted down.
 use Rattle.std.proofs.Common.{◌≡◌, ◌≢◌, ℕ, ◌*◌, ◌^◌, ◌<◌, ◌≤◌, refl, arith, ap, sym, subst, ◌∙◌, List, length, Result, Ok, Err, true, inl, inr}
-use Rattle.std.specs.Prelude.{⊤, IsTrue, min}
+use Rattle.std.specs.Prelude.{◌⊎◌, IsTrue, min}
 use Rattle.std.proofs.lemmas.List.{length-set}
-use Rattle.std.proofs.lemmas.Bool.{cases_eq}
+use Rattle.std.proofs.lemmas.Bool.{cases_eq, cases_lt}
 use Rattle.std.proofs.Math.Nat.{mul-le-mul, div-le_self}
 use Rattle.imago_storage.specs.State.{StorageState, Rose}
 use Rattle.imago_storage.specs.declared.fault.Fault.{Fault}
@@ -19,16 +19,17 @@ use Rattle.qcow2_alloc.specs.declared.cache.MetadataCaches.{MetadataCaches}
 use Rattle.qcow2_alloc.specs.declared.file.ImageFile.{ImageFile}
 use Rattle.qcow2_alloc.specs.Allocators.{metadata_of, LowersCluster}
 use Rattle.qcow2_alloc.specs.Caches.{order_of}
-use Rattle.qcow2_alloc.specs.Freeing.{Frees, MayFree, WhyNotFreed, CountsFreeing}
+use Rattle.qcow2_alloc.specs.Freeing.{Frees, MayFree, WhyNotFreed, CountsFreeing, IsWholeOrCalm}
 use Rattle.qcow2_alloc.specs.FreeList.{entry_at, shorter, shortened, listed}
 use Rattle.qcow2_alloc.specs.Going.{IsWhole}
 use Rattle.qcow2_alloc.specs.Quiet.{Metadata, IsSound, IsQuiet, counted, in_memory, waiting, waiting_metadata, metadata_in}
 use Rattle.qcow2_alloc.proofs.FreeingClusters.{LosesOne, left, cluster-freed, freeing-caused, counts-stay, freeing-stays}
 use Rattle.qcow2_alloc.proofs.FreeingLists.{last, last-off, metadata-less, metadata-last, entry-shortened}
+use Rattle.qcow2_alloc.proofs.Loose.{spare-on}
 use Rattle.qcow2_alloc.proofs.Patches.{shaped-in}
 use Rattle.qcow2_alloc.proofs.QuietCounters.{here-one}
 use Rattle.qcow2_alloc.proofs.QuietFlushes.{quiet-none, memory-quietly}
-use Rattle.qcow2_alloc.proofs.QuietThen.{quietly-then}
+use Rattle.qcow2_alloc.proofs.QuietThen.{calm-behind, calmly-then}
 use Rattle.qcow2_alloc.proofs.QuietEntries.{metadata-remove}
 use Rattle.qcow2_alloc.proofs.Listed.{listed-remove, covers-none}
 use Rattle.imago_storage.proofs.Composing.{keeps_on}
@@ -87,6 +88,17 @@ module _ {S : Type 0} (state : S → StorageState) (table : TableValue) (es : Li
   falls mark (Ok done) = omega arith
   falls mark (Err fault) = omega arith
 
+  fell : (mark : ℕ) (result : Result Unit Fault) → (moved mark result ≡ mark) ⊎ (listed (left state table c es (shortened es i 1) result) (moved mark result) < listed es (moved mark result))
+  fell mark (Ok done) = elim (cases_lt c mark) [
+    | inl lower ↦
+        let at : min mark c ≡ c = omega (arith, lower) in
+        let off = last-off es i inside some c in
+        let one = here-one c in
+        inr (subst (λ n. listed (shortened es i 1) n < listed es n) (sym at) (omega (arith, off, one)))
+    | inr above ↦ inl (omega (arith, above))
+  ]
+  fell mark (Err fault) = inl refl
+
   pub last-freed : (old : MetadataCaches S) (before : ImageFile S) (mark : ℕ) (result : Result Unit Fault) (new : MetadataCaches S) (after : ImageFile S) → MayFree (order_of old) (entry_at es i) → LowersCluster state table c old before result new after
       → Frees state table old before mark es result new after (moved mark result) (left state table c es (shortened es i 1) result)
   last-freed old before mark result new after may lowers =
@@ -95,34 +107,36 @@ module _ {S : Type 0} (state : S → StorageState) (table : TableValue) (es : Li
       let quiet = cluster-freed state table c es (shortened es i 1) old before result new after l lowers in
       record {
         quiet = quiet;
-        marked = λ keeps sound whole marked d below. by-result result whole (quiet.holds keeps sound whole).0 below (λ away under. let same = counts-stay state table c es (shortened es i 1) old before result new after l lowers (keeps, sound) whole d away in let was = marked d under in omega (arith, same, was));
+        marked = λ keeps sound why marked d below. by-result result (quiet.holds keeps sound why).0 below (λ away under. let same = counts-stay state table c es (shortened es i 1) old before result new after l lowers (keeps, sound) why d away in let was = marked d under in omega (arith, same, was));
         lower = falls mark result;
+        fallen = fell mark result;
         header = stays.header;
-        loose = stays.loose;
+        pins = stays.pins;
         room = stays.room;
         less = less result;
         fewer = fewer result;
         cause = freeing-caused state table c es (shortened es i 1) old before result new after l lowers waits;
       }
     where
-      by-result : (result : Result Unit Fault) → IsWhole result → IsSound (metadata_of state after new table (left state table c es (shortened es i 1) result)) → {d : ℕ} → d < moved mark result
+      by-result : (result : Result Unit Fault) → IsSound (metadata_of state after new table (left state table c es (shortened es i 1) result)) → {d : ℕ} → d < moved mark result
           → (d ≢ c → d < mark → 0 < counted (metadata_of state after new table (left state table c es (shortened es i 1) result)) d) → 0 < counted (metadata_of state after new table (left state table c es (shortened es i 1) result)) d
-      by-result (Ok done) whole sound below others = others (λ same. omega (arith, same, below)) (omega (arith, below))
-      by-result (Err fault) whole sound {d} below others = elim (cases_eq d c) [
+      by-result (Ok done) sound below others = others (λ same. omega (arith, same, below)) (omega (arith, below))
+      by-result (Err fault) sound {d} below others = elim (cases_eq d c) [
         | inl same ↦ let w = waits in let covered = sound.covered c in subst (λ n. 0 < counted (metadata_of state after new table es) n) (sym same) (omega (arith, w, covered))
         | inr away ↦ others away below
       ]
 
   -- An entry past the greatest number isn't one of a sound image.
-  pub far-refused : (old : MetadataCaches S) (before : ImageFile S) (mark : ℕ) → 2 ^ 64 ≤ c → Frees state table old before mark es (Err Counter) old before mark es
+  pub far-refused : (old : MetadataCaches S) (before : ImageFile S) (mark : ℕ) → 2 ^ 64 ≤ c → Frees state table old before mark es (Err DamagedTable) old before mark es
   far-refused old before mark far =
       let m = metadata_of state before old table es in
       record {
-        quiet = memory-quietly ⊤ (λ _. 0) (λ _. 0) (state before.image) m m (λ sound whole. (sound, quiet-none m sound));
+        quiet = memory-quietly _ (λ _. 0) (λ _. 0) (state before.image) m m (λ sound whole. (sound, quiet-none m sound));
         marked = λ keeps sound whole marked. marked;
         lower = omega arith;
+        fallen = inl refl;
         header = refl;
-        loose = λ loose. loose;
+        pins = omega arith;
         room = record { tables = refl; blocks = refl };
         less = λ d. omega arith;
         fewer = omega arith;
@@ -142,6 +156,17 @@ counts-then : (sound sound' loose loose' : Type 0) (a b c : ℕ) → (sound' →
 counts-then sound sound' loose loose' a b c from from' same (Ok done) counts = counts ∙ same
 counts-then sound sound' loose loose' a b c from from' same (Err fault) why = why-freed-wider sound sound' loose loose' a b c from from' same fault why
 
+-- The mark falls to what was freed, over more calls too.
+fallen-then : (mark mark1 mark2 : ℕ) (es es1 es2 : List FreeEntry) → ((d : ℕ) → listed es1 d ≤ listed es d) → ((d : ℕ) → listed es2 d ≤ listed es1 d) → (mark1 ≡ mark) ⊎ (listed es1 mark1 < listed es mark1) → (mark2 ≡ mark1) ⊎ (listed es2 mark2 < listed es1 mark2)
+    → (mark2 ≡ mark) ⊎ (listed es2 mark2 < listed es mark2)
+fallen-then mark mark1 mark2 es es1 es2 less less' first second = elim second [
+  | inr fell ↦ let le = less mark2 in inr (omega (arith, fell, le))
+  | inl same ↦ elim first [
+    | inl was ↦ inl (same ∙ was)
+    | inr fell ↦ let le = less' mark1 in inr (subst (λ n. listed es2 n < listed es n) (sym same) (omega (arith, fell, le)))
+  ]
+]
+
 -- a call that succeeded
 abbrev pub freed : Result Unit Fault
 freed = Ok tt
@@ -156,11 +181,12 @@ module _ {S : Type 0} (state : S → StorageState) (table : TableValue) where
   frees-none old before mark es =
       let m = metadata_of state before old table es in
       record {
-        quiet = memory-quietly ⊤ (λ _. 0) (λ _. 0) (state before.image) m m (λ sound whole. (sound, quiet-none m sound));
+        quiet = memory-quietly _ (λ _. 0) (λ _. 0) (state before.image) m m (λ sound whole. (sound, quiet-none m sound));
         marked = λ keeps sound whole marked. marked;
         lower = omega arith;
+        fallen = inl refl;
         header = refl;
-        loose = λ loose. loose;
+        pins = omega arith;
         room = record { tables = refl; blocks = refl };
         less = λ d. omega arith;
         fewer = omega arith;
@@ -176,17 +202,26 @@ module _ {S : Type 0} (state : S → StorageState) (table : TableValue) where
       let le' = second.lower in
       let few = first.fewer in
       let few' = second.fewer in
+      let pins = first.pins in
+      let pins' = second.pins in
       record {
-        quiet = quietly-then ⊤ (IsWhole result) (λ _. 0) (λ _. 0) (λ _. 0) (λ _. 0) (state fA.image) (metadata_of state fA A table es) (state fB.image) (metadata_of state fB B table es1) (state fC.image) (metadata_of state fC C table es2) tt (λ sound d some. refl) first.quiet second.quiet;
-        marked = λ keeps sound whole marked. second.marked (on keeps) (first.quiet.holds keeps sound tt).0 whole (first.marked keeps sound tt marked);
+        quiet = calmly-then _ (IsWhole result) (λ _. 0) (λ _. 0) (λ _. 0) (λ _. 0) (state fA.image) (metadata_of state fA A table es) (state fB.image) (metadata_of state fB B table es1) (state fC.image) (metadata_of state fC C table es2) (inl tt) (λ sound d some. refl) first.quiet second.quiet;
+        marked = λ keeps sound why marked. second.marked (on keeps) (first.quiet.holds keeps sound (inl tt)).0 (behind keeps sound why) (first.marked keeps sound (inl tt) marked);
         lower = omega (arith, le, le');
+        fallen = fallen-then mark mark1 mark2 es es1 es2 first.less second.less first.fallen second.fallen;
         header = second.header ∙ first.header;
-        loose = λ loose. second.loose (first.loose loose);
+        pins = omega (arith, pins, pins');
         room = record { tables = second.room.tables ∙ first.room.tables; blocks = second.room.blocks ∙ first.room.blocks };
         less = λ d. let l = first.less d in let l' = second.less d in omega (arith, l, l');
         fewer = omega (arith, few, few');
-        cause = counts-then _ _ _ _ _ _ _ (λ holds. (on holds.0, (first.quiet.holds holds.0 holds.1 tt).0)) first.loose first.cause result second.cause;
+        cause = counts-then _ _ _ _ _ _ _ (λ holds. (on holds.0, (first.quiet.holds holds.0 holds.1 (inl tt)).0)) (spare-on A B first.pins first.room) first.cause result second.cause;
       }
+    where
+      behind : IsTrue (state fA.image).shape.keeps → IsSound (metadata_of state fA A table es) → IsWholeOrCalm result (state fA.image) (state fC.image) → IsWholeOrCalm result (state fB.image) (state fC.image)
+      behind keeps sound why = elim why [
+        | inl whole ↦ inl whole
+        | inr calm ↦ inr (calm-behind _ (λ _. 0) (λ _. 0) (state fA.image) (metadata_of state fA A table es) (state fB.image) (metadata_of state fB B table es1) (state fC.image) keeps sound first.quiet second.quiet.later calm)
+      ]
 
   -- An entry of no clusters is taken off the list.
   pub empty-removed : (old : MetadataCaches S) (before : ImageFile S) (mark : ℕ) (es : List FreeEntry) (i : ℕ) → i < length es → (entry_at es i).count ≡ 0 → Frees state table old before mark es freed old before mark (remove es i)
@@ -196,11 +231,12 @@ module _ {S : Type 0} (state : S → StorageState) (table : TableValue) where
       let metadata : (d : ℕ) → listed (metadata_in (remove es i)) d ≤ listed (metadata_in es) d = λ d. let off = metadata-remove es i d inside in omega (arith, off) in
       let long = length-remove es i inside in
       record {
-        quiet = memory-quietly ⊤ (λ _. 0) (λ _. 0) (state before.image) m (record m { pending = remove es i }) (λ sound whole. waits-quiet m (remove es i) sound less metadata);
+        quiet = memory-quietly _ (λ _. 0) (λ _. 0) (state before.image) m (record m { pending = remove es i }) (λ sound whole. waits-quiet m (remove es i) sound less metadata);
         marked = λ keeps sound whole marked. marked;
         lower = omega arith;
+        fallen = inl refl;
         header = refl;
-        loose = λ loose. loose;
+        pins = omega arith;
         room = record { tables = refl; blocks = refl };
         less = λ d. let same = less d in omega (arith, same);
         fewer = omega (arith, long);

@@ -1,11 +1,13 @@
 -- The refcount table grows once the order of writes was announced.
-use Rattle.std.proofs.Common.{inl, ◌≡◌, ℕ, ◌++◌, refl, subst, ◌∙◌, List, length, Result, Ok, Err}
+use Rattle.std.proofs.Common.{inl, ◌≡◌, ℕ, ◌++◌, refl, ap, subst, ◌∙◌, List, length, Result, Ok, Err}
 use Rattle.std.specs.Prelude.{IsTrue, OnOk, IfErr, MatchResult}
 use Rattle.imago_storage.specs.State.{StorageState}
 use Rattle.imago_storage.specs.declared.fault.Fault.{Fault}
+use Rattle.imago_storage.specs.declared.fault.Fault.TheVariants.{Memory, DamagedTable, Limit}
 use Rattle.qcow2_types.specs.Header.{Header, words_of_cluster}
 use Rattle.qcow2_types.specs.Counts.{counters_of_block}
 use Rattle.qcow2_types.specs.Pending.{FreeEntry}
+use Rattle.qcow2_types.specs.Words.{Layout}
 use Rattle.qcow2_metadata.specs.Growth.{IsGrownLength}
 use Rattle.qcow2_metadata.specs.Tables.{TableValue}
 use Rattle.qcow2_alloc.specs.declared.cache.CacheDependency.TheVariants.{L2DependsOnRb}
@@ -18,11 +20,13 @@ use Rattle.qcow2_alloc.specs.Freeing.{IsLoose}
 use Rattle.qcow2_alloc.specs.Going.{IsMild, IsWhole}
 use Rattle.qcow2_alloc.specs.GrowingTables.{GrowsTable, NoPlaceToGrow, TableGrown, table_run}
 use Rattle.qcow2_alloc.specs.HandingOut.{GrowsReftable, StaysInShape}
+use Rattle.qcow2_alloc.specs.MovingTables.{WhyNotGrown}
 use Rattle.qcow2_alloc.specs.Quiet.{Metadata, IsSound}
 use Rattle.qcow2_alloc.proofs.Allocating.{moved-none}
 use Rattle.qcow2_alloc.proofs.AnnouncedOrders.{Announced, no-place-as, grown-as, quiet-behind, sound-behind, raised-behind, caused-behind}
 use Rattle.qcow2_alloc.proofs.FreeingEntries.{failed}
 use Rattle.qcow2_alloc.proofs.MadeBlocks.{allocated-wider}
+use Rattle.qcow2_alloc.proofs.QuietFlushes.{memory-quietly, quiet-none}
 use Rattle.qcow2_alloc.proofs.ReadyingBlocks.{leaks-none}
 
 module _ {S : Type 0} (state : S → StorageState) (mark at : ℕ) (table : TableValue) (old : MetadataCaches S) (before : ImageFile S) (pending : List FreeEntry) (mid : MetadataCaches S) (between : ImageFile S) where
@@ -39,6 +43,29 @@ module _ {S : Type 0} (state : S → StorageState) (mark at : ℕ) (table : Tabl
     loose = λ all. loose (first.loose all);
     room = record { tables = room.tables ∙ first.room.tables; blocks = room.blocks ∙ first.room.blocks };
   }
+
+  -- There was no grown copy of the table, or no room for the clusters of this one: nothing has changed.
+  pub not-copied : (fault : Fault) → WhyNotGrown before.header.fields table at fault → GrowsReftable state mark at table old before pending (failed fault) table old before pending
+  not-copied fault why = record {
+    leaked = λ _. 0;
+    leaks = leaks-none (IsLoose old) (failed fault);
+    quiet = memory-quietly (IsWhole (failed fault)) (λ _. 0) (λ _. 0) (state before.image) Start Start (λ sound whole. (sound, quiet-none Start sound));
+    raised = λ keeps sound whole c. inl refl;
+    grown = λ keeps sound. tt;
+    enough = tt;
+    order = tt;
+    shape = record { moved = moved-none before.header before.header refl; loose = λ loose. loose; room = record { tables = refl; blocks = refl } };
+    waits = tt;
+    kept = refl;
+    stays = λ mild. (refl, refl);
+    cause = by-fault fault why;
+  }
+    where
+      by-fault : (f : Fault) → WhyNotGrown before.header.fields table at f → WhyNotAllocated (IsTrue (state before.image).shape.keeps × IsSound Start) (IsLoose old) (IsTrue (state before.image).shape.keeps → IsSound Start → NoPlaceToGrow Start mark at) (state before.image).faults (state before.image).faults f
+      by-fault Memory why = tt
+      by-fault DamagedTable why = λ known. why (ap (λ (l : Layout). l.cluster_bits) known.1.table.layout)
+      by-fault (Limit number) why = (λ keeps sound. inl why, refl)
+      by-fault other why = absurd why
 
   -- Where that was refused nothing grew,
   pub not-announced : (fault : Fault) → Announced state table pending old before (failed fault) mid between → GrowsReftable state mark at table old before pending (failed fault) table mid between pending

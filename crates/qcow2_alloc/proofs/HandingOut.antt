@@ -1,10 +1,10 @@
 -- Clusters are handed out once the order of writes was announced.
 use Rattle.std.proofs.Common.{◌≡◌, ◌≢◌, ℕ, ◌+◌, ◌-◌, ◌/◌, ◌<◌, ◌≤◌, [], Bool, refl, arith, subst, ◌∙◌, inl, inr, List, length, Option, None, Some, Result, Ok, Err}
-use Rattle.std.specs.Prelude.{⊤, IsTrue, OnOk, IfOk, MatchResult}
+use Rattle.std.specs.Prelude.{⊤, IsTrue, OnOk, OnErr, IfOk, MatchResult}
 use Rattle.std.proofs.lemmas.Bool.{le-leb, lt-ltb}
 use Rattle.imago_storage.specs.State.{StorageState}
 use Rattle.imago_storage.specs.declared.fault.Fault.{Fault}
-use Rattle.imago_storage.specs.declared.fault.Fault.TheVariants.{Limit}
+use Rattle.imago_storage.specs.declared.fault.Fault.TheVariants.{Memory, Limit}
 use Rattle.imago_storage.proofs.Composing.{keeps_on}
 use Rattle.qcow2_types.specs.Counts.{counters_of_block}
 use Rattle.qcow2_types.specs.Header.{Header}
@@ -14,18 +14,18 @@ use Rattle.qcow2_metadata.specs.Tables.{TableValue}
 use Rattle.qcow2_alloc.specs.declared.cache.CacheDependency.TheVariants.{L2DependsOnRb}
 use Rattle.qcow2_alloc.specs.declared.cache.MetadataCaches.{MetadataCaches}
 use Rattle.qcow2_alloc.specs.declared.file.ImageFile.{ImageFile}
-use Rattle.qcow2_alloc.specs.Allocating.{MovedTable, OnlyRaised, WhyNotAllocated}
+use Rattle.qcow2_alloc.specs.Allocating.{MovedTable, WhyNotAllocated}
 use Rattle.qcow2_alloc.specs.Allocators.{metadata_of}
 use Rattle.qcow2_alloc.specs.Caches.{order_of}
 use Rattle.qcow2_alloc.specs.Crowding.{IsCrowded}
-use Rattle.qcow2_alloc.specs.Freeing.{Frees, IsLoose, IsMarked, WhyNotFreed}
+use Rattle.qcow2_alloc.specs.Freeing.{Frees, HasSpareRoom, IsLoose, IsMarked, WhyNotFreed}
 use Rattle.qcow2_alloc.specs.FreeList.{covers}
 use Rattle.qcow2_alloc.specs.Going.{IsWhole}
-use Rattle.qcow2_alloc.specs.GrowingTables.{NoPlaceToGrow}
+use Rattle.qcow2_alloc.specs.GrowingTables.{IsLengthenedByTable, NoPlaceToGrow}
 use Rattle.qcow2_alloc.specs.HandingOut.{AllocatesClusterAt, AllocatesClusters, AreUnnamed, IsBarred, IsFreed, IsHandedAt, IsOneAt, IsSearched, StaysInShape, handed_at}
 use Rattle.qcow2_alloc.specs.HandingOutOne.{AllocatesAt}
 use Rattle.qcow2_alloc.specs.Quiet.{Metadata, IsSound, Quietly, counted}
-use Rattle.qcow2_alloc.specs.ReadyingRuns.{Allocates, IsLengthened, IsRunCounted, handed_by}
+use Rattle.qcow2_alloc.specs.ReadyingRuns.{Allocates, IsRunCounted, handed_by}
 use Rattle.qcow2_alloc.proofs.Allocating.{moved-none}
 use Rattle.qcow2_alloc.proofs.AnnouncedOrders.{Announced, no-place-as, quiet-behind, sound-behind, raised-behind, marked-behind, caused-behind}
 use Rattle.qcow2_alloc.proofs.CountingOne.{not_handed}
@@ -33,9 +33,11 @@ use Rattle.qcow2_alloc.proofs.EnsuringBlocks.{why-allocated-wider}
 use Rattle.qcow2_alloc.proofs.FreeingEntries.{failed}
 use Rattle.qcow2_alloc.proofs.GrowingReftables.{shape-behind}
 use Rattle.qcow2_alloc.proofs.HandedOut.{handed-unnamed}
+use Rattle.qcow2_alloc.proofs.Loose.{loose-on, loose-spares}
 use Rattle.qcow2_alloc.proofs.MadeBlocks.{allocated-wider}
+use Rattle.qcow2_alloc.proofs.QuietFlushes.{memory-quietly, quiet-none, quietly-weaker}
 use Rattle.qcow2_alloc.proofs.QuietThen.{quietly-then, quietly-otherwise}
-use Rattle.qcow2_alloc.proofs.ReadyingBlocks.{leaks-none, lengthened-none}
+use Rattle.qcow2_alloc.proofs.ReadyingBlocks.{leaks-none}
 
 module _ {S : Type 0} (state : S → StorageState) (mark cluster : ℕ) (table : TableValue) (old : MetadataCaches S) (before : ImageFile S) (pending : List FreeEntry) (mid : MetadataCaches S) (between : ImageFile S) where
   abbrev Start : Metadata
@@ -58,7 +60,7 @@ module _ {S : Type 0} (state : S → StorageState) (mark cluster : ℕ) (table :
     marked = λ keeps sound whole marked c below. let same = first.counts keeps sound whole c in let was = marked c below in omega (arith, same, was);
     order = tt;
     shape = shape-behind state mark cluster table old before pending mid between (failed fault) mid between first (moved-none between.header between.header refl) (λ loose. loose) (record { tables = refl; blocks = refl });
-    list = lengthened-none pending;
+    list = inl refl;
     cause = allocated-wider _ _ _ _ _ _ _ _ (λ holds. holds) (λ loose. loose) refl fault first.cause;
   }
 
@@ -70,12 +72,13 @@ module _ {S : Type 0} (state : S → StorageState) (mark cluster : ℕ) (table :
 
     answered : (r : Result (Option FreeEntry) Fault) → IsTrue (state before.image).shape.keeps → IsSound Start → IfOk r (IsHandedAt (IsBarred Mid mark cluster) cluster Mid End) → IfOk r (IsHandedAt (IsBarred Start mark cluster) cluster Start End)
     answered (Ok (Some entry)) keeps sound (zero, is, unnamed, free) = (let same = first.counts keeps sound tt cluster in omega (arith, same, zero), is, unnamed, free)
-    answered (Ok None) keeps sound (inl more) = inl more
-    answered (Ok None) keeps sound (inr (inl far)) = inr (inl (subst (λ (H : Header). IsInReach H.fields.cluster_bits cluster → ⊥) first.header far))
-    answered (Ok None) keeps sound (inr (inr (past, none))) = inr (inr (
+    answered (Ok None) keeps sound (inl more) = inl (let same = first.counts keeps sound tt cluster in omega (arith, same, more))
+    answered (Ok None) keeps sound (inr (inl stands)) = inr (inl stands)
+    answered (Ok None) keeps sound (inr (inr (inl far))) = inr (inr (inl (subst (λ (H : Header). IsInReach H.fields.cluster_bits cluster → ⊥) first.header far)))
+    answered (Ok None) keeps sound (inr (inr (inr (past, none)))) = inr (inr (inr (
       subst (λ (H : Header). length table.words ≤ cluster / counters_of_block H.fields) first.header past,
       no-place-as Start Mid first.header refl (first.counts keeps sound tt) mark (cluster / counters_of_block before.header.fields) (subst (λ (H : Header). NoPlaceToGrow Mid mark (cluster / counters_of_block H.fields)) first.header none),
-    ))
+    )))
     answered (Err fault) keeps sound said = tt
 
     ordered : (r : Result (Option FreeEntry) Fault) → OnOk r (order_of new ≡ L2DependsOnRb)
@@ -105,8 +108,25 @@ module _ {S : Type 0} (state : S → StorageState) (mark cluster : ℕ) (table :
           at.marked first.order still.0 still.1 whole (marked-behind state table pending old before mid between first mark keeps sound marked);
       order = ordered result;
       shape = shape-behind state mark cluster table old before pending mid between (Ok tt) new after first at.did.step.moved at.did.step.loose at.did.step.room;
-      list = at.did.list;
+      list = subst (λ (H : Header). IsLengthenedByTable H.fields table table' pending pending') first.header at.did.list;
       cause = caused result at.did.cause;
+    }
+
+-- Nothing was freed, and nothing has changed, for want of memory.
+memory-unfreed : {S : Type 0} (state : S → StorageState) (table : TableValue) (old : MetadataCaches S) (before : ImageFile S) (mark : ℕ) (pending : List FreeEntry) → Frees state table old before mark pending (failed Memory) old before mark pending
+memory-unfreed state table old before mark pending =
+    let m = metadata_of state before old table pending in
+    record {
+      quiet = memory-quietly _ (λ _. 0) (λ _. 0) (state before.image) m m (λ sound whole. (sound, quiet-none m sound));
+      marked = λ keeps sound whole marked. marked;
+      lower = omega arith;
+      fallen = inl refl;
+      header = refl;
+      pins = omega arith;
+      room = record { tables = refl; blocks = refl };
+      less = λ c. omega arith;
+      fewer = omega arith;
+      cause = tt;
     }
 
 -- what is answered with a run, and where that is refused
@@ -115,6 +135,12 @@ run_so entry = Ok entry
 
 abbrev pub refused_run : Fault → Result FreeEntry Fault
 refused_run fault = Err fault
+
+-- An answer of the search isn't one that was cut off.
+searched-whole : (r : Result FreeEntry Fault) → IsSearched r → IsWhole r
+searched-whole (Ok entry) searched = tt
+searched-whole (Err (Limit number)) searched = tt
+searched-whole (Err fault) searched = absurd searched
 
 -- A cluster of an entry is covered by it.
 covers-inside : (c : ℕ) (e : FreeEntry) → e.first ≤ c → c < e.first + e.count → covers c e ≡ 1
@@ -127,10 +153,10 @@ module _ {S : Type 0} (state : S → StorageState) (mark n : ℕ) (metadata : Bo
 
   -- That was refused,
   module _ (fault : Fault) (mark1 : ℕ) (A : MetadataCaches S) (fA : ImageFile S) (pA : List FreeEntry) (frees : Frees state table old before mark pending (failed fault) A fA mark1 pA) where
-    not-limited : IsSearched (refused_run fault) → WhyNotFreed (IsTrue (state before.image).shape.keeps × IsSound First) (IsLoose old) (state before.image).faults (state fA.image).faults fault → ⊥
+    not-limited : IsSearched (refused_run fault) → WhyNotFreed (IsTrue (state before.image).shape.keeps × IsSound First) (HasSpareRoom old) (state before.image).faults (state fA.image).faults fault → ⊥
     not-limited searched why = by-fault fault searched why
       where
-        by-fault : (f : Fault) → IsSearched (refused_run f) → WhyNotFreed (IsTrue (state before.image).shape.keeps × IsSound First) (IsLoose old) (state before.image).faults (state fA.image).faults f → ⊥
+        by-fault : (f : Fault) → IsSearched (refused_run f) → WhyNotFreed (IsTrue (state before.image).shape.keeps × IsSound First) (HasSpareRoom old) (state before.image).faults (state fA.image).faults f → ⊥
         by-fault (Limit number) searched why = why
         by-fault f searched why = searched
 
@@ -138,7 +164,7 @@ module _ {S : Type 0} (state : S → StorageState) (mark n : ℕ) (metadata : Bo
     run-not-freed = record {
       leaked = λ _. 0;
       leaks = leaks-none (IsLoose old) (refused_run fault);
-      quiet = frees.quiet;
+      quiet = quietly-weaker _ (IsWhole (refused_run fault)) (λ _. 0) (λ _. 0) (state before.image) First (state fA.image) (metadata_of state fA A table pA) (λ sound whole. inl whole) frees.quiet;
       run = tt;
       unnamed = λ keeps sound. tt;
       mid = First;
@@ -146,14 +172,19 @@ module _ {S : Type 0} (state : S → StorageState) (mark n : ℕ) (metadata : Bo
       freed = λ keeps sound searched. absurd (not-limited searched frees.cause);
       fresh = λ keeps sound. tt;
       taken = λ keeps sound. tt;
-      raised = λ keeps sound. tt;
-      marked = frees.marked;
+      raised = λ keeps sound searched. absurd (not-limited searched frees.cause);
+      marked = λ keeps sound whole. frees.marked keeps sound (inl whole);
       further = tt;
+      stays = λ searched. absurd (not-limited searched frees.cause);
       order = tt;
-      shape = record { moved = moved-none before.header fA.header frees.header; loose = frees.loose; room = frees.room };
-      list = tt;
-      cause = allocated-wider _ _ _ _ _ _ _ _ (λ holds. holds) (λ loose. loose) refl fault frees.cause;
+      shape = record { moved = moved-none before.header fA.header frees.header; loose = loose-on old A frees.pins frees.room; room = frees.room };
+      list = λ searched. absurd (not-limited searched frees.cause);
+      cause = allocated-wider _ _ _ _ _ _ _ _ (λ holds. holds) (loose-spares old) refl fault frees.cause;
     }
+
+  -- or not begun, for want of memory,
+  pub run-not-held : AllocatesClusters state mark n metadata table old before pending (refused_run Memory) table old before pending mark
+  run-not-held = run-not-freed Memory mark old before pending (memory-unfreed state table old before mark pending)
 
   -- or there was nothing left.
   module _ (mark1 : ℕ) (A : MetadataCaches S) (fA : ImageFile S) (frees : Frees state table old before mark pending (Ok tt) A fA mark1 []) (B : MetadataCaches S) (fB : ImageFile S) where
@@ -163,13 +194,16 @@ module _ {S : Type 0} (state : S → StorageState) (mark n : ℕ) (metadata : Bo
     abbrev Ready : Metadata
     Ready = metadata_of state fB B table []
 
+    freed-loose : IsLoose old → IsLoose A
+    freed-loose = loose-on old A frees.pins frees.room
+
     still-sound : IsTrue (state before.image).shape.keeps → IsSound First → IsTrue (state fA.image).shape.keeps × IsSound Freed
-    still-sound keeps sound = (keeps_on (state before.image) (state fA.image) frees.quiet.shape keeps, (frees.quiet.holds keeps sound tt).0)
+    still-sound keeps sound = (keeps_on (state before.image) (state fA.image) frees.quiet.shape keeps, (frees.quiet.holds keeps sound (inl tt)).0)
 
     quiet-on : (ok : Type 0) (handed : ℕ → ℕ) (s : StorageState) (m : Metadata) → Quietly ok handed (λ _. 0) (state fA.image) Freed s m → Quietly ok handed (λ _. 0) (state before.image) First s m
     quiet-on ok handed s m second =
         quietly-otherwise ok (λ c. 0 + handed c) (λ c. 0 + 0) handed (λ _. 0) (state before.image) First s m (λ sound c. omega arith) (λ sound c used none. omega arith)
-        (quietly-then ⊤ ok (λ _. 0) (λ _. 0) handed (λ _. 0) (state before.image) First (state fA.image) Freed s m tt (λ sound c some. refl) frees.quiet second)
+        (quietly-then _ ok (λ _. 0) (λ _. 0) handed (λ _. 0) (state before.image) First (state fA.image) Freed s m (inl tt) (λ sound c some. refl) frees.quiet second)
 
     -- The announcement was refused,
     pub run-not-announced : (fault : Fault) → Announced state table [] A fA (failed fault) B fB → AllocatesClusters state mark n metadata table old before pending (refused_run fault) table B fB [] mark1
@@ -184,20 +218,21 @@ module _ {S : Type 0} (state : S → StorageState) (mark n : ℕ) (metadata : Bo
       freed = λ keeps sound searched. absurd (never fault searched second.cause);
       fresh = λ keeps sound. tt;
       taken = λ keeps sound. tt;
-      raised = λ keeps sound. tt;
+      raised = λ keeps sound searched. absurd (never fault searched second.cause);
       marked = λ keeps sound whole marked.
           let still = still-sound keeps sound in
-          let was = frees.marked keeps sound tt marked in
+          let was = frees.marked keeps sound (inl tt) marked in
           λ c below. let same = second.counts still.0 still.1 whole c in let more = was c below in omega (arith, same, more);
       further = tt;
+      stays = λ searched. absurd (never fault searched second.cause);
       order = tt;
       shape = record {
         moved = moved-none before.header fB.header (second.header ∙ frees.header);
-        loose = λ loose. second.loose (frees.loose loose);
+        loose = λ loose. second.loose (freed-loose loose);
         room = record { tables = second.room.tables ∙ frees.room.tables; blocks = second.room.blocks ∙ frees.room.blocks };
       };
-      list = tt;
-      cause = allocated-wider _ _ _ _ _ _ _ _ (λ holds. still-sound holds.0 holds.1) frees.loose frees.cause fault second.cause;
+      list = λ searched. absurd (never fault searched second.cause);
+      cause = allocated-wider _ _ _ _ _ _ _ _ (λ holds. still-sound holds.0 holds.1) freed-loose frees.cause fault second.cause;
     }
       where
         never : (f : Fault) → IsSearched (refused_run f) → WhyNotFreed (IsTrue (state fA.image).shape.keeps × IsSound Freed) (IsLoose A) (state fA.image).faults (state fB.image).faults f → ⊥
@@ -214,7 +249,7 @@ module _ {S : Type 0} (state : S → StorageState) (mark n : ℕ) (metadata : Bo
       ready-sound keeps sound = let still = still-sound keeps sound in sound-behind state table [] A fA B fB second still.0 still.1
 
       ready-marked : IsTrue (state before.image).shape.keeps → IsSound First → IsMarked First mark → IsMarked Ready mark1
-      ready-marked keeps sound marked = let still = still-sound keeps sound in marked-behind state table [] A fA B fB second mark1 still.0 still.1 (frees.marked keeps sound tt marked)
+      ready-marked keeps sound marked = let still = still-sound keeps sound in marked-behind state table [] A fA B fB second mark1 still.0 still.1 (frees.marked keeps sound (inl tt) marked)
 
       is-freed : IsTrue (state before.image).shape.keeps → IsSound First → IsFreed First mark Ready mark1
       is-freed keeps sound = record {
@@ -231,7 +266,7 @@ module _ {S : Type 0} (state : S → StorageState) (mark n : ℕ) (metadata : Bo
       same-shape : StaysInShape old before new after
       same-shape = record {
         moved = subst (λ (H : Header). MovedTable H after.header) (second.header ∙ frees.header) third.step.moved;
-        loose = λ loose. third.step.loose (second.loose (frees.loose loose));
+        loose = λ loose. third.step.loose (second.loose (freed-loose loose));
         room = record { tables = third.step.room.tables ∙ second.room.tables ∙ frees.room.tables; blocks = third.step.room.blocks ∙ second.room.blocks ∙ frees.room.blocks };
       }
 
@@ -257,13 +292,9 @@ module _ {S : Type 0} (state : S → StorageState) (mark n : ℕ) (metadata : Bo
       run-ordered (Ok entry) = third.step.order ∙ second.order
       run-ordered (Err fault) = tt
 
-      on-ok : (r : Result FreeEntry Fault) (P : Type 0) → P → OnOk r P
-      on-ok (Ok entry) P p = p
-      on-ok (Err fault) P p = tt
-
-      raised-ok : (r : Result FreeEntry Fault) → (IsWhole r → OnlyRaised Ready Last) → OnOk r (OnlyRaised Ready Last)
-      raised-ok (Ok entry) raised = raised tt
-      raised-ok (Err fault) raised = tt
+      stays-searched : (r : Result FreeEntry Fault) → OnErr r (mark' ≡ mark1) → OnErr r (IsSearched r → mark' ≡ mark1)
+      stays-searched (Ok entry) same = tt
+      stays-searched (Err fault) same = λ searched. same
 
       run-caused : (r : Result FreeEntry Fault)
           → MatchResult r (λ _. (state after.image).faults ≡ (state fB.image).faults)
@@ -274,14 +305,14 @@ module _ {S : Type 0} (state : S → StorageState) (mark n : ℕ) (metadata : Bo
           (IsTrue (state before.image).shape.keeps → IsSound First → IsCrowded Ready mark1 n) (state before.image).faults (state after.image).faults)
       run-caused (Ok entry) same = same ∙ second.cause ∙ frees.cause
       run-caused (Err fault) why =
-          why-allocated-wider _ _ _ _ _ _ _ _ _ (λ holds. still-sound holds.0 holds.1) frees.loose (λ full keeps sound. let still = still-sound keeps sound in full still.0 still.1) frees.cause fault
+          why-allocated-wider _ _ _ _ _ _ _ _ _ (λ holds. still-sound holds.0 holds.1) freed-loose (λ full keeps sound. let still = still-sound keeps sound in full still.0 still.1) frees.cause fault
           (caused-behind state table [] A fA B fB second _ (IsTrue (state fA.image).shape.keeps → IsSound Freed → IsCrowded Ready mark1 n) (state after.image).faults
           (λ full keeps sound. let still = sound-behind state table [] A fA B fB second keeps sound in full second.order still.0 still.1) fault why)
 
       pub run-announced : AllocatesClusters state mark n metadata table old before pending result table' new after pending' mark'
       run-announced = record {
         leaked = third.leaked;
-        leaks = record { none = third.leaks.none; pinned = λ loose. third.leaks.pinned (second.loose (frees.loose loose)) };
+        leaks = record { none = third.leaks.none; pinned = λ loose. third.leaks.pinned (second.loose (freed-loose loose)) };
         quiet = quiet-on (IsWhole result) (handed_by result third.leaked) (state after.image) Last
             (quiet-behind state table [] A fA B fB second (IsWhole result) (handed_by result third.leaked) (state after.image) Last third.step.quiet);
         run = runs;
@@ -291,11 +322,12 @@ module _ {S : Type 0} (state : S → StorageState) (mark n : ℕ) (metadata : Bo
         freed = λ keeps sound searched. is-freed keeps sound;
         fresh = λ keeps sound. let still = ready-sound keeps sound in third.fresh second.order still.0 still.1;
         taken = λ keeps sound. let still = ready-sound keeps sound in third.taken second.order still.0 still.1;
-        raised = λ keeps sound. let still = ready-sound keeps sound in raised-ok result (third.step.raised second.order still.0 still.1);
+        raised = λ keeps sound searched. let still = ready-sound keeps sound in third.step.raised second.order still.0 still.1 (searched-whole result searched);
         marked = λ keeps sound whole marked. let still = ready-sound keeps sound in third.marked second.order still.0 still.1 whole (ready-marked keeps sound marked);
         further = third.moved;
+        stays = stays-searched result third.stays;
         order = run-ordered result;
         shape = same-shape;
-        list = on-ok result (IsLengthened [] pending') third.list;
+        list = λ searched. third.list;
         cause = run-caused result third.cause;
       }

@@ -21,7 +21,7 @@ use Rattle.qcow2_alloc.specs.declared.file.ImageFile.{ImageFile}
 use Rattle.qcow2_alloc.specs.Cache.{MadeRoom, PutAfter, Overwritten, Inserted, hit, with_entries}
 use Rattle.qcow2_alloc.specs.Caches.{cached_in, order_of}
 use Rattle.qcow2_alloc.specs.CachesLending.{with_tables, table_flushes}
-use Rattle.qcow2_alloc.specs.Finding.{IsPinnedFull, CountsSearch}
+use Rattle.qcow2_alloc.specs.Finding.{IsPinnedFull, CountsSearch, pinned_in}
 use Rattle.qcow2_alloc.specs.Putting.{refusal_of, IsNewTable, TableInserted}
 use Rattle.qcow2_alloc.specs.Going.{Going, Always, ReadyTables, IsWhole, IsMild, AreBlocksInReach, CountsWrites, WhyNotWritten, WritesBlocks}
 use Rattle.qcow2_alloc.specs.Memory.{Cached, memory, written, written_table}
@@ -36,7 +36,7 @@ use Rattle.qcow2_alloc.proofs.Kept.{table-kept}
 use Rattle.qcow2_alloc.proofs.Places.{place-of-key, away-of-all}
 use Rattle.qcow2_alloc.proofs.Readying.{is-there}
 use Rattle.qcow2_alloc.proofs.SafeLaws.{safe-reach}
-use Rattle.qcow2_alloc.proofs.Searching.{found-wider, found-written}
+use Rattle.qcow2_alloc.proofs.Searching.{found-wider, found-written, no-more}
 use Rattle.qcow2_alloc.proofs.Staying.{table-stays}
 
 -- a flush that was refused
@@ -295,7 +295,7 @@ module _ {S : Type 0} (state : S → StorageState) (cluster : ℕ) (table : Tabl
         record {
           going = going-under before.header (order_of old) Fresh (IsMild fault) (state before.image) (state between.image) (cached_in old) (cached_in mid)
               (going-safely before.header (order_of old) Always (failed fault ≡ Ok tt) (IsMild fault) _ _ _ _ (λ safe mild. absurd (never fault safe mild why)) going);
-          put = record { over = λ there. tt; added = λ none. tt; refused = (refl, inl (ap (λ l. map written_table l) tables)); unpinned = λ u. subst (λ (l : List (ℕ × Slot TableValue)). AllByRecursion (λ e. e.1.pins ≡ 0) l) (sym tables) u };
+          put = record { over = λ there. tt; added = λ none. tt; refused = (refl, inl (ap (λ l. map written_table l) tables)); pinned = no-more (ap (λ l. pinned_in l) tables) };
           flushed = λ k slot way there. tt;
           roomy = not-roomy;
           blocks = ap (λ (c : Cached). c.blocks) kept;

@@ -17,6 +17,7 @@ pub mod Entering
 pub mod Counting
 pub mod Kept
 pub mod SafeLaws
+pub mod Pins
 pub mod Places
 pub mod Readying
 pub mod FindingTables
@@ -49,6 +50,7 @@ pub mod FreeingEntries
 pub mod QuietEntries
 pub mod QuietAnnouncing
 pub mod FreeingInTurn
+pub mod FreeingRest
 pub mod LoadingTable
 pub mod WordsKept
 pub mod AtOnce

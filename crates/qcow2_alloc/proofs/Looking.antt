@@ -28,13 +28,14 @@ use Rattle.qcow2_alloc.specs.Changes.{CachesBlock, StaysAsItIs}
 use Rattle.qcow2_alloc.specs.Finding.{BlockFound, IsPinnedFull, WhyNotFound}
 use Rattle.qcow2_alloc.specs.Freeing.{IsLoose, WhyNotFreed}
 use Rattle.qcow2_alloc.specs.Going.{Going, Always, IsWhole, AreTablesInReach, AreBlocksInReach}
-use Rattle.qcow2_alloc.specs.Memory.{Cached, memory, written_table}
+use Rattle.qcow2_alloc.specs.Memory.{Cached, memory}
 use Rattle.qcow2_alloc.specs.Quiet.{IsTableOf}
 use Rattle.qcow2_alloc.specs.Safety.{Safe, IsSettled, IsCachedBlock}
 use Rattle.qcow2_alloc.specs.Scanning.{Reads, AreCounted}
 use Rattle.qcow2_alloc.specs.SearchingClusters.{counts_in, IsSafeWith, Looked}
 use Rattle.qcow2_alloc.proofs.ChangingCounters.{cached-count}
-use Rattle.qcow2_alloc.proofs.Loose.{never-pinned, unpinned-written, unpinned-hit}
+use Rattle.qcow2_alloc.proofs.Loose.{loose-on, never-pinned}
+use Rattle.qcow2_alloc.proofs.Pins.{pinned-hit}
 use Rattle.qcow2_alloc.proofs.FreeingEntries.{why-freed-wider}
 use Rattle.qcow2_alloc.proofs.Going.{going-none, going-both, going-weaker, left-same}
 use Rattle.qcow2_alloc.proofs.MemoryWords.{places-in-memory}
@@ -143,11 +144,7 @@ module _ {S : Type 0} (state : S → StorageState) (table : TableValue) where
     why-search other why = absurd why
 
     loose-found : (answer : Result Unit Fault) → BlockFound state key old before answer new after → IsLoose old → IsLoose new
-    loose-found answer found loose = record {
-      tables = unpinned-written TableValue written_table (λ e. refl) (cached_in new).tables (cached_in old).tables found.tables loose.tables;
-      blocks = found.sought.unpinned loose.blocks;
-      room = subst (λ n. 0 < n) (sym found.room.blocks) loose.room;
-    }
+    loose-found answer found = loose-on old new found.sought.pinned found.room
 
     found-refused : {T : Type 0} (fault : Fault) → BlockFound state key old before (Err fault) new after → Looked state {T = T} table old before (Err fault) new after
     found-refused fault found = record {
@@ -180,7 +177,7 @@ module _ {S : Type 0} (state : S → StorageState) (table : TableValue) where
         (λ safe. block-used (bytes_of (state after.image).bytes) after.header (cached_in mid) (order_of mid) key safe block there);
     order = refl;
     header = refl;
-    loose = λ loose. record { tables = loose.tables; blocks = unpinned-hit Block key (cached_in mid).blocks block loose.blocks; room = loose.room };
+    loose = λ loose. record { blocks = pinned-hit key (cached_in mid).blocks block ∙ loose.blocks; room = loose.room };
     room = record { tables = refl; blocks = refl };
     cause = refl;
   }

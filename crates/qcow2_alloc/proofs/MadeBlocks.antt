@@ -48,7 +48,7 @@ use Rattle.qcow2_alloc.proofs.Patches.{place-there}
 use Rattle.qcow2_alloc.proofs.QuietFlushes.{memory-quietly, quiet-none, quietly-weaker}
 use Rattle.qcow2_alloc.proofs.QuietGiven.{quietly-given, quietly-then-given}
 use Rattle.qcow2_alloc.proofs.QuietThen.{quietly-then, quietly-otherwise, quiet-otherwise}
-use Rattle.qcow2_alloc.proofs.Searching.{all-at}
+use Rattle.qcow2_alloc.proofs.Pins.{pinned-none}
 
 module _ (m : Metadata) (sound : IsSound m) where
   -- The first cluster is counted.
@@ -353,7 +353,7 @@ module _ {S : Type 0} (state : S → StorageState) (i : ℕ) (table : TableValue
       where
         never : (o : Option (Slot Block)) → lookup (nat_eq d) (cached_in C).blocks ≡ o → IsSomeAnd o (λ s. 0 < s.pins) → IsLoose C → ⊥
         never None there pinned loose = pinned
-        never (Some slot) there pinned loose = let off = all-at (λ (e : ℕ × Slot Block). e.1.pins ≡ 0) d (cached_in C).blocks slot there loose.blocks in omega (arith, off, pinned)
+        never (Some slot) there pinned loose = let off = pinned-none d (cached_in C).blocks slot there loose.blocks in omega (arith, off, pinned)
 
   -- What makes a block from there on makes it in all.
   pub begins-makes : (C : MetadataCaches S) (fC : ImageFile S) → Begins state table pending old before (λ _. 0) C fC → (result : Result Unit Fault) (table' : TableValue) (new : MetadataCaches S) (after : ImageFile S)

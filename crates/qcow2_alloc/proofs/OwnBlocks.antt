@@ -29,7 +29,7 @@ use Rattle.qcow2_alloc.proofs.MadeBlocks.{B, ends, made}
 use Rattle.qcow2_alloc.proofs.MakingBlocks.{unnamed-uncounted, own-block-made, own-block-raises}
 use Rattle.qcow2_alloc.proofs.QuietFlushes.{memory-quietly}
 use Rattle.qcow2_alloc.proofs.QuietGiven.{quietly-given}
-use Rattle.qcow2_alloc.proofs.Searching.{all-removed}
+use Rattle.qcow2_alloc.proofs.Pins.{pinned-removed}
 
 -- Where the refcount table names no block the clusters of one aren't counted.
 pub own-uncounted : (m : Metadata) (i d : ℕ) → d / counters_of_block m.header.fields ≡ i → i < length m.table.words → block_offset (slice_index m.table.words i) ≡ 0 → IsSound m → counted m d ≡ 0
@@ -55,7 +55,7 @@ module _ {S : Type 0} (state : S → StorageState) (table : TableValue) (pending
     faults = refl;
     header = refl;
     order = refl;
-    loose = λ loose. record { tables = loose.tables; blocks = all-removed _ (nat_eq d) (cached_in old).blocks loose.blocks; room = loose.room };
+    loose = λ loose. record { blocks = (let le = pinned-removed (nat_eq d) (cached_in old).blocks in let none = loose.blocks in omega (arith, le, none)); room = loose.room };
     room = record { tables = refl; blocks = refl };
   }
 

@@ -1,7 +1,8 @@
 -- Calls that leave the disk as it is, one behind the other.
 use Rattle.std.proofs.Common.{◌≡◌, ℕ, ◌+◌, ◌*◌, ◌/◌, ◌<◌, ◌≤◌, refl, arith, ap, sym, subst, ◌∙◌, inl, inr}
-use Rattle.std.specs.Prelude.{Some, None}
-use Rattle.imago_storage.specs.State.{StorageState, Rose}
+use Rattle.std.specs.Prelude.{◌⊎◌, IsTrue, Some, None}
+use Rattle.imago_storage.specs.State.{StorageState, Rose, Shape}
+use Rattle.imago_storage.specs.Calls.{Later}
 use Rattle.imago_storage.proofs.Composing.{keeps_on, stops_both, later_both, rose_before, rose_behind}
 use Rattle.qcow2_types.specs.Bytes.{Bytes, bytes_of}
 use Rattle.qcow2_types.specs.Words.{Mapping, data_at, zeroes, packed, unmapped, damaged}
@@ -16,6 +17,7 @@ use Rattle.qcow2_types.proofs.Either.{structure-same, tables-same}
 use Rattle.qcow2_types.proofs.Slots.{contents-slots, slots-same, slot-le}
 use Rattle.qcow2_alloc.specs.Memory.{memory}
 use Rattle.qcow2_alloc.specs.Quiet.{Metadata, in_memory, referenced, IsUsed, IsSound, ShowsEither, IsQuiet, Quietly}
+use Rattle.qcow2_alloc.specs.Safety.{IsCalm}
 use Rattle.qcow2_alloc.proofs.MemoryWords.{places-in-memory}
 use Rattle.qcow2_alloc.proofs.QuietShows.{mapping-meets, in-cluster, named-apart}
 
@@ -190,6 +192,26 @@ quietly-then ok1 ok2 h1 t1 h2 t2 s m s1 m1 s2 m2 done named_kept first second = 
       let last = second.holds (keeps_on s s1 first.shape keeps) mid.0 done2 in
       (last.0, quiet-then m m1 m2 h1 t1 h2 t2 sound mid.0 (named_kept sound) mid.1 last.1);
 }
+
+-- What no refused change kept from telling its stops wasn't kept from it once the first call was done,
+pub calm-behind : (ok : Type 0) (handed taken : ℕ → ℕ) (s : StorageState) (m : Metadata) (s1 : StorageState) (m1 : Metadata) (s2 : StorageState) → IsTrue s.shape.keeps → IsSound m → Quietly ok handed taken s m s1 m1 → Later s1 s2 → IsCalm s s2 → IsCalm s1 s2
+calm-behind ok handed taken s m s1 m1 s2 keeps sound first later calm = record {
+  calm = λ r. calm.calm (rose_behind s.refusals s1.refusals s2.refusals first.later.refusals r);
+  in_step = (first.passes keeps sound (λ r. calm.calm (rose_before s.refusals s1.refusals s2.refusals r later.refusals))).0 calm.in_step;
+  tells = subst (λ (a : Shape). IsTrue a.tells) (sym first.shape) calm.tells;
+}
+
+-- and so a second call may have been cut off there.
+pub calmly-then : (ok1 ok2 : Type 0) (h1 t1 h2 t2 : ℕ → ℕ) (s : StorageState) (m : Metadata) (s1 : StorageState) (m1 : Metadata) (s2 : StorageState) (m2 : Metadata) → ok1 → (IsSound m → (c : ℕ) → 0 < referenced m c → t1 c ≡ 0)
+    → Quietly ok1 h1 t1 s m s1 m1 → Quietly (ok2 ⊎ IsCalm s1 s2) h2 t2 s1 m1 s2 m2 → Quietly (ok2 ⊎ IsCalm s s2) (λ c. h1 c + h2 c) (λ c. t1 c + t2 c) s m s2 m2
+calmly-then ok1 ok2 h1 t1 h2 t2 s m s1 m1 s2 m2 done named_kept first second =
+    let both = quietly-then ok1 (ok2 ⊎ IsCalm s1 s2) h1 t1 h2 t2 s m s1 m1 s2 m2 done named_kept first second in
+    record {
+      shape = both.shape;
+      later = both.later;
+      passes = both.passes;
+      holds = λ keeps sound why. both.holds keeps sound (elim why [ inl whole ↦ inl whole | inr calm ↦ inr (calm-behind ok1 h1 t1 s m s1 m1 s2 keeps sound first second.later calm) ]);
+    }
 
 -- What a call hands out and takes may be said otherwise.
 pub quietly-otherwise : (ok : Type 0) (handed taken h t : ℕ → ℕ) (s : StorageState) (m : Metadata) (s' : StorageState) (m' : Metadata) → (IsSound m → (c : ℕ) → handed c + t c ≡ h c + taken c) → (IsSound m → (c : ℕ) → IsUsed m c → t c ≡ 0 → taken c ≡ 0)

@@ -43,27 +43,33 @@ pub leaks-ok : {T : Type 0} (loose : Type 0) (v : T) (leaked : ℕ → ℕ) → 
 leaks-ok loose v leaked leaks c = leaks.none (λ is. absurd (cc)) c
 
 -- A list is lengthened by nothing,
-pub lengthened-none : (l : List FreeEntry) → IsLengthened l l
-lengthened-none l = record { more = []; behind = sym (append-nil l); metadata = tt }
+pub lengthened-none : (table table' : TableValue) (l : List FreeEntry) → IsLengthened table table' l l
+lengthened-none table table' l = record { more = []; behind = sym (append-nil l); metadata = tt; same = λ long. refl }
 
 -- by the old refcount table, if there was one,
 if-some : (b : Bool) (e : FreeEntry) → e.metadata ≡ true → AllByRecursion (λ e. e.metadata ≡ true) (if b then [] else e ∷ [])
 if-some true e is = tt
 if-some false e is = (is, tt)
 
-pub lengthened-by-table : (l l' : List FreeEntry) (h : Fields) → l' ≡ l ++ table_run h → IsLengthened l l'
-lengthened-by-table l l' h is = record { more = table_run h; behind = is; metadata = if-some (h.refcount_table_clusters == 0) (run_of (h.refcount_table_offset / cluster_size h) h.refcount_table_clusters) refl }
+pub lengthened-by-table : (table table' : TableValue) (l l' : List FreeEntry) (h : Fields) → length table.words < length table'.words → l' ≡ l ++ table_run h → IsLengthened table table' l l'
+lengthened-by-table table table' l l' h longer is = record {
+  more = table_run h;
+  behind = is;
+  metadata = if-some (h.refcount_table_clusters == 0) (run_of (h.refcount_table_offset / cluster_size h) h.refcount_table_clusters) refl;
+  same = λ long. absurd (omega (arith, longer, long));
+}
 
 -- and by what came in turn.
 all-append : (l l' : List FreeEntry) → AllByRecursion (λ e. e.metadata ≡ true) l → AllByRecursion (λ e. e.metadata ≡ true) l' → AllByRecursion (λ e. e.metadata ≡ true) (l ++ l')
 all-append [] l' one two = two
 all-append (e ∷ l) l' one two = (one.0, all-append l l' one.1 two)
 
-pub lengthened-then : (a b c : List FreeEntry) → IsLengthened a b → IsLengthened b c → IsLengthened a c
-lengthened-then a b c one two = record {
+pub lengthened-then : (tA tB tC : TableValue) (a b c : List FreeEntry) → length tA.words ≤ length tB.words → length tB.words ≤ length tC.words → IsLengthened tA tB a b → IsLengthened tB tC b c → IsLengthened tA tC a c
+lengthened-then tA tB tC a b c le le' one two = record {
   more = one.more ++ two.more;
   behind = two.behind ∙ ap (λ l. l ++ two.more) one.behind ∙ append_assoc a one.more two.more;
   metadata = all-append one.more two.more one.metadata two.metadata;
+  same = λ long. two.same (omega (arith, le, le', long)) ∙ one.same (omega (arith, le, le', long));
 }
 
 module _ {S : Type 0} (state : S → StorageState) (mark at first last : ℕ) (table : TableValue) (old : MetadataCaches S) (before : ImageFile S) (pending : List FreeEntry) where
@@ -84,7 +90,7 @@ module _ {S : Type 0} (state : S → StorageState) (mark at first last : ℕ) (t
     ready = named result makes.named;
     further = more result makes.fewer;
     made = λ order keeps sound. filled result (fills order keeps sound);
-    list = lengthened-none pending;
+    list = lengthened-none table table' pending;
     cause = caused result makes.cause;
   }
     where
@@ -120,7 +126,7 @@ module _ {S : Type 0} (state : S → StorageState) (mark at first last : ℕ) (t
       ready = λ none. absurd (cc);
       further = λ some. inl (let above = grows.enough.enough.above in omega (arith, above, past, behind));
       made = λ order keeps sound some. inr (past, grows.grown order keeps sound);
-      list = lengthened-by-table pending pending' before.header.fields grows.waits;
+      list = lengthened-by-table table table' pending pending' before.header.fields (let above = grows.enough.enough.above in omega (arith, above, past, behind)) grows.waits;
       cause = grows.cause;
     }
 
@@ -134,6 +140,6 @@ module _ {S : Type 0} (state : S → StorageState) (mark at first last : ℕ) (t
       ready = tt;
       further = tt;
       made = λ order keeps sound. tt;
-      list = subst (λ l. IsLengthened pending l) (sym grows.kept) (lengthened-none pending);
+      list = subst (λ l. IsLengthened table table' pending l) (sym grows.kept) (lengthened-none table table' pending);
       cause = why-allocated-wider _ _ _ _ _ _ _ _ _ (λ holds. holds) (λ loose. loose) (λ none order keeps sound. inr (past, none order keeps sound)) refl fault grows.cause;
     }

@@ -1,5 +1,5 @@
 -- A cluster is given a counter: a word of the refcount table, and a block.
-use Rattle.std.proofs.Common.{◌≡◌, ◌≢◌, ℕ, ◌+◌, ◌*◌, ◌/◌, ◌^◌, ◌<◌, ◌≤◌, ◌++◌, true, false, refl, arith, ap, sym, subst, ◌∙◌, inr, List, length, Bool, Result, Ok, Err}
+use Rattle.std.proofs.Common.{◌≡◌, ◌≢◌, ℕ, ◌+◌, ◌*◌, ◌/◌, ◌^◌, ◌<◌, ◌≤◌, ◌++◌, true, false, refl, arith, ap, sym, subst, ◌∙◌, inl, inr, List, length, Bool, Result, Ok, Err}
 use Rattle.std.specs.Prelude.{⊤, IsTrue, OnOk, OnErr, slice_index, MatchResult}
 use Rattle.std.proofs.lemmas.Nat.{div-add-mod'}
 use Rattle.std.proofs.Math.Nat.{mul-le-mul_right}
@@ -24,12 +24,11 @@ use Rattle.qcow2_alloc.specs.Allocators.{metadata_of}
 use Rattle.qcow2_alloc.specs.Caches.{order_of}
 use Rattle.qcow2_alloc.specs.Freeing.{IsLoose}
 use Rattle.qcow2_alloc.specs.Going.{IsWhole}
-use Rattle.qcow2_alloc.specs.GrowingTables.{GrowsTable, NoPlaceToGrow, table_run}
+use Rattle.qcow2_alloc.specs.GrowingTables.{GrowsTable, IsLengthenedByTable, NoPlaceToGrow, table_run}
 use Rattle.qcow2_alloc.specs.HandingOutOne.{HandsOut, ReadiesCounter, ReadiesWord, leaked_by}
 use Rattle.qcow2_alloc.specs.Quiet.{IsSound}
-use Rattle.qcow2_alloc.specs.ReadyingRuns.{IsLengthened}
 use Rattle.qcow2_alloc.proofs.Allocating.{allocating-none, allocating-as, allocating-then}
-use Rattle.qcow2_alloc.proofs.ReadyingBlocks.{leaks-none, lengthened-by-table, lengthened-none}
+use Rattle.qcow2_alloc.proofs.ReadyingBlocks.{leaks-none}
 use Rattle.qcow2_alloc.proofs.EnsuringBlocks.{so, refused, why-allocated-wider}
 
 -- What isn't refused for want of a place is refused for another cause.
@@ -60,7 +59,7 @@ module _ {S : Type 0} (state : S → StorageState) (mark cluster : ℕ) (table :
     leaked = λ _. 0;
     leaks = leaks-none (IsLoose old) (so there);
     step = allocating-none state table old before pending;
-    list = lengthened-none pending;
+    list = inl refl;
     cause = refl;
   }
 
@@ -71,10 +70,11 @@ module _ {S : Type 0} (state : S → StorageState) (mark cluster : ℕ) (table :
   word-stands inside = record { did = stands true; there = λ yes. inside; barred = λ order keeps sound no. cc no }
 
   -- The table has grown,
-  module _ (result : Result Unit Fault) (table' : TableValue) (new : MetadataCaches S) (after : ImageFile S) (pending' : List FreeEntry) (grows : GrowsTable state mark (cluster / k) table old before pending result table' new after pending') where
-    grown-list : (r : Result Unit Fault) → OnOk r (pending' ≡ pending ++ table_run before.header.fields) → OnErr r (pending' ≡ pending) → IsLengthened pending pending'
-    grown-list (Ok done) waits kept = lengthened-by-table pending pending' before.header.fields waits
-    grown-list (Err fault) waits kept = subst (λ l. IsLengthened pending l) (sym kept) (lengthened-none pending)
+  module _ (past : length table.words ≤ cluster / k) (result : Result Unit Fault) (table' : TableValue) (new : MetadataCaches S) (after : ImageFile S) (pending' : List FreeEntry) (grows : GrowsTable state mark (cluster / k) table old before pending result table' new after pending') where
+    grown-list : (r : Result Unit Fault) → OnOk r (IsGrownLength (words_of_cluster before.header.fields) k (cluster / k) (length table'.words)) → OnOk r (pending' ≡ pending ++ table_run before.header.fields) → OnErr r (pending' ≡ pending)
+        → IsLengthenedByTable before.header.fields table table' pending pending'
+    grown-list (Ok done) grown waits kept = inr (let above = grown.enough.above in omega (arith, above, past), waits)
+    grown-list (Err fault) grown waits kept = inl kept
 
     no-leak : (result ≡ Err CacheFull → ⊥) → (c : ℕ) → grows.leaked c ≡ 0
     no-leak = grows.leaks.none
@@ -85,7 +85,7 @@ module _ {S : Type 0} (state : S → StorageState) (mark cluster : ℕ) (table :
         leaked = λ _. 0;
         leaks = leaks-none (IsLoose old) (so true);
         step = allocating-as state (IsWhole result) (IsWhole (so true)) grows.leaked (λ _. 0) table old before pending table' new after pending' (λ whole. subst (λ (r : Result Unit Fault). IsWhole r) (sym ok) tt) (no-leak (λ full. let e = sym ok ∙ full in cc)) grows.step;
-        list = grown-list result grows.waits grows.kept;
+        list = grown-list result grows.enough grows.waits grows.kept;
         cause = by-cause _ result ok grows.cause;
       };
       there = λ yes. (by-length result ok grows.enough).enough.above;
@@ -101,13 +101,13 @@ module _ {S : Type 0} (state : S → StorageState) (mark cluster : ℕ) (table :
         by-cause P (Err fault) is same = absurd (cc is)
 
     -- or has no place,
-    pub word-barred : length table.words ≤ cluster / k → (number : ℕ) → result ≡ Err (Limit number) → ReadiesWord state mark cluster table old before pending (so false) table' new after pending'
-    word-barred past number limit = record {
+    pub word-barred : (number : ℕ) → result ≡ Err (Limit number) → ReadiesWord state mark cluster table old before pending (so false) table' new after pending'
+    word-barred number limit = record {
       did = record {
         leaked = λ _. 0;
         leaks = leaks-none (IsLoose old) (so false);
         step = allocating-as state (IsWhole result) (IsWhole (so false)) grows.leaked (λ _. 0) table old before pending table' new after pending' (λ whole. subst (λ (r : Result Unit Fault). IsWhole r) (sym limit) tt) (no-leak (λ full. let e = sym limit ∙ full in cc)) grows.step;
-        list = grown-list result grows.waits grows.kept;
+        list = grown-list result grows.enough grows.waits grows.kept;
         cause = cause.1;
       };
       there = λ yes. cc yes;
@@ -127,7 +127,7 @@ module _ {S : Type 0} (state : S → StorageState) (mark cluster : ℕ) (table :
         leaked = grows.leaked;
         leaks = record { none = λ full. grows.leaks.none (λ at. full (let e = sym is ∙ at in cc)); pinned = grows.leaks.pinned };
         step = allocating-as state (IsWhole result) (IsWhole (refused fault)) grows.leaked grows.leaked table old before pending table' new after pending' (λ whole. subst (λ (r : Result Unit Fault). IsWhole r) (sym is) whole) (λ c. refl) grows.step;
-        list = grown-list result grows.waits grows.kept;
+        list = grown-list result grows.enough grows.waits grows.kept;
         cause = never-limit _ _ _ _ _ _ fault other (subst (λ (r : Result Unit Fault). MatchResult r (λ _. (state after.image).faults ≡ (state before.image).faults)
             (WhyNotAllocated (IsTrue (state before.image).shape.keeps × (order_of old ≡ L2DependsOnRb) × IsSound (metadata_of state before old table pending)) (IsLoose old)
             (order_of old ≡ L2DependsOnRb → IsTrue (state before.image).shape.keeps → IsSound (metadata_of state before old table pending) → NoPlaceToGrow (metadata_of state before old table pending) mark (cluster / k))
@@ -162,6 +162,10 @@ module _ {S : Type 0} (state : S → StorageState) (mark cluster : ℕ) (table :
       both ok' two = allocating-as state ok' ok' (λ c. leaked_by (so true) word.did.leaked c + 0) (λ _. 0) table old before pending table' new after mid_pending (λ o. o) (λ c. omega arith)
           (allocating-then state ⊤ ok' (leaked_by (so true) word.did.leaked) (λ _. 0) table old before pending mid_table mid between mid_pending table' new after mid_pending tt word.did.step two)
 
+      blocks-behind : IsLengthenedByTable before.header.fields table mid_table pending mid_pending → length table'.words ≡ length mid_table.words → IsLengthenedByTable before.header.fields table table' pending mid_pending
+      blocks-behind (inl same) long = inl same
+      blocks-behind (inr (longer, waits)) long = inr (omega (arith, longer, long), waits)
+
       holds-still : IsTrue (state before.image).shape.keeps × (order_of old ≡ L2DependsOnRb) × IsSound (metadata_of state before old table pending) → IsTrue (state between.image).shape.keeps × (order_of mid ≡ L2DependsOnRb) × IsSound (metadata_of state between mid mid_table mid_pending)
       holds-still holds = let quiet = word.did.step.quiet holds.1 in (keeps_on (state before.image) (state between.image) quiet.shape holds.0, word.did.step.order ∙ holds.1, (quiet.holds holds.0 holds.2 tt).0)
 
@@ -172,7 +176,7 @@ module _ {S : Type 0} (state : S → StorageState) (mark cluster : ℕ) (table :
           leaked = λ _. 0;
           leaks = leaks-none (IsLoose old) (so true);
           step = both ⊤ blocks.step;
-          list = word.did.list;
+          list = blocks-behind word.did.list blocks.long;
           cause = blocks.cause ∙ word.did.cause;
         };
         there = λ yes. blocks.named (cluster / k) (omega arith) (omega arith);
@@ -186,7 +190,7 @@ module _ {S : Type 0} (state : S → StorageState) (mark cluster : ℕ) (table :
           leaked = λ _. 0;
           leaks = leaks-none (IsLoose old) (refused fault);
           step = both (IsWhole (refused fault)) blocks.step;
-          list = word.did.list;
+          list = blocks-behind word.did.list blocks.long;
           cause = why-allocated-wider _ _ _ _ _ _ _ _ _ holds-still word.did.step.loose (λ far. far near) word.did.cause fault blocks.cause;
         };
         there = tt;

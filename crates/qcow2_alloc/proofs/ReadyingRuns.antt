@@ -39,7 +39,7 @@ use Rattle.qcow2_alloc.proofs.ReadyingBlocks.{leaks-none, leaks-on, leaks-ok, le
 -- What a call came to that has counted clusters, of which it handed out none, and wasn't refused yet.
 pub record Readying {S : Type 0} (state : S → StorageState) (table : TableValue) (old : MetadataCaches S) (before : ImageFile S) (pending : List FreeEntry) (table' : TableValue) (new : MetadataCaches S) (after : ImageFile S) (pending' : List FreeEntry) : Type 0 where
   pub step : Allocating state ⊤ (λ _. 0) table old before pending table' new after pending'
-  pub list : IsLengthened pending pending'
+  pub list : IsLengthened table table' pending pending'
   pub faults : (state after.image).faults ≡ (state before.image).faults
 
 -- A cluster of a run is counted by a block between those of the first and the last one.
@@ -53,7 +53,7 @@ between-blocks k first n c some above below =
 
 module _ {S : Type 0} (state : S → StorageState) (table : TableValue) (old : MetadataCaches S) (before : ImageFile S) (pending : List FreeEntry) where
   pub readying-none : Readying state table old before pending table old before pending
-  readying-none = record { step = allocating-none state table old before pending; list = lengthened-none pending; faults = refl }
+  readying-none = record { step = allocating-none state table old before pending; list = lengthened-none table table pending; faults = refl }
 
   abbrev Holds : TableValue → MetadataCaches S → ImageFile S → List FreeEntry → Type 0
   Holds t caches file es = IsTrue (state file.image).shape.keeps × (order_of caches ≡ L2DependsOnRb) × IsSound (metadata_of state file caches t es)
@@ -90,7 +90,7 @@ module _ {S : Type 0} (state : S → StorageState) (table : TableValue) (old : M
     readying-made mark at first last made tB B fB pB makes = record {
       step = step-on {T = Bool} (Ok made) (λ _. 0) tB B fB pB
           (allocating-as state ⊤ ⊤ makes.leaked (λ _. 0) tA A fA pA tB B fB pB (λ whole. whole) (leaks-ok (IsLoose A) made makes.leaked makes.leaks) makes.step);
-      list = lengthened-then pending pA pB so_far.list makes.list;
+      list = lengthened-then table tA tB pending pA pB so_far.step.longer makes.step.longer so_far.list makes.list;
       faults = makes.cause ∙ so_far.faults;
     }
 
@@ -133,7 +133,7 @@ module _ {S : Type 0} (state : S → StorageState) (table : TableValue) (old : M
       ready = tt;
       reach = tt;
       some = tt;
-      list = lengthened-then pending pA pB so_far.list makes.list;
+      list = lengthened-then table tA tB pending pA pB so_far.step.longer makes.step.longer so_far.list makes.list;
       cause = why-allocated-wider _ _ _ _ _ _ _ _ _ holds-on so_far.step.loose
           (λ none order keeps sound roomy.
           let holds : Holds table old before pending = (keeps, order, sound) in

@@ -12,9 +12,10 @@ use Rattle.imago_storage.specs.declared.fault.Fault.TheVariants.{Memory, Storage
 use Rattle.imago_storage.proofs.Composing.{rose_before, rose_behind}
 use Rattle.qcow2_alloc.specs.declared.async_lru_cache.Slot.{Slot}
 use Rattle.qcow2_alloc.specs.Cache.{Evicted, MadeRoom, Loaded, LoadedAfter, Readied, victim, victim_from}
-use Rattle.qcow2_alloc.specs.Finding.{with_room, IsPinnedFull, AreUnpinned, Sought, WhyNotFound, CountsSearch}
+use Rattle.qcow2_alloc.specs.Finding.{with_room, IsPinnedFull, pinned_in, Sought, WhyNotFound, CountsSearch}
 use Rattle.qcow2_alloc.specs.Going.{WhyNotWritten, IsWhole}
 use Rattle.qcow2_alloc.proofs.Counting.{Counted}
+use Rattle.qcow2_alloc.proofs.Pins.{pinned-removed, pinned-set, pinned-new}
 use Rattle.qcow2_alloc.proofs.Places.{place-of-key}
 use Rattle.qcow2_alloc.proofs.Readying.{is-there}
 
@@ -69,6 +70,13 @@ module _ {X : Type 0} (P : ℕ × X → Type 0) where
 pub mapped-same : {X Y : Type 0} (f : X → Y) (front : List X) (a b : X) (back : List X) → f a ≡ f b → map f (front ++ a ∷ back) ≡ map f (front ++ b ∷ back)
 mapped-same f [] a b back same = ap (λ y. y ∷ map f back) same
 mapped-same f (x ∷ front) a b back same = ap (λ l. f x ∷ l) (mapped-same f front a b back same)
+
+-- As many are no more.
+pub no-more : {a b : ℕ} → a ≡ b → a ≤ b
+no-more same = omega (arith, same)
+
+pub at-most : {a b c : ℕ} → a ≡ b → b ≤ c → a ≤ c
+at-most same le = omega (arith, same, le)
 
 -- Where there is no victim each entry is pinned.
 victim-none : {V : Type 0} (es : List (ℕ × Slot V)) (found : Option ℕ) → victim_from found es ≡ None → (found ≡ None) × AllByRecursion (λ (e : ℕ × Slot V). 0 < e.1.pins) es
@@ -138,7 +146,7 @@ module _ {V D : Type 0} (loads : D → ℕ → Result V Fault → D → Type 0) 
   pub room-refused : (written : ℕ × Slot V → ℕ × Slot V)
       (kept : (key : ℕ) (slot : Slot V) (old new : D) (result : Result Unit Fault) (value : V) → flushes old key slot.value result new value → written (key, record slot { value = value }) ≡ written (key, slot))
       (cap : ℕ) (may_flush : Bool) (before : D) (es : List (ℕ × Slot V)) (fault : Fault) (after : D) (es' : List (ℕ × Slot V)) → MadeRoom nat_eq flushes cap may_flush before es (Err fault) after es'
-      → (map written es' ≡ map written es) × (AreUnpinned es → AreUnpinned es')
+      → (map written es' ≡ map written es) × (pinned_in es' ≤ pinned_in es)
   room-refused written kept cap may_flush before es fault after es' made = elim (cases_lt (length es) cap) [
     | inl roomy ↦ absurd (let r = (made.roomy roomy).0 in cc)
     | inr full ↦ elim (cases_Bool may_flush) [
@@ -147,25 +155,25 @@ module _ {V D : Type 0} (loads : D → ℕ → Result V Fault → D → Type 0) 
     ]
   ]
     where
-      by-victim : (v : Option ℕ) → victim es ≡ v → cap ≤ length es → may_flush ≡ true → (map written es' ≡ map written es) × (AreUnpinned es → AreUnpinned es')
-      by-victim None is full may = let same = (made.pinned full may is).2 in (ap (λ l. map written l) same, λ u. subst (λ (l : List (ℕ × Slot V)). AreUnpinned l) (sym same) u)
+      by-victim : (v : Option ℕ) → victim es ≡ v → cap ≤ length es → may_flush ≡ true → (map written es' ≡ map written es) × (pinned_in es' ≤ pinned_in es)
+      by-victim None is full may = let same = (made.pinned full may is).2 in (ap (λ l. map written l) same, no-more (ap (λ l. pinned_in l) same))
       by-victim (Some k) is full may =
           let at = made.evicted full may k is in
           let p = place-of-key k es at.slot at.there in
           let w = record at.slot { value = at.value } in (
             ap (λ l. map written l) (at.entries ∙ p.set w) ∙ mapped-same written p.front (k, w) (k, at.slot) p.back (kept k at.slot before after (Err fault) at.value at.flush) ∙ ap (λ l. map written l) (sym p.is),
-            λ u. subst (λ (l : List (ℕ × Slot V)). AreUnpinned l) (sym at.entries) (all-set _ k es w (all-at (λ (e : ℕ × Slot V). e.1.pins ≡ 0) k es at.slot at.there u) u),
+            no-more (ap (λ l. pinned_in l) at.entries ∙ pinned-set k es at.slot w at.there refl),
           )
 
-  pub unpinned-room : (cap : ℕ) (es : List (ℕ × Slot V)) → AreUnpinned es → AreUnpinned (with_room cap es)
-  unpinned-room cap es u = elim (cases_lt (length es) cap) [
-    | inl roomy ↦ rw (lt-ltb (length es) cap roomy) u
+  pub pinned-room : (cap : ℕ) (es : List (ℕ × Slot V)) → pinned_in (with_room cap es) ≤ pinned_in es
+  pinned-room cap es = elim (cases_lt (length es) cap) [
+    | inl roomy ↦ rw (lt-ltb (length es) cap roomy) (no-more refl)
     | inr full ↦ rw (le-ltb (length es) cap full) (by-victim (victim es) refl)
   ]
     where
-      by-victim : (v : Option ℕ) → victim es ≡ v → AreUnpinned (option_map_or (λ key. remove_entry (nat_eq key) es) v es)
-      by-victim None is = u
-      by-victim (Some k) is = all-removed _ (nat_eq k) es u
+      by-victim : (v : Option ℕ) → victim es ≡ v → pinned_in (option_map_or (λ key. remove_entry (nat_eq key) es) v es) ≤ pinned_in es
+      by-victim None is = no-more refl
+      by-victim (Some k) is = pinned-removed (nat_eq k) es
 
   -- What the search leaves.
   pub sought : (written : ℕ × Slot V → ℕ × Slot V)
@@ -177,9 +185,9 @@ module _ {V D : Type 0} (loads : D → ℕ → Result V Fault → D → Type 0) 
     there = λ there. (r.found there).2;
     loaded = λ none. let m = r.missed none in by-load m.room m.mid m.entries m.made result (λ v l. reads m.mid v l) not m.loaded;
     refused = by-refusal result r;
-    unpinned = λ u. elim (is-there (lookup (nat_eq key) es)) [
-      | inl there ↦ subst (λ (l : List (ℕ × Slot V)). AreUnpinned l) (sym (r.found there).2) u
-      | inr none ↦ let m = r.missed none in by-pins u m.room m.mid m.entries m.made result not m.loaded
+    pinned = elim (is-there (lookup (nat_eq key) es)) [
+      | inl there ↦ no-more (ap (λ l. pinned_in l) (r.found there).2)
+      | inr none ↦ let m = r.missed none in by-pins m.room m.mid m.entries m.made result not m.loaded
     ];
   }
     where
@@ -191,13 +199,14 @@ module _ {V D : Type 0} (loads : D → ℕ → Result V Fault → D → Type 0) 
       by-load (Ok false) mid entries made (Ok found) reads not later = absurd (not later.0)
       by-load (Err fault) mid entries made (Ok found) reads not later = absurd (let no = later.0 in cc)
 
-      by-pins : AreUnpinned es → (room : Result Bool Fault) (mid : D) (entries : List (ℕ × Slot V)) → MadeRoom nat_eq flushes cap may_flush before es room mid entries → (result : Result Bool Fault) → (result ≡ Ok false → ⊥)
-          → LoadedAfter loads key mid entries room result after es' → AreUnpinned es'
-      by-pins u (Ok true) mid entries made (Ok found) not (is, value, load, list) =
-          subst (λ (l : List (ℕ × Slot V)). AreUnpinned l) (sym (list ∙ ap (λ (l : List (ℕ × Slot V)). (key, record { value = value; pins = 0 }) ∷ l) (room-list cap may_flush before es mid entries made))) (refl, unpinned-room cap es u)
-      by-pins u (Ok true) mid entries made (Err fault) not (same, why) = subst (λ (l : List (ℕ × Slot V)). AreUnpinned l) (sym (same ∙ room-list cap may_flush before es mid entries made)) (unpinned-room cap es u)
-      by-pins u (Ok false) mid entries made result not later = absurd (not later.0)
-      by-pins u (Err fault) mid entries made result not later = subst (λ (l : List (ℕ × Slot V)). AreUnpinned l) (sym later.2) ((room-refused written kept cap may_flush before es fault mid entries made).1 u)
+      by-pins : (room : Result Bool Fault) (mid : D) (entries : List (ℕ × Slot V)) → MadeRoom nat_eq flushes cap may_flush before es room mid entries → (result : Result Bool Fault) → (result ≡ Ok false → ⊥)
+          → LoadedAfter loads key mid entries room result after es' → pinned_in es' ≤ pinned_in es
+      by-pins (Ok true) mid entries made (Ok found) not (is, value, load, list) =
+          let same : pinned_in es' ≡ pinned_in (with_room cap es) = ap (λ l. pinned_in l) list ∙ pinned-new key value entries ∙ ap (λ l. pinned_in l) (room-list cap may_flush before es mid entries made) in
+          at-most same (pinned-room cap es)
+      by-pins (Ok true) mid entries made (Err fault) not (same, why) = at-most (ap (λ l. pinned_in l) (same ∙ room-list cap may_flush before es mid entries made)) (pinned-room cap es)
+      by-pins (Ok false) mid entries made result not later = absurd (not later.0)
+      by-pins (Err fault) mid entries made result not later = at-most (ap (λ l. pinned_in l) later.2) (room-refused written kept cap may_flush before es fault mid entries made).1
 
       by-refused : (room : Result Bool Fault) (mid : D) (entries : List (ℕ × Slot V)) (fault : Fault) → MadeRoom nat_eq flushes cap may_flush before es room mid entries → LoadedAfter loads key mid entries room (Err fault) after es'
           → (map written es' ≡ map written es) ⊎ (es' ≡ with_room cap es)

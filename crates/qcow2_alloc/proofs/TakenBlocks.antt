@@ -28,7 +28,7 @@ use Rattle.qcow2_alloc.specs.FreeList.{covers}
 use Rattle.qcow2_alloc.specs.Going.{Going, Always, IsWhole, CountsWrites, AreTablesInReach, AreBlocksInReach}
 use Rattle.qcow2_alloc.specs.MakingBlocks.{Begins, NamesWritten, IsFreePlace}
 use Rattle.qcow2_alloc.specs.MakingRoom.{run_of}
-use Rattle.qcow2_alloc.specs.Memory.{Cached, written, written_table, written_block}
+use Rattle.qcow2_alloc.specs.Memory.{Cached, written, written_block}
 use Rattle.qcow2_alloc.specs.Quiet.{Metadata, counted, named_at_all, waiting, one_at, IsUsed, IsSound, Quietly}
 use Rattle.qcow2_alloc.specs.Safety.{AreBlocksClean}
 use Rattle.qcow2_alloc.proofs.CountedApart.{counted-apart}
@@ -43,7 +43,7 @@ use Rattle.qcow2_alloc.proofs.MadeBlocks.{allocated-wider, allocated-written, Fo
 use Rattle.qcow2_alloc.proofs.MakingBlocks.{other-block-made, other-block-raises}
 use Rattle.qcow2_alloc.proofs.OwnBlocks.{without}
 use Rattle.qcow2_alloc.proofs.QuietThen.{used-then}
-use Rattle.qcow2_alloc.proofs.Searching.{all-removed}
+use Rattle.qcow2_alloc.proofs.Pins.{pinned-removed}
 use Rattle.qcow2_alloc.proofs.QuietAnnouncing.{whole-quietly, written-whole}
 use Rattle.qcow2_alloc.proofs.QuietCounters.{here-one, away-none}
 use Rattle.qcow2_alloc.proofs.QuietFlushes.{going-quietly, memory-quietly}
@@ -100,7 +100,7 @@ module _ {S : Type 0} (state : S → StorageState) (table : TableValue) (pending
         stays = record {
           header = refl;
           order = refl;
-          loose = λ loose. record { tables = loose.tables; blocks = all-removed _ (nat_eq d) (cached_in A).blocks loose.blocks; room = loose.room };
+          loose = λ loose. record { blocks = (let le = pinned-removed (nat_eq d) (cached_in A).blocks in let none = loose.blocks in omega (arith, le, none)); room = loose.room };
           room = record { tables = refl; blocks = refl };
         };
       })
@@ -213,7 +213,6 @@ module _ {S : Type 0} (state : S → StorageState) (table : TableValue) (pending
           header = others.1;
           order = others.0;
           loose = λ loose. record {
-            tables = unpinned-written TableValue written_table (λ e. refl) (cached_in D).tables (cached_in C).tables (ap (λ (c : Cached). c.tables) kept) loose.tables;
             blocks = unpinned-written Block written_block (λ e. refl) (cached_in D).blocks (cached_in C).blocks (ap (λ (c : Cached). c.blocks) kept) loose.blocks;
             room = subst (λ n. 0 < n) (sym room.blocks) loose.room;
           };

@@ -27,7 +27,7 @@ use Rattle.qcow2_alloc.specs.Freeing.{IsLoose, WhyNotFreed}
 use Rattle.qcow2_alloc.specs.Going.{Going, Always, IsWhole, CountsWrites, AreTablesInReach, AreBlocksInReach, WhyNotWritten}
 use Rattle.qcow2_alloc.specs.Growing.{lacks, lacking}
 use Rattle.qcow2_alloc.specs.MakingRoom.{run_of, rank}
-use Rattle.qcow2_alloc.specs.Memory.{Cached, written, written_table, written_block}
+use Rattle.qcow2_alloc.specs.Memory.{Cached, written, written_block}
 use Rattle.qcow2_alloc.specs.MovingTables.{ForgetsRun, StaysInMemory, TakesRoom, IsTaken, IsUncounted}
 use Rattle.qcow2_alloc.specs.NewBlocks.{MayWrite, WritesLacking}
 use Rattle.qcow2_alloc.specs.Quiet.{Metadata, counted, named_at_all, IsUsed, IsSound, Quietly}
@@ -190,7 +190,6 @@ module _ {S : Type 0} (state : S → StorageState) (table : TableValue) (pending
           header = others.1;
           order = others.0;
           loose = λ loose. record {
-            tables = unpinned-written TableValue written_table (λ e. refl) (cached_in D).tables (cached_in C).tables (ap (λ (c : Cached). c.tables) kept) loose.tables;
             blocks = unpinned-written Block written_block (λ e. refl) (cached_in D).blocks (cached_in C).blocks (ap (λ (c : Cached). c.blocks) kept) loose.blocks;
             room = subst (λ n. 0 < n) (sym room.blocks) loose.room;
           };

@@ -30,10 +30,10 @@ pub record Raises (index : ℕ) (block : Block) (result : Result Unit Fault) (bl
   pub some : index < length block.counters → 0 < slice_index block.counters index → (result ≡ Err Counter) × (block' ≡ block)
   pub none : index < length block.counters → slice_index block.counters index ≡ 0 → (result ≡ Ok tt) × (block' ≡ with_counter block index 1)
 
--- A cluster that isn't counted is counted in its block, as a word of the refcount table names it; where none does it can't be.
+-- A cluster that isn't counted is counted in its block, as a word of the refcount table names it; where none does the table is damaged.
 abbrev pub RaisesCluster : {S : Type 0} → (S → StorageState) → TableValue → ℕ → MetadataCaches S → ImageFile S → Result Unit Fault → MetadataCaches S → ImageFile S → Type 0
 RaisesCluster state table cluster old before result new after = MatchOption (named_block table (cluster / counters_of_block before.header.fields))
-    ((result ≡ Err Counter) × (new ≡ old) × (after ≡ before))
+    ((result ≡ Err DamagedTable) × (new ≡ old) × (after ≡ before))
     (λ key. UsesBlock state key (Raises (cluster % counters_of_block before.header.fields)) old before result new after)
 
 -- Counts are raised from 0 to 1 alone.

@@ -64,10 +64,10 @@ pub record Lowers (index : ℕ) (block : Block) (result : Result Unit Fault) (bl
   pub none : index < length block.counters → slice_index block.counters index ≡ 0 → (result ≡ Err Counter) × (block' ≡ block)
   pub some : index < length block.counters → 0 < slice_index block.counters index → (result ≡ Ok tt) × (block' ≡ with_counter block index (slice_index block.counters index - 1))
 
--- A cluster is counted down in the block that counts it, as a word of the refcount table names it; where none does it isn't counted.
+-- A cluster is counted down in the block that counts it, as a word of the refcount table names it; where none does the table is damaged.
 abbrev pub LowersCluster : {S : Type 0} → (S → StorageState) → TableValue → ℕ → MetadataCaches S → ImageFile S → Result Unit Fault → MetadataCaches S → ImageFile S → Type 0
 LowersCluster state table cluster old before result new after = MatchOption (named_block table (cluster / counters_of_block before.header.fields))
-    ((result ≡ Err Counter) × (new ≡ old) × (after ≡ before))
+    ((result ≡ Err DamagedTable) × (new ≡ old) × (after ≡ before))
     (λ key. UsesBlock state key (Lowers (cluster % counters_of_block before.header.fields)) old before result new after)
 
 -- The refcount table begins with a cluster that words can name.

@@ -1,7 +1,7 @@
 -- How L2 tables and refcount blocks are found in their caches, or loaded into them.
 use Rattle.std.specs.Prelude.{◌≡◌, ◌⊎◌, ℕ, ◌*◌, ◌<◌, ◌≤◌, ◌∷◌, ⊤, IsSome, OnOk, OnErr, Ok, Result, MatchResult, List, None, cond, length, map, nat_eq, nat_lt}
 use Rattle.std.specs.Option.{option_map_or}
-use Rattle.std.specs.List.{AllByRecursion}
+use Rattle.std.specs.List.{AllByRecursion, count_by}
 use Rattle.std.specs.Map.{lookup, remove_entry}
 use Rattle.imago_storage.specs.State.{StorageState, Rose}
 use Rattle.imago_storage.specs.Calls.{Kept}
@@ -31,9 +31,9 @@ module _ {V : Type 0} where
     pub full : cap ≤ length es
     pub pinned : AllByRecursion (λ e. 0 < e.1.pins) es
 
-  -- No entry is pinned.
-  abbrev pub AreUnpinned : List (ℕ × Slot V) → Type 0
-  AreUnpinned = AllByRecursion (λ e. e.1.pins ≡ 0)
+  -- how many entries are pinned
+  abbrev pub pinned_in : List (ℕ × Slot V) → ℕ
+  pinned_in es = count_by (λ e. nat_lt 0 e.1.pins) es
 
   -- What the search of a key leaves of the entries of a cache of so many, where `read` is what the file has there and `written` an entry
   -- once it is flushed. One that is there stays where it is; else what was read goes first.
@@ -41,7 +41,7 @@ module _ {V : Type 0} where
     pub there : IsSome (lookup (nat_eq key) es) → es' ≡ es
     pub loaded : lookup (nat_eq key) es ≡ None → OnOk result (es' ≡ (key, record { value = read; pins = 0 }) ∷ with_room cap es)
     pub refused : OnErr result ((map written es' ≡ map written es) ⊎ (es' ≡ with_room cap es))
-    pub unpinned : AreUnpinned es → AreUnpinned es'
+    pub pinned : pinned_in es' ≤ pinned_in es
 
 -- Why a search was refused, by the counts of faults before and after, where `fine` says that words can name what is loaded and written
 -- and that what is loaded is sound. `Memory` may come behind a fault of the storage.

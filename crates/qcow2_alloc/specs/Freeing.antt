@@ -1,5 +1,6 @@
 -- How clusters that wait to be freed are counted down.
-use Rattle.std.specs.Prelude.{◌≡◌, ◌⊎◌, ⊤, ℕ, ◌<◌, ◌≤◌, IsTrue, Result, MatchResult, List, length, true}
+use Rattle.std.specs.Prelude.{◌≡◌, ◌⊎◌, ⊤, ℕ, ◌<◌, ◌≤◌, IsTrue, Result, MatchResult, OnOk, Bool, List, [], ◌∷◌, length, not, true, false}
+use Rattle.std.specs.List.{filter}
 use Rattle.imago_storage.specs.State.{StorageState, Rose}
 use Rattle.imago_storage.specs.declared.fault.Fault.{Fault}
 use Rattle.imago_storage.specs.declared.fault.Fault.TheVariants.{Memory, Storage, DamagedTable, CacheFull, Counter}
@@ -11,15 +12,19 @@ use Rattle.qcow2_alloc.specs.declared.cache.MetadataCaches.{MetadataCaches}
 use Rattle.qcow2_alloc.specs.declared.file.ImageFile.{ImageFile}
 use Rattle.qcow2_alloc.specs.Allocators.{metadata_of}
 use Rattle.qcow2_alloc.specs.Caches.{cached_in, HasRoomOf}
-use Rattle.qcow2_alloc.specs.Finding.{AreUnpinned}
-use Rattle.qcow2_alloc.specs.FreeList.{listed}
+use Rattle.qcow2_alloc.specs.Finding.{pinned_in}
+use Rattle.qcow2_alloc.specs.FreeList.{entry_at, listed, shortened}
 use Rattle.qcow2_alloc.specs.Going.{IsWhole}
-use Rattle.qcow2_alloc.specs.Quiet.{Metadata, IsSound, Quietly, counted}
+use Rattle.qcow2_alloc.specs.Quiet.{Metadata, IsSound, Quietly, counted, metadata_in}
+use Rattle.qcow2_alloc.specs.Safety.{IsCalm}
 
--- No table and no block is pinned, and there is room for one.
+-- Fewer blocks are pinned than there is room for, so that any can be loaded.
+abbrev pub HasSpareRoom : {S : Type 0} → MetadataCaches S → Type 0
+HasSpareRoom caches = pinned_in (cached_in caches).blocks < caches.rb.slots.cap
+
+-- No block is pinned, and there is room for one. A block that is pinned where a new one is to stand bars that, whatever the room.
 pub record IsLoose {S : Type 0} (caches : MetadataCaches S) : Type 0 where
-  pub tables : AreUnpinned (cached_in caches).tables
-  pub blocks : AreUnpinned (cached_in caches).blocks
+  pub blocks : pinned_in (cached_in caches).blocks ≡ 0
   pub room : 0 < caches.rb.slots.cap
 
 -- Each cluster before the mark is counted.
@@ -27,8 +32,8 @@ abbrev pub IsMarked : Metadata → ℕ → Type 0
 IsMarked m mark = (c : ℕ) → c < mark → 0 < counted m c
 
 -- Why a call that allocates or frees was refused, by the counts of faults before and after: for want of memory or by a storage; as a
--- damaged table or a counter that can't change only where the image isn't sound; and as the cache is full only where something is
--- pinned.
+-- damaged table or a counter that can't change only where the image isn't sound; and as a full cache only where blocks are pinned, of
+-- which `loose` says that too few are, or none.
 abbrev pub WhyNotFreed : Type 0 → Type 0 → ℕ → ℕ → Fault → Type 0
 WhyNotFreed sound loose before after Memory = ⊤
 WhyNotFreed sound loose before after Storage = Rose before after
@@ -45,15 +50,51 @@ CountsFreeing sound loose before after result = MatchResult result (λ _. after 
 abbrev pub MayFree : CacheDependency → FreeEntry → Type 0
 MayFree order e = (e.metadata ≡ true) ⊎ (order ≡ RbDependsOnL2)
 
--- Clusters were counted down, and what waits to be freed is less by them. What contracts see of an image: its file, its caches, the mark,
--- and what waits to be freed.
+-- It wasn't cut off; or it was over a storage that tells its stops, which refused no change.
+abbrev pub IsWholeOrCalm : Result Unit Fault → StorageState → StorageState → Type 0
+IsWholeOrCalm result old new = IsWhole result ⊎ IsCalm old new
+
+-- Clusters were counted down, and what waits to be freed is less by them. The mark stays, or falls to a cluster that waited and was freed.
+-- What contracts see of an image: its file, its caches, the mark, and what waits to be freed.
 pub record Frees {S : Type 0} (state : S → StorageState) (table : TableValue) (old : MetadataCaches S) (before : ImageFile S) (mark : ℕ) (pending : List FreeEntry) (result : Result Unit Fault) (new : MetadataCaches S) (after : ImageFile S) (mark' : ℕ) (pending' : List FreeEntry) : Type 0 where
-  pub quiet : Quietly (IsWhole result) (λ _. 0) (λ _. 0) (state before.image) (metadata_of state before old table pending) (state after.image) (metadata_of state after new table pending')
-  pub marked : IsTrue (state before.image).shape.keeps → IsSound (metadata_of state before old table pending) → IsWhole result → IsMarked (metadata_of state before old table pending) mark → IsMarked (metadata_of state after new table pending') mark'
+  pub quiet : Quietly (IsWholeOrCalm result (state before.image) (state after.image)) (λ _. 0) (λ _. 0) (state before.image) (metadata_of state before old table pending) (state after.image) (metadata_of state after new table pending')
+  pub marked : IsTrue (state before.image).shape.keeps → IsSound (metadata_of state before old table pending) → IsWholeOrCalm result (state before.image) (state after.image) → IsMarked (metadata_of state before old table pending) mark → IsMarked (metadata_of state after new table pending') mark'
   pub lower : mark' ≤ mark
+  pub fallen : (mark' ≡ mark) ⊎ (listed pending' mark' < listed pending mark')
   pub header : after.header ≡ before.header
-  pub loose : IsLoose old → IsLoose new
+  pub pins : pinned_in (cached_in new).blocks ≤ pinned_in (cached_in old).blocks
   pub room : HasRoomOf old new
   pub less : (c : ℕ) → listed pending' c ≤ listed pending c
   pub fewer : length pending' ≤ length pending
-  pub cause : CountsFreeing (IsTrue (state before.image).shape.keeps × IsSound (metadata_of state before old table pending)) (IsLoose old) (state before.image).faults (state after.image).faults result
+  pub cause : CountsFreeing (IsTrue (state before.image).shape.keeps × IsSound (metadata_of state before old table pending)) (HasSpareRoom old) (state before.image).faults (state after.image).faults result
+
+-- the entries of guest data
+abbrev pub data_in : List FreeEntry → List FreeEntry
+data_in entries = filter (λ e. not e.metadata) entries
+
+-- The first are entries of the second, in the same order.
+abbrev pub IsSublist : List FreeEntry → List FreeEntry → Type 0
+IsSublist [] es = ⊤
+IsSublist (x ∷ xs) [] = ⊥
+IsSublist (x ∷ xs) (e ∷ es) = ((x ≡ e) × IsSublist xs es) ⊎ IsSublist (x ∷ xs) es
+
+-- What is left of entries that are counted down: some of them, and of one of these perhaps its first clusters alone.
+pub record IsRest (old left : List FreeEntry) : Type 0 where
+  pub kept : List FreeEntry
+  pub some : IsSublist kept old
+  pub index : ℕ
+  pub done : ℕ
+  pub short : left ≡ shortened kept index done
+  pub more : (done ≡ 0) ⊎ (done < (entry_at kept index).count)
+
+-- What is left where entries that held metadata go first: while one is left, all entries of guest data are, as they were.
+pub record IsRestInTurn (old left : List FreeEntry) : Type 0 where
+  pub rest : IsRest old left
+  pub first : (metadata_in left ≡ []) ⊎ (data_in left ≡ data_in old)
+
+-- In which order caches are written once what waits was counted down, or that was refused: as before, or tables first. It is as before
+-- where no guest data waited, where that is in an external file, and where metadata is left; else, on success, tables come first.
+pub record OrdersFreeing (external : Bool) (pending left : List FreeEntry) (old : CacheDependency) (result : Result Unit Fault) (new : CacheDependency) : Type 0 where
+  pub either : (new ≡ old) ⊎ (new ≡ RbDependsOnL2)
+  pub kept : (external ≡ true) ⊎ ((data_in pending ≡ []) ⊎ (metadata_in left ≡ [] → ⊥)) → new ≡ old
+  pub announced : external ≡ false → (data_in pending ≡ [] → ⊥) → OnOk result (new ≡ RbDependsOnL2)

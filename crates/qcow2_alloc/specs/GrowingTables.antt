@@ -27,6 +27,10 @@ use Rattle.qcow2_alloc.specs.Quiet.{Metadata, IsSound, counted}
 abbrev pub table_run : Fields → List FreeEntry
 table_run h = if h.refcount_table_clusters == 0 then [] else run_of (h.refcount_table_offset / cluster_size h) h.refcount_table_clusters ∷ []
 
+-- the list as it was; or the refcount table became longer, and the clusters of the old one are behind
+abbrev pub IsLengthenedByTable : Fields → TableValue → TableValue → List FreeEntry → List FreeEntry → Type 0
+IsLengthenedByTable h table table' old new = (new ≡ old) ⊎ ((length table.words < length table'.words) × (new ≡ old ++ table_run h))
+
 -- where the search of a room begins: at the mark, or where the clusters end that the table can count
 abbrev pub room_from : Metadata → ℕ → ℕ
 room_from m mark = min mark (length m.table.words * counters_of_block m.header.fields)

@@ -6,6 +6,7 @@ use Rattle.imago_storage.specs.declared.fault.Fault.TheVariants.{Limit}
 use Rattle.qcow2_types.specs.Header.{words_of_cluster}
 use Rattle.qcow2_types.specs.Counts.{counters_of_block}
 use Rattle.qcow2_types.specs.Pending.{FreeEntry}
+use Rattle.qcow2_types.specs.References.{structure, meets}
 use Rattle.qcow2_metadata.specs.Growth.{IsGrownLength}
 use Rattle.qcow2_metadata.specs.Places.{IsInReach}
 use Rattle.qcow2_metadata.specs.Tables.{TableValue}
@@ -18,7 +19,7 @@ use Rattle.qcow2_alloc.specs.Caches.{order_of, HasRoomOf}
 use Rattle.qcow2_alloc.specs.Crowding.{IsCrowded}
 use Rattle.qcow2_alloc.specs.Freeing.{IsLoose, IsMarked}
 use Rattle.qcow2_alloc.specs.Going.{IsWhole, IsMild}
-use Rattle.qcow2_alloc.specs.GrowingTables.{Leaks, NoPlaceToGrow, TableGrown, table_run}
+use Rattle.qcow2_alloc.specs.GrowingTables.{IsLengthenedByTable, Leaks, NoPlaceToGrow, TableGrown, table_run}
 use Rattle.qcow2_alloc.specs.Quiet.{Metadata, IsSound, IsQuiet, Quietly, counted, named_at_all, waiting, one_at}
 use Rattle.qcow2_alloc.specs.ReadyingRuns.{handed_by, mark_behind, IsLengthened, IsRunCounted}
 
@@ -84,13 +85,14 @@ pub record AllocatesClusters {S : Type 0} (state : S → StorageState) (mark n :
   pub freed : IsTrue (state before.image).shape.keeps → IsSound (metadata_of state before old table pending) → IsSearched result → IsFreed (metadata_of state before old table pending) mark mid mid_mark
   pub fresh : IsTrue (state before.image).shape.keeps → IsSound (metadata_of state before old table pending) → IfOk result (λ entry. (c : ℕ) → entry.first ≤ c → c < entry.first + n → counted mid c ≡ 0)
   pub taken : IsTrue (state before.image).shape.keeps → IsSound (metadata_of state before old table pending) → IfOk result (IsRunCounted mid_mark n (metadata_of state after new table' pending'))
-  pub raised : IsTrue (state before.image).shape.keeps → IsSound (metadata_of state before old table pending) → OnOk result (OnlyRaised mid (metadata_of state after new table' pending'))
+  pub raised : IsTrue (state before.image).shape.keeps → IsSound (metadata_of state before old table pending) → IsSearched result → OnlyRaised mid (metadata_of state after new table' pending')
   pub marked : IsTrue (state before.image).shape.keeps → IsSound (metadata_of state before old table pending) → IsWhole result
       → IsMarked (metadata_of state before old table pending) mark → IsMarked (metadata_of state after new table' pending') mark'
   pub further : IfOk result (λ entry. mark' ≡ mark_behind mid_mark n entry.first)
+  pub stays : OnErr result (IsSearched result → mark' ≡ mid_mark)
   pub order : OnOk result (order_of new ≡ L2DependsOnRb)
   pub shape : StaysInShape old before new after
-  pub list : OnOk result (IsLengthened [] pending')
+  pub list : IsSearched result → IsLengthened table table' [] pending'
   pub cause : MatchResult result (λ _. (state after.image).faults ≡ (state before.image).faults)
       (WhyNotAllocated (IsTrue (state before.image).shape.keeps × IsSound (metadata_of state before old table pending)) (IsLoose old)
       (IsTrue (state before.image).shape.keeps → IsSound (metadata_of state before old table pending) → IsCrowded mid mid_mark n)
@@ -115,10 +117,10 @@ held_by (Err fault) held = held
 abbrev pub IsBarred : Metadata → (mark cluster : ℕ) → Type 0
 IsBarred m mark cluster = (IsInReach m.header.fields.cluster_bits cluster → ⊥) ⊎ ((length m.table.words ≤ cluster / counters_of_block m.header.fields) × NoPlaceToGrow m mark (cluster / counters_of_block m.header.fields))
 
--- What an answer says of one cluster: it is handed out; or it is counted, perhaps since this call, or barred.
+-- What an answer says of one cluster: it was free, and is handed out; or it was counted, a table or a block stands in it now, or it is barred.
 abbrev pub IsHandedAt : Type 0 → ℕ → Metadata → Metadata → Option FreeEntry → Type 0
 IsHandedAt barred cluster m m' (Some entry) = (counted m cluster ≡ 0) × (counted m' cluster ≡ 1) × (named_at_all m' cluster ≡ 0) × (waiting m' cluster ≡ 0)
-IsHandedAt barred cluster m m' None = (0 < counted m' cluster) ⊎ barred
+IsHandedAt barred cluster m m' None = (0 < counted m cluster) ⊎ ((0 < structure m'.file m'.header.fields (meets m'.header.fields cluster)) ⊎ barred)
 
 -- The entry is this one cluster of the guest's data.
 abbrev pub IsOneAt : ℕ → ℕ → Option FreeEntry → Type 0
@@ -145,6 +147,6 @@ pub record AllocatesClusterAt {S : Type 0} (state : S → StorageState) (mark cl
       → IsMarked (metadata_of state before old table pending) mark → IsMarked (metadata_of state after new table' pending') mark'
   pub order : OnOk result (order_of new ≡ L2DependsOnRb)
   pub shape : StaysInShape old before new after
-  pub list : IsLengthened pending pending'
+  pub list : IsLengthenedByTable before.header.fields table table' pending pending'
   pub cause : MatchResult result (λ _. (state after.image).faults ≡ (state before.image).faults)
       (WhyNotAllocated (IsTrue (state before.image).shape.keeps × IsSound (metadata_of state before old table pending)) (IsLoose old) ⊥ (state before.image).faults (state after.image).faults)

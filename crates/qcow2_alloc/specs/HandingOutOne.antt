@@ -14,23 +14,22 @@ use Rattle.qcow2_alloc.specs.Allocators.{metadata_of}
 use Rattle.qcow2_alloc.specs.Caches.{order_of}
 use Rattle.qcow2_alloc.specs.Freeing.{IsLoose, IsMarked}
 use Rattle.qcow2_alloc.specs.Going.{IsWhole}
-use Rattle.qcow2_alloc.specs.GrowingTables.{Leaks}
+use Rattle.qcow2_alloc.specs.GrowingTables.{IsLengthenedByTable, Leaks}
 use Rattle.qcow2_alloc.specs.HandingOut.{handed_at, mark_past, IsBarred, IsHandedAt, IsOneAt}
 use Rattle.qcow2_alloc.specs.Quiet.{Metadata, IsSound}
-use Rattle.qcow2_alloc.specs.ReadyingRuns.{IsLengthened}
 
 -- Nothing is handed out by an answer; a refusal may have leaked something.
 abbrev pub leaked_by : {T : Type 0} → Result T Fault → (ℕ → ℕ) → ℕ → ℕ
 leaked_by (Ok done) leaked c = 0
 leaked_by (Err fault) leaked c = leaked c
 
--- What a call does that counts clusters, while blocks are written before tables, and hands out those that its answer names. Clusters of metadata may
--- come to wait to be freed.
+-- What a call does that counts clusters, while blocks are written before tables, and hands out those that its answer names. The clusters of an old
+-- refcount table may come to wait to be freed.
 pub record HandsOut {S T : Type 0} (state : S → StorageState) (handed : Result T Fault → (ℕ → ℕ) → ℕ → ℕ) (table : TableValue) (old : MetadataCaches S) (before : ImageFile S) (pending : List FreeEntry) (result : Result T Fault) (table' : TableValue) (new : MetadataCaches S) (after : ImageFile S) (pending' : List FreeEntry) : Type 0 where
   pub leaked : ℕ → ℕ
   pub leaks : Leaks (IsLoose old) result leaked
   pub step : Allocating state (IsWhole result) (handed result leaked) table old before pending table' new after pending'
-  pub list : IsLengthened pending pending'
+  pub list : IsLengthenedByTable before.header.fields table table' pending pending'
   pub cause : MatchResult result (λ _. (state after.image).faults ≡ (state before.image).faults)
       (WhyNotAllocated (IsTrue (state before.image).shape.keeps × (order_of old ≡ L2DependsOnRb) × IsSound (metadata_of state before old table pending)) (IsLoose old) ⊥ (state before.image).faults (state after.image).faults)
 
@@ -53,7 +52,7 @@ abbrev pub counting_of : Result (Option FreeEntry) Fault → Result Unit Fault
 counting_of (Ok found) = Ok tt
 counting_of (Err fault) = Err fault
 
--- One cluster is counted, and was in use by nobody: room is held then for its entry.
+-- One cluster is counted, and was in use by nobody.
 pub record CountsOne {S : Type 0} (state : S → StorageState) (cluster : ℕ) (table : TableValue) (old : MetadataCaches S) (before : ImageFile S) (pending : List FreeEntry) (result : Result (Option FreeEntry) Fault) (new : MetadataCaches S) (after : ImageFile S) : Type 0 where
   pub counts : CountsRun state table cluster 1 old before (counting_of result) new after pending
   pub exact : OnErr result (counts.part ≡ 0)

@@ -51,7 +51,7 @@ pub record ReadiesBlocks {S : Type 0} (state : S → StorageState) (mark at firs
   pub further : IfOk result (λ made. made ≡ true → HasMore table table')
   pub made : order_of old ≡ L2DependsOnRb → IsTrue (state before.image).shape.keeps → IsSound (metadata_of state before old table pending)
       → IfOk result (λ made. made ≡ true → HasMade mark at first last (metadata_of state before old table pending) (metadata_of state after new table' pending'))
-  pub list : IsLengthened pending pending'
+  pub list : IsLengthened table table' pending pending'
   pub cause : MatchResult result (λ _. (state after.image).faults ≡ (state before.image).faults)
       (WhyNotAllocated (IsTrue (state before.image).shape.keeps × (order_of old ≡ L2DependsOnRb) × IsSound (metadata_of state before old table pending)) (IsLoose old)
       (order_of old ≡ L2DependsOnRb → IsTrue (state before.image).shape.keeps → IsSound (metadata_of state before old table pending) → NoneCanBeMade mark at first last (metadata_of state before old table pending))

@@ -1,5 +1,5 @@
 -- How a run of free clusters is found and made ready to be counted, and handed out.
-use Rattle.std.specs.Prelude.{◌≡◌, ◌≢◌, ◌==◌, ℕ, ◌+◌, ◌-◌, ◌/◌, ◌<◌, ◌≤◌, ◌++◌, if◌then◌else◌, Bool, true, IsTrue, List, Result, OnErr, IfOk, Ok, Err, MatchResult, slice_index}
+use Rattle.std.specs.Prelude.{◌≡◌, ◌≢◌, ◌==◌, ℕ, ◌+◌, ◌-◌, ◌/◌, ◌<◌, ◌≤◌, ◌++◌, if◌then◌else◌, Bool, true, IsTrue, List, Result, OnErr, IfOk, Ok, Err, MatchResult, length, slice_index}
 use Rattle.std.specs.List.{AllByRecursion}
 use Rattle.imago_storage.specs.State.{StorageState}
 use Rattle.imago_storage.specs.declared.fault.Fault.{Fault}
@@ -22,11 +22,12 @@ use Rattle.qcow2_alloc.specs.GrowingTables.{Leaks}
 use Rattle.qcow2_alloc.specs.Quiet.{Metadata, IsSound, counted}
 use Rattle.qcow2_alloc.specs.SearchingClusters.{IsFirstRun}
 
--- the list, with entries of metadata behind its own
-pub record IsLengthened (old new : List FreeEntry) : Type 0 where
+-- the list, with entries of metadata behind its own; none where the refcount table is as long as it was
+pub record IsLengthened (table table' : TableValue) (old new : List FreeEntry) : Type 0 where
   pub more : List FreeEntry
   pub behind : new ≡ old ++ more
   pub metadata : AllByRecursion (λ e. e.metadata ≡ true) more
+  pub same : length table'.words ≡ length table.words → new ≡ old
 
 -- The first run of n clusters from the mark on that aren't counted is ready to be: the refcount table names a block for each, and words can name it.
 pub record ReadiesRun {S : Type 0} (state : S → StorageState) (mark n : ℕ) (table : TableValue) (old : MetadataCaches S) (before : ImageFile S) (pending : List FreeEntry) (result : Result ℕ Fault) (table' : TableValue) (new : MetadataCaches S) (after : ImageFile S) (pending' : List FreeEntry) : Type 0 where
@@ -37,7 +38,7 @@ pub record ReadiesRun {S : Type 0} (state : S → StorageState) (mark n : ℕ) (
   pub ready : IfOk result (λ first. (c : ℕ) → first ≤ c → c < first + n → block_offset (slice_index table'.words (c / counters_of_block before.header.fields)) ≢ 0)
   pub reach : IfOk result (λ first. IsInReach before.header.fields.cluster_bits (first + (n - 1)))
   pub some : IfOk result (λ first. first ≢ 0)
-  pub list : IsLengthened pending pending'
+  pub list : IsLengthened table table' pending pending'
   pub cause : MatchResult result (λ _. (state after.image).faults ≡ (state before.image).faults)
       (WhyNotAllocated (IsTrue (state before.image).shape.keeps × (order_of old ≡ L2DependsOnRb) × IsSound (metadata_of state before old table pending)) (IsLoose old)
       (order_of old ≡ L2DependsOnRb → IsTrue (state before.image).shape.keeps → IsSound (metadata_of state before old table pending) → IsCrowded (metadata_of state before old table pending) mark n)
@@ -71,7 +72,7 @@ pub record Allocates {S : Type 0} (state : S → StorageState) (mark n : ℕ) (m
   pub stays : OnErr result (mark' ≡ mark)
   pub marked : order_of old ≡ L2DependsOnRb → IsTrue (state before.image).shape.keeps → IsSound (metadata_of state before old table pending) → IsWhole result
       → IsMarked (metadata_of state before old table pending) mark → IsMarked (metadata_of state after new table' pending') mark'
-  pub list : IsLengthened pending pending'
+  pub list : IsLengthened table table' pending pending'
   pub cause : MatchResult result (λ _. (state after.image).faults ≡ (state before.image).faults)
       (WhyNotAllocated (IsTrue (state before.image).shape.keeps × (order_of old ≡ L2DependsOnRb) × IsSound (metadata_of state before old table pending)) (IsLoose old)
       (order_of old ≡ L2DependsOnRb → IsTrue (state before.image).shape.keeps → IsSound (metadata_of state before old table pending) → IsCrowded (metadata_of state before old table pending) mark n)

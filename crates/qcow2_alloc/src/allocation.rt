@@ -1,15 +1,16 @@
 //! Who gets which cluster of an image file: allocation, and the freeing of what nothing names any more.
-ghost use Rattle.std.specs.Prelude.{◌≡◌, ◌≤◌, ◌<◌, ◌-◌, ◌%◌, ◌^◌, ◌+◌, ℕ, Ok, Err, OnOk, OnErr, IfOk, IfErr, Some, None, slice_index, length, min, not, [], Result, MatchOption};
+ghost use Rattle.std.specs.Prelude.{◌≡◌, ◌≤◌, ◌<◌, ◌-◌, ◌%◌, ◌^◌, ◌+◌, ℕ, Ok, Err, OnOk, OnErr, IfOk, IfErr, Some, None, slice_index, length, min, [], Result, MatchOption};
 ghost use Rattle.imago_storage.specs.declared.fault.Fault.{Fault};
 ghost use Rattle.qcow2_metadata.specs.Blocks.{Block, with_counter};
 ghost use Rattle.qcow2_alloc.specs.Allocators.{table_of, mark_of, named_block, UsesBlock, Lowers, LowersCluster, LoadsAllocator};
-ghost use Rattle.std.specs.List.{filter, remove};
+ghost use Rattle.std.specs.List.{remove};
 ghost use Rattle.qcow2_alloc.specs.declared.cache.CacheDependency.TheVariants.{RbDependsOnL2};
 ghost use Rattle.qcow2_alloc.specs.Caches.{cached_in, order_of, HasRoomOf};
 ghost use Rattle.qcow2_alloc.specs.Dropping.{Dropped, StaysSafe};
 ghost use Rattle.qcow2_alloc.specs.Safety.{AreBlocksClean};
 ghost use Rattle.qcow2_alloc.specs.FreeList.{entry_at, shortened};
-ghost use Rattle.qcow2_alloc.specs.Freeing.{Frees, MayFree};
+ghost use Rattle.qcow2_alloc.specs.Freeing.{Frees, MayFree, data_in, IsRest, IsRestInTurn, OrdersFreeing};
+ghost use Rattle.qcow2_types.specs.Header.{has_external_data};
 ghost use Rattle.qcow2_alloc.specs.Finding.{BlockFound};
 
 use crate::cache::MetadataCaches;
@@ -110,7 +111,7 @@ impl Allocator {
     {
         let (rt_index, rb_index) = cluster.rt_rb_indices(file.header.rb_bits());
         let Some(rb_cluster) = self.block_cluster(rt_index) else {
-            return Err(Fault::Counter);
+            return Err(Fault::DamagedTable);
         };
         match lower_in(caches, file, rb_cluster, rb_index) {
             Ok(()) => {
@@ -141,7 +142,7 @@ impl Allocator {
         ensures held { list.new.held ≡ list.old.held }
     {
         let Some(last) = last_cluster(list.entry(index)) else {
-            return Err(Fault::Counter);
+            return Err(Fault::DamagedTable);
         };
         match self.free_cluster(file, caches, last) {
             Ok(()) => {
@@ -165,7 +166,7 @@ impl Allocator {
         ensures order { order_of caches.new ≡ order_of caches.old }
         ensures table { table_of self.new ≡ table_of self.old }
         ensures ok { OnOk result (list.new.entries ≡ remove list.old.entries index) }
-        ensures err { OnErr result ((n : ℕ) × (list.new.entries ≡ shortened list.old.entries index n)) }
+        ensures err { OnErr result ((n : ℕ) × (n < (entry_at list.old.entries index).count) × (list.new.entries ≡ shortened list.old.entries index n)) }
         ensures held { list.new.held ≡ list.old.held }
     {
         let ClusterCount(count) = list.entry(index).count();
@@ -189,7 +190,8 @@ impl Allocator {
         ensures frees { Frees S.state (table_of self.old) caches.old file.old (mark_of self.old) list.old.entries result caches.new file.new (mark_of self.new) list.new.entries }
         ensures order { order_of caches.new ≡ order_of caches.old }
         ensures table { table_of self.new ≡ table_of self.old }
-        ensures ok { OnOk result (list.new.entries ≡ filter (λ e. not e.metadata) list.old.entries) }
+        ensures ok { OnOk result (list.new.entries ≡ data_in list.old.entries) }
+        ensures left { IsRestInTurn list.old.entries list.new.entries }
         ensures held { list.new.held ≡ list.old.held }
     {
         while let Some(index) = list.position_of_metadata() {
@@ -212,6 +214,7 @@ impl Allocator {
         ensures order { order_of caches.new ≡ order_of caches.old }
         ensures table { table_of self.new ≡ table_of self.old }
         ensures ok { OnOk result (list.new.entries ≡ []) }
+        ensures left { IsRest list.old.entries list.new.entries }
         ensures held { list.new.held ≡ list.old.held }
     {
         while !list.is_empty() {
@@ -226,11 +229,13 @@ impl Allocator {
 
     /// Counts down the clusters of each entry of the list: first those that held metadata, which nothing names, in the file or in memory; then,
     /// once it was announced that tables are written before blocks, those of the guest's data. In an image whose data is in an
-    /// external file, nothing is counted for these: they are taken off the list.
+    /// external file, nothing is counted for these: they are taken off the list, and nothing is announced.
     ///
-    /// It refuses with `Fault::Memory`; with `Fault::Storage`; with `Fault::CacheFull` where each block of a full cache is pinned; and with
-    /// `Fault::Counter` and `Fault::DamagedTable`, which no sound image has. What wasn't counted down stays on the list, a part of an entry
-    /// included; the list takes no memory. The file of a sound image shows the same at each stop.
+    /// It refuses with `Fault::Memory`; with `Fault::Storage`; with `Fault::CacheFull` where each block of a full cache is pinned; with
+    /// `Fault::Counter` where a cluster is counted 0 times, and with `Fault::DamagedTable` where no block counts it, which no sound image has.
+    /// What wasn't counted down stays on the list, a part of an entry included; the list takes no memory. The file of a sound image shows the
+    /// same at each stop; and a sound image stays sound, also where memory or the storage refused, if that tells its stops and refused no
+    /// change.
     pub fn process_clusters_to_free<S: Storage>(
         &mut self,
         file: &mut ImageFile<S>,
@@ -240,6 +245,8 @@ impl Allocator {
         ensures frees { Frees S.state (table_of self.old) caches.old file.old (mark_of self.old) list.old.entries result caches.new file.new (mark_of self.new) list.new.entries }
         ensures table { table_of self.new ≡ table_of self.old }
         ensures ok { OnOk result (list.new.entries ≡ []) }
+        ensures left { IsRestInTurn list.old.entries list.new.entries }
+        ensures order { OrdersFreeing (has_external_data file.old.header.fields) list.old.entries list.new.entries (order_of caches.old) result (order_of caches.new) }
         ensures held { list.new.held ≡ list.old.held }
     {
         if let Err(fault) = self.free_metadata(file, caches, list) {

@@ -99,6 +99,24 @@ impl ClustersToFreeList {
         }
     }
 
+    /// Holds room for the entry of one pending allocation more, which can be made then without memory, by `PendingClusters::new`. Spend the
+    /// value as one of `pending_guard`; where none is made, let the room go by `release`.
+    ///
+    /// Refused with `Fault::Memory` where there is no room for it, the list is as it was.
+    pub fn hold(&mut self) -> Result<(), Fault>
+        ensures ok { OnOk result (self.new ≡ record { entries = self.old.entries; held = self.old.held + 1 }) }
+        ensures err { IfErr result (λ fault. (fault ≡ Memory) × (self.new ≡ self.old)) }
+    {
+        let held = self.held + 1;
+        match self.entries.reserve(held) {
+            Ok(()) => {
+                self.held = held;
+                Ok(())
+            }
+            Err(_) => Err(Fault::Memory),
+        }
+    }
+
     /// The clusters of `entry`, which are to be named, and room held for the entry, in case they never are. Spend the value by
     /// `give_back`, which frees the clusters after all, or by its `make_persistent`, and then let the room go by `release`.
     ///
@@ -110,13 +128,9 @@ impl ClustersToFreeList {
         ensures ok { IfOk result (λ pending. (pending ≡ entry) × (self.new ≡ record { entries = self.old.entries; held = self.old.held + 1 })) }
         ensures err { IfErr result (λ e. (e ≡ (Memory, entry)) × (self.new ≡ self.old)) }
     {
-        let held = self.held + 1;
-        match self.entries.reserve(held) {
-            Ok(()) => {
-                self.held = held;
-                Ok(PendingClusters::new(entry))
-            }
-            Err(_) => Err((Fault::Memory, entry)),
+        match self.hold() {
+            Ok(()) => Ok(PendingClusters::new(entry)),
+            Err(fault) => Err((fault, entry)),
         }
     }
 

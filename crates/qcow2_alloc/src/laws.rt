@@ -188,10 +188,20 @@ pub fn what_is_quiet_adds_up()
     ensures cancelled { (m m' : Metadata) (h t both : ℕ → ℕ) → ((c : ℕ) → IsUsed m c → both c ≡ 0) → IsQuiet (λ c. h c + both c) (λ c. t c + both c) m m' → IsQuiet h t m m' }
 {}
 
-/// The same of two calls, where the first wasn't cut off.
+/// What is done quietly names no cluster anew that is used and not taken. So what a caller was handed stays unnamed until it names it: it is
+/// used, as it is counted beyond what waits to free it and nothing names it.
+pub fn what_is_used_is_not_named_anew()
+    ensures names { (m m' : Metadata) (handed taken : ℕ → ℕ) → IsQuiet handed taken m m' → (c : ℕ) → IsUsed m c → taken c ≡ 0 → named_at_all m' c ≤ named_at_all m c }
+    ensures unnamed { (m : Metadata) (c : ℕ) → waiting m c < counted m c → named_at_all m c ≡ 0 → IsUsed m c }
+{}
+
+/// Of two calls, where the first wasn't cut off, what is handed out and taken adds up, too; also where the second was cut off over a storage
+/// that tells its stops, which refused no change.
 pub fn what_is_done_quietly_adds_up()
     ensures then { (first second : Result Unit Fault) (h t h' t' : ℕ → ℕ) (s : StorageState) (m : Metadata) (s' : StorageState) (m' : Metadata) (s'' : StorageState) (m'' : Metadata) → IsWhole first → (IsSound m → (c : ℕ) → 0 < referenced m c → t c ≡ 0)
         → Quietly (IsWhole first) h t s m s' m' → Quietly (IsWhole second) h' t' s' m' s'' m'' → Quietly (IsWhole second) (λ c. h c + h' c) (λ c. t c + t' c) s m s'' m'' }
+    ensures calm { (first second : Result Unit Fault) (h t h' t' : ℕ → ℕ) (s : StorageState) (m : Metadata) (s' : StorageState) (m' : Metadata) (s'' : StorageState) (m'' : Metadata) → IsWhole first → (IsSound m → (c : ℕ) → 0 < referenced m c → t c ≡ 0)
+        → Quietly (IsWhole first ⊎ IsCalm s s') h t s m s' m' → Quietly (IsWhole second ⊎ IsCalm s' s'') h' t' s' m' s'' m'' → Quietly (IsWhole second ⊎ IsCalm s s'') (λ c. h c + h' c) (λ c. t c + t' c) s m s'' m'' }
     ensures otherwise { (result : Result Unit Fault) (handed taken h t : ℕ → ℕ) (s : StorageState) (m : Metadata) (s' : StorageState) (m' : Metadata) → (IsSound m → (c : ℕ) → handed c + t c ≡ h c + taken c)
         → (IsSound m → (c : ℕ) → IsUsed m c → t c ≡ 0 → taken c ≡ 0) → Quietly (IsWhole result) handed taken s m s' m' → Quietly (IsWhole result) h t s m s' m' }
 {}

@@ -25,7 +25,7 @@ impl Allocator {
     {
         let (rt_index, rb_index) = cluster.rt_rb_indices(file.header.rb_bits());
         let Some(rb_cluster) = self.block_cluster(rt_index) else {
-            return Err(Fault::Counter);
+            return Err(Fault::DamagedTable);
         };
         raise_in(caches, file, rb_cluster, rb_index)
     }

@@ -1,18 +1,17 @@
 //! The refcount table grows, and moves.
-ghost use Rattle.std.specs.Prelude.{◌≡◌, ◌≤◌, ◌<◌, ◌+◌, ◌*◌, ◌^◌, ◌++◌, OnOk, OnErr, IfOk, IfErr, length, min};
+ghost use Rattle.std.specs.Prelude.{◌≡◌, ℕ, ◌≤◌, ◌<◌, ◌+◌, ◌-◌, ◌*◌, ◌^◌, ◌++◌, OnOk, OnErr, IfOk, IfErr, length, min};
 ghost use Rattle.qcow2_alloc.specs.Allocators.{table_of, mark_of};
 ghost use Rattle.qcow2_alloc.specs.GrowingTables.{GrowsTable, table_run};
 ghost use Rattle.qcow2_alloc.specs.MovingTables.{IsPlan, IsCopyFor, WhyNotPlaced, IsGrownFor, WhyNotGrown, EntersFree};
 
 use crate::allocation::Allocator;
-use crate::allocation::allocating::hold_room;
 use crate::allocation::searching::Run;
 use crate::cache::MetadataCaches;
 use crate::clusters_to_free::ClustersToFreeList;
 use crate::file::ImageFile;
 use imago_storage::{Fault, Storage};
 use qcow2_metadata::{Header, RefTable, Table};
-use qcow2_types::{ClustersToFreeEntry, HostCluster};
+use qcow2_types::{ClustersToFreeEntry, HostCluster, PendingClusters};
 
 impl Allocator {
     // Lets the refcount table grow until it holds an index.
@@ -32,23 +31,51 @@ impl Allocator {
         ensures mark { mark_of self.new ≡ mark_of self.old }
         ensures held { list.new.held ≡ list.old.held }
     {
-        let mut copy = match self.grown_copy(&file.header, at) {
+        let copy = match self.grown_copy(&file.header, at) {
             Ok(copy) => copy,
             Err(fault) => return Err(fault),
         };
+        if let Err(fault) = list.hold() {
+            return Err(fault);
+        }
+        self.place_grown(file, caches, list, copy)
+    }
+
+    // Lets a copy that has grown in memory become the refcount table, in the first room for it. The list holds room for the clusters of the
+    // old one: it takes them, or is let go.
+    pub(super) fn place_grown<S: Storage>(
+        &mut self,
+        file: &mut ImageFile<S>,
+        caches: &mut MetadataCaches<S>,
+        list: &mut ClustersToFreeList,
+        mut copy: RefTable,
+    ) -> Result<(), Fault>
+        requires grown { (at : ℕ) × (length (table_of self.old).words ≤ at) × IsGrownFor file.old.header.fields (table_of self.old) at copy }
+        requires held { 0 < list.old.held }
+        ensures grows { (at : ℕ) → IsGrownFor file.old.header.fields (table_of self.old) at copy → GrowsTable S.state (mark_of self.old) at (table_of self.old) caches.old file.old list.old.entries result (table_of self.new) caches.new file.new list.new.entries }
+        ensures mark { mark_of self.new ≡ mark_of self.old }
+        ensures held { list.new.held ≡ list.old.held - 1 }
+    {
         let from = self.room_start(file.header.rb_bits());
         let room = match self.find_room(file, caches, from, copy.cluster_count().0) {
             Ok(room) => room,
-            Err(fault) => return Err(fault),
+            Err(fault) => {
+                list.release();
+                return Err(fault);
+            }
         };
         let taken = room;
         match self.place_copy(&mut copy, &file.header, room) {
             Ok(()) => self.enter_room(file, caches, list, copy, taken),
-            Err(fault) => Err(fault),
+            Err(fault) => {
+                list.release();
+                Err(fault)
+            }
         }
     }
 
-    // Lets a table that was placed in a room in memory become the refcount table. The clusters of the old one wait to be freed then.
+    // Lets a table that was placed in a room in memory become the refcount table. The clusters of the old one wait to be freed then, in the
+    // room that is held for them.
     fn enter_room<S: Storage>(
         &mut self,
         file: &mut ImageFile<S>,
@@ -57,31 +84,29 @@ impl Allocator {
         table: RefTable,
         room: Run,
     ) -> Result<(), Fault>
-        requires { IsPlan file.old.header.fields (table_of self.old) room table }
+        requires plan { IsPlan file.old.header.fields (table_of self.old) room table }
+        requires held { 0 < list.old.held }
         ensures fills { EntersFree S.state room table (table_of self.old) caches.old file.old list.old.entries result (table_of self.new) caches.new file.new list.new.entries }
         ensures waits { OnOk result (list.new.entries ≡ list.old.entries ++ table_run file.old.header.fields) }
         ensures kept { OnErr result (list.new.entries ≡ list.old.entries) }
-        ensures held { list.new.held ≡ list.old.held }
+        ensures held { list.new.held ≡ list.old.held - 1 }
         ensures mark { mark_of self.new ≡ mark_of self.old }
     {
         let clusters = file.header.reftable_clusters();
         // No sound image has a refcount table of no clusters.
         if clusters.0 == 0 {
+            list.release();
             return Err(Fault::DamagedTable);
         }
         let offset = file.header.reftable_offset();
         let first = offset.cluster(file.header.cluster_bits());
-        let old = match hold_room(list, ClustersToFreeEntry::metadata(first, clusters)) {
-            Ok(old) => old,
-            Err(fault) => return Err(fault),
-        };
         match self.fill_room(file, caches, table, room) {
             Ok(()) => {
-                list.give_back(old);
+                let old = ClustersToFreeEntry::metadata(first, clusters);
+                list.give_back(PendingClusters::new(old));
                 Ok(())
             }
             Err(fault) => {
-                old.make_persistent();
                 list.release();
                 Err(fault)
             }
@@ -89,7 +114,7 @@ impl Allocator {
     }
 
     // A copy of the refcount table that has grown in memory until it holds an index.
-    fn grown_copy(&self, header: &Header, at: usize) -> Result<RefTable, Fault>
+    pub(super) fn grown_copy(&self, header: &Header, at: usize) -> Result<RefTable, Fault>
         requires past { length (table_of self.now).words ≤ at }
         ensures ok { IfOk result (IsGrownFor header.now.fields (table_of self.now) at) }
         ensures err { IfErr result (WhyNotGrown header.now.fields (table_of self.now) at) }

@@ -1,5 +1,5 @@
 //! Clusters are handed out, and the refcount table grows, for callers above.
-ghost use Rattle.std.specs.Prelude.{◌≡◌, ◌≢◌, ◌==◌, ◌≤◌, ◌/◌, ℕ, List, IfOk, OnErr, length, slice_index};
+ghost use Rattle.std.specs.Prelude.{◌≡◌, ◌≢◌, ◌==◌, ◌≤◌, ◌/◌, List, IfOk, OnErr, length, slice_index};
 ghost use Rattle.imago_storage.specs.Fault.{number_of};
 ghost use Rattle.qcow2_types.specs.Counts.{counters_of_block};
 ghost use Rattle.qcow2_types.specs.Pending.{FreeEntry};
@@ -10,7 +10,6 @@ ghost use Rattle.qcow2_alloc.specs.HandingOut.{AllocatesClusters, AllocatesClust
 ghost use Rattle.qcow2_alloc.specs.HandingOutOne.{AllocatesAt, CountsOne, ReadiesCounter, ReadiesWord};
 
 use crate::allocation::Allocator;
-use crate::allocation::allocating::hold_room;
 use crate::cache::MetadataCaches;
 use crate::clusters_to_free::ClustersToFreeList;
 use crate::file::{ImageFile, is_in_reach};
@@ -24,10 +23,10 @@ impl Allocator {
     /// from the mark on is counted. No table names one of them, in the file or in memory. A run of no clusters begins at the mark.
     ///
     /// The answer is to be spent: by its `make_persistent` once a table names the clusters, and the list's `release`; or by the list's
-    /// `give_back`, for which room is held.
+    /// `give_back`, for which room is held. That is held before anything else, so want of memory for it leaves all as it was.
     ///
     /// It refuses with `Fault::Limit` only where no quarter of the space is free in a row from the mark on, or more than a sixteenth of it
-    /// is asked for; with `Fault::Memory`; with `Fault::Storage`; with `Fault::CacheFull` where entries of a cache are pinned; and with
+    /// is asked for; with `Fault::Memory`; with `Fault::Storage`; with `Fault::CacheFull` where blocks are pinned; and with
     /// `Fault::Counter` and `Fault::DamagedTable`, which no sound image has. Nothing is handed out then, and no room is held. Blocks may
     /// have been made, and the refcount table may have grown and moved, whatever is answered: the old table's clusters wait on the list
     /// then. The file of a sound image shows the same at each stop, where the storage tells its stops and has refused no change.
@@ -42,12 +41,15 @@ impl Allocator {
         ensures allocates { AllocatesClusters S.state (mark_of self.old) count metadata (table_of self.old) caches.old file.old list.old.entries result (table_of self.new) caches.new file.new list.new.entries (mark_of self.new) }
         ensures held { list.new.held ≡ held_by result list.old.held }
     {
-        if let Err(fault) = self.process_clusters_to_free(file, caches, list) {
+        if let Err(fault) = list.hold() {
             return Err(fault);
         }
-        match caches.l2_depends_on_rb(file) {
-            Ok(()) => self.allocate(file, caches, list, count, metadata),
-            Err(fault) => Err(fault),
+        match self.free_and_allocate(file, caches, list, count, metadata) {
+            Ok(pending) => Ok(pending),
+            Err(fault) => {
+                list.release();
+                Err(fault)
+            }
         }
     }
 
@@ -57,7 +59,7 @@ impl Allocator {
     ///
     /// The answer is to be spent as that of `allocate_clusters`.
     ///
-    /// It refuses with `Fault::Memory`; with `Fault::Storage`; with `Fault::CacheFull` where entries of a cache are pinned; and with
+    /// It refuses with `Fault::Memory`; with `Fault::Storage`; with `Fault::CacheFull` where blocks are pinned; and with
     /// `Fault::Counter` and `Fault::DamagedTable`, which no sound image has. Nothing is handed out then, and no room is held. A block may
     /// have been made, and the refcount table may have grown and moved, whatever is answered: the old table's clusters wait on the list
     /// then. The file of a sound image shows the same at each stop, where the storage tells its stops and has refused no change.
@@ -71,9 +73,19 @@ impl Allocator {
         ensures allocates { AllocatesClusterAt S.state (mark_of self.old) cluster (table_of self.old) caches.old file.old list.old.entries result (table_of self.new) caches.new file.new list.new.entries (mark_of self.new) }
         ensures held { list.new.held ≡ held_at result list.old.held }
     {
-        match caches.l2_depends_on_rb(file) {
-            Ok(()) => self.allocate_at(file, caches, list, cluster),
-            Err(fault) => Err(fault),
+        if let Err(fault) = list.hold() {
+            return Err(fault);
+        }
+        match self.announce_and_allocate_at(file, caches, list, cluster) {
+            Ok(Some(pending)) => Ok(Some(pending)),
+            Ok(None) => {
+                list.release();
+                Ok(None)
+            }
+            Err(fault) => {
+                list.release();
+                Err(fault)
+            }
         }
     }
 
@@ -81,10 +93,13 @@ impl Allocator {
     /// written before tables. It gets the least length that fills its clusters and leaves room to count these, and stands in the first
     /// free room from the mark on, or from where the clusters end that the old table can count, behind the blocks that are lacking there. The clusters of the old table are put on the list.
     ///
+    /// The grown copy of the table, and room for the old one's clusters on the list, are taken before anything else, so want of memory for these
+    /// leaves all as it was.
+    ///
     /// It refuses with `Fault::Limit` where the table would have more than 2^20 words, or its room ends out of reach of words or behind
-    /// what the table could count; with `Fault::Memory`; with `Fault::Storage`; with `Fault::CacheFull` where entries of a cache are
+    /// what the table could count; with `Fault::Memory`; with `Fault::Storage`; with `Fault::CacheFull` where blocks are
     /// pinned; and with `Fault::Counter` and `Fault::DamagedTable`, which no sound image has. The list stays then, and unless memory or
-    /// the storage failed so do table and header; where an entry is pinned, clusters may leak. The file of a sound image shows the same
+    /// the storage failed so do table and header; where a block is pinned, clusters may leak. The file of a sound image shows the same
     /// at each stop, where the storage tells its stops and has refused no change.
     pub fn grow_reftable<S: Storage>(
         &mut self,
@@ -98,8 +113,56 @@ impl Allocator {
         ensures mark { mark_of self.new ≡ mark_of self.old }
         ensures held { list.new.held ≡ list.old.held }
     {
+        let copy = match self.grown_copy(&file.header, index) {
+            Ok(copy) => copy,
+            Err(fault) => return Err(fault),
+        };
+        if let Err(fault) = list.hold() {
+            return Err(fault);
+        }
         match caches.l2_depends_on_rb(file) {
-            Ok(()) => self.grow_table(file, caches, list, index),
+            Ok(()) => self.place_grown(file, caches, list, copy),
+            Err(fault) => {
+                list.release();
+                Err(fault)
+            }
+        }
+    }
+
+    // Frees what waits, announces the order, and hands out clusters. The list holds room for their entry already.
+    fn free_and_allocate<S: Storage>(
+        &mut self,
+        file: &mut ImageFile<S>,
+        caches: &mut MetadataCaches<S>,
+        list: &mut ClustersToFreeList,
+        count: ClusterCount,
+        metadata: bool,
+    ) -> Result<PendingClusters, Fault>
+        ensures allocates { AllocatesClusters S.state (mark_of self.old) count metadata (table_of self.old) caches.old file.old list.old.entries result (table_of self.new) caches.new file.new list.new.entries (mark_of self.new) }
+        ensures held { list.new.held ≡ list.old.held }
+    {
+        if let Err(fault) = self.process_clusters_to_free(file, caches, list) {
+            return Err(fault);
+        }
+        match caches.l2_depends_on_rb(file) {
+            Ok(()) => self.allocate(file, caches, list, count, metadata),
+            Err(fault) => Err(fault),
+        }
+    }
+
+    // Announces the order, and hands out a cluster where it is free. The list holds room for its entry already.
+    fn announce_and_allocate_at<S: Storage>(
+        &mut self,
+        file: &mut ImageFile<S>,
+        caches: &mut MetadataCaches<S>,
+        list: &mut ClustersToFreeList,
+        cluster: HostCluster,
+    ) -> Result<Option<PendingClusters>, Fault>
+        ensures allocates { AllocatesClusterAt S.state (mark_of self.old) cluster (table_of self.old) caches.old file.old list.old.entries result (table_of self.new) caches.new file.new list.new.entries (mark_of self.new) }
+        ensures held { list.new.held ≡ list.old.held }
+    {
+        match caches.l2_depends_on_rb(file) {
+            Ok(()) => self.allocate_at(file, caches, list, cluster),
             Err(fault) => Err(fault),
         }
     }
@@ -113,13 +176,13 @@ impl Allocator {
         cluster: HostCluster,
     ) -> Result<Option<PendingClusters>, Fault>
         ensures allocates { AllocatesAt S.state (λ m. IsBarred m (mark_of self.old) cluster) (mark_of self.old) cluster (table_of self.old) caches.old file.old list.old.entries result (table_of self.new) caches.new file.new list.new.entries (mark_of self.new) }
-        ensures held { list.new.held ≡ held_at result list.old.held }
+        ensures held { list.new.held ≡ list.old.held }
     {
         if !is_in_reach(cluster, file.header.cluster_bits()) {
             return Ok(None);
         }
         match self.ensure_counter(file, caches, list, cluster) {
-            Ok(true) => self.allocate_one(file, caches, list, cluster),
+            Ok(true) => self.allocate_one(file, caches, cluster),
             Ok(false) => Ok(None),
             Err(fault) => Err(fault),
         }
@@ -186,13 +249,12 @@ impl Allocator {
         &mut self,
         file: &mut ImageFile<S>,
         caches: &mut MetadataCaches<S>,
-        list: &mut ClustersToFreeList,
         cluster: HostCluster,
     ) -> Result<Option<PendingClusters>, Fault>
         requires there { block_offset (slice_index (table_of self.old).words (cluster / counters_of_block file.old.header.fields)) ≢ 0 }
         requires reach { IsInReach file.old.header.fields.cluster_bits cluster }
-        ensures allocates { AllocatesAt S.state (λ _. ⊥) (mark_of self.old) cluster (table_of self.old) caches.old file.old list.old.entries result (table_of self.new) caches.new file.new list.new.entries (mark_of self.new) }
-        ensures held { list.new.held ≡ held_at result list.old.held }
+        ensures allocates { (pending : List FreeEntry) → AllocatesAt S.state (λ _. ⊥) (mark_of self.old) cluster (table_of self.old) caches.old file.old pending result (table_of self.old) caches.new file.new pending (mark_of self.new) }
+        ensures table { table_of self.new ≡ table_of self.old }
     {
         let found = match self.find_in_block(file, caches, cluster) {
             Ok(found) => found,
@@ -201,46 +263,34 @@ impl Allocator {
         if found != Some(cluster) {
             return Ok(None);
         }
-        self.count_one(file, caches, list, cluster)
+        self.count_one(file, caches, cluster)
     }
 
-    // Counts a cluster that isn't counted yet, once room is held for its entry. The search for free clusters goes on behind it where it
-    // would have begun there.
+    // Counts a cluster that isn't counted yet. The search for free clusters goes on behind it where it would have begun there.
     fn count_one<S: Storage>(
         &mut self,
         file: &mut ImageFile<S>,
         caches: &mut MetadataCaches<S>,
-        list: &mut ClustersToFreeList,
         cluster: HostCluster,
     ) -> Result<Option<PendingClusters>, Fault>
         requires reach { IsInReach file.old.header.fields.cluster_bits cluster }
         ensures counts { (pending : List FreeEntry) → CountsOne S.state cluster (table_of self.old) caches.old file.old pending result caches.new file.new }
         ensures table { table_of self.new ≡ table_of self.old }
-        ensures list { list.new.entries ≡ list.old.entries }
-        ensures held { list.new.held ≡ held_at result list.old.held }
         ensures further { IfOk result (λ found. mark_of self.new ≡ mark_past (mark_of self.old) cluster found) }
         ensures stays { OnErr result (mark_of self.new ≡ mark_of self.old) }
     {
         if cluster == HostCluster(0) {
             return Err(Fault::DamagedTable);
         }
-        let entry = ClustersToFreeEntry::data(cluster, ClusterCount(1));
-        let pending = match hold_room(list, entry) {
-            Ok(pending) => pending,
-            Err(fault) => return Err(fault),
-        };
         match self.count_cluster(file, caches, cluster) {
             Ok(()) => {
                 if cluster == self.first_free_cluster {
                     self.first_free_cluster = HostCluster(cluster.0 + 1);
                 }
-                Ok(Some(pending))
+                let entry = ClustersToFreeEntry::data(cluster, ClusterCount(1));
+                Ok(Some(PendingClusters::new(entry)))
             }
-            Err(fault) => {
-                pending.make_persistent();
-                list.release();
-                Err(fault)
-            }
+            Err(fault) => Err(fault),
         }
     }
 }

@@ -11,11 +11,8 @@ use crate::cache::MetadataCaches;
 use crate::clusters_to_free::ClustersToFreeList;
 use crate::file::{ImageFile, is_in_reach};
 use imago_storage::{Fault, Storage};
-use qcow2_metadata::{Header, Table};
+use qcow2_metadata::{Header, RefTable, Table};
 use qcow2_types::HostCluster;
-
-// A refcount table has no more words than this.
-const MAX_WORDS: usize = 1 << 20;
 
 impl Allocator {
     // Finds the first run of so many clusters, from the mark on, that aren't counted, and sees to it that each has a block. A block or
@@ -99,7 +96,7 @@ fn last_index(first: HostCluster, count: u64, header: &Header) -> Result<usize, 
         return Err(Fault::Limit(last));
     }
     let index = HostCluster(last).rt_index(header.rb_bits());
-    if index < MAX_WORDS {
+    if index < RefTable::MAX_ENTRIES {
         Ok(index)
     } else {
         Err(Fault::Limit(last))

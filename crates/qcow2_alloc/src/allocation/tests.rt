@@ -218,14 +218,14 @@ fn past_64_bits(rt: &impl Abort, alloc: Global, held: &mut Counted) -> Result<()
     } = held;
     let mut list = waiting(alloc, &[(u64::MAX, 2, true)])?;
     let answer = allocator.process_clusters_to_free(file, caches, &mut list);
-    assert!(rt; answer == Err(Fault::Counter));
+    assert!(rt; answer == Err(Fault::DamagedTable));
     assert_eq!(rt; list.len(), 1);
     Ok(())
 }
 
 fn past_the_blocks(rt: &impl Abort, alloc: Global, held: &mut Counted) {
     let answer = free(alloc, held, &[(300, 1, true)]);
-    assert!(rt; answer == Err(Fault::Counter));
+    assert!(rt; answer == Err(Fault::DamagedTable));
 }
 
 fn uncountable(rt: &impl Abort, alloc: Global) -> Result<(), Fault> {

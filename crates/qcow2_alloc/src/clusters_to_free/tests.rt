@@ -128,6 +128,18 @@ fn fill(rt: &impl Abort, list: &mut ClustersToFreeList) -> Result<(), Fault> {
     Ok(())
 }
 
+// Room is held first, and the clusters are pending once they are known.
+fn held_before(rt: &impl Abort, list: &mut ClustersToFreeList) -> Result<(), Fault> {
+    list.hold()?;
+    assert!(rt; list.held() == 1);
+    assert!(rt; list.len() == 21);
+    list.give_back(PendingClusters::new(metadata(30, 2)));
+    assert!(rt; list.held() == 0);
+    assert!(rt; list.len() == 22);
+    assert!(rt; parts(list.entry(21)) == (30, 2, true));
+    Ok(())
+}
+
 fn held(rt: &impl Abort, alloc: Global) -> Result<(), Fault> {
     let mut list = ClustersToFreeList::new(alloc);
     let pending = guard(rt, &mut list, 7, 3)?;
@@ -146,7 +158,7 @@ fn held(rt: &impl Abort, alloc: Global) -> Result<(), Fault> {
     list.release();
     assert!(rt; list.held() == 0);
     assert!(rt; list.len() == 21);
-    Ok(())
+    held_before(rt, &mut list)
 }
 
 #[test]

@@ -5,8 +5,10 @@ ghost use Rattle.std.specs.Prelude.{◌<◌, ◌^◌, IfOk};
 use super::*;
 use imago_storage::{FuseStorage, Request, StorageExt};
 
+mod faults;
 mod growing;
 mod refused;
+mod want_of_memory;
 
 // An image that is open, with room for one table and one block in its caches, and what waits to be freed in it.
 #[derive(Drop)]

@@ -1,18 +1,19 @@
-use Rattle.std.proofs.Common.{refl, ◌≡◌, ℕ, List, ap, sym, subst, ◌∙◌, Ok, Err}
+use Rattle.std.proofs.Common.{◌≡◌, ℕ, ap, sym, subst, ◌∙◌, Ok, Err}
 use Rattle.std.proofs.lemmas.Bool.{eqb-true}
-use Rattle.imago_storage.specs.declared.fault.Fault.{Fault}
 use Rattle.qcow2_types.specs.Pending.{FreeEntry}
 use Rattle.qcow2_alloc.specs.Allocating.{CountsRun}
 use Rattle.qcow2_alloc.specs.Allocators.{table_of, mark_of}
-use Rattle.qcow2_alloc.specs.FreeList.{FreeList}
 use Rattle.qcow2_alloc.specs.ReadyingRuns.{Allocates, ReadiesRun, mark_behind}
-use Rattle.qcow2_alloc.proofs.AllocatingRuns.{none-handed, run-refused, room-refused, count-refused, run-allocated}
+use Rattle.qcow2_alloc.proofs.AllocatingRuns.{none-allocated, run-refused, count-refused, run-allocated}
 use Rattle.qcow2_alloc.proofs.allocation.Allocator.allocate.Goals as goal
 
 pub returns-then-eq-clause-allocates : goal.returns-then-eq-clause-allocates
 returns-then-eq-clause-allocates g c =
-    none-handed g.S.Storage.state (mark_of c.args.self.now) c.args.count c.args.metadata (table_of c.args.self.now) c.args.caches.now c.args.file.now c.args.list.now.entries
-    (eqb-true c.args.count 0 (sym c.eq.ensures ∙ c.if-eq.true)) c.entry_of.result c.entry_of.ensures c.hold_room.result c.args.list.now c.hold_room.new.list refl c.hold_room.ensures.ok c.hold_room.ensures.err
+    let mark = mark_of c.args.self.now in
+    let zero = eqb-true c.args.count 0 (sym c.eq.ensures ∙ c.if-eq.true) in
+    subst (λ (e : FreeEntry). Allocates g.S.Storage.state mark c.args.count c.args.metadata (table_of c.args.self.now) c.args.caches.now c.args.file.now c.args.list.now.entries (Ok e) (table_of c.args.self.now) c.args.caches.now c.args.file.now c.args.list.now.entries mark)
+    (sym c.pending_run.ensures)
+    (none-allocated g.S.Storage.state mark c.args.count c.args.metadata (table_of c.args.self.now) c.args.caches.now c.args.file.now c.args.list.now.entries zero)
 
 pub returns-in-Err-clause-allocates : goal.returns-in-Err-clause-allocates
 returns-in-Err-clause-allocates g c =
@@ -23,49 +24,31 @@ returns-in-Err-clause-allocates g c =
     subst (λ (m : ℕ). Allocates state (mark_of c.args.self.now) c.args.count c.args.metadata (table_of c.args.self.now) c.args.caches.now c.args.file.now c.args.list.now.entries (Err c.in-Err.fault) (table_of new.self) new.caches new.file new.list.entries m) (sym c.in-Err.ensures.mark)
     (run-refused state (mark_of c.args.self.now) c.args.count c.args.metadata (table_of c.args.self.now) c.args.caches.now c.args.file.now c.args.list.now.entries (table_of new.self) new.caches new.file new.list.entries c.in-Err.fault ready)
 
-pub returns-in-Err-hold_room-clause-allocates : goal.returns-in-Err-hold_room-clause-allocates
-returns-in-Err-hold_room-clause-allocates g c =
-    let state = g.S.Storage.state in
-    let new = c.ready_run.new in
-    let refused = c.in-Err-hold_room.ensures.err in
-    let ready : ReadiesRun state (mark_of c.args.self.now) c.args.count (table_of c.args.self.now) c.args.caches.now c.args.file.now c.args.list.now.entries (Ok c.in-Ok.first) (table_of new.self) new.caches new.file new.list.entries =
-    subst (λ (n : ℕ). ReadiesRun state (mark_of c.args.self.now) n (table_of c.args.self.now) c.args.caches.now c.args.file.now c.args.list.now.entries (Ok c.in-Ok.first) (table_of new.self) new.caches new.file new.list.entries) c.count.view_is c.in-Ok.ensures.readies in
-    subst (λ (m : ℕ). Allocates state (mark_of c.args.self.now) c.args.count c.args.metadata (table_of c.args.self.now) c.args.caches.now c.args.file.now c.args.list.now.entries (Err c.in-Err-hold_room.fault) (table_of new.self) new.caches new.file c.hold_room-2.new.list.entries m) (sym c.in-Ok.ensures.mark)
-    (subst (λ (l : FreeList). Allocates state (mark_of c.args.self.now) c.args.count c.args.metadata (table_of c.args.self.now) c.args.caches.now c.args.file.now c.args.list.now.entries (Err c.in-Err-hold_room.fault) (table_of new.self) new.caches new.file l.entries (mark_of c.args.self.now)) (sym refused.1)
-    (subst (λ (f : Fault). Allocates state (mark_of c.args.self.now) c.args.count c.args.metadata (table_of c.args.self.now) c.args.caches.now c.args.file.now c.args.list.now.entries (Err f) (table_of new.self) new.caches new.file new.list.entries (mark_of c.args.self.now)) (sym refused.0)
-    (room-refused state (mark_of c.args.self.now) c.args.count c.args.metadata (table_of c.args.self.now) c.args.caches.now c.args.file.now c.args.list.now.entries (table_of new.self) new.caches new.file new.list.entries c.in-Ok.first ready)))
-
 pub returns-in-Ok-count_run-clause-allocates : goal.returns-in-Ok-count_run-clause-allocates
 returns-in-Ok-count_run-clause-allocates g c =
     let state = g.S.Storage.state in
     let mid = c.ready_run.new in
     let new = c.count_run.new in
-    let guarded = c.in-Ok-hold_room.ensures.ok in
     let entry : FreeEntry = record { first = c.in-Ok.first; count = c.args.count; metadata = c.args.metadata } in
     let ready : ReadiesRun state (mark_of c.args.self.now) c.args.count (table_of c.args.self.now) c.args.caches.now c.args.file.now c.args.list.now.entries (Ok c.in-Ok.first) (table_of mid.self) mid.caches mid.file mid.list.entries =
     subst (λ (n : ℕ). ReadiesRun state (mark_of c.args.self.now) n (table_of c.args.self.now) c.args.caches.now c.args.file.now c.args.list.now.entries (Ok c.in-Ok.first) (table_of mid.self) mid.caches mid.file mid.list.entries) c.count.view_is c.in-Ok.ensures.readies in
     let counts : CountsRun state (table_of mid.self) c.in-Ok.first c.args.count mid.caches mid.file (Ok tt) new.caches new.file mid.list.entries =
     subst (λ (n : ℕ). CountsRun state (table_of mid.self) c.in-Ok.first n mid.caches mid.file (Ok tt) new.caches new.file mid.list.entries) c.count.view_is (c.in-Ok-count_run.ensures mid.list.entries) in
     let marked : c.next_mark-self.result ≡ mark_behind (mark_of c.args.self.now) c.args.count c.in-Ok.first = c.next_mark-self.ensures ∙ ap (λ (m : ℕ). mark_behind m c.args.count c.in-Ok.first) c.in-Ok.ensures.mark in
-    subst (λ (m : ℕ). Allocates state (mark_of c.args.self.now) c.args.count c.args.metadata (table_of c.args.self.now) c.args.caches.now c.args.file.now c.args.list.now.entries (Ok c.in-Ok-hold_room.pending) (table_of mid.self) new.caches new.file c.hold_room-2.new.list.entries m) (sym marked)
-    (subst (λ (l : FreeList). Allocates state (mark_of c.args.self.now) c.args.count c.args.metadata (table_of c.args.self.now) c.args.caches.now c.args.file.now c.args.list.now.entries (Ok c.in-Ok-hold_room.pending) (table_of mid.self) new.caches new.file l.entries (mark_behind (mark_of c.args.self.now) c.args.count c.in-Ok.first))
-    (sym guarded.1)
+    subst (λ (m : ℕ). Allocates state (mark_of c.args.self.now) c.args.count c.args.metadata (table_of c.args.self.now) c.args.caches.now c.args.file.now c.args.list.now.entries (Ok c.pending_run-in-Ok-count_run.result) (table_of mid.self) new.caches new.file mid.list.entries m) (sym marked)
     (subst (λ (e : FreeEntry). Allocates state (mark_of c.args.self.now) c.args.count c.args.metadata (table_of c.args.self.now) c.args.caches.now c.args.file.now c.args.list.now.entries (Ok e) (table_of mid.self) new.caches new.file mid.list.entries (mark_behind (mark_of c.args.self.now) c.args.count c.in-Ok.first))
-    (sym (guarded.0 ∙ c.entry_of-2.ensures ∙ ap (λ (n : ℕ). record { first = c.in-Ok.first; count = n; metadata = c.args.metadata }) c.count.view_is))
-    (run-allocated state (mark_of c.args.self.now) c.args.count c.args.metadata (table_of c.args.self.now) c.args.caches.now c.args.file.now c.args.list.now.entries (table_of mid.self) mid.caches mid.file mid.list.entries c.in-Ok.first ready new.caches new.file counts)))
+    (sym c.pending_run-in-Ok-count_run.ensures)
+    (run-allocated state (mark_of c.args.self.now) c.args.count c.args.metadata (table_of c.args.self.now) c.args.caches.now c.args.file.now c.args.list.now.entries (table_of mid.self) mid.caches mid.file mid.list.entries c.in-Ok.first ready new.caches new.file counts))
 
 pub returns-in-Err-count_run-clause-allocates : goal.returns-in-Err-count_run-clause-allocates
 returns-in-Err-count_run-clause-allocates g c =
     let state = g.S.Storage.state in
     let mid = c.ready_run.new in
     let new = c.count_run.new in
-    let guarded = c.in-Ok-hold_room.ensures.ok in
     let fault = c.in-Err-count_run.fault in
     let ready : ReadiesRun state (mark_of c.args.self.now) c.args.count (table_of c.args.self.now) c.args.caches.now c.args.file.now c.args.list.now.entries (Ok c.in-Ok.first) (table_of mid.self) mid.caches mid.file mid.list.entries =
     subst (λ (n : ℕ). ReadiesRun state (mark_of c.args.self.now) n (table_of c.args.self.now) c.args.caches.now c.args.file.now c.args.list.now.entries (Ok c.in-Ok.first) (table_of mid.self) mid.caches mid.file mid.list.entries) c.count.view_is c.in-Ok.ensures.readies in
     let counts : CountsRun state (table_of mid.self) c.in-Ok.first c.args.count mid.caches mid.file (Err fault) new.caches new.file mid.list.entries =
     subst (λ (n : ℕ). CountsRun state (table_of mid.self) c.in-Ok.first n mid.caches mid.file (Err fault) new.caches new.file mid.list.entries) c.count.view_is (c.in-Err-count_run.ensures mid.list.entries) in
-    let entries : c.release.new.self.entries ≡ mid.list.entries = ap (λ (l : FreeList). l.entries) c.release.ensures ∙ ap (λ (l : FreeList). l.entries) guarded.1 in
-    subst (λ (m : ℕ). Allocates state (mark_of c.args.self.now) c.args.count c.args.metadata (table_of c.args.self.now) c.args.caches.now c.args.file.now c.args.list.now.entries (Err fault) (table_of mid.self) new.caches new.file c.release.new.self.entries m) (sym c.in-Ok.ensures.mark)
-    (subst (λ (es : List FreeEntry). Allocates state (mark_of c.args.self.now) c.args.count c.args.metadata (table_of c.args.self.now) c.args.caches.now c.args.file.now c.args.list.now.entries (Err fault) (table_of mid.self) new.caches new.file es (mark_of c.args.self.now)) (sym entries)
-    (count-refused state (mark_of c.args.self.now) c.args.count c.args.metadata (table_of c.args.self.now) c.args.caches.now c.args.file.now c.args.list.now.entries (table_of mid.self) mid.caches mid.file mid.list.entries c.in-Ok.first ready new.caches new.file fault counts))
+    subst (λ (m : ℕ). Allocates state (mark_of c.args.self.now) c.args.count c.args.metadata (table_of c.args.self.now) c.args.caches.now c.args.file.now c.args.list.now.entries (Err fault) (table_of mid.self) new.caches new.file mid.list.entries m) (sym c.in-Ok.ensures.mark)
+    (count-refused state (mark_of c.args.self.now) c.args.count c.args.metadata (table_of c.args.self.now) c.args.caches.now c.args.file.now c.args.list.now.entries (table_of mid.self) mid.caches mid.file mid.list.entries c.in-Ok.first ready new.caches new.file fault counts)

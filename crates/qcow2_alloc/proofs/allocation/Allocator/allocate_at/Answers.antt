@@ -1,6 +1,7 @@
 use Rattle.std.proofs.Common.{Bool, true, false, None, ◌≡◌, ℕ, sym, subst}
 use Rattle.std.specs.Prelude.{IsTrue}
 use Rattle.qcow2_metadata.specs.Places.{IsInReach}
+use Rattle.qcow2_metadata.specs.Tables.{TableValue}
 use Rattle.qcow2_alloc.specs.Allocators.{table_of, mark_of}
 use Rattle.qcow2_alloc.specs.HandingOut.{IsBarred}
 use Rattle.qcow2_alloc.specs.HandingOutOne.{AllocatesAt, ReadiesCounter}
@@ -24,8 +25,9 @@ returns-in-Ok-true-clause-allocates g c =
     let mid = c.ensure_counter.new in
     let new = c.allocate_one.new in
     let counter = subst (λ (b : Bool). ReadiesCounter state (mark_of c.args.self.now) c.args.cluster (table_of c.args.self.now) c.args.caches.now c.args.file.now c.args.list.now.entries (so b) (table_of mid.self) mid.caches mid.file mid.list.entries) c.in-Ok-true.field-0-test c.in-Ok-true.ensures.readies in
-    readied-at state (mark_of c.args.self.now) c.args.cluster (table_of c.args.self.now) c.args.caches.now c.args.file.now c.args.list.now.entries (table_of mid.self) mid.caches mid.file mid.list.entries counter c.allocate_one.result (table_of new.self) new.caches new.file new.list.entries (mark_of new.self)
-    (subst (λ (m : ℕ). AllocatesAt state (λ _. ⊥) m c.args.cluster (table_of mid.self) mid.caches mid.file mid.list.entries c.allocate_one.result (table_of new.self) new.caches new.file new.list.entries (mark_of new.self)) c.in-Ok-true.ensures.mark c.allocate_one.ensures.allocates)
+    subst (λ (t : TableValue). AllocatesAt state (λ m. IsBarred m (mark_of c.args.self.now) c.args.cluster) (mark_of c.args.self.now) c.args.cluster (table_of c.args.self.now) c.args.caches.now c.args.file.now c.args.list.now.entries c.allocate_one.result t new.caches new.file mid.list.entries (mark_of new.self)) (sym c.allocate_one.ensures.table)
+    (readied-at state (mark_of c.args.self.now) c.args.cluster (table_of c.args.self.now) c.args.caches.now c.args.file.now c.args.list.now.entries (table_of mid.self) mid.caches mid.file mid.list.entries counter c.allocate_one.result new.caches new.file (mark_of new.self)
+    (subst (λ (m : ℕ). AllocatesAt state (λ _. ⊥) m c.args.cluster (table_of mid.self) mid.caches mid.file mid.list.entries c.allocate_one.result (table_of mid.self) new.caches new.file mid.list.entries (mark_of new.self)) c.in-Ok-true.ensures.mark (c.allocate_one.ensures.allocates mid.list.entries)))
 
 pub returns-in-Ok-false-clause-allocates : goal.returns-in-Ok-false-clause-allocates
 returns-in-Ok-false-clause-allocates g c =

@@ -1,27 +1,52 @@
+use Rattle.std.proofs.Common.{List, Option, None, Some, ap, sym, subst, ◌≡◌}
+use Rattle.imago_storage.specs.declared.fault.Fault.{Fault}
+use Rattle.imago_storage.specs.declared.fault.Fault.TheVariants.{Memory}
+use Rattle.qcow2_types.specs.Pending.{FreeEntry}
 use Rattle.qcow2_alloc.specs.Allocators.{table_of, mark_of}
-use Rattle.qcow2_alloc.proofs.AnnouncedOrders.{announced}
-use Rattle.qcow2_alloc.proofs.CountingClusters.{succeeded}
-use Rattle.qcow2_alloc.proofs.FreeingEntries.{failed}
-use Rattle.qcow2_alloc.proofs.HandingOut.{at-not-announced, at-announced}
+use Rattle.qcow2_alloc.specs.FreeList.{FreeList}
+use Rattle.qcow2_alloc.specs.HandingOut.{AllocatesClusterAt}
+use Rattle.qcow2_alloc.proofs.AnnouncedOrders.{not-begun}
+use Rattle.qcow2_alloc.proofs.CountingOne.{handed_so, not_handed}
+use Rattle.qcow2_alloc.proofs.HandingOut.{at-not-announced}
 use Rattle.qcow2_alloc.proofs.allocation.Allocator.allocate_cluster_at.Goals as goal
-
-pub returns-in-Ok-clause-allocates : goal.returns-in-Ok-clause-allocates
-returns-in-Ok-clause-allocates g c =
-    let state = g.S.Storage.state in
-    let t = table_of c.args.self.now in
-    let entries = c.args.list.now.entries in
-    let a = c.l2_depends_on_rb.new in
-    let new = c.allocate_at.new in
-    let done = c.in-Ok.ensures in
-    let first = announced state t entries c.args.caches.now c.args.file.now a.self a.file done.kept done.blocks done.header done.room succeeded done.going done.announced done.safe done.cause in
-    at-announced state (mark_of c.args.self.now) c.args.cluster t c.args.caches.now c.args.file.now entries a.self a.file first c.allocate_at.result (table_of new.self) new.caches new.file new.list.entries (mark_of new.self) c.allocate_at.ensures.allocates
 
 pub returns-in-Err-clause-allocates : goal.returns-in-Err-clause-allocates
 returns-in-Err-clause-allocates g c =
     let state = g.S.Storage.state in
+    let mark = mark_of c.args.self.now in
     let t = table_of c.args.self.now in
     let entries = c.args.list.now.entries in
-    let a = c.l2_depends_on_rb.new in
-    let done = c.in-Err.ensures in
-    at-not-announced state (mark_of c.args.self.now) c.args.cluster t c.args.caches.now c.args.file.now entries a.self a.file c.in-Err.fault
-    (announced state t entries c.args.caches.now c.args.file.now a.self a.file done.kept done.blocks done.header done.room (failed c.in-Err.fault) done.going tt tt done.cause)
+    let refused = c.in-Err.ensures.err in
+    subst (λ (l : FreeList). AllocatesClusterAt state mark c.args.cluster t c.args.caches.now c.args.file.now entries (not_handed c.in-Err.fault) t c.args.caches.now c.args.file.now l.entries mark) (sym refused.1)
+    (subst (λ (f : Fault). AllocatesClusterAt state mark c.args.cluster t c.args.caches.now c.args.file.now entries (not_handed f) t c.args.caches.now c.args.file.now entries mark) (sym refused.0)
+    (at-not-announced state mark c.args.cluster t c.args.caches.now c.args.file.now entries c.args.caches.now c.args.file.now Memory (not-begun state t entries c.args.caches.now c.args.file.now)))
+
+pub returns-in-Ok-Some-clause-allocates : goal.returns-in-Ok-Some-clause-allocates
+returns-in-Ok-Some-clause-allocates g c =
+    let state = g.S.Storage.state in
+    let new = c.announce_and_allocate_at.new in
+    subst (λ (l : FreeList). AllocatesClusterAt state (mark_of c.args.self.now) c.args.cluster (table_of c.args.self.now) c.args.caches.now c.args.file.now l.entries (handed_so (Some c.in-Ok-Some.pending)) (table_of new.self) new.caches new.file new.list.entries (mark_of new.self))
+    c.in_default.ensures.ok
+    (subst (λ (found : Option FreeEntry). AllocatesClusterAt state (mark_of c.args.self.now) c.args.cluster (table_of c.args.self.now) c.args.caches.now c.args.file.now c.hold.new.self.entries (handed_so found) (table_of new.self) new.caches new.file new.list.entries (mark_of new.self))
+    c.in-Ok-Some.field-0-is c.in-Ok-Some.ensures.allocates)
+
+pub returns-in-Ok-None-clause-allocates : goal.returns-in-Ok-None-clause-allocates
+returns-in-Ok-None-clause-allocates g c =
+    let state = g.S.Storage.state in
+    let new = c.announce_and_allocate_at.new in
+    let still : c.release.new.self.entries ≡ new.list.entries = ap (λ (l : FreeList). l.entries) c.release.ensures in
+    subst (λ (es : List FreeEntry). AllocatesClusterAt state (mark_of c.args.self.now) c.args.cluster (table_of c.args.self.now) c.args.caches.now c.args.file.now c.args.list.now.entries (handed_so None) (table_of new.self) new.caches new.file es (mark_of new.self)) (sym still)
+    (subst (λ (l : FreeList). AllocatesClusterAt state (mark_of c.args.self.now) c.args.cluster (table_of c.args.self.now) c.args.caches.now c.args.file.now l.entries (handed_so None) (table_of new.self) new.caches new.file new.list.entries (mark_of new.self))
+    c.in_default.ensures.ok
+    (subst (λ (found : Option FreeEntry). AllocatesClusterAt state (mark_of c.args.self.now) c.args.cluster (table_of c.args.self.now) c.args.caches.now c.args.file.now c.hold.new.self.entries (handed_so found) (table_of new.self) new.caches new.file new.list.entries (mark_of new.self))
+    c.in-Ok-None.field-0-is c.in-Ok-None.ensures.allocates))
+
+pub returns-in-Err-announce_and_allocate_at-clause-allocates : goal.returns-in-Err-announce_and_allocate_at-clause-allocates
+returns-in-Err-announce_and_allocate_at-clause-allocates g c =
+    let state = g.S.Storage.state in
+    let new = c.announce_and_allocate_at.new in
+    let fault = c.in-Err-announce_and_allocate_at.fault in
+    let still : c.release-in-Err-announce_and_allocate_at.new.self.entries ≡ new.list.entries = ap (λ (l : FreeList). l.entries) c.release-in-Err-announce_and_allocate_at.ensures in
+    subst (λ (es : List FreeEntry). AllocatesClusterAt state (mark_of c.args.self.now) c.args.cluster (table_of c.args.self.now) c.args.caches.now c.args.file.now c.args.list.now.entries (not_handed fault) (table_of new.self) new.caches new.file es (mark_of new.self)) (sym still)
+    (subst (λ (l : FreeList). AllocatesClusterAt state (mark_of c.args.self.now) c.args.cluster (table_of c.args.self.now) c.args.caches.now c.args.file.now l.entries (not_handed fault) (table_of new.self) new.caches new.file new.list.entries (mark_of new.self))
+    c.in_default.ensures.ok c.in-Err-announce_and_allocate_at.ensures.allocates)

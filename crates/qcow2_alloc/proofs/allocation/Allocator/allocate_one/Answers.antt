@@ -1,29 +1,20 @@
-use Rattle.std.proofs.Common.{List, sym, subst, ◌∙◌}
-use Rattle.qcow2_types.specs.Pending.{FreeEntry}
-use Rattle.qcow2_metadata.specs.Tables.{TableValue}
+use Rattle.std.proofs.Common.{sym, ◌∙◌}
 use Rattle.qcow2_alloc.specs.Allocators.{table_of, mark_of}
-use Rattle.qcow2_alloc.specs.HandingOutOne.{AllocatesAt}
 use Rattle.qcow2_alloc.proofs.AllocatingAt.{search-refused, counted-already, counted-or-not, same-place, other-place}
 use Rattle.qcow2_alloc.proofs.allocation.Allocator.allocate_one.Goals as goal
 
 pub returns-in-Err-clause-allocates : goal.returns-in-Err-clause-allocates
-returns-in-Err-clause-allocates g c =
-    search-refused g.S.Storage.state (mark_of c.args.self.now) c.args.cluster (table_of c.args.self.now) c.args.caches.now c.args.file.now c.args.list.now.entries c.in-Err.fault c.find_in_block.new.caches c.find_in_block.new.file c.in-Err.ensures
+returns-in-Err-clause-allocates g c = λ pending.
+    search-refused g.S.Storage.state (mark_of c.args.self.now) c.args.cluster (table_of c.args.self.now) c.args.caches.now c.args.file.now pending c.in-Err.fault c.find_in_block.new.caches c.find_in_block.new.file c.in-Err.ensures
 
 pub returns-then-ne-clause-allocates : goal.returns-then-ne-clause-allocates
-returns-then-ne-clause-allocates g c =
-    counted-already g.S.Storage.state (mark_of c.args.self.now) c.args.cluster (table_of c.args.self.now) c.args.caches.now c.args.file.now c.args.list.now.entries c.requires.there c.in-Ok.found c.find_in_block.new.caches c.find_in_block.new.file c.in-Ok.ensures
+returns-then-ne-clause-allocates g c = λ pending.
+    counted-already g.S.Storage.state (mark_of c.args.self.now) c.args.cluster (table_of c.args.self.now) c.args.caches.now c.args.file.now pending c.requires.there c.in-Ok.found c.find_in_block.new.caches c.find_in_block.new.file c.in-Ok.ensures
     (other-place c.in-Ok.found c.args.cluster (sym c.ne.ensures ∙ c.if-ne.true))
 
 pub returns-clause-allocates : goal.returns-clause-allocates
-returns-clause-allocates g c =
-    let state = g.S.Storage.state in
-    let mark = mark_of c.args.self.now in
-    let table = table_of c.args.self.now in
-    let entries = c.args.list.now.entries in
+returns-clause-allocates g c = λ pending.
     let new = c.count_one.new in
     let is = same-place c.in-Ok.found c.args.cluster (sym c.ne.ensures ∙ c.if-ne.false) in
-    let made = counted-or-not state mark c.args.cluster table c.args.caches.now c.args.file.now entries c.requires.there c.in-Ok.found c.find_in_block.new.caches c.find_in_block.new.file c.in-Ok.ensures is c.requires.reach c.count_one.result new.caches new.file (mark_of new.self)
-    (c.count_one.ensures.counts entries) c.count_one.ensures.further c.count_one.ensures.stays in
-    subst (λ (t : TableValue). AllocatesAt state (λ _. ⊥) mark c.args.cluster table c.args.caches.now c.args.file.now entries c.count_one.result t new.caches new.file new.list.entries (mark_of new.self)) (sym c.count_one.ensures.table)
-    (subst (λ (l : List FreeEntry). AllocatesAt state (λ _. ⊥) mark c.args.cluster table c.args.caches.now c.args.file.now entries c.count_one.result table new.caches new.file l (mark_of new.self)) (sym c.count_one.ensures.list) made)
+    counted-or-not g.S.Storage.state (mark_of c.args.self.now) c.args.cluster (table_of c.args.self.now) c.args.caches.now c.args.file.now pending c.requires.there c.in-Ok.found c.find_in_block.new.caches c.find_in_block.new.file c.in-Ok.ensures is c.requires.reach c.count_one.result new.caches new.file (mark_of new.self)
+    (c.count_one.ensures.counts pending) c.count_one.ensures.further c.count_one.ensures.stays

@@ -21,7 +21,9 @@ pub returns-in-Ok-clause-readies : goal.returns-in-Ok-clause-readies
 returns-in-Ok-clause-readies g c =
     let new = c.grow_table.new in
     let at : c.rt_index-index.result ≡ c.args.cluster / counters_of_block c.args.file.now.header.fields = c.rt_index-index.ensures ∙ ap (λ n. c.args.cluster / n) c.rb_bits.ensures.entries in
-    word-made g.S.Storage.state (mark_of c.args.self.now) c.args.cluster (table_of c.args.self.now) c.args.caches.now c.args.file.now c.args.list.now.entries succeeded (table_of new.self) new.caches new.file new.list.entries
+    let past = c.if-index-entries.false in
+    let long = c.entries.ensures.value in
+    word-made g.S.Storage.state (mark_of c.args.self.now) c.args.cluster (table_of c.args.self.now) c.args.caches.now c.args.file.now c.args.list.now.entries (omega (arith, at, past, long)) succeeded (table_of new.self) new.caches new.file new.list.entries
     (subst (λ (i : ℕ). GrowsTable g.S.Storage.state (mark_of c.args.self.now) i (table_of c.args.self.now) c.args.caches.now c.args.file.now c.args.list.now.entries succeeded (table_of new.self) new.caches new.file new.list.entries) at c.in-Ok.ensures.grows) refl
 
 pub returns-then-is_limit-clause-readies : goal.returns-then-is_limit-clause-readies
@@ -29,14 +31,18 @@ returns-then-is_limit-clause-readies g c =
     let new = c.grow_table.new in
     let at : c.rt_index-index.result ≡ c.args.cluster / counters_of_block c.args.file.now.header.fields = c.rt_index-index.ensures ∙ ap (λ n. c.args.cluster / n) c.rb_bits.ensures.entries in
     let limit = limit-numbered c.in-Err.fault (eqb-true (number_of c.in-Err.fault) 12 (sym c.is_limit.ensures ∙ c.if-is_limit.true)) in
-    word-barred g.S.Storage.state (mark_of c.args.self.now) c.args.cluster (table_of c.args.self.now) c.args.caches.now c.args.file.now c.args.list.now.entries (failed c.in-Err.fault) (table_of new.self) new.caches new.file new.list.entries
+    let past = c.if-index-entries.false in
+    let long = c.entries.ensures.value in
+    word-barred g.S.Storage.state (mark_of c.args.self.now) c.args.cluster (table_of c.args.self.now) c.args.caches.now c.args.file.now c.args.list.now.entries (omega (arith, at, past, long)) (failed c.in-Err.fault) (table_of new.self) new.caches new.file new.list.entries
     (subst (λ (i : ℕ). GrowsTable g.S.Storage.state (mark_of c.args.self.now) i (table_of c.args.self.now) c.args.caches.now c.args.file.now c.args.list.now.entries (failed c.in-Err.fault) (table_of new.self) new.caches new.file new.list.entries) at c.in-Err.ensures.grows)
-    (let past = c.if-index-entries.false in let long' = c.entries.ensures.value in omega (arith, at, past, long')) limit.0 (ap (λ (f : Fault). failed f) limit.1)
+    limit.0 (ap (λ (f : Fault). failed f) limit.1)
 
 pub returns-else-is_limit-clause-readies : goal.returns-else-is_limit-clause-readies
 returns-else-is_limit-clause-readies g c =
     let new = c.grow_table.new in
     let at : c.rt_index-index.result ≡ c.args.cluster / counters_of_block c.args.file.now.header.fields = c.rt_index-index.ensures ∙ ap (λ n. c.args.cluster / n) c.rb_bits.ensures.entries in
-    word-refused g.S.Storage.state (mark_of c.args.self.now) c.args.cluster (table_of c.args.self.now) c.args.caches.now c.args.file.now c.args.list.now.entries (failed c.in-Err.fault) (table_of new.self) new.caches new.file new.list.entries
+    let past = c.if-index-entries.false in
+    let long = c.entries.ensures.value in
+    word-refused g.S.Storage.state (mark_of c.args.self.now) c.args.cluster (table_of c.args.self.now) c.args.caches.now c.args.file.now c.args.list.now.entries (omega (arith, at, past, long)) (failed c.in-Err.fault) (table_of new.self) new.caches new.file new.list.entries
     (subst (λ (i : ℕ). GrowsTable g.S.Storage.state (mark_of c.args.self.now) i (table_of c.args.self.now) c.args.caches.now c.args.file.now c.args.list.now.entries (failed c.in-Err.fault) (table_of new.self) new.caches new.file new.list.entries) at c.in-Err.ensures.grows)
     c.in-Err.fault refl (other-numbered c.in-Err.fault (λ is. eqb-false (number_of c.in-Err.fault) 12 (sym c.is_limit.ensures ∙ c.if-is_limit.false) is))

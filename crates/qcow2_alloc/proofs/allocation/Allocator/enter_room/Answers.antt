@@ -1,7 +1,6 @@
 use Rattle.std.proofs.Common.{◌≡◌, ◌≢◌, ◌/◌, ◌^◌, ◌∙◌, ◌++◌, ◌∷◌, ℕ, ap, sym, subst, refl, Ok, Err, List, [], true}
 use Rattle.std.proofs.lemmas.Bool.{ne_eqb}
-use Rattle.imago_storage.specs.declared.fault.Fault.{Fault}
-use Rattle.imago_storage.specs.declared.fault.Fault.TheVariants.{Memory, DamagedTable}
+use Rattle.imago_storage.specs.declared.fault.Fault.TheVariants.{DamagedTable}
 use Rattle.qcow2_types.specs.Pending.{FreeEntry}
 use Rattle.qcow2_types.specs.Header.{Fields, cluster_size}
 use Rattle.qcow2_alloc.specs.Allocators.{table_of}
@@ -10,6 +9,7 @@ use Rattle.qcow2_alloc.specs.GrowingTables.{table_run}
 use Rattle.qcow2_alloc.specs.MakingRoom.{run_of}
 use Rattle.qcow2_alloc.specs.MovingTables.{FillsRoom, WasSound}
 use Rattle.qcow2_alloc.proofs.FilledRooms.{some-clusters}
+use Rattle.qcow2_alloc.proofs.FreeingEntries.{failed}
 use Rattle.qcow2_alloc.proofs.UnfilledRooms.{not-begun}
 use Rattle.qcow2_alloc.proofs.allocation.Allocator.enter_room.Goals as goal
 
@@ -18,19 +18,10 @@ returns-then-clusters-eq0-clause-fills g c = λ before file free.
     let state = g.S.Storage.state in
     let table = table_of c.args.self.now in
     let known = WasSound g.S.Storage.state before file (table_of c.args.self.now) c.args.list.now.entries in
-    not-begun state known table c.args.list.now.entries c.args.room c.args.table c.args.caches.now c.args.file.now DamagedTable
-    (λ all. some-clusters _ all.2 (sym c.reftable_clusters-clusters.ensures ∙ sym c.clusters.view_is ∙ c.if-clusters-eq0.true))
-
-pub returns-in-Err-clause-fills : goal.returns-in-Err-clause-fills
-returns-in-Err-clause-fills g c = λ before file free.
-    let state = g.S.Storage.state in
-    let table = table_of c.args.self.now in
-    let known = WasSound g.S.Storage.state before file (table_of c.args.self.now) c.args.list.now.entries in
-    let same : c.hold_room.new.list ≡ c.args.list.now = c.in-Err.ensures.err.1 in
-    let fault : c.in-Err.fault ≡ Memory = c.in-Err.ensures.err.0 in
-    subst (λ (l : FreeList). FillsRoom state known c.args.room c.args.table table c.args.caches.now c.args.file.now (Err c.in-Err.fault) table c.args.caches.now c.args.file.now c.args.list.now.entries l.entries) (sym same)
-    (subst (λ (f : Fault). FillsRoom state known c.args.room c.args.table table c.args.caches.now c.args.file.now (Err f) table c.args.caches.now c.args.file.now c.args.list.now.entries c.args.list.now.entries) (sym fault)
-    (not-begun state known table c.args.list.now.entries c.args.room c.args.table c.args.caches.now c.args.file.now Memory tt))
+    subst (λ (es : List FreeEntry). FillsRoom state known c.args.room c.args.table table c.args.caches.now c.args.file.now (failed DamagedTable) table c.args.caches.now c.args.file.now c.args.list.now.entries es)
+    (sym (ap (λ (l : FreeList). l.entries) c.release.ensures))
+    (not-begun state known table c.args.list.now.entries c.args.room c.args.table c.args.caches.now c.args.file.now DamagedTable
+    (λ all. some-clusters _ all.2 (sym c.reftable_clusters-clusters.ensures ∙ sym c.clusters.view_is ∙ c.if-clusters-eq0.true)))
 
 -- the clusters of the old table as an entry
 run-is : (h : Fields) (clusters first : ℕ) (e : FreeEntry) → clusters ≢ 0 → clusters ≡ h.refcount_table_clusters → first ≡ h.refcount_table_offset / cluster_size h → e ≡ record { first = first; count = clusters; metadata = true } → e ∷ [] ≡ table_run h
@@ -39,8 +30,8 @@ run-is h clusters first e some is at made =
     let entry : e ≡ run_of (h.refcount_table_offset / cluster_size h) h.refcount_table_clusters = made ∙ ap (λ n. record { first = n; count = clusters; metadata = true }) at ∙ ap (λ n. run_of (h.refcount_table_offset / cluster_size h) n) is in
     ap (λ (x : FreeEntry). x ∷ []) entry ∙ sym (rw (ne_eqb h.refcount_table_clusters 0 there) refl)
 
-pub returns-in-Ok-fill_room-clause-fills : goal.returns-in-Ok-fill_room-clause-fills
-returns-in-Ok-fill_room-clause-fills g c = λ before file free.
+pub returns-in-Ok-clause-fills : goal.returns-in-Ok-clause-fills
+returns-in-Ok-clause-fills g c = λ before file free.
     let state = g.S.Storage.state in
     let table = table_of c.args.self.now in
     let known = WasSound g.S.Storage.state before file (table_of c.args.self.now) c.args.list.now.entries in
@@ -51,19 +42,19 @@ returns-in-Ok-fill_room-clause-fills g c = λ before file free.
     let some : clusters ≢ 0 = λ none. c.if-clusters-eq0.false (c.clusters.view_is ∙ none) in
     let first : c.cluster-first.result ≡ h.refcount_table_offset / cluster_size h =
     c.cluster-first.ensures ∙ ap (λ b. c.reftable_offset-offset.result / 2 ^ b) c.cluster_bits.ensures.value ∙ ap (λ o. o / cluster_size h) c.reftable_offset-offset.ensures in
-    let entry = run-is h clusters c.cluster-first.result c.in-Ok.old some c.reftable_clusters-clusters.ensures first (c.in-Ok.ensures.ok.0 ∙ c.metadata.ensures) in
+    let entry = run-is h clusters c.cluster-first.result c.new.result some c.reftable_clusters-clusters.ensures first (c.new.ensures ∙ c.metadata-old.ensures) in
     let entries : c.give_back.new.self.entries ≡ pending ++ table_run h =
-    ap (λ (l : FreeList). l.entries) c.give_back.ensures ∙ ap (λ (l : FreeList). l.entries ++ c.in-Ok.old ∷ []) c.in-Ok.ensures.ok.1 ∙ ap (λ (l : List FreeEntry). pending ++ l) entry in
+    ap (λ (l : FreeList). l.entries) c.give_back.ensures ∙ ap (λ (l : List FreeEntry). pending ++ l) entry in
     subst (λ (l : List FreeEntry). FillsRoom state known c.args.room c.args.table table c.args.caches.now c.args.file.now (Ok tt) (table_of new.self) new.caches new.file pending l) (sym entries)
-    (c.in-Ok-fill_room.ensures.fills pending before file free)
+    (c.in-Ok.ensures.fills pending before file free)
 
-pub returns-in-Err-fill_room-clause-fills : goal.returns-in-Err-fill_room-clause-fills
-returns-in-Err-fill_room-clause-fills g c = λ before file free.
+pub returns-in-Err-clause-fills : goal.returns-in-Err-clause-fills
+returns-in-Err-clause-fills g c = λ before file free.
     let state = g.S.Storage.state in
     let table = table_of c.args.self.now in
     let known = WasSound g.S.Storage.state before file (table_of c.args.self.now) c.args.list.now.entries in
     let new = c.fill_room.new in
     let pending = c.args.list.now.entries in
-    let entries : c.release.new.self.entries ≡ pending = ap (λ (l : FreeList). l.entries) c.release.ensures ∙ ap (λ (l : FreeList). l.entries) c.in-Ok.ensures.ok.1 in
-    subst (λ (l : List FreeEntry). FillsRoom state known c.args.room c.args.table table c.args.caches.now c.args.file.now (Err c.in-Err-fill_room.fault) (table_of new.self) new.caches new.file pending l) (sym entries)
-    (c.in-Err-fill_room.ensures.fills pending before file free)
+    let entries : c.release-in-Err.new.self.entries ≡ pending = ap (λ (l : FreeList). l.entries) c.release-in-Err.ensures in
+    subst (λ (l : List FreeEntry). FillsRoom state known c.args.room c.args.table table c.args.caches.now c.args.file.now (Err c.in-Err.fault) (table_of new.self) new.caches new.file pending l) (sym entries)
+    (c.in-Err.ensures.fills pending before file free)

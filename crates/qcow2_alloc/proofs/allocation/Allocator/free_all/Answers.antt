@@ -1,12 +1,14 @@
-use Rattle.std.proofs.Common.{refl, ◌∙◌, subst, inr}
+use Rattle.std.proofs.Common.{◌-◌, List, refl, sym, ◌∙◌, subst, inr}
+use Rattle.qcow2_types.specs.Pending.{FreeEntry}
 use Rattle.qcow2_metadata.specs.Tables.{TableValue}
 use Rattle.qcow2_alloc.specs.Allocators.{table_of, mark_of}
-use Rattle.qcow2_alloc.specs.Freeing.{Frees}
+use Rattle.qcow2_alloc.specs.Freeing.{Frees, IsSublist}
 use Rattle.qcow2_alloc.proofs.FreeingEntries.{frees-none, frees-then, freed, failed}
+use Rattle.qcow2_alloc.proofs.FreeingRest.{sublist-all, sublist-then, sublist-removed, rest-whole, rest-shortened}
 use Rattle.qcow2_alloc.proofs.allocation.Allocator.free_all.Goals as goal
 
 pub loop-list-init : goal.loop-list-init
-loop-list-init g c = (refl, refl, refl, λ first. frees-none g.S.Storage.state (table_of c.args.self.now) c.args.caches.now c.args.file.now (mark_of c.args.self.now) c.args.list.now.entries)
+loop-list-init g c = (refl, refl, refl, sublist-all c.args.list.now.entries, λ first. frees-none g.S.Storage.state (table_of c.args.self.now) c.args.caches.now c.args.file.now (mark_of c.args.self.now) c.args.list.now.entries)
 
 pub loop-list-preserved : goal.loop-list-preserved
 loop-list-preserved g c =
@@ -16,7 +18,8 @@ loop-list-preserved g c =
       c.free_entry.ensures.held ∙ same.0,
       c.free_entry.ensures.order ∙ same.1,
       c.free_entry.ensures.table ∙ same.2,
-      λ first. frees-then g.S.Storage.state (table_of c.args.self.now) c.args.caches.now c.args.file.now (mark_of c.args.self.now) c.args.list.now.entries l.caches l.file (mark_of l.self) l.list.entries freed n.caches n.file (mark_of n.self) n.list.entries (same.3 first)
+      sublist-then n.list.entries l.list.entries c.args.list.now.entries (subst (λ (es : List FreeEntry). IsSublist es l.list.entries) (sym c.in-Ok.ensures.ok) (sublist-removed l.list.entries (c.len-last.result - 1))) same.3,
+      λ first. frees-then g.S.Storage.state (table_of c.args.self.now) c.args.caches.now c.args.file.now (mark_of c.args.self.now) c.args.list.now.entries l.caches l.file (mark_of l.self) l.list.entries freed n.caches n.file (mark_of n.self) n.list.entries (same.4 first)
           (subst (λ (t : TableValue). Frees g.S.Storage.state t l.caches l.file (mark_of l.self) l.list.entries freed n.caches n.file (mark_of n.self) n.list.entries) same.2 (c.in-Ok.ensures.frees (inr (same.1 ∙ first)))),
     )
 
@@ -25,5 +28,13 @@ returns-in-Err-clause-frees g c = λ first.
     let same = c.loop-list.invariant in
     let l = c.loop-list in
     let n = c.free_entry.new in
-    frees-then g.S.Storage.state (table_of c.args.self.now) c.args.caches.now c.args.file.now (mark_of c.args.self.now) c.args.list.now.entries l.caches l.file (mark_of l.self) l.list.entries (failed c.in-Err.fault) n.caches n.file (mark_of n.self) n.list.entries (same.3 first)
+    frees-then g.S.Storage.state (table_of c.args.self.now) c.args.caches.now c.args.file.now (mark_of c.args.self.now) c.args.list.now.entries l.caches l.file (mark_of l.self) l.list.entries (failed c.in-Err.fault) n.caches n.file (mark_of n.self) n.list.entries (same.4 first)
     (subst (λ (t : TableValue). Frees g.S.Storage.state t l.caches l.file (mark_of l.self) l.list.entries (failed c.in-Err.fault) n.caches n.file (mark_of n.self) n.list.entries) same.2 (c.in-Err.ensures.frees (inr (same.1 ∙ first))))
+
+pub returns-in-Err-clause-left : goal.returns-in-Err-clause-left
+returns-in-Err-clause-left g c =
+    let cut = c.in-Err.ensures.err in
+    rest-shortened c.args.list.now.entries c.loop-list.list.entries c.free_entry.new.list.entries _ cut.0 c.loop-list.invariant.3 cut.1 cut.2
+
+pub returns-clause-left : goal.returns-clause-left
+returns-clause-left g c = rest-whole c.args.list.now.entries c.loop-list.list.entries c.loop-list.invariant.3

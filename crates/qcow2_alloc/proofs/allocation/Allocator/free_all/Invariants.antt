@@ -2,12 +2,12 @@ use Rattle.std.proofs.Common.{◌≡◌, length}
 use Rattle.qcow2_alloc.specs.declared.cache.CacheDependency.TheVariants.{RbDependsOnL2}
 use Rattle.qcow2_alloc.specs.Allocators.{table_of, mark_of}
 use Rattle.qcow2_alloc.specs.Caches.{order_of}
-use Rattle.qcow2_alloc.specs.Freeing.{Frees}
+use Rattle.qcow2_alloc.specs.Freeing.{Frees, IsSublist}
 use Rattle.qcow2_alloc.proofs.FreeingEntries.{freed}
 use Rattle.qcow2_alloc.proofs.allocation.Allocator.free_all.Given as goal
 
 abbrev pub invariant-loop-list : goal.invariant-loop-list
-invariant-loop-list g l = (l.list.held ≡ l.fn.list.held) × (order_of l.caches ≡ order_of l.fn.caches) × (table_of l.self ≡ table_of l.fn.self)
+invariant-loop-list g l = (l.list.held ≡ l.fn.list.held) × (order_of l.caches ≡ order_of l.fn.caches) × (table_of l.self ≡ table_of l.fn.self) × IsSublist l.list.entries l.fn.list.entries
     × (order_of l.fn.caches ≡ RbDependsOnL2 → Frees g.S.Storage.state (table_of l.fn.self) l.fn.caches l.fn.file (mark_of l.fn.self) l.fn.list.entries freed l.caches l.file (mark_of l.self) l.list.entries)
 
 abbrev pub decreases-loop-list : goal.decreases-loop-list

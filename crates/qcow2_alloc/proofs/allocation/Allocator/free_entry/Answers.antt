@@ -42,7 +42,10 @@ pub returns-in-Err-clause-table : goal.returns-in-Err-clause-table
 returns-in-Err-clause-table g c = c.free_last.ensures.table ∙ c.loop.invariant.3
 
 pub returns-in-Err-clause-err : goal.returns-in-Err-clause-err
-returns-in-Err-clause-err g c = (c.loop.counter, c.in-Err.ensures.err ∙ c.loop.invariant.0)
+returns-in-Err-clause-err g c =
+    let count = c.count-2.view_is ∙ c.count.ensures ∙ ap (λ (e : FreeEntry). e.count) c.entry.ensures in
+    let test = c.loop-test.true in
+    (c.loop.counter, omega (arith, count, test), c.in-Err.ensures.err ∙ c.loop.invariant.0)
 
 pub returns-in-Err-clause-held : goal.returns-in-Err-clause-held
 returns-in-Err-clause-held g c = c.free_last.ensures.held ∙ c.loop.invariant.1

@@ -1,13 +1,15 @@
-use Rattle.std.proofs.Common.{refl, sym, ap, ◌∙◌, subst, inl}
+use Rattle.std.proofs.Common.{List, refl, sym, ap, ◌∙◌, subst, inl}
+use Rattle.qcow2_types.specs.Pending.{FreeEntry}
 use Rattle.qcow2_metadata.specs.Tables.{TableValue}
 use Rattle.qcow2_alloc.specs.Allocators.{table_of, mark_of}
-use Rattle.qcow2_alloc.specs.Freeing.{Frees}
+use Rattle.qcow2_alloc.specs.Freeing.{Frees, IsSublist, data_in}
 use Rattle.qcow2_alloc.proofs.FreeingEntries.{frees-none, frees-then, freed, failed}
-use Rattle.qcow2_alloc.proofs.FreeingInTurn.{of_data, metadata-found, data-stays, all-data}
+use Rattle.qcow2_alloc.proofs.FreeingInTurn.{metadata-found, data-stays, all-data}
+use Rattle.qcow2_alloc.proofs.FreeingRest.{sublist-all, sublist-then, sublist-removed, data-not-shortened, rest-whole, rest-shortened, rest-with-data}
 use Rattle.qcow2_alloc.proofs.allocation.Allocator.free_metadata.Goals as goal
 
 pub loop-index-init : goal.loop-index-init
-loop-index-init g c = (refl, refl, refl, refl, frees-none g.S.Storage.state (table_of c.args.self.now) c.args.caches.now c.args.file.now (mark_of c.args.self.now) c.args.list.now.entries)
+loop-index-init g c = (refl, refl, refl, refl, sublist-all c.args.list.now.entries, frees-none g.S.Storage.state (table_of c.args.self.now) c.args.caches.now c.args.file.now (mark_of c.args.self.now) c.args.list.now.entries)
 
 pub loop-index-preserved : goal.loop-index-preserved
 loop-index-preserved g c =
@@ -18,8 +20,9 @@ loop-index-preserved g c =
       c.free_entry.ensures.held ∙ same.0,
       c.free_entry.ensures.order ∙ same.1,
       c.free_entry.ensures.table ∙ same.2,
-      ap of_data c.in-Ok.ensures.ok ∙ data-stays l.list.entries c.in-Some.index found.0 found.1 ∙ same.3,
-      frees-then g.S.Storage.state (table_of c.args.self.now) c.args.caches.now c.args.file.now (mark_of c.args.self.now) c.args.list.now.entries l.caches l.file (mark_of l.self) l.list.entries freed n.caches n.file (mark_of n.self) n.list.entries same.4
+      ap data_in c.in-Ok.ensures.ok ∙ data-stays l.list.entries c.in-Some.index found.0 found.1 ∙ same.3,
+      sublist-then n.list.entries l.list.entries c.args.list.now.entries (subst (λ (es : List FreeEntry). IsSublist es l.list.entries) (sym c.in-Ok.ensures.ok) (sublist-removed l.list.entries c.in-Some.index)) same.4,
+      frees-then g.S.Storage.state (table_of c.args.self.now) c.args.caches.now c.args.file.now (mark_of c.args.self.now) c.args.list.now.entries l.caches l.file (mark_of l.self) l.list.entries freed n.caches n.file (mark_of n.self) n.list.entries same.5
           (subst (λ (t : TableValue). Frees g.S.Storage.state t l.caches l.file (mark_of l.self) l.list.entries freed n.caches n.file (mark_of n.self) n.list.entries) same.2 (c.in-Ok.ensures.frees (inl found.1))),
     )
 
@@ -29,8 +32,23 @@ returns-in-Err-clause-frees g c =
     let l = c.loop-index in
     let n = c.free_entry.new in
     let found = metadata-found l.list.entries c.in-Some.index (sym c.in-Some.ensures) in
-    frees-then g.S.Storage.state (table_of c.args.self.now) c.args.caches.now c.args.file.now (mark_of c.args.self.now) c.args.list.now.entries l.caches l.file (mark_of l.self) l.list.entries (failed c.in-Err.fault) n.caches n.file (mark_of n.self) n.list.entries same.4
+    frees-then g.S.Storage.state (table_of c.args.self.now) c.args.caches.now c.args.file.now (mark_of c.args.self.now) c.args.list.now.entries l.caches l.file (mark_of l.self) l.list.entries (failed c.in-Err.fault) n.caches n.file (mark_of n.self) n.list.entries same.5
     (subst (λ (t : TableValue). Frees g.S.Storage.state t l.caches l.file (mark_of l.self) l.list.entries (failed c.in-Err.fault) n.caches n.file (mark_of n.self) n.list.entries) same.2 (c.in-Err.ensures.frees (inl found.1)))
 
 pub returns-clause-ok : goal.returns-clause-ok
 returns-clause-ok g c = all-data c.loop-index.list.entries (sym c.in_default.ensures) ∙ c.loop-index.invariant.3
+
+pub returns-in-Err-clause-left : goal.returns-in-Err-clause-left
+returns-in-Err-clause-left g c =
+    let same = c.loop-index.invariant in
+    let es = c.loop-index.list.entries in
+    let all = c.args.list.now.entries in
+    let now = c.free_entry.new.list.entries in
+    let found = metadata-found es c.in-Some.index (sym c.in-Some.ensures) in
+    let cut = c.in-Err.ensures.err in
+    rest-with-data all now (rest-shortened all es now c.in-Some.index cut.0 same.4 cut.1 cut.2) (ap data_in cut.2 ∙ data-not-shortened es c.in-Some.index cut.0 found.1 ∙ same.3)
+
+pub returns-clause-left : goal.returns-clause-left
+returns-clause-left g c =
+    let same = c.loop-index.invariant in
+    rest-with-data c.args.list.now.entries c.loop-index.list.entries (rest-whole c.args.list.now.entries c.loop-index.list.entries same.4) same.3

@@ -1,27 +1,57 @@
+use Rattle.std.proofs.Common.{List, ap, sym, subst, ◌∙◌}
+use Rattle.imago_storage.specs.declared.fault.Fault.{Fault}
+use Rattle.imago_storage.specs.declared.fault.Fault.TheVariants.{Memory}
+use Rattle.qcow2_types.specs.Header.{Header}
+use Rattle.qcow2_types.specs.Pending.{FreeEntry}
 use Rattle.qcow2_alloc.specs.Allocators.{table_of, mark_of}
+use Rattle.qcow2_alloc.specs.FreeList.{FreeList}
+use Rattle.qcow2_alloc.specs.GrowingTables.{GrowsTable}
+use Rattle.qcow2_alloc.specs.HandingOut.{GrowsReftable}
+use Rattle.qcow2_alloc.specs.MovingTables.{IsGrownFor}
 use Rattle.qcow2_alloc.proofs.AnnouncedOrders.{announced}
 use Rattle.qcow2_alloc.proofs.CountingClusters.{succeeded}
 use Rattle.qcow2_alloc.proofs.FreeingEntries.{failed}
-use Rattle.qcow2_alloc.proofs.GrowingReftables.{not-announced, announced-grows}
+use Rattle.qcow2_alloc.proofs.GrowingReftables.{not-copied, not-announced, announced-grows}
 use Rattle.qcow2_alloc.proofs.allocation.Allocator.grow_reftable.Goals as goal
-
-pub returns-in-Ok-clause-grows : goal.returns-in-Ok-clause-grows
-returns-in-Ok-clause-grows g c =
-    let state = g.S.Storage.state in
-    let t = table_of c.args.self.now in
-    let entries = c.args.list.now.entries in
-    let a = c.l2_depends_on_rb.new in
-    let new = c.grow_table.new in
-    let done = c.in-Ok.ensures in
-    let first = announced state t entries c.args.caches.now c.args.file.now a.self a.file done.kept done.blocks done.header done.room succeeded done.going done.announced done.safe done.cause in
-    announced-grows state (mark_of c.args.self.now) c.args.index t c.args.caches.now c.args.file.now entries a.self a.file first c.grow_table.result (table_of new.self) new.caches new.file new.list.entries c.grow_table.ensures.grows
 
 pub returns-in-Err-clause-grows : goal.returns-in-Err-clause-grows
 returns-in-Err-clause-grows g c =
+    not-copied g.S.Storage.state (mark_of c.args.self.now) c.args.index (table_of c.args.self.now) c.args.caches.now c.args.file.now c.args.list.now.entries c.args.caches.now c.args.file.now c.in-Err.fault c.in-Err.ensures.err
+
+pub returns-in-Err-hold-clause-grows : goal.returns-in-Err-hold-clause-grows
+returns-in-Err-hold-clause-grows g c =
+    let state = g.S.Storage.state in
+    let t = table_of c.args.self.now in
+    let entries = c.args.list.now.entries in
+    let refused = c.in-Err-hold.ensures.err in
+    subst (λ (l : FreeList). GrowsReftable state (mark_of c.args.self.now) c.args.index t c.args.caches.now c.args.file.now entries (failed c.in-Err-hold.fault) t c.args.caches.now c.args.file.now l.entries) (sym refused.1)
+    (subst (λ (f : Fault). GrowsReftable state (mark_of c.args.self.now) c.args.index t c.args.caches.now c.args.file.now entries (failed f) t c.args.caches.now c.args.file.now entries) (sym refused.0)
+    (not-copied state (mark_of c.args.self.now) c.args.index t c.args.caches.now c.args.file.now entries c.args.caches.now c.args.file.now Memory tt))
+
+pub place_grown-requires-clause-grown : goal.place_grown-requires-clause-grown
+place_grown-requires-clause-grown g c = (c.args.index, c.requires.past, subst (λ (H : Header). IsGrownFor H.fields (table_of c.args.self.now) c.args.index c.in-Ok.copy) (sym c.in-Ok-l2_depends_on_rb.ensures.header) c.in-Ok.ensures.ok)
+
+pub returns-in-Ok-l2_depends_on_rb-clause-grows : goal.returns-in-Ok-l2_depends_on_rb-clause-grows
+returns-in-Ok-l2_depends_on_rb-clause-grows g c =
     let state = g.S.Storage.state in
     let t = table_of c.args.self.now in
     let entries = c.args.list.now.entries in
     let a = c.l2_depends_on_rb.new in
-    let done = c.in-Err.ensures in
-    not-announced state (mark_of c.args.self.now) c.args.index t c.args.caches.now c.args.file.now entries a.self a.file c.in-Err.fault
-    (announced state t entries c.args.caches.now c.args.file.now a.self a.file done.kept done.blocks done.header done.room (failed c.in-Err.fault) done.going tt tt done.cause)
+    let new = c.place_grown.new in
+    let done = c.in-Ok-l2_depends_on_rb.ensures in
+    let first = announced state t entries c.args.caches.now c.args.file.now a.self a.file done.kept done.blocks done.header done.room succeeded done.going done.announced done.safe done.cause in
+    let grown = subst (λ (H : Header). IsGrownFor H.fields t c.args.index c.in-Ok.copy) (sym done.header) c.in-Ok.ensures.ok in
+    let grows = subst (λ (l : FreeList). GrowsTable state (mark_of c.args.self.now) c.args.index t a.self a.file l.entries c.place_grown.result (table_of new.self) new.caches new.file new.list.entries) c.in_default.ensures.ok (c.place_grown.ensures.grows c.args.index grown) in
+    announced-grows state (mark_of c.args.self.now) c.args.index t c.args.caches.now c.args.file.now entries a.self a.file first c.place_grown.result (table_of new.self) new.caches new.file new.list.entries grows
+
+pub returns-in-Err-l2_depends_on_rb-clause-grows : goal.returns-in-Err-l2_depends_on_rb-clause-grows
+returns-in-Err-l2_depends_on_rb-clause-grows g c =
+    let state = g.S.Storage.state in
+    let t = table_of c.args.self.now in
+    let entries = c.args.list.now.entries in
+    let a = c.l2_depends_on_rb.new in
+    let done = c.in-Err-l2_depends_on_rb.ensures in
+    let still = ap (λ (l : FreeList). l.entries) c.release.ensures ∙ ap (λ (l : FreeList). l.entries) c.in_default.ensures.ok in
+    subst (λ (es : List FreeEntry). GrowsReftable state (mark_of c.args.self.now) c.args.index t c.args.caches.now c.args.file.now entries (failed c.in-Err-l2_depends_on_rb.fault) t a.self a.file es) (sym still)
+    (not-announced state (mark_of c.args.self.now) c.args.index t c.args.caches.now c.args.file.now entries a.self a.file c.in-Err-l2_depends_on_rb.fault
+    (announced state t entries c.args.caches.now c.args.file.now a.self a.file done.kept done.blocks done.header done.room (failed c.in-Err-l2_depends_on_rb.fault) done.going tt tt done.cause))

@@ -1,9 +1,15 @@
-use Rattle.std.proofs.Common.{subst}
+use Rattle.std.proofs.Common.{◌≡◌, [], List, length, ap, sym, subst, ◌∙◌}
+use Rattle.std.specs.Prelude.{◌==◌}
+use Rattle.qcow2_types.specs.Header.{Header, has_external_data}
+use Rattle.qcow2_types.specs.Pending.{FreeEntry}
 use Rattle.qcow2_metadata.specs.Tables.{TableValue}
 use Rattle.qcow2_alloc.specs.Allocators.{table_of, mark_of}
-use Rattle.qcow2_alloc.specs.Freeing.{Frees}
+use Rattle.qcow2_alloc.specs.Caches.{order_of}
+use Rattle.qcow2_alloc.specs.FreeList.{FreeList}
+use Rattle.qcow2_alloc.specs.Freeing.{Frees, IsRest, IsRestInTurn, data_in}
 use Rattle.qcow2_alloc.proofs.FreeingEntries.{frees-then, freed, failed}
 use Rattle.qcow2_alloc.proofs.FreeingInTurn.{announcing-frees}
+use Rattle.qcow2_alloc.proofs.FreeingRest.{order-announced, rest-none, rest-of-data, rest-without-metadata}
 use Rattle.qcow2_alloc.proofs.allocation.Allocator.process_clusters_to_free.Goals as goal
 
 pub returns-in-Ok-clause-frees : goal.returns-in-Ok-clause-frees
@@ -14,7 +20,7 @@ returns-in-Ok-clause-frees g c =
     let a = c.rb_depends_on_l2.new in
     let n = c.free_all.new in
     let done = c.in-Ok.ensures in
-    let announced = announcing-frees state t m.caches m.file a.self a.file (mark_of m.self) m.list.entries done.kept done.tables done.header done.room freed done.going done.announced done.safe done.cause in
+    let announced = announcing-frees state t m.caches m.file a.self a.file (mark_of m.self) m.list.entries done.kept done.header done.room freed done.going done.announced tt done.safe done.cause in
     let rest = subst (λ (v : TableValue). Frees state v a.self a.file (mark_of m.self) m.list.entries c.free_all.result n.caches n.file (mark_of n.self) n.list.entries) c.free_metadata.ensures.table (c.free_all.ensures.frees done.announced) in
     frees-then state t c.args.caches.now c.args.file.now (mark_of c.args.self.now) c.args.list.now.entries m.caches m.file (mark_of m.self) m.list.entries c.free_all.result n.caches n.file (mark_of n.self) n.list.entries c.in_default.ensures.frees
     (frees-then state t m.caches m.file (mark_of m.self) m.list.entries a.self a.file (mark_of m.self) m.list.entries c.free_all.result n.caches n.file (mark_of n.self) n.list.entries announced rest)
@@ -26,5 +32,18 @@ returns-in-Err-rb_depends_on_l2-clause-frees g c =
     let m = c.free_metadata.new in
     let a = c.rb_depends_on_l2.new in
     let done = c.in-Err-rb_depends_on_l2.ensures in
-    let announced = announcing-frees state t m.caches m.file a.self a.file (mark_of m.self) m.list.entries done.kept done.tables done.header done.room (failed c.in-Err-rb_depends_on_l2.fault) done.going tt tt done.cause in
+    let announced = announcing-frees state t m.caches m.file a.self a.file (mark_of m.self) m.list.entries done.kept done.header done.room (failed c.in-Err-rb_depends_on_l2.fault) done.going tt done.stays tt done.cause in
     frees-then state t c.args.caches.now c.args.file.now (mark_of c.args.self.now) c.args.list.now.entries m.caches m.file (mark_of m.self) m.list.entries (failed c.in-Err-rb_depends_on_l2.fault) a.self a.file (mark_of m.self) m.list.entries c.in_default.ensures.frees announced
+
+pub returns-in-Ok-clause-left : goal.returns-in-Ok-clause-left
+returns-in-Ok-clause-left g c = rest-of-data c.args.list.now.entries c.free_all.new.list.entries (subst (λ (es : List FreeEntry). IsRest es c.free_all.new.list.entries) c.in_default.ensures.ok c.free_all.ensures.left)
+
+pub returns-in-Ok-clause-order : goal.returns-in-Ok-clause-order
+returns-in-Ok-clause-order g c =
+    let inside = sym (ap (λ (h : Header). has_external_data h.fields) c.in_default.ensures.frees.header) ∙ sym c.external_data_file.ensures ∙ c.if-external_data_file.false in
+    let some : data_in c.args.list.now.entries ≡ [] → ⊥ = λ none. let yes = c.is_empty.ensures ∙ ap (λ (l : List FreeEntry). length l == 0) (c.in_default.ensures.ok ∙ none) in let no = sym yes ∙ c.if-is_empty.false in cc no in
+    order-announced _ c.args.list.now.entries c.free_all.new.list.entries (order_of c.args.caches.now) c.free_all.result (order_of c.free_all.new.caches) (c.free_all.ensures.order ∙ c.in-Ok.ensures.announced) inside some
+    (rest-without-metadata c.args.list.now.entries c.free_all.new.list.entries (subst (λ (es : List FreeEntry). IsRest es c.free_all.new.list.entries) c.in_default.ensures.ok c.free_all.ensures.left))
+
+pub returns-then-external_data_file-clause-left : goal.returns-then-external_data_file-clause-left
+returns-then-external_data_file-clause-left g c = subst (λ (l : FreeList). IsRestInTurn c.args.list.now.entries l.entries) (sym c.drop_entries.ensures) (rest-none c.args.list.now.entries)
