@@ -16,3 +16,4 @@ pub mod Running
 pub mod Discards
 pub mod Zeroings
 pub mod Building
+pub mod Clusters

@@ -1,5 +1,5 @@
 -- What lookups answer.
-use Rattle.std.specs.Prelude.{◌≡◌, ◌⊎◌, ⊤, ℕ, ◌+◌, ◌<◌, ◌≤◌, List, [], ◌∷◌, Bool, true, false, suc, zero, ◌&&◌, Some, IsSome, IsTrue}
+use Rattle.std.specs.Prelude.{◌≡◌, ◌⊎◌, ⊤, ℕ, ◌+◌, ◌<◌, ◌≤◌, ◌^◌, List, [], ◌∷◌, Bool, true, false, suc, zero, ◌&&◌, Some, IsSome, IsTrue}
 use Rattle.imago_storage.specs.Through.{Overflows}
 use Rattle.imago_storage.specs.Disk.{Value, byte, barred}
 use Rattle.imago_access.specs.Layer.{Layer, Cell, own, unmapped, unit_of_layer, IsFree}
@@ -108,6 +108,15 @@ IsRunBelow asked mapping n = (n ≤ asked) × (0 < asked → 0 < n)
 abbrev pub IsDeepRun : ℕ → ℕ → ℕ → Mapping → ℕ → Type 0
 IsDeepRun size offset asked deep.Eof n = (n ≡ 0) × (size ≤ offset)
 IsDeepRun size offset asked mapping n = (offset < size) × (n ≤ asked) × (offset + n ≤ size) × (0 < asked → 0 < n)
+
+-- the run that is mapped: within the disk, not longer than asked, and not empty where one is asked for
+abbrev pub IsMappedRun : Layer → ℕ → ℕ → ℕ → Type 0
+IsMappedRun layer offset asked n = (n ≤ asked) × (0 < asked → 0 < n) × (0 < asked → offset + n ≤ layer.size)
+
+-- a run of a storage ends at an offset of 64 bits
+abbrev pub EndsInStorage : Mapping → ℕ → Type 0
+EndsInStorage (deep.Raw depth storage place writable) n = place + n < 2 ^ 64
+EndsInStorage mapping n = ⊤
 
 -- the run lies in the top layer, and each of its places can be written where the answer says
 abbrev pub IsHomeRun : Layer → ℕ → Mapping → ℕ → Type 0

@@ -186,6 +186,9 @@ pub trait FormatDriverBuilder<S: Storage> {
     /// How the files are opened that the image names, where that was said.
     ghost options_of: { Self → Option OpenOptions };
 
+    /// The builder that is for writing, or isn't, and else as it was.
+    ghost with_writable: { Self → Bool → Self };
+
     /// What it may open.
     ghost opens: { Self → Self.Format → Type 0 };
 
@@ -200,6 +203,7 @@ pub trait FormatDriverBuilder<S: Storage> {
 
     /// Whether also for writing.
     fn write(self, write: bool) -> Self
+        ensures made { result ≡ with_writable self write }
         ensures image { image_of result ≡ image_of self }
         ensures writable { writable_of result ≡ write }
         ensures options { options_of result ≡ options_of self };
@@ -332,9 +336,9 @@ pub trait FormatCreateBuilder<S: Storage> {
         gate: &mut G,
         open_builder: F,
     ) -> Result<<Self::DriverBuilder as FormatDriverBuilder<S>>::Format, Fault>
-        requires { (s : S) → F.takes open_builder s }
+        requires { (s : S) → hands self s → F.takes open_builder s }
         ensures ok { IfOk result (λ d. (s : S) × (b : Self.DriverBuilder) × hands self s × F.makes open_builder s (Ok b) × opens self b d) }
         ensures format { IfOk result (λ d. (Self.DriverBuilder.Format.layer d).fixed.format ≡ FORMAT) }
         ensures writable { IfOk result (λ d. IsTrue (Self.DriverBuilder.Format.layer d).fixed.writable) }
-        ensures err { IfErr result (λ e. refuses self e ⊎ (((s : S) × hands self s × F.makes open_builder s (Err e)) ⊎ ((s : S) × (b b' : Self.DriverBuilder) × hands self s × F.makes open_builder s (Ok b) × OpensForWriting Self.DriverBuilder.image_of Self.DriverBuilder.options_of Self.DriverBuilder.writable_of b b' × Self.DriverBuilder.refuses b' e))) };
+        ensures err { IfErr result (λ e. refuses self e ⊎ (((s : S) × hands self s × F.makes open_builder s (Err e)) ⊎ ((s : S) × (b b' : Self.DriverBuilder) × hands self s × F.makes open_builder s (Ok b) × OpensForWriting Self.DriverBuilder.image_of Self.DriverBuilder.options_of Self.DriverBuilder.writable_of Self.DriverBuilder.with_writable b b' × Self.DriverBuilder.refuses b' e))) };
 }

@@ -1,5 +1,5 @@
 // What a driver of a format promises to the chain above it.
-ghost use Rattle.std.specs.Prelude.{◌++◌, IsFalse, false, ◌≡◌, ◌∷◌, [], ◌<◌, ◌≤◌, ◌+◌, ◌^◌, ◌⊎◌, ℕ, Bool, Option, Some, None, List, ⊤, is_some, IfSome, IsSome, IsTrue, IsOk, IfOk, IfErr, OnOk, IsErr, IsErrOf, MatchResult, length, slice_index};
+ghost use Rattle.std.specs.Prelude.{◌++◌, IsFalse, false, ◌≡◌, ◌≢◌, ◌∷◌, [], ◌<◌, ◌≤◌, ◌+◌, ◌^◌, ◌⊎◌, ℕ, Bool, Option, Some, None, List, ⊤, is_some, IfSome, IsSome, IsTrue, IsOk, IfOk, IfErr, OnOk, IsErr, IsErrOf, MatchResult, length, slice_index};
 ghost use Rattle.imago_storage.specs.State.{StorageState, IsAlignment};
 ghost use Rattle.imago_storage.specs.Steps.{Call, shrink, IsIn, IsOut};
 ghost use Rattle.imago_storage.specs.Through.{Overflows};
@@ -9,7 +9,7 @@ ghost use Rattle.imago_access.specs.Chain.{at, IsBacked};
 ghost use Rattle.imago_access.specs.Room.{IsApart, IsUncutAt, Reaches, Takes, GivesUp};
 ghost use Rattle.imago_access.specs.Files.{Pairs, IsKept, ImageCause, IsMild, IsWhole, IsAnswered, IsStale, Unasked};
 ghost use Rattle.imago_access.specs.Going.{Looked, LookedUnder, Went};
-ghost use Rattle.imago_access.specs.Mappings.{IsRun, Looks};
+ghost use Rattle.imago_access.specs.Mappings.{IsRun, IsMappedRun, Looks};
 ghost use Rattle.imago_access.specs.Refusals.{barrier, change_refusal, LookCause, ReadMappedCause, InvalidateCause};
 ghost use Rattle.imago_access.specs.Changes.{Rewrites, PartRewrites, ToZero, ToAny, ToBelow, Prepared, NotPrepared, Wrote, Committed, Cancelled};
 ghost use Rattle.imago_access.specs.Spending.{claim_of, IsMine, Spends, commit_refusal, GivenBack, IsForeignTo};
@@ -201,7 +201,7 @@ pub trait FormatDriverInstance {
         overwrite: bool,
     ) -> Result<PreparedDataMapping<Self::State>, Fault>
         requires free { IsFree (layer self.old) }
-        ensures run { IfOk result (λ m. (m.length ≤ length) × (0 < length → 0 < m.length) × (0 < length → offset + m.length ≤ (layer self.old).size)) }
+        ensures run { IfOk result (λ m. IsMappedRun (layer self.old) offset length m.length) }
         ensures ok { IsTrue (layer self.old).fixed.keeps → safe self.old → B.sees_under below.old → IfOk result (λ m. Prepared (at (B.under below.old)) (layer self.old) (layer self.new) offset length overwrite m.storage m.offset m.length (claim_of claim m.state)) }
         ensures fits { IfOk result (λ m. m.offset + m.length < 2 ^ 64) }
         ensures uncut { IsTrue (layer self.old).fixed.keeps → safe self.old → B.sees_under below.old → IfOk result (λ m. IsUncutAt (layer self.old).fixed.unit (layer self.old).size offset length (offset + m.length)) }
@@ -256,7 +256,9 @@ pub trait FormatDriverInstance {
         ensures safe { IsMine claim tag mapping.state (layer self.old) → safe self.old → safe self.new }
         ensures room { IsTrue (layer self.old).fixed.keeps → safe self.old → IsMine claim tag mapping.state (layer self.old) → Takes vacant has_room zeroed (λ _. ⊤) self.old self.new }
         ensures lasts { lasts self.old → lasts self.new }
-        ensures back { IfErr result (λ e. (e.1 ≡ mapping) × (e.0 ≡ Foreign) × (layer self.new ≡ layer self.old) × IsForeignTo tag mapping.state (layer self.old)) }
+        ensures back { IfErr result (λ e. (e.1 ≡ mapping) × (e.0 ≡ Foreign) × (layer self.new ≡ layer self.old) × IsForeignTo tag mapping.state (layer self.old) × (safe self.old → safe self.new)) }
+        ensures back_room { IsTrue (layer self.old).fixed.keeps → safe self.old → IsErr result → Takes vacant has_room zeroed (λ _. ⊤) self.old self.new }
+        ensures fixed { ((layer self.new).fixed ≡ (layer self.old).fixed) × ((layer self.new).size ≡ (layer self.old).size) }
         ensures began { (d : Self) (call : Call) → began d call self.old → began d call self.new }
         ensures none { (image self.new ≡ image self.old) × (extras self.new ≡ extras self.old) };
 
@@ -527,4 +529,27 @@ pub trait FormatDriverInstance {
 
     /// No two places can be written at one place of a storage.
     ghost one_home: { (d : Self) (p q : ℕ) (at : ℕ × ℕ) → safe d → (layer d).home p ≡ Some at → (layer d).home q ≡ Some at → p ≡ q };
+}
+
+/// Why a mapping with state that is to be committed is given back, if it is: what `ready` says of the driver, else `Fault::ReadOnly` where it
+/// wasn't opened for writing, else `Fault::Foreign` where the number of the image that prepared the mapping isn't its own.
+///
+/// This is the order of refusals that `FormatDriverInstance::commit_data_mapping` asks for.
+pub fn check_commit(
+    ready: Result<(), Fault>,
+    writable: bool,
+    number: u64,
+    prepared_by: u64,
+) -> Result<(), Fault>
+    ensures ok { OnOk result (IsOk ready × IsTrue writable × (prepared_by ≡ number)) }
+    ensures err { IfErr result (λ e. MatchResult ready (λ _. (IsFalse writable × (e ≡ ReadOnly)) ⊎ (IsTrue writable × (prepared_by ≢ number) × (e ≡ Foreign))) (λ f. e ≡ f)) }
+{
+    ready?;
+    if !writable {
+        return Err(Fault::ReadOnly);
+    }
+    if prepared_by != number {
+        return Err(Fault::Foreign);
+    }
+    Ok(())
 }

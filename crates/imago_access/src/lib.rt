@@ -18,7 +18,7 @@ pub use builders::{
     FormatCreateBuilder, FormatCreateBuilderBase, FormatDriverBuilder, FormatDriverBuilderBase,
     MakeOpenBuilder,
 };
-pub use drivers::FormatDriverInstance;
+pub use drivers::{FormatDriverInstance, check_commit};
 pub use format::{Format, PreallocateMode};
 pub use gate::{DenyImplicitOpenGate, ImplicitOpenGate};
 pub use mapping::{Mapping, PreparedDataMapping, ShallowMapping};

@@ -1,4 +1,7 @@
 // Runs of the public calls that need no driver.
+mod clusters;
+mod prepared;
+
 use crate::{
     DenyImplicitOpenGate, Format, FormatCreateBuilderBase, FormatDriverBuilderBase,
     ImplicitOpenGate, Mapping, NoBelow, PreallocateMode, PreparedDataMapping, ReadBelow,

@@ -35,6 +35,8 @@ impl<S: Storage> FormatDriverBuilder<S> for RawOpenBuilder<S> {
 
     ghost options_of = { λ b. b.base.options };
 
+    ghost with_writable = { λ b writable. record b { base = record b.base { writable = writable } } };
+
     ghost opens = { λ b d. let image = S.state b.base.image in (d.storage ≡ b.base.image) × (⟦<Raw<S> as FormatDriverInstance>⟧.layer d ≡ raw_layer image (length image.bytes) b.base.writable) × ⟦<Raw<S> as FormatDriverInstance>⟧.safe d × ⟦<Raw<S> as FormatDriverInstance>⟧.lasts d };
 
     ghost refuses = { λ b fault. ⊥ };
@@ -151,11 +153,11 @@ impl<S: Storage> FormatCreateBuilder<S> for RawCreateBuilder<S> {
         gate: &mut G,
         open_builder: F,
     ) -> Result<Raw<S>, Fault>
-        requires { (s : S) → F.takes open_builder s }
+        requires { let c = ⟦<RawCreateBuilder<S> as FormatCreateBuilder<S>>⟧ in (s : S) → c.hands self s → F.takes open_builder s }
         ensures ok { let c = ⟦<RawCreateBuilder<S> as FormatCreateBuilder<S>>⟧ in IfOk result (λ d. (s : S) × (b : _) × c.hands self s × F.makes open_builder s (Ok b) × c.opens self b d) }
         ensures format { IfOk result (λ d. (⟦<Raw<S> as FormatDriverInstance>⟧.layer d).fixed.format ≡ format.Raw) }
         ensures writable { IfOk result (λ d. IsTrue (⟦<Raw<S> as FormatDriverInstance>⟧.layer d).fixed.writable) }
-        ensures err { let c = ⟦<RawCreateBuilder<S> as FormatCreateBuilder<S>>⟧ in IfErr result (λ e. c.refuses self e ⊎ (((s : S) × c.hands self s × F.makes open_builder s (Err e)) ⊎ ((s : S) × (b b' : _) × c.hands self s × F.makes open_builder s (Ok b) × (let o = ⟦<RawOpenBuilder<S> as FormatDriverBuilder<S>>⟧ in OpensForWriting o.image_of o.options_of o.writable_of b b' × o.refuses b' e)))) }
+        ensures err { let c = ⟦<RawCreateBuilder<S> as FormatCreateBuilder<S>>⟧ in IfErr result (λ e. c.refuses self e ⊎ (((s : S) × c.hands self s × F.makes open_builder s (Err e)) ⊎ ((s : S) × (b b' : _) × c.hands self s × F.makes open_builder s (Ok b) × (let o = ⟦<RawOpenBuilder<S> as FormatDriverBuilder<S>>⟧ in OpensForWriting o.image_of o.options_of o.writable_of o.with_writable b b' × o.refuses b' e)))) }
         // The gate isn't asked.
         ensures gate { gate.new ≡ gate.old }
     {

@@ -1,5 +1,5 @@
 // A raw image: the disk is the storage's bytes.
-ghost use Rattle.std.specs.Prelude.{◌≡◌, ◌⊎◌, min, ◌-◌, ◌+◌, ◌≤◌, ◌<◌, ◌^◌, ◌∷◌, [], ⊤, refl, ℕ, List, length, slice_index, replicate, OnOk, IfOk, IfErr, IfSome, IsSome, IsTrue, IsOk, IsErrOf, MatchResult, None, Some, true, ◌++◌, IsFalse};
+ghost use Rattle.std.specs.Prelude.{◌≡◌, ◌⊎◌, min, ◌-◌, ◌+◌, ◌≤◌, ◌<◌, ◌^◌, ◌∷◌, [], ⊤, refl, ℕ, List, length, slice_index, replicate, OnOk, IfOk, IfErr, IfSome, IsSome, IsTrue, IsOk, IsErr, IsErrOf, MatchResult, None, Some, true, ◌++◌, IsFalse};
 ghost use Rattle.std.proofs.Common.{inr};
 ghost use Rattle.imago_storage.specs.State.{StorageState, unit_of};
 ghost use Rattle.imago_storage.specs.Steps.{Call, shrink};
@@ -403,7 +403,9 @@ impl<S: Storage> FormatDriverInstance for Raw<S> {
         ensures safe { let d = ⟦<Raw<S> as FormatDriverInstance>⟧ in IsMine d.claim d.tag mapping.state (d.layer self.old) → d.safe self.old → d.safe self.new }
         ensures room { let d = ⟦<Raw<S> as FormatDriverInstance>⟧ in IsTrue (d.layer self.old).fixed.keeps → d.safe self.old → IsMine d.claim d.tag mapping.state (d.layer self.old) → Takes d.vacant d.has_room d.zeroed (λ _. ⊤) self.old self.new }
         ensures lasts { let d = ⟦<Raw<S> as FormatDriverInstance>⟧ in d.lasts self.old → d.lasts self.new }
-        ensures back { let d = ⟦<Raw<S> as FormatDriverInstance>⟧ in IfErr result (λ e. (e.1 ≡ mapping) × (e.0 ≡ Foreign) × (d.layer self.new ≡ d.layer self.old) × IsForeignTo d.tag mapping.state (d.layer self.old)) }
+        ensures back { let d = ⟦<Raw<S> as FormatDriverInstance>⟧ in IfErr result (λ e. (e.1 ≡ mapping) × (e.0 ≡ Foreign) × (d.layer self.new ≡ d.layer self.old) × IsForeignTo d.tag mapping.state (d.layer self.old) × (d.safe self.old → d.safe self.new)) }
+        ensures back_room { let d = ⟦<Raw<S> as FormatDriverInstance>⟧ in IsTrue (d.layer self.old).fixed.keeps → d.safe self.old → IsErr result → Takes d.vacant d.has_room d.zeroed (λ _. ⊤) self.old self.new }
+        ensures fixed { let d = ⟦<Raw<S> as FormatDriverInstance>⟧ in ((d.layer self.new).fixed ≡ (d.layer self.old).fixed) × ((d.layer self.new).size ≡ (d.layer self.old).size) }
         ensures began { let d = ⟦<Raw<S> as FormatDriverInstance>⟧ in (e : _) (call : Call) → d.began e call self.old → d.began e call self.new }
         ensures none { let d = ⟦<Raw<S> as FormatDriverInstance>⟧ in (d.image self.new ≡ d.image self.old) × (d.extras self.new ≡ d.extras self.old) }
     {
@@ -520,7 +522,7 @@ impl<S: Storage> FormatDriverInstance for Raw<S> {
         ensures failed { let d = ⟦<Raw<S> as FormatDriverInstance>⟧ in IfErr result (ImageCause (d.image self.old ∷ d.extras self.old ++ B.files_under _below.old) (d.image self.new ∷ d.extras self.new ++ B.files_under _below.new)) }
         ensures cause { let d = ⟦<Raw<S> as FormatDriverInstance>⟧ in d.safe self.old → B.sees_under _below.old → IfErr result (GrowthCause (B.under _below.old) (d.layer self.old) size (d.growth_cause self.old (B.under _below.old) size mode) (d.image self.old ∷ d.extras self.old ++ B.files_under _below.old) (d.image self.new ∷ d.extras self.new ++ B.files_under _below.new)) }
         // The storage is then as long as the disk; refused, the disk has its size, and its storage is no shorter than it.
-        ensures exact { self.old.size < size → OnOk result (length (S.state self.new.storage).bytes ≡ size) }
+        ensures exact { self.old.size < size → OnOk result ((length (S.state self.new.storage).bytes ≡ size) × (self.new.size ≡ size)) }
         ensures refused { IfErr result (λ e. self.new.size ≡ self.old.size) }
         ensures within { let d = ⟦<Raw<S> as FormatDriverInstance>⟧ in d.safe self.old → d.safe self.new }
     {
@@ -553,7 +555,7 @@ impl<S: Storage> FormatDriverInstance for Raw<S> {
         ensures failed { let d = ⟦<Raw<S> as FormatDriverInstance>⟧ in IfErr result (ImageCause (d.image self.old ∷ d.extras self.old) (d.image self.new ∷ d.extras self.new)) }
         ensures cause { let d = ⟦<Raw<S> as FormatDriverInstance>⟧ in d.safe self.old → (below : List Layer) → IfErr result (ShrinkCause below (d.layer self.old) size (d.own_cause self.old below (shrink size)) (d.image self.old ∷ d.extras self.old) (d.image self.new ∷ d.extras self.new)) }
         // The storage is then as long as the disk; refused, the disk has its size, and its storage is no shorter than it.
-        ensures exact { size < self.old.size → OnOk result (length (S.state self.new.storage).bytes ≡ size) }
+        ensures exact { size < self.old.size → OnOk result ((length (S.state self.new.storage).bytes ≡ size) × (self.new.size ≡ size)) }
         ensures refused { IfErr result (λ e. self.new.size ≡ self.old.size) }
         ensures within { let d = ⟦<Raw<S> as FormatDriverInstance>⟧ in d.safe self.old → d.safe self.new }
     {

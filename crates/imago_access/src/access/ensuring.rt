@@ -1,12 +1,13 @@
 // Runs that are mapped as part of the disk at once.
-ghost use Rattle.std.specs.Prelude.{◌≡◌, ◌⊎◌, IsTrue, map, IsOk, IfOk, IfErr, IsErrOf, IsSome, Some, None};
+ghost use Rattle.std.specs.Prelude.{◌≡◌, ◌⊎◌, IsTrue, map, IsOk, IfOk, IfErr, IsErrOf, IsSome, Some, None, true};
 ghost use Rattle.imago_storage.specs.Steps.{Step, Stays, ensure, run};
 ghost use Rattle.imago_access.specs.Layer.{IsFree, IsLike};
 ghost use Rattle.imago_access.specs.Chain.{unit_of_chain};
 ghost use Rattle.imago_access.specs.Layers.{chain};
 ghost use Rattle.imago_access.specs.Files.{IsWhole, IsMild, ImageCause, Unasked, files_of};
-ghost use Rattle.imago_access.specs.Mappings.{IsHomeRun};
+ghost use Rattle.imago_access.specs.Mappings.{EndsInStorage, IsHomeRun, IsMappedRun};
 ghost use Rattle.imago_access.specs.Refusals.{barrier, change_refusal, ChangeCause};
+ghost use Rattle.imago_access.specs.declared.mapping.Mapping.TheVariants as deep;
 ghost use Rattle.imago_access.specs.Stops.{GivesAnnounced};
 ghost use Rattle.imago_access.specs.Running.{IsIntactChain, RanChain, chain_disk, below_of};
 
@@ -21,8 +22,8 @@ impl<D: FormatDriverInstance> FormatAccess<D> {
     /// Maps a run from the offset on as part of the disk, so that it can be written in place: at least one byte, and not more than asked.
     /// Nothing may be prepared.
     ///
-    /// It answers where the run lies and how long it is, in bytes. Its bytes stay, but with `overwrite` they may be any. It refuses as
-    /// `prepare_data_mapping` does; a refusal for another cause than `Memory` and `Storage` changes no byte.
+    /// It answers where the run lies and how long it is, in bytes; for an empty range a run of no length at the start of the storage 0. Its
+    /// bytes stay, but with `overwrite` they may be any. It refuses as `prepare_data_mapping` does; a refusal for another cause than `Memory` and `Storage` changes no byte.
     pub fn ensure_data_mapping(
         &mut self,
         alloc: Global,
@@ -33,6 +34,8 @@ impl<D: FormatDriverInstance> FormatAccess<D> {
         requires free { IsFree (D.layer self.old.0) }
         ensures ok { IsIntactChain D.layer D.safe D.sees self.old → IfOk result (λ r. Step (below_of D.layer self.old) (chain_disk D.layer self.old) (ensure offset length overwrite) (run r.1) (chain_disk D.layer self.new)) }
         ensures home { IsIntactChain D.layer D.safe D.sees self.old → IfOk result (λ r. IsHomeRun (D.layer self.new.0) offset r.0 r.1) }
+        ensures empty { length ≡ 0 → IfOk result (λ r. r ≡ (deep.Raw 0 0 0 true, 0)) }
+        ensures run { IfOk result (λ r. IsMappedRun (D.layer self.old.0) offset length r.1 × EndsInStorage r.0 r.1) }
         ensures err { IsIntactChain D.layer D.safe D.sees self.old → IfErr result (λ e. IsMild e → Stays (chain_disk D.layer self.old) (chain_disk D.layer self.new)) }
         ensures at_once { (f : Fault) → change_refusal (unit_of_chain (map D.layer (chain self.old))) (D.layer self.old.0) offset length ≡ Some f → IsErrOf result f }
         ensures idle { length ≡ 0 → barrier (D.layer self.old.0) ≡ None → IsOk result }

@@ -1,5 +1,5 @@
 // Mappings that a caller prepares, writes to, and commits or cancels.
-ghost use Rattle.std.specs.Prelude.{◌≡◌, ◌⊎◌, ◌<◌, ◌+◌, ◌∷◌, ℕ, List, IsTrue, length, map, is_some, IsOk, IfOk, IfErr, OnOk, IsErr, IsErrOf, IfSome, IsSome, MatchResult, Some, None};
+ghost use Rattle.std.specs.Prelude.{◌≡◌, ◌⊎◌, ◌<◌, ◌+◌, ◌^◌, ◌∷◌, ℕ, List, IsTrue, length, map, is_some, IsOk, IfOk, IfErr, OnOk, IsErr, IsErrOf, IfSome, IsSome, MatchResult, Some, None};
 ghost use Rattle.imago_storage.specs.Steps.{Step, Stays, SameValues, prepare, commit, cancel, write_mapped, done, prepared};
 ghost use Rattle.imago_storage.specs.declared.fault.Fault.{Fault};
 ghost use Rattle.imago_storage.specs.declared.fault.Fault.TheVariants.{Foreign, Outdated};
@@ -8,6 +8,7 @@ ghost use Rattle.imago_access.specs.Chain.{unit_of_chain};
 ghost use Rattle.imago_access.specs.Layers.{chain};
 ghost use Rattle.imago_access.specs.Files.{IsWhole, IsMild, ImageCause, Unasked, files_of};
 ghost use Rattle.imago_access.specs.Going.{Went};
+ghost use Rattle.imago_access.specs.Mappings.{IsMappedRun};
 ghost use Rattle.imago_access.specs.Spending.{IsMine, is_own, Spends, commit_refusal, GivenBack, IsForeignTo};
 ghost use Rattle.imago_access.specs.Parts.{IsMappedAt};
 ghost use Rattle.imago_access.specs.Refusals.{barrier, change_refusal, ChangeCause};
@@ -39,6 +40,7 @@ impl<D: FormatDriverInstance> FormatAccess<D> {
         requires free { IsFree (D.layer self.old.0) }
         ensures ok { IsIntactChain D.layer D.safe D.sees self.old → IfOk result (λ m. Step (below_of D.layer self.old) (chain_disk D.layer self.old) (prepare offset length overwrite) (prepared m.length (is_some m.state)) (chain_disk D.layer self.new)) }
         ensures home { IsIntactChain D.layer D.safe D.sees self.old → IfOk result (λ m. (i : ℕ) → i < m.length → (D.layer self.new.0).home (offset + i) ≡ Some (m.storage, m.offset + i)) }
+        ensures run { IfOk result (λ m. IsMappedRun (D.layer self.old.0) offset length m.length × (m.offset + m.length < 2 ^ 64)) }
         ensures mine { IfOk result (λ m. IsMine D.claim D.tag m.state (D.layer self.new.0)) }
         ensures stateless { IfOk result (λ m. m.state ≡ None → IsFree (D.layer self.new.0)) }
         ensures empty { length ≡ 0 → IfOk result (λ m. m ≡ record { storage = 0; offset = 0; length = 0; state = None }) }
@@ -75,6 +77,7 @@ impl<D: FormatDriverInstance> FormatAccess<D> {
         ensures unasked { (mapping.state ≡ None) ⊎ IsSome (commit_refusal D.tag mapping.state (D.layer self.old.0)) → Unasked D.image D.extras self.old.0 self.new.0 }
         ensures spent { IfErr result (λ e. e.1 ≡ None → IsSome mapping.state × IsTrue (D.layer self.new.0).failed × Spends D.claim D.tag mapping.state (D.layer self.old.0) (D.layer self.new.0) (IsFree (D.layer self.new.0) × (D.safe self.old.0 → IsMild e.0 → ⊥))) }
         ensures free { IsMine D.claim D.tag mapping.state (D.layer self.old.0) → IsSome mapping.state → OnOk result (IsFree (D.layer self.new.0)) }
+        ensures stateless { mapping.state ≡ None → OnOk result (D.layer self.new.0 ≡ D.layer self.old.0) }
         ensures size { (D.layer self.new.0).size ≡ (D.layer self.old.0).size }
         ensures intact { IsMine D.claim D.tag mapping.state (D.layer self.old.0) → OnOk result (IsIntactChain D.layer D.safe D.sees self.old → IsIntactChain D.layer D.safe D.sees self.new) }
         ensures went { Went D.layer D.image D.extras D.safe D.lasts (IsOk result) (IsOk result × IsMine D.claim D.tag mapping.state (D.layer self.old.0)) self.old.0 self.new.0 }
@@ -95,8 +98,10 @@ impl<D: FormatDriverInstance> FormatAccess<D> {
     ) -> Result<(), (Fault, PreparedDataMapping<D::State>)>
         ensures ok { IsMine D.claim D.tag mapping.state (D.layer self.old.0) → OnOk result (Step (below_of D.layer self.old) (chain_disk D.layer self.old) (cancel (is_some mapping.state) (is_own D.tag mapping.state (D.layer self.old.0))) done (chain_disk D.layer self.new)) }
         ensures own { IsForeignTo D.tag mapping.state (D.layer self.old.0) → IsErr result }
-        ensures back { IfErr result (λ e. (e.1 ≡ mapping) × (e.0 ≡ Foreign) × (D.layer self.new.0 ≡ D.layer self.old.0) × IsForeignTo D.tag mapping.state (D.layer self.old.0)) }
+        ensures back { IfErr result (λ e. (e.1 ≡ mapping) × (e.0 ≡ Foreign) × (D.layer self.new.0 ≡ D.layer self.old.0) × IsForeignTo D.tag mapping.state (D.layer self.old.0) × (D.safe self.old.0 → D.safe self.new.0)) }
         ensures free { IsMine D.claim D.tag mapping.state (D.layer self.old.0) → IsSome mapping.state → IsFree (D.layer self.new.0) }
+        ensures stateless { mapping.state ≡ None → D.layer self.new.0 ≡ D.layer self.old.0 }
+        ensures fixed { ((D.layer self.new.0).fixed ≡ (D.layer self.old.0).fixed) × ((D.layer self.new.0).size ≡ (D.layer self.old.0).size) }
         ensures intact { IsMine D.claim D.tag mapping.state (D.layer self.old.0) → IsIntactChain D.layer D.safe D.sees self.old → IsIntactChain D.layer D.safe D.sees self.new }
         ensures lasts { D.lasts self.old.0 → D.lasts self.new.0 }
         ensures none { (D.image self.new.0 ≡ D.image self.old.0) × (D.extras self.new.0 ≡ D.extras self.old.0) }

@@ -4,7 +4,8 @@ ghost use Rattle.imago_storage.specs.Null.{null_state, null_aligned};
 
 use crate::Raw;
 use imago_access::{
-    FormatAccess, FormatCreateBuilder, FormatDriverInstance, NoBelow, PreallocateMode as DiskMode,
+    DenyImplicitOpenGate, FormatAccess, FormatCreateBuilder, FormatDriverInstance, NoBelow,
+    PreallocateMode as DiskMode,
 };
 use imago_storage::{Fault, Null, PreallocateMode, Storage};
 use std::alloc::Global;
@@ -33,6 +34,8 @@ struct Recorder<'a> {
     below: Null,
     // It can zero and keep what is allocated.
     allocates: bool,
+    // It can be cut and grown.
+    resizes: bool,
     note: &'a Cell<(Called, Called)>,
 }
 
@@ -104,6 +107,9 @@ impl<'a> Storage for Recorder<'a> {
 
     fn resize(&mut self, size: u64, mode: PreallocateMode) -> Result<(), Fault> {
         self.noted(Called::Resize { size, mode });
+        if !self.resizes {
+            return Err(Fault::Unsupported);
+        }
         self.below.resize(size, mode)
     }
 
@@ -130,6 +136,7 @@ fn recording(note: &Cell<(Called, Called)>, size: u64) -> Recorder<'_> {
     Recorder {
         below: Null::new(size),
         allocates: true,
+        resizes: true,
         note,
     }
 }
@@ -195,6 +202,7 @@ fn zeroes_are_written(rt: &impl Abort, alloc: Global) -> Result<(), Fault> {
     let storage = Recorder {
         below: Null::new(1_024),
         allocates: false,
+        resizes: true,
         note: &note,
     };
     let mut raw = Raw::open_image(storage, true);
@@ -283,5 +291,43 @@ fn a_created_image_is_flushed(rt: HostRuntime) -> Result<(), Fail> {
         mode: PreallocateMode::Allocate,
     };
     assert!(rt; note.get() == (resized, Called::Flush));
+    Ok(())
+}
+
+// A storage of 512 zeroes that can't be cut or grown.
+fn of_one_size(note: &Cell<(Called, Called)>) -> Recorder<'_> {
+    Recorder {
+        below: Null::new(512),
+        allocates: true,
+        resizes: false,
+        note,
+    }
+}
+
+#[test]
+fn a_storage_of_one_size_refuses_resizes_as_such(rt: HostRuntime) -> Result<(), Fail> {
+    let note = Cell::new(NOTHING);
+    let mut raw = Raw::open_image(of_one_size(&note), true);
+    let grown = raw.resize_grow(rt.alloc(), &mut NoBelow, 1_024, DiskMode::None);
+    assert!(rt; grown == Err(Fault::Unsupported));
+    let shrunk = raw.resize_shrink(rt.alloc(), 256);
+    assert!(rt; shrunk == Err(Fault::Unsupported));
+    assert!(rt; raw.size() == 512);
+    Ok(())
+}
+
+#[test]
+fn a_storage_of_one_size_refuses_creations_as_such(rt: HostRuntime) -> Result<(), Fail> {
+    let note = Cell::new(NOTHING);
+    let created = Raw::create_builder(of_one_size(&note))
+        .size(1_024)
+        .create(rt.alloc());
+    assert!(rt; matches!(created, Err(Fault::Unsupported)));
+    let opened = Raw::create_builder(of_one_size(&note))
+        .size(1_024)
+        .create_open(rt.alloc(), &mut DenyImplicitOpenGate, |image| {
+            Ok(Raw::builder(image))
+        });
+    assert!(rt; matches!(opened, Err(Fault::Unsupported)));
     Ok(())
 }

@@ -1,6 +1,8 @@
 // A storage that fails: each call of a raw image and of its builder tells it, and the image keeps its size and its bytes.
 use crate::Raw;
-use imago_access::{FormatCreateBuilder, FormatDriverInstance, NoBelow, PreallocateMode};
+use imago_access::{
+    DenyImplicitOpenGate, FormatCreateBuilder, FormatDriverInstance, NoBelow, PreallocateMode,
+};
 use imago_storage::{Fault, FuseStorage, MemStorage};
 use std::alloc::Global;
 use std::process::Abort;
@@ -90,6 +92,13 @@ fn a_creation(rt: &impl Abort, alloc: Global) -> Result<(), Fault> {
     for n in 1..4 {
         let builder = Raw::create_builder(fused(alloc, n)?).size(2);
         told(rt, builder.create(alloc))?;
+        let builder = Raw::create_builder(fused(alloc, n)?).size(2);
+        let opened = builder.create_open(
+            alloc,
+            &mut DenyImplicitOpenGate,
+            |image: FuseStorage<MemStorage>| Ok(Raw::builder(image)),
+        );
+        told(rt, opened)?;
     }
     let builder = Raw::create_builder(fused(alloc, 4)?).size(2);
     assert_eq!(rt; builder.create(alloc)?.count(), 3);
