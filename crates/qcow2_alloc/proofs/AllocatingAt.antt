@@ -18,7 +18,7 @@ use Rattle.qcow2_alloc.specs.declared.file.ImageFile.{ImageFile}
 use Rattle.qcow2_alloc.specs.Allocating.{Allocating, OnlyRaised}
 use Rattle.qcow2_alloc.specs.Allocators.{metadata_of}
 use Rattle.qcow2_alloc.specs.Caches.{order_of}
-use Rattle.qcow2_alloc.specs.Freeing.{IsLoose, IsMarked, WhyNotFreed}
+use Rattle.qcow2_alloc.specs.Freeing.{IsLoose, IsMarked, WhyNotCounted}
 use Rattle.qcow2_alloc.specs.FreeList.{covers}
 use Rattle.qcow2_alloc.specs.Going.{IsWhole}
 use Rattle.qcow2_alloc.specs.HandingOut.{mark_past}
@@ -32,7 +32,7 @@ use Rattle.qcow2_alloc.proofs.CountingOne.{handed_so, not_handed}
 use Rattle.qcow2_alloc.proofs.HandedOut.{handed-unnamed}
 use Rattle.qcow2_alloc.proofs.Listed.{covers-none}
 use Rattle.qcow2_alloc.proofs.LookingAt.{sound-safe, counts-looked, looked-allocates, counted-found, free-found}
-use Rattle.qcow2_alloc.proofs.MadeBlocks.{allocated-wider}
+use Rattle.qcow2_alloc.proofs.MadeBlocks.{allocated-wider, counted-wider}
 use Rattle.qcow2_alloc.proofs.QuietCounters.{here-one, away-none}
 use Rattle.qcow2_alloc.proofs.QuietFlushes.{quietly-weaker}
 use Rattle.qcow2_alloc.proofs.QuietGiven.{quietly-then-given}
@@ -66,7 +66,7 @@ module _ {S : Type 0} (state : S → StorageState) (mark cluster : ℕ) (table :
   search-refused fault mid between looks = record {
     did = record {
       leaked = λ _. 0;
-      leaks = leaks-none (IsLoose old) (not_handed fault);
+      leaks = leaks-none _ _ (not_handed fault);
       step = looked-allocates state table pending old before (Option ℕ) (Err fault) mid between looks.looked;
       list = inl refl;
       cause = allocated-wider _ _ _ _ _ _ _ _ (λ holds. sound-safe state table pending old before holds.0 holds.2) (λ loose. loose) refl fault looks.looked.cause;
@@ -93,7 +93,7 @@ module _ {S : Type 0} (state : S → StorageState) (mark cluster : ℕ) (table :
     counted-already other = record {
       did = record {
         leaked = λ _. 0;
-        leaks = leaks-none (IsLoose old) (handed_so None);
+        leaks = leaks-none _ _ (handed_so None);
         step = looked-allocates state table pending old before (Option ℕ) (Ok found) mid between looks.looked;
         list = inl refl;
         cause = looks.looked.cause;
@@ -182,8 +182,8 @@ module _ {S : Type 0} (state : S → StorageState) (mark cluster : ℕ) (table :
       }
 
       caused : MatchResult (counting_of result) (λ _. (state after.image).faults ≡ (state between.image).faults)
-          (WhyNotFreed (IsTrue (state between.image).shape.keeps × (order_of mid ≡ L2DependsOnRb) × IsSound Mid × ((c : ℕ) → cluster ≤ c → c < cluster + 1 → (counted Mid c ≡ 0) × (block_offset (slice_index table.words (c / counters_of_block between.header.fields)) ≢ 0)))
-          (IsLoose mid) (state between.image).faults (state after.image).faults)
+          (WhyNotCounted (IsTrue (state between.image).shape.keeps × (order_of mid ≡ L2DependsOnRb) × IsSound Mid × ((c : ℕ) → cluster ≤ c → c < cluster + 1 → (counted Mid c ≡ 0) × (block_offset (slice_index table.words (c / counters_of_block between.header.fields)) ≢ 0)))
+          (IsLoose table mid) (state between.image).faults (state after.image).faults)
       caused = counted_one.counts.cause
 
       knows : IsTrue (state before.image).shape.keeps × (order_of old ≡ L2DependsOnRb) × IsSound Old → IsTrue (state between.image).shape.keeps × (order_of mid ≡ L2DependsOnRb) × IsSound Mid
@@ -221,13 +221,13 @@ module _ {S : Type 0} (state : S → StorageState) (mark cluster : ℕ) (table :
       refused-one fault refused = subst (λ (r : Result (Option FreeEntry) Fault). AllocatesAt state (λ _. ⊥) mark cluster table old before pending r table new after pending mark') (sym refused) record {
         did = record {
           leaked = λ _. 0;
-          leaks = leaks-none (IsLoose old) (not_handed fault);
+          leaks = leaks-none _ _ (not_handed fault);
           step = subst (λ (r : Result (Option FreeEntry) Fault). Allocating state (IsWhole r) (λ _. 0) table old before pending table new after pending) refused (step (λ _. 0) (given-none none));
           list = inl refl;
-          cause = allocated-wider _ _ _ _ _ _ _ _ knows looked-step.loose looks.looked.cause fault
+          cause = counted-wider _ _ _ _ _ _ _ _ knows looked-step.loose looks.looked.cause fault
               (subst (λ (r : Result (Option FreeEntry) Fault). MatchResult (counting_of r) (λ _. (state after.image).faults ≡ (state between.image).faults)
-              (WhyNotFreed (IsTrue (state between.image).shape.keeps × (order_of mid ≡ L2DependsOnRb) × IsSound Mid × ((c : ℕ) → cluster ≤ c → c < cluster + 1 → (counted Mid c ≡ 0) × (block_offset (slice_index table.words (c / counters_of_block between.header.fields)) ≢ 0)))
-              (IsLoose mid) (state between.image).faults (state after.image).faults)) refused caused);
+              (WhyNotCounted (IsTrue (state between.image).shape.keeps × (order_of mid ≡ L2DependsOnRb) × IsSound Mid × ((c : ℕ) → cluster ≤ c → c < cluster + 1 → (counted Mid c ≡ 0) × (block_offset (slice_index table.words (c / counters_of_block between.header.fields)) ≢ 0)))
+              (IsLoose table mid) (state between.image).faults (state after.image).faults)) refused caused);
         };
         one = tt;
         answer = λ order keeps sound. tt;
@@ -252,7 +252,7 @@ module _ {S : Type 0} (state : S → StorageState) (mark cluster : ℕ) (table :
       handed-one entry ok = subst (λ (r : Result (Option FreeEntry) Fault). AllocatesAt state (λ _. ⊥) mark cluster table old before pending r table new after pending mark') (sym (ok ∙ ap (λ (o : Option FreeEntry). Ok o) entry-is)) record {
         did = record {
           leaked = λ _. 0;
-          leaks = leaks-none (IsLoose old) (handed_so (Some itself));
+          leaks = leaks-none _ _ (handed_so (Some itself));
           step = subst (λ (r : Result (Option FreeEntry) Fault). Allocating state (IsWhole r) (one_at cluster) table old before pending table new after pending) ok (step (one_at cluster) (given-one one));
           list = inl refl;
           cause = faults ∙ looks.looked.cause;
@@ -287,8 +287,8 @@ module _ {S : Type 0} (state : S → StorageState) (mark cluster : ℕ) (table :
 
           faults : (state after.image).faults ≡ (state between.image).faults
           faults = subst (λ (r : Result (Option FreeEntry) Fault). MatchResult (counting_of r) (λ _. (state after.image).faults ≡ (state between.image).faults)
-              (WhyNotFreed (IsTrue (state between.image).shape.keeps × (order_of mid ≡ L2DependsOnRb) × IsSound Mid × ((c : ℕ) → cluster ≤ c → c < cluster + 1 → (counted Mid c ≡ 0) × (block_offset (slice_index table.words (c / counters_of_block between.header.fields)) ≢ 0)))
-              (IsLoose mid) (state between.image).faults (state after.image).faults)) ok caused
+              (WhyNotCounted (IsTrue (state between.image).shape.keeps × (order_of mid ≡ L2DependsOnRb) × IsSound Mid × ((c : ℕ) → cluster ≤ c → c < cluster + 1 → (counted Mid c ≡ 0) × (block_offset (slice_index table.words (c / counters_of_block between.header.fields)) ≢ 0)))
+              (IsLoose table mid) (state between.image).faults (state after.image).faults)) ok caused
 
           mark-is : mark' ≡ (if cluster == mark then cluster + 1 else mark)
           mark-is = subst (λ (o : Option FreeEntry). mark' ≡ mark_past mark cluster o) entry-is (subst (λ (r : Result (Option FreeEntry) Fault). IfOk r (λ o. mark' ≡ mark_past mark cluster o)) ok further)

@@ -50,7 +50,7 @@ module _ {S : Type 0} (state : S → StorageState) (mark cluster : ℕ) (table :
   out-of-reach far = record {
     did = record {
       leaked = λ _. 0;
-      leaks = leaks-none (IsLoose old) (handed_so None);
+      leaks = leaks-none _ _ (handed_so None);
       step = allocating-none state table old before pending;
       list = inl refl;
       cause = refl;
@@ -69,7 +69,7 @@ module _ {S : Type 0} (state : S → StorageState) (mark cluster : ℕ) (table :
     -- nor one that there is no counter for,
     pub uncounted-at : ReadiesCounter state mark cluster table old before pending (so false) mid_table mid between mid_pending → AllocatesAt state Barred mark cluster table old before pending (handed_so None) mid_table mid between mid_pending mark
     uncounted-at counter = record {
-      did = record { leaked = λ _. 0; leaks = leaks-none (IsLoose old) (handed_so None); step = counter.did.step; list = counter.did.list; cause = counter.did.cause };
+      did = record { leaked = λ _. 0; leaks = leaks-none _ _ (handed_so None); step = counter.did.step; list = counter.did.list; cause = counter.did.cause };
       one = tt;
       answer = λ order keeps sound. inr (inr (counter.barred order keeps sound refl));
       further = refl;
@@ -127,17 +127,17 @@ module _ {S : Type 0} (state : S → StorageState) (mark cluster : ℕ) (table :
       answered (Err fault) is order keeps sound said = tt
 
       caused : (r : Result (Option FreeEntry) Fault)
-          → MatchResult r (λ _. (state after.image).faults ≡ (state between.image).faults) (WhyNotAllocated (IsTrue (state between.image).shape.keeps × (order_of mid ≡ L2DependsOnRb) × IsSound Mid) (IsLoose mid) ⊥ (state between.image).faults (state after.image).faults)
-          → MatchResult r (λ _. (state after.image).faults ≡ (state before.image).faults) (WhyNotAllocated (IsTrue (state before.image).shape.keeps × (order_of old ≡ L2DependsOnRb) × IsSound Old) (IsLoose old) ⊥ (state before.image).faults (state after.image).faults)
+          → MatchResult r (λ _. (state after.image).faults ≡ (state between.image).faults) (WhyNotAllocated (IsTrue (state between.image).shape.keeps × (order_of mid ≡ L2DependsOnRb) × IsSound Mid) (IsLoose mid_table mid) (λ _. ⊥) (state between.image).faults (state after.image).faults)
+          → MatchResult r (λ _. (state after.image).faults ≡ (state before.image).faults) (WhyNotAllocated (IsTrue (state before.image).shape.keeps × (order_of old ≡ L2DependsOnRb) × IsSound Old) (IsLoose table old) (λ _. ⊥) (state before.image).faults (state after.image).faults)
       caused (Ok found) same = same ∙ counter.did.cause
-      caused (Err fault) why = why-allocated-wider _ _ _ _ _ _ _ _ _ holds-still counter.did.step.loose (λ full. full) counter.did.cause fault why
+      caused (Err fault) why = why-allocated-wider _ _ _ _ _ _ _ _ _ holds-still counter.did.step.loose (λ n full. full) counter.did.cause fault why
 
       -- Else it is handed out where it is free.
       pub readied-at : AllocatesAt state Barred mark cluster table old before pending result mid_table new after mid_pending mark'
       readied-at = record {
         did = record {
           leaked = one.did.leaked;
-          leaks = record { none = one.did.leaks.none; pinned = λ loose. one.did.leaks.pinned (counter.did.step.loose loose) };
+          leaks = record { none = one.did.leaks.none; pinned = λ holds loose. one.did.leaks.pinned (holds-still holds) (counter.did.step.loose loose) };
           step = both;
           list = counter.did.list;
           cause = caused result one.did.cause;

@@ -19,13 +19,13 @@ use Rattle.qcow2_alloc.specs.Allocating.{Allocating, CountsRun, MovedTable, Only
 use Rattle.qcow2_alloc.specs.Allocators.{metadata_of}
 use Rattle.qcow2_alloc.specs.Caches.{order_of}
 use Rattle.qcow2_alloc.specs.FreeList.{covers}
-use Rattle.qcow2_alloc.specs.Freeing.{IsLoose, IsMarked, WhyNotFreed}
+use Rattle.qcow2_alloc.specs.Freeing.{IsLoose, IsMarked, WhyNotCounted}
 use Rattle.qcow2_alloc.specs.Going.{IsWhole}
 use Rattle.qcow2_alloc.specs.MakingRoom.{run_of}
 use Rattle.qcow2_alloc.specs.Quiet.{Metadata, IsSound, counted}
 use Rattle.qcow2_alloc.specs.ReadyingRuns.{Allocates, IsRunCounted, ReadiesRun, handed_by, mark_behind}
 use Rattle.qcow2_alloc.proofs.Allocating.{allocating-none, allocating-as, raised-then}
-use Rattle.qcow2_alloc.proofs.MadeBlocks.{allocated-wider}
+use Rattle.qcow2_alloc.proofs.MadeBlocks.{counted-wider}
 use Rattle.qcow2_alloc.proofs.QuietGiven.{quietly-then-given}
 use Rattle.qcow2_alloc.proofs.QuietThen.{quietly-otherwise}
 use Rattle.qcow2_alloc.proofs.ReadyingBlocks.{leaks-on, leaks-ok, lengthened-none}
@@ -97,9 +97,9 @@ lost-none : (fault : Fault) (first part : ℕ) → (refusal fault ≡ Err CacheF
 lost-none CacheFull first part other c = absurd (other refl)
 lost-none fault first part other c = refl
 
-lost-pinned : (sound loose : Type 0) (a b : ℕ) (fault : Fault) (first part : ℕ) → WhyNotFreed sound loose a b fault → loose → (c : ℕ) → lost fault first part c ≡ 0
-lost-pinned sound loose a b CacheFull first part why all c = absurd (why all)
-lost-pinned sound loose a b fault first part why all c = refl
+lost-pinned : (sound loose : Type 0) (a b : ℕ) (fault : Fault) (first part : ℕ) → WhyNotCounted sound loose a b fault → sound → loose → (c : ℕ) → lost fault first part c ≡ 0
+lost-pinned sound loose a b CacheFull first part why holds all c = absurd (why (holds, all))
+lost-pinned sound loose a b fault first part why holds all c = refl
 
 module _ {S : Type 0} (state : S → StorageState) (mark n : ℕ) (metadata : Bool) (table : TableValue) (old : MetadataCaches S) (before : ImageFile S) (pending : List FreeEntry) where
   abbrev mA : Metadata
@@ -128,7 +128,7 @@ module _ {S : Type 0} (state : S → StorageState) (mark n : ℕ) (metadata : Bo
   pub none-allocated : n ≡ 0 → Handing (Ok (record { first = mark; count = n; metadata = metadata })) table old before pending mark
   none-allocated zero = record {
     leaked = λ _. 0;
-    leaks = record { none = λ other c. refl; pinned = λ all c. refl };
+    leaks = record { none = λ other c. refl; pinned = λ holds all c. refl };
     step = allocating-as state ⊤ ⊤ (λ _. 0) (λ c. covers c (run_of mark n)) table old before pending table old before pending (λ whole. whole) (λ c. sym (covers-outside c mark n (λ above below. omega (arith, above, below, zero))))
         (allocating-none state table old before pending);
     run = (refl, refl, λ some. absurd (omega (arith, some, zero)));
@@ -153,7 +153,7 @@ module _ {S : Type 0} (state : S → StorageState) (mark n : ℕ) (metadata : Bo
     pub run-refused : (fault : Fault) → ReadiesRun state mark n table old before pending (Err fault) tB B fB pB → Handing (Err fault) tB B fB pB mark
     run-refused fault ready = record {
       leaked = ready.leaked;
-      leaks = leaks-on (IsLoose old) (IsLoose old) fault ready.leaked (λ loose. loose) ready.leaks;
+      leaks = leaks-on _ _ _ _ fault ready.leaked (λ holds. holds) (λ loose. loose) ready.leaks;
       step = allocating-as state (IsWhole {T = ℕ} (Err fault)) (IsWhole {T = FreeEntry} (Err fault)) ready.leaked (handed_by (Err fault) ready.leaked) table old before pending tB B fB pB (λ whole. whole) (λ c. refl) ready.step;
       run = tt;
       taken = λ order keeps sound. tt;
@@ -168,7 +168,7 @@ module _ {S : Type 0} (state : S → StorageState) (mark n : ℕ) (metadata : Bo
     module _ (first : ℕ) (ready : ReadiesRun state mark n table old before pending (Ok first) tB B fB pB) where
       -- So far none was handed out.
       begun : Allocating state ⊤ (λ _. 0) table old before pending tB B fB pB
-      begun = allocating-as state ⊤ ⊤ ready.leaked (λ _. 0) table old before pending tB B fB pB (λ whole. whole) (leaks-ok (IsLoose old) first ready.leaked ready.leaks) ready.step
+      begun = allocating-as state ⊤ ⊤ ready.leaked (λ _. 0) table old before pending tB B fB pB (λ whole. whole) (leaks-ok _ _ first ready.leaked ready.leaks) ready.step
 
       free : order_of old ≡ L2DependsOnRb → Keeps → IsSound mA → (c : ℕ) → first ≤ c → c < first + n → counted mB c ≡ 0
       free order keeps sound = (ready.found order keeps sound).free
@@ -236,7 +236,7 @@ module _ {S : Type 0} (state : S → StorageState) (mark n : ℕ) (metadata : Bo
         pub count-refused : (fault : Fault) → CountsRun state tB first n B fB (Err fault) C fC pB → Handing (Err fault) tB C fC pB mark
         count-refused fault counts = record {
           leaked = lost fault first counts.part;
-          leaks = record { none = lost-none fault first counts.part; pinned = λ all. lost-pinned _ (IsLoose B) _ _ fault first counts.part counts.cause (begun.loose all) };
+          leaks = record { none = lost-none fault first counts.part; pinned = λ holds all. lost-pinned CanCount (IsLoose tB B) _ _ fault first counts.part counts.cause (holds-on holds) (begun.loose all) };
           step = stopped fault counts.cause (part-allocates (Err fault) counts);
           run = tt;
           taken = λ order keeps sound. tt;
@@ -245,10 +245,10 @@ module _ {S : Type 0} (state : S → StorageState) (mark n : ℕ) (metadata : Bo
           stays = refl;
           marked = λ order keeps sound whole. marked-on mA mC mark ((part-allocates (Err fault) counts).raised order keeps sound whole);
           list = ready.list;
-          cause = allocated-wider _ _ _ _ _ _ _ _ holds-on begun.loose ready.cause fault counts.cause;
+          cause = counted-wider _ _ _ _ _ _ _ _ holds-on begun.loose ready.cause fault counts.cause;
         }
           where
-            stopped : (f : Fault) → WhyNotFreed CanCount (IsLoose B) (state fB.image).faults (state fC.image).faults f → Stopped f (λ c. covers c (run_of first counts.part)) → Stopped f (handed_by (Err f) (lost f first counts.part))
+            stopped : (f : Fault) → WhyNotCounted CanCount (IsLoose tB B) (state fB.image).faults (state fC.image).faults f → Stopped f (λ c. covers c (run_of first counts.part)) → Stopped f (handed_by (Err f) (lost f first counts.part))
             stopped CacheFull why step = allocating-as state (IsWhole {T = FreeEntry} (Err CacheFull)) (IsWhole {T = FreeEntry} (Err CacheFull)) _ _ table old before pending tB C fC pB (λ whole. whole) (λ c. refl) step
             stopped Memory why step = allocating-never _ _ _ tB C fC pB (λ order keeps sound whole. whole) step
             stopped Storage why step = allocating-never _ _ _ tB C fC pB (λ order keeps sound whole. whole) step
@@ -284,7 +284,7 @@ module _ {S : Type 0} (state : S → StorageState) (mark n : ℕ) (metadata : Bo
           pub run-allocated : Handing (Ok entry) tB C fC pB (mark_behind mark n first)
           run-allocated = record {
             leaked = λ _. 0;
-            leaks = record { none = λ other c. refl; pinned = λ all c. refl };
+            leaks = record { none = λ other c. refl; pinned = λ holds all c. refl };
             step = allocating-as state ⊤ ⊤ (λ c. covers c (run_of first counts.part)) (handed_by (Ok entry) (λ _. 0)) table old before pending tB C fC pB (λ whole. whole)
                 (λ c. ap (λ k. covers c (run_of first k)) counts.whole) (part-allocates (Ok tt) counts);
             run = (refl, refl, λ some. (ready.some, ready.reach));

@@ -20,7 +20,6 @@ use Rattle.qcow2_alloc.specs.declared.file.ImageFile.{ImageFile}
 use Rattle.qcow2_alloc.specs.Allocating.{OnlyRaised, WhyNotAllocated}
 use Rattle.qcow2_alloc.specs.Allocators.{metadata_of}
 use Rattle.qcow2_alloc.specs.Caches.{cached_in, order_of, HasRoomOf}
-use Rattle.qcow2_alloc.specs.Finding.{pinned_in}
 use Rattle.qcow2_alloc.specs.Freeing.{IsLoose, IsMarked, CountsFreeing, WhyNotFreed}
 use Rattle.qcow2_alloc.specs.Going.{Going, Always, IsMild, IsWhole, AreTablesInReach, CountsWrites, WhyNotWritten}
 use Rattle.qcow2_alloc.specs.Growing.{IsFirstRoom, lacks, lacking}
@@ -30,6 +29,8 @@ use Rattle.qcow2_alloc.specs.Memory.{memory, written}
 use Rattle.qcow2_alloc.specs.Quiet.{Metadata, IsSound, Quietly, counted}
 use Rattle.qcow2_alloc.specs.Safety.{Safe}
 use Rattle.qcow2_alloc.proofs.EnsuringBlocks.{why-allocated-wider}
+use Rattle.qcow2_alloc.proofs.Loose.{loose-on}
+use Rattle.qcow2_alloc.proofs.Pins.{pins-none}
 use Rattle.qcow2_alloc.proofs.QuietAnnouncing.{announced-quietly, whole-quietly}
 use Rattle.qcow2_alloc.proofs.QuietFlushes.{memory-quietly}
 use Rattle.qcow2_alloc.proofs.QuietThen.{quietly-then, quietly-otherwise}
@@ -41,9 +42,9 @@ pub record Announced {S : Type 0} (state : S → StorageState) (table : TableVal
   pub counts : IsTrue (state before.image).shape.keeps → IsSound (metadata_of state before old table pending) → IsWhole result → (c : ℕ) → counted (metadata_of state after new table pending) c ≡ counted (metadata_of state before old table pending) c
   pub order : OnOk result (order_of new ≡ L2DependsOnRb)
   pub header : after.header ≡ before.header
-  pub loose : IsLoose old → IsLoose new
+  pub loose : IsLoose table old → IsLoose table new
   pub room : HasRoomOf old new
-  pub cause : CountsFreeing (IsTrue (state before.image).shape.keeps × IsSound (metadata_of state before old table pending)) (IsLoose old) (state before.image).faults (state after.image).faults result
+  pub cause : CountsFreeing (IsTrue (state before.image).shape.keeps × IsSound (metadata_of state before old table pending)) (IsLoose table old) (state before.image).faults (state after.image).faults result
 
 -- Nothing was announced, and nothing has changed, for want of memory.
 pub not-begun : {S : Type 0} (state : S → StorageState) (table : TableValue) (pending : List FreeEntry) (old : MetadataCaches S) (before : ImageFile S) → Announced state table pending old before (Err Memory) old before
@@ -67,11 +68,8 @@ module _ {S : Type 0} (state : S → StorageState) (table : TableValue) (pending
   abbrev Goes : Result Unit Fault → Type 0
   Goes result = Going before.header (order_of old) Always (result ≡ Ok tt) (state before.image) (cached_in old) (state after.image) (cached_in new)
 
-  loose-still : IsLoose old → IsLoose new
-  loose-still loose = record {
-    blocks = subst (λ l. pinned_in l ≡ 0) (sym (ap (λ l. l.slots.entries) blocks)) loose.blocks;
-    room = subst (λ n. 0 < n) (sym room.blocks) loose.room;
-  }
+  loose-still : IsLoose table old → IsLoose table new
+  loose-still = loose-on table old new (pins-none (cached_in old).blocks (cached_in new).blocks (ap (λ l. l.slots.entries) blocks)) room
 
   never : (fault : Fault) → IsSound Old → IsMild fault → WhyNotWritten (AreTablesInReach (cached_in old)) (state before.image).faults (state after.image).faults fault → ⊥
   never Memory sound mild why = mild
@@ -80,7 +78,7 @@ module _ {S : Type 0} (state : S → StorageState) (table : TableValue) (pending
   never other sound mild why = why
 
   caused : (fault : Fault) → WhyNotWritten (AreTablesInReach (cached_in old)) (state before.image).faults (state after.image).faults fault
-      → WhyNotFreed (IsTrue (state before.image).shape.keeps × IsSound Old) (IsLoose old) (state before.image).faults (state after.image).faults fault
+      → WhyNotFreed (IsTrue (state before.image).shape.keeps × IsSound Old) (IsLoose table old) (state before.image).faults (state after.image).faults fault
   caused Memory why = tt
   caused Storage why = why
   caused DamagedTable why = λ holds. why (safe-reach _ _ _ _ holds.1.safe).0
@@ -143,9 +141,9 @@ module _ (m m1 : Metadata) (header : m1.header ≡ m.header) (table : m1.table �
     inside = subst (λ (H : Header). first + total ≤ clusters * words_of_cluster H.fields * counters_of_block H.fields) (sym header) reach.inside;
   }
 
-  pub no-place-as : (mark at : ℕ) → NoPlaceToGrow m1 mark at → NoPlaceToGrow m mark at
-  no-place-as mark at (inl long) = inl (subst (λ (H : Header). (n : ℕ) → IsEnough (words_of_cluster H.fields) (counters_of_block H.fields) at n → 2 ^ 20 < n) header long)
-  no-place-as mark at (inr (first, total, clusters, room, far)) = inr (first, total, clusters, room-as mark at first total clusters room, λ near. far (reach-back first total clusters near))
+  pub no-place-as : (mark at number : ℕ) → NoPlaceToGrow m1 mark at number → NoPlaceToGrow m mark at number
+  no-place-as mark at number (inl long) = inl (subst (λ (H : Header). ((n : ℕ) → IsEnough (words_of_cluster H.fields) (counters_of_block H.fields) at n → 2 ^ 20 < n) × (number ≡ 2 ^ 20 + words_of_cluster H.fields)) header long)
+  no-place-as mark at number (inr (first, total, clusters, room, far, is)) = inr (first, total, clusters, room-as mark at first total clusters room, λ near. far (reach-back first total clusters near), is)
 
   pub grown-as : (mark at : ℕ) (m' : Metadata) → TableGrown mark at m1 m' → TableGrown mark at m m'
   grown-as mark at m' grown = record {
@@ -192,8 +190,8 @@ module _ {S : Type 0} (state : S → StorageState) (table : TableValue) (pending
   marked-behind mark keeps sound marked c below = let same = first.counts keeps sound tt c in let was = marked c below in omega (arith, same, was)
 
   -- and a refusal has its cause.
-  pub caused-behind : (full full' : Type 0) (after : ℕ) → (full → full') → (fault : Fault)
-      → WhyNotAllocated (IsTrue (state between.image).shape.keeps × (order_of mid ≡ L2DependsOnRb) × IsSound Mid) (IsLoose mid) full (state between.image).faults after fault
-      → WhyNotAllocated (IsTrue (state before.image).shape.keeps × IsSound Start) (IsLoose old) full' (state before.image).faults after fault
+  pub caused-behind : (full full' : ℕ → Type 0) (after : ℕ) → ((n : ℕ) → full n → full' n) → (fault : Fault)
+      → WhyNotAllocated (IsTrue (state between.image).shape.keeps × (order_of mid ≡ L2DependsOnRb) × IsSound Mid) (IsLoose table mid) full (state between.image).faults after fault
+      → WhyNotAllocated (IsTrue (state before.image).shape.keeps × IsSound Start) (IsLoose table old) full' (state before.image).faults after fault
   caused-behind full full' after to fault why =
       why-allocated-wider _ _ _ _ _ _ _ _ _ (λ holds. let still = sound-behind holds.0 holds.1 in (still.0, first.order, still.1)) first.loose to first.cause fault why

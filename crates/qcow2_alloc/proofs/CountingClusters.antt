@@ -29,7 +29,7 @@ use Rattle.qcow2_alloc.specs.Caches.{cached_in, order_of}
 use Rattle.qcow2_alloc.specs.CachesLending.{with_blocks}
 use Rattle.qcow2_alloc.specs.Changes.{CachesBlock, SetsCounter}
 use Rattle.qcow2_alloc.specs.Finding.{BlockFound, IsPinnedFull, WhyNotFound}
-use Rattle.qcow2_alloc.specs.Freeing.{IsLoose, WhyNotFreed}
+use Rattle.qcow2_alloc.specs.Freeing.{IsLoose, WhyNotCounted}
 use Rattle.qcow2_alloc.specs.FreeList.{covers}
 use Rattle.qcow2_alloc.specs.Going.{IsWhole, AreTablesInReach, AreBlocksInReach}
 use Rattle.qcow2_alloc.specs.MakingRoom.{run_of}
@@ -39,7 +39,7 @@ use Rattle.qcow2_alloc.specs.Safety.{Safe, IsCachedBlock}
 use Rattle.qcow2_alloc.proofs.ChangingCounters.{cached-count, counter-raised}
 use Rattle.qcow2_alloc.proofs.CountedBlocks.{block-named}
 use Rattle.qcow2_alloc.proofs.FreeingClusters.{named-there, search-quietly}
-use Rattle.qcow2_alloc.proofs.Loose.{never-pinned, found-stays, used-stays}
+use Rattle.qcow2_alloc.proofs.Loose.{loose-never, found-stays, used-stays}
 use Rattle.qcow2_alloc.proofs.FreeingEntries.{failed}
 use Rattle.qcow2_alloc.proofs.Listed.{covers-none, covers-one}
 use Rattle.qcow2_alloc.proofs.Patches.{shaped-in, place-there}
@@ -171,7 +171,7 @@ module _ {S : Type 0} (state : S → StorageState) (table : TableValue) (pending
     here each = each c (omega arith) (omega arith)
 
     abbrev Counts : Result Unit Fault → Type 0
-    Counts q = MatchResult q (λ _. (state after.image).faults ≡ (state before.image).faults) (WhyNotFreed Holds (IsLoose old) (state before.image).faults (state after.image).faults)
+    Counts q = MatchResult q (λ _. (state after.image).faults ≡ (state before.image).faults) (WhyNotCounted Holds (IsLoose table old) (state before.image).faults (state after.image).faults)
 
     -- The counts are what they were behind a search that wasn't cut off.
     found-counts : (key : ℕ) (answer : Result Unit Fault) (mid : MetadataCaches S) → BlockFound state key old before answer mid after → Keeps → IsSound Old → IsWhole answer → (d : ℕ) → counted (At mid after) d ≡ counted Old d
@@ -181,7 +181,7 @@ module _ {S : Type 0} (state : S → StorageState) (table : TableValue) (pending
 
     search-refused : (key : ℕ) → named_block table i ≡ Some key → (fault : Fault)
         → WhyNotFound (IsInReach before.header.fields.cluster_bits key × AreTablesInReach (cached_in old) × AreBlocksInReach (cached_in old)) (IsPinnedFull old.rb.slots.cap (cached_in old).blocks) (state before.image).faults (state after.image).faults fault
-        → WhyNotFreed Holds (IsLoose old) (state before.image).faults (state after.image).faults fault
+        → WhyNotCounted Holds (IsLoose table old) (state before.image).faults (state after.image).faults fault
     search-refused key named Memory why = tt
     search-refused key named Storage why = why
     search-refused key named DamagedTable why = λ holds.
@@ -191,7 +191,7 @@ module _ {S : Type 0} (state : S → StorageState) (table : TableValue) (pending
         let same : there.key ≡ key = (let e = sym there.names ∙ named in cc) in
         let reach = safe-reach Old.file Old.header Old.cached Old.order sound.safe in
         why (subst (λ n. IsInReach before.header.fields.cluster_bits n) same there.reach, reach.0, reach.1)
-    search-refused key named CacheFull why = λ loose. never-pinned Block (cached_in old).blocks loose.blocks why loose.room
+    search-refused key named CacheFull why = λ both. loose-never table old both.1 why
     search-refused key named other why = absurd why
 
     -- Where nothing is counted, that is quiet.
@@ -206,7 +206,7 @@ module _ {S : Type 0} (state : S → StorageState) (table : TableValue) (pending
 
     not-found : (key : ℕ) → named_block table i ≡ Some key → (fault : Fault) → BlockFound state key old before (Err fault) new after → CountsOne (Err fault) new after
     not-found key named fault found =
-        let stays = found-stays state key old before (Err fault) new after found in
+        let stays = found-stays state table key old before (Err fault) new after found in
         let quiet = search-quietly state table key pending old before (Err fault) new after found in (
           record {
             part = 0;
@@ -227,7 +227,7 @@ module _ {S : Type 0} (state : S → StorageState) (table : TableValue) (pending
 
     used-run : (key : ℕ) → named_block table i ≡ Some key → BlockUsed state key Does old before result new after → CountsOne result new after
     used-run key named u =
-        let stays = used-stays state key Does old before result new after u in
+        let stays = used-stays state table key Does old before result new after u in
         let found = search-quietly state table key pending old before succeeded u.mid after u.found in
         let named-now : named_block table (c / counters_of_block after.header.fields) ≡ Some key = subst (λ (h : Header). named_block table (c / counters_of_block h.fields) ≡ Some key) (sym stays.header) named in
         let raises : Raises (c % counters_of_block after.header.fields) u.block result u.block' = subst (λ (h : Header). Raises (c % counters_of_block h.fields) u.block result u.block') (sym stays.header) u.used in

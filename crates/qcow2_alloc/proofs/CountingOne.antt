@@ -10,7 +10,7 @@ use Rattle.qcow2_alloc.specs.declared.cache.MetadataCaches.{MetadataCaches}
 use Rattle.qcow2_alloc.specs.declared.file.ImageFile.{ImageFile}
 use Rattle.qcow2_alloc.specs.Allocating.{RaisesCluster}
 use Rattle.qcow2_alloc.specs.Allocators.{metadata_of}
-use Rattle.qcow2_alloc.specs.Freeing.{IsLoose, WhyNotFreed}
+use Rattle.qcow2_alloc.specs.Freeing.{IsLoose, WhyNotCounted}
 use Rattle.qcow2_alloc.specs.FreeList.{covers}
 use Rattle.qcow2_alloc.specs.HandingOutOne.{CountsOne}
 use Rattle.qcow2_alloc.specs.MakingRoom.{run_of}
@@ -33,7 +33,7 @@ module _ {S : Type 0} (state : S → StorageState) (table : TableValue) (pending
   Old = metadata_of state before old table pending
 
   -- Nothing was counted, for a reason that a sound image doesn't give where the cluster isn't counted.
-  uncounted : (fault : Fault) → ((sound : Type 0) → (sound → IsSound Old × (counted Old c ≡ 0)) → WhyNotFreed sound (IsLoose old) (state before.image).faults (state before.image).faults fault)
+  uncounted : (fault : Fault) → ((sound : Type 0) → (sound → IsSound Old × (counted Old c ≡ 0)) → WhyNotCounted sound (IsLoose table old) (state before.image).faults (state before.image).faults fault)
       → CountsOne state c table old before pending (not_handed fault) old before
   uncounted fault why = record {
     counts = record {

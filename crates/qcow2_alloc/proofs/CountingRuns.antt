@@ -17,13 +17,13 @@ use Rattle.qcow2_alloc.specs.declared.file.ImageFile.{ImageFile}
 use Rattle.qcow2_alloc.specs.Allocating.{CountsPart, CountsRun, CountsNamed, named_part}
 use Rattle.qcow2_alloc.specs.Allocators.{metadata_of}
 use Rattle.qcow2_alloc.specs.Caches.{order_of}
-use Rattle.qcow2_alloc.specs.Freeing.{IsLoose, WhyNotFreed}
+use Rattle.qcow2_alloc.specs.Freeing.{IsLoose, WhyNotCounted}
 use Rattle.qcow2_alloc.specs.FreeList.{covers}
 use Rattle.qcow2_alloc.specs.Going.{IsWhole}
 use Rattle.qcow2_alloc.specs.MakingRoom.{run_of}
 use Rattle.qcow2_alloc.specs.Quiet.{Metadata, IsSound, counted}
 use Rattle.qcow2_alloc.proofs.CountingClusters.{succeeded}
-use Rattle.qcow2_alloc.proofs.FreeingEntries.{failed, why-freed-wider}
+use Rattle.qcow2_alloc.proofs.FreeingEntries.{failed, why-counted-wider}
 use Rattle.qcow2_alloc.proofs.Listed.{covers-none}
 use Rattle.qcow2_alloc.proofs.QuietFlushes.{memory-quietly, quiet-none}
 use Rattle.qcow2_alloc.proofs.QuietGiven.{quietly-then-given}
@@ -169,10 +169,10 @@ module _ {S : Type 0} (state : S → StorageState) (table : TableValue) (pending
                 ),
           )
 
-      caused : (r : Result Unit Fault) → MatchResult r (λ _. (state fC.image).faults ≡ (state fB.image).faults) (WhyNotFreed (Holds (first + n) 1 B fB) (IsLoose B) (state fB.image).faults (state fC.image).faults)
-          → MatchResult r (λ _. (state fC.image).faults ≡ (state fA.image).faults) (WhyNotFreed (Holds first (n + 1) A fA) (IsLoose A) (state fA.image).faults (state fC.image).faults)
+      caused : (r : Result Unit Fault) → MatchResult r (λ _. (state fC.image).faults ≡ (state fB.image).faults) (WhyNotCounted (Holds (first + n) 1 B fB) (IsLoose table B) (state fB.image).faults (state fC.image).faults)
+          → MatchResult r (λ _. (state fC.image).faults ≡ (state fA.image).faults) (WhyNotCounted (Holds first (n + 1) A fA) (IsLoose table A) (state fA.image).faults (state fC.image).faults)
       caused (Ok done) same = same ∙ one.cause
-      caused (Err fault) why = why-freed-wider _ _ _ _ _ _ _ from one.loose one.cause fault why
+      caused (Err fault) why = why-counted-wider _ _ _ _ _ _ _ from one.loose one.cause fault why
 
   -- and as part of a longer run, where that was refused.
   parts-within : (n N : ℕ) → n ≤ N → (A : MetadataCaches S) (fA : ImageFile S) (fault : Fault) (B : MetadataCaches S) (fB : ImageFile S) → Counts first n A fA (failed fault) B fB → Counts first N A fA (failed fault) B fB
@@ -191,7 +191,7 @@ module _ {S : Type 0} (state : S → StorageState) (table : TableValue) (pending
         header = part.header;
         loose = part.loose;
         room = part.room;
-        cause = why-freed-wider _ _ _ _ _ _ _ (λ holds. (holds.0, holds.1, holds.2, λ d above below. holds.3 d above (omega (arith, below, le)))) (λ loose. loose) refl fault part.cause;
+        cause = why-counted-wider _ _ _ _ _ _ _ (λ holds. (holds.0, holds.1, holds.2, λ d above below. holds.3 d above (omega (arith, below, le)))) (λ loose. loose) refl fault part.cause;
       }
 
 -- Where all are counted,
@@ -276,7 +276,7 @@ module _ {S : Type 0} (state : S → StorageState) (table : TableValue) (pending
           cause = caused result run.cause;
         }
       where
-        caused : (r : Result Unit Fault) → MatchResult r (λ _. (state after.image).faults ≡ (state before.image).faults) (WhyNotFreed (Could Named) (IsLoose old) (state before.image).faults (state after.image).faults)
-            → MatchResult r (λ _. (state after.image).faults ≡ (state before.image).faults) (WhyNotFreed (Could (λ d. ⊤)) (IsLoose old) (state before.image).faults (state after.image).faults)
+        caused : (r : Result Unit Fault) → MatchResult r (λ _. (state after.image).faults ≡ (state before.image).faults) (WhyNotCounted (Could Named) (IsLoose table old) (state before.image).faults (state after.image).faults)
+            → MatchResult r (λ _. (state after.image).faults ≡ (state before.image).faults) (WhyNotCounted (Could (λ d. ⊤)) (IsLoose table old) (state before.image).faults (state after.image).faults)
         caused (Ok done) same = same
-        caused (Err fault) why = why-freed-wider _ _ _ _ _ _ _ (named-ready some) (λ loose. loose) refl fault why
+        caused (Err fault) why = why-counted-wider _ _ _ _ _ _ _ (named-ready some) (λ loose. loose) refl fault why

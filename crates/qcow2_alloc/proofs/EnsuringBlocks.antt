@@ -25,7 +25,7 @@ use Rattle.qcow2_alloc.specs.Freeing.{IsLoose}
 use Rattle.qcow2_alloc.specs.Going.{IsWhole}
 use Rattle.qcow2_alloc.specs.Quiet.{IsSound}
 use Rattle.qcow2_alloc.proofs.Allocating.{allocating-none, allocating-then, allocating-as, block-allocates}
-use Rattle.qcow2_alloc.proofs.FreeingEntries.{why-freed-wider}
+use Rattle.qcow2_alloc.proofs.FreeingEntries.{why-counted-wider}
 
 -- the answer of a call that succeeded
 abbrev pub so : Bool → Result Bool Fault
@@ -41,13 +41,13 @@ made_by (Ok done) = Ok true
 made_by (Err fault) = Err fault
 
 -- A cause stays one over more calls.
-pub why-allocated-wider : (sound sound' loose loose' full full' : Type 0) (a b c : ℕ) → (sound' → sound) → (loose' → loose) → (full → full') → b ≡ a → (fault : Fault) → WhyNotAllocated sound loose full b c fault → WhyNotAllocated sound' loose' full' a c fault
-why-allocated-wider sound sound' loose loose' full full' a b c from from' on same (Limit number) why = (on why.0, why.1 ∙ same)
-why-allocated-wider sound sound' loose loose' full full' a b c from from' on same Memory why = why-freed-wider sound sound' loose loose' a b c from from' same Memory why
-why-allocated-wider sound sound' loose loose' full full' a b c from from' on same Storage why = why-freed-wider sound sound' loose loose' a b c from from' same Storage why
-why-allocated-wider sound sound' loose loose' full full' a b c from from' on same DamagedTable why = why-freed-wider sound sound' loose loose' a b c from from' same DamagedTable why
-why-allocated-wider sound sound' loose loose' full full' a b c from from' on same Counter why = why-freed-wider sound sound' loose loose' a b c from from' same Counter why
-why-allocated-wider sound sound' loose loose' full full' a b c from from' on same CacheFull why = why-freed-wider sound sound' loose loose' a b c from from' same CacheFull why
+pub why-allocated-wider : (sound sound' loose loose' : Type 0) (full full' : ℕ → Type 0) (a b c : ℕ) → (sound' → sound) → (loose' → loose) → ((n : ℕ) → full n → full' n) → b ≡ a → (fault : Fault) → WhyNotAllocated sound loose full b c fault → WhyNotAllocated sound' loose' full' a c fault
+why-allocated-wider sound sound' loose loose' full full' a b c from from' on same (Limit number) why = (on number why.0, why.1 ∙ same)
+why-allocated-wider sound sound' loose loose' full full' a b c from from' on same Memory why = why-counted-wider sound sound' loose loose' a b c from from' same Memory why
+why-allocated-wider sound sound' loose loose' full full' a b c from from' on same Storage why = why-counted-wider sound sound' loose loose' a b c from from' same Storage why
+why-allocated-wider sound sound' loose loose' full full' a b c from from' on same DamagedTable why = why-counted-wider sound sound' loose loose' a b c from from' same DamagedTable why
+why-allocated-wider sound sound' loose loose' full full' a b c from from' on same Counter why = why-counted-wider sound sound' loose loose' a b c from from' same Counter why
+why-allocated-wider sound sound' loose loose' full full' a b c from from' on same CacheFull why = why-counted-wider sound sound' loose loose' a b c from from' same CacheFull why
 why-allocated-wider sound sound' loose loose' full full' a b c from from' on same fault why = absurd why
 
 -- One word of a refcount table comes to name a block, and no other changes.
@@ -156,14 +156,14 @@ module _ {S : Type 0} (state : S → StorageState) (pending : List FreeEntry) (f
 
         caused : (r : Result Unit Fault)
             → MatchResult r (λ _. (state fC.image).faults ≡ (state fB.image).faults)
-            (WhyNotAllocated (IsTrue (state fB.image).shape.keeps × (order_of B ≡ L2DependsOnRb) × IsSound (metadata_of state fB B tB pending)) (IsLoose B) (IsInReach fB.header.fields.cluster_bits (c * counters_of_block fB.header.fields) → ⊥) (state fB.image).faults (state fC.image).faults)
+            (WhyNotAllocated (IsTrue (state fB.image).shape.keeps × (order_of B ≡ L2DependsOnRb) × IsSound (metadata_of state fB B tB pending)) (IsLoose tB B) (λ number. (number ≤ c * counters_of_block fB.header.fields) × (IsInReach fB.header.fields.cluster_bits number → ⊥)) (state fB.image).faults (state fC.image).faults)
             → MatchResult (made_by r) (λ _. (state fC.image).faults ≡ (state fA.image).faults)
-            (WhyNotAllocated (IsTrue (state fA.image).shape.keeps × (order_of A ≡ L2DependsOnRb) × IsSound (metadata_of state fA A tA pending)) (IsLoose A)
-            (((i : ℕ) → first ≤ i → i < c + 1 → IsInReach fA.header.fields.cluster_bits (i * counters_of_block fA.header.fields)) → ⊥) (state fA.image).faults (state fC.image).faults)
+            (WhyNotAllocated (IsTrue (state fA.image).shape.keeps × (order_of A ≡ L2DependsOnRb) × IsSound (metadata_of state fA A tA pending)) (IsLoose tA A)
+            (λ number. (i : ℕ) × (first ≤ i) × (i < c + 1) × (number ≤ i * counters_of_block fA.header.fields) × (IsInReach fA.header.fields.cluster_bits number → ⊥)) (state fA.image).faults (state fC.image).faults)
         caused (Ok done) same = same ∙ one.cause
         caused (Err fault) why = why-allocated-wider _ _ _ _ _ _ _ _ _
             (λ holds. let quiet = one.step.quiet holds.1 in (keeps_on (state fA.image) (state fB.image) quiet.shape holds.0, one.step.order ∙ holds.1, (quiet.holds holds.0 holds.2 tt).0))
-            one.step.loose (λ far all. far (subst (λ (h : Header). IsInReach h.fields.cluster_bits (c * counters_of_block h.fields)) (sym one.header) (all c above (omega arith)))) one.cause fault why
+            one.step.loose (λ number far. let at = subst (λ (h : Header). (number ≤ c * counters_of_block h.fields) × (IsInReach h.fields.cluster_bits number → ⊥)) one.header far in (c, above, omega arith, at.0, at.1)) one.cause fault why
 
   -- They are part of more, where that was refused.
   pub blocks-within : (end more : ℕ) → end ≤ more → (tA : TableValue) (A : MetadataCaches S) (fA : ImageFile S) (fault : Fault) (tB : TableValue) (B : MetadataCaches S) (fB : ImageFile S)
@@ -178,5 +178,5 @@ module _ {S : Type 0} (state : S → StorageState) (pending : List FreeEntry) (f
     layout = part.layout;
     placed = part.placed;
     header = part.header;
-    cause = why-allocated-wider _ _ _ _ _ _ _ _ _ (λ holds. holds) (λ loose. loose) (λ far all. far (λ i above below. all i above (omega (arith, below, le)))) refl fault part.cause;
+    cause = why-allocated-wider _ _ _ _ _ _ _ _ _ (λ holds. holds) (λ loose. loose) (λ number far. let below = far.2 in (far.0, far.1, omega (arith, below, le), far.3, far.4)) refl fault part.cause;
   }

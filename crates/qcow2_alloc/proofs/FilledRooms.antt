@@ -1,6 +1,6 @@
 -- A copy of the refcount table takes the room that was found for it, and becomes the image's, from the first of the call to its last.
 use Rattle.std.proofs.Common.{◌≡◌, ◌≢◌, ℕ, ◌+◌, ◌*◌, ◌/◌, ◌<◌, ◌≤◌, refl, arith, ap, sym, subst, ◌∙◌, List, [], ◌∷◌, ◌++◌, length, inl, inr, Result, Ok, Err, None, false}
-use Rattle.std.specs.Prelude.{⊤, ◌⊎◌, ◌==◌, if◌then◌else◌, IsTrue, OnOk, OnErr, slice_index}
+use Rattle.std.specs.Prelude.{Some, ⊤, ◌⊎◌, ◌==◌, if◌then◌else◌, IsTrue, OnOk, OnErr, slice_index}
 use Rattle.std.proofs.lemmas.Bool.{cases_eq, cases_lt, ne_eqb}
 use Rattle.imago_storage.specs.State.{StorageState}
 use Rattle.imago_storage.specs.Calls.{Cause, Later}
@@ -16,15 +16,16 @@ use Rattle.qcow2_types.specs.Pending.{FreeEntry}
 use Rattle.qcow2_types.specs.References.{meets}
 use Rattle.qcow2_types.specs.Switched.{with_refcount_table}
 use Rattle.qcow2_types.specs.TableBytes.{table_bytes}
-use Rattle.qcow2_types.specs.Words.{block_offset}
+use Rattle.qcow2_types.specs.Words.{Layout, block_offset}
 use Rattle.qcow2_metadata.specs.Tables.{TableValue, table_place}
 use Rattle.qcow2_alloc.specs.declared.allocation.searching.Run.{Run}
 use Rattle.qcow2_alloc.specs.declared.cache.CacheDependency.TheVariants.{L2DependsOnRb}
 use Rattle.qcow2_alloc.specs.declared.cache.MetadataCaches.{MetadataCaches}
 use Rattle.qcow2_alloc.specs.declared.file.ImageFile.{ImageFile}
 use Rattle.qcow2_alloc.specs.Allocating.{CountsNamed, MovedTable, named_part}
-use Rattle.qcow2_alloc.specs.Allocators.{metadata_of}
+use Rattle.qcow2_alloc.specs.Allocators.{metadata_of, named_block}
 use Rattle.qcow2_alloc.specs.Caches.{cached_in, order_of}
+use Rattle.qcow2_alloc.specs.Freeing.{IsLoose}
 use Rattle.qcow2_alloc.specs.FreeList.{covers}
 use Rattle.qcow2_alloc.specs.Going.{IsMild}
 use Rattle.qcow2_alloc.specs.Growing.{lacks}
@@ -41,6 +42,7 @@ use Rattle.qcow2_alloc.proofs.QuietGiven.{quietly-given}
 use Rattle.qcow2_alloc.proofs.QuietThen.{quietly-then, quietly-otherwise}
 use Rattle.qcow2_alloc.proofs.FlushingTables.{never-mild}
 use Rattle.qcow2_alloc.proofs.MadeBlocks.{first-counted}
+use Rattle.qcow2_alloc.proofs.Loose.{loose-named, name-kept}
 use Rattle.qcow2_alloc.proofs.MemoryWords.{places-in-memory}
 use Rattle.qcow2_alloc.proofs.NamingBlocks.{count-none}
 use Rattle.qcow2_alloc.proofs.QuietFlushes.{quietly-weaker}
@@ -140,6 +142,10 @@ module _ {S : Type 0} (state : S → StorageState) (table : TableValue) (pending
       pointer-quietly m4 run n copy (sound4 given) (low4 given) plan.grown plan.room (taken4 given) (state fC.image) (state mid) refl (keeps4 given) put mine used4 (unlisted4 given) (counted m0) (counts4 given) given.3
       fit refl sizes (state after.image) result pointed
 
+  -- The copy names the blocks that the table does.
+  names-kept : (i key : ℕ) → named_block table i ≡ Some key → named_block copied i ≡ Some key
+  names-kept i key = name-kept table copied i key (ap (λ (l : Layout). l.cluster_bits) plan.grown.layout ∙ sym plan.bits) (λ some. plan.grown.olds i (rw (ne_eqb (block_offset (slice_index table.words i)) 0 some) refl))
+
   shape5 : (state after.image).shape ≡ (state before.image).shape
   shape5 = pointed.put.shape ∙ at5.shape
 
@@ -155,7 +161,7 @@ module _ {S : Type 0} (state : S → StorageState) (table : TableValue) (pending
       let cause : Cause (state mid).faults (state after.image).faults fault = put-refused (state mid) (state after.image) 0 (first_bytes (naming_table fC.header copy).fields) result pointed.put fault is in
       record {
         leaked = λ _. 0;
-        leaks = record { none = λ not c. refl; pinned = λ loose c. refl };
+        leaks = record { none = λ not c. refl; pinned = λ sound loose c. refl };
         shape = shape5;
         later = later5;
         quiet = λ e. quietly-given (IsMild fault) (λ _. 0) (λ _. 0) (state before.image) m0 (state after.image) (metadata_of state after C table' pending) shape5 later5 (λ keeps sound.
@@ -167,7 +173,7 @@ module _ {S : Type 0} (state : S → StorageState) (table : TableValue) (pending
         order = takes.counts.order;
         moved = subst (λ (h : Header). MovedTable h after.header) takes.counts.header moved;
         longer = subst (λ (t : TableValue). length table.words ≤ length t.words) (sym same) (omega arith);
-        loose = takes.counts.loose;
+        loose = λ loose. subst (λ (t : TableValue). IsLoose t C) (sym same) (takes.counts.loose loose);
         room = takes.counts.room;
         counts = λ e keeps sound. tt;
         table_is = tt;
@@ -255,7 +261,7 @@ module _ {S : Type 0} (state : S → StorageState) (table : TableValue) (pending
     pub filled : FillsRoom state known run copy table old before succeeded table' C after pending then_waits
     filled = record {
       leaked = λ _. 0;
-      leaks = record { none = λ not c. refl; pinned = λ loose c. refl };
+      leaks = record { none = λ not c. refl; pinned = λ sound loose c. refl };
       shape = shape5;
       later = later5;
       quiet = quiet-all;
@@ -265,7 +271,7 @@ module _ {S : Type 0} (state : S → StorageState) (table : TableValue) (pending
       order = takes.counts.order;
       moved = subst (λ (h : Header). MovedTable h after.header) takes.counts.header (table_place copy, n, header);
       longer = subst (λ (t : TableValue). length table.words ≤ length t.words) (sym same) plan.grown.longer;
-      loose = takes.counts.loose;
+      loose = λ loose. subst (λ (t : TableValue). IsLoose t C) (sym same) (loose-named table copied C names-kept (takes.counts.loose loose));
       room = takes.counts.room;
       counts = λ e keeps sound. counts-all (keeps, (free e).0, sound, (free e).1);
       table_is = same;

@@ -12,12 +12,15 @@ use Rattle.qcow2_types.specs.Counts.{block_at, count}
 use Rattle.qcow2_types.specs.References.{meets}
 use Rattle.qcow2_types.proofs.Consistent.{meets-own}
 use Rattle.qcow2_types.proofs.Frames.{block-part}
+use Rattle.qcow2_types.proofs.Parts.{block-inside}
 use Rattle.qcow2_metadata.specs.Blocks.{Block}
 use Rattle.qcow2_alloc.specs.declared.async_lru_cache.Slot.{Slot}
 use Rattle.qcow2_alloc.specs.Changes.{StaysAsItIs}
+use Rattle.qcow2_alloc.specs.Freeing.{NamesBlock}
 use Rattle.qcow2_alloc.specs.Memory.{Cached, table_patch, block_patch, memory}
 use Rattle.qcow2_alloc.specs.Quiet.{Metadata, IsSound, IsQuiet, in_memory, counted, named_at_all}
 use Rattle.qcow2_alloc.proofs.Entering.{safe-like, distinct-without, away-of}
+use Rattle.qcow2_alloc.proofs.NamedBlocks.{named-block}
 use Rattle.qcow2_alloc.proofs.Patches.{all-weaker, place-there}
 use Rattle.qcow2_alloc.proofs.Places.{Place, place-of-key}
 use Rattle.qcow2_alloc.proofs.QuietFlushes.{used-quiet}
@@ -68,6 +71,14 @@ block-names m i key inside place some =
     let one : meets m.header.fields key (block_at m.file m.header.fields i) (cluster_size m.header.fields) ≡ 1 = ap (λ n. meets m.header.fields key n (cluster_size m.header.fields)) place ∙ meets-own m.header.fields key in
     let all = structure-named m.file (in_memory m) m.header.fields key in
     omega (arith, part, one, all)
+
+-- So does one of the table in memory.
+pub never-unnamed : (m : Metadata) → IsSound m → (key : ℕ) → named_at_all m key ≡ 0 → NamesBlock m.table key → ⊥
+never-unnamed m sound key none (i, named) =
+    let n = named-block m.file m.header m.table i sound.table key sound.safe.consistent named in
+    let inside = block-inside m.file m.header.fields i (λ empty. place-there (cluster_size m.header.fields) key (pow_pos m.header.fields.cluster_bits) n.some (sym n.place ∙ empty)) in
+    let some = block-names m i key inside n.place n.some in
+    omega (arith, none, some)
 
 module _ (m : Metadata) (key : ℕ) (sound : IsSound m) (unnamed : named_at_all m key ≡ 0) where
   -- A block that no word names waits for no write.

@@ -1,5 +1,5 @@
 -- The blocks in a run of clusters that nothing names are dropped of their cache, one behind the other.
-use Rattle.std.proofs.Common.{◌≡◌, ℕ, ◌+◌, ◌<◌, ◌≤◌, refl, arith, ap, sym, subst, ◌∙◌, Ok, Err, None, Some, Option, inl, inr}
+use Rattle.std.proofs.Common.{◌≡◌, ℕ, ◌+◌, ◌<◌, ◌≤◌, refl, arith, ap, sym, subst, ◌∙◌, Ok, Err, None, inl, inr}
 use Rattle.std.specs.Prelude.{nat_eq, IsSomeAnd}
 use Rattle.std.specs.Map.{lookup, remove_entry}
 use Rattle.std.proofs.lemmas.Bool.{cases_eq}
@@ -7,19 +7,17 @@ use Rattle.imago_storage.specs.declared.fault.Fault.{Fault}
 use Rattle.qcow2_types.specs.Bytes.{Bytes}
 use Rattle.qcow2_types.specs.Counts.{count}
 use Rattle.qcow2_types.specs.Versions.{named}
-use Rattle.qcow2_metadata.specs.Blocks.{Block}
-use Rattle.qcow2_alloc.specs.declared.async_lru_cache.Slot.{Slot}
 use Rattle.qcow2_alloc.specs.declared.cache.MetadataCaches.{MetadataCaches}
 use Rattle.qcow2_alloc.specs.Caches.{cached_in, HasRoomOf}
 use Rattle.qcow2_alloc.specs.CachesLending.{with_blocks}
-use Rattle.qcow2_alloc.specs.Freeing.{IsLoose}
+use Rattle.qcow2_alloc.specs.Finding.{PinsNothing}
 use Rattle.qcow2_alloc.specs.Memory.{Cached}
-use Rattle.qcow2_alloc.specs.MovingTables.{StaysInMemory, ForgetsRun, with_cached}
+use Rattle.qcow2_alloc.specs.MovingTables.{StaysInMemory, ForgetsRun, IsPinnedWithin, with_cached}
 use Rattle.qcow2_alloc.specs.Quiet.{Metadata, counted, named_at_all, IsSound}
 use Rattle.qcow2_alloc.proofs.Entries.{remove_absent}
 use Rattle.qcow2_alloc.proofs.Forgetting.{forgotten-quiet, forgotten-stays, removed-apart}
 use Rattle.qcow2_alloc.proofs.QuietFlushes.{quiet-none}
-use Rattle.qcow2_alloc.proofs.Pins.{pinned-none, pinned-removed}
+use Rattle.qcow2_alloc.proofs.Pins.{pinned-there, pins-removed}
 use Rattle.qcow2_alloc.proofs.QuietThen.{quiet-then, quiet-otherwise}
 
 -- What stays in memory is counted and named as it was.
@@ -68,17 +66,18 @@ forgets-refused first n all old mid new fault le is one = subst (λ (c : Cached)
 })
 
 -- What the drop of a block leaves of the caches.
-pub forgotten-leaves : {S : Type 0} (mid new : MetadataCaches S) (key : ℕ) → new ≡ with_blocks mid (remove_entry (nat_eq key) (cached_in mid).blocks) → (new.order ≡ mid.order) × (IsLoose mid → IsLoose new) × HasRoomOf mid new
-forgotten-leaves {S} mid new key is = subst (λ (c : MetadataCaches S). (c.order ≡ mid.order) × (IsLoose mid → IsLoose c) × HasRoomOf mid c) (sym is) (
+pub forgotten-leaves : {S : Type 0} (mid new : MetadataCaches S) (key : ℕ) → new ≡ with_blocks mid (remove_entry (nat_eq key) (cached_in mid).blocks) → (new.order ≡ mid.order) × PinsNothing (cached_in mid).blocks (cached_in new).blocks × HasRoomOf mid new
+forgotten-leaves {S} mid new key is = subst (λ (c : MetadataCaches S). (c.order ≡ mid.order) × PinsNothing (cached_in mid).blocks (cached_in c).blocks × HasRoomOf mid c) (sym is) (
   refl,
-  λ loose. record { blocks = (let le = pinned-removed (nat_eq key) (cached_in mid).blocks in let none = loose.blocks in omega (arith, le, none)); room = loose.room },
+  pins-removed (nat_eq key) (cached_in mid).blocks,
   record { tables = refl; blocks = refl },
 )
 
--- A block that is pinned isn't loose.
-pub pinned-never : {S : Type 0} (caches : MetadataCaches S) (key : ℕ) → IsSomeAnd (lookup (nat_eq key) (cached_in caches).blocks) (λ s. 0 < s.pins) → IsLoose caches → ⊥
-pinned-never caches key pinned loose = never (lookup (nat_eq key) (cached_in caches).blocks) refl pinned
-  where
-    never : (o : Option (Slot Block)) → lookup (nat_eq key) (cached_in caches).blocks ≡ o → IsSomeAnd o (λ s. 0 < s.pins) → ⊥
-    never None there pinned = pinned
-    never (Some slot) there pinned = let off = pinned-none key (cached_in caches).blocks slot there loose.blocks in omega (arith, off, pinned)
+-- Where that is refused a block of the run is pinned.
+pub pinned-within : {S : Type 0} (old mid : MetadataCaches S) (first n index : ℕ) → index < n → PinsNothing (cached_in old).blocks (cached_in mid).blocks → IsSomeAnd (lookup (nat_eq (first + index)) (cached_in mid).blocks) (λ s. 0 < s.pins) → IsPinnedWithin first n old
+pinned-within old mid first n index inside pins pinned = (
+  first + index,
+  omega arith,
+  omega (arith, inside),
+  (let some = pinned-there (first + index) (cached_in mid).blocks pinned in let le = pins.among (nat_eq (first + index)) in omega (arith, some, le)),
+)

@@ -38,7 +38,7 @@ use Rattle.qcow2_alloc.proofs.MemoryImage.{safe-memory}
 use Rattle.qcow2_alloc.proofs.MemoryWords.{places-in-memory}
 use Rattle.qcow2_alloc.proofs.Patches.{all-weaker, block-length, place-there, shaped-in}
 use Rattle.qcow2_alloc.proofs.QuietFlushes.{still-table}
-use Rattle.qcow2_alloc.proofs.QuietShows.{mapping-meets, in-cluster}
+use Rattle.qcow2_alloc.proofs.QuietShows.{from-start, mapping-meets, in-cluster}
 use Rattle.qcow2_alloc.proofs.WordsKept.{word-named, named-more, copied-stays, ordered-still, table-fits, block-fits, counters-same}
 
 -- What is in memory agrees where the file does.
@@ -148,6 +148,8 @@ module _ (m : Metadata) (sound : IsSound m) (c k : ℕ) (unnamed : (d : ℕ) →
   free-shows = record {
     consistent = in-file.consistent;
     moved = (m.header.fields.refcount_table_offset, m.header.fields.refcount_table_clusters, refl);
+    behind = λ p from lt. from-start m.file x (cluster_size m.header.fields) p (in-file.kept.start (λ e. cc)) lt;
+    l1 = λ i lt. in-file.kept.l1 i lt (λ e. cc);
     tables = in-file.keeps.places.l1;
     words = λ i j live. inl (in-file.keeps.slots i j live);
     contents = bytes-named;

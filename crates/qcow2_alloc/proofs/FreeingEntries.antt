@@ -18,8 +18,8 @@ use Rattle.qcow2_alloc.specs.declared.cache.CacheDependency.{CacheDependency}
 use Rattle.qcow2_alloc.specs.declared.cache.MetadataCaches.{MetadataCaches}
 use Rattle.qcow2_alloc.specs.declared.file.ImageFile.{ImageFile}
 use Rattle.qcow2_alloc.specs.Allocators.{metadata_of, LowersCluster}
-use Rattle.qcow2_alloc.specs.Caches.{order_of}
-use Rattle.qcow2_alloc.specs.Freeing.{Frees, MayFree, WhyNotFreed, CountsFreeing, IsWholeOrCalm}
+use Rattle.qcow2_alloc.specs.Caches.{cached_in, order_of}
+use Rattle.qcow2_alloc.specs.Freeing.{Frees, MayFree, WhyNotFreed, WhyNotCounted, CountsFreeing, IsWholeOrCalm}
 use Rattle.qcow2_alloc.specs.FreeList.{entry_at, shorter, shortened, listed}
 use Rattle.qcow2_alloc.specs.Going.{IsWhole}
 use Rattle.qcow2_alloc.specs.Quiet.{Metadata, IsSound, IsQuiet, counted, in_memory, waiting, waiting_metadata, metadata_in}
@@ -27,6 +27,7 @@ use Rattle.qcow2_alloc.proofs.FreeingClusters.{LosesOne, left, cluster-freed, fr
 use Rattle.qcow2_alloc.proofs.FreeingLists.{last, last-off, metadata-less, metadata-last, entry-shortened}
 use Rattle.qcow2_alloc.proofs.Loose.{spare-on}
 use Rattle.qcow2_alloc.proofs.Patches.{shaped-in}
+use Rattle.qcow2_alloc.proofs.Pins.{pins-none, pins-then}
 use Rattle.qcow2_alloc.proofs.QuietCounters.{here-one}
 use Rattle.qcow2_alloc.proofs.QuietFlushes.{quiet-none, memory-quietly}
 use Rattle.qcow2_alloc.proofs.QuietThen.{calm-behind, calmly-then}
@@ -136,7 +137,7 @@ module _ {S : Type 0} (state : S → StorageState) (table : TableValue) (es : Li
         lower = omega arith;
         fallen = inl refl;
         header = refl;
-        pins = omega arith;
+        pins = pins-none (cached_in old).blocks (cached_in old).blocks refl;
         room = record { tables = refl; blocks = refl };
         less = λ d. omega arith;
         fewer = omega arith;
@@ -151,6 +152,9 @@ why-freed-wider sound sound' loose loose' a b c from from' same DamagedTable why
 why-freed-wider sound sound' loose loose' a b c from from' same Counter why = λ s. why (from s)
 why-freed-wider sound sound' loose loose' a b c from from' same CacheFull why = λ l. why (from' l)
 why-freed-wider sound sound' loose loose' a b c from from' same other why = absurd why
+
+pub why-counted-wider : (sound sound' loose loose' : Type 0) (a b c : ℕ) → (sound' → sound) → (loose' → loose) → b ≡ a → (fault : Fault) → WhyNotCounted sound loose b c fault → WhyNotCounted sound' loose' a c fault
+why-counted-wider sound sound' loose loose' a b c from from' same fault why = why-freed-wider sound sound' (sound × loose) (sound' × loose') a b c from (λ both. (from both.0, from' both.1)) same fault why
 
 counts-then : (sound sound' loose loose' : Type 0) (a b c : ℕ) → (sound' → sound) → (loose' → loose) → b ≡ a → (result : Result Unit Fault) → CountsFreeing sound loose b c result → CountsFreeing sound' loose' a c result
 counts-then sound sound' loose loose' a b c from from' same (Ok done) counts = counts ∙ same
@@ -186,7 +190,7 @@ module _ {S : Type 0} (state : S → StorageState) (table : TableValue) where
         lower = omega arith;
         fallen = inl refl;
         header = refl;
-        pins = omega arith;
+        pins = pins-none (cached_in old).blocks (cached_in old).blocks refl;
         room = record { tables = refl; blocks = refl };
         less = λ d. omega arith;
         fewer = omega arith;
@@ -202,15 +206,13 @@ module _ {S : Type 0} (state : S → StorageState) (table : TableValue) where
       let le' = second.lower in
       let few = first.fewer in
       let few' = second.fewer in
-      let pins = first.pins in
-      let pins' = second.pins in
       record {
         quiet = calmly-then _ (IsWhole result) (λ _. 0) (λ _. 0) (λ _. 0) (λ _. 0) (state fA.image) (metadata_of state fA A table es) (state fB.image) (metadata_of state fB B table es1) (state fC.image) (metadata_of state fC C table es2) (inl tt) (λ sound d some. refl) first.quiet second.quiet;
         marked = λ keeps sound why marked. second.marked (on keeps) (first.quiet.holds keeps sound (inl tt)).0 (behind keeps sound why) (first.marked keeps sound (inl tt) marked);
         lower = omega (arith, le, le');
         fallen = fallen-then mark mark1 mark2 es es1 es2 first.less second.less first.fallen second.fallen;
         header = second.header ∙ first.header;
-        pins = omega (arith, pins, pins');
+        pins = pins-then (cached_in A).blocks (cached_in B).blocks (cached_in C).blocks first.pins second.pins;
         room = record { tables = second.room.tables ∙ first.room.tables; blocks = second.room.blocks ∙ first.room.blocks };
         less = λ d. let l = first.less d in let l' = second.less d in omega (arith, l, l');
         fewer = omega (arith, few, few');
@@ -236,7 +238,7 @@ module _ {S : Type 0} (state : S → StorageState) (table : TableValue) where
         lower = omega arith;
         fallen = inl refl;
         header = refl;
-        pins = omega arith;
+        pins = pins-none (cached_in old).blocks (cached_in old).blocks refl;
         room = record { tables = refl; blocks = refl };
         less = λ d. let same = less d in omega (arith, same);
         fewer = omega (arith, long);

@@ -18,18 +18,17 @@ use Rattle.qcow2_alloc.specs.declared.cache.MetadataCaches.{MetadataCaches}
 use Rattle.qcow2_alloc.specs.declared.file.ImageFile.{ImageFile}
 use Rattle.qcow2_alloc.specs.Allocators.{metadata_of}
 use Rattle.qcow2_alloc.specs.Caches.{cached_in, order_of, HasRoomOf}
-use Rattle.qcow2_alloc.specs.Finding.{pinned_in}
+use Rattle.qcow2_alloc.specs.Finding.{PinsNothing}
 use Rattle.qcow2_alloc.specs.Freeing.{Frees, HasSpareRoom, IsMarked, IsWholeOrCalm, WhyNotFreed, data_in}
 use Rattle.qcow2_alloc.specs.FreeList.{entry_at}
 use Rattle.qcow2_alloc.specs.Going.{Going, Always, IsMild, AreBlocksInReach, CountsWrites, WhyNotWritten}
 use Rattle.qcow2_alloc.specs.Memory.{Cached, memory, written, written_block}
 use Rattle.qcow2_alloc.specs.Quiet.{Metadata, IsSound, Quietly}
 use Rattle.qcow2_alloc.specs.Safety.{Safe, IsCalm}
-use Rattle.qcow2_alloc.proofs.Pins.{pinned-same}
+use Rattle.qcow2_alloc.proofs.Pins.{pins-none, pins-written}
 use Rattle.qcow2_alloc.proofs.QuietAnnouncing.{announced-quietly, whole-quietly}
 use Rattle.qcow2_alloc.proofs.QuietFlushes.{flushes-quietly, memory-quietly, quietly-weaker}
 use Rattle.qcow2_alloc.proofs.SafeLaws.{safe-reach}
-use Rattle.qcow2_alloc.proofs.Searching.{no-more}
 
 -- The order is announced.
 module _ {S : Type 0} (state : S → StorageState) (table : TableValue) (old : MetadataCaches S) (before : ImageFile S) (new : MetadataCaches S) (after : ImageFile S) (mark : ℕ) (es : List FreeEntry)
@@ -43,8 +42,8 @@ module _ {S : Type 0} (state : S → StorageState) (table : TableValue) (old : M
   abbrev Goes : Result Unit Fault → Type 0
   Goes result = Going before.header (order_of old) Always (result ≡ Ok tt) (state before.image) (cached_in old) (state after.image) (cached_in new)
 
-  pins-still : pinned_in (cached_in new).blocks ≤ pinned_in (cached_in old).blocks
-  pins-still = no-more (pinned-same written_block (λ e. e.1.pins) (λ e. refl) (cached_in new).blocks (cached_in old).blocks (ap (λ (c : Cached). c.blocks) kept))
+  pins-still : PinsNothing (cached_in old).blocks (cached_in new).blocks
+  pins-still = pins-written written_block (λ e. e.0) (λ e. e.1.pins) (λ e. (refl, refl)) (cached_in old).blocks (cached_in new).blocks (ap (λ (c : Cached). c.blocks) kept)
 
   never : (fault : Fault) → IsSound Old → IsMild fault → WhyNotWritten (AreBlocksInReach (cached_in old)) (state before.image).faults (state after.image).faults fault → ⊥
   never Memory sound mild why = mild
@@ -117,7 +116,7 @@ external-dropped state table old before mark es external =
       lower = omega arith;
       fallen = inl refl;
       header = refl;
-      pins = omega arith;
+      pins = pins-none (cached_in old).blocks (cached_in old).blocks refl;
       room = record { tables = refl; blocks = refl };
       less = λ d. omega arith;
       fewer = omega arith;

@@ -37,8 +37,9 @@ module _ {S : Type 0} (state : S → StorageState) (mark at : ℕ) (table : Tabl
   Mid = metadata_of state between mid table pending
 
   -- Caches that are as loose as those were, and have as much room.
-  pub shape-behind : (result : Result Unit Fault) (new : MetadataCaches S) (after : ImageFile S) → Announced state table pending old before result mid between → MovedTable between.header after.header → (IsLoose mid → IsLoose new) → HasRoomOf mid new → StaysInShape old before new after
-  shape-behind result new after first moved loose room = record {
+  pub shape-behind : (result : Result Unit Fault) (table' : TableValue) (new : MetadataCaches S) (after : ImageFile S) → Announced state table pending old before result mid between → MovedTable between.header after.header → (IsLoose table mid → IsLoose table' new) → HasRoomOf mid new
+      → StaysInShape table old before table' new after
+  shape-behind result table' new after first moved loose room = record {
     moved = subst (λ (H : Header). MovedTable H after.header) first.header moved;
     loose = λ all. loose (first.loose all);
     room = record { tables = room.tables ∙ first.room.tables; blocks = room.blocks ∙ first.room.blocks };
@@ -48,7 +49,7 @@ module _ {S : Type 0} (state : S → StorageState) (mark at : ℕ) (table : Tabl
   pub not-copied : (fault : Fault) → WhyNotGrown before.header.fields table at fault → GrowsReftable state mark at table old before pending (failed fault) table old before pending
   not-copied fault why = record {
     leaked = λ _. 0;
-    leaks = leaks-none (IsLoose old) (failed fault);
+    leaks = leaks-none _ _ (failed fault);
     quiet = memory-quietly (IsWhole (failed fault)) (λ _. 0) (λ _. 0) (state before.image) Start Start (λ sound whole. (sound, quiet-none Start sound));
     raised = λ keeps sound whole c. inl refl;
     grown = λ keeps sound. tt;
@@ -61,7 +62,7 @@ module _ {S : Type 0} (state : S → StorageState) (mark at : ℕ) (table : Tabl
     cause = by-fault fault why;
   }
     where
-      by-fault : (f : Fault) → WhyNotGrown before.header.fields table at f → WhyNotAllocated (IsTrue (state before.image).shape.keeps × IsSound Start) (IsLoose old) (IsTrue (state before.image).shape.keeps → IsSound Start → NoPlaceToGrow Start mark at) (state before.image).faults (state before.image).faults f
+      by-fault : (f : Fault) → WhyNotGrown before.header.fields table at f → WhyNotAllocated (IsTrue (state before.image).shape.keeps × IsSound Start) (IsLoose table old) (λ number. IsTrue (state before.image).shape.keeps → IsSound Start → NoPlaceToGrow Start mark at number) (state before.image).faults (state before.image).faults f
       by-fault Memory why = tt
       by-fault DamagedTable why = λ known. why (ap (λ (l : Layout). l.cluster_bits) known.1.table.layout)
       by-fault (Limit number) why = (λ keeps sound. inl why, refl)
@@ -71,13 +72,13 @@ module _ {S : Type 0} (state : S → StorageState) (mark at : ℕ) (table : Tabl
   pub not-announced : (fault : Fault) → Announced state table pending old before (failed fault) mid between → GrowsReftable state mark at table old before pending (failed fault) table mid between pending
   not-announced fault first = record {
     leaked = λ _. 0;
-    leaks = leaks-none (IsLoose old) (failed fault);
+    leaks = leaks-none _ _ (failed fault);
     quiet = first.quiet;
     raised = λ keeps sound whole c. inl (first.counts keeps sound whole c);
     grown = λ keeps sound. tt;
     enough = tt;
     order = tt;
-    shape = shape-behind (failed fault) mid between first (moved-none between.header between.header refl) (λ loose. loose) (record { tables = refl; blocks = refl });
+    shape = shape-behind (failed fault) table mid between first (moved-none between.header between.header refl) (λ loose. loose) (record { tables = refl; blocks = refl });
     waits = tt;
     kept = refl;
     stays = λ mild. (refl, first.header);
@@ -113,27 +114,27 @@ module _ {S : Type 0} (state : S → StorageState) (mark at : ℕ) (table : Tabl
 
     caused : (r : Result Unit Fault)
         → MatchResult r (λ _. (state after.image).faults ≡ (state between.image).faults)
-        (WhyNotAllocated (IsTrue (state between.image).shape.keeps × (order_of mid ≡ L2DependsOnRb) × IsSound Mid) (IsLoose mid)
-        (order_of mid ≡ L2DependsOnRb → IsTrue (state between.image).shape.keeps → IsSound Mid → NoPlaceToGrow Mid mark at) (state between.image).faults (state after.image).faults)
+        (WhyNotAllocated (IsTrue (state between.image).shape.keeps × (order_of mid ≡ L2DependsOnRb) × IsSound Mid) (IsLoose table mid)
+        (λ number. order_of mid ≡ L2DependsOnRb → IsTrue (state between.image).shape.keeps → IsSound Mid → NoPlaceToGrow Mid mark at number) (state between.image).faults (state after.image).faults)
         → MatchResult r (λ _. (state after.image).faults ≡ (state before.image).faults)
-        (WhyNotAllocated (IsTrue (state before.image).shape.keeps × IsSound Start) (IsLoose old)
-        (IsTrue (state before.image).shape.keeps → IsSound Start → NoPlaceToGrow Start mark at) (state before.image).faults (state after.image).faults)
+        (WhyNotAllocated (IsTrue (state before.image).shape.keeps × IsSound Start) (IsLoose table old)
+        (λ number. IsTrue (state before.image).shape.keeps → IsSound Start → NoPlaceToGrow Start mark at number) (state before.image).faults (state after.image).faults)
     caused (Ok done) same = same ∙ first.cause
     caused (Err fault) why =
         caused-behind state table pending old before mid between first _ _ (state after.image).faults
-        (λ full keeps sound. let still = sound-behind state table pending old before mid between first keeps sound in no-place-as Start Mid first.header refl (first.counts keeps sound tt) mark at (full first.order still.0 still.1)) fault why
+        (λ number full keeps sound. let still = sound-behind state table pending old before mid between first keeps sound in no-place-as Start Mid first.header refl (first.counts keeps sound tt) mark at number (full first.order still.0 still.1)) fault why
 
     pub announced-grows : GrowsReftable state mark at table old before pending result table' new after pending'
     announced-grows = record {
       leaked = grows.leaked;
-      leaks = record { none = grows.leaks.none; pinned = λ loose. grows.leaks.pinned (first.loose loose) };
+      leaks = record { none = grows.leaks.none; pinned = λ holds loose. let still = sound-behind state table pending old before mid between first holds.0 holds.1 in grows.leaks.pinned (still.0, first.order, still.1) (first.loose loose) };
       quiet = quiet-behind state table pending old before mid between first (IsWhole result) grows.leaked (state after.image) End grows.step.quiet;
       raised = λ keeps sound whole. let still = sound-behind state table pending old before mid between first keeps sound in
           raised-behind state table pending old before mid between first End keeps sound (grows.step.raised first.order still.0 still.1 whole);
       grown = λ keeps sound. let still = sound-behind state table pending old before mid between first keeps sound in grown result keeps sound (grows.grown first.order still.0 still.1);
       enough = enough result grows.enough;
       order = ordered result;
-      shape = shape-behind (Ok tt) new after first grows.step.moved grows.step.loose grows.step.room;
+      shape = shape-behind (Ok tt) table' new after first grows.step.moved grows.step.loose grows.step.room;
       waits = waits result grows.waits;
       kept = grows.kept;
       stays = stays result grows.stays;

@@ -22,7 +22,7 @@ use Rattle.qcow2_alloc.specs.Allocating.{Allocating, MovedTable, WhyNotAllocated
 use Rattle.qcow2_alloc.specs.Allocators.{metadata_of}
 use Rattle.qcow2_alloc.specs.Caches.{cached_in, order_of}
 use Rattle.qcow2_alloc.specs.FreeList.{covers}
-use Rattle.qcow2_alloc.specs.Freeing.{IsLoose, WhyNotFreed}
+use Rattle.qcow2_alloc.specs.Freeing.{IsLoose, WhyNotCounted}
 use Rattle.qcow2_alloc.specs.Going.{IsWhole, IsMild}
 use Rattle.qcow2_alloc.specs.Growing.{lacks, IsFirstRoom, LooksForRoom}
 use Rattle.qcow2_alloc.specs.GrowingTables.{GrowsTable, TableGrown, IsRoomToGrow, IsRoomInReach, NoPlaceToGrow, room_from, table_run}
@@ -33,7 +33,7 @@ use Rattle.qcow2_alloc.specs.SearchingClusters.{IsSafeWith, Looked}
 use Rattle.qcow2_alloc.proofs.Allocating.{moved-none, allocating-none, allocating-as}
 use Rattle.qcow2_alloc.proofs.FreeClusters.{flushes-count}
 use Rattle.qcow2_alloc.proofs.FreeingEntries.{failed}
-use Rattle.qcow2_alloc.proofs.MadeBlocks.{first-counted, can-name, allocated-wider}
+use Rattle.qcow2_alloc.proofs.MadeBlocks.{first-counted, can-name, allocated-wider, counted-wider}
 use Rattle.qcow2_alloc.proofs.QuietFlushes.{going-quietly}
 use Rattle.qcow2_alloc.proofs.QuietGiven.{quietly-given, quietly-then-given}
 use Rattle.qcow2_alloc.proofs.QuietThen.{quietly-otherwise}
@@ -77,18 +77,18 @@ module _ {S : Type 0} (state : S → StorageState) (mark at : ℕ) (table : Tabl
   abbrev Sound : Type 0
   Sound = Keeps × (order_of old ≡ L2DependsOnRb) × IsSound start
 
-  abbrev Full : Type 0
-  Full = order_of old ≡ L2DependsOnRb → Keeps → IsSound start → NoPlaceToGrow start mark at
+  abbrev Full : ℕ → Type 0
+  Full number = order_of old ≡ L2DependsOnRb → Keeps → IsSound start → NoPlaceToGrow start mark at number
 
   safe-with : Keeps → IsSound start → IsSafeWith state table old before
   safe-with keeps sound = record { keeps = keeps; safe = sound.safe; table_of_file = sound.table }
 
   -- It is refused, and nothing was counted.
   not-grown : (fault : Fault) (C : MetadataCaches S) (fC : ImageFile S) → Allocating state (IsMild fault) (λ _. 0) table old before pending table C fC pending → fC.header ≡ before.header
-      → WhyNotAllocated Sound (IsLoose old) Full (state before.image).faults (state fC.image).faults fault → GrowsTable state mark at table old before pending (failed fault) table C fC pending
+      → WhyNotAllocated Sound (IsLoose table old) Full (state before.image).faults (state fC.image).faults fault → GrowsTable state mark at table old before pending (failed fault) table C fC pending
   not-grown fault C fC step header why = record {
     leaked = λ _. 0;
-    leaks = record { none = λ not c. refl; pinned = λ loose c. refl };
+    leaks = record { none = λ not c. refl; pinned = λ holds loose c. refl };
     step = step;
     grown = λ order keeps sound. tt;
     enough = tt;
@@ -102,7 +102,7 @@ module _ {S : Type 0} (state : S → StorageState) (mark at : ℕ) (table : Tabl
   pub no-copy : (fault : Fault) → WhyNotGrown before.header.fields table at fault → GrowsTable state mark at table old before pending (failed fault) table old before pending
   no-copy fault why = not-grown fault old before (allocating-as state ⊤ (IsMild fault) (λ _. 0) (λ _. 0) table old before pending table old before pending (λ mild. tt) (λ c. refl) (allocating-none state table old before pending)) refl (by-fault fault why)
     where
-      by-fault : (fault : Fault) → WhyNotGrown before.header.fields table at fault → WhyNotAllocated Sound (IsLoose old) Full (state before.image).faults (state before.image).faults fault
+      by-fault : (fault : Fault) → WhyNotGrown before.header.fields table at fault → WhyNotAllocated Sound (IsLoose table old) Full (state before.image).faults (state before.image).faults fault
       by-fault Memory why = tt
       by-fault DamagedTable why = λ known. why (ap (λ (l : Layout). l.cluster_bits) known.2.table.layout)
       by-fault (Limit number) why = (λ order keeps sound. inl why, refl)
@@ -148,7 +148,7 @@ module _ {S : Type 0} (state : S → StorageState) (mark at : ℕ) (table : Tabl
             let one = first-counted start known.2 in
             omega (arith, first, one)
 
-        by-fault : (fault : Fault) → WhyNotPlaced h table room copy fault → WhyNotAllocated Sound (IsLoose old) Full (state before.image).faults (state fC.image).faults fault
+        by-fault : (fault : Fault) → WhyNotPlaced h table room copy fault → WhyNotAllocated Sound (IsLoose table old) Full (state before.image).faults (state fC.image).faults fault
         by-fault Memory why = tt
         by-fault DamagedTable why = λ known. why (behind known, can-name start known.2 (room.first + (room.len - 1)) (λ none. behind known (omega (arith, none))))
         by-fault (Limit number) why = (
@@ -157,7 +157,8 @@ module _ {S : Type 0} (state : S → StorageState) (mark at : ℕ) (table : Tabl
             room.len,
             clusters,
             room-to-grow (keeps, order, sound),
-            λ (near : IsRoomInReach start room.first room.len clusters). why (near.reach, subst (λ (w : ℕ). room.first + room.len ≤ w * counters_of_block h) whole near.inside),
+            λ (near : IsRoomInReach start room.first room.len clusters). why.0 (near.reach, subst (λ (w : ℕ). room.first + room.len ≤ w * counters_of_block h) whole near.inside),
+            why.1,
           ),
           looks.looked.cause,
         )
@@ -234,7 +235,7 @@ module _ {S : Type 0} (state : S → StorageState) (mark at : ℕ) (table : Tabl
       pub grows : GrowsTable state mark at table old before pending result table' D fD pending'
       grows = record {
         leaked = filled.leaked;
-        leaks = record { none = filled.leaks.none; pinned = λ loose. filled.leaks.pinned (looked.loose loose) };
+        leaks = record { none = filled.leaks.none; pinned = λ holds loose. filled.leaks.pinned (was-on holds) (looked.loose loose) };
         step = record {
           quiet = λ order. quietly-given (IsWhole result) filled.leaked (λ _. 0) (state before.image) start (state fD.image) end (filled.shape ∙ looked.going.shape) (later_both _ _ _ looked.going.later filled.later) (λ keeps sound.
               quietly-otherwise (IsWhole result) (λ c. 0 + filled.leaked c) (λ c. 0 + 0) filled.leaked (λ _. 0) (state before.image) start (state fD.image) end (λ s c. omega arith) (λ s c used none. refl)
@@ -258,7 +259,10 @@ module _ {S : Type 0} (state : S → StorageState) (mark at : ℕ) (table : Tabl
         cause = caused result filled.cause;
       }
         where
-          caused : (r : Result Unit Fault) → MatchResult r (λ _. (state fD.image).faults ≡ (state fC.image).faults) (WhyNotFreed (Was × IsTrue (state fC.image).shape.keeps × IsSound mid) (IsLoose C) (state fC.image).faults (state fD.image).faults)
-              → MatchResult r (λ _. (state fD.image).faults ≡ (state before.image).faults) (WhyNotAllocated Sound (IsLoose old) Full (state before.image).faults (state fD.image).faults)
+          was-on : Sound → Was × IsTrue (state fC.image).shape.keeps × IsSound mid
+          was-on known = ((known.1, known.0, known.2), on known.0, mid-sound known.1 known.0 known.2)
+
+          caused : (r : Result Unit Fault) → MatchResult r (λ _. (state fD.image).faults ≡ (state fC.image).faults) (WhyNotCounted (Was × IsTrue (state fC.image).shape.keeps × IsSound mid) (IsLoose table C) (state fC.image).faults (state fD.image).faults)
+              → MatchResult r (λ _. (state fD.image).faults ≡ (state before.image).faults) (WhyNotAllocated Sound (IsLoose table old) Full (state before.image).faults (state fD.image).faults)
           caused (Ok done) count = count ∙ looked.cause
-          caused (Err fault) why = allocated-wider _ _ _ _ _ _ _ _ (λ (known : Sound). ((known.1, known.0, known.2), on known.0, mid-sound known.1 known.0 known.2)) looked.loose looked.cause fault why
+          caused (Err fault) why = counted-wider _ _ _ _ _ _ _ _ was-on looked.loose looked.cause fault why

@@ -33,7 +33,7 @@ use Rattle.qcow2_alloc.proofs.EnsuringBlocks.{why-allocated-wider}
 use Rattle.qcow2_alloc.proofs.FreeingEntries.{failed}
 use Rattle.qcow2_alloc.proofs.GrowingReftables.{shape-behind}
 use Rattle.qcow2_alloc.proofs.HandedOut.{handed-unnamed}
-use Rattle.qcow2_alloc.proofs.Loose.{loose-on, loose-spares}
+use Rattle.qcow2_alloc.proofs.Loose.{loose-on}
 use Rattle.qcow2_alloc.proofs.MadeBlocks.{allocated-wider}
 use Rattle.qcow2_alloc.proofs.QuietFlushes.{memory-quietly, quiet-none, quietly-weaker}
 use Rattle.qcow2_alloc.proofs.QuietThen.{quietly-then, quietly-otherwise}
@@ -50,7 +50,7 @@ module _ {S : Type 0} (state : S → StorageState) (mark cluster : ℕ) (table :
   pub at-not-announced : (fault : Fault) → Announced state table pending old before (failed fault) mid between → AllocatesClusterAt state mark cluster table old before pending (not_handed fault) table mid between pending mark
   at-not-announced fault first = record {
     leaked = λ _. 0;
-    leaks = leaks-none (IsLoose old) (not_handed fault);
+    leaks = leaks-none _ _ (not_handed fault);
     quiet = first.quiet;
     raised = λ keeps sound whole c. inl (first.counts keeps sound whole c);
     one = tt;
@@ -59,7 +59,7 @@ module _ {S : Type 0} (state : S → StorageState) (mark cluster : ℕ) (table :
     stays = refl;
     marked = λ keeps sound whole marked c below. let same = first.counts keeps sound whole c in let was = marked c below in omega (arith, same, was);
     order = tt;
-    shape = shape-behind state mark cluster table old before pending mid between (failed fault) mid between first (moved-none between.header between.header refl) (λ loose. loose) (record { tables = refl; blocks = refl });
+    shape = shape-behind state mark cluster table old before pending mid between (failed fault) table mid between first (moved-none between.header between.header refl) (λ loose. loose) (record { tables = refl; blocks = refl });
     list = inl refl;
     cause = allocated-wider _ _ _ _ _ _ _ _ (λ holds. holds) (λ loose. loose) refl fault first.cause;
   }
@@ -75,9 +75,10 @@ module _ {S : Type 0} (state : S → StorageState) (mark cluster : ℕ) (table :
     answered (Ok None) keeps sound (inl more) = inl (let same = first.counts keeps sound tt cluster in omega (arith, same, more))
     answered (Ok None) keeps sound (inr (inl stands)) = inr (inl stands)
     answered (Ok None) keeps sound (inr (inr (inl far))) = inr (inr (inl (subst (λ (H : Header). IsInReach H.fields.cluster_bits cluster → ⊥) first.header far)))
-    answered (Ok None) keeps sound (inr (inr (inr (past, none)))) = inr (inr (inr (
+    answered (Ok None) keeps sound (inr (inr (inr (past, number, none)))) = inr (inr (inr (
       subst (λ (H : Header). length table.words ≤ cluster / counters_of_block H.fields) first.header past,
-      no-place-as Start Mid first.header refl (first.counts keeps sound tt) mark (cluster / counters_of_block before.header.fields) (subst (λ (H : Header). NoPlaceToGrow Mid mark (cluster / counters_of_block H.fields)) first.header none),
+      number,
+      no-place-as Start Mid first.header refl (first.counts keeps sound tt) mark (cluster / counters_of_block before.header.fields) number (subst (λ (H : Header). NoPlaceToGrow Mid mark (cluster / counters_of_block H.fields) number) first.header none),
     )))
     answered (Err fault) keeps sound said = tt
 
@@ -87,16 +88,16 @@ module _ {S : Type 0} (state : S → StorageState) (mark cluster : ℕ) (table :
 
     caused : (r : Result (Option FreeEntry) Fault)
         → MatchResult r (λ _. (state after.image).faults ≡ (state between.image).faults)
-        (WhyNotAllocated (IsTrue (state between.image).shape.keeps × (order_of mid ≡ L2DependsOnRb) × IsSound Mid) (IsLoose mid) ⊥ (state between.image).faults (state after.image).faults)
+        (WhyNotAllocated (IsTrue (state between.image).shape.keeps × (order_of mid ≡ L2DependsOnRb) × IsSound Mid) (IsLoose table mid) (λ _. ⊥) (state between.image).faults (state after.image).faults)
         → MatchResult r (λ _. (state after.image).faults ≡ (state before.image).faults)
-        (WhyNotAllocated (IsTrue (state before.image).shape.keeps × IsSound Start) (IsLoose old) ⊥ (state before.image).faults (state after.image).faults)
+        (WhyNotAllocated (IsTrue (state before.image).shape.keeps × IsSound Start) (IsLoose table old) (λ _. ⊥) (state before.image).faults (state after.image).faults)
     caused (Ok found) same = same ∙ first.cause
-    caused (Err fault) why = caused-behind state table pending old before mid between first _ _ (state after.image).faults (λ full. full) fault why
+    caused (Err fault) why = caused-behind state table pending old before mid between first _ _ (state after.image).faults (λ n full. full) fault why
 
     pub at-announced : AllocatesClusterAt state mark cluster table old before pending result table' new after pending' mark'
     at-announced = record {
       leaked = at.did.leaked;
-      leaks = record { none = at.did.leaks.none; pinned = λ loose. at.did.leaks.pinned (first.loose loose) };
+      leaks = record { none = at.did.leaks.none; pinned = λ holds loose. let still = sound-behind state table pending old before mid between first holds.0 holds.1 in at.did.leaks.pinned (still.0, first.order, still.1) (first.loose loose) };
       quiet = quiet-behind state table pending old before mid between first (IsWhole result) (handed_at result at.did.leaked) (state after.image) End at.did.step.quiet;
       raised = λ keeps sound whole. let still = sound-behind state table pending old before mid between first keeps sound in
           raised-behind state table pending old before mid between first End keeps sound (at.did.step.raised first.order still.0 still.1 whole);
@@ -107,7 +108,7 @@ module _ {S : Type 0} (state : S → StorageState) (mark cluster : ℕ) (table :
       marked = λ keeps sound whole marked. let still = sound-behind state table pending old before mid between first keeps sound in
           at.marked first.order still.0 still.1 whole (marked-behind state table pending old before mid between first mark keeps sound marked);
       order = ordered result;
-      shape = shape-behind state mark cluster table old before pending mid between (Ok tt) new after first at.did.step.moved at.did.step.loose at.did.step.room;
+      shape = shape-behind state mark cluster table old before pending mid between (Ok tt) table' new after first at.did.step.moved at.did.step.loose at.did.step.room;
       list = subst (λ (H : Header). IsLengthenedByTable H.fields table table' pending pending') first.header at.did.list;
       cause = caused result at.did.cause;
     }
@@ -163,7 +164,7 @@ module _ {S : Type 0} (state : S → StorageState) (mark n : ℕ) (metadata : Bo
     pub run-not-freed : AllocatesClusters state mark n metadata table old before pending (refused_run fault) table A fA pA mark1
     run-not-freed = record {
       leaked = λ _. 0;
-      leaks = leaks-none (IsLoose old) (refused_run fault);
+      leaks = leaks-none _ _ (refused_run fault);
       quiet = quietly-weaker _ (IsWhole (refused_run fault)) (λ _. 0) (λ _. 0) (state before.image) First (state fA.image) (metadata_of state fA A table pA) (λ sound whole. inl whole) frees.quiet;
       run = tt;
       unnamed = λ keeps sound. tt;
@@ -177,9 +178,9 @@ module _ {S : Type 0} (state : S → StorageState) (mark n : ℕ) (metadata : Bo
       further = tt;
       stays = λ searched. absurd (not-limited searched frees.cause);
       order = tt;
-      shape = record { moved = moved-none before.header fA.header frees.header; loose = loose-on old A frees.pins frees.room; room = frees.room };
+      shape = record { moved = moved-none before.header fA.header frees.header; loose = loose-on table old A frees.pins frees.room; room = frees.room };
       list = λ searched. absurd (not-limited searched frees.cause);
-      cause = allocated-wider _ _ _ _ _ _ _ _ (λ holds. holds) (loose-spares old) refl fault frees.cause;
+      cause = allocated-wider _ _ _ _ _ _ _ _ (λ holds. holds) (λ loose. loose.room) refl fault frees.cause;
     }
 
   -- or not begun, for want of memory,
@@ -194,8 +195,8 @@ module _ {S : Type 0} (state : S → StorageState) (mark n : ℕ) (metadata : Bo
     abbrev Ready : Metadata
     Ready = metadata_of state fB B table []
 
-    freed-loose : IsLoose old → IsLoose A
-    freed-loose = loose-on old A frees.pins frees.room
+    freed-loose : IsLoose table old → IsLoose table A
+    freed-loose = loose-on table old A frees.pins frees.room
 
     still-sound : IsTrue (state before.image).shape.keeps → IsSound First → IsTrue (state fA.image).shape.keeps × IsSound Freed
     still-sound keeps sound = (keeps_on (state before.image) (state fA.image) frees.quiet.shape keeps, (frees.quiet.holds keeps sound (inl tt)).0)
@@ -209,7 +210,7 @@ module _ {S : Type 0} (state : S → StorageState) (mark n : ℕ) (metadata : Bo
     pub run-not-announced : (fault : Fault) → Announced state table [] A fA (failed fault) B fB → AllocatesClusters state mark n metadata table old before pending (refused_run fault) table B fB [] mark1
     run-not-announced fault second = record {
       leaked = λ _. 0;
-      leaks = leaks-none (IsLoose old) (refused_run fault);
+      leaks = leaks-none _ _ (refused_run fault);
       quiet = quiet-on (IsWhole (refused_run fault)) (λ _. 0) (state fB.image) Ready second.quiet;
       run = tt;
       unnamed = λ keeps sound. tt;
@@ -235,7 +236,7 @@ module _ {S : Type 0} (state : S → StorageState) (mark n : ℕ) (metadata : Bo
       cause = allocated-wider _ _ _ _ _ _ _ _ (λ holds. still-sound holds.0 holds.1) freed-loose frees.cause fault second.cause;
     }
       where
-        never : (f : Fault) → IsSearched (refused_run f) → WhyNotFreed (IsTrue (state fA.image).shape.keeps × IsSound Freed) (IsLoose A) (state fA.image).faults (state fB.image).faults f → ⊥
+        never : (f : Fault) → IsSearched (refused_run f) → WhyNotFreed (IsTrue (state fA.image).shape.keeps × IsSound Freed) (IsLoose table A) (state fA.image).faults (state fB.image).faults f → ⊥
         never (Limit number) searched why = why
         never f searched why = searched
 
@@ -263,7 +264,7 @@ module _ {S : Type 0} (state : S → StorageState) (mark n : ℕ) (metadata : Bo
         marked = ready-marked keeps sound;
       }
 
-      same-shape : StaysInShape old before new after
+      same-shape : StaysInShape table old before table' new after
       same-shape = record {
         moved = subst (λ (H : Header). MovedTable H after.header) (second.header ∙ frees.header) third.step.moved;
         loose = λ loose. third.step.loose (second.loose (freed-loose loose));
@@ -298,21 +299,21 @@ module _ {S : Type 0} (state : S → StorageState) (mark n : ℕ) (metadata : Bo
 
       run-caused : (r : Result FreeEntry Fault)
           → MatchResult r (λ _. (state after.image).faults ≡ (state fB.image).faults)
-          (WhyNotAllocated (IsTrue (state fB.image).shape.keeps × (order_of B ≡ L2DependsOnRb) × IsSound Ready) (IsLoose B)
-          (order_of B ≡ L2DependsOnRb → IsTrue (state fB.image).shape.keeps → IsSound Ready → IsCrowded Ready mark1 n) (state fB.image).faults (state after.image).faults)
+          (WhyNotAllocated (IsTrue (state fB.image).shape.keeps × (order_of B ≡ L2DependsOnRb) × IsSound Ready) (IsLoose table B)
+          (λ _. order_of B ≡ L2DependsOnRb → IsTrue (state fB.image).shape.keeps → IsSound Ready → IsCrowded Ready mark1 n) (state fB.image).faults (state after.image).faults)
           → MatchResult r (λ _. (state after.image).faults ≡ (state before.image).faults)
-          (WhyNotAllocated (IsTrue (state before.image).shape.keeps × IsSound First) (IsLoose old)
-          (IsTrue (state before.image).shape.keeps → IsSound First → IsCrowded Ready mark1 n) (state before.image).faults (state after.image).faults)
+          (WhyNotAllocated (IsTrue (state before.image).shape.keeps × IsSound First) (IsLoose table old)
+          (λ _. IsTrue (state before.image).shape.keeps → IsSound First → IsCrowded Ready mark1 n) (state before.image).faults (state after.image).faults)
       run-caused (Ok entry) same = same ∙ second.cause ∙ frees.cause
       run-caused (Err fault) why =
-          why-allocated-wider _ _ _ _ _ _ _ _ _ (λ holds. still-sound holds.0 holds.1) freed-loose (λ full keeps sound. let still = still-sound keeps sound in full still.0 still.1) frees.cause fault
-          (caused-behind state table [] A fA B fB second _ (IsTrue (state fA.image).shape.keeps → IsSound Freed → IsCrowded Ready mark1 n) (state after.image).faults
-          (λ full keeps sound. let still = sound-behind state table [] A fA B fB second keeps sound in full second.order still.0 still.1) fault why)
+          why-allocated-wider _ _ _ _ _ _ _ _ _ (λ holds. still-sound holds.0 holds.1) freed-loose (λ n full keeps sound. let still = still-sound keeps sound in full still.0 still.1) frees.cause fault
+          (caused-behind state table [] A fA B fB second _ (λ _. IsTrue (state fA.image).shape.keeps → IsSound Freed → IsCrowded Ready mark1 n) (state after.image).faults
+          (λ n full keeps sound. let still = sound-behind state table [] A fA B fB second keeps sound in full second.order still.0 still.1) fault why)
 
       pub run-announced : AllocatesClusters state mark n metadata table old before pending result table' new after pending' mark'
       run-announced = record {
         leaked = third.leaked;
-        leaks = record { none = third.leaks.none; pinned = λ loose. third.leaks.pinned (second.loose (freed-loose loose)) };
+        leaks = record { none = third.leaks.none; pinned = λ holds loose. let still = ready-sound holds.0 holds.1 in third.leaks.pinned (still.0, second.order, still.1) (second.loose (freed-loose loose)) };
         quiet = quiet-on (IsWhole result) (handed_by result third.leaked) (state after.image) Last
             (quiet-behind state table [] A fA B fB second (IsWhole result) (handed_by result third.leaked) (state after.image) Last third.step.quiet);
         run = runs;

@@ -8,14 +8,14 @@ use Rattle.imago_storage.specs.State.{StorageState}
 use Rattle.imago_storage.specs.declared.fault.Fault.{Fault}
 use Rattle.qcow2_alloc.specs.declared.async_lru_cache.Slot.{Slot}
 use Rattle.qcow2_alloc.specs.Cache.{FlushedAt, Evicted, MadeRoom, PutAfter, Overwritten, Inserted, hit, victim}
-use Rattle.qcow2_alloc.specs.Finding.{IsPinnedFull, pinned_in, with_room, CountsSearch}
+use Rattle.qcow2_alloc.specs.Finding.{IsPinnedFull, PinsNothing, with_room, CountsSearch}
 use Rattle.qcow2_alloc.specs.Putting.{refusal_of, PutInto, MakesWay}
 use Rattle.qcow2_alloc.proofs.Counting.{Counted}
 use Rattle.qcow2_alloc.proofs.Entries.{remove_written}
-use Rattle.qcow2_alloc.proofs.Pins.{pinned-hit, pinned-new, pinned-set}
+use Rattle.qcow2_alloc.proofs.Pins.{pins-hit, pins-new, pins-set, pins-then}
 use Rattle.qcow2_alloc.proofs.Places.{Place, place-of-key, place-hit}
 use Rattle.qcow2_alloc.proofs.Readying.{is-there}
-use Rattle.qcow2_alloc.proofs.Searching.{all-at, at-most, found-written, mapped-same, no-more, pinned-room, room-counted, room-list, room-refused, done_of}
+use Rattle.qcow2_alloc.proofs.Searching.{all-at, found-written, mapped-same, pins-room, room-counted, room-list, room-refused, done_of}
 
 -- the answer of a put that had leave to flush
 abbrev pub put_of : {V : Type 0} → Result (Option V) (Fault × V) → Result Unit (Fault × V)
@@ -59,7 +59,7 @@ module _ {V D : Type 0} (flushes : D → ℕ → V → Result Unit Fault → D �
         over = λ t. is;
         added = λ none. absurd (let no = subst (λ (o : Option (Slot V)). IsSome o) none there in cc);
         refused = tt;
-        pinned = no-more (ap (λ l. pinned_in l) is ∙ pinned-hit key es value);
+        pinned = subst (λ l. PinsNothing es l) (sym is) (pins-hit key es value);
       }
   over-put there (Err refused) (back, at) =
       let p = place-of-key key es at.slot at.there in
@@ -68,7 +68,7 @@ module _ {V D : Type 0} (flushes : D → ℕ → V → Result Unit Fault → D �
         over = λ t. tt;
         added = λ none. tt;
         refused = (back, inl (ap (λ l. map written l) (at.entries ∙ p.set w) ∙ mapped-same written p.front (key, w) (key, at.slot) p.back (kept key at.slot before after (Err refused.0) at.value at.flush) ∙ ap (λ l. map written l) (sym p.is)));
-        pinned = no-more (ap (λ l. pinned_in l) at.entries ∙ pinned-set key es at.slot w at.there refl);
+        pinned = subst (λ l. PinsNothing es l) (sym at.entries) (pins-set key es at.slot w at.there refl);
       }
 
   not-there : {X : Type 0} → lookup (nat_eq key) es ≡ None → IsSome (lookup (nat_eq key) es) → X
@@ -83,7 +83,7 @@ module _ {V D : Type 0} (flushes : D → ℕ → V → Result Unit Fault → D �
         over = not-there none;
         added = λ n. is;
         refused = tt;
-        pinned = at-most (ap (λ l. pinned_in l) is ∙ pinned-new key value (with_room cap es)) (pinned-room (λ a k r b. ⊥) flushes cap es);
+        pinned = subst (λ l. PinsNothing es l) (sym is) (pins-then es (with_room cap es) _ (pins-room (λ a k r b. ⊥) flushes cap es) (pins-new key value (with_room cap es)));
       })
   added-put none (Ok true) entries made result not (inr short) =
       let is = short.1 ∙ room-list (λ a k r b. ⊥) flushes cap may_flush before es after entries made in
@@ -91,7 +91,7 @@ module _ {V D : Type 0} (flushes : D → ℕ → V → Result Unit Fault → D �
         over = not-there none;
         added = λ n. tt;
         refused = (refl, inr is);
-        pinned = at-most (ap (λ l. pinned_in l) is) (pinned-room (λ a k r b. ⊥) flushes cap es);
+        pinned = subst (λ l. PinsNothing es l) (sym is) (pins-room (λ a k r b. ⊥) flushes cap es);
       })
   added-put none (Ok false) entries made result not put = absurd (not (subst (λ (q : Result (Option V) (Fault × V)). IsBarred q) (sym put.0) tt))
   added-put none (Err fault) entries made result not put =
@@ -100,7 +100,7 @@ module _ {V D : Type 0} (flushes : D → ℕ → V → Result Unit Fault → D �
         over = not-there none;
         added = λ n. tt;
         refused = (refl, inl (ap (λ l. map written l) put.1 ∙ r.0));
-        pinned = at-most (ap (λ l. pinned_in l) put.1) r.1;
+        pinned = subst (λ l. PinsNothing es l) (sym put.1) r.1;
       })
 
   pub inserted-put : (result : Result (Option V) (Fault × V)) → (IsBarred result → ⊥) → Inserted nat_eq flushes cap may_flush key value before es result after es' → PutInto written cap key value es (put_of result) es'

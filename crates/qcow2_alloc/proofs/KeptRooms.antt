@@ -252,11 +252,11 @@ module _ (table0 : TableValue) (k n sp Q s e mark : ℕ) (sizes : AreSizes k n s
       }
 
     -- There is a place for the table,
-    pub place-there-is : ((c : ℕ) → c < sp → IsInReach m.header.fields.cluster_bits c) → NoPlaceToGrow m mark index → ⊥
-    place-there-is reach (inl none) =
-        let most = none (2 ^ 20) (subst (λ (x : ℕ). IsEnough w x index (2 ^ 20)) (sym size) (longest-enough k n sp Q s e sizes z run-behind near w (words-wide m.header.fields shaped) (words-divide m.header.fields shaped))) in
+    pub place-there-is : ((c : ℕ) → c < sp → IsInReach m.header.fields.cluster_bits c) → (number : ℕ) → NoPlaceToGrow m mark index number → ⊥
+    place-there-is reach number (inl none) =
+        let most = none.0 (2 ^ 20) (subst (λ (x : ℕ). IsEnough w x index (2 ^ 20)) (sym size) (longest-enough k n sp Q s e sizes z run-behind near w (words-wide m.header.fields shaped) (words-divide m.header.fields shaped))) in
         omega (arith, most)
-    place-there-is reach (inr (first, total, clusters, room, far)) = far (in-reach clusters first total room reach)
+    place-there-is reach number (inr (first, total, clusters, room, far, is)) = far (in-reach clusters first total room reach)
 
     -- and once it has grown room is kept still.
     pub keeping-grown : (m' : Metadata) → TableGrown mark index m m' → Keeping table0 k n s e Q m'.table (counted m')

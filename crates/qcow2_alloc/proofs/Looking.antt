@@ -34,8 +34,8 @@ use Rattle.qcow2_alloc.specs.Safety.{Safe, IsSettled, IsCachedBlock}
 use Rattle.qcow2_alloc.specs.Scanning.{Reads, AreCounted}
 use Rattle.qcow2_alloc.specs.SearchingClusters.{counts_in, IsSafeWith, Looked}
 use Rattle.qcow2_alloc.proofs.ChangingCounters.{cached-count}
-use Rattle.qcow2_alloc.proofs.Loose.{loose-on, never-pinned}
-use Rattle.qcow2_alloc.proofs.Pins.{pinned-hit}
+use Rattle.qcow2_alloc.proofs.Loose.{loose-on, loose-never}
+use Rattle.qcow2_alloc.proofs.Pins.{pins-hit}
 use Rattle.qcow2_alloc.proofs.FreeingEntries.{why-freed-wider}
 use Rattle.qcow2_alloc.proofs.Going.{going-none, going-both, going-weaker, left-same}
 use Rattle.qcow2_alloc.proofs.MemoryWords.{places-in-memory}
@@ -105,10 +105,10 @@ module _ {S : Type 0} (state : S → StorageState) (table : TableValue) where
     Goes h o = Going h o Always (IsWhole result) (state between.image) (cached_in mid) (state after.image) (cached_in new)
 
     cause-then : (r : Result U Fault) → Looked state table mid between r new after
-        → MatchResult r (λ _. (state after.image).faults ≡ (state before.image).faults) (WhyNotFreed (IsSafeWith state table old before) (IsLoose old) (state before.image).faults (state after.image).faults)
+        → MatchResult r (λ _. (state after.image).faults ≡ (state before.image).faults) (WhyNotFreed (IsSafeWith state table old before) (IsLoose table old) (state before.image).faults (state after.image).faults)
     cause-then (Ok w) then = then.cause ∙ first.cause
     cause-then (Err fault) then =
-        why-freed-wider (IsSafeWith state table mid between) (IsSafeWith state table old before) (IsLoose mid) (IsLoose old) (state before.image).faults (state between.image).faults (state after.image).faults
+        why-freed-wider (IsSafeWith state table mid between) (IsSafeWith state table old before) (IsLoose table mid) (IsLoose table old) (state before.image).faults (state between.image).faults (state after.image).faults
         (safe-still old before v mid between first) first.loose first.cause fault then.cause
 
     -- A search may go on behind another.
@@ -130,7 +130,7 @@ module _ {S : Type 0} (state : S → StorageState) (table : TableValue) where
     named-there sound = named-block (bytes_of (state before.image).bytes) before.header table i sound.table_of_file key sound.safe.consistent named
 
     abbrev Why : Fault → Type 0
-    Why fault = WhyNotFreed (IsSafeWith state table old before) (IsLoose old) (state before.image).faults (state after.image).faults fault
+    Why fault = WhyNotFreed (IsSafeWith state table old before) (IsLoose table old) (state before.image).faults (state after.image).faults fault
 
     why-search : (fault : Fault)
         → WhyNotFound (IsInReach before.header.fields.cluster_bits key × AreTablesInReach (cached_in old) × AreBlocksInReach (cached_in old)) (IsPinnedFull old.rb.slots.cap (cached_in old).blocks) (state before.image).faults (state after.image).faults fault
@@ -140,11 +140,11 @@ module _ {S : Type 0} (state : S → StorageState) (table : TableValue) where
     why-search DamagedTable why = λ sound.
         let reach = safe-reach (bytes_of (state before.image).bytes) before.header (cached_in old) (order_of old) sound.safe in
         why ((named-there sound).reach, reach.0, reach.1)
-    why-search CacheFull why = λ loose. never-pinned Block (cached_in old).blocks loose.blocks why loose.room
+    why-search CacheFull why = λ loose. loose-never table old loose why
     why-search other why = absurd why
 
-    loose-found : (answer : Result Unit Fault) → BlockFound state key old before answer new after → IsLoose old → IsLoose new
-    loose-found answer found = loose-on old new found.sought.pinned found.room
+    loose-found : (answer : Result Unit Fault) → BlockFound state key old before answer new after → IsLoose table old → IsLoose table new
+    loose-found answer found = loose-on table old new found.sought.pinned found.room
 
     found-refused : {T : Type 0} (fault : Fault) → BlockFound state key old before (Err fault) new after → Looked state {T = T} table old before (Err fault) new after
     found-refused fault found = record {
@@ -177,7 +177,7 @@ module _ {S : Type 0} (state : S → StorageState) (table : TableValue) where
         (λ safe. block-used (bytes_of (state after.image).bytes) after.header (cached_in mid) (order_of mid) key safe block there);
     order = refl;
     header = refl;
-    loose = λ loose. record { blocks = pinned-hit key (cached_in mid).blocks block ∙ loose.blocks; room = loose.room };
+    loose = loose-on table mid (used_caches key mid block) (pins-hit key (cached_in mid).blocks block) (record { tables = refl; blocks = refl });
     room = record { tables = refl; blocks = refl };
     cause = refl;
   }

@@ -1,54 +1,69 @@
 -- What calls of the caches leave of their room, and of what is pinned.
-use Rattle.std.proofs.Common.{◌≡◌, ℕ, ◌<◌, ◌≤◌, arith, ap, sym, subst, ◌∙◌, List, Option, None, Some, Result, Ok, Err, inl, inr}
-use Rattle.std.specs.Prelude.{map, MatchOption}
+use Rattle.std.proofs.Common.{◌≡◌, ◌≢◌, ℕ, ◌/◌, ◌^◌, refl, arith, ap, sym, subst, ◌∙◌, Option, None, Some, Result, Ok, Err, true, inl, inr}
+use Rattle.std.specs.Prelude.{MatchOption, nat_eq, slice_index, ◌==◌, if◌then◌else◌}
+use Rattle.std.proofs.lemmas.Bool.{cases_eq}
 use Rattle.imago_storage.specs.State.{StorageState}
 use Rattle.imago_storage.specs.declared.fault.Fault.{Fault}
+use Rattle.qcow2_types.specs.Words.{block_offset}
 use Rattle.qcow2_metadata.specs.Blocks.{Block}
-use Rattle.qcow2_alloc.specs.declared.async_lru_cache.Slot.{Slot}
+use Rattle.qcow2_metadata.specs.Tables.{TableValue}
 use Rattle.qcow2_alloc.specs.declared.cache.MetadataCaches.{MetadataCaches}
 use Rattle.qcow2_alloc.specs.declared.file.ImageFile.{ImageFile}
-use Rattle.qcow2_alloc.specs.Allocators.{UsesBlock, BlockUsed}
+use Rattle.qcow2_alloc.specs.Allocators.{UsesBlock, BlockUsed, named_block}
 use Rattle.qcow2_alloc.specs.Caches.{cached_in, HasRoomOf}
-use Rattle.qcow2_alloc.specs.Finding.{BlockFound, IsPinnedFull, pinned_in}
+use Rattle.qcow2_alloc.specs.Finding.{BlockFound, IsPinnedFull, PinsNothing}
 use Rattle.qcow2_alloc.specs.Freeing.{HasSpareRoom, IsLoose}
-use Rattle.qcow2_alloc.proofs.Pins.{full-pinned, pinned-hit, pinned-same}
-use Rattle.qcow2_alloc.proofs.Searching.{at-most, no-more}
+use Rattle.qcow2_alloc.proofs.Pins.{full-pinned, pins-hit, pins-none, pins-then}
 
-module _ (V : Type 0) where
-  -- No entry of a cache that has one is pinned.
-  pub never-pinned : {cap : ℕ} (es : List (ℕ × Slot V)) → pinned_in es ≡ 0 → IsPinnedFull cap es → 0 < cap → ⊥
-  never-pinned es none full some = let le = full-pinned es full in omega (arith, le, none, some)
+-- There is still room to spare where nothing was pinned and the room is the same,
+pub spare-on : {S : Type 0} (old new : MetadataCaches S) → PinsNothing (cached_in old).blocks (cached_in new).blocks → HasRoomOf old new → HasSpareRoom old → HasSpareRoom new
+spare-on old new pins room spare = let le = pins.among (λ _. true) in let same = room.blocks in omega (arith, le, same, spare)
 
-  -- Flushes keep pins.
-  pub unpinned-written : (written : ℕ × Slot V → ℕ × Slot V) → ((e : ℕ × Slot V) → (written e).1.pins ≡ e.1.pins) → (xs ys : List (ℕ × Slot V)) → map written xs ≡ map written ys → pinned_in ys ≡ 0 → pinned_in xs ≡ 0
-  unpinned-written written pins xs ys same none = pinned-same written (λ e. e.1.pins) pins xs ys same ∙ none
+-- and the blocks that are pinned are named,
+pub loose-on : {S : Type 0} (table : TableValue) (old new : MetadataCaches S) → PinsNothing (cached_in old).blocks (cached_in new).blocks → HasRoomOf old new → IsLoose table old → IsLoose table new
+loose-on table old new pins room loose = record {
+  room = spare-on old new pins room loose.room;
+  named = λ key some. loose.named key (let le = pins.among (nat_eq key) in omega (arith, le, some));
+}
 
--- Where no more are pinned, and the room is the same, none is still, or there is room to spare.
-pub loose-on : {S : Type 0} (old new : MetadataCaches S) → pinned_in (cached_in new).blocks ≤ pinned_in (cached_in old).blocks → HasRoomOf old new → IsLoose old → IsLoose new
-loose-on old new pins room loose = record { blocks = (let none = loose.blocks in omega (arith, pins, none)); room = subst (λ n. 0 < n) (sym room.blocks) loose.room }
+-- also by another table that names them still.
+pub loose-named : {S : Type 0} (table table' : TableValue) (caches : MetadataCaches S) → ((i key : ℕ) → named_block table i ≡ Some key → named_block table' i ≡ Some key) → IsLoose table caches → IsLoose table' caches
+loose-named table table' caches kept loose = record {
+  room = loose.room;
+  named = λ key some. let there = loose.named key some in (there.0, kept there.0 key there.1);
+}
 
-pub spare-on : {S : Type 0} (old new : MetadataCaches S) → pinned_in (cached_in new).blocks ≤ pinned_in (cached_in old).blocks → HasRoomOf old new → HasSpareRoom old → HasSpareRoom new
-spare-on old new pins room spare = let same = room.blocks in omega (arith, pins, same, spare)
+abbrev named_by : ℕ → ℕ → Option ℕ
+named_by word bits = if word == 0 then None else Some (word / 2 ^ bits)
 
-pub loose-spares : {S : Type 0} (caches : MetadataCaches S) → IsLoose caches → HasSpareRoom caches
-loose-spares caches loose = let none = loose.blocks in let room = loose.room in omega (arith, none, room)
+-- One does where its words are what they were.
+pub name-kept : (table table' : TableValue) (i key : ℕ) → table'.layout.cluster_bits ≡ table.layout.cluster_bits → (block_offset (slice_index table.words i) ≢ 0 → block_offset (slice_index table'.words i) ≡ block_offset (slice_index table.words i))
+    → named_block table i ≡ Some key → named_block table' i ≡ Some key
+name-kept table table' i key bits still named = elim (cases_eq (block_offset (slice_index table.words i)) 0) [
+  | inl none ↦ absurd (let no : None ≡ Some key = sym (rw none refl) ∙ named in cc)
+  | inr some ↦ ap (λ w. named_by w table'.layout.cluster_bits) (still some) ∙ ap (λ b. named_by (block_offset (slice_index table.words i)) b) bits ∙ named
+]
 
--- The header, the order and the room stay, and no more blocks are pinned;
+-- Where there is room to spare it can be made.
+pub loose-never : {S : Type 0} (table : TableValue) (caches : MetadataCaches S) → IsLoose table caches → IsPinnedFull caches.rb.slots.cap (cached_in caches).blocks → ⊥
+loose-never table caches loose full = let all = full-pinned (cached_in caches).blocks full in let spare = loose.room in omega (arith, all, spare)
+
+-- The header, the order and the room stay, and nothing is pinned;
 pub record KeepsPins {S : Type 0} (old : MetadataCaches S) (before : ImageFile S) (new : MetadataCaches S) (after : ImageFile S) : Type 0 where
   pub header : after.header ≡ before.header
   pub order : new.order ≡ old.order
-  pub pins : pinned_in (cached_in new).blocks ≤ pinned_in (cached_in old).blocks
+  pub pins : PinsNothing (cached_in old).blocks (cached_in new).blocks
   pub room : HasRoomOf old new
 
--- or none is where none was.
-pub record StaysLoose {S : Type 0} (old : MetadataCaches S) (before : ImageFile S) (new : MetadataCaches S) (after : ImageFile S) : Type 0 where
+-- or what is pinned stays so few, and named.
+pub record StaysLoose {S : Type 0} (table : TableValue) (old : MetadataCaches S) (before : ImageFile S) (new : MetadataCaches S) (after : ImageFile S) : Type 0 where
   pub header : after.header ≡ before.header
   pub order : new.order ≡ old.order
-  pub loose : IsLoose old → IsLoose new
+  pub loose : IsLoose table old → IsLoose table new
   pub room : HasRoomOf old new
 
-stays-loose : {S : Type 0} (old : MetadataCaches S) (before : ImageFile S) (new : MetadataCaches S) (after : ImageFile S) → KeepsPins old before new after → StaysLoose old before new after
-stays-loose old before new after keeps = record { header = keeps.header; order = keeps.order; loose = loose-on old new keeps.pins keeps.room; room = keeps.room }
+pub stays-loose : {S : Type 0} (table : TableValue) (old : MetadataCaches S) (before : ImageFile S) (new : MetadataCaches S) (after : ImageFile S) → KeepsPins old before new after → StaysLoose table old before new after
+stays-loose table old before new after keeps = record { header = keeps.header; order = keeps.order; loose = loose-on table old new keeps.pins keeps.room; room = keeps.room }
 
 module _ {S : Type 0} (state : S → StorageState) where
   -- A search does so,
@@ -60,8 +75,8 @@ module _ {S : Type 0} (state : S → StorageState) where
     room = found.room;
   }
 
-  pub found-stays : (key : ℕ) (old : MetadataCaches S) (before : ImageFile S) (answer : Result Unit Fault) (new : MetadataCaches S) (after : ImageFile S) → BlockFound state key old before answer new after → StaysLoose old before new after
-  found-stays key old before answer new after found = stays-loose old before new after (found-keeps key old before answer new after found)
+  pub found-stays : (table : TableValue) (key : ℕ) (old : MetadataCaches S) (before : ImageFile S) (answer : Result Unit Fault) (new : MetadataCaches S) (after : ImageFile S) → BlockFound state key old before answer new after → StaysLoose table old before new after
+  found-stays table key old before answer new after found = stays-loose table old before new after (found-keeps key old before answer new after found)
 
   -- and the use of what was found.
   pub used-keeps : {T : Type 0} (key : ℕ) (does : Block → Result T Fault → Block → Type 0) (old : MetadataCaches S) (before : ImageFile S) (result : Result T Fault) (new : MetadataCaches S) (after : ImageFile S)
@@ -69,7 +84,8 @@ module _ {S : Type 0} (state : S → StorageState) where
   used-keeps key does old before result new after u =
       let mid = found-keeps key old before (Ok tt) u.mid after u.found in
       let room : HasRoomOf old new = record { tables = ap (λ (m : MetadataCaches S). m.l2.slots.cap) u.left ∙ mid.room.tables; blocks = ap (λ (m : MetadataCaches S). m.rb.slots.cap) u.left ∙ mid.room.blocks } in
-      let pins : pinned_in (cached_in new).blocks ≤ pinned_in (cached_in old).blocks = at-most (ap (λ (m : MetadataCaches S). pinned_in (cached_in m).blocks) u.left ∙ pinned-hit key (cached_in u.mid).blocks u.block') mid.pins in
+      let pins : PinsNothing (cached_in old).blocks (cached_in new).blocks = subst (λ (m : MetadataCaches S). PinsNothing (cached_in old).blocks (cached_in m).blocks) (sym u.left)
+      (pins-then (cached_in old).blocks (cached_in u.mid).blocks _ mid.pins (pins-hit key (cached_in u.mid).blocks u.block')) in
       record {
         header = mid.header;
         order = ap (λ (m : MetadataCaches S). m.order) u.left ∙ mid.order;
@@ -77,9 +93,9 @@ module _ {S : Type 0} (state : S → StorageState) where
         room = room;
       }
 
-  pub used-stays : {T : Type 0} (key : ℕ) (does : Block → Result T Fault → Block → Type 0) (old : MetadataCaches S) (before : ImageFile S) (result : Result T Fault) (new : MetadataCaches S) (after : ImageFile S)
-      → BlockUsed state key does old before result new after → StaysLoose old before new after
-  used-stays key does old before result new after u = stays-loose old before new after (used-keeps key does old before result new after u)
+  pub used-stays : {T : Type 0} (table : TableValue) (key : ℕ) (does : Block → Result T Fault → Block → Type 0) (old : MetadataCaches S) (before : ImageFile S) (result : Result T Fault) (new : MetadataCaches S) (after : ImageFile S)
+      → BlockUsed state key does old before result new after → StaysLoose table old before new after
+  used-stays table key does old before result new after u = stays-loose table old before new after (used-keeps key does old before result new after u)
 
   pub uses-keeps : {T : Type 0} (key : ℕ) (does : Block → Result T Fault → Block → Type 0) (old : MetadataCaches S) (before : ImageFile S) (result : Result T Fault) (new : MetadataCaches S) (after : ImageFile S)
       → UsesBlock state key does old before result new after → KeepsPins old before new after
@@ -92,7 +108,7 @@ module _ {S : Type 0} (state : S → StorageState) where
   named-keeps None does Refused old before result new after (is, same, same') = record {
     header = ap (λ (f : ImageFile S). f.header) same';
     order = ap (λ (m : MetadataCaches S). m.order) same;
-    pins = no-more (ap (λ (m : MetadataCaches S). pinned_in (cached_in m).blocks) same);
+    pins = pins-none (cached_in old).blocks (cached_in new).blocks (ap (λ (m : MetadataCaches S). (cached_in m).blocks) same);
     room = record { tables = ap (λ (m : MetadataCaches S). m.l2.slots.cap) same; blocks = ap (λ (m : MetadataCaches S). m.rb.slots.cap) same };
   }
   named-keeps (Some key) does Refused old before result new after uses = uses-keeps key does old before result new after uses

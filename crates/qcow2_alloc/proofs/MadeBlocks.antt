@@ -1,11 +1,10 @@
 -- A refcount block is made, from the first of the call to its last.
-use Rattle.std.proofs.Common.{◌≡◌, ◌≢◌, ℕ, ◌+◌, ◌*◌, ◌^◌, ◌<◌, ◌≤◌, refl, arith, ap, sym, subst, ◌∙◌, inl, List, length, Ok, Err, None, Some, Bool, true, Option, Result}
+use Rattle.std.proofs.Common.{◌≡◌, ◌≢◌, ℕ, ◌+◌, ◌*◌, ◌^◌, ◌<◌, ◌≤◌, refl, arith, ap, sym, subst, ◌∙◌, inl, List, length, Ok, Err, Some, Bool, true, Option, Result}
 use Rattle.std.specs.Prelude.{⊤, nat_eq, slice_index, IsTrue, OnOk, IsSomeAnd, MatchResult}
 use Rattle.std.specs.Int.{w64, to_be_bytes}
 use Rattle.std.specs.Map.{lookup}
 use Rattle.std.proofs.lemmas.List.{length-set, get_or-set_same, get_or-set_other}
 use Rattle.std.proofs.lemmas.Nat.{pow_pos}
-use Rattle.std.proofs.Math.Nat.{mul-le-mul_right}
 use Rattle.imago_storage.specs.State.{StorageState, Rose}
 use Rattle.imago_storage.specs.Calls.{Cause, Later}
 use Rattle.imago_storage.specs.Through.{Put, PutAtOnce}
@@ -27,28 +26,28 @@ use Rattle.qcow2_metadata.specs.Blocks.{Block, BlockPut, block_of}
 use Rattle.qcow2_metadata.specs.Places.{IsInReach, IsPlaced}
 use Rattle.qcow2_metadata.specs.Tables.{TableValue, IsNamable, with_word, table_place}
 use Rattle.qcow2_metadata.proofs.TableSteps.{block_named}
-use Rattle.qcow2_alloc.specs.declared.async_lru_cache.Slot.{Slot}
 use Rattle.qcow2_alloc.specs.declared.cache.CacheDependency.TheVariants.{L2DependsOnRb}
 use Rattle.qcow2_alloc.specs.declared.cache.MetadataCaches.{MetadataCaches}
 use Rattle.qcow2_alloc.specs.declared.file.ImageFile.{ImageFile}
 use Rattle.qcow2_alloc.specs.Allocating.{MakesBlock, OnlyRaised, WhyNotAllocated}
-use Rattle.qcow2_alloc.specs.Allocators.{metadata_of}
+use Rattle.qcow2_alloc.specs.Allocators.{metadata_of, named_block}
 use Rattle.qcow2_alloc.specs.Caches.{cached_in, order_of}
-use Rattle.qcow2_alloc.specs.Freeing.{IsLoose, WhyNotFreed}
+use Rattle.qcow2_alloc.specs.Freeing.{IsLoose, WhyNotCounted, WhyNotFreed}
 use Rattle.qcow2_alloc.specs.Going.{IsWhole, WhyNotWritten}
 use Rattle.qcow2_alloc.specs.MakingBlocks.{Begins, CanName, WhyNotNamed, NamesWritten}
 use Rattle.qcow2_alloc.specs.MakingRoom.{with_block}
-use Rattle.qcow2_alloc.specs.Quiet.{Metadata, in_memory, counted, IsUsed, IsSound, Quietly}
+use Rattle.qcow2_alloc.specs.Quiet.{Metadata, in_memory, counted, IsUsed, IsSound, Quietly, named_at_all}
 use Rattle.qcow2_alloc.proofs.Allocating.{raised-then}
 use Rattle.qcow2_alloc.proofs.AtOnce.{put-done}
 use Rattle.qcow2_alloc.proofs.FlushingTables.{never-mild}
+use Rattle.qcow2_alloc.proofs.Forgetting.{never-unnamed}
 use Rattle.qcow2_alloc.proofs.FreeingEntries.{failed}
-use Rattle.qcow2_alloc.proofs.Loose.{StaysLoose}
+use Rattle.qcow2_alloc.proofs.Loose.{StaysLoose, loose-named, name-kept}
 use Rattle.qcow2_alloc.proofs.Patches.{place-there}
 use Rattle.qcow2_alloc.proofs.QuietFlushes.{memory-quietly, quiet-none, quietly-weaker}
 use Rattle.qcow2_alloc.proofs.QuietGiven.{quietly-given, quietly-then-given}
 use Rattle.qcow2_alloc.proofs.QuietThen.{quietly-then, quietly-otherwise, quiet-otherwise}
-use Rattle.qcow2_alloc.proofs.Pins.{pinned-none}
+use Rattle.qcow2_alloc.proofs.Pins.{pinned-there}
 
 module _ (m : Metadata) (sound : IsSound m) where
   -- The first cluster is counted.
@@ -90,7 +89,7 @@ put-faults : (old new : StorageState) (at : ℕ) (bytes : List ℕ) (done : Resu
 put-faults old new at bytes (Ok done) put is = put.answer.faults
 put-faults old new at bytes (Err fault) put is = absurd (cc is)
 
-caused : (holds loose full : Type 0) (a b c : ℕ) → b ≡ a → (fault : Fault) → Cause b c fault → WhyNotAllocated holds loose full a c fault
+caused : (holds loose : Type 0) (full : ℕ → Type 0) (a b c : ℕ) → b ≡ a → (fault : Fault) → Cause b c fault → WhyNotAllocated holds loose full a c fault
 caused holds loose full a b c same Memory cause = tt
 caused holds loose full a b c same Storage cause = subst (λ n. Rose n c) same cause
 caused holds loose full a b c same other cause = absurd cause
@@ -186,37 +185,43 @@ module _ {S : Type 0} (state : S → StorageState) (i d : ℕ) (counters : List 
             let all = n.named is in
             subst (λ (t : TableValue). Ends ready taken result t after) (sym all.1.1) (named-end all.1.0 n.mid after n.done is n.put result all.0)
 
--- A cause of what counts is one of what allocates,
-pub allocated-wider : (sound sound' loose loose' full : Type 0) (a b c : ℕ) → (sound' → sound) → (loose' → loose) → b ≡ a → (fault : Fault) → WhyNotFreed sound loose b c fault → WhyNotAllocated sound' loose' full a c fault
-allocated-wider sound sound' loose loose' full a b c from from' same Memory why = tt
-allocated-wider sound sound' loose loose' full a b c from from' same Storage why = subst (λ n. Rose n c) same why
-allocated-wider sound sound' loose loose' full a b c from from' same DamagedTable why = λ s. why (from s)
-allocated-wider sound sound' loose loose' full a b c from from' same Counter why = λ s. why (from s)
-allocated-wider sound sound' loose loose' full a b c from from' same CacheFull why = λ l. why (from' l)
-allocated-wider sound sound' loose loose' full a b c from from' same (Limit number) why = absurd why
-allocated-wider sound sound' loose loose' full a b c from from' same other why = absurd why
+allocated-by : (sound sound' loose loose' : Type 0) (full : ℕ → Type 0) (a b c : ℕ) → (sound' → sound) → (sound' → loose' → loose) → b ≡ a → (fault : Fault) → WhyNotFreed sound loose b c fault → WhyNotAllocated sound' loose' full a c fault
+allocated-by sound sound' loose loose' full a b c from from' same Memory why = tt
+allocated-by sound sound' loose loose' full a b c from from' same Storage why = subst (λ n. Rose n c) same why
+allocated-by sound sound' loose loose' full a b c from from' same DamagedTable why = λ s. why (from s)
+allocated-by sound sound' loose loose' full a b c from from' same Counter why = λ s. why (from s)
+allocated-by sound sound' loose loose' full a b c from from' same CacheFull why = λ both. why (from' both.0 both.1)
+allocated-by sound sound' loose loose' full a b c from from' same (Limit number) why = absurd why
+allocated-by sound sound' loose loose' full a b c from from' same other why = absurd why
+
+-- A cause of what frees or searches is one of what allocates, as is one of what counts,
+pub allocated-wider : (sound sound' loose loose' : Type 0) (full : ℕ → Type 0) (a b c : ℕ) → (sound' → sound) → (loose' → loose) → b ≡ a → (fault : Fault) → WhyNotFreed sound loose b c fault → WhyNotAllocated sound' loose' full a c fault
+allocated-wider sound sound' loose loose' full a b c from from' same fault why = allocated-by sound sound' loose loose' full a b c from (λ s. from') same fault why
+
+pub counted-wider : (sound sound' loose loose' : Type 0) (full : ℕ → Type 0) (a b c : ℕ) → (sound' → sound) → (loose' → loose) → b ≡ a → (fault : Fault) → WhyNotCounted sound loose b c fault → WhyNotAllocated sound' loose' full a c fault
+counted-wider sound sound' loose loose' full a b c from from' same fault why = allocated-by sound sound' (sound × loose) loose' full a b c from (λ s l. (from s, from' l)) same fault why
 
 -- and so is one of writes.
-pub allocated-written : (sound reach loose full : Type 0) (a b c : ℕ) → (sound → reach) → b ≡ a → (fault : Fault) → WhyNotWritten reach b c fault → WhyNotAllocated sound loose full a c fault
+pub allocated-written : (sound reach loose : Type 0) (full : ℕ → Type 0) (a b c : ℕ) → (sound → reach) → b ≡ a → (fault : Fault) → WhyNotWritten reach b c fault → WhyNotAllocated sound loose full a c fault
 allocated-written sound reach loose full a b c from same Memory why = tt
 allocated-written sound reach loose full a b c from same Storage why = subst (λ n. Rose n c) same why
 allocated-written sound reach loose full a b c from same DamagedTable why = λ s. why (from s)
 allocated-written sound reach loose full a b c from same other why = absurd why
 
-caused-all : (holds loose full : Type 0) (a b c : ℕ) → b ≡ a → (result : Result Unit Fault) → MatchResult result (λ _. c ≡ b) (Cause b c) → MatchResult result (λ _. c ≡ a) (WhyNotAllocated holds loose full a c)
+caused-all : (holds loose : Type 0) (full : ℕ → Type 0) (a b c : ℕ) → b ≡ a → (result : Result Unit Fault) → MatchResult result (λ _. c ≡ b) (Cause b c) → MatchResult result (λ _. c ≡ a) (WhyNotAllocated holds loose full a c)
 caused-all holds loose full a b c same (Ok done) counts = counts ∙ same
 caused-all holds loose full a b c same (Err fault) cause = caused holds loose full a b c same fault cause
 
-allocated-then : (sound sound' loose loose' full full' : Type 0) (a b c : ℕ) → (sound' → sound) → (loose' → loose) → (full → full') → b ≡ a → (fault : Fault) → WhyNotAllocated sound loose full b c fault → WhyNotAllocated sound' loose' full' a c fault
+allocated-then : (sound sound' loose loose' : Type 0) (full full' : ℕ → Type 0) (a b c : ℕ) → (sound' → sound) → (loose' → loose) → ((n : ℕ) → full n → full' n) → b ≡ a → (fault : Fault) → WhyNotAllocated sound loose full b c fault → WhyNotAllocated sound' loose' full' a c fault
 allocated-then sound sound' loose loose' full full' a b c from from' to same Memory why = tt
 allocated-then sound sound' loose loose' full full' a b c from from' to same Storage why = subst (λ n. Rose n c) same why
 allocated-then sound sound' loose loose' full full' a b c from from' to same DamagedTable why = λ s. why (from s)
 allocated-then sound sound' loose loose' full full' a b c from from' to same Counter why = λ s. why (from s)
-allocated-then sound sound' loose loose' full full' a b c from from' to same CacheFull why = λ l. why (from' l)
-allocated-then sound sound' loose loose' full full' a b c from from' to same (Limit number) why = (to why.0, why.1 ∙ same)
+allocated-then sound sound' loose loose' full full' a b c from from' to same CacheFull why = λ both. why (from both.0, from' both.1)
+allocated-then sound sound' loose loose' full full' a b c from from' to same (Limit number) why = (to number why.0, why.1 ∙ same)
 allocated-then sound sound' loose loose' full full' a b c from from' to same other why = absurd why
 
-cause-then : (sound sound' loose loose' full full' : Type 0) (a b c : ℕ) → (sound' → sound) → (loose' → loose) → (full → full') → b ≡ a → (result : Result Unit Fault) → MatchResult result (λ _. c ≡ b) (WhyNotAllocated sound loose full b c) → MatchResult result (λ _. c ≡ a) (WhyNotAllocated sound' loose' full' a c)
+cause-then : (sound sound' loose loose' : Type 0) (full full' : ℕ → Type 0) (a b c : ℕ) → (sound' → sound) → (loose' → loose) → ((n : ℕ) → full n → full' n) → b ≡ a → (result : Result Unit Fault) → MatchResult result (λ _. c ≡ b) (WhyNotAllocated sound loose full b c) → MatchResult result (λ _. c ≡ a) (WhyNotAllocated sound' loose' full' a c)
 cause-then sound sound' loose loose' full full' a b c from from' to same (Ok done) counts = counts ∙ same
 cause-then sound sound' loose loose' full full' a b c from from' to same (Err fault) why = allocated-then sound sound' loose loose' full full' a b c from from' to same fault why
 
@@ -227,8 +232,8 @@ module _ {S : Type 0} (state : S → StorageState) (i : ℕ) (table : TableValue
   abbrev pub Holds : Type 0
   Holds = IsTrue (state before.image).shape.keeps × (order_of old ≡ L2DependsOnRb) × IsSound m0
 
-  abbrev pub Full : Type 0
-  Full = IsInReach before.header.fields.cluster_bits (i * counters_of_block before.header.fields) → ⊥
+  abbrev pub Full : ℕ → Type 0
+  Full number = (number ≤ i * counters_of_block before.header.fields) × (IsInReach before.header.fields.cluster_bits number → ⊥)
 
   -- Nothing was done yet.
   pub begins-none : Begins state table pending old before (λ _. 0) old before
@@ -251,7 +256,7 @@ module _ {S : Type 0} (state : S → StorageState) (i : ℕ) (table : TableValue
     pub quiet : order_of old ≡ L2DependsOnRb → IsTrue (state before.image).shape.keeps → IsSound m0 → IsSound (metadata_of state fC C table pending)
         → Quietly ok more (λ _. 0) (state fC.image) (metadata_of state fC C table pending) (state fD.image) (metadata_of state fD D table pending)
     pub raised : order_of old ≡ L2DependsOnRb → IsTrue (state before.image).shape.keeps → IsSound m0 → IsSound (metadata_of state fC C table pending) → ok → OnlyRaised (metadata_of state fC C table pending) (metadata_of state fD D table pending)
-    pub stays : StaysLoose C fC D fD
+    pub stays : StaysLoose table C fC D fD
 
   module _ (handed more : ℕ → ℕ) (C : MetadataCaches S) (fC : ImageFile S) (D : MetadataCaches S) (fD : ImageFile S) (begins : Begins state table pending old before handed C fC) where
     abbrev mB : Metadata
@@ -286,7 +291,7 @@ module _ {S : Type 0} (state : S → StorageState) (i : ℕ) (table : TableValue
     -- It is refused, and wasn't cut off only where nothing was handed out.
     pub begins-refused : (fault : Fault) → Follows (IsWhole (failed fault)) more C fC D fD
         → (order_of old ≡ L2DependsOnRb → IsTrue (state before.image).shape.keeps → IsSound m0 → IsWhole (failed fault) → (c : ℕ) → handed c + more c ≡ 0)
-        → WhyNotAllocated Holds (IsLoose old) Full (state before.image).faults (state fD.image).faults fault → MakesBlock state i table old before (Err fault) table D fD pending
+        → WhyNotAllocated Holds (IsLoose table old) Full (state before.image).faults (state fD.image).faults fault → MakesBlock state i table old before (Err fault) table D fD pending
     begins-refused fault follows none why = record {
       quiet = λ order.
           let q = both-quietly (IsWhole (failed fault)) follows order in
@@ -316,7 +321,7 @@ module _ {S : Type 0} (state : S → StorageState) (i : ℕ) (table : TableValue
     abbrev mU : Metadata
     mU = metadata_of state fC C table pending
 
-    pub unmade : (fault : Fault) → WhyNotAllocated Holds (IsLoose old) Full (state before.image).faults (state before.image).faults fault → MakesBlock state i table old before (Err fault) table C fC pending
+    pub unmade : (fault : Fault) → WhyNotAllocated Holds (IsLoose table old) Full (state before.image).faults (state before.image).faults fault → MakesBlock state i table old before (Err fault) table C fC pending
     unmade fault why =
         begins-refused (λ _. 0) (λ _. 0) C fC C fC begins fault
         (record {
@@ -327,33 +332,31 @@ module _ {S : Type 0} (state : S → StorageState) (i : ℕ) (table : TableValue
           stays = record { header = refl; order = refl; loose = λ loose. loose; room = record { tables = refl; blocks = refl } };
         })
         (λ order keeps sound whole c. omega arith)
-        (subst (λ n. WhyNotAllocated Holds (IsLoose old) Full (state before.image).faults n fault) (sym begins.faults) why)
+        (subst (λ n. WhyNotAllocated Holds (IsLoose table old) Full (state before.image).faults n fault) (sym begins.faults) why)
 
-    -- as for a cluster that no word can name,
+    -- for want of memory,
+    pub unmade-memory : (fault : Fault) → fault ≡ Memory → MakesBlock state i table old before (Err fault) table C fC pending
+    unmade-memory fault is = unmade fault (subst (λ (f : Fault). WhyNotAllocated Holds (IsLoose table old) Full (state before.image).faults (state before.image).faults f) (sym is) tt)
+
+    -- for a cluster that no word can name,
     pub unmade-place : (d : ℕ) (fault : Fault) → d ≤ i * counters_of_block fC.header.fields → (Holds → d ≢ 0) → WhyNotNamed table fC.header.fields.cluster_bits d fault → MakesBlock state i table old before (Err fault) table C fC pending
     unmade-place d fault low some why = unmade fault (by-fault fault why)
       where
-        by-fault : (fault : Fault) → WhyNotNamed table fC.header.fields.cluster_bits d fault → WhyNotAllocated Holds (IsLoose old) Full (state before.image).faults (state before.image).faults fault
+        by-fault : (fault : Fault) → WhyNotNamed table fC.header.fields.cluster_bits d fault → WhyNotAllocated Holds (IsLoose table old) Full (state before.image).faults (state before.image).faults fault
         by-fault DamagedTable why = λ holds. why (can-name mU ((begins.quiet holds.1).holds holds.0 holds.2 tt).0 d (some holds))
         by-fault (Limit number) why = (
-          λ reach.
-              let there : IsInReach fC.header.fields.cluster_bits (i * counters_of_block fC.header.fields) = subst (λ (h : Header). IsInReach h.fields.cluster_bits (i * counters_of_block h.fields)) (sym begins.header) reach in
-              let le = mul-le-mul_right (2 ^ fC.header.fields.cluster_bits) low in
-              why (omega (arith, le, there)),
+          subst (λ (h : Header). (number ≤ i * counters_of_block h.fields) × (IsInReach h.fields.cluster_bits number → ⊥)) begins.header
+              (let is = why.1 in omega (arith, is, low), λ near. why.0 (subst (λ n. IsInReach fC.header.fields.cluster_bits n) why.1 near)),
           refl,
         )
         by-fault other why = absurd why
 
-    -- and where a block is pinned.
-    pub unforgotten : (d : ℕ) (fault : Fault) (new : MetadataCaches S) → (fault ≡ CacheFull) × IsSomeAnd (lookup (nat_eq d) (cached_in C).blocks) (λ s. 0 < s.pins) × (new ≡ C) → MakesBlock state i table old before (Err fault) table new fC pending
-    unforgotten d fault new (is, pinned, same) =
+    -- and where a block is pinned in a cluster that nothing names.
+    pub unforgotten : (d : ℕ) (fault : Fault) (new : MetadataCaches S) → (Holds → named_at_all mU d ≡ 0) → (fault ≡ CacheFull) × IsSomeAnd (lookup (nat_eq d) (cached_in C).blocks) (λ s. 0 < s.pins) × (new ≡ C) → MakesBlock state i table old before (Err fault) table new fC pending
+    unforgotten d fault new unnamed (is, pinned, same) =
         subst (λ (c : MetadataCaches S). MakesBlock state i table old before (Err fault) table c fC pending) (sym same)
-        (unmade fault (subst (λ (f : Fault). WhyNotAllocated Holds (IsLoose old) Full (state before.image).faults (state before.image).faults f) (sym is)
-        (λ loose. never (lookup (nat_eq d) (cached_in C).blocks) refl pinned (begins.loose loose))))
-      where
-        never : (o : Option (Slot Block)) → lookup (nat_eq d) (cached_in C).blocks ≡ o → IsSomeAnd o (λ s. 0 < s.pins) → IsLoose C → ⊥
-        never None there pinned loose = pinned
-        never (Some slot) there pinned loose = let off = pinned-none d (cached_in C).blocks slot there loose.blocks in omega (arith, off, pinned)
+        (unmade fault (subst (λ (f : Fault). WhyNotAllocated Holds (IsLoose table old) Full (state before.image).faults (state before.image).faults f) (sym is)
+        (λ both. never-unnamed mU ((begins.quiet both.0.1).holds both.0.0 both.0.2 tt).0 d (unnamed both.0) ((begins.loose both.1).named d (pinned-there d (cached_in C).blocks pinned)))))
 
   -- What makes a block from there on makes it in all.
   pub begins-makes : (C : MetadataCaches S) (fC : ImageFile S) → Begins state table pending old before (λ _. 0) C fC → (result : Result Unit Fault) (table' : TableValue) (new : MetadataCaches S) (after : ImageFile S)
@@ -373,7 +376,7 @@ module _ {S : Type 0} (state : S → StorageState) (i : ℕ) (table : TableValue
     loose = λ loose. makes.loose (begins.loose loose);
     room = record { tables = makes.room.tables ∙ begins.room.tables; blocks = makes.room.blocks ∙ begins.room.blocks };
     cause = cause-then _ _ _ _ _ _ _ _ _ (λ holds. (on holds.0, begins.order ∙ holds.1, ((begins.quiet holds.1).holds holds.0 holds.2 tt).0)) begins.loose
-        (λ full near. full (subst (λ (h : Header). IsInReach h.fields.cluster_bits (i * counters_of_block h.fields)) (sym begins.header) near)) begins.faults result makes.cause;
+        (λ number full. subst (λ (h : Header). (number ≤ i * counters_of_block h.fields) × (IsInReach h.fields.cluster_bits number → ⊥)) begins.header full) begins.faults result makes.cause;
   }
     where
       on : IsTrue (state before.image).shape.keeps → IsTrue (state fC.image).shape.keeps
@@ -386,9 +389,9 @@ module _ {S : Type 0} (state : S → StorageState) (i : ℕ) (table : TableValue
     abbrev m1 : Metadata
     m1 = metadata_of state fC C table pending
 
-    pub made : (result : Result Unit Fault) (table' : TableValue) (after : ImageFile S) → after.header ≡ fC.header → Ends state i d counters table C fC pending ready both result table' (state after.image)
+    pub made : block_offset (slice_index table.words i) ≡ 0 → (result : Result Unit Fault) (table' : TableValue) (after : ImageFile S) → after.header ≡ fC.header → Ends state i d counters table C fC pending ready both result table' (state after.image)
         → MakesBlock state i table old before result table' C after pending
-    made result table' after header ends = record {
+    made empty result table' after header ends = record {
       quiet = λ order.
           quietly-given (IsWhole result) (λ _. 0) (λ _. 0) (state before.image) m0 (state after.image) (metadata_of state after C table' pending) (ends.shape ∙ begins.shape) (later_both _ _ _ begins.later ends.later) (λ keeps sound.
           quietly-otherwise (IsWhole result) (λ c. both c + 0) (λ c. 0 + both c) (λ _. 0) (λ _. 0) (state before.image) m0 (state after.image) (metadata_of state after C table' pending) (λ s c. omega arith)
@@ -406,11 +409,14 @@ module _ {S : Type 0} (state : S → StorageState) (i : ℕ) (table : TableValue
       placed = ends.named.placed;
       order = begins.order;
       header = header ∙ begins.header;
-      loose = begins.loose;
+      loose = λ loose. loose-named table table' C kept (begins.loose loose);
       room = begins.room;
-      cause = caused-all Holds (IsLoose old) Full (state before.image).faults (state fC.image).faults (state after.image).faults begins.faults result ends.cause;
+      cause = caused-all Holds (IsLoose table old) Full (state before.image).faults (state fC.image).faults (state after.image).faults begins.faults result ends.cause;
     }
       where
+        kept : (k key : ℕ) → named_block table k ≡ Some key → named_block table' k ≡ Some key
+        kept k key = name-kept table table' k key (ap (λ (l : Layout). l.cluster_bits) ends.named.layout) (λ some. ap block_offset (ends.named.others k (λ here. some (subst (λ n. block_offset (slice_index table.words n) ≡ 0) (sym here) empty))))
+
         ended : Header → Metadata
         ended h = record { file = bytes_of (state after.image).bytes; header = h; cached = cached_in C; order = order_of C; table = table'; pending = pending }
 

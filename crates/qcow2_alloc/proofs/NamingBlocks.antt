@@ -39,7 +39,7 @@ use Rattle.qcow2_alloc.proofs.MemoryWords.{places-in-memory}
 use Rattle.qcow2_alloc.proofs.Patches.{all-weaker, all-both, place-there, places-differ, shaped-in}
 use Rattle.qcow2_alloc.proofs.QuietCounters.{here-one, away-none}
 use Rattle.qcow2_alloc.proofs.QuietEntries.{metadata-among}
-use Rattle.qcow2_alloc.proofs.QuietShows.{mapping-meets, in-cluster, memory-same}
+use Rattle.qcow2_alloc.proofs.QuietShows.{from-start, mapping-meets, in-cluster, memory-same}
 use Rattle.qcow2_alloc.proofs.StructureWrites.{memory-beside, unmet-stays}
 use Rattle.qcow2_alloc.proofs.WordsKept.{word-contents, structure-named, named-more, copied-stays, ordered-still, table-fits, block-fits, counters-same}
 
@@ -294,6 +294,8 @@ module _ (m : Metadata) (i d : ℕ) (modified : Bool) (sound : IsSound m) (ready
   block-shows = record {
     consistent = in-file.consistent;
     moved = (h.refcount_table_offset, h.refcount_table_clusters, refl);
+    behind = λ p from lt. from-start f x (cluster_size h) p (in-file.kept.start (λ e. cc)) lt;
+    l1 = λ k lt. in-file.kept.l1 k lt (λ e. cc);
     tables = in-file.tables;
     words = λ k j live. inl (in-file.slots k j live);
     contents = λ k j live p some.

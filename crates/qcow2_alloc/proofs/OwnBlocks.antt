@@ -25,11 +25,12 @@ use Rattle.qcow2_alloc.specs.Quiet.{Metadata, counted, named_at_all, IsSound}
 use Rattle.qcow2_alloc.proofs.Forgetting.{forgotten-quiet, forgotten-counts, removed-apart}
 use Rattle.qcow2_alloc.proofs.FreeClusters.{uncounted-free}
 use Rattle.qcow2_alloc.proofs.FreeRuns.{block-quietly}
+use Rattle.qcow2_alloc.proofs.Loose.{loose-on}
 use Rattle.qcow2_alloc.proofs.MadeBlocks.{B, ends, made}
 use Rattle.qcow2_alloc.proofs.MakingBlocks.{unnamed-uncounted, own-block-made, own-block-raises}
 use Rattle.qcow2_alloc.proofs.QuietFlushes.{memory-quietly}
 use Rattle.qcow2_alloc.proofs.QuietGiven.{quietly-given}
-use Rattle.qcow2_alloc.proofs.Pins.{pinned-removed}
+use Rattle.qcow2_alloc.proofs.Pins.{pins-removed}
 
 -- Where the refcount table names no block the clusters of one aren't counted.
 pub own-uncounted : (m : Metadata) (i d : ℕ) → d / counters_of_block m.header.fields ≡ i → i < length m.table.words → block_offset (slice_index m.table.words i) ≡ 0 → IsSound m → counted m d ≡ 0
@@ -55,7 +56,7 @@ module _ {S : Type 0} (state : S → StorageState) (table : TableValue) (pending
     faults = refl;
     header = refl;
     order = refl;
-    loose = λ loose. record { blocks = (let le = pinned-removed (nat_eq d) (cached_in old).blocks in let none = loose.blocks in omega (arith, le, none)); room = loose.room };
+    loose = loose-on table old without (pins-removed (nat_eq d) (cached_in old).blocks) (record { tables = refl; blocks = refl });
     room = record { tables = refl; blocks = refl };
   }
 
@@ -89,7 +90,7 @@ module _ {S : Type 0} (state : S → StorageState) (table : TableValue) (pending
         inside = let words = sound.table.long in omega (arith, inside, words);
         uncached = (removed-apart d (cached_in old).blocks sound.safe.blocks_apart).0;
       })
-      result table' after header
+      empty result table' after header
       (ends state i d counters table without before pending Ready (λ _. 0) inside low some reach
       (λ r mid done put. block-quietly m1 d (B state i d counters table without before pending) (state before.image) mid refl refl long (λ _. 0)
       (λ sound. let free = uncounted-free m1 sound r.order d (own-uncounted m1 i d refl inside empty sound) in (free.0, λ used. absurd (free.2 used))) done put)

@@ -6,7 +6,7 @@ use Rattle.std.proofs.lemmas.Bool.{cases_lt}
 use Rattle.std.proofs.lemmas.Bool.Decides.{nat_tests}
 use Rattle.std.proofs.lemmas.Nat.{pow_pos}
 use Rattle.std.proofs.Math.Nat.{div-mul-le_self, lt-div-mul-add, le-max_left, le-max_right}
-use Rattle.qcow2_types.specs.Bytes.{Bytes}
+use Rattle.qcow2_types.specs.Bytes.{Bytes, word}
 use Rattle.qcow2_types.specs.Words.{Mapping}
 use Rattle.qcow2_types.specs.Header.{Fields, Header, cluster_size}
 use Rattle.qcow2_types.specs.Entries.{l2_table}
@@ -16,7 +16,7 @@ use Rattle.qcow2_types.specs.Over.{Patch}
 use Rattle.qcow2_types.specs.References.{Weight, structure, of_mapping, meets}
 use Rattle.qcow2_types.specs.Slots.{slot, Live, over_slots}
 use Rattle.qcow2_types.specs.Versions.{of_either, named, NamedApart}
-use Rattle.qcow2_types.proofs.Frames.{touches-cluster}
+use Rattle.qcow2_types.proofs.Frames.{touches-cluster, word-same}
 use Rattle.qcow2_types.proofs.Named.{of_mapping-mono}
 use Rattle.qcow2_types.proofs.Over.{IsClear, over-clear}
 use Rattle.qcow2_types.proofs.Parts.{Part, header, l1_table, refcount_table, block_of, table_of, IsPart, one-part}
@@ -27,6 +27,7 @@ use Rattle.qcow2_alloc.specs.Memory.{Cached, patches, memory}
 use Rattle.qcow2_alloc.specs.Safety.{Safe, IsLeft}
 use Rattle.qcow2_alloc.specs.Quiet.{Metadata, in_memory, IsSound, ShowsEither}
 use Rattle.qcow2_alloc.proofs.Going.{left-same}
+use Rattle.qcow2_alloc.proofs.MemoryImage.{range-stays}
 use Rattle.qcow2_alloc.proofs.Patches.{all-weaker, patches-are}
 
 -- A place lies in its cluster,
@@ -106,11 +107,36 @@ left-same-there f H cached order safe x left c none k lt = elim (left.bytes (c *
   | inr now ↦ now ∙ memory-same f H c none safe.consistent cached order safe k lt
 ]
 
+-- what holds of the first bytes
+pub from-start : (f x : Bytes) (n p : ℕ) → Same f x 0 n → p < n → x p ≡ f p
+from-start f x n p same lt = let place : 0 + p ≡ p = omega arith in subst (λ k. x k ≡ f k) place (same p lt)
+
+-- A range that flushes leave is the file's, where memory has the file's bytes there,
+left-same-where : (f g : Bytes) (H : Header) (x : Bytes) → IsLeft f g H x → (at n : ℕ) → Same f g at n → Same f x at n
+left-same-where f g H x left at n same k lt = elim (left.bytes (at + k)) [
+  | inl was ↦ was
+  | inr now ↦ now ∙ same k lt
+]
+
+-- as it has in the header's cluster and in the L1 table.
+module _ (f : Bytes) (H : Header) (cached : Cached) (order : CacheDependency) (safe : Safe f H cached order) (x : Bytes) (left : IsLeft f (memory f H.fields cached) H x) where
+  header-left : Same f x 0 (cluster_size H.fields)
+  header-left = left-same-where f (memory f H.fields cached) H x left 0 (cluster_size H.fields)
+      (range-stays f H safe.consistent header tt refl 0 (cluster_size H.fields) (λ w. refl) (patches H.fields cached) (patches-are f H safe.consistent cached safe.tables safe.blocks))
+
+  l1-left : (i : ℕ) → i < H.fields.l1_entries → word x H.fields.l1_offset i ≡ word f H.fields.l1_offset i
+  l1-left i lt = word-same f x H.fields.l1_offset (H.fields.l1_entries * 8) i
+      (left-same-where f (memory f H.fields cached) H x left H.fields.l1_offset (H.fields.l1_entries * 8)
+      (range-stays f H safe.consistent l1_table tt refl H.fields.l1_offset (H.fields.l1_entries * 8) (λ w. refl) (patches H.fields cached) (patches-are f H safe.consistent cached safe.tables safe.blocks)))
+      (omega (arith, lt))
+
 -- What flushes leave shows what the image did,
 pub left-shows : (m : Metadata) (x : Bytes) → IsSound m → IsLeft m.file (in_memory m) m.header x → ShowsEither m x m.header
 left-shows m x sound left = record {
   consistent = left.consistent;
   moved = (m.header.fields.refcount_table_offset, m.header.fields.refcount_table_clusters, refl);
+  behind = λ p from lt. from-start m.file x (cluster_size m.header.fields) p (header-left m.file m.header m.cached m.order sound.safe x left) lt;
+  l1 = l1-left m.file m.header m.cached m.order sound.safe x left;
   tables = left.words.places.l1;
   words = left.words.slots;
   contents = λ i j live p some.

@@ -4,7 +4,7 @@ use Rattle.std.specs.Prelude.{◌⊎◌, IsTrue, Some, None}
 use Rattle.imago_storage.specs.State.{StorageState, Rose, Shape}
 use Rattle.imago_storage.specs.Calls.{Later}
 use Rattle.imago_storage.proofs.Composing.{keeps_on, stops_both, later_both, rose_before, rose_behind}
-use Rattle.qcow2_types.specs.Bytes.{Bytes, bytes_of}
+use Rattle.qcow2_types.specs.Bytes.{Bytes, bytes_of, word}
 use Rattle.qcow2_types.specs.Words.{Mapping, data_at, zeroes, packed, unmapped, damaged}
 use Rattle.qcow2_types.specs.Header.{Fields, Header, cluster_size, words_of_cluster}
 use Rattle.qcow2_types.specs.Entries.{l2_table}
@@ -82,6 +82,11 @@ module _ (m m1 : Metadata) (handed taken : ℕ → ℕ) (quiet : IsQuiet handed 
     in_table = subst (λ (H : Header). j < words_of_cluster H.fields) (sym quiet.shows.moved.2) live.in_table;
   }
 
+  -- The L1 table stands where it did.
+  l1-then : (x : Bytes) → ((i : ℕ) → i < m1.header.fields.l1_entries → word x m1.header.fields.l1_offset i ≡ word m1.file m1.header.fields.l1_offset i)
+      → (i : ℕ) → i < m.header.fields.l1_entries → word x m.header.fields.l1_offset i ≡ word m1.file m.header.fields.l1_offset i
+  l1-then x same = subst (λ (H : Header). (i : ℕ) → i < H.fields.l1_entries → word x H.fields.l1_offset i ≡ word m1.file H.fields.l1_offset i) quiet.shows.moved.2 same
+
   module _ (sound : IsSound m) (named_kept : (c : ℕ) → 0 < referenced m c → taken c ≡ 0) where
     -- What a word names in memory keeps its bytes.
     kept-there : (i j : ℕ) → Live (l2_table m.file m.header.fields) m.header.fields i j → (p : ℕ) → 0 < of_mapping m.header.fields (touches p 1) (slot (in_memory m) m.header.fields i j) → m1.file p ≡ m.file p
@@ -96,6 +101,8 @@ module _ (m m1 : Metadata) (handed taken : ℕ → ℕ) (quiet : IsQuiet handed 
     shows-then x H second = record {
       consistent = second.consistent;
       moved = (second.moved.0, second.moved.1, second.moved.2 ∙ ap (λ (K : Header). with_refcount_table K second.moved.0 second.moved.1) quiet.shows.moved.2);
+      behind = λ p from lt. second.behind p from (subst (λ n. p < n) (sym size) lt) ∙ quiet.shows.behind p from lt;
+      l1 = λ i lt. l1-then x second.l1 i lt ∙ quiet.shows.l1 i lt;
       tables = λ i. second.tables i ∙ quiet.shows.tables i;
       words = λ i j live. elim (second.words i j (live-there i j live)) [
         | inl file ↦ elim (quiet.shows.words i j live) [ inl was ↦ inl (file ∙ was) | inr now ↦ inr (file ∙ now) ]

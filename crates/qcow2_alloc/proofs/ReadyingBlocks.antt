@@ -1,8 +1,9 @@
 -- What a run of clusters needs is made, or the refcount table grows.
 use Rattle.std.proofs.Common.{◌≡◌, ◌≢◌, ℕ, ◌+◌, ◌<◌, ◌≤◌, refl, arith, ap, sym, subst, ◌∙◌, List, [], ◌∷◌, ◌++◌, length, Bool, true, false, Result, Ok, Err, inl, inr}
-use Rattle.std.specs.Prelude.{IsTrue, IfOk, OnOk, MatchResult, slice_index, ◌==◌, ◌/◌, ◌*◌, if◌then◌else◌}
+use Rattle.std.specs.Prelude.{IsTrue, IfOk, OnOk, MatchResult, slice_index, ◌==◌, ◌/◌, ◌*◌, ◌^◌, if◌then◌else◌}
 use Rattle.std.specs.List.{AllByRecursion}
 use Rattle.std.proofs.lemmas.List.{append-nil, append_assoc}
+use Rattle.std.proofs.Math.Nat.{mul-le-mul_right}
 use Rattle.imago_storage.specs.State.{StorageState}
 use Rattle.imago_storage.specs.declared.fault.Fault.{Fault}
 use Rattle.imago_storage.specs.declared.fault.Fault.TheVariants.{CacheFull}
@@ -28,19 +29,19 @@ use Rattle.qcow2_alloc.specs.ReadyingRuns.{IsLengthened}
 use Rattle.qcow2_alloc.proofs.EnsuringBlocks.{so, why-allocated-wider}
 
 -- Nothing leaks,
-pub leaks-none : {T : Type 0} (loose : Type 0) (result : Result T Fault) → Leaks loose result (λ _. 0)
-leaks-none loose result = record { none = λ other c. refl; pinned = λ all c. refl }
+pub leaks-none : {T : Type 0} (sound loose : Type 0) (result : Result T Fault) → Leaks sound loose result (λ _. 0)
+leaks-none sound loose result = record { none = λ other c. refl; pinned = λ holds all c. refl }
 
 -- or what did, where the fault is handed on,
-pub leaks-on : {T U : Type 0} (loose loose' : Type 0) (fault : Fault) (leaked : ℕ → ℕ) → (loose' → loose) → Leaks {T = T} loose (Err fault) leaked → Leaks {T = U} loose' (Err fault) leaked
-leaks-on loose loose' fault leaked from leaks = record {
+pub leaks-on : {T U : Type 0} (sound sound' loose loose' : Type 0) (fault : Fault) (leaked : ℕ → ℕ) → (sound' → sound) → (loose' → loose) → Leaks {T = T} sound loose (Err fault) leaked → Leaks {T = U} sound' loose' (Err fault) leaked
+leaks-on sound sound' loose loose' fault leaked from from' leaks = record {
   none = λ other c. leaks.none (λ is. other (ap (λ f. Err f) (let e = is in let same : fault ≡ CacheFull = cc in same))) c;
-  pinned = λ all c. leaks.pinned (from all) c;
+  pinned = λ holds all c. leaks.pinned (from holds) (from' all) c;
 }
 
 -- and a call that succeeded leaked nothing.
-pub leaks-ok : {T : Type 0} (loose : Type 0) (v : T) (leaked : ℕ → ℕ) → Leaks loose (Ok v) leaked → (c : ℕ) → leaked c ≡ 0
-leaks-ok loose v leaked leaks c = leaks.none (λ is. absurd (cc)) c
+pub leaks-ok : {T : Type 0} (sound loose : Type 0) (v : T) (leaked : ℕ → ℕ) → Leaks sound loose (Ok v) leaked → (c : ℕ) → leaked c ≡ 0
+leaks-ok sound loose v leaked leaks c = leaks.none (λ is. absurd (cc)) c
 
 -- A list is lengthened by nothing,
 pub lengthened-none : (table table' : TableValue) (l : List FreeEntry) → IsLengthened table table' l l
@@ -84,7 +85,7 @@ module _ {S : Type 0} (state : S → StorageState) (mark at first last : ℕ) (t
       → Knows (OnOk result (FillsFrom mark first (last + 1) Start (metadata_of state after new table' pending))) → ReadiesBlocks state mark at first last table old before pending result table' new after pending
   blocks-ready inside result table' new after makes fills = record {
     leaked = λ _. 0;
-    leaks = leaks-none (IsLoose old) result;
+    leaks = leaks-none _ _ result;
     step = makes.step;
     idle = makes.idle;
     ready = named result makes.named;
@@ -106,21 +107,27 @@ module _ {S : Type 0} (state : S → StorageState) (mark at first last : ℕ) (t
       more (Ok made) fewer = λ some. inr (makes.long, fewer some)
       more (Err fault) fewer = tt
 
+      far-all : (number : ℕ) → ((i : ℕ) × (first ≤ i) × (i < last + 1) × (number ≤ i * counters_of_block before.header.fields) × (IsInReach before.header.fields.cluster_bits number → ⊥)) → Knows (NoneCanBeMade mark at first last Start)
+      far-all number (i, above, below, le, far) order keeps sound = inl (λ all.
+          let near : IsInReach before.header.fields.cluster_bits (i * counters_of_block before.header.fields) = all i above (omega (arith, below)) in
+          let more = mul-le-mul_right (2 ^ before.header.fields.cluster_bits) le in
+          far (omega (arith, near, more)))
+
       caused : (r : Result Bool Fault)
           → MatchResult r (λ _. (state after.image).faults ≡ (state before.image).faults)
-          (WhyNotAllocated (IsTrue (state before.image).shape.keeps × (order_of old ≡ L2DependsOnRb) × IsSound (metadata_of state before old table pending)) (IsLoose old)
-          (((i : ℕ) → first ≤ i → i < last + 1 → IsInReach before.header.fields.cluster_bits (i * counters_of_block before.header.fields)) → ⊥) (state before.image).faults (state after.image).faults)
+          (WhyNotAllocated (IsTrue (state before.image).shape.keeps × (order_of old ≡ L2DependsOnRb) × IsSound (metadata_of state before old table pending)) (IsLoose table old)
+          (λ number. (i : ℕ) × (first ≤ i) × (i < last + 1) × (number ≤ i * counters_of_block before.header.fields) × (IsInReach before.header.fields.cluster_bits number → ⊥)) (state before.image).faults (state after.image).faults)
           → MatchResult r (λ _. (state after.image).faults ≡ (state before.image).faults)
-          (WhyNotAllocated (IsTrue (state before.image).shape.keeps × (order_of old ≡ L2DependsOnRb) × IsSound (metadata_of state before old table pending)) (IsLoose old) (Knows (NoneCanBeMade mark at first last Start)) (state before.image).faults (state after.image).faults)
+          (WhyNotAllocated (IsTrue (state before.image).shape.keeps × (order_of old ≡ L2DependsOnRb) × IsSound (metadata_of state before old table pending)) (IsLoose table old) (λ _. Knows (NoneCanBeMade mark at first last Start)) (state before.image).faults (state after.image).faults)
       caused (Ok made) same = same
-      caused (Err fault) why = why-allocated-wider _ _ _ _ _ _ _ _ _ (λ holds. holds) (λ loose. loose) (λ far order keeps sound. inl (λ all. far (λ i above below. all i above (omega (arith, below))))) refl fault why
+      caused (Err fault) why = why-allocated-wider _ _ _ _ _ _ _ _ _ (λ holds. holds) (λ loose. loose) far-all refl fault why
 
   module _ (past : length table.words ≤ last) (table' : TableValue) (new : MetadataCaches S) (after : ImageFile S) (pending' : List FreeEntry) where
     -- It hasn't: it grows,
     pub table-ready : last ≤ at → GrowsTable state mark at table old before pending (Ok tt) table' new after pending' → ReadiesBlocks state mark at first last table old before pending (so true) table' new after pending'
     table-ready behind grows = record {
       leaked = grows.leaked;
-      leaks = record { none = λ other c. leaks-ok (IsLoose old) tt grows.leaked grows.leaks c; pinned = grows.leaks.pinned };
+      leaks = record { none = λ other c. leaks-ok _ _ tt grows.leaked grows.leaks c; pinned = grows.leaks.pinned };
       step = grows.step;
       idle = λ none. absurd (cc);
       ready = λ none. absurd (cc);
@@ -134,12 +141,12 @@ module _ {S : Type 0} (state : S → StorageState) (mark at first last : ℕ) (t
     pub table-not-ready : (fault : Fault) → GrowsTable state mark at table old before pending (Err fault) table' new after pending' → ReadiesBlocks state mark at first last table old before pending (Err fault) table' new after pending'
     table-not-ready fault grows = record {
       leaked = grows.leaked;
-      leaks = leaks-on (IsLoose old) (IsLoose old) fault grows.leaked (λ loose. loose) grows.leaks;
+      leaks = leaks-on _ _ _ _ fault grows.leaked (λ holds. holds) (λ loose. loose) grows.leaks;
       step = grows.step;
       idle = tt;
       ready = tt;
       further = tt;
       made = λ order keeps sound. tt;
       list = subst (λ l. IsLengthened table table' pending l) (sym grows.kept) (lengthened-none table table' pending);
-      cause = why-allocated-wider _ _ _ _ _ _ _ _ _ (λ holds. holds) (λ loose. loose) (λ none order keeps sound. inr (past, none order keeps sound)) refl fault grows.cause;
+      cause = why-allocated-wider _ _ _ _ _ _ _ _ _ (λ holds. holds) (λ loose. loose) (λ number none order keeps sound. inr (past, number, none order keeps sound)) refl fault grows.cause;
     }

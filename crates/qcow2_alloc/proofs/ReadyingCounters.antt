@@ -32,7 +32,7 @@ use Rattle.qcow2_alloc.proofs.ReadyingBlocks.{leaks-none}
 use Rattle.qcow2_alloc.proofs.EnsuringBlocks.{so, refused, why-allocated-wider}
 
 -- What isn't refused for want of a place is refused for another cause.
-pub never-limit : (sound loose full full' : Type 0) (before after : ℕ) (fault : Fault) → ((number : ℕ) → fault ≢ Limit number) → WhyNotAllocated sound loose full before after fault → WhyNotAllocated sound loose full' before after fault
+pub never-limit : (sound loose : Type 0) (full full' : ℕ → Type 0) (before after : ℕ) (fault : Fault) → ((number : ℕ) → fault ≢ Limit number) → WhyNotAllocated sound loose full before after fault → WhyNotAllocated sound loose full' before after fault
 never-limit sound loose full full' before after (Limit number) other why = absurd (other number refl)
 never-limit sound loose full full' before after Memory other why = why
 never-limit sound loose full full' before after Storage other why = why
@@ -57,7 +57,7 @@ module _ {S : Type 0} (state : S → StorageState) (mark cluster : ℕ) (table :
   stands : (there : Bool) → HandsOut state leaked_by table old before pending (so there) table old before pending
   stands there = record {
     leaked = λ _. 0;
-    leaks = leaks-none (IsLoose old) (so there);
+    leaks = leaks-none _ _ (so there);
     step = allocating-none state table old before pending;
     list = inl refl;
     cause = refl;
@@ -83,7 +83,7 @@ module _ {S : Type 0} (state : S → StorageState) (mark cluster : ℕ) (table :
     word-made ok = record {
       did = record {
         leaked = λ _. 0;
-        leaks = leaks-none (IsLoose old) (so true);
+        leaks = leaks-none _ _ (so true);
         step = allocating-as state (IsWhole result) (IsWhole (so true)) grows.leaked (λ _. 0) table old before pending table' new after pending' (λ whole. subst (λ (r : Result Unit Fault). IsWhole r) (sym ok) tt) (no-leak (λ full. let e = sym ok ∙ full in cc)) grows.step;
         list = grown-list result grows.enough grows.waits grows.kept;
         cause = by-cause _ result ok grows.cause;
@@ -105,19 +105,19 @@ module _ {S : Type 0} (state : S → StorageState) (mark cluster : ℕ) (table :
     word-barred number limit = record {
       did = record {
         leaked = λ _. 0;
-        leaks = leaks-none (IsLoose old) (so false);
+        leaks = leaks-none _ _ (so false);
         step = allocating-as state (IsWhole result) (IsWhole (so false)) grows.leaked (λ _. 0) table old before pending table' new after pending' (λ whole. subst (λ (r : Result Unit Fault). IsWhole r) (sym limit) tt) (no-leak (λ full. let e = sym limit ∙ full in cc)) grows.step;
         list = grown-list result grows.enough grows.waits grows.kept;
         cause = cause.1;
       };
       there = λ yes. cc yes;
-      barred = λ order keeps sound no. inr (past, cause.0 order keeps sound);
+      barred = λ order keeps sound no. inr (past, number, cause.0 order keeps sound);
     }
       where
-        cause : (order_of old ≡ L2DependsOnRb → IsTrue (state before.image).shape.keeps → IsSound (metadata_of state before old table pending) → NoPlaceToGrow (metadata_of state before old table pending) mark (cluster / k)) × ((state after.image).faults ≡ (state before.image).faults)
+        cause : (order_of old ≡ L2DependsOnRb → IsTrue (state before.image).shape.keeps → IsSound (metadata_of state before old table pending) → NoPlaceToGrow (metadata_of state before old table pending) mark (cluster / k) number) × ((state after.image).faults ≡ (state before.image).faults)
         cause = subst (λ (r : Result Unit Fault). MatchResult r (λ _. (state after.image).faults ≡ (state before.image).faults)
-            (WhyNotAllocated (IsTrue (state before.image).shape.keeps × (order_of old ≡ L2DependsOnRb) × IsSound (metadata_of state before old table pending)) (IsLoose old)
-            (order_of old ≡ L2DependsOnRb → IsTrue (state before.image).shape.keeps → IsSound (metadata_of state before old table pending) → NoPlaceToGrow (metadata_of state before old table pending) mark (cluster / k))
+            (WhyNotAllocated (IsTrue (state before.image).shape.keeps × (order_of old ≡ L2DependsOnRb) × IsSound (metadata_of state before old table pending)) (IsLoose table old)
+            (λ n. order_of old ≡ L2DependsOnRb → IsTrue (state before.image).shape.keeps → IsSound (metadata_of state before old table pending) → NoPlaceToGrow (metadata_of state before old table pending) mark (cluster / k) n)
             (state before.image).faults (state after.image).faults)) limit grows.cause
 
     -- or was refused.
@@ -129,8 +129,8 @@ module _ {S : Type 0} (state : S → StorageState) (mark cluster : ℕ) (table :
         step = allocating-as state (IsWhole result) (IsWhole (refused fault)) grows.leaked grows.leaked table old before pending table' new after pending' (λ whole. subst (λ (r : Result Unit Fault). IsWhole r) (sym is) whole) (λ c. refl) grows.step;
         list = grown-list result grows.enough grows.waits grows.kept;
         cause = never-limit _ _ _ _ _ _ fault other (subst (λ (r : Result Unit Fault). MatchResult r (λ _. (state after.image).faults ≡ (state before.image).faults)
-            (WhyNotAllocated (IsTrue (state before.image).shape.keeps × (order_of old ≡ L2DependsOnRb) × IsSound (metadata_of state before old table pending)) (IsLoose old)
-            (order_of old ≡ L2DependsOnRb → IsTrue (state before.image).shape.keeps → IsSound (metadata_of state before old table pending) → NoPlaceToGrow (metadata_of state before old table pending) mark (cluster / k))
+            (WhyNotAllocated (IsTrue (state before.image).shape.keeps × (order_of old ≡ L2DependsOnRb) × IsSound (metadata_of state before old table pending)) (IsLoose table old)
+            (λ n. order_of old ≡ L2DependsOnRb → IsTrue (state before.image).shape.keeps → IsSound (metadata_of state before old table pending) → NoPlaceToGrow (metadata_of state before old table pending) mark (cluster / k) n)
             (state before.image).faults (state after.image).faults)) is grows.cause);
       };
       there = tt;
@@ -158,6 +158,9 @@ module _ {S : Type 0} (state : S → StorageState) (mark cluster : ℕ) (table :
           let at : i ≡ cluster / k = omega (arith, above, below) in
           subst (λ j. IsInReach before.header.fields.cluster_bits (j * k)) (sym at) (omega (arith, reach, more)))
 
+      never-far : (number : ℕ) → ((i : ℕ) × (cluster / k ≤ i) × (i < cluster / k + 1) × (number ≤ i * counters_of_block between.header.fields) × (IsInReach between.header.fields.cluster_bits number → ⊥)) → ⊥
+      never-far number (i, above, below, le, far) = let there = near i above below in let more = mul-le-mul_right (2 ^ between.header.fields.cluster_bits) le in far (omega (arith, there, more))
+
       both : (ok' : Type 0) → Allocating state ok' (λ _. 0) mid_table mid between mid_pending table' new after mid_pending → Allocating state ok' (λ _. 0) table old before pending table' new after mid_pending
       both ok' two = allocating-as state ok' ok' (λ c. leaked_by (so true) word.did.leaked c + 0) (λ _. 0) table old before pending table' new after mid_pending (λ o. o) (λ c. omega arith)
           (allocating-then state ⊤ ok' (leaked_by (so true) word.did.leaked) (λ _. 0) table old before pending mid_table mid between mid_pending table' new after mid_pending tt word.did.step two)
@@ -174,7 +177,7 @@ module _ {S : Type 0} (state : S → StorageState) (mark cluster : ℕ) (table :
       counter-made made blocks = record {
         did = record {
           leaked = λ _. 0;
-          leaks = leaks-none (IsLoose old) (so true);
+          leaks = leaks-none _ _ (so true);
           step = both ⊤ blocks.step;
           list = blocks-behind word.did.list blocks.long;
           cause = blocks.cause ∙ word.did.cause;
@@ -188,10 +191,10 @@ module _ {S : Type 0} (state : S → StorageState) (mark cluster : ℕ) (table :
       counter-unmade fault blocks = record {
         did = record {
           leaked = λ _. 0;
-          leaks = leaks-none (IsLoose old) (refused fault);
+          leaks = leaks-none _ _ (refused fault);
           step = both (IsWhole (refused fault)) blocks.step;
           list = blocks-behind word.did.list blocks.long;
-          cause = why-allocated-wider _ _ _ _ _ _ _ _ _ holds-still word.did.step.loose (λ far. far near) word.did.cause fault blocks.cause;
+          cause = why-allocated-wider _ _ _ _ _ _ _ _ _ holds-still word.did.step.loose never-far word.did.cause fault blocks.cause;
         };
         there = tt;
         barred = λ order keeps sound. tt;

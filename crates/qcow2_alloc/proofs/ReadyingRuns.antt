@@ -89,7 +89,7 @@ module _ {S : Type 0} (state : S → StorageState) (table : TableValue) (old : M
     pub readying-made : (mark at first last : ℕ) (made : Bool) (tB : TableValue) (B : MetadataCaches S) (fB : ImageFile S) (pB : List FreeEntry) → ReadiesBlocks state mark at first last tA A fA pA (Ok made) tB B fB pB → Readying state table old before pending tB B fB pB
     readying-made mark at first last made tB B fB pB makes = record {
       step = step-on {T = Bool} (Ok made) (λ _. 0) tB B fB pB
-          (allocating-as state ⊤ ⊤ makes.leaked (λ _. 0) tA A fA pA tB B fB pB (λ whole. whole) (leaks-ok (IsLoose A) made makes.leaked makes.leaks) makes.step);
+          (allocating-as state ⊤ ⊤ makes.leaked (λ _. 0) tA A fA pA tB B fB pB (λ whole. whole) (leaks-ok _ _ made makes.leaked makes.leaks) makes.step);
       list = lengthened-then table tA tB pending pA pB so_far.step.longer makes.step.longer so_far.list makes.list;
       faults = makes.cause ∙ so_far.faults;
     }
@@ -112,7 +112,7 @@ module _ {S : Type 0} (state : S → StorageState) (table : TableValue) (old : M
     pub search-refused : (mark n : ℕ) (fault : Fault) (B : MetadataCaches S) (fB : ImageFile S) → LooksForRun state tA mark n A fA (Err fault) B fB → ReadiesRun state mark n table old before pending (Err fault) tA B fB pA
     search-refused mark n fault B fB looks = record {
       leaked = λ _. 0;
-      leaks = leaks-none (IsLoose old) (Err fault);
+      leaks = leaks-none _ _ (Err fault);
       step = step-on {T = ℕ} (Err fault) (λ _. 0) tA B fB pA (looked-allocates state tA pA A fA ℕ (Err fault) B fB looks.looked);
       found = λ order keeps sound. tt;
       ready = tt;
@@ -127,7 +127,7 @@ module _ {S : Type 0} (state : S → StorageState) (table : TableValue) (old : M
         → Stays mark n tA A fA pA → (fault : Fault) (tB : TableValue) (B : MetadataCaches S) (fB : ImageFile S) (pB : List FreeEntry) → ReadiesBlocks state mark (last + (n / counters_of_block fA.header.fields + 2)) first last tA A fA pA (Err fault) tB B fB pB → ReadiesRun state mark n table old before pending (Err fault) tB B fB pB
     making-refused mark n z first last positive run first-is last-is stays fault tB B fB pB makes = record {
       leaked = makes.leaked;
-      leaks = leaks-on (IsLoose A) (IsLoose old) fault makes.leaked so_far.step.loose makes.leaks;
+      leaks = leaks-on _ _ _ _ fault makes.leaked holds-on so_far.step.loose makes.leaks;
       step = step-on {T = ℕ} (Err fault) makes.leaked tB B fB pB makes.step;
       found = λ order keeps sound. tt;
       ready = tt;
@@ -135,7 +135,7 @@ module _ {S : Type 0} (state : S → StorageState) (table : TableValue) (old : M
       some = tt;
       list = lengthened-then table tA tB pending pA pB so_far.step.longer makes.step.longer so_far.list makes.list;
       cause = why-allocated-wider _ _ _ _ _ _ _ _ _ holds-on so_far.step.loose
-          (λ none order keeps sound roomy.
+          (λ number none order keeps sound roomy.
           let holds : Holds table old before pending = (keeps, order, sound) in
           let there = holds-on holds in
           can-make mark n positive (metadata_of state before old table pending) sound roomy (metadata_of state fA A tA pA) (stays holds roomy) so_far.step.moved (so_far.step.raised order keeps sound tt) there.2 z (run holds) first last first-is last-is
@@ -154,7 +154,7 @@ module _ {S : Type 0} (state : S → StorageState) (table : TableValue) (old : M
       unfit-refused fault why stays =
           let searched = readying-searched mark n z B fB looks in record {
             leaked = λ _. 0;
-            leaks = leaks-none (IsLoose old) (Err fault);
+            leaks = leaks-none _ _ (Err fault);
             step = allocating-as state ⊤ (IsWhole {T = ℕ} (Err fault)) (λ _. 0) (λ _. 0) table old before pending tA B fB pA (λ whole. tt) (λ c. refl) searched.step;
             found = λ order keeps sound. tt;
             ready = tt;
@@ -179,8 +179,8 @@ module _ {S : Type 0} (state : S → StorageState) (table : TableValue) (old : M
               run-fits mark n some (metadata_of state before old table pending) sound roomy (metadata_of state fA A tA pA) (stays holds roomy) so_far.step.moved (so_far.step.raised order keeps sound tt) there.2 z (looks.found (safe-with holds))
               (subst (λ (H : Header). IsInReach H.fields.cluster_bits (z + (n - 1)) → 2 ^ 20 ≤ (z + (n - 1)) / counters_of_block H.fields) looks.looked.header far)
 
-          caused : (f : Fault) → WhyNotFit fB.header.fields n z f → WhyNotAllocated (Holds table old before pending) (IsLoose old)
-              (order_of old ≡ L2DependsOnRb → IsTrue (state before.image).shape.keeps → IsSound (metadata_of state before old table pending) → IsCrowded (metadata_of state before old table pending) mark n) (state before.image).faults (state fB.image).faults f
+          caused : (f : Fault) → WhyNotFit fB.header.fields n z f → WhyNotAllocated (Holds table old before pending) (IsLoose table old)
+              (λ _. order_of old ≡ L2DependsOnRb → IsTrue (state before.image).shape.keeps → IsSound (metadata_of state before old table pending) → IsCrowded (metadata_of state before old table pending) mark n) (state before.image).faults (state fB.image).faults f
           caused DamagedTable is = never is
           caused (Limit number) far = (crowded far, looks.looked.cause ∙ so_far.faults)
           caused other is = absurd is
@@ -191,7 +191,7 @@ module _ {S : Type 0} (state : S → StorageState) (table : TableValue) (old : M
         pub run-ready : 0 < k → z ≢ 0 → IsInReach fB.header.fields.cluster_bits (z + (n - 1)) → last ≡ (z + (n - 1)) / k → ReadiesRun state mark n table old before pending (Ok z) tC C fC pC
         run-ready wide apart reach at = record {
           leaked = λ _. 0;
-          leaks = leaks-none (IsLoose old) (Ok z);
+          leaks = leaks-none _ _ (Ok z);
           step = done.step;
           found = λ order keeps sound.
               subst (λ (ca : MetadataCaches S). IsFirstRun (counts_in state ca fC) mark n z) (sym (made.idle refl).1)

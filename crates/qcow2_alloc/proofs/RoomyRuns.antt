@@ -101,8 +101,8 @@ module _ (mark n : ℕ) (some : 1 ≤ n) (m0 : Metadata) (sound0 : IsSound m0) (
                 let under = div-mul-le_self (z + (n - 1)) k in
                 let inside = ends in
                 subst (λ (x : ℕ). IsInReach m.header.fields.cluster_bits (i * x)) (sym size) (reach (i * k) (omega (arith, le, under, inside, some)))
-        can-make (inr (past, none)) = elim stays.keeping [
-          | inl was ↦ place-there-is m0.table k n (space m0.header.fields) Q s (roomy.first + Q) mark (sizes s stays.start.early) stays.start.behind m size sound z run was (omega (arith, past, last-is)) still reach (grow-at (λ (a : ℕ). NoPlaceToGrow m mark a) none)
+        can-make (inr (past, number, none)) = elim stays.keeping [
+          | inl was ↦ place-there-is m0.table k n (space m0.header.fields) Q s (roomy.first + Q) mark (sizes s stays.start.early) stays.start.behind m size sound z run was (omega (arith, past, last-is)) still reach number (grow-at (λ (a : ℕ). NoPlaceToGrow m mark a number) none)
           | inr was ↦ let inside = found-counted m0.table k n (space m0.header.fields) Q s (roomy.first + Q) mark (sizes s stays.start.early) stays.start.behind m.table (counted m) z run was in omega (arith, inside, past, last-is)
         ]
 

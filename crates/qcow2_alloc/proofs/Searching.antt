@@ -12,10 +12,10 @@ use Rattle.imago_storage.specs.declared.fault.Fault.TheVariants.{Memory, Storage
 use Rattle.imago_storage.proofs.Composing.{rose_before, rose_behind}
 use Rattle.qcow2_alloc.specs.declared.async_lru_cache.Slot.{Slot}
 use Rattle.qcow2_alloc.specs.Cache.{Evicted, MadeRoom, Loaded, LoadedAfter, Readied, victim, victim_from}
-use Rattle.qcow2_alloc.specs.Finding.{with_room, IsPinnedFull, pinned_in, Sought, WhyNotFound, CountsSearch}
+use Rattle.qcow2_alloc.specs.Finding.{with_room, IsPinnedFull, PinsNothing, Sought, WhyNotFound, CountsSearch}
 use Rattle.qcow2_alloc.specs.Going.{WhyNotWritten, IsWhole}
 use Rattle.qcow2_alloc.proofs.Counting.{Counted}
-use Rattle.qcow2_alloc.proofs.Pins.{pinned-removed, pinned-set, pinned-new}
+use Rattle.qcow2_alloc.proofs.Pins.{pins-none, pins-then, pins-removed, pins-set, pins-new}
 use Rattle.qcow2_alloc.proofs.Places.{place-of-key}
 use Rattle.qcow2_alloc.proofs.Readying.{is-there}
 
@@ -70,13 +70,6 @@ module _ {X : Type 0} (P : ℕ × X → Type 0) where
 pub mapped-same : {X Y : Type 0} (f : X → Y) (front : List X) (a b : X) (back : List X) → f a ≡ f b → map f (front ++ a ∷ back) ≡ map f (front ++ b ∷ back)
 mapped-same f [] a b back same = ap (λ y. y ∷ map f back) same
 mapped-same f (x ∷ front) a b back same = ap (λ l. f x ∷ l) (mapped-same f front a b back same)
-
--- As many are no more.
-pub no-more : {a b : ℕ} → a ≡ b → a ≤ b
-no-more same = omega (arith, same)
-
-pub at-most : {a b c : ℕ} → a ≡ b → b ≤ c → a ≤ c
-at-most same le = omega (arith, same, le)
 
 -- Where there is no victim each entry is pinned.
 victim-none : {V : Type 0} (es : List (ℕ × Slot V)) (found : Option ℕ) → victim_from found es ≡ None → (found ≡ None) × AllByRecursion (λ (e : ℕ × Slot V). 0 < e.1.pins) es
@@ -146,7 +139,7 @@ module _ {V D : Type 0} (loads : D → ℕ → Result V Fault → D → Type 0) 
   pub room-refused : (written : ℕ × Slot V → ℕ × Slot V)
       (kept : (key : ℕ) (slot : Slot V) (old new : D) (result : Result Unit Fault) (value : V) → flushes old key slot.value result new value → written (key, record slot { value = value }) ≡ written (key, slot))
       (cap : ℕ) (may_flush : Bool) (before : D) (es : List (ℕ × Slot V)) (fault : Fault) (after : D) (es' : List (ℕ × Slot V)) → MadeRoom nat_eq flushes cap may_flush before es (Err fault) after es'
-      → (map written es' ≡ map written es) × (pinned_in es' ≤ pinned_in es)
+      → (map written es' ≡ map written es) × PinsNothing es es'
   room-refused written kept cap may_flush before es fault after es' made = elim (cases_lt (length es) cap) [
     | inl roomy ↦ absurd (let r = (made.roomy roomy).0 in cc)
     | inr full ↦ elim (cases_Bool may_flush) [
@@ -155,25 +148,25 @@ module _ {V D : Type 0} (loads : D → ℕ → Result V Fault → D → Type 0) 
     ]
   ]
     where
-      by-victim : (v : Option ℕ) → victim es ≡ v → cap ≤ length es → may_flush ≡ true → (map written es' ≡ map written es) × (pinned_in es' ≤ pinned_in es)
-      by-victim None is full may = let same = (made.pinned full may is).2 in (ap (λ l. map written l) same, no-more (ap (λ l. pinned_in l) same))
+      by-victim : (v : Option ℕ) → victim es ≡ v → cap ≤ length es → may_flush ≡ true → (map written es' ≡ map written es) × PinsNothing es es'
+      by-victim None is full may = let same = (made.pinned full may is).2 in (ap (λ l. map written l) same, pins-none es es' same)
       by-victim (Some k) is full may =
           let at = made.evicted full may k is in
           let p = place-of-key k es at.slot at.there in
           let w = record at.slot { value = at.value } in (
             ap (λ l. map written l) (at.entries ∙ p.set w) ∙ mapped-same written p.front (k, w) (k, at.slot) p.back (kept k at.slot before after (Err fault) at.value at.flush) ∙ ap (λ l. map written l) (sym p.is),
-            no-more (ap (λ l. pinned_in l) at.entries ∙ pinned-set k es at.slot w at.there refl),
+            subst (λ l. PinsNothing es l) (sym at.entries) (pins-set k es at.slot w at.there refl),
           )
 
-  pub pinned-room : (cap : ℕ) (es : List (ℕ × Slot V)) → pinned_in (with_room cap es) ≤ pinned_in es
-  pinned-room cap es = elim (cases_lt (length es) cap) [
-    | inl roomy ↦ rw (lt-ltb (length es) cap roomy) (no-more refl)
+  pub pins-room : (cap : ℕ) (es : List (ℕ × Slot V)) → PinsNothing es (with_room cap es)
+  pins-room cap es = elim (cases_lt (length es) cap) [
+    | inl roomy ↦ rw (lt-ltb (length es) cap roomy) (pins-none es es refl)
     | inr full ↦ rw (le-ltb (length es) cap full) (by-victim (victim es) refl)
   ]
     where
-      by-victim : (v : Option ℕ) → victim es ≡ v → pinned_in (option_map_or (λ key. remove_entry (nat_eq key) es) v es) ≤ pinned_in es
-      by-victim None is = no-more refl
-      by-victim (Some k) is = pinned-removed (nat_eq k) es
+      by-victim : (v : Option ℕ) → victim es ≡ v → PinsNothing es (option_map_or (λ key. remove_entry (nat_eq key) es) v es)
+      by-victim None is = pins-none es es refl
+      by-victim (Some k) is = pins-removed (nat_eq k) es
 
   -- What the search leaves.
   pub sought : (written : ℕ × Slot V → ℕ × Slot V)
@@ -186,7 +179,7 @@ module _ {V D : Type 0} (loads : D → ℕ → Result V Fault → D → Type 0) 
     loaded = λ none. let m = r.missed none in by-load m.room m.mid m.entries m.made result (λ v l. reads m.mid v l) not m.loaded;
     refused = by-refusal result r;
     pinned = elim (is-there (lookup (nat_eq key) es)) [
-      | inl there ↦ no-more (ap (λ l. pinned_in l) (r.found there).2)
+      | inl there ↦ pins-none es es' (r.found there).2
       | inr none ↦ let m = r.missed none in by-pins m.room m.mid m.entries m.made result not m.loaded
     ];
   }
@@ -200,13 +193,13 @@ module _ {V D : Type 0} (loads : D → ℕ → Result V Fault → D → Type 0) 
       by-load (Err fault) mid entries made (Ok found) reads not later = absurd (let no = later.0 in cc)
 
       by-pins : (room : Result Bool Fault) (mid : D) (entries : List (ℕ × Slot V)) → MadeRoom nat_eq flushes cap may_flush before es room mid entries → (result : Result Bool Fault) → (result ≡ Ok false → ⊥)
-          → LoadedAfter loads key mid entries room result after es' → pinned_in es' ≤ pinned_in es
+          → LoadedAfter loads key mid entries room result after es' → PinsNothing es es'
       by-pins (Ok true) mid entries made (Ok found) not (is, value, load, list) =
-          let same : pinned_in es' ≡ pinned_in (with_room cap es) = ap (λ l. pinned_in l) list ∙ pinned-new key value entries ∙ ap (λ l. pinned_in l) (room-list cap may_flush before es mid entries made) in
-          at-most same (pinned-room cap es)
-      by-pins (Ok true) mid entries made (Err fault) not (same, why) = at-most (ap (λ l. pinned_in l) (same ∙ room-list cap may_flush before es mid entries made)) (pinned-room cap es)
+          let made-room = room-list cap may_flush before es mid entries made in
+          subst (λ l. PinsNothing es l) (sym list) (subst (λ l. PinsNothing es ((key, record { value = value; pins = 0 }) ∷ l)) (sym made-room) (pins-then es (with_room cap es) _ (pins-room cap es) (pins-new key value (with_room cap es))))
+      by-pins (Ok true) mid entries made (Err fault) not (same, why) = subst (λ l. PinsNothing es l) (sym (same ∙ room-list cap may_flush before es mid entries made)) (pins-room cap es)
       by-pins (Ok false) mid entries made result not later = absurd (not later.0)
-      by-pins (Err fault) mid entries made result not later = at-most (ap (λ l. pinned_in l) later.2) (room-refused written kept cap may_flush before es fault mid entries made).1
+      by-pins (Err fault) mid entries made result not later = subst (λ l. PinsNothing es l) (sym later.2) (room-refused written kept cap may_flush before es fault mid entries made).1
 
       by-refused : (room : Result Bool Fault) (mid : D) (entries : List (ℕ × Slot V)) (fault : Fault) → MadeRoom nat_eq flushes cap may_flush before es room mid entries → LoadedAfter loads key mid entries room (Err fault) after es'
           → (map written es' ≡ map written es) ⊎ (es' ≡ with_room cap es)

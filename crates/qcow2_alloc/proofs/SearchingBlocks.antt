@@ -21,7 +21,7 @@ use Rattle.qcow2_alloc.specs.Backends.{BlockLoaded}
 use Rattle.qcow2_alloc.specs.Cache.{Readied, with_entries}
 use Rattle.qcow2_alloc.specs.Caches.{cached_in, order_of}
 use Rattle.qcow2_alloc.specs.CachesLending.{with_blocks, block_loads, block_flushes}
-use Rattle.qcow2_alloc.specs.Finding.{Sought, BlockFound, IsPinnedFull, WhyNotFound, CountsSearch, pinned_in}
+use Rattle.qcow2_alloc.specs.Finding.{Sought, BlockFound, IsPinnedFull, WhyNotFound, CountsSearch}
 use Rattle.qcow2_alloc.specs.Going.{Going, Always, ReadyBlocks, IsWhole, IsMild, AreTablesInReach, CountsWrites, WhyNotWritten}
 use Rattle.qcow2_alloc.specs.Memory.{Cached, written, written_block}
 use Rattle.qcow2_alloc.specs.Safety.{Safe}
@@ -30,9 +30,10 @@ use Rattle.qcow2_alloc.proofs.FindingBlocks.{block-readied, block-comes-quietly,
 use Rattle.qcow2_alloc.proofs.FindingTables.{kept-same}
 use Rattle.qcow2_alloc.proofs.Going.{going-weaker, going-ready, going-safely}
 use Rattle.qcow2_alloc.proofs.Kept.{block-kept}
+use Rattle.qcow2_alloc.proofs.Pins.{pins-none}
 use Rattle.qcow2_alloc.proofs.Readying.{readied-quietly, never-full}
 use Rattle.qcow2_alloc.proofs.SafeLaws.{safe-reach}
-use Rattle.qcow2_alloc.proofs.Searching.{done_of, sought, readied-related, readied-counted, full-stays, roomy-kept, found-wider, found-written, whole-done, found-there, no-more}
+use Rattle.qcow2_alloc.proofs.Searching.{done_of, sought, readied-related, readied-counted, full-stays, roomy-kept, found-wider, found-written, whole-done, found-there}
 
 -- what is known of a load's answer
 block-loading : (h : Fields) (key : ℕ) (old : StorageState) (answer : Result Block Fault) (new : StorageState) → BlockLoaded h key old answer new
@@ -201,7 +202,7 @@ module _ {S : Type 0} (state : S → StorageState) (cluster : ℕ) where
           going = going-safely before.header (order_of old) Always (Succeeded (Err fault)) (IsWhole {T = Unit} (Err fault)) _ _ _ _ (λ safe mild. absurd (never fault safe mild why)) going;
           hit = not-there;
           there = tt;
-          sought = record { there = not-there; loaded = λ none. tt; refused = inl (ap (λ l. map written_block l) blocks); pinned = no-more (ap (λ l. pinned_in l) blocks) };
+          sought = record { there = not-there; loaded = λ none. tt; refused = inl (ap (λ l. map written_block l) blocks); pinned = pins-none (cached_in old).blocks (cached_in mid).blocks blocks };
           roomy = λ roomy. absurd (omega (arith, roomy, full));
           tables = ap (λ (c : Cached). c.tables) kept;
           apart = λ no. ap (λ (m : MetadataCaches S). m.l2) (idle no);

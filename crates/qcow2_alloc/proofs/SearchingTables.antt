@@ -22,7 +22,7 @@ use Rattle.qcow2_alloc.specs.Backends.{TableLoaded}
 use Rattle.qcow2_alloc.specs.Cache.{Readied, with_entries}
 use Rattle.qcow2_alloc.specs.Caches.{cached_in, order_of}
 use Rattle.qcow2_alloc.specs.CachesLending.{with_tables, table_loads, table_flushes}
-use Rattle.qcow2_alloc.specs.Finding.{Sought, TableFound, IsTableFine, IsPinnedFull, WhyNotFound, CountsSearch, pinned_in}
+use Rattle.qcow2_alloc.specs.Finding.{Sought, TableFound, IsTableFine, IsPinnedFull, WhyNotFound, CountsSearch}
 use Rattle.qcow2_alloc.specs.Going.{Going, Always, ReadyTables, IsWhole, IsMild, AreBlocksInReach, CountsWrites, WhyNotWritten}
 use Rattle.qcow2_alloc.specs.Memory.{Cached, written, written_table}
 use Rattle.qcow2_alloc.specs.Safety.{Safe}
@@ -30,9 +30,10 @@ use Rattle.qcow2_alloc.proofs.Counting.{table-counted}
 use Rattle.qcow2_alloc.proofs.FindingTables.{table-readied, table-comes-quietly, table-asked, kept-same}
 use Rattle.qcow2_alloc.proofs.Going.{going-weaker, going-ready, going-safely}
 use Rattle.qcow2_alloc.proofs.Kept.{table-kept}
+use Rattle.qcow2_alloc.proofs.Pins.{pins-none}
 use Rattle.qcow2_alloc.proofs.Readying.{readied-quietly, never-full}
 use Rattle.qcow2_alloc.proofs.SafeLaws.{safe-reach}
-use Rattle.qcow2_alloc.proofs.Searching.{done_of, sought, readied-related, readied-counted, full-stays, roomy-kept, found-wider, found-written, whole-done, found-there, no-more}
+use Rattle.qcow2_alloc.proofs.Searching.{done_of, sought, readied-related, readied-counted, full-stays, roomy-kept, found-wider, found-written, whole-done, found-there}
 
 -- what is known of a load's answer
 table-loading : (h : Fields) (key : ℕ) (old : StorageState) (answer : Result TableValue Fault) (new : StorageState) → TableLoaded h key old answer new
@@ -209,7 +210,7 @@ module _ {S : Type 0} (state : S → StorageState) (cluster : ℕ) where
           going = going-safely before.header (order_of old) Always (Succeeded (Err fault)) (IsWhole {T = Unit} (Err fault)) _ _ _ _ (λ safe mild. absurd (never fault safe mild why)) going;
           hit = not-there;
           there = tt;
-          sought = record { there = not-there; loaded = λ none. tt; refused = inl (ap (λ l. map written_table l) tables); pinned = no-more (ap (λ l. pinned_in l) tables) };
+          sought = record { there = not-there; loaded = λ none. tt; refused = inl (ap (λ l. map written_table l) tables); pinned = pins-none (cached_in old).tables (cached_in mid).tables tables };
           roomy = λ roomy. absurd (omega (arith, roomy, full));
           blocks = ap (λ (c : Cached). c.blocks) kept;
           apart = λ no. ap (λ (m : MetadataCaches S). m.rb) (idle no);

@@ -355,6 +355,8 @@ module _ (m : Metadata) (table : TableValue) (t n : ℕ) (sound : IsSound m) (re
   table-shows = record {
     consistent = in-file.consistent;
     moved = (o, n, refl);
+    behind = λ p from lt. out p (inr from);
+    l1 = λ k lt. in-file.kept.l1 k lt (λ e. cc);
     tables = in-file.tables;
     words = λ k j live. inl (in-file.slots k j live);
     contents = λ k j live p some.

@@ -38,12 +38,12 @@ use Rattle.qcow2_alloc.proofs.FreeClusters.{uncounted-free, flushes-count}
 use Rattle.qcow2_alloc.proofs.FreeingEntries.{failed}
 use Rattle.qcow2_alloc.proofs.FreeRuns.{block-quietly}
 use Rattle.qcow2_alloc.proofs.Listed.{covers-none, covers-one}
-use Rattle.qcow2_alloc.proofs.Loose.{unpinned-written}
-use Rattle.qcow2_alloc.proofs.MadeBlocks.{allocated-wider, allocated-written, Follows, B, begins-then, begins-refused, ends, made}
+use Rattle.qcow2_alloc.proofs.Loose.{loose-on}
+use Rattle.qcow2_alloc.proofs.MadeBlocks.{counted-wider, allocated-written, Follows, B, begins-then, begins-refused, ends, made}
 use Rattle.qcow2_alloc.proofs.MakingBlocks.{other-block-made, other-block-raises}
 use Rattle.qcow2_alloc.proofs.OwnBlocks.{without}
 use Rattle.qcow2_alloc.proofs.QuietThen.{used-then}
-use Rattle.qcow2_alloc.proofs.Pins.{pinned-removed}
+use Rattle.qcow2_alloc.proofs.Pins.{pins-removed, pins-written}
 use Rattle.qcow2_alloc.proofs.QuietAnnouncing.{whole-quietly, written-whole}
 use Rattle.qcow2_alloc.proofs.QuietCounters.{here-one, away-none}
 use Rattle.qcow2_alloc.proofs.QuietFlushes.{going-quietly, memory-quietly}
@@ -100,7 +100,7 @@ module _ {S : Type 0} (state : S → StorageState) (table : TableValue) (pending
         stays = record {
           header = refl;
           order = refl;
-          loose = λ loose. record { blocks = (let le = pinned-removed (nat_eq d) (cached_in A).blocks in let none = loose.blocks in omega (arith, le, none)); room = loose.room };
+          loose = loose-on table A C1 (pins-removed (nat_eq d) (cached_in A).blocks) (record { tables = refl; blocks = refl });
           room = record { tables = refl; blocks = refl };
         };
       })
@@ -162,7 +162,7 @@ module _ {S : Type 0} (state : S → StorageState) (table : TableValue) (pending
   uncounted-made fault C fC raises =
       begins-refused state i table pending old before (λ _. 0) (more (Err fault) C fC raises) C1 fA C fC begin fault (counting (Err fault) C fC raises)
       (λ order keeps sound whole c. let none = more-none (Err fault) C fC raises (part-is (Err fault) C fC raises) c in omega (arith, none))
-      (allocated-wider _ _ _ _ _ _ _ _ (λ holds. (
+      (counted-wider _ _ _ _ _ _ _ _ (λ holds. (
         on holds.0,
         begin.order ∙ holds.1,
         ((begin.quiet holds.1).holds holds.0 holds.2 tt).0,
@@ -212,10 +212,7 @@ module _ {S : Type 0} (state : S → StorageState) (table : TableValue) (pending
         stays = record {
           header = others.1;
           order = others.0;
-          loose = λ loose. record {
-            blocks = unpinned-written Block written_block (λ e. refl) (cached_in D).blocks (cached_in C).blocks (ap (λ (c : Cached). c.blocks) kept) loose.blocks;
-            room = subst (λ n. 0 < n) (sym room.blocks) loose.room;
-          };
+          loose = loose-on table C D (pins-written written_block (λ e. e.0) (λ e. e.1.pins) (λ e. (refl, refl)) (cached_in C).blocks (cached_in D).blocks (ap (λ (c : Cached). c.blocks) kept)) room;
           room = room;
         };
       }
@@ -276,7 +273,7 @@ module _ {S : Type 0} (state : S → StorageState) (table : TableValue) (pending
             | inl same ↦ absurd ((unused order keeps sound).2 (used-then m0 mA (λ _. 0) (λ _. 0) ((begun.quiet order).holds keeps sound tt).1 sound (sound-then order keeps sound) d (subst (λ n. IsUsed m0 n) same used) refl))
           ])
           (λ order keeps sound sound4. ready order keeps sound inside sound4)
-          result table' after header
+          empty result table' after header
           (ends state i d counters table D fD pending Ready (one_at d) inside low some reach
           (λ r mid done put. block-quietly m4 d (B state i d counters table D fD pending) (state fD.image) mid refl refl (length-replicate {A = ℕ} (counters_of_block fD.header.fields) 0) (one_at d)
           (λ s. (r.unnamed, λ used. let one = here-one d in omega (arith, one))) done put)

@@ -12,7 +12,6 @@ use Rattle.qcow2_types.specs.Bytes.{bytes_of}
 use Rattle.qcow2_types.specs.Counts.{count, counters_of_block}
 use Rattle.qcow2_types.specs.Header.{Header}
 use Rattle.qcow2_types.specs.Pending.{FreeEntry}
-use Rattle.qcow2_metadata.specs.Blocks.{Block}
 use Rattle.qcow2_metadata.specs.Tables.{TableValue}
 use Rattle.qcow2_alloc.specs.declared.allocation.searching.Run.{Run}
 use Rattle.qcow2_alloc.specs.declared.cache.CacheDependency.{CacheDependency}
@@ -22,25 +21,28 @@ use Rattle.qcow2_alloc.specs.declared.file.ImageFile.{ImageFile}
 use Rattle.qcow2_alloc.specs.Allocating.{CountsNamed, named_part}
 use Rattle.qcow2_alloc.specs.Allocators.{metadata_of}
 use Rattle.qcow2_alloc.specs.Caches.{cached_in, order_of, HasRoomOf}
+use Rattle.qcow2_alloc.specs.Finding.{PinsNothing}
 use Rattle.qcow2_alloc.specs.FreeList.{covers}
-use Rattle.qcow2_alloc.specs.Freeing.{IsLoose, WhyNotFreed}
+use Rattle.qcow2_alloc.specs.Freeing.{IsLoose, WhyNotCounted, WhyNotFreed}
 use Rattle.qcow2_alloc.specs.Going.{Going, Always, IsWhole, CountsWrites, AreTablesInReach, AreBlocksInReach, WhyNotWritten}
 use Rattle.qcow2_alloc.specs.Growing.{lacks, lacking}
 use Rattle.qcow2_alloc.specs.MakingRoom.{run_of, rank}
 use Rattle.qcow2_alloc.specs.Memory.{Cached, written, written_block}
-use Rattle.qcow2_alloc.specs.MovingTables.{ForgetsRun, StaysInMemory, TakesRoom, IsTaken, IsUncounted}
+use Rattle.qcow2_alloc.specs.MovingTables.{ForgetsRun, IsPinnedWithin, StaysInMemory, TakesRoom, IsTaken, IsUncounted}
 use Rattle.qcow2_alloc.specs.NewBlocks.{MayWrite, WritesLacking}
 use Rattle.qcow2_alloc.specs.Quiet.{Metadata, counted, named_at_all, IsUsed, IsSound, Quietly}
 use Rattle.qcow2_alloc.specs.Safety.{AreBlocksClean}
 use Rattle.qcow2_alloc.proofs.CountingClusters.{succeeded}
 use Rattle.qcow2_alloc.proofs.CountingRuns.{covers-behind}
+use Rattle.qcow2_alloc.proofs.Forgetting.{never-unnamed}
 use Rattle.qcow2_alloc.proofs.ForgettingRuns.{memory-counts}
 use Rattle.qcow2_alloc.proofs.FreeClusters.{uncounted-free, flushes-count, clean-counts}
 use Rattle.qcow2_alloc.proofs.FreeingEntries.{failed}
 use Rattle.qcow2_alloc.proofs.GrownTables.{covers-inside, covers-before}
-use Rattle.qcow2_alloc.proofs.Loose.{StaysLoose, unpinned-written}
+use Rattle.qcow2_alloc.proofs.Loose.{StaysLoose, loose-on}
 use Rattle.qcow2_alloc.proofs.NamingNewBlocks.{rank-before}
 use Rattle.qcow2_alloc.proofs.FindingRoom.{lacks-inside}
+use Rattle.qcow2_alloc.proofs.Pins.{pins-written}
 use Rattle.qcow2_alloc.proofs.QuietAnnouncing.{whole-quietly, written-whole}
 use Rattle.qcow2_alloc.proofs.QuietFlushes.{going-quietly, memory-quietly}
 use Rattle.qcow2_alloc.proofs.QuietGiven.{quietly-then-given, quietly-given}
@@ -98,7 +100,7 @@ module _ {S : Type 0} (state : S → StorageState) (table : TableValue) (pending
     pub later : Later (state fC.image) (state fD.image)
     pub quiet : Given → IsSound (At C fC) → Quietly ok ours ours (state fC.image) (At C fC) (state fD.image) (At D fD)
     pub same : Given → IsSound (At C fC) → ok → (c : ℕ) → counted (At D fD) c ≡ counted (At C fC) c
-    pub stays : StaysLoose C fC D fD
+    pub stays : StaysLoose table C fC D fD
 
   module _ (C : MetadataCaches S) (fC : ImageFile S) (counts : Counts succeeded C fC) where
     on : Keeps → IsTrue (state fC.image).shape.keeps
@@ -117,7 +119,7 @@ module _ {S : Type 0} (state : S → StorageState) (table : TableValue) (pending
 
     -- The next step goes on with it,
     pub counts-then : (result : Result Unit Fault) (D : MetadataCaches S) (fD : ImageFile S) → Next (IsWhole result) C fC D fD
-        → MatchResult result (λ _. (state fD.image).faults ≡ (state fC.image).faults) (WhyNotFreed (Given × IsSound (At C fC)) (IsLoose C) (state fC.image).faults (state fD.image).faults) → Counts result D fD
+        → MatchResult result (λ _. (state fD.image).faults ≡ (state fC.image).faults) (WhyNotCounted (Given × IsSound (At C fC)) (IsLoose table C) (state fC.image).faults (state fD.image).faults) → Counts result D fD
     counts-then result D fD next cause =
         let part = counts.part in
         let handed = named_part table (counters_of_block before.header.fields) run.first counts.part in
@@ -151,18 +153,18 @@ module _ {S : Type 0} (state : S → StorageState) (table : TableValue) (pending
         from : Keeps × (order_of old ≡ L2DependsOnRb) × IsSound m0 × ((c : ℕ) → run.first ≤ c → c < run.first + run.len → (counted m0 c ≡ 0) × ⊤) → Given × IsSound (At C fC)
         from holds = let given : Given = (holds.0, holds.1, holds.2, λ c above below. (holds.3 c above below).0) in (given, sound-then given)
 
-        wider : (fault : Fault) → WhyNotFreed (Given × IsSound (At C fC)) (IsLoose C) (state fC.image).faults (state fD.image).faults fault
-            → WhyNotFreed (Keeps × (order_of old ≡ L2DependsOnRb) × IsSound m0 × ((c : ℕ) → run.first ≤ c → c < run.first + run.len → (counted m0 c ≡ 0) × ⊤)) (IsLoose old) (state before.image).faults (state fD.image).faults fault
+        wider : (fault : Fault) → WhyNotCounted (Given × IsSound (At C fC)) (IsLoose table C) (state fC.image).faults (state fD.image).faults fault
+            → WhyNotCounted (Keeps × (order_of old ≡ L2DependsOnRb) × IsSound m0 × ((c : ℕ) → run.first ≤ c → c < run.first + run.len → (counted m0 c ≡ 0) × ⊤)) (IsLoose table old) (state before.image).faults (state fD.image).faults fault
         wider Memory why = tt
         wider Storage why = subst (λ n. Rose n (state fD.image).faults) counts.cause why
         wider DamagedTable why = λ holds. why (from holds)
         wider Counter why = λ holds. why (from holds)
-        wider CacheFull why = λ loose. why (counts.loose loose)
+        wider CacheFull why = λ both. why (from both.0, counts.loose both.1)
         wider other why = absurd why
 
-        caused : (r : Result Unit Fault) → MatchResult r (λ _. (state fD.image).faults ≡ (state fC.image).faults) (WhyNotFreed (Given × IsSound (At C fC)) (IsLoose C) (state fC.image).faults (state fD.image).faults)
+        caused : (r : Result Unit Fault) → MatchResult r (λ _. (state fD.image).faults ≡ (state fC.image).faults) (WhyNotCounted (Given × IsSound (At C fC)) (IsLoose table C) (state fC.image).faults (state fD.image).faults)
             → MatchResult r (λ _. (state fD.image).faults ≡ (state before.image).faults)
-            (WhyNotFreed (Keeps × (order_of old ≡ L2DependsOnRb) × IsSound m0 × ((c : ℕ) → run.first ≤ c → c < run.first + run.len → (counted m0 c ≡ 0) × ⊤)) (IsLoose old) (state before.image).faults (state fD.image).faults)
+            (WhyNotCounted (Keeps × (order_of old ≡ L2DependsOnRb) × IsSound m0 × ((c : ℕ) → run.first ≤ c → c < run.first + run.len → (counted m0 c ≡ 0) × ⊤)) (IsLoose table old) (state before.image).faults (state fD.image).faults)
         caused (Ok done) same = same ∙ counts.cause
         caused (Err fault) why = wider fault why
 
@@ -189,16 +191,13 @@ module _ {S : Type 0} (state : S → StorageState) (table : TableValue) (pending
         stays = record {
           header = others.1;
           order = others.0;
-          loose = λ loose. record {
-            blocks = unpinned-written Block written_block (λ e. refl) (cached_in D).blocks (cached_in C).blocks (ap (λ (c : Cached). c.blocks) kept) loose.blocks;
-            room = subst (λ n. 0 < n) (sym room.blocks) loose.room;
-          };
+          loose = loose-on table C D (pins-written written_block (λ e. e.0) (λ e. e.1.pins) (λ e. (refl, refl)) (cached_in C).blocks (cached_in D).blocks (ap (λ (c : Cached). c.blocks) kept)) room;
           room = room;
         };
       }
 
       why : (r : Result Unit Fault) → CountsWrites (AreTablesInReach (cached_in C) × AreBlocksInReach (cached_in C)) (state fC.image).faults (state fD.image).faults r
-          → MatchResult r (λ _. (state fD.image).faults ≡ (state fC.image).faults) (WhyNotFreed (Given × IsSound (At C fC)) (IsLoose C) (state fC.image).faults (state fD.image).faults)
+          → MatchResult r (λ _. (state fD.image).faults ≡ (state fC.image).faults) (WhyNotCounted (Given × IsSound (At C fC)) (IsLoose table C) (state fC.image).faults (state fD.image).faults)
       why (Ok done) same = same
       why (Err fault) not = why-written _ _ _ _ _ _ (λ holds. safe-reach (At C fC).file (At C fC).header (At C fC).cached (At C fC).order holds.1.safe) refl fault not
 
@@ -206,8 +205,8 @@ module _ {S : Type 0} (state : S → StorageState) (table : TableValue) (pending
       flushed-then = counts-then result D fD flushing (why result cause)
 
     -- or forgotten,
-    module _ (result : Result Unit Fault) (D : MetadataCaches S) (n : ℕ) (few : n ≤ run.len) (forgets : ForgetsRun run.first n (cached_in C) result (cached_in D)) (order : D.order ≡ C.order) (loose : IsLoose C → IsLoose D) (room : HasRoomOf C D)
-        (cause : IfErr result (λ fault. (fault ≡ CacheFull) × (IsLoose C → ⊥))) where
+    module _ (result : Result Unit Fault) (D : MetadataCaches S) (n : ℕ) (few : n ≤ run.len) (forgets : ForgetsRun run.first n (cached_in C) result (cached_in D)) (order : D.order ≡ C.order) (pins : PinsNothing (cached_in C).blocks (cached_in D).blocks) (room : HasRoomOf C D)
+        (cause : IfErr result (λ fault. (fault ≡ CacheFull) × IsPinnedWithin run.first n C)) where
       there : (P : Metadata → Type 0) → P (record (At C fC) { cached = cached_in D }) → P (At D fC)
       there P p = subst (λ (o : CacheDependency). P (record (At C fC) { cached = cached_in D; order = o })) (sym order) p
 
@@ -225,13 +224,15 @@ module _ {S : Type 0} (state : S → StorageState) (table : TableValue) (pending
             (quietly-otherwise (IsWhole result) (λ _. 0) (λ _. 0) ours ours (state fC.image) (At C fC) (state fC.image) _ (λ s c. omega arith) (λ s c used none. refl)
             (memory-quietly (IsWhole result) (λ _. 0) (λ _. 0) (state fC.image) (At C fC) _ (λ s whole. let stays = (forgotten-there given).0 in (stays.sound, stays.quiet))));
         same = λ given sound whole. forgotten-same given;
-        stays = record { header = refl; order = order; loose = loose; room = room };
+        stays = record { header = refl; order = order; loose = loose-on table C D pins room; room = room };
       }
 
-      why-full : (r : Result Unit Fault) → IfErr r (λ fault. (fault ≡ CacheFull) × (IsLoose C → ⊥))
-          → MatchResult r (λ _. (state fC.image).faults ≡ (state fC.image).faults) (WhyNotFreed (Given × IsSound (At C fC)) (IsLoose C) (state fC.image).faults (state fC.image).faults)
+      -- No block that the table names is in the run.
+      why-full : (r : Result Unit Fault) → IfErr r (λ fault. (fault ≡ CacheFull) × IsPinnedWithin run.first n C)
+          → MatchResult r (λ _. (state fC.image).faults ≡ (state fC.image).faults) (WhyNotCounted (Given × IsSound (At C fC)) (IsLoose table C) (state fC.image).faults (state fC.image).faults)
       why-full (Ok done) none = refl
-      why-full (Err fault) (is, never) = subst (λ (f : Fault). WhyNotFreed (Given × IsSound (At C fC)) (IsLoose C) (state fC.image).faults (state fC.image).faults f) (sym is) never
+      why-full (Err fault) (is, (d, from, to, pinned)) = subst (λ (f : Fault). WhyNotCounted (Given × IsSound (At C fC)) (IsLoose table C) (state fC.image).faults (state fC.image).faults f) (sym is)
+          (λ both. never-unnamed (At C fC) both.0.1 d (unnamed-then both.0.0 d from (omega (arith, to, few))) (both.1.named d pinned))
 
       pub forgotten-then : Counts result D fC
       forgotten-then = counts-then result D fC forgetting (why-full result cause)
@@ -258,7 +259,7 @@ module _ {S : Type 0} (state : S → StorageState) (table : TableValue) (pending
       }
 
       why-cut : (r : Result Unit Fault) → MatchResult r (λ _. (state fD.image).faults ≡ (state fC.image).faults) (Cause (state fC.image).faults (state fD.image).faults)
-          → MatchResult r (λ _. (state fD.image).faults ≡ (state fC.image).faults) (WhyNotFreed (Given × IsSound (At C fC)) (IsLoose C) (state fC.image).faults (state fD.image).faults)
+          → MatchResult r (λ _. (state fD.image).faults ≡ (state fC.image).faults) (WhyNotCounted (Given × IsSound (At C fC)) (IsLoose table C) (state fC.image).faults (state fD.image).faults)
       why-cut (Ok done) same = same
       why-cut (Err fault) why = why-caused _ _ _ _ _ refl fault why
 
@@ -294,26 +295,26 @@ module _ {S : Type 0} (state : S → StorageState) (table : TableValue) (pending
   pub header-there : fD.header ≡ before.header
   header-there = counts-flushed.header
 
-  pub room-not-forgotten : (fault : Fault) (E : MetadataCaches S) → ForgetsRun run.first n (cached_in D) (failed fault) (cached_in E) → E.order ≡ D.order → (IsLoose D → IsLoose E) → HasRoomOf D E → (fault ≡ CacheFull) × (IsLoose D → ⊥)
+  pub room-not-forgotten : (fault : Fault) (E : MetadataCaches S) → ForgetsRun run.first n (cached_in D) (failed fault) (cached_in E) → E.order ≡ D.order → PinsNothing (cached_in D).blocks (cached_in E).blocks → HasRoomOf D E → (fault ≡ CacheFull) × IsPinnedWithin run.first n D
       → TakesRoom state table run old before (Err fault) E fD pending
-  room-not-forgotten fault E forgets order loose space why = record {
-    counts = forgotten-then state table pending run old before D fD counts-flushed (failed fault) E n few forgets order loose space why;
+  room-not-forgotten fault E forgets order pins space why = record {
+    counts = forgotten-then state table pending run old before D fD counts-flushed (failed fault) E n few forgets order pins space why;
     taken = λ o k s z. tt;
   }
 
-  module _ (E : MetadataCaches S) (forgets : ForgetsRun run.first n (cached_in D) succeeded (cached_in E)) (order : E.order ≡ D.order) (loose : IsLoose D → IsLoose E) (space : HasRoomOf D E) where
+  module _ (E : MetadataCaches S) (forgets : ForgetsRun run.first n (cached_in D) succeeded (cached_in E)) (order : E.order ≡ D.order) (pins : PinsNothing (cached_in D).blocks (cached_in E).blocks) (space : HasRoomOf D E) where
     counts-forgotten : CountsNamed state table run.first run.len old before succeeded E fD pending
-    counts-forgotten = forgotten-then state table pending run old before D fD counts-flushed succeeded E n few forgets order loose space tt
+    counts-forgotten = forgotten-then state table pending run old before D fD counts-flushed succeeded E n few forgets order pins space tt
 
     pub room-taken : n ≡ lacking table (counters_of_block fD.header.fields) run.first run.len → 0 < counters_of_block fD.header.fields → (result : Result Unit Fault) (fE : ImageFile S) → fE.header ≡ fD.header
         → WritesLacking fD.header table run (state fD.image) result (state fE.image) → TakesRoom state table run old before result E fE pending
     room-taken all some result fE header writes = record {
       counts = written-then state table pending run old before E fD counts-forgotten result fE header writes;
       taken = λ o k s z. on-ok result (λ done. run-taken state table pending run old before E fD counts-forgotten result fE header writes
-          (λ given c. sym (forgotten-same state table pending run old before D fD counts-flushed succeeded E n few forgets order loose space tt given c
+          (λ given c. sym (forgotten-same state table pending run old before D fD counts-flushed succeeded E n few forgets order pins space tt given c
           ∙ clean-counts (metadata_of state fD D table pending) (sound-then state table pending run old before D fD counts-flushed given) clean c))
           some (subst (λ m. m ≤ run.len) all few)
-          (λ given d from to. (forgotten-there state table pending run old before D fD counts-flushed succeeded E n few forgets order loose space tt given).1 d from (subst (λ m. d < run.first + m) (sym all) to))
+          (λ given d from to. (forgotten-there state table pending run old before D fD counts-flushed succeeded E n few forgets order pins space tt given).1 d from (subst (λ m. d < run.first + m) (sym all) to))
           done (k, o, s, z));
     }
       where

@@ -18,7 +18,7 @@ use Rattle.qcow2_alloc.specs.Allocating.{CountsNamed, named_part}
 use Rattle.qcow2_alloc.specs.Allocators.{metadata_of}
 use Rattle.qcow2_alloc.specs.Caches.{order_of}
 use Rattle.qcow2_alloc.specs.FreeList.{covers}
-use Rattle.qcow2_alloc.specs.Freeing.{IsLoose, WhyNotFreed}
+use Rattle.qcow2_alloc.specs.Freeing.{IsLoose, WhyNotCounted}
 use Rattle.qcow2_alloc.specs.Going.{IsMild}
 use Rattle.qcow2_alloc.specs.MakingRoom.{run_of}
 use Rattle.qcow2_alloc.specs.MovingTables.{IsUncounted, FillsRoom}
@@ -51,7 +51,7 @@ abbrev leaked-by : Fault → (ℕ → ℕ) → ℕ → ℕ
 leaked-by CacheFull handed c = handed c
 leaked-by fault handed c = 0
 
-leaked-same : (sound loose : Type 0) (a b : ℕ) (fault : Fault) (handed : ℕ → ℕ) → IsMild fault → sound → WhyNotFreed sound loose a b fault → (c : ℕ) → handed c ≡ leaked-by fault handed c
+leaked-same : (sound loose : Type 0) (a b : ℕ) (fault : Fault) (handed : ℕ → ℕ) → IsMild fault → sound → WhyNotCounted sound loose a b fault → (c : ℕ) → handed c ≡ leaked-by fault handed c
 leaked-same sound loose a b Memory handed mild s why c = absurd mild
 leaked-same sound loose a b Storage handed mild s why c = absurd mild
 leaked-same sound loose a b DamagedTable handed mild s why c = absurd (why s)
@@ -63,16 +63,16 @@ leaked-none : (fault : Fault) (handed : ℕ → ℕ) → (failed fault ≡ Err C
 leaked-none CacheFull handed not c = absurd (not refl)
 leaked-none fault handed not c = refl
 
-leaked-pinned : (sound loose : Type 0) (a b : ℕ) (fault : Fault) (handed : ℕ → ℕ) → loose → WhyNotFreed sound loose a b fault → (c : ℕ) → leaked-by fault handed c ≡ 0
-leaked-pinned sound loose a b CacheFull handed l why c = absurd (why l)
-leaked-pinned sound loose a b fault handed l why c = refl
+leaked-pinned : (sound loose : Type 0) (a b : ℕ) (fault : Fault) (handed : ℕ → ℕ) → sound → loose → WhyNotCounted sound loose a b fault → (c : ℕ) → leaked-by fault handed c ≡ 0
+leaked-pinned sound loose a b CacheFull handed s l why c = absurd (why (s, l))
+leaked-pinned sound loose a b fault handed s l why c = refl
 
-why-from : (sound sound' loose : Type 0) (a b : ℕ) → (sound' → sound) → (fault : Fault) → WhyNotFreed sound loose a b fault → WhyNotFreed sound' loose a b fault
+why-from : (sound sound' loose : Type 0) (a b : ℕ) → (sound' → sound) → (fault : Fault) → WhyNotCounted sound loose a b fault → WhyNotCounted sound' loose a b fault
 why-from sound sound' loose a b from Memory why = tt
 why-from sound sound' loose a b from Storage why = why
 why-from sound sound' loose a b from DamagedTable why = λ s. why (from s)
 why-from sound sound' loose a b from Counter why = λ s. why (from s)
-why-from sound sound' loose a b from CacheFull why = why
+why-from sound sound' loose a b from CacheFull why = λ both. why (from both.0, both.1)
 why-from sound sound' loose a b from other why = absurd why
 
 module _ {S : Type 0} (state : S → StorageState) (table : TableValue) (pending : List FreeEntry) (run : Run) (copy : TableValue) (old : MetadataCaches S) (before : ImageFile S)
@@ -97,13 +97,13 @@ module _ {S : Type 0} (state : S → StorageState) (table : TableValue) (pending
     all-known : Sound → Keeps × (order_of old ≡ L2DependsOnRb) × IsSound m0 × ((c : ℕ) → run.first ≤ c → c < run.first + run.len → (counted m0 c ≡ 0) × ⊤)
     all-known s = (s.1, (free s.0).0, s.2, λ c from to. ((free s.0).1 c from to, tt))
 
-    why : WhyNotFreed Sound (IsLoose old) (state before.image).faults (state fD.image).faults fault
+    why : WhyNotCounted Sound (IsLoose table old) (state before.image).faults (state fD.image).faults fault
     why = why-from _ Sound _ _ _ all-known fault counts.cause
 
     pub not-filled : FillsRoom state known run copy table old before (failed fault) table D fD pending pending
     not-filled = record {
       leaked = leaked-by fault handed;
-      leaks = record { none = leaked-none fault handed; pinned = λ loose. leaked-pinned Sound (IsLoose old) _ _ fault handed loose why };
+      leaks = record { none = leaked-none fault handed; pinned = λ sound loose. leaked-pinned Sound (IsLoose table old) _ _ fault handed sound loose why };
       shape = counts.shape;
       later = counts.later;
       quiet = λ e. quietly-given (IsMild fault) (leaked-by fault handed) (λ _. 0) (state before.image) m0 (state fD.image) mD counts.shape counts.later (λ keeps sound.
@@ -114,7 +114,7 @@ module _ {S : Type 0} (state : S → StorageState) (table : TableValue) (pending
             passes = q.passes;
             holds = λ k s mild.
                 let both = q.holds k s mild in
-                (both.0, quiet-otherwise m0 mD handed (λ _. 0) (leaked-by fault handed) (λ _. 0) (λ c. let is = leaked-same Sound (IsLoose old) _ _ fault handed mild (e, keeps, sound) why c in omega (arith, is)) (λ c used none. refl) both.1);
+                (both.0, quiet-otherwise m0 mD handed (λ _. 0) (leaked-by fault handed) (λ _. 0) (λ c. let is = leaked-same Sound (IsLoose table old) _ _ fault handed mild (e, keeps, sound) why c in omega (arith, is)) (λ c used none. refl) both.1);
           });
       raised = λ e keeps sound mild c.
           part-raised (block_offset (slice_index table.words (c / counters_of_block before.header.fields))) 0 0 (counted m0 c) (counted mD c) run.first run.len counts.part c counts.inside ((free e).1 c)
@@ -132,11 +132,11 @@ module _ {S : Type 0} (state : S → StorageState) (table : TableValue) (pending
 
 -- Nothing was done.
 pub not-begun : {S : Type 0} (state : S → StorageState) (known : Type 0) (table : TableValue) (pending : List FreeEntry) (run : Run) (copy : TableValue) (caches : MetadataCaches S) (file : ImageFile S) (fault : Fault)
-    → WhyNotFreed (known × IsTrue (state file.image).shape.keeps × IsSound (metadata_of state file caches table pending)) (IsLoose caches) (state file.image).faults (state file.image).faults fault
+    → WhyNotCounted (known × IsTrue (state file.image).shape.keeps × IsSound (metadata_of state file caches table pending)) (IsLoose table caches) (state file.image).faults (state file.image).faults fault
     → FillsRoom state known run copy table caches file (failed fault) table caches file pending pending
 not-begun state known table pending run copy caches file fault why = record {
   leaked = λ _. 0;
-  leaks = record { none = λ not c. refl; pinned = λ loose c. refl };
+  leaks = record { none = λ not c. refl; pinned = λ sound loose c. refl };
   shape = refl;
   later = later_same (state file.image);
   quiet = λ e. memory-quietly (IsMild fault) (λ _. 0) (λ _. 0) (state file.image) (metadata_of state file caches table pending) (metadata_of state file caches table pending) (λ sound mild. (sound, quiet-none (metadata_of state file caches table pending) sound));

@@ -14,7 +14,7 @@ use Rattle.qcow2_alloc.specs.declared.cache.MetadataCaches.{MetadataCaches}
 use Rattle.qcow2_alloc.specs.declared.file.ImageFile.{ImageFile}
 use Rattle.qcow2_alloc.specs.Allocating.{CountsNamed}
 use Rattle.qcow2_alloc.specs.Allocators.{metadata_of}
-use Rattle.qcow2_alloc.specs.Freeing.{IsLoose, WhyNotFreed}
+use Rattle.qcow2_alloc.specs.Freeing.{IsLoose, WhyNotCounted}
 use Rattle.qcow2_alloc.specs.Going.{IsWhole}
 use Rattle.qcow2_alloc.specs.MovingTables.{clusters_of, IsPlan, IsTaken, TakesRoom}
 use Rattle.qcow2_alloc.specs.Quiet.{Metadata, IsSound}
@@ -75,9 +75,9 @@ module _ {S : Type 0} (state : S → StorageState) (table : TableValue) (pending
   }
 
   why-put : (r : Result Unit Fault) → MatchResult r (λ _. (state mid).faults ≡ (state fC.image).faults) (Cause (state fC.image).faults (state mid).faults)
-      → MatchResult r (λ _. (state mid).faults ≡ (state fC.image).faults) (WhyNotFreed (Known × IsSound m4) (IsLoose C) (state fC.image).faults (state mid).faults)
+      → MatchResult r (λ _. (state mid).faults ≡ (state fC.image).faults) (WhyNotCounted (Known × IsSound m4) (IsLoose table C) (state fC.image).faults (state mid).faults)
   why-put (Ok v) same = same
-  why-put (Err fault) cause = why-caused (Known × IsSound m4) (IsLoose C) _ _ _ refl fault cause
+  why-put (Err fault) cause = why-caused _ _ _ _ _ refl fault cause
 
   pub table-written : CountsNamed state table run.first run.len old before done C between pending
   table-written = counts-then state table pending run old before C fC takes.counts done C between table-next (why-put done (put-counts (state fC.image) (state mid) (table_place copy) (table_bytes copy.words) done put))

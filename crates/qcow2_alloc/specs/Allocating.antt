@@ -19,7 +19,7 @@ use Rattle.qcow2_alloc.specs.declared.file.ImageFile.{ImageFile}
 use Rattle.qcow2_alloc.specs.Allocators.{metadata_of, named_block, UsesBlock}
 use Rattle.qcow2_alloc.specs.Caches.{order_of, HasRoomOf}
 use Rattle.qcow2_alloc.specs.FreeList.{covers}
-use Rattle.qcow2_alloc.specs.Freeing.{IsLoose, WhyNotFreed}
+use Rattle.qcow2_alloc.specs.Freeing.{IsLoose, WhyNotCounted}
 use Rattle.qcow2_alloc.specs.Going.{IsWhole}
 use Rattle.qcow2_alloc.specs.MakingRoom.{run_of}
 use Rattle.qcow2_alloc.specs.Quiet.{Metadata, IsSound, Quietly, counted}
@@ -40,10 +40,11 @@ RaisesCluster state table cluster old before result new after = MatchOption (nam
 abbrev pub OnlyRaised : Metadata → Metadata → Type 0
 OnlyRaised m m' = (c : ℕ) → (counted m' c ≡ counted m c) ⊎ ((counted m c ≡ 0) × (counted m' c ≡ 1))
 
--- Why a call that counts clusters was refused: as one that frees them is, or since there is no place left, which no fault goes before.
-abbrev pub WhyNotAllocated : Type 0 → Type 0 → Type 0 → ℕ → ℕ → Fault → Type 0
-WhyNotAllocated sound loose full before after (Limit number) = full × (after ≡ before)
-WhyNotAllocated sound loose full before after fault = WhyNotFreed sound loose before after fault
+-- Why a call that allocates was refused: as one that counts is, or since there is no place left, of which `full` says what number tells it, and
+-- no fault goes before.
+abbrev pub WhyNotAllocated : Type 0 → Type 0 → (ℕ → Type 0) → ℕ → ℕ → Fault → Type 0
+WhyNotAllocated sound loose full before after (Limit number) = full number × (after ≡ before)
+WhyNotAllocated sound loose full before after fault = WhyNotCounted sound loose before after fault
 
 -- Clusters of a run of n are counted, while blocks are written before tables: those that are handed out of a part of it, which is all of it
 -- unless that is cut off. No counter of a sound image stops it where no cluster of the run is counted and each is ready.
@@ -60,12 +61,12 @@ pub record CountsPart {S : Type 0} (state : S → StorageState) (handed : ℕ �
       → (c : ℕ) → counted (metadata_of state after new table pending) c ≡ counted (metadata_of state before old table pending) c + handed part c
   pub order : order_of new ≡ order_of old
   pub header : after.header ≡ before.header
-  pub loose : IsLoose old → IsLoose new
+  pub loose : IsLoose table old → IsLoose table new
   pub room : HasRoomOf old new
   pub cause : MatchResult result (λ _. (state after.image).faults ≡ (state before.image).faults)
-      (WhyNotFreed (IsTrue (state before.image).shape.keeps × (order_of old ≡ L2DependsOnRb) × IsSound (metadata_of state before old table pending)
+      (WhyNotCounted (IsTrue (state before.image).shape.keeps × (order_of old ≡ L2DependsOnRb) × IsSound (metadata_of state before old table pending)
       × ((c : ℕ) → first ≤ c → c < first + n → (counted (metadata_of state before old table pending) c ≡ 0) × ready c))
-      (IsLoose old) (state before.image).faults (state after.image).faults)
+      (IsLoose table old) (state before.image).faults (state after.image).faults)
 
 -- A run of n clusters is counted. Each needs a block that the refcount table names.
 abbrev pub CountsRun : {S : Type 0} → (S → StorageState) → TableValue → ℕ → ℕ → MetadataCaches S → ImageFile S → Result Unit Fault → MetadataCaches S → ImageFile S → List FreeEntry → Type 0
@@ -94,11 +95,11 @@ pub record MakesBlock {S : Type 0} (state : S → StorageState) (index : ℕ) (t
   pub placed : table'.cluster ≡ table.cluster
   pub order : order_of new ≡ order_of old
   pub header : after.header ≡ before.header
-  pub loose : IsLoose old → IsLoose new
+  pub loose : IsLoose table old → IsLoose table' new
   pub room : HasRoomOf old new
   pub cause : MatchResult result (λ _. (state after.image).faults ≡ (state before.image).faults)
-      (WhyNotAllocated (IsTrue (state before.image).shape.keeps × (order_of old ≡ L2DependsOnRb) × IsSound (metadata_of state before old table pending)) (IsLoose old)
-      (IsInReach before.header.fields.cluster_bits (index * counters_of_block before.header.fields) → ⊥) (state before.image).faults (state after.image).faults)
+      (WhyNotAllocated (IsTrue (state before.image).shape.keeps × (order_of old ≡ L2DependsOnRb) × IsSound (metadata_of state before old table pending)) (IsLoose table old)
+      (λ number. (number ≤ index * counters_of_block before.header.fields) × (IsInReach before.header.fields.cluster_bits number → ⊥)) (state before.image).faults (state after.image).faults)
 
 -- how many words of a refcount table name no block
 abbrev pub missing : TableValue → ℕ
@@ -117,7 +118,7 @@ pub record Allocating {S : Type 0} (state : S → StorageState) (ok : Type 0) (h
   pub order : order_of new ≡ order_of old
   pub moved : MovedTable before.header after.header
   pub longer : length table.words ≤ length table'.words
-  pub loose : IsLoose old → IsLoose new
+  pub loose : IsLoose table old → IsLoose table' new
   pub room : HasRoomOf old new
 
 -- The blocks at these indices are made that there aren't, and the answer is whether one was. Words that named a block stay.
@@ -132,5 +133,5 @@ pub record MakesBlocks {S : Type 0} (state : S → StorageState) (first end : �
   pub placed : table'.cluster ≡ table.cluster
   pub header : after.header ≡ before.header
   pub cause : MatchResult result (λ _. (state after.image).faults ≡ (state before.image).faults)
-      (WhyNotAllocated (IsTrue (state before.image).shape.keeps × (order_of old ≡ L2DependsOnRb) × IsSound (metadata_of state before old table pending)) (IsLoose old)
-      (((i : ℕ) → first ≤ i → i < end → IsInReach before.header.fields.cluster_bits (i * counters_of_block before.header.fields)) → ⊥) (state before.image).faults (state after.image).faults)
+      (WhyNotAllocated (IsTrue (state before.image).shape.keeps × (order_of old ≡ L2DependsOnRb) × IsSound (metadata_of state before old table pending)) (IsLoose table old)
+      (λ number. (i : ℕ) × (first ≤ i) × (i < end) × (number ≤ i * counters_of_block before.header.fields) × (IsInReach before.header.fields.cluster_bits number → ⊥)) (state before.image).faults (state after.image).faults)

@@ -1,5 +1,5 @@
 -- How L2 tables and refcount blocks are found in their caches, or loaded into them.
-use Rattle.std.specs.Prelude.{◌≡◌, ◌⊎◌, ℕ, ◌*◌, ◌<◌, ◌≤◌, ◌∷◌, ⊤, IsSome, OnOk, OnErr, Ok, Result, MatchResult, List, None, cond, length, map, nat_eq, nat_lt}
+use Rattle.std.specs.Prelude.{◌≡◌, ◌⊎◌, ℕ, ◌*◌, ◌<◌, ◌≤◌, ◌∷◌, ◌&&◌, ⊤, Bool, true, IsSome, OnOk, OnErr, Ok, Result, MatchResult, List, None, cond, length, map, nat_eq, nat_lt}
 use Rattle.std.specs.Option.{option_map_or}
 use Rattle.std.specs.List.{AllByRecursion, count_by}
 use Rattle.std.specs.Map.{lookup, remove_entry}
@@ -31,9 +31,17 @@ module _ {V : Type 0} where
     pub full : cap ≤ length es
     pub pinned : AllByRecursion (λ e. 0 < e.1.pins) es
 
-  -- how many entries are pinned
+  -- how many entries under such keys are pinned,
+  abbrev pub pinned_among : (ℕ → Bool) → List (ℕ × Slot V) → ℕ
+  pinned_among keys es = count_by (λ e. keys e.0 && nat_lt 0 e.1.pins) es
+
+  -- and under any
   abbrev pub pinned_in : List (ℕ × Slot V) → ℕ
-  pinned_in es = count_by (λ e. nat_lt 0 e.1.pins) es
+  pinned_in es = pinned_among (λ _. true) es
+
+  -- Nothing is pinned that wasn't.
+  pub record PinsNothing (old new : List (ℕ × Slot V)) : Type 0 where
+    pub among : (keys : ℕ → Bool) → pinned_among keys new ≤ pinned_among keys old
 
   -- What the search of a key leaves of the entries of a cache of so many, where `read` is what the file has there and `written` an entry
   -- once it is flushed. One that is there stays where it is; else what was read goes first.
@@ -41,7 +49,7 @@ module _ {V : Type 0} where
     pub there : IsSome (lookup (nat_eq key) es) → es' ≡ es
     pub loaded : lookup (nat_eq key) es ≡ None → OnOk result (es' ≡ (key, record { value = read; pins = 0 }) ∷ with_room cap es)
     pub refused : OnErr result ((map written es' ≡ map written es) ⊎ (es' ≡ with_room cap es))
-    pub pinned : pinned_in es' ≤ pinned_in es
+    pub pinned : PinsNothing es es'
 
 -- Why a search was refused, by the counts of faults before and after, where `fine` says that words can name what is loaded and written
 -- and that what is loaded is sound. `Memory` may come behind a fault of the storage.

@@ -1,5 +1,5 @@
 -- How clusters that wait to be freed are counted down.
-use Rattle.std.specs.Prelude.{◌≡◌, ◌⊎◌, ⊤, ℕ, ◌<◌, ◌≤◌, IsTrue, Result, MatchResult, OnOk, Bool, List, [], ◌∷◌, length, not, true, false}
+use Rattle.std.specs.Prelude.{◌≡◌, ◌⊎◌, ⊤, ℕ, ◌<◌, ◌≤◌, IsTrue, Result, MatchResult, OnOk, Bool, List, [], ◌∷◌, Some, length, nat_eq, not, true, false}
 use Rattle.std.specs.List.{filter}
 use Rattle.imago_storage.specs.State.{StorageState, Rose}
 use Rattle.imago_storage.specs.declared.fault.Fault.{Fault}
@@ -10,9 +10,9 @@ use Rattle.qcow2_alloc.specs.declared.cache.CacheDependency.{CacheDependency}
 use Rattle.qcow2_alloc.specs.declared.cache.CacheDependency.TheVariants.{RbDependsOnL2}
 use Rattle.qcow2_alloc.specs.declared.cache.MetadataCaches.{MetadataCaches}
 use Rattle.qcow2_alloc.specs.declared.file.ImageFile.{ImageFile}
-use Rattle.qcow2_alloc.specs.Allocators.{metadata_of}
+use Rattle.qcow2_alloc.specs.Allocators.{metadata_of, named_block}
 use Rattle.qcow2_alloc.specs.Caches.{cached_in, HasRoomOf}
-use Rattle.qcow2_alloc.specs.Finding.{pinned_in}
+use Rattle.qcow2_alloc.specs.Finding.{pinned_among, pinned_in, PinsNothing}
 use Rattle.qcow2_alloc.specs.FreeList.{entry_at, listed, shortened}
 use Rattle.qcow2_alloc.specs.Going.{IsWhole}
 use Rattle.qcow2_alloc.specs.Quiet.{Metadata, IsSound, Quietly, counted, metadata_in}
@@ -22,18 +22,22 @@ use Rattle.qcow2_alloc.specs.Safety.{IsCalm}
 abbrev pub HasSpareRoom : {S : Type 0} → MetadataCaches S → Type 0
 HasSpareRoom caches = pinned_in (cached_in caches).blocks < caches.rb.slots.cap
 
--- No block is pinned, and there is room for one. A block that is pinned where a new one is to stand bars that, whatever the room.
-pub record IsLoose {S : Type 0} (caches : MetadataCaches S) : Type 0 where
-  pub blocks : pinned_in (cached_in caches).blocks ≡ 0
-  pub room : 0 < caches.rb.slots.cap
+-- A word of the refcount table names the block in this cluster.
+abbrev pub NamesBlock : TableValue → ℕ → Type 0
+NamesBlock table cluster = (i : ℕ) × (named_block table i ≡ Some cluster)
+
+-- There is room to spare, and the refcount table names each block that is pinned. So none bars the place of a new one in a sound image, as it
+-- would whatever the room.
+pub record IsLoose {S : Type 0} (table : TableValue) (caches : MetadataCaches S) : Type 0 where
+  pub room : HasSpareRoom caches
+  pub named : (key : ℕ) → 0 < pinned_among (nat_eq key) (cached_in caches).blocks → NamesBlock table key
 
 -- Each cluster before the mark is counted.
 abbrev pub IsMarked : Metadata → ℕ → Type 0
 IsMarked m mark = (c : ℕ) → c < mark → 0 < counted m c
 
--- Why a call that allocates or frees was refused, by the counts of faults before and after: for want of memory or by a storage; as a
--- damaged table or a counter that can't change only where the image isn't sound; and as a full cache only where blocks are pinned, of
--- which `loose` says that too few are, or none.
+-- Why a call that frees was refused, by the counts of faults before and after: for want of memory or by a storage; as a damaged table or a
+-- counter that can't change only where the image isn't sound; and as a full cache only where `loose` doesn't hold, that there is room to spare.
 abbrev pub WhyNotFreed : Type 0 → Type 0 → ℕ → ℕ → Fault → Type 0
 WhyNotFreed sound loose before after Memory = ⊤
 WhyNotFreed sound loose before after Storage = Rose before after
@@ -41,6 +45,10 @@ WhyNotFreed sound loose before after DamagedTable = sound → ⊥
 WhyNotFreed sound loose before after Counter = sound → ⊥
 WhyNotFreed sound loose before after CacheFull = loose → ⊥
 WhyNotFreed sound loose before after fault = ⊥
+
+-- Why one that counts was: so, and as a full cache only where the image isn't sound or `loose` doesn't hold.
+abbrev pub WhyNotCounted : Type 0 → Type 0 → ℕ → ℕ → Fault → Type 0
+WhyNotCounted sound loose before after fault = WhyNotFreed sound (sound × loose) before after fault
 
 -- the count of faults after it
 abbrev pub CountsFreeing : Type 0 → Type 0 → ℕ → ℕ → Result Unit Fault → Type 0
@@ -62,7 +70,7 @@ pub record Frees {S : Type 0} (state : S → StorageState) (table : TableValue) 
   pub lower : mark' ≤ mark
   pub fallen : (mark' ≡ mark) ⊎ (listed pending' mark' < listed pending mark')
   pub header : after.header ≡ before.header
-  pub pins : pinned_in (cached_in new).blocks ≤ pinned_in (cached_in old).blocks
+  pub pins : PinsNothing (cached_in old).blocks (cached_in new).blocks
   pub room : HasRoomOf old new
   pub less : (c : ℕ) → listed pending' c ≤ listed pending c
   pub fewer : length pending' ≤ length pending

@@ -45,10 +45,11 @@ pub record IsRoomInReach (m : Metadata) (first total clusters : ℕ) : Type 0 wh
   pub reach : IsInReach m.header.fields.cluster_bits (first + (total - 1))
   pub inside : first + total ≤ clusters * words_of_cluster m.header.fields * counters_of_block m.header.fields
 
--- There is no place for a table that holds an index: it would be too long, or its room out of reach.
-abbrev pub NoPlaceToGrow : Metadata → ℕ → ℕ → Type 0
-NoPlaceToGrow m mark at = ((n : ℕ) → IsEnough (words_of_cluster m.header.fields) (counters_of_block m.header.fields) at n → 2 ^ 20 < n)
-    ⊎ ((first : ℕ) × (total : ℕ) × (clusters : ℕ) × IsRoomToGrow m mark at first total clusters × (IsRoomInReach m first total clusters → ⊥))
+-- There is no place for a table that holds an index, as a number tells: that of the words that it would have at least, which are too many; or
+-- that of the last cluster of its room, which is out of reach.
+abbrev pub NoPlaceToGrow : Metadata → (mark at number : ℕ) → Type 0
+NoPlaceToGrow m mark at number = (((n : ℕ) → IsEnough (words_of_cluster m.header.fields) (counters_of_block m.header.fields) at n → 2 ^ 20 < n) × (number ≡ 2 ^ 20 + words_of_cluster m.header.fields))
+    ⊎ ((first : ℕ) × (total : ℕ) × (clusters : ℕ) × IsRoomToGrow m mark at first total clusters × (IsRoomInReach m first total clusters → ⊥) × (number ≡ first + (total - 1)))
 
 -- The table has grown for an index: it stands in its room behind the blocks that were lacking for that, in the order of their indices. Its words
 -- name these blocks, and those that they named before. Each cluster of the room is counted, and no other count changed.
@@ -65,16 +66,17 @@ pub record TableGrown (mark at : ℕ) (m m' : Metadata) : Type 0 where
   pub olds : (i : ℕ) → (lacks m.table (counters_of_block m.header.fields) first total i ≡ true → ⊥) → block_offset (slice_index m'.table.words i) ≡ block_offset (slice_index m.table.words i)
   pub counts : (c : ℕ) → counted m' c ≡ counted m c + covers c (run_of first total)
 
--- What a refused call has counted and nobody was handed: only one that found the cache full has, and so none unless something is pinned.
-pub record Leaks {T : Type 0} (loose : Type 0) (result : Result T Fault) (leaked : ℕ → ℕ) : Type 0 where
+-- What a refused call has counted and nobody was handed: only one that found the cache full has, and so none of a sound image where there is room
+-- to spare, as `loose` says.
+pub record Leaks {T : Type 0} (sound loose : Type 0) (result : Result T Fault) (leaked : ℕ → ℕ) : Type 0 where
   pub none : (result ≡ Err CacheFull → ⊥) → (c : ℕ) → leaked c ≡ 0
-  pub pinned : loose → (c : ℕ) → leaked c ≡ 0
+  pub pinned : sound → loose → (c : ℕ) → leaked c ≡ 0
 
 -- The refcount table grows until it holds an index, while blocks are written before tables. The old table waits to be freed then. Refused without
--- being cut off, table, header and list are what they were, and unless something is pinned nothing is counted otherwise.
+-- being cut off, table, header and list are what they were, and of a sound image nothing is counted otherwise unless the cache is full of what is pinned.
 pub record GrowsTable {S : Type 0} (state : S → StorageState) (mark at : ℕ) (table : TableValue) (old : MetadataCaches S) (before : ImageFile S) (pending : List FreeEntry) (result : Result Unit Fault) (table' : TableValue) (new : MetadataCaches S) (after : ImageFile S) (pending' : List FreeEntry) : Type 0 where
   pub leaked : ℕ → ℕ
-  pub leaks : Leaks (IsLoose old) result leaked
+  pub leaks : Leaks (IsTrue (state before.image).shape.keeps × (order_of old ≡ L2DependsOnRb) × IsSound (metadata_of state before old table pending)) (IsLoose table old) result leaked
   pub step : Allocating state (IsWhole result) leaked table old before pending table' new after pending'
   pub grown : order_of old ≡ L2DependsOnRb → IsTrue (state before.image).shape.keeps → IsSound (metadata_of state before old table pending)
       → OnOk result (TableGrown mark at (metadata_of state before old table pending) (metadata_of state after new table' pending'))
@@ -83,6 +85,6 @@ pub record GrowsTable {S : Type 0} (state : S → StorageState) (mark at : ℕ) 
   pub kept : OnErr result (pending' ≡ pending)
   pub stays : IfErr result (λ fault. IsMild fault → (table' ≡ table) × (after.header ≡ before.header))
   pub cause : MatchResult result (λ _. (state after.image).faults ≡ (state before.image).faults)
-      (WhyNotAllocated (IsTrue (state before.image).shape.keeps × (order_of old ≡ L2DependsOnRb) × IsSound (metadata_of state before old table pending)) (IsLoose old)
-      (order_of old ≡ L2DependsOnRb → IsTrue (state before.image).shape.keeps → IsSound (metadata_of state before old table pending) → NoPlaceToGrow (metadata_of state before old table pending) mark at)
+      (WhyNotAllocated (IsTrue (state before.image).shape.keeps × (order_of old ≡ L2DependsOnRb) × IsSound (metadata_of state before old table pending)) (IsLoose table old)
+      (λ number. order_of old ≡ L2DependsOnRb → IsTrue (state before.image).shape.keeps → IsSound (metadata_of state before old table pending) → NoPlaceToGrow (metadata_of state before old table pending) mark at number)
       (state before.image).faults (state after.image).faults)

@@ -23,30 +23,31 @@ use Rattle.qcow2_alloc.specs.GrowingTables.{IsLengthenedByTable, Leaks, NoPlaceT
 use Rattle.qcow2_alloc.specs.Quiet.{Metadata, IsSound, IsQuiet, Quietly, counted, named_at_all, waiting, one_at}
 use Rattle.qcow2_alloc.specs.ReadyingRuns.{handed_by, mark_behind, IsLengthened, IsRunCounted}
 
--- The caches are as loose as they were, and have as much room; and nothing of the header has changed but perhaps the refcount table's place.
-pub record StaysInShape {S : Type 0} (old : MetadataCaches S) (before : ImageFile S) (new : MetadataCaches S) (after : ImageFile S) : Type 0 where
+-- Caches that had room to spare have it still, and the refcount table names what is pinned where it did; there is as much room; and nothing of
+-- the header has changed but perhaps the refcount table's place.
+pub record StaysInShape {S : Type 0} (table : TableValue) (old : MetadataCaches S) (before : ImageFile S) (table' : TableValue) (new : MetadataCaches S) (after : ImageFile S) : Type 0 where
   pub moved : MovedTable before.header after.header
-  pub loose : IsLoose old → IsLoose new
+  pub loose : IsLoose table old → IsLoose table' new
   pub room : HasRoomOf old new
 
 -- The refcount table grows until it holds an index: first it is announced that blocks are written before tables. The old table waits to be freed
 -- then. A sound image stays sound, and its disk as it is, stops included. Refused without being cut off, table, header and list are what they
--- were, and unless something is pinned nothing is counted otherwise.
+-- were, and nothing is counted otherwise unless the cache is full of what is pinned.
 pub record GrowsReftable {S : Type 0} (state : S → StorageState) (mark at : ℕ) (table : TableValue) (old : MetadataCaches S) (before : ImageFile S) (pending : List FreeEntry) (result : Result Unit Fault) (table' : TableValue) (new : MetadataCaches S) (after : ImageFile S) (pending' : List FreeEntry) : Type 0 where
   pub leaked : ℕ → ℕ
-  pub leaks : Leaks (IsLoose old) result leaked
+  pub leaks : Leaks (IsTrue (state before.image).shape.keeps × IsSound (metadata_of state before old table pending)) (IsLoose table old) result leaked
   pub quiet : Quietly (IsWhole result) leaked (λ _. 0) (state before.image) (metadata_of state before old table pending) (state after.image) (metadata_of state after new table' pending')
   pub raised : IsTrue (state before.image).shape.keeps → IsSound (metadata_of state before old table pending) → IsWhole result → OnlyRaised (metadata_of state before old table pending) (metadata_of state after new table' pending')
   pub grown : IsTrue (state before.image).shape.keeps → IsSound (metadata_of state before old table pending) → OnOk result (TableGrown mark at (metadata_of state before old table pending) (metadata_of state after new table' pending'))
   pub enough : OnOk result (IsGrownLength (words_of_cluster before.header.fields) (counters_of_block before.header.fields) at (length table'.words))
   pub order : OnOk result (order_of new ≡ L2DependsOnRb)
-  pub shape : StaysInShape old before new after
+  pub shape : StaysInShape table old before table' new after
   pub waits : OnOk result (pending' ≡ pending ++ table_run before.header.fields)
   pub kept : OnErr result (pending' ≡ pending)
   pub stays : IfErr result (λ fault. IsMild fault → (table' ≡ table) × (after.header ≡ before.header))
   pub cause : MatchResult result (λ _. (state after.image).faults ≡ (state before.image).faults)
-      (WhyNotAllocated (IsTrue (state before.image).shape.keeps × IsSound (metadata_of state before old table pending)) (IsLoose old)
-      (IsTrue (state before.image).shape.keeps → IsSound (metadata_of state before old table pending) → NoPlaceToGrow (metadata_of state before old table pending) mark at)
+      (WhyNotAllocated (IsTrue (state before.image).shape.keeps × IsSound (metadata_of state before old table pending)) (IsLoose table old)
+      (λ number. IsTrue (state before.image).shape.keeps → IsSound (metadata_of state before old table pending) → NoPlaceToGrow (metadata_of state before old table pending) mark at number)
       (state before.image).faults (state after.image).faults)
 
 -- The image once what waited was freed, and it was announced that blocks are written before tables; the search begins at a cluster before which
@@ -75,7 +76,7 @@ AreUnnamed m entry = (c : ℕ) → entry.first ≤ c → c < entry.first + entry
 -- n clusters from the mark on is taken of which none is counted. A sound image stays sound, and its disk as it is, stops included.
 pub record AllocatesClusters {S : Type 0} (state : S → StorageState) (mark n : ℕ) (metadata : Bool) (table : TableValue) (old : MetadataCaches S) (before : ImageFile S) (pending : List FreeEntry) (result : Result FreeEntry Fault) (table' : TableValue) (new : MetadataCaches S) (after : ImageFile S) (pending' : List FreeEntry) (mark' : ℕ) : Type 0 where
   pub leaked : ℕ → ℕ
-  pub leaks : Leaks (IsLoose old) result leaked
+  pub leaks : Leaks (IsTrue (state before.image).shape.keeps × IsSound (metadata_of state before old table pending)) (IsLoose table old) result leaked
   pub quiet : Quietly (IsWhole result) (handed_by result leaked) (λ _. 0) (state before.image) (metadata_of state before old table pending) (state after.image) (metadata_of state after new table' pending')
   pub run : IfOk result (λ entry. (entry.count ≡ n) × (entry.metadata ≡ metadata) × (0 < n → (entry.first ≢ 0) × IsInReach before.header.fields.cluster_bits (entry.first + (n - 1))))
   pub unnamed : IsTrue (state before.image).shape.keeps → IsSound (metadata_of state before old table pending) → IfOk result (AreUnnamed (metadata_of state after new table' pending'))
@@ -91,11 +92,11 @@ pub record AllocatesClusters {S : Type 0} (state : S → StorageState) (mark n :
   pub further : IfOk result (λ entry. mark' ≡ mark_behind mid_mark n entry.first)
   pub stays : OnErr result (IsSearched result → mark' ≡ mid_mark)
   pub order : OnOk result (order_of new ≡ L2DependsOnRb)
-  pub shape : StaysInShape old before new after
+  pub shape : StaysInShape table old before table' new after
   pub list : IsSearched result → IsLengthened table table' [] pending'
   pub cause : MatchResult result (λ _. (state after.image).faults ≡ (state before.image).faults)
-      (WhyNotAllocated (IsTrue (state before.image).shape.keeps × IsSound (metadata_of state before old table pending)) (IsLoose old)
-      (IsTrue (state before.image).shape.keeps → IsSound (metadata_of state before old table pending) → IsCrowded mid mid_mark n)
+      (WhyNotAllocated (IsTrue (state before.image).shape.keeps × IsSound (metadata_of state before old table pending)) (IsLoose table old)
+      (λ _. IsTrue (state before.image).shape.keeps → IsSound (metadata_of state before old table pending) → IsCrowded mid mid_mark n)
       (state before.image).faults (state after.image).faults)
 
 -- what a call hands out that may answer none
@@ -115,7 +116,7 @@ held_by (Err fault) held = held
 
 -- There is no place for a cluster, or no refcount table has a word for what counts it.
 abbrev pub IsBarred : Metadata → (mark cluster : ℕ) → Type 0
-IsBarred m mark cluster = (IsInReach m.header.fields.cluster_bits cluster → ⊥) ⊎ ((length m.table.words ≤ cluster / counters_of_block m.header.fields) × NoPlaceToGrow m mark (cluster / counters_of_block m.header.fields))
+IsBarred m mark cluster = (IsInReach m.header.fields.cluster_bits cluster → ⊥) ⊎ ((length m.table.words ≤ cluster / counters_of_block m.header.fields) × (number : ℕ) × NoPlaceToGrow m mark (cluster / counters_of_block m.header.fields) number)
 
 -- What an answer says of one cluster: it was free, and is handed out; or it was counted, a table or a block stands in it now, or it is barred.
 abbrev pub IsHandedAt : Type 0 → ℕ → Metadata → Metadata → Option FreeEntry → Type 0
@@ -136,7 +137,7 @@ mark_past mark cluster None = mark
 -- is, stops included. What waits to be freed waits on.
 pub record AllocatesClusterAt {S : Type 0} (state : S → StorageState) (mark cluster : ℕ) (table : TableValue) (old : MetadataCaches S) (before : ImageFile S) (pending : List FreeEntry) (result : Result (Option FreeEntry) Fault) (table' : TableValue) (new : MetadataCaches S) (after : ImageFile S) (pending' : List FreeEntry) (mark' : ℕ) : Type 0 where
   pub leaked : ℕ → ℕ
-  pub leaks : Leaks (IsLoose old) result leaked
+  pub leaks : Leaks (IsTrue (state before.image).shape.keeps × IsSound (metadata_of state before old table pending)) (IsLoose table old) result leaked
   pub quiet : Quietly (IsWhole result) (handed_at result leaked) (λ _. 0) (state before.image) (metadata_of state before old table pending) (state after.image) (metadata_of state after new table' pending')
   pub raised : IsTrue (state before.image).shape.keeps → IsSound (metadata_of state before old table pending) → IsWhole result → OnlyRaised (metadata_of state before old table pending) (metadata_of state after new table' pending')
   pub one : IfOk result (IsOneAt cluster before.header.fields.cluster_bits)
@@ -146,7 +147,7 @@ pub record AllocatesClusterAt {S : Type 0} (state : S → StorageState) (mark cl
   pub marked : IsTrue (state before.image).shape.keeps → IsSound (metadata_of state before old table pending) → IsWhole result
       → IsMarked (metadata_of state before old table pending) mark → IsMarked (metadata_of state after new table' pending') mark'
   pub order : OnOk result (order_of new ≡ L2DependsOnRb)
-  pub shape : StaysInShape old before new after
+  pub shape : StaysInShape table old before table' new after
   pub list : IsLengthenedByTable before.header.fields table table' pending pending'
   pub cause : MatchResult result (λ _. (state after.image).faults ≡ (state before.image).faults)
-      (WhyNotAllocated (IsTrue (state before.image).shape.keeps × IsSound (metadata_of state before old table pending)) (IsLoose old) ⊥ (state before.image).faults (state after.image).faults)
+      (WhyNotAllocated (IsTrue (state before.image).shape.keeps × IsSound (metadata_of state before old table pending)) (IsLoose table old) (λ _. ⊥) (state before.image).faults (state after.image).faults)

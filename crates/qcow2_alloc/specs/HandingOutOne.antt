@@ -27,11 +27,11 @@ leaked_by (Err fault) leaked c = leaked c
 -- refcount table may come to wait to be freed.
 pub record HandsOut {S T : Type 0} (state : S → StorageState) (handed : Result T Fault → (ℕ → ℕ) → ℕ → ℕ) (table : TableValue) (old : MetadataCaches S) (before : ImageFile S) (pending : List FreeEntry) (result : Result T Fault) (table' : TableValue) (new : MetadataCaches S) (after : ImageFile S) (pending' : List FreeEntry) : Type 0 where
   pub leaked : ℕ → ℕ
-  pub leaks : Leaks (IsLoose old) result leaked
+  pub leaks : Leaks (IsTrue (state before.image).shape.keeps × (order_of old ≡ L2DependsOnRb) × IsSound (metadata_of state before old table pending)) (IsLoose table old) result leaked
   pub step : Allocating state (IsWhole result) (handed result leaked) table old before pending table' new after pending'
   pub list : IsLengthenedByTable before.header.fields table table' pending pending'
   pub cause : MatchResult result (λ _. (state after.image).faults ≡ (state before.image).faults)
-      (WhyNotAllocated (IsTrue (state before.image).shape.keeps × (order_of old ≡ L2DependsOnRb) × IsSound (metadata_of state before old table pending)) (IsLoose old) ⊥ (state before.image).faults (state after.image).faults)
+      (WhyNotAllocated (IsTrue (state before.image).shape.keeps × (order_of old ≡ L2DependsOnRb) × IsSound (metadata_of state before old table pending)) (IsLoose table old) (λ _. ⊥) (state before.image).faults (state after.image).faults)
 
 -- The refcount table has a word for a cluster, or there is no place for one that has;
 pub record ReadiesWord {S : Type 0} (state : S → StorageState) (mark cluster : ℕ) (table : TableValue) (old : MetadataCaches S) (before : ImageFile S) (pending : List FreeEntry) (result : Result Bool Fault) (table' : TableValue) (new : MetadataCaches S) (after : ImageFile S) (pending' : List FreeEntry) : Type 0 where

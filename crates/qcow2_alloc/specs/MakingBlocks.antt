@@ -30,7 +30,7 @@ pub record CanName (table : TableValue) (cluster_bits place : ℕ) : Type 0 wher
 -- Why none can.
 abbrev pub WhyNotNamed : TableValue → ℕ → ℕ → Fault → Type 0
 WhyNotNamed table cluster_bits place DamagedTable = CanName table cluster_bits place → ⊥
-WhyNotNamed table cluster_bits place (Limit number) = IsInReach cluster_bits place → ⊥
+WhyNotNamed table cluster_bits place (Limit number) = (IsInReach cluster_bits place → ⊥) × (number ≡ place)
 WhyNotNamed table cluster_bits place fault = ⊥
 
 -- A block is written, and then word i of the refcount table, which names it. Where the block wasn't written the table stays.
@@ -59,7 +59,7 @@ pub record Begins {S : Type 0} (state : S → StorageState) (table : TableValue)
   pub faults : (state after.image).faults ≡ (state before.image).faults
   pub header : after.header ≡ before.header
   pub order : new.order ≡ old.order
-  pub loose : IsLoose old → IsLoose new
+  pub loose : IsLoose table old → IsLoose table new
   pub room : HasRoomOf old new
 
 -- A block is made in a cluster that another counts, by a call that came so far and knows by what the image was that this one is free.

@@ -23,9 +23,10 @@ use Rattle.qcow2_alloc.specs.declared.cache.MetadataCaches.{MetadataCaches}
 use Rattle.qcow2_alloc.specs.declared.file.ImageFile.{ImageFile}
 use Rattle.qcow2_alloc.specs.Allocating.{CountsNamed, MovedTable, OnlyRaised}
 use Rattle.qcow2_alloc.specs.Allocators.{metadata_of}
-use Rattle.qcow2_alloc.specs.Caches.{order_of, HasRoomOf}
+use Rattle.qcow2_alloc.specs.Caches.{cached_in, order_of, HasRoomOf}
+use Rattle.qcow2_alloc.specs.Finding.{pinned_among}
 use Rattle.qcow2_alloc.specs.FreeList.{covers}
-use Rattle.qcow2_alloc.specs.Freeing.{IsLoose, WhyNotFreed}
+use Rattle.qcow2_alloc.specs.Freeing.{IsLoose, WhyNotCounted}
 use Rattle.qcow2_alloc.specs.Going.{IsWhole, IsMild}
 use Rattle.qcow2_alloc.specs.Growing.{lacks, lacking}
 use Rattle.qcow2_alloc.specs.GrowingTables.{Leaks, table_run}
@@ -100,7 +101,7 @@ pub record IsGrownFor (h : Fields) (table : TableValue) (at : ℕ) (copy : Table
 abbrev pub WhyNotGrown : Fields → TableValue → ℕ → Fault → Type 0
 WhyNotGrown h table at Memory = ⊤
 WhyNotGrown h table at DamagedTable = table.layout.cluster_bits ≢ h.cluster_bits
-WhyNotGrown h table at (Limit number) = (n : ℕ) → IsEnough (words_of_cluster h) (counters_of_block h) at n → 2 ^ 20 < n
+WhyNotGrown h table at (Limit number) = ((n : ℕ) → IsEnough (words_of_cluster h) (counters_of_block h) at n → 2 ^ 20 < n) × (number ≡ 2 ^ 20 + words_of_cluster h)
 WhyNotGrown h table at fault = ⊥
 
 -- A copy of the refcount table has grown in memory by whole clusters of empty words, and a run has room for it.
@@ -116,7 +117,7 @@ pub record IsCopyFor (h : Fields) (table : TableValue) (run : Run) (copy : Table
 abbrev pub WhyNotPlaced : Fields → TableValue → Run → TableValue → Fault → Type 0
 WhyNotPlaced h table run copy Memory = ⊤
 WhyNotPlaced h table run copy DamagedTable = (run.first ≢ 0) × CanName table h.cluster_bits (run.first + (run.len - 1)) → ⊥
-WhyNotPlaced h table run copy (Limit number) = IsInReach h.cluster_bits (run.first + (run.len - 1)) × (run.first + run.len ≤ length copy.words * counters_of_block h) → ⊥
+WhyNotPlaced h table run copy (Limit number) = (IsInReach h.cluster_bits (run.first + (run.len - 1)) × (run.first + run.len ≤ length copy.words * counters_of_block h) → ⊥) × (number ≡ run.first + (run.len - 1))
 WhyNotPlaced h table run copy fault = ⊥
 
 -- The image shows the same, with the same in memory.
@@ -132,6 +133,10 @@ with_cached m cached = record m { cached = cached }
 pub record ForgetsRun (first n : ℕ) (old : Cached) (result : Result Unit Fault) (new : Cached) : Type 0 where
   pub stays : (m : Metadata) → IsSound (with_cached m old) → ((d : ℕ) → first ≤ d → d < first + n → named_at_all (with_cached m old) d ≡ 0)
       → StaysInMemory (with_cached m old) (with_cached m new) × OnOk result ((d : ℕ) → first ≤ d → d < first + n → lookup (nat_eq d) new.blocks ≡ None)
+
+-- A block in one of so many clusters is pinned.
+abbrev pub IsPinnedWithin : {S : Type 0} → ℕ → ℕ → MetadataCaches S → Type 0
+IsPinnedWithin first n caches = (d : ℕ) × (first ≤ d) × (d < first + n) × (0 < pinned_among (nat_eq d) (cached_in caches).blocks)
 
 -- The run of an image is counted, and has the blocks that are lacking for it in its first clusters. Nothing names it yet.
 pub record IsTaken (m : Metadata) (run : Run) : Type 0 where
@@ -163,7 +168,7 @@ module _ {S : Type 0} (state : S → StorageState) where
   -- that says that the run isn't counted.
   pub record FillsRoom (known : Type 0) (run : Run) (copy table : TableValue) (old : MetadataCaches S) (before : ImageFile S) (result : Result Unit Fault) (table' : TableValue) (new : MetadataCaches S) (after : ImageFile S) (pending pending' : List FreeEntry) : Type 0 where
     pub leaked : ℕ → ℕ
-    pub leaks : Leaks (IsLoose old) result leaked
+    pub leaks : Leaks (known × IsTrue (state before.image).shape.keeps × IsSound (metadata_of state before old table pending)) (IsLoose table old) result leaked
     pub shape : (state after.image).shape ≡ (state before.image).shape
     pub later : Later (state before.image) (state after.image)
     pub quiet : known → Quietly (IsWhole result) leaked (λ _. 0) (state before.image) (metadata_of state before old table pending) (state after.image) (metadata_of state after new table' pending')
@@ -174,12 +179,12 @@ module _ {S : Type 0} (state : S → StorageState) where
     pub order : order_of new ≡ order_of old
     pub moved : MovedTable before.header after.header
     pub longer : length table.words ≤ length table'.words
-    pub loose : IsLoose old → IsLoose new
+    pub loose : IsLoose table old → IsLoose table' new
     pub room : HasRoomOf old new
     pub table_is : OnOk result (table' ≡ record copy { modified = false })
     pub stays : IfErr result (λ fault. IsMild fault → (table' ≡ table) × (after.header ≡ before.header))
     pub cause : MatchResult result (λ _. (state after.image).faults ≡ (state before.image).faults)
-        (WhyNotFreed (known × IsTrue (state before.image).shape.keeps × IsSound (metadata_of state before old table pending)) (IsLoose old) (state before.image).faults (state after.image).faults)
+        (WhyNotCounted (known × IsTrue (state before.image).shape.keeps × IsSound (metadata_of state before old table pending)) (IsLoose table old) (state before.image).faults (state after.image).faults)
 
   -- blocks are written first, and the run isn't counted
   abbrev pub IsFreeIn : Run → TableValue → MetadataCaches S → ImageFile S → List FreeEntry → Type 0

@@ -17,7 +17,7 @@ use Rattle.qcow2_alloc.specs.declared.file.ImageFile.{ImageFile}
 use Rattle.qcow2_alloc.specs.Backends.{TableFlushed, BlockFlushed}
 use Rattle.qcow2_alloc.specs.Cache.{hit, victim}
 use Rattle.qcow2_alloc.specs.Caches.{cached_in, order_of, HasRoomOf}
-use Rattle.qcow2_alloc.specs.Finding.{with_room, IsPinnedFull, pinned_in, CountsSearch}
+use Rattle.qcow2_alloc.specs.Finding.{with_room, IsPinnedFull, PinsNothing, CountsSearch}
 use Rattle.qcow2_alloc.specs.Going.{Going, IsWhole, AreTablesInReach, AreBlocksInReach, WritesTables, WritesBlocks}
 use Rattle.qcow2_alloc.specs.Memory.{Cached, written_table, written_block}
 use Rattle.qcow2_alloc.specs.Safety.{IsCachedTable, IsCachedBlock}
@@ -34,7 +34,7 @@ module _ {V : Type 0} where
     pub over : IsSome (lookup (nat_eq key) es) → OnOk result (es' ≡ hit (nat_eq key) es value)
     pub added : lookup (nat_eq key) es ≡ None → OnOk result (es' ≡ (key, record { value = value; pins = 0 }) ∷ with_room cap es)
     pub refused : IfErr result (λ r. (r.1 ≡ value) × ((map written es' ≡ map written es) ⊎ (es' ≡ with_room cap es)))
-    pub pinned : pinned_in es' ≤ pinned_in es
+    pub pinned : PinsNothing es es'
 
   -- the entry at k makes way for one at this key, in a cache of so many: it is there, or goes for want of room
   abbrev pub MakesWay : ℕ → ℕ → List (ℕ × Slot V) → ℕ → Type 0

@@ -4,7 +4,7 @@ use Rattle.std.specs.List.{filter}
 use Rattle.imago_storage.specs.State.{StorageState}
 use Rattle.imago_storage.specs.Calls.{Later}
 use Rattle.imago_storage.specs.Passing.{Passes}
-use Rattle.qcow2_types.specs.Bytes.{Bytes, bytes_of}
+use Rattle.qcow2_types.specs.Bytes.{Bytes, bytes_of, word}
 use Rattle.qcow2_types.specs.Header.{Fields, Header, cluster_size, refcount_table_entries, layout_of}
 use Rattle.qcow2_types.specs.Words.{block_offset}
 use Rattle.qcow2_types.specs.Entries.{l2_table}
@@ -84,10 +84,13 @@ module _ (m : Metadata) where
     pub unnamed : (c : ℕ) → 0 < waiting_metadata c → named_at_all c ≡ 0
 
   -- A file with this header shows what the image does in its file or in memory: it is consistent, each of its words means what it does in
-  -- one of them, and what it names has the bytes that it has in the file. Its refcount table may stand elsewhere.
+  -- one of them, and what it names has the bytes that it has in the file. Its refcount table may stand elsewhere. Words of the L1 table keep
+  -- each bit, and the header's cluster each byte behind the first 64, which hold numbers alone.
   pub record ShowsEither (x : Bytes) (H : Header) : Type 0 where
     pub consistent : IsConsistent x H
     pub moved : (offset : ℕ) × (clusters : ℕ) × (H ≡ with_refcount_table m.header offset clusters)
+    pub behind : (p : ℕ) → 64 ≤ p → p < cluster_size m.header.fields → x p ≡ m.file p
+    pub l1 : (i : ℕ) → i < m.header.fields.l1_entries → word x m.header.fields.l1_offset i ≡ word m.file m.header.fields.l1_offset i
     pub tables : (i : ℕ) → l2_table x H.fields i ≡ l2_table m.file m.header.fields i
     pub words : (i j : ℕ) → Live (l2_table m.file m.header.fields) m.header.fields i j → (slot x H.fields i j ≡ slot m.file m.header.fields i j) ⊎ (slot x H.fields i j ≡ slot in_memory m.header.fields i j)
     pub contents : (i j : ℕ) → Live (l2_table m.file m.header.fields) m.header.fields i j → (p : ℕ) → 0 < of_mapping m.header.fields (touches p 1) (slot x H.fields i j) → x p ≡ m.file p

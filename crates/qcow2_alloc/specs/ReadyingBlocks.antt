@@ -38,13 +38,13 @@ HasMade mark at first last m m' = ((last < length m.table.words) × (length m'.t
 
 -- Why neither could be: words can't name the first cluster that one of the blocks counts, or there is no place for the table.
 abbrev pub NoneCanBeMade : (mark at first last : ℕ) → Metadata → Type 0
-NoneCanBeMade mark at first last m = (((i : ℕ) → first ≤ i → i ≤ last → IsInReach m.header.fields.cluster_bits (i * counters_of_block m.header.fields)) → ⊥) ⊎ ((length m.table.words ≤ last) × NoPlaceToGrow m mark at)
+NoneCanBeMade mark at first last m = (((i : ℕ) → first ≤ i → i ≤ last → IsInReach m.header.fields.cluster_bits (i * counters_of_block m.header.fields)) → ⊥) ⊎ ((length m.table.words ≤ last) × (number : ℕ) × NoPlaceToGrow m mark at number)
 
 -- The refcount table has a block at each index of a range, or has more than it had: it grows until it holds the index `at` where it has no word for
 -- the last of these. The answer is whether it does.
 pub record ReadiesBlocks {S : Type 0} (state : S → StorageState) (mark at first last : ℕ) (table : TableValue) (old : MetadataCaches S) (before : ImageFile S) (pending : List FreeEntry) (result : Result Bool Fault) (table' : TableValue) (new : MetadataCaches S) (after : ImageFile S) (pending' : List FreeEntry) : Type 0 where
   pub leaked : ℕ → ℕ
-  pub leaks : Leaks (IsLoose old) result leaked
+  pub leaks : Leaks (IsTrue (state before.image).shape.keeps × (order_of old ≡ L2DependsOnRb) × IsSound (metadata_of state before old table pending)) (IsLoose table old) result leaked
   pub step : Allocating state (IsWhole result) leaked table old before pending table' new after pending'
   pub idle : IfOk result (λ made. made ≡ false → (table' ≡ table) × (new ≡ old) × (after ≡ before))
   pub ready : IfOk result (λ made. made ≡ false → (i : ℕ) → first ≤ i → i ≤ last → block_offset (slice_index table'.words i) ≢ 0)
@@ -53,6 +53,6 @@ pub record ReadiesBlocks {S : Type 0} (state : S → StorageState) (mark at firs
       → IfOk result (λ made. made ≡ true → HasMade mark at first last (metadata_of state before old table pending) (metadata_of state after new table' pending'))
   pub list : IsLengthened table table' pending pending'
   pub cause : MatchResult result (λ _. (state after.image).faults ≡ (state before.image).faults)
-      (WhyNotAllocated (IsTrue (state before.image).shape.keeps × (order_of old ≡ L2DependsOnRb) × IsSound (metadata_of state before old table pending)) (IsLoose old)
-      (order_of old ≡ L2DependsOnRb → IsTrue (state before.image).shape.keeps → IsSound (metadata_of state before old table pending) → NoneCanBeMade mark at first last (metadata_of state before old table pending))
+      (WhyNotAllocated (IsTrue (state before.image).shape.keeps × (order_of old ≡ L2DependsOnRb) × IsSound (metadata_of state before old table pending)) (IsLoose table old)
+      (λ _. order_of old ≡ L2DependsOnRb → IsTrue (state before.image).shape.keeps → IsSound (metadata_of state before old table pending) → NoneCanBeMade mark at first last (metadata_of state before old table pending))
       (state before.image).faults (state after.image).faults)

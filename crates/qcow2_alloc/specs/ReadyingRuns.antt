@@ -32,7 +32,7 @@ pub record IsLengthened (table table' : TableValue) (old new : List FreeEntry) :
 -- The first run of n clusters from the mark on that aren't counted is ready to be: the refcount table names a block for each, and words can name it.
 pub record ReadiesRun {S : Type 0} (state : S → StorageState) (mark n : ℕ) (table : TableValue) (old : MetadataCaches S) (before : ImageFile S) (pending : List FreeEntry) (result : Result ℕ Fault) (table' : TableValue) (new : MetadataCaches S) (after : ImageFile S) (pending' : List FreeEntry) : Type 0 where
   pub leaked : ℕ → ℕ
-  pub leaks : Leaks (IsLoose old) result leaked
+  pub leaks : Leaks (IsTrue (state before.image).shape.keeps × (order_of old ≡ L2DependsOnRb) × IsSound (metadata_of state before old table pending)) (IsLoose table old) result leaked
   pub step : Allocating state (IsWhole result) leaked table old before pending table' new after pending'
   pub found : order_of old ≡ L2DependsOnRb → IsTrue (state before.image).shape.keeps → IsSound (metadata_of state before old table pending) → IfOk result (IsFirstRun (counted (metadata_of state after new table' pending')) mark n)
   pub ready : IfOk result (λ first. (c : ℕ) → first ≤ c → c < first + n → block_offset (slice_index table'.words (c / counters_of_block before.header.fields)) ≢ 0)
@@ -40,8 +40,8 @@ pub record ReadiesRun {S : Type 0} (state : S → StorageState) (mark n : ℕ) (
   pub some : IfOk result (λ first. first ≢ 0)
   pub list : IsLengthened table table' pending pending'
   pub cause : MatchResult result (λ _. (state after.image).faults ≡ (state before.image).faults)
-      (WhyNotAllocated (IsTrue (state before.image).shape.keeps × (order_of old ≡ L2DependsOnRb) × IsSound (metadata_of state before old table pending)) (IsLoose old)
-      (order_of old ≡ L2DependsOnRb → IsTrue (state before.image).shape.keeps → IsSound (metadata_of state before old table pending) → IsCrowded (metadata_of state before old table pending) mark n)
+      (WhyNotAllocated (IsTrue (state before.image).shape.keeps × (order_of old ≡ L2DependsOnRb) × IsSound (metadata_of state before old table pending)) (IsLoose table old)
+      (λ _. order_of old ≡ L2DependsOnRb → IsTrue (state before.image).shape.keeps → IsSound (metadata_of state before old table pending) → IsCrowded (metadata_of state before old table pending) mark n)
       (state before.image).faults (state after.image).faults)
 
 -- where the search begins once a run is counted: each cluster before is counted
@@ -62,7 +62,7 @@ pub record IsRunCounted (mark n : ℕ) (m' : Metadata) (entry : FreeEntry) : Typ
 -- A run of n clusters is handed out, while blocks are written before tables. One of none begins at the mark.
 pub record Allocates {S : Type 0} (state : S → StorageState) (mark n : ℕ) (metadata : Bool) (table : TableValue) (old : MetadataCaches S) (before : ImageFile S) (pending : List FreeEntry) (result : Result FreeEntry Fault) (table' : TableValue) (new : MetadataCaches S) (after : ImageFile S) (pending' : List FreeEntry) (mark' : ℕ) : Type 0 where
   pub leaked : ℕ → ℕ
-  pub leaks : Leaks (IsLoose old) result leaked
+  pub leaks : Leaks (IsTrue (state before.image).shape.keeps × (order_of old ≡ L2DependsOnRb) × IsSound (metadata_of state before old table pending)) (IsLoose table old) result leaked
   pub step : Allocating state (IsWhole result) (handed_by result leaked) table old before pending table' new after pending'
   pub run : IfOk result (λ entry. (entry.count ≡ n) × (entry.metadata ≡ metadata) × (0 < n → (entry.first ≢ 0) × IsInReach before.header.fields.cluster_bits (entry.first + (n - 1))))
   pub taken : order_of old ≡ L2DependsOnRb → IsTrue (state before.image).shape.keeps → IsSound (metadata_of state before old table pending) → IfOk result (IsRunCounted mark n (metadata_of state after new table' pending'))
@@ -74,6 +74,6 @@ pub record Allocates {S : Type 0} (state : S → StorageState) (mark n : ℕ) (m
       → IsMarked (metadata_of state before old table pending) mark → IsMarked (metadata_of state after new table' pending') mark'
   pub list : IsLengthened table table' pending pending'
   pub cause : MatchResult result (λ _. (state after.image).faults ≡ (state before.image).faults)
-      (WhyNotAllocated (IsTrue (state before.image).shape.keeps × (order_of old ≡ L2DependsOnRb) × IsSound (metadata_of state before old table pending)) (IsLoose old)
-      (order_of old ≡ L2DependsOnRb → IsTrue (state before.image).shape.keeps → IsSound (metadata_of state before old table pending) → IsCrowded (metadata_of state before old table pending) mark n)
+      (WhyNotAllocated (IsTrue (state before.image).shape.keeps × (order_of old ≡ L2DependsOnRb) × IsSound (metadata_of state before old table pending)) (IsLoose table old)
+      (λ _. order_of old ≡ L2DependsOnRb → IsTrue (state before.image).shape.keeps → IsSound (metadata_of state before old table pending) → IsCrowded (metadata_of state before old table pending) mark n)
       (state before.image).faults (state after.image).faults)

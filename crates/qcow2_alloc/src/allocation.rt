@@ -231,11 +231,11 @@ impl Allocator {
     /// once it was announced that tables are written before blocks, those of the guest's data. In an image whose data is in an
     /// external file, nothing is counted for these: they are taken off the list, and nothing is announced.
     ///
-    /// It refuses with `Fault::Memory`; with `Fault::Storage`; with `Fault::CacheFull` where each block of a full cache is pinned; with
-    /// `Fault::Counter` where a cluster is counted 0 times, and with `Fault::DamagedTable` where no block counts it, which no sound image has.
-    /// What wasn't counted down stays on the list, a part of an entry included; the list takes no memory. The file of a sound image shows the
-    /// same at each stop; and a sound image stays sound, also where memory or the storage refused, if that tells its stops and refused no
-    /// change.
+    /// It refuses with `Fault::Memory`; with `Fault::Storage`; with `Fault::CacheFull` only where as many blocks are pinned as there is
+    /// room for; with `Fault::Counter` where a cluster is counted 0 times, and with `Fault::DamagedTable` where no block counts it, which
+    /// no sound image has. What wasn't counted down stays on the list, a part of an entry included; the list takes no memory. The file of
+    /// a sound image shows the same at each stop; and a sound image stays sound, also where memory or the storage refused, if that tells
+    /// its stops and refused no change.
     pub fn process_clusters_to_free<S: Storage>(
         &mut self,
         file: &mut ImageFile<S>,

@@ -17,7 +17,7 @@ impl Allocator {
     // Lets the refcount table grow until it holds an index.
     //
     // It refuses with `Fault::Limit` where there is no place for it; with `Fault::Memory`; with `Fault::Storage`; with `Fault::CacheFull`
-    // where blocks are pinned, and then clusters may be counted that nobody was handed; and with `Fault::Counter` and
+    // as the public calls do, and then clusters may be counted that nobody was handed; and with `Fault::Counter` and
     // `Fault::DamagedTable`, which no sound image has.
     pub(super) fn grow_table<S: Storage>(
         &mut self,

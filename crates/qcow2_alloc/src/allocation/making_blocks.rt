@@ -28,7 +28,7 @@ impl Allocator {
     // before it counts, or else in the first one that it counts itself.
     //
     // It refuses with `Fault::Limit` where that is out of reach; with `Fault::Memory`; with `Fault::Storage`; with `Fault::CacheFull`
-    // where blocks are pinned; and with `Fault::Counter` and `Fault::DamagedTable`, which no sound image has. Unless memory or the
+    // as the public calls do; and with `Fault::Counter` and `Fault::DamagedTable`, which no sound image has. Unless memory or the
     // storage failed, nothing is handed out then.
     pub(super) fn make_block<S: Storage>(
         &mut self,

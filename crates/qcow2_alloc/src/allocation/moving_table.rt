@@ -6,9 +6,9 @@ ghost use Rattle.qcow2_types.specs.Counts.{counters_of_block};
 ghost use Rattle.qcow2_types.specs.Pending.{FreeEntry};
 ghost use Rattle.qcow2_alloc.specs.Allocators.{table_of, mark_of};
 ghost use Rattle.qcow2_alloc.specs.Caches.{cached_in, HasRoomOf};
-ghost use Rattle.qcow2_alloc.specs.Freeing.{IsLoose};
+ghost use Rattle.qcow2_alloc.specs.Finding.{PinsNothing};
 ghost use Rattle.qcow2_alloc.specs.Growing.{lacking};
-ghost use Rattle.qcow2_alloc.specs.MovingTables.{MovesTable, NamesNewBlocks, ForgetsRun, TakesRoom, IsPlan, FillsFree};
+ghost use Rattle.qcow2_alloc.specs.MovingTables.{MovesTable, NamesNewBlocks, ForgetsRun, IsPinnedWithin, TakesRoom, IsPlan, FillsFree};
 
 use crate::allocation::Allocator;
 use crate::allocation::searching::Run;
@@ -21,7 +21,7 @@ use qcow2_types::HostCluster;
 impl Allocator {
     // Lets a copy of the refcount table that has grown take its room, which isn't counted, and become the image's.
     //
-    // It refuses with `Fault::Memory`; with `Fault::Storage`; with `Fault::CacheFull` where blocks are pinned, and then some of the room
+    // It refuses with `Fault::Memory`; with `Fault::Storage`; with `Fault::CacheFull` as the public calls do, and then some of the room
     // may be counted; and with `Fault::Counter` and `Fault::DamagedTable`, which no sound image has.
     pub(super) fn fill_room<S: Storage>(
         &mut self,
@@ -135,7 +135,7 @@ impl Allocator {
     }
 }
 
-// Drops the refcount blocks in so many clusters from one on, as far as they are cached, without writing them.
+// Drops the refcount blocks in so many clusters from one on, as far as they are cached, without writing them. One that is pinned stops it.
 fn forget_run<S: Storage>(
     caches: &mut MetadataCaches<S>,
     first: HostCluster,
@@ -144,9 +144,9 @@ fn forget_run<S: Storage>(
     requires fits { first + count ≤ 2 ^ 64 }
     ensures forgets { ForgetsRun first count (cached_in caches.old) result (cached_in caches.new) }
     ensures order { caches.new.order ≡ caches.old.order }
-    ensures loose { IsLoose caches.old → IsLoose caches.new }
+    ensures pins { PinsNothing (cached_in caches.old).blocks (cached_in caches.new).blocks }
     ensures room { HasRoomOf caches.old caches.new }
-    ensures err { IfErr result (λ fault. (fault ≡ Fault.CacheFull) × (IsLoose caches.old → ⊥)) }
+    ensures err { IfErr result (λ fault. (fault ≡ Fault.CacheFull) × IsPinnedWithin first count caches.old) }
 {
     for index in 0..count {
         match caches.rb_forget(HostCluster(first.0 + index)) {

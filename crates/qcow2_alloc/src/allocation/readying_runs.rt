@@ -90,7 +90,7 @@ fn last_index(first: HostCluster, count: u64, header: &Header) -> Result<usize, 
         return Err(Fault::DamagedTable);
     }
     let Some(last) = first.0.checked_add(count - 1) else {
-        return Err(Fault::Limit(first.0));
+        return Err(Fault::Limit(u64::MAX));
     };
     if !is_in_reach(HostCluster(last), header.cluster_bits()) {
         return Err(Fault::Limit(last));

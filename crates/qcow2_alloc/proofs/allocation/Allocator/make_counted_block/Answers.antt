@@ -1,4 +1,4 @@
-use Rattle.std.proofs.Common.{◌≡◌, ◌*◌, ◌<◌, arith, ap, subst}
+use Rattle.std.proofs.Common.{◌≡◌, ◌*◌, ◌<◌, ◌∙◌, arith, ap, subst}
 use Rattle.qcow2_types.specs.Counts.{counters_of_block}
 use Rattle.qcow2_metadata.specs.Blocks.{Block}
 use Rattle.qcow2_metadata.specs.Places.{IsInReach}
@@ -8,8 +8,9 @@ use Rattle.qcow2_alloc.specs.MakingBlocks.{WhyNotNamed}
 use Rattle.qcow2_alloc.specs.Quiet.{counted}
 use Rattle.qcow2_alloc.specs.declared.cache.MetadataCaches.{MetadataCaches}
 use Rattle.qcow2_alloc.proofs.CountingClusters.{succeeded}
+use Rattle.qcow2_alloc.proofs.FreeClusters.{uncounted-free}
 use Rattle.qcow2_alloc.proofs.FreeingEntries.{failed}
-use Rattle.qcow2_alloc.proofs.MadeBlocks.{first-counted, namable, unmade-place, unforgotten}
+use Rattle.qcow2_alloc.proofs.MadeBlocks.{first-counted, namable, unmade-memory, unmade-place, unforgotten}
 use Rattle.qcow2_alloc.proofs.TakenBlocks.{uncounted-made, unwritten-made, taken-made-so}
 use Rattle.qcow2_alloc.proofs.allocation.Allocator.make_counted_block.Goals as goal
 use Rattle.qcow2_alloc.proofs.PlacedBlocks.{written-on-ok}
@@ -29,9 +30,17 @@ returns-in-Err-clause-makes g c = λ first f pending begun free.
     omega (arith, at, some))
     (subst (λ b. WhyNotNamed table b c.args.place c.in-Err.fault) c.cluster_bits.ensures.value c.in-Err.ensures.err)
 
+pub returns-in-Err-cleared_block-clause-makes : goal.returns-in-Err-cleared_block-clause-makes
+returns-in-Err-cleared_block-clause-makes g c = λ first f pending begun free.
+    unmade-memory g.S.Storage.state c.args.index (table_of c.args.self.now) pending first f c.args.caches.now c.args.file.now begun c.in-Err-cleared_block.fault c.in-Err-cleared_block.ensures.err
+
 pub returns-in-Err-rb_forget-clause-makes : goal.returns-in-Err-rb_forget-clause-makes
 returns-in-Err-rb_forget-clause-makes g c = λ first f pending begun free.
-    unforgotten g.S.Storage.state c.args.index (table_of c.args.self.now) pending first f c.args.caches.now c.args.file.now begun c.args.place c.in-Err-rb_forget.fault c.rb_forget.new.self c.in-Err-rb_forget.ensures.err
+    let state = g.S.Storage.state in
+    let table = table_of c.args.self.now in
+    let m = metadata_of state c.args.file.now c.args.caches.now table pending in
+    unforgotten state c.args.index table pending first f c.args.caches.now c.args.file.now begun c.args.place c.in-Err-rb_forget.fault c.rb_forget.new.self
+    (λ holds. (uncounted-free m ((begun.quiet holds.1).holds holds.0 holds.2 tt).0 (begun.order ∙ holds.1) c.args.place (free holds.1 holds.0 holds.2).uncounted).0) c.in-Err-rb_forget.ensures.err
 
 pub returns-in-Err-count_cluster-clause-makes : goal.returns-in-Err-count_cluster-clause-makes
 returns-in-Err-count_cluster-clause-makes g c = λ first f pending begun free.

@@ -3,6 +3,7 @@ use Rattle.qcow2_metadata.specs.Places.{IsInReach}
 use Rattle.qcow2_alloc.specs.Allocators.{table_of, metadata_of}
 use Rattle.qcow2_alloc.specs.MakingBlocks.{WhyNotNamed}
 use Rattle.qcow2_alloc.specs.Quiet.{IsSound, counted}
+use Rattle.qcow2_alloc.proofs.FreeClusters.{uncounted-free}
 use Rattle.qcow2_alloc.proofs.MadeBlocks.{begins-none, first-counted, unmade-place, unforgotten}
 use Rattle.qcow2_alloc.proofs.OwnBlocks.{own-uncounted, own-made-at}
 use Rattle.qcow2_alloc.proofs.allocation.Allocator.make_own_block.Goals as goal
@@ -45,7 +46,10 @@ pub returns-in-Err-rb_forget-clause-makes : goal.returns-in-Err-rb_forget-clause
 returns-in-Err-rb_forget-clause-makes g c = λ pending.
     let state = g.S.Storage.state in
     let table = table_of c.args.self.now in
-    unforgotten state c.args.index table pending c.args.caches.now c.args.file.now c.args.caches.now c.args.file.now (begins-none state c.args.index table pending c.args.caches.now c.args.file.now) c.own_place-place.result c.in-Err-rb_forget.fault c.rb_forget.new.self c.in-Err-rb_forget.ensures.err
+    let d = c.own_place-place.result in
+    let m = metadata_of state c.args.file.now c.args.caches.now table pending in
+    unforgotten state c.args.index table pending c.args.caches.now c.args.file.now c.args.caches.now c.args.file.now (begins-none state c.args.index table pending c.args.caches.now c.args.file.now) d c.in-Err-rb_forget.fault c.rb_forget.new.self
+    (λ holds. (uncounted-free m holds.2 holds.1 d (own-uncounted m c.args.index d c.own_place-place.ensures.own c.requires.inside c.requires.empty holds.2)).0) c.in-Err-rb_forget.ensures.err
 
 pub returns-in-Ok-rb_forget-clause-at : goal.returns-in-Ok-rb_forget-clause-at
 returns-in-Ok-rb_forget-clause-at g c =

@@ -1,5 +1,6 @@
 use Rattle.std.proofs.Common.{◌≡◌, ◌≤◌, ◌<◌, ◌+◌, ◌-◌, ◌^◌, ◌∙◌, ℕ, arith, ap, sym, subst, Ok, Err, []}
 use Rattle.std.proofs.lemmas.Nat.{pow_pos}
+use Rattle.imago_storage.specs.declared.fault.Fault.TheVariants.{CacheFull}
 use Rattle.qcow2_types.specs.Counts.{counters_of_block}
 use Rattle.qcow2_types.specs.Header.{Header}
 use Rattle.qcow2_metadata.specs.Places.{IsInReach}
@@ -8,7 +9,7 @@ use Rattle.qcow2_alloc.specs.declared.allocation.searching.Run.{Run}
 use Rattle.qcow2_alloc.specs.Allocators.{table_of}
 use Rattle.qcow2_alloc.specs.Caches.{cached_in}
 use Rattle.qcow2_alloc.specs.Growing.{lacking}
-use Rattle.qcow2_alloc.specs.MovingTables.{ForgetsRun}
+use Rattle.qcow2_alloc.specs.MovingTables.{ForgetsRun, IsPinnedWithin}
 use Rattle.qcow2_alloc.proofs.WritingNewBlocks.{run-fits}
 use Rattle.qcow2_alloc.proofs.TakingRoom.{flushed-then, room-not-forgotten, room-taken}
 use Rattle.qcow2_alloc.proofs.allocation.Allocator.take_room.Goals as goal
@@ -68,7 +69,7 @@ returns-in-Ok g c = λ pending.
     let forgets : ForgetsRun c.args.room.first c.lacking_for-blocks.result (cached_in D.self) (Ok tt) (cached_in c.forget_run.new.caches) =
     subst (λ (d : ℕ). ForgetsRun d c.lacking_for-blocks.result (cached_in D.self) (Ok tt) (cached_in c.forget_run.new.caches)) c.first.ensures f.forgets in
     room-taken state table pending c.args.room c.args.caches.now c.args.file.now C.caches C.file (c.in_default.ensures pending) D.self D.file e.going e.kept e.others e.room e.cause e.clean c.lacking_for-blocks.result n.1
-    c.forget_run.new.caches forgets f.order f.loose f.room n.0 some c.write_new_blocks.result c.write_new_blocks.new.file c.write_new_blocks.ensures.header c.write_new_blocks.ensures.writes
+    c.forget_run.new.caches forgets f.order f.pins f.room n.0 some c.write_new_blocks.result c.write_new_blocks.new.file c.write_new_blocks.ensures.header c.write_new_blocks.ensures.writes
 
 pub returns-in-Err-forget_run : goal.returns-in-Err-forget_run
 returns-in-Err-forget_run g c = λ pending.
@@ -83,4 +84,4 @@ returns-in-Err-forget_run g c = λ pending.
     let forgets : ForgetsRun c.args.room.first c.lacking_for-blocks.result (cached_in D.self) (Err c.in-Err-forget_run.fault) (cached_in c.forget_run.new.caches) =
     subst (λ (d : ℕ). ForgetsRun d c.lacking_for-blocks.result (cached_in D.self) (Err c.in-Err-forget_run.fault) (cached_in c.forget_run.new.caches)) c.first.ensures f.forgets in
     room-not-forgotten state table pending c.args.room c.args.caches.now c.args.file.now C.caches C.file (c.in_default.ensures pending) D.self D.file e.going e.kept e.others e.room e.cause e.clean c.lacking_for-blocks.result n.1
-    c.in-Err-forget_run.fault c.forget_run.new.caches forgets f.order f.loose f.room f.err
+    c.in-Err-forget_run.fault c.forget_run.new.caches forgets f.order f.pins f.room (subst (λ (d : ℕ). (c.in-Err-forget_run.fault ≡ CacheFull) × IsPinnedWithin d c.lacking_for-blocks.result D.self) c.first.ensures f.err)
