@@ -15,6 +15,7 @@ mod findings;
 mod full;
 mod gathering;
 mod images;
+mod mapped;
 mod sizes;
 mod storages;
 mod structure;

@@ -8,26 +8,26 @@ use qcow2_alloc::{Allocator, ClustersToFreeList, ImageFile, MetadataCaches};
 use qcow2_metadata::Header;
 use qcow2_types::{ClusterCount, HostCluster, PendingClusters};
 
-type Logged = LogStorage<MemStorage>;
+pub(super) type Logged = LogStorage<MemStorage>;
 
 // An open image, with how many clusters were handed out and kept.
 #[derive(Drop)]
-struct OpenImage {
-    file: ImageFile<Logged>,
-    caches: MetadataCaches<Logged>,
-    allocator: Allocator,
-    list: ClustersToFreeList,
-    kept: u64,
+pub(super) struct OpenImage {
+    pub(super) file: ImageFile<Logged>,
+    pub(super) caches: MetadataCaches<Logged>,
+    pub(super) allocator: Allocator,
+    pub(super) list: ClustersToFreeList,
+    pub(super) kept: u64,
 }
 
 // Numbers that follow each other by a linear congruence.
 #[derive(Drop)]
-struct Random {
-    state: u64,
+pub(super) struct Random {
+    pub(super) state: u64,
 }
 
 impl Random {
-    fn below(&mut self, end: u16) -> u16
+    pub(super) fn below(&mut self, end: u16) -> u16
         requires { 0 < end }
         ensures { result < end }
     {
@@ -41,23 +41,45 @@ impl Random {
 
 // An image with clusters of 512 bytes and counters of 64 bits: its refcount table is cluster 1, and names the block in cluster
 // 2, which counts these three.
-fn bytes_of_image(alloc: Global) -> Result<Vec<u8>, Fault> {
-    let mut bytes = vec![in alloc; 0u8; 1_536]?;
-    bytes[..8].copy_from_slice(&[0x51, 0x46, 0x49, 0xfb, 0, 0, 0, 3]);
-    bytes[23] = 9;
-    bytes[54] = 2;
-    bytes[59] = 1;
-    bytes[99] = 6;
-    bytes[103] = 104;
-    bytes[518] = 4;
-    for counter in 0..3usize {
-        bytes[1_031 + 8 * counter] = 1;
+const IMAGE: [(usize, u8); 14] = [
+    (0, 0x51),
+    (1, 0x46),
+    (2, 0x49),
+    (3, 0xfb),
+    (7, 3),
+    (23, 9),
+    (54, 2),
+    (59, 1),
+    (99, 6),
+    (103, 104),
+    (518, 4),
+    (1_031, 1),
+    (1_039, 1),
+    (1_047, 1),
+];
+
+fn set(bytes: &mut [u8], changes: &[(usize, u8)]) {
+    for (place, byte) in changes {
+        if let Some(slot) = bytes.get_mut(*place) {
+            *slot = *byte;
+        }
     }
+}
+
+// So many bytes of that image, with others at these places.
+pub(super) fn bytes_of_image(
+    alloc: Global,
+    length: usize,
+    changes: &[(usize, u8)],
+) -> Result<Vec<u8>, Fault> {
+    let mut bytes = vec![in alloc; 0u8; length]?;
+    set(&mut bytes, &IMAGE);
+    set(&mut bytes, changes);
     Ok(bytes)
 }
 
-fn open_image(alloc: Global) -> Result<OpenImage, Fault> {
-    let mut image = MemStorage::from_bytes(bytes_of_image(alloc)?)?;
+pub(super) fn open_image(alloc: Global, bytes: Vec<u8>) -> Result<OpenImage, Fault> {
+    let mut image = MemStorage::from_bytes(bytes)?;
     let header = Header::load(alloc, &mut image, true)?;
     let image = LogStorage::new(alloc, image)?;
     let mut file = ImageFile { image, header };
@@ -137,7 +159,7 @@ fn free(opened: &mut OpenImage) -> Result<(), Fault> {
         .process_clusters_to_free(&mut opened.file, &mut opened.caches, &mut opened.list)
 }
 
-fn turn(opened: &mut OpenImage, random: &mut Random) -> Result<(), Fault> {
+pub(super) fn turn(opened: &mut OpenImage, random: &mut Random) -> Result<(), Fault> {
     let keeps = random.below(2) == 0;
     match random.below(9) {
         0 | 1 | 2 => {
@@ -153,7 +175,7 @@ fn turn(opened: &mut OpenImage, random: &mut Random) -> Result<(), Fault> {
 }
 
 // Each stop passes the checker.
-fn stops_pass(rt: &impl Abort, alloc: Global, log: &mut Logged) -> Result<(), Fault> {
+pub(super) fn stops_pass(rt: &impl Abort, alloc: Global, log: &mut Logged) -> Result<(), Fault> {
     let count = log.requests().len();
     for k in 0..count + 1 {
         assert!(rt; k <= log.requests().len());
@@ -167,7 +189,11 @@ fn stops_pass(rt: &impl Abort, alloc: Global, log: &mut Logged) -> Result<(), Fa
 }
 
 // At the end what leaks is what was handed out and kept.
-fn kept_leak(rt: &impl Abort, alloc: Global, opened: &mut OpenImage) -> Result<(), Fault> {
+pub(super) fn kept_leak(
+    rt: &impl Abort,
+    alloc: Global,
+    opened: &mut OpenImage,
+) -> Result<(), Fault> {
     free(opened)?;
     opened.caches.flush_all(&mut opened.file)?;
     let last = opened.file.image.requests().len();
@@ -183,7 +209,7 @@ fn kept_leak(rt: &impl Abort, alloc: Global, opened: &mut OpenImage) -> Result<(
 }
 
 fn random_calls(rt: &impl Abort, alloc: Global, seed: u64) -> Result<(), Fault> {
-    let mut opened = open_image(alloc)?;
+    let mut opened = open_image(alloc, bytes_of_image(alloc, 1_536, &[])?)?;
     let mut random = Random { state: seed };
     for _ in 0..24 {
         turn(&mut opened, &mut random)?;
