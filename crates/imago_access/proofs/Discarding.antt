@@ -38,7 +38,7 @@ discarded_there ToAny below offset n p v gave = gave.0
 discarded_there ToBacking below offset n p v gave = gave.0
 
 pub like_both : (a b c : Layer) → IsLike a b → IsLike b c → IsLike a c
-like_both a b c first second = record { fixed = second.fixed ∙ first.fixed; size = second.size ∙ first.size; unspent = second.unspent ∙ first.unspent }
+like_both a b c first second = record { fixed = second.fixed ∙ first.fixed; size = second.size ∙ first.size; unspent = second.unspent ∙ first.unspent; failed = λ f. second.failed (first.failed f) }
 
 -- a call that was declined was not cut off
 pub declined_mild : (e : Fault) → IsDeclined e → IsMild e

@@ -1,5 +1,5 @@
 -- What a prepared mapping holds, from where it is prepared to where it is spent.
-use Rattle.std.proofs.Common.{◌≡◌, ◌⊎◌, refl, inl, inr, ℕ, ◌+◌, ◌-◌, ◌<◌, Bool, true, false, Option, Some, None, List, ◌∷◌, length, slice_index, arith, sym, ◌∙◌, ap, subst}
+use Rattle.std.proofs.Common.{◌≡◌, ◌⊎◌, refl, inl, inr, ℕ, ◌+◌, ◌-◌, ◌<◌, Bool, true, false, Option, Some, None, List, ◌∷◌, length, slice_index, IsTrue, arith, sym, ◌∙◌, ap, subst}
 use Rattle.std.proofs.lemmas.Bool.{cases_lt, lt-ltb}
 use Rattle.imago_storage.specs.Disk.{Value, byte}
 use Rattle.imago_storage.specs.Steps.{IsIn, IsOut}
@@ -136,6 +136,10 @@ given_up_fixed claim tag (Some s) old new mine spends = (spends.1 mine.1).fixed
 pub given_up_size : {S : Type 0} (claim tag : S → ℕ) (state : Option S) (old new : Layer) → IsMine claim tag state old → Spends claim tag state old new (Cancelled old new) → new.size ≡ old.size
 given_up_size claim tag None old new mine spends = ap (λ (l : Layer). l.size) spends
 given_up_size claim tag (Some s) old new mine spends = (spends.1 mine.1).size
+
+pub given_up_failed : {S : Type 0} (claim tag : S → ℕ) (state : Option S) (old new : Layer) → IsMine claim tag state old → Spends claim tag state old new (Cancelled old new) → IsTrue old.failed → IsTrue new.failed
+given_up_failed claim tag None old new mine spends f = subst (λ (l : Layer). IsTrue l.failed) (sym spends) f
+given_up_failed claim tag (Some s) old new mine spends f = subst (λ b. IsTrue b) (sym (spends.1 mine.1).failed) f
 
 pub given_up_cell : {S : Type 0} (claim tag : S → ℕ) (state : Option S) (old new : Layer) → IsMine claim tag state old → Spends claim tag state old new (Cancelled old new) → new.cell ≡ old.cell
 given_up_cell claim tag None old new mine spends = ap (λ (l : Layer). l.cell) spends

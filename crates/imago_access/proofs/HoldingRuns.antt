@@ -17,7 +17,7 @@ use Rattle.imago_access.specs.Spending.{claim_of, IsMine, Spends}
 use Rattle.imago_access.specs.Stops.{KeepsStops, Left, GivesNone, GivesBytes, GivesHeld, GivesSettled}
 use Rattle.imago_access.specs.declared.mapping.PreparedDataMapping.{PreparedDataMapping}
 use Rattle.imago_access.proofs.Answers.{whole_holds}
-use Rattle.imago_access.proofs.Holding.{at_alike, held_written, truly_prepared, truly_wrote, between_wrote, between_settled, settled_given, spent_settles, given_up_fixed, given_up_size, given_up_cell, given_up_free}
+use Rattle.imago_access.proofs.Holding.{at_alike, held_written, truly_prepared, truly_wrote, between_wrote, between_settled, settled_given, spent_settles, given_up_failed, given_up_fixed, given_up_size, given_up_cell, given_up_free}
 use Rattle.imago_access.proofs.Running.{holds_loose, went_weaker, went_then, ran_weaker, ran_both, ran_over, ran_driver, ran_gives_intact}
 use Rattle.imago_access.proofs.Stopping.{passes_on, passes_weaker, left_weaker}
 
@@ -135,7 +135,7 @@ module _ {D B : Type 0} (layer : D → Layer) (image : D → StorageState) (extr
       → Ran layer image extras safe lasts under files sees safe_under still lasts_under sound ok whole gives a c x x
   ran_given_up claim tag state ok whole gives a b c x free_loose like went mine stateless stayed spends safely lasting same same' stops =
       let size : (layer c).size ≡ (layer a).size = given_up_size claim tag state (layer b) (layer c) mine spends ∙ like.size in
-      ran_driver layer image extras safe lasts under files sees safe_under still lasts_under sound ok whole gives a c x size (went_then layer image extras safe lasts ok whole a b c (given_up_fixed claim tag state (layer b) (layer c) mine spends) same same' safely lasting went)
+      ran_driver layer image extras safe lasts under files sees safe_under still lasts_under sound ok whole gives a c x size (went_then layer image extras safe lasts ok whole a b c (given_up_fixed claim tag state (layer b) (layer c) mine spends) (given_up_failed claim tag state (layer b) (layer c) mine spends) same same' safely lasting went)
       (λ w i. holds_loose (at (under x)) (layer c) (free_loose c (given_up_free claim tag state (layer b) (layer c) mine stateless spends)))
       (λ w i p lt. inl (at_alike (layer a) (layer c) (under x) p size
       (ap (λ (f : ℕ → Cell). through (f p) (at (under x) p)) (given_up_cell claim tag state (layer b) (layer c) mine spends ∙ ap (λ (l : Layer). l.cell) (stayed w i.keeps i.is_safe)))))
@@ -150,7 +150,7 @@ module _ {D B : Type 0} (layer : D → Layer) (image : D → StorageState) (extr
       let alike : (p : ℕ) → at (layer c ∷ under x) p ≡ at (layer b ∷ under x) p = λ p.
       at_alike (layer b) (layer c) (under x) p size (ap (λ (f : ℕ → Cell). through (f p) (at (under x) p)) (given_up_cell claim tag state (layer b) (layer c) mine spends)) in
       ran_over layer image extras safe lasts under files sees safe_under still lasts_under sound ok whole gives a c x x (size ∙ ran.size)
-      (went_then layer image extras safe lasts ok (whole × sees x) a b c (given_up_fixed claim tag state (layer b) (layer c) mine spends) same same' safely lasting ran.went) ran.looked
+      (went_then layer image extras safe lasts ok (whole × sees x) a b c (given_up_fixed claim tag state (layer b) (layer c) mine spends) (given_up_failed claim tag state (layer b) (layer c) mine spends) same same' safely lasting ran.went) ran.looked
       (λ w i. holds_loose (at (under x)) (layer c) (free_loose c (given_up_free claim tag state (layer b) (layer c) mine stateless spends)))
       (λ w i p lt. elim (ran.values w i p lt) [ inl was ↦ inl (alike p ∙ was) | inr gave ↦ inr (subst (gives p) (sym (alike p)) gave) ])
       (λ i. passes_on (Left (under x) (layer a) (image a).bytes sound (layer a).size gives) (image a) (image b) (image c) same (ran.stops i))

@@ -14,7 +14,7 @@ use Rattle.imago_access.proofs.Units.{likes_same, likes_both}
 module _ {D : Type 0} (layer : D → Layer) (image : D → StorageState) (extras : D → List StorageState) (sees safe still lasts : D → Type 0) (sound : ℕ → List ℕ → Type 0) where
   pub looked_same : (ok whole : Type 0) (d : D) → Looked layer image extras sees safe still lasts sound ok whole d d
   looked_same ok whole d = record {
-    like = record { fixed = refl; size = refl; unspent = refl };
+    like = record { fixed = refl; size = refl; unspent = refl; failed = λ f. f };
     later = later_all_same (image d ∷ extras d);
     faults = λ h. sound_all_same (image d ∷ extras d);
     stays = λ h see. (refl, see);
@@ -43,6 +43,7 @@ module _ {D : Type 0} (layer : D → Layer) (image : D → StorageState) (extras
         fixed = second.like.fixed ∙ first.like.fixed;
         size = second.like.size ∙ first.like.size;
         unspent = second.like.unspent ∙ first.like.unspent;
+        failed = λ f. second.like.failed (first.like.failed f);
       };
       later = later_all_both (image a ∷ extras a) (image b ∷ extras b) (image c ∷ extras c) first.later second.later;
       faults = λ h. sound_all_both (image a ∷ extras a) (image b ∷ extras b) (image c ∷ extras c) (first.faults tt) (second.faults h);

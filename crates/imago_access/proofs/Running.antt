@@ -40,6 +40,7 @@ module _ {D : Type 0} (layer : D → Layer) (image : D → StorageState) (extras
   pub went_same : (ok whole : Type 0) (d : D) → Went layer image extras safe lasts ok whole d d
   went_same ok whole d = record {
     fixed = refl;
+    failed = λ f. f;
     later = later_all_same (image d ∷ extras d);
     faults = λ h. sound_all_same (image d ∷ extras d);
     safely = λ h s. s;
@@ -49,26 +50,18 @@ module _ {D : Type 0} (layer : D → Layer) (image : D → StorageState) (extras
   pub went_weaker : (ok whole ok' whole' : Type 0) (a b : D) → (ok' → ok) → (whole' → whole) → Went layer image extras safe lasts ok whole a b → Went layer image extras safe lasts ok' whole' a b
   went_weaker ok whole ok' whole' a b from from' h = record {
     fixed = h.fixed;
+    failed = h.failed;
     later = h.later;
     faults = λ x. h.faults (from x);
     safely = λ x. h.safely (from' x);
     lasting = h.lasting;
   }
 
-  -- a call that makes no request
-  pub went_none : (ok whole : Type 0) (a b : D) → (layer b).fixed ≡ (layer a).fixed → image b ≡ image a → extras b ≡ extras a → (whole → safe a → safe b) → (lasts a → lasts b) → Went layer image extras safe lasts ok whole a b
-  went_none ok whole a b fixed same same' safely lasting = record {
-    fixed = fixed;
-    later = rw (same, same') (later_all_same (image a ∷ extras a));
-    faults = λ h. rw (same, same') (sound_all_same (image a ∷ extras a));
-    safely = safely;
-    lasting = lasting;
-  }
-
   -- a call, and then one that makes no request
-  pub went_then : (ok whole : Type 0) (a b c : D) → (layer c).fixed ≡ (layer b).fixed → image c ≡ image b → extras c ≡ extras b → (safe b → safe c) → (lasts b → lasts c) → Went layer image extras safe lasts ok whole a b → Went layer image extras safe lasts ok whole a c
-  went_then ok whole a b c fixed same same' safely lasting h = record {
+  pub went_then : (ok whole : Type 0) (a b c : D) → (layer c).fixed ≡ (layer b).fixed → (IsTrue (layer b).failed → IsTrue (layer c).failed) → image c ≡ image b → extras c ≡ extras b → (safe b → safe c) → (lasts b → lasts c) → Went layer image extras safe lasts ok whole a b → Went layer image extras safe lasts ok whole a c
+  went_then ok whole a b c fixed failing same same' safely lasting h = record {
     fixed = fixed ∙ h.fixed;
+    failed = λ f. failing (h.failed f);
     later = rw (same, same') h.later;
     faults = λ good. rw (same, same') (h.faults good);
     safely = λ w s. safely (h.safely w s);
@@ -123,6 +116,7 @@ module _ {D B : Type 0} (layer : D → Layer) (image : D → StorageState) (extr
     size = second.size ∙ first.size;
     went = record {
       fixed = second.went.fixed ∙ first.went.fixed;
+      failed = λ f. second.went.failed (first.went.failed f);
       later = later_all_both (image a ∷ extras a) (image b ∷ extras b) (image c ∷ extras c) first.went.later second.went.later;
       faults = λ h. sound_all_both (image a ∷ extras a) (image b ∷ extras b) (image c ∷ extras c) (first.went.faults tt) (second.went.faults h);
       lasting = λ l. second.went.lasting (first.went.lasting l);

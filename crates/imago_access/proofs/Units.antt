@@ -70,12 +70,12 @@ module _ {D : Type 0} (layer : D → Layer) (aligned : (d : D) → IsAlignment (
 -- layers that are like what they were have the same units
 pub likes_same : (xs : List Layer) → Likes xs xs
 likes_same [] = tt
-likes_same (x ∷ xs) = (record { fixed = refl; size = refl; unspent = refl }, likes_same xs)
+likes_same (x ∷ xs) = (record { fixed = refl; size = refl; unspent = refl; failed = λ f. f }, likes_same xs)
 
 pub likes_both : (xs ys zs : List Layer) → Likes xs ys → Likes ys zs → Likes xs zs
 likes_both [] [] [] first second = tt
 likes_both (x ∷ xs) (y ∷ ys) (z ∷ zs) first second =
-    (record { fixed = second.0.fixed ∙ first.0.fixed; size = second.0.size ∙ first.0.size; unspent = second.0.unspent ∙ first.0.unspent }, likes_both xs ys zs first.1 second.1)
+    (record { fixed = second.0.fixed ∙ first.0.fixed; size = second.0.size ∙ first.0.size; unspent = second.0.unspent ∙ first.0.unspent; failed = λ f. second.0.failed (first.0.failed f) }, likes_both xs ys zs first.1 second.1)
 likes_both [] (y ∷ ys) zs first second = absurd first
 likes_both [] [] (z ∷ zs) first second = absurd second
 likes_both (x ∷ xs) [] zs first second = absurd first

@@ -50,7 +50,7 @@ zero_taken old new guest n wrote i lt =
     subst (λ (z : ℕ). TakesByte z (old.held (guest + i)) (old.cell (guest + i)) (new.held (guest + i)) (new.cell (guest + i))) (zeroes_zero n (replicate n 0) refl i (omega (arith, lt, long))) (wrote.range i (omega (arith, lt, long)))
 
 pub wrote_none : (layer : Layer) (guest : ℕ) → Wrote layer layer guest (replicate 0 0)
-wrote_none layer guest = record { like = record { fixed = refl; size = refl; unspent = refl }; home = refl; range = λ i lt. absurd (omega (arith, lt)); others = λ p out. (refl, refl) }
+wrote_none layer guest = record { like = record { fixed = refl; size = refl; unspent = refl; failed = λ f. f }; home = refl; range = λ i lt. absurd (omega (arith, lt)); others = λ p out. (refl, refl) }
 
 -- zeroes, and then more behind them
 pub wrote_more : (a b c : Layer) (guest k m : ℕ) → Wrote a b guest (replicate k 0) → Wrote b c (guest + k) (replicate m 0) → Wrote a c guest (replicate (k + m) 0)

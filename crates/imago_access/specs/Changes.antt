@@ -4,7 +4,7 @@ use Rattle.imago_storage.specs.Disk.{Value, byte}
 use Rattle.imago_storage.specs.Steps.{IsIn, IsOut, IsByte}
 use Rattle.imago_access.specs.Layer.{Cell, own, through, Held, loose, beside, inside, Layer, IsFree, IsLike}
 
--- Each place of the range becomes what Q allows, and nothing else changes. Where places can be written, and what is failed, isn't told.
+-- Each place of the range becomes what Q allows, and nothing else changes. Where places can be written isn't told.
 pub record Rewrites (Q : ℕ → Cell → Cell → Type 0) (old new : Layer) (offset n : ℕ) : Type 0 where
   pub like : IsLike old new
   pub range : (p : ℕ) → IsIn offset n p → Q p (old.cell p) (new.cell p)
@@ -89,5 +89,6 @@ pub record Committed (old new : Layer) : Type 0 where
 pub record Cancelled (old new : Layer) : Type 0 where
   pub fixed : new.fixed ≡ old.fixed
   pub size : new.size ≡ old.size
+  pub failed : new.failed ≡ old.failed
   pub is_free : IsFree new
   pub cell : new.cell ≡ old.cell

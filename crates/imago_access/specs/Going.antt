@@ -18,9 +18,10 @@ pub record Looked {D : Type 0} (layer : D → Layer) (image : D → StorageState
   pub kept : still old → Pairs IsKept (image old ∷ extras old) (image new ∷ extras new) × still new
   pub stops : IsTrue (layer old).fixed.keeps → safe old → (below : List Layer) → KeepsStops below (layer old) sound GivesNone (image old) (image new)
 
--- a call that may change
+-- a call that may change: an image that had failed has failed still
 pub record Went {D : Type 0} (layer : D → Layer) (image : D → StorageState) (extras : D → List StorageState) (safe lasts : D → Type 0) (ok whole : Type 0) (old new : D) : Type 0 where
   pub fixed : (layer new).fixed ≡ (layer old).fixed
+  pub failed : IsTrue (layer old).failed → IsTrue (layer new).failed
   pub later : Pairs IsLater (image old ∷ extras old) (image new ∷ extras new)
   pub faults : ok → Pairs IsSound (image old ∷ extras old) (image new ∷ extras new)
   pub safely : whole → safe old → safe new

@@ -1,5 +1,5 @@
 -- What a layer of a chain is to the access above it.
-use Rattle.std.specs.Prelude.{◌≡◌, ℕ, max, Bool, Option, None, List}
+use Rattle.std.specs.Prelude.{◌≡◌, ℕ, max, Bool, Option, None, List, IsTrue}
 use Rattle.imago_storage.specs.Disk.{Value, Hold, free, held}
 use Rattle.imago_access.specs.declared.format.Format.{Format}
 
@@ -80,8 +80,9 @@ unit_of_layer layer = max layer.fixed.req_align layer.fixed.mem_align
 abbrev pub IsFree : Layer → Type 0
 IsFree layer = layer.unspent ≡ None
 
--- what it was and will be, but for a resize or a mapping: what never changes, its size and the unspent mapping
+-- what it was and will be, but for a resize or a mapping: what never changes, its size and the unspent mapping; and one that had failed has
 pub record IsLike (old new : Layer) : Type 0 where
   pub fixed : new.fixed ≡ old.fixed
   pub size : new.size ≡ old.size
   pub unspent : new.unspent ≡ old.unspent
+  pub failed : IsTrue old.failed → IsTrue new.failed

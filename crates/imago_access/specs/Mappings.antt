@@ -113,10 +113,9 @@ IsDeepRun size offset asked mapping n = (offset < size) × (n ≤ asked) × (off
 abbrev pub IsMappedRun : Layer → ℕ → ℕ → ℕ → Type 0
 IsMappedRun layer offset asked n = (n ≤ asked) × (0 < asked → 0 < n) × (0 < asked → offset + n ≤ layer.size)
 
--- a run of a storage ends at an offset of 64 bits
-abbrev pub EndsInStorage : Mapping → ℕ → Type 0
-EndsInStorage (deep.Raw depth storage place writable) n = place + n < 2 ^ 64
-EndsInStorage mapping n = ⊤
+-- a run of a storage of the top layer that can be written, and ends at an offset of 64 bits
+abbrev pub IsTopRun : Mapping → ℕ → Type 0
+IsTopRun mapping n = (storage : ℕ) × (place : ℕ) × (mapping ≡ deep.Raw 0 storage place true) × (place + n < 2 ^ 64)
 
 -- the run lies in the top layer, and each of its places can be written where the answer says
 abbrev pub IsHomeRun : Layer → ℕ → Mapping → ℕ → Type 0

@@ -2,7 +2,7 @@
 ghost use Rattle.std.specs.Prelude.{◌≡◌, ◌⊎◌, true, false, Bool, ℕ, Some, None, Ok, Err, Option, Result, MatchOption, IsOkUnless, IfOk, IfErr, IsTrue};
 ghost use Rattle.imago_storage.specs.Options.{OpenOptions};
 ghost use Rattle.imago_storage.specs.declared.fault.Fault.{Fault};
-ghost use Rattle.imago_access.specs.Building.{options_with, OpensForWriting};
+ghost use Rattle.imago_access.specs.Building.{options_with};
 ghost use Rattle.imago_access.specs.declared.format.Format.{Format};
 ghost use Rattle.imago_access.specs.declared.format.PreallocateMode.{PreallocateMode};
 ghost use Rattle.imago_access.specs.declared.format.PreallocateMode.TheVariants as mode;
@@ -288,8 +288,8 @@ pub trait FormatCreateBuilder<S: Storage> {
     /// What the storage may be that is given to be opened.
     ghost hands: { Self → S → Type 0 };
 
-    /// What may be opened by a builder that was made for that.
-    ghost opens: { Self → Self.DriverBuilder → Self.DriverBuilder.Format → Type 0 };
+    /// By which builder it is opened, where another one was made for that: the same for writing, with what else was created.
+    ghost opens_with: { Self → Self.DriverBuilder → Self.DriverBuilder → Type 0 };
 
     /// Why nothing may be created.
     ghost refuses: { Self → Fault → Type 0 };
@@ -337,8 +337,8 @@ pub trait FormatCreateBuilder<S: Storage> {
         open_builder: F,
     ) -> Result<<Self::DriverBuilder as FormatDriverBuilder<S>>::Format, Fault>
         requires { (s : S) → hands self s → F.takes open_builder s }
-        ensures ok { IfOk result (λ d. (s : S) × (b : Self.DriverBuilder) × hands self s × F.makes open_builder s (Ok b) × opens self b d) }
+        ensures ok { IfOk result (λ d. (s : S) × (b b' : Self.DriverBuilder) × hands self s × F.makes open_builder s (Ok b) × opens_with self b b' × Self.DriverBuilder.opens b' d) }
         ensures format { IfOk result (λ d. (Self.DriverBuilder.Format.layer d).fixed.format ≡ FORMAT) }
         ensures writable { IfOk result (λ d. IsTrue (Self.DriverBuilder.Format.layer d).fixed.writable) }
-        ensures err { IfErr result (λ e. refuses self e ⊎ (((s : S) × hands self s × F.makes open_builder s (Err e)) ⊎ ((s : S) × (b b' : Self.DriverBuilder) × hands self s × F.makes open_builder s (Ok b) × OpensForWriting Self.DriverBuilder.image_of Self.DriverBuilder.options_of Self.DriverBuilder.writable_of Self.DriverBuilder.with_writable b b' × Self.DriverBuilder.refuses b' e))) };
+        ensures err { IfErr result (λ e. refuses self e ⊎ (((s : S) × hands self s × F.makes open_builder s (Err e)) ⊎ ((s : S) × (b b' : Self.DriverBuilder) × hands self s × F.makes open_builder s (Ok b) × opens_with self b b' × Self.DriverBuilder.refuses b' e))) };
 }

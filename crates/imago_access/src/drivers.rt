@@ -234,7 +234,7 @@ pub trait FormatDriverInstance {
     ) -> Result<(), (Fault, Option<PreparedDataMapping<Self::State>>)>
         ensures ok { OnOk result (Spends claim tag mapping.state (layer self.old) (layer self.new) (IsFree (layer self.new) × (IsTrue (layer self.old).fixed.keeps → safe self.old → Committed (layer self.old) (layer self.new)))) }
         ensures went { Went layer image extras safe lasts (IsOk result) (IsOk result × IsMine claim tag mapping.state (layer self.old)) self.old self.new }
-        ensures back { IfErr result (λ e. IfSome e.1 (λ m. (m ≡ mapping) × (layer self.new ≡ layer self.old) × GivenBack tag mapping.state (layer self.old) e.0 × (safe self.old → safe self.new))) }
+        ensures back { IfErr result (λ e. IfSome e.1 (λ m. (m ≡ mapping) × (layer self.new ≡ layer self.old) × GivenBack tag mapping.state (layer self.old) e.0 × (safe self.old → safe self.new) × (sees self.old → sees self.new) × (still self.old → still self.new))) }
         ensures at_once { (f : Fault) → commit_refusal tag mapping.state (layer self.old) ≡ Some f → MatchResult result (λ _. ⊥) (λ e. (e.0 ≡ f) × IsSome e.1) }
         ensures unasked { (mapping.state ≡ None) ⊎ IsSome (commit_refusal tag mapping.state (layer self.old)) → Unasked image extras self.old self.new }
         ensures spent { IfErr result (λ e. e.1 ≡ None → IsSome mapping.state × IsTrue (layer self.new).failed × Spends claim tag mapping.state (layer self.old) (layer self.new) (IsFree (layer self.new) × (safe self.old → IsMild e.0 → ⊥))) }
@@ -256,9 +256,9 @@ pub trait FormatDriverInstance {
         ensures safe { IsMine claim tag mapping.state (layer self.old) → safe self.old → safe self.new }
         ensures room { IsTrue (layer self.old).fixed.keeps → safe self.old → IsMine claim tag mapping.state (layer self.old) → Takes vacant has_room zeroed (λ _. ⊤) self.old self.new }
         ensures lasts { lasts self.old → lasts self.new }
-        ensures back { IfErr result (λ e. (e.1 ≡ mapping) × (e.0 ≡ Foreign) × (layer self.new ≡ layer self.old) × IsForeignTo tag mapping.state (layer self.old) × (safe self.old → safe self.new)) }
+        ensures back { IfErr result (λ e. (e.1 ≡ mapping) × (e.0 ≡ Foreign) × (layer self.new ≡ layer self.old) × IsForeignTo tag mapping.state (layer self.old) × (safe self.old → safe self.new) × (sees self.old → sees self.new) × (still self.old → still self.new)) }
         ensures back_room { IsTrue (layer self.old).fixed.keeps → safe self.old → IsErr result → Takes vacant has_room zeroed (λ _. ⊤) self.old self.new }
-        ensures fixed { ((layer self.new).fixed ≡ (layer self.old).fixed) × ((layer self.new).size ≡ (layer self.old).size) }
+        ensures fixed { ((layer self.new).fixed ≡ (layer self.old).fixed) × ((layer self.new).size ≡ (layer self.old).size) × ((layer self.new).failed ≡ (layer self.old).failed) }
         ensures began { (d : Self) (call : Call) → began d call self.old → began d call self.new }
         ensures none { (image self.new ≡ image self.old) × (extras self.new ≡ extras self.old) };
 
@@ -280,6 +280,7 @@ pub trait FormatDriverInstance {
         ensures at_once { (f : Fault) → change_refusal (unit_of_layer (layer self.old)) (layer self.old) guest (length bytes.now) ≡ Some f → IsErrOf result f }
         ensures idle { length bytes.now ≡ 0 → barrier (layer self.old) ≡ None → IsOk result }
         ensures unasked { (length bytes.now ≡ 0) ⊎ IsSome (change_refusal (unit_of_layer (layer self.old)) (layer self.old) guest (length bytes.now)) → Unasked image extras self.old self.new }
+        ensures empty { length bytes.now ≡ 0 → layer self.new ≡ layer self.old }
         ensures like { IsLike (layer self.old) (layer self.new) }
         ensures room { IsTrue (layer self.old).fixed.keeps → safe self.old → IsWhole result → Takes vacant has_room zeroed (λ _. ⊤) self.old self.new }
         ensures went { Went layer image extras safe lasts (IsOk result) (IsWhole result) self.old self.new }

@@ -22,7 +22,7 @@ use Rattle.imago_formats.specs.Growing.{HasFirst}
 
 -- a storage of the same shape
 pub raw_like : (old new : StorageState) (size : ℕ) (w : Bool) → new.shape ≡ old.shape → IsLike (raw_layer old size w) (raw_layer new size w)
-raw_like old new size w shape = record { fixed = ap (λ (s : Shape). raw_fixed s w) shape; size = refl; unspent = refl }
+raw_like old new size w shape = record { fixed = ap (λ (s : Shape). raw_fixed s w) shape; size = refl; unspent = refl; failed = λ f. f }
 
 -- a file that a stop leaves: no shorter than asked, and below the disk's size each byte was there or is given
 pub raw_left : (below : List Layer) (old : StorageState) (size : ℕ) (w : Bool) (least : ℕ) (gives : ℕ → Value → Type 0) (f : List ℕ) → size ≤ length old.bytes → least ≤ length f

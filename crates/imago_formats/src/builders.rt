@@ -1,7 +1,6 @@
 // How raw images are opened and created.
 ghost use Rattle.std.specs.Prelude.{◌≡◌, ◌⊎◌, length, true, false, Ok, Err, None, IsTrue, IfOk, IfErr};
 ghost use Rattle.imago_storage.specs.State.{StorageState};
-ghost use Rattle.imago_access.specs.Building.{OpensForWriting};
 ghost use Rattle.imago_access.specs.declared.format.Format.TheVariants as format;
 ghost use Rattle.imago_access.specs.declared.format.PreallocateMode.TheVariants as mode;
 ghost use Rattle.imago_formats.specs.RawLayer.{raw_layer};
@@ -105,7 +104,7 @@ impl<S: Storage> FormatCreateBuilder<S> for RawCreateBuilder<S> {
 
     ghost hands = { λ b s. IsNewRaw (S.state b.base.image) (S.state s) b.base.size };
 
-    ghost opens = { λ b opening d. let image = S.state opening.base.image in (d.storage ≡ opening.base.image) × (⟦<Raw<S> as FormatDriverInstance>⟧.layer d ≡ raw_layer image (length image.bytes) true) × ⟦<Raw<S> as FormatDriverInstance>⟧.safe d × ⟦<Raw<S> as FormatDriverInstance>⟧.lasts d };
+    ghost opens_with = { λ b made opening. opening ≡ ⟦<RawOpenBuilder<S> as FormatDriverBuilder<S>>⟧.with_writable made true };
 
     ghost refuses = { λ b fault. NotCreated fault };
 
@@ -154,10 +153,10 @@ impl<S: Storage> FormatCreateBuilder<S> for RawCreateBuilder<S> {
         open_builder: F,
     ) -> Result<Raw<S>, Fault>
         requires { let c = ⟦<RawCreateBuilder<S> as FormatCreateBuilder<S>>⟧ in (s : S) → c.hands self s → F.takes open_builder s }
-        ensures ok { let c = ⟦<RawCreateBuilder<S> as FormatCreateBuilder<S>>⟧ in IfOk result (λ d. (s : S) × (b : _) × c.hands self s × F.makes open_builder s (Ok b) × c.opens self b d) }
+        ensures ok { let c = ⟦<RawCreateBuilder<S> as FormatCreateBuilder<S>>⟧ in IfOk result (λ d. (s : S) × (b b' : _) × c.hands self s × F.makes open_builder s (Ok b) × c.opens_with self b b' × ⟦<RawOpenBuilder<S> as FormatDriverBuilder<S>>⟧.opens b' d) }
         ensures format { IfOk result (λ d. (⟦<Raw<S> as FormatDriverInstance>⟧.layer d).fixed.format ≡ format.Raw) }
         ensures writable { IfOk result (λ d. IsTrue (⟦<Raw<S> as FormatDriverInstance>⟧.layer d).fixed.writable) }
-        ensures err { let c = ⟦<RawCreateBuilder<S> as FormatCreateBuilder<S>>⟧ in IfErr result (λ e. c.refuses self e ⊎ (((s : S) × c.hands self s × F.makes open_builder s (Err e)) ⊎ ((s : S) × (b b' : _) × c.hands self s × F.makes open_builder s (Ok b) × (let o = ⟦<RawOpenBuilder<S> as FormatDriverBuilder<S>>⟧ in OpensForWriting o.image_of o.options_of o.writable_of o.with_writable b b' × o.refuses b' e)))) }
+        ensures err { let c = ⟦<RawCreateBuilder<S> as FormatCreateBuilder<S>>⟧ in IfErr result (λ e. c.refuses self e ⊎ (((s : S) × c.hands self s × F.makes open_builder s (Err e)) ⊎ ((s : S) × (b b' : _) × c.hands self s × F.makes open_builder s (Ok b) × c.opens_with self b b' × ⟦<RawOpenBuilder<S> as FormatDriverBuilder<S>>⟧.refuses b' e))) }
         // The gate isn't asked.
         ensures gate { gate.new ≡ gate.old }
     {

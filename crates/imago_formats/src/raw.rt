@@ -378,7 +378,7 @@ impl<S: Storage> FormatDriverInstance for Raw<S> {
     ) -> Result<(), (Fault, Option<PreparedDataMapping<NoState>>)>
         ensures ok { let d = ⟦<Raw<S> as FormatDriverInstance>⟧ in OnOk result (Spends d.claim d.tag mapping.state (d.layer self.old) (d.layer self.new) (IsFree (d.layer self.new) × (IsTrue (d.layer self.old).fixed.keeps → d.safe self.old → Committed (d.layer self.old) (d.layer self.new)))) }
         ensures went { let d = ⟦<Raw<S> as FormatDriverInstance>⟧ in Went d.layer d.image d.extras d.safe d.lasts (IsOk result) (IsOk result × IsMine d.claim d.tag mapping.state (d.layer self.old)) self.old self.new }
-        ensures back { let d = ⟦<Raw<S> as FormatDriverInstance>⟧ in IfErr result (λ e. IfSome e.1 (λ m. (m ≡ mapping) × (d.layer self.new ≡ d.layer self.old) × GivenBack d.tag mapping.state (d.layer self.old) e.0 × (d.safe self.old → d.safe self.new))) }
+        ensures back { let d = ⟦<Raw<S> as FormatDriverInstance>⟧ in IfErr result (λ e. IfSome e.1 (λ m. (m ≡ mapping) × (d.layer self.new ≡ d.layer self.old) × GivenBack d.tag mapping.state (d.layer self.old) e.0 × (d.safe self.old → d.safe self.new) × (d.sees self.old → d.sees self.new) × (d.still self.old → d.still self.new))) }
         ensures at_once { let d = ⟦<Raw<S> as FormatDriverInstance>⟧ in (f : Fault) → commit_refusal d.tag mapping.state (d.layer self.old) ≡ Some f → MatchResult result (λ _. ⊥) (λ e. (e.0 ≡ f) × IsSome e.1) }
         ensures unasked { let d = ⟦<Raw<S> as FormatDriverInstance>⟧ in (mapping.state ≡ None) ⊎ IsSome (commit_refusal d.tag mapping.state (d.layer self.old)) → Files.Unasked d.image d.extras self.old self.new }
         ensures spent { let d = ⟦<Raw<S> as FormatDriverInstance>⟧ in IfErr result (λ e. e.1 ≡ None → IsSome mapping.state × IsTrue (d.layer self.new).failed × Spends d.claim d.tag mapping.state (d.layer self.old) (d.layer self.new) (IsFree (d.layer self.new) × (d.safe self.old → IsMild e.0 → ⊥))) }
@@ -403,9 +403,9 @@ impl<S: Storage> FormatDriverInstance for Raw<S> {
         ensures safe { let d = ⟦<Raw<S> as FormatDriverInstance>⟧ in IsMine d.claim d.tag mapping.state (d.layer self.old) → d.safe self.old → d.safe self.new }
         ensures room { let d = ⟦<Raw<S> as FormatDriverInstance>⟧ in IsTrue (d.layer self.old).fixed.keeps → d.safe self.old → IsMine d.claim d.tag mapping.state (d.layer self.old) → Takes d.vacant d.has_room d.zeroed (λ _. ⊤) self.old self.new }
         ensures lasts { let d = ⟦<Raw<S> as FormatDriverInstance>⟧ in d.lasts self.old → d.lasts self.new }
-        ensures back { let d = ⟦<Raw<S> as FormatDriverInstance>⟧ in IfErr result (λ e. (e.1 ≡ mapping) × (e.0 ≡ Foreign) × (d.layer self.new ≡ d.layer self.old) × IsForeignTo d.tag mapping.state (d.layer self.old) × (d.safe self.old → d.safe self.new)) }
+        ensures back { let d = ⟦<Raw<S> as FormatDriverInstance>⟧ in IfErr result (λ e. (e.1 ≡ mapping) × (e.0 ≡ Foreign) × (d.layer self.new ≡ d.layer self.old) × IsForeignTo d.tag mapping.state (d.layer self.old) × (d.safe self.old → d.safe self.new) × (d.sees self.old → d.sees self.new) × (d.still self.old → d.still self.new)) }
         ensures back_room { let d = ⟦<Raw<S> as FormatDriverInstance>⟧ in IsTrue (d.layer self.old).fixed.keeps → d.safe self.old → IsErr result → Takes d.vacant d.has_room d.zeroed (λ _. ⊤) self.old self.new }
-        ensures fixed { let d = ⟦<Raw<S> as FormatDriverInstance>⟧ in ((d.layer self.new).fixed ≡ (d.layer self.old).fixed) × ((d.layer self.new).size ≡ (d.layer self.old).size) }
+        ensures fixed { let d = ⟦<Raw<S> as FormatDriverInstance>⟧ in ((d.layer self.new).fixed ≡ (d.layer self.old).fixed) × ((d.layer self.new).size ≡ (d.layer self.old).size) × ((d.layer self.new).failed ≡ (d.layer self.old).failed) }
         ensures began { let d = ⟦<Raw<S> as FormatDriverInstance>⟧ in (e : _) (call : Call) → d.began e call self.old → d.began e call self.new }
         ensures none { let d = ⟦<Raw<S> as FormatDriverInstance>⟧ in (d.image self.new ≡ d.image self.old) × (d.extras self.new ≡ d.extras self.old) }
     {

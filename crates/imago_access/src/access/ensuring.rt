@@ -5,7 +5,7 @@ ghost use Rattle.imago_access.specs.Layer.{IsFree, IsLike};
 ghost use Rattle.imago_access.specs.Chain.{unit_of_chain};
 ghost use Rattle.imago_access.specs.Layers.{chain};
 ghost use Rattle.imago_access.specs.Files.{IsWhole, IsMild, ImageCause, Unasked, files_of};
-ghost use Rattle.imago_access.specs.Mappings.{EndsInStorage, IsHomeRun, IsMappedRun};
+ghost use Rattle.imago_access.specs.Mappings.{IsHomeRun, IsMappedRun, IsTopRun};
 ghost use Rattle.imago_access.specs.Refusals.{barrier, change_refusal, ChangeCause};
 ghost use Rattle.imago_access.specs.declared.mapping.Mapping.TheVariants as deep;
 ghost use Rattle.imago_access.specs.Stops.{GivesAnnounced};
@@ -34,8 +34,10 @@ impl<D: FormatDriverInstance> FormatAccess<D> {
         requires free { IsFree (D.layer self.old.0) }
         ensures ok { IsIntactChain D.layer D.safe D.sees self.old → IfOk result (λ r. Step (below_of D.layer self.old) (chain_disk D.layer self.old) (ensure offset length overwrite) (run r.1) (chain_disk D.layer self.new)) }
         ensures home { IsIntactChain D.layer D.safe D.sees self.old → IfOk result (λ r. IsHomeRun (D.layer self.new.0) offset r.0 r.1) }
-        ensures empty { length ≡ 0 → IfOk result (λ r. r ≡ (deep.Raw 0 0 0 true, 0)) }
-        ensures run { IfOk result (λ r. IsMappedRun (D.layer self.old.0) offset length r.1 × EndsInStorage r.0 r.1) }
+        ensures empty { length ≡ 0 → IfOk result (λ r. (r ≡ (deep.Raw 0 0 0 true, 0)) × (D.layer self.new.0 ≡ D.layer self.old.0)) }
+        ensures untouched { IsSome (change_refusal (unit_of_chain (map D.layer (chain self.old))) (D.layer self.old.0) offset length) → self.new ≡ self.old }
+        ensures run { IfOk result (λ r. IsMappedRun (D.layer self.old.0) offset length r.1) }
+        ensures raw { IfOk result (λ r. IsTopRun r.0 r.1) }
         ensures err { IsIntactChain D.layer D.safe D.sees self.old → IfErr result (λ e. IsMild e → Stays (chain_disk D.layer self.old) (chain_disk D.layer self.new)) }
         ensures at_once { (f : Fault) → change_refusal (unit_of_chain (map D.layer (chain self.old))) (D.layer self.old.0) offset length ≡ Some f → IsErrOf result f }
         ensures idle { length ≡ 0 → barrier (D.layer self.old.0) ≡ None → IsOk result }

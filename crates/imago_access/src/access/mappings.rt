@@ -43,7 +43,8 @@ impl<D: FormatDriverInstance> FormatAccess<D> {
         ensures run { IfOk result (λ m. IsMappedRun (D.layer self.old.0) offset length m.length × (m.offset + m.length < 2 ^ 64)) }
         ensures mine { IfOk result (λ m. IsMine D.claim D.tag m.state (D.layer self.new.0)) }
         ensures stateless { IfOk result (λ m. m.state ≡ None → IsFree (D.layer self.new.0)) }
-        ensures empty { length ≡ 0 → IfOk result (λ m. m ≡ record { storage = 0; offset = 0; length = 0; state = None }) }
+        ensures empty { length ≡ 0 → IfOk result (λ m. (m ≡ record { storage = 0; offset = 0; length = 0; state = None }) × (D.layer self.new.0 ≡ D.layer self.old.0)) }
+        ensures untouched { IsSome (change_refusal (unit_of_chain (map D.layer (chain self.old))) (D.layer self.old.0) offset length) → self.new ≡ self.old }
         ensures err { IsIntactChain D.layer D.safe D.sees self.old → IfErr result (λ e. IsMild e → Stays (chain_disk D.layer self.old) (chain_disk D.layer self.new)) }
         ensures at_once { (f : Fault) → change_refusal (unit_of_chain (map D.layer (chain self.old))) (D.layer self.old.0) offset length ≡ Some f → IsErrOf result f }
         ensures idle { length ≡ 0 → barrier (D.layer self.old.0) ≡ None → IsOk result }
@@ -72,7 +73,7 @@ impl<D: FormatDriverInstance> FormatAccess<D> {
         ensures ok { IsIntactChain D.layer D.safe D.sees self.old → IsMine D.claim D.tag mapping.state (D.layer self.old.0) → OnOk result (Step (below_of D.layer self.old) (chain_disk D.layer self.old) (commit (is_some mapping.state) (is_own D.tag mapping.state (D.layer self.old.0))) done (chain_disk D.layer self.new)) }
         ensures own { IsForeignTo D.tag mapping.state (D.layer self.old.0) → IsErr result }
         ensures home { IsIntactChain D.layer D.safe D.sees self.old → IsMine D.claim D.tag mapping.state (D.layer self.old.0) → OnOk result ((p : ℕ) (place : ℕ × ℕ) → (D.layer self.old.0).home p ≡ Some place → (D.layer self.new.0).home p ≡ Some place) }
-        ensures back { IfErr result (λ e. IfSome e.1 (λ m. (m ≡ mapping) × (D.layer self.new.0 ≡ D.layer self.old.0) × GivenBack D.tag mapping.state (D.layer self.old.0) e.0 × (D.safe self.old.0 → D.safe self.new.0))) }
+        ensures back { IfErr result (λ e. IfSome e.1 (λ m. (m ≡ mapping) × (D.layer self.new.0 ≡ D.layer self.old.0) × GivenBack D.tag mapping.state (D.layer self.old.0) e.0 × (D.safe self.old.0 → D.safe self.new.0) × (D.sees self.old.0 → D.sees self.new.0) × (D.still self.old.0 → D.still self.new.0))) }
         ensures at_once { (f : Fault) → commit_refusal D.tag mapping.state (D.layer self.old.0) ≡ Some f → MatchResult result (λ _. ⊥) (λ e. (e.0 ≡ f) × IsSome e.1) }
         ensures unasked { (mapping.state ≡ None) ⊎ IsSome (commit_refusal D.tag mapping.state (D.layer self.old.0)) → Unasked D.image D.extras self.old.0 self.new.0 }
         ensures spent { IfErr result (λ e. e.1 ≡ None → IsSome mapping.state × IsTrue (D.layer self.new.0).failed × Spends D.claim D.tag mapping.state (D.layer self.old.0) (D.layer self.new.0) (IsFree (D.layer self.new.0) × (D.safe self.old.0 → IsMild e.0 → ⊥))) }
@@ -98,10 +99,10 @@ impl<D: FormatDriverInstance> FormatAccess<D> {
     ) -> Result<(), (Fault, PreparedDataMapping<D::State>)>
         ensures ok { IsMine D.claim D.tag mapping.state (D.layer self.old.0) → OnOk result (Step (below_of D.layer self.old) (chain_disk D.layer self.old) (cancel (is_some mapping.state) (is_own D.tag mapping.state (D.layer self.old.0))) done (chain_disk D.layer self.new)) }
         ensures own { IsForeignTo D.tag mapping.state (D.layer self.old.0) → IsErr result }
-        ensures back { IfErr result (λ e. (e.1 ≡ mapping) × (e.0 ≡ Foreign) × (D.layer self.new.0 ≡ D.layer self.old.0) × IsForeignTo D.tag mapping.state (D.layer self.old.0) × (D.safe self.old.0 → D.safe self.new.0)) }
+        ensures back { IfErr result (λ e. (e.1 ≡ mapping) × (e.0 ≡ Foreign) × (D.layer self.new.0 ≡ D.layer self.old.0) × IsForeignTo D.tag mapping.state (D.layer self.old.0) × (D.safe self.old.0 → D.safe self.new.0) × (D.sees self.old.0 → D.sees self.new.0) × (D.still self.old.0 → D.still self.new.0)) }
         ensures free { IsMine D.claim D.tag mapping.state (D.layer self.old.0) → IsSome mapping.state → IsFree (D.layer self.new.0) }
         ensures stateless { mapping.state ≡ None → D.layer self.new.0 ≡ D.layer self.old.0 }
-        ensures fixed { ((D.layer self.new.0).fixed ≡ (D.layer self.old.0).fixed) × ((D.layer self.new.0).size ≡ (D.layer self.old.0).size) }
+        ensures fixed { ((D.layer self.new.0).fixed ≡ (D.layer self.old.0).fixed) × ((D.layer self.new.0).size ≡ (D.layer self.old.0).size) × ((D.layer self.new.0).failed ≡ (D.layer self.old.0).failed) }
         ensures intact { IsMine D.claim D.tag mapping.state (D.layer self.old.0) → IsIntactChain D.layer D.safe D.sees self.old → IsIntactChain D.layer D.safe D.sees self.new }
         ensures lasts { D.lasts self.old.0 → D.lasts self.new.0 }
         ensures none { (D.image self.new.0 ≡ D.image self.old.0) × (D.extras self.new.0 ≡ D.extras self.old.0) }
@@ -130,6 +131,8 @@ impl<D: FormatDriverInstance> FormatAccess<D> {
         ensures at_once { (f : Fault) → change_refusal (unit_of_chain (map D.layer (chain self.old))) (D.layer self.old.0) guest (length bytes.now) ≡ Some f → IsErrOf result f }
         ensures idle { length bytes.now ≡ 0 → barrier (D.layer self.old.0) ≡ None → IsOk result }
         ensures unasked { (length bytes.now ≡ 0) ⊎ IsSome (change_refusal (unit_of_chain (map D.layer (chain self.old))) (D.layer self.old.0) guest (length bytes.now)) → Unasked D.image D.extras self.old.0 self.new.0 }
+        ensures untouched { IsSome (change_refusal (unit_of_chain (map D.layer (chain self.old))) (D.layer self.old.0) guest (length bytes.now)) → self.new ≡ self.old }
+        ensures empty { length bytes.now ≡ 0 → D.layer self.new.0 ≡ D.layer self.old.0 }
         ensures like { IsLike (D.layer self.old.0) (D.layer self.new.0) }
         ensures ran { RanChain D.layer D.image D.extras D.sees D.safe D.still D.lasts D.sound (IsOk result) (IsWhole result) (GivesBytes guest bytes.now) self.old self.new }
         ensures below { self.new.1 ≡ self.old.1 }

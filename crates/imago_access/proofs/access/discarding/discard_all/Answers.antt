@@ -18,7 +18,7 @@ pub loop-at-init : goal.loop-at-init
 loop-at-init g c = let d = g.D.FormatDriverInstance in record {
   from = omega arith;
   untouched = λ none. refl;
-  like = record { fixed = refl; size = refl; unspent = refl };
+  like = record { fixed = refl; size = refl; unspent = refl; failed = λ f. f };
   ran = λ below. ran_same {B = List Layer} d.layer d.image d.extras d.safe d.lasts (λ x. x) (λ x. []) (λ x. ⊤) (λ x. ⊤) (λ x. ⊤) (λ x. ⊤) d.sound ⊤ ⊤ (GivesDiscarded c.args.discarding below c.args.offset c.args.n) c.args.driver.now below;
   room = λ keeps safe. room_same d.vacant d.has_room d.zeroed (IsOut c.args.offset c.args.n) (λ _. ⊤) c.args.driver.now;
   given = λ keeps safe. given_none (d.vacant c.args.driver.now) (d.layer c.args.driver.now).fixed.unit (d.layer c.args.driver.now).size c.args.offset c.args.n;

@@ -19,7 +19,7 @@ pub loop-done-init : goal.loop-done-init
 loop-done-init g c = let d = g.D.FormatDriverInstance in let y0 = c.args.driver.now in record {
   inside = omega arith;
   wrote = λ keeps safe. wrote_none (d.layer y0) c.args.guest;
-  like = record { fixed = refl; size = refl; unspent = refl };
+  like = record { fixed = refl; size = refl; unspent = refl; failed = λ f. f };
   room = λ keeps safe. room_same d.vacant d.has_room d.zeroed (λ _. ⊤) (λ _. ⊤) y0;
   ran = λ below. ran_same {B = List Layer} d.layer d.image d.extras d.safe d.lasts (λ x. x) (λ x. []) (λ x. ⊤) (λ x. ⊤) (λ x. ⊤) (λ x. ⊤) d.sound ⊤ ⊤ (GivesBytes c.args.guest (replicate c.args.n 0)) y0 below;
   began = λ x call begun. begun;
