@@ -1,5 +1,5 @@
 -- Calls that count clusters, one behind the other.
-use Rattle.std.proofs.Common.{◌≡◌, ℕ, ◌+◌, refl, arith, ap, sym, ◌∙◌, List, inl, inr, Result}
+use Rattle.std.proofs.Common.{◌≡◌, ℕ, ◌+◌, ◌<◌, refl, arith, ap, sym, ◌∙◌, List, inl, inr, Result}
 use Rattle.std.specs.Prelude.{⊤}
 use Rattle.imago_storage.specs.State.{StorageState}
 use Rattle.imago_storage.specs.declared.fault.Fault.{Fault}
@@ -13,7 +13,7 @@ use Rattle.qcow2_alloc.specs.declared.file.ImageFile.{ImageFile}
 use Rattle.qcow2_alloc.specs.Allocating.{Allocating, MakesBlock, MovedTable, OnlyRaised}
 use Rattle.qcow2_alloc.specs.Allocators.{metadata_of}
 use Rattle.qcow2_alloc.specs.Going.{IsWhole}
-use Rattle.qcow2_alloc.specs.Quiet.{Metadata}
+use Rattle.qcow2_alloc.specs.Quiet.{Metadata, counted}
 use Rattle.qcow2_alloc.proofs.QuietFlushes.{memory-quietly, quiet-none, quietly-weaker}
 use Rattle.qcow2_alloc.proofs.QuietThen.{quietly-then, quietly-otherwise}
 
@@ -30,6 +30,10 @@ raised-then m m' m'' one two c = elim (one c) [
   | inr up ↦ elim (two c) [ inl same' ↦ inr (up.0, same' ∙ up.1) | inr up' ↦ let a = up.1 in let b = up'.0 in absurd (omega (arith, a, b)) ]
 ]
 
+-- What is counted stays so where counts are raised alone.
+pub counted-still : (m m' : Metadata) (c : ℕ) → OnlyRaised m m' → 0 < counted m c → 0 < counted m' c
+counted-still m m' c raised was = elim (raised c) [ inl same ↦ omega (arith, same, was) | inr up ↦ let one = up.1 in omega (arith, one) ]
+
 module _ {S : Type 0} (state : S → StorageState) where
   abbrev At : TableValue → MetadataCaches S → ImageFile S → List FreeEntry → Metadata
   At table caches file pending = metadata_of state file caches table pending
@@ -45,7 +49,7 @@ module _ {S : Type 0} (state : S → StorageState) where
         moved = moved-none before.header before.header refl;
         longer = omega arith;
         loose = λ loose. loose;
-        room = record { tables = refl; blocks = refl };
+        room = record { tables = refl; blocks = refl; entries = refl };
       }
 
   -- one behind another,
@@ -65,7 +69,7 @@ module _ {S : Type 0} (state : S → StorageState) where
         moved = moved-then fA.header fB.header fC.header one.moved two.moved;
         longer = omega (arith, le, le');
         loose = λ loose. two.loose (one.loose loose);
-        room = record { tables = two.room.tables ∙ one.room.tables; blocks = two.room.blocks ∙ one.room.blocks };
+        room = record { tables = two.room.tables ∙ one.room.tables; blocks = two.room.blocks ∙ one.room.blocks; entries = two.room.entries ∙ one.room.entries };
       }
 
   -- and said otherwise, of what is handed out and of what succeeded.

@@ -26,6 +26,7 @@ use Rattle.qcow2_alloc.specs.HandingOutOne.{AllocatesAt, CountsOne, counting_of}
 use Rattle.qcow2_alloc.specs.MakingRoom.{run_of}
 use Rattle.qcow2_alloc.specs.Quiet.{Metadata, IsSound, Quietly, counted, one_at}
 use Rattle.qcow2_alloc.specs.SearchingClusters.{LooksForFree}
+use Rattle.qcow2_alloc.proofs.KeepingRoom.{covered-inside}
 use Rattle.qcow2_alloc.proofs.Allocating.{moved-none}
 use Rattle.qcow2_alloc.proofs.CountingClusters.{one-run}
 use Rattle.qcow2_alloc.proofs.CountingOne.{handed_so, not_handed}
@@ -73,6 +74,7 @@ module _ {S : Type 0} (state : S → StorageState) (mark cluster : ℕ) (table :
     };
     one = tt;
     answer = λ order keeps sound. tt;
+    near = λ order keeps sound. tt;
     further = tt;
     stays = refl;
     marked = λ order keeps sound whole marked c below.
@@ -103,6 +105,7 @@ module _ {S : Type 0} (state : S → StorageState) (mark cluster : ℕ) (table :
           let same = counts-same keeps sound cluster in
           let more = counted-found state table pending old before cluster some found mid between looks keeps sound other in
           inl (omega (arith, same, more));
+      near = λ order keeps sound c none some'. absurd (let same = counts-same keeps sound c in omega (arith, same, none, some'));
       further = refl;
       stays = tt;
       marked = λ order keeps sound whole marked c below. let same = counts-same keeps sound c in let was = marked c below in omega (arith, same, was);
@@ -178,7 +181,7 @@ module _ {S : Type 0} (state : S → StorageState) (mark cluster : ℕ) (table :
         moved = moved-none before.header after.header (counted_one.counts.header ∙ looks.looked.header);
         longer = omega arith;
         loose = λ loose. counted_one.counts.loose (looked-step.loose loose);
-        room = record { tables = counted_one.counts.room.tables ∙ looked-step.room.tables; blocks = counted_one.counts.room.blocks ∙ looked-step.room.blocks };
+        room = record { tables = counted_one.counts.room.tables ∙ looked-step.room.tables; blocks = counted_one.counts.room.blocks ∙ looked-step.room.blocks; entries = counted_one.counts.room.entries ∙ looked-step.room.entries };
       }
 
       caused : MatchResult (counting_of result) (λ _. (state after.image).faults ≡ (state between.image).faults)
@@ -231,6 +234,7 @@ module _ {S : Type 0} (state : S → StorageState) (mark cluster : ℕ) (table :
         };
         one = tt;
         answer = λ order keeps sound. tt;
+        near = λ order keeps sound. tt;
         further = tt;
         stays = mark-is;
         marked = λ order keeps sound whole.
@@ -269,6 +273,13 @@ module _ {S : Type 0} (state : S → StorageState) (mark cluster : ℕ) (table :
             let held = all.holds keeps sound whole in
             let unnamed = handed-unnamed Old New (one_at cluster) cluster sound held.0 order held.1 zero is' own in
             (zero, is', unnamed.0, unnamed.1);
+        near = λ order keeps sound c none more.
+            let whole : IsWhole result = subst (λ (r : Result (Option FreeEntry) Fault). IsWhole r) (sym ok) tt in
+            let up = counts-more order keeps sound whole c in
+            let inside = covered-inside c cluster counted_one.counts.part (omega (arith, up, none, more)) in
+            let ends = inside.1 in
+            let few = counted_one.counts.inside in
+            inl (omega (arith, ends, few));
         further = mark-is;
         stays = tt;
         marked = λ order keeps sound whole.

@@ -1,11 +1,14 @@
 -- A cluster gets a counter, and is handed out where it is free.
-use Rattle.std.proofs.Common.{◌≡◌, ℕ, ◌+◌, ◌<◌, true, false, refl, arith, sym, subst, ◌∙◌, inl, inr, List, Option, None, Some, Result, Ok, Err}
+use Rattle.std.proofs.Common.{◌≡◌, ℕ, ◌+◌, ◌/◌, ◌<◌, ◌≤◌, true, false, refl, arith, ap, sym, subst, ◌∙◌, inl, inr, List, Option, None, Some, Result, Ok, Err, length}
 use Rattle.std.specs.Prelude.{⊤, ◌⊎◌, IsTrue, IfOk, MatchResult}
-use Rattle.std.proofs.lemmas.Bool.{cases_lt}
+use Rattle.std.proofs.lemmas.Bool.{cases_eq, cases_lt}
+use Rattle.std.proofs.lemmas.List.{get_or_past}
 use Rattle.imago_storage.specs.State.{StorageState}
 use Rattle.imago_storage.specs.declared.fault.Fault.{Fault}
 use Rattle.imago_storage.proofs.Composing.{keeps_on}
+use Rattle.qcow2_types.specs.Counts.{counters_of_block}
 use Rattle.qcow2_types.specs.Header.{Header}
+use Rattle.qcow2_types.specs.Words.{block_offset}
 use Rattle.qcow2_types.specs.Pending.{FreeEntry}
 use Rattle.qcow2_types.specs.References.{structure, meets}
 use Rattle.qcow2_metadata.specs.Places.{IsInReach}
@@ -18,19 +21,17 @@ use Rattle.qcow2_alloc.specs.Allocators.{metadata_of}
 use Rattle.qcow2_alloc.specs.Caches.{order_of}
 use Rattle.qcow2_alloc.specs.Freeing.{IsLoose, IsMarked}
 use Rattle.qcow2_alloc.specs.Going.{IsWhole}
+use Rattle.qcow2_alloc.specs.GrowingTables.{IsTakenFor}
 use Rattle.qcow2_alloc.specs.HandingOut.{handed_at, IsBarred, IsHandedAt, IsOneAt}
 use Rattle.qcow2_alloc.specs.HandingOutOne.{AllocatesAt, ReadiesCounter, leaked_by}
 use Rattle.qcow2_alloc.specs.Quiet.{Metadata, IsSound, counted}
-use Rattle.qcow2_alloc.proofs.Allocating.{allocating-none, allocating-as, allocating-then}
+use Rattle.qcow2_alloc.proofs.Allocating.{counted-still, allocating-none, allocating-as, allocating-then}
 use Rattle.qcow2_alloc.proofs.ReadyingBlocks.{leaks-none}
 use Rattle.qcow2_alloc.proofs.HandedOut.{stands-there}
 use Rattle.qcow2_alloc.proofs.CountingOne.{handed_so, not_handed}
 use Rattle.qcow2_alloc.proofs.EnsuringBlocks.{so, refused, why-allocated-wider}
 
--- What is counted stays so where counts are raised alone,
-counted-still : (m m' : Metadata) (c : ℕ) → OnlyRaised m m' → 0 < counted m c → 0 < counted m' c
-counted-still m m' c raised was = elim (raised c) [ inl same ↦ omega (arith, same, was) | inr up ↦ let zero = up.0 in absurd (omega (arith, zero, was)) ]
-
+-- What is before the mark stays counted where counts are raised alone,
 pub marked-raised : (m m' : Metadata) (mark : ℕ) → OnlyRaised m m' → IsMarked m mark → IsMarked m' mark
 marked-raised m m' mark raised marked c below = counted-still m m' c raised (marked c below)
 
@@ -57,6 +58,7 @@ module _ {S : Type 0} (state : S → StorageState) (mark cluster : ℕ) (table :
     };
     one = tt;
     answer = λ order keeps sound. inr (inr (inl far));
+    near = λ order keeps sound c none more. absurd (omega (arith, none, more));
     further = refl;
     stays = tt;
     marked = λ order keeps sound whole marked. marked;
@@ -72,6 +74,7 @@ module _ {S : Type 0} (state : S → StorageState) (mark cluster : ℕ) (table :
       did = record { leaked = λ _. 0; leaks = leaks-none _ _ (handed_so None); step = counter.did.step; list = counter.did.list; cause = counter.did.cause };
       one = tt;
       answer = λ order keeps sound. inr (inr (counter.barred order keeps sound refl));
+      near = counter.near;
       further = refl;
       stays = tt;
       marked = λ order keeps sound whole marked. marked-raised Old Mid mark (counter.did.step.raised order keeps sound tt) marked;
@@ -89,6 +92,7 @@ module _ {S : Type 0} (state : S → StorageState) (mark cluster : ℕ) (table :
       };
       one = tt;
       answer = λ order keeps sound. tt;
+      near = λ order keeps sound. tt;
       further = tt;
       stays = refl;
       marked = λ order keeps sound whole marked. marked-raised Old Mid mark (counter.did.step.raised order keeps sound whole) marked;
@@ -132,6 +136,22 @@ module _ {S : Type 0} (state : S → StorageState) (mark cluster : ℕ) (table :
       caused (Ok found) same = same ∙ counter.did.cause
       caused (Err fault) why = why-allocated-wider _ _ _ _ _ _ _ _ _ holds-still counter.did.step.loose (λ n full. full) counter.did.cause fault why
 
+      -- What was counted anew was so for its counter, or is the cluster.
+      nearby : (r : Result (Option FreeEntry) Fault) → order_of old ≡ L2DependsOnRb → IsTrue (state before.image).shape.keeps → IsSound Old → IfOk r (λ _. IsTakenFor mark cluster Mid New) → IfOk r (λ _. IsTakenFor mark cluster Old New)
+      nearby (Err fault) order keeps sound said = tt
+      nearby (Ok found) order keeps sound said = λ c none more. elim (cases_eq (counted Mid c) 0) [
+        | inr made ↦ counter.near order keeps sound c none (omega (arith, made))
+        | inl still ↦ elim (said c still more) [
+          | inl le ↦ inl le
+          | inr room ↦ absurd (never room.0)
+        ]
+      ]
+        where
+          never : length mid_table.words ≤ cluster / counters_of_block between.header.fields → ⊥
+          never past =
+              let here : length mid_table.words ≤ cluster / counters_of_block before.header.fields = subst (λ (H : Header). length mid_table.words ≤ cluster / counters_of_block H.fields) counter.did.step.moved.2 past in
+              counter.there refl (ap block_offset (get_or_past mid_table.words (cluster / counters_of_block before.header.fields) 0 here))
+
       -- Else it is handed out where it is free.
       pub readied-at : AllocatesAt state Barred mark cluster table old before pending result mid_table new after mid_pending mark'
       readied-at = record {
@@ -144,6 +164,7 @@ module _ {S : Type 0} (state : S → StorageState) (mark cluster : ℕ) (table :
         };
         one = subst (λ (H : Header). IfOk result (IsOneAt cluster H.fields.cluster_bits)) counter.did.step.moved.2 one.one;
         answer = λ order keeps sound. let held = holds-still (keeps, order, sound) in answered result refl order keeps sound (one.answer held.1 held.0 held.2);
+        near = λ order keeps sound. let held = holds-still (keeps, order, sound) in nearby result order keeps sound (one.near held.1 held.0 held.2);
         further = one.further;
         stays = one.stays;
         marked = λ order keeps sound whole marked. let held = holds-still (keeps, order, sound) in one.marked held.1 held.0 held.2 whole (marked-raised Old Mid mark (counter.did.step.raised order keeps sound tt) marked);

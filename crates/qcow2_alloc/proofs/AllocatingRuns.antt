@@ -18,6 +18,7 @@ use Rattle.qcow2_alloc.specs.declared.file.ImageFile.{ImageFile}
 use Rattle.qcow2_alloc.specs.Allocating.{Allocating, CountsRun, MovedTable, OnlyRaised}
 use Rattle.qcow2_alloc.specs.Allocators.{metadata_of}
 use Rattle.qcow2_alloc.specs.Caches.{order_of}
+use Rattle.qcow2_alloc.specs.Crowding.{IsGapless, IsRoomy, room_for}
 use Rattle.qcow2_alloc.specs.FreeList.{covers}
 use Rattle.qcow2_alloc.specs.Freeing.{IsLoose, IsMarked, WhyNotCounted}
 use Rattle.qcow2_alloc.specs.Going.{IsWhole}
@@ -25,15 +26,15 @@ use Rattle.qcow2_alloc.specs.MakingRoom.{run_of}
 use Rattle.qcow2_alloc.specs.Quiet.{Metadata, IsSound, counted}
 use Rattle.qcow2_alloc.specs.ReadyingRuns.{Allocates, IsRunCounted, ReadiesRun, handed_by, mark_behind}
 use Rattle.qcow2_alloc.proofs.Allocating.{allocating-none, allocating-as, raised-then}
+use Rattle.qcow2_alloc.proofs.GaplessRuns.{gapless-same}
+use Rattle.qcow2_alloc.proofs.GrownTables.{covers-inside}
+use Rattle.qcow2_alloc.proofs.KeepingRoom.{covered-inside}
 use Rattle.qcow2_alloc.proofs.MadeBlocks.{counted-wider}
 use Rattle.qcow2_alloc.proofs.QuietGiven.{quietly-then-given}
 use Rattle.qcow2_alloc.proofs.QuietThen.{quietly-otherwise}
-use Rattle.qcow2_alloc.proofs.ReadyingBlocks.{leaks-on, leaks-ok, lengthened-none}
+use Rattle.qcow2_alloc.proofs.ReadyingBlocks.{leaks-on, leaks-ok}
 
--- A cluster of a run is covered by it once, and no other one.
-covers-inside : (c first n : ℕ) → first ≤ c → c < first + n → covers c (run_of first n) ≡ 1
-covers-inside c first n above below = grind (arith, nat_tests)
-
+-- No cluster is covered by a run that is no part of it.
 covers-outside : (c first n : ℕ) → (first ≤ c → c < first + n → ⊥) → covers c (run_of first n) ≡ 0
 covers-outside c first n away = elim (cases_lt c first) [
   | inl before ↦ grind (arith, nat_tests)
@@ -138,10 +139,11 @@ module _ {S : Type 0} (state : S → StorageState) (mark n : ℕ) (metadata : Bo
       least = λ z above below. absurd (omega (arith, above, below));
     };
     fresh = λ order keeps sound c above below. absurd (omega (arith, above, below, zero));
+    little = λ order keeps sound. record { early = λ roomy c above below. roomy.free c (omega (arith, above)) below; gapless = λ one. gapless-same mark mA mA (λ c. refl) };
     moved = sym (behind-here mark n mark refl ∙ omega (arith, zero));
     stays = tt;
     marked = λ order keeps sound whole marked. marked;
-    list = lengthened-none table table pending;
+    list = inl refl;
     cause = refl;
   }
 
@@ -158,6 +160,7 @@ module _ {S : Type 0} (state : S → StorageState) (mark n : ℕ) (metadata : Bo
       run = tt;
       taken = λ order keeps sound. tt;
       fresh = λ order keeps sound. tt;
+      little = λ order keeps sound. tt;
       moved = tt;
       stays = refl;
       marked = λ order keeps sound whole. marked-on mA mB mark (ready.step.raised order keeps sound whole);
@@ -226,7 +229,7 @@ module _ {S : Type 0} (state : S → StorageState) (mark n : ℕ) (metadata : Bo
               moved = subst (λ (H : Header). MovedTable before.header H) (sym counts.header) begun.moved;
               longer = begun.longer;
               loose = λ loose. counts.loose (begun.loose loose);
-              room = record { tables = counts.room.tables ∙ begun.room.tables; blocks = counts.room.blocks ∙ begun.room.blocks };
+              room = record { tables = counts.room.tables ∙ begun.room.tables; blocks = counts.room.blocks ∙ begun.room.blocks; entries = counts.room.entries ∙ begun.room.entries };
             }
 
         abbrev Stopped : Fault → (ℕ → ℕ) → Type 0
@@ -241,6 +244,7 @@ module _ {S : Type 0} (state : S → StorageState) (mark n : ℕ) (metadata : Bo
           run = tt;
           taken = λ order keeps sound. tt;
           fresh = λ order keeps sound. tt;
+          little = λ order keeps sound. tt;
           moved = tt;
           stays = refl;
           marked = λ order keeps sound whole. marked-on mA mC mark ((part-allocates (Err fault) counts).raised order keeps sound whole);
@@ -281,6 +285,33 @@ module _ {S : Type 0} (state : S → StorageState) (mark n : ℕ) (metadata : Bo
                     );
               }
 
+          -- It is among the clusters that are enough,
+          run-early : order_of old ≡ L2DependsOnRb → Keeps → IsSound mA → (roomy : IsRoomy mA mark n) (c : ℕ) → roomy.first + room_for mA.header.fields n ≤ c → c < roomy.first + roomy.total → counted mC c ≡ 0
+          run-early order keeps sound roomy c above below =
+              let made = ready.little order keeps sound in
+              let none = made.0.early roomy c above below in
+              let ends = made.1 roomy in
+              let apart = covers-outside c first n (λ from to. omega (arith, to, ends, above)) in
+              let more = once order keeps sound c in
+              omega (arith, none, apart, more)
+
+          -- and leaves no gap.
+          run-gapless : order_of old ≡ L2DependsOnRb → Keeps → IsSound mA → n ≤ 1 → IsGapless mark mA mC
+          run-gapless order keeps sound one c none some d from to =
+              let more = once order keeps sound c in
+              let still : 0 < counted mB d → 0 < counted mC d = (λ was. let more' = once order keeps sound d in omega (arith, was, more')) in
+              elim (cases_eq (counted mB c) 0) [
+                | inr made ↦ still ((ready.little order keeps sound).0.gapless one c none (omega (arith, made)) d from to)
+                | inl free' ↦
+                    let inside = covered-inside c first n (omega (arith, more, free', some)) in
+                    let ends = inside.1 in
+                    let met = (ready.found order keeps sound).least d from (omega (arith, to, ends, one)) in
+                    let above = met.1 in
+                    let below = met.2 in
+                    let here : met.0 ≡ d = omega (arith, above, below, one) in
+                    still (subst (λ x. 0 < counted mB x) here met.3)
+              ]
+
           pub run-allocated : Handing (Ok entry) tB C fC pB (mark_behind mark n first)
           run-allocated = record {
             leaked = λ _. 0;
@@ -293,6 +324,7 @@ module _ {S : Type 0} (state : S → StorageState) (mark n : ℕ) (metadata : Bo
               | inl same ↦ let none = free order keeps sound c above below in omega (arith, same, none)
               | inr up ↦ up.0
             ];
+            little = λ order keeps sound. record { early = run-early order keeps sound; gapless = run-gapless order keeps sound };
             moved = refl;
             stays = tt;
             marked = λ order keeps sound whole. marked-behind mA mC mark n entry ((part-allocates (Ok tt) counts).raised order keeps sound tt) (run-counted order keeps sound);

@@ -19,7 +19,7 @@ use Rattle.qcow2_alloc.specs.declared.cache.MetadataCaches.{MetadataCaches}
 use Rattle.qcow2_alloc.specs.declared.file.ImageFile.{ImageFile}
 use Rattle.qcow2_alloc.specs.Allocating.{OnlyRaised, WhyNotAllocated}
 use Rattle.qcow2_alloc.specs.Allocators.{metadata_of}
-use Rattle.qcow2_alloc.specs.Caches.{cached_in, order_of, HasRoomOf}
+use Rattle.qcow2_alloc.specs.Caches.{cached_in, order_of, HasRoomOf, KeepsTables}
 use Rattle.qcow2_alloc.specs.Freeing.{IsLoose, IsMarked, CountsFreeing, WhyNotFreed}
 use Rattle.qcow2_alloc.specs.Going.{Going, Always, IsMild, IsWhole, AreTablesInReach, CountsWrites, WhyNotWritten}
 use Rattle.qcow2_alloc.specs.Growing.{IsFirstRoom, lacks, lacking}
@@ -29,7 +29,7 @@ use Rattle.qcow2_alloc.specs.Memory.{memory, written}
 use Rattle.qcow2_alloc.specs.Quiet.{Metadata, IsSound, Quietly, counted}
 use Rattle.qcow2_alloc.specs.Safety.{Safe}
 use Rattle.qcow2_alloc.proofs.EnsuringBlocks.{why-allocated-wider}
-use Rattle.qcow2_alloc.proofs.Loose.{loose-on}
+use Rattle.qcow2_alloc.proofs.Loose.{kept-tables, loose-on}
 use Rattle.qcow2_alloc.proofs.Pins.{pins-none}
 use Rattle.qcow2_alloc.proofs.QuietAnnouncing.{announced-quietly, whole-quietly}
 use Rattle.qcow2_alloc.proofs.QuietFlushes.{memory-quietly}
@@ -43,7 +43,7 @@ pub record Announced {S : Type 0} (state : S → StorageState) (table : TableVal
   pub order : OnOk result (order_of new ≡ L2DependsOnRb)
   pub header : after.header ≡ before.header
   pub loose : IsLoose table old → IsLoose table new
-  pub room : HasRoomOf old new
+  pub room : KeepsTables old new
   pub cause : CountsFreeing (IsTrue (state before.image).shape.keeps × IsSound (metadata_of state before old table pending)) (IsLoose table old) (state before.image).faults (state after.image).faults result
 
 -- Nothing was announced, and nothing has changed, for want of memory.
@@ -56,7 +56,7 @@ not-begun state table pending old before =
       order = tt;
       header = refl;
       loose = λ loose. loose;
-      room = record { tables = refl; blocks = refl };
+      room = record { tables = refl; blocks = refl; entries = refl };
       cause = tt;
     }
 
@@ -69,7 +69,7 @@ module _ {S : Type 0} (state : S → StorageState) (table : TableValue) (pending
   Goes result = Going before.header (order_of old) Always (result ≡ Ok tt) (state before.image) (cached_in old) (state after.image) (cached_in new)
 
   loose-still : IsLoose table old → IsLoose table new
-  loose-still = loose-on table old new (pins-none (cached_in old).blocks (cached_in new).blocks (ap (λ l. l.slots.entries) blocks)) room
+  loose-still = loose-on table old new (pins-none (cached_in old).blocks (cached_in new).blocks (ap (λ l. l.slots.entries) blocks)) room.blocks
 
   never : (fault : Fault) → IsSound Old → IsMild fault → WhyNotWritten (AreTablesInReach (cached_in old)) (state before.image).faults (state after.image).faults fault → ⊥
   never Memory sound mild why = mild
@@ -98,7 +98,7 @@ module _ {S : Type 0} (state : S → StorageState) (table : TableValue) (pending
         order = order;
         header = header;
         loose = loose-still;
-        room = room;
+        room = kept-tables old new kept room;
         cause = counts;
       }
   announced (Err fault) going order safe why = record {
@@ -112,7 +112,7 @@ module _ {S : Type 0} (state : S → StorageState) (table : TableValue) (pending
     order = tt;
     header = header;
     loose = loose-still;
-    room = room;
+    room = kept-tables old new kept room;
     cause = caused fault why;
   }
 

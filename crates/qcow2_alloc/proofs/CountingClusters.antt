@@ -294,7 +294,7 @@ module _ {S : Type 0} (state : S → StorageState) (table : TableValue) (pending
                 order = refl;
                 header = refl;
                 loose = λ loose. loose;
-                room = record { tables = refl; blocks = refl };
+                room = record { tables = refl; blocks = refl; entries = refl };
                 cause = λ holds. unnamed (block_offset (slice_index table.words i)) (table.layout.cluster_bits) (here holds.3).1 named;
               },
               refl,

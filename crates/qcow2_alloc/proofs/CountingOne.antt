@@ -48,7 +48,7 @@ module _ {S : Type 0} (state : S → StorageState) (table : TableValue) (pending
       order = refl;
       header = refl;
       loose = λ loose. loose;
-      room = record { tables = refl; blocks = refl };
+      room = record { tables = refl; blocks = refl; entries = refl };
       cause = why _ (λ holds. (holds.2, (holds.3 c (omega arith) (omega arith)).0));
     };
     exact = refl;

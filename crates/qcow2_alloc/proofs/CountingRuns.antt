@@ -100,7 +100,7 @@ module _ {S : Type 0} (state : S → StorageState) (table : TableValue) (pending
     order = refl;
     header = refl;
     loose = λ loose. loose;
-    room = record { tables = refl; blocks = refl };
+    room = record { tables = refl; blocks = refl; entries = refl };
     cause = refl;
   }
 
@@ -144,7 +144,7 @@ module _ {S : Type 0} (state : S → StorageState) (table : TableValue) (pending
         order = two.order ∙ one.order;
         header = two.header ∙ one.header;
         loose = λ loose. two.loose (one.loose loose);
-        room = record { tables = two.room.tables ∙ one.room.tables; blocks = two.room.blocks ∙ one.room.blocks };
+        room = record { tables = two.room.tables ∙ one.room.tables; blocks = two.room.blocks ∙ one.room.blocks; entries = two.room.entries ∙ one.room.entries };
         cause = caused result two.cause;
       }
     where

@@ -49,12 +49,12 @@ module _ (mark index : ℕ) (m : Metadata) where
 
   -- No block was made yet,
   pub fills-none : FillsFrom mark index index m m
-  fills-none = record { fewer = λ first n. omega arith; few = λ first n. omega arith; near = λ first n z low all above own free c changed. absurd (changed refl) }
+  fills-none = record { fewer = λ first n. omega arith; few = λ first n. omega arith; near = λ first n z low all above own free c changed. absurd (changed refl); own = λ c changed. absurd (changed refl) }
 
   module _ (c : ℕ) (mA : Metadata) (fills : FillsFrom mark index c m mA) where
     -- one was there,
     pub fills-there : FillsFrom mark index (c + 1) m mA
-    fills-there = record { fewer = fills.fewer; few = λ first n. let le = fills.few first n in omega (arith, le); near = λ first n z low all. fills.near first n z low (λ i lt. all i (omega (arith, lt))) }
+    fills-there = record { fewer = fills.fewer; few = λ first n. let le = fills.few first n in omega (arith, le); near = λ first n z low all. fills.near first n z low (λ i lt. all i (omega (arith, lt))); own = λ x changed. let at = fills.own x changed in let lt = at.2 in (at.0, at.1, omega (arith, lt), at.3) }
 
     -- or one was made.
     module _ (mB : Metadata) (header : mA.header ≡ m.header) (placed : IsBlockPlaced mark c mA mB) (some : 0 < k) (above : index ≤ c) (named : (i : ℕ) → index ≤ i → i < c → block_offset (slice_index mA.table.words i) ≢ 0)
@@ -109,6 +109,13 @@ module _ (mark index : ℕ) (m : Metadata) where
                   let le = no-later w (omega (arith, behind)) low' zero in
                   omega (arith, x-is, le, less, two)
             ];
+        own = λ x changed. elim (cases_eq (counted mA x) (counted m x)) [
+          | inr other ↦ let at = fills.own x other in let lt = at.2 in (at.0, at.1, omega (arith, lt), at.3)
+          | inl same ↦
+              let raised = placed.raised x in
+              let x-is : x ≡ placed.place = elim (cases_eq x placed.place) [ inl here ↦ here | inr apart ↦ absurd (let away = away-none placed.place x apart in changed (omega (arith, raised, same, away))) ] in
+              (c, above, omega arith, let le = own in omega (arith, x-is, le))
+        ];
       }
 
 -- One turn of a call that makes blocks.

@@ -8,7 +8,7 @@ use Rattle.qcow2_types.specs.Bytes.{Bytes}
 use Rattle.qcow2_types.specs.Counts.{count}
 use Rattle.qcow2_types.specs.Versions.{named}
 use Rattle.qcow2_alloc.specs.declared.cache.MetadataCaches.{MetadataCaches}
-use Rattle.qcow2_alloc.specs.Caches.{cached_in, HasRoomOf}
+use Rattle.qcow2_alloc.specs.Caches.{cached_in, KeepsTables}
 use Rattle.qcow2_alloc.specs.CachesLending.{with_blocks}
 use Rattle.qcow2_alloc.specs.Finding.{PinsNothing}
 use Rattle.qcow2_alloc.specs.Memory.{Cached}
@@ -66,11 +66,11 @@ forgets-refused first n all old mid new fault le is one = subst (λ (c : Cached)
 })
 
 -- What the drop of a block leaves of the caches.
-pub forgotten-leaves : {S : Type 0} (mid new : MetadataCaches S) (key : ℕ) → new ≡ with_blocks mid (remove_entry (nat_eq key) (cached_in mid).blocks) → (new.order ≡ mid.order) × PinsNothing (cached_in mid).blocks (cached_in new).blocks × HasRoomOf mid new
-forgotten-leaves {S} mid new key is = subst (λ (c : MetadataCaches S). (c.order ≡ mid.order) × PinsNothing (cached_in mid).blocks (cached_in c).blocks × HasRoomOf mid c) (sym is) (
+pub forgotten-leaves : {S : Type 0} (mid new : MetadataCaches S) (key : ℕ) → new ≡ with_blocks mid (remove_entry (nat_eq key) (cached_in mid).blocks) → (new.order ≡ mid.order) × PinsNothing (cached_in mid).blocks (cached_in new).blocks × KeepsTables mid new
+forgotten-leaves {S} mid new key is = subst (λ (c : MetadataCaches S). (c.order ≡ mid.order) × PinsNothing (cached_in mid).blocks (cached_in c).blocks × KeepsTables mid c) (sym is) (
   refl,
   pins-removed (nat_eq key) (cached_in mid).blocks,
-  record { tables = refl; blocks = refl },
+  record { tables = refl; blocks = refl; entries = refl },
 )
 
 -- Where that is refused a block of the run is pinned.

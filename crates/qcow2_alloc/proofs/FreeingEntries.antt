@@ -138,7 +138,7 @@ module _ {S : Type 0} (state : S → StorageState) (table : TableValue) (es : Li
         fallen = inl refl;
         header = refl;
         pins = pins-none (cached_in old).blocks (cached_in old).blocks refl;
-        room = record { tables = refl; blocks = refl };
+        room = record { tables = refl; blocks = refl; entries = refl };
         less = λ d. omega arith;
         fewer = omega arith;
         cause = λ holds. let none = far-uncounted m holds.1 c far in let was = holds.1.covered c in let w = waits in omega (arith, none, was, w);
@@ -191,7 +191,7 @@ module _ {S : Type 0} (state : S → StorageState) (table : TableValue) where
         fallen = inl refl;
         header = refl;
         pins = pins-none (cached_in old).blocks (cached_in old).blocks refl;
-        room = record { tables = refl; blocks = refl };
+        room = record { tables = refl; blocks = refl; entries = refl };
         less = λ d. omega arith;
         fewer = omega arith;
         cause = refl;
@@ -213,10 +213,10 @@ module _ {S : Type 0} (state : S → StorageState) (table : TableValue) where
         fallen = fallen-then mark mark1 mark2 es es1 es2 first.less second.less first.fallen second.fallen;
         header = second.header ∙ first.header;
         pins = pins-then (cached_in A).blocks (cached_in B).blocks (cached_in C).blocks first.pins second.pins;
-        room = record { tables = second.room.tables ∙ first.room.tables; blocks = second.room.blocks ∙ first.room.blocks };
+        room = record { tables = second.room.tables ∙ first.room.tables; blocks = second.room.blocks ∙ first.room.blocks; entries = second.room.entries ∙ first.room.entries };
         less = λ d. let l = first.less d in let l' = second.less d in omega (arith, l, l');
         fewer = omega (arith, few, few');
-        cause = counts-then _ _ _ _ _ _ _ (λ holds. (on holds.0, (first.quiet.holds holds.0 holds.1 (inl tt)).0)) (spare-on A B first.pins first.room) first.cause result second.cause;
+        cause = counts-then _ _ _ _ _ _ _ (λ holds. (on holds.0, (first.quiet.holds holds.0 holds.1 (inl tt)).0)) (spare-on A B first.pins first.room.blocks) first.cause result second.cause;
       }
     where
       behind : IsTrue (state fA.image).shape.keeps → IsSound (metadata_of state fA A table es) → IsWholeOrCalm result (state fA.image) (state fC.image) → IsWholeOrCalm result (state fB.image) (state fC.image)
@@ -239,7 +239,7 @@ module _ {S : Type 0} (state : S → StorageState) (table : TableValue) where
         fallen = inl refl;
         header = refl;
         pins = pins-none (cached_in old).blocks (cached_in old).blocks refl;
-        room = record { tables = refl; blocks = refl };
+        room = record { tables = refl; blocks = refl; entries = refl };
         less = λ d. let same = less d in omega (arith, same);
         fewer = omega (arith, long);
         cause = refl;

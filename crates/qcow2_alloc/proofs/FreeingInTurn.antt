@@ -23,8 +23,9 @@ use Rattle.qcow2_alloc.specs.Freeing.{Frees, HasSpareRoom, IsMarked, IsWholeOrCa
 use Rattle.qcow2_alloc.specs.FreeList.{entry_at}
 use Rattle.qcow2_alloc.specs.Going.{Going, Always, IsMild, AreBlocksInReach, CountsWrites, WhyNotWritten}
 use Rattle.qcow2_alloc.specs.Memory.{Cached, memory, written, written_block}
-use Rattle.qcow2_alloc.specs.Quiet.{Metadata, IsSound, Quietly}
+use Rattle.qcow2_alloc.specs.Quiet.{Metadata, IsSound, Quietly, metadata_in}
 use Rattle.qcow2_alloc.specs.Safety.{Safe, IsCalm}
+use Rattle.qcow2_alloc.proofs.Loose.{kept-tables}
 use Rattle.qcow2_alloc.proofs.Pins.{pins-none, pins-written}
 use Rattle.qcow2_alloc.proofs.QuietAnnouncing.{announced-quietly, whole-quietly}
 use Rattle.qcow2_alloc.proofs.QuietFlushes.{flushes-quietly, memory-quietly, quietly-weaker}
@@ -81,7 +82,7 @@ module _ {S : Type 0} (state : S → StorageState) (table : TableValue) (old : M
         fallen = inl refl;
         header = header;
         pins = pins-still;
-        room = room;
+        room = kept-tables old new kept room;
         less = λ d. omega arith;
         fewer = omega arith;
         cause = counts;
@@ -99,7 +100,7 @@ module _ {S : Type 0} (state : S → StorageState) (table : TableValue) (old : M
         fallen = inl refl;
         header = header;
         pins = pins-still;
-        room = room;
+        room = kept-tables old new kept room;
         less = λ d. omega arith;
         fewer = omega arith;
         cause = caused fault why;
@@ -117,7 +118,7 @@ external-dropped state table old before mark es external =
       fallen = inl refl;
       header = refl;
       pins = pins-none (cached_in old).blocks (cached_in old).blocks refl;
-      room = record { tables = refl; blocks = refl };
+      room = record { tables = refl; blocks = refl; entries = refl };
       less = λ d. omega arith;
       fewer = omega arith;
       cause = refl;
@@ -150,6 +151,15 @@ data-stays (e ∷ es) (suc i) inside is =
       | inl on ↦ filter-takes (λ (x : FreeEntry). not x.metadata) e (remove es i) on ∙ ap (λ l. e ∷ l) rest ∙ sym (filter-takes (λ (x : FreeEntry). not x.metadata) e es on)
       | inr off ↦ filter-drops (λ (x : FreeEntry). not x.metadata) e (remove es i) off ∙ rest ∙ sym (filter-drops (λ (x : FreeEntry). not x.metadata) e es off)
     ]
+
+-- None is found where none did.
+pub none-found : (es : List FreeEntry) (i : ℕ) → i < length es → (entry_at es i).metadata ≡ true → metadata_in es ≡ [] → ⊥
+none-found [] i inside is none = absurd (omega (arith, inside))
+none-found (e ∷ es) zero inside is none = let some = sym (filter-takes (λ (x : FreeEntry). x.metadata) e es is) ∙ none in cc some
+none-found (e ∷ es) (suc i) inside is none = elim (cases_Bool e.metadata) [
+  | inl on ↦ let some = sym (filter-takes (λ (x : FreeEntry). x.metadata) e es on) ∙ none in cc some
+  | inr off ↦ none-found es i (omega (arith, inside)) is (sym (filter-drops (λ (x : FreeEntry). x.metadata) e es off) ∙ none)
+]
 
 pub all-data : (es : List FreeEntry) → position (λ (e : FreeEntry). e.metadata) es ≡ None → es ≡ data_in es
 all-data es none = elim (cases_lt (position_or_len (λ (e : FreeEntry). e.metadata) es) (length es)) [

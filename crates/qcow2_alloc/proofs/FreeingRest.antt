@@ -123,9 +123,13 @@ rest-of-data old left rest = record {
 pub rest-none : (old : List FreeEntry) → IsRestInTurn old []
 rest-none old = record { rest = rest-whole old [] tt; first = inl refl }
 
--- or guest data as it was.
+-- or guest data as it was,
 pub rest-with-data : (old left : List FreeEntry) → IsRest old left → data_in left ≡ data_in old → IsRestInTurn old left
 rest-with-data old left rest same = record { rest = rest; first = inr same }
+
+-- or everything.
+pub rest-all : (old : List FreeEntry) → IsRestInTurn old old
+rest-all old = rest-with-data old old (rest-whole old old (sublist-all old)) refl
 
 -- The order was announced once no metadata was left, as guest data waited that isn't in an external file.
 pub order-announced : (external : Bool) (pending left : List FreeEntry) (old : CacheDependency) (result : Result Unit Fault) (new : CacheDependency) → new ≡ RbDependsOnL2 → external ≡ false → (data_in pending ≡ [] → ⊥) → metadata_in left ≡ [] → OrdersFreeing external pending left old result new

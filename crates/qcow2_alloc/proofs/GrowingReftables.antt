@@ -15,7 +15,7 @@ use Rattle.qcow2_alloc.specs.declared.cache.MetadataCaches.{MetadataCaches}
 use Rattle.qcow2_alloc.specs.declared.file.ImageFile.{ImageFile}
 use Rattle.qcow2_alloc.specs.Allocating.{MovedTable, WhyNotAllocated}
 use Rattle.qcow2_alloc.specs.Allocators.{metadata_of}
-use Rattle.qcow2_alloc.specs.Caches.{order_of, HasRoomOf}
+use Rattle.qcow2_alloc.specs.Caches.{order_of, KeepsTables}
 use Rattle.qcow2_alloc.specs.Freeing.{IsLoose}
 use Rattle.qcow2_alloc.specs.Going.{IsMild, IsWhole}
 use Rattle.qcow2_alloc.specs.GrowingTables.{GrowsTable, NoPlaceToGrow, TableGrown, table_run}
@@ -37,12 +37,12 @@ module _ {S : Type 0} (state : S → StorageState) (mark at : ℕ) (table : Tabl
   Mid = metadata_of state between mid table pending
 
   -- Caches that are as loose as those were, and have as much room.
-  pub shape-behind : (result : Result Unit Fault) (table' : TableValue) (new : MetadataCaches S) (after : ImageFile S) → Announced state table pending old before result mid between → MovedTable between.header after.header → (IsLoose table mid → IsLoose table' new) → HasRoomOf mid new
+  pub shape-behind : (result : Result Unit Fault) (table' : TableValue) (new : MetadataCaches S) (after : ImageFile S) → Announced state table pending old before result mid between → MovedTable between.header after.header → (IsLoose table mid → IsLoose table' new) → KeepsTables mid new
       → StaysInShape table old before table' new after
   shape-behind result table' new after first moved loose room = record {
     moved = subst (λ (H : Header). MovedTable H after.header) first.header moved;
     loose = λ all. loose (first.loose all);
-    room = record { tables = room.tables ∙ first.room.tables; blocks = room.blocks ∙ first.room.blocks };
+    room = record { tables = room.tables ∙ first.room.tables; blocks = room.blocks ∙ first.room.blocks; entries = room.entries ∙ first.room.entries };
   }
 
   -- There was no grown copy of the table, or no room for the clusters of this one: nothing has changed.
@@ -55,7 +55,7 @@ module _ {S : Type 0} (state : S → StorageState) (mark at : ℕ) (table : Tabl
     grown = λ keeps sound. tt;
     enough = tt;
     order = tt;
-    shape = record { moved = moved-none before.header before.header refl; loose = λ loose. loose; room = record { tables = refl; blocks = refl } };
+    shape = record { moved = moved-none before.header before.header refl; loose = λ loose. loose; room = record { tables = refl; blocks = refl; entries = refl } };
     waits = tt;
     kept = refl;
     stays = λ mild. (refl, refl);
@@ -78,7 +78,7 @@ module _ {S : Type 0} (state : S → StorageState) (mark at : ℕ) (table : Tabl
     grown = λ keeps sound. tt;
     enough = tt;
     order = tt;
-    shape = shape-behind (failed fault) table mid between first (moved-none between.header between.header refl) (λ loose. loose) (record { tables = refl; blocks = refl });
+    shape = shape-behind (failed fault) table mid between first (moved-none between.header between.header refl) (λ loose. loose) (record { tables = refl; blocks = refl; entries = refl });
     waits = tt;
     kept = refl;
     stays = λ mild. (refl, first.header);

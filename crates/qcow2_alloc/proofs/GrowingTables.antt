@@ -85,12 +85,14 @@ module _ {S : Type 0} (state : S → StorageState) (mark at : ℕ) (table : Tabl
 
   -- It is refused, and nothing was counted.
   not-grown : (fault : Fault) (C : MetadataCaches S) (fC : ImageFile S) → Allocating state (IsMild fault) (λ _. 0) table old before pending table C fC pending → fC.header ≡ before.header
+      → (Keeps → IsSound start → (number : ℕ) → fault ≡ Limit number → (c : ℕ) → counted (metadata_of state fC C table pending) c ≡ counted start c)
       → WhyNotAllocated Sound (IsLoose table old) Full (state before.image).faults (state fC.image).faults fault → GrowsTable state mark at table old before pending (failed fault) table C fC pending
-  not-grown fault C fC step header why = record {
+  not-grown fault C fC step header same why = record {
     leaked = λ _. 0;
     leaks = record { none = λ not c. refl; pinned = λ holds loose c. refl };
     step = step;
     grown = λ order keeps sound. tt;
+    barred = λ order keeps sound number is. same keeps sound number (let e = is in cc e);
     enough = tt;
     waits = tt;
     kept = refl;
@@ -100,7 +102,7 @@ module _ {S : Type 0} (state : S → StorageState) (mark at : ℕ) (table : Tabl
 
   -- There is no copy of the table,
   pub no-copy : (fault : Fault) → WhyNotGrown before.header.fields table at fault → GrowsTable state mark at table old before pending (failed fault) table old before pending
-  no-copy fault why = not-grown fault old before (allocating-as state ⊤ (IsMild fault) (λ _. 0) (λ _. 0) table old before pending table old before pending (λ mild. tt) (λ c. refl) (allocating-none state table old before pending)) refl (by-fault fault why)
+  no-copy fault why = not-grown fault old before (allocating-as state ⊤ (IsMild fault) (λ _. 0) (λ _. 0) table old before pending table old before pending (λ mild. tt) (λ c. refl) (allocating-none state table old before pending)) refl (λ keeps sound number is c. refl) (by-fault fault why)
     where
       by-fault : (fault : Fault) → WhyNotGrown before.header.fields table at fault → WhyNotAllocated Sound (IsLoose table old) Full (state before.image).faults (state before.image).faults fault
       by-fault Memory why = tt
@@ -112,6 +114,7 @@ module _ {S : Type 0} (state : S → StorageState) (mark at : ℕ) (table : Tabl
   pub no-room : (fault : Fault) (C : MetadataCaches S) (fC : ImageFile S) → Looked state {T = Run} table old before (Err fault) C fC → GrowsTable state mark at table old before pending (failed fault) table C fC pending
   no-room fault C fC looked =
       not-grown fault C fC (looked-allocates {T = Run} state table pending old before C fC (Err fault) looked) looked.header
+      (λ keeps sound number is. looked-counts {T = Run} state table pending old before C fC (Err fault) looked keeps sound (subst (λ (f : Fault). IsWhole {T = Run} (Err f)) (sym is) tt))
       (allocated-wider _ _ _ _ _ _ _ _ (λ known. safe-with known.0 known.2) (λ loose. loose) refl fault looked.cause)
 
   -- A room was found for a copy.
@@ -139,6 +142,7 @@ module _ {S : Type 0} (state : S → StorageState) (mark at : ℕ) (table : Tabl
     pub no-place : (fault : Fault) → 1 ≤ room.len → WhyNotPlaced fC.header.fields table room copy fault → GrowsTable state mark at table old before pending (failed fault) table C fC pending
     no-place fault some why =
         not-grown fault C fC (allocating-as state ⊤ (IsMild fault) (λ _. 0) (λ _. 0) table old before pending table C fC pending (λ mild. tt) (λ c. refl) (looked-allocates {T = Run} state table pending old before C fC (Ok room) looks.looked)) looks.looked.header
+        (λ keeps sound number is. looked-counts {T = Run} state table pending old before C fC (Ok room) looks.looked keeps sound tt)
         (by-fault fault (subst (λ (H : Header). WhyNotPlaced H.fields table room copy fault) looks.looked.header why))
       where
         behind : Sound → room.first ≢ 0
@@ -249,9 +253,10 @@ module _ {S : Type 0} (state : S → StorageState) (mark at : ℕ) (table : Tabl
           moved = subst (λ (H : Header). MovedTable H fD.header) looked.header filled.moved;
           longer = filled.longer;
           loose = λ loose. filled.loose (looked.loose loose);
-          room = record { tables = filled.room.tables ∙ looked.room.tables; blocks = filled.room.blocks ∙ looked.room.blocks };
+          room = record { tables = filled.room.tables ∙ looked.room.tables; blocks = filled.room.blocks ∙ looked.room.blocks; entries = filled.room.entries ∙ looked.room.entries };
         };
         grown = λ order keeps sound. on-ok result (table-grown order keeps sound);
+        barred = λ order keeps sound number is. absurd (never result number is filled.cause);
         enough = on-ok result (λ done. subst (λ (l : ℕ). IsGrownLength (words_of_cluster h) (counters_of_block h) at l) (sym (ap (λ (t : TableValue). length t.words) (from-ok result done filled.table_is) ∙ same)) long);
         waits = subst (λ (H : Header). OnOk result (pending' ≡ pending ++ table_run H.fields)) looked.header waits;
         kept = kept;
@@ -261,6 +266,9 @@ module _ {S : Type 0} (state : S → StorageState) (mark at : ℕ) (table : Tabl
         where
           was-on : Sound → Was × IsTrue (state fC.image).shape.keeps × IsSound mid
           was-on known = ((known.1, known.0, known.2), on known.0, mid-sound known.1 known.0 known.2)
+
+          never : (r : Result Unit Fault) (number : ℕ) → r ≡ Err (Limit number) → MatchResult r (λ _. (state fD.image).faults ≡ (state fC.image).faults) (WhyNotCounted (Was × IsTrue (state fC.image).shape.keeps × IsSound mid) (IsLoose table C) (state fC.image).faults (state fD.image).faults) → ⊥
+          never r number is why = subst (λ (x : Result Unit Fault). MatchResult x (λ _. (state fD.image).faults ≡ (state fC.image).faults) (WhyNotCounted (Was × IsTrue (state fC.image).shape.keeps × IsSound mid) (IsLoose table C) (state fC.image).faults (state fD.image).faults)) is why
 
           caused : (r : Result Unit Fault) → MatchResult r (λ _. (state fD.image).faults ≡ (state fC.image).faults) (WhyNotCounted (Was × IsTrue (state fC.image).shape.keeps × IsSound mid) (IsLoose table C) (state fC.image).faults (state fD.image).faults)
               → MatchResult r (λ _. (state fD.image).faults ≡ (state before.image).faults) (WhyNotAllocated Sound (IsLoose table old) Full (state before.image).faults (state fD.image).faults)

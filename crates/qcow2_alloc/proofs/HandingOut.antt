@@ -1,6 +1,6 @@
 -- Clusters are handed out once the order of writes was announced.
-use Rattle.std.proofs.Common.{◌≡◌, ◌≢◌, ℕ, ◌+◌, ◌-◌, ◌/◌, ◌<◌, ◌≤◌, [], Bool, refl, arith, subst, ◌∙◌, inl, inr, List, length, Option, None, Some, Result, Ok, Err}
-use Rattle.std.specs.Prelude.{⊤, IsTrue, OnOk, OnErr, IfOk, MatchResult}
+use Rattle.std.proofs.Common.{◌≡◌, ◌≢◌, ℕ, ◌+◌, ◌-◌, ◌/◌, ◌<◌, ◌≤◌, [], Bool, refl, arith, ap, subst, ◌∙◌, inl, inr, List, length, Option, None, Some, Result, Ok, Err}
+use Rattle.std.specs.Prelude.{⊤, IsTrue, OnOk, IfOk, MatchResult}
 use Rattle.std.proofs.lemmas.Bool.{le-leb, lt-ltb}
 use Rattle.imago_storage.specs.State.{StorageState}
 use Rattle.imago_storage.specs.declared.fault.Fault.{Fault}
@@ -18,19 +18,20 @@ use Rattle.qcow2_alloc.specs.Allocating.{MovedTable, WhyNotAllocated}
 use Rattle.qcow2_alloc.specs.Allocators.{metadata_of}
 use Rattle.qcow2_alloc.specs.Caches.{order_of}
 use Rattle.qcow2_alloc.specs.Crowding.{IsCrowded}
-use Rattle.qcow2_alloc.specs.Freeing.{Frees, HasSpareRoom, IsLoose, IsMarked, WhyNotFreed}
+use Rattle.qcow2_alloc.specs.Freeing.{Frees, HasSpareRoom, IsLoose, IsMarked, IsRestInTurn, WhyNotFreed}
 use Rattle.qcow2_alloc.specs.FreeList.{covers}
 use Rattle.qcow2_alloc.specs.Going.{IsWhole}
-use Rattle.qcow2_alloc.specs.GrowingTables.{IsLengthenedByTable, NoPlaceToGrow}
+use Rattle.qcow2_alloc.specs.GrowingTables.{IsInRoomToGrow, IsLengthenedByTable, IsRoomToGrow, IsTakenFor, NoPlaceToGrow}
 use Rattle.qcow2_alloc.specs.HandingOut.{AllocatesClusterAt, AllocatesClusters, AreUnnamed, IsBarred, IsFreed, IsHandedAt, IsOneAt, IsSearched, StaysInShape, handed_at}
 use Rattle.qcow2_alloc.specs.HandingOutOne.{AllocatesAt}
 use Rattle.qcow2_alloc.specs.Quiet.{Metadata, IsSound, Quietly, counted}
 use Rattle.qcow2_alloc.specs.ReadyingRuns.{Allocates, IsRunCounted, handed_by}
 use Rattle.qcow2_alloc.proofs.Allocating.{moved-none}
-use Rattle.qcow2_alloc.proofs.AnnouncedOrders.{Announced, no-place-as, quiet-behind, sound-behind, raised-behind, marked-behind, caused-behind}
+use Rattle.qcow2_alloc.proofs.AnnouncedOrders.{Announced, no-place-as, room-as, quiet-behind, sound-behind, raised-behind, marked-behind, caused-behind}
 use Rattle.qcow2_alloc.proofs.CountingOne.{not_handed}
 use Rattle.qcow2_alloc.proofs.EnsuringBlocks.{why-allocated-wider}
 use Rattle.qcow2_alloc.proofs.FreeingEntries.{failed}
+use Rattle.qcow2_alloc.proofs.FreeingRest.{rest-all, rest-none}
 use Rattle.qcow2_alloc.proofs.GrowingReftables.{shape-behind}
 use Rattle.qcow2_alloc.proofs.HandedOut.{handed-unnamed}
 use Rattle.qcow2_alloc.proofs.Loose.{loose-on}
@@ -55,11 +56,12 @@ module _ {S : Type 0} (state : S → StorageState) (mark cluster : ℕ) (table :
     raised = λ keeps sound whole c. inl (first.counts keeps sound whole c);
     one = tt;
     answer = λ keeps sound. tt;
+    near = λ keeps sound. tt;
     further = tt;
     stays = refl;
     marked = λ keeps sound whole marked c below. let same = first.counts keeps sound whole c in let was = marked c below in omega (arith, same, was);
     order = tt;
-    shape = shape-behind state mark cluster table old before pending mid between (failed fault) table mid between first (moved-none between.header between.header refl) (λ loose. loose) (record { tables = refl; blocks = refl });
+    shape = shape-behind state mark cluster table old before pending mid between (failed fault) table mid between first (moved-none between.header between.header refl) (λ loose. loose) (record { tables = refl; blocks = refl; entries = refl });
     list = inl refl;
     cause = allocated-wider _ _ _ _ _ _ _ _ (λ holds. holds) (λ loose. loose) refl fault first.cause;
   }
@@ -82,6 +84,21 @@ module _ {S : Type 0} (state : S → StorageState) (mark cluster : ℕ) (table :
     )))
     answered (Err fault) keeps sound said = tt
 
+    room-there : IsTrue (state before.image).shape.keeps → IsSound Start → (c : ℕ) → IsInRoomToGrow Mid mark (cluster / counters_of_block between.header.fields) c → IsInRoomToGrow Start mark (cluster / counters_of_block before.header.fields) c
+    room-there keeps sound c (past, begin, total, clusters, room, from, to) = (
+      subst (λ (H : Header). length table.words ≤ cluster / counters_of_block H.fields) first.header past,
+      begin,
+      total,
+      clusters,
+      room-as Start Mid first.header refl (first.counts keeps sound tt) mark (cluster / counters_of_block before.header.fields) begin total clusters (subst (λ (H : Header). IsRoomToGrow Mid mark (cluster / counters_of_block H.fields) begin total clusters) first.header room),
+      from,
+      to,
+    )
+
+    nearby : (r : Result (Option FreeEntry) Fault) → IsTrue (state before.image).shape.keeps → IsSound Start → IfOk r (λ _. IsTakenFor mark cluster Mid End) → IfOk r (λ _. IsTakenFor mark cluster Start End)
+    nearby (Err fault) keeps sound said = tt
+    nearby (Ok found) keeps sound said = λ c none more. elim (said c (let same = first.counts keeps sound tt c in omega (arith, same, none)) more) [ inl le ↦ inl le | inr room ↦ inr (room-there keeps sound c room) ]
+
     ordered : (r : Result (Option FreeEntry) Fault) → OnOk r (order_of new ≡ L2DependsOnRb)
     ordered (Ok found) = at.did.step.order ∙ first.order
     ordered (Err fault) = tt
@@ -103,6 +120,7 @@ module _ {S : Type 0} (state : S → StorageState) (mark cluster : ℕ) (table :
           raised-behind state table pending old before mid between first End keeps sound (at.did.step.raised first.order still.0 still.1 whole);
       one = subst (λ (H : Header). IfOk result (IsOneAt cluster H.fields.cluster_bits)) first.header at.one;
       answer = λ keeps sound. let still = sound-behind state table pending old before mid between first keeps sound in answered result keeps sound (at.answer first.order still.0 still.1);
+      near = λ keeps sound. let still = sound-behind state table pending old before mid between first keeps sound in nearby result keeps sound (at.near first.order still.0 still.1);
       further = at.further;
       stays = at.stays;
       marked = λ keeps sound whole marked. let still = sound-behind state table pending old before mid between first keeps sound in
@@ -124,7 +142,7 @@ memory-unfreed state table old before mark pending =
       fallen = inl refl;
       header = refl;
       pins = omega arith;
-      room = record { tables = refl; blocks = refl };
+      room = record { tables = refl; blocks = refl; entries = refl };
       less = λ c. omega arith;
       fewer = omega arith;
       cause = tt;
@@ -137,12 +155,6 @@ run_so entry = Ok entry
 abbrev pub refused_run : Fault → Result FreeEntry Fault
 refused_run fault = Err fault
 
--- An answer of the search isn't one that was cut off.
-searched-whole : (r : Result FreeEntry Fault) → IsSearched r → IsWhole r
-searched-whole (Ok entry) searched = tt
-searched-whole (Err (Limit number)) searched = tt
-searched-whole (Err fault) searched = absurd searched
-
 -- A cluster of an entry is covered by it.
 covers-inside : (c : ℕ) (e : FreeEntry) → e.first ≤ c → c < e.first + e.count → covers c e ≡ 1
 covers-inside c e above below = rw (le-leb e.first c above, lt-ltb c (e.first + e.count) below) refl
@@ -153,7 +165,10 @@ module _ {S : Type 0} (state : S → StorageState) (mark n : ℕ) (metadata : Bo
   First = metadata_of state before old table pending
 
   -- That was refused,
-  module _ (fault : Fault) (mark1 : ℕ) (A : MetadataCaches S) (fA : ImageFile S) (pA : List FreeEntry) (frees : Frees state table old before mark pending (failed fault) A fA mark1 pA) where
+  module _ (fault : Fault) (mark1 : ℕ) (A : MetadataCaches S) (fA : ImageFile S) (pA : List FreeEntry) (frees : Frees state table old before mark pending (failed fault) A fA mark1 pA) (rest : IsRestInTurn pending pA) where
+    abbrev Rest : Metadata
+    Rest = metadata_of state fA A table pA
+
     not-limited : IsSearched (refused_run fault) → WhyNotFreed (IsTrue (state before.image).shape.keeps × IsSound First) (HasSpareRoom old) (state before.image).faults (state fA.image).faults fault → ⊥
     not-limited searched why = by-fault fault searched why
       where
@@ -165,27 +180,43 @@ module _ {S : Type 0} (state : S → StorageState) (mark n : ℕ) (metadata : Bo
     run-not-freed = record {
       leaked = λ _. 0;
       leaks = leaks-none _ _ (refused_run fault);
-      quiet = quietly-weaker _ (IsWhole (refused_run fault)) (λ _. 0) (λ _. 0) (state before.image) First (state fA.image) (metadata_of state fA A table pA) (λ sound whole. inl whole) frees.quiet;
+      quiet = quietly-weaker _ (IsWhole (refused_run fault)) (λ _. 0) (λ _. 0) (state before.image) First (state fA.image) Rest (λ sound whole. inl whole) frees.quiet;
       run = tt;
       unnamed = λ keeps sound. tt;
-      mid = First;
-      mid_mark = mark;
-      freed = λ keeps sound searched. absurd (not-limited searched frees.cause);
+      answer = failed fault;
+      between = A;
+      at = fA;
+      mid_mark = mark1;
+      left = pA;
+      frees = frees;
+      rest = rest;
+      halted = λ other is. (ap (λ f. refused_run f) (let e = is in let same : fault ≡ other = cc in same), refl, refl, refl, refl);
+      mid = Rest;
+      freed = λ keeps sound whole. let held = frees.quiet.holds keeps sound (inl whole) in record {
+        sound = held.0;
+        quiet = held.1;
+        header = frees.header;
+        table = refl;
+        lower = frees.lower;
+        marked = frees.marked keeps sound (inl whole);
+      };
+      all = λ searched. absurd (not-limited searched frees.cause);
       fresh = λ keeps sound. tt;
       taken = λ keeps sound. tt;
-      raised = λ keeps sound searched. absurd (not-limited searched frees.cause);
+      little = λ keeps sound. tt;
+      raised = λ keeps sound whole c. inl refl;
       marked = λ keeps sound whole. frees.marked keeps sound (inl whole);
       further = tt;
-      stays = λ searched. absurd (not-limited searched frees.cause);
+      stays = refl;
       order = tt;
-      shape = record { moved = moved-none before.header fA.header frees.header; loose = loose-on table old A frees.pins frees.room; room = frees.room };
-      list = λ searched. absurd (not-limited searched frees.cause);
+      shape = record { moved = moved-none before.header fA.header frees.header; loose = loose-on table old A frees.pins frees.room.blocks; room = frees.room };
+      list = inl refl;
       cause = allocated-wider _ _ _ _ _ _ _ _ (λ holds. holds) (λ loose. loose.room) refl fault frees.cause;
     }
 
   -- or not begun, for want of memory,
   pub run-not-held : AllocatesClusters state mark n metadata table old before pending (refused_run Memory) table old before pending mark
-  run-not-held = run-not-freed Memory mark old before pending (memory-unfreed state table old before mark pending)
+  run-not-held = run-not-freed Memory mark old before pending (memory-unfreed state table old before mark pending) (rest-all pending)
 
   -- or there was nothing left.
   module _ (mark1 : ℕ) (A : MetadataCaches S) (fA : ImageFile S) (frees : Frees state table old before mark pending (Ok tt) A fA mark1 []) (B : MetadataCaches S) (fB : ImageFile S) where
@@ -196,7 +227,7 @@ module _ {S : Type 0} (state : S → StorageState) (mark n : ℕ) (metadata : Bo
     Ready = metadata_of state fB B table []
 
     freed-loose : IsLoose table old → IsLoose table A
-    freed-loose = loose-on table old A frees.pins frees.room
+    freed-loose = loose-on table old A frees.pins frees.room.blocks
 
     still-sound : IsTrue (state before.image).shape.keeps → IsSound First → IsTrue (state fA.image).shape.keeps × IsSound Freed
     still-sound keeps sound = (keeps_on (state before.image) (state fA.image) frees.quiet.shape keeps, (frees.quiet.holds keeps sound (inl tt)).0)
@@ -211,31 +242,54 @@ module _ {S : Type 0} (state : S → StorageState) (mark n : ℕ) (metadata : Bo
     run-not-announced fault second = record {
       leaked = λ _. 0;
       leaks = leaks-none _ _ (refused_run fault);
-      quiet = quiet-on (IsWhole (refused_run fault)) (λ _. 0) (state fB.image) Ready second.quiet;
+      quiet = quiet;
       run = tt;
       unnamed = λ keeps sound. tt;
-      mid = First;
-      mid_mark = mark;
-      freed = λ keeps sound searched. absurd (never fault searched second.cause);
+      answer = Ok tt;
+      between = A;
+      at = fA;
+      mid_mark = mark1;
+      left = [];
+      frees = frees;
+      rest = rest-none pending;
+      halted = λ other is. let e = is in absurd (cc e);
+      mid = Ready;
+      freed = λ keeps sound whole. let held = quiet.holds keeps sound whole in record {
+        sound = held.0;
+        quiet = held.1;
+        header = second.header ∙ frees.header;
+        table = refl;
+        lower = frees.lower;
+        marked = marked keeps sound whole;
+      };
+      all = λ searched. absurd (never fault searched second.cause);
       fresh = λ keeps sound. tt;
       taken = λ keeps sound. tt;
-      raised = λ keeps sound searched. absurd (never fault searched second.cause);
-      marked = λ keeps sound whole marked.
-          let still = still-sound keeps sound in
-          let was = frees.marked keeps sound (inl tt) marked in
-          λ c below. let same = second.counts still.0 still.1 whole c in let more = was c below in omega (arith, same, more);
+      little = λ keeps sound. tt;
+      raised = λ keeps sound whole c. inl refl;
+      marked = marked;
       further = tt;
-      stays = λ searched. absurd (never fault searched second.cause);
+      stays = refl;
       order = tt;
       shape = record {
         moved = moved-none before.header fB.header (second.header ∙ frees.header);
         loose = λ loose. second.loose (freed-loose loose);
-        room = record { tables = second.room.tables ∙ frees.room.tables; blocks = second.room.blocks ∙ frees.room.blocks };
+        room = record { tables = second.room.tables ∙ frees.room.tables; blocks = second.room.blocks ∙ frees.room.blocks; entries = second.room.entries ∙ frees.room.entries };
       };
-      list = λ searched. absurd (never fault searched second.cause);
+      list = inl refl;
       cause = allocated-wider _ _ _ _ _ _ _ _ (λ holds. still-sound holds.0 holds.1) freed-loose frees.cause fault second.cause;
     }
       where
+        quiet : Quietly (IsWhole (refused_run fault)) (λ _. 0) (λ _. 0) (state before.image) First (state fB.image) Ready
+        quiet = quiet-on (IsWhole (refused_run fault)) (λ _. 0) (state fB.image) Ready second.quiet
+
+        marked : IsTrue (state before.image).shape.keeps → IsSound First → IsWhole (refused_run fault) → IsMarked First mark → IsMarked Ready mark1
+        marked keeps sound whole was c below =
+            let still = still-sound keeps sound in
+            let same = second.counts still.0 still.1 whole c in
+            let more = frees.marked keeps sound (inl tt) was c below in
+            omega (arith, same, more)
+
         never : (f : Fault) → IsSearched (refused_run f) → WhyNotFreed (IsTrue (state fA.image).shape.keeps × IsSound Freed) (IsLoose table A) (state fA.image).faults (state fB.image).faults f → ⊥
         never (Limit number) searched why = why
         never f searched why = searched
@@ -258,8 +312,6 @@ module _ {S : Type 0} (state : S → StorageState) (mark n : ℕ) (metadata : Bo
         quiet = ((quiet-on ⊤ (λ _. 0) (state fB.image) Ready second.quiet).holds keeps sound tt).1;
         header = second.header ∙ frees.header;
         table = refl;
-        order = second.order;
-        empty = refl;
         lower = frees.lower;
         marked = ready-marked keeps sound;
       }
@@ -268,7 +320,7 @@ module _ {S : Type 0} (state : S → StorageState) (mark n : ℕ) (metadata : Bo
       same-shape = record {
         moved = subst (λ (H : Header). MovedTable H after.header) (second.header ∙ frees.header) third.step.moved;
         loose = λ loose. third.step.loose (second.loose (freed-loose loose));
-        room = record { tables = third.step.room.tables ∙ second.room.tables ∙ frees.room.tables; blocks = third.step.room.blocks ∙ second.room.blocks ∙ frees.room.blocks };
+        room = record { tables = third.step.room.tables ∙ second.room.tables ∙ frees.room.tables; blocks = third.step.room.blocks ∙ second.room.blocks ∙ frees.room.blocks; entries = third.step.room.entries ∙ second.room.entries ∙ frees.room.entries };
       }
 
       abbrev RunIs : ℕ → FreeEntry → Type 0
@@ -293,10 +345,6 @@ module _ {S : Type 0} (state : S → StorageState) (mark n : ℕ) (metadata : Bo
       run-ordered (Ok entry) = third.step.order ∙ second.order
       run-ordered (Err fault) = tt
 
-      stays-searched : (r : Result FreeEntry Fault) → OnErr r (mark' ≡ mark1) → OnErr r (IsSearched r → mark' ≡ mark1)
-      stays-searched (Ok entry) same = tt
-      stays-searched (Err fault) same = λ searched. same
-
       run-caused : (r : Result FreeEntry Fault)
           → MatchResult r (λ _. (state after.image).faults ≡ (state fB.image).faults)
           (WhyNotAllocated (IsTrue (state fB.image).shape.keeps × (order_of B ≡ L2DependsOnRb) × IsSound Ready) (IsLoose table B)
@@ -318,17 +366,26 @@ module _ {S : Type 0} (state : S → StorageState) (mark n : ℕ) (metadata : Bo
             (quiet-behind state table [] A fA B fB second (IsWhole result) (handed_by result third.leaked) (state after.image) Last third.step.quiet);
         run = runs;
         unnamed = λ keeps sound. let still = ready-sound keeps sound in unnamed-run keeps sound result refl runs (third.taken second.order still.0 still.1) (third.fresh second.order still.0 still.1);
-        mid = Ready;
+        answer = Ok tt;
+        between = A;
+        at = fA;
         mid_mark = mark1;
-        freed = λ keeps sound searched. is-freed keeps sound;
+        left = [];
+        frees = frees;
+        rest = rest-none pending;
+        halted = λ other is. let e = is in absurd (cc e);
+        mid = Ready;
+        freed = λ keeps sound whole. is-freed keeps sound;
+        all = λ searched. (refl, second.order);
         fresh = λ keeps sound. let still = ready-sound keeps sound in third.fresh second.order still.0 still.1;
         taken = λ keeps sound. let still = ready-sound keeps sound in third.taken second.order still.0 still.1;
-        raised = λ keeps sound searched. let still = ready-sound keeps sound in third.step.raised second.order still.0 still.1 (searched-whole result searched);
+        little = λ keeps sound. let still = ready-sound keeps sound in third.little second.order still.0 still.1;
+        raised = λ keeps sound whole. let still = ready-sound keeps sound in third.step.raised second.order still.0 still.1 whole;
         marked = λ keeps sound whole marked. let still = ready-sound keeps sound in third.marked second.order still.0 still.1 whole (ready-marked keeps sound marked);
         further = third.moved;
-        stays = stays-searched result third.stays;
+        stays = third.stays;
         order = run-ordered result;
         shape = same-shape;
-        list = λ searched. third.list;
+        list = subst (λ (H : Header). IsLengthenedByTable H.fields table table' [] pending') (second.header ∙ frees.header) third.list;
         cause = run-caused result third.cause;
       }

@@ -39,7 +39,7 @@ quotient-step k z b some = elim (cases_lt (z / k + b) ((z + b) / k)) [
 ]
 
 -- A cluster that a run covers is one of it.
-covered-inside : (c first n : ℕ) → 0 < covers c (run_of first n) → (first ≤ c) × (c < first + n)
+pub covered-inside : (c first n : ℕ) → 0 < covers c (run_of first n) → (first ≤ c) × (c < first + n)
 covered-inside c first n some = elim (cases_lt c first) [
   | inl before ↦ absurd (let none = covers-before c first n before in omega (arith, some, none))
   | inr from ↦ elim (cases_lt c (first + n)) [
@@ -112,7 +112,7 @@ module _ (table0 : TableValue) (s e more L : ℕ) (mark n z end : ℕ) (m m' : M
   k = counters_of_block m.header.fields
 
   -- They are before the end of the run.
-  fill-near : 0 < k → (first len : ℕ) → first / k ≤ z / k → ((i : ℕ) → i < end → i * k < first + len) → mark ≤ z → end ≤ z / k + n → ((c : ℕ) → z ≤ c → c < z + n → counted m c ≡ 0) → (c : ℕ) → counted m' c ≢ counted m c → c < z + made_for m m' first len
+  pub fill-near : 0 < k → (first len : ℕ) → first / k ≤ z / k → ((i : ℕ) → i < end → i * k < first + len) → mark ≤ z → end ≤ z / k + n → ((c : ℕ) → z ≤ c → c < z + n → counted m c ≡ 0) → (c : ℕ) → counted m' c ≢ counted m c → c < z + made_for m m' first len
   fill-near some first len low all behind few free c changed =
       let most = fills.few first len in
       fills.near first len z low all behind refl (λ x above below. free x above (omega (arith, below, most, few))) c changed

@@ -153,6 +153,19 @@ module _ (table0 : TableValue) (k n sp Q s e mark : ℕ) (sizes : AreSizes k n s
         (λ some f kept' few all near'. room-filled table0 s e more L mark n z end m m' f some kept' (apart-or m.table (counted m) z run left) run.behind few all run.free near' inside)
         wide fills kept few-blocks in-run near
 
+    pub grown-filled : length m'.table.words ≡ length m.table.words → HasGrown table0 k n s e Q m.table (counted m) → HasGrown table0 k n s e Q m'.table (counted m')
+    grown-filled same was =
+        let both = found-within m.table (counted m) z run was in
+        record {
+          more = was.more;
+          L = was.L;
+          low = was.low;
+          fits = was.fits;
+          holds = was.holds;
+          inside = let i = was.inside in let same' : length m'.table.words * k ≡ length m.table.words * k = ap (λ x. x * k) same in omega (arith, i, same');
+          kept = filled-so was.more was.L was.kept both.0 both.1;
+        }
+
     pub keeping-filled : length m'.table.words ≡ length m.table.words → Keeping table0 k n s e Q m.table (counted m) → Keeping table0 k n s e Q m'.table (counted m')
     keeping-filled same (inl was) = inl (record {
       kept = λ L low fits.
@@ -161,17 +174,7 @@ module _ (table0 : TableValue) (k n sp Q s e mark : ℕ) (sizes : AreSizes k n s
           let near = edge-low m.table (counted m) z run L low fits kept in
           filled-so 0 L kept early (omega (arith, early, near));
     })
-    keeping-filled same (inr was) =
-        let both = found-within m.table (counted m) z run was in
-        inr (record {
-          more = was.more;
-          L = was.L;
-          low = was.low;
-          fits = was.fits;
-          holds = was.holds;
-          inside = let i = was.inside in let same' : length m'.table.words * k ≡ length m.table.words * k = ap (λ x. x * k) same in omega (arith, i, same');
-          kept = filled-so was.more was.L was.kept both.0 both.1;
-        })
+    keeping-filled same (inr was) = inr (grown-filled same was)
 
   -- or the table is to grow for a run that it has no words for.
   module _ (m : Metadata) (size : counters_of_block m.header.fields ≡ k) (sound : IsSound m) (z : ℕ) (run : IsFirstRun (counted m) mark n z) (was : HasNotGrown table0 k n s e Q m.table (counted m)) (past : length m.table.words ≤ (z + (n - 1)) / k)
@@ -259,8 +262,8 @@ module _ (table0 : TableValue) (k n sp Q s e mark : ℕ) (sizes : AreSizes k n s
     place-there-is reach number (inr (first, total, clusters, room, far, is)) = far (in-reach clusters first total room reach)
 
     -- and once it has grown room is kept still.
-    pub keeping-grown : (m' : Metadata) → TableGrown mark index m m' → Keeping table0 k n s e Q m'.table (counted m')
-    keeping-grown m' grown =
+    pub has-grown : (m' : Metadata) → TableGrown mark index m m' → HasGrown table0 k n s e Q m'.table (counted m')
+    has-grown m' grown =
         let r = grown.room in
         let lg = long grown.clusters grown.first grown.total r in
         let L = run-length grown.clusters grown.first grown.total r in
@@ -276,7 +279,7 @@ module _ (table0 : TableValue) (k n sp Q s e mark : ℕ) (sizes : AreSizes k n s
         omega (arith, first', some)) in
         let words : length m'.table.words * k ≡ grown.clusters * w * k = ap (λ x. x * k) grown.long in
         let inside = grown-inside k n sp Q s e sizes z run-behind near w ww wd grown.clusters lg in
-        inr (record {
+        record {
           more = grown.clusters;
           L = L;
           low = grown-least k n sp Q s e sizes z run-behind near w ww wd grown.clusters lg;
@@ -285,4 +288,4 @@ module _ (table0 : TableValue) (k n sp Q s e mark : ℕ) (sizes : AreSizes k n s
           inside = omega (arith, words, inside);
           kept = subst (λ (x : ℕ). 0 < x → RoomKept table0 x s e 0 L m.table (counted m) → grown.first ≤ edge table0 x s 0 L m.table → RoomKept table0 x s e grown.clusters L m'.table (counted m')) size
               (λ some' kept' early'. room-grown table0 s e L grown.clusters mark index m m' grown some' kept' some-first refl early' (room-inside grown.clusters grown.first grown.total r)) wide kept early;
-        })
+        }

@@ -99,6 +99,7 @@ pub mod KeepingRoom
 pub mod RoomToGrow
 pub mod SizesOfSpace
 pub mod KeptRooms
+pub mod GaplessRuns
 pub mod QuietNames
 pub mod ForgettingRuns
 pub mod TakingRoom

@@ -65,7 +65,7 @@ module _ {S : Type 0} (state : S → StorageState) (table : TableValue) where
     order = refl;
     header = refl;
     loose = λ loose. loose;
-    room = record { tables = refl; blocks = refl };
+    room = record { tables = refl; blocks = refl; entries = refl };
     cause = refl;
   }
 
@@ -120,7 +120,7 @@ module _ {S : Type 0} (state : S → StorageState) (table : TableValue) where
           order = second.order ∙ first.order;
           header = second.header ∙ first.header;
           loose = λ loose. second.loose (first.loose loose);
-          room = record { tables = second.room.tables ∙ first.room.tables; blocks = second.room.blocks ∙ first.room.blocks };
+          room = record { tables = second.room.tables ∙ first.room.tables; blocks = second.room.blocks ∙ first.room.blocks; entries = second.room.entries ∙ first.room.entries };
           cause = cause-then result second;
         }
 
@@ -144,7 +144,7 @@ module _ {S : Type 0} (state : S → StorageState) (table : TableValue) where
     why-search other why = absurd why
 
     loose-found : (answer : Result Unit Fault) → BlockFound state key old before answer new after → IsLoose table old → IsLoose table new
-    loose-found answer found = loose-on table old new found.sought.pinned found.room
+    loose-found answer found = loose-on table old new found.sought.pinned found.room.blocks
 
     found-refused : {T : Type 0} (fault : Fault) → BlockFound state key old before (Err fault) new after → Looked state {T = T} table old before (Err fault) new after
     found-refused fault found = record {
@@ -152,7 +152,7 @@ module _ {S : Type 0} (state : S → StorageState) (table : TableValue) where
       order = found.others.0;
       header = found.others.1;
       loose = loose-found (Err fault) found;
-      room = found.room;
+      room = record { tables = found.room.tables; blocks = found.room.blocks; entries = found.tables };
       cause = why-search fault found.cause;
     }
 
@@ -162,7 +162,7 @@ module _ {S : Type 0} (state : S → StorageState) (table : TableValue) where
       order = found.others.0;
       header = found.others.1;
       loose = loose-found (Ok tt) found;
-      room = found.room;
+      room = record { tables = found.room.tables; blocks = found.room.blocks; entries = found.tables };
       cause = found.cause;
     }
 
@@ -177,8 +177,8 @@ module _ {S : Type 0} (state : S → StorageState) (table : TableValue) where
         (λ safe. block-used (bytes_of (state after.image).bytes) after.header (cached_in mid) (order_of mid) key safe block there);
     order = refl;
     header = refl;
-    loose = loose-on table mid (used_caches key mid block) (pins-hit key (cached_in mid).blocks block) (record { tables = refl; blocks = refl });
-    room = record { tables = refl; blocks = refl };
+    loose = loose-on table mid (used_caches key mid block) (pins-hit key (cached_in mid).blocks block) refl;
+    room = record { tables = refl; blocks = refl; entries = refl };
     cause = refl;
   }
 

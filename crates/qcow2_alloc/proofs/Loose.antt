@@ -1,6 +1,6 @@
 -- What calls of the caches leave of their room, and of what is pinned.
 use Rattle.std.proofs.Common.{◌≡◌, ◌≢◌, ℕ, ◌/◌, ◌^◌, refl, arith, ap, sym, subst, ◌∙◌, Option, None, Some, Result, Ok, Err, true, inl, inr}
-use Rattle.std.specs.Prelude.{MatchOption, nat_eq, slice_index, ◌==◌, if◌then◌else◌}
+use Rattle.std.specs.Prelude.{MatchOption, map, nat_eq, slice_index, ◌==◌, if◌then◌else◌}
 use Rattle.std.proofs.lemmas.Bool.{cases_eq}
 use Rattle.imago_storage.specs.State.{StorageState}
 use Rattle.imago_storage.specs.declared.fault.Fault.{Fault}
@@ -10,17 +10,18 @@ use Rattle.qcow2_metadata.specs.Tables.{TableValue}
 use Rattle.qcow2_alloc.specs.declared.cache.MetadataCaches.{MetadataCaches}
 use Rattle.qcow2_alloc.specs.declared.file.ImageFile.{ImageFile}
 use Rattle.qcow2_alloc.specs.Allocators.{UsesBlock, BlockUsed, named_block}
-use Rattle.qcow2_alloc.specs.Caches.{cached_in, HasRoomOf}
+use Rattle.qcow2_alloc.specs.Caches.{cached_in, HasRoomOf, KeepsTables}
 use Rattle.qcow2_alloc.specs.Finding.{BlockFound, IsPinnedFull, PinsNothing}
 use Rattle.qcow2_alloc.specs.Freeing.{HasSpareRoom, IsLoose}
+use Rattle.qcow2_alloc.specs.Memory.{Cached, written, written_table}
 use Rattle.qcow2_alloc.proofs.Pins.{full-pinned, pins-hit, pins-none, pins-then}
 
 -- There is still room to spare where nothing was pinned and the room is the same,
-pub spare-on : {S : Type 0} (old new : MetadataCaches S) → PinsNothing (cached_in old).blocks (cached_in new).blocks → HasRoomOf old new → HasSpareRoom old → HasSpareRoom new
-spare-on old new pins room spare = let le = pins.among (λ _. true) in let same = room.blocks in omega (arith, le, same, spare)
+pub spare-on : {S : Type 0} (old new : MetadataCaches S) → PinsNothing (cached_in old).blocks (cached_in new).blocks → new.rb.slots.cap ≡ old.rb.slots.cap → HasSpareRoom old → HasSpareRoom new
+spare-on old new pins room spare = let le = pins.among (λ _. true) in omega (arith, le, room, spare)
 
 -- and the blocks that are pinned are named,
-pub loose-on : {S : Type 0} (table : TableValue) (old new : MetadataCaches S) → PinsNothing (cached_in old).blocks (cached_in new).blocks → HasRoomOf old new → IsLoose table old → IsLoose table new
+pub loose-on : {S : Type 0} (table : TableValue) (old new : MetadataCaches S) → PinsNothing (cached_in old).blocks (cached_in new).blocks → new.rb.slots.cap ≡ old.rb.slots.cap → IsLoose table old → IsLoose table new
 loose-on table old new pins room loose = record {
   room = spare-on old new pins room loose.room;
   named = λ key some. loose.named key (let le = pins.among (nat_eq key) in omega (arith, le, some));
@@ -48,22 +49,26 @@ name-kept table table' i key bits still named = elim (cases_eq (block_offset (sl
 pub loose-never : {S : Type 0} (table : TableValue) (caches : MetadataCaches S) → IsLoose table caches → IsPinnedFull caches.rb.slots.cap (cached_in caches).blocks → ⊥
 loose-never table caches loose full = let all = full-pinned (cached_in caches).blocks full in let spare = loose.room in omega (arith, all, spare)
 
--- The header, the order and the room stay, and nothing is pinned;
+-- L2 tables are kept where what is cached is but for what was written.
+pub kept-tables : {S : Type 0} (old new : MetadataCaches S) → written (cached_in new) ≡ written (cached_in old) → HasRoomOf old new → KeepsTables old new
+kept-tables old new kept room = record { tables = room.tables; blocks = room.blocks; entries = ap (λ (c : Cached). c.tables) kept }
+
+-- The header, the order, the room and the L2 tables stay, and nothing is pinned;
 pub record KeepsPins {S : Type 0} (old : MetadataCaches S) (before : ImageFile S) (new : MetadataCaches S) (after : ImageFile S) : Type 0 where
   pub header : after.header ≡ before.header
   pub order : new.order ≡ old.order
   pub pins : PinsNothing (cached_in old).blocks (cached_in new).blocks
-  pub room : HasRoomOf old new
+  pub room : KeepsTables old new
 
 -- or what is pinned stays so few, and named.
 pub record StaysLoose {S : Type 0} (table : TableValue) (old : MetadataCaches S) (before : ImageFile S) (new : MetadataCaches S) (after : ImageFile S) : Type 0 where
   pub header : after.header ≡ before.header
   pub order : new.order ≡ old.order
   pub loose : IsLoose table old → IsLoose table new
-  pub room : HasRoomOf old new
+  pub room : KeepsTables old new
 
 pub stays-loose : {S : Type 0} (table : TableValue) (old : MetadataCaches S) (before : ImageFile S) (new : MetadataCaches S) (after : ImageFile S) → KeepsPins old before new after → StaysLoose table old before new after
-stays-loose table old before new after keeps = record { header = keeps.header; order = keeps.order; loose = loose-on table old new keeps.pins keeps.room; room = keeps.room }
+stays-loose table old before new after keeps = record { header = keeps.header; order = keeps.order; loose = loose-on table old new keeps.pins keeps.room.blocks; room = keeps.room }
 
 module _ {S : Type 0} (state : S → StorageState) where
   -- A search does so,
@@ -72,7 +77,7 @@ module _ {S : Type 0} (state : S → StorageState) where
     header = found.others.1;
     order = found.others.0;
     pins = found.sought.pinned;
-    room = found.room;
+    room = record { tables = found.room.tables; blocks = found.room.blocks; entries = found.tables };
   }
 
   pub found-stays : (table : TableValue) (key : ℕ) (old : MetadataCaches S) (before : ImageFile S) (answer : Result Unit Fault) (new : MetadataCaches S) (after : ImageFile S) → BlockFound state key old before answer new after → StaysLoose table old before new after
@@ -83,7 +88,11 @@ module _ {S : Type 0} (state : S → StorageState) where
       → BlockUsed state key does old before result new after → KeepsPins old before new after
   used-keeps key does old before result new after u =
       let mid = found-keeps key old before (Ok tt) u.mid after u.found in
-      let room : HasRoomOf old new = record { tables = ap (λ (m : MetadataCaches S). m.l2.slots.cap) u.left ∙ mid.room.tables; blocks = ap (λ (m : MetadataCaches S). m.rb.slots.cap) u.left ∙ mid.room.blocks } in
+      let room : KeepsTables old new = record {
+        tables = ap (λ (m : MetadataCaches S). m.l2.slots.cap) u.left ∙ mid.room.tables;
+        blocks = ap (λ (m : MetadataCaches S). m.rb.slots.cap) u.left ∙ mid.room.blocks;
+        entries = ap (λ (m : MetadataCaches S). map written_table (cached_in m).tables) u.left ∙ mid.room.entries;
+      } in
       let pins : PinsNothing (cached_in old).blocks (cached_in new).blocks = subst (λ (m : MetadataCaches S). PinsNothing (cached_in old).blocks (cached_in m).blocks) (sym u.left)
       (pins-then (cached_in old).blocks (cached_in u.mid).blocks _ mid.pins (pins-hit key (cached_in u.mid).blocks u.block')) in
       record {
@@ -109,6 +118,10 @@ module _ {S : Type 0} (state : S → StorageState) where
     header = ap (λ (f : ImageFile S). f.header) same';
     order = ap (λ (m : MetadataCaches S). m.order) same;
     pins = pins-none (cached_in old).blocks (cached_in new).blocks (ap (λ (m : MetadataCaches S). (cached_in m).blocks) same);
-    room = record { tables = ap (λ (m : MetadataCaches S). m.l2.slots.cap) same; blocks = ap (λ (m : MetadataCaches S). m.rb.slots.cap) same };
+    room = record {
+      tables = ap (λ (m : MetadataCaches S). m.l2.slots.cap) same;
+      blocks = ap (λ (m : MetadataCaches S). m.rb.slots.cap) same;
+      entries = ap (λ (m : MetadataCaches S). map written_table (cached_in m).tables) same;
+    };
   }
   named-keeps (Some key) does Refused old before result new after uses = uses-keeps key does old before result new after uses

@@ -246,7 +246,7 @@ module _ {S : Type 0} (state : S → StorageState) (i : ℕ) (table : TableValue
     header = refl;
     order = refl;
     loose = λ loose. loose;
-    room = record { tables = refl; blocks = refl };
+    room = record { tables = refl; blocks = refl; entries = refl };
   }
 
   -- What is done next.
@@ -285,7 +285,7 @@ module _ {S : Type 0} (state : S → StorageState) (i : ℕ) (table : TableValue
       header = follows.stays.header ∙ begins.header;
       order = follows.stays.order ∙ begins.order;
       loose = λ loose. follows.stays.loose (begins.loose loose);
-      room = record { tables = follows.stays.room.tables ∙ begins.room.tables; blocks = follows.stays.room.blocks ∙ begins.room.blocks };
+      room = record { tables = follows.stays.room.tables ∙ begins.room.tables; blocks = follows.stays.room.blocks ∙ begins.room.blocks; entries = follows.stays.room.entries ∙ begins.room.entries };
     }
 
     -- It is refused, and wasn't cut off only where nothing was handed out.
@@ -312,7 +312,7 @@ module _ {S : Type 0} (state : S → StorageState) (i : ℕ) (table : TableValue
       order = follows.stays.order ∙ begins.order;
       header = follows.stays.header ∙ begins.header;
       loose = λ loose. follows.stays.loose (begins.loose loose);
-      room = record { tables = follows.stays.room.tables ∙ begins.room.tables; blocks = follows.stays.room.blocks ∙ begins.room.blocks };
+      room = record { tables = follows.stays.room.tables ∙ begins.room.tables; blocks = follows.stays.room.blocks ∙ begins.room.blocks; entries = follows.stays.room.entries ∙ begins.room.entries };
       cause = why;
     }
 
@@ -329,7 +329,7 @@ module _ {S : Type 0} (state : S → StorageState) (i : ℕ) (table : TableValue
           later = later_same (state fC.image);
           quiet = λ order keeps sound s. memory-quietly (IsWhole (failed fault)) (λ _. 0) (λ _. 0) (state fC.image) mU mU (λ s' whole. (s', quiet-none mU s'));
           raised = λ order keeps sound s whole c. inl refl;
-          stays = record { header = refl; order = refl; loose = λ loose. loose; room = record { tables = refl; blocks = refl } };
+          stays = record { header = refl; order = refl; loose = λ loose. loose; room = record { tables = refl; blocks = refl; entries = refl } };
         })
         (λ order keeps sound whole c. omega arith)
         (subst (λ n. WhyNotAllocated Holds (IsLoose table old) Full (state before.image).faults n fault) (sym begins.faults) why)
@@ -374,7 +374,7 @@ module _ {S : Type 0} (state : S → StorageState) (i : ℕ) (table : TableValue
     order = makes.order ∙ begins.order;
     header = makes.header ∙ begins.header;
     loose = λ loose. makes.loose (begins.loose loose);
-    room = record { tables = makes.room.tables ∙ begins.room.tables; blocks = makes.room.blocks ∙ begins.room.blocks };
+    room = record { tables = makes.room.tables ∙ begins.room.tables; blocks = makes.room.blocks ∙ begins.room.blocks; entries = makes.room.entries ∙ begins.room.entries };
     cause = cause-then _ _ _ _ _ _ _ _ _ (λ holds. (on holds.0, begins.order ∙ holds.1, ((begins.quiet holds.1).holds holds.0 holds.2 tt).0)) begins.loose
         (λ number full. subst (λ (h : Header). (number ≤ i * counters_of_block h.fields) × (IsInReach h.fields.cluster_bits number → ⊥)) begins.header full) begins.faults result makes.cause;
   }

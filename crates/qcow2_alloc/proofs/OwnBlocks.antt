@@ -56,8 +56,8 @@ module _ {S : Type 0} (state : S → StorageState) (table : TableValue) (pending
     faults = refl;
     header = refl;
     order = refl;
-    loose = loose-on table old without (pins-removed (nat_eq d) (cached_in old).blocks) (record { tables = refl; blocks = refl });
-    room = record { tables = refl; blocks = refl };
+    loose = loose-on table old without (pins-removed (nat_eq d) (cached_in old).blocks) refl;
+    room = record { tables = refl; blocks = refl; entries = refl };
   }
 
   abbrev i : ℕ

@@ -1,14 +1,11 @@
 -- What a run of clusters needs is made, or the refcount table grows.
-use Rattle.std.proofs.Common.{◌≡◌, ◌≢◌, ℕ, ◌+◌, ◌<◌, ◌≤◌, refl, arith, ap, sym, subst, ◌∙◌, List, [], ◌∷◌, ◌++◌, length, Bool, true, false, Result, Ok, Err, inl, inr}
-use Rattle.std.specs.Prelude.{IsTrue, IfOk, OnOk, MatchResult, slice_index, ◌==◌, ◌/◌, ◌*◌, ◌^◌, if◌then◌else◌}
-use Rattle.std.specs.List.{AllByRecursion}
-use Rattle.std.proofs.lemmas.List.{append-nil, append_assoc}
+use Rattle.std.proofs.Common.{◌≡◌, ◌≢◌, ℕ, ◌+◌, ◌<◌, ◌≤◌, refl, arith, ap, List, length, Bool, true, false, Result, Ok, Err, inl, inr}
+use Rattle.std.specs.Prelude.{IsTrue, IfOk, OnOk, MatchResult, slice_index, ◌*◌, ◌^◌}
 use Rattle.std.proofs.Math.Nat.{mul-le-mul_right}
 use Rattle.imago_storage.specs.State.{StorageState}
 use Rattle.imago_storage.specs.declared.fault.Fault.{Fault}
 use Rattle.imago_storage.specs.declared.fault.Fault.TheVariants.{CacheFull}
 use Rattle.qcow2_types.specs.Counts.{counters_of_block}
-use Rattle.qcow2_types.specs.Header.{Fields, cluster_size}
 use Rattle.qcow2_types.specs.Words.{block_offset}
 use Rattle.qcow2_types.specs.Pending.{FreeEntry}
 use Rattle.qcow2_metadata.specs.Places.{IsInReach}
@@ -21,11 +18,9 @@ use Rattle.qcow2_alloc.specs.Allocators.{metadata_of}
 use Rattle.qcow2_alloc.specs.Caches.{order_of}
 use Rattle.qcow2_alloc.specs.FillingBlocks.{FillsFrom}
 use Rattle.qcow2_alloc.specs.Freeing.{IsLoose}
-use Rattle.qcow2_alloc.specs.GrowingTables.{Leaks, GrowsTable, table_run}
-use Rattle.qcow2_alloc.specs.MakingRoom.{run_of}
+use Rattle.qcow2_alloc.specs.GrowingTables.{Leaks, GrowsTable}
 use Rattle.qcow2_alloc.specs.Quiet.{Metadata, IsSound}
 use Rattle.qcow2_alloc.specs.ReadyingBlocks.{HasMade, HasMore, NoneCanBeMade, ReadiesBlocks}
-use Rattle.qcow2_alloc.specs.ReadyingRuns.{IsLengthened}
 use Rattle.qcow2_alloc.proofs.EnsuringBlocks.{so, why-allocated-wider}
 
 -- Nothing leaks,
@@ -42,36 +37,6 @@ leaks-on sound sound' loose loose' fault leaked from from' leaks = record {
 -- and a call that succeeded leaked nothing.
 pub leaks-ok : {T : Type 0} (sound loose : Type 0) (v : T) (leaked : ℕ → ℕ) → Leaks sound loose (Ok v) leaked → (c : ℕ) → leaked c ≡ 0
 leaks-ok sound loose v leaked leaks c = leaks.none (λ is. absurd (cc)) c
-
--- A list is lengthened by nothing,
-pub lengthened-none : (table table' : TableValue) (l : List FreeEntry) → IsLengthened table table' l l
-lengthened-none table table' l = record { more = []; behind = sym (append-nil l); metadata = tt; same = λ long. refl }
-
--- by the old refcount table, if there was one,
-if-some : (b : Bool) (e : FreeEntry) → e.metadata ≡ true → AllByRecursion (λ e. e.metadata ≡ true) (if b then [] else e ∷ [])
-if-some true e is = tt
-if-some false e is = (is, tt)
-
-pub lengthened-by-table : (table table' : TableValue) (l l' : List FreeEntry) (h : Fields) → length table.words < length table'.words → l' ≡ l ++ table_run h → IsLengthened table table' l l'
-lengthened-by-table table table' l l' h longer is = record {
-  more = table_run h;
-  behind = is;
-  metadata = if-some (h.refcount_table_clusters == 0) (run_of (h.refcount_table_offset / cluster_size h) h.refcount_table_clusters) refl;
-  same = λ long. absurd (omega (arith, longer, long));
-}
-
--- and by what came in turn.
-all-append : (l l' : List FreeEntry) → AllByRecursion (λ e. e.metadata ≡ true) l → AllByRecursion (λ e. e.metadata ≡ true) l' → AllByRecursion (λ e. e.metadata ≡ true) (l ++ l')
-all-append [] l' one two = two
-all-append (e ∷ l) l' one two = (one.0, all-append l l' one.1 two)
-
-pub lengthened-then : (tA tB tC : TableValue) (a b c : List FreeEntry) → length tA.words ≤ length tB.words → length tB.words ≤ length tC.words → IsLengthened tA tB a b → IsLengthened tB tC b c → IsLengthened tA tC a c
-lengthened-then tA tB tC a b c le le' one two = record {
-  more = one.more ++ two.more;
-  behind = two.behind ∙ ap (λ l. l ++ two.more) one.behind ∙ append_assoc a one.more two.more;
-  metadata = all-append one.more two.more one.metadata two.metadata;
-  same = λ long. two.same (omega (arith, le, le', long)) ∙ one.same (omega (arith, le, le', long));
-}
 
 module _ {S : Type 0} (state : S → StorageState) (mark at first last : ℕ) (table : TableValue) (old : MetadataCaches S) (before : ImageFile S) (pending : List FreeEntry) where
   abbrev Start : Metadata
@@ -91,7 +56,9 @@ module _ {S : Type 0} (state : S → StorageState) (mark at first last : ℕ) (t
     ready = named result makes.named;
     further = more result makes.fewer;
     made = λ order keeps sound. filled result (fills order keeps sound);
-    list = lengthened-none table table' pending;
+    once = λ inside. (refl, makes.header, makes.long);
+    grew = λ past. absurd (omega (arith, past, inside));
+    kept = λ past. absurd (omega (arith, past, inside));
     cause = caused result makes.cause;
   }
     where
@@ -133,7 +100,9 @@ module _ {S : Type 0} (state : S → StorageState) (mark at first last : ℕ) (t
       ready = λ none. absurd (cc);
       further = λ some. inl (let above = grows.enough.enough.above in omega (arith, above, past, behind));
       made = λ order keeps sound some. inr (past, grows.grown order keeps sound);
-      list = lengthened-by-table table table' pending pending' before.header.fields (let above = grows.enough.enough.above in omega (arith, above, past, behind)) grows.waits;
+      once = λ inside. absurd (omega (arith, inside, past));
+      grew = λ past. (let above = grows.enough.enough.above in omega (arith, above, past, behind), grows.waits);
+      kept = λ past. tt;
       cause = grows.cause;
     }
 
@@ -147,6 +116,8 @@ module _ {S : Type 0} (state : S → StorageState) (mark at first last : ℕ) (t
       ready = tt;
       further = tt;
       made = λ order keeps sound. tt;
-      list = subst (λ l. IsLengthened table table' pending l) (sym grows.kept) (lengthened-none table table' pending);
+      once = λ inside. absurd (omega (arith, inside, past));
+      grew = λ past. tt;
+      kept = λ past. grows.kept;
       cause = why-allocated-wider _ _ _ _ _ _ _ _ _ (λ holds. holds) (λ loose. loose) (λ number none order keeps sound. inr (past, number, none order keeps sound)) refl fault grows.cause;
     }

@@ -1,6 +1,7 @@
 -- A cluster is given a counter: a word of the refcount table, and a block.
 use Rattle.std.proofs.Common.{◌≡◌, ◌≢◌, ℕ, ◌+◌, ◌*◌, ◌/◌, ◌^◌, ◌<◌, ◌≤◌, ◌++◌, true, false, refl, arith, ap, sym, subst, ◌∙◌, inl, inr, List, length, Bool, Result, Ok, Err}
 use Rattle.std.specs.Prelude.{⊤, IsTrue, OnOk, OnErr, slice_index, MatchResult}
+use Rattle.std.proofs.lemmas.Bool.{cases_eq}
 use Rattle.std.proofs.lemmas.Nat.{div-add-mod'}
 use Rattle.std.proofs.Math.Nat.{mul-le-mul_right}
 use Rattle.imago_storage.specs.State.{StorageState}
@@ -22,14 +23,16 @@ use Rattle.qcow2_alloc.specs.declared.file.ImageFile.{ImageFile}
 use Rattle.qcow2_alloc.specs.Allocating.{Allocating, MakesBlocks, MovedTable, WhyNotAllocated}
 use Rattle.qcow2_alloc.specs.Allocators.{metadata_of}
 use Rattle.qcow2_alloc.specs.Caches.{order_of}
+use Rattle.qcow2_alloc.specs.FillingBlocks.{FillsFrom}
 use Rattle.qcow2_alloc.specs.Freeing.{IsLoose}
 use Rattle.qcow2_alloc.specs.Going.{IsWhole}
-use Rattle.qcow2_alloc.specs.GrowingTables.{GrowsTable, IsLengthenedByTable, NoPlaceToGrow, table_run}
+use Rattle.qcow2_alloc.specs.GrowingTables.{GrowsTable, IsInRoomToGrow, IsLengthenedByTable, NoPlaceToGrow, table_run}
 use Rattle.qcow2_alloc.specs.HandingOutOne.{HandsOut, ReadiesCounter, ReadiesWord, leaked_by}
-use Rattle.qcow2_alloc.specs.Quiet.{IsSound}
+use Rattle.qcow2_alloc.specs.Quiet.{IsSound, counted}
 use Rattle.qcow2_alloc.proofs.Allocating.{allocating-none, allocating-as, allocating-then}
 use Rattle.qcow2_alloc.proofs.ReadyingBlocks.{leaks-none}
 use Rattle.qcow2_alloc.proofs.EnsuringBlocks.{so, refused, why-allocated-wider}
+use Rattle.qcow2_alloc.proofs.KeepingRoom.{covered-inside}
 
 -- What isn't refused for want of a place is refused for another cause.
 pub never-limit : (sound loose : Type 0) (full full' : ℕ → Type 0) (before after : ℕ) (fault : Fault) → ((number : ℕ) → fault ≢ Limit number) → WhyNotAllocated sound loose full before after fault → WhyNotAllocated sound loose full' before after fault
@@ -64,10 +67,10 @@ module _ {S : Type 0} (state : S → StorageState) (mark cluster : ℕ) (table :
   }
 
   pub counter-stands : block_offset (slice_index table.words (cluster / k)) ≢ 0 → ReadiesCounter state mark cluster table old before pending (so true) table old before pending
-  counter-stands some = record { did = stands true; there = λ yes. some; barred = λ order keeps sound no. cc no }
+  counter-stands some = record { did = stands true; there = λ yes. some; barred = λ order keeps sound no. cc no; near = λ order keeps sound c none more. absurd (omega (arith, none, more)) }
 
   pub word-stands : cluster / k < length table.words → ReadiesWord state mark cluster table old before pending (so true) table old before pending
-  word-stands inside = record { did = stands true; there = λ yes. inside; barred = λ order keeps sound no. cc no }
+  word-stands inside = record { did = stands true; there = λ yes. inside; barred = λ order keeps sound no. cc no; near = λ order keeps sound c none more. absurd (omega (arith, none, more)) }
 
   -- The table has grown,
   module _ (past : length table.words ≤ cluster / k) (result : Result Unit Fault) (table' : TableValue) (new : MetadataCaches S) (after : ImageFile S) (pending' : List FreeEntry) (grows : GrowsTable state mark (cluster / k) table old before pending result table' new after pending') where
@@ -90,8 +93,21 @@ module _ {S : Type 0} (state : S → StorageState) (mark cluster : ℕ) (table :
       };
       there = λ yes. (by-length result ok grows.enough).enough.above;
       barred = λ order keeps sound no. cc no;
+      near = λ order keeps sound c none more. inr (in-room order keeps sound c none more);
     }
       where
+        in-room : order_of old ≡ L2DependsOnRb → IsTrue (state before.image).shape.keeps → IsSound (metadata_of state before old table pending) → (c : ℕ) → counted (metadata_of state before old table pending) c ≡ 0 → 0 < counted (metadata_of state after new table' pending') c
+            → IsInRoomToGrow (metadata_of state before old table pending) mark (cluster / k) c
+        in-room order keeps sound c none more =
+            let grown = by-growth result ok (grows.grown order keeps sound) in
+            let counts = grown.counts c in
+            let inside = covered-inside c grown.first grown.total (omega (arith, counts, none, more)) in
+            (past, grown.first, grown.total, grown.clusters, grown.room, inside.0, inside.1)
+          where
+            by-growth : {P : Type 0} (r : Result Unit Fault) → r ≡ Ok tt → OnOk r P → P
+            by-growth (Ok done) is p = p
+            by-growth (Err fault) is p = absurd (cc is)
+
         by-length : (r : Result Unit Fault) → r ≡ Ok tt → OnOk r (IsGrownLength (words_of_cluster before.header.fields) k (cluster / k) (length table'.words)) → IsGrownLength (words_of_cluster before.header.fields) k (cluster / k) (length table'.words)
         by-length (Ok done) is grown = grown
         by-length (Err fault) is grown = absurd (cc is)
@@ -112,6 +128,7 @@ module _ {S : Type 0} (state : S → StorageState) (mark cluster : ℕ) (table :
       };
       there = λ yes. cc yes;
       barred = λ order keeps sound no. inr (past, number, cause.0 order keeps sound);
+      near = λ order keeps sound c none more. absurd (let same = grows.barred order keeps sound number limit c in omega (arith, same, none, more));
     }
       where
         cause : (order_of old ≡ L2DependsOnRb → IsTrue (state before.image).shape.keeps → IsSound (metadata_of state before old table pending) → NoPlaceToGrow (metadata_of state before old table pending) mark (cluster / k) number) × ((state after.image).faults ≡ (state before.image).faults)
@@ -135,17 +152,18 @@ module _ {S : Type 0} (state : S → StorageState) (mark cluster : ℕ) (table :
       };
       there = tt;
       barred = λ order keeps sound. tt;
+      near = λ order keeps sound. tt;
     }
 
   -- There is a word for the cluster, and its block is made.
   module _ (mid_table : TableValue) (mid : MetadataCaches S) (between : ImageFile S) (mid_pending : List FreeEntry) where
     -- There was no place for one,
     pub counter-barred : ReadiesWord state mark cluster table old before pending (so false) mid_table mid between mid_pending → ReadiesCounter state mark cluster table old before pending (so false) mid_table mid between mid_pending
-    counter-barred word = record { did = word.did; there = λ yes. cc yes; barred = word.barred }
+    counter-barred word = record { did = word.did; there = λ yes. cc yes; barred = word.barred; near = word.near }
 
     -- it wasn't to be had,
     pub counter-refused : (fault : Fault) → ReadiesWord state mark cluster table old before pending (refused fault) mid_table mid between mid_pending → ReadiesCounter state mark cluster table old before pending (refused fault) mid_table mid between mid_pending
-    counter-refused fault word = record { did = word.did; there = tt; barred = word.barred }
+    counter-refused fault word = record { did = word.did; there = tt; barred = word.barred; near = word.near }
 
     module _ (word : ReadiesWord state mark cluster table old before pending (so true) mid_table mid between mid_pending) (reach : IsInReach before.header.fields.cluster_bits cluster) (table' : TableValue) (new : MetadataCaches S) (after : ImageFile S) where
       header-moved : (P : Header → Type 0) → P (with_refcount_table before.header word.did.step.moved.0 word.did.step.moved.1) → P between.header
@@ -173,8 +191,11 @@ module _ {S : Type 0} (state : S → StorageState) (mark cluster : ℕ) (table :
       holds-still holds = let quiet = word.did.step.quiet holds.1 in (keeps_on (state before.image) (state between.image) quiet.shape holds.0, word.did.step.order ∙ holds.1, (quiet.holds holds.0 holds.2 tt).0)
 
       -- or now there is a block,
-      pub counter-made : (made : Bool) → MakesBlocks state (cluster / k) (cluster / k + 1) mid_table mid between (so made) table' new after mid_pending → ReadiesCounter state mark cluster table old before pending (so true) table' new after mid_pending
-      counter-made made blocks = record {
+      pub counter-made : (made : Bool) → MakesBlocks state (cluster / k) (cluster / k + 1) mid_table mid between (so made) table' new after mid_pending
+          → (order_of mid ≡ L2DependsOnRb → IsTrue (state between.image).shape.keeps → IsSound (metadata_of state between mid mid_table mid_pending)
+          → FillsFrom mark (cluster / k) (cluster / k + 1) (metadata_of state between mid mid_table mid_pending) (metadata_of state after new table' mid_pending))
+          → ReadiesCounter state mark cluster table old before pending (so true) table' new after mid_pending
+      counter-made made blocks fills = record {
         did = record {
           leaked = λ _. 0;
           leaks = leaks-none _ _ (so true);
@@ -184,6 +205,19 @@ module _ {S : Type 0} (state : S → StorageState) (mark cluster : ℕ) (table :
         };
         there = λ yes. blocks.named (cluster / k) (omega arith) (omega arith);
         barred = λ order keeps sound no. cc no;
+        near = λ order keeps sound c none more. elim (cases_eq (counted (metadata_of state between mid mid_table mid_pending) c) 0) [
+          | inr made-before ↦ word.near order keeps sound c none (omega (arith, made-before))
+          | inl still ↦
+              let held = holds-still (keeps, order, sound) in
+              let own = (fills held.1 held.0 held.2).own c (λ same. omega (arith, same, still, more)) in
+              let size : counters_of_block between.header.fields ≡ k = ap (λ (H : Header). counters_of_block H.fields) word.did.step.moved.2 in
+              let low = own.1 in
+              let high = own.2 in
+              let at : own.0 ≡ cluster / k = omega (arith, low, high) in
+              let le : c ≤ cluster / k * k = subst (λ i. c ≤ i * k) at (subst (λ x. c ≤ own.0 * x) size own.3) in
+              let shape = div-add-mod' cluster k in
+              inl (omega (arith, le, shape))
+        ];
       }
 
       -- or none could be made.
@@ -198,6 +232,7 @@ module _ {S : Type 0} (state : S → StorageState) (mark cluster : ℕ) (table :
         };
         there = tt;
         barred = λ order keeps sound. tt;
+        near = λ order keeps sound. tt;
       }
 
 -- Where the header moved its refcount table alone, a cluster has the block that it had.

@@ -1,4 +1,4 @@
--- Where a quarter of the space is free in a row, a refcount table finds its place.
+-- Where there is room, a refcount table finds its place.
 use Rattle.std.proofs.Common.{◌≡◌, ℕ, ◌+◌, ◌-◌, ◌*◌, ◌/◌, ◌%◌, ◌^◌, ◌<◌, ◌≤◌, arith, ap, ◌∙◌, inl, inr}
 use Rattle.std.proofs.lemmas.Bool.{cases_lt}
 use Rattle.std.proofs.Math.Nat.{mul-le-mul, div-mul-le_self, lt-div-mul-add, mul-div_left}
@@ -8,15 +8,14 @@ use Rattle.qcow2_alloc.specs.Growing.{lacking, IsFirstRoom}
 use Rattle.qcow2_alloc.proofs.FindingRoom.{lacking-few}
 use Rattle.qcow2_alloc.proofs.KeepingRoom.{RoomKept, edge, edge-near, room-near, room-long, quotient-few}
 
--- The sizes: blocks of k counters, and n clusters that are asked for, no more than a sixteenth of the space; a quarter of it is free behind s.
+-- The sizes: blocks of k counters, and n clusters that are asked for, for which Q are enough; so many are free behind s, up to e.
 pub record AreSizes (k n space Q s e : ℕ) : Type 0 where
   pub wide : 64 ≤ k
   pub narrow : 64 * k ≤ space
   pub some : 1 ≤ n
-  pub few : 16 * n ≤ space
   pub large : 2 ^ 26 ≤ space
   pub fits : space ≤ 2 ^ 20 * k
-  pub quarter : space ≤ 4 * Q + 3
+  pub enough : space + 48 * n ≤ 16 * Q + 15
   pub span : s + Q ≤ e
   pub ends : e ≤ space
 
@@ -48,7 +47,7 @@ module _ (k n space Q s e : ℕ) (sizes : AreSizes k n space Q s e) where
   least-holds = let q = quotient-few k (least_run n) sizes.wide in let a = a-few in let b = a-most in omega (arith, q, a, b)
 
   pub least-fits : least_run n ≤ Q
-  least-fits = let a = a-few in omega (arith, a, sizes.few, sizes.large, sizes.quarter)
+  least-fits = let a = a-few in omega (arith, a, sizes.large, sizes.enough)
 
   -- The table grows for an index behind that of the last cluster of a run that begins soon.
   module _ (z : ℕ) (from : s ≤ z) (near : z ≤ s + (n / 32 + 2)) where
@@ -94,7 +93,7 @@ module _ (k n space Q s e : ℕ) (sizes : AreSizes k n space Q s e) where
           let x = ahead-holds in
           let y = ahead-most in
           let a = a-few in
-          absurd (omega (arith, far, x, y, near, a, sizes.few, sizes.large, sizes.fits, sizes.quarter, sizes.span, sizes.ends, sizes.wide))
+          absurd (omega (arith, far, x, y, near, a, sizes.large, sizes.fits, sizes.enough, sizes.span, sizes.ends, sizes.wide))
     ]
 
     -- There is a length for that.
@@ -185,7 +184,7 @@ module _ (k n space Q s e : ℕ) (sizes : AreSizes k n space Q s e) where
             let x = ahead-most in
             let c = clusters-few in
             let b = behind-few in
-            omega (arith, x, c, b, sizes.few, sizes.large, sizes.quarter, sizes.narrow)
+            omega (arith, x, c, b, sizes.large, sizes.enough, sizes.narrow)
 
         pub grown-inside : s + grown_run ≤ clusters * w * k
         grown-inside = let x = ahead-holds in let r = reaches in let b = blocks in let c = behind-counts in omega (arith, x, r, b, c, from)
@@ -210,4 +209,4 @@ module _ (k n space Q s e : ℕ) (sizes : AreSizes k n space Q s e) where
               let q = quotient-few k L sizes.wide in
               let c = clusters-few in
               let b = behind-few in
-              room-near table0 k s e 0 L table counts kept from' clusters first total t.0 early room t.2 (omega (arith, le, near', q, c, b, fits, sizes.large, sizes.quarter, sizes.span))
+              room-near table0 k s e 0 L table counts kept from' clusters first total t.0 early room t.2 (omega (arith, le, near', q, c, b, fits, sizes.large, sizes.enough, sizes.span))

@@ -8,7 +8,7 @@ use Rattle.qcow2_types.specs.Header.{Fields, Shaped, cluster_size, words_of_clus
 use Rattle.qcow2_types.specs.Words.{max_offset}
 use Rattle.qcow2_metadata.specs.Places.{IsInReach}
 use Rattle.qcow2_metadata.proofs.Powers.{power-counters}
-use Rattle.qcow2_alloc.specs.Crowding.{space, IsRoomy}
+use Rattle.qcow2_alloc.specs.Crowding.{space, room_for, IsRoomy}
 use Rattle.qcow2_alloc.specs.Quiet.{Metadata}
 use Rattle.qcow2_alloc.proofs.RoomToGrow.{AreSizes}
 
@@ -60,7 +60,7 @@ module _ (h : Fields) (shaped : Shaped h) where
 
 -- The sizes of an allocation for which there is room.
 pub roomy-sizes : (m : Metadata) (mark n s : ℕ) → Shaped m.header.fields → 1 ≤ n → (roomy : IsRoomy m mark n) → s ≤ roomy.first
-    → AreSizes (counters_of_block m.header.fields) n (space m.header.fields) (space m.header.fields / 4) s (roomy.first + space m.header.fields / 4)
+    → AreSizes (counters_of_block m.header.fields) n (space m.header.fields) (room_for m.header.fields n) s (roomy.first + roomy.total)
 roomy-sizes m mark n s shaped some roomy early =
     let wide = counters-wide m.header.fields shaped in
     let narrow = counters-narrow m.header.fields shaped in
@@ -70,10 +70,9 @@ roomy-sizes m mark n s shaped some roomy early =
       wide = wide;
       narrow = space-least m.header.fields shaped (64 * counters_of_block m.header.fields) (omega arith) (omega (arith, narrow, offsets));
       some = some;
-      few = let le = roomy.few in let under = div-mul-le_self (space m.header.fields) 16 in omega (arith, le, under);
       large = space-least m.header.fields shaped (2 ^ 26) (omega (arith, wide)) (omega (arith, offsets));
       fits = space-blocks m.header.fields shaped;
-      quarter = let high : space m.header.fields < space m.header.fields / 4 * 4 + 4 = lt-div-mul-add (omega arith) in omega (arith, high);
-      span = omega (arith, early);
+      enough = let high : space m.header.fields < space m.header.fields / 16 * 16 + 16 = lt-div-mul-add (omega arith) in omega (arith, high);
+      span = let enough = roomy.enough in omega (arith, early, enough);
       ends = below;
     }

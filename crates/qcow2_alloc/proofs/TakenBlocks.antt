@@ -38,7 +38,7 @@ use Rattle.qcow2_alloc.proofs.FreeClusters.{uncounted-free, flushes-count}
 use Rattle.qcow2_alloc.proofs.FreeingEntries.{failed}
 use Rattle.qcow2_alloc.proofs.FreeRuns.{block-quietly}
 use Rattle.qcow2_alloc.proofs.Listed.{covers-none, covers-one}
-use Rattle.qcow2_alloc.proofs.Loose.{loose-on}
+use Rattle.qcow2_alloc.proofs.Loose.{kept-tables, loose-on}
 use Rattle.qcow2_alloc.proofs.MadeBlocks.{counted-wider, allocated-written, Follows, B, begins-then, begins-refused, ends, made}
 use Rattle.qcow2_alloc.proofs.MakingBlocks.{other-block-made, other-block-raises}
 use Rattle.qcow2_alloc.proofs.OwnBlocks.{without}
@@ -100,8 +100,8 @@ module _ {S : Type 0} (state : S → StorageState) (table : TableValue) (pending
         stays = record {
           header = refl;
           order = refl;
-          loose = loose-on table A C1 (pins-removed (nat_eq d) (cached_in A).blocks) (record { tables = refl; blocks = refl });
-          room = record { tables = refl; blocks = refl };
+          loose = loose-on table A C1 (pins-removed (nat_eq d) (cached_in A).blocks) refl;
+          room = record { tables = refl; blocks = refl; entries = refl };
         };
       })
       refl
@@ -212,8 +212,8 @@ module _ {S : Type 0} (state : S → StorageState) (table : TableValue) (pending
         stays = record {
           header = others.1;
           order = others.0;
-          loose = loose-on table C D (pins-written written_block (λ e. e.0) (λ e. e.1.pins) (λ e. (refl, refl)) (cached_in C).blocks (cached_in D).blocks (ap (λ (c : Cached). c.blocks) kept)) room;
-          room = room;
+          loose = loose-on table C D (pins-written written_block (λ e. e.0) (λ e. e.1.pins) (λ e. (refl, refl)) (cached_in C).blocks (cached_in D).blocks (ap (λ (c : Cached). c.blocks) kept)) room.blocks;
+          room = kept-tables C D kept room;
         };
       }
 

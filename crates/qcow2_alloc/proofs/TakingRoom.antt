@@ -20,7 +20,7 @@ use Rattle.qcow2_alloc.specs.declared.cache.MetadataCaches.{MetadataCaches}
 use Rattle.qcow2_alloc.specs.declared.file.ImageFile.{ImageFile}
 use Rattle.qcow2_alloc.specs.Allocating.{CountsNamed, named_part}
 use Rattle.qcow2_alloc.specs.Allocators.{metadata_of}
-use Rattle.qcow2_alloc.specs.Caches.{cached_in, order_of, HasRoomOf}
+use Rattle.qcow2_alloc.specs.Caches.{cached_in, order_of, HasRoomOf, KeepsTables}
 use Rattle.qcow2_alloc.specs.Finding.{PinsNothing}
 use Rattle.qcow2_alloc.specs.FreeList.{covers}
 use Rattle.qcow2_alloc.specs.Freeing.{IsLoose, WhyNotCounted, WhyNotFreed}
@@ -39,7 +39,7 @@ use Rattle.qcow2_alloc.proofs.ForgettingRuns.{memory-counts}
 use Rattle.qcow2_alloc.proofs.FreeClusters.{uncounted-free, flushes-count, clean-counts}
 use Rattle.qcow2_alloc.proofs.FreeingEntries.{failed}
 use Rattle.qcow2_alloc.proofs.GrownTables.{covers-inside, covers-before}
-use Rattle.qcow2_alloc.proofs.Loose.{StaysLoose, loose-on}
+use Rattle.qcow2_alloc.proofs.Loose.{kept-tables, StaysLoose, loose-on}
 use Rattle.qcow2_alloc.proofs.NamingNewBlocks.{rank-before}
 use Rattle.qcow2_alloc.proofs.FindingRoom.{lacks-inside}
 use Rattle.qcow2_alloc.proofs.Pins.{pins-written}
@@ -142,7 +142,7 @@ module _ {S : Type 0} (state : S → StorageState) (table : TableValue) (pending
           order = next.stays.order ∙ counts.order;
           header = next.stays.header ∙ counts.header;
           loose = λ loose. next.stays.loose (counts.loose loose);
-          room = record { tables = next.stays.room.tables ∙ counts.room.tables; blocks = next.stays.room.blocks ∙ counts.room.blocks };
+          room = record { tables = next.stays.room.tables ∙ counts.room.tables; blocks = next.stays.room.blocks ∙ counts.room.blocks; entries = next.stays.room.entries ∙ counts.room.entries };
           cause = caused result cause;
         }
       where
@@ -191,8 +191,8 @@ module _ {S : Type 0} (state : S → StorageState) (table : TableValue) (pending
         stays = record {
           header = others.1;
           order = others.0;
-          loose = loose-on table C D (pins-written written_block (λ e. e.0) (λ e. e.1.pins) (λ e. (refl, refl)) (cached_in C).blocks (cached_in D).blocks (ap (λ (c : Cached). c.blocks) kept)) room;
-          room = room;
+          loose = loose-on table C D (pins-written written_block (λ e. e.0) (λ e. e.1.pins) (λ e. (refl, refl)) (cached_in C).blocks (cached_in D).blocks (ap (λ (c : Cached). c.blocks) kept)) room.blocks;
+          room = kept-tables C D kept room;
         };
       }
 
@@ -205,7 +205,7 @@ module _ {S : Type 0} (state : S → StorageState) (table : TableValue) (pending
       flushed-then = counts-then result D fD flushing (why result cause)
 
     -- or forgotten,
-    module _ (result : Result Unit Fault) (D : MetadataCaches S) (n : ℕ) (few : n ≤ run.len) (forgets : ForgetsRun run.first n (cached_in C) result (cached_in D)) (order : D.order ≡ C.order) (pins : PinsNothing (cached_in C).blocks (cached_in D).blocks) (room : HasRoomOf C D)
+    module _ (result : Result Unit Fault) (D : MetadataCaches S) (n : ℕ) (few : n ≤ run.len) (forgets : ForgetsRun run.first n (cached_in C) result (cached_in D)) (order : D.order ≡ C.order) (pins : PinsNothing (cached_in C).blocks (cached_in D).blocks) (room : KeepsTables C D)
         (cause : IfErr result (λ fault. (fault ≡ CacheFull) × IsPinnedWithin run.first n C)) where
       there : (P : Metadata → Type 0) → P (record (At C fC) { cached = cached_in D }) → P (At D fC)
       there P p = subst (λ (o : CacheDependency). P (record (At C fC) { cached = cached_in D; order = o })) (sym order) p
@@ -224,7 +224,7 @@ module _ {S : Type 0} (state : S → StorageState) (table : TableValue) (pending
             (quietly-otherwise (IsWhole result) (λ _. 0) (λ _. 0) ours ours (state fC.image) (At C fC) (state fC.image) _ (λ s c. omega arith) (λ s c used none. refl)
             (memory-quietly (IsWhole result) (λ _. 0) (λ _. 0) (state fC.image) (At C fC) _ (λ s whole. let stays = (forgotten-there given).0 in (stays.sound, stays.quiet))));
         same = λ given sound whole. forgotten-same given;
-        stays = record { header = refl; order = order; loose = loose-on table C D pins room; room = room };
+        stays = record { header = refl; order = order; loose = loose-on table C D pins room.blocks; room = room };
       }
 
       -- No block that the table names is in the run.
@@ -255,7 +255,7 @@ module _ {S : Type 0} (state : S → StorageState) (table : TableValue) (pending
         later = writes.writes.later;
         quiet = λ given sound. with-header (λ m. Quietly (IsWhole result) ours ours (state fC.image) (At C fC) (state fD.image) m) (writes.writes.quiet (At C fC) ours (may given));
         same = λ given sound whole c. with-header (λ m. counted m c ≡ counted (At C fC) c) ((writes.writes.counts (At C fC) ours (may given) (on given.0) sound (writes.writes.whole whole)).memory c);
-        stays = record { header = header; order = refl; loose = λ loose. loose; room = record { tables = refl; blocks = refl } };
+        stays = record { header = header; order = refl; loose = λ loose. loose; room = record { tables = refl; blocks = refl; entries = refl } };
       }
 
       why-cut : (r : Result Unit Fault) → MatchResult r (λ _. (state fD.image).faults ≡ (state fC.image).faults) (Cause (state fC.image).faults (state fD.image).faults)
@@ -295,14 +295,14 @@ module _ {S : Type 0} (state : S → StorageState) (table : TableValue) (pending
   pub header-there : fD.header ≡ before.header
   header-there = counts-flushed.header
 
-  pub room-not-forgotten : (fault : Fault) (E : MetadataCaches S) → ForgetsRun run.first n (cached_in D) (failed fault) (cached_in E) → E.order ≡ D.order → PinsNothing (cached_in D).blocks (cached_in E).blocks → HasRoomOf D E → (fault ≡ CacheFull) × IsPinnedWithin run.first n D
+  pub room-not-forgotten : (fault : Fault) (E : MetadataCaches S) → ForgetsRun run.first n (cached_in D) (failed fault) (cached_in E) → E.order ≡ D.order → PinsNothing (cached_in D).blocks (cached_in E).blocks → KeepsTables D E → (fault ≡ CacheFull) × IsPinnedWithin run.first n D
       → TakesRoom state table run old before (Err fault) E fD pending
   room-not-forgotten fault E forgets order pins space why = record {
     counts = forgotten-then state table pending run old before D fD counts-flushed (failed fault) E n few forgets order pins space why;
     taken = λ o k s z. tt;
   }
 
-  module _ (E : MetadataCaches S) (forgets : ForgetsRun run.first n (cached_in D) succeeded (cached_in E)) (order : E.order ≡ D.order) (pins : PinsNothing (cached_in D).blocks (cached_in E).blocks) (space : HasRoomOf D E) where
+  module _ (E : MetadataCaches S) (forgets : ForgetsRun run.first n (cached_in D) succeeded (cached_in E)) (order : E.order ≡ D.order) (pins : PinsNothing (cached_in D).blocks (cached_in E).blocks) (space : KeepsTables D E) where
     counts-forgotten : CountsNamed state table run.first run.len old before succeeded E fD pending
     counts-forgotten = forgotten-then state table pending run old before D fD counts-flushed succeeded E n few forgets order pins space tt
 

@@ -146,7 +146,7 @@ not-begun state known table pending run copy caches file fault why = record {
   moved = moved-none file.header file.header refl;
   longer = omega arith;
   loose = λ loose. loose;
-  room = record { tables = refl; blocks = refl };
+  room = record { tables = refl; blocks = refl; entries = refl };
   table_is = tt;
   stays = λ mild. (refl, refl);
   cause = why;

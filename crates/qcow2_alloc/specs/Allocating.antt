@@ -17,7 +17,7 @@ use Rattle.qcow2_alloc.specs.declared.cache.CacheDependency.TheVariants.{L2Depen
 use Rattle.qcow2_alloc.specs.declared.cache.MetadataCaches.{MetadataCaches}
 use Rattle.qcow2_alloc.specs.declared.file.ImageFile.{ImageFile}
 use Rattle.qcow2_alloc.specs.Allocators.{metadata_of, named_block, UsesBlock}
-use Rattle.qcow2_alloc.specs.Caches.{order_of, HasRoomOf}
+use Rattle.qcow2_alloc.specs.Caches.{order_of, KeepsTables}
 use Rattle.qcow2_alloc.specs.FreeList.{covers}
 use Rattle.qcow2_alloc.specs.Freeing.{IsLoose, WhyNotCounted}
 use Rattle.qcow2_alloc.specs.Going.{IsWhole}
@@ -62,7 +62,7 @@ pub record CountsPart {S : Type 0} (state : S → StorageState) (handed : ℕ �
   pub order : order_of new ≡ order_of old
   pub header : after.header ≡ before.header
   pub loose : IsLoose table old → IsLoose table new
-  pub room : HasRoomOf old new
+  pub room : KeepsTables old new
   pub cause : MatchResult result (λ _. (state after.image).faults ≡ (state before.image).faults)
       (WhyNotCounted (IsTrue (state before.image).shape.keeps × (order_of old ≡ L2DependsOnRb) × IsSound (metadata_of state before old table pending)
       × ((c : ℕ) → first ≤ c → c < first + n → (counted (metadata_of state before old table pending) c ≡ 0) × ready c))
@@ -96,7 +96,7 @@ pub record MakesBlock {S : Type 0} (state : S → StorageState) (index : ℕ) (t
   pub order : order_of new ≡ order_of old
   pub header : after.header ≡ before.header
   pub loose : IsLoose table old → IsLoose table' new
-  pub room : HasRoomOf old new
+  pub room : KeepsTables old new
   pub cause : MatchResult result (λ _. (state after.image).faults ≡ (state before.image).faults)
       (WhyNotAllocated (IsTrue (state before.image).shape.keeps × (order_of old ≡ L2DependsOnRb) × IsSound (metadata_of state before old table pending)) (IsLoose table old)
       (λ number. (number ≤ index * counters_of_block before.header.fields) × (IsInReach before.header.fields.cluster_bits number → ⊥)) (state before.image).faults (state after.image).faults)
@@ -119,7 +119,7 @@ pub record Allocating {S : Type 0} (state : S → StorageState) (ok : Type 0) (h
   pub moved : MovedTable before.header after.header
   pub longer : length table.words ≤ length table'.words
   pub loose : IsLoose table old → IsLoose table' new
-  pub room : HasRoomOf old new
+  pub room : KeepsTables old new
 
 -- The blocks at these indices are made that there aren't, and the answer is whether one was. Words that named a block stay.
 pub record MakesBlocks {S : Type 0} (state : S → StorageState) (first end : ℕ) (table : TableValue) (old : MetadataCaches S) (before : ImageFile S) (result : Result Bool Fault) (table' : TableValue) (new : MetadataCaches S) (after : ImageFile S) (pending : List FreeEntry) : Type 0 where

@@ -1,8 +1,8 @@
 -- What contracts see of the two caches.
-use Rattle.std.specs.Prelude.{◌≡◌}
+use Rattle.std.specs.Prelude.{◌≡◌, map}
 use Rattle.qcow2_alloc.specs.declared.cache.MetadataCaches.{MetadataCaches}
 use Rattle.qcow2_alloc.specs.declared.cache.CacheDependency.{CacheDependency}
-use Rattle.qcow2_alloc.specs.Memory.{Cached}
+use Rattle.qcow2_alloc.specs.Memory.{Cached, written_table}
 
 -- the cached tables and blocks
 abbrev pub cached_in : {S : Type 0} → MetadataCaches S → Cached
@@ -16,3 +16,10 @@ order_of caches = caches.order
 pub record HasRoomOf {S : Type 0} (old new : MetadataCaches S) : Type 0 where
   pub tables : new.l2.slots.cap ≡ old.l2.slots.cap
   pub blocks : new.rb.slots.cap ≡ old.rb.slots.cap
+
+-- So there is, and the L2 tables are those that were cached, in the same order and pinned as often: each is as it was, but that it may have
+-- been written.
+pub record KeepsTables {S : Type 0} (old new : MetadataCaches S) : Type 0 where
+  pub tables : new.l2.slots.cap ≡ old.l2.slots.cap
+  pub blocks : new.rb.slots.cap ≡ old.rb.slots.cap
+  pub entries : map written_table (cached_in new).tables ≡ map written_table (cached_in old).tables

@@ -11,7 +11,7 @@ use Rattle.qcow2_alloc.specs.declared.cache.CacheDependency.TheVariants.{RbDepen
 use Rattle.qcow2_alloc.specs.declared.cache.MetadataCaches.{MetadataCaches}
 use Rattle.qcow2_alloc.specs.declared.file.ImageFile.{ImageFile}
 use Rattle.qcow2_alloc.specs.Allocators.{metadata_of, named_block}
-use Rattle.qcow2_alloc.specs.Caches.{cached_in, HasRoomOf}
+use Rattle.qcow2_alloc.specs.Caches.{cached_in, KeepsTables}
 use Rattle.qcow2_alloc.specs.Finding.{pinned_among, pinned_in, PinsNothing}
 use Rattle.qcow2_alloc.specs.FreeList.{entry_at, listed, shortened}
 use Rattle.qcow2_alloc.specs.Going.{IsWhole}
@@ -71,7 +71,7 @@ pub record Frees {S : Type 0} (state : S → StorageState) (table : TableValue) 
   pub fallen : (mark' ≡ mark) ⊎ (listed pending' mark' < listed pending mark')
   pub header : after.header ≡ before.header
   pub pins : PinsNothing (cached_in old).blocks (cached_in new).blocks
-  pub room : HasRoomOf old new
+  pub room : KeepsTables old new
   pub less : (c : ℕ) → listed pending' c ≤ listed pending c
   pub fewer : length pending' ≤ length pending
   pub cause : CountsFreeing (IsTrue (state before.image).shape.keeps × IsSound (metadata_of state before old table pending)) (HasSpareRoom old) (state before.image).faults (state after.image).faults result

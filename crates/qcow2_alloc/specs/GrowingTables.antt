@@ -2,7 +2,7 @@
 use Rattle.std.specs.Prelude.{◌≡◌, ◌⊎◌, ℕ, ◌+◌, ◌-◌, ◌*◌, ◌/◌, ◌^◌, ◌<◌, ◌≤◌, ◌==◌, ◌++◌, ◌∷◌, [], IsTrue, min, true, if◌then◌else◌, List, Some, Result, Err, OnOk, OnErr, IfErr, MatchResult, length, slice_index}
 use Rattle.imago_storage.specs.State.{StorageState}
 use Rattle.imago_storage.specs.declared.fault.Fault.{Fault}
-use Rattle.imago_storage.specs.declared.fault.Fault.TheVariants.{CacheFull}
+use Rattle.imago_storage.specs.declared.fault.Fault.TheVariants.{CacheFull, Limit}
 use Rattle.qcow2_types.specs.Header.{Fields, cluster_size, words_of_cluster}
 use Rattle.qcow2_types.specs.Words.{block_offset}
 use Rattle.qcow2_types.specs.Counts.{counters_of_block}
@@ -51,6 +51,14 @@ abbrev pub NoPlaceToGrow : Metadata → (mark at number : ℕ) → Type 0
 NoPlaceToGrow m mark at number = (((n : ℕ) → IsEnough (words_of_cluster m.header.fields) (counters_of_block m.header.fields) at n → 2 ^ 20 < n) × (number ≡ 2 ^ 20 + words_of_cluster m.header.fields))
     ⊎ ((first : ℕ) × (total : ℕ) × (clusters : ℕ) × IsRoomToGrow m mark at first total clusters × (IsRoomInReach m first total clusters → ⊥) × (number ≡ first + (total - 1)))
 
+-- A cluster of the room that the table takes to hold an index, which it has no word for.
+abbrev pub IsInRoomToGrow : Metadata → (mark at c : ℕ) → Type 0
+IsInRoomToGrow m mark at c = (length m.table.words ≤ at) × (first : ℕ) × (total : ℕ) × (clusters : ℕ) × IsRoomToGrow m mark at first total clusters × (first ≤ c) × (c < first + total)
+
+-- What is counted anew for a cluster comes no later than it, or is the room of a table that has a word for its block.
+abbrev pub IsTakenFor : (mark cluster : ℕ) → Metadata → Metadata → Type 0
+IsTakenFor mark cluster m m' = (c : ℕ) → counted m c ≡ 0 → 0 < counted m' c → (c ≤ cluster) ⊎ IsInRoomToGrow m mark (cluster / counters_of_block m.header.fields) c
+
 -- The table has grown for an index: it stands in its room behind the blocks that were lacking for that, in the order of their indices. Its words
 -- name these blocks, and those that they named before. Each cluster of the room is counted, and no other count changed.
 pub record TableGrown (mark at : ℕ) (m m' : Metadata) : Type 0 where
@@ -80,6 +88,8 @@ pub record GrowsTable {S : Type 0} (state : S → StorageState) (mark at : ℕ) 
   pub step : Allocating state (IsWhole result) leaked table old before pending table' new after pending'
   pub grown : order_of old ≡ L2DependsOnRb → IsTrue (state before.image).shape.keeps → IsSound (metadata_of state before old table pending)
       → OnOk result (TableGrown mark at (metadata_of state before old table pending) (metadata_of state after new table' pending'))
+  pub barred : order_of old ≡ L2DependsOnRb → IsTrue (state before.image).shape.keeps → IsSound (metadata_of state before old table pending)
+      → (number : ℕ) → result ≡ Err (Limit number) → (c : ℕ) → counted (metadata_of state after new table' pending') c ≡ counted (metadata_of state before old table pending) c
   pub enough : OnOk result (IsGrownLength (words_of_cluster before.header.fields) (counters_of_block before.header.fields) at (length table'.words))
   pub waits : OnOk result (pending' ≡ pending ++ table_run before.header.fields)
   pub kept : OnErr result (pending' ≡ pending)

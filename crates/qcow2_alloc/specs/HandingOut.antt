@@ -15,20 +15,20 @@ use Rattle.qcow2_alloc.specs.declared.cache.MetadataCaches.{MetadataCaches}
 use Rattle.qcow2_alloc.specs.declared.file.ImageFile.{ImageFile}
 use Rattle.qcow2_alloc.specs.Allocating.{MovedTable, OnlyRaised, WhyNotAllocated}
 use Rattle.qcow2_alloc.specs.Allocators.{metadata_of}
-use Rattle.qcow2_alloc.specs.Caches.{order_of, HasRoomOf}
-use Rattle.qcow2_alloc.specs.Crowding.{IsCrowded}
-use Rattle.qcow2_alloc.specs.Freeing.{IsLoose, IsMarked}
+use Rattle.qcow2_alloc.specs.Caches.{order_of, KeepsTables}
+use Rattle.qcow2_alloc.specs.Crowding.{IsCrowded, TakesLittle}
+use Rattle.qcow2_alloc.specs.Freeing.{Frees, IsLoose, IsMarked, IsRestInTurn}
 use Rattle.qcow2_alloc.specs.Going.{IsWhole, IsMild}
-use Rattle.qcow2_alloc.specs.GrowingTables.{IsLengthenedByTable, Leaks, NoPlaceToGrow, TableGrown, table_run}
+use Rattle.qcow2_alloc.specs.GrowingTables.{IsLengthenedByTable, IsTakenFor, Leaks, NoPlaceToGrow, TableGrown, table_run}
 use Rattle.qcow2_alloc.specs.Quiet.{Metadata, IsSound, IsQuiet, Quietly, counted, named_at_all, waiting, one_at}
-use Rattle.qcow2_alloc.specs.ReadyingRuns.{handed_by, mark_behind, IsLengthened, IsRunCounted}
+use Rattle.qcow2_alloc.specs.ReadyingRuns.{handed_by, mark_behind, IsRunCounted}
 
--- Caches that had room to spare have it still, and the refcount table names what is pinned where it did; there is as much room; and nothing of
--- the header has changed but perhaps the refcount table's place.
+-- Caches that had room to spare have it still, and the refcount table names what is pinned where it did; there is as much room, and the L2 tables
+-- are kept; and nothing of the header has changed but perhaps the refcount table's place.
 pub record StaysInShape {S : Type 0} (table : TableValue) (old : MetadataCaches S) (before : ImageFile S) (table' : TableValue) (new : MetadataCaches S) (after : ImageFile S) : Type 0 where
   pub moved : MovedTable before.header after.header
   pub loose : IsLoose table old → IsLoose table' new
-  pub room : HasRoomOf old new
+  pub room : KeepsTables old new
 
 -- The refcount table grows until it holds an index: first it is announced that blocks are written before tables. The old table waits to be freed
 -- then. A sound image stays sound, and its disk as it is, stops included. Refused without being cut off, table, header and list are what they
@@ -50,15 +50,13 @@ pub record GrowsReftable {S : Type 0} (state : S → StorageState) (mark at : �
       (λ number. IsTrue (state before.image).shape.keeps → IsSound (metadata_of state before old table pending) → NoPlaceToGrow (metadata_of state before old table pending) mark at number)
       (state before.image).faults (state after.image).faults)
 
--- The image once what waited was freed, and it was announced that blocks are written before tables; the search begins at a cluster before which
--- each is counted where that was so.
+-- The image once something of what waited was freed: nothing was counted up. The search begins at a cluster before which each is counted where
+-- that was so.
 pub record IsFreed (m : Metadata) (mark : ℕ) (m' : Metadata) (mark' : ℕ) : Type 0 where
   pub sound : IsSound m'
   pub quiet : IsQuiet (λ _. 0) (λ _. 0) m m'
   pub header : m'.header ≡ m.header
   pub table : m'.table ≡ m.table
-  pub order : m'.order ≡ L2DependsOnRb
-  pub empty : m'.pending ≡ []
   pub lower : mark' ≤ mark
   pub marked : IsMarked m mark → IsMarked m' mark'
 
@@ -80,20 +78,30 @@ pub record AllocatesClusters {S : Type 0} (state : S → StorageState) (mark n :
   pub quiet : Quietly (IsWhole result) (handed_by result leaked) (λ _. 0) (state before.image) (metadata_of state before old table pending) (state after.image) (metadata_of state after new table' pending')
   pub run : IfOk result (λ entry. (entry.count ≡ n) × (entry.metadata ≡ metadata) × (0 < n → (entry.first ≢ 0) × IsInReach before.header.fields.cluster_bits (entry.first + (n - 1))))
   pub unnamed : IsTrue (state before.image).shape.keeps → IsSound (metadata_of state before old table pending) → IfOk result (AreUnnamed (metadata_of state after new table' pending'))
-  -- the image once what waited was freed
-  pub mid : Metadata
+  -- What waits is freed; where that is refused nothing else is done.
+  pub answer : Result Unit Fault
+  pub between : MetadataCaches S
+  pub at : ImageFile S
   pub mid_mark : ℕ
-  pub freed : IsTrue (state before.image).shape.keeps → IsSound (metadata_of state before old table pending) → IsSearched result → IsFreed (metadata_of state before old table pending) mark mid mid_mark
+  pub left : List FreeEntry
+  pub frees : Frees state table old before mark pending answer between at mid_mark left
+  pub rest : IsRestInTurn pending left
+  pub halted : (fault : Fault) → answer ≡ Err fault → (result ≡ Err fault) × (new ≡ between) × (after ≡ at) × (table' ≡ table) × (pending' ≡ left)
+  -- the image once the order was announced then
+  pub mid : Metadata
+  pub freed : IsTrue (state before.image).shape.keeps → IsSound (metadata_of state before old table pending) → IsWhole result → IsFreed (metadata_of state before old table pending) mark mid mid_mark
+  pub all : IsSearched result → (left ≡ []) × (mid.order ≡ L2DependsOnRb)
   pub fresh : IsTrue (state before.image).shape.keeps → IsSound (metadata_of state before old table pending) → IfOk result (λ entry. (c : ℕ) → entry.first ≤ c → c < entry.first + n → counted mid c ≡ 0)
   pub taken : IsTrue (state before.image).shape.keeps → IsSound (metadata_of state before old table pending) → IfOk result (IsRunCounted mid_mark n (metadata_of state after new table' pending'))
-  pub raised : IsTrue (state before.image).shape.keeps → IsSound (metadata_of state before old table pending) → IsSearched result → OnlyRaised mid (metadata_of state after new table' pending')
+  pub little : IsTrue (state before.image).shape.keeps → IsSound (metadata_of state before old table pending) → IfOk result (λ _. TakesLittle mid_mark n mid (metadata_of state after new table' pending'))
+  pub raised : IsTrue (state before.image).shape.keeps → IsSound (metadata_of state before old table pending) → IsWhole result → OnlyRaised mid (metadata_of state after new table' pending')
   pub marked : IsTrue (state before.image).shape.keeps → IsSound (metadata_of state before old table pending) → IsWhole result
       → IsMarked (metadata_of state before old table pending) mark → IsMarked (metadata_of state after new table' pending') mark'
   pub further : IfOk result (λ entry. mark' ≡ mark_behind mid_mark n entry.first)
-  pub stays : OnErr result (IsSearched result → mark' ≡ mid_mark)
+  pub stays : OnErr result (mark' ≡ mid_mark)
   pub order : OnOk result (order_of new ≡ L2DependsOnRb)
   pub shape : StaysInShape table old before table' new after
-  pub list : IsSearched result → IsLengthened table table' [] pending'
+  pub list : IsLengthenedByTable before.header.fields table table' left pending'
   pub cause : MatchResult result (λ _. (state after.image).faults ≡ (state before.image).faults)
       (WhyNotAllocated (IsTrue (state before.image).shape.keeps × IsSound (metadata_of state before old table pending)) (IsLoose table old)
       (λ _. IsTrue (state before.image).shape.keeps → IsSound (metadata_of state before old table pending) → IsCrowded mid mid_mark n)
@@ -142,6 +150,8 @@ pub record AllocatesClusterAt {S : Type 0} (state : S → StorageState) (mark cl
   pub raised : IsTrue (state before.image).shape.keeps → IsSound (metadata_of state before old table pending) → IsWhole result → OnlyRaised (metadata_of state before old table pending) (metadata_of state after new table' pending')
   pub one : IfOk result (IsOneAt cluster before.header.fields.cluster_bits)
   pub answer : IsTrue (state before.image).shape.keeps → IsSound (metadata_of state before old table pending) → IfOk result (IsHandedAt (IsBarred (metadata_of state before old table pending) mark cluster) cluster (metadata_of state before old table pending) (metadata_of state after new table' pending'))
+  pub near : IsTrue (state before.image).shape.keeps → IsSound (metadata_of state before old table pending)
+      → IfOk result (λ _. IsTakenFor mark cluster (metadata_of state before old table pending) (metadata_of state after new table' pending'))
   pub further : IfOk result (λ found. mark' ≡ mark_past mark cluster found)
   pub stays : OnErr result (mark' ≡ mark)
   pub marked : IsTrue (state before.image).shape.keeps → IsSound (metadata_of state before old table pending) → IsWhole result

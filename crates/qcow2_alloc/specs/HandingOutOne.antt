@@ -14,7 +14,7 @@ use Rattle.qcow2_alloc.specs.Allocators.{metadata_of}
 use Rattle.qcow2_alloc.specs.Caches.{order_of}
 use Rattle.qcow2_alloc.specs.Freeing.{IsLoose, IsMarked}
 use Rattle.qcow2_alloc.specs.Going.{IsWhole}
-use Rattle.qcow2_alloc.specs.GrowingTables.{IsLengthenedByTable, Leaks}
+use Rattle.qcow2_alloc.specs.GrowingTables.{IsLengthenedByTable, IsTakenFor, Leaks}
 use Rattle.qcow2_alloc.specs.HandingOut.{handed_at, mark_past, IsBarred, IsHandedAt, IsOneAt}
 use Rattle.qcow2_alloc.specs.Quiet.{Metadata, IsSound}
 
@@ -39,6 +39,8 @@ pub record ReadiesWord {S : Type 0} (state : S → StorageState) (mark cluster :
   pub there : IfOk result (λ there. there ≡ true → cluster / counters_of_block before.header.fields < length table'.words)
   pub barred : order_of old ≡ L2DependsOnRb → IsTrue (state before.image).shape.keeps → IsSound (metadata_of state before old table pending)
       → IfOk result (λ there. there ≡ false → IsBarred (metadata_of state before old table pending) mark cluster)
+  pub near : order_of old ≡ L2DependsOnRb → IsTrue (state before.image).shape.keeps → IsSound (metadata_of state before old table pending)
+      → IfOk result (λ there. IsTakenFor mark cluster (metadata_of state before old table pending) (metadata_of state after new table' pending'))
 
 -- and so it names the block that counts the cluster.
 pub record ReadiesCounter {S : Type 0} (state : S → StorageState) (mark cluster : ℕ) (table : TableValue) (old : MetadataCaches S) (before : ImageFile S) (pending : List FreeEntry) (result : Result Bool Fault) (table' : TableValue) (new : MetadataCaches S) (after : ImageFile S) (pending' : List FreeEntry) : Type 0 where
@@ -46,6 +48,8 @@ pub record ReadiesCounter {S : Type 0} (state : S → StorageState) (mark cluste
   pub there : IfOk result (λ there. there ≡ true → block_offset (slice_index table'.words (cluster / counters_of_block before.header.fields)) ≢ 0)
   pub barred : order_of old ≡ L2DependsOnRb → IsTrue (state before.image).shape.keeps → IsSound (metadata_of state before old table pending)
       → IfOk result (λ there. there ≡ false → IsBarred (metadata_of state before old table pending) mark cluster)
+  pub near : order_of old ≡ L2DependsOnRb → IsTrue (state before.image).shape.keeps → IsSound (metadata_of state before old table pending)
+      → IfOk result (λ there. IsTakenFor mark cluster (metadata_of state before old table pending) (metadata_of state after new table' pending'))
 
 -- whether a cluster was counted
 abbrev pub counting_of : Result (Option FreeEntry) Fault → Result Unit Fault
@@ -65,6 +69,8 @@ pub record AllocatesAt {S : Type 0} (state : S → StorageState) (barred : Metad
   pub one : IfOk result (IsOneAt cluster before.header.fields.cluster_bits)
   pub answer : order_of old ≡ L2DependsOnRb → IsTrue (state before.image).shape.keeps → IsSound (metadata_of state before old table pending)
       → IfOk result (IsHandedAt (barred (metadata_of state before old table pending)) cluster (metadata_of state before old table pending) (metadata_of state after new table' pending'))
+  pub near : order_of old ≡ L2DependsOnRb → IsTrue (state before.image).shape.keeps → IsSound (metadata_of state before old table pending)
+      → IfOk result (λ _. IsTakenFor mark cluster (metadata_of state before old table pending) (metadata_of state after new table' pending'))
   pub further : IfOk result (λ found. mark' ≡ mark_past mark cluster found)
   pub stays : OnErr result (mark' ≡ mark)
   pub marked : order_of old ≡ L2DependsOnRb → IsTrue (state before.image).shape.keeps → IsSound (metadata_of state before old table pending) → IsWhole result

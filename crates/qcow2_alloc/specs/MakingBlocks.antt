@@ -17,7 +17,7 @@ use Rattle.qcow2_alloc.specs.declared.cache.MetadataCaches.{MetadataCaches}
 use Rattle.qcow2_alloc.specs.declared.file.ImageFile.{ImageFile}
 use Rattle.qcow2_alloc.specs.Allocating.{MakesBlock, OnlyRaised}
 use Rattle.qcow2_alloc.specs.Allocators.{metadata_of}
-use Rattle.qcow2_alloc.specs.Caches.{order_of, HasRoomOf}
+use Rattle.qcow2_alloc.specs.Caches.{order_of, KeepsTables}
 use Rattle.qcow2_alloc.specs.Freeing.{IsLoose}
 use Rattle.qcow2_alloc.specs.Quiet.{Metadata, IsSound, Quietly, counted}
 
@@ -60,7 +60,7 @@ pub record Begins {S : Type 0} (state : S → StorageState) (table : TableValue)
   pub header : after.header ≡ before.header
   pub order : new.order ≡ old.order
   pub loose : IsLoose table old → IsLoose table new
-  pub room : HasRoomOf old new
+  pub room : KeepsTables old new
 
 -- A block is made in a cluster that another counts, by a call that came so far and knows by what the image was that this one is free.
 abbrev pub MakesIn : {S : Type 0} → (S → StorageState) → ℕ → ℕ → TableValue → MetadataCaches S → ImageFile S → Result Unit Fault → TableValue → MetadataCaches S → ImageFile S → Type 0

@@ -23,7 +23,7 @@ use Rattle.qcow2_alloc.specs.declared.cache.MetadataCaches.{MetadataCaches}
 use Rattle.qcow2_alloc.specs.declared.file.ImageFile.{ImageFile}
 use Rattle.qcow2_alloc.specs.Allocating.{CountsNamed, MovedTable, OnlyRaised}
 use Rattle.qcow2_alloc.specs.Allocators.{metadata_of}
-use Rattle.qcow2_alloc.specs.Caches.{cached_in, order_of, HasRoomOf}
+use Rattle.qcow2_alloc.specs.Caches.{cached_in, order_of, KeepsTables}
 use Rattle.qcow2_alloc.specs.Finding.{pinned_among}
 use Rattle.qcow2_alloc.specs.FreeList.{covers}
 use Rattle.qcow2_alloc.specs.Freeing.{IsLoose, WhyNotCounted}
@@ -180,7 +180,7 @@ module _ {S : Type 0} (state : S → StorageState) where
     pub moved : MovedTable before.header after.header
     pub longer : length table.words ≤ length table'.words
     pub loose : IsLoose table old → IsLoose table' new
-    pub room : HasRoomOf old new
+    pub room : KeepsTables old new
     pub table_is : OnOk result (table' ≡ record copy { modified = false })
     pub stays : IfErr result (λ fault. IsMild fault → (table' ≡ table) × (after.header ≡ before.header))
     pub cause : MatchResult result (λ _. (state after.image).faults ≡ (state before.image).faults)

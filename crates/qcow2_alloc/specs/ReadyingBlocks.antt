@@ -1,5 +1,5 @@
 -- What a run of clusters needs before it can be counted.
-use Rattle.std.specs.Prelude.{◌≡◌, ◌≢◌, ◌⊎◌, ℕ, ◌+◌, ◌-◌, ◌*◌, ◌/◌, ◌^◌, ◌<◌, ◌≤◌, Bool, true, false, IsTrue, List, Result, IfOk, MatchResult, length, slice_index}
+use Rattle.std.specs.Prelude.{◌≡◌, ◌≢◌, ◌⊎◌, ℕ, ◌+◌, ◌-◌, ◌*◌, ◌/◌, ◌^◌, ◌<◌, ◌≤◌, ◌++◌, Bool, true, false, IsTrue, List, Result, IfOk, OnOk, OnErr, MatchResult, length, slice_index}
 use Rattle.imago_storage.specs.State.{StorageState}
 use Rattle.imago_storage.specs.declared.fault.Fault.{Fault}
 use Rattle.imago_storage.specs.declared.fault.Fault.TheVariants.{DamagedTable, Limit}
@@ -18,9 +18,8 @@ use Rattle.qcow2_alloc.specs.Caches.{order_of}
 use Rattle.qcow2_alloc.specs.FillingBlocks.{FillsFrom}
 use Rattle.qcow2_alloc.specs.Freeing.{IsLoose}
 use Rattle.qcow2_alloc.specs.Going.{IsWhole}
-use Rattle.qcow2_alloc.specs.GrowingTables.{Leaks, NoPlaceToGrow, TableGrown}
+use Rattle.qcow2_alloc.specs.GrowingTables.{Leaks, NoPlaceToGrow, TableGrown, table_run}
 use Rattle.qcow2_alloc.specs.Quiet.{Metadata, IsSound}
-use Rattle.qcow2_alloc.specs.ReadyingRuns.{IsLengthened}
 
 -- Why no run can be counted that begins at a cluster: it is the first of the file, which holds the header, or the run ends too far behind.
 abbrev pub WhyNotFit : Fields → ℕ → ℕ → Fault → Type 0
@@ -51,7 +50,10 @@ pub record ReadiesBlocks {S : Type 0} (state : S → StorageState) (mark at firs
   pub further : IfOk result (λ made. made ≡ true → HasMore table table')
   pub made : order_of old ≡ L2DependsOnRb → IsTrue (state before.image).shape.keeps → IsSound (metadata_of state before old table pending)
       → IfOk result (λ made. made ≡ true → HasMade mark at first last (metadata_of state before old table pending) (metadata_of state after new table' pending'))
-  pub list : IsLengthened table table' pending pending'
+  -- It grows where it has no word for the last, and only then.
+  pub once : last < length table.words → (pending' ≡ pending) × (after.header ≡ before.header) × (length table'.words ≡ length table.words)
+  pub grew : length table.words ≤ last → OnOk result ((length table.words < length table'.words) × (pending' ≡ pending ++ table_run before.header.fields))
+  pub kept : length table.words ≤ last → OnErr result (pending' ≡ pending)
   pub cause : MatchResult result (λ _. (state after.image).faults ≡ (state before.image).faults)
       (WhyNotAllocated (IsTrue (state before.image).shape.keeps × (order_of old ≡ L2DependsOnRb) × IsSound (metadata_of state before old table pending)) (IsLoose table old)
       (λ _. order_of old ≡ L2DependsOnRb → IsTrue (state before.image).shape.keeps → IsSound (metadata_of state before old table pending) → NoneCanBeMade mark at first last (metadata_of state before old table pending))

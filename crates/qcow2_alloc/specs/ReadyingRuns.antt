@@ -1,6 +1,5 @@
 -- How a run of free clusters is found and made ready to be counted, and handed out.
-use Rattle.std.specs.Prelude.{◌≡◌, ◌≢◌, ◌==◌, ℕ, ◌+◌, ◌-◌, ◌/◌, ◌<◌, ◌≤◌, ◌++◌, if◌then◌else◌, Bool, true, IsTrue, List, Result, OnErr, IfOk, Ok, Err, MatchResult, length, slice_index}
-use Rattle.std.specs.List.{AllByRecursion}
+use Rattle.std.specs.Prelude.{◌≡◌, ◌≢◌, ◌==◌, ℕ, ◌+◌, ◌-◌, ◌/◌, ◌<◌, ◌≤◌, if◌then◌else◌, Bool, IsTrue, List, Result, OnErr, IfOk, Ok, Err, MatchResult, slice_index}
 use Rattle.imago_storage.specs.State.{StorageState}
 use Rattle.imago_storage.specs.declared.fault.Fault.{Fault}
 use Rattle.qcow2_types.specs.Words.{block_offset}
@@ -14,20 +13,13 @@ use Rattle.qcow2_alloc.specs.declared.file.ImageFile.{ImageFile}
 use Rattle.qcow2_alloc.specs.Allocating.{Allocating, WhyNotAllocated}
 use Rattle.qcow2_alloc.specs.Allocators.{metadata_of}
 use Rattle.qcow2_alloc.specs.Caches.{order_of}
-use Rattle.qcow2_alloc.specs.Crowding.{IsCrowded}
+use Rattle.qcow2_alloc.specs.Crowding.{IsCrowded, IsRoomy, TakesLittle, room_for}
 use Rattle.qcow2_alloc.specs.FreeList.{covers}
 use Rattle.qcow2_alloc.specs.Freeing.{IsLoose, IsMarked}
 use Rattle.qcow2_alloc.specs.Going.{IsWhole}
-use Rattle.qcow2_alloc.specs.GrowingTables.{Leaks}
+use Rattle.qcow2_alloc.specs.GrowingTables.{IsLengthenedByTable, Leaks}
 use Rattle.qcow2_alloc.specs.Quiet.{Metadata, IsSound, counted}
 use Rattle.qcow2_alloc.specs.SearchingClusters.{IsFirstRun}
-
--- the list, with entries of metadata behind its own; none where the refcount table is as long as it was
-pub record IsLengthened (table table' : TableValue) (old new : List FreeEntry) : Type 0 where
-  pub more : List FreeEntry
-  pub behind : new ≡ old ++ more
-  pub metadata : AllByRecursion (λ e. e.metadata ≡ true) more
-  pub same : length table'.words ≡ length table.words → new ≡ old
 
 -- The first run of n clusters from the mark on that aren't counted is ready to be: the refcount table names a block for each, and words can name it.
 pub record ReadiesRun {S : Type 0} (state : S → StorageState) (mark n : ℕ) (table : TableValue) (old : MetadataCaches S) (before : ImageFile S) (pending : List FreeEntry) (result : Result ℕ Fault) (table' : TableValue) (new : MetadataCaches S) (after : ImageFile S) (pending' : List FreeEntry) : Type 0 where
@@ -35,10 +27,13 @@ pub record ReadiesRun {S : Type 0} (state : S → StorageState) (mark n : ℕ) (
   pub leaks : Leaks (IsTrue (state before.image).shape.keeps × (order_of old ≡ L2DependsOnRb) × IsSound (metadata_of state before old table pending)) (IsLoose table old) result leaked
   pub step : Allocating state (IsWhole result) leaked table old before pending table' new after pending'
   pub found : order_of old ≡ L2DependsOnRb → IsTrue (state before.image).shape.keeps → IsSound (metadata_of state before old table pending) → IfOk result (IsFirstRun (counted (metadata_of state after new table' pending')) mark n)
+  pub little : order_of old ≡ L2DependsOnRb → IsTrue (state before.image).shape.keeps → IsSound (metadata_of state before old table pending)
+      → IfOk result (λ first. TakesLittle mark n (metadata_of state before old table pending) (metadata_of state after new table' pending')
+      × ((roomy : IsRoomy (metadata_of state before old table pending) mark n) → first + n ≤ roomy.first + room_for before.header.fields n))
   pub ready : IfOk result (λ first. (c : ℕ) → first ≤ c → c < first + n → block_offset (slice_index table'.words (c / counters_of_block before.header.fields)) ≢ 0)
   pub reach : IfOk result (λ first. IsInReach before.header.fields.cluster_bits (first + (n - 1)))
   pub some : IfOk result (λ first. first ≢ 0)
-  pub list : IsLengthened table table' pending pending'
+  pub list : IsLengthenedByTable before.header.fields table table' pending pending'
   pub cause : MatchResult result (λ _. (state after.image).faults ≡ (state before.image).faults)
       (WhyNotAllocated (IsTrue (state before.image).shape.keeps × (order_of old ≡ L2DependsOnRb) × IsSound (metadata_of state before old table pending)) (IsLoose table old)
       (λ _. order_of old ≡ L2DependsOnRb → IsTrue (state before.image).shape.keeps → IsSound (metadata_of state before old table pending) → IsCrowded (metadata_of state before old table pending) mark n)
@@ -68,11 +63,13 @@ pub record Allocates {S : Type 0} (state : S → StorageState) (mark n : ℕ) (m
   pub taken : order_of old ≡ L2DependsOnRb → IsTrue (state before.image).shape.keeps → IsSound (metadata_of state before old table pending) → IfOk result (IsRunCounted mark n (metadata_of state after new table' pending'))
   pub fresh : order_of old ≡ L2DependsOnRb → IsTrue (state before.image).shape.keeps → IsSound (metadata_of state before old table pending)
       → IfOk result (λ entry. (c : ℕ) → entry.first ≤ c → c < entry.first + n → counted (metadata_of state before old table pending) c ≡ 0)
+  pub little : order_of old ≡ L2DependsOnRb → IsTrue (state before.image).shape.keeps → IsSound (metadata_of state before old table pending)
+      → IfOk result (λ _. TakesLittle mark n (metadata_of state before old table pending) (metadata_of state after new table' pending'))
   pub moved : IfOk result (λ entry. mark' ≡ mark_behind mark n entry.first)
   pub stays : OnErr result (mark' ≡ mark)
   pub marked : order_of old ≡ L2DependsOnRb → IsTrue (state before.image).shape.keeps → IsSound (metadata_of state before old table pending) → IsWhole result
       → IsMarked (metadata_of state before old table pending) mark → IsMarked (metadata_of state after new table' pending') mark'
-  pub list : IsLengthened table table' pending pending'
+  pub list : IsLengthenedByTable before.header.fields table table' pending pending'
   pub cause : MatchResult result (λ _. (state after.image).faults ≡ (state before.image).faults)
       (WhyNotAllocated (IsTrue (state before.image).shape.keeps × (order_of old ≡ L2DependsOnRb) × IsSound (metadata_of state before old table pending)) (IsLoose table old)
       (λ _. order_of old ≡ L2DependsOnRb → IsTrue (state before.image).shape.keeps → IsSound (metadata_of state before old table pending) → IsCrowded (metadata_of state before old table pending) mark n)

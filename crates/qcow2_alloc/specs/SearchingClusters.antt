@@ -8,7 +8,7 @@ use Rattle.qcow2_types.specs.Counts.{block_at, count, counters_of_block}
 use Rattle.qcow2_metadata.specs.Tables.{TableValue}
 use Rattle.qcow2_alloc.specs.declared.cache.MetadataCaches.{MetadataCaches}
 use Rattle.qcow2_alloc.specs.declared.file.ImageFile.{ImageFile}
-use Rattle.qcow2_alloc.specs.Caches.{cached_in, order_of, HasRoomOf}
+use Rattle.qcow2_alloc.specs.Caches.{cached_in, order_of, KeepsTables}
 use Rattle.qcow2_alloc.specs.Freeing.{IsLoose, WhyNotFreed}
 use Rattle.qcow2_alloc.specs.Going.{Going, Always, IsWhole}
 use Rattle.qcow2_alloc.specs.Memory.{memory}
@@ -53,7 +53,7 @@ module _ {S : Type 0} (state : S → StorageState) where
     pub order : new.order ≡ old.order
     pub header : after.header ≡ before.header
     pub loose : IsLoose table old → IsLoose table new
-    pub room : HasRoomOf old new
+    pub room : KeepsTables old new
     pub cause : MatchResult result (λ _. (state after.image).faults ≡ (state before.image).faults) (WhyNotFreed (IsSafeWith table old before) (IsLoose table old) (state before.image).faults (state after.image).faults)
 
   -- The first run of n clusters that aren't counted, from one on, is searched for;

@@ -1,5 +1,5 @@
 //! Who gets which cluster of an image file: allocation, and the freeing of what nothing names any more.
-ghost use Rattle.std.specs.Prelude.{◌≡◌, ◌≤◌, ◌<◌, ◌-◌, ◌%◌, ◌^◌, ◌+◌, ℕ, Ok, Err, OnOk, OnErr, IfOk, IfErr, Some, None, slice_index, length, min, [], Result, MatchOption};
+ghost use Rattle.std.specs.Prelude.{◌≡◌, ◌≤◌, ◌<◌, ◌-◌, ◌%◌, ◌^◌, ◌+◌, ℕ, true, Ok, Err, OnOk, OnErr, IfOk, IfErr, Some, None, slice_index, length, min, [], Result, MatchOption};
 ghost use Rattle.imago_storage.specs.declared.fault.Fault.{Fault};
 ghost use Rattle.qcow2_metadata.specs.Blocks.{Block, with_counter};
 ghost use Rattle.qcow2_alloc.specs.Allocators.{table_of, mark_of, named_block, UsesBlock, Lowers, LowersCluster, LoadsAllocator};
@@ -12,6 +12,7 @@ ghost use Rattle.qcow2_alloc.specs.FreeList.{entry_at, shortened};
 ghost use Rattle.qcow2_alloc.specs.Freeing.{Frees, MayFree, data_in, IsRest, IsRestInTurn, OrdersFreeing};
 ghost use Rattle.qcow2_types.specs.Header.{has_external_data};
 ghost use Rattle.qcow2_alloc.specs.Finding.{BlockFound};
+ghost use Rattle.qcow2_alloc.specs.Quiet.{metadata_in};
 
 use crate::cache::MetadataCaches;
 use crate::clusters_to_free::ClustersToFreeList;
@@ -192,6 +193,7 @@ impl Allocator {
         ensures table { table_of self.new ≡ table_of self.old }
         ensures ok { OnOk result (list.new.entries ≡ data_in list.old.entries) }
         ensures left { IsRestInTurn list.old.entries list.new.entries }
+        ensures idle { metadata_in list.old.entries ≡ [] → (result ≡ Ok tt) × (caches.new ≡ caches.old) × (file.new ≡ file.old) × (self.new ≡ self.old) }
         ensures held { list.new.held ≡ list.old.held }
     {
         while let Some(index) = list.position_of_metadata() {
@@ -246,6 +248,7 @@ impl Allocator {
         ensures table { table_of self.new ≡ table_of self.old }
         ensures ok { OnOk result (list.new.entries ≡ []) }
         ensures left { IsRestInTurn list.old.entries list.new.entries }
+        ensures external { has_external_data file.old.header.fields ≡ true → metadata_in list.old.entries ≡ [] → (result ≡ Ok tt) × (caches.new ≡ caches.old) × (file.new ≡ file.old) × (self.new ≡ self.old) }
         ensures order { OrdersFreeing (has_external_data file.old.header.fields) list.old.entries list.new.entries (order_of caches.old) result (order_of caches.new) }
         ensures held { list.new.held ≡ list.old.held }
     {

@@ -28,6 +28,7 @@ ghost use Rattle.qcow2_alloc.specs.declared.async_lru_cache.Slot.{Slot};
 ghost use Rattle.qcow2_alloc.specs.declared.cache.CacheDependency.{CacheDependency};
 ghost use Rattle.qcow2_alloc.specs.declared.cache.CacheDependency.TheVariants.{L2DependsOnRb, RbDependsOnL2};
 ghost use Rattle.qcow2_alloc.specs.Cache.{hit};
+ghost use Rattle.qcow2_alloc.specs.Crowding.{space, IsRoomy};
 ghost use Rattle.qcow2_alloc.specs.Changes.{StaysAsItIs, CachesBlock, SetsCounter, CounterChanged, IsStillCovered, CachesTable, SetsWord, NamesNoMore, NamesDropped, ClusterNamed, zeroed};
 ghost use Rattle.qcow2_alloc.specs.Memory.{Cached, memory};
 ghost use Rattle.qcow2_alloc.specs.Safety.{Safe, IsLeft, IsCalm, AreTablesClean, AreBlocksClean, IsSettled};
@@ -374,4 +375,11 @@ pub fn making_a_block_that_another_counts()
         → (done : Result Unit Fault) → done ≡ Ok tt → BlockPut block (d * cluster_size m.header.fields) old mid done
         → (result : Result Unit Fault) → PutAtOnce mid new (table_place (with_word m.table i (d * cluster_size m.header.fields)) + 8 * i) (to_be_bytes w64 (slice_index (with_word m.table i (d * cluster_size m.header.fields)).words i)) result
         → Quietly (result ≡ Ok tt) (λ _. 0) (one_at d) old m new (with_block m i d modified (bytes_of new.bytes)) }
+{}
+
+/// A quarter of the space that is free in a row, from the mark on, is room for an allocation of no more than a sixteenth of it. So one that is
+/// refused with `Fault::Limit` asked for more, or there is no such quarter.
+pub fn a_quarter_is_room()
+    ensures { (m : Metadata) (mark n first : ℕ) → mark ≤ first → first + space m.header.fields / 4 ≤ space m.header.fields
+        → ((c : ℕ) → first ≤ c → c < first + space m.header.fields / 4 → counted m c ≡ 0) → n ≤ space m.header.fields / 16 → IsRoomy m mark n }
 {}

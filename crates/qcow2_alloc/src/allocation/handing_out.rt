@@ -25,8 +25,8 @@ impl Allocator {
     /// The answer is to be spent: by its `make_persistent` once a table names the clusters, and the list's `release`; or by the list's
     /// `give_back`, for which room is held. That is held before anything else, so want of memory for it leaves all as it was.
     ///
-    /// It refuses with `Fault::Limit` only where no quarter of the space is free in a row from the mark on, or more than a sixteenth of it
-    /// is asked for; with `Fault::Memory`; with `Fault::Storage`; with `Fault::CacheFull`, of a sound image whose refcount table names
+    /// It refuses with `Fault::Limit` only where a sixteenth of the space and three times the clusters asked for aren't free in a row from the
+    /// mark on, so only where no quarter of it is, or more than a sixteenth is asked for; with `Fault::Memory`; with `Fault::Storage`; with `Fault::CacheFull`, of a sound image whose refcount table names
     /// each block that is pinned, only where as many are pinned as there is room for; and with `Fault::Counter` and
     /// `Fault::DamagedTable`, which no sound image has. Nothing is handed out then, and no room is held. Blocks may have been made, and
     /// the refcount table may have grown and moved, whatever is answered: the old table's clusters wait on the list then. The file of a

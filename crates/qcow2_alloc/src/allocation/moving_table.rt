@@ -5,7 +5,7 @@ ghost use Rattle.qcow2_metadata.specs.Tables.{IsPlacedTable};
 ghost use Rattle.qcow2_types.specs.Counts.{counters_of_block};
 ghost use Rattle.qcow2_types.specs.Pending.{FreeEntry};
 ghost use Rattle.qcow2_alloc.specs.Allocators.{table_of, mark_of};
-ghost use Rattle.qcow2_alloc.specs.Caches.{cached_in, HasRoomOf};
+ghost use Rattle.qcow2_alloc.specs.Caches.{cached_in, KeepsTables};
 ghost use Rattle.qcow2_alloc.specs.Finding.{PinsNothing};
 ghost use Rattle.qcow2_alloc.specs.Growing.{lacking};
 ghost use Rattle.qcow2_alloc.specs.MovingTables.{MovesTable, NamesNewBlocks, ForgetsRun, IsPinnedWithin, TakesRoom, IsPlan, FillsFree};
@@ -145,7 +145,7 @@ fn forget_run<S: Storage>(
     ensures forgets { ForgetsRun first count (cached_in caches.old) result (cached_in caches.new) }
     ensures order { caches.new.order ≡ caches.old.order }
     ensures pins { PinsNothing (cached_in caches.old).blocks (cached_in caches.new).blocks }
-    ensures room { HasRoomOf caches.old caches.new }
+    ensures room { KeepsTables caches.old caches.new }
     ensures err { IfErr result (λ fault. (fault ≡ Fault.CacheFull) × IsPinnedWithin first count caches.old) }
 {
     for index in 0..count {

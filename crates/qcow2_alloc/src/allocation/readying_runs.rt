@@ -1,5 +1,5 @@
 //! A run of free clusters is made ready to be counted.
-ghost use Rattle.std.specs.Prelude.{◌≡◌, ◌≢◌, ◌≤◌, ◌<◌, ◌+◌, ◌-◌, ◌/◌, ◌^◌, IfOk, IfErr, length};
+ghost use Rattle.std.specs.Prelude.{◌≡◌, ◌≢◌, ◌≤◌, ◌<◌, ◌+◌, ◌-◌, ◌/◌, ◌^◌, ◌↔◌, IsTrue, IfOk, IfErr, length};
 ghost use Rattle.qcow2_types.specs.Counts.{counters_of_block};
 ghost use Rattle.qcow2_metadata.specs.Places.{IsInReach};
 ghost use Rattle.qcow2_alloc.specs.Allocators.{table_of, mark_of};
@@ -16,7 +16,8 @@ use qcow2_types::HostCluster;
 
 impl Allocator {
     // Finds the first run of so many clusters, from the mark on, that aren't counted, and sees to it that each has a block. A block or
-    // a table that is made for that takes clusters itself, so the run is searched for again then.
+    // a table that is made for that takes clusters itself, so the run is searched for again then. The table grows once at most: where there
+    // is room, one that has grown counts the run that is found then.
     pub(super) fn ready_run<S: Storage>(
         &mut self,
         file: &mut ImageFile<S>,
@@ -29,6 +30,7 @@ impl Allocator {
         ensures mark { mark_of self.new ≡ mark_of self.old }
         ensures held { list.new.held ≡ list.old.held }
     {
+        let entries = self.reftable.entries();
         loop {
             let first = match self.find_run(file, caches, self.first_free_cluster, count) {
                 Ok(first) => first,
@@ -38,6 +40,9 @@ impl Allocator {
                 Ok(index) => index,
                 Err(fault) => return Err(fault),
             };
+            if self.has_grown_short_of(entries, last_index) {
+                return Err(Fault::Limit(last_index as u64));
+            }
             let first_index = first.rt_index(file.header.rb_bits());
             match self.ready_blocks(file, caches, list, first_index, last_index, count) {
                 Ok(true) => (),
@@ -45,6 +50,14 @@ impl Allocator {
                 Err(fault) => return Err(fault),
             }
         }
+    }
+
+    // Whether the refcount table has more words than it had, and none at an index still.
+    fn has_grown_short_of(&self, entries: usize, index: usize) -> bool
+        ensures { IsTrue result ↔ ((entries < length (table_of self.now).words) × (length (table_of self.now).words ≤ index)) }
+    {
+        let now = self.reftable.entries();
+        entries < now && now <= index
     }
 
     // Makes the blocks that there aren't yet from an index to another, where the refcount table has words for them, and else lets it grow:

@@ -173,12 +173,13 @@ fn what_waits_is_counted_down(rt: HostRuntime) -> Result<(), Fail> {
     Ok(())
 }
 
-// Frees these entries, of which one isn't counted. What still waits is the answer.
+// Frees these entries, of which one can't be counted down, so. What still waits is the answer.
 fn refused_list(
     rt: &impl Abort,
     alloc: Global,
     held: &mut Counted,
     entries: &[(u64, u64, bool)],
+    want: Fault,
 ) -> Result<ClustersToFreeList, Fault> {
     let Counted {
         file,
@@ -188,7 +189,7 @@ fn refused_list(
     let mut list = waiting(alloc, entries)?;
     match allocator.process_clusters_to_free(file, caches, &mut list) {
         Err(Fault::Memory) => return Err(Fault::Memory),
-        answer => assert!(rt; answer == Err(Fault::Counter)),
+        answer => assert!(rt; answer == Err(want)),
     }
     Ok(list)
 }
@@ -196,7 +197,7 @@ fn refused_list(
 // Clusters 8 and 300 aren't counted, the latter by no block.
 fn refused_after_others(rt: &impl Abort, alloc: Global, held: &mut Counted) -> Result<(), Fault> {
     let entries = [(300, 1, false), (8, 1, false), (6, 2, false)];
-    let list = refused_list(rt, alloc, held, &entries)?;
+    let list = refused_list(rt, alloc, held, &entries, Fault::Counter)?;
     assert_eq!(rt; list.len(), 2);
     assert!(rt; list.entry(1).first_cluster() == HostCluster(8));
     assert!(rt; list.entry(1).count() == ClusterCount(1));
@@ -223,16 +224,19 @@ fn past_64_bits(rt: &impl Abort, alloc: Global, held: &mut Counted) -> Result<()
     Ok(())
 }
 
-fn past_the_blocks(rt: &impl Abort, alloc: Global, held: &mut Counted) {
-    let answer = free(alloc, held, &[(300, 1, true)]);
-    assert!(rt; answer == Err(Fault::DamagedTable));
+// The entry before it waits still.
+fn past_the_blocks(rt: &impl Abort, alloc: Global, held: &mut Counted) -> Result<(), Fault> {
+    let entries = [(3, 1, false), (300, 1, false)];
+    let list = refused_list(rt, alloc, held, &entries, Fault::DamagedTable)?;
+    assert_eq!(rt; list.len(), 2);
+    assert!(rt; list.entry(0).first_cluster() == HostCluster(3));
+    assert_all_counted(rt, held, [1; 8])
 }
 
 fn uncountable(rt: &impl Abort, alloc: Global) -> Result<(), Fault> {
     let mut held = all_counted(alloc, 0)?;
     past_64_bits(rt, alloc, &mut held)?;
-    past_the_blocks(rt, alloc, &mut held);
-    Ok(())
+    past_the_blocks(rt, alloc, &mut held)
 }
 
 #[test]
@@ -257,7 +261,7 @@ fn what_is_not_counted_stays_on_the_list(rt: HostRuntime) -> Result<(), Fail> {
 
 // Cluster 6 isn't counted any more.
 fn refused_in_part(rt: &impl Abort, alloc: Global, held: &mut Counted) -> Result<(), Fault> {
-    let list = refused_list(rt, alloc, held, &[(6, 2, true)])?;
+    let list = refused_list(rt, alloc, held, &[(6, 2, true)], Fault::Counter)?;
     assert_eq!(rt; list.len(), 1);
     assert!(rt; list.entry(0).first_cluster() == HostCluster(6));
     assert!(rt; list.entry(0).count() == ClusterCount(1));
@@ -281,17 +285,25 @@ fn a_part_of_an_entry_stays(rt: HostRuntime) -> Result<(), Fail> {
     Ok(())
 }
 
-// Where the data is in an external file, its clusters aren't counted.
-fn freed_of_external(rt: &impl Abort, alloc: Global, held: &mut Counted) -> Result<(), Fault> {
+// Where the data is in an external file, its clusters aren't counted, and no order is announced for them.
+fn freed_of_external(
+    rt: &impl Abort,
+    alloc: Global,
+    held: &mut Counted,
+    order: CacheDependency,
+) -> Result<(), Fault> {
+    held.caches.order = order;
     assert!(rt; free(alloc, held, &[(5, 1, false), (3, 1, true)])?);
     let Counted { file, caches, .. } = held;
-    assert!(rt; caches.order == CacheDependency::Unset);
+    assert!(rt; caches.order == order);
     assert_counted(rt, caches, file, [1, 1, 1, 0, 1, 1, 1, 1])
 }
 
 fn external(rt: &impl Abort, alloc: Global) -> Result<(), Fault> {
     let mut held = all_counted(alloc, 4)?;
-    freed_of_external(rt, alloc, &mut held)
+    freed_of_external(rt, alloc, &mut held, CacheDependency::Unset)?;
+    let mut held = all_counted(alloc, 4)?;
+    freed_of_external(rt, alloc, &mut held, CacheDependency::RbDependsOnL2)
 }
 
 #[test]

@@ -4,6 +4,7 @@
 ghost use Rattle.std.specs.Prelude.{⊤, ◌<◌};
 
 use super::*;
+use std::cell::Cell;
 use std::process::Abort;
 use std::test::Fail;
 
@@ -357,6 +358,69 @@ fn a_lent_value_is_written_to(rt: HostRuntime) -> Result<(), Fail> {
     let alloc = rt.alloc();
     match written(&rt, alloc) {
         Err(Fault::Memory) => written(&rt, alloc)?,
+        other => other?,
+    }
+    Ok(())
+}
+
+// Loads the value behind the key, and notes what is dropped unflushed: key and value, by two digits each.
+#[derive(Drop)]
+struct Dropping {
+    dropped: Cell<u64>,
+}
+
+impl AsyncLruCacheBackend for Dropping {
+    type Key = u64;
+
+    type Value = u64;
+
+    type Device = ();
+
+    ghost loads = { λ _ _ _ _. ⊤ };
+
+    ghost flushes = { λ _ _ _ _ _ _. ⊤ };
+
+    fn load(&self, _device: &mut (), key: u64) -> Result<u64, Fault> {
+        Ok(key.wrapping_add(1))
+    }
+
+    fn flush(&self, _device: &mut (), _key: u64, _value: &mut u64) -> Result<(), Fault> {
+        Ok(())
+    }
+
+    fn evict(&self, key: u64, value: u64) {
+        let pair = key.wrapping_mul(10).wrapping_add(value);
+        let before = self.dropped.get().wrapping_mul(100);
+        self.dropped.set(before.wrapping_add(pair));
+    }
+}
+
+// What was flushed before it went isn't handed to the backend.
+fn evicted(rt: &impl Abort, alloc: Global) -> Result<(), Fault> {
+    let backend = Dropping {
+        dropped: Cell::new(0),
+    };
+    let mut cache = AsyncLruCache::new(alloc, backend, 3)?;
+    for key in 0..4 {
+        match cache.get_or_insert(&mut (), key, true) {
+            Ok(value) => assert_eq!(rt; *value, key + 1),
+            Err(NotLent::Full) => assert!(rt; false),
+            Err(NotLent::Refused(fault)) => return Err(fault),
+        }
+    }
+    assert_eq!(rt; cache.backend.dropped.get(), 0);
+    assert!(rt; cache.forget(2) == Ok(()));
+    assert_eq!(rt; cache.backend.dropped.get(), 23);
+    assert!(rt; cache.invalidate() == Ok(()));
+    assert_eq!(rt; cache.backend.dropped.get(), 231_234);
+    Ok(())
+}
+
+#[test]
+fn what_is_dropped_goes_to_the_backend(rt: HostRuntime) -> Result<(), Fail> {
+    let alloc = rt.alloc();
+    match evicted(&rt, alloc) {
+        Err(Fault::Memory) => evicted(&rt, alloc)?,
         other => other?,
     }
     Ok(())

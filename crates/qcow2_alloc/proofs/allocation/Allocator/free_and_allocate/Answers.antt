@@ -18,7 +18,7 @@ returns-in-Err-clause-allocates g c =
     let f = c.process_clusters_to_free.new in
     subst (λ (v : TableValue). AllocatesClusters state (mark_of c.args.self.now) c.args.count c.args.metadata t c.args.caches.now c.args.file.now c.args.list.now.entries (refused_run c.in-Err.fault) v f.caches f.file f.list.entries (mark_of f.self))
     (sym c.in-Err.ensures.table)
-    (run-not-freed state (mark_of c.args.self.now) c.args.count c.args.metadata t c.args.caches.now c.args.file.now c.args.list.now.entries c.in-Err.fault (mark_of f.self) f.caches f.file f.list.entries c.in-Err.ensures.frees)
+    (run-not-freed state (mark_of c.args.self.now) c.args.count c.args.metadata t c.args.caches.now c.args.file.now c.args.list.now.entries c.in-Err.fault (mark_of f.self) f.caches f.file f.list.entries c.in-Err.ensures.frees c.in-Err.ensures.left)
 
 pub returns-in-Ok-clause-allocates : goal.returns-in-Ok-clause-allocates
 returns-in-Ok-clause-allocates g c =

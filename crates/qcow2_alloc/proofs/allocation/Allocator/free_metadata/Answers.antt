@@ -1,15 +1,16 @@
-use Rattle.std.proofs.Common.{List, refl, sym, ap, ◌∙◌, subst, inl}
+use Rattle.std.proofs.Common.{◌≡◌, [], List, refl, sym, ap, ◌∙◌, subst, inl}
 use Rattle.qcow2_types.specs.Pending.{FreeEntry}
 use Rattle.qcow2_metadata.specs.Tables.{TableValue}
 use Rattle.qcow2_alloc.specs.Allocators.{table_of, mark_of}
 use Rattle.qcow2_alloc.specs.Freeing.{Frees, IsSublist, data_in}
+use Rattle.qcow2_alloc.specs.Quiet.{metadata_in}
 use Rattle.qcow2_alloc.proofs.FreeingEntries.{frees-none, frees-then, freed, failed}
-use Rattle.qcow2_alloc.proofs.FreeingInTurn.{metadata-found, data-stays, all-data}
+use Rattle.qcow2_alloc.proofs.FreeingInTurn.{metadata-found, none-found, data-stays, all-data}
 use Rattle.qcow2_alloc.proofs.FreeingRest.{sublist-all, sublist-then, sublist-removed, data-not-shortened, rest-whole, rest-shortened, rest-with-data}
 use Rattle.qcow2_alloc.proofs.allocation.Allocator.free_metadata.Goals as goal
 
 pub loop-index-init : goal.loop-index-init
-loop-index-init g c = (refl, refl, refl, refl, sublist-all c.args.list.now.entries, frees-none g.S.Storage.state (table_of c.args.self.now) c.args.caches.now c.args.file.now (mark_of c.args.self.now) c.args.list.now.entries)
+loop-index-init g c = (refl, refl, refl, refl, sublist-all c.args.list.now.entries, frees-none g.S.Storage.state (table_of c.args.self.now) c.args.caches.now c.args.file.now (mark_of c.args.self.now) c.args.list.now.entries, λ none. (refl, refl, refl, refl))
 
 pub loop-index-preserved : goal.loop-index-preserved
 loop-index-preserved g c =
@@ -24,6 +25,7 @@ loop-index-preserved g c =
       sublist-then n.list.entries l.list.entries c.args.list.now.entries (subst (λ (es : List FreeEntry). IsSublist es l.list.entries) (sym c.in-Ok.ensures.ok) (sublist-removed l.list.entries c.in-Some.index)) same.4,
       frees-then g.S.Storage.state (table_of c.args.self.now) c.args.caches.now c.args.file.now (mark_of c.args.self.now) c.args.list.now.entries l.caches l.file (mark_of l.self) l.list.entries freed n.caches n.file (mark_of n.self) n.list.entries same.5
           (subst (λ (t : TableValue). Frees g.S.Storage.state t l.caches l.file (mark_of l.self) l.list.entries freed n.caches n.file (mark_of n.self) n.list.entries) same.2 (c.in-Ok.ensures.frees (inl found.1))),
+      λ none. absurd (none-found l.list.entries c.in-Some.index found.0 found.1 (subst (λ (es : List FreeEntry). metadata_in es ≡ []) (sym (same.6 none).3) none)),
     )
 
 pub returns-in-Err-clause-frees : goal.returns-in-Err-clause-frees
@@ -52,3 +54,9 @@ pub returns-clause-left : goal.returns-clause-left
 returns-clause-left g c =
     let same = c.loop-index.invariant in
     rest-with-data c.args.list.now.entries c.loop-index.list.entries (rest-whole c.args.list.now.entries c.loop-index.list.entries same.4) same.3
+
+pub returns-in-Err-clause-idle : goal.returns-in-Err-clause-idle
+returns-in-Err-clause-idle g c = λ none.
+    let l = c.loop-index in
+    let found = metadata-found l.list.entries c.in-Some.index (sym c.in-Some.ensures) in
+    absurd (none-found l.list.entries c.in-Some.index found.0 found.1 (subst (λ (es : List FreeEntry). metadata_in es ≡ []) (sym (l.invariant.6 none).3) none))

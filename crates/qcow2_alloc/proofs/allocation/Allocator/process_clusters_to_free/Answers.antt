@@ -47,3 +47,18 @@ returns-in-Ok-clause-order g c =
 
 pub returns-then-external_data_file-clause-left : goal.returns-then-external_data_file-clause-left
 returns-then-external_data_file-clause-left g c = subst (λ (l : FreeList). IsRestInTurn c.args.list.now.entries l.entries) (sym c.drop_entries.ensures) (rest-none c.args.list.now.entries)
+
+pub returns-in-Err-clause-external : goal.returns-in-Err-clause-external
+returns-in-Err-clause-external g c = λ external none. let never = (c.in-Err.ensures.idle none).0 in cc never
+
+pub returns-in-Ok-clause-external : goal.returns-in-Ok-clause-external
+returns-in-Ok-clause-external g c = λ external none.
+    let inside = sym (ap (λ (h : Header). has_external_data h.fields) c.in_default.ensures.frees.header) ∙ sym c.external_data_file.ensures ∙ c.if-external_data_file.false in
+    let both = sym external ∙ inside in
+    cc both
+
+pub returns-in-Err-rb_depends_on_l2-clause-external : goal.returns-in-Err-rb_depends_on_l2-clause-external
+returns-in-Err-rb_depends_on_l2-clause-external g c = λ external none.
+    let inside = sym (ap (λ (h : Header). has_external_data h.fields) c.in_default.ensures.frees.header) ∙ sym c.external_data_file.ensures ∙ c.if-external_data_file.false in
+    let both = sym external ∙ inside in
+    cc both

@@ -1,13 +1,15 @@
-use Rattle.std.proofs.Common.{◌≡◌, ◌<◌, ◌/◌, ◌^◌, ℕ, Bool, false, refl, arith, ap, subst, ◌∙◌, pow_pos, Ok, Err, ◌+◌, true, sym}
+use Rattle.std.proofs.Common.{◌≡◌, ◌<◌, ◌≤◌, ◌/◌, ◌^◌, ℕ, Bool, false, refl, arith, ap, subst, ◌∙◌, pow_pos, Ok, Err, ◌+◌, true, sym, length, IsTrue, inl, inr}
+use Rattle.std.proofs.lemmas.Bool.{cases_lt}
+use Rattle.imago_storage.specs.declared.fault.Fault.TheVariants.{Limit}
 use Rattle.qcow2_types.specs.Counts.{counters_of_block}
 use Rattle.qcow2_alloc.specs.Allocators.{table_of, mark_of}
 use Rattle.qcow2_alloc.specs.ReadyingBlocks.{ReadiesBlocks}
 use Rattle.qcow2_alloc.specs.ReadyingRuns.{ReadiesRun}
-use Rattle.qcow2_alloc.proofs.ReadyingRuns.{Stays, stays-none, stays-found, stays-on, found-run, readying-none, readying-searched, readying-made, search-refused, making-refused, unfit-refused, run-ready, turns-fewer}
+use Rattle.qcow2_alloc.proofs.ReadyingRuns.{Stays, stays-none, stays-found, stays-on, found-run, readying-none, readying-searched, readying-made, search-refused, making-refused, unfit-refused, grown-refused, run-ready, turns-fewer}
 use Rattle.qcow2_alloc.proofs.allocation.Allocator.ready_run.Goals as goal
 
 pub loop-first-init : goal.loop-first-init
-loop-first-init g c = (readying-none g.S.Storage.state (table_of c.args.self.now) c.args.caches.now c.args.file.now c.args.list.now.entries, refl, refl, stays-none g.S.Storage.state (table_of c.args.self.now) c.args.caches.now c.args.file.now c.args.list.now.entries (mark_of c.args.self.now) c.args.count c.requires.some)
+loop-first-init g c = (readying-none g.S.Storage.state (table_of c.args.self.now) c.args.caches.now c.args.file.now c.args.list.now.entries, refl, refl, c.entries-entries.ensures.value, stays-none g.S.Storage.state (table_of c.args.self.now) c.args.caches.now c.args.file.now c.args.list.now.entries (mark_of c.args.self.now) c.args.count c.requires.some)
 
 pub returns-in-Err-clause-readies : goal.returns-in-Err-clause-readies
 returns-in-Err-clause-readies g c =
@@ -25,7 +27,37 @@ returns-in-Err-last_index-clause-readies g c =
     subst (λ (m : ℕ). ReadiesRun state m c.args.count (table_of c.args.self.now) c.args.caches.now c.args.file.now c.args.list.now.entries (Err c.in-Err-last_index.fault) (table_of l.self) new.caches new.file l.list.entries) l.invariant.1
     (unfit-refused state (table_of c.args.self.now) c.args.caches.now c.args.file.now c.args.list.now.entries (table_of l.self) l.caches l.file l.list.entries l.invariant.0 (mark_of l.self) c.args.count c.in-Ok.first c.requires.some new.caches new.file c.in-Ok.ensures
     c.in-Err-last_index.fault c.in-Err-last_index.ensures.err
-    (subst (λ (m : ℕ). Stays state (table_of c.args.self.now) c.args.caches.now c.args.file.now c.args.list.now.entries m c.args.count (table_of l.self) l.caches l.file l.list.entries) (sym l.invariant.1) l.invariant.3))
+    (subst (λ (m : ℕ). Stays state (table_of c.args.self.now) c.args.caches.now c.args.file.now c.args.list.now.entries m c.args.count (table_of l.self) l.caches l.file l.list.entries) (sym l.invariant.1) l.invariant.4))
+
+yes-true : (b : Bool) → b ≡ true → IsTrue b
+yes-true true is = refl
+yes-true false is = cc is
+
+never-false : (b : Bool) → b ≡ false → IsTrue b → ⊥
+never-false false is holds = cc holds
+never-false true is holds = cc is
+
+pub returns-then-has_grown_short_of-clause-readies : goal.returns-then-has_grown_short_of-clause-readies
+returns-then-has_grown_short_of-clause-readies g c =
+    let state = g.S.Storage.state in
+    let l = c.loop-first in
+    let new = c.find_run.new in
+    let long = l.invariant.3 in
+    let short = c.has_grown_short_of.ensures.0 (yes-true c.has_grown_short_of.result c.if-has_grown_short_of.true) in
+    let more = short.0 in
+    let less = short.1 in
+    let index = c.in-Ok-last_index.ensures.index in
+    subst (λ (m : ℕ). ReadiesRun state m c.args.count (table_of c.args.self.now) c.args.caches.now c.args.file.now c.args.list.now.entries (Err (Limit c.in-Ok-last_index.index)) (table_of l.self) new.caches new.file l.list.entries) l.invariant.1
+    (grown-refused state (table_of c.args.self.now) c.args.caches.now c.args.file.now c.args.list.now.entries (table_of l.self) l.caches l.file l.list.entries l.invariant.0 (mark_of l.self) c.args.count c.in-Ok.first c.requires.some new.caches new.file c.in-Ok.ensures
+    c.in-Ok-last_index.index (omega (arith, long, more)) (omega (arith, less, index))
+    (subst (λ (m : ℕ). Stays state (table_of c.args.self.now) c.args.caches.now c.args.file.now c.args.list.now.entries m c.args.count (table_of l.self) l.caches l.file l.list.entries) (sym l.invariant.1) l.invariant.4))
+
+-- The table that has grown has a word for the last cluster of the run where that wasn't refused.
+covers : (entries now last first : ℕ) (short : Bool) → short ≡ false → (entries < now → now ≤ last → IsTrue short) → entries ≡ first → first < now → last < now
+covers entries now last first short not said is longer = elim (cases_lt last now) [
+  | inl inside ↦ inside
+  | inr past ↦ absurd (never-false short not (said (omega (arith, is, longer)) past))
+]
 
 pub loop-first-smaller : goal.loop-first-smaller
 loop-first-smaller g c =
@@ -45,13 +77,15 @@ loop-first-preserved g c =
     let at = c.in-Ok-last_index.index + (c.args.count / k + 2) in
     let found = readying-searched state (table_of c.args.self.now) c.args.caches.now c.args.file.now c.args.list.now.entries (table_of l.self) l.caches l.file l.list.entries l.invariant.0 (mark_of l.self) c.args.count c.in-Ok.first searched.caches searched.file c.in-Ok.ensures in
     let kept = stays-found state (table_of c.args.self.now) c.args.caches.now c.args.file.now c.args.list.now.entries (table_of l.self) l.caches l.file l.list.entries l.invariant.0 (mark_of l.self) c.args.count c.in-Ok.first c.requires.some searched.caches searched.file c.in-Ok.ensures
-    (subst (λ (m : ℕ). Stays state (table_of c.args.self.now) c.args.caches.now c.args.file.now c.args.list.now.entries m c.args.count (table_of l.self) l.caches l.file l.list.entries) (sym l.invariant.1) l.invariant.3) in
+    (subst (λ (m : ℕ). Stays state (table_of c.args.self.now) c.args.caches.now c.args.file.now c.args.list.now.entries m c.args.count (table_of l.self) l.caches l.file l.list.entries) (sym l.invariant.1) l.invariant.4) in
     let index : c.rt_index-first_index.result ≡ c.in-Ok.first / k = c.rt_index-first_index.ensures ∙ ap (λ (m : ℕ). c.in-Ok.first / m) bits.entries in
     let readies = subst (λ (b : Bool). ReadiesBlocks state (mark_of l.self) at c.rt_index-first_index.result c.in-Ok-last_index.index (table_of l.self) searched.caches searched.file l.list.entries (Ok b) (table_of new.self) new.caches new.file new.list.entries) c.in-Ok-true.field-0-test made.readies in (
       readying-made state (table_of c.args.self.now) c.args.caches.now c.args.file.now c.args.list.now.entries (table_of l.self) searched.caches searched.file l.list.entries found
-          (mark_of l.self) at c.rt_index-first_index.result c.in-Ok-last_index.index true (table_of new.self) new.caches new.file new.list.entries readies,
+          (mark_of l.self) at c.rt_index-first_index.result c.in-Ok-last_index.index true (table_of new.self) new.caches new.file new.list.entries readies
+          (covers _ (length (table_of l.self).words) c.in-Ok-last_index.index (length (table_of c.args.self.now).words) c.has_grown_short_of.result c.if-has_grown_short_of.false (λ a b. c.has_grown_short_of.ensures.1 (a, b)) l.invariant.3),
       made.mark ∙ l.invariant.1,
       made.held ∙ l.invariant.2,
+      l.invariant.3,
       subst (λ (m : ℕ). Stays state (table_of c.args.self.now) c.args.caches.now c.args.file.now c.args.list.now.entries m c.args.count (table_of new.self) new.caches new.file new.list.entries) l.invariant.1
           (stays-on state (table_of c.args.self.now) c.args.caches.now c.args.file.now c.args.list.now.entries (table_of l.self) searched.caches searched.file l.list.entries found (mark_of l.self) c.args.count c.in-Ok.first c.rt_index-first_index.result c.in-Ok-last_index.index c.requires.some
           (found-run state (table_of c.args.self.now) c.args.caches.now c.args.file.now c.args.list.now.entries (table_of l.self) l.caches l.file l.list.entries l.invariant.0 (mark_of l.self) c.args.count c.in-Ok.first c.requires.some searched.caches searched.file c.in-Ok.ensures)
@@ -73,13 +107,16 @@ returns-in-Ok-false-clause-readies g c =
     let found = readying-searched state (table_of c.args.self.now) c.args.caches.now c.args.file.now c.args.list.now.entries (table_of l.self) l.caches l.file l.list.entries l.invariant.0 (mark_of l.self) c.args.count c.in-Ok.first searched.caches searched.file
     c.in-Ok.ensures in
     let done = readying-made state (table_of c.args.self.now) c.args.caches.now c.args.file.now c.args.list.now.entries (table_of l.self) searched.caches searched.file l.list.entries found
-    (mark_of l.self) at c.rt_index-first_index.result c.in-Ok-last_index.index c.in-Ok-false.field-0 (table_of new.self) new.caches new.file new.list.entries made.readies in
+    (mark_of l.self) at c.rt_index-first_index.result c.in-Ok-last_index.index c.in-Ok-false.field-0 (table_of new.self) new.caches new.file new.list.entries made.readies
+    (covers _ (length (table_of l.self).words) c.in-Ok-last_index.index (length (table_of c.args.self.now).words) c.has_grown_short_of.result c.if-has_grown_short_of.false (λ a b. c.has_grown_short_of.ensures.1 (a, b)) l.invariant.3) in
     let none : ReadiesBlocks state (mark_of l.self) at (c.in-Ok.first / k) c.in-Ok-last_index.index (table_of l.self) searched.caches searched.file l.list.entries (Ok false) (table_of new.self) new.caches new.file new.list.entries =
     subst (λ (m : ℕ). ReadiesBlocks state (mark_of l.self) at m c.in-Ok-last_index.index (table_of l.self) searched.caches searched.file l.list.entries (Ok false) (table_of new.self) new.caches new.file new.list.entries) index
     (subst (λ (b : Bool). ReadiesBlocks state (mark_of l.self) at c.rt_index-first_index.result c.in-Ok-last_index.index (table_of l.self) searched.caches searched.file l.list.entries (Ok b) (table_of new.self) new.caches new.file new.list.entries) c.in-Ok-false.field-0-test made.readies) in
     subst (λ (m : ℕ). ReadiesRun state m c.args.count (table_of c.args.self.now) c.args.caches.now c.args.file.now c.args.list.now.entries (Ok c.in-Ok.first) (table_of new.self) new.caches new.file new.list.entries) l.invariant.1
     (run-ready state (table_of c.args.self.now) c.args.caches.now c.args.file.now c.args.list.now.entries (table_of l.self) l.caches l.file l.list.entries l.invariant.0 (mark_of l.self) c.args.count c.in-Ok.first c.requires.some searched.caches searched.file c.in-Ok.ensures
-    (table_of new.self) new.caches new.file new.list.entries k c.in-Ok-last_index.index refl at none done (wide c.rb_bits.result k bits.entries) last.start last.reach last.index)
+    (table_of new.self) new.caches new.file new.list.entries k c.in-Ok-last_index.index refl at none done
+    (subst (λ (m : ℕ). Stays state (table_of c.args.self.now) c.args.caches.now c.args.file.now c.args.list.now.entries m c.args.count (table_of l.self) l.caches l.file l.list.entries) (sym l.invariant.1) l.invariant.4)
+    (wide c.rb_bits.result k bits.entries) last.start last.reach last.index)
   where
     wide : (bits k : ℕ) → 2 ^ bits ≡ k → 0 < k
     wide bits k size = let some = pow_pos bits in omega (arith, some, size)
@@ -94,10 +131,11 @@ returns-in-Err-ready_blocks-clause-readies g c =
     let k = counters_of_block searched.file.header.fields in
     let index : c.rt_index-first_index.result ≡ c.in-Ok.first / k = c.rt_index-first_index.ensures ∙ ap (λ (m : ℕ). c.in-Ok.first / m) bits.entries in
     let kept = stays-found state (table_of c.args.self.now) c.args.caches.now c.args.file.now c.args.list.now.entries (table_of l.self) l.caches l.file l.list.entries l.invariant.0 (mark_of l.self) c.args.count c.in-Ok.first c.requires.some searched.caches searched.file c.in-Ok.ensures
-    (subst (λ (m : ℕ). Stays state (table_of c.args.self.now) c.args.caches.now c.args.file.now c.args.list.now.entries m c.args.count (table_of l.self) l.caches l.file l.list.entries) (sym l.invariant.1) l.invariant.3) in
+    (subst (λ (m : ℕ). Stays state (table_of c.args.self.now) c.args.caches.now c.args.file.now c.args.list.now.entries m c.args.count (table_of l.self) l.caches l.file l.list.entries) (sym l.invariant.1) l.invariant.4) in
     subst (λ (m : ℕ). ReadiesRun state m c.args.count (table_of c.args.self.now) c.args.caches.now c.args.file.now c.args.list.now.entries (Err c.in-Err-ready_blocks.fault) (table_of new.self) new.caches new.file new.list.entries) l.invariant.1
     (making-refused state (table_of c.args.self.now) c.args.caches.now c.args.file.now c.args.list.now.entries (table_of l.self) searched.caches searched.file l.list.entries
     (readying-searched state (table_of c.args.self.now) c.args.caches.now c.args.file.now c.args.list.now.entries (table_of l.self) l.caches l.file l.list.entries l.invariant.0 (mark_of l.self) c.args.count c.in-Ok.first searched.caches searched.file c.in-Ok.ensures)
     (mark_of l.self) c.args.count c.in-Ok.first c.rt_index-first_index.result c.in-Ok-last_index.index c.requires.some
     (found-run state (table_of c.args.self.now) c.args.caches.now c.args.file.now c.args.list.now.entries (table_of l.self) l.caches l.file l.list.entries l.invariant.0 (mark_of l.self) c.args.count c.in-Ok.first c.requires.some searched.caches searched.file c.in-Ok.ensures)
-    index c.in-Ok-last_index.ensures.index kept c.in-Err-ready_blocks.fault (table_of new.self) new.caches new.file new.list.entries c.in-Err-ready_blocks.ensures.readies)
+    index c.in-Ok-last_index.ensures.index kept c.in-Err-ready_blocks.fault (table_of new.self) new.caches new.file new.list.entries c.in-Err-ready_blocks.ensures.readies
+    (covers _ (length (table_of l.self).words) c.in-Ok-last_index.index (length (table_of c.args.self.now).words) c.has_grown_short_of.result c.if-has_grown_short_of.false (λ a b. c.has_grown_short_of.ensures.1 (a, b)) l.invariant.3))

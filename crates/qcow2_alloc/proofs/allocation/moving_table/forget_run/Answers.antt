@@ -9,7 +9,7 @@ use Rattle.qcow2_alloc.proofs.Pins.{pins-none, pins-then}
 use Rattle.qcow2_alloc.proofs.allocation.moving_table.forget_run.Goals as goal
 
 pub loop-index-init : goal.loop-index-init
-loop-index-init g c = (forgets-none c.args.first (cached_in c.args.caches.now), refl, pins-none (cached_in c.args.caches.now).blocks (cached_in c.args.caches.now).blocks refl, record { tables = refl; blocks = refl })
+loop-index-init g c = (forgets-none c.args.first (cached_in c.args.caches.now), refl, pins-none (cached_in c.args.caches.now).blocks (cached_in c.args.caches.now).blocks refl, record { tables = refl; blocks = refl; entries = refl })
 
 pub returns-in-Err-clause-err : goal.returns-in-Err-clause-err
 returns-in-Err-clause-err g c =
@@ -30,5 +30,5 @@ loop-index-preserved g c =
       forgets-then c.args.first l.index (cached_in c.args.caches.now) (cached_in l.caches) (cached_in new) (ap (λ (m : MetadataCaches _). cached_in m) is) l.invariant.0,
       leaves.0 ∙ l.invariant.1,
       pins-then (cached_in c.args.caches.now).blocks (cached_in l.caches).blocks (cached_in new).blocks l.invariant.2 leaves.1,
-      record { tables = leaves.2.tables ∙ l.invariant.3.tables; blocks = leaves.2.blocks ∙ l.invariant.3.blocks },
+      record { tables = leaves.2.tables ∙ l.invariant.3.tables; blocks = leaves.2.blocks ∙ l.invariant.3.blocks; entries = leaves.2.entries ∙ l.invariant.3.entries },
     )
