@@ -1,5 +1,5 @@
-// What an allocator does over an image whose L2 table names what is handed out: each file that a stop leaves passes the checker, and at
-// the end what leaks is what was kept and isn't named.
+// What an allocator does over an image whose L2 tables, of which two are cached, name what is handed out: each file that a stop leaves
+// passes the checker, and at the end what leaks is what was kept and isn't named.
 ghost use Rattle.std.specs.Prelude.{◌<◌};
 
 use super::allocations::{
@@ -10,24 +10,37 @@ use qcow2_alloc::ClustersToFreeList;
 use qcow2_metadata::{L2Table, Table};
 use qcow2_types::{ClusterCount, ClustersToFreeEntry, HostCluster, HostOffset, PendingClusters};
 
-const L2_TABLE: HostCluster = HostCluster(4);
-
-// A disk of 32,768 bytes: its L1 table is cluster 3, which names the L2 table in cluster 4, and both are counted.
-const DISK: [(usize, u8); 7] = [
+// A disk of 98,304 bytes: its L1 table is cluster 3, which names the L2 tables in clusters 4 to 6, and all four are counted.
+const DISK: [(usize, u8); 14] = [
+    (29, 1),
     (30, 0x80),
-    (39, 1),
+    (39, 3),
     (46, 6),
     (1_055, 1),
     (1_063, 1),
+    (1_071, 1),
+    (1_079, 1),
     (1_536, 0x80),
     (1_542, 8),
+    (1_544, 0x80),
+    (1_550, 10),
+    (1_552, 0x80),
+    (1_558, 12),
 ];
 
 // The image with the host cluster of each guest cluster, 0 where it has none.
 #[derive(Drop)]
 struct MappedImage {
     opened: OpenImage,
-    places: [u64; 64],
+    places: [u64; 192],
+}
+
+// The L2 table of a guest cluster, and its word there.
+fn place_in_tables(guest: u16) -> (HostCluster, usize) {
+    (
+        HostCluster(4 + u64::from(guest / 64)),
+        usize::from(guest % 64),
+    )
 }
 
 fn wait(list: &mut ClustersToFreeList, entry: Option<ClustersToFreeEntry>) -> Result<(), Fault> {
@@ -60,14 +73,11 @@ fn name(
     guard.map_cluster(index, cluster, Some(pending))
 }
 
-fn name_in_table(
-    opened: &mut OpenImage,
-    index: usize,
-    pending: PendingClusters,
-) -> Result<(), Fault>
+fn name_in_table(opened: &mut OpenImage, guest: u16, pending: PendingClusters) -> Result<(), Fault>
     requires { 0 < opened.old.list.held }
 {
-    match opened.caches.l2_get_or_insert(&mut opened.file, L2_TABLE) {
+    let (cluster, index) = place_in_tables(guest);
+    match opened.caches.l2_get_or_insert(&mut opened.file, cluster) {
         Ok(table) => {
             let replaced = name(table, index, pending);
             opened.list.release();
@@ -81,7 +91,7 @@ fn name_in_table(
 }
 
 fn map(image: &mut MappedImage, guest: u16) -> Result<(), Fault>
-    requires { guest < 64 }
+    requires { guest < 192 }
 {
     let opened = &mut image.opened;
     match opened.allocator.allocate_clusters(
@@ -93,7 +103,7 @@ fn map(image: &mut MappedImage, guest: u16) -> Result<(), Fault>
     ) {
         Ok(pending) => {
             image.places[usize::from(guest)] = pending.cluster().0;
-            name_in_table(opened, usize::from(guest), pending)
+            name_in_table(opened, guest, pending)
         }
         Err(fault) => Err(fault),
     }
@@ -108,12 +118,13 @@ fn unname(table: &mut L2Table, index: usize) -> Option<ClustersToFreeEntry> {
 }
 
 fn discard(image: &mut MappedImage, guest: u16) -> Result<(), Fault>
-    requires { guest < 64 }
+    requires { guest < 192 }
 {
     let opened = &mut image.opened;
-    match opened.caches.l2_get_or_insert(&mut opened.file, L2_TABLE) {
+    let (cluster, index) = place_in_tables(guest);
+    match opened.caches.l2_get_or_insert(&mut opened.file, cluster) {
         Ok(table) => {
-            let named = unname(table, usize::from(guest));
+            let named = unname(table, index);
             image.places[usize::from(guest)] = 0;
             wait(&mut opened.list, named)
         }
@@ -121,39 +132,63 @@ fn discard(image: &mut MappedImage, guest: u16) -> Result<(), Fault>
     }
 }
 
+// One of eight guest clusters of each table, so that what is mapped is often discarded.
+fn some_guest(random: &mut Random) -> u16
+    ensures { result < 192 }
+{
+    random.below(24) * 8
+}
+
 fn guest_turn(image: &mut MappedImage, random: &mut Random) -> Result<(), Fault> {
     match random.below(4) {
-        0 | 1 => map(image, random.below(64)),
-        2 => discard(image, random.below(64)),
+        0 | 1 => {
+            let guest = some_guest(random);
+            map(image, guest)
+        }
+        2 => {
+            let guest = some_guest(random);
+            discard(image, guest)
+        }
         _ => turn(&mut image.opened, random),
     }
 }
 
-// The table names what it was told to, and nothing else.
-fn places_are_named(
+// The tables name what they were told to, and nothing else.
+fn place_is_named(
     rt: &impl Abort,
     opened: &mut OpenImage,
-    places: &[u64; 64],
+    guest: u16,
+    place: u64,
 ) -> Result<(), Fault> {
-    match opened.caches.l2_get_or_insert(&mut opened.file, L2_TABLE) {
+    let (cluster, index) = place_in_tables(guest);
+    let want = match place {
+        0 => None,
+        cluster => Some(HostOffset(cluster.wrapping_mul(512))),
+    };
+    match opened.caches.l2_get_or_insert(&mut opened.file, cluster) {
         Ok(table) => {
-            for guest in 0..64usize {
-                let want = match places[guest] {
-                    0 => None,
-                    cluster => Some(HostOffset(cluster.wrapping_mul(512))),
-                };
-                assert_eq!(rt; table.get(guest).cluster_offset(false), want);
-            }
+            assert_eq!(rt; table.get(index).cluster_offset(false), want);
             Ok(())
         }
         Err(fault) => Err(fault),
     }
 }
 
+fn places_are_named(
+    rt: &impl Abort,
+    opened: &mut OpenImage,
+    places: &[u64; 192],
+) -> Result<(), Fault> {
+    for guest in 0..192u16 {
+        place_is_named(rt, opened, guest, places[usize::from(guest)])?;
+    }
+    Ok(())
+}
+
 fn random_calls(rt: &impl Abort, alloc: Global, seed: u64) -> Result<(), Fault> {
     let mut image = MappedImage {
-        opened: open_image(alloc, bytes_of_image(alloc, 2_560, &DISK)?)?,
-        places: [0; 64],
+        opened: open_image(alloc, bytes_of_image(alloc, 3_584, &DISK)?)?,
+        places: [0; 192],
     };
     let mut random = Random { state: seed };
     for _ in 0..48 {
