@@ -37,7 +37,7 @@ use Rattle.qcow2_alloc.proofs.HandedOut.{handed-unnamed}
 use Rattle.qcow2_alloc.proofs.Loose.{loose-on}
 use Rattle.qcow2_alloc.proofs.MadeBlocks.{allocated-wider}
 use Rattle.qcow2_alloc.proofs.QuietFlushes.{memory-quietly, quiet-none, quietly-weaker}
-use Rattle.qcow2_alloc.proofs.QuietThen.{quietly-then, quietly-otherwise}
+use Rattle.qcow2_alloc.proofs.QuietThen.{fewer-counted, quietly-then, quietly-otherwise}
 use Rattle.qcow2_alloc.proofs.ReadyingBlocks.{leaks-none}
 
 module _ {S : Type 0} (state : S → StorageState) (mark cluster : ℕ) (table : TableValue) (old : MetadataCaches S) (before : ImageFile S) (pending : List FreeEntry) (mid : MetadataCaches S) (between : ImageFile S) where
@@ -192,14 +192,17 @@ module _ {S : Type 0} (state : S → StorageState) (mark n : ℕ) (metadata : Bo
       rest = rest;
       halted = λ other is. (ap (λ f. refused_run f) (let e = is in let same : fault ≡ other = cc in same), refl, refl, refl, refl);
       mid = Rest;
+      waits = refl;
       freed = λ keeps sound whole. let held = frees.quiet.holds keeps sound (inl whole) in record {
         sound = held.0;
         quiet = held.1;
         header = frees.header;
         table = refl;
+        fewer = fewer-counted First Rest (λ _. 0) (λ _. 0) held.1 sound held.0 frees.header refl (λ c. refl) frees.less;
         lower = frees.lower;
         marked = frees.marked keeps sound (inl whole);
       };
+      emptied = tt;
       all = λ searched. absurd (not-limited searched frees.cause);
       fresh = λ keeps sound. tt;
       taken = λ keeps sound. tt;
@@ -254,14 +257,17 @@ module _ {S : Type 0} (state : S → StorageState) (mark n : ℕ) (metadata : Bo
       rest = rest-none pending;
       halted = λ other is. let e = is in absurd (cc e);
       mid = Ready;
+      waits = refl;
       freed = λ keeps sound whole. let held = quiet.holds keeps sound whole in record {
         sound = held.0;
         quiet = held.1;
         header = second.header ∙ frees.header;
         table = refl;
+        fewer = fewer-counted First Ready (λ _. 0) (λ _. 0) held.1 sound held.0 (second.header ∙ frees.header) refl (λ c. refl) frees.less;
         lower = frees.lower;
         marked = marked keeps sound whole;
       };
+      emptied = refl;
       all = λ searched. absurd (never fault searched second.cause);
       fresh = λ keeps sound. tt;
       taken = λ keeps sound. tt;
@@ -307,11 +313,12 @@ module _ {S : Type 0} (state : S → StorageState) (mark n : ℕ) (metadata : Bo
       ready-marked keeps sound marked = let still = still-sound keeps sound in marked-behind state table [] A fA B fB second mark1 still.0 still.1 (frees.marked keeps sound (inl tt) marked)
 
       is-freed : IsTrue (state before.image).shape.keeps → IsSound First → IsFreed First mark Ready mark1
-      is-freed keeps sound = record {
+      is-freed keeps sound = let quiet = ((quiet-on ⊤ (λ _. 0) (state fB.image) Ready second.quiet).holds keeps sound tt).1 in record {
         sound = (ready-sound keeps sound).1;
-        quiet = ((quiet-on ⊤ (λ _. 0) (state fB.image) Ready second.quiet).holds keeps sound tt).1;
+        quiet = quiet;
         header = second.header ∙ frees.header;
         table = refl;
+        fewer = fewer-counted First Ready (λ _. 0) (λ _. 0) quiet sound (ready-sound keeps sound).1 (second.header ∙ frees.header) refl (λ c. refl) frees.less;
         lower = frees.lower;
         marked = ready-marked keeps sound;
       }
@@ -375,7 +382,9 @@ module _ {S : Type 0} (state : S → StorageState) (mark n : ℕ) (metadata : Bo
         rest = rest-none pending;
         halted = λ other is. let e = is in absurd (cc e);
         mid = Ready;
+        waits = refl;
         freed = λ keeps sound whole. is-freed keeps sound;
+        emptied = refl;
         all = λ searched. (refl, second.order);
         fresh = λ keeps sound. let still = ready-sound keeps sound in third.fresh second.order still.0 still.1;
         taken = λ keeps sound. let still = ready-sound keeps sound in third.taken second.order still.0 still.1;

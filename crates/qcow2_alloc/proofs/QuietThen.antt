@@ -1,12 +1,14 @@
 -- Calls that leave the disk as it is, one behind the other.
-use Rattle.std.proofs.Common.{◌≡◌, ℕ, ◌+◌, ◌*◌, ◌/◌, ◌<◌, ◌≤◌, refl, arith, ap, sym, subst, ◌∙◌, inl, inr}
+use Rattle.std.proofs.Common.{◌≡◌, ℕ, ◌+◌, ◌*◌, ◌/◌, ◌<◌, ◌≤◌, refl, arith, ap, sym, subst, ◌∙◌, inl, inr, slice_index}
 use Rattle.std.specs.Prelude.{◌⊎◌, IsTrue, Some, None}
+use Rattle.std.proofs.lemmas.Bool.{cases_lt, le-ltb}
 use Rattle.imago_storage.specs.State.{StorageState, Rose, Shape}
 use Rattle.imago_storage.specs.Calls.{Later}
 use Rattle.imago_storage.proofs.Composing.{keeps_on, stops_both, later_both, rose_before, rose_behind}
 use Rattle.qcow2_types.specs.Bytes.{Bytes, bytes_of, word}
-use Rattle.qcow2_types.specs.Words.{Mapping, data_at, zeroes, packed, unmapped, damaged}
-use Rattle.qcow2_types.specs.Header.{Fields, Header, cluster_size, words_of_cluster}
+use Rattle.qcow2_types.specs.Words.{Mapping, block_offset, data_at, zeroes, packed, unmapped, damaged}
+use Rattle.qcow2_types.specs.Header.{Fields, Header, cluster_size, refcount_table_entries, words_of_cluster}
+use Rattle.qcow2_types.specs.Counts.{block_at}
 use Rattle.qcow2_types.specs.Entries.{l2_table}
 use Rattle.qcow2_types.specs.Frames.{Same, touches}
 use Rattle.qcow2_types.specs.References.{Weight, structure, contents, of_mapping, meets, refs}
@@ -16,7 +18,8 @@ use Rattle.qcow2_types.specs.Versions.{SamePlaces}
 use Rattle.qcow2_types.proofs.Either.{structure-same, tables-same}
 use Rattle.qcow2_types.proofs.Slots.{contents-slots, slots-same, slot-le}
 use Rattle.qcow2_alloc.specs.Memory.{memory}
-use Rattle.qcow2_alloc.specs.Quiet.{Metadata, in_memory, referenced, IsUsed, IsSound, ShowsEither, IsQuiet, Quietly}
+use Rattle.qcow2_metadata.specs.Tables.{TableValue}
+use Rattle.qcow2_alloc.specs.Quiet.{Metadata, counted, in_memory, referenced, waiting, IsUsed, IsSound, ShowsEither, IsQuiet, Quietly}
 use Rattle.qcow2_alloc.specs.Safety.{IsCalm}
 use Rattle.qcow2_alloc.proofs.MemoryWords.{places-in-memory}
 use Rattle.qcow2_alloc.proofs.QuietShows.{mapping-meets, in-cluster, named-apart}
@@ -140,6 +143,42 @@ module _ (m m1 : Metadata) (handed taken : ℕ → ℕ) (quiet : IsQuiet handed 
         let s1 = structure-in-memory m1 sound1 (meets m1.header.fields c) in
         let same = contents-then c in
         omega (arith, none, none1, s, s1, same)
+
+    -- What names it stands where it did under the same header and refcount table,
+    places-stay : m1.header ≡ m.header → m1.table ≡ m.table → SamePlaces m.file m1.file m.header.fields
+    places-stay same table = record {
+      l1 = subst (λ (H : Header). (i : ℕ) → l2_table m1.file H.fields i ≡ l2_table m.file m.header.fields i) same quiet.shows.tables;
+      blocks = λ i. elim (cases_lt i (refcount_table_entries m.header.fields)) [
+        | inl inside ↦ sym (named1 i inside) ∙ ap (λ (t : TableValue). block_offset (slice_index t.words i)) table ∙ sound.table.names i inside
+        | inr past ↦ no-block m1.file i past ∙ sym (no-block m.file i past)
+      ];
+    }
+      where
+        named1 : (i : ℕ) → i < refcount_table_entries m.header.fields → block_offset (slice_index m1.table.words i) ≡ block_at m1.file m.header.fields i
+        named1 = subst (λ (H : Header). (i : ℕ) → i < refcount_table_entries H.fields → block_offset (slice_index m1.table.words i) ≡ block_at m1.file H.fields i) same sound1.table.names
+
+        no-block : (f : Bytes) (i : ℕ) → refcount_table_entries m.header.fields ≤ i → block_at f m.header.fields i ≡ 0
+        no-block f i past = rw (le-ltb i (refcount_table_entries m.header.fields) past) refl
+
+    -- and so each cluster is named in memory as often,
+    pub references-stay : m1.header ≡ m.header → m1.table ≡ m.table → (c : ℕ) → referenced m1 c ≡ referenced m c
+    unfolding refs
+    references-stay same table c =
+        let s = structure-in-memory m sound (meets m.header.fields c) in
+        let s1 = structure-in-memory m1 sound1 (meets m1.header.fields c) in
+        let stands : structure m1.file m1.header.fields (meets m1.header.fields c) ≡ structure m.file m.header.fields (meets m.header.fields c) =
+        subst (λ (H : Header). structure m1.file H.fields (meets H.fields c) ≡ structure m.file m.header.fields (meets m.header.fields c)) (sym same) (structure-same m.file m1.file m.header.fields (places-stay same table) (meets m.header.fields c)) in
+        let contained = contents-then c in
+        omega (arith, s, s1, stands, contained)
+
+    -- and none is counted more often where nothing was handed out and no more waits.
+    pub fewer-counted : m1.header ≡ m.header → m1.table ≡ m.table → ((c : ℕ) → handed c ≡ 0) → ((c : ℕ) → waiting m1 c ≤ waiting m c) → (c : ℕ) → counted m1 c ≤ counted m c
+    fewer-counted same table none less c =
+        let references = references-stay same table c in
+        let law = quiet.law c in
+        let zero = none c in
+        let le = less c in
+        omega (arith, references, law, zero, le)
 
     -- and so what is used and not taken is used still.
     pub used-then : (c : ℕ) → IsUsed m c → taken c ≡ 0 → IsUsed m1 c

@@ -50,13 +50,14 @@ pub record GrowsReftable {S : Type 0} (state : S → StorageState) (mark at : �
       (λ number. IsTrue (state before.image).shape.keeps → IsSound (metadata_of state before old table pending) → NoPlaceToGrow (metadata_of state before old table pending) mark at number)
       (state before.image).faults (state after.image).faults)
 
--- The image once something of what waited was freed: nothing was counted up. The search begins at a cluster before which each is counted where
--- that was so.
+-- The image once something of what waited was freed: no cluster is counted more often. The search begins at a cluster before which each is counted
+-- where that was so.
 pub record IsFreed (m : Metadata) (mark : ℕ) (m' : Metadata) (mark' : ℕ) : Type 0 where
   pub sound : IsSound m'
   pub quiet : IsQuiet (λ _. 0) (λ _. 0) m m'
   pub header : m'.header ≡ m.header
   pub table : m'.table ≡ m.table
+  pub fewer : (c : ℕ) → counted m' c ≤ counted m c
   pub lower : mark' ≤ mark
   pub marked : IsMarked m mark → IsMarked m' mark'
 
@@ -89,8 +90,10 @@ pub record AllocatesClusters {S : Type 0} (state : S → StorageState) (mark n :
   pub halted : (fault : Fault) → answer ≡ Err fault → (result ≡ Err fault) × (new ≡ between) × (after ≡ at) × (table' ≡ table) × (pending' ≡ left)
   -- the image once the order was announced then
   pub mid : Metadata
+  pub waits : mid.pending ≡ left
   pub freed : IsTrue (state before.image).shape.keeps → IsSound (metadata_of state before old table pending) → IsWhole result → IsFreed (metadata_of state before old table pending) mark mid mid_mark
-  pub all : IsSearched result → (left ≡ []) × (mid.order ≡ L2DependsOnRb)
+  pub emptied : OnOk answer (left ≡ [])
+  pub all : IsSearched result → (answer ≡ Ok tt) × (mid.order ≡ L2DependsOnRb)
   pub fresh : IsTrue (state before.image).shape.keeps → IsSound (metadata_of state before old table pending) → IfOk result (λ entry. (c : ℕ) → entry.first ≤ c → c < entry.first + n → counted mid c ≡ 0)
   pub taken : IsTrue (state before.image).shape.keeps → IsSound (metadata_of state before old table pending) → IfOk result (IsRunCounted mid_mark n (metadata_of state after new table' pending'))
   pub little : IsTrue (state before.image).shape.keeps → IsSound (metadata_of state before old table pending) → IfOk result (λ _. TakesLittle mid_mark n mid (metadata_of state after new table' pending'))

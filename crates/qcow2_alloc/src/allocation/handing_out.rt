@@ -25,12 +25,13 @@ impl Allocator {
     /// The answer is to be spent: by its `make_persistent` once a table names the clusters, and the list's `release`; or by the list's
     /// `give_back`, for which room is held. That is held before anything else, so want of memory for it leaves all as it was.
     ///
-    /// It refuses with `Fault::Limit` only where a sixteenth of the space and three times the clusters asked for aren't free in a row from the
-    /// mark on, so only where no quarter of it is, or more than a sixteenth is asked for; with `Fault::Memory`; with `Fault::Storage`; with `Fault::CacheFull`, of a sound image whose refcount table names
-    /// each block that is pinned, only where as many are pinned as there is room for; and with `Fault::Counter` and
-    /// `Fault::DamagedTable`, which no sound image has. Nothing is handed out then, and no room is held. Blocks may have been made, and
-    /// the refcount table may have grown and moved, whatever is answered: the old table's clusters wait on the list then. The file of a
-    /// sound image shows the same at each stop, where the storage tells its stops and has refused no change.
+    /// It refuses with `Fault::Limit` only where a sixteenth of the space and three times the clusters asked for aren't free in a row from
+    /// the mark on, so only where no quarter of it is, or more than a sixteenth is asked for; with `Fault::Memory`; with `Fault::Storage`;
+    /// with `Fault::CacheFull`, of a sound image whose refcount table names each block that is pinned, only where as many are pinned as
+    /// there is room for; and with `Fault::Counter` and `Fault::DamagedTable`, which no sound image has. Nothing is handed out then, and no
+    /// room is held. Blocks may have been made, and the refcount table may have grown and moved, whatever is answered: the old table's
+    /// clusters wait on the list then. The file of a sound image shows the same at each stop, where the storage tells its stops and has
+    /// refused no change.
     pub fn allocate_clusters<S: Storage>(
         &mut self,
         file: &mut ImageFile<S>,
@@ -92,8 +93,9 @@ impl Allocator {
     }
 
     /// Lets the refcount table grow until it has a word at an index, which it has none at yet: first it is announced that blocks are
-    /// written before tables. It gets the least length that fills its clusters and leaves room to count these, and stands in the first
-    /// free room from the mark on, or from where the clusters end that the old table can count, behind the blocks that are lacking there. The clusters of the old table are put on the list.
+    /// written before tables. It gets the least length that fills its clusters and leaves room to count these, and stands in the first free
+    /// room from the mark on, or from where the clusters end that the old table can count, behind the blocks that are lacking there. The
+    /// clusters of the old table are put on the list.
     ///
     /// The grown copy of the table, and room for the old one's clusters on the list, are taken before anything else, so want of memory for these
     /// leaves all as it was.

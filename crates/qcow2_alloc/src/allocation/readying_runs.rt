@@ -41,7 +41,7 @@ impl Allocator {
                 Err(fault) => return Err(fault),
             };
             if self.has_grown_short_of(entries, last_index) {
-                return Err(Fault::Limit(last_index as u64));
+                return Err(Fault::Limit(first.0.saturating_add(count - 1)));
             }
             let first_index = first.rt_index(file.header.rb_bits());
             match self.ready_blocks(file, caches, list, first_index, last_index, count) {

@@ -47,9 +47,9 @@ returns-then-has_grown_short_of-clause-readies g c =
     let more = short.0 in
     let less = short.1 in
     let index = c.in-Ok-last_index.ensures.index in
-    subst (λ (m : ℕ). ReadiesRun state m c.args.count (table_of c.args.self.now) c.args.caches.now c.args.file.now c.args.list.now.entries (Err (Limit c.in-Ok-last_index.index)) (table_of l.self) new.caches new.file l.list.entries) l.invariant.1
+    subst (λ (m : ℕ). ReadiesRun state m c.args.count (table_of c.args.self.now) c.args.caches.now c.args.file.now c.args.list.now.entries (Err (Limit c.saturating_add.result)) (table_of l.self) new.caches new.file l.list.entries) l.invariant.1
     (grown-refused state (table_of c.args.self.now) c.args.caches.now c.args.file.now c.args.list.now.entries (table_of l.self) l.caches l.file l.list.entries l.invariant.0 (mark_of l.self) c.args.count c.in-Ok.first c.requires.some new.caches new.file c.in-Ok.ensures
-    c.in-Ok-last_index.index (omega (arith, long, more)) (omega (arith, less, index))
+    c.saturating_add.result (omega (arith, long, more)) (omega (arith, less, index))
     (subst (λ (m : ℕ). Stays state (table_of c.args.self.now) c.args.caches.now c.args.file.now c.args.list.now.entries m c.args.count (table_of l.self) l.caches l.file l.list.entries) (sym l.invariant.1) l.invariant.4))
 
 -- The table that has grown has a word for the last cluster of the run where that wasn't refused.
