@@ -153,7 +153,7 @@ fn guest_turn(image: &mut MappedImage, random: &mut Random) -> Result<(), Fault>
     }
 }
 
-// The tables name what they were told to, and nothing else.
+// The word of a guest cluster names the place that it was told to, or none.
 fn place_is_named(
     rt: &impl Abort,
     opened: &mut OpenImage,
@@ -174,6 +174,7 @@ fn place_is_named(
     }
 }
 
+// The tables name what they were told to, and nothing else.
 fn places_are_named(
     rt: &impl Abort,
     opened: &mut OpenImage,
