@@ -8,6 +8,8 @@ use crate::{
     ShallowMapping,
 };
 use imago_storage::{Fault, MemStorage, StorageOpenOptions};
+use std::alloc::Global;
+use std::process::Abort;
 use std::test::Fail;
 
 #[test]
@@ -108,23 +110,42 @@ fn kinds_are_told_apart(rt: HostRuntime) -> Result<(), Fail> {
     Ok(())
 }
 
-#[test]
-fn opening_keeps_what_it_was_told(rt: HostRuntime) -> Result<(), Fail> {
-    let mut base = FormatDriverBuilderBase::new(MemStorage::new(rt.alloc()));
+// Nothing was told yet.
+fn opens_plainly(
+    rt: &impl Abort,
+    alloc: Global,
+    base: &FormatDriverBuilderBase<MemStorage>,
+) -> Result<(), Fault> {
     assert!(rt; !base.get_writable());
     assert!(rt; base.get_storage_opts().is_none());
-    let plain = base.make_storage_opts(rt.alloc())?;
+    let plain = base.make_storage_opts(alloc)?;
     assert!(rt; plain.get_filename().is_none());
     assert!(rt; !plain.get_writable());
-    let named = StorageOpenOptions::new().filename("data.img".to_string(rt.alloc())?);
-    base.set_storage_open_options(named.direct(true));
-    base.set_write(true);
+    Ok(())
+}
+
+fn opens_as_told(
+    rt: &impl Abort,
+    alloc: Global,
+    base: &FormatDriverBuilderBase<MemStorage>,
+) -> Result<(), Fault> {
     assert!(rt; base.get_writable());
     assert!(rt; base.get_storage_opts().is_some());
-    let made = base.make_storage_opts(rt.alloc())?;
+    let made = base.make_storage_opts(alloc)?;
     assert!(rt; made.get_filename() == Some("data.img"));
     assert!(rt; made.get_writable());
     assert!(rt; made.get_direct());
+    Ok(())
+}
+
+#[test]
+fn opening_keeps_what_it_was_told(rt: HostRuntime) -> Result<(), Fail> {
+    let mut base = FormatDriverBuilderBase::new(MemStorage::new(rt.alloc()));
+    opens_plainly(&rt, rt.alloc(), &base)?;
+    let named = StorageOpenOptions::new().filename("data.img".to_string(rt.alloc())?);
+    base.set_storage_open_options(named.direct(true));
+    base.set_write(true);
+    opens_as_told(&rt, rt.alloc(), &base)?;
     let image = base.open_image(&mut DenyImplicitOpenGate)?;
     assert!(rt; image.bytes()?.is_empty());
     Ok(())

@@ -23,7 +23,8 @@ impl<D: FormatDriverInstance> FormatAccess<D> {
     /// Nothing may be prepared.
     ///
     /// It answers where the run lies and how long it is, in bytes; for an empty range a run of no length at the start of the storage 0. Its
-    /// bytes stay, but with `overwrite` they may be any. It refuses as `prepare_data_mapping` does; a refusal for another cause than `Memory` and `Storage` changes no byte.
+    /// bytes stay, but with `overwrite` they may be any. It refuses as `prepare_data_mapping` does; a refusal for another cause than
+    /// `Memory` and `Storage` changes no byte.
     pub fn ensure_data_mapping(
         &mut self,
         alloc: Global,

@@ -1,5 +1,5 @@
 // Mappings with state, through a disk of 8 bytes of 0 of which nothing is mapped, with the values that the rules give.
-ghost use Rattle.std.specs.Prelude.{IfOk};
+ghost use Rattle.std.specs.Prelude.{◌≡◌, IfOk};
 ghost use Rattle.imago_access.specs.Layer.{IsFree};
 
 use super::clusters::{Content, OneCluster, PreparedCluster};
@@ -11,10 +11,18 @@ use std::test::Fail;
 
 const UNMAPPED: Mapping = Mapping::Zero { explicit: false };
 
+// A call of the access is proved with all that is stated of the driver, which is much. So each stands in one function here.
+
+fn access_of(driver: OneCluster) -> FormatAccess<OneCluster>
+    ensures { result.0 ≡ driver }
+{
+    FormatAccess::new(driver)
+}
+
 fn disk(number: u64) -> FormatAccess<OneCluster>
     ensures { IsFree (⟦<OneCluster as FormatDriverInstance>⟧.layer result.0) }
 {
-    FormatAccess::new(OneCluster::new(8, number))
+    access_of(OneCluster::new(8, number))
 }
 
 // Where a place lies once the disk is mapped.
@@ -27,6 +35,10 @@ fn mapped(offset: u64) -> Mapping {
     }
 }
 
+fn read(alloc: Global, access: &mut FormatAccess<OneCluster>, buf: &mut [u8]) -> Result<(), Fault> {
+    access.read(alloc, buf, 0)
+}
+
 fn shown(
     rt: &impl Abort,
     alloc: Global,
@@ -34,7 +46,7 @@ fn shown(
     want: [u8; 8],
 ) -> Result<(), Fault> {
     let mut buf = [9u8; 8];
-    access.read(alloc, &mut buf, 0)?;
+    read(alloc, access, &mut buf)?;
     assert_eq!(rt; buf, want);
     Ok(())
 }
@@ -51,10 +63,16 @@ fn lies(
     Ok(())
 }
 
+fn driver_of(access: &FormatAccess<OneCluster>) -> &OneCluster
+    ensures { result.now ≡ access.now.0 }
+{
+    access.inner()
+}
+
 fn nothing_prepared(rt: &impl Abort, access: &FormatAccess<OneCluster>)
     ensures { IsFree (⟦<OneCluster as FormatDriverInstance>⟧.layer access.now.0) }
 {
-    assert!(rt; !access.inner().prepared());
+    assert!(rt; !driver_of(access).prepared());
 }
 
 fn prepare(
@@ -79,6 +97,43 @@ fn write(
     access.write(alloc, bytes, offset)
 }
 
+fn write_zeroes(
+    rt: &impl Abort,
+    alloc: Global,
+    access: &mut FormatAccess<OneCluster>,
+    offset: u64,
+    length: u64,
+) -> Result<(), Fault> {
+    nothing_prepared(rt, access);
+    access.write_zeroes(alloc, offset, length)
+}
+
+fn ensure(
+    rt: &impl Abort,
+    alloc: Global,
+    access: &mut FormatAccess<OneCluster>,
+    length: u64,
+    overwrite: bool,
+) -> Result<(Mapping, u64), Fault> {
+    nothing_prepared(rt, access);
+    access.ensure_data_mapping(alloc, 3, length, overwrite)
+}
+
+// Writes the bytes at these places, whose offset is a guest's.
+fn write_mapped(
+    alloc: Global,
+    access: &mut FormatAccess<OneCluster>,
+    offset: u64,
+    place: u64,
+    bytes: &[u8],
+) -> Result<(), Fault> {
+    access.write_mapped(alloc, offset, place, bytes)
+}
+
+fn flush(alloc: Global, access: &mut FormatAccess<OneCluster>) -> Result<(), Fault> {
+    access.flush(alloc)
+}
+
 // A refusal, once the mapping that it gives back is spent.
 fn refused(fault: Fault, back: Option<PreparedDataMapping<PreparedCluster>>) -> Fault {
     if let Some(mapping) = back {
@@ -87,12 +142,27 @@ fn refused(fault: Fault, back: Option<PreparedDataMapping<PreparedCluster>>) -> 
     fault
 }
 
+fn spend(
+    alloc: Global,
+    access: &mut FormatAccess<OneCluster>,
+    mapping: PreparedDataMapping<PreparedCluster>,
+) -> Result<(), (Fault, Option<PreparedDataMapping<PreparedCluster>>)> {
+    access.commit_data_mapping(alloc, mapping)
+}
+
+fn give_up(
+    access: &mut FormatAccess<OneCluster>,
+    mapping: PreparedDataMapping<PreparedCluster>,
+) -> Result<(), (Fault, PreparedDataMapping<PreparedCluster>)> {
+    access.cancel(mapping)
+}
+
 fn commit(
     alloc: Global,
     access: &mut FormatAccess<OneCluster>,
     mapping: PreparedDataMapping<PreparedCluster>,
 ) -> Result<(), Fault> {
-    match access.commit_data_mapping(alloc, mapping) {
+    match spend(alloc, access, mapping) {
         Ok(()) => Ok(()),
         Err((fault, back)) => Err(refused(fault, back)),
     }
@@ -102,7 +172,7 @@ fn cancel(
     access: &mut FormatAccess<OneCluster>,
     mapping: PreparedDataMapping<PreparedCluster>,
 ) -> Result<(), Fault> {
-    match access.cancel(mapping) {
+    match give_up(access, mapping) {
         Ok(()) => Ok(()),
         Err((fault, back)) => Err(refused(fault, Some(back))),
     }
@@ -114,7 +184,7 @@ fn committed(rt: &impl Abort, alloc: Global) -> Result<(), Fault> {
     let mapping = prepare(rt, alloc, &mut access, 2, 3)?;
     let run = (mapping.storage(), mapping.offset(), mapping.length());
     let done = mapping.is_nonblocking();
-    let written = access.write_mapped(alloc, 2, 2, &[0x21, 0x22]);
+    let written = write_mapped(alloc, &mut access, 2, 2, &[0x21, 0x22]);
     let before = shown(rt, alloc, &mut access, [0; 8]);
     let place = lies(rt, alloc, &mut access, 2, (UNMAPPED, 6));
     commit(alloc, &mut access, mapping)?;
@@ -134,7 +204,7 @@ fn written_in_place(rt: &impl Abort, alloc: Global) -> Result<(), Fault> {
     let mapping = prepare(rt, alloc, &mut access, 0, 3)?;
     let run = (mapping.storage(), mapping.offset(), mapping.length());
     let done = mapping.is_nonblocking();
-    let written = access.write_mapped(alloc, 0, 0, &[0x21, 0x22]);
+    let written = write_mapped(alloc, &mut access, 0, 0, &[0x21, 0x22]);
     let before = shown(rt, alloc, &mut access, [0x21, 0x22, 0, 0, 0, 0, 0, 0x11]);
     commit(alloc, &mut access, mapping)?;
     written?;
@@ -163,13 +233,13 @@ fn a_prepared_run_is_shown_once_it_is_committed(rt: HostRuntime) -> Result<(), F
 fn cancelled(rt: &impl Abort, alloc: Global) -> Result<(), Fault> {
     let mut access = disk(1);
     let mapping = prepare(rt, alloc, &mut access, 0, 4)?;
-    let written = access.write_mapped(alloc, 0, 0, &[0x11, 0x12]);
+    let written = write_mapped(alloc, &mut access, 0, 0, &[0x11, 0x12]);
     cancel(&mut access, mapping)?;
     written?;
     shown(rt, alloc, &mut access, [0; 8])?;
     lies(rt, alloc, &mut access, 0, (UNMAPPED, 8))?;
     let mapping = prepare(rt, alloc, &mut access, 0, 4)?;
-    let written = access.write_mapped(alloc, 1, 1, &[0x22]);
+    let written = write_mapped(alloc, &mut access, 1, 1, &[0x22]);
     commit(alloc, &mut access, mapping)?;
     written?;
     shown(rt, alloc, &mut access, [0, 0x22, 0, 0, 0, 0, 0, 0])
@@ -189,11 +259,11 @@ fn a_cancelled_run_is_never_shown(rt: HostRuntime) -> Result<(), Fail> {
 fn kept(rt: &impl Abort, alloc: Global) -> Result<(), Fault> {
     let mut access = disk(1);
     let mapping = prepare(rt, alloc, &mut access, 6, 2)?;
-    let written = access.write_mapped(alloc, 6, 6, &[0x31, 0x32]);
-    let flushed = access.flush(alloc);
+    let written = write_mapped(alloc, &mut access, 6, 6, &[0x31, 0x32]);
+    let flushed = flush(alloc, &mut access);
     let synced = access.sync();
     let before = shown(rt, alloc, &mut access, [0; 8]);
-    let prepared = access.inner().prepared();
+    let prepared = driver_of(&access).prepared();
     commit(alloc, &mut access, mapping)?;
     written?;
     flushed?;
@@ -231,12 +301,12 @@ fn answers(rt: &impl Abort, answer: Result<(), Fault>, want: Fault) -> Result<()
 // A write has to lie in the run, at the run's own place.
 fn outdated(rt: &impl Abort, alloc: Global) -> Result<(), Fault> {
     let mut access = disk(1);
-    let unmapped = access.write_mapped(alloc, 2, 2, &[1]);
+    let unmapped = write_mapped(alloc, &mut access, 2, 2, &[1]);
     let mapping = prepare(rt, alloc, &mut access, 2, 3)?;
-    let before = access.write_mapped(alloc, 1, 1, &[1, 2]);
-    let behind = access.write_mapped(alloc, 4, 4, &[1, 2]);
-    let elsewhere = access.write_mapped(alloc, 2, 3, &[1]);
-    let inside = access.write_mapped(alloc, 4, 4, &[0x41]);
+    let before = write_mapped(alloc, &mut access, 1, 1, &[1, 2]);
+    let behind = write_mapped(alloc, &mut access, 4, 4, &[1, 2]);
+    let elsewhere = write_mapped(alloc, &mut access, 2, 3, &[1]);
+    let inside = write_mapped(alloc, &mut access, 4, 4, &[0x41]);
     commit(alloc, &mut access, mapping)?;
     answers(rt, unmapped, Fault::Outdated)?;
     answers(rt, before, Fault::Outdated)?;
@@ -259,13 +329,12 @@ fn a_write_has_to_lie_in_the_run(rt: HostRuntime) -> Result<(), Fail> {
 // A run is mapped as part of the disk at once: its bytes stay, and it is written in place.
 fn ensured(rt: &impl Abort, alloc: Global) -> Result<(), Fault> {
     let mut access = disk(1);
-    nothing_prepared(rt, &access);
-    let run = access.ensure_data_mapping(alloc, 3, 4, false)?;
+    let run = ensure(rt, alloc, &mut access, 4, false)?;
     assert_eq!(rt; run, (mapped(3), 4));
     nothing_prepared(rt, &access);
     shown(rt, alloc, &mut access, [0; 8])?;
     lies(rt, alloc, &mut access, 0, (mapped(0), 8))?;
-    access.write_mapped(alloc, 3, 3, &[0x51, 0x52])?;
+    write_mapped(alloc, &mut access, 3, 3, &[0x51, 0x52])?;
     shown(rt, alloc, &mut access, [0, 0, 0, 0x51, 0x52, 0, 0, 0])
 }
 
@@ -287,7 +356,7 @@ fn given_back(
     mapping: PreparedDataMapping<PreparedCluster>,
     want: Fault,
 ) -> Result<PreparedDataMapping<PreparedCluster>, Fault> {
-    match access.commit_data_mapping(alloc, mapping) {
+    match spend(alloc, access, mapping) {
         Err((fault, Some(back))) => {
             assert_eq!(rt; fault, want);
             Ok(back)
@@ -306,7 +375,7 @@ fn kept_back(
     access: &mut FormatAccess<OneCluster>,
     mapping: PreparedDataMapping<PreparedCluster>,
 ) -> Result<PreparedDataMapping<PreparedCluster>, Fault> {
-    match access.cancel(mapping) {
+    match give_up(access, mapping) {
         Err((fault, back)) => {
             assert_eq!(rt; fault, Fault::Foreign);
             Ok(back)
@@ -326,22 +395,10 @@ fn offered(
 ) -> Result<PreparedDataMapping<PreparedCluster>, Fault> {
     let mut driver = OneCluster::new(8, 2);
     driver.failed = true;
-    let mapping = given_back(
-        rt,
-        alloc,
-        &mut FormatAccess::new(driver),
-        mapping,
-        Fault::Failed,
-    )?;
+    let mapping = given_back(rt, alloc, &mut access_of(driver), mapping, Fault::Failed)?;
     let mut driver = OneCluster::new(8, 3);
     driver.writable = false;
-    let mapping = given_back(
-        rt,
-        alloc,
-        &mut FormatAccess::new(driver),
-        mapping,
-        Fault::ReadOnly,
-    )?;
+    let mapping = given_back(rt, alloc, &mut access_of(driver), mapping, Fault::ReadOnly)?;
     let mut other = disk(4);
     let mapping = given_back(rt, alloc, &mut other, mapping, Fault::Foreign)?;
     kept_back(rt, &mut other, mapping)
@@ -350,7 +407,7 @@ fn offered(
 fn foreign(rt: &impl Abort, alloc: Global) -> Result<(), Fault> {
     let mut access = disk(1);
     let mapping = prepare(rt, alloc, &mut access, 0, 2)?;
-    let written = access.write_mapped(alloc, 0, 0, &[0x61, 0x62]);
+    let written = write_mapped(alloc, &mut access, 0, 0, &[0x61, 0x62]);
     let mapping = offered(rt, alloc, mapping)?;
     commit(alloc, &mut access, mapping)?;
     written?;
@@ -362,7 +419,7 @@ fn exchanged(rt: &impl Abort, alloc: Global) -> Result<(), Fault> {
     let mut access = disk(1);
     let mut other = disk(2);
     let mapping = prepare(rt, alloc, &mut access, 0, 2)?;
-    let written = access.write_mapped(alloc, 0, 0, &[0x63]);
+    let written = write_mapped(alloc, &mut access, 0, 0, &[0x63]);
     let others = match prepare(rt, alloc, &mut other, 0, 2) {
         Ok(others) => others,
         Err(fault) => return Err(refused(fault, Some(mapping))),
@@ -397,8 +454,7 @@ fn changed(rt: &impl Abort, alloc: Global) -> Result<(), Fault> {
     write(rt, alloc, &mut access, &[0x71, 0x72, 0x73], 2)?;
     shown(rt, alloc, &mut access, [0, 0, 0x71, 0x72, 0x73, 0, 0, 0])?;
     lies(rt, alloc, &mut access, 0, (mapped(0), 8))?;
-    nothing_prepared(rt, &access);
-    access.write_zeroes(alloc, 3, 1)?;
+    write_zeroes(rt, alloc, &mut access, 3, 1)?;
     shown(rt, alloc, &mut access, [0, 0, 0x71, 0, 0x73, 0, 0, 0])?;
     nothing_prepared(rt, &access);
     access.discard_to_zero(alloc, 2, 1)?;
@@ -413,11 +469,10 @@ fn changed(rt: &impl Abort, alloc: Global) -> Result<(), Fault> {
 // Zeroes that are written to a disk of which nothing is mapped map it.
 fn zeroed(rt: &impl Abort, alloc: Global) -> Result<(), Fault> {
     let mut access = disk(1);
-    nothing_prepared(rt, &access);
-    access.write_zeroes(alloc, 2, 3)?;
+    write_zeroes(rt, alloc, &mut access, 2, 3)?;
     lies(rt, alloc, &mut access, 1, (mapped(1), 7))?;
     shown(rt, alloc, &mut access, [0; 8])?;
-    access.flush(alloc)
+    flush(alloc, &mut access)
 }
 
 fn plain(rt: &impl Abort, alloc: Global) -> Result<(), Fault> {
@@ -441,7 +496,7 @@ fn broken() -> FormatAccess<OneCluster>
 {
     let mut driver = OneCluster::new(8, 1);
     driver.broken = true;
-    FormatAccess::new(driver)
+    access_of(driver)
 }
 
 // The image has failed, and holds no mapping.
@@ -451,17 +506,17 @@ fn failed(
     access: &mut FormatAccess<OneCluster>,
 ) -> Result<(), Fault> {
     nothing_prepared(rt, access);
-    assert_eq!(rt; access.inner().faults, 1);
-    answers(rt, access.flush(alloc), Fault::Failed)?;
+    assert_eq!(rt; driver_of(access).faults, 1);
+    answers(rt, flush(alloc, access), Fault::Failed)?;
     let mut buf = [9u8; 8];
-    answers(rt, access.read(alloc, &mut buf, 0), Fault::Failed)
+    answers(rt, read(alloc, access, &mut buf), Fault::Failed)
 }
 
 // A commit that the storage refuses has spent its mapping.
 fn unsettled(rt: &impl Abort, alloc: Global) -> Result<(), Fault> {
     let mut access = broken();
     let mapping = prepare(rt, alloc, &mut access, 0, 2)?;
-    match access.commit_data_mapping(alloc, mapping) {
+    match spend(alloc, &mut access, mapping) {
         Ok(()) => assert!(rt; false, "the storage fails"),
         Err((fault, None)) => assert_eq!(rt; fault, Fault::Storage),
         Err((fault, back)) => {
@@ -475,13 +530,21 @@ fn unsettled(rt: &impl Abort, alloc: Global) -> Result<(), Fault> {
 // So have a write, zeroes that are written, and a run that is mapped at once.
 fn unwritten(rt: &impl Abort, alloc: Global) -> Result<(), Fault> {
     let mut access = broken();
-    answers(rt, access.write(alloc, &[1, 2], 3), Fault::Storage)?;
+    answers(
+        rt,
+        write(rt, alloc, &mut access, &[1, 2], 3),
+        Fault::Storage,
+    )?;
     failed(rt, alloc, &mut access)?;
     let mut access = broken();
-    answers(rt, access.write_zeroes(alloc, 3, 2), Fault::Storage)?;
+    answers(
+        rt,
+        write_zeroes(rt, alloc, &mut access, 3, 2),
+        Fault::Storage,
+    )?;
     failed(rt, alloc, &mut access)?;
     let mut access = broken();
-    let run = access.ensure_data_mapping(alloc, 3, 2, true);
+    let run = ensure(rt, alloc, &mut access, 2, true);
     answers(rt, run.map(|_| ()), Fault::Storage)?;
     failed(rt, alloc, &mut access)
 }
@@ -509,7 +572,7 @@ fn stacked(alloc: Global) -> Result<FormatAccess<OneCluster>, Fault>
     lower.content = Content::Mapped([1u8, 2, 3, 4].to_vec(alloc)?);
     let mut upper = OneCluster::new(8, 2);
     upper.backed = true;
-    match FormatAccess::with_below(alloc, upper, FormatAccess::new(lower)) {
+    match FormatAccess::with_below(alloc, upper, access_of(lower)) {
         Ok(access) => Ok(access),
         Err((fault, _back)) => Err(fault),
     }
@@ -517,10 +580,10 @@ fn stacked(alloc: Global) -> Result<FormatAccess<OneCluster>, Fault>
 
 // So many lookups were asked of the upper layer, and of the lower.
 fn asked(rt: &impl Abort, access: &FormatAccess<OneCluster>, upper: u64, lower: u64) {
-    assert_eq!(rt; access.inner().lookups, upper);
+    assert_eq!(rt; driver_of(access).lookups, upper);
     match access.below() {
         None => assert!(rt; false, "there is a layer below"),
-        Some(below) => assert_eq!(rt; below.inner().lookups, lower),
+        Some(below) => assert_eq!(rt; driver_of(below).lookups, lower),
     }
 }
 
@@ -528,7 +591,7 @@ fn asked(rt: &impl Abort, access: &FormatAccess<OneCluster>, upper: u64, lower: 
 fn counted(rt: &impl Abort, alloc: Global) -> Result<(), Fault> {
     let mut access = stacked(alloc)?;
     let mut buf = [9u8; 4];
-    access.read(alloc, &mut buf, 0)?;
+    read(alloc, &mut access, &mut buf)?;
     assert_eq!(rt; buf, [1, 2, 3, 4]);
     asked(rt, &access, 1, 1);
     shown(rt, alloc, &mut access, [1, 2, 3, 4, 0, 0, 0, 0])?;
@@ -547,7 +610,7 @@ fn counted(rt: &impl Abort, alloc: Global) -> Result<(), Fault> {
 // The upper layer would have to copy what the lower shows, and refuses a write.
 fn uncopied(rt: &impl Abort, alloc: Global) -> Result<(), Fault> {
     let mut access = stacked(alloc)?;
-    answers(rt, access.write(alloc, &[9], 1), Fault::Limit(0))?;
+    answers(rt, write(rt, alloc, &mut access, &[9], 1), Fault::Limit(0))?;
     shown(rt, alloc, &mut access, [1, 2, 3, 4, 0, 0, 0, 0])
 }
 
