@@ -14,6 +14,15 @@ use Rattle.imago_access.specs.Files.{SomeRose, IsStale}
 abbrev pub barrier : Layer → Option Fault
 barrier layer = if layer.failed then Some Failed else if layer.fixed.missing then Some MissingData else None
 
+-- The first cause why a change of a range, in bytes, is refused, by whether the image was opened for writing, its unit of requests and its size.
+abbrev pub range_refusal : Bool → (unit size offset n : ℕ) → Option Fault
+range_refusal writable unit size offset n =
+    if eqb n 0 then None
+    else if not writable then Some ReadOnly
+    else if leb (2 ^ 64) (round_up unit (offset + n)) then Some RangeOverflow
+    else if ltb size (offset + n) then Some PastEnd
+    else None
+
 -- The first cause why a call over a range, in bytes, is refused before anything is done, by the unit of requests: for one that only
 -- looks, and for one that changes.
 abbrev pub look_refusal : ℕ → Layer → ℕ → ℕ → Option Fault
@@ -28,11 +37,7 @@ abbrev pub change_refusal : ℕ → Layer → ℕ → ℕ → Option Fault
 change_refusal unit layer offset n =
     if layer.failed then Some Failed
     else if layer.fixed.missing then Some MissingData
-    else if eqb n 0 then None
-    else if not layer.fixed.writable then Some ReadOnly
-    else if leb (2 ^ 64) (round_up unit (offset + n)) then Some RangeOverflow
-    else if ltb layer.size (offset + n) then Some PastEnd
-    else None
+    else range_refusal layer.fixed.writable unit layer.size offset n
 
 -- a layer of the chain is barred by this
 abbrev pub SomeBarred : List Layer → Fault → Type 0

@@ -11,6 +11,7 @@ mod drivers;
 mod format;
 mod gate;
 mod mapping;
+mod ranges;
 
 pub use access::FormatAccess;
 pub use below::{NoBelow, ReadBelow};
@@ -22,6 +23,7 @@ pub use drivers::{FormatDriverInstance, check_commit};
 pub use format::{Format, PreallocateMode};
 pub use gate::{DenyImplicitOpenGate, ImplicitOpenGate};
 pub use mapping::{Mapping, PreparedDataMapping, ShallowMapping};
+pub use ranges::check_range;
 
 #[cfg(test)]
 mod tests;

@@ -5,7 +5,7 @@ mod prepared;
 use crate::{
     DenyImplicitOpenGate, Format, FormatCreateBuilderBase, FormatDriverBuilderBase,
     ImplicitOpenGate, Mapping, NoBelow, PreallocateMode, PreparedDataMapping, ReadBelow,
-    ShallowMapping,
+    ShallowMapping, check_range,
 };
 use imago_storage::{Fault, MemStorage, StorageOpenOptions};
 use std::alloc::Global;
@@ -107,6 +107,17 @@ fn kinds_are_told_apart(rt: HostRuntime) -> Result<(), Fail> {
     assert!(rt; Format::Qcow2 != Format::Vmdk);
     assert!(rt; PreallocateMode::FormatAllocate != PreallocateMode::FullAllocate);
     assert!(rt; ShallowMapping::Zero { explicit: true } != ShallowMapping::Eof);
+    Ok(())
+}
+
+#[test]
+fn a_range_is_refused_in_a_fixed_order(rt: HostRuntime) -> Result<(), Fail> {
+    assert!(rt; check_range(true, 4, 8, 5, 3) == Ok(()));
+    assert!(rt; check_range(false, 4, 8, 9, 0) == Ok(()));
+    assert!(rt; check_range(false, 4, 8, u64::MAX, 1) == Err(Fault::ReadOnly));
+    assert!(rt; check_range(true, 4, 8, u64::MAX - 1, 1) == Err(Fault::RangeOverflow));
+    assert!(rt; check_range(true, 4, 8, u64::MAX - 4, 1) == Err(Fault::PastEnd));
+    assert!(rt; check_range(true, 4, 8, 5, 4) == Err(Fault::PastEnd));
     Ok(())
 }
 

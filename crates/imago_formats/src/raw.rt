@@ -30,10 +30,10 @@ ghost use Rattle.imago_formats.specs.Growing.{CutTo, GrownTo, NotGrown};
 
 use imago_access::{
     Format, FormatDriverInstance, PreallocateMode, PreparedDataMapping, ReadBelow, ShallowMapping,
+    check_range,
 };
 use imago_storage::{
-    Fault, PreallocateMode as StorageMode, Storage, StorageExt, larger_alignment, padded_end,
-    write_full_zeroes,
+    Fault, PreallocateMode as StorageMode, Storage, StorageExt, larger_alignment, write_full_zeroes,
 };
 use std::alloc::Global;
 use std::fmt::{self, Display, Formatter, Write};
@@ -134,17 +134,8 @@ impl<S: Storage> Raw<S> {
         ensures fits { OnOk result (offset + length < 2 ^ 64) }
         ensures err { IfErr result (λ e. change_refusal (unit_of (S.state self.now.storage).shape) (raw_layer (S.state self.now.storage) self.now.size self.now.writable) offset length ≡ Some e) }
     {
-        if !self.writable {
-            return Err(Fault::ReadOnly);
-        }
         let unit = larger_alignment(self.storage.req_align(), self.storage.mem_align());
-        if padded_end(offset, length, unit as u64).is_none() {
-            return Err(Fault::RangeOverflow);
-        }
-        if length > self.size || offset > self.size - length {
-            return Err(Fault::PastEnd);
-        }
-        Ok(())
+        check_range(self.writable, unit as u64, self.size, offset, length)
     }
 
     // Zeroes a range of the disk.

@@ -22,7 +22,8 @@ use crate::access::FormatAccess;
 use crate::below::ReadBelow;
 use crate::drivers::FormatDriverInstance;
 use crate::mapping::PreparedDataMapping;
-use imago_storage::{Fault, padded_end};
+use crate::ranges::check_range;
+use imago_storage::Fault;
 use std::alloc::Global;
 
 // Gives up a mapping of this image.
@@ -158,20 +159,8 @@ impl<D: FormatDriverInstance> FormatAccess<D> {
         ensures failed { (olds news : List StorageState) → IfErr result (ImageCause olds news) }
     {
         self.driver.ready()?;
-        if length == 0 {
-            return Ok(());
-        }
-        if !self.driver.writable() {
-            return Err(Fault::ReadOnly);
-        }
-        if padded_end(offset, length, self.unit()).is_none() {
-            return Err(Fault::RangeOverflow);
-        }
-        let size = self.driver.size();
-        if length > size || offset > size - length {
-            return Err(Fault::PastEnd);
-        }
-        Ok(())
+        let (writable, size) = (self.driver.writable(), self.driver.size());
+        check_range(writable, self.unit(), size, offset, length)
     }
 
     /// Writes the bytes at an offset. Nothing may be prepared.

@@ -21,9 +21,9 @@ ghost use Rattle.imago_access.specs.declared.tests.clusters.Content.TheVariants 
 
 use crate::{
     Format, FormatDriverInstance, PreallocateMode, PreparedDataMapping, ReadBelow, ShallowMapping,
-    check_commit,
+    check_commit, check_range,
 };
-use imago_storage::{Fault, padded_end};
+use imago_storage::Fault;
 use std::alloc::{AllocError, Global};
 
 // A mapping that an image has prepared, as the image knows it again.
@@ -155,19 +155,7 @@ impl OneCluster {
         ensures cause { (below : List Layer) (olds news : List StorageState) → IfErr result (PartCause below (⟦<OneCluster as FormatDriverInstance>⟧.layer self.now) offset length cluster_cause olds news) }
     {
         self.ready()?;
-        if length == 0 {
-            return Ok(());
-        }
-        if !self.writable {
-            return Err(Fault::ReadOnly);
-        }
-        if padded_end(offset, length, 1).is_none() {
-            return Err(Fault::RangeOverflow);
-        }
-        if length > self.size || offset > self.size - length {
-            return Err(Fault::PastEnd);
-        }
-        Ok(())
+        check_range(self.writable, 1, self.size, offset, length)
     }
 
     // The part of a range that it zeroes or discards by itself: none.
