@@ -29,6 +29,7 @@ ghost use Rattle.qcow2_alloc.specs.declared.cache.CacheDependency.{CacheDependen
 ghost use Rattle.qcow2_alloc.specs.declared.cache.CacheDependency.TheVariants.{L2DependsOnRb, RbDependsOnL2};
 ghost use Rattle.qcow2_alloc.specs.Cache.{hit};
 ghost use Rattle.qcow2_alloc.specs.Crowding.{space, IsRoomy};
+ghost use Rattle.qcow2_alloc.specs.HandingOut.{IsFreed};
 ghost use Rattle.qcow2_alloc.specs.Changes.{StaysAsItIs, CachesBlock, SetsCounter, CounterChanged, IsStillCovered, CachesTable, SetsWord, NamesNoMore, NamesDropped, ClusterNamed, zeroed};
 ghost use Rattle.qcow2_alloc.specs.Memory.{Cached, memory};
 ghost use Rattle.qcow2_alloc.specs.Safety.{Safe, IsLeft, IsCalm, AreTablesClean, AreBlocksClean, IsSettled};
@@ -382,4 +383,10 @@ pub fn making_a_block_that_another_counts()
 pub fn a_quarter_is_room()
     ensures { (m : Metadata) (mark n first : ℕ) → mark ≤ first → first + space m.header.fields / 4 ≤ space m.header.fields
         → ((c : ℕ) → first ≤ c → c < first + space m.header.fields / 4 → counted m c ≡ 0) → n ≤ space m.header.fields / 16 → IsRoomy m mark n }
+{}
+
+/// What an image has room for it has room for once what waits was freed. So an allocation that is refused with `Fault::Limit` had none
+/// before it, either.
+pub fn what_is_freed_leaves_room()
+    ensures { (m m' : Metadata) (mark mark' n : ℕ) → IsFreed m mark m' mark' → IsRoomy m mark n → IsRoomy m' mark' n }
 {}

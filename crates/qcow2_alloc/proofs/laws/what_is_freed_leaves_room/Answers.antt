@@ -1,0 +1,14 @@
+use Rattle.std.proofs.Common.{◌≡◌, ℕ, ◌+◌, ◌≤◌, arith, ap, sym, subst}
+use Rattle.qcow2_types.specs.Header.{Header}
+use Rattle.qcow2_alloc.specs.Crowding.{space, room_for}
+use Rattle.qcow2_alloc.proofs.laws.what_is_freed_leaves_room.Goals as goal
+
+pub returns : goal.returns
+returns c = λ m m' mark mark' n freed roomy. record {
+  first = roomy.first;
+  total = roomy.total;
+  behind = let lower = freed.lower in let behind = roomy.behind in omega (arith, lower, behind);
+  below = subst (λ (H : Header). roomy.first + roomy.total ≤ space H.fields) (sym freed.header) roomy.below;
+  free = λ d from to. let none = roomy.free d from to in let fewer = freed.fewer d in omega (arith, none, fewer);
+  enough = subst (λ (H : Header). room_for H.fields n ≤ roomy.total) (sym freed.header) roomy.enough;
+}
