@@ -5,7 +5,9 @@ mod answers;
 mod asking;
 mod failing;
 mod faults;
+mod layered;
 mod layers;
+mod plain;
 mod random;
 mod refusals;
 mod windows;
@@ -148,20 +150,24 @@ fn grown_bytes_are_zero(rt: HostRuntime) -> Result<(), Fail> {
     Ok(())
 }
 
+fn blank(alloc: Global) -> Result<(Mapping, u64), Fault> {
+    let mut disk = FormatAccess::new(Raw::open_image(Null::new(1_024), false));
+    disk.get_mapping(alloc, 512, 1_024)
+}
+
 #[test]
 fn a_chain_of_one_raw_image_is_read(rt: HostRuntime) -> Result<(), Fail> {
-    let mut disk = FormatAccess::new(image(rt.alloc(), 1, true)?);
+    let mut disk = plain::disk_of(image(rt.alloc(), 1, true)?);
     let mut buf = [9; 4];
-    disk.read(rt.alloc(), &mut buf, 2)?;
+    plain::read(rt.alloc(), &mut disk, &mut buf, 2)?;
     assert!(rt; buf == [0x33, 0x44, 0, 0]);
-    let mut blank = FormatAccess::new(Raw::open_image(Null::new(1_024), false));
     let run = Mapping::Raw {
         depth: 0,
         storage: 0,
         offset: 512,
         writable: false,
     };
-    assert!(rt; blank.get_mapping(rt.alloc(), 512, 1_024) == Ok((run, 512)));
+    assert!(rt; blank(rt.alloc()) == Ok((run, 512)));
     Ok(())
 }
 

@@ -8,6 +8,22 @@ use std::alloc::Global;
 use std::process::Abort;
 use std::test::Fail;
 
+type FailingImage = Raw<FuseStorage<MemStorage>>;
+
+#[derive(Clone, Copy)]
+enum Request {
+    Read,
+    Write,
+    Zero,
+    ToZero,
+    ToBacking,
+    ToAny,
+    Flush,
+    Sync,
+    Grow,
+    Shrink,
+}
+
 // A storage of the bytes 11 22 33 44 whose nth counted call fails.
 fn fused(alloc: Global, n: u64) -> Result<FuseStorage<MemStorage>, Fault> {
     let bytes = [0x11, 0x22, 0x33, 0x44].to_vec(alloc)?;
@@ -15,16 +31,12 @@ fn fused(alloc: Global, n: u64) -> Result<FuseStorage<MemStorage>, Fault> {
 }
 
 // An image whose first request fails.
-fn failing(alloc: Global) -> Result<Raw<FuseStorage<MemStorage>>, Fault> {
+fn failing(alloc: Global) -> Result<FailingImage, Fault> {
     Ok(Raw::open_image(fused(alloc, 1)?, true))
 }
 
 // The image was asked for one request, and is as it was.
-fn assert_kept(
-    rt: &impl Abort,
-    alloc: Global,
-    mut raw: Raw<FuseStorage<MemStorage>>,
-) -> Result<(), Fault> {
+fn assert_kept(rt: &impl Abort, alloc: Global, raw: &mut FailingImage) -> Result<(), Fault> {
     assert_eq!(rt; raw.image().count(), 1);
     assert_eq!(rt; raw.size(), 4);
     let mut buf = [9; 5];
@@ -48,43 +60,54 @@ fn told<T: Drop>(rt: &impl Abort, answer: Result<T, Fault>) -> Result<(), Fault>
     }
 }
 
-fn requests(rt: &impl Abort, alloc: Global) -> Result<(), Fault> {
+fn carry_out(alloc: Global, raw: &mut FailingImage, request: Request) -> Result<(), Fault> {
+    match request {
+        Request::Read => raw.read_mapped(alloc, 0, 0, &mut [0; 2]),
+        Request::Write => raw.write_mapped(alloc, 1, 1, &[5]),
+        Request::Zero => raw.ensure_zero_mapping(alloc, 0, 4).map(|_| ()),
+        Request::ToZero => raw.discard_to_zero(alloc, 0, 4).map(|_| ()),
+        Request::ToBacking => raw.discard_to_backing(alloc, 0, 4).map(|_| ()),
+        Request::ToAny => raw.discard_to_any(alloc, 0, 4).map(|_| ()),
+        Request::Flush => raw.flush(alloc),
+        Request::Sync => raw.sync(),
+        Request::Grow => raw.resize_grow(alloc, &mut NoBelow, 8, PreallocateMode::None),
+        Request::Shrink => raw.resize_shrink(alloc, 2),
+    }
+}
+
+fn fails(rt: &impl Abort, alloc: Global, request: Request) -> Result<(), Fault> {
     let mut raw = failing(alloc)?;
-    told(rt, raw.read_mapped(alloc, 0, 0, &mut [0; 2]))?;
-    assert_kept(rt, alloc, raw)?;
-    let mut raw = failing(alloc)?;
-    told(rt, raw.write_mapped(alloc, 1, 1, &[5]))?;
-    assert_kept(rt, alloc, raw)?;
-    let mut raw = failing(alloc)?;
-    told(rt, raw.ensure_zero_mapping(alloc, 0, 4))?;
-    assert_kept(rt, alloc, raw)?;
-    let mut raw = failing(alloc)?;
-    told(rt, raw.discard_to_zero(alloc, 0, 4))?;
-    assert_kept(rt, alloc, raw)?;
-    let mut raw = failing(alloc)?;
-    told(rt, raw.discard_to_backing(alloc, 0, 4))?;
-    assert_kept(rt, alloc, raw)?;
-    let mut raw = failing(alloc)?;
-    told(rt, raw.discard_to_any(alloc, 0, 4))?;
-    assert_kept(rt, alloc, raw)?;
+    told(rt, carry_out(alloc, &mut raw, request))?;
+    assert_kept(rt, alloc, &mut raw)
+}
+
+fn each_fails(rt: &impl Abort, alloc: Global, requests: &[Request]) -> Result<(), Fault> {
+    for request in requests.iter() {
+        fails(rt, alloc, *request)?;
+    }
     Ok(())
 }
 
+fn requests(rt: &impl Abort, alloc: Global) -> Result<(), Fault> {
+    let requests = [
+        Request::Read,
+        Request::Write,
+        Request::Zero,
+        Request::ToZero,
+        Request::ToBacking,
+        Request::ToAny,
+    ];
+    each_fails(rt, alloc, &requests)
+}
+
 fn flushes_and_resizes(rt: &impl Abort, alloc: Global) -> Result<(), Fault> {
-    let mut raw = failing(alloc)?;
-    told(rt, raw.flush(alloc))?;
-    assert_kept(rt, alloc, raw)?;
-    let mut raw = failing(alloc)?;
-    told(rt, raw.sync())?;
-    assert_kept(rt, alloc, raw)?;
-    let mut raw = failing(alloc)?;
-    let grown = raw.resize_grow(alloc, &mut NoBelow, 8, PreallocateMode::None);
-    told(rt, grown)?;
-    assert_kept(rt, alloc, raw)?;
-    let mut raw = failing(alloc)?;
-    told(rt, raw.resize_shrink(alloc, 2))?;
-    assert_kept(rt, alloc, raw)?;
-    Ok(())
+    let requests = [
+        Request::Flush,
+        Request::Sync,
+        Request::Grow,
+        Request::Shrink,
+    ];
+    each_fails(rt, alloc, &requests)
 }
 
 fn a_creation(rt: &impl Abort, alloc: Global) -> Result<(), Fault> {

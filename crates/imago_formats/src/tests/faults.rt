@@ -34,22 +34,34 @@ const WORKS: [(Work, u16); 7] = [
 
 type Disk = FormatAccess<Raw<FuseStorage<MemStorage>>>;
 
-// A disk whose storage fails at its nth call from now on. It has made two, to write the last byte.
-fn opened(rt: &impl Abort, alloc: Global, n: u16) -> Result<Disk, Fault> {
+fn read(alloc: Global, access: &mut Disk, buf: &mut [u8], offset: u64) -> Result<(), Fault> {
+    access.read(alloc, buf, offset)
+}
+
+fn write(alloc: Global, access: &mut Disk, bytes: &[u8], offset: u64) -> Result<(), Fault> {
+    access.write(alloc, bytes, offset)
+}
+
+fn storing(alloc: Global, n: u64) -> Result<FuseStorage<MemStorage>, Fault> {
     let mut bytes = Vec::new(alloc);
     bytes.resize(2_000, 0xaa)?;
     let memory = MemStorage::from_bytes(bytes)?.with_align(512);
-    let storage = FuseStorage::new(memory, u64::from(n) + 2);
+    Ok(FuseStorage::new(memory, n))
+}
+
+// A disk whose storage fails at its nth call from now on. It has made two, to write the last byte.
+fn opened(rt: &impl Abort, alloc: Global, n: u16) -> Result<Disk, Fault> {
+    let storage = storing(alloc, u64::from(n) + 2)?;
     let mut access = FormatAccess::new(Raw::open_image(storage, true));
-    access.write(alloc, &[0xaa], 1_999)?;
+    write(alloc, &mut access, &[0xaa], 1_999)?;
     assert_eq!(rt; access.inner().image().count(), 2);
     Ok(access)
 }
 
 fn carry_out(alloc: Global, access: &mut Disk, work: Work) -> Result<(), Fault> {
     match work {
-        Work::Read => access.read(alloc, &mut [0; 1_800], 100),
-        Work::Write => access.write(alloc, &[0x55; 1_800], 100),
+        Work::Read => read(alloc, access, &mut [0; 1_800], 100),
+        Work::Write => write(alloc, access, &[0x55; 1_800], 100),
         Work::Zero => access.write_zeroes(alloc, 100, 1_800),
         Work::ToZero => access.discard_to_zero(alloc, 100, 1_800),
         Work::Grow => access.resize_grow(alloc, 3_000, PreallocateMode::Zero),
@@ -83,7 +95,7 @@ fn shown(
     assert_eq!(rt; access.size(), size);
     let mut bytes = Vec::new(alloc);
     bytes.resize(3_100, 7u8)?;
-    access.read(alloc, &mut bytes, 0)?;
+    read(alloc, access, &mut bytes, 0)?;
     for (i, byte) in bytes.iter().enumerate() {
         let old = given(Work::Flush, i);
         let new = given(work, i);
@@ -92,7 +104,14 @@ fn shown(
     Ok(())
 }
 
-// Whether the work is refused where the nth call fails. Made once more it succeeds.
+// The work is refused. Made once more it succeeds.
+fn is_refused(rt: &impl Abort, alloc: Global, access: &mut Disk, work: Work) -> Result<(), Fault> {
+    shown(rt, alloc, access, work, true)?;
+    carry_out(alloc, access, work)?;
+    shown(rt, alloc, access, work, false)
+}
+
+// Whether the work is refused where the nth call fails.
 fn fails(rt: &impl Abort, alloc: Global, work: Work, n: u16) -> Result<bool, Fault> {
     let mut access = opened(rt, alloc, n)?;
     match carry_out(alloc, &mut access, work) {
@@ -100,9 +119,7 @@ fn fails(rt: &impl Abort, alloc: Global, work: Work, n: u16) -> Result<bool, Fau
         Err(Fault::Memory) => return Err(Fault::Memory),
         answer => assert_eq!(rt; answer, Err(Fault::Storage), "{work:?} at {n}"),
     }
-    shown(rt, alloc, &mut access, work, true)?;
-    carry_out(alloc, &mut access, work)?;
-    shown(rt, alloc, &mut access, work, false)?;
+    is_refused(rt, alloc, &mut access, work)?;
     Ok(true)
 }
 

@@ -2,14 +2,14 @@
 ghost use Rattle.std.specs.Prelude.{◌<◌};
 ghost use Rattle.imago_storage.specs.State.{IsAlignment};
 
+use super::plain;
+use super::plain::RawDisk;
 use crate::Raw;
-use imago_access::{FormatAccess, PreallocateMode};
+use imago_access::PreallocateMode;
 use imago_storage::{Fault, MemStorage};
 use std::alloc::Global;
 use std::process::Abort;
 use std::test::Fail;
-
-type Disk = FormatAccess<Raw<MemStorage>>;
 
 // Numbers that follow each other by a linear congruence.
 #[derive(Drop)]
@@ -62,18 +62,18 @@ fn next_mode(random: &mut Random) -> PreallocateMode {
 
 fn carry_out(
     alloc: Global,
-    access: &mut Disk,
+    access: &mut RawDisk,
     call: Ranged,
     bytes: &[u8],
     offset: u64,
 ) -> Result<(), Fault> {
     let n = bytes.len() as u64;
     match call {
-        Ranged::Write => access.write(alloc, bytes, offset),
-        Ranged::Zeroes => access.write_zeroes(alloc, offset, n),
-        Ranged::ToZero => access.discard_to_zero(alloc, offset, n),
-        Ranged::ToAny => access.discard_to_any(alloc, offset, n),
-        Ranged::ToBacking => access.discard_to_backing(alloc, offset, n),
+        Ranged::Write => plain::write(alloc, access, bytes, offset),
+        Ranged::Zeroes => plain::write_zeroes(alloc, access, offset, n),
+        Ranged::ToZero => plain::discard_to_zero(alloc, access, offset, n),
+        Ranged::ToAny => plain::discard_to_any(alloc, access, offset, n),
+        Ranged::ToBacking => plain::discard_to_backing(alloc, access, offset, n),
     }
 }
 
@@ -81,7 +81,7 @@ fn carry_out(
 fn take(
     rt: &impl Abort,
     alloc: Global,
-    access: &mut Disk,
+    access: &mut RawDisk,
     list: &mut [u8],
     at: usize,
     n: usize,
@@ -89,7 +89,7 @@ fn take(
 ) -> Result<(), Fault> {
     let mut bytes = Vec::new(alloc);
     bytes.resize(n, 7u8)?;
-    access.read(alloc, &mut bytes, at as u64)?;
+    plain::read(alloc, access, &mut bytes, at as u64)?;
     for (byte, now) in list.iter_mut().skip(at).zip(bytes.iter()) {
         assert!(rt; any || *now == *byte || *now == 0);
         *byte = *now;
@@ -101,7 +101,7 @@ fn take(
 fn follow(
     rt: &impl Abort,
     alloc: Global,
-    access: &mut Disk,
+    access: &mut RawDisk,
     list: &mut [u8],
     call: Ranged,
     bytes: &[u8],
@@ -129,7 +129,7 @@ fn follow(
 fn change(
     rt: &impl Abort,
     alloc: Global,
-    access: &mut Disk,
+    access: &mut RawDisk,
     list: &mut [u8],
     random: &mut Random,
 ) -> Result<(), Fault> {
@@ -156,12 +156,12 @@ fn change(
 fn grow(
     rt: &impl Abort,
     alloc: Global,
-    access: &mut Disk,
+    access: &mut RawDisk,
     list: &mut Vec<u8>,
     random: &mut Random,
 ) -> Result<(), Fault> {
     let (size, how) = (random.below(5_000), next_mode(random));
-    access.resize_grow(alloc, u64::from(size), how)?;
+    plain::resize_grow(alloc, access, u64::from(size), how)?;
     let (from, to) = (list.len(), usize::from(size));
     if to > from {
         list.resize(to, 0)?;
@@ -174,12 +174,12 @@ fn grow(
 
 fn shrink(
     alloc: Global,
-    access: &mut Disk,
+    access: &mut RawDisk,
     list: &mut Vec<u8>,
     random: &mut Random,
 ) -> Result<(), Fault> {
     let size = random.below(6_000);
-    access.resize_shrink(alloc, u64::from(size))?;
+    plain::resize_shrink(alloc, access, u64::from(size))?;
     if usize::from(size) < list.len() {
         list.resize(usize::from(size), 0)?;
     }
@@ -190,15 +190,15 @@ fn shrink(
 fn compare(
     rt: &impl Abort,
     alloc: Global,
-    access: &mut Disk,
+    access: &mut RawDisk,
     list: &[u8],
     at: u16,
     n: u16,
 ) -> Result<(), Fault> {
-    assert_eq!(rt; access.size(), list.len() as u64);
+    assert_eq!(rt; plain::size(access), list.len() as u64);
     let mut bytes = Vec::new(alloc);
     bytes.resize(usize::from(n), 7u8)?;
-    access.read(alloc, &mut bytes, u64::from(at))?;
+    plain::read(alloc, access, &mut bytes, u64::from(at))?;
     let there = list.len().saturating_sub(usize::from(at));
     for (got, want) in bytes.iter().zip(list.iter().skip(usize::from(at))) {
         assert_eq!(rt; *got, *want);
@@ -213,7 +213,7 @@ fn compare(
 fn step(
     rt: &impl Abort,
     alloc: Global,
-    access: &mut Disk,
+    access: &mut RawDisk,
     list: &mut Vec<u8>,
     random: &mut Random,
 ) -> Result<(), Fault> {
@@ -237,7 +237,7 @@ fn calls(rt: &impl Abort, alloc: Global, align: usize) -> Result<(), Fault>
     let mut bytes = Vec::new(alloc);
     bytes.resize(3_000, 0x5au8)?;
     let storage = MemStorage::from_bytes(bytes)?.with_align(align);
-    let mut access = FormatAccess::new(Raw::open_image(storage, true));
+    let mut access = plain::disk_of(Raw::open_image(storage, true));
     for _ in 0..1_500 {
         step(rt, alloc, &mut access, &mut list, &mut random)?;
     }

@@ -1,9 +1,11 @@
 // Which refusal comes first, on a disk of the bytes 1 to 4, with the values that the rules give.
 ghost use Rattle.imago_storage.specs.State.{IsAlignment};
 
+use super::layered;
+use super::layered::LayeredDisk;
 use super::windows::Image;
 use crate::Raw;
-use imago_access::{FormatAccess, PreallocateMode};
+use imago_access::PreallocateMode;
 use imago_storage::{Fault, MemStorage};
 use std::alloc::Global;
 use std::process::Abort;
@@ -36,7 +38,7 @@ pub const CHANGES: [Change; 8] = [
 // A change of as many bytes as these.
 pub fn apply(
     alloc: Global,
-    access: &mut FormatAccess<Image<MemStorage>>,
+    access: &mut LayeredDisk,
     call: Change,
     bytes: &[u8],
     offset: u64,
@@ -57,27 +59,23 @@ pub fn apply(
             let _run = access.ensure_data_mapping(alloc, offset, n, false)?;
             Ok(())
         }
-        Change::Mapped => access.write_mapped(alloc, offset, offset, bytes),
+        Change::Mapped => layered::write_mapped(alloc, access, offset, offset, bytes),
     }
 }
 
-fn disk(
-    alloc: Global,
-    align: usize,
-    writable: bool,
-) -> Result<FormatAccess<Image<MemStorage>>, Fault>
+fn disk(alloc: Global, align: usize, writable: bool) -> Result<LayeredDisk, Fault>
     requires { IsAlignment align }
 {
     let bytes = [1u8, 2, 3, 4].to_vec(alloc)?;
     let storage = MemStorage::from_bytes(bytes)?.with_align(align);
-    Ok(FormatAccess::new(Image::Raw(Raw::open_image(storage, writable))))
+    Ok(layered::disk_of(Image::Raw(Raw::open_image(storage, writable))))
 }
 
 // Each change of as many bytes as these has this answer, at each of these offsets.
 fn each_answers(
     rt: &impl Abort,
     alloc: Global,
-    access: &mut FormatAccess<Image<MemStorage>>,
+    access: &mut LayeredDisk,
     bytes: &[u8],
     offsets: &[u64],
     want: Result<(), Fault>,
@@ -90,14 +88,10 @@ fn each_answers(
     }
 }
 
-fn unchanged(
-    rt: &impl Abort,
-    alloc: Global,
-    access: &mut FormatAccess<Image<MemStorage>>,
-) -> Result<(), Fault> {
-    assert_eq!(rt; access.size(), 4);
+fn unchanged(rt: &impl Abort, alloc: Global, access: &mut LayeredDisk) -> Result<(), Fault> {
+    assert_eq!(rt; layered::size(access), 4);
     let mut buf = [9u8; 6];
-    access.read(alloc, &mut buf, 0)?;
+    layered::read(alloc, access, &mut buf, 0)?;
     assert_eq!(rt; buf, [1, 2, 3, 4, 0, 0]);
     Ok(())
 }
@@ -106,8 +100,11 @@ fn unchanged(
 fn empty(rt: &impl Abort, alloc: Global, writable: bool) -> Result<(), Fault> {
     let mut access = disk(alloc, 512, writable)?;
     each_answers(rt, alloc, &mut access, &[], &[0, 4, 5, u64::MAX], Ok(()));
-    assert_eq!(rt; access.read(alloc, &mut [], u64::MAX), Ok(()));
-    assert!(rt; access.get_mapping(alloc, 1, 0).is_ok());
+    assert_eq!(rt;
+        layered::read(alloc, &mut access, &mut [], u64::MAX),
+        Ok(())
+    );
+    assert!(rt; layered::get_mapping(alloc, &mut access, 1, 0).is_ok());
     unchanged(rt, alloc, &mut access)
 }
 
@@ -119,81 +116,73 @@ fn closed(rt: &impl Abort, alloc: Global) -> Result<(), Fault> {
     unchanged(rt, alloc, &mut access)
 }
 
+fn grow(alloc: Global, access: &mut LayeredDisk, size: u64) -> Result<(), Fault> {
+    layered::resize_grow(alloc, access, size, PreallocateMode::Zero)
+}
+
 fn closed_resizes(rt: &impl Abort, alloc: Global) -> Result<(), Fault> {
     let mut access = disk(alloc, 512, false)?;
-    let zero = PreallocateMode::Zero;
-    assert_eq!(rt; access.resize_grow(alloc, 5, zero), Err(Fault::ReadOnly));
-    assert_eq!(rt; access.resize_grow(alloc, 4, zero), Ok(()));
-    assert_eq!(rt; access.resize_shrink(alloc, 3), Err(Fault::ReadOnly));
-    assert_eq!(rt; access.resize_shrink(alloc, 4), Ok(()));
+    assert_eq!(rt; grow(alloc, &mut access, 5), Err(Fault::ReadOnly));
+    assert_eq!(rt; grow(alloc, &mut access, 4), Ok(()));
+    let cut = layered::resize_shrink(alloc, &mut access, 3);
+    assert_eq!(rt; cut, Err(Fault::ReadOnly));
+    assert_eq!(rt; layered::resize_shrink(alloc, &mut access, 4), Ok(()));
     unchanged(rt, alloc, &mut access)
 }
 
 // The last end that a range may have at an alignment of 512 is 2^64 - 512, and at one of 1 it is 2^64 - 1.
-fn ends(rt: &impl Abort, alloc: Global) -> Result<(), Fault> {
-    let mut access = disk(alloc, 512, true)?;
+fn far_ends(rt: &impl Abort, alloc: Global, access: &mut LayeredDisk) -> Result<(), Fault> {
     let over = [u64::MAX - 511, u64::MAX];
-    each_answers(
-        rt,
-        alloc,
-        &mut access,
-        &[7],
-        &over,
-        Err(Fault::RangeOverflow),
-    );
+    each_answers(rt, alloc, access, &[7], &over, Err(Fault::RangeOverflow));
     let past = [4, u64::MAX - 512];
-    each_answers(rt, alloc, &mut access, &[7], &past, Err(Fault::PastEnd));
-    each_answers(
-        rt,
-        alloc,
-        &mut access,
-        &[7, 7],
-        &[3, 4],
-        Err(Fault::PastEnd),
-    );
-    unchanged(rt, alloc, &mut access)?;
-    let mut bytes = disk(alloc, 1, true)?;
-    each_answers(
-        rt,
-        alloc,
-        &mut bytes,
-        &[7],
-        &[u64::MAX],
-        Err(Fault::RangeOverflow),
-    );
-    each_answers(
-        rt,
-        alloc,
-        &mut bytes,
-        &[7],
-        &[4, u64::MAX - 1],
-        Err(Fault::PastEnd),
-    );
-    unchanged(rt, alloc, &mut bytes)
+    each_answers(rt, alloc, access, &[7], &past, Err(Fault::PastEnd));
+    each_answers(rt, alloc, access, &[7, 7], &[3, 4], Err(Fault::PastEnd));
+    unchanged(rt, alloc, access)
+}
+
+fn far_ends_of_bytes(
+    rt: &impl Abort,
+    alloc: Global,
+    access: &mut LayeredDisk,
+) -> Result<(), Fault> {
+    let over = [u64::MAX];
+    each_answers(rt, alloc, access, &[7], &over, Err(Fault::RangeOverflow));
+    let past = [4, u64::MAX - 1];
+    each_answers(rt, alloc, access, &[7], &past, Err(Fault::PastEnd));
+    unchanged(rt, alloc, access)
+}
+
+fn ends(rt: &impl Abort, alloc: Global) -> Result<(), Fault> {
+    far_ends(rt, alloc, &mut disk(alloc, 512, true)?)?;
+    far_ends_of_bytes(rt, alloc, &mut disk(alloc, 1, true)?)
+}
+
+fn far_read(
+    rt: &impl Abort,
+    alloc: Global,
+    access: &mut LayeredDisk,
+    last: u64,
+) -> Result<(), Fault> {
+    let mut buf = [9u8; 1];
+    layered::read(alloc, access, &mut buf, last)?;
+    assert_eq!(rt; buf, [0]);
+    let past = layered::read(alloc, access, &mut buf, last.saturating_add(1));
+    assert_eq!(rt; past, Err(Fault::RangeOverflow));
+    unchanged(rt, alloc, access)
 }
 
 fn far_reads(rt: &impl Abort, alloc: Global, align: usize, last: u64) -> Result<(), Fault>
     requires { IsAlignment align }
 {
     let mut access = disk(alloc, align, false)?;
-    let mut buf = [9u8; 1];
-    access.read(alloc, &mut buf, last)?;
-    assert_eq!(rt; buf, [0]);
-    let past = last.saturating_add(1);
-    assert_eq!(rt;
-        access.read(alloc, &mut buf, past),
-        Err(Fault::RangeOverflow)
-    );
-    unchanged(rt, alloc, &mut access)
+    far_read(rt, alloc, &mut access, last)
 }
 
 // What isn't mapped at a place isn't written there.
 fn outdated(rt: &impl Abort, alloc: Global) -> Result<(), Fault> {
     let mut access = disk(alloc, 1, true)?;
-    assert_eq!(rt;
-        access.write_mapped(alloc, 0, 1, &[7]),
-        Err(Fault::Outdated)
-    );
+    let written = layered::write_mapped(alloc, &mut access, 0, 1, &[7]);
+    assert_eq!(rt; written, Err(Fault::Outdated));
     unchanged(rt, alloc, &mut access)
 }
 

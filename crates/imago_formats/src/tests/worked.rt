@@ -1,4 +1,6 @@
 // Worked examples of chains, with the values that the rules give.
+use super::plain;
+use super::plain::RawDisk;
 use super::windows::{Image, over};
 use crate::Raw;
 use imago_access::{FormatAccess, Mapping};
@@ -7,11 +9,15 @@ use std::alloc::Global;
 use std::process::Abort;
 use std::test::Fail;
 
-// A layer on the way that wasn't opened for writing makes the run one that can't be written.
-fn three_layers(rt: &impl Abort, alloc: Global) -> Result<(), Fault> {
+fn three(alloc: Global) -> Result<FormatAccess<Image<Null>>, Fault> {
     let raw = Image::Raw(Raw::open_image(Null::new(1024), true));
     let middle = over(alloc, 1024, true, FormatAccess::new(raw))?;
-    let mut top = over(alloc, 1024, false, middle)?;
+    over(alloc, 1024, false, middle)
+}
+
+// A layer on the way that wasn't opened for writing makes the run one that can't be written.
+fn three_layers(rt: &impl Abort, alloc: Global) -> Result<(), Fault> {
+    let mut top = three(alloc)?;
     let run = Mapping::Raw {
         depth: 2,
         storage: 0,
@@ -32,12 +38,16 @@ fn a_run_is_found_three_layers_down(rt: HostRuntime) -> Result<(), Fail> {
     Ok(())
 }
 
-fn zeroed(rt: &impl Abort, alloc: Global) -> Result<(), Fault> {
+fn disk(alloc: Global) -> Result<RawDisk, Fault> {
     let bytes = [0x11, 0x22, 0x33, 0x44].to_vec(alloc)?;
-    let mut access = FormatAccess::new(Raw::open_image(MemStorage::from_bytes(bytes)?, true));
-    access.write_zeroes(alloc, 1, 2)?;
+    Ok(plain::disk_of(Raw::open_image(MemStorage::from_bytes(bytes)?, true)))
+}
+
+fn zeroed(rt: &impl Abort, alloc: Global) -> Result<(), Fault> {
+    let mut access = disk(alloc)?;
+    plain::write_zeroes(alloc, &mut access, 1, 2)?;
     let mut buf = [9u8; 6];
-    access.read(alloc, &mut buf, 0)?;
+    plain::read(alloc, &mut access, &mut buf, 0)?;
     assert_eq!(rt; buf, [0x11, 0, 0, 0x44, 0, 0]);
     Ok(())
 }
