@@ -23,9 +23,9 @@ ghost use Rattle.imago_formats.specs.declared.tests.windows.Image.TheVariants as
 use crate::{NoState, Raw};
 use imago_access::{
     Format, FormatAccess, FormatDriverInstance, PreallocateMode, PreparedDataMapping, ReadBelow,
-    ShallowMapping,
+    ShallowMapping, check_range,
 };
-use imago_storage::{Fault, Storage, padded_end};
+use imago_storage::{Fault, Storage};
 use std::alloc::Global;
 
 // A window onto the first bytes of the layer below, opened for writing or not. It can't be changed.
@@ -43,16 +43,7 @@ impl Window {
         ensures err { IfErr result (λ e. change_refusal 1 (window_layer self.now.size self.now.writable) offset length ≡ Some e) }
         ensures failed { (olds news : List StorageState) → IfErr result (ImageCause olds news) }
     {
-        if !self.writable {
-            return Err(Fault::ReadOnly);
-        }
-        if padded_end(offset, length, 1).is_none() {
-            return Err(Fault::RangeOverflow);
-        }
-        if length > self.size || offset > self.size - length {
-            return Err(Fault::PastEnd);
-        }
-        Ok(())
+        check_range(self.writable, 1, self.size, offset, length)
     }
 
     // The mapping of a range: of an empty one alone, since no byte can be held.
