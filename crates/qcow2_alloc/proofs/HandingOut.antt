@@ -192,7 +192,7 @@ module _ {S : Type 0} (state : S → StorageState) (mark n : ℕ) (metadata : Bo
       rest = rest;
       halted = λ other is. (ap (λ f. refused_run f) (let e = is in let same : fault ≡ other = cc in same), refl, refl, refl, refl);
       mid = Rest;
-      waits = refl;
+      mid_left = refl;
       freed = λ keeps sound whole. let held = frees.quiet.holds keeps sound (inl whole) in record {
         sound = held.0;
         quiet = held.1;
@@ -203,7 +203,7 @@ module _ {S : Type 0} (state : S → StorageState) (mark n : ℕ) (metadata : Bo
         marked = frees.marked keeps sound (inl whole);
       };
       emptied = tt;
-      all = λ searched. absurd (not-limited searched frees.cause);
+      searched = λ searched. absurd (not-limited searched frees.cause);
       fresh = λ keeps sound. tt;
       taken = λ keeps sound. tt;
       little = λ keeps sound. tt;
@@ -257,7 +257,7 @@ module _ {S : Type 0} (state : S → StorageState) (mark n : ℕ) (metadata : Bo
       rest = rest-none pending;
       halted = λ other is. let e = is in absurd (cc e);
       mid = Ready;
-      waits = refl;
+      mid_left = refl;
       freed = λ keeps sound whole. let held = quiet.holds keeps sound whole in record {
         sound = held.0;
         quiet = held.1;
@@ -268,7 +268,7 @@ module _ {S : Type 0} (state : S → StorageState) (mark n : ℕ) (metadata : Bo
         marked = marked keeps sound whole;
       };
       emptied = refl;
-      all = λ searched. absurd (never fault searched second.cause);
+      searched = λ searched. absurd (never fault searched second.cause);
       fresh = λ keeps sound. tt;
       taken = λ keeps sound. tt;
       little = λ keeps sound. tt;
@@ -382,10 +382,10 @@ module _ {S : Type 0} (state : S → StorageState) (mark n : ℕ) (metadata : Bo
         rest = rest-none pending;
         halted = λ other is. let e = is in absurd (cc e);
         mid = Ready;
-        waits = refl;
+        mid_left = refl;
         freed = λ keeps sound whole. is-freed keeps sound;
         emptied = refl;
-        all = λ searched. (refl, second.order);
+        searched = λ searched. (refl, second.order);
         fresh = λ keeps sound. let still = ready-sound keeps sound in third.fresh second.order still.0 still.1;
         taken = λ keeps sound. let still = ready-sound keeps sound in third.taken second.order still.0 still.1;
         little = λ keeps sound. let still = ready-sound keeps sound in third.little second.order still.0 still.1;

@@ -90,10 +90,10 @@ pub record AllocatesClusters {S : Type 0} (state : S → StorageState) (mark n :
   pub halted : (fault : Fault) → answer ≡ Err fault → (result ≡ Err fault) × (new ≡ between) × (after ≡ at) × (table' ≡ table) × (pending' ≡ left)
   -- the image once the order was announced then
   pub mid : Metadata
-  pub waits : mid.pending ≡ left
+  pub mid_left : mid.pending ≡ left
   pub freed : IsTrue (state before.image).shape.keeps → IsSound (metadata_of state before old table pending) → IsWhole result → IsFreed (metadata_of state before old table pending) mark mid mid_mark
   pub emptied : OnOk answer (left ≡ [])
-  pub all : IsSearched result → (answer ≡ Ok tt) × (mid.order ≡ L2DependsOnRb)
+  pub searched : IsSearched result → (answer ≡ Ok tt) × (mid.order ≡ L2DependsOnRb)
   pub fresh : IsTrue (state before.image).shape.keeps → IsSound (metadata_of state before old table pending) → IfOk result (λ entry. (c : ℕ) → entry.first ≤ c → c < entry.first + n → counted mid c ≡ 0)
   pub taken : IsTrue (state before.image).shape.keeps → IsSound (metadata_of state before old table pending) → IfOk result (IsRunCounted mid_mark n (metadata_of state after new table' pending'))
   pub little : IsTrue (state before.image).shape.keeps → IsSound (metadata_of state before old table pending) → IfOk result (λ _. TakesLittle mid_mark n mid (metadata_of state after new table' pending'))

@@ -385,8 +385,8 @@ pub fn a_quarter_is_room()
         → ((c : ℕ) → first ≤ c → c < first + space m.header.fields / 4 → counted m c ≡ 0) → n ≤ space m.header.fields / 16 → IsRoomy m mark n }
 {}
 
-/// What an image has room for it has room for once what waits was freed. So an allocation that is refused with `Fault::Limit` had none
-/// before it, either.
+/// What an image has room for it has room for once what waits was freed. So one that is sound, and in which an allocation is refused with
+/// `Fault::Limit`, had none before that, either.
 pub fn what_is_freed_leaves_room()
     ensures { (m m' : Metadata) (mark mark' n : ℕ) → IsFreed m mark m' mark' → IsRoomy m mark n → IsRoomy m' mark' n }
 {}
