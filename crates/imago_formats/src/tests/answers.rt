@@ -233,7 +233,7 @@ fn committed(rt: &impl Abort, alloc: Global, access: &mut RawDisk) -> Result<(),
     )
 }
 
-// Another is given up.
+// A run that is given up is answered as one that is kept.
 fn cancelled(rt: &impl Abort, alloc: Global, access: &mut RawDisk) -> Result<(), Fault> {
     let mapping = prepare(alloc, access, 6, 2, false)?;
     let run = (mapping.storage(), mapping.offset(), mapping.length());
@@ -362,6 +362,7 @@ fn a_disk_is_kept_and_resized(rt: HostRuntime) -> Result<(), Fail> {
     Ok(())
 }
 
+// A window of 16 bytes over a disk of 4, at an alignment of 8.
 fn window(alloc: Global) -> Result<LayeredDisk, Fault>
     ensures { IfOk result (λ a. Each (λ d. IsFree (⟦<Image<MemStorage> as FormatDriverInstance>⟧.layer d)) (chain a)) }
 {
@@ -396,7 +397,6 @@ fn seen(rt: &impl Abort, alloc: Global, access: &mut LayeredDisk) -> Result<(), 
     Ok(())
 }
 
-// A window of 16 bytes over a disk of 4, at an alignment of 8.
 fn stacked(rt: &impl Abort, alloc: Global) -> Result<(), Fault> {
     let mut access = window(alloc)?;
     measured_window(rt, &access);

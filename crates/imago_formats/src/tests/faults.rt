@@ -104,8 +104,8 @@ fn shown(
     Ok(())
 }
 
-// The work is refused. Made once more it succeeds.
-fn is_refused(rt: &impl Abort, alloc: Global, access: &mut Disk, work: Work) -> Result<(), Fault> {
+// What a refusal leaves; made once more the work succeeds.
+fn redone(rt: &impl Abort, alloc: Global, access: &mut Disk, work: Work) -> Result<(), Fault> {
     shown(rt, alloc, access, work, true)?;
     carry_out(alloc, access, work)?;
     shown(rt, alloc, access, work, false)
@@ -119,7 +119,7 @@ fn fails(rt: &impl Abort, alloc: Global, work: Work, n: u16) -> Result<bool, Fau
         Err(Fault::Memory) => return Err(Fault::Memory),
         answer => assert_eq!(rt; answer, Err(Fault::Storage), "{work:?} at {n}"),
     }
-    is_refused(rt, alloc, &mut access, work)?;
+    redone(rt, alloc, &mut access, work)?;
     Ok(true)
 }
 
