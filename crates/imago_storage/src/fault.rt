@@ -4,76 +4,55 @@ ghost use Rattle.imago_storage.specs.Fault.{number_of, kind_of};
 ghost use Rattle.imago_storage.specs.declared.fault.Fault.TheVariants.{Memory};
 
 use std::alloc::{AllocError, AllocFailed};
-use thiserror::Error;
+use std::error::Error;
+use std::fmt;
 
 /// Why a call was refused. It is displayed as `error N`, where N is its number.
-#[derive(Clone, Copy, Debug, PartialEq, Eq, Error)]
+#[derive(Clone, Copy, Debug, PartialEq, Eq)]
 pub enum Fault {
     /// A changing call on an image that was opened without writing.
-    #[error("error 1")]
     ReadOnly,
     /// The range of a changing call passes the disk's size.
-    #[error("error 2")]
     PastEnd,
     /// The end of a range, or that end rounded up to the alignment, passes `u64`.
-    #[error("error 3")]
     RangeOverflow,
     /// A header that breaks the format.
-    #[error("error 4")]
     DamagedHeader,
     /// A table that breaks the format, or a freed cluster without counters.
-    #[error("error 5")]
     DamagedTable,
     /// A descriptor that breaks the format.
-    #[error("error 6")]
     DamagedDescriptor,
     /// A feature, format or preallocation that isn't carried.
-    #[error("error 7")]
     Unsupported,
     /// A compressed or inaccessible place would have to be read.
-    #[error("error 8")]
     Barred,
     /// A write to a mapping whose guest range isn't mapped there, writable, any more.
-    #[error("error 9")]
     Outdated,
     /// A mapping that another image prepared.
-    #[error("error 10")]
     Foreign,
     /// Format version 2 where version 3 is needed.
-    #[error("error 11")]
     VersionLimit,
     /// A stated limit, with the size, index or count that passed it.
-    #[error("error 12")]
     Limit(u64),
     /// An empty chain, or a named backing file that wasn't handed in.
-    #[error("error 13")]
     MissingBelow,
     /// A file below one that takes none.
-    #[error("error 14")]
     ExtraLayer,
     /// An extent or data file that is needed and wasn't handed in.
-    #[error("error 15")]
     MissingData,
     /// Every entry of a cache is pinned.
-    #[error("error 16")]
     CacheFull,
     /// A counter would pass its width or fall below 0.
-    #[error("error 17")]
     Counter,
     /// A builder's value that can't be, unequal sizes, or a read that is too long.
-    #[error("error 18")]
     BadArgument,
     /// An earlier fault: the image has to be opened again.
-    #[error("error 19")]
     Failed,
     /// Want of memory: a growth was refused.
-    #[error("error 20")]
     Memory,
     /// A storage failed, and has counted it.
-    #[error("error 21")]
     Storage,
     /// A script line that is no command.
-    #[error("error 22")]
     BadCommand,
 }
 
@@ -155,6 +134,15 @@ impl Fault {
         }
     }
 }
+
+impl fmt::Display for Fault {
+    fn fmt<W: fmt::Write>(&self, f: &mut fmt::Formatter<W>) -> fmt::Result {
+        let number = self.number();
+        write!(f, "error {number}")
+    }
+}
+
+impl Error for Fault {}
 
 impl From<AllocError> for Fault {
     ghost from_gives = { λ _ e. e ≡ Memory };

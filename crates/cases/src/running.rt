@@ -1,0 +1,351 @@
+// Runs scripts, and prints each answer that differs.
+use crate::layer::{Layer, Trouble};
+use crate::script::{Case, Line, cases_of};
+use std::alloc::{AllocError, AllocFailed, Global};
+use std::env::Env;
+use std::fs::Files;
+use std::process::ExitCode;
+use std::{env, fmt, fs, io};
+
+/// The most runs of a case with another number each.
+const MOST_RUNS: u64 = 4096;
+
+/// Why a run ended early.
+#[derive(Debug, Drop)]
+enum Ended {
+    Memory,
+    Io,
+}
+
+impl fmt::Display for Ended {
+    fn fmt<W: fmt::Write>(&self, f: &mut fmt::Formatter<W>) -> fmt::Result {
+        let told = match self {
+            Ended::Memory => "want of memory",
+            Ended::Io => "input or output failed",
+        };
+        write!(f, "{told}")
+    }
+}
+
+impl From<AllocError> for Ended {
+    fn from(_: AllocError) -> Self {
+        Ended::Memory
+    }
+}
+
+impl<T: Drop> From<AllocFailed<T>> for Ended {
+    fn from(_: AllocFailed<T>) -> Self {
+        Ended::Memory
+    }
+}
+
+impl From<io::Error> for Ended {
+    fn from(_: io::Error) -> Self {
+        Ended::Io
+    }
+}
+
+/// What a run counts.
+#[derive(Clone, Copy)]
+struct Counts {
+    cases: u64,
+    answers: u64,
+    wrong: u64,
+}
+
+/// What a call came to.
+#[derive(Clone, Copy, PartialEq, Eq)]
+enum Outcome {
+    Right,
+    /// It was refused by a storage, as it may be.
+    Faulted,
+    /// It was refused for want of memory, and should not have been.
+    Starved,
+    Wrong,
+}
+
+/// What an answer is compared under.
+#[derive(Clone, Copy)]
+struct Round<'a> {
+    file: &'a str,
+    /// The word that stands for a number in this run of a case, and the number.
+    each: Option<(&'a str, &'a str)>,
+    /// Whether the case is run once more, since an allocation was refused.
+    is_again: bool,
+}
+
+// The words of a text, with the number of this run in the place of its word.
+fn words_of<'a>(
+    alloc: Global,
+    text: &'a str,
+    each: Option<(&str, &'a str)>,
+) -> Result<Vec<&'a str>, AllocError> {
+    let mut words = Vec::new(alloc);
+    for word in text.split_whitespace() {
+        let given = match each {
+            Some((name, number)) if name == word => number,
+            _ => word,
+        };
+        words.push(given)?;
+    }
+    Ok(words)
+}
+
+// Whether an answer is one of those wanted.
+fn is_wanted(
+    alloc: Global,
+    got: &str,
+    wanted: &str,
+    each: Option<(&str, &str)>,
+) -> Result<bool, AllocError> {
+    let words = words_of(alloc, got, None)?;
+    for one in wanted.split(" | ") {
+        if words_of(alloc, one, each)?.as_slice() == words.as_slice() {
+            return Ok(true);
+        }
+    }
+    Ok(false)
+}
+
+// Makes a call, and returns the text of its answer, and whether it was one.
+fn make<L: Layer>(
+    alloc: Global,
+    layer: &mut L,
+    call: &str,
+    each: Option<(&str, &str)>,
+) -> Result<(String, bool), AllocError> {
+    let words = words_of(alloc, call, each)?;
+    match layer.answer(alloc, words.as_slice()) {
+        Ok(text) => Ok((text, true)),
+        Err(Trouble::Refused(fault)) => Ok((fault.to_string(alloc)?, true)),
+        Err(Trouble::NoCall) => Ok(("no such call".to_string(alloc)?, false)),
+    }
+}
+
+// What an answer comes to, beside what is wanted.
+fn judge(
+    alloc: Global,
+    got: &(String, bool),
+    wanted: &str,
+    round: Round<'_>,
+) -> Result<Outcome, AllocError> {
+    let (text, is_answer) = got;
+    let text = text.as_str();
+    if *is_answer && is_wanted(alloc, text, wanted, round.each)? {
+        return Ok(if text == "error 21" {
+            Outcome::Faulted
+        } else {
+            Outcome::Right
+        });
+    }
+    if text == "error 20" && !round.is_again {
+        return Ok(Outcome::Starved);
+    }
+    Ok(Outcome::Wrong)
+}
+
+// Prints a wrong answer.
+fn tell(rt: &impl Print, round: Round<'_>, line: Line<'_>, got: &str) -> Result<(), Ended> {
+    let file = round.file;
+    let Line {
+        number,
+        call,
+        wanted,
+    } = line;
+    match round.each {
+        Some((name, value)) => {
+            println!(rt;
+                "{file}:{number}: {call} = {got}, and not {wanted}, with {name} = {value}"
+            )?
+        }
+        None => println!(rt; "{file}:{number}: {call} = {got}, and not {wanted}")?,
+    }
+    Ok(())
+}
+
+fn run_line<L: Layer>(
+    rt: &impl Print,
+    alloc: Global,
+    layer: &mut L,
+    line: Line<'_>,
+    round: Round<'_>,
+) -> Result<Outcome, Ended> {
+    let got = make(alloc, layer, line.call, round.each)?;
+    let outcome = judge(alloc, &got, line.wanted, round)?;
+    if outcome == Outcome::Wrong {
+        tell(rt, round, line, got.0.as_str())?;
+    }
+    Ok(outcome)
+}
+
+// The lines of a case, from the beginning, up to one that is starved. Returns whether a call was refused by a storage.
+fn run_lines<L: Layer>(
+    rt: &impl Print,
+    alloc: Global,
+    layer: &mut L,
+    case: &Case<'_>,
+    round: Round<'_>,
+    counts: &mut Counts,
+) -> Result<bool, Ended> {
+    layer.begin();
+    let mut is_faulted = false;
+    for line in case.lines.iter() {
+        let outcome = run_line(rt, alloc, layer, *line, round)?;
+        match outcome {
+            Outcome::Right => {}
+            Outcome::Faulted => is_faulted = true,
+            Outcome::Wrong => counts.wrong = counts.wrong.saturating_add(1),
+            Outcome::Starved => return Err(Ended::Memory),
+        }
+        counts.answers = counts.answers.saturating_add(1);
+    }
+    Ok(is_faulted)
+}
+
+// A run of a case, once more where an allocation was refused.
+fn run_twice<L: Layer>(
+    rt: &impl Print,
+    alloc: Global,
+    layer: &mut L,
+    case: &Case<'_>,
+    round: Round<'_>,
+    counts: &mut Counts,
+) -> Result<bool, Ended> {
+    let before = *counts;
+    match run_lines(rt, alloc, layer, case, round, counts) {
+        Err(Ended::Memory) => {
+            *counts = before;
+            let again = Round {
+                is_again: true,
+                ..round
+            };
+            run_lines(rt, alloc, layer, case, again, counts)
+        }
+        ended => ended,
+    }
+}
+
+// A case with each number from 1 on, until no call is refused by a storage.
+fn run_each<'x, L: Layer>(
+    rt: &impl Print,
+    alloc: Global,
+    layer: &mut L,
+    case: &Case<'_>,
+    names: (&'x str, &'x str),
+    counts: &mut Counts,
+) -> Result<(), Ended> {
+    let (file, name) = names;
+    for n in 1..=MOST_RUNS {
+        let number = n.to_string(alloc)?;
+        let round = Round {
+            file,
+            each: Some((name, number.as_str())),
+            is_again: false,
+        };
+        if !run_twice(rt, alloc, layer, case, round, counts)? {
+            return Ok(());
+        }
+    }
+    println!(rt; "{file}: a case has a fault at each number up to {MOST_RUNS}")?;
+    counts.wrong = counts.wrong.saturating_add(1);
+    Ok(())
+}
+
+fn run_case<L: Layer>(
+    rt: &impl Print,
+    alloc: Global,
+    layer: &mut L,
+    case: &Case<'_>,
+    file: &str,
+    counts: &mut Counts,
+) -> Result<(), Ended> {
+    counts.cases = counts.cases.saturating_add(1);
+    if let Some(name) = case.each {
+        return run_each(rt, alloc, layer, case, (file, name), counts);
+    }
+    let round = Round {
+        file,
+        each: None,
+        is_again: false,
+    };
+    run_twice(rt, alloc, layer, case, round, counts)?;
+    Ok(())
+}
+
+fn run_script<L: Layer>(
+    rt: &impl Print,
+    alloc: Global,
+    layer: &mut L,
+    file: &str,
+    script: &str,
+    counts: &mut Counts,
+) -> Result<(), Ended> {
+    let cases = cases_of(alloc, script)?;
+    for case in cases.iter() {
+        run_case(rt, alloc, layer, case, file, counts)?;
+    }
+    Ok(())
+}
+
+// The scripts that the arguments name, or that on standard input. Returns how many they are.
+fn run_files<R: Files + Env + Input + Print + AllocGlobal, L: Layer>(
+    rt: &R,
+    layer: &mut L,
+    counts: &mut Counts,
+) -> Result<u64, Ended> {
+    let mut files = 0u64;
+    for file in env::args(rt)?.skip(1) {
+        let script = fs::read_to_string(rt, file.as_str())?;
+        run_script(
+            rt,
+            rt.alloc(),
+            layer,
+            file.as_str(),
+            script.as_str(),
+            counts,
+        )?;
+        files = files.saturating_add(1);
+    }
+    if files == 0 {
+        let script = io::read_to_string(rt.alloc(), rt.reader())?;
+        run_script(rt, rt.alloc(), layer, "input", script.as_str(), counts)?;
+        files = 1;
+    }
+    Ok(files)
+}
+
+/// Runs the scripts that the program's arguments name, or that on standard input where there are none.
+///
+/// Each wrong answer is printed, with file, line, call, what came and what was wanted. The last line counts scripts, cases, answers and
+/// wrong ones. A case in which a call answers `error 20` where it should not is run once more.
+///
+/// The status is 0 where no answer is wrong, 1 where one is, and 2 where the run ended early, for want of memory or since a script
+/// can't be read.
+pub fn run<R: Files + Env + Input + Print + AllocGlobal, L: Layer>(
+    rt: &R,
+    layer: &mut L,
+) -> ExitCode {
+    let mut counts = Counts {
+        cases: 0,
+        answers: 0,
+        wrong: 0,
+    };
+    let ended = run_files(rt, layer, &mut counts);
+    let Counts {
+        cases,
+        answers,
+        wrong,
+    } = counts;
+    match ended {
+        Ok(files) => {
+            let told = println!(rt;
+                "{files} scripts, {cases} cases, {answers} answers, {wrong} wrong"
+            );
+            ExitCode::from(u8::from(wrong > 0 || told.is_err()))
+        }
+        Err(ended) => {
+            let _ = println!(rt; "{ended}");
+            ExitCode::from(2)
+        }
+    }
+}
