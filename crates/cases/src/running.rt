@@ -287,6 +287,15 @@ fn run_script<L: Layer>(
     Ok(())
 }
 
+// The text of a file.
+fn script_of<R: Files + Print + AllocGlobal>(rt: &R, file: &str) -> Result<String, Ended> {
+    let script = fs::read_to_string(rt, file);
+    if let Err(error) = &script {
+        println!(rt; "{file}: {error}")?;
+    }
+    Ok(script?)
+}
+
 // The scripts that the arguments name, or that on standard input. Returns how many they are.
 fn run_files<R: Files + Env + Input + Print + AllocGlobal, L: Layer>(
     rt: &R,
@@ -295,7 +304,7 @@ fn run_files<R: Files + Env + Input + Print + AllocGlobal, L: Layer>(
 ) -> Result<u64, Ended> {
     let mut files = 0u64;
     for file in env::args(rt)?.skip(1) {
-        let script = fs::read_to_string(rt, file.as_str())?;
+        let script = script_of(rt, file.as_str())?;
         run_script(
             rt,
             rt.alloc(),
@@ -339,7 +348,7 @@ pub fn run<R: Files + Env + Input + Print + AllocGlobal, L: Layer>(
     match ended {
         Ok(files) => {
             let told = println!(rt;
-                "{files} scripts, {cases} cases, {answers} answers, {wrong} wrong"
+                "scripts: {files}, cases: {cases}, answers: {answers}, wrong: {wrong}"
             );
             ExitCode::from(u8::from(wrong > 0 || told.is_err()))
         }
