@@ -5,6 +5,7 @@ ghost use Rattle.imago_storage.specs.State.{IsAlignment};
 ghost use Rattle.imago_storage.specs.MemStorage.{mem_shape, mem_state};
 
 use crate::texts::joined;
+use crate::words::mode_word;
 use imago_storage::{Fault, MemStorage, PreallocateMode, Storage};
 use std::alloc::{AllocError, Global};
 use std::cell::Cell;
@@ -22,10 +23,11 @@ pub enum Asked {
     Zeroes(u64, u64),
     AllocatedZeroes(u64, u64),
     Discard(u64, u64),
-    Resize(u64),
+    Resize(u64, PreallocateMode),
     Flush,
     Sync,
     InvalidateCache,
+    Resolve,
 }
 
 impl fmt::Display for Asked {
@@ -37,10 +39,15 @@ impl fmt::Display for Asked {
             Asked::Zeroes(offset, length) => write!(f, "zeroes {offset} {length}"),
             Asked::AllocatedZeroes(offset, length) => write!(f, "allocated {offset} {length}"),
             Asked::Discard(offset, length) => write!(f, "discard {offset} {length}"),
-            Asked::Resize(size) => write!(f, "resize {size}"),
+            Asked::Resize(size, PreallocateMode::None) => write!(f, "resize {size}"),
+            Asked::Resize(size, mode) => {
+                let mode = mode_word(*mode);
+                write!(f, "resize {size} {mode}")
+            }
             Asked::Flush => write!(f, "flush"),
             Asked::Sync => write!(f, "sync"),
             Asked::InvalidateCache => write!(f, "invalidate"),
+            Asked::Resolve => write!(f, "resolve"),
         }
     }
 }
@@ -82,8 +89,8 @@ pub struct Alignments {
     ghost discard_is: { IsAlignment discard },
 }
 
-// Whether a number is a power of two of at most 2^20.
-fn is_alignment(n: usize) -> bool
+/// Whether a number is a power of two of at most 2^20.
+pub fn is_alignment(n: usize) -> bool
     ensures { IsTrue result → IsAlignment n }
 {
     n > 0 && n <= 1_048_576 && 1_048_576 % n == 0
@@ -112,6 +119,7 @@ pub struct Shaped<'a> {
     alignments: Alignments,
     has_zeroes: bool,
     has_discards: bool,
+    resolves: bool,
     notes: &'a Cell<Notes>,
     ghost shape: { (mem_state inner).shape ≡ mem_shape 1 },
 }
@@ -129,8 +137,15 @@ impl<'a> Shaped<'a> {
             alignments,
             has_zeroes,
             has_discards,
+            resolves: false,
             notes,
         })
+    }
+
+    /// The same storage, which resolves each name, to one that begins with `below/`.
+    pub fn resolving(mut self) -> Self {
+        self.resolves = true;
+        self
     }
 
     fn note(&self, asked: Asked) {
@@ -169,6 +184,14 @@ impl<'a> Storage for Shaped<'a> {
         self.inner.get_filename()
     }
 
+    fn resolve_relative_path(&self, alloc: Global, name: &str) -> Result<String, Fault> {
+        self.note(Asked::Resolve);
+        if !self.resolves {
+            return Err(Fault::Unsupported);
+        }
+        Ok(format!(in alloc; "below/{name}")?)
+    }
+
     fn pure_read(&mut self, buf: &mut [u8], offset: u64) -> Result<(), Fault> {
         self.note(Asked::Read(offset, buf.len() as u64));
         self.inner.pure_read(buf, offset)
@@ -204,7 +227,7 @@ impl<'a> Storage for Shaped<'a> {
     }
 
     fn resize(&mut self, size: u64, mode: PreallocateMode) -> Result<(), Fault> {
-        self.note(Asked::Resize(size));
+        self.note(Asked::Resize(size, mode));
         self.inner.resize(size, mode)
     }
 

@@ -1,5 +1,6 @@
 // The words of a script's lines.
 use crate::layer::Trouble;
+use imago_storage::PreallocateMode;
 use std::alloc::Global;
 
 /// The most bytes that a word stands for.
@@ -60,4 +61,29 @@ pub fn bytes(alloc: Global, words: &[&str]) -> Result<Vec<u8>, Trouble> {
         push_word(&mut bytes, word)?;
     }
     Ok(bytes)
+}
+
+/// How a storage is resized, by `none`, `zero`, `allocate` or `data`.
+///
+/// # Errors
+///
+/// [`Trouble::NoCall`] where the word is anything else.
+pub fn mode(word: &str) -> Result<PreallocateMode, Trouble> {
+    match word {
+        "none" => Ok(PreallocateMode::None),
+        "zero" => Ok(PreallocateMode::Zero),
+        "allocate" => Ok(PreallocateMode::Allocate),
+        "data" => Ok(PreallocateMode::WriteData),
+        _ => Err(Trouble::NoCall),
+    }
+}
+
+/// The word of a mode.
+pub fn mode_word(mode: PreallocateMode) -> &'static str {
+    match mode {
+        PreallocateMode::None => "none",
+        PreallocateMode::Zero => "zero",
+        PreallocateMode::Allocate => "allocate",
+        PreallocateMode::WriteData => "data",
+    }
 }
