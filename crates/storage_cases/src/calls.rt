@@ -4,7 +4,7 @@ ghost use Rattle.imago_storage.specs.State.{IsWhole, unit_of};
 
 use cases::{Trouble, ok, runs};
 use imago_storage::{
-    PreallocateMode, Storage, StorageExt, larger_alignment, padded_end, write_full_zeroes,
+    Fault, PreallocateMode, Storage, StorageExt, larger_alignment, write_full_zeroes,
 };
 use std::alloc::{AllocError, Global};
 
@@ -16,6 +16,7 @@ pub enum Call {
     Aligns,
     Size,
     Read(u64, u64),
+    ReadHere(u64, u64),
     PureRead(u64, u64),
     Write(u64, Vec<u8>),
     PureWrite(u64, Vec<u8>),
@@ -24,7 +25,8 @@ pub enum Call {
     Flush,
     Sync,
     Invalidate,
-    Named,
+    Filename,
+    Resolve(String),
 }
 
 /// A call with a range alone.
@@ -46,7 +48,10 @@ pub enum Answer {
     Number(u64),
     Four([usize; 4]),
     Bytes(Vec<u8>),
-    Named(bool),
+    Flag(bool),
+    Text(String),
+    /// It wanted memory where none is to be wanted.
+    NoRoom,
 }
 
 // Whether a range is whole units of an alignment, and its end fits.
@@ -65,7 +70,8 @@ fn unit<S: Storage>(storage: &S) -> usize
     larger_alignment(storage.req_align(), storage.mem_align())
 }
 
-fn buffer(alloc: Global, n: u64) -> Result<Vec<u8>, Trouble>
+/// A buffer of so many bytes.
+pub fn buffer(alloc: Global, n: u64) -> Result<Vec<u8>, Trouble>
     ensures { IfOk result (λ buf. length buf.items ≡ n) }
 {
     if n > MOST {
@@ -83,6 +89,24 @@ fn read<S: Storage>(
     let mut buf = buffer(alloc, n)?;
     storage.read(alloc, &mut buf, offset)?;
     Ok(Answer::Bytes(buf))
+}
+
+// A read into a buffer that takes no memory: so what wants memory is the call itself, which is told by an answer of its own.
+fn read_here<S: Storage>(
+    alloc: Global,
+    storage: &mut S,
+    offset: u64,
+    n: u64,
+) -> Result<Answer, Trouble> {
+    let mut held = [7u8; 64];
+    let Some(buf) = held.get_mut(..n as usize) else {
+        return Err(Trouble::NoCall);
+    };
+    match storage.read(alloc, buf, offset) {
+        Ok(()) => Ok(Answer::Bytes(buf.to_vec(alloc)?)),
+        Err(Fault::Memory) => Ok(Answer::NoRoom),
+        Err(fault) => Err(Trouble::Refused(fault)),
+    }
 }
 
 fn pure_read<S: Storage>(
@@ -163,6 +187,11 @@ fn change<S: Storage>(alloc: Global, storage: &mut S, call: &Call) -> Result<(),
     }
 }
 
+fn filename<S: Storage>(alloc: Global, storage: &S) -> Result<Answer, Trouble> {
+    let name = storage.get_filename().unwrap_or("none");
+    Ok(Answer::Text(name.to_string(alloc)?))
+}
+
 /// Makes the call.
 pub fn perform<S: Storage>(alloc: Global, storage: &mut S, call: &Call) -> Result<Answer, Trouble> {
     match call {
@@ -173,8 +202,10 @@ pub fn perform<S: Storage>(alloc: Global, storage: &mut S, call: &Call) -> Resul
             storage.discard_align(),
         ])),
         Call::Size => Ok(Answer::Number(storage.size())),
-        Call::Named => Ok(Answer::Named(storage.get_filename().is_some())),
+        Call::Filename => filename(alloc, storage),
+        Call::Resolve(name) => Ok(Answer::Text(storage.resolve_relative_path(alloc, name)?)),
         Call::Read(offset, n) => read(alloc, storage, *offset, *n),
+        Call::ReadHere(offset, n) => read_here(alloc, storage, *offset, *n),
         Call::PureRead(offset, n) => pure_read(alloc, storage, *offset, *n),
         _ => {
             change(alloc, storage, call)?;
@@ -192,6 +223,8 @@ pub fn text(alloc: Global, answer: &Answer) -> Result<String, AllocError> {
             format!(in alloc; "{mem} {req} {zero} {discard}")
         }
         Answer::Bytes(bytes) => runs(alloc, bytes),
-        Answer::Named(is_named) => is_named.to_string(alloc),
+        Answer::Flag(flag) => flag.to_string(alloc),
+        Answer::Text(text) => text.as_str().to_string(alloc),
+        Answer::NoRoom => "no room".to_string(alloc),
     }
 }

@@ -1,13 +1,19 @@
-//! Calls of storages and their answers, by scripts: the first line of a case makes a storage, each further one is a call of it.
+//! Calls of storages and their answers, by scripts: `on` and its words make the storage of a case, and further lines are calls of it.
+//! Calls that need no storage stand alone.
 #![tactic(auto)]
 
 mod calls;
+mod logs;
+mod making;
+mod options;
+mod plain;
 mod script;
 mod stack;
 
 use calls::text;
-use cases::{Layer, Notes, Trouble, ok, run, told};
-use stack::{Stack, storage_of};
+use cases::{Layer, Notes, Trouble, number, ok, run, size, told};
+use making::storage_of;
+use stack::Stack;
 use std::alloc::Global;
 use std::cell::Cell;
 use std::process::ExitCode;
@@ -36,6 +42,24 @@ impl<'a> Storages<'a> {
         let answer = stack.make(alloc, words)?;
         Ok(text(alloc, &answer)?)
     }
+
+    // Takes the log off the storage that it was made over.
+    fn unwrap(&mut self, alloc: Global) -> Result<String, Trouble> {
+        let Some(stack) = self.stack.take() else {
+            return Err(Trouble::NoCall);
+        };
+        self.stack = Some(stack.into_inner()?);
+        Ok(ok(alloc)?)
+    }
+
+    // Takes the bytes of a storage in memory, which is gone then.
+    fn take_bytes(&mut self, alloc: Global) -> Result<String, Trouble> {
+        let Some(stack) = self.stack.take() else {
+            return Err(Trouble::NoCall);
+        };
+        let bytes = stack.into_bytes()?;
+        Ok(text(alloc, &bytes)?)
+    }
 }
 
 impl<'a> Layer for Storages<'a> {
@@ -48,6 +72,16 @@ impl<'a> Layer for Storages<'a> {
         match words {
             ["on", rest @ ..] => self.make(alloc, rest),
             ["asked"] => Ok(told(alloc, self.notes)?),
+            ["into_inner"] => self.unwrap(alloc),
+            ["into_bytes"] => self.take_bytes(alloc),
+            ["open_options", rest @ ..] => options::open(alloc, rest),
+            ["create_options", rest @ ..] => options::create(alloc, rest),
+            ["create_open", rest @ ..] => options::create_open(alloc, rest),
+            ["padded_end", offset, n, unit] => {
+                plain::padded(alloc, number(offset)?, number(n)?, number(unit)?)
+            }
+            ["larger_alignment", a, b] => plain::larger(alloc, size(a)?, size(b)?),
+            ["fault", name] => plain::fault(alloc, name),
             _ => self.call(alloc, words),
         }
     }

@@ -1,18 +1,7 @@
 // The words of a script's lines.
 use crate::calls::{Call, Kind};
-use cases::{Trouble, bytes, number};
-use imago_storage::PreallocateMode;
+use cases::{Trouble, bytes, mode, number};
 use std::alloc::Global;
-
-fn mode(word: &str) -> Result<PreallocateMode, Trouble> {
-    match word {
-        "none" => Ok(PreallocateMode::None),
-        "zero" => Ok(PreallocateMode::Zero),
-        "allocate" => Ok(PreallocateMode::Allocate),
-        "data" => Ok(PreallocateMode::WriteData),
-        _ => Err(Trouble::NoCall),
-    }
-}
 
 fn kind(word: &str) -> Result<Kind, Trouble> {
     match word {
@@ -35,8 +24,9 @@ fn short_call(words: &[&str]) -> Result<Call, Trouble> {
         ["flush"] => Ok(Call::Flush),
         ["sync"] => Ok(Call::Sync),
         ["invalidate"] => Ok(Call::Invalidate),
-        ["named"] => Ok(Call::Named),
+        ["filename"] => Ok(Call::Filename),
         ["read", offset, n] => Ok(Call::Read(number(offset)?, number(n)?)),
+        ["read_here", offset, n] => Ok(Call::ReadHere(number(offset)?, number(n)?)),
         ["pure_read", offset, n] => Ok(Call::PureRead(number(offset)?, number(n)?)),
         ["resize", size, word] => Ok(Call::Resize(number(size)?, mode(word)?)),
         [word, offset, n] => Ok(Call::Range(kind(word)?, number(offset)?, number(n)?)),
@@ -51,6 +41,7 @@ pub fn call(alloc: Global, words: &[&str]) -> Result<Call, Trouble> {
         ["pure_write", offset, rest @ ..] => {
             Ok(Call::PureWrite(number(offset)?, bytes(alloc, rest)?))
         }
+        ["resolve", name] => Ok(Call::Resolve(name.to_string(alloc)?)),
         _ => short_call(words),
     }
 }
