@@ -26,6 +26,3 @@ pub use null::Null;
 pub use options::{StorageCreateOptions, StorageOpenOptions};
 pub use storage::{PreallocateMode, Storage};
 pub use zeroing::write_full_zeroes;
-
-#[cfg(test)]
-mod tests;
