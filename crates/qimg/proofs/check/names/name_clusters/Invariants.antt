@@ -1,7 +1,0 @@
-use Rattle.qimg.specs.Names.{AddsClusters}
-use Rattle.qimg.specs.Gathering.{KeepsEntries}
-use Rattle.qimg.proofs.check.names.name_clusters.Given as goal
-
--- the clusters before this one are entered
-abbrev pub invariant-loop-cluster : goal.invariant-loop-cluster
-invariant-loop-cluster l = AddsClusters l.fn.names.items l.names.items l.fn.low l.cluster l.fn.times × KeepsEntries l.fn.names.items l.names.items

@@ -1,7 +1,0 @@
-use Rattle.qimg.specs.Files.{file}
-use Rattle.qimg.proofs.BlockPlaces.{BlocksTo}
-use Rattle.qimg.proofs.check.tables.block_places.Given as goal
-
--- the places that the words before this one name are pushed
-abbrev pub invariant-loop-index : goal.invariant-loop-index
-invariant-loop-index g l = BlocksTo (file (g.S.Storage.state l.fn.image)) l.header.fields l.index l.places.items

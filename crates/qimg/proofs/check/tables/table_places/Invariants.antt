@@ -1,8 +1,0 @@
-use Rattle.std.proofs.Common.{◌≡◌}
-use Rattle.qimg.specs.Files.{file}
-use Rattle.qimg.proofs.TablePlaces.{tables_to}
-use Rattle.qimg.proofs.check.tables.table_places.Given as goal
-
--- the places that the words before this one name are pushed
-abbrev pub invariant-loop-index : goal.invariant-loop-index
-invariant-loop-index g l = l.places.items ≡ tables_to (file (g.S.Storage.state l.fn.image)) l.header.fields l.index

@@ -1,0 +1,181 @@
+-- What the L2 tables at a list of places name, place by place; places that are the same and follow each other are entered as one.
+use Rattle.std.proofs.Common.{◌≡◌, ℕ, ◌+◌, ◌*◌, ◌<◌, ◌≤◌, refl, arith, ap, sym, subst, ◌∙◌, List, length, take, inl, inr, ◌⊎◌}
+use Rattle.std.specs.Prelude.{slice_index, IsTrue, IsFalse, All, Any}
+use Rattle.std.specs.List.{sum_by, Contains}
+use Rattle.std.specs.List.Sorted.{IsPermutation}
+use Rattle.std.proofs.lemmas.Bool.{cases_lt}
+use Rattle.std.proofs.lemmas.Grind.{get_or_default_zero}
+use Rattle.std.proofs.lemmas.List.{take_all}
+use Rattle.std.proofs.lemmas.List.Elements.{All-get_or, All-from_get_or}
+use Rattle.std.proofs.lemmas.List.Sorted.{IsPermutation-sym, All-permutation, Contains-permutation, sum_by-IsPermutation}
+use Rattle.imago_storage.specs.State.{StorageState, Rose}
+use Rattle.imago_storage.specs.Calls.{Kept}
+use Rattle.qcow2_types.specs.Bytes.{Bytes, bytes_of}
+use Rattle.qcow2_types.specs.Words.{is_place}
+use Rattle.qcow2_types.specs.Header.{Fields}
+use Rattle.qcow2_types.specs.Entries.{l2_table_sound}
+use Rattle.qcow2_types.specs.References.{meets, of_mapping, of_copied, of_table}
+use Rattle.qimg_core.specs.declared.check.CheckFault.{CheckFault}
+use Rattle.qimg_core.specs.declared.check.CheckFault.TheVariants.{Header, Snapshots, External, Table, SharedTable, FalseCopied, UnderCounted, Memory, Storage}
+use Rattle.qimg_core.specs.declared.check.names.Tally.{Tally}
+use Rattle.qimg_core.specs.Files.{file}
+use Rattle.qimg_core.specs.Names.{Adds, SameParts, nothing_named, named_by, structure_part, mapped_part, copied_part}
+use Rattle.qimg_core.specs.CheckParts.{IsDamagedTable, IsOneDamaged, AreTables, sum_over}
+use Rattle.qimg_core.specs.Check.{Found}
+use Rattle.qimg_core.proofs.PlacesNamed.{places-step}
+use Rattle.qimg_core.proofs.TableNamed.{AddsTable}
+
+-- What the tables at the first i places name is entered, but for the last of them, so many, which are all at the place that follows.
+pub record NamedTo (old now : StorageState) (h : Fields) (before names : List Tally) (places : List ℕ) (times i : ℕ) : Type 0 where
+  pub kept : Kept old now
+  pub faults : now.faults ≡ old.faults
+  pub few : times ≤ i
+  pub last : i ≡ length places → times ≡ 0
+  pub structure : (c : ℕ) → named_by structure_part c names ≡ named_by structure_part c before
+  pub mapped : (c : ℕ) → named_by mapped_part c names + times * of_table (file old) h (of_mapping h (meets h c)) (slice_index places i) ≡ named_by mapped_part c before + sum_over (of_table (file old) h (of_mapping h (meets h c))) (take i places)
+  pub copied : (c : ℕ) → named_by copied_part c names + times * of_table (file old) h (of_copied h (meets h c)) (slice_index places i) ≡ named_by copied_part c before + sum_over (of_table (file old) h (of_copied h (meets h c))) (take i places)
+  pub sound : (k : ℕ) → k < i → IsTrue (l2_table_sound (file old) h (slice_index places k)) ⊎ ((0 < times) × (slice_index places k ≡ slice_index places i))
+
+-- nothing is entered
+pub named-none : (old now : StorageState) (h : Fields) (names : List Tally) (places : List ℕ) → Kept old now → now.faults ≡ old.faults → NamedTo old now h names names places 0 0
+named-none old now h names places kept faults = record {
+  kept = kept;
+  faults = faults;
+  few = omega arith;
+  last = λ none. refl;
+  structure = λ c. refl;
+  mapped = λ c. omega arith;
+  copied = λ c. omega arith;
+  sound = λ k lt. absurd (omega arith);
+}
+
+module _ (old now : StorageState) (h : Fields) (before names : List Tally) (places : List ℕ) (times i : ℕ) (so_far : NamedTo old now h before names places times i) where
+  -- the file is the same
+  pub same-file : file now ≡ file old
+  same-file = ap bytes_of so_far.kept.bytes
+
+  -- The next place is the same: it is entered later.
+  pub named-later : i + 1 < length places → slice_index places (i + 1) ≡ slice_index places i → NamedTo old now h before names places (times + 1) (i + 1)
+  named-later inside same = record {
+    kept = so_far.kept;
+    faults = so_far.faults;
+    few = omega (arith, so_far.few);
+    last = λ all. absurd (omega arith);
+    structure = so_far.structure;
+    mapped = λ c. one-more (of_table (file old) h (of_mapping h (meets h c))) _ _ (so_far.mapped c);
+    copied = λ c. one-more (of_table (file old) h (of_copied h (meets h c))) _ _ (so_far.copied c);
+    sound = λ k lt. elim (cases_lt k i) [
+      | inl less ↦ elim (so_far.sound k less) [
+        | inl is ↦ inl is
+        | inr waits ↦ inr (omega arith, waits.1 ∙ sym same)
+      ]
+      | inr le ↦ let here : k ≡ i = omega arith in inr (omega arith, ap (slice_index places) here ∙ sym same)
+    ];
+  }
+    where
+      step : (a b s s' x times' : ℕ) → s' ≡ s + x → a + times' * x ≡ b + s → a + (times' + 1) * x ≡ b + s'
+      step a b s s' x times' p q = omega (arith, p, q)
+
+      one-more : (of : ℕ → ℕ) (a b : ℕ) → a + times * of (slice_index places i) ≡ b + sum_over of (take i places) → a + (times + 1) * of (slice_index places (i + 1)) ≡ b + sum_over of (take (i + 1) places)
+      one-more of a b sum = ap (λ p. a + (times + 1) * of p) same ∙ step a b _ _ (of (slice_index places i)) times (places-step of places i (omega arith)) sum
+
+  -- It is entered with those that wait.
+  pub named-now : (new : StorageState) (names' : List Tally) → i < length places → Kept now new → new.faults ≡ now.faults → AddsTable (file now) h (times + 1) names names' (slice_index places i) → IsTrue (l2_table_sound (file now) h (slice_index places i))
+      → NamedTo old new h before names' places 0 (i + 1)
+  named-now new names' inside kept faults adds sound = record {
+    kept = record {
+      shape = kept.shape ∙ so_far.kept.shape;
+      bytes = kept.bytes ∙ so_far.kept.bytes;
+      refusals = kept.refusals ∙ so_far.kept.refusals;
+      stop = kept.stop ∙ so_far.kept.stop;
+      past = kept.past ∙ so_far.kept.past;
+    };
+    faults = faults ∙ so_far.faults;
+    few = omega arith;
+    last = λ all. refl;
+    structure = λ c. own.structure c ∙ (no-more (named_by structure_part c names) ∙ so_far.structure c);
+    mapped = λ c. all-now (of_table (file old) h (of_mapping h (meets h c))) _ _ _ (own.mapped c) (so_far.mapped c);
+    copied = λ c. all-now (of_table (file old) h (of_copied h (meets h c))) _ _ _ (own.copied c) (so_far.copied c);
+    sound = λ k lt. elim (cases_lt k i) [
+      | inl less ↦ elim (so_far.sound k less) [
+        | inl is ↦ inl is
+        | inr waits ↦ inl (ap (l2_table_sound (file old) h) waits.1 ∙ own-sound)
+      ]
+      | inr le ↦ let here : k ≡ i = omega arith in inl (ap (λ j. l2_table_sound (file old) h (slice_index places j)) here ∙ own-sound)
+    ];
+  }
+    where
+      own : AddsTable (file old) h (times + 1) names names' (slice_index places i)
+      own = subst (λ (f : Bytes). AddsTable f h (times + 1) names names' (slice_index places i)) same-file adds
+
+      own-sound : IsTrue (l2_table_sound (file old) h (slice_index places i))
+      own-sound = subst (λ (f : Bytes). IsTrue (l2_table_sound f h (slice_index places i))) same-file sound
+
+      no-more : (n : ℕ) → n + 0 ≡ n
+      no-more n = omega arith
+
+      step : (a b d s s' x y times' : ℕ) → s' ≡ s + x → d ≡ a + (times' + 1) * x → a + times' * x ≡ b + s → d + 0 * y ≡ b + s'
+      step a b d s s' x y times' p q r = omega (arith, p, q, r)
+
+      all-now : (of : ℕ → ℕ) (a b d : ℕ) → d ≡ a + (times + 1) * of (slice_index places i) → a + times * of (slice_index places i) ≡ b + sum_over of (take i places) → d + 0 * of (slice_index places (i + 1)) ≡ b + sum_over of (take (i + 1) places)
+      all-now of a b d p q = step a b d _ _ (of (slice_index places i)) (of (slice_index places (i + 1))) times (places-step of places i inside) p q
+
+  -- At the end all is entered, whatever the order of the places.
+  module _ (all : i ≡ length places) (given : List ℕ) (permuted : IsPermutation given places) where
+    pub named-all : Adds h before names nothing_named (λ w. sum_over (of_table (file old) h (of_mapping h w)) given) (λ w. sum_over (of_table (file old) h (of_copied h w)) given)
+    named-all = record {
+      structure = λ c. so_far.structure c ∙ omega arith;
+      mapped = λ c. whole (of_table (file old) h (of_mapping h (meets h c))) _ _ (so_far.mapped c);
+      copied = λ c. whole (of_table (file old) h (of_copied h (meets h c))) _ _ (so_far.copied c);
+    }
+      where
+        step : (a b s s' x times' : ℕ) → times' ≡ 0 → s ≡ s' → a + times' * x ≡ b + s → a ≡ b + s'
+        step a b s s' x times' e p q = let gone : times' * x ≡ 0 = rw e (omega arith) in omega (arith, gone, p, q)
+
+        whole : (of : ℕ → ℕ) (a b : ℕ) → a + times * of (slice_index places i) ≡ b + sum_over of (take i places) → a ≡ b + sum_over of given
+        whole of a b sum = step a b _ _ (of (slice_index places i)) times (so_far.last all) (ap (sum_by of) (take_all i places (omega arith)) ∙ sum_by-IsPermutation of given places permuted) sum
+
+    pub all-sound : All (λ place. IsTrue (l2_table_sound (file old) h place)) given
+    all-sound = All-permutation (λ place. IsTrue (l2_table_sound (file old) h place)) places given (IsPermutation-sym given places permuted) (All-from_get_or (λ place. IsTrue (l2_table_sound (file old) h place)) places 0 (λ k lt.
+        elim (so_far.sound k (omega arith)) [
+          | inl is ↦ is
+          | inr waits ↦ absurd (omega (arith, waits.0, so_far.last all))
+        ]))
+
+  -- a table that isn't entered
+  pub one-damaged : (new : StorageState) (given : List ℕ) → IsPermutation given places → i < length places → (fault : CheckFault) → Found now new (IsDamagedTable (file now) h (slice_index places i)) fault → Found old new (IsOneDamaged (file old) h given) fault
+  one-damaged new given permuted inside Header found = absurd found.0
+  one-damaged new given permuted inside Snapshots found = absurd found.0
+  one-damaged new given permuted inside External found = absurd found.0
+  one-damaged new given permuted inside Table found = (damaged, found.1 ∙ so_far.faults)
+    where
+      there : Contains given (slice_index places i)
+      there = Contains-permutation places given (slice_index places i) (IsPermutation-sym given places permuted) (i, inside, get_or_default_zero places i (slice_index places i) inside)
+
+      damaged : Any (λ place. IsFalse (l2_table_sound (file old) h place)) given
+      damaged = (there.0, slice_index places i, there.1, there.2, sym (ap (λ (f : Bytes). l2_table_sound f h (slice_index places i)) same-file) ∙ found.0)
+  one-damaged new given permuted inside (SharedTable c) found = absurd found.0
+  one-damaged new given permuted inside (FalseCopied c) found = absurd found.0
+  one-damaged new given permuted inside (UnderCounted c) found = absurd found.0
+  one-damaged new given permuted inside Memory found = found ∙ so_far.faults
+  one-damaged new given permuted inside Storage found = rose
+    where
+      rose : Rose old.faults new.faults
+      rose = record { kept = omega (arith, found.kept, so_far.faults); rose = λ few. let more = found.rose few in omega (arith, more, so_far.faults) }
+
+-- each place is one of a cluster, in any order
+pub placed-at : (bits : ℕ) (given places : List ℕ) (i : ℕ) → IsPermutation given places → i < length places → AreTables bits given → IsTrue (is_place bits (slice_index places i))
+placed-at bits given places i permuted inside are = All-get_or (λ place. IsTrue (is_place bits place)) places i 0 inside (All-permutation (λ place. IsTrue (is_place bits place)) given places permuted are)
+
+-- the same of another list that holds the same
+pub named-same : (old now : StorageState) (h : Fields) (before names names' : List Tally) (places : List ℕ) (times i : ℕ) → SameParts names names' → NamedTo old now h before names places times i → NamedTo old now h before names' places times i
+named-same old now h before names names' places times i same to = record {
+  kept = to.kept;
+  faults = to.faults;
+  few = to.few;
+  last = to.last;
+  structure = λ c. same.structure c ∙ to.structure c;
+  mapped = λ c. ap (λ n. n + times * of_table (file old) h (of_mapping h (meets h c)) (slice_index places i)) (same.mapped c) ∙ to.mapped c;
+  copied = λ c. ap (λ n. n + times * of_table (file old) h (of_copied h (meets h c)) (slice_index places i)) (same.copied c) ∙ to.copied c;
+  sound = to.sound;
+}

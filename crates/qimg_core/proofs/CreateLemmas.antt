@@ -1,0 +1,117 @@
+-- The bytes of a new image, as they are made.
+use Rattle.std.proofs.Common.{◌≡◌, ◌≢◌, ℕ, zero, suc, ◌+◌, ◌^◌, ◌<◌, ◌≤◌, refl, arith, ap, sym, ◌∙◌, List, [], ◌∷◌, length, take, inl, inr, length-take}
+use Rattle.std.specs.Prelude.{Bool, true, false, ◌==◌, cond, max, replicate, IsTrue, Result, Ok, Err, OnOk, IfErr, ◌⊎◌}
+use Rattle.std.specs.Int.{w64, to_be_bytes}
+use Rattle.std.proofs.Math.Path.{fun_ext}
+use Rattle.std.proofs.Math.Nat.{le-max_left, le-max_right}
+use Rattle.std.proofs.lemmas.Bool.{cases_lt}
+use Rattle.std.proofs.lemmas.List.{get_or-take, get_or_past}
+use Rattle.std.proofs.lemmas.Grind.{common_steps}
+use Rattle.std.proofs.lemmas.Bool.Decides.{nat_tests}
+use Rattle.imago_storage.specs.State.{StorageState, unit_of}
+use Rattle.imago_storage.specs.Calls.{Resized, Cause}
+use Rattle.imago_storage.specs.Through.{WrittenThrough, NotWrittenThrough, round_up}
+use Rattle.imago_storage.specs.declared.fault.Fault.{Fault}
+use Rattle.imago_storage.specs.declared.fault.Fault.TheVariants.{Memory, Storage}
+use Rattle.qcow2_types.specs.Bytes.{Bytes, bytes_of, splice}
+use Rattle.qcow2_types.proofs.Splices.{splice-outside, splice-inside}
+use Rattle.qimg_core.specs.Requests.{NotPut}
+use Rattle.qimg_core.specs.Created.{Piece, with_pieces, nothing_in, blank_pieces, blank, first_counts, created, created_length, extension_bytes, l1_entries_of, Creates, NotCreated}
+use Rattle.qimg_core.proofs.RequestLemmas.{spliced-bytes, put-refused}
+
+-- one piece more
+pub piece-put : (f g made : Bytes) (at : ℕ) (bytes bytes' : List ℕ) → f ≡ g → made ≡ splice f at bytes → bytes ≡ bytes' → made ≡ splice g at bytes'
+piece-put f g made at bytes bytes' same is piece = is ∙ (ap (λ x. splice x at bytes) same ∙ ap (splice g at) piece)
+
+-- a buffer of zeroes
+pub zeroes-nothing : (n : ℕ) → bytes_of (replicate n 0) ≡ nothing_in
+unfolding nothing_in
+zeroes-nothing n = fun_ext (λ p. grind (arith, common_steps))
+
+-- the counts, by the last of them
+pub counts-none : (e n : ℕ) → e ≡ 0 → n ≡ 0 → 0 ∷ 1 ∷ 0 ∷ 1 ∷ 0 ∷ 1 ∷ 0 ∷ n ∷ [] ≡ first_counts e
+counts-none e n none count = rw (none, count) refl
+
+-- the counts, where there is an L1 table
+pub counts-some : (e n : ℕ) → e ≢ 0 → n ≡ 1 → 0 ∷ 1 ∷ 0 ∷ 1 ∷ 0 ∷ 1 ∷ 0 ∷ n ∷ [] ≡ first_counts e
+counts-some e n some count = let there : (e == 0) ≡ false = grind (arith, nat_tests) in rw (there, count) refl
+
+-- where the last piece ends
+abbrev pieces_end : List Piece → ℕ
+pieces_end [] = 0
+pieces_end (piece ∷ rest) = max (piece.0 + length piece.1) (pieces_end rest)
+
+-- behind the last piece nothing changes
+pieces-past : (pieces : List Piece) (f : Bytes) (p : ℕ) → pieces_end pieces ≤ p → with_pieces f pieces p ≡ f p
+pieces-past [] f p le = refl
+pieces-past (piece ∷ rest) f p le =
+    let here : piece.0 + length piece.1 ≤ max (piece.0 + length piece.1) (pieces_end rest) = le-max_left _ _ in
+    let later : pieces_end rest ≤ max (piece.0 + length piece.1) (pieces_end rest) = le-max_right _ _ in
+    pieces-past rest (splice f piece.0 piece.1) p (omega arith) ∙ splice-outside f piece.0 piece.1 p (inr (omega arith))
+
+-- behind its pieces a new image of size 0 is 0
+blank-past : (e : ℕ) → e ≤ 2 → (p : ℕ) → 1032 ≤ p → blank e p ≡ 0
+unfolding blank nothing_in extension_bytes
+blank-past zero few p le = pieces-past (blank_pieces zero) nothing_in p le
+blank-past (suc zero) few p le = pieces-past (blank_pieces (suc zero)) nothing_in p le
+blank-past (suc (suc zero)) few p le = pieces-past (blank_pieces (suc (suc zero))) nothing_in p le
+blank-past (suc (suc (suc e))) few p le = absurd (omega arith)
+
+-- behind its pieces a new image is 0
+pub created-past : (size p : ℕ) → size ≤ 65536 → 1032 ≤ p → created size p ≡ 0
+unfolding created
+created-past size p small le = splice-outside (blank (l1_entries_of size)) 24 (to_be_bytes w64 size) p (inr (omega arith)) ∙ blank-past (l1_entries_of size) (omega arith) p le
+
+-- between three and four clusters
+length-most : (size : ℕ) → (1536 ≤ created_length size) × (created_length size ≤ 2048)
+length-most size = pick (size == 0)
+  where
+    pick : (b : Bool) → (1536 ≤ cond b 1536 2048) × (cond b 1536 2048 ≤ 2048)
+    pick true = (omega arith, omega arith)
+    pick false = (omega arith, omega arith)
+
+-- The storage was cut to nothing, and the bytes were written.
+pub creates : (result : Result (Unit {0}) Fault) (old cut new : StorageState) (size n : ℕ) (buffer : List ℕ) → size ≤ 65536 → Resized old cut 0 → OnOk result (WrittenThrough cut new 0 (take n buffer))
+    → n ≡ created_length size → length buffer ≡ 2048 → bytes_of buffer ≡ created size → OnOk result (Creates size old new)
+creates (Ok _) old cut new size n buffer small resized through long whole is =
+    let most = length-most size in
+    let low : 1536 ≤ n = omega (arith, most.0) in
+    let high : n ≤ 2048 = omega (arith, most.1) in
+    let all : length (take n buffer) ≡ n = omega (arith, length-take n buffer) in
+    let none : length cut.bytes ≡ 0 = resized.size in
+    let size_is : length new.bytes ≡ max (length cut.bytes) (round_up (unit_of cut.shape) (0 + length (take n buffer))) = through.size (omega arith) in
+    let start : 0 + length (take n buffer) ≡ created_length size = omega arith in
+    record {
+      shape = through.shape ∙ resized.changed.shape;
+      faults = through.faults ∙ resized.changed.faults;
+      length = size_is ∙ (ap (λ k. max k (round_up (unit_of cut.shape) (0 + length (take n buffer)))) none ∙ (top _ ∙ (ap (λ k. round_up (unit_of cut.shape) k) start ∙ ap (λ s. round_up (unit_of s) (created_length size)) resized.changed.shape)));
+      file = λ keeps.
+          let keeps' : IsTrue cut.shape.keeps = ap (λ s. s.keeps) resized.changed.shape ∙ keeps in
+          spliced-bytes cut.bytes 0 (take n buffer) new.bytes (through.content keeps') ∙ fun_ext (λ p. place p none all low (cases_lt p n));
+    }
+  where
+    top : (k : ℕ) → max 0 k ≡ k
+    top k = omega arith
+
+    place : (p : ℕ) → length cut.bytes ≡ 0 → length (take n buffer) ≡ n → 1536 ≤ n → (p < n) ⊎ (n ≤ p) → splice (bytes_of cut.bytes) 0 (take n buffer) p ≡ created size p
+    place p none all low (inl lt) =
+        let zero_more : 0 + p ≡ p = omega arith in
+        ap (splice (bytes_of cut.bytes) 0 (take n buffer)) (sym zero_more) ∙ (splice-inside (bytes_of cut.bytes) 0 (take n buffer) p (omega arith) ∙ (get_or-take n buffer p 0 lt ∙ ap (λ f. f p) is))
+    place p none all low (inr le) =
+        splice-outside (bytes_of cut.bytes) 0 (take n buffer) p (inr (omega arith)) ∙ (get_or_past cut.bytes p 0 (omega arith) ∙ sym (created-past size p small (omega arith)))
+creates (Err _) old cut new size n buffer small resized through long whole is = tt
+
+-- a cause of the storage
+not-created : (size before after : ℕ) (fault : Fault) → Cause before after fault → NotCreated size fault
+not-created size before after Memory h = tt
+not-created size before after Storage h = tt
+not-created size before after fault h = absurd h
+
+-- a write that is refused refuses the new image
+pub created-refused : (result : Result (Unit {0}) Fault) (old new : StorageState) (size : ℕ) (bytes : List ℕ) → unit_of old.shape ≤ 2 ^ 20 → 0 + length bytes ≤ 2 ^ 60
+    → IfErr result (NotWrittenThrough old new 0 bytes) → IfErr result (NotCreated size)
+created-refused result old new size bytes unit low h = each result (put-refused result old new 0 bytes unit low h)
+  where
+    each : (r : Result (Unit {0}) Fault) → IfErr r (NotPut old new) → IfErr r (NotCreated size)
+    each (Ok _) h' = tt
+    each (Err fault) h' = not-created size old.faults new.faults fault h'

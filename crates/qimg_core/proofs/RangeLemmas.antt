@@ -1,0 +1,63 @@
+-- The clusters that a range of bytes meets.
+use Rattle.std.proofs.Common.{◌≡◌, ℕ, ◌+◌, ◌-◌, ◌*◌, ◌/◌, ◌^◌, ◌<◌, ◌≤◌, refl, arith, ap, sym, ◌∙◌, inl, inr, List}
+use Rattle.std.specs.Prelude.{◌&&◌, nat_lt, if◌then◌else◌}
+use Rattle.std.proofs.lemmas.Bool.{cases_lt, lt-ltb, le-ltb, le-leb, lt-leb}
+use Rattle.std.proofs.Math.Nat.{div-mul-le_self, lt-div-mul-add}
+use Rattle.std.proofs.lemmas.Nat.{pow_pos, mul-le}
+use Rattle.qcow2_types.specs.Header.{Fields, cluster_size}
+use Rattle.qcow2_types.specs.References.{meets}
+use Rattle.qimg_core.specs.declared.check.names.Tally.{Tally}
+use Rattle.qimg_core.specs.declared.check.names.Times.{Times}
+use Rattle.qimg_core.specs.Names.{named_by, structure_part, mapped_part, copied_part, is_between, AddsClusters, Adds}
+
+-- a range meets the clusters from that of its first byte to that of its last, with clusters of s bytes
+between : (s c first length : ℕ) → 0 < s → 0 < length
+    → (if nat_lt 0 length && nat_lt first ((c + 1) * s) && nat_lt (c * s) (first + length) then 1 else 0) ≡ is_between (first / s) ((first + (length - 1)) / s + 1) c
+between s c first length some long = elim (cases_lt c (first / s)) [
+  | inl early ↦
+      let a : (c + 1) * s ≤ first / s * s = mul-le (c + 1) s (first / s) s (omega arith) (omega arith) in
+      let b : first / s * s ≤ first = div-mul-le_self first s in
+      rw (lt-ltb 0 length long, le-ltb first ((c + 1) * s) (omega arith), lt-leb (first / s) c early) refl
+  | inr from ↦
+      let a : first / s * s ≤ c * s = mul-le (first / s) s c s from (omega arith) in
+      let b : first < first / s * s + s = lt-div-mul-add some in
+      let d : c * s + s ≡ (c + 1) * s = grind arith in
+      let inside : first < (c + 1) * s = omega arith in
+      elim (cases_lt ((first + (length - 1)) / s) c) [
+        | inl late ↦
+            let e : ((first + (length - 1)) / s + 1) * s ≤ c * s = mul-le ((first + (length - 1)) / s + 1) s c s (omega arith) (omega arith) in
+            let k : first + (length - 1) < (first + (length - 1)) / s * s + s = lt-div-mul-add some in
+            let m : (first + (length - 1)) / s * s + s ≡ ((first + (length - 1)) / s + 1) * s = grind arith in
+            rw (lt-ltb 0 length long, lt-ltb first ((c + 1) * s) inside, le-ltb (c * s) (first + length) (omega arith), le-leb (first / s) c from, le-ltb c ((first + (length - 1)) / s + 1) (omega arith)) refl
+        | inr til ↦
+            let e : c * s ≤ (first + (length - 1)) / s * s = mul-le c s ((first + (length - 1)) / s) s til (omega arith) in
+            let k : (first + (length - 1)) / s * s ≤ first + (length - 1) = div-mul-le_self (first + (length - 1)) s in
+            rw (lt-ltb 0 length long, lt-ltb first ((c + 1) * s) inside, lt-ltb (c * s) (first + length) (omega arith), le-leb (first / s) c from, lt-ltb c ((first + (length - 1)) / s + 1) (omega arith)) refl
+      ]
+]
+
+-- the same of an image
+pub meets-between : (h : Fields) (c first length : ℕ) → 0 < length → meets h c first length ≡ is_between (first / cluster_size h) ((first + (length - 1)) / cluster_size h + 1) c
+meets-between h c first length long = between (2 ^ h.cluster_bits) c first length (pow_pos h.cluster_bits) long
+
+-- so the clusters of a range are what it adds
+pub adds-range : (h : Fields) (old new : List Tally) (first length low high : ℕ) (times : Times) → 0 < length → low ≡ first / cluster_size h → high ≡ (first + (length - 1)) / cluster_size h
+    → AddsClusters old new low (high + 1) times
+    → Adds h old new (λ w. times.structure * w first length) (λ w. times.mapped * w first length) (λ w. times.copied * w first length)
+adds-range h old new first length low high times long at til adds = record {
+  structure = λ c. adds.structure c ∙ ap (λ n. named_by structure_part c old + times.structure * n) (sym (same c));
+  mapped = λ c. adds.mapped c ∙ ap (λ n. named_by mapped_part c old + times.mapped * n) (sym (same c));
+  copied = λ c. adds.copied c ∙ ap (λ n. named_by copied_part c old + times.copied * n) (sym (same c));
+}
+  where
+    same : (c : ℕ) → meets h c first length ≡ is_between low (high + 1) c
+    same c = meets-between h c first length long ∙ ap (λ a. is_between a ((first + (length - 1)) / cluster_size h + 1) c) (sym at) ∙ ap (λ b. is_between low (b + 1) c) (sym til)
+
+-- no range meets a cluster with no bytes
+pub adds-nothing : (h : Fields) (xs : List Tally) (first : ℕ) (times : Times)
+    → Adds h xs xs (λ w. times.structure * w first 0) (λ w. times.mapped * w first 0) (λ w. times.copied * w first 0)
+adds-nothing h xs first times = record {
+  structure = λ c. omega arith;
+  mapped = λ c. omega arith;
+  copied = λ c. omega arith;
+}

@@ -1,0 +1,139 @@
+-- From what a list of entries says to the verdict on the file.
+use Rattle.std.proofs.Common.{◌≡◌, ℕ, ap, sym, subst, ◌∙◌, List, Ok}
+use Rattle.std.specs.Prelude.{Bool, true, false, ◌&&◌, not, ◌==◌, nat_lt, IsTrue}
+use Rattle.imago_storage.specs.State.{StorageState, Rose}
+use Rattle.imago_storage.specs.Calls.{Kept}
+use Rattle.qcow2_types.specs.Bytes.{Bytes}
+use Rattle.qcow2_types.specs.Header.{Fields, Header, header_of, has_external_data}
+use Rattle.qcow2_types.specs.Counts.{count}
+use Rattle.qcow2_types.specs.References.{structure, contents, of_copied, meets}
+use Rattle.qcow2_types.specs.Consistency.{tables_sound, shares_structure, is_false_copied, is_under_counted, Nowhere, IsLeast, IsVerdict, leaks}
+use Rattle.qimg_core.specs.declared.check.CheckFault.{CheckFault}
+use Rattle.qimg_core.specs.declared.check.CheckFault.TheVariants as fault
+use Rattle.qimg_core.specs.declared.check.names.Tally.{Tally}
+use Rattle.qimg_core.specs.Files.{file}
+use Rattle.qimg_core.specs.Names.{named, is_shared, is_falsely_copied}
+use Rattle.qimg_core.specs.CheckParts.{Tells, IsUnsound, SharesFirst, is_under, IsUnder}
+use Rattle.qimg_core.specs.Check.{Found, IsFinding}
+use Rattle.qimg_core.proofs.ScanLemmas.{kept-both, kept-file}
+use Rattle.qimg_core.proofs.SurplusLemmas.{named-refs}
+
+-- What is asked of the list is what is asked of the file.
+module _ (f : Bytes) (h : Fields) (names : List Tally) (told : Tells f h names) where
+  pub shared-same : (c : ℕ) → is_shared names c ≡ shares_structure f h c
+  unfolding is_shared shares_structure
+  shared-same c = ap (λ n. nat_lt 0 n && not (named names c == 1)) (told.structure c) ∙ ap (λ n. nat_lt 0 (structure f h (meets h c)) && not (n == 1)) (named-refs f h names told c)
+
+  pub false-same : (c : ℕ) → is_falsely_copied names c ≡ is_false_copied f h c
+  unfolding is_falsely_copied is_false_copied
+  false-same c = ap (λ n. nat_lt 0 n && not (named names c == 1)) (told.copied c) ∙ ap (λ n. nat_lt 0 (contents f h (of_copied h (meets h c))) && not (n == 1)) (named-refs f h names told c)
+
+  pub under-same : (c : ℕ) → is_under f h names c ≡ is_under_counted f h c
+  unfolding is_under is_under_counted
+  under-same c = ap (nat_lt (count f h c)) (named-refs f h names told c)
+
+-- tests that are the same pass at the same clusters
+nowhere-same : (p q : ℕ → Bool) → ((c : ℕ) → p c ≡ q c) → Nowhere p → Nowhere q
+nowhere-same p q same none c = sym (same c) ∙ none c
+
+least-same : (p q : ℕ → Bool) → ((c : ℕ) → p c ≡ q c) → (c : ℕ) → IsLeast p c → IsLeast q c
+least-same p q same c least = (sym (same c) ∙ least.0, λ d lt. sym (same d) ∙ least.1 d lt)
+
+-- faults counted since a state with the same count
+rose-since : (old now new : StorageState) → now.faults ≡ old.faults → Rose now.faults new.faults → Rose old.faults new.faults
+rose-since old now new same rose = subst (λ n. Rose n new.faults) same rose
+
+-- The header loads, and the image is one that can be checked.
+pub record CanCheck (f : Bytes) (H : Header) : Type 0 where
+  pub loads : header_of true f ≡ Ok H
+  pub no_snapshots : H.fields.snapshots ≡ 0
+  pub data_inside : has_external_data H.fields ≡ false
+
+module _ (old : StorageState) (H : Header) (can : CanCheck (file old) H) where
+  -- a table is damaged
+  pub table-verdict : (now new : StorageState) → Kept old now → now.faults ≡ old.faults → (fault : CheckFault) → Found now new (IsUnsound (file now) H.fields) fault → Found old new (IsFinding (file old)) fault
+  table-verdict now new kept same fault.Header found = absurd found.0
+  table-verdict now new kept same fault.Snapshots found = absurd found.0
+  table-verdict now new kept same fault.External found = absurd found.0
+  table-verdict now new kept same fault.Table found = ((H, can.loads, (can.no_snapshots, can.data_inside, ap (λ f. tables_sound f H.fields) (sym (kept-file old now kept)) ∙ found.0)), found.1 ∙ same)
+  table-verdict now new kept same (fault.SharedTable c) found = absurd found.0
+  table-verdict now new kept same (fault.FalseCopied c) found = absurd found.0
+  table-verdict now new kept same (fault.UnderCounted c) found = absurd found.0
+  table-verdict now new kept same fault.Memory found = found ∙ same
+  table-verdict now new kept same fault.Storage found = rose-since old now new same found
+
+  module _ (names : List Tally) (sound : IsTrue (tables_sound (file old) H.fields)) (told : Tells (file old) H.fields names) where
+    -- a cluster is named more than once
+    pub shared-verdict : (now : StorageState) → now.faults ≡ old.faults → (fault : CheckFault) → SharesFirst names fault → Found old now (IsFinding (file old)) fault
+    shared-verdict now same fault.Header found = absurd found
+    shared-verdict now same fault.Snapshots found = absurd found
+    shared-verdict now same fault.External found = absurd found
+    shared-verdict now same fault.Table found = absurd found
+    shared-verdict now same (fault.SharedTable c) found = ((H, can.loads, (can.no_snapshots, can.data_inside, sound, least-same (is_shared names) (shares_structure (file old) H.fields) (shared-same (file old) H.fields names told) c found)), same)
+    shared-verdict now same (fault.FalseCopied c) found =
+        ((H, can.loads, (can.no_snapshots, can.data_inside, sound, nowhere-same (is_shared names) (shares_structure (file old) H.fields) (shared-same (file old) H.fields names told) found.0, least-same (is_falsely_copied names) (is_false_copied (file old) H.fields) (false-same (file old) H.fields names told) c found.1)), same)
+    shared-verdict now same (fault.UnderCounted c) found = absurd found
+    shared-verdict now same fault.Memory found = absurd found
+    shared-verdict now same fault.Storage found = absurd found
+
+    module _ (apart : Nowhere (is_shared names)) (true_copies : Nowhere (is_falsely_copied names)) where
+      -- a cluster is counted too little
+      pub under-verdict : (now new : StorageState) → Kept old now → now.faults ≡ old.faults → (fault : CheckFault) → Found now new (IsUnder (file now) H.fields names) fault → Found old new (IsFinding (file old)) fault
+      under-verdict now new kept same fault.Header found = absurd found.0
+      under-verdict now new kept same fault.Snapshots found = absurd found.0
+      under-verdict now new kept same fault.External found = absurd found.0
+      under-verdict now new kept same fault.Table found = absurd found.0
+      under-verdict now new kept same (fault.SharedTable c) found = absurd found.0
+      under-verdict now new kept same (fault.FalseCopied c) found = absurd found.0
+      under-verdict now new kept same (fault.UnderCounted c) found = (
+        (
+          H,
+          can.loads,
+          (
+            can.no_snapshots,
+            can.data_inside,
+            sound,
+            nowhere-same (is_shared names) (shares_structure (file old) H.fields) (shared-same (file old) H.fields names told) apart,
+            nowhere-same (is_falsely_copied names) (is_false_copied (file old) H.fields) (false-same (file old) H.fields names told) true_copies,
+            least-same (is_under (file now) H.fields names) (is_under_counted (file old) H.fields) (λ d. ap (λ f. is_under f H.fields names d) (kept-file old now kept) ∙ under-same (file old) H.fields names told d) c found.0,
+          ),
+        ),
+        found.1 ∙ same,
+      )
+      under-verdict now new kept same fault.Memory found = found ∙ same
+      under-verdict now new kept same fault.Storage found = rose-since old now new same found
+
+      -- nothing is wrong
+      pub sound-verdict : (now : StorageState) → Kept old now → Nowhere (is_under (file now) H.fields names) → (found : List (ℕ × ℕ)) → found ≡ leaks (file old) H.fields → IsVerdict (file old) (Ok found)
+      sound-verdict now kept counted found is = (
+        H,
+        record {
+          readable = record { loads = can.loads; no_snapshots = can.no_snapshots; data_inside = can.data_inside; tables = sound };
+          structure_apart = nowhere-same (is_shared names) (shares_structure (file old) H.fields) (shared-same (file old) H.fields names told) apart;
+          copied_apart = nowhere-same (is_falsely_copied names) (is_false_copied (file old) H.fields) (false-same (file old) H.fields names told) true_copies;
+          counted = nowhere-same (is_under (file now) H.fields names) (is_under_counted (file old) H.fields) (λ d. ap (λ f. is_under f H.fields names d) (kept-file old now kept) ∙ under-same (file old) H.fields names told d) counted;
+        },
+        is,
+      )
+
+-- The list tells what the file names, whose tables are sound, and nothing has changed.
+pub record Named (old now : StorageState) (H : Header) (names : List Tally) : Type 0 where
+  pub can : CanCheck (file old) H
+  pub kept : Kept old now
+  pub faults : now.faults ≡ old.faults
+  pub sound : IsTrue (tables_sound (file old) H.fields)
+  pub told : Tells (file old) H.fields names
+
+-- as it is after the stages that enter the names
+pub named-since : (old first second now : StorageState) (H : Header) (names : List Tally) → CanCheck (file old) H → Kept old first → first.faults ≡ old.faults → Kept first second → second.faults ≡ first.faults → Kept second now → now.faults ≡ second.faults
+    → IsTrue (tables_sound (file second) H.fields) → Tells (file second) H.fields names → Named old now H names
+named-since old first second now H names can kept same kept-2 same-2 kept-3 same-3 sound told =
+    let before : Kept old second = kept-both old first second kept kept-2 in
+    let same-file : file second ≡ file old = kept-file old second before in
+    record {
+      can = can;
+      kept = kept-both old second now before kept-3;
+      faults = same-3 ∙ (same-2 ∙ same);
+      sound = ap (λ f. tables_sound f H.fields) (sym same-file) ∙ sound;
+      told = subst (λ f. Tells f H.fields names) same-file told;
+    }

@@ -1,0 +1,49 @@
+-- The start, the tables and the blocks, then what the L2 tables name, added up.
+use Rattle.std.proofs.Common.{[], true, arith, sym, subst}
+use Rattle.std.specs.Prelude.{IsTrue, All}
+use Rattle.std.proofs.lemmas.Result.{err_from_is_err_and}
+use Rattle.qcow2_types.specs.Header.{Limited}
+use Rattle.qcow2_types.specs.Entries.{l2_table_sound}
+use Rattle.qcow2_types.proofs.HeaderLimits.{header-limited, fields-shaped}
+use Rattle.qimg_core.specs.Files.{file}
+use Rattle.qimg_core.specs.CheckParts.{AreTables}
+use Rattle.qcow2_types.proofs.WriteBack.{place-near}
+use Rattle.qimg_core.proofs.TablesListed.{tables-placed, places-bounded, table-bytes, sound-by-list, damaged-finding}
+use Rattle.qimg_core.proofs.ImageNamed.{few-tables, given-few, added-tells, added-few}
+use Rattle.qimg_core.proofs.check.names_of.Goals as goal
+
+pub name_structure-requires-clause-l1 : goal.name_structure-requires-clause-l1
+name_structure-requires-clause-l1 g c =
+    let limited : Limited c.args.header.now.fields = header-limited true _ c.args.header.now c.requires.loads in
+    omega (arith, limited.l1_entries, place-near c.args.header.now.fields.cluster_bits c.args.header.now.fields.l1_offset limited.l1_place)
+
+pub name_structure-requires-clause-refcounts : goal.name_structure-requires-clause-refcounts
+name_structure-requires-clause-refcounts g c =
+    let limited : Limited c.args.header.now.fields = header-limited true _ c.args.header.now c.requires.loads in
+    omega (arith, limited.refcount_entries, table-bytes c.args.header.now.fields (fields-shaped true _ c.args.header.now c.requires.loads), place-near c.args.header.now.fields.cluster_bits c.args.header.now.fields.refcount_table_offset limited.refcount_place)
+
+pub name_structure-requires-clause-tables : goal.name_structure-requires-clause-tables
+name_structure-requires-clause-tables g c = places-bounded _ _ c.args.header.now.fields.cluster_bits c.requires.places.in_order (tables-placed (file (g.S.Storage.state c.args.image.now)) c.args.header.now.fields c.requires.places.l1_sound)
+
+pub name_contents-requires-clause-places : goal.name_contents-requires-clause-places
+name_contents-requires-clause-places g c = subst (AreTables c.args.header.now.fields.cluster_bits) (sym c.requires.places.in_order) (tables-placed (file (g.S.Storage.state c.args.image.now)) c.args.header.now.fields c.requires.places.l1_sound)
+
+pub name_contents-requires-clause-few : goal.name_contents-requires-clause-few
+name_contents-requires-clause-few g c = few-tables _ _ c.requires.loads _ _ c.requires.places
+
+pub returns-in_err-name_contents-clause-err : goal.returns-in_err-name_contents-clause-err
+returns-in_err-name_contents-clause-err g c =
+    let p = err_from_is_err_and c.from_residual-in_err-name_contents.result c.from_residual-in_err-name_contents.ensures.1 in
+    rw (p.1, p.2) (damaged-finding (g.S.Storage.state c.args.image.now) (g.S.Storage.state c.name_contents.new.image) c.args.header.now.fields c.args.places.tables.items c.requires.places.in_order c.in_err-name_contents.field-0.0 c.in_err-name_contents.ensures.err)
+
+pub returns-clause-rising : goal.returns-clause-rising
+returns-clause-rising g c = c.in_ok-add_up.ensures.rising (given-few _ c.args.header.now c.requires.loads _ _ c.requires.places _ _ _ [] c.new-names.ensures.items c.in_ok-name_structure.ensures.ok c.in_ok-name_contents.ensures.ok)
+
+pub returns-clause-told : goal.returns-clause-told
+returns-clause-told g c = added-tells _ c.args.header.now c.requires.loads _ _ c.requires.places _ _ _ _ c.new-names.ensures.items c.in_ok-name_structure.ensures.ok c.in_ok-name_contents.ensures.ok c.in_ok-add_up.ensures.same
+
+pub returns-clause-few : goal.returns-clause-few
+returns-clause-few g c = added-few _ c.args.header.now c.requires.loads _ _ c.requires.places _ _ _ _ c.new-names.ensures.items c.in_ok-name_structure.ensures.ok c.in_ok-name_contents.ensures.ok c.in_ok-add_up.ensures.same
+
+pub returns-clause-sound : goal.returns-clause-sound
+returns-clause-sound g c = sound-by-list (file (g.S.Storage.state c.args.image.now)) c.args.header.now.fields c.requires.places.l1_sound c.requires.places.refcounts_sound (subst (All (λ place. IsTrue (l2_table_sound (file (g.S.Storage.state c.args.image.now)) c.args.header.now.fields place))) c.requires.places.in_order c.in_ok-name_contents.ensures.sound)

@@ -1,0 +1,84 @@
+use Rattle.std.proofs.Common.{◌≡◌, ℕ, ◌*◌, ◌/◌, ◌^◌, length, List, sym, ap, ◌∙◌, arith}
+use Rattle.std.specs.Prelude.{Option, slice_index}
+use Rattle.qcow2_types.specs.Words.{table_offset}
+use Rattle.qcow2_types.specs.Places.{l2_entries}
+use Rattle.qcow2_metadata.specs.Tables.{place_or_none}
+use Rattle.qimg_core.specs.Files.{file}
+use Rattle.qimg_core.specs.Plain.{image_value, table_value}
+use Rattle.qimg_core.proofs.ScanLemmas.{kept-file}
+use Rattle.qimg_core.proofs.PlainTables.{none-shown, table-place, loaded-values, table-refused, shown-as, unshown-as}
+use Rattle.qimg_core.proofs.plain.pieces.read_table.Goals as goal
+
+-- the indices and the word that the code has them as
+its-index : (index at bits bits' : ℕ) → index ≡ at / 2 ^ bits / l2_entries bits → bits ≡ bits' → index ≡ at / 2 ^ bits' / l2_entries bits'
+its-index index at bits bits' is same = is ∙ ap (λ b. at / 2 ^ b / l2_entries b) same
+
+its-place : (found : Option ℕ) (word index : ℕ) (words : List ℕ) → found ≡ place_or_none (table_offset word) → word ≡ slice_index words index → found ≡ place_or_none (table_offset (slice_index words index))
+its-place found word index words is same = is ∙ ap (λ w. place_or_none (table_offset w)) same
+
+its-cluster : (cluster place bits bits' : ℕ) → cluster ≡ place / 2 ^ bits → bits ≡ bits' → cluster ≡ place / 2 ^ bits'
+its-cluster cluster place bits bits' is same = is ∙ ap (λ b. place / 2 ^ b) same
+
+pub returns-in_default-clause-ok : goal.returns-in_default-clause-ok
+returns-in_default-clause-ok g c =
+    let f = file (g.S.Storage.state c.args.image.now) in
+    let h = c.args.header.now.fields in
+    let bits = c.cluster_bits-bits.ensures.value in
+    let found = its-place c.l2_offset.result c.get.result c.l1_index.result c.args.l1.now.words c.l2_offset.ensures c.get.ensures in
+    none-shown f h c.requires.sound c.requires.data_inside c.args.l1.now.words c.requires.words c.args.at (length c.args.buf.now) c.l1_index.result
+    (its-index c.l1_index.result c.args.at c.cluster_bits-bits.result h.cluster_bits c.l1_index.ensures bits) c.requires.one_table
+    (sym c.in_default.is ∙ found) c.blank.new.buf (omega (arith, c.blank.auto.buf)) c.blank.ensures
+
+pub load-requires-clause-reach : goal.load-requires-clause-reach
+load-requires-clause-reach g c =
+    let f = file (g.S.Storage.state c.args.image.now) in
+    let h = c.args.header.now.fields in
+    let bits = c.cluster_bits-bits.ensures.value in
+    let found = its-place c.l2_offset.result c.get.result c.l1_index.result c.args.l1.now.words c.l2_offset.ensures c.get.ensures in
+    let whole = table-place f h c.requires.sound c.requires.data_inside c.args.l1.now.words c.requires.words c.args.at (length c.args.buf.now) c.l1_index.result
+    (its-index c.l1_index.result c.args.at c.cluster_bits-bits.result h.cluster_bits c.l1_index.ensures bits) c.requires.one_table c.in-Some.place (sym c.in-Some.is ∙ found) in
+    let cluster : c.cluster-cluster.result ≡ c.in-Some.place / 2 ^ h.cluster_bits = its-cluster c.cluster-cluster.result c.in-Some.place c.cluster_bits-bits.result h.cluster_bits c.cluster-cluster.ensures bits in
+    let same : c.cluster-cluster.result * 2 ^ h.cluster_bits ≡ c.in-Some.place = ap (λ n. n * 2 ^ h.cluster_bits) cluster ∙ whole.0 in
+    omega (arith, same, whole.1)
+
+pub returns-in-Ok-clause-ok : goal.returns-in-Ok-clause-ok
+returns-in-Ok-clause-ok g c =
+    let old = g.S.Storage.state c.args.image.now in
+    let now = g.S.Storage.state c.load.new.image in
+    let h = c.args.header.now.fields in
+    let bits = c.cluster_bits-bits.ensures.value in
+    let found = its-place c.l2_offset.result c.get.result c.l1_index.result c.args.l1.now.words c.l2_offset.ensures c.get.ensures in
+    shown-as c.read_clusters.result (image_value (file old) h) (table_value (file now) c.in-Ok.table) c.args.at c.read_clusters.new.buf
+    (λ i lt. loaded-values (file old) h c.requires.sound c.requires.data_inside c.args.l1.now.words c.requires.words c.args.at (length c.args.buf.now) c.l1_index.result
+    (its-index c.l1_index.result c.args.at c.cluster_bits-bits.result h.cluster_bits c.l1_index.ensures bits) c.requires.one_table c.in-Some.place c.cluster-cluster.result (sym c.in-Some.is ∙ found)
+    (its-cluster c.cluster-cluster.result c.in-Some.place c.cluster_bits-bits.result h.cluster_bits c.cluster-cluster.ensures bits)
+    c.cluster_bits-bits.ensures.shaped.low (file now) c.in-Ok.table (kept-file old now c.load.ensures.kept) (rw c.l2_entries.ensures at c.in-Ok.ensures.ok) (rw c.l2_entries.ensures at c.in-Ok.ensures.sound)
+    i (omega (arith, c.read_clusters.auto.buf)))
+    c.read_clusters.ensures.ok
+
+pub returns-in-Ok-clause-err : goal.returns-in-Ok-clause-err
+returns-in-Ok-clause-err g c =
+    let old = g.S.Storage.state c.args.image.now in
+    let now = g.S.Storage.state c.load.new.image in
+    let new = g.S.Storage.state c.read_clusters.new.image in
+    let h = c.args.header.now.fields in
+    let bits = c.cluster_bits-bits.ensures.value in
+    let found = its-place c.l2_offset.result c.get.result c.l1_index.result c.args.l1.now.words c.l2_offset.ensures c.get.ensures in
+    unshown-as c.read_clusters.result (image_value (file old) h) (table_value (file now) c.in-Ok.table) old now new c.args.at (length c.args.buf.now) c.load.ensures.kept c.in-Ok.ensures.faults
+    (λ i lt. loaded-values (file old) h c.requires.sound c.requires.data_inside c.args.l1.now.words c.requires.words c.args.at (length c.args.buf.now) c.l1_index.result
+    (its-index c.l1_index.result c.args.at c.cluster_bits-bits.result h.cluster_bits c.l1_index.ensures bits) c.requires.one_table c.in-Some.place c.cluster-cluster.result (sym c.in-Some.is ∙ found)
+    (its-cluster c.cluster-cluster.result c.in-Some.place c.cluster_bits-bits.result h.cluster_bits c.cluster-cluster.ensures bits)
+    c.cluster_bits-bits.ensures.shaped.low (file now) c.in-Ok.table (kept-file old now c.load.ensures.kept) (rw c.l2_entries.ensures at c.in-Ok.ensures.ok) (rw c.l2_entries.ensures at c.in-Ok.ensures.sound) i lt)
+    c.read_clusters.ensures.err
+
+pub returns-in-Err-clause-err : goal.returns-in-Err-clause-err
+returns-in-Err-clause-err g c =
+    let old = g.S.Storage.state c.args.image.now in
+    let new = g.S.Storage.state c.load.new.image in
+    let h = c.args.header.now.fields in
+    let bits = c.cluster_bits-bits.ensures.value in
+    let found = its-place c.l2_offset.result c.get.result c.l1_index.result c.args.l1.now.words c.l2_offset.ensures c.get.ensures in
+    table-refused (file old) h c.requires.sound c.requires.data_inside c.args.l1.now.words c.requires.words c.args.at (length c.args.buf.now) c.l1_index.result
+    (its-index c.l1_index.result c.args.at c.cluster_bits-bits.result h.cluster_bits c.l1_index.ensures bits) c.requires.one_table c.in-Some.place c.cluster-cluster.result (sym c.in-Some.is ∙ found)
+    (its-cluster c.cluster-cluster.result c.in-Some.place c.cluster_bits-bits.result h.cluster_bits c.cluster-cluster.ensures bits)
+    old new c.cluster_bits-bits.ensures.shaped.high c.requires.some c.in-Err.fault (rw c.l2_entries.ensures at c.in-Err.ensures.err)

@@ -1,0 +1,124 @@
+-- What the parts of the checker read of an image, and what they find.
+use Rattle.std.specs.Prelude.{◌≡◌, ℕ, zero, suc, ◌+◌, ◌-◌, ◌*◌, ◌<◌, ◌≤◌, ⊤, Bool, not, ◌==◌, nat_lt, if◌then◌else◌, IsTrue, IsFalse, List, [], ◌∷◌, ◌++◌, map, length, slice_index, All, Any, Option, Some, None}
+use Rattle.std.specs.List.{sum_by, filter, range_with_len}
+use Rattle.imago_storage.specs.declared.fault.Fault.{Fault}
+use Rattle.imago_storage.specs.declared.fault.Fault.TheVariants as fault
+use Rattle.qcow2_types.specs.Bytes.{Bytes}
+use Rattle.qcow2_types.specs.Words.{Mapping, mapping_of, is_place}
+use Rattle.qcow2_types.specs.Header.{Fields, cluster_size, layout_of, refcount_table_entries}
+use Rattle.qcow2_types.specs.Entries.{l2_table, l1_table_sound, l2_table_sound}
+use Rattle.qcow2_types.specs.Counts.{block_at, count, counters_of_block, refcount_table_sound}
+use Rattle.qcow2_types.specs.References.{meets, of_cluster, of_mapping, of_copied, structure, contents}
+use Rattle.qcow2_types.specs.Consistency.{Finding, table, under_counted, tables_sound, Nowhere, IsLeast}
+use Rattle.qcow2_metadata.specs.Blocks.{Block}
+use Rattle.qimg_core.specs.Names.{Total, named_by, structure_part, mapped_part, copied_part, named, is_shared, is_falsely_copied}
+use Rattle.qimg_core.specs.declared.check.names.Tally.{Tally}
+use Rattle.qimg_core.specs.declared.check.CheckFault.{CheckFault}
+use Rattle.qimg_core.specs.declared.check.CheckFault.TheVariants.{SharedTable, FalseCopied, Memory, Storage}
+
+-- a list holds what the image names, for each cluster
+pub record Tells (f : Bytes) (h : Fields) (names : List Tally) : Type 0 where
+  pub structure : (c : ℕ) → named_by structure_part c names ≡ structure f h (meets h c)
+  pub mapped : (c : ℕ) → named_by mapped_part c names ≡ contents f h (of_mapping h (meets h c))
+  pub copied : (c : ℕ) → named_by copied_part c names ≡ contents f h (of_copied h (meets h c))
+
+-- the places of the L2 tables that the words of the L1 table name, in their order
+unfoldable pub tables_of : Bytes → Fields → List ℕ
+tables_of f h = filter (λ t. not (t == 0)) (map (l2_table f h) (range_with_len 0 h.l1_entries))
+
+-- counter j of a block that may be missing
+abbrev pub counter_in : Option Block → ℕ → ℕ
+counter_in None j = 0
+counter_in (Some block) j = slice_index block.counters j
+
+-- The finding is a damaged table.
+abbrev pub IsUnsound : Bytes → Fields → Finding → Type 0
+IsUnsound f h table = IsFalse (tables_sound f h)
+IsUnsound f h finding = ⊥
+
+-- There is no finding.
+abbrev pub NoFinding : Finding → Type 0
+NoFinding finding = ⊥
+
+-- The finding is that the L2 table at this place is damaged, or one of those at these places.
+abbrev pub IsDamagedTable : Bytes → Fields → ℕ → Finding → Type 0
+IsDamagedTable f h place table = IsFalse (l2_table_sound f h place)
+IsDamagedTable f h place finding = ⊥
+
+abbrev pub IsOneDamaged : Bytes → Fields → List ℕ → Finding → Type 0
+IsOneDamaged f h places table = Any (λ place. IsFalse (l2_table_sound f h place)) places
+IsOneDamaged f h places finding = ⊥
+
+-- what is given by each place, summed
+abbrev pub sum_over : (ℕ → ℕ) → List ℕ → ℕ
+sum_over of places = sum_by of places
+
+-- Summed over the structure, by the places of its tables and blocks.
+unfoldable pub structure_over : Fields → List ℕ → List ℕ → Total
+structure_over h tables blocks weight =
+    weight 0 (cluster_size h)
+    + weight h.l1_offset (h.l1_entries * 8)
+    + weight h.refcount_table_offset (h.refcount_table_clusters * cluster_size h)
+    + sum_over (of_cluster h weight) blocks
+    + sum_over (of_cluster h weight) tables
+
+-- what these words mean, summed
+unfoldable pub words_over : Fields → (Mapping → ℕ) → List ℕ → ℕ
+words_over h of words = sum_by (λ w. of (mapping_of (layout_of h) w)) words
+
+-- each of these places is one of a cluster
+abbrev pub AreTables : ℕ → List ℕ → Type 0
+AreTables cluster_bits places = All (λ place. IsTrue (is_place cluster_bits place)) places
+
+-- These are the places of the blocks; those that are missing at the end are 0.
+pub record IsBlocks (f : Bytes) (h : Fields) (blocks : List ℕ) : Type 0 where
+  pub each : (i : ℕ) → slice_index blocks i ≡ block_at f h i
+  pub few : length blocks ≤ refcount_table_entries h
+  pub placed : (i : ℕ) → IsTrue (is_place h.cluster_bits (slice_index blocks i))
+
+-- The places of the tables and of the blocks.
+pub record HoldsPlaces (f : Bytes) (h : Fields) (tables blocks : List ℕ) : Type 0 where
+  pub in_order : tables ≡ tables_of f h
+  pub are_blocks : IsBlocks f h blocks
+  pub l1_sound : IsTrue (l1_table_sound f h)
+  pub refcounts_sound : IsTrue (refcount_table_sound f h)
+
+-- the counters of a block that may be missing have this length
+abbrev pub IsIn : Option Block → ℕ → Type 0
+IsIn None j = ⊤
+IsIn (Some block) j = j < length block.counters
+
+-- a block that may be missing holds the counters of the refcount table's word at an index
+pub record HoldsCounters (f : Bytes) (h : Fields) (index : ℕ) (block : Option Block) : Type 0 where
+  pub counts : (j : ℕ) → j < counters_of_block h → counter_in block j ≡ count f h (index * counters_of_block h + j)
+  pub whole : (j : ℕ) → j < counters_of_block h → IsIn block j
+
+-- A cluster is counted less often than the entries name it.
+unfoldable pub is_under : Bytes → Fields → List Tally → ℕ → Bool
+is_under f h names c = nat_lt (count f h c) (named names c)
+
+-- The finding is the least such cluster.
+abbrev pub IsUnder : Bytes → Fields → List Tally → Finding → Type 0
+IsUnder f h names (under_counted c) = IsLeast (is_under f h names) c
+IsUnder f h names finding = ⊥
+
+-- The first finding among clusters that are named more than once.
+abbrev pub SharesFirst : List Tally → CheckFault → Type 0
+SharesFirst names (SharedTable c) = IsLeast (is_shared names) c
+SharesFirst names (FalseCopied c) = Nowhere (is_shared names) × IsLeast (is_falsely_copied names) c
+SharesFirst names fault = ⊥
+
+-- by how much a cluster is counted more often than the entries name it, where it is
+abbrev pub surplus_at : List Tally → ℕ → ℕ → List (ℕ × ℕ)
+surplus_at names c n = if nat_lt (named names c) n then (c, n - named names c) ∷ [] else []
+
+-- the surplus of the first n counters of a block, which are those of the clusters from this one on
+unfoldable pub surplus_below : List Tally → List ℕ → ℕ → ℕ → List (ℕ × ℕ)
+surplus_below names counters first zero = []
+surplus_below names counters first (suc n) = surplus_below names counters first n ++ surplus_at names (first + n) (slice_index counters n)
+
+-- what the checker answers where something isn't loaded: the same, or this in place of any other fault
+abbrev pub fault_of_load : CheckFault → Fault → CheckFault
+fault_of_load other fault.Memory = Memory
+fault_of_load other fault.Storage = Storage
+fault_of_load other fault = other

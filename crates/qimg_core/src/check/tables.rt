@@ -1,0 +1,315 @@
+// What the tables of an image name.
+ghost use Rattle.std.specs.Prelude.{◌≡◌, ℕ, ◌+◌, ◌*◌, ◌<◌, ◌≤◌, ◌^◌, length, slice_index, true, Ok, OnOk, IfOk, IfErr, IsOkUnless, IsTrue, All};
+ghost use Rattle.imago_storage.specs.Calls.{Kept};
+ghost use Rattle.qcow2_types.specs.Words.{max_offset, is_place, data_at};
+ghost use Rattle.qcow2_types.specs.Header.{cluster_size, words_of_cluster, layout_of, header_of};
+ghost use Rattle.qcow2_types.specs.Entries.{l1_table_sound, l2_table_sound};
+ghost use Rattle.qcow2_types.specs.Counts.{refcount_table_sound};
+ghost use Rattle.qcow2_types.specs.References.{of_mapping, of_copied, of_cluster, of_table};
+ghost use Rattle.qcow2_metadata.specs.MappingView.{mapping_seen, IsNamed};
+ghost use Rattle.qimg_core.specs.Files.{file};
+ghost use Rattle.qimg_core.specs.Names.{Adds, IsFew, nothing_named};
+ghost use Rattle.qimg_core.specs.Gathering.{KeepsEntries, Reaches, IsSpare, StaysSpare};
+ghost use Rattle.qimg_core.specs.CheckParts.{tables_of, sum_over, structure_over, words_over, AreTables, IsBlocks, HoldsPlaces, IsUnsound, IsDamagedTable, IsOneDamaged};
+ghost use Rattle.qimg_core.specs.Check.{Found};
+
+use super::names::{Tally, Times, compact_where_grown, name_range};
+use super::{CheckFault, load_fault};
+use crate::file_end::words_before;
+use imago_storage::Storage;
+use qcow2_metadata::{Header, L1Table, L2Mapping, L2Table, RefTable, Table};
+use qcow2_types::{GuestCluster, HostCluster, HostOffset};
+use std::alloc::Global;
+
+/// Once as a part of the structure.
+const STRUCTURE: Times = Times {
+    structure: 1,
+    mapped: 0,
+    copied: 0,
+};
+
+/// The places of the L2 tables, and of the refcount blocks.
+#[derive(Drop)]
+pub struct Places {
+    pub tables: Vec<u64>,
+    pub blocks: Vec<u64>,
+}
+
+/// The places of the L2 tables, in the order of the words that name them.
+fn table_places<S: Storage>(
+    alloc: Global,
+    image: &mut S,
+    header: &Header,
+) -> Result<Vec<u64>, CheckFault>
+    requires loads { header_of true (file (S.state image.old)) ≡ Ok header.now }
+    ensures ok { IfOk result (λ places. places.items ≡ tables_of (file (S.state image.old)) header.now.fields) }
+    ensures sound { OnOk result (IsTrue (l1_table_sound (file (S.state image.old)) header.now.fields)) }
+    ensures err { IfErr result (Found (S.state image.old) (S.state image.new) (IsUnsound (file (S.state image.old)) header.now.fields)) }
+    ensures kept { Kept (S.state image.old) (S.state image.new) }
+    ensures faults { OnOk result ((S.state image.new).faults ≡ (S.state image.old).faults) }
+{
+    let offset = header.l1_table_offset();
+    let words = words_before(image.size(), offset.0, header.l1_table_entries());
+    let cluster = offset.cluster(header.cluster_bits());
+    let table = match L1Table::load(alloc, image, header, cluster, words) {
+        Ok(table) => table,
+        Err(fault) => return Err(load_fault(fault, CheckFault::Table)),
+    };
+    let mut places = Vec::new(alloc);
+    for index in 0..table.entries() {
+        if let Some(place) = table.get(index).l2_offset() {
+            places.push(place.0)?;
+        }
+    }
+    Ok(places)
+}
+
+/// The place that each word of the refcount table names, where 0 is none. The last words may be missing, if they are 0.
+fn block_places<S: Storage>(
+    alloc: Global,
+    image: &mut S,
+    header: &Header,
+) -> Result<Vec<u64>, CheckFault>
+    requires loads { header_of true (file (S.state image.old)) ≡ Ok header.now }
+    ensures ok { IfOk result (λ places. IsBlocks (file (S.state image.old)) header.now.fields places.items) }
+    ensures sound { OnOk result (IsTrue (refcount_table_sound (file (S.state image.old)) header.now.fields)) }
+    ensures err { IfErr result (Found (S.state image.old) (S.state image.new) (IsUnsound (file (S.state image.old)) header.now.fields)) }
+    ensures kept { Kept (S.state image.old) (S.state image.new) }
+    ensures faults { OnOk result ((S.state image.new).faults ≡ (S.state image.old).faults) }
+{
+    let offset = header.reftable_offset();
+    let words = words_before(image.size(), offset.0, header.reftable_entries());
+    let cluster = offset.cluster(header.cluster_bits());
+    let table = match RefTable::load(alloc, image, header, cluster, words) {
+        Ok(table) => table,
+        Err(fault) => return Err(load_fault(fault, CheckFault::Table)),
+    };
+    let mut places = Vec::new(alloc);
+    for index in 0..table.entries() {
+        let place = match table.get(index).refblock_offset() {
+            Some(place) => place.0,
+            None => 0,
+        };
+        places.push(place)?;
+    }
+    Ok(places)
+}
+
+/// The places of the L2 tables and of the refcount blocks.
+pub fn places_of<S: Storage>(
+    alloc: Global,
+    image: &mut S,
+    header: &Header,
+) -> Result<Places, CheckFault>
+    requires loads { header_of true (file (S.state image.old)) ≡ Ok header.now }
+    ensures ok { IfOk result (λ places. HoldsPlaces (file (S.state image.old)) header.now.fields places.tables.items places.blocks.items) }
+    ensures err { IfErr result (Found (S.state image.old) (S.state image.new) (IsUnsound (file (S.state image.old)) header.now.fields)) }
+    ensures kept { Kept (S.state image.old) (S.state image.new) }
+    ensures faults { OnOk result ((S.state image.new).faults ≡ (S.state image.old).faults) }
+{
+    let tables = table_places(alloc, image, header)?;
+    let blocks = block_places(alloc, image, header)?;
+    Ok(Places { tables, blocks })
+}
+
+/// Enters the clusters at these places, as parts of the structure. A place of 0 is none.
+pub fn name_places(
+    alloc: Global,
+    names: &mut Vec<Tally>,
+    header: &Header,
+    places: &[u64],
+    last: &mut usize,
+) -> Result<(), CheckFault>
+    requires { (i : ℕ) → slice_index places.now i ≤ max_offset }
+    ensures ok { OnOk result (Adds header.now.fields names.old.items names.new.items (λ w. sum_over (of_cluster header.now.fields w) places.now) nothing_named nothing_named) }
+    ensures spare { OnOk result (StaysSpare names.old.items last.old names.new.items last.new) }
+    ensures err { IsOkUnless result CheckFault.Memory }
+{
+    let size = header.cluster_size() as u64;
+    for i in 0..places.len() {
+        if places[i] != 0 {
+            name_range(names, header, places[i], size, STRUCTURE)?;
+            compact_where_grown(alloc, names, last)?;
+        }
+    }
+    Ok(())
+}
+
+/// Enters the first cluster, the L1 table and the refcount table.
+fn name_start(names: &mut Vec<Tally>, header: &Header) -> Result<(), CheckFault>
+    requires l1 { header.now.fields.l1_offset + header.now.fields.l1_entries * 8 < 2 ^ 63 }
+    requires refcounts { header.now.fields.refcount_table_offset + header.now.fields.refcount_table_clusters * cluster_size header.now.fields < 2 ^ 63 }
+    ensures ok { OnOk result (Adds header.now.fields names.old.items names.new.items (λ w. w 0 (cluster_size header.now.fields) + w header.now.fields.l1_offset (header.now.fields.l1_entries * 8) + w header.now.fields.refcount_table_offset (header.now.fields.refcount_table_clusters * cluster_size header.now.fields)) nothing_named nothing_named) }
+    ensures keeps { OnOk result (KeepsEntries names.old.items names.new.items) }
+    ensures err { IsOkUnless result CheckFault.Memory }
+{
+    let size = header.cluster_size() as u64;
+    let HostOffset(l1_offset) = header.l1_table_offset();
+    let HostOffset(reftable_offset) = header.reftable_offset();
+    let l1_size = header.l1_table_entries() as u64 * 8;
+    let reftable_size = header.reftable_clusters().0 * size;
+    name_range(names, header, 0, size, STRUCTURE)?;
+    name_range(names, header, l1_offset, l1_size, STRUCTURE)?;
+    name_range(names, header, reftable_offset, reftable_size, STRUCTURE)
+}
+
+/// Enters the structure of the image.
+pub fn name_structure(
+    alloc: Global,
+    names: &mut Vec<Tally>,
+    header: &Header,
+    places: &Places,
+    last: &mut usize,
+) -> Result<(), CheckFault>
+    requires l1 { header.now.fields.l1_offset + header.now.fields.l1_entries * 8 < 2 ^ 63 }
+    requires refcounts { header.now.fields.refcount_table_offset + header.now.fields.refcount_table_clusters * cluster_size header.now.fields < 2 ^ 63 }
+    requires tables { (i : ℕ) → slice_index places.now.tables.items i ≤ max_offset }
+    requires blocks { (i : ℕ) → slice_index places.now.blocks.items i ≤ max_offset }
+    ensures ok { OnOk result (Adds header.now.fields names.old.items names.new.items (λ w. structure_over header.now.fields places.now.tables.items places.now.blocks.items w) nothing_named nothing_named) }
+    ensures spare { OnOk result (IsFew names.new.items → Reaches names.old.items last.old → IsSpare names.new.items last.new) }
+    ensures err { IsOkUnless result CheckFault.Memory }
+{
+    name_start(names, header)?;
+    compact_where_grown(alloc, names, last)?;
+    name_places(alloc, names, header, &places.blocks, last)?;
+    name_places(alloc, names, header, &places.tables, last)
+}
+
+/// Enters what a word of an L2 table names, so often.
+fn name_mapping(
+    names: &mut Vec<Tally>,
+    header: &Header,
+    mapping: L2Mapping,
+    times: u64,
+) -> Result<(), CheckFault>
+    requires { IsNamed header.now.fields.cluster_bits mapping }
+    ensures ok { OnOk result (Adds header.now.fields names.old.items names.new.items nothing_named (λ w. times * of_mapping header.now.fields w (mapping_seen mapping)) (λ w. times * of_copied header.now.fields w (mapping_seen mapping))) }
+    ensures keeps { OnOk result (KeepsEntries names.old.items names.new.items) }
+    ensures err { IsOkUnless result CheckFault.Memory }
+{
+    match mapping {
+        L2Mapping::DataFile {
+            host_cluster,
+            copied,
+        } => name_cluster(names, header, host_cluster, copied, times),
+        L2Mapping::Zero {
+            host_cluster,
+            copied,
+        } => match host_cluster {
+            Some(cluster) => name_cluster(names, header, cluster, copied, times),
+            None => Ok(()),
+        },
+        L2Mapping::Compressed {
+            host_offset,
+            length,
+        } => {
+            let times = Times {
+                structure: 0,
+                mapped: times,
+                copied: 0,
+            };
+            name_range(names, header, host_offset.0, length, times)
+        }
+        L2Mapping::Backing { .. } => Ok(()),
+    }
+}
+
+/// Enters a cluster that a word of an L2 table names, so often.
+fn name_cluster(
+    names: &mut Vec<Tally>,
+    header: &Header,
+    cluster: HostCluster,
+    copied: bool,
+    times: u64,
+) -> Result<(), CheckFault>
+    requires { cluster * 2 ^ header.now.fields.cluster_bits ≤ max_offset }
+    ensures ok { OnOk result (Adds header.now.fields names.old.items names.new.items nothing_named (λ w. times * of_mapping header.now.fields w (data_at cluster copied)) (λ w. times * of_copied header.now.fields w (data_at cluster copied))) }
+    ensures keeps { OnOk result (KeepsEntries names.old.items names.new.items) }
+    ensures err { IsOkUnless result CheckFault.Memory }
+{
+    let HostOffset(place) = cluster.offset(header.cluster_bits());
+    let times = Times {
+        structure: 0,
+        mapped: times,
+        copied: if copied { times } else { 0 },
+    };
+    name_range(names, header, place, header.cluster_size() as u64, times)
+}
+
+/// Enters what the words of an L2 table name, so often.
+fn name_words(
+    names: &mut Vec<Tally>,
+    header: &Header,
+    table: &L2Table,
+    times: u64,
+) -> Result<(), CheckFault>
+    requires layout { table.now.layout ≡ layout_of header.now.fields }
+    requires whole { length table.now.words ≡ words_of_cluster header.now.fields }
+    ensures ok { OnOk result (Adds header.now.fields names.old.items names.new.items nothing_named (λ w. times * words_over header.now.fields (of_mapping header.now.fields w) table.now.words) (λ w. times * words_over header.now.fields (of_copied header.now.fields w) table.now.words)) }
+    ensures keeps { OnOk result (KeepsEntries names.old.items names.new.items) }
+    ensures err { IsOkUnless result CheckFault.Memory }
+{
+    for index in 0..table.entries() {
+        let mapping = table.get_mapping(GuestCluster(index as u64));
+        name_mapping(names, header, mapping, times)?;
+    }
+    Ok(())
+}
+
+/// Enters what the L2 table at a place names, so often. Past the file's end it names nothing.
+fn name_table<S: Storage>(
+    alloc: Global,
+    image: &mut S,
+    header: &Header,
+    place: u64,
+    times: u64,
+    names: &mut Vec<Tally>,
+) -> Result<(), CheckFault>
+    requires place { IsTrue (is_place header.now.fields.cluster_bits place) }
+    ensures ok { OnOk result (Adds header.now.fields names.old.items names.new.items nothing_named (λ w. times * of_table (file (S.state image.old)) header.now.fields (of_mapping header.now.fields w) place) (λ w. times * of_table (file (S.state image.old)) header.now.fields (of_copied header.now.fields w) place)) }
+    ensures keeps { OnOk result (KeepsEntries names.old.items names.new.items) }
+    ensures sound { OnOk result (IsTrue (l2_table_sound (file (S.state image.old)) header.now.fields place)) }
+    ensures err { IfErr result (Found (S.state image.old) (S.state image.new) (IsDamagedTable (file (S.state image.old)) header.now.fields place)) }
+    ensures kept { Kept (S.state image.old) (S.state image.new) }
+    ensures faults { OnOk result ((S.state image.new).faults ≡ (S.state image.old).faults) }
+{
+    if image.size() <= place {
+        return Ok(());
+    }
+    let cluster = HostOffset(place).cluster(header.cluster_bits());
+    match L2Table::load(alloc, image, header, cluster, header.l2_entries()) {
+        Ok(table) => name_words(names, header, &table, times),
+        Err(fault) => Err(load_fault(fault, CheckFault::Table)),
+    }
+}
+
+/// Enters what the L2 tables at these places name. A table that stands there more than once is read once.
+pub fn name_contents<S: Storage>(
+    alloc: Global,
+    image: &mut S,
+    header: &Header,
+    mut places: Vec<u64>,
+    names: &mut Vec<Tally>,
+    last: &mut usize,
+) -> Result<(), CheckFault>
+    requires places { AreTables header.now.fields.cluster_bits places.items }
+    requires few { length places.items ≤ 2 ^ 22 }
+    ensures ok { OnOk result (Adds header.now.fields names.old.items names.new.items nothing_named (λ w. sum_over (of_table (file (S.state image.old)) header.now.fields (of_mapping header.now.fields w)) places.items) (λ w. sum_over (of_table (file (S.state image.old)) header.now.fields (of_copied header.now.fields w)) places.items)) }
+    ensures spare { OnOk result (StaysSpare names.old.items last.old names.new.items last.new) }
+    ensures sound { OnOk result (All (λ place. IsTrue (l2_table_sound (file (S.state image.old)) header.now.fields place)) places.items) }
+    ensures err { IfErr result (Found (S.state image.old) (S.state image.new) (IsOneDamaged (file (S.state image.old)) header.now.fields places.items)) }
+    ensures kept { Kept (S.state image.old) (S.state image.new) }
+    ensures faults { OnOk result ((S.state image.new).faults ≡ (S.state image.old).faults) }
+{
+    places.sort_unstable();
+    let mut times = 0;
+    for i in 0..places.len() {
+        times += 1;
+        if i + 1 == places.len() || places[i + 1] != places[i] {
+            name_table(alloc, image, header, places[i], times, names)?;
+            compact_where_grown(alloc, names, last)?;
+            times = 0;
+        }
+    }
+    Ok(())
+}

@@ -1,0 +1,198 @@
+// Making a new image.
+ghost use Rattle.std.specs.Prelude.{◌≡◌, ℕ, ◌+◌, ◌<◌, ◌≤◌, ◌^◌, None, [], length, IfOk, IfErr, IsErrOf, OnOk, IsTrue};
+ghost use Rattle.imago_storage.specs.State.{unit_of};
+ghost use Rattle.imago_storage.specs.Disk.{byte};
+ghost use Rattle.qcow2_types.specs.Bytes.{bytes_of};
+ghost use Rattle.qcow2_types.specs.Consistency.{IsConsistent, leaks};
+ghost use Rattle.qimg_core.specs.Files.{file, value_at};
+ghost use Rattle.qimg_core.specs.Opening.{open_fault};
+ghost use Rattle.qimg_core.specs.Created.{Creates, NotCreated, new_header, nothing_in, blank};
+
+use super::alignment;
+use super::requests::put_in;
+use imago_storage::{Fault, PreallocateMode, Storage, StorageExt};
+use std::alloc::Global;
+
+/// The greatest size of a disk, in bytes.
+pub const MAX_SIZE: u64 = 65536;
+
+/// What stands behind the fields of a new header: the names of three features, and the end of the extensions.
+pub const EXTENSIONS: [u8; 160] = [
+    // type and length
+    104, 3, 248, 87, 0, 0, 0, 144,
+    // dirty bit
+    0, 0, 100, 105, 114, 116, 121, 32, 98, 105, 116, 0, 0, 0, 0, 0, 0, 0, 0, 0, 0, 0, 0, 0, 0, 0,
+    0, 0, 0, 0, 0, 0, 0, 0, 0, 0, 0, 0, 0, 0, 0, 0, 0, 0, 0, 0, 0, 0,
+    // corrupt bit
+    0, 1, 99, 111, 114, 114, 117, 112, 116, 32, 98, 105, 116, 0, 0, 0, 0, 0, 0, 0, 0, 0, 0, 0, 0,
+    0, 0, 0, 0, 0, 0, 0, 0, 0, 0, 0, 0, 0, 0, 0, 0, 0, 0, 0, 0, 0, 0, 0,
+    // external data file
+    0, 2, 101, 120, 116, 101, 114, 110, 97, 108, 32, 100, 97, 116, 97, 32, 102, 105, 108, 101, 0,
+    0, 0, 0, 0, 0, 0, 0, 0, 0, 0, 0, 0, 0, 0, 0, 0, 0, 0, 0, 0, 0, 0, 0, 0, 0, 0, 0,
+    // the end
+    0, 0, 0, 0, 0, 0, 0, 0,
+];
+
+/// Writes a new image of size 0, with so many entries in its L1 table.
+fn put_blank(buffer: &mut [u8], entries: u32)
+    requires length { length buffer.old ≡ 2048 }
+    requires zeroes { bytes_of buffer.old ≡ nothing_in }
+    ensures bytes { bytes_of buffer.new ≡ blank entries }
+    ensures length { length buffer.new ≡ 2048 }
+{
+    let l1_offset: u64 = if entries == 0 { 0 } else { 1536 };
+    let last_count: u8 = if entries == 0 { 0 } else { 1 };
+    put_in(buffer, 0, &0x5146_49fb_u32.to_be_bytes());
+    put_in(buffer, 4, &3u32.to_be_bytes());
+    put_in(buffer, 20, &9u32.to_be_bytes());
+    put_in(buffer, 36, &entries.to_be_bytes());
+    put_in(buffer, 40, &l1_offset.to_be_bytes());
+    put_in(buffer, 48, &512u64.to_be_bytes());
+    put_in(buffer, 56, &1u32.to_be_bytes());
+    put_in(buffer, 96, &4u32.to_be_bytes());
+    put_in(buffer, 100, &104u32.to_be_bytes());
+    put_in(buffer, 104, &EXTENSIONS);
+    put_in(buffer, 512, &1024u64.to_be_bytes());
+    put_in(buffer, 1024, &[0, 1, 0, 1, 0, 1, 0, last_count]);
+}
+
+/// Makes the image's file: cuts it to nothing, and writes a new image of at most 65,536 bytes.
+fn write_new<S: Storage>(image: &mut S, alloc: Global, size: u64) -> Result<(), Fault>
+    requires unit { unit_of (S.state image.old).shape ≤ 2 ^ 20 }
+    requires small { size ≤ 65536 }
+    ensures ok { OnOk result (Creates size (S.state image.old) (S.state image.new)) }
+    ensures err { IfErr result (NotCreated size) }
+{
+    image.resize(0, PreallocateMode::None)?;
+    let mut buffer = [0u8; 2048];
+    put_blank(&mut buffer, size.div_ceil(32768) as u32);
+    put_in(&mut buffer, 24, &size.to_be_bytes());
+    let length = if size == 0 { 1536 } else { 2048 };
+    image.write(alloc, &buffer[..length], 0)
+}
+
+/// Makes a new image of this size, in bytes, in the storage, whose old bytes are cut.
+///
+/// It has version 3, clusters of 512 bytes and counters of 16 bits, counts just its own clusters, and shows zeroes. It
+/// refuses with `Fault::Limit(size)` where the size is above 65,536, before it asks anything of the storage; with
+/// `Fault::Unsupported` where the storage can't be cut; and with `Fault::Memory` and `Fault::Storage`. A refusal drops the
+/// storage.
+pub fn create<S: Storage>(alloc: Global, mut image: S, size: u64) -> Result<S, Fault>
+    ensures ok { IfOk result (λ made. Creates size (S.state image) (S.state made)) }
+    ensures consistent { IfOk result (λ made. IsTrue (S.state image).shape.keeps → IsConsistent (file (S.state made)) (new_header size)) }
+    ensures leaks { IfOk result (λ made. IsTrue (S.state image).shape.keeps → leaks (file (S.state made)) (new_header size).fields ≡ []) }
+    ensures accepted { IfOk result (λ made. IsTrue (S.state image).shape.keeps → open_fault (file (S.state made)) ≡ None) }
+    ensures zeroes { IfOk result (λ made. IsTrue (S.state image).shape.keeps → (p : ℕ) → value_at (file (S.state made)) p ≡ byte 0) }
+    ensures limit { 65536 < size → IsErrOf result (Fault.Limit size) }
+    ensures err { IfErr result (NotCreated size) }
+{
+    if size > MAX_SIZE {
+        return Err(Fault::Limit(size));
+    }
+    // Asked for what it tells: a unit is small, so no place of the new image passes 2^64.
+    let _unit = alignment(&image);
+    write_new(&mut image, alloc, size)?;
+    Ok(image)
+}
+
+// Where an allocation is refused a body ends with `Fault::Memory`, and its test runs it once more: so each test passes
+// whichever one allocation is refused, and fails where a call gives up with memory left.
+#[cfg(test)]
+mod tests {
+    use super::*;
+    use imago_storage::{FuseStorage, MemStorage};
+    use std::process::Abort;
+    use std::test::Fail;
+
+    fn new_bytes(alloc: Global, size: u64) -> Result<Vec<u8>, Fault> {
+        create(alloc, MemStorage::new(alloc), size)?.bytes()
+    }
+
+    fn bytes_of_new_image(rt: &impl Abort, alloc: Global) -> Result<(), Fault> {
+        let bytes = new_bytes(alloc, 65536)?;
+        let start = bytes.get(..64).unwrap_or(&[]);
+        assert_eq!(rt;
+            start,
+            [
+                0x51, 0x46, 0x49, 0xfb, 0, 0, 0, 3, 0, 0, 0, 0, 0, 0, 0, 0, 0, 0, 0, 0, 0, 0, 0, 9,
+                0, 0, 0, 0, 0, 1, 0, 0, 0, 0, 0, 0, 0, 0, 0, 2, 0, 0, 0, 0, 0, 0, 6, 0, 0, 0, 0, 0,
+                0, 0, 2, 0, 0, 0, 0, 1, 0, 0, 0, 0,
+            ]
+            .as_slice()
+        );
+        let table = bytes.get(512..520).unwrap_or(&[]);
+        assert_eq!(rt; table, [0, 0, 0, 0, 0, 0, 4, 0].as_slice());
+        let counts = bytes.get(1024..1034).unwrap_or(&[]);
+        assert_eq!(rt; counts, [0, 1, 0, 1, 0, 1, 0, 1, 0, 0].as_slice());
+        assert_eq!(rt; bytes.len(), 2048);
+        Ok(())
+    }
+
+    #[test]
+    fn a_new_image_has_these_bytes(rt: HostRuntime) -> Result<(), Fail> {
+        let alloc = rt.alloc();
+        match bytes_of_new_image(&rt, alloc) {
+            Err(Fault::Memory) => bytes_of_new_image(&rt, alloc)?,
+            answer => answer?,
+        }
+        Ok(())
+    }
+
+    fn lengths(rt: &impl Abort, alloc: Global) -> Result<(), Fault> {
+        for (size, length) in [(0, 1536), (1, 2048), (32768, 2048), (32769, 2048)] {
+            let bytes = new_bytes(alloc, size)?;
+            assert_eq!(rt; bytes.len(), length);
+        }
+        Ok(())
+    }
+
+    #[test]
+    fn sizes_have_their_lengths(rt: HostRuntime) -> Result<(), Fail> {
+        let alloc = rt.alloc();
+        match lengths(&rt, alloc) {
+            Err(Fault::Memory) => lengths(&rt, alloc)?,
+            answer => answer?,
+        }
+        Ok(())
+    }
+
+    #[test]
+    fn a_larger_size_is_refused(rt: HostRuntime) -> Result<(), Fail> {
+        let alloc = rt.alloc();
+        match create(alloc, MemStorage::new(alloc), 65537) {
+            Ok(_) => assert!(rt; false),
+            Err(fault) => assert_eq!(rt; fault, Fault::Limit(65537)),
+        }
+        Ok(())
+    }
+
+    // Makes an image in a storage whose call of this number fails, and answers whether one did.
+    fn fails_at(rt: &impl Abort, alloc: Global, call: u64) -> Result<bool, Fault> {
+        match create(alloc, FuseStorage::new(MemStorage::new(alloc), call), 65536) {
+            Ok(_) => Ok(false),
+            Err(Fault::Memory) => Err(Fault::Memory),
+            Err(fault) => {
+                assert_eq!(rt; fault, Fault::Storage);
+                Ok(true)
+            }
+        }
+    }
+
+    // Two calls change the file: it is cut, and the image, which lies in whole units, is written by one request.
+    fn each_fault(rt: &impl Abort, alloc: Global) -> Result<(), Fault> {
+        for (call, fails) in [(0, false), (1, true), (2, true), (3, false)] {
+            assert_eq!(rt; fails_at(rt, alloc, call)?, fails, "call {call}");
+        }
+        Ok(())
+    }
+
+    #[test]
+    fn each_fault_of_the_storage_is_answered(rt: HostRuntime) -> Result<(), Fail> {
+        let alloc = rt.alloc();
+        match each_fault(&rt, alloc) {
+            Err(Fault::Memory) => each_fault(&rt, alloc)?,
+            answer => answer?,
+        }
+        Ok(())
+    }
+}
