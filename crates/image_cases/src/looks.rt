@@ -1,0 +1,173 @@
+// Words that look at a file, at what it shows, and at what its storage was asked.
+use crate::findings;
+use crate::images::{Images, refused};
+use crate::kept::Image;
+use cases::{Trouble, joined, number, runs, size, told};
+use imago_access::Format;
+use imago_storage::{MemStorage, Request, Storage, StorageExt};
+use qimg_core::check::check;
+use qimg_core::plain::{ChainFile, plain_read};
+use std::alloc::{AllocError, Global};
+
+/// What a buffer has before it is read into.
+const BLANK: u8 = 7;
+
+// A change of a storage, in words.
+fn change_told(alloc: Global, request: &Request) -> Result<String, AllocError> {
+    match request {
+        Request::Write { offset, bytes } => {
+            let length = bytes.len();
+            format!(in alloc; "write {offset} {length};")
+        }
+        Request::Zeroes { offset, length } => format!(in alloc; "zeroes {offset} {length};"),
+        Request::Resize { size } => format!(in alloc; "resize {size};"),
+    }
+}
+
+// Changes of a storage, in words, of which each ends with `;`.
+fn changes_told(alloc: Global, requests: &[Request]) -> Result<String, AllocError> {
+    if requests.is_empty() {
+        return "none".to_string(alloc);
+    }
+    let mut text = String::new(alloc);
+    for request in requests.iter() {
+        let one = change_told(alloc, request)?;
+        joined(&mut text, one.as_str())?;
+    }
+    Ok(text)
+}
+
+// How many stops pass the checker, or what it finds in the first that doesn't.
+fn stops_told(alloc: Global, kept: &mut Image<'_>) -> Result<String, Trouble> {
+    let last = kept.requests().len();
+    for stop in 0..=last {
+        let mut file = MemStorage::from_bytes(kept.stop_at(stop)?)?;
+        let answer = check(alloc, &mut file);
+        if answer.is_err() {
+            let found = findings::told(alloc, answer)?;
+            return Ok(format!(in alloc; "stop {stop}: {found}")?);
+        }
+    }
+    let last = last as u64;
+    let count = last.saturating_add(1);
+    Ok(format!(in alloc; "{count} pass")?)
+}
+
+// The format of a file of a chain.
+fn format_of(word: &str) -> Result<Format, Trouble> {
+    match word {
+        "qcow2" => Ok(Format::Qcow2),
+        "raw" => Ok(Format::Raw),
+        "vmdk" => Ok(Format::Vmdk),
+        _ => Err(Trouble::NoCall),
+    }
+}
+
+impl<'a> Images<'a> {
+    // So many bytes of the file from a place on, 0 past its end.
+    fn bytes_of_file(
+        &mut self,
+        alloc: Global,
+        offset: u64,
+        length: usize,
+    ) -> Result<String, Trouble> {
+        let mut file = self.take_file(alloc)?;
+        let mut buf = vec![in alloc; BLANK; length]?;
+        file.read(alloc, &mut buf, offset)?;
+        self.file = Some(file);
+        Ok(runs(alloc, &buf)?)
+    }
+
+    // A plain read of a chain of files of these formats, each with the bytes of the file.
+    fn plain_bytes(
+        &mut self,
+        alloc: Global,
+        formats: &[&str],
+        (offset, length): (u64, usize),
+    ) -> Result<String, Trouble> {
+        let file = self.take_file(alloc)?;
+        let mut files = Vec::new(alloc);
+        for word in formats.iter() {
+            let format = format_of(word)?;
+            let image = Image::new(alloc, file.bytes()?, self.setting, self.noted)?;
+            let extras = Vec::new(alloc);
+            files.push(ChainFile {
+                format,
+                image,
+                extras,
+            })?;
+        }
+        self.file = Some(file);
+        let mut buf = vec![in alloc; BLANK; length]?;
+        match plain_read(alloc, files.as_mut_slice(), offset, &mut buf) {
+            Ok(()) => Ok(runs(alloc, &buf)?),
+            Err(fault) => refused(alloc, fault),
+        }
+    }
+
+    // The checker's answer.
+    fn checked(&mut self, alloc: Global) -> Result<String, Trouble> {
+        let mut kept = self.lend(alloc)?;
+        let answer = check(alloc, &mut kept);
+        self.kept = Some(kept);
+        findings::told(alloc, answer)
+    }
+
+    // What the storage that was last made tells of itself.
+    fn kept_told(&mut self, alloc: Global, name: &str) -> Result<String, Trouble> {
+        let Some(kept) = &mut self.kept else {
+            return Err(Trouble::NoCall);
+        };
+        match name {
+            "stops" => stops_told(alloc, kept),
+            "changes" => Ok(changes_told(alloc, kept.requests())?),
+            _ => Err(Trouble::NoCall),
+        }
+    }
+
+    /// A look at the file, which stays as it is:
+    ///
+    ///     check                            what the checker answers
+    ///     plain OFFSET LENGTH [FORMAT ..]  bytes by a plain read, of one qcow2 file or a chain of such; `none` is a chain of no file
+    ///     bytes OFFSET LENGTH              bytes of the file
+    ///     length                           the file's length
+    ///     changes                          the changes of the storage that was last made
+    ///     stops                            how many files that a stop between them leaves the checker passes
+    ///     calls, flushes, syncs            how often it was called at all, and for these
+    ///     asked                            what it was asked since this was last told
+    ///     finding NAME                     the text of an answer of the checker
+    ///
+    /// # Errors
+    ///
+    /// `Trouble::NoCall` where the words are none of these, or a disk is open; `Trouble::Refused` as the call, or for want of memory.
+    pub fn look(&mut self, alloc: Global, name: &str, words: &[&str]) -> Result<String, Trouble> {
+        match (name, words) {
+            ("check", []) => self.checked(alloc),
+            ("plain", [offset, length]) => {
+                self.plain_bytes(alloc, &["qcow2"], (number(offset)?, size(length)?))
+            }
+            ("plain", [offset, length, "none"]) => {
+                self.plain_bytes(alloc, &[], (number(offset)?, size(length)?))
+            }
+            ("plain", [offset, length, formats @ ..]) => {
+                self.plain_bytes(alloc, formats, (number(offset)?, size(length)?))
+            }
+            ("bytes", [offset, length]) => {
+                self.bytes_of_file(alloc, number(offset)?, size(length)?)
+            }
+            ("length", []) => {
+                let file = self.take_file(alloc)?;
+                let length = file.size();
+                self.file = Some(file);
+                Ok(length.to_string(alloc)?)
+            }
+            ("calls", []) => Ok(self.noted.counts.get().calls.to_string(alloc)?),
+            ("flushes", []) => Ok(self.noted.counts.get().flushes.to_string(alloc)?),
+            ("syncs", []) => Ok(self.noted.counts.get().syncs.to_string(alloc)?),
+            ("asked", []) => Ok(told(alloc, self.noted.notes)?),
+            ("finding", [name]) => findings::text_of(alloc, name),
+            (name, []) => self.kept_told(alloc, name),
+            _ => Err(Trouble::NoCall),
+        }
+    }
+}
