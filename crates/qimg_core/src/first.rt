@@ -13,8 +13,6 @@ mod creation;
 mod opening;
 mod pieces;
 mod requests;
-#[cfg(test)]
-mod tests;
 mod worked;
 
 pub use calls::{Answer, Call, serve};

@@ -9,8 +9,6 @@ ghost use Rattle.qimg_core.specs.Pieces.{ShowsRange};
 ghost use Rattle.qimg_core.specs.Plain.{NamesTables, alone_fault, NoL1, NotShown, below_size, IsImageRead, NotImageRead, IsPlainRead, NotPlainRead, Refuses, MustRefuse, FilesKept, seen_files, extras_of, faults_of};
 
 mod pieces;
-#[cfg(test)]
-mod tests;
 
 use crate::buffers::blank;
 use crate::file_end::words_before;
