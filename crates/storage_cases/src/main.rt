@@ -1,5 +1,5 @@
 //! Calls of storages and their answers, by scripts: `on` and its words make the storage of a case, and further lines are calls of it.
-//! Calls that need no storage stand alone.
+//! Calls that need no storage stand in cases that make none.
 #![tactic(auto)]
 
 mod calls;
@@ -11,7 +11,7 @@ mod script;
 mod stack;
 
 use calls::text;
-use cases::{Layer, Notes, Trouble, number, ok, run, size, told};
+use cases::{Layer, Notes, Trouble, ok, run, told};
 use making::storage_of;
 use stack::Stack;
 use std::alloc::Global;
@@ -34,10 +34,10 @@ impl<'a> Storages<'a> {
         Ok(ok(alloc)?)
     }
 
-    // Makes a call of the storage.
+    // Makes a call of the storage, or of none where the case has none.
     fn call(&mut self, alloc: Global, words: &[&str]) -> Result<String, Trouble> {
         let Some(stack) = &mut self.stack else {
-            return Err(Trouble::NoCall);
+            return plain::answer(alloc, words);
         };
         let answer = stack.make(alloc, words)?;
         Ok(text(alloc, &answer)?)
@@ -74,14 +74,6 @@ impl<'a> Layer for Storages<'a> {
             ["asked"] => Ok(told(alloc, self.notes)?),
             ["into_inner"] => self.unwrap(alloc),
             ["into_bytes"] => self.take_bytes(alloc),
-            ["open_options", rest @ ..] => options::open(alloc, rest),
-            ["create_options", rest @ ..] => options::create(alloc, rest),
-            ["create_open", rest @ ..] => options::create_open(alloc, rest),
-            ["padded_end", offset, n, unit] => {
-                plain::padded(alloc, number(offset)?, number(n)?, number(unit)?)
-            }
-            ["larger_alignment", a, b] => plain::larger(alloc, size(a)?, size(b)?),
-            ["fault", name] => plain::fault(alloc, name),
             _ => self.call(alloc, words),
         }
     }

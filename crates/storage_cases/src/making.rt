@@ -46,46 +46,59 @@ fn lowest<'a>(
     }
 }
 
-fn memory_of(alloc: Global, align: usize, words: &[&str]) -> Result<MemStorage, Trouble> {
+// A kind of storage: what stands over the lowest one.
+#[derive(Clone, Copy)]
+enum Kind {
+    Memory(usize),
+    Empty(usize),
+    Null(u64),
+    Fuse(u64),
+    Log(u64),
+    FuseOverLog(u64, u64),
+}
+
+fn kind_of<'a, 'b>(words: &'a [&'b str]) -> Result<(Kind, &'a [&'b str]), Trouble> {
+    match words {
+        ["memory", align, rest @ ..] => Ok((Kind::Memory(size(align)?), rest)),
+        ["empty", align] => Ok((Kind::Empty(size(align)?), &[])),
+        ["null", size] => Ok((Kind::Null(number(size)?), &[])),
+        ["fuse", n, rest @ ..] => Ok((Kind::Fuse(number(n)?), rest)),
+        ["log", n, rest @ ..] => Ok((Kind::Log(number(n)?), rest)),
+        ["fuse_log", n, m, rest @ ..] => Ok((Kind::FuseOverLog(number(n)?, number(m)?), rest)),
+        _ => Ok((Kind::Fuse(0), words)),
+    }
+}
+
+fn memory_of<'a>(alloc: Global, align: usize, words: &[&str]) -> Result<Stack<'a>, Trouble> {
     if !is_alignment(align) {
         return Err(Trouble::NoCall);
     }
-    Ok(MemStorage::from_bytes(bytes(alloc, words)?)?.with_align(align))
+    let memory = MemStorage::from_bytes(bytes(alloc, words)?)?;
+    Ok(Stack::Memory(memory.with_align(align)))
 }
 
-fn empty_of(alloc: Global, align: usize) -> Result<MemStorage, Trouble> {
+fn empty_of<'a>(alloc: Global, align: usize) -> Result<Stack<'a>, Trouble> {
     if !is_alignment(align) {
         return Err(Trouble::NoCall);
     }
-    Ok(MemStorage::new(alloc).with_align(align))
+    Ok(Stack::Memory(MemStorage::new(alloc).with_align(align)))
 }
 
-fn fuse_of<'a>(
-    alloc: Global,
-    n: u64,
-    words: &[&str],
-    notes: &'a Cell<Notes>,
-) -> Result<FuseStorage<Shaped<'a>>, Trouble> {
-    Ok(FuseStorage::new(lowest(alloc, words, notes)?, n))
+fn fuse<'a>(lowest: Shaped<'a>, n: u64) -> Stack<'a> {
+    Stack::Fuse(FuseStorage::new(lowest, n))
 }
 
-fn log_of<'a>(
-    alloc: Global,
-    n: u64,
-    words: &[&str],
-    notes: &'a Cell<Notes>,
-) -> Result<LogStorage<FuseStorage<Shaped<'a>>>, Trouble> {
-    Ok(LogStorage::new(alloc, fuse_of(alloc, n, words, notes)?)?)
+fn log<'a>(alloc: Global, lowest: Shaped<'a>, n: u64) -> Result<Stack<'a>, Trouble> {
+    Ok(Stack::Log(LogStorage::new(alloc, FuseStorage::new(lowest, n))?))
 }
 
-fn fuse_over_log_of<'a>(
+fn fuse_over_log<'a>(
     alloc: Global,
+    lowest: Shaped<'a>,
     n: u64,
     below: u64,
-    words: &[&str],
-    notes: &'a Cell<Notes>,
 ) -> Result<Stack<'a>, Trouble> {
-    let log = log_of(alloc, below, words, notes)?;
+    let log = LogStorage::new(alloc, FuseStorage::new(lowest, below))?;
     Ok(Stack::FuseOverLog(FuseStorage::new(log, n)))
 }
 
@@ -97,15 +110,13 @@ pub fn storage_of<'a>(
     words: &[&str],
     notes: &'a Cell<Notes>,
 ) -> Result<Stack<'a>, Trouble> {
-    match words {
-        ["memory", align, rest @ ..] => Ok(Stack::Memory(memory_of(alloc, size(align)?, rest)?)),
-        ["empty", align] => Ok(Stack::Memory(empty_of(alloc, size(align)?)?)),
-        ["null", size] => Ok(Stack::Null(Null::new(number(size)?))),
-        ["fuse", n, rest @ ..] => Ok(Stack::Fuse(fuse_of(alloc, number(n)?, rest, notes)?)),
-        ["log", n, rest @ ..] => Ok(Stack::Log(log_of(alloc, number(n)?, rest, notes)?)),
-        ["fuse_log", n, below, rest @ ..] => {
-            fuse_over_log_of(alloc, number(n)?, number(below)?, rest, notes)
-        }
-        _ => Ok(Stack::Fuse(fuse_of(alloc, 0, words, notes)?)),
+    let (kind, rest) = kind_of(words)?;
+    match kind {
+        Kind::Memory(align) => memory_of(alloc, align, rest),
+        Kind::Empty(align) => empty_of(alloc, align),
+        Kind::Null(size) => Ok(Stack::Null(Null::new(size))),
+        Kind::Fuse(n) => Ok(fuse(lowest(alloc, rest, notes)?, n)),
+        Kind::Log(n) => log(alloc, lowest(alloc, rest, notes)?, n),
+        Kind::FuseOverLog(n, m) => fuse_over_log(alloc, lowest(alloc, rest, notes)?, n, m),
     }
 }

@@ -1,7 +1,18 @@
 // Options for opening and creating a storage: words set them, as `size=10`, and each is told.
 use cases::{Trouble, mode, mode_word, number};
-use imago_storage::{StorageCreateOptions, StorageOpenOptions};
+use imago_storage::{PreallocateMode, StorageCreateOptions, StorageOpenOptions};
 use std::alloc::{AllocError, Global};
+
+// One option.
+#[derive(Clone, Copy)]
+enum Setting<'a> {
+    Filename(&'a str),
+    Write(bool),
+    Direct(bool),
+    Size(u64),
+    Preallocate(PreallocateMode),
+    Overwrite(bool),
+}
 
 fn flag(word: &str) -> Result<bool, Trouble> {
     match word {
@@ -11,20 +22,34 @@ fn flag(word: &str) -> Result<bool, Trouble> {
     }
 }
 
-// The two sides of a word.
-fn setting<'a>(word: &'a str) -> Result<(&'a str, &'a str), Trouble> {
-    word.split_once("=").ok_or(Trouble::NoCall)
+// The option of a name and a value.
+fn named<'a>(name: &str, value: &'a str) -> Result<Setting<'a>, Trouble> {
+    match name {
+        "filename" => Ok(Setting::Filename(value)),
+        "write" => Ok(Setting::Write(flag(value)?)),
+        "direct" => Ok(Setting::Direct(flag(value)?)),
+        "size" => Ok(Setting::Size(number(value)?)),
+        "preallocate" => Ok(Setting::Preallocate(mode(value)?)),
+        "overwrite" => Ok(Setting::Overwrite(flag(value)?)),
+        _ => Err(Trouble::NoCall),
+    }
+}
+
+// The option of a word.
+fn setting_of<'a>(word: &'a str) -> Result<Setting<'a>, Trouble> {
+    let (name, value) = word.split_once("=").ok_or(Trouble::NoCall)?;
+    named(name, value)
 }
 
 fn set_open(
     alloc: Global,
     options: StorageOpenOptions,
-    word: &str,
+    setting: Setting<'_>,
 ) -> Result<StorageOpenOptions, Trouble> {
-    match setting(word)? {
-        ("filename", name) => Ok(options.filename(name.to_string(alloc)?)),
-        ("write", write) => Ok(options.write(flag(write)?)),
-        ("direct", direct) => Ok(options.direct(flag(direct)?)),
+    match setting {
+        Setting::Filename(name) => Ok(options.filename(name.to_string(alloc)?)),
+        Setting::Write(write) => Ok(options.write(write)),
+        Setting::Direct(direct) => Ok(options.direct(direct)),
         _ => Err(Trouble::NoCall),
     }
 }
@@ -39,7 +64,7 @@ fn open_text(alloc: Global, options: &StorageOpenOptions) -> Result<String, Allo
 fn opened(alloc: Global, first: StorageOpenOptions, words: &[&str]) -> Result<String, Trouble> {
     let mut options = first;
     for word in words.iter() {
-        options = set_open(alloc, options, word)?;
+        options = set_open(alloc, options, setting_of(word)?)?;
     }
     Ok(open_text(alloc, &options)?)
 }
@@ -56,22 +81,15 @@ pub fn open(alloc: Global, words: &[&str]) -> Result<String, Trouble> {
 fn set_create(
     alloc: Global,
     options: StorageCreateOptions,
-    word: &str,
+    setting: Setting<'_>,
 ) -> Result<StorageCreateOptions, Trouble> {
-    match setting(word)? {
-        ("filename", name) => Ok(options.filename(name.to_string(alloc)?)),
-        ("size", size) => Ok(options.size(number(size)?)),
-        ("preallocate", word) => Ok(options.preallocate(mode(word)?)),
-        ("overwrite", overwrite) => Ok(options.overwrite(flag(overwrite)?)),
-        ("write", write) => {
-            let write = flag(write)?;
-            Ok(options.modify_open_opts(|opening| opening.write(write)))
-        }
-        ("direct", direct) => {
-            let direct = flag(direct)?;
-            Ok(options.modify_open_opts(|opening| opening.direct(direct)))
-        }
-        _ => Err(Trouble::NoCall),
+    match setting {
+        Setting::Filename(name) => Ok(options.filename(name.to_string(alloc)?)),
+        Setting::Write(write) => Ok(options.modify_open_opts(|opening| opening.write(write))),
+        Setting::Direct(direct) => Ok(options.modify_open_opts(|opening| opening.direct(direct))),
+        Setting::Size(size) => Ok(options.size(size)),
+        Setting::Preallocate(mode) => Ok(options.preallocate(mode)),
+        Setting::Overwrite(overwrite) => Ok(options.overwrite(overwrite)),
     }
 }
 
@@ -89,7 +107,7 @@ fn set_all(
 ) -> Result<StorageCreateOptions, Trouble> {
     let mut options = first;
     for word in words.iter() {
-        options = set_create(alloc, options, word)?;
+        options = set_create(alloc, options, setting_of(word)?)?;
     }
     Ok(options)
 }

@@ -1,5 +1,6 @@
 // Calls that need no storage.
-use cases::{Trouble, is_alignment};
+use crate::options::{create, create_open, open};
+use cases::{Trouble, is_alignment, number, size};
 use imago_storage::{Fault, larger_alignment, padded_end};
 use std::alloc::{AllocError, Global};
 
@@ -28,8 +29,9 @@ static FAULTS: [Fault; 22] = [
     Fault::BadCommand,
 ];
 
-/// The padded end of a range, or `none`.
-pub fn padded(alloc: Global, offset: u64, n: u64, unit: u64) -> Result<String, Trouble> {
+// The padded end of a range, or `none`.
+fn padded(alloc: Global, offset: &str, n: &str, unit: &str) -> Result<String, Trouble> {
+    let (offset, n, unit) = (number(offset)?, number(n)?, number(unit)?);
     if unit == 0 {
         return Err(Trouble::NoCall);
     }
@@ -39,8 +41,9 @@ pub fn padded(alloc: Global, offset: u64, n: u64, unit: u64) -> Result<String, T
     }
 }
 
-/// The larger of two alignments.
-pub fn larger(alloc: Global, a: usize, b: usize) -> Result<String, Trouble> {
+// The larger of two alignments.
+fn larger(alloc: Global, a: &str, b: &str) -> Result<String, Trouble> {
+    let (a, b) = (size(a)?, size(b)?);
     if !is_alignment(a) || !is_alignment(b) {
         return Err(Trouble::NoCall);
     }
@@ -53,8 +56,8 @@ fn is_named(alloc: Global, fault: Fault, name: &str) -> Result<bool, AllocError>
     Ok(written.as_str() == name)
 }
 
-/// A fault's number, kind and text, by its name in Rust.
-pub fn fault(alloc: Global, name: &str) -> Result<String, Trouble> {
+// A fault's number, kind and text, by its name in Rust.
+fn fault(alloc: Global, name: &str) -> Result<String, Trouble> {
     for fault in FAULTS.iter() {
         if is_named(alloc, *fault, name)? {
             let (number, kind) = (fault.number(), fault.kind());
@@ -62,4 +65,17 @@ pub fn fault(alloc: Global, name: &str) -> Result<String, Trouble> {
         }
     }
     Err(Trouble::NoCall)
+}
+
+/// Makes the call of these words, which needs no storage.
+pub fn answer(alloc: Global, words: &[&str]) -> Result<String, Trouble> {
+    match words {
+        ["open_options", rest @ ..] => open(alloc, rest),
+        ["create_options", rest @ ..] => create(alloc, rest),
+        ["create_open", rest @ ..] => create_open(alloc, rest),
+        ["padded_end", offset, n, unit] => padded(alloc, offset, n, unit),
+        ["larger_alignment", a, b] => larger(alloc, a, b),
+        ["fault", name] => fault(alloc, name),
+        _ => Err(Trouble::NoCall),
+    }
 }

@@ -16,6 +16,16 @@ fn kind(word: &str) -> Result<Kind, Trouble> {
     }
 }
 
+// A call with a range alone, or a read.
+fn range_call(word: &str, offset: u64, n: u64) -> Result<Call, Trouble> {
+    match word {
+        "read" => Ok(Call::Read(offset, n)),
+        "read_here" => Ok(Call::ReadHere(offset, n)),
+        "pure_read" => Ok(Call::PureRead(offset, n)),
+        _ => Ok(Call::Range(kind(word)?, offset, n)),
+    }
+}
+
 // A call without bytes.
 fn short_call(words: &[&str]) -> Result<Call, Trouble> {
     match words {
@@ -25,11 +35,8 @@ fn short_call(words: &[&str]) -> Result<Call, Trouble> {
         ["sync"] => Ok(Call::Sync),
         ["invalidate"] => Ok(Call::Invalidate),
         ["filename"] => Ok(Call::Filename),
-        ["read", offset, n] => Ok(Call::Read(number(offset)?, number(n)?)),
-        ["read_here", offset, n] => Ok(Call::ReadHere(number(offset)?, number(n)?)),
-        ["pure_read", offset, n] => Ok(Call::PureRead(number(offset)?, number(n)?)),
         ["resize", size, word] => Ok(Call::Resize(number(size)?, mode(word)?)),
-        [word, offset, n] => Ok(Call::Range(kind(word)?, number(offset)?, number(n)?)),
+        [word, offset, n] => range_call(word, number(offset)?, number(n)?),
         _ => Err(Trouble::NoCall),
     }
 }
