@@ -1,0 +1,203 @@
+// Feature bits, clusters that are handed over, and the parts of a header that have a fixed size.
+ghost use Rattle.std.specs.Prelude.{◌≡◌, length};
+
+use crate::answer::{Answer, answered};
+use cases::{Trouble, number, runs};
+use qcow2_types::{
+    AutoclearFeatures, ClusterCount, ClustersToFreeEntry, CompatibleFeatures, FeatureType,
+    HostCluster, IncompatibleFeatures, OnDiskStruct, PendingClusters, V2Header, V3HeaderBase,
+};
+use std::alloc::Global;
+
+/// The word of a type of features.
+pub fn feature_type(word: &str) -> Result<FeatureType, Trouble> {
+    match word {
+        "incompatible" => Ok(FeatureType::Incompatible),
+        "compatible" => Ok(FeatureType::Compatible),
+        "autoclear" => Ok(FeatureType::Autoclear),
+        _ => Err(Trouble::NoCall),
+    }
+}
+
+fn incompatible_feature(word: &str) -> Result<(FeatureType, u8), Trouble> {
+    match word {
+        "dirty" => Ok(IncompatibleFeatures::Dirty.into()),
+        "corrupt" => Ok(IncompatibleFeatures::Corrupt.into()),
+        "external_data_file" => Ok(IncompatibleFeatures::ExternalDataFile.into()),
+        "compression_type" => Ok(IncompatibleFeatures::CompressionType.into()),
+        "extended_l2_entries" => Ok(IncompatibleFeatures::ExtendedL2Entries.into()),
+        _ => Err(Trouble::NoCall),
+    }
+}
+
+fn feature(word: &str) -> Result<(FeatureType, u8), Trouble> {
+    match word {
+        "lazy_refcounts" => Ok(CompatibleFeatures::LazyRefcounts.into()),
+        "bitmaps" => Ok(AutoclearFeatures::Bitmaps.into()),
+        "raw_external_data" => Ok(AutoclearFeatures::RawExternalData.into()),
+        _ => incompatible_feature(word),
+    }
+}
+
+fn type_word(kind: FeatureType) -> &'static str {
+    match kind {
+        FeatureType::Incompatible => "incompatible",
+        FeatureType::Compatible => "compatible",
+        FeatureType::Autoclear => "autoclear",
+    }
+}
+
+// A feature's type, the type's number, and the feature's bit.
+fn shown_feature(alloc: Global, word: &str) -> Result<String, Trouble> {
+    let (kind, bit) = feature(word)?;
+    let (name, number) = (type_word(kind), kind.to_kind());
+    Ok(format!(in alloc; "{name} {number} bit {bit}")?)
+}
+
+// The type with a number.
+fn type_of_number(alloc: Global, kind: u64) -> Result<String, Trouble> {
+    if kind > 255 {
+        return Err(Trouble::NoCall);
+    }
+    let name = match FeatureType::from_kind(kind as u8) {
+        Some(kind) => type_word(kind),
+        None => "none",
+    };
+    Ok(name.to_string(alloc)?)
+}
+
+// The clusters of a script: data, or metadata.
+fn entry_of(word: &str, first: u64, count: u64) -> Result<ClustersToFreeEntry, Trouble> {
+    match word {
+        "data" => Ok(ClustersToFreeEntry::data(HostCluster(first), ClusterCount(count))),
+        "metadata" => Ok(ClustersToFreeEntry::metadata(HostCluster(first), ClusterCount(count))),
+        _ => Err(Trouble::NoCall),
+    }
+}
+
+// What a look at an entry says, and then its parts.
+fn shown_entry(alloc: Global, entry: ClustersToFreeEntry) -> Result<String, Trouble> {
+    let (first, count) = (entry.first_cluster().0, entry.count().0);
+    let is_metadata = entry.is_metadata();
+    let (part, number, mark) = entry.into_parts();
+    let (part, number) = (part.0, number.0);
+    Ok(format!(in alloc; "{first} {count} {is_metadata} parts {part} {number} {mark}")?)
+}
+
+// Clusters that are pending, and then named, or to be freed after all.
+fn pending(alloc: Global, entry: ClustersToFreeEntry, is_named: bool) -> Result<String, Trouble> {
+    let pending = PendingClusters::new(entry);
+    let first = pending.cluster().0;
+    if is_named {
+        pending.make_persistent();
+        return Ok(format!(in alloc; "{first} named")?);
+    }
+    shown_entry(alloc, pending.into_entry())
+}
+
+fn older(bytes: &[u8]) -> Result<V2Header, Trouble> {
+    if bytes.len() != V2Header::SIZE {
+        return Err(Trouble::NoCall);
+    }
+    Ok(V2Header::from_bytes(bytes))
+}
+
+fn newer(bytes: &[u8]) -> Result<V3HeaderBase, Trouble> {
+    if bytes.len() != V3HeaderBase::SIZE {
+        return Err(Trouble::NoCall);
+    }
+    Ok(V3HeaderBase::from_bytes(bytes))
+}
+
+fn older_field(v2: &V2Header, word: &str) -> Result<u64, Trouble> {
+    match word {
+        "magic" => Ok(u64::from(v2.magic)),
+        "version" => Ok(u64::from(v2.version)),
+        "backing_filename_offset" => Ok(v2.backing_filename_offset),
+        "backing_filename_size" => Ok(u64::from(v2.backing_filename_size)),
+        "cluster_bits" => Ok(u64::from(v2.cluster_bits)),
+        "size" => Ok(v2.size),
+        "crypt_method" => Ok(u64::from(v2.crypt_method)),
+        "l1_size" => Ok(u64::from(v2.l1_size)),
+        "l1_table_offset" => Ok(v2.l1_table_offset),
+        "refcount_table_offset" => Ok(v2.refcount_table_offset),
+        "refcount_table_clusters" => Ok(u64::from(v2.refcount_table_clusters)),
+        "nb_snapshots" => Ok(u64::from(v2.nb_snapshots)),
+        "snapshots_offset" => Ok(v2.snapshots_offset),
+        _ => Err(Trouble::NoCall),
+    }
+}
+
+fn newer_field(v3: &V3HeaderBase, word: &str) -> Result<u64, Trouble> {
+    match word {
+        "incompatible_features" => Ok(v3.incompatible_features),
+        "compatible_features" => Ok(v3.compatible_features),
+        "autoclear_features" => Ok(v3.autoclear_features),
+        "refcount_order" => Ok(u64::from(v3.refcount_order)),
+        "header_length" => Ok(u64::from(v3.header_length)),
+        _ => Err(Trouble::NoCall),
+    }
+}
+
+// The bytes of a part of a header, written over others.
+fn older_bytes(alloc: Global, v2: &V2Header) -> Result<String, Trouble> {
+    let mut bytes = [0xaau8; 72];
+    v2.to_bytes(&mut bytes);
+    Ok(runs(alloc, &bytes)?)
+}
+
+fn newer_bytes(alloc: Global, v3: &V3HeaderBase) -> Result<String, Trouble> {
+    let mut bytes = [0xaau8; 32];
+    v3.to_bytes(&mut bytes);
+    Ok(runs(alloc, &bytes)?)
+}
+
+fn older_part(alloc: Global, word: &str, bytes: &[u8]) -> Result<String, Trouble> {
+    let v2 = older(bytes)?;
+    if word == "bytes" {
+        return older_bytes(alloc, &v2);
+    }
+    answered(alloc, Ok(Answer::Word(older_field(&v2, word)?)))
+}
+
+fn newer_part(alloc: Global, word: &str, v3: &V3HeaderBase) -> Result<String, Trouble> {
+    if word == "bytes" {
+        return newer_bytes(alloc, v3);
+    }
+    answered(alloc, Ok(Answer::Word(newer_field(v3, word)?)))
+}
+
+// The part of a header that the file's bytes before are.
+fn part(alloc: Global, words: &[&str], draft: &[u8]) -> Result<String, Trouble> {
+    match words {
+        ["older", "length"] => answered(alloc, Ok(Answer::Number(V2Header::SIZE as u64))),
+        ["newer", "length"] => answered(alloc, Ok(Answer::Number(V3HeaderBase::SIZE as u64))),
+        ["older", word] => older_part(alloc, word, draft),
+        ["newer", word] => newer_part(alloc, word, &newer(draft)?),
+        ["default", word] => newer_part(alloc, word, &V3HeaderBase::default()),
+        _ => Err(Trouble::NoCall),
+    }
+}
+
+/// The answer about features, clusters that are handed over, and parts of a header in the bytes of the file.
+pub fn parts(alloc: Global, words: &[&str], draft: &[u8]) -> Result<String, Trouble> {
+    match words {
+        ["feature", word] => shown_feature(alloc, word),
+        ["feature_type", kind] => type_of_number(alloc, number(kind)?),
+        ["to_free", word, first, count] => {
+            shown_entry(alloc, entry_of(word, number(first)?, number(count)?)?)
+        }
+        ["pending", word, first, count, "named"] => {
+            pending(alloc, entry_of(word, number(first)?, number(count)?)?, true)
+        }
+        ["pending", word, first, count, "unnamed"] => {
+            pending(
+                alloc,
+                entry_of(word, number(first)?, number(count)?)?,
+                false,
+            )
+        }
+        ["part", rest @ ..] => part(alloc, rest, draft),
+        _ => Err(Trouble::NoCall),
+    }
+}

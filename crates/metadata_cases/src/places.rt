@@ -1,0 +1,185 @@
+// Places in the guest's disk and in the image file.
+ghost use Rattle.std.specs.Prelude.{◌≡◌, ◌≤◌, ◌<◌};
+
+use crate::answer::{Answer, answered};
+use crate::limits::{block_bits, cluster_bits, fits, table_entries};
+use cases::{Trouble, number};
+use qcow2_types::{ClusterCount, GuestCluster, GuestOffset, HostCluster, HostOffset};
+use std::alloc::Global;
+
+fn guest_offset(word: &str, offset: GuestOffset, bits: u32) -> Result<Answer, Trouble>
+    requires { (9 ≤ bits) × (bits ≤ 21) }
+{
+    match word {
+        "in_cluster" => Ok(Answer::Number(offset.in_cluster_offset(bits) as u64)),
+        "cluster" => Ok(Answer::Number(offset.cluster(bits).0)),
+        "begins" => Ok(Answer::number_or_none(
+            offset.checked_cluster(bits).map(|cluster| cluster.0),
+        )),
+        "l1_index" => Ok(Answer::Number(offset.l1_index(bits) as u64)),
+        "l2_index" => Ok(Answer::Number(offset.l2_index(bits) as u64)),
+        "rest_of_cluster" => Ok(Answer::Number(offset.remaining_in_cluster(bits))),
+        "rest_of_table" => Ok(Answer::Number(offset.remaining_in_l2_table(bits))),
+        _ => Err(Trouble::NoCall),
+    }
+}
+
+fn host_offset(word: &str, offset: HostOffset, bits: u32) -> Result<Answer, Trouble>
+    requires { (9 ≤ bits) × (bits ≤ 21) }
+{
+    match word {
+        "in_cluster" => Ok(Answer::Number(offset.in_cluster_offset(bits) as u64)),
+        "cluster" => Ok(Answer::Number(offset.cluster(bits).0)),
+        "begins" => Ok(Answer::number_or_none(
+            offset.checked_cluster(bits).map(|cluster| cluster.0),
+        )),
+        _ => Err(Trouble::NoCall),
+    }
+}
+
+// Where a guest cluster begins, and what the next table maps first.
+fn guest_begin(word: &str, cluster: GuestCluster, bits: u32) -> Result<Answer, Trouble>
+    requires { (9 ≤ bits) × (bits ≤ 21) }
+{
+    if !fits(cluster.0, bits, 0) {
+        return Err(Trouble::NoCall);
+    }
+    match word {
+        "offset" => Ok(Answer::Number(cluster.offset(bits).0)),
+        "next_table" => Ok(Answer::Number(cluster.first_in_next_l2(bits).0)),
+        _ => Err(Trouble::NoCall),
+    }
+}
+
+fn guest_cluster(word: &str, cluster: GuestCluster, bits: u32) -> Result<Answer, Trouble>
+    requires { (9 ≤ bits) × (bits ≤ 21) }
+{
+    match word {
+        "l1_index" => Ok(Answer::Number(cluster.l1_index(bits) as u64)),
+        "l2_index" => Ok(Answer::Number(cluster.l2_index(bits) as u64)),
+        "next" => Ok(Answer::number_or_none(cluster.next_in_l2(bits).map(|cluster| cluster.0))),
+        _ => guest_begin(word, cluster, bits),
+    }
+}
+
+// The guest cluster with these indices.
+fn guest_of_indices(l1_index: u64, l2_index: u64, bits: u32) -> Result<Answer, Trouble>
+    requires { (9 ≤ bits) × (bits ≤ 21) }
+{
+    let entries = table_entries(bits);
+    let Some(before) = l1_index.checked_mul(entries) else {
+        return Err(Trouble::NoCall);
+    };
+    if l2_index >= entries || before.checked_add(l2_index).is_none() {
+        return Err(Trouble::NoCall);
+    }
+    let cluster = GuestCluster::from_l1_l2_indices(l1_index as usize, l2_index as usize, bits);
+    Ok(Answer::Number(cluster.0))
+}
+
+// Where a host cluster begins, or the place in it that a guest offset has in its own.
+fn host_begin(
+    cluster: HostCluster,
+    guest: Option<GuestOffset>,
+    bits: u32,
+) -> Result<Answer, Trouble>
+    requires { (9 ≤ bits) × (bits ≤ 21) }
+{
+    let rest = match guest {
+        Some(guest) => guest.in_cluster_offset(bits) as u64,
+        None => 0,
+    };
+    if !fits(cluster.0, bits, rest) {
+        return Err(Trouble::NoCall);
+    }
+    match guest {
+        Some(guest) => Ok(Answer::Number(cluster.relative_offset(guest, bits).0)),
+        None => Ok(Answer::Number(cluster.offset(bits).0)),
+    }
+}
+
+// Where a host cluster is counted: each index, and both.
+fn host_counter(word: &str, cluster: HostCluster, bits: u32) -> Result<Answer, Trouble>
+    requires { bits ≤ 24 }
+{
+    match word {
+        "rt_index" => Ok(Answer::Number(cluster.rt_index(bits) as u64)),
+        "rb_index" => Ok(Answer::Number(cluster.rb_index(bits) as u64)),
+        "rt_of_both" => Ok(Answer::Number(cluster.rt_rb_indices(bits).0 as u64)),
+        "rb_of_both" => Ok(Answer::Number(cluster.rt_rb_indices(bits).1 as u64)),
+        _ => Err(Trouble::NoCall),
+    }
+}
+
+// The host cluster with these indices.
+fn host_of_indices(rt_index: u64, rb_index: u64, bits: u32) -> Result<Answer, Trouble>
+    requires { bits ≤ 24 }
+{
+    if rb_index >= 1 << bits || !fits(rt_index, bits, rb_index) {
+        return Err(Trouble::NoCall);
+    }
+    let cluster = HostCluster::from_ref_indices(rt_index as usize, rb_index as usize, bits);
+    Ok(Answer::Number(cluster.0))
+}
+
+fn clusters(word: &str, n: u64, bits: u32) -> Result<Answer, Trouble>
+    requires { (9 ≤ bits) × (bits ≤ 21) }
+{
+    match word {
+        "of_bytes" => Ok(Answer::Number(ClusterCount::from_byte_size(n, bits).0)),
+        "of_whole" => Ok(Answer::number_or_none(ClusterCount::checked_from_byte_size(n, bits).map(
+            |count| count.0,
+        ))),
+        "bytes" if fits(n, bits, 0) => Ok(Answer::Number(ClusterCount(n).byte_size(bits))),
+        _ => Err(Trouble::NoCall),
+    }
+}
+
+fn guest(words: &[&str]) -> Result<Answer, Trouble> {
+    match words {
+        ["offset", word, n, bits] => guest_offset(
+            word,
+            GuestOffset(number(n)?),
+            cluster_bits(bits)?,
+        ),
+        ["cluster", word, n, bits] => {
+            guest_cluster(word, GuestCluster(number(n)?), cluster_bits(bits)?)
+        }
+        ["of", l1_index, l2_index, bits] => {
+            guest_of_indices(number(l1_index)?, number(l2_index)?, cluster_bits(bits)?)
+        }
+        _ => Err(Trouble::NoCall),
+    }
+}
+
+fn host(words: &[&str]) -> Result<Answer, Trouble> {
+    match words {
+        ["offset", word, n, bits] => host_offset(word, HostOffset(number(n)?), cluster_bits(bits)?),
+        ["cluster", "offset", n, bits] => {
+            host_begin(HostCluster(number(n)?), None, cluster_bits(bits)?)
+        }
+        ["cluster", "beside", guest, n, bits] => {
+            let guest = GuestOffset(number(guest)?);
+            host_begin(HostCluster(number(n)?), Some(guest), cluster_bits(bits)?)
+        }
+        ["cluster", word, n, bits] => {
+            host_counter(word, HostCluster(number(n)?), block_bits(bits)?)
+        }
+        ["of", rt_index, rb_index, bits] => {
+            host_of_indices(number(rt_index)?, number(rb_index)?, block_bits(bits)?)
+        }
+        _ => Err(Trouble::NoCall),
+    }
+}
+
+/// The answer about places, or about counts of clusters.
+pub fn places(alloc: Global, words: &[&str]) -> Result<String, Trouble> {
+    match words {
+        ["guest", rest @ ..] => answered(alloc, guest(rest)),
+        ["host", rest @ ..] => answered(alloc, host(rest)),
+        ["clusters", word, n, bits] => {
+            answered(alloc, clusters(word, number(n)?, cluster_bits(bits)?))
+        }
+        _ => Err(Trouble::NoCall),
+    }
+}

@@ -1,0 +1,378 @@
+// The values of a case: a file, the storage that it is in, a header, and one table of each kind.
+ghost use Rattle.std.specs.Prelude.{◌≤◌};
+
+use crate::answer::{Answer, answered};
+use crate::blocks::{block_call, block_in_file, load_block, new_block};
+use crate::file::{Image, image_of, look};
+use crate::headers::{
+    header_call, header_in_file, load_header, name_l1, name_reftable, new_header,
+};
+use crate::l2::{copy_of, l2_call, load_l2, new_l2, write_if_modified};
+use crate::tables::{table_alone, table_call, table_in_file};
+use crate::upper::{
+    empty_l1, empty_reftable, enter_block, enter_l2, grown_l1, grown_reftable, load_l1,
+    load_reftable,
+};
+use cases::{Notes, Trouble, number, ok, size};
+use qcow2_metadata::{Header, L1Table, L2Table, RefBlock, RefTable, Table};
+use qcow2_types::HostCluster;
+use std::alloc::Global;
+use std::cell::Cell;
+
+#[derive(Drop)]
+pub struct Metadata<'a> {
+    notes: &'a Cell<Notes>,
+    pub file: Vec<u8>,
+    image: Option<Image<'a>>,
+    header: Option<Header>,
+    l1: Option<L1Table>,
+    l2: Option<L2Table>,
+    reftable: Option<RefTable>,
+    block: Option<RefBlock>,
+}
+
+// A cluster of a script.
+fn cluster(word: &str) -> Result<HostCluster, Trouble> {
+    Ok(HostCluster(number(word)?))
+}
+
+impl<'a> Metadata<'a> {
+    pub fn new(alloc: Global, notes: &'a Cell<Notes>) -> Self {
+        Metadata {
+            notes,
+            file: Vec::new(alloc),
+            image: None,
+            header: None,
+            l1: None,
+            l2: None,
+            reftable: None,
+            block: None,
+        }
+    }
+
+    /// Lets go of all.
+    pub fn clear(&mut self) {
+        self.notes.set(Notes::none());
+        self.file.clear();
+        self.image = None;
+        self.header = None;
+        self.l1 = None;
+        self.l2 = None;
+        self.reftable = None;
+        self.block = None;
+    }
+
+    /// Puts the file into a storage of an alignment, whose `n`th call fails.
+    pub fn open(&mut self, alloc: Global, align: usize, n: u64) -> Result<String, Trouble> {
+        let image = image_of(&self.file, align, n, self.notes)?;
+        self.image = Some(image);
+        Ok(ok(alloc)?)
+    }
+
+    /// What the storage holds.
+    pub fn look(&mut self, alloc: Global, words: &[&str]) -> Result<String, Trouble> {
+        match &mut self.image {
+            Some(image) => look(alloc, image, self.notes, words),
+            None => Err(Trouble::NoCall),
+        }
+    }
+
+    /// The header, where there is one.
+    pub fn header(&self) -> Result<&Header, Trouble> {
+        match &self.header {
+            Some(header) => Ok(header),
+            None => Err(Trouble::NoCall),
+        }
+    }
+
+    fn load_header(&mut self, alloc: Global, word: &str) -> Result<Answer, Trouble> {
+        let Some(image) = &mut self.image else {
+            return Err(Trouble::NoCall);
+        };
+        let header = load_header(alloc, image, word)?;
+        self.header = Some(header);
+        Ok(Answer::Done)
+    }
+
+    fn new_header(&mut self, alloc: Global, words: &[&str]) -> Result<Answer, Trouble> {
+        let header = new_header(alloc, words)?;
+        self.header = Some(header);
+        Ok(Answer::Done)
+    }
+
+    fn header_in_file(&mut self, alloc: Global, words: &[&str]) -> Result<String, Trouble> {
+        let (Some(header), Some(image)) = (&mut self.header, &mut self.image) else {
+            return Err(Trouble::NoCall);
+        };
+        header_in_file(alloc, header, image, words)
+    }
+
+    fn header_alone(&mut self, alloc: Global, words: &[&str]) -> Result<String, Trouble> {
+        match &mut self.header {
+            Some(header) => header_call(alloc, header, words),
+            None => Err(Trouble::NoCall),
+        }
+    }
+
+    fn name_l1(&mut self, alloc: Global) -> Result<String, Trouble> {
+        let (Some(header), Some(table)) = (&mut self.header, &self.l1) else {
+            return Err(Trouble::NoCall);
+        };
+        name_l1(alloc, header, table)
+    }
+
+    fn name_reftable(&mut self, alloc: Global) -> Result<String, Trouble> {
+        let (Some(header), Some(table)) = (&mut self.header, &self.reftable) else {
+            return Err(Trouble::NoCall);
+        };
+        name_reftable(alloc, header, table)
+    }
+
+    /// A call of the header.
+    pub fn header_words(&mut self, alloc: Global, words: &[&str]) -> Result<String, Trouble> {
+        match words {
+            ["load", word] => answered(alloc, self.load_header(alloc, word)),
+            ["new", rest @ ..] => answered(alloc, self.new_header(alloc, rest)),
+            ["set_l1"] => self.name_l1(alloc),
+            ["set_reftable"] => self.name_reftable(alloc),
+            ["write", ..] | ["update", ..] => self.header_in_file(alloc, words),
+            _ => self.header_alone(alloc, words),
+        }
+    }
+
+    fn load_l1(
+        &mut self,
+        alloc: Global,
+        cluster: HostCluster,
+        entries: usize,
+    ) -> Result<Answer, Trouble> {
+        let (Some(header), Some(image)) = (&self.header, &mut self.image) else {
+            return Err(Trouble::NoCall);
+        };
+        let table = load_l1(alloc, image, header, cluster, entries)?;
+        self.l1 = Some(table);
+        Ok(Answer::Done)
+    }
+
+    fn grow_l1(&mut self, alloc: Global, at: usize) -> Result<Answer, Trouble> {
+        let (Some(header), Some(table)) = (&self.header, &self.l1) else {
+            return Err(Trouble::NoCall);
+        };
+        let table = grown_l1(alloc, table, header, at)?;
+        self.l1 = Some(table);
+        Ok(Answer::Done)
+    }
+
+    fn empty_l1(&mut self, alloc: Global) -> Result<Answer, Trouble> {
+        let table = empty_l1(alloc, self.header()?);
+        self.l1 = Some(table);
+        Ok(Answer::Done)
+    }
+
+    fn enter_l2(&mut self, index: usize) -> Result<Answer, Trouble> {
+        let (Some(table), Some(l2_table)) = (&mut self.l1, &self.l2) else {
+            return Err(Trouble::NoCall);
+        };
+        enter_l2(table, l2_table, index)
+    }
+
+    fn l1_has(&self, index: usize) -> Result<Answer, Trouble> {
+        match &self.l1 {
+            Some(table) => Ok(Answer::Flag(table.in_bounds(index))),
+            None => Err(Trouble::NoCall),
+        }
+    }
+
+    fn l1_table(&mut self, alloc: Global, words: &[&str]) -> Result<Answer, Trouble> {
+        let call = table_call(words)?;
+        match (&mut self.l1, &mut self.image) {
+            (Some(table), Some(image)) if call.is_write() => {
+                table_in_file(alloc, table, image, call)
+            }
+            (Some(table), _) => table_alone(table, call),
+            _ => Err(Trouble::NoCall),
+        }
+    }
+
+    /// A call of the L1 table.
+    pub fn l1_words(&mut self, alloc: Global, words: &[&str]) -> Result<Answer, Trouble> {
+        match words {
+            ["load", word, entries] => self.load_l1(alloc, cluster(word)?, size(entries)?),
+            ["grow", at] => self.grow_l1(alloc, size(at)?),
+            ["make"] => self.empty_l1(alloc),
+            ["enter", index] => self.enter_l2(size(index)?),
+            ["in_bounds", index] => self.l1_has(size(index)?),
+            _ => self.l1_table(alloc, words),
+        }
+    }
+
+    fn load_reftable(
+        &mut self,
+        alloc: Global,
+        cluster: HostCluster,
+        entries: usize,
+    ) -> Result<Answer, Trouble> {
+        let (Some(header), Some(image)) = (&self.header, &mut self.image) else {
+            return Err(Trouble::NoCall);
+        };
+        let table = load_reftable(alloc, image, header, cluster, entries)?;
+        self.reftable = Some(table);
+        Ok(Answer::Done)
+    }
+
+    fn grow_reftable(&mut self, alloc: Global, at: usize) -> Result<Answer, Trouble> {
+        let (Some(header), Some(table)) = (&self.header, &self.reftable) else {
+            return Err(Trouble::NoCall);
+        };
+        let table = grown_reftable(alloc, table, header, at)?;
+        self.reftable = Some(table);
+        Ok(Answer::Done)
+    }
+
+    fn empty_reftable(&mut self, alloc: Global) -> Result<Answer, Trouble> {
+        let table = empty_reftable(alloc, self.header()?);
+        self.reftable = Some(table);
+        Ok(Answer::Done)
+    }
+
+    fn enter_block(&mut self, index: usize) -> Result<Answer, Trouble> {
+        let (Some(table), Some(block)) = (&mut self.reftable, &self.block) else {
+            return Err(Trouble::NoCall);
+        };
+        enter_block(table, block, index)
+    }
+
+    fn reftable_has(&self, index: usize) -> Result<Answer, Trouble> {
+        match &self.reftable {
+            Some(table) => Ok(Answer::Flag(table.in_bounds(index))),
+            None => Err(Trouble::NoCall),
+        }
+    }
+
+    fn reftable_table(&mut self, alloc: Global, words: &[&str]) -> Result<Answer, Trouble> {
+        let call = table_call(words)?;
+        match (&mut self.reftable, &mut self.image) {
+            (Some(table), Some(image)) if call.is_write() => {
+                table_in_file(alloc, table, image, call)
+            }
+            (Some(table), _) => table_alone(table, call),
+            _ => Err(Trouble::NoCall),
+        }
+    }
+
+    /// A call of the refcount table.
+    pub fn reftable_words(&mut self, alloc: Global, words: &[&str]) -> Result<Answer, Trouble> {
+        match words {
+            ["load", word, entries] => self.load_reftable(alloc, cluster(word)?, size(entries)?),
+            ["grow", at] => self.grow_reftable(alloc, size(at)?),
+            ["make"] => self.empty_reftable(alloc),
+            ["enter", index] => self.enter_block(size(index)?),
+            ["in_bounds", index] => self.reftable_has(size(index)?),
+            _ => self.reftable_table(alloc, words),
+        }
+    }
+
+    fn load_l2(&mut self, alloc: Global, cluster: HostCluster) -> Result<Answer, Trouble> {
+        let (Some(header), Some(image)) = (&self.header, &mut self.image) else {
+            return Err(Trouble::NoCall);
+        };
+        let table = load_l2(alloc, image, header, cluster)?;
+        self.l2 = Some(table);
+        Ok(Answer::Done)
+    }
+
+    fn new_l2(&mut self, alloc: Global) -> Result<Answer, Trouble> {
+        let table = new_l2(alloc, self.header()?)?;
+        self.l2 = Some(table);
+        Ok(Answer::Done)
+    }
+
+    fn copy_l2(&mut self, alloc: Global) -> Result<Answer, Trouble> {
+        let Some(table) = &self.l2 else {
+            return Err(Trouble::NoCall);
+        };
+        let table = copy_of(alloc, table)?;
+        self.l2 = Some(table);
+        Ok(Answer::Done)
+    }
+
+    fn write_l2_if_modified(&mut self, alloc: Global) -> Result<Answer, Trouble> {
+        let (Some(table), Some(image)) = (&mut self.l2, &mut self.image) else {
+            return Err(Trouble::NoCall);
+        };
+        write_if_modified(alloc, table, image)
+    }
+
+    fn l2_table(&mut self, alloc: Global, words: &[&str]) -> Result<Answer, Trouble> {
+        let call = table_call(words)?;
+        match (&mut self.l2, &mut self.image) {
+            (Some(table), Some(image)) if call.is_write() => {
+                table_in_file(alloc, table, image, call)
+            }
+            (Some(table), _) => table_alone(table, call),
+            _ => Err(Trouble::NoCall),
+        }
+    }
+
+    // What an L2 table alone is asked for.
+    fn l2_alone(&mut self, alloc: Global, words: &[&str]) -> Result<String, Trouble> {
+        match &mut self.l2 {
+            Some(table) => l2_call(alloc, table, words),
+            None => Err(Trouble::NoCall),
+        }
+    }
+
+    /// A call of the L2 table.
+    pub fn l2_words(&mut self, alloc: Global, words: &[&str]) -> Result<String, Trouble> {
+        match words {
+            ["load", word] => answered(alloc, self.load_l2(alloc, cluster(word)?)),
+            ["new"] => answered(alloc, self.new_l2(alloc)),
+            ["copy"] => answered(alloc, self.copy_l2(alloc)),
+            ["write_if_modified"] => answered(alloc, self.write_l2_if_modified(alloc)),
+            [
+                "mapping" | "guard" | "packed" | "map" | "zero" | "discard",
+                ..
+            ] => { self.l2_alone(alloc, words) }
+            _ => answered(alloc, self.l2_table(alloc, words)),
+        }
+    }
+
+    fn load_block(&mut self, alloc: Global, cluster: HostCluster) -> Result<Answer, Trouble> {
+        let (Some(header), Some(image)) = (&self.header, &mut self.image) else {
+            return Err(Trouble::NoCall);
+        };
+        let block = load_block(alloc, image, header, cluster)?;
+        self.block = Some(block);
+        Ok(Answer::Done)
+    }
+
+    fn new_block(&mut self, alloc: Global) -> Result<Answer, Trouble> {
+        let block = new_block(alloc, self.header()?)?;
+        self.block = Some(block);
+        Ok(Answer::Done)
+    }
+
+    fn block_in_file(&mut self, alloc: Global, words: &[&str]) -> Result<Answer, Trouble> {
+        let (Some(block), Some(image)) = (&mut self.block, &mut self.image) else {
+            return Err(Trouble::NoCall);
+        };
+        block_in_file(alloc, block, image, words)
+    }
+
+    fn block_alone(&mut self, words: &[&str]) -> Result<Answer, Trouble> {
+        match &mut self.block {
+            Some(block) => block_call(block, words),
+            None => Err(Trouble::NoCall),
+        }
+    }
+
+    /// A call of the refcount block.
+    pub fn block_words(&mut self, alloc: Global, words: &[&str]) -> Result<Answer, Trouble> {
+        match words {
+            ["load", word] => self.load_block(alloc, cluster(word)?),
+            ["new"] => self.new_block(alloc),
+            ["write" | "write_if_modified"] => self.block_in_file(alloc, words),
+            _ => self.block_alone(words),
+        }
+    }
+}
