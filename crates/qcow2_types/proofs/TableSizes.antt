@@ -1,7 +1,7 @@
 -- The sizes of L2 tables are powers of 2, and words of tables lie in one cluster.
 use Rattle.std.proofs.Common.{◌≡◌, ℕ, ◌+◌, ◌-◌, ◌*◌, ◌/◌, ◌%◌, ◌^◌, ◌<◌, ◌≤◌, arith, ap, sym, ◌∙◌}
 use Rattle.std.proofs.Math.Nat.{div-add-mod}
-use Rattle.std.proofs.lemmas.Nat.{shl-shr, pow-add, pow_pos, mod_below, mul-add-lt, shr_below, shr_split}
+use Rattle.std.proofs.lemmas.Nat.{shl-shr, pow-add, mod_below, mul-add-lt, shr_below, shr_split}
 use Rattle.qcow2_types.specs.Places.{l2_entries}
 
 -- the words of a table
@@ -15,10 +15,6 @@ pub mapped_power : (b : ℕ) → 9 ≤ b → l2_entries b * 2 ^ b ≡ 2 ^ (2 * b
 mapped_power b low =
     let apart : b - 3 + b ≡ 2 * b - 3 = omega arith in
     ap (λ n. n * 2 ^ b) (entries_power b low) ∙ sym (pow-add 2 (b - 3) b) ∙ ap (λ n. 2 ^ n) apart
-
--- an index in a table
-pub index_below : (n b : ℕ) → 9 ≤ b → n % l2_entries b < l2_entries b
-index_below n b low = mod_below n (l2_entries b) (rw (entries_power b low) (pow_pos (b - 3)))
 
 -- A number whose lowest k bits are not all ones has a next number of the same width.
 pub next_below : (n k j w : ℕ) → j + k ≡ w → n < 2 ^ w → n % 2 ^ k + 1 < 2 ^ k → n + 1 < 2 ^ w

@@ -10,8 +10,6 @@ pub mod laws;
 mod on_disk;
 mod pending;
 pub mod steps;
-#[cfg(test)]
-mod tests;
 pub mod two_versions;
 pub mod worked_image;
 
