@@ -1,11 +1,10 @@
 -- The places of clusters that words can name.
-use Rattle.std.proofs.Common.{◌≡◌, ℕ, ◌+◌, ◌*◌, ◌%◌, ◌^◌, ◌<◌, ◌≤◌, ◌∙◌, arith}
+use Rattle.std.proofs.Common.{◌≡◌, ℕ, ◌+◌, ◌*◌, ◌%◌, ◌^◌, ◌≤◌, ◌∙◌, arith}
 use Rattle.std.specs.Prelude.{Option, Some, None}
 use Rattle.std.proofs.Math.Nat.{pow-le-pow_right}
 use Rattle.std.proofs.lemmas.Nat.{mod-mul-add, pow_pos, mul-le}
 use Rattle.std.proofs.Common.{ap}
 use Rattle.qcow2_metadata.specs.Places.{IsInReach, IsPlaced, place_of}
-use Rattle.qcow2_metadata.specs.Tables.{IsNamable}
 
 -- a cluster begins at a multiple of its size
 pub place-whole : (bits : ℕ) (cluster : Option ℕ) → IsPlaced bits cluster → place_of bits cluster % 2 ^ bits ≡ 0
@@ -28,7 +27,3 @@ near_reach bits c few low =
     let size : 2 ^ bits ≤ 2 ^ 21 = pow-le-pow_right (omega arith) few in
     let most : c * 2 ^ bits ≤ 2 ^ 30 * 2 ^ 21 = mul-le c (2 ^ bits) (2 ^ 30) (2 ^ 21) low size in
     omega arith
-
--- and tables in them can be named
-pub near_namable : (bits c : ℕ) → bits ≤ 21 → c ≤ 2 ^ 30 → 0 < c → IsNamable bits (Some c)
-near_namable bits c few low some = record { placed = near_reach bits c few low; some = let pos : 0 < 2 ^ bits = pow_pos bits in mul-le 1 1 c (2 ^ bits) some pos }

@@ -1,8 +1,6 @@
 //! The metadata of a qcow2 image: its header, tables and refcount blocks, as they are in memory and in the file.
 #![tactic(auto)]
 
-#[cfg(test)]
-mod asserting;
 mod clusters;
 mod counter;
 mod endian;
@@ -22,8 +20,6 @@ mod ref_table;
 mod refblock;
 mod rules;
 mod table;
-#[cfg(test)]
-mod tests;
 pub mod words;
 
 pub use entries::{L1Entry, L2Entry, RefTableEntry, TableEntry};

@@ -16,9 +16,6 @@ use qcow2_types::{HostCluster, HostOffset};
 use std::alloc::{AllocError, Global};
 use std::marker::Model;
 
-#[cfg(test)]
-mod tests;
-
 /// A refcount block: the counters of consecutive host clusters, which fill one cluster.
 ///
 /// It is kept in memory. Contracts see its counters as a list.

@@ -13,9 +13,6 @@ ghost use Rattle.qcow2_metadata.specs.Places.{IsInReach, IsPlaced, place_of};
 ghost use Rattle.qcow2_metadata.specs.Tables.{TableValue, IsTable, IsLength, IsAsked, AreSound, HasUnsound, WhyNotLoaded, WhyNotDecoded, IsPlacedTable, table_place, max_entries, words_in, table_in, padded};
 ghost use Rattle.qcow2_types.specs.TableBytes.{AreFit, table_bytes};
 
-#[cfg(test)]
-mod tests;
-
 use crate::Header;
 use crate::clusters::{first_byte_of, read_cluster};
 use crate::entries::TableEntry;

@@ -169,19 +169,3 @@ pub(crate) fn l2_mapping(
         standard(word, layout, backing_offset)
     }
 }
-
-#[cfg(test)]
-mod tests {
-    use super::*;
-    use crate::asserting::same;
-
-    #[test]
-    fn words_and_their_places_are_read(rt: HostRuntime) {
-        let bytes = [128, 0, 0, 0, 0, 0, 14, 0, 0, 0, 0, 0, 0, 0, 4, 1];
-        same!(&rt; word_at(&bytes, 0), 0x8000_0000_0000_0e00);
-        // Past the end there are zeroes.
-        same!(&rt; word_at(&bytes, 12), 0x0000_0401_0000_0000);
-        same!(&rt; offset_in(0x8000_0000_0000_0e01), 0x0e00);
-        same!(&rt; block_offset_in(0x8000_0000_0000_0401), 0x8000_0000_0000_0400);
-    }
-}

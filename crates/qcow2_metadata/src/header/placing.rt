@@ -49,6 +49,3 @@ impl Header {
         self.v2.refcount_table_clusters = clusters_taken(reftable);
     }
 }
-
-#[cfg(test)]
-mod tests;
