@@ -18,7 +18,7 @@ mod tables;
 mod upper;
 
 use answer::answered;
-use cases::{Layer, Notes, Trouble, number, run, size};
+use cases::{Layer, Notes, Trouble, run};
 use entries::{entry, plain};
 use file::edit;
 use imago_storage::Fault;
@@ -32,35 +32,72 @@ use std::cell::Cell;
 use std::process::ExitCode;
 use sums::sums;
 
-// A call of what a case has made.
-fn call(state: &mut Metadata<'_>, alloc: Global, words: &[&str]) -> Result<String, Trouble> {
+/// What the first word of a call is of.
+#[derive(Clone, Copy)]
+enum Topic {
+    File,
+    Storage,
+    Places,
+    Sums,
+    Parts,
+    Plain,
+    Tables,
+}
+
+fn topic_of(word: &str) -> Topic {
+    match word {
+        "put" | "word" | "text" | "cut" => Topic::File,
+        "on" | "read" | "size" | "calls" | "asked" => Topic::Storage,
+        "guest" | "host" | "clusters" => Topic::Places,
+        "sum" | "shown" => Topic::Sums,
+        "feature" | "feature_type" | "to_free" | "pending" | "part" => Topic::Parts,
+        "word_at" | "offset_in" | "block_offset_in" => Topic::Plain,
+        _ => Topic::Tables,
+    }
+}
+
+// A call of the storage.
+fn storage(state: &mut Metadata<'_>, alloc: Global, words: &[&str]) -> Result<String, Trouble> {
     match words {
-        ["header", rest @ ..] => state.header_words(alloc, rest),
-        ["l1", rest @ ..] => answered(alloc, state.l1_words(alloc, rest)),
-        ["l2", rest @ ..] => state.l2_words(alloc, rest),
-        ["reftable", rest @ ..] => answered(alloc, state.reftable_words(alloc, rest)),
-        ["block", rest @ ..] => answered(alloc, state.block_words(alloc, rest)),
-        ["entry", rest @ ..] => entry(alloc, state.header()?, rest),
-        ["laws"] => answered(alloc, laws(state.header()?)),
-        ["on", align] => state.open(alloc, size(align)?, 0),
-        ["on", align, "fuse", n] => state.open(alloc, size(align)?, number(n)?),
+        ["on", align] => state.open(alloc, align, "0"),
+        ["on", align, "fuse", n] => state.open(alloc, align, n),
         _ => state.look(alloc, words),
+    }
+}
+
+// A call of a header, a table or a word of one.
+fn table_call(
+    state: &mut Metadata<'_>,
+    alloc: Global,
+    topic: &str,
+    words: &[&str],
+) -> Result<String, Trouble> {
+    match topic {
+        "header" => state.header_words(alloc, words),
+        "l1" => answered(alloc, state.l1_words(alloc, words)),
+        "l2" => state.l2_words(alloc, words),
+        "reftable" => answered(alloc, state.reftable_words(alloc, words)),
+        "block" => answered(alloc, state.block_words(alloc, words)),
+        "entry" => entry(alloc, state.header()?, words),
+        "follows" => answered(alloc, follows(words)),
+        "laws" => answered(alloc, laws(state.header()?)),
+        _ => Err(Trouble::NoCall),
     }
 }
 
 // The answer of any call.
 fn answer_of(state: &mut Metadata<'_>, alloc: Global, words: &[&str]) -> Result<String, Trouble> {
-    match words {
-        ["put" | "word" | "text" | "cut", ..] => edit(alloc, &mut state.file, words),
-        ["guest" | "host" | "clusters", ..] => places(alloc, words),
-        ["sum" | "shown", ..] => sums(alloc, words),
-        [
-            "feature" | "feature_type" | "to_free" | "pending" | "part",
-            ..
-        ] => { parts(alloc, words, &state.file) }
-        ["word_at" | "offset_in" | "block_offset_in", ..] => plain(alloc, words, &state.file),
-        ["follows", rest @ ..] => answered(alloc, follows(rest)),
-        _ => call(state, alloc, words),
+    let [first, rest @ ..] = words else {
+        return Err(Trouble::NoCall);
+    };
+    match topic_of(first) {
+        Topic::File => edit(alloc, &mut state.file, words),
+        Topic::Storage => storage(state, alloc, words),
+        Topic::Places => places(alloc, words),
+        Topic::Sums => sums(alloc, words),
+        Topic::Parts => parts(alloc, words, &state.file),
+        Topic::Plain => plain(alloc, words, &state.file),
+        Topic::Tables => table_call(state, alloc, first, rest),
     }
 }
 

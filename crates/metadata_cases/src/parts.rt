@@ -2,7 +2,7 @@
 ghost use Rattle.std.specs.Prelude.{◌≡◌, length};
 
 use crate::answer::{Answer, answered};
-use cases::{Trouble, number, runs};
+use cases::{Trouble, number, runs, size};
 use qcow2_types::{
     AutoclearFeatures, ClusterCount, ClustersToFreeEntry, CompatibleFeatures, FeatureType,
     HostCluster, IncompatibleFeatures, OnDiskStruct, PendingClusters, V2Header, V3HeaderBase,
@@ -140,10 +140,13 @@ fn newer_field(v3: &V3HeaderBase, word: &str) -> Result<u64, Trouble> {
 }
 
 // The bytes of a part of a header, written over others.
-fn older_bytes(alloc: Global, v2: &V2Header) -> Result<String, Trouble> {
+fn older_bytes(alloc: Global, v2: &V2Header, at: usize, count: usize) -> Result<String, Trouble> {
     let mut bytes = [0xaau8; 72];
     v2.to_bytes(&mut bytes);
-    Ok(runs(alloc, &bytes)?)
+    match bytes.get(at..at.saturating_add(count)) {
+        Some(part) => Ok(runs(alloc, part)?),
+        None => Err(Trouble::NoCall),
+    }
 }
 
 fn newer_bytes(alloc: Global, v3: &V3HeaderBase) -> Result<String, Trouble> {
@@ -154,9 +157,6 @@ fn newer_bytes(alloc: Global, v3: &V3HeaderBase) -> Result<String, Trouble> {
 
 fn older_part(alloc: Global, word: &str, bytes: &[u8]) -> Result<String, Trouble> {
     let v2 = older(bytes)?;
-    if word == "bytes" {
-        return older_bytes(alloc, &v2);
-    }
     answered(alloc, Ok(Answer::Word(older_field(&v2, word)?)))
 }
 
@@ -167,37 +167,54 @@ fn newer_part(alloc: Global, word: &str, v3: &V3HeaderBase) -> Result<String, Tr
     answered(alloc, Ok(Answer::Word(newer_field(v3, word)?)))
 }
 
-// The part of a header that the file's bytes before are.
-fn part(alloc: Global, words: &[&str], draft: &[u8]) -> Result<String, Trouble> {
+// How many bytes a part of a header has.
+fn part_length(word: &str) -> Result<Answer, Trouble> {
+    match word {
+        "older" => Ok(Answer::Number(V2Header::SIZE as u64)),
+        "newer" => Ok(Answer::Number(V3HeaderBase::SIZE as u64)),
+        _ => Err(Trouble::NoCall),
+    }
+}
+
+// The part of a header that the bytes of the file are.
+fn part(alloc: Global, words: &[&str], file: &[u8]) -> Result<String, Trouble> {
     match words {
-        ["older", "length"] => answered(alloc, Ok(Answer::Number(V2Header::SIZE as u64))),
-        ["newer", "length"] => answered(alloc, Ok(Answer::Number(V3HeaderBase::SIZE as u64))),
-        ["older", word] => older_part(alloc, word, draft),
-        ["newer", word] => newer_part(alloc, word, &newer(draft)?),
+        [word, "length"] => answered(alloc, part_length(word)),
+        ["older", "bytes", at, count] => {
+            older_bytes(alloc, &older(file)?, size(at)?, size(count)?)
+        }
+        ["older", word] => older_part(alloc, word, file),
+        ["newer", word] => newer_part(alloc, word, &newer(file)?),
         ["default", word] => newer_part(alloc, word, &V3HeaderBase::default()),
         _ => Err(Trouble::NoCall),
     }
 }
 
+// Clusters that are handed over: what they are, the first, and how many.
+fn handed_over(words: &[&str]) -> Result<ClustersToFreeEntry, Trouble> {
+    let [word, first, count] = words else {
+        return Err(Trouble::NoCall);
+    };
+    entry_of(word, number(first)?, number(count)?)
+}
+
+// An entry that is looked at, or is pending and then named, or not.
+fn entry(alloc: Global, word: &str, entry: ClustersToFreeEntry) -> Result<String, Trouble> {
+    match word {
+        "named" => pending(alloc, entry, true),
+        "unnamed" => pending(alloc, entry, false),
+        _ => shown_entry(alloc, entry),
+    }
+}
+
 /// The answer about features, clusters that are handed over, and parts of a header in the bytes of the file.
-pub fn parts(alloc: Global, words: &[&str], draft: &[u8]) -> Result<String, Trouble> {
+pub fn parts(alloc: Global, words: &[&str], file: &[u8]) -> Result<String, Trouble> {
     match words {
         ["feature", word] => shown_feature(alloc, word),
         ["feature_type", kind] => type_of_number(alloc, number(kind)?),
-        ["to_free", word, first, count] => {
-            shown_entry(alloc, entry_of(word, number(first)?, number(count)?)?)
-        }
-        ["pending", word, first, count, "named"] => {
-            pending(alloc, entry_of(word, number(first)?, number(count)?)?, true)
-        }
-        ["pending", word, first, count, "unnamed"] => {
-            pending(
-                alloc,
-                entry_of(word, number(first)?, number(count)?)?,
-                false,
-            )
-        }
-        ["part", rest @ ..] => part(alloc, rest, draft),
+        ["to_free", rest @ ..] => entry(alloc, "alone", handed_over(rest)?),
+        ["pending", word, rest @ ..] => entry(alloc, word, handed_over(rest)?),
+        ["part", rest @ ..] => part(alloc, rest, file),
         _ => Err(Trouble::NoCall),
     }
 }

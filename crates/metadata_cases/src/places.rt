@@ -122,7 +122,8 @@ fn host_of_indices(rt_index: u64, rb_index: u64, bits: u32) -> Result<Answer, Tr
     Ok(Answer::Number(cluster.0))
 }
 
-fn clusters(word: &str, n: u64, bits: u32) -> Result<Answer, Trouble>
+// A count of clusters, or of their bytes.
+fn count_of(word: &str, n: u64, bits: u32) -> Result<Answer, Trouble>
     requires { (9 ≤ bits) × (bits ≤ 21) }
 {
     match word {
@@ -136,50 +137,67 @@ fn clusters(word: &str, n: u64, bits: u32) -> Result<Answer, Trouble>
 }
 
 fn guest(words: &[&str]) -> Result<Answer, Trouble> {
-    match words {
-        ["offset", word, n, bits] => guest_offset(
-            word,
-            GuestOffset(number(n)?),
-            cluster_bits(bits)?,
-        ),
-        ["cluster", word, n, bits] => {
-            guest_cluster(word, GuestCluster(number(n)?), cluster_bits(bits)?)
-        }
-        ["of", l1_index, l2_index, bits] => {
-            guest_of_indices(number(l1_index)?, number(l2_index)?, cluster_bits(bits)?)
-        }
+    let [kind, word, n, bits] = words else {
+        return Err(Trouble::NoCall);
+    };
+    let (n, bits) = (number(n)?, cluster_bits(bits)?);
+    match *kind {
+        "offset" => guest_offset(word, GuestOffset(n), bits),
+        "cluster" => guest_cluster(word, GuestCluster(n), bits),
+        "of" => guest_of_indices(number(word)?, n, bits),
+        _ => Err(Trouble::NoCall),
+    }
+}
+
+// Where host clusters begin.
+fn host_place(kind: &str, word: &str, n: u64, bits: u32) -> Result<Answer, Trouble>
+    requires { (9 ≤ bits) × (bits ≤ 21) }
+{
+    match kind {
+        "offset" => host_offset(word, HostOffset(n), bits),
+        "begin" => host_begin(HostCluster(n), None, bits),
+        "beside" => host_begin(HostCluster(n), Some(GuestOffset(number(word)?)), bits),
+        _ => Err(Trouble::NoCall),
+    }
+}
+
+// Where host clusters are counted.
+fn host_count(kind: &str, word: &str, n: u64, bits: u32) -> Result<Answer, Trouble>
+    requires { bits ≤ 24 }
+{
+    match kind {
+        "counter" => host_counter(word, HostCluster(n), bits),
+        "of" => host_of_indices(number(word)?, n, bits),
         _ => Err(Trouble::NoCall),
     }
 }
 
 fn host(words: &[&str]) -> Result<Answer, Trouble> {
-    match words {
-        ["offset", word, n, bits] => host_offset(word, HostOffset(number(n)?), cluster_bits(bits)?),
-        ["cluster", "offset", n, bits] => {
-            host_begin(HostCluster(number(n)?), None, cluster_bits(bits)?)
-        }
-        ["cluster", "beside", guest, n, bits] => {
-            let guest = GuestOffset(number(guest)?);
-            host_begin(HostCluster(number(n)?), Some(guest), cluster_bits(bits)?)
-        }
-        ["cluster", word, n, bits] => {
-            host_counter(word, HostCluster(number(n)?), block_bits(bits)?)
-        }
-        ["of", rt_index, rb_index, bits] => {
-            host_of_indices(number(rt_index)?, number(rb_index)?, block_bits(bits)?)
-        }
-        _ => Err(Trouble::NoCall),
+    let [kind, word, n, bits] = words else {
+        return Err(Trouble::NoCall);
+    };
+    let n = number(n)?;
+    match *kind {
+        "counter" | "of" => host_count(kind, word, n, block_bits(bits)?),
+        _ => host_place(kind, word, n, cluster_bits(bits)?),
     }
+}
+
+fn clusters(words: &[&str]) -> Result<Answer, Trouble> {
+    let [word, n, bits] = words else {
+        return Err(Trouble::NoCall);
+    };
+    count_of(word, number(n)?, cluster_bits(bits)?)
 }
 
 /// The answer about places, or about counts of clusters.
 pub fn places(alloc: Global, words: &[&str]) -> Result<String, Trouble> {
-    match words {
-        ["guest", rest @ ..] => answered(alloc, guest(rest)),
-        ["host", rest @ ..] => answered(alloc, host(rest)),
-        ["clusters", word, n, bits] => {
-            answered(alloc, clusters(word, number(n)?, cluster_bits(bits)?))
-        }
-        _ => Err(Trouble::NoCall),
+    let [topic, rest @ ..] = words else {
+        return Err(Trouble::NoCall);
+    };
+    match *topic {
+        "guest" => answered(alloc, guest(rest)),
+        "host" => answered(alloc, host(rest)),
+        _ => answered(alloc, clusters(rest)),
     }
 }

@@ -31,6 +31,14 @@ pub struct Metadata<'a> {
     block: Option<RefBlock>,
 }
 
+// Whether an L2 table alone has calls that begin with this word.
+fn is_alone(word: &str) -> bool {
+    matches!(
+        word,
+        "mapping" | "guard" | "packed" | "map" | "zero" | "discard"
+    )
+}
+
 // A cluster of a script.
 fn cluster(word: &str) -> Result<HostCluster, Trouble> {
     Ok(HostCluster(number(word)?))
@@ -63,8 +71,8 @@ impl<'a> Metadata<'a> {
     }
 
     /// Puts the file into a storage of an alignment, whose `n`th call fails.
-    pub fn open(&mut self, alloc: Global, align: usize, n: u64) -> Result<String, Trouble> {
-        let image = image_of(&self.file, align, n, self.notes)?;
+    pub fn open(&mut self, alloc: Global, align: &str, n: &str) -> Result<String, Trouble> {
+        let image = image_of(&self.file, size(align)?, number(n)?, self.notes)?;
         self.image = Some(image);
         Ok(ok(alloc)?)
     }
@@ -329,10 +337,7 @@ impl<'a> Metadata<'a> {
             ["new"] => answered(alloc, self.new_l2(alloc)),
             ["copy"] => answered(alloc, self.copy_l2(alloc)),
             ["write_if_modified"] => answered(alloc, self.write_l2_if_modified(alloc)),
-            [
-                "mapping" | "guard" | "packed" | "map" | "zero" | "discard",
-                ..
-            ] => { self.l2_alone(alloc, words) }
+            [word, ..] if is_alone(word) => self.l2_alone(alloc, words),
             _ => answered(alloc, self.l2_table(alloc, words)),
         }
     }
