@@ -200,6 +200,3 @@ impl Header {
         self.write_first_fields(alloc, image)
     }
 }
-
-#[cfg(test)]
-mod tests;

@@ -9,7 +9,6 @@ use std::process::Abort;
 use std::test::Fail;
 
 mod allocations;
-mod gathering;
 mod mapped;
 
 // An image of 65,536 bytes after 01 02 03 were written at 510.
