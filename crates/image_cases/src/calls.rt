@@ -65,6 +65,8 @@ fn answers_told(alloc: Global, answers: &[Answer]) -> Result<String, Trouble> {
         let one = match answer {
             Answer::Done => ok(alloc)?,
             Answer::Bytes(bytes) => runs(alloc, bytes)?,
+            // So the case is run once more.
+            Answer::Refused(Fault::Memory) => return Err(Trouble::Refused(Fault::Memory)),
             Answer::Refused(fault) => fault.to_string(alloc)?,
         };
         joined(&mut text, one.as_str())?;
@@ -145,8 +147,9 @@ fn run_refused(alloc: Global, fault: RunFault) -> Result<String, Trouble> {
 // The lines that a run writes, with `/` behind each.
 fn run_lines(alloc: Global) -> Result<String, Trouble> {
     let mut written = Vec::new(alloc);
-    if let Err(fault) = first_run(alloc, &mut written) {
-        return run_refused(alloc, fault);
+    if first_run(alloc, &mut written).is_err() {
+        // This writer fails for want of memory alone.
+        return Err(Trouble::Refused(Fault::Memory));
     }
     let mut text = String::new(alloc);
     for line in str::from_utf8(&written).unwrap_or("other bytes").lines() {

@@ -140,25 +140,27 @@ pub fn put_small(image: &mut MemStorage, alloc: Global, words: &[&str]) -> Resul
     put_words(image, alloc, 2048, &["copied+0xa00", "copied+0xc00"])
 }
 
-// The place of a counter of less than 8 bits, as the number of zero bits below it in its byte.
+// Sets a counter of less than 8 bits, which begins so many bits behind a place.
 fn put_narrow(
     image: &mut MemStorage,
     alloc: Global,
-    place: u64,
-    (width, below): (u64, u64),
+    (place, bit): (u64, u64),
+    width: u64,
     count: u64,
 ) -> Result<(), Trouble> {
+    let at = place.wrapping_add(bit / 8);
+    let below = bit % 8;
     let mut byte = [0u8];
-    image.read(alloc, &mut byte, place)?;
+    image.read(alloc, &mut byte, at)?;
     let ones = match width {
         1 => 1u64,
         2 => 3,
         _ => 15,
     };
     let mask = ones << below;
-    let kept = u64::from(byte[0]) & !mask;
-    let [.., lowest] = (kept | (count << below) & mask).to_be_bytes();
-    Ok(image.write(alloc, &[lowest], place)?)
+    let others = u64::from(byte[0]) & !mask;
+    let [.., lowest] = (others | (count << below) & mask).to_be_bytes();
+    Ok(image.write(alloc, &[lowest], at)?)
 }
 
 /// Sets a counter of so many bits in a block.
@@ -176,7 +178,7 @@ pub fn put_counter(
     let bit = index.wrapping_mul(width);
     let place = block.wrapping_add(bit / 8);
     match width {
-        1 | 2 | 4 => put_narrow(image, alloc, place, (width, bit % 8), count),
+        1 | 2 | 4 => put_narrow(image, alloc, (block, bit), width, count),
         8 => put_number(image, alloc, place, 1, count),
         16 => put_number(image, alloc, place, 2, count),
         32 => put_number(image, alloc, place, 4, count),

@@ -99,6 +99,7 @@ impl<'a> Layer for Images<'a> {
             | "bytes"
             | "length"
             | "changes"
+            | "change"
             | "calls"
             | "flushes"
             | "syncs"

@@ -2,7 +2,7 @@
 use crate::findings;
 use crate::images::{Images, refused};
 use crate::kept::Image;
-use cases::{Trouble, joined, number, runs, size, told};
+use cases::{Trouble, number, runs, size, told};
 use imago_access::Format;
 use imago_storage::{MemStorage, Request, Storage, StorageExt};
 use qimg_core::check::check;
@@ -17,24 +17,18 @@ fn change_told(alloc: Global, request: &Request) -> Result<String, AllocError> {
     match request {
         Request::Write { offset, bytes } => {
             let length = bytes.len();
-            format!(in alloc; "write {offset} {length};")
+            format!(in alloc; "write {offset} {length}")
         }
-        Request::Zeroes { offset, length } => format!(in alloc; "zeroes {offset} {length};"),
-        Request::Resize { size } => format!(in alloc; "resize {size};"),
+        Request::Zeroes { offset, length } => format!(in alloc; "zeroes {offset} {length}"),
+        Request::Resize { size } => format!(in alloc; "resize {size}"),
     }
 }
 
-// Changes of a storage, in words, of which each ends with `;`.
-fn changes_told(alloc: Global, requests: &[Request]) -> Result<String, AllocError> {
-    if requests.is_empty() {
-        return "none".to_string(alloc);
-    }
-    let mut text = String::new(alloc);
-    for request in requests.iter() {
-        let one = change_told(alloc, request)?;
-        joined(&mut text, one.as_str())?;
-    }
-    Ok(text)
+// The change of this number, from 1 on.
+fn nth_change(alloc: Global, requests: &[Request], nth: usize) -> Result<String, Trouble> {
+    let index = nth.checked_sub(1).ok_or(Trouble::NoCall)?;
+    let request = requests.get(index).ok_or(Trouble::NoCall)?;
+    Ok(change_told(alloc, request)?)
 }
 
 // How many stops pass the checker, or what it finds in the first that doesn't.
@@ -114,13 +108,14 @@ impl<'a> Images<'a> {
     }
 
     // What the storage that was last made tells of itself.
-    fn kept_told(&mut self, alloc: Global, name: &str) -> Result<String, Trouble> {
+    fn kept_told(&mut self, alloc: Global, name: &str, words: &[&str]) -> Result<String, Trouble> {
         let Some(kept) = &mut self.kept else {
             return Err(Trouble::NoCall);
         };
-        match name {
-            "stops" => stops_told(alloc, kept),
-            "changes" => Ok(changes_told(alloc, kept.requests())?),
+        match (name, words) {
+            ("stops", []) => stops_told(alloc, kept),
+            ("changes", []) => Ok(kept.requests().len().to_string(alloc)?),
+            ("change", [nth]) => nth_change(alloc, kept.requests(), size(nth)?),
             _ => Err(Trouble::NoCall),
         }
     }
@@ -131,7 +126,8 @@ impl<'a> Images<'a> {
     ///     plain OFFSET LENGTH [FORMAT ..]  bytes by a plain read, of one qcow2 file or a chain of such; `none` is a chain of no file
     ///     bytes OFFSET LENGTH              bytes of the file
     ///     length                           the file's length
-    ///     changes                          the changes of the storage that was last made
+    ///     changes                          how many changes of the storage there were that was last made
+    ///     change N                         one of them, from 1 on
     ///     stops                            how many files that a stop between them leaves the checker passes
     ///     calls, flushes, syncs            how often it was called at all, and for these
     ///     asked                            what it was asked since this was last told
@@ -166,8 +162,7 @@ impl<'a> Images<'a> {
             ("syncs", []) => Ok(self.noted.counts.get().syncs.to_string(alloc)?),
             ("asked", []) => Ok(told(alloc, self.noted.notes)?),
             ("finding", [name]) => findings::text_of(alloc, name),
-            (name, []) => self.kept_told(alloc, name),
-            _ => Err(Trouble::NoCall),
+            _ => self.kept_told(alloc, name, words),
         }
     }
 }
