@@ -59,7 +59,7 @@ fn make_call<S: Storage>(
 }
 
 /// Makes the calls in order, and answers each; refused where there was no room for an answer.
-pub(super) fn run_calls<S: Storage>(
+fn run_calls<S: Storage>(
     disk: &mut Disk<S>,
     alloc: Global,
     calls: &[Call],
