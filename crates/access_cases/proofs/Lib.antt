@@ -1,0 +1,2 @@
+pub mod PreparedRuns
+pub mod OwnCauses

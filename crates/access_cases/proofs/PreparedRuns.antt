@@ -1,0 +1,78 @@
+-- What an image of one cluster prepares, and what it makes of a run that is committed.
+use Rattle.std.proofs.Common.{◌≡◌, ℕ, ◌+◌, ◌<◌, ◌≤◌, Bool, true, false, Option, Some, None, List, get_or, replicate, map, refl, ◌∙◌, ap, inl, inr, arith}
+use Rattle.std.proofs.Math.ListN as ListN
+use Rattle.std.proofs.lemmas.Bool.{cases_lt}
+use Rattle.std.proofs.lemmas.Bool.Decides.{nat_tests}
+use Rattle.std.proofs.lemmas.List.{get_or-replicate, get_or_past}
+use Rattle.std.proofs.lemmas.Option.{cond_some}
+use Rattle.std.proofs.Math.ListN.{length-replicate}
+use Rattle.std.specs.Prelude.{◌&&◌, ◌⊎◌, if◌then◌else◌, ltb, leb, IsTrue}
+use Rattle.std.specs.Option.{unwrap_or}
+use Rattle.imago_storage.specs.Disk.{Value, byte}
+use Rattle.imago_access.specs.Layer.{Layer, own, loose, inside}
+use Rattle.imago_access.specs.Changes.{IsHolding, Prepared, Settles}
+use Rattle.access_cases.specs.Clusters.{home_in, held_in, blank_of, IsRunOf}
+
+is_inside : (start n p : ℕ) → start ≤ p → p < start + n → (leb start p && ltb p (start + n)) ≡ true
+is_inside start n p ge lt = grind (arith, nat_tests)
+
+home_inside : (start n i : ℕ) → i < n → home_in start (start + n) (start + i) ≡ Some (0, start + i)
+home_inside start n i lt = rw (is_inside start n (start + i) (omega arith) (omega arith))
+
+none_written : (n p : ℕ) → get_or (replicate {A = Option ℕ} n None) p None ≡ None
+none_written n p = elim (cases_lt p n) [
+  | inl lt ↦ get_or-replicate {A = Option ℕ} n p None None lt
+  | inr past ↦ get_or_past (replicate {A = Option ℕ} n None) p None (omega (arith, length-replicate {A = Option ℕ}))
+]
+
+run_holds : (below : ℕ → Value) (layer : Layer) (start n size p : ℕ) (overwrite : Bool) → IsHolding below layer start n overwrite p (held_in start (start + n) overwrite (replicate size None) p)
+run_holds below layer start n size p overwrite = from (leb start p && ltb p (start + n)) refl where
+  from : (b : Bool) → (leb start p && ltb p (start + n)) ≡ b → IsHolding below layer start n overwrite p (if b then inside None (get_or (replicate size None) p None) overwrite else loose)
+  from true is = ((grind (arith, nat_tests), grind (arith, nat_tests)), none_written size p, refl)
+  from false is = tt
+
+-- A run that is prepared: it can be written where it is, and nothing is written to it yet.
+pub run_prepared : (below : ℕ → Value) (old new : Layer) (start n size claim : ℕ) (overwrite : Bool) → 0 < n
+    → new.fixed ≡ old.fixed → new.size ≡ old.size → new.cell ≡ old.cell → new.unspent ≡ Some claim
+    → new.home ≡ home_in start (start + n) → new.held ≡ held_in start (start + n) overwrite (replicate size None)
+    → Prepared below old new start n overwrite 0 start n (Some claim)
+run_prepared below old new start n size claim overwrite some fixed same cell unspent home held = record {
+  fixed = fixed;
+  size = same;
+  cell = cell;
+  home = λ i lt. rw home (home_inside start n i lt);
+  unspent = unspent;
+  holds = λ p. rw held (run_holds below new start n size p overwrite);
+  some_held = λ c is. (start, None, (omega arith, omega arith), rw held (rw (is_inside start n start (omega arith) (omega arith)) (ap (λ (w : Option ℕ). inside None w overwrite) (none_written size start))));
+}
+
+outside : (start end p : ℕ) → (leb start p && ltb p end) ≡ false → (p < start) ⊎ (end ≤ p)
+outside start end p out = elim (cases_lt p start) [
+  | inl before ↦ inl before
+  | inr from ↦ elim (cases_lt p end) [ inl within ↦ absurd (grind (arith, nat_tests)) | inr behind ↦ inr behind ]
+]
+
+settled_to : (written : Option ℕ) (announced : Bool) (v : ℕ) → v ≡ unwrap_or written 0 → Settles (inside None written announced) (own (byte 0)) (own (byte v))
+settled_to (Some b) announced v is = ap (λ x. own (byte x)) is
+settled_to None true v is = inl (ap (λ x. own (byte x)) is)
+settled_to None false v is = ap (λ x. own (byte x)) is
+
+-- A place of a run that is committed has what was written to it, and else what it had.
+pub settled_cell : (size start end p : ℕ) (backed announced : Bool) (written : List (Option ℕ)) (bytes : List ℕ) → IsRunOf size backed start end written
+    → bytes ≡ map (λ w. unwrap_or w 0) written → Settles (held_in start end announced written p) (blank_of backed) (own (byte (get_or bytes p 0)))
+settled_cell size start end p backed announced written bytes run is = rw run.alone (from (leb start p && ltb p end) refl) where
+  place : get_or bytes p 0 ≡ unwrap_or (get_or written p None) 0
+  place = rw is (ListN.get_or-map (λ (w : Option ℕ). unwrap_or w 0) written p None)
+
+  from : (b : Bool) → (leb start p && ltb p end) ≡ b → Settles (if b then inside None (get_or written p None) announced else loose) (own (byte 0)) (own (byte (get_or bytes p 0)))
+  from true in_run = settled_to (get_or written p None) announced (get_or bytes p 0) place
+  from false out = ap (λ x. own (byte x)) (place ∙ ap (λ (w : Option ℕ). unwrap_or w 0) (run.others p (outside start end p out)))
+
+-- It can be written in the same place.
+pub home_kept : (size start end p : ℕ) (writable : Bool) (at : ℕ × ℕ) → end ≤ size → IsTrue writable → home_in start end p ≡ Some at → home_in 0 (if writable then size else 0) p ≡ Some at
+home_kept size start end p writable at within opened is =
+    let parts = cond_some (leb start p && ltb p end) (0, p) at is in
+    let tested = parts.0 in
+    let before : p < size = grind (arith, nat_tests) in
+    let there : (leb 0 p && ltb p size) ≡ true = grind (arith, nat_tests) in
+    rw opened (rw there (ap (λ (x : ℕ × ℕ). Some x) parts.1))

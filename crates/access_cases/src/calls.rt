@@ -1,0 +1,259 @@
+// The calls of a disk, each in one function: a call is proved with all that is stated of the driver, which is much.
+ghost use Rattle.std.specs.Prelude.{◌≡◌, IsTrue};
+ghost use Rattle.imago_access.specs.Layer.{IsFree};
+ghost use Rattle.imago_access.specs.Chain.{Each};
+ghost use Rattle.imago_access.specs.Layers.{chain};
+
+use crate::texts::{deep, shallow};
+use cases::{Trouble, joined, ok, runs};
+use imago_access::{FormatAccess, FormatDriverInstance, PreallocateMode, PreparedDataMapping};
+use imago_storage::Fault;
+use std::alloc::Global;
+
+/// The most bytes that a script reads at once.
+const MOST: u64 = 16_777_216;
+
+/// A buffer of bytes that are no answer.
+pub fn buffer(alloc: Global, n: u64) -> Result<Vec<u8>, Trouble> {
+    if n > MOST {
+        return Err(Trouble::NoCall);
+    }
+    Ok(vec![in alloc; 7u8; n as usize]?)
+}
+
+/// Whether nothing is prepared in the top layer.
+pub fn is_free<D: FormatDriverInstance>(access: &FormatAccess<D>) -> bool
+    ensures { IsTrue result → IsFree (D.layer access.now.0) }
+{
+    !access.inner().prepared()
+}
+
+/// Changes of a range that take no bytes.
+#[derive(Clone, Copy)]
+pub enum Change {
+    Zeroes,
+    ToZero,
+    ToAny,
+    ToBacking,
+}
+
+/// Makes a change of a range, where nothing is prepared.
+pub fn change_range<D: FormatDriverInstance>(
+    alloc: Global,
+    access: &mut FormatAccess<D>,
+    change: Change,
+    offset: u64,
+    n: u64,
+) -> Result<(), Trouble> {
+    if !is_free(access) {
+        return Err(Trouble::NoCall);
+    }
+    match change {
+        Change::Zeroes => Ok(access.write_zeroes(alloc, offset, n)?),
+        Change::ToZero => Ok(access.discard_to_zero(alloc, offset, n)?),
+        Change::ToAny => Ok(access.discard_to_any(alloc, offset, n)?),
+        Change::ToBacking => Ok(access.discard_to_backing(alloc, offset, n)?),
+    }
+}
+
+pub fn read<D: FormatDriverInstance>(
+    alloc: Global,
+    access: &mut FormatAccess<D>,
+    offset: u64,
+    n: u64,
+) -> Result<String, Trouble> {
+    let mut buf = buffer(alloc, n)?;
+    access.read(alloc, &mut buf, offset)?;
+    Ok(runs(alloc, &buf)?)
+}
+
+pub fn write<D: FormatDriverInstance>(
+    alloc: Global,
+    access: &mut FormatAccess<D>,
+    bytes: &[u8],
+    offset: u64,
+) -> Result<(), Trouble> {
+    if !is_free(access) {
+        return Err(Trouble::NoCall);
+    }
+    Ok(access.write(alloc, bytes, offset)?)
+}
+
+pub fn write_mapped<D: FormatDriverInstance>(
+    alloc: Global,
+    access: &mut FormatAccess<D>,
+    guest: u64,
+    place: u64,
+    bytes: &[u8],
+) -> Result<(), Trouble> {
+    Ok(access.write_mapped(alloc, guest, place, bytes)?)
+}
+
+pub fn map<D: FormatDriverInstance>(
+    alloc: Global,
+    access: &mut FormatAccess<D>,
+    offset: u64,
+    n: u64,
+) -> Result<String, Trouble> {
+    let (mapping, length) = access.get_mapping(alloc, offset, n)?;
+    Ok(deep(alloc, mapping, length)?)
+}
+
+pub fn map_shallow<D: FormatDriverInstance>(
+    alloc: Global,
+    access: &mut FormatAccess<D>,
+    offset: u64,
+    n: u64,
+) -> Result<String, Trouble> {
+    let (mapping, length) = access.get_shallow_mapping(alloc, offset, n)?;
+    Ok(shallow(alloc, mapping, length)?)
+}
+
+pub fn ensure<D: FormatDriverInstance>(
+    alloc: Global,
+    access: &mut FormatAccess<D>,
+    offset: u64,
+    n: u64,
+    overwrite: bool,
+) -> Result<String, Trouble> {
+    if !is_free(access) {
+        return Err(Trouble::NoCall);
+    }
+    let (mapping, length) = access.ensure_data_mapping(alloc, offset, n, overwrite)?;
+    Ok(deep(alloc, mapping, length)?)
+}
+
+pub fn prepare<D: FormatDriverInstance>(
+    alloc: Global,
+    access: &mut FormatAccess<D>,
+    offset: u64,
+    n: u64,
+    overwrite: bool,
+) -> Result<PreparedDataMapping<D::State>, Trouble> {
+    if !is_free(access) {
+        return Err(Trouble::NoCall);
+    }
+    match access.prepare_data_mapping(alloc, offset, n, overwrite) {
+        Ok(mapping) => Ok(mapping),
+        Err(fault) => Err(Trouble::Refused(fault)),
+    }
+}
+
+pub fn commit<D: FormatDriverInstance>(
+    alloc: Global,
+    access: &mut FormatAccess<D>,
+    mapping: PreparedDataMapping<D::State>,
+) -> Result<(), (Fault, Option<PreparedDataMapping<D::State>>)> {
+    access.commit_data_mapping(alloc, mapping)
+}
+
+pub fn cancel<D: FormatDriverInstance>(
+    access: &mut FormatAccess<D>,
+    mapping: PreparedDataMapping<D::State>,
+) -> Result<(), (Fault, PreparedDataMapping<D::State>)> {
+    access.cancel(mapping)
+}
+
+pub fn grow<D: FormatDriverInstance>(
+    alloc: Global,
+    access: &mut FormatAccess<D>,
+    size: u64,
+    mode: PreallocateMode,
+) -> Result<(), Trouble> {
+    if !is_free(access) {
+        return Err(Trouble::NoCall);
+    }
+    Ok(access.resize_grow(alloc, size, mode)?)
+}
+
+pub fn shrink<D: FormatDriverInstance>(
+    alloc: Global,
+    access: &mut FormatAccess<D>,
+    size: u64,
+) -> Result<(), Trouble> {
+    if !is_free(access) {
+        return Err(Trouble::NoCall);
+    }
+    Ok(access.resize_shrink(alloc, size)?)
+}
+
+pub fn resize<D: FormatDriverInstance>(
+    alloc: Global,
+    access: &mut FormatAccess<D>,
+    size: u64,
+    mode: PreallocateMode,
+) -> Result<(), Trouble> {
+    if !is_free(access) {
+        return Err(Trouble::NoCall);
+    }
+    Ok(access.resize(alloc, size, mode)?)
+}
+
+pub fn flush<D: FormatDriverInstance>(
+    alloc: Global,
+    access: &mut FormatAccess<D>,
+) -> Result<(), Trouble> {
+    Ok(access.flush(alloc)?)
+}
+
+pub fn sync<D: FormatDriverInstance>(access: &mut FormatAccess<D>) -> Result<(), Trouble> {
+    Ok(access.sync()?)
+}
+
+// Whether nothing is prepared in any layer.
+fn is_all_free<D: FormatDriverInstance>(access: &FormatAccess<D>) -> bool
+    ensures { IsTrue result → Each (λ d. IsFree (D.layer d)) (chain access.now) }
+{
+    match access.below() {
+        None => is_free(access),
+        Some(below) => is_free(access) && is_all_free(below),
+    }
+}
+
+/// Reads what the layers hold in memory again, where nothing is prepared in any.
+pub fn invalidate<D: FormatDriverInstance>(
+    alloc: Global,
+    access: &mut FormatAccess<D>,
+) -> Result<(), Trouble> {
+    if !is_all_free(access) {
+        return Err(Trouble::NoCall);
+    }
+    Ok(access.invalidate_cache(alloc)?)
+}
+
+/// The greatest alignments of requests and of memory.
+pub fn aligns<D: FormatDriverInstance>(
+    alloc: Global,
+    access: &FormatAccess<D>,
+) -> Result<String, Trouble> {
+    let (requests, memory) = (access.req_align(), access.mem_align());
+    Ok(format!(in alloc; "{requests} {memory}")?)
+}
+
+/// The sizes of the layers, the highest first.
+pub fn sizes<D: FormatDriverInstance>(
+    alloc: Global,
+    access: &FormatAccess<D>,
+) -> Result<String, Trouble> {
+    let mut text = String::new(alloc);
+    let mut layer = Some(access);
+    for _ in 0..MOST_LAYERS {
+        let Some(one) = layer else {
+            return Ok(text);
+        };
+        let size = one.size().to_string(alloc)?;
+        joined(&mut text, size.as_str())?;
+        layer = one.below();
+    }
+    joined(&mut text, "more")?;
+    Ok(text)
+}
+
+/// The most layers whose sizes are told.
+const MOST_LAYERS: u8 = 16;
+
+/// The answer of a call that succeeds and gives nothing.
+pub fn done(alloc: Global, answer: Result<(), Trouble>) -> Result<String, Trouble> {
+    answer?;
+    Ok(ok(alloc)?)
+}

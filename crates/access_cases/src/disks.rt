@@ -1,0 +1,476 @@
+// The disks of a case, its prepared mappings, and the calls of its lines.
+use crate::building::{Creation, Told, create, create_builder, creating, gate, open, opening};
+use crate::calls::{
+    Change, aligns, cancel, change_range, commit, done, ensure, flush, grow, invalidate, is_free,
+    map, map_shallow, prepare, read, resize, shrink, sizes, sync, write, write_mapped,
+};
+use crate::clusters::PreparedCluster;
+use crate::drivers::Driver;
+use crate::driving::nothing_below;
+use crate::layers::{
+    Disk, add, count, drive_top, driver_of, faults, lookups, probe, storage, write_storage,
+};
+use crate::storages::{Base, Notebook, storage_of};
+use crate::texts;
+use cases::{Layer, Notes, Trouble, bytes, number, ok, size, told};
+use imago_access::{FormatAccess, PreallocateMode, PreparedDataMapping, check_range};
+use imago_formats::Raw;
+use std::alloc::Global;
+use std::mem;
+
+type Prepared = PreparedDataMapping<PreparedCluster>;
+
+/// The disk that calls go to, another one, and a prepared mapping beside each.
+pub struct Disks<'a> {
+    disk: Option<Disk<'a>>,
+    other: Option<Disk<'a>>,
+    mapping: Option<Prepared>,
+    other_mapping: Option<Prepared>,
+    notes: Notebook<'a>,
+}
+
+// A mapping is forgotten.
+fn let_go(mapping: Option<Prepared>) {
+    if let Some(mapping) = mapping {
+        let _state = mapping.into_state();
+    }
+}
+
+fn mode_of(word: &str) -> Result<PreallocateMode, Trouble> {
+    match word {
+        "none" => Ok(PreallocateMode::None),
+        "zero" => Ok(PreallocateMode::Zero),
+        "format" => Ok(PreallocateMode::FormatAllocate),
+        "full" => Ok(PreallocateMode::FullAllocate),
+        "data" => Ok(PreallocateMode::WriteData),
+        _ => Err(Trouble::NoCall),
+    }
+}
+
+fn change_of(word: &str) -> Result<Change, Trouble> {
+    match word {
+        "zeroes" => Ok(Change::Zeroes),
+        "to_zero" => Ok(Change::ToZero),
+        "to_any" => Ok(Change::ToAny),
+        "to_backing" => Ok(Change::ToBacking),
+        _ => Err(Trouble::NoCall),
+    }
+}
+
+fn written<'a>(
+    alloc: Global,
+    disk: &mut Disk<'a>,
+    offset: u64,
+    words: &[&str],
+) -> Result<(), Trouble> {
+    let given = bytes(alloc, words)?;
+    write(alloc, disk, &given, offset)
+}
+
+fn written_to_storage<'a>(
+    alloc: Global,
+    disk: &mut Disk<'a>,
+    offset: u64,
+    words: &[&str],
+) -> Result<(), Trouble> {
+    let given = bytes(alloc, words)?;
+    write_storage(alloc, disk, &given, offset)
+}
+
+fn written_mapped<'a>(
+    alloc: Global,
+    disk: &mut Disk<'a>,
+    guest: u64,
+    words: &[&str],
+) -> Result<(), Trouble> {
+    let [place, rest @ ..] = words else {
+        return Err(Trouble::NoCall);
+    };
+    let place = number(place)?;
+    let given = bytes(alloc, rest)?;
+    write_mapped(alloc, disk, guest, place, &given)
+}
+
+// A call that keeps a disk and its files in step.
+fn kept<'a>(alloc: Global, disk: &mut Disk<'a>, word: &str) -> Result<(), Trouble> {
+    match word {
+        "flush" => flush(alloc, disk),
+        "sync" => sync(disk),
+        "invalidate" => invalidate(alloc, disk),
+        _ => Err(Trouble::NoCall),
+    }
+}
+
+// The one word that there is.
+fn only<'x>(words: &[&'x str]) -> Result<&'x str, Trouble> {
+    match words {
+        [word] => Ok(*word),
+        _ => Err(Trouble::NoCall),
+    }
+}
+
+// A length, and whether all of the run is going to be written.
+fn run_of(words: &[&str]) -> Result<(u64, bool), Trouble> {
+    match words {
+        [n] => Ok((number(n)?, false)),
+        [n, "overwrite"] => Ok((number(n)?, true)),
+        _ => Err(Trouble::NoCall),
+    }
+}
+
+// A growth or a resize, or a change of a range.
+fn changed<'a>(
+    alloc: Global,
+    disk: &mut Disk<'a>,
+    word: &str,
+    first: u64,
+    last: &str,
+) -> Result<(), Trouble> {
+    match word {
+        "grow" => grow(alloc, disk, first, mode_of(last)?),
+        "resize" => resize(alloc, disk, first, mode_of(last)?),
+        _ => change_range(alloc, disk, change_of(word)?, first, number(last)?),
+    }
+}
+
+// A call of a disk that begins with a number and answers nothing.
+fn done_at<'a>(
+    alloc: Global,
+    disk: &mut Disk<'a>,
+    word: &str,
+    first: u64,
+    words: &[&str],
+) -> Result<(), Trouble> {
+    match word {
+        "write" => written(alloc, disk, first, words),
+        "write_storage" => written_to_storage(alloc, disk, first, words),
+        "write_mapped" => written_mapped(alloc, disk, first, words),
+        "shrink" if words.is_empty() => shrink(alloc, disk, first),
+        _ => changed(alloc, disk, word, first, only(words)?),
+    }
+}
+
+// What a disk says of itself.
+fn told_of_disk<'a>(alloc: Global, disk: &mut Disk<'a>, word: &str) -> Result<String, Trouble> {
+    match word {
+        "sizes" => sizes(alloc, disk),
+        "aligns" => aligns(alloc, disk),
+        "named" => Ok(format!(in alloc; "{disk}")?),
+        "count" => Ok(count(disk)?.to_string(alloc)?),
+        "prepared" => Ok((!is_free(disk)).to_string(alloc)?),
+        "storage" => storage(alloc, disk),
+        "faults" => Ok(faults(disk)?.to_string(alloc)?),
+        "lookups" => lookups(alloc, disk),
+        _ => done(alloc, kept(alloc, disk, word)),
+    }
+}
+
+// A call of a disk that begins with a number.
+fn called_at<'a>(
+    alloc: Global,
+    disk: &mut Disk<'a>,
+    word: &str,
+    first: u64,
+    words: &[&str],
+) -> Result<String, Trouble> {
+    match word {
+        "read" => read(alloc, disk, first, number(only(words)?)?),
+        "map" => map(alloc, disk, first, number(only(words)?)?),
+        "shallow" => map_shallow(alloc, disk, first, number(only(words)?)?),
+        "ensure" => {
+            let (n, overwrite) = run_of(words)?;
+            ensure(alloc, disk, first, n, overwrite)
+        }
+        _ => done(alloc, done_at(alloc, disk, word, first, words)),
+    }
+}
+
+// A call of a disk.
+fn called<'a>(alloc: Global, disk: &mut Disk<'a>, words: &[&str]) -> Result<String, Trouble> {
+    match words {
+        [word] => told_of_disk(alloc, disk, word),
+        ["driver", rest @ ..] => drive_top(alloc, disk, rest),
+        [word, first, rest @ ..] => called_at(alloc, disk, word, number(first)?, rest),
+        _ => Err(Trouble::NoCall),
+    }
+}
+
+// What an opening is told: `writing` or `reading`, `direct` or `cached`, and a name.
+fn told_of<'x>(words: &[&'x str]) -> Result<Told<'x>, Trouble> {
+    let [writing, direct, file] = words else {
+        return Err(Trouble::NoCall);
+    };
+    Ok(Told {
+        is_writing: *writing == "writing",
+        is_direct: *direct == "direct",
+        file: if *file == "-" { None } else { Some(*file) },
+    })
+}
+
+fn is_writable(word: &str) -> Result<bool, Trouble> {
+    match word {
+        "writable" => Ok(true),
+        "read_only" => Ok(false),
+        _ => Err(Trouble::NoCall),
+    }
+}
+
+// Whether a range may be changed: access, unit, size, offset and length.
+fn checked(alloc: Global, words: [&str; 5]) -> Result<String, Trouble> {
+    let [access, unit, size, offset, n] = words;
+    let (writable, unit) = (is_writable(access)?, number(unit)?);
+    let (size, offset, n) = (number(size)?, number(offset)?, number(n)?);
+    if unit == 0 {
+        return Err(Trouble::NoCall);
+    }
+    check_range(writable, unit, size, offset, n)?;
+    Ok(ok(alloc)?)
+}
+
+// A call with two words that needs no disk.
+fn alone_of_two(alloc: Global, word: &str, first: u64, last: &str) -> Result<String, Trouble> {
+    match word {
+        "creating" => creating(alloc, first, mode_of(last)?),
+        "create_builder" => create_builder(alloc, first, mode_of(last)?),
+        "nothing_below" => nothing_below(alloc, first, number(last)?),
+        _ => Err(Trouble::NoCall),
+    }
+}
+
+// A call that needs no disk.
+fn alone(alloc: Global, words: &[&str]) -> Result<String, Trouble> {
+    match words {
+        ["gate", name] => gate(alloc, name),
+        ["opening"] => opening(alloc, None),
+        ["opening", rest @ ..] => opening(alloc, Some(told_of(rest)?)),
+        ["check_range", access, unit, size, offset, n] => {
+            checked(alloc, [*access, *unit, *size, *offset, *n])
+        }
+        [word, first, last] => alone_of_two(alloc, word, number(first)?, last),
+        _ => Err(Trouble::NoCall),
+    }
+}
+
+impl<'a> Disks<'a> {
+    pub fn new(notes: Notebook<'a>) -> Self {
+        Disks {
+            disk: None,
+            other: None,
+            mapping: None,
+            other_mapping: None,
+            notes,
+        }
+    }
+
+    /// Lets go of all.
+    pub fn close(self) {
+        let Disks {
+            disk,
+            other,
+            mapping,
+            other_mapping,
+            notes: _notes,
+        } = self;
+        drop(disk);
+        drop(other);
+        let_go(mapping);
+        let_go(other_mapping);
+    }
+
+    fn keep(&mut self, mapping: Option<Prepared>) {
+        let_go(mem::replace(&mut self.mapping, mapping));
+    }
+
+    fn add(&mut self, alloc: Global, words: &[&str]) -> Result<String, Trouble> {
+        let driver = driver_of(alloc, words, self.notes)?;
+        let disk = add(alloc, driver, self.disk.take())?;
+        self.disk = Some(disk);
+        Ok(ok(alloc)?)
+    }
+
+    // Puts a raw image in the place of the disk.
+    fn put(&mut self, raw: Raw<Base<'a>>) {
+        self.disk = Some(FormatAccess::new(Driver::Raw(raw)));
+    }
+
+    // Opens a raw image by its builder; the answer is what that says of itself.
+    fn open(
+        &mut self,
+        alloc: Global,
+        told: Option<Told<'_>>,
+        words: &[&str],
+    ) -> Result<String, Trouble> {
+        let storage = storage_of(alloc, words, self.notes)?;
+        let mut text = String::new(alloc);
+        let raw = open(alloc, storage, told, &mut text)?;
+        self.put(raw);
+        Ok(text)
+    }
+
+    // Creates a raw image of a size, in a mode.
+    fn create(
+        &mut self,
+        alloc: Global,
+        creation: Creation,
+        size: &str,
+        mode: &str,
+        words: &[&str],
+    ) -> Result<String, Trouble> {
+        let (size, mode) = (number(size)?, mode_of(mode)?);
+        let storage = storage_of(alloc, words, self.notes)?;
+        let raw = create(alloc, creation, storage, size, mode)?;
+        self.put(raw);
+        Ok(ok(alloc)?)
+    }
+
+    fn prepared(
+        &mut self,
+        alloc: Global,
+        offset: u64,
+        n: u64,
+        overwrite: bool,
+    ) -> Result<String, Trouble> {
+        let Some(disk) = &mut self.disk else {
+            return Err(Trouble::NoCall);
+        };
+        if self.mapping.is_some() {
+            return Err(Trouble::NoCall);
+        }
+        let mapping = prepare(alloc, disk, offset, n, overwrite)?;
+        self.keep(Some(mapping));
+        self.told_mapping(alloc)
+    }
+
+    fn told_mapping(&self, alloc: Global) -> Result<String, Trouble> {
+        match &self.mapping {
+            None => Ok("none".to_string(alloc)?),
+            Some(mapping) => Ok(texts::prepared(alloc, mapping)?),
+        }
+    }
+
+    // Commits the mapping; one that is given back stays.
+    fn commit(&mut self, alloc: Global) -> Result<String, Trouble> {
+        let Some(disk) = &mut self.disk else {
+            return Err(Trouble::NoCall);
+        };
+        let Some(mapping) = self.mapping.take() else {
+            return Err(Trouble::NoCall);
+        };
+        match commit(alloc, disk, mapping) {
+            Ok(()) => Ok(ok(alloc)?),
+            Err((fault, back)) => {
+                self.keep(back);
+                Err(Trouble::Refused(fault))
+            }
+        }
+    }
+
+    // Gives the mapping up; one that is given back stays.
+    fn cancel(&mut self, alloc: Global) -> Result<String, Trouble> {
+        let Some(disk) = &mut self.disk else {
+            return Err(Trouble::NoCall);
+        };
+        let Some(mapping) = self.mapping.take() else {
+            return Err(Trouble::NoCall);
+        };
+        match cancel(disk, mapping) {
+            Ok(()) => Ok(ok(alloc)?),
+            Err((fault, back)) => {
+                self.keep(Some(back));
+                Err(Trouble::Refused(fault))
+            }
+        }
+    }
+
+    // A mapping of these words: its storage, offset and length, and what it is known by, if it has state.
+    fn make_mapping(&mut self, alloc: Global, words: &[&str]) -> Result<String, Trouble> {
+        let mapping = match words {
+            [storage, offset, n] => {
+                let (storage, offset, n) = (size(storage)?, number(offset)?, number(n)?);
+                PreparedDataMapping::existing(storage, offset, n)
+            }
+            [storage, offset, n, image, claim] => {
+                let (storage, offset, n) = (size(storage)?, number(offset)?, number(n)?);
+                let (image, claim) = (number(image)?, number(claim)?);
+                let state = PreparedCluster { image, claim };
+                PreparedDataMapping::to_commit(storage, offset, n, state)
+            }
+            _ => return Err(Trouble::NoCall),
+        };
+        self.keep(Some(mapping));
+        self.told_mapping(alloc)
+    }
+
+    // A call of the disk, or one that needs none.
+    fn call(&mut self, alloc: Global, words: &[&str]) -> Result<String, Trouble> {
+        match &mut self.disk {
+            None => alone(alloc, words),
+            Some(disk) => called(alloc, disk, words),
+        }
+    }
+
+    // The mappings of a case, and what its storages note.
+    fn mapped(&mut self, alloc: Global, words: &[&str]) -> Result<String, Trouble> {
+        match words {
+            ["prepare", offset, rest @ ..] => {
+                let (n, overwrite) = run_of(rest)?;
+                self.prepared(alloc, number(offset)?, n, overwrite)
+            }
+            ["commit"] => self.commit(alloc),
+            ["cancel"] => self.cancel(alloc),
+            ["mapping"] => self.told_mapping(alloc),
+            ["mapping", rest @ ..] => self.make_mapping(alloc, rest),
+            ["asked"] => Ok(told(alloc, self.notes.asked)?),
+            ["resized"] => Ok(texts::mode(self.notes.mode.replace(None)).to_string(alloc)?),
+            _ => self.call(alloc, words),
+        }
+    }
+}
+
+impl<'a> Layer for Disks<'a> {
+    fn begin(&mut self) {
+        self.disk = None;
+        self.other = None;
+        self.keep(None);
+        let_go(self.other_mapping.take());
+        self.notes.asked.set(Notes::none());
+        self.notes.mode.set(None);
+    }
+
+    fn answer(&mut self, alloc: Global, words: &[&str]) -> Result<String, Trouble> {
+        match words {
+            ["layer", rest @ ..] => self.add(alloc, rest),
+            ["open", rest @ ..] => self.open(alloc, None, rest),
+            ["open_told", writing, direct, file, rest @ ..] => {
+                let told = told_of(&[*writing, *direct, *file])?;
+                self.open(alloc, Some(told), rest)
+            }
+            ["create", size, mode, rest @ ..] => {
+                self.create(alloc, Creation::Alone, size, mode, rest)
+            }
+            ["create_open", size, mode, rest @ ..] => {
+                self.create(alloc, Creation::Opened, size, mode, rest)
+            }
+            ["create_unopened", size, mode, rest @ ..] => {
+                self.create(alloc, Creation::Unopened, size, mode, rest)
+            }
+            ["probe", rest @ ..] => {
+                let mut storage = storage_of(alloc, rest, self.notes)?;
+                probe(alloc, &mut storage)
+            }
+            ["close"] => {
+                self.disk = None;
+                Ok(ok(alloc)?)
+            }
+            ["other"] => {
+                mem::swap(&mut self.disk, &mut self.other);
+                Ok(ok(alloc)?)
+            }
+            ["other_mapping"] => {
+                mem::swap(&mut self.mapping, &mut self.other_mapping);
+                Ok(ok(alloc)?)
+            }
+            _ => self.mapped(alloc, words),
+        }
+    }
+}
