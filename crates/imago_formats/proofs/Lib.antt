@@ -1,3 +1,2 @@
 pub mod RawSteps
 pub mod Growing
-pub mod Windows

@@ -2,4 +2,3 @@ pub mod RawLayer
 pub mod RawHome
 pub mod Growing
 pub mod Creating
-pub mod Windows

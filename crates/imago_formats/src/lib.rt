@@ -6,6 +6,3 @@ mod raw;
 
 pub use builders::{RawCreateBuilder, RawOpenBuilder};
 pub use raw::{NoState, Raw};
-
-#[cfg(test)]
-mod tests;
