@@ -25,4 +25,3 @@ pub mod Rewriting
 pub mod Discarding
 pub mod Zeroing
 pub mod Refusing
-pub mod Clusters

@@ -16,4 +16,3 @@ pub mod Running
 pub mod Discards
 pub mod Zeroings
 pub mod Building
-pub mod Clusters

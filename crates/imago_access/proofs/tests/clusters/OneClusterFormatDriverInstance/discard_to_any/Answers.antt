@@ -1,4 +1,0 @@
-use Rattle.imago_access.proofs.tests.clusters.OneClusterFormatDriverInstance.discard_to_any.Goals as goal
-
-pub returns-clause-cause : goal.returns-clause-cause
-returns-clause-cause c = λ safe below d call began part. c.change.ensures.cause below
