@@ -24,6 +24,3 @@ pub use format::{Format, PreallocateMode};
 pub use gate::{DenyImplicitOpenGate, ImplicitOpenGate};
 pub use mapping::{Mapping, PreparedDataMapping, ShallowMapping};
 pub use ranges::check_range;
-
-#[cfg(test)]
-mod tests;

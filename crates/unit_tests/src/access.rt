@@ -1,5 +1,5 @@
-// What only Rust says: values that no call of a disk makes, and laws of types. `crates/access_cases` has the rest.
-use crate::{Format, Mapping, PreallocateMode, PreparedDataMapping, ShallowMapping};
+// Values of imago_access that no call of a disk makes, and comparisons of its types.
+use imago_access::{Format, Mapping, PreallocateMode, PreparedDataMapping, ShallowMapping};
 use std::process::Abort;
 use std::test::Fail;
 
@@ -20,40 +20,6 @@ fn only_the_end_is_the_end(rt: HostRuntime) -> Result<(), Fail> {
     assert!(rt; !barred.is_eof());
     assert!(rt; !Mapping::Zero { explicit: true }.is_eof());
     assert!(rt; Mapping::Zero { explicit: true } != Mapping::Zero { explicit: false });
-    Ok(())
-}
-
-#[test]
-fn lower_mappings_are_one_layer_deeper(rt: HostRuntime) -> Result<(), Fail> {
-    let below = Mapping::Raw {
-        depth: 1,
-        storage: 3,
-        offset: 4096,
-        writable: true,
-    };
-    let through_writable = Mapping::Raw {
-        depth: 2,
-        storage: 3,
-        offset: 4096,
-        writable: true,
-    };
-    let through_read_only = Mapping::Raw {
-        depth: 2,
-        storage: 3,
-        offset: 4096,
-        writable: false,
-    };
-    assert!(rt; below.lowered(true) == through_writable);
-    assert!(rt; below.lowered(false) == through_read_only);
-    assert!(rt;
-        Mapping::Zero { explicit: true }.lowered(true) == Mapping::Zero { explicit: false }
-    );
-    assert!(rt; Mapping::Eof.lowered(true) == Mapping::Eof);
-    let deepest = Mapping::Special {
-        depth: usize::MAX,
-        offset: 7,
-    };
-    assert!(rt; deepest.lowered(true) == deepest);
     Ok(())
 }
 
