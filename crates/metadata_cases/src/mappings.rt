@@ -61,41 +61,66 @@ fn is_copied(word: &str) -> Result<bool, Trouble> {
     }
 }
 
-fn zeroes(cluster: &str, mark: &str) -> Result<L2Mapping, Trouble> {
-    let copied = is_copied(mark)?;
-    let host_cluster = if cluster == "-" {
-        None
-    } else {
-        Some(HostCluster(number(cluster)?))
-    };
-    Ok(L2Mapping::Zero {
-        host_cluster,
-        copied,
-    })
+/// A mapping as a script has it.
+#[derive(Clone, Copy)]
+enum Written {
+    Data(u64, bool),
+    Below(u64),
+    Kept(u64, bool),
+    Zeroes(bool),
+    Packed(u64, u64),
 }
 
-fn mapping_of(words: &[&str]) -> Result<L2Mapping, Trouble> {
-    match words {
-        ["data", cluster, mark] => Ok(L2Mapping::DataFile {
-            host_cluster: HostCluster(number(cluster)?),
-            copied: is_copied(mark)?,
-        }),
-        ["below", place, "-"] => Ok(L2Mapping::Backing {
-            backing_offset: number(place)?,
-        }),
-        ["zeroes", cluster, mark] => zeroes(cluster, mark),
-        ["packed", place, length] => Ok(L2Mapping::Compressed {
-            host_offset: HostOffset(number(place)?),
-            length: number(length)?,
-        }),
+fn zeroes(cluster: &str, mark: &str) -> Result<Written, Trouble> {
+    let copied = is_copied(mark)?;
+    if cluster == "-" {
+        Ok(Written::Zeroes(copied))
+    } else {
+        Ok(Written::Kept(number(cluster)?, copied))
+    }
+}
+
+fn written_as(kind: &str, first: &str, second: &str) -> Result<Written, Trouble> {
+    match kind {
+        "data" => Ok(Written::Data(number(first)?, is_copied(second)?)),
+        "below" if second == "-" => Ok(Written::Below(number(first)?)),
+        "zeroes" => zeroes(first, second),
+        "packed" => Ok(Written::Packed(number(first)?, number(second)?)),
         _ => Err(Trouble::NoCall),
     }
 }
 
-// Whether the one goes on from the other.
-fn goes_on(mapping: L2Mapping, before: L2Mapping, bits: u32) -> Answer
+// The mapping that is written so. It is no function, so that nothing is called while another mapping is held: a check has no proof of that
+// where the types in it are another crate's.
+macro_rules! mapping {
+    ($written:expr) => {
+        match $written {
+            Written::Data(cluster, copied) => L2Mapping::DataFile {
+                host_cluster: HostCluster(cluster),
+                copied,
+            },
+            Written::Below(backing_offset) => L2Mapping::Backing { backing_offset },
+            Written::Kept(cluster, copied) => L2Mapping::Zero {
+                host_cluster: Some(HostCluster(cluster)),
+                copied,
+            },
+            Written::Zeroes(copied) => L2Mapping::Zero {
+                host_cluster: None,
+                copied,
+            },
+            Written::Packed(place, length) => L2Mapping::Compressed {
+                host_offset: HostOffset(place),
+                length,
+            },
+        }
+    };
+}
+
+fn goes_on(mapping: Written, before: Written, bits: u32) -> Answer
     requires { (9 ≤ bits) × (bits ≤ 21) }
 {
+    let mapping = mapping!(mapping);
+    let before = mapping!(before);
     Answer::Flag(mapping.is_consecutive(&before, bits))
 }
 
@@ -104,8 +129,8 @@ pub fn follows(words: &[&str]) -> Result<Answer, Trouble> {
     match words {
         [bits, a, b, c, "after", x, y, z] => {
             let bits = cluster_bits(bits)?;
-            let mapping = mapping_of(&[*a, *b, *c])?;
-            let before = mapping_of(&[*x, *y, *z])?;
+            let mapping = written_as(a, b, c)?;
+            let before = written_as(x, y, z)?;
             Ok(goes_on(mapping, before, bits))
         }
         _ => Err(Trouble::NoCall),
