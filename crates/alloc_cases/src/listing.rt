@@ -1,0 +1,252 @@
+// The list of clusters that wait to be freed, and those that are pending: handed out, and named by nothing yet.
+use crate::texts::{Parts, parts_text};
+use cases::{Trouble, joined, number, ok, size};
+use imago_storage::Fault;
+use qcow2_alloc::ClustersToFreeList;
+use qcow2_types::{ClusterCount, ClustersToFreeEntry, HostCluster, PendingClusters};
+use std::alloc::{AllocError, Global};
+
+/// The list, what is pending, those that came last at the end, and what was taken out of the list.
+#[derive(Drop)]
+pub struct Waiting {
+    alloc: Global,
+    pub list: ClustersToFreeList,
+    pending: Vec<Parts>,
+    taken: ClustersToFreeList,
+    /// How many clusters were named.
+    kept: u64,
+}
+
+/// Whether the word names metadata.
+pub fn is_metadata(word: &str) -> Result<bool, Trouble> {
+    match word {
+        "data" => Ok(false),
+        "metadata" => Ok(true),
+        _ => Err(Trouble::NoCall),
+    }
+}
+
+fn entry(parts: Parts) -> ClustersToFreeEntry {
+    let (first, count, is_metadata) = parts;
+    let first = HostCluster(first);
+    let count = ClusterCount(count);
+    if is_metadata {
+        ClustersToFreeEntry::metadata(first, count)
+    } else {
+        ClustersToFreeEntry::data(first, count)
+    }
+}
+
+fn parts_of(entry: &ClustersToFreeEntry) -> Parts {
+    (
+        entry.first_cluster().0,
+        entry.count().0,
+        entry.is_metadata(),
+    )
+}
+
+fn into_parts(entry: ClustersToFreeEntry) -> Parts {
+    let (first, count, is_metadata) = entry.into_parts();
+    (first.0, count.0, is_metadata)
+}
+
+// Clusters of a script: kind, first and count.
+fn parts(kind: &str, first: &str, count: &str) -> Result<Parts, Trouble> {
+    Ok((number(first)?, number(count)?, is_metadata(kind)?))
+}
+
+// The entries of a list, in their order.
+fn list_text(alloc: Global, list: &ClustersToFreeList) -> Result<String, AllocError> {
+    let mut text = String::new(alloc);
+    for index in 0..list.len() {
+        let entry = parts_text(alloc, parts_of(list.entry(index)))?;
+        joined(&mut text, entry.as_str())?;
+    }
+    if list.is_empty() {
+        joined(&mut text, "nothing")?;
+    }
+    Ok(text)
+}
+
+impl Waiting {
+    pub fn new(alloc: Global) -> Self {
+        Waiting {
+            alloc,
+            list: ClustersToFreeList::new(alloc),
+            pending: Vec::new(alloc),
+            taken: ClustersToFreeList::new(alloc),
+            kept: 0,
+        }
+    }
+
+    /// The entries of the list, in their order.
+    pub fn text(&self) -> Result<String, AllocError> {
+        list_text(self.alloc, &self.list)
+    }
+
+    /// Takes memory for one note more.
+    pub fn prepare(&mut self) -> Result<(), Trouble> {
+        Ok(self.pending.reserve(1)?)
+    }
+
+    /// Notes clusters that were handed out as pending.
+    pub fn note(&mut self, pending: PendingClusters) -> Result<Parts, Trouble> {
+        let parts = into_parts(pending.into_entry());
+        self.pending.push(parts)?;
+        Ok(parts)
+    }
+
+    /// How many runs of clusters are pending.
+    pub fn pending(&self) -> usize {
+        self.pending.len()
+    }
+
+    /// The clusters that became pending last, which are to be named now.
+    pub fn last(&mut self) -> Option<PendingClusters> {
+        match self.pending.pop() {
+            Some(parts) => Some(PendingClusters::new(entry(parts))),
+            None => None,
+        }
+    }
+
+    /// Lets the room for an entry go, where some is held.
+    pub fn release(&mut self) {
+        if self.list.held() > 0 {
+            self.list.release();
+        }
+    }
+
+    // The entry was refused, and given back.
+    fn refused(&self, refusal: Fault, back: ClustersToFreeEntry, parts: Parts) -> Trouble {
+        if into_parts(back) == parts {
+            Trouble::Refused(refusal)
+        } else {
+            Trouble::NoCall
+        }
+    }
+
+    fn push_parts(&mut self, parts: Parts) -> Result<(), Trouble> {
+        match self.list.push(entry(parts)) {
+            Ok(()) => Ok(()),
+            Err((fault, back)) => Err(self.refused(fault, back, parts)),
+        }
+    }
+
+    /// Puts clusters that nothing names any more on the list.
+    pub fn push(&mut self, freed: Option<ClustersToFreeEntry>) -> Result<String, Trouble> {
+        let Some(freed) = freed else {
+            return Ok("nothing".to_string(self.alloc)?);
+        };
+        let parts = into_parts(freed);
+        self.push_parts(parts)?;
+        Ok(parts_text(self.alloc, parts)?)
+    }
+
+    fn guard(&mut self, parts: Parts) -> Result<(), Trouble> {
+        match self.list.pending_guard(entry(parts)) {
+            Ok(pending) => {
+                self.note(pending)?;
+                Ok(())
+            }
+            Err((fault, back)) => Err(self.refused(fault, back, parts)),
+        }
+    }
+
+    // What became pending last is named, or comes back, where there is any.
+    fn settle(&mut self, is_named: bool) -> Result<String, Trouble> {
+        let pending = self.pending.pop();
+        match pending {
+            Some(parts) if self.list.held() > 0 => {
+                if is_named {
+                    self.kept = self.kept.saturating_add(parts.1);
+                    self.list.release();
+                } else {
+                    self.list.give_back(PendingClusters::new(entry(parts)));
+                }
+                Ok(ok(self.alloc)?)
+            }
+            _ => Ok("none".to_string(self.alloc)?),
+        }
+    }
+
+    /// How many clusters were named by a line, and by no table.
+    pub fn kept(&self) -> u64 {
+        self.kept
+    }
+
+    // Gives these clusters back, for which room is held.
+    fn give_back(&mut self, parts: Parts) -> Result<(), Trouble> {
+        if self.list.held() == 0 {
+            return Err(Trouble::NoCall);
+        }
+        self.list.give_back(PendingClusters::new(entry(parts)));
+        Ok(())
+    }
+
+    fn shorten(&mut self, index: usize, count: u64) -> Result<(), Trouble> {
+        if index >= self.list.len() || count > self.list.entry(index).count().0 {
+            return Err(Trouble::NoCall);
+        }
+        self.list.shorten(index, ClusterCount(count));
+        Ok(())
+    }
+
+    fn remove(&mut self, index: usize) -> Result<String, Trouble> {
+        if index >= self.list.len() {
+            return Err(Trouble::NoCall);
+        }
+        let parts = into_parts(self.list.remove(index));
+        Ok(parts_text(self.alloc, parts)?)
+    }
+
+    fn take(&mut self) -> Result<(), Trouble> {
+        if self.list.held() > 0 {
+            return Err(Trouble::NoCall);
+        }
+        let taken = self.list.take();
+        self.taken = taken;
+        Ok(())
+    }
+
+    // What the list tells.
+    fn tell(&self, words: &[&str]) -> Result<String, Trouble> {
+        match words {
+            ["list"] => Ok(self.text()?),
+            ["taken"] => Ok(list_text(self.alloc, &self.taken)?),
+            ["held"] => Ok(self.list.held().to_string(self.alloc)?),
+            ["length"] => Ok(self.list.len().to_string(self.alloc)?),
+            ["first_metadata"] => match self.list.position_of_metadata() {
+                Some(index) => Ok(index.to_string(self.alloc)?),
+                None => Ok("none".to_string(self.alloc)?),
+            },
+            _ => Err(Trouble::NoCall),
+        }
+    }
+
+    // What changes the list and answers nothing.
+    fn change(&mut self, words: &[&str]) -> Result<(), Trouble> {
+        match words {
+            ["wait", kind, first, count] => self.push_parts(parts(kind, first, count)?),
+            ["guard", kind, first, count] => self.guard(parts(kind, first, count)?),
+            ["give_back", kind, first, count] => self.give_back(parts(kind, first, count)?),
+            ["hold"] => Ok(self.list.hold()?),
+            ["shorten", index, count] => self.shorten(size(index)?, number(count)?),
+            ["take_list"] => self.take(),
+            _ => Err(Trouble::NoCall),
+        }
+    }
+
+    /// The answer of a line about the list.
+    pub fn answer(&mut self, words: &[&str]) -> Result<String, Trouble> {
+        match words {
+            ["keep"] => self.settle(true),
+            ["return"] => self.settle(false),
+            ["remove", index] => self.remove(size(index)?),
+            ["list" | "taken" | "held" | "length" | "first_metadata"] => self.tell(words),
+            _ => {
+                self.change(words)?;
+                Ok(ok(self.alloc)?)
+            }
+        }
+    }
+}
