@@ -10,9 +10,6 @@ use std::alloc::Global;
 use std::marker::Model;
 use std::mem;
 
-#[cfg(test)]
-mod tests;
-
 /// Clusters that wait to be counted down, and room held for more of them.
 ///
 /// Contracts see the entries, those that came last at the end, and for how many entries more room is held: one for each pending

@@ -1,4 +1,4 @@
-// A cache over a backend that notes what it is asked for.
+// What is pinned, and what is forgotten, in a cache over a backend that notes what it is asked for.
 //
 // Where an allocation is refused a body ends with `Fault::Memory`, and its test runs it once more.
 ghost use Rattle.std.specs.Prelude.{⊤, ◌<◌};
@@ -45,17 +45,9 @@ impl Noted {
     }
 }
 
-// Loads the key as the value, and fails to load or to flush where it is told to.
+// Loads the key as the value.
 #[derive(Drop)]
-struct Notes {
-    fails_odd_flushes: bool,
-    fails_load_of: Option<u64>,
-}
-
-const SOUND: Notes = Notes {
-    fails_odd_flushes: false,
-    fails_load_of: None,
-};
+struct Notes;
 
 impl AsyncLruCacheBackend for Notes {
     type Key = u64;
@@ -70,17 +62,11 @@ impl AsyncLruCacheBackend for Notes {
 
     fn load(&self, device: &mut Noted, key: u64) -> Result<u64, Fault> {
         device.loads = device.loads.saturating_add(1);
-        if self.fails_load_of == Some(key) {
-            return Err(Fault::DamagedTable);
-        }
         Ok(key)
     }
 
     fn flush(&self, device: &mut Noted, key: u64, value: &mut u64) -> Result<(), Fault> {
         device.note(key, *value);
-        if self.fails_odd_flushes && key % 2 == 1 {
-            return Err(Fault::Storage);
-        }
         Ok(())
     }
 }
@@ -102,51 +88,14 @@ fn found(
 }
 
 // A cache of so many entries, which holds keys from 0 on.
-fn filled(
-    alloc: Global,
-    backend: Notes,
-    device: &mut Noted,
-    size: usize,
-    keys: u64,
-) -> Result<Cache, Fault>
+fn filled(alloc: Global, device: &mut Noted, size: usize, keys: u64) -> Result<Cache, Fault>
     requires { 0 < size }
 {
-    let mut cache = AsyncLruCache::new(alloc, backend, size)?;
+    let mut cache = AsyncLruCache::new(alloc, Notes, size)?;
     for key in 0..keys {
         found(&mut cache, device, key, false)?;
     }
     Ok(cache)
-}
-
-// A value is found, and one for which no other may go isn't.
-fn find_unflushed(rt: &impl Abort, cache: &mut Cache, device: &mut Noted) -> Result<(), Fault> {
-    assert!(rt; found(cache, device, 0, false)? == Some(0));
-    assert_eq!(rt; device.loads, 3);
-    assert!(rt; found(cache, device, 3, false)? == None);
-    device.assert_flushed(rt, &[]);
-    assert_eq!(rt; device.loads, 3);
-    Ok(())
-}
-
-fn least_used(rt: &impl Abort, alloc: Global) -> Result<(), Fault> {
-    let mut device = Noted::new();
-    let mut cache = filled(alloc, SOUND, &mut device, 3, 3)?;
-    find_unflushed(rt, &mut cache, &mut device)?;
-    assert!(rt; found(&mut cache, &mut device, 3, true)? == Some(3));
-    device.assert_flushed(rt, &[(1, 1)]);
-    assert!(rt; cache.get(1) == None);
-    assert!(rt; cache.get(0) == Some(&0));
-    Ok(())
-}
-
-#[test]
-fn the_least_recently_used_goes(rt: HostRuntime) -> Result<(), Fail> {
-    let alloc = rt.alloc();
-    match least_used(&rt, alloc) {
-        Err(Fault::Memory) => least_used(&rt, alloc)?,
-        other => other?,
-    }
-    Ok(())
 }
 
 // Pins the value at a key that is there.
@@ -167,7 +116,7 @@ fn unpin(rt: &impl Abort, cache: &mut Cache, key: u64) {
 
 fn one_pinned(rt: &impl Abort, alloc: Global) -> Result<(), Fault> {
     let mut device = Noted::new();
-    let mut cache = filled(alloc, SOUND, &mut device, 2, 2)?;
+    let mut cache = filled(alloc, &mut device, 2, 2)?;
     pin(rt, &mut cache, 0);
     assert!(rt; found(&mut cache, &mut device, 2, true)? == Some(2));
     device.assert_flushed(rt, &[(1, 1)]);
@@ -190,104 +139,6 @@ fn a_pinned_value_stays(rt: HostRuntime) -> Result<(), Fail> {
     Ok(())
 }
 
-// What `insert` answers, with the value that it gives back.
-fn inserted(
-    cache: &mut Cache,
-    device: &mut Noted,
-    key: u64,
-    value: u64,
-    may_flush: bool,
-) -> Result<Option<u64>, Fault> {
-    match cache.insert(device, key, value, may_flush) {
-        Ok(back) => Ok(back),
-        Err((fault, _)) => Err(fault),
-    }
-}
-
-fn put_into_room(rt: &impl Abort, cache: &mut Cache, device: &mut Noted) -> Result<(), Fault> {
-    assert!(rt; inserted(cache, device, 5, 5, false)? == None);
-    assert!(rt; inserted(cache, device, 6, 60, false)? == None);
-    assert!(rt; inserted(cache, device, 5, 55, false)? == Some(55));
-    assert!(rt; cache.get(5) == Some(&5));
-    device.assert_flushed(rt, &[]);
-    Ok(())
-}
-
-fn put_over(rt: &impl Abort, cache: &mut Cache, device: &mut Noted) -> Result<(), Fault> {
-    assert!(rt; inserted(cache, device, 5, 55, true)? == None);
-    device.assert_flushed(rt, &[(5, 5)]);
-    assert!(rt; cache.get(5) == Some(&55));
-    Ok(())
-}
-
-// The entry of 5 goes first, so that 6 has to go for another.
-fn put_for_another(rt: &impl Abort, cache: &mut Cache, device: &mut Noted) -> Result<(), Fault> {
-    assert!(rt; inserted(cache, device, 7, 70, false)? == Some(70));
-    assert!(rt; inserted(cache, device, 7, 70, true)? == None);
-    device.assert_flushed(rt, &[(6, 60)]);
-    assert_eq!(rt; device.loads, 0);
-    Ok(())
-}
-
-fn put(rt: &impl Abort, alloc: Global) -> Result<(), Fault> {
-    let mut device = Noted::new();
-    let mut cache = AsyncLruCache::new(alloc, SOUND, 2)?;
-    put_into_room(rt, &mut cache, &mut device)?;
-    put_over(rt, &mut cache, &mut device)?;
-    put_for_another(rt, &mut cache, &mut device)
-}
-
-#[test]
-fn a_value_is_put_over_another(rt: HostRuntime) -> Result<(), Fail> {
-    let alloc = rt.alloc();
-    match put(&rt, alloc) {
-        Err(Fault::Memory) => put(&rt, alloc)?,
-        other => other?,
-    }
-    Ok(())
-}
-
-fn flush_past_faults(rt: &impl Abort, cache: &mut Cache, device: &mut Noted) {
-    assert!(rt; cache.flush(device) == Err(Fault::Storage));
-    assert_eq!(rt; device.flushes, 42);
-    for (turn, pair) in device.flushed[..42].iter().enumerate() {
-        assert!(rt; *pair == (turn as u64, turn as u64));
-    }
-    device.flushes = 0;
-}
-
-// The order of use is as it was.
-fn evict_past_faults(rt: &impl Abort, cache: &mut Cache, device: &mut Noted) -> Result<(), Fault> {
-    // The entry of key 0 can go.
-    assert!(rt; found(cache, device, 42, true)? == Some(42));
-    device.assert_flushed(rt, &[(0, 0)]);
-    // That of key 1 can't, and stays.
-    assert!(rt; found(cache, device, 43, true) == Err(Fault::Storage));
-    assert!(rt; cache.get(1) == Some(&1));
-    Ok(())
-}
-
-fn all_flushed(rt: &impl Abort, alloc: Global) -> Result<(), Fault> {
-    let backend = Notes {
-        fails_odd_flushes: true,
-        fails_load_of: None,
-    };
-    let mut device = Noted::new();
-    let mut cache = filled(alloc, backend, &mut device, 42, 42)?;
-    flush_past_faults(rt, &mut cache, &mut device);
-    evict_past_faults(rt, &mut cache, &mut device)
-}
-
-#[test]
-fn a_flush_goes_on_past_faults(rt: HostRuntime) -> Result<(), Fail> {
-    let alloc = rt.alloc();
-    match all_flushed(&rt, alloc) {
-        Err(Fault::Memory) => all_flushed(&rt, alloc)?,
-        other => other?,
-    }
-    Ok(())
-}
-
 // Drops the values at the keys 0 to 2, that at 1 once it isn't pinned any more.
 fn drop_all(rt: &impl Abort, cache: &mut Cache) {
     pin(rt, cache, 1);
@@ -300,7 +151,7 @@ fn drop_all(rt: &impl Abort, cache: &mut Cache) {
 
 fn dropped(rt: &impl Abort, alloc: Global) -> Result<(), Fault> {
     let mut device = Noted::new();
-    let mut cache = filled(alloc, SOUND, &mut device, 3, 3)?;
+    let mut cache = filled(alloc, &mut device, 3, 3)?;
     drop_all(rt, &mut cache);
     device.assert_flushed(rt, &[]);
     assert!(rt; found(&mut cache, &mut device, 1, false)? == Some(1));
@@ -313,51 +164,6 @@ fn values_are_dropped_unflushed(rt: HostRuntime) -> Result<(), Fail> {
     let alloc = rt.alloc();
     match dropped(&rt, alloc) {
         Err(Fault::Memory) => dropped(&rt, alloc)?,
-        other => other?,
-    }
-    Ok(())
-}
-
-fn unloaded(rt: &impl Abort, alloc: Global) -> Result<(), Fault> {
-    let backend = Notes {
-        fails_odd_flushes: false,
-        fails_load_of: Some(2),
-    };
-    let mut device = Noted::new();
-    let mut cache = filled(alloc, backend, &mut device, 2, 2)?;
-    assert!(rt; found(&mut cache, &mut device, 2, true) == Err(Fault::DamagedTable));
-    device.assert_flushed(rt, &[(0, 0)]);
-    assert!(rt; (cache.get(0), cache.get(1), cache.get(2)) == (None, Some(&1), None));
-    Ok(())
-}
-
-#[test]
-fn a_refused_load_leaves_room(rt: HostRuntime) -> Result<(), Fail> {
-    let alloc = rt.alloc();
-    match unloaded(&rt, alloc) {
-        Err(Fault::Memory) => unloaded(&rt, alloc)?,
-        other => other?,
-    }
-    Ok(())
-}
-
-fn written(rt: &impl Abort, alloc: Global) -> Result<(), Fault> {
-    let mut device = Noted::new();
-    let mut cache = filled(alloc, SOUND, &mut device, 1, 1)?;
-    if let Ok(value) = cache.get_or_insert(&mut device, 0, false) {
-        *value = 9;
-    }
-    assert!(rt; cache.get(0) == Some(&9));
-    assert!(rt; cache.flush(&mut device) == Ok(()));
-    device.assert_flushed(rt, &[(0, 9)]);
-    Ok(())
-}
-
-#[test]
-fn a_lent_value_is_written_to(rt: HostRuntime) -> Result<(), Fail> {
-    let alloc = rt.alloc();
-    match written(&rt, alloc) {
-        Err(Fault::Memory) => written(&rt, alloc)?,
         other => other?,
     }
     Ok(())
