@@ -17,8 +17,6 @@ use thiserror::Error;
 mod counts;
 mod names;
 mod tables;
-#[cfg(test)]
-mod tests;
 
 use counts::{check_counted, leaks_of};
 use names::{Tally, add_up, first_falsely_copied, first_shared};
