@@ -6,14 +6,14 @@ use crate::calls::{
 };
 use crate::clusters::PreparedCluster;
 use crate::drivers::Driver;
-use crate::driving::nothing_below;
-use crate::layers::{
-    Disk, add, count, drive_top, driver_of, faults, lookups, probe, storage, write_storage,
-};
+use crate::driving::{drive, nothing_below};
+use crate::layers::{Disk, add, driver_of, kept_by, lookups, probe, top, write_storage};
 use crate::storages::{Base, Notebook, storage_of};
 use crate::texts;
 use cases::{Layer, Notes, Trouble, bytes, number, ok, size, told};
-use imago_access::{FormatAccess, PreallocateMode, PreparedDataMapping, check_range};
+use imago_access::{
+    FormatAccess, FormatDriverInstance, PreallocateMode, PreparedDataMapping, check_range,
+};
 use imago_formats::Raw;
 use std::alloc::Global;
 use std::mem;
@@ -57,9 +57,9 @@ fn change_of(word: &str) -> Result<Change, Trouble> {
     }
 }
 
-fn written<'a>(
+fn written<D: FormatDriverInstance>(
     alloc: Global,
-    disk: &mut Disk<'a>,
+    disk: &mut FormatAccess<D>,
     offset: u64,
     words: &[&str],
 ) -> Result<(), Trouble> {
@@ -67,19 +67,9 @@ fn written<'a>(
     write(alloc, disk, &given, offset)
 }
 
-fn written_to_storage<'a>(
+fn written_mapped<D: FormatDriverInstance>(
     alloc: Global,
-    disk: &mut Disk<'a>,
-    offset: u64,
-    words: &[&str],
-) -> Result<(), Trouble> {
-    let given = bytes(alloc, words)?;
-    write_storage(alloc, disk, &given, offset)
-}
-
-fn written_mapped<'a>(
-    alloc: Global,
-    disk: &mut Disk<'a>,
+    disk: &mut FormatAccess<D>,
     guest: u64,
     words: &[&str],
 ) -> Result<(), Trouble> {
@@ -92,7 +82,11 @@ fn written_mapped<'a>(
 }
 
 // A call that keeps a disk and its files in step.
-fn kept<'a>(alloc: Global, disk: &mut Disk<'a>, word: &str) -> Result<(), Trouble> {
+fn kept<D: FormatDriverInstance>(
+    alloc: Global,
+    disk: &mut FormatAccess<D>,
+    word: &str,
+) -> Result<(), Trouble> {
     match word {
         "flush" => flush(alloc, disk),
         "sync" => sync(disk),
@@ -119,9 +113,9 @@ fn run_of(words: &[&str]) -> Result<(u64, bool), Trouble> {
 }
 
 // A growth or a resize, or a change of a range.
-fn changed<'a>(
+fn changed<D: FormatDriverInstance>(
     alloc: Global,
-    disk: &mut Disk<'a>,
+    disk: &mut FormatAccess<D>,
     word: &str,
     first: u64,
     last: &str,
@@ -134,41 +128,39 @@ fn changed<'a>(
 }
 
 // A call of a disk that begins with a number and answers nothing.
-fn done_at<'a>(
+fn done_at<D: FormatDriverInstance>(
     alloc: Global,
-    disk: &mut Disk<'a>,
+    disk: &mut FormatAccess<D>,
     word: &str,
     first: u64,
     words: &[&str],
 ) -> Result<(), Trouble> {
     match word {
         "write" => written(alloc, disk, first, words),
-        "write_storage" => written_to_storage(alloc, disk, first, words),
         "write_mapped" => written_mapped(alloc, disk, first, words),
         "shrink" if words.is_empty() => shrink(alloc, disk, first),
         _ => changed(alloc, disk, word, first, only(words)?),
     }
 }
 
-// What a disk says of itself.
-fn told_of_disk<'a>(alloc: Global, disk: &mut Disk<'a>, word: &str) -> Result<String, Trouble> {
+// What a disk says of itself, or a call that keeps it and its files in step.
+fn said<D: FormatDriverInstance>(
+    alloc: Global,
+    disk: &mut FormatAccess<D>,
+    word: &str,
+) -> Result<String, Trouble> {
     match word {
         "sizes" => sizes(alloc, disk),
         "aligns" => aligns(alloc, disk),
-        "named" => Ok(format!(in alloc; "{disk}")?),
-        "count" => Ok(count(disk)?.to_string(alloc)?),
         "prepared" => Ok((!is_free(disk)).to_string(alloc)?),
-        "storage" => storage(alloc, disk),
-        "faults" => Ok(faults(disk)?.to_string(alloc)?),
-        "lookups" => lookups(alloc, disk),
         _ => done(alloc, kept(alloc, disk, word)),
     }
 }
 
 // A call of a disk that begins with a number.
-fn called_at<'a>(
+fn called_at<D: FormatDriverInstance>(
     alloc: Global,
-    disk: &mut Disk<'a>,
+    disk: &mut FormatAccess<D>,
     word: &str,
     first: u64,
     words: &[&str],
@@ -185,11 +177,34 @@ fn called_at<'a>(
     }
 }
 
+fn written_to_storage<'a>(
+    alloc: Global,
+    disk: &mut Disk<'a>,
+    offset: u64,
+    words: &[&str],
+) -> Result<(), Trouble> {
+    let given = bytes(alloc, words)?;
+    write_storage(alloc, top(disk)?, &given, offset)
+}
+
+// A call of a disk with one word.
+fn called_by_word<'a>(alloc: Global, disk: &mut Disk<'a>, word: &str) -> Result<String, Trouble> {
+    match word {
+        "named" => Ok(format!(in alloc; "{disk}")?),
+        "lookups" => lookups(alloc, disk),
+        "count" | "storage" | "faults" => kept_by(alloc, top(disk)?, word),
+        _ => said(alloc, disk, word),
+    }
+}
+
 // A call of a disk.
 fn called<'a>(alloc: Global, disk: &mut Disk<'a>, words: &[&str]) -> Result<String, Trouble> {
     match words {
-        [word] => told_of_disk(alloc, disk, word),
-        ["driver", rest @ ..] => drive_top(alloc, disk, rest),
+        [word] => called_by_word(alloc, disk, word),
+        ["driver", rest @ ..] => drive(alloc, top(disk)?, rest),
+        ["write_storage", first, rest @ ..] => {
+            done(alloc, written_to_storage(alloc, disk, number(first)?, rest))
+        }
         [word, first, rest @ ..] => called_at(alloc, disk, word, number(first)?, rest),
         _ => Err(Trouble::NoCall),
     }

@@ -2,13 +2,12 @@
 use crate::calls::{buffer, is_free};
 use crate::clusters::{Content, OneCluster};
 use crate::drivers::Driver;
-use crate::driving::drive;
 use crate::storages::{Base, Notebook, storage_of};
 use cases::{Trouble, bytes, joined, number, runs};
-use imago_access::FormatAccess;
+use imago_access::{FormatAccess, FormatDriverInstance};
 use imago_formats::Raw;
-use imago_storage::{Storage, StorageExt};
-use std::alloc::Global;
+use imago_storage::{FuseStorage, Storage, StorageExt};
+use std::alloc::{AllocError, Global};
 
 /// A disk of a script.
 pub type Disk<'a> = FormatAccess<Driver<Base<'a>>>;
@@ -99,70 +98,76 @@ pub fn add<'a>(
     }
 }
 
-/// How many calls the storage of the top layer has counted.
-pub fn count<'a>(disk: &Disk<'a>) -> Result<u64, Trouble> {
-    match disk.inner() {
-        Driver::Raw(raw) => Ok(raw.image().count()),
-        Driver::Words(_) => Err(Trouble::NoCall),
-    }
-}
-
-/// How often the file of the top layer has failed.
-pub fn faults<'a>(disk: &Disk<'a>) -> Result<u64, Trouble> {
-    match disk.inner() {
-        Driver::Raw(_) => Err(Trouble::NoCall),
-        Driver::Words(words) => Ok(words.faults),
+// How many lookups a layer was asked for; those of raw images aren't counted.
+fn push_lookups<S>(alloc: Global, driver: &Driver<S>, text: &mut String) -> Result<(), AllocError> {
+    match driver {
+        Driver::Raw(_) => Ok(()),
+        Driver::Words(words) => {
+            let lookups = words.lookups.to_string(alloc)?;
+            joined(text, lookups.as_str())
+        }
     }
 }
 
 /// The most layers whose lookups are told.
 const MOST_LAYERS: u8 = 16;
 
-/// How many lookups each layer was asked for, the highest first; those of raw images aren't counted.
-pub fn lookups<'a>(alloc: Global, disk: &Disk<'a>) -> Result<String, Trouble> {
+/// How many lookups each layer was asked for, the highest first.
+pub fn lookups<S: Storage>(
+    alloc: Global,
+    disk: &FormatAccess<Driver<S>>,
+) -> Result<String, Trouble> {
     let mut text = String::new(alloc);
     let mut layer = Some(disk);
     for _ in 0..MOST_LAYERS {
         let Some(one) = layer else {
             return Ok(text);
         };
-        if let Driver::Words(words) = one.inner() {
-            let lookups = words.lookups.to_string(alloc)?;
-            joined(&mut text, lookups.as_str())?;
-        }
+        push_lookups(alloc, one.inner(), &mut text)?;
         layer = one.below();
     }
     joined(&mut text, "more")?;
     Ok(text)
 }
 
-/// Writes to the storage of the top layer itself.
-pub fn write_storage<'a>(
-    alloc: Global,
-    disk: &mut Disk<'a>,
-    bytes: &[u8],
-    offset: u64,
-) -> Result<(), Trouble> {
+/// The driver of the top layer, where nothing is prepared.
+pub fn top<D: FormatDriverInstance>(disk: &mut FormatAccess<D>) -> Result<&mut D, Trouble> {
     if !is_free(disk) {
         return Err(Trouble::NoCall);
     }
-    match disk.inner_mut() {
-        Driver::Raw(raw) => Ok(raw.image_mut().write(alloc, bytes, offset)?),
-        Driver::Words(_) => Err(Trouble::NoCall),
+    Ok(disk.inner_mut())
+}
+
+/// What the top layer's driver tells of its storage, or of its file.
+pub fn kept_by<S: Storage>(
+    alloc: Global,
+    driver: &mut Driver<FuseStorage<S>>,
+    word: &str,
+) -> Result<String, Trouble> {
+    match (driver, word) {
+        (Driver::Raw(raw), "count") => Ok(raw.image().count().to_string(alloc)?),
+        (Driver::Raw(raw), "storage") => storage(alloc, raw.image_mut()),
+        (Driver::Words(words), "faults") => Ok(words.faults.to_string(alloc)?),
+        _ => Err(Trouble::NoCall),
     }
 }
 
-/// All bytes of the storage of the top layer, which is asked for one read.
-pub fn storage<'a>(alloc: Global, disk: &mut Disk<'a>) -> Result<String, Trouble> {
-    if !is_free(disk) {
-        return Err(Trouble::NoCall);
-    }
-    match disk.inner_mut() {
-        Driver::Raw(raw) => {
-            let mut buf = buffer(alloc, raw.image().size())?;
-            raw.image_mut().read(alloc, &mut buf, 0)?;
-            Ok(runs(alloc, &buf)?)
-        }
+// All bytes of a storage, which is asked for one read.
+fn storage<S: Storage>(alloc: Global, storage: &mut S) -> Result<String, Trouble> {
+    let mut buf = buffer(alloc, storage.size())?;
+    storage.read(alloc, &mut buf, 0)?;
+    Ok(runs(alloc, &buf)?)
+}
+
+/// Writes to the storage of the top layer itself.
+pub fn write_storage<S: Storage>(
+    alloc: Global,
+    driver: &mut Driver<S>,
+    bytes: &[u8],
+    offset: u64,
+) -> Result<(), Trouble> {
+    match driver {
+        Driver::Raw(raw) => Ok(raw.image_mut().write(alloc, bytes, offset)?),
         Driver::Words(_) => Err(Trouble::NoCall),
     }
 }
@@ -170,16 +175,4 @@ pub fn storage<'a>(alloc: Global, disk: &mut Disk<'a>) -> Result<String, Trouble
 /// Whether a storage can be opened as a raw image.
 pub fn probe<S>(alloc: Global, storage: &mut S) -> Result<String, Trouble> {
     Ok(Raw::probe(storage)?.to_string(alloc)?)
-}
-
-/// Makes a call of the top layer's driver, where nothing is prepared.
-pub fn drive_top<'a>(
-    alloc: Global,
-    disk: &mut Disk<'a>,
-    words: &[&str],
-) -> Result<String, Trouble> {
-    if !is_free(disk) {
-        return Err(Trouble::NoCall);
-    }
-    drive(alloc, disk.inner_mut(), words)
 }
