@@ -1,28 +1,11 @@
-#!/usr/bin/env python3
-"""random_cases_access.py SEED CASES
-
-Writes a script of so many cases of random calls of disks for crates/access_cases, each with the answer that a plain model gives: a raw
-image is a list of bytes, an image of words is nothing or a list of bytes, and a chain shows at each place the first layer that has it. The
-same seed gives the same script. A sample stands in crates/access_cases/data/random.cases.
+"""Calls of disks: a raw image is a list of bytes, an image of words is nothing or a list of bytes, and a chain shows at each place the
+first layer that has it.
 """
-import itertools
-import random
-import sys
+from random_cases.texts import WIDTH, rounded_up, runs
 
-# The longest line.
-WIDTH = 140
 TOP = 2 ** 64
 MODES = ["none", "zero", "format", "full", "data"]
 READ_ONLY, PAST_END, RANGE_OVERFLOW, UNSUPPORTED, BARRED, OUTDATED, LIMIT = (f"error {n}" for n in (1, 2, 3, 7, 8, 9, 12))
-
-
-def runs(data):
-    """Bytes as runs, `aa*3 00`, and `-` for none."""
-    words = []
-    for value, group in itertools.groupby(data):
-        count = len(list(group))
-        words.append(f"{value:02x}" if count == 1 else f"{value:02x}*{count}")
-    return " ".join(words) or "-"
 
 
 def some_bytes(rng, length):
@@ -31,10 +14,6 @@ def some_bytes(rng, length):
     while len(data) < length:
         data += bytes([rng.randrange(256)]) * rng.randint(1, 40)
     return bytes(data[:length])
-
-
-def rounded_up(n, unit):
-    return -(-n // unit) * unit
 
 
 class Raw:
@@ -271,10 +250,9 @@ def reads(disk, at, n):
         yield from reads(disk, at + n // 2, n - n // 2)
 
 
-def a_case(rng, i):
-    yield f"case random calls of the chain {i + 1}"
-    disk = a_chain(rng, 1)
-    for layer in disk.layers:
+def disk(rng):
+    made = a_chain(rng, 1)
+    for layer in made.layers:
         line = f"layer {layer.words()}"
         while len(line) > WIDTH:
             layer.data = layer.data[:len(layer.data) // 2]
@@ -282,20 +260,6 @@ def a_case(rng, i):
             line = f"layer {layer.words()}"
         yield line
     for _ in range(rng.randint(4, 14)):
-        yield from a_call(rng, disk)
-    yield f"sizes = {' '.join(str(layer.size()) for layer in reversed(disk.layers))}"
-    yield from reads(disk, 0, disk.top.size() + 3)
-
-
-def main():
-    if len(sys.argv) != 3:
-        sys.exit(__doc__)
-    rng = random.Random(int(sys.argv[1]))
-    print(f"# Random calls of chains, with the answers of a plain model: tools/random_cases_access.py {sys.argv[1]} {sys.argv[2]}")
-    for i in range(int(sys.argv[2])):
-        print()
-        print("\n".join(a_case(rng, i)))
-
-
-if __name__ == "__main__":
-    main()
+        yield from a_call(rng, made)
+    yield f"sizes = {' '.join(str(layer.size()) for layer in reversed(made.layers))}"
+    yield from reads(made, 0, made.top.size() + 3)

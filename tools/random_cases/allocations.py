@@ -1,20 +1,9 @@
-#!/usr/bin/env python3
-"""Writes scripts of random calls for crates/alloc_cases, with the answers of a plain model.
-
-Usage: random_cases_alloc.py KIND SEED CASES
-
-KIND is one of
-  counters  clusters are handed out, kept, given back and freed, in images with counters of each width;
-  mapped    the same, where words of L2 tables name clusters;
-  growing   the same in a small image whose refcount table grows: what is handed out is left open there.
+"""Calls of the allocator, over an image that words describe.
 
 The model is a list of counters, the blocks that there are, and the cluster where a search begins. The first run of clusters that
 aren't counted is handed out; a block that is lacking for it is made first, in the first free cluster that a block before it counts,
 or else in the first cluster of its own, and the run is searched for again. Behind each call the stops that it made are judged.
-The same seed gives the same script.
 """
-import random
-import sys
 
 WIDTHS = [1, 2, 4, 8, 16, 32, 64]
 
@@ -229,11 +218,11 @@ class Writer:
         self.line("stops", "sound")
 
 
-def counters_case(rng, number):
+def allocations(rng):
+    """Clusters are handed out, kept, given back and freed, in images with counters of each width."""
     width = rng.choice(WIDTHS)
     counted = rng.choice([3, 8, 60, 64])
     writer = Writer(rng, width, counted)
-    writer.line(f"case clusters are taken and freed at random, run {number}, with counters of {width} bits")
     writer.line(f"made {width} {counted}")
     writer.line(f"open {rng.choice([1, 2])} {rng.choice([1, 2, 4])}")
     for _ in range(24):
@@ -242,10 +231,10 @@ def counters_case(rng, number):
     return writer.lines
 
 
-def mapped_case(rng, number):
+def mapped(rng):
+    """The same, where words of L2 tables name clusters."""
     writer = Writer(rng, 64, 7)
     writer.fixed = {3, 4, 5, 6}
-    writer.line(f"case clusters are mapped and discarded at random, run {number}")
     for line in ["made 64 7", "l1 3 3 98304", "table 0 4", "table 1 5", "table 2 6", "open 2 2"]:
         writer.line(line)
     for _ in range(48):
@@ -264,27 +253,12 @@ def growing_turn(rng):
     return [["free"], ["flush"], ["tables_first"], [f"grow_by {rng.randrange(3)}"]][choice - 5]
 
 
-def growing_case(rng, number):
-    lines = [f"case the refcount table grows at random, run {number}", "made 64 3", "open 2 2"]
+def growing(rng):
+    """The same in a small image whose refcount table grows: what is handed out is left open there.
+
+    `any CALL` answers `ok` for each answer but a fault's; `leaks_are_kept` whether as many clusters leak as were kept.
+    """
+    lines = ["made 64 3", "open 2 2"]
     for _ in range(24):
         lines += growing_turn(rng) + ["stops = sound"]
     return lines + ["free", "flush", "leaks_are_kept = yes", "stops = sound"]
-
-
-CASES = {"counters": counters_case, "mapped": mapped_case, "growing": growing_case}
-
-
-def main():
-    if len(sys.argv) != 4 or sys.argv[1] not in CASES:
-        sys.exit(__doc__)
-    kind, seed, cases = sys.argv[1], int(sys.argv[2]), int(sys.argv[3])
-    rng = random.Random(seed)
-    print(f"# Written by tools/random_cases_alloc.py {kind} {seed} {cases}.")
-    if kind == "growing":
-        print("# `any CALL` answers `ok` for each answer but a fault's; `leaks_are_kept` whether as many clusters leak as were kept.")
-    for number in range(1, cases + 1):
-        print()
-        print("\n".join(CASES[kind](rng, number)))
-
-
-main()
