@@ -5,7 +5,7 @@ use Rattle.std.proofs.lemmas.List.Elements.{All-weaker}
 use Rattle.std.proofs.lemmas.Bool.{cases_eq, cases_lt}
 use Rattle.imago_storage.specs.State.{StorageState, Rose}
 use Rattle.imago_storage.specs.Calls.{Spliced, Mixed, Cause}
-use Rattle.imago_storage.specs.Through.{round_up, Through, NotThrough}
+use Rattle.imago_storage.specs.Through.{round_up, Through, Halted}
 use Rattle.imago_storage.specs.declared.fault.Fault.{Fault}
 use Rattle.imago_storage.proofs.Rounding.{round_up-le}
 use Rattle.imago_storage.proofs.Composing.{keeps_on, stops_both, as_long_both, through_longer}
@@ -94,7 +94,7 @@ module _ (unit : ℕ) (positive : 0 < unit) (a b c : StorageState) (at : ℕ) (x
   }
 
   -- refused in the part in front
-  pub not_front : (fault : Fault) → Through unit a b (at + length xs) ys → NotThrough unit b c at xs fault → NotThrough unit a c at (xs ++ ys) fault
+  pub not_front : (fault : Fault) → Through unit a b (at + length xs) ys → Halted unit b c at xs fault → Halted unit a c at (xs ++ ys) fault
   not_front fault first second =
       let size : length b.bytes ≤ max (length a.bytes) (round_up unit (at + length xs + length ys)) = elim (cases_eq (length ys) 0) [
         | inl none ↦ let stays = ap (λ (s : StorageState). length s.bytes) (first.nothing none) in omega arith
@@ -110,8 +110,7 @@ module _ (unit : ℕ) (positive : 0 < unit) (a b c : StorageState) (at : ℕ) (x
         content = λ keeps. mixed_front at xs ys a.bytes b.bytes c.bytes (first.content keeps) (second.content (keeps_on a b first.shape keeps));
         no_shorter = omega (arith, longer, second.no_shorter);
         no_longer = omega (arith, size, second.no_longer, inner, same-end);
-        later = omega (arith, first.refusals, second.later);
-        in_step = ⊎_elim (λ rose. inl (subst (λ (n : ℕ). Rose n c.refusals) first.refusals rose)) (λ on. inr (λ same. on (first.in_step same))) second.in_step;
+        refusals = subst (λ (n : ℕ). Rose n c.refusals) first.refusals second.refusals;
         stops = stops_both (Mixed a.bytes (at + length xs) ys) (Mixed b.bytes at xs) (Mixed a.bytes at (xs ++ ys)) a b c first.shape first.in_step
             (λ _ f mixed. mixed_before at xs ys a.bytes f mixed) (λ keeps f mixed. mixed_front at xs ys a.bytes b.bytes f (first.content keeps) mixed) first.stops second.stops;
         as_long = as_long_both a b c first.shape first.in_step longer first.as_long second.as_long;
@@ -119,7 +118,7 @@ module _ (unit : ℕ) (positive : 0 < unit) (a b c : StorageState) (at : ℕ) (x
 
 module _ (unit : ℕ) (a b : StorageState) (at : ℕ) (xs ys : List ℕ) (fault : Fault) where
   -- refused before the part in front
-  pub not_before : NotThrough unit a b (at + length xs) ys fault → NotThrough unit a b at (xs ++ ys) fault
+  pub not_before : Halted unit a b (at + length xs) ys fault → Halted unit a b at (xs ++ ys) fault
   not_before first =
       let end : round_up unit (at + length xs + length ys) ≡ round_up unit (at + length (xs ++ ys)) = ap (round_up unit) (let e : at + length xs + length ys ≡ at + length (xs ++ ys) = omega (arith, length-append xs ys) in e) in
       record {
@@ -128,8 +127,7 @@ module _ (unit : ℕ) (a b : StorageState) (at : ℕ) (xs ys : List ℕ) (fault 
         content = λ keeps. mixed_before at xs ys a.bytes b.bytes (first.content keeps);
         no_shorter = first.no_shorter;
         no_longer = omega (arith, first.no_longer, end);
-        later = first.later;
-        in_step = first.in_step;
+        refusals = first.refusals;
         stops = λ same tells keeps. let told = first.stops same tells keeps in
             record { files = told.files; told = told.told; each = All-weaker (Mixed a.bytes (at + length xs) ys) (Mixed a.bytes at (xs ++ ys)) (λ f mixed. mixed_before at xs ys a.bytes f mixed) told.files told.each };
         as_long = first.as_long;

@@ -11,4 +11,9 @@ pub mod Once
 pub mod Wholes
 pub mod ZeroSteps
 pub mod Fronts
+pub mod Pads
+pub mod Edges
+pub mod Around
+pub mod Laying
+pub mod Untouched
 pub mod GivingUp

@@ -4,9 +4,9 @@ use Rattle.std.specs.Prelude.{Result, Ok, Err, OnOk, IfErr, IsErrAnd}
 use Rattle.std.proofs.lemmas.Result.{on_ok_weaker, IfErr-weaker, err_from_is_err_and}
 use Rattle.std.proofs.lemmas.List.Elements.{All-weaker}
 use Rattle.std.proofs.lemmas.Bool.{cases_eq}
-use Rattle.imago_storage.specs.State.{StorageState, Rose}
+use Rattle.imago_storage.specs.State.{StorageState, Rose, unit_of}
 use Rattle.imago_storage.specs.Calls.{Mixed, Cause, Kept, Later}
-use Rattle.imago_storage.specs.Through.{round_up, Stops, StopsAsLong, Through, NotThrough, OneRequest, NoRequest, UnlessOverflow, NotRead}
+use Rattle.imago_storage.specs.Through.{round_up, Stops, StopsAsLong, Through, Halted, NotThrough, OneRequest, NoRequest, UnlessOverflow, NotRead}
 use Rattle.imago_storage.specs.declared.fault.Fault.TheVariants.{RangeOverflow}
 use Rattle.imago_storage.specs.declared.fault.Fault.{Fault}
 use Rattle.imago_storage.proofs.Rounding.{round_up-le}
@@ -63,7 +63,7 @@ module _ (unit : ℕ) (positive : 0 < unit) (a b c : StorageState) (at : ℕ) (x
       }
 
   -- refused in the second part
-  pub not_behind : (fault : Fault) → Through unit a b at xs → NotThrough unit b c (at + length xs) ys fault → NotThrough unit a c at (xs ++ ys) fault
+  pub not_behind : (fault : Fault) → Through unit a b at xs → Halted unit b c (at + length xs) ys fault → Halted unit a c at (xs ++ ys) fault
   not_behind fault first second =
       let long = both in
       let up = round_up-le unit (at + length xs) (at + length xs + length ys) positive (omega arith) in
@@ -83,8 +83,7 @@ module _ (unit : ℕ) (positive : 0 < unit) (a b c : StorageState) (at : ℕ) (x
         content = λ keeps. mixed_behind at xs ys a.bytes b.bytes c.bytes (first.content keeps) (second.content (keeps_on a b first.shape keeps));
         no_shorter = omega (arith, second.no_shorter);
         no_longer = omega (arith, second.no_longer);
-        later = omega (arith, first.refusals, second.later);
-        in_step = ⊎_elim (λ rose. inl (subst (λ (n : ℕ). Rose n c.refusals) first.refusals rose)) (λ on. inr (λ same. on (first.in_step same))) second.in_step;
+        refusals = subst (λ (n : ℕ). Rose n c.refusals) first.refusals second.refusals;
         stops = stops_both (Mixed a.bytes at xs) (Mixed b.bytes (at + length xs) ys) (Mixed a.bytes at (xs ++ ys)) a b c first.shape first.in_step
             (λ _ f mixed. mixed_longer at xs ys a.bytes f mixed) (λ keeps f mixed. mixed_behind at xs ys a.bytes b.bytes f (first.content keeps) mixed) first.stops second.stops;
         as_long = as_long_both a b c first.shape first.in_step (through_longer unit a b at xs first) first.as_long second.as_long;
@@ -96,14 +95,14 @@ module _ (unit : ℕ) (positive : 0 < unit) (a b c : StorageState) (at : ℕ) (x
       let long = both in
       record {
         some = omega (arith, second.some);
-        not_through = not_behind fault first.through second.not_through;
+        halted = not_behind fault first.through second.halted;
         stop = second.stop ∙ ap (λ (s : StorageState). s.stop) stays;
         past = second.past ∙ ap (λ (s : StorageState). s.past) stays;
       }
 
 module _ (unit : ℕ) (positive : 0 < unit) (a b : StorageState) (at : ℕ) (xs ys : List ℕ) (fault : Fault) where
   -- refused before the rest
-  pub not_longer : NotThrough unit a b at xs fault → NotThrough unit a b at (xs ++ ys) fault
+  pub not_longer : Halted unit a b at xs fault → Halted unit a b at (xs ++ ys) fault
   not_longer first =
       let long = length-append xs ys in
       let up = round_up-le unit (at + length xs) (at + length (xs ++ ys)) positive (omega arith) in
@@ -113,15 +112,14 @@ module _ (unit : ℕ) (positive : 0 < unit) (a b : StorageState) (at : ℕ) (xs 
         content = λ keeps. mixed_longer at xs ys a.bytes b.bytes (first.content keeps);
         no_shorter = first.no_shorter;
         no_longer = omega (arith, first.no_longer);
-        later = first.later;
-        in_step = first.in_step;
+        refusals = first.refusals;
         stops = λ same tells keeps. let told = first.stops same tells keeps in
             record { files = told.files; told = told.told; each = All-weaker (Mixed a.bytes at xs) (Mixed a.bytes at (xs ++ ys)) (λ f mixed. mixed_longer at xs ys a.bytes f mixed) told.files told.each };
         as_long = first.as_long;
       }
 
   pub none_longer : NoRequest unit a b at xs fault → NoRequest unit a b at (xs ++ ys) fault
-  none_longer first = record { some = omega (arith, length-append xs ys, first.some); not_through = not_longer first.not_through; stop = first.stop; past = first.past }
+  none_longer first = record { some = omega (arith, length-append xs ys, first.some); halted = not_longer first.halted; stop = first.stop; past = first.past }
 
 -- three parts
 module _ (unit : ℕ) (positive : 0 < unit) (a b c d : StorageState) (at : ℕ) (head mid tail : List ℕ) where
@@ -133,40 +131,57 @@ module _ (unit : ℕ) (positive : 0 < unit) (a b c d : StorageState) (at : ℕ) 
       through_both unit positive a c d at (head ++ mid) tail (through_both unit positive a b c at head mid one.through two.through)
       (third (λ (n : ℕ). Through unit c d n tail) three.through)
 
-  pub parts_not : (fault : Fault) → OneRequest unit a b at head → OneRequest unit b c (at + length head) mid → NoRequest unit c d (at + length head + length mid) tail fault → NotThrough unit a d at (head ++ mid ++ tail) fault
+  pub parts_not : (fault : Fault) → OneRequest unit a b at head → OneRequest unit b c (at + length head) mid → NoRequest unit c d (at + length head + length mid) tail fault → Halted unit a d at (head ++ mid ++ tail) fault
   parts_not fault one two three =
       not_behind unit positive a c d at (head ++ mid) tail fault (through_both unit positive a b c at head mid one.through two.through)
-      (third (λ (n : ℕ). NotThrough unit c d n tail fault) three.not_through)
+      (third (λ (n : ℕ). Halted unit c d n tail fault) three.halted)
 
-  pub mid_not : (fault : Fault) → OneRequest unit a b at head → NoRequest unit b c (at + length head) mid fault → NotThrough unit a c at (head ++ mid ++ tail) fault
+  pub mid_not : (fault : Fault) → OneRequest unit a b at head → NoRequest unit b c (at + length head) mid fault → Halted unit a c at (head ++ mid ++ tail) fault
   mid_not fault one two =
-      not_longer unit positive a c at (head ++ mid) tail fault (not_behind unit positive a b c at head mid fault one.through two.not_through)
+      not_longer unit positive a c at (head ++ mid) tail fault (not_behind unit positive a b c at head mid fault one.through two.halted)
 
-  pub head_not : (fault : Fault) → NoRequest unit a b at head fault → NotThrough unit a b at (head ++ mid ++ tail) fault
+  pub head_not : (fault : Fault) → NoRequest unit a b at head fault → Halted unit a b at (head ++ mid ++ tail) fault
   head_not fault one =
-      not_longer unit positive a b at (head ++ mid) tail fault (not_longer unit positive a b at head mid fault one.not_through)
+      not_longer unit positive a b at (head ++ mid) tail fault (not_longer unit positive a b at head mid fault one.halted)
 
 -- what a `?` passes on
 pub passed : {T : Type 0} (result : Result T Fault) (Q : Fault → Type 0) (fault : Fault) → IsErrAnd result (λ e. e ≡ fault) → Q fault → IfErr result Q
 passed result Q fault is_err holds = let p = err_from_is_err_and result is_err in subst (λ r. IfErr r Q) (sym p.1) (subst Q (sym p.2) holds)
 
--- the last of three parts, over the units that the calls name
-module _ (unit unit_2 unit_3 : ℕ) (same_2 : unit_2 ≡ unit) (same_3 : unit_3 ≡ unit) (positive : 0 < unit) (a b c d : StorageState) (at : ℕ) (head mid tail : List ℕ) where
-  pub parts_ok : {T : Type 0} (result : Result T Fault) → OneRequest unit a b at head → OneRequest unit_2 b c (at + length head) mid → OnOk result (OneRequest unit_3 c d (at + length head + length mid) tail) → OnOk result (Through unit a d at (head ++ mid ++ tail))
+-- three parts, each over the unit of the storage as the one before left it
+module _ (unit : ℕ) (positive : 0 < unit) (a b c d : StorageState) (same : unit ≡ unit_of a.shape) (at : ℕ) (head mid tail : List ℕ) where
+  first-of : OneRequest (unit_of a.shape) a b at head → OneRequest unit a b at head
+  first-of one = subst (λ (u : ℕ). OneRequest u a b at head) (sym same) one
+
+  second-unit : OneRequest (unit_of a.shape) a b at head → unit_of b.shape ≡ unit
+  second-unit one = ap unit_of one.through.shape ∙ sym same
+
+  third-unit : OneRequest (unit_of a.shape) a b at head → OneRequest (unit_of b.shape) b c (at + length head) mid → unit_of c.shape ≡ unit
+  third-unit one two = ap unit_of two.through.shape ∙ second-unit one
+
+  second-of : OneRequest (unit_of a.shape) a b at head → OneRequest (unit_of b.shape) b c (at + length head) mid → OneRequest unit b c (at + length head) mid
+  second-of one two = subst (λ (u : ℕ). OneRequest u b c (at + length head) mid) (second-unit one) two
+
+  pub parts_ok : {T : Type 0} (result : Result T Fault) → OneRequest (unit_of a.shape) a b at head → OneRequest (unit_of b.shape) b c (at + length head) mid → OnOk result (OneRequest (unit_of c.shape) c d (at + length head + length mid) tail) → OnOk result (Through unit a d at (head ++ mid ++ tail))
   parts_ok result one two three =
-      on_ok_weaker result (λ third. parts_through unit positive a b c d at head mid tail one (subst (λ (u : ℕ). OneRequest u b c (at + length head) mid) same_2 two) third)
-      (subst (λ (u : ℕ). OnOk result (OneRequest u c d (at + length head + length mid) tail)) same_3 three)
+      on_ok_weaker result (λ third. parts_through unit positive a b c d at head mid tail (first-of one) (second-of one two) third)
+      (subst (λ (u : ℕ). OnOk result (OneRequest u c d (at + length head + length mid) tail)) (third-unit one two) three)
 
-  pub parts_err : {T : Type 0} (result : Result T Fault) → OneRequest unit a b at head → OneRequest unit_2 b c (at + length head) mid → IfErr result (NoRequest unit_3 c d (at + length head + length mid) tail) → IfErr result (NotThrough unit a d at (head ++ mid ++ tail))
+  pub parts_err : {T : Type 0} (result : Result T Fault) → OneRequest (unit_of a.shape) a b at head → OneRequest (unit_of b.shape) b c (at + length head) mid → IfErr result (NoRequest (unit_of c.shape) c d (at + length head + length mid) tail) → IfErr result (Halted unit a d at (head ++ mid ++ tail))
   parts_err result one two three =
-      IfErr-weaker result (NoRequest unit c d (at + length head + length mid) tail) (NotThrough unit a d at (head ++ mid ++ tail))
-      (λ fault third. parts_not unit positive a b c d at head mid tail fault one (subst (λ (u : ℕ). OneRequest u b c (at + length head) mid) same_2 two) third)
-      (subst (λ (u : ℕ). IfErr result (NoRequest u c d (at + length head + length mid) tail)) same_3 three)
+      IfErr-weaker result (NoRequest unit c d (at + length head + length mid) tail) (Halted unit a d at (head ++ mid ++ tail))
+      (λ fault third. parts_not unit positive a b c d at head mid tail fault (first-of one) (second-of one two) third)
+      (subst (λ (u : ℕ). IfErr result (NoRequest u c d (at + length head + length mid) tail)) (third-unit one two) three)
 
-  pub mid_err : {T : Type 0} (result : Result T Fault) (fault : Fault) → IsErrAnd result (λ e. e ≡ fault) → OneRequest unit a b at head → NoRequest unit_2 b c (at + length head) mid fault → IfErr result (NotThrough unit a c at (head ++ mid ++ tail))
+  pub mid_err : {T : Type 0} (result : Result T Fault) (fault : Fault) → IsErrAnd result (λ e. e ≡ fault) → OneRequest (unit_of a.shape) a b at head → NoRequest (unit_of b.shape) b c (at + length head) mid fault → IfErr result (Halted unit a c at (head ++ mid ++ tail))
   mid_err result fault is_err one two =
-      passed result (NotThrough unit a c at (head ++ mid ++ tail)) fault is_err
-      (mid_not unit positive a b c c at head mid tail fault one (subst (λ (u : ℕ). NoRequest u b c (at + length head) mid fault) same_2 two))
+      passed result (Halted unit a c at (head ++ mid ++ tail)) fault is_err
+      (mid_not unit positive a b c d at head mid tail fault (first-of one) (subst (λ (u : ℕ). NoRequest u b c (at + length head) mid fault) (second-unit one) two))
+
+  pub head_err : {T : Type 0} (result : Result T Fault) (fault : Fault) → IsErrAnd result (λ e. e ≡ fault) → NoRequest (unit_of a.shape) a b at head fault → IfErr result (Halted unit a b at (head ++ mid ++ tail))
+  head_err result fault is_err one =
+      passed result (Halted unit a b at (head ++ mid ++ tail)) fault is_err
+      (head_not unit positive a b c d at head mid tail fault (subst (λ (u : ℕ). NoRequest u a b at head fault) (sym same) one))
 
 -- the stops of a call, whatever it answered
 refused_stops : (unit : ℕ) (a b : StorageState) (at : ℕ) (xs : List ℕ) (P : Type 0) (fault : Fault) → UnlessOverflow P a b (NotThrough unit a b at xs) fault → Stops (Mixed a.bytes at xs) a b

@@ -51,10 +51,22 @@ whole-of align unit n divides whole =
     ap (λ m. m % unit) c ∙ mul-mod_left (n / align * (align / unit)) unit
 
 -- the bytes between two multiples of a unit
-difference-whole : (unit a b : ℕ) → a ≤ b → a % unit ≡ 0 → b % unit ≡ 0 → (b - a) % unit ≡ 0
+pub difference-whole : (unit a b : ℕ) → a ≤ b → a % unit ≡ 0 → b % unit ≡ 0 → (b - a) % unit ≡ 0
 difference-whole unit a b le first second =
     let same : b - a + a / unit * unit ≡ b = omega (arith, div-add-mod' a unit, first, le) in
     sym (add-mul-mod_self_right (b - a) (a / unit) unit) ∙ (ap (λ m. m % unit) same ∙ second)
+
+-- whole units between two multiples of a unit
+pub between-whole : (unit a b : ℕ) → a ≤ b → a % unit ≡ 0 → b % unit ≡ 0 → b < 2 ^ 64 → IsWhole unit a (b - a)
+between-whole unit a b le first second fits = record { start = first; size = difference-whole unit a b le first second; fits = omega (arith, le, fits) }
+
+-- the end of whole units
+pub behind-whole : (unit a b : ℕ) → 0 < unit → a < b → IsWhole unit a (b - a) → b % unit ≡ 0
+behind-whole unit a b positive lt whole = ap (λ m. m % unit) (let e : b ≡ a + (b - a) = omega (arith, lt) in e) ∙ sum_of_whole unit a (b - a) positive whole.start whole.size
+
+-- no units
+pub none-whole : (unit a : ℕ) → 0 < unit → a % unit ≡ 0 → a < 2 ^ 64 → IsWhole unit a 0
+none-whole unit a positive whole fits = record { start = whole; size = ap (λ m. m % unit) (let e : 0 ≡ a - a = omega arith in e) ∙ difference-whole unit a a (omega arith) whole whole; fits = omega (arith, fits) }
 
 module _ (align at n : ℕ) (w : ℕ × ℕ) (positive : 0 < align) (has : HasWhole align at n) (is : w ≡ (round_up align at, round_down align (at + n))) where
   start-is : w.0 ≡ round_up align at

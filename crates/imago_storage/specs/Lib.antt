@@ -3,6 +3,7 @@ pub mod State
 pub mod Calls
 pub mod MemStorage
 pub mod Through
+pub mod Edges
 pub mod Null
 pub mod Fuse
 pub mod Log

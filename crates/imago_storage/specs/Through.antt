@@ -1,7 +1,7 @@
 -- What a padded call does, by any number of requests.
 use Rattle.std.specs.Prelude.{◌≡◌, ◌⊎◌, ℕ, ◌+◌, ◌-◌, ◌*◌, ◌/◌, ◌%◌, ◌<◌, ◌≤◌, ◌^◌, max, List, ◌∷◌, ◌++◌, length, replicate, All, IsTrue, Result, MatchResult}
 use Rattle.imago_storage.specs.State.{StorageState, Rose, InStep, unit_of}
-use Rattle.imago_storage.specs.Calls.{Spliced, Mixed, Cause, Later, Discarded, NotDiscarded}
+use Rattle.imago_storage.specs.Calls.{Spliced, Mixed, Cause, Kept, Later, Discarded, NotDiscarded}
 use Rattle.imago_storage.specs.declared.fault.Fault.{Fault}
 use Rattle.imago_storage.specs.declared.fault.Fault.TheVariants.{RangeOverflow, Unsupported}
 
@@ -55,10 +55,23 @@ pub record Through (unit : ℕ) (old new : StorageState) (at : ℕ) (bytes : Lis
   pub stops : Stops (Mixed old.bytes at bytes) old new
   pub as_long : StopsAsLong old new
 
+-- the storage refused a change, and a part may be written
+pub record Halted (unit : ℕ) (old new : StorageState) (at : ℕ) (bytes : List ℕ) (fault : Fault) : Type 0 where
+  pub shape : new.shape ≡ old.shape
+  pub cause : Cause old.faults new.faults fault
+  pub refusals : Rose old.refusals new.refusals
+  pub content : IsTrue old.shape.keeps → Mixed old.bytes at bytes new.bytes
+  pub no_shorter : length old.bytes ≤ length new.bytes
+  pub no_longer : length new.bytes ≤ max (length old.bytes) (round_up unit (at + length bytes))
+  pub stops : Stops (Mixed old.bytes at bytes) old new
+  pub as_long : StopsAsLong old new
+
 -- the call was refused, and may have written a part
 pub record NotThrough (unit : ℕ) (old new : StorageState) (at : ℕ) (bytes : List ℕ) (fault : Fault) : Type 0 where
   pub shape : new.shape ≡ old.shape
   pub cause : Cause old.faults new.faults fault
+  -- where no change was refused, none was made: only the count of faults may have risen, and it hasn't for want of memory
+  pub kept : Rose old.refusals new.refusals ⊎ Kept old new
   pub content : IsTrue old.shape.keeps → Mixed old.bytes at bytes new.bytes
   pub no_shorter : length old.bytes ≤ length new.bytes
   pub no_longer : length new.bytes ≤ max (length old.bytes) (round_up unit (at + length bytes))
@@ -76,7 +89,7 @@ pub record OneRequest (unit : ℕ) (old new : StorageState) (at : ℕ) (bytes : 
 -- no request, though there was something to write
 pub record NoRequest (unit : ℕ) (old new : StorageState) (at : ℕ) (bytes : List ℕ) (fault : Fault) : Type 0 where
   pub some : 0 < length bytes
-  pub not_through : NotThrough unit old new at bytes fault
+  pub halted : Halted unit old new at bytes fault
   pub stop : new.stop ≡ old.stop
   pub past : new.past ≡ old.past
 
@@ -97,8 +110,11 @@ IsOnePart head mid tail = ((head ≡ 0) × (mid ≡ 0)) ⊎ (((head ≡ 0) × (t
 pub record Parts (unit at n head mid : ℕ) : Type 0 where
   pub within : head + mid ≤ n
   pub first : at % unit + head ≤ unit
+  -- a range that begins at a unit has no first part, and that of another ends with its unit or with the range
+  pub edge : ((head ≡ 0) × (at % unit ≡ 0)) ⊎ ((0 < at % unit) × ((at % unit + head ≡ unit) ⊎ (head ≡ n)))
   pub whole : 0 < mid → ((at + head) % unit ≡ 0) × (mid % unit ≡ 0)
   pub last : (at + head + mid) % unit + (n - head - mid) ≤ unit
+  pub rest : n - head - mid < unit
   pub once : IsAtOnce unit at n → IsOnePart head mid (n - head - mid)
 
 -- a `write` that succeeds, by the storage's own unit

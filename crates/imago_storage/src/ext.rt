@@ -6,7 +6,8 @@ ghost use Rattle.imago_storage.specs.Calls.{Cause, CountsFaults, Kept, Later, Mi
 ghost use Rattle.imago_storage.specs.Through.{round_up, round_down, HasWhole, IsUnits, Overflows, IsAtOnce, Through, NotThrough, OneRequest, NoRequest, IsOnePart, Parts, RequestsOnce, Stops, StopsAsLong, UnlessOverflow, WrittenThrough, NotWrittenThrough, NotZeroed, GivenUp, NotGivenUp, whole_start, whole_size, NotRead};
 
 use crate::discarding::discard_whole;
-use crate::edits::{copy_in, take_part};
+use crate::edits::take_part;
+use crate::padding::{parts_of_range, write_around, write_whole};
 use crate::zeroing::{Zeroing, zero_padded};
 use crate::{Fault, Storage};
 use std::alloc::Global;
@@ -52,105 +53,6 @@ pub fn unit_size<S: Storage>(storage: &S) -> usize
     larger_alignment(storage.req_align(), storage.mem_align())
 }
 
-// Writes bytes that lie in one unit, by one request. The buffer holds a unit.
-fn write_unit<S: Storage>(
-    storage: &mut S,
-    buf: &mut [u8],
-    data: &[u8],
-    offset: u64,
-) -> Result<(), Fault>
-    requires unit { length buf.old ≡ unit_of (S.state storage.old).shape }
-    requires positive { 0 < length buf.old }
-    requires inside { offset % length buf.old + length «data».now ≤ length buf.old }
-    requires fits { round_up (length buf.old) (offset + length «data».now) < 2 ^ 64 }
-    ensures ok { OnOk result (OneRequest (length buf.old) (S.state storage.old) (S.state storage.new) offset «data».now) }
-    ensures err { IfErr result (NoRequest (length buf.old) (S.state storage.old) (S.state storage.new) offset «data».now) }
-{
-    if data.is_empty() {
-        return Ok(());
-    }
-    let within = offset % buf.len() as u64;
-    let start = offset - within;
-    storage.pure_read(buf, start)?;
-    copy_in(buf, within as usize, data);
-    storage.pure_write(buf, start)
-}
-
-// Writes whole units, by one request.
-fn write_whole<S: Storage>(storage: &mut S, data: &[u8], offset: u64) -> Result<(), Fault>
-    requires positive { 0 < unit_of (S.state storage.old).shape }
-    requires whole { 0 < length «data».now → IsWhole (unit_of (S.state storage.old).shape) offset (length «data».now) }
-    ensures ok { OnOk result (OneRequest (unit_of (S.state storage.old).shape) (S.state storage.old) (S.state storage.new) offset «data».now) }
-    ensures err { IfErr result (NoRequest (unit_of (S.state storage.old).shape) (S.state storage.old) (S.state storage.new) offset «data».now) }
-{
-    if data.is_empty() {
-        return Ok(());
-    }
-    storage.pure_write(data, offset)
-}
-
-// Writes three parts in a row, each by one request, the lowest first: bytes in one unit, whole units, and bytes in
-// one unit. The buffer holds a unit.
-pub fn write_parts<S: Storage>(
-    storage: &mut S,
-    buf: &mut [u8],
-    head: &[u8],
-    mid: &[u8],
-    tail: &[u8],
-    offset: u64,
-) -> Result<(), Fault>
-    requires unit { length buf.old ≡ unit_of (S.state storage.old).shape }
-    requires positive { 0 < length buf.old }
-    requires head { offset % length buf.old + length head.now ≤ length buf.old }
-    requires mid { 0 < length mid.now → IsWhole (length buf.old) (offset + length head.now) (length mid.now) }
-    requires tail { (offset + length head.now + length mid.now) % length buf.old + length tail.now ≤ length buf.old }
-    requires fits { round_up (length buf.old) (offset + length head.now + length mid.now + length tail.now) < 2 ^ 64 }
-    ensures ok { OnOk result (Through (length buf.old) (S.state storage.old) (S.state storage.new) offset ((head.now ++ mid.now) ++ tail.now)) }
-    ensures err { IfErr result (NotThrough (length buf.old) (S.state storage.old) (S.state storage.new) offset ((head.now ++ mid.now) ++ tail.now)) }
-    ensures once { IsOnePart (length head.now) (length mid.now) (length tail.now) → RequestsOnce (S.state storage.old) (S.state storage.new) (length head.now + length mid.now + length tail.now) result }
-{
-    write_unit(storage, buf, head, offset)?;
-    let middle = offset + head.len() as u64;
-    write_whole(storage, mid, middle)?;
-    let last = middle + mid.len() as u64;
-    write_unit(storage, buf, tail, last)
-}
-
-// The lengths of the first two of a range's three parts: bytes in one unit, whole units, and bytes in one unit.
-pub fn parts_of_range(offset: u64, n: usize, unit: usize) -> (usize, usize)
-    requires { 0 < unit }
-    ensures { Parts unit offset n result.0 result.1 }
-{
-    let within = (offset % unit as u64) as usize;
-    let head = if within == 0 {
-        0
-    } else {
-        (unit - within).min(n)
-    };
-    let mid = (n - head) / unit * unit;
-    (head, mid)
-}
-
-// Writes any range, by up to three requests. The buffer holds a unit.
-pub fn write_in_parts<S: Storage>(
-    storage: &mut S,
-    buf: &mut [u8],
-    data: &[u8],
-    offset: u64,
-) -> Result<(), Fault>
-    requires unit { length buf.old ≡ unit_of (S.state storage.old).shape }
-    requires positive { 0 < length buf.old }
-    requires fits { round_up (length buf.old) (offset + length «data».now) < 2 ^ 64 }
-    ensures ok { OnOk result (Through (length buf.old) (S.state storage.old) (S.state storage.new) offset «data».now) }
-    ensures err { IfErr result (NotThrough (length buf.old) (S.state storage.old) (S.state storage.new) offset «data».now) }
-    ensures once { IsAtOnce (length buf.old) offset (length «data».now) → RequestsOnce (S.state storage.old) (S.state storage.new) (length «data».now) result }
-{
-    let (first, second) = parts_of_range(offset, data.len(), buf.len());
-    let (head, rest) = data.split_at(first);
-    let (mid, tail) = rest.split_at(second);
-    write_parts(storage, buf, head, mid, tail, offset)
-}
-
 // Writes any range, padded to whole units.
 fn write_padded<S: Storage>(
     storage: &mut S,
@@ -177,8 +79,7 @@ fn write_padded<S: Storage>(
     if first == 0 && second == data.len() {
         return write_whole(storage, data, offset);
     }
-    let mut buf = vec![in alloc; 0u8; unit]?;
-    write_in_parts(storage, &mut buf, data, offset)
+    write_around(storage, alloc, unit, data, offset)
 }
 
 // Reads whole units into the first buffer, and of these the range into the second.
@@ -248,7 +149,8 @@ pub fn larger_alignment(a: usize, b: usize) -> usize
 /// Reads, writes, zeroing and discards of any range of bytes, for every storage.
 ///
 /// A range is padded to whole units of the storage, where the unit is the larger of `req_align` and `mem_align`. Buffers
-/// that this takes are taken before the first request.
+/// that this takes are taken before anything is asked of the storage, and what is read for it is read before anything changes.
+/// So a write or a zeroing that is refused where the storage refused no change has changed nothing.
 pub trait StorageExt: Storage {
     /// Fills the buffer with the bytes from the offset on. Past the end it reads zeroes. A range of whole units takes no
     /// buffer of its own; an empty one asks nothing of the storage.
@@ -272,11 +174,11 @@ pub trait StorageExt: Storage {
     /// length reaches the range's end, rounded up to the unit; an empty range changes nothing.
     ///
     /// A range of whole units is one request, and so is one in a single unit, which is read before. Any other is up to
-    /// three requests, rising: the rest of its first unit, whole units, and the start of its last unit.
+    /// three requests, rising: its first unit, whole units, and its last unit; the first and the last are read before.
     ///
     /// It refuses with `Fault::RangeOverflow` where the range's end, rounded up to the unit, passes `u64`, before it
     /// changes anything; else with `Fault::Memory` and `Fault::Storage`, which leave each byte of the range old or new,
-    /// and none changed outside.
+    /// and none changed outside, and all as it was where the storage refused no change.
     fn write(&mut self, alloc: Global, data: &[u8], offset: u64) -> Result<(), Fault>
         ensures ok { OnOk result (WrittenThrough (Self.state self.old) (Self.state self.new) offset «data».now) }
         ensures err { IfErr result (NotWrittenThrough (Self.state self.old) (Self.state self.new) offset «data».now) }

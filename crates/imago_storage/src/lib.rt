@@ -14,6 +14,7 @@ mod log;
 mod memory;
 mod null;
 mod options;
+mod padding;
 mod storage;
 mod zeroing;
 

@@ -1,11 +1,13 @@
 // Zeroing of any range, padded to whole units.
-ghost use Rattle.std.specs.Prelude.{◌≡◌, ℕ, ◌+◌, ◌-◌, ◌%◌, ◌<◌, ◌≤◌, ◌^◌, max, min, length, slice_index, replicate, IsOk, OnOk, IfOk, IfErr, IsErrOf, IsOkUnless};
+ghost use Rattle.std.specs.Prelude.{◌≡◌, ℕ, ◌+◌, ◌-◌, ◌%◌, ◌<◌, ◌≤◌, ◌^◌, ◌++◌, max, min, length, slice_index, replicate, IsOk, OnOk, IfOk, IfErr, IsErrOf, IsOkUnless};
 ghost use Rattle.imago_storage.specs.State.{unit_of, IsAlignment, IsWhole};
-ghost use Rattle.imago_storage.specs.Calls.{Later, Mixed, RequestsOne};
-ghost use Rattle.imago_storage.specs.Through.{round_up, IsUnits, Overflows, RequestsOnce, Through, NotThrough, WrittenThrough, NotWrittenThrough, Stops, StopsAsLong};
+ghost use Rattle.imago_storage.specs.Calls.{CountsFaults, Kept, Later, Mixed, RequestsOne};
+ghost use Rattle.imago_storage.specs.Through.{round_up, IsUnits, Overflows, RequestsOnce, Parts, Through, Halted, NotThrough, WrittenThrough, NotWrittenThrough, Stops, StopsAsLong};
+ghost use Rattle.imago_storage.specs.Edges.{ZeroesLaid, IsEdge, unit_start};
 ghost use Rattle.imago_storage.specs.Zeroings.{UnlessLeft, NotZeroedBy};
 
-use crate::ext::{larger_alignment, padded_end, unit_size, whole_part, write_in_parts};
+use crate::ext::{larger_alignment, padded_end, unit_size, whole_part};
+use crate::padding::{edge_buffers, pad_edges, parts_of_range, write_whole};
 use crate::{Fault, Storage};
 use std::alloc::Global;
 
@@ -21,56 +23,90 @@ pub enum Zeroing {
     Allocated,
 }
 
-// Writes zeroes over a range, in rising pieces: each ends at a multiple of the piece's length, or with the range. The first
-// buffer holds a unit, the second the zeroes of a piece, or of the range.
+// What is written to zero a range: the units that it has only a part of at its two ends, and zeroes for a piece of those between,
+// or for the range where that is shorter; and how many bytes lie between.
+#[derive(Drop)]
+struct Laid {
+    first: Vec<u8>,
+    last: Vec<u8>,
+    zeroes: Vec<u8>,
+    mid: u64,
+}
+
+// Writes zeroes over whole units, in rising pieces: each ends at a multiple of the piece's length, or with the range. There are
+// zeroes for a piece, or for the range.
 fn write_pieces<S: Storage>(
     storage: &mut S,
-    buf: &mut [u8],
+    unit: usize,
     zeroes: &[u8],
-    piece: u64,
     offset: u64,
     n: u64,
 ) -> Result<(), Fault>
-    requires unit { length buf.old ≡ unit_of (S.state storage.old).shape }
-    requires positive { 0 < length buf.old }
-    requires piece { 0 < piece }
+    requires unit { unit ≡ unit_of (S.state storage.old).shape }
+    requires alignment { IsAlignment unit }
     requires zeroes { (k : ℕ) → slice_index zeroes.now k ≡ 0 }
-    requires room { min piece n ≤ length zeroes.now }
-    requires fits { round_up (length buf.old) (offset + n) < 2 ^ 64 }
-    ensures ok { OnOk result (Through (length buf.old) (S.state storage.old) (S.state storage.new) offset (replicate n 0)) }
-    ensures err { IfErr result (NotThrough (length buf.old) (S.state storage.old) (S.state storage.new) offset (replicate n 0)) }
+    requires room { min (max unit 65536) n ≤ length zeroes.now }
+    requires whole { IsWhole unit offset n }
+    ensures ok { OnOk result (Through unit (S.state storage.old) (S.state storage.new) offset (replicate n 0)) }
+    ensures err { IfErr result (Halted unit (S.state storage.old) (S.state storage.new) offset (replicate n 0)) }
     ensures empty { n ≡ 0 → IsOk result × (S.state storage.new ≡ S.state storage.old) }
 {
+    let piece = larger_alignment(unit, PIECE) as u64;
     let mut done = 0;
     while done < n {
         let at = offset + done;
         let count = (piece - at % piece).min(n - done);
-        write_in_parts(storage, buf, &zeroes[..count as usize], at)?;
+        write_whole(storage, &zeroes[..count as usize], at)?;
         done += count;
     }
     Ok(())
 }
 
+// Writes a unit, zeroes over whole units, and a unit. Each of the two units may be none.
+fn write_edged<S: Storage>(
+    storage: &mut S,
+    unit: usize,
+    first: &[u8],
+    last: &[u8],
+    zeroes: &[u8],
+    start: u64,
+    n: u64,
+) -> Result<(), Fault>
+    requires unit { unit ≡ unit_of (S.state storage.old).shape }
+    requires alignment { IsAlignment unit }
+    requires zeroes { (k : ℕ) → slice_index zeroes.now k ≡ 0 }
+    requires room { min (max unit 65536) n ≤ length zeroes.now }
+    requires first { IsWhole unit start (length first.now) }
+    requires whole { IsWhole unit (start + length first.now) n }
+    requires last { IsWhole unit (start + length first.now + n) (length last.now) }
+    ensures ok { OnOk result (Through unit (S.state storage.old) (S.state storage.new) start ((first.now ++ replicate n 0) ++ last.now)) }
+    ensures err { IfErr result (Halted unit (S.state storage.old) (S.state storage.new) start ((first.now ++ replicate n 0) ++ last.now)) }
+    ensures empty { length first.now ≡ 0 → length last.now ≡ 0 → n ≡ 0 → IsOk result × (S.state storage.new ≡ S.state storage.old) }
+{
+    write_whole(storage, first, start)?;
+    let middle = start + first.len() as u64;
+    write_pieces(storage, unit, zeroes, middle, n)?;
+    write_whole(storage, last, middle + n)
+}
+
 // Zeroes whole units, by one request where the storage has it.
 fn zero_whole<S: Storage>(
     storage: &mut S,
-    buf: &mut [u8],
+    unit: usize,
     zeroes: &[u8],
-    piece: u64,
     zeroing: Zeroing,
     offset: u64,
     n: u64,
 ) -> Result<(), Fault>
-    requires unit { length buf.old ≡ unit_of (S.state storage.old).shape }
-    requires positive { 0 < length buf.old }
-    requires piece { 0 < piece }
+    requires unit { unit ≡ unit_of (S.state storage.old).shape }
+    requires alignment { IsAlignment unit }
     requires zeroes { (k : ℕ) → slice_index zeroes.now k ≡ 0 }
-    requires room { min piece n ≤ length zeroes.now }
-    requires whole { IsWhole (length buf.old) offset n }
+    requires room { min (max unit 65536) n ≤ length zeroes.now }
+    requires whole { IsWhole unit offset n }
     requires aligned { IsWhole (S.state storage.old).shape.zero_align offset n }
     requires some { 0 < n }
-    ensures ok { OnOk result (Through (length buf.old) (S.state storage.old) (S.state storage.new) offset (replicate n 0)) }
-    ensures err { IfErr result (UnlessLeft zeroing (S.state storage.old) (S.state storage.new) (NotThrough (length buf.old) (S.state storage.old) (S.state storage.new) offset (replicate n 0))) }
+    ensures ok { OnOk result (Through unit (S.state storage.old) (S.state storage.new) offset (replicate n 0)) }
+    ensures err { IfErr result (UnlessLeft zeroing (S.state storage.old) (S.state storage.new) (Halted unit (S.state storage.old) (S.state storage.new) offset (replicate n 0))) }
     ensures once { zeroing ≡ Zeroing.Allocated → RequestsOne (S.state storage.old) (S.state storage.new) result }
 {
     match zeroing {
@@ -78,56 +114,188 @@ fn zero_whole<S: Storage>(
         Zeroing::Any => match storage.pure_write_zeroes(offset, n) {
             Ok(()) => Ok(()),
             Err(fault) => match fault {
-                Fault::Unsupported => write_pieces(storage, buf, zeroes, piece, offset, n),
+                Fault::Unsupported => write_pieces(storage, unit, zeroes, offset, n),
                 _ => Err(fault),
             },
         },
     }
 }
 
-// Zeroes a range that has whole units, which begin at `start` and end at `end`: first these, then what lies before and behind
-// them.
+// Zeroes the whole units from `whole.0` to `whole.1`, and then writes what lies before and behind them: a unit and zeroes over
+// whole units that begin at `middle.0`, and zeroes over whole units that end at `middle.1` and a unit.
 fn zero_around<S: Storage>(
     storage: &mut S,
-    buf: &mut [u8],
+    unit: usize,
+    first: &[u8],
+    last: &[u8],
     zeroes: &[u8],
-    piece: u64,
     zeroing: Zeroing,
-    range: (u64, u64),
+    middle: (u64, u64),
     whole: (u64, u64),
 ) -> Result<(), Fault>
-    requires unit { length buf.old ≡ unit_of (S.state storage.old).shape }
-    requires positive { 0 < length buf.old }
-    requires piece { 0 < piece }
+    requires unit { unit ≡ unit_of (S.state storage.old).shape }
+    requires alignment { IsAlignment unit }
     requires zeroes { (k : ℕ) → slice_index zeroes.now k ≡ 0 }
-    requires room { min piece (range.1 - range.0) ≤ length zeroes.now }
-    requires fits { round_up (length buf.old) range.1 < 2 ^ 64 }
-    requires before { range.0 ≤ whole.0 }
+    requires room { min (max unit 65536) (middle.1 - middle.0) ≤ length zeroes.now }
+    requires before { middle.0 ≤ whole.0 }
     requires some { whole.0 < whole.1 }
-    requires behind { whole.1 ≤ range.1 }
-    requires whole { IsWhole (length buf.old) whole.0 (whole.1 - whole.0) }
+    requires behind { whole.1 ≤ middle.1 }
+    requires low { length first.now ≤ middle.0 }
+    requires first { IsWhole unit (middle.0 - length first.now) (length first.now) }
+    requires middle { IsWhole unit middle.0 (middle.1 - middle.0) }
+    requires last { IsWhole unit middle.1 (length last.now) }
+    requires whole { IsWhole unit whole.0 (whole.1 - whole.0) }
     requires aligned { IsWhole (S.state storage.old).shape.zero_align whole.0 (whole.1 - whole.0) }
-    ensures ok { OnOk result (Through (length buf.old) (S.state storage.old) (S.state storage.new) range.0 (replicate (range.1 - range.0) 0)) }
-    ensures err { IfErr result (UnlessLeft zeroing (S.state storage.old) (S.state storage.new) (NotThrough (length buf.old) (S.state storage.old) (S.state storage.new) range.0 (replicate (range.1 - range.0) 0))) }
-    ensures once { zeroing ≡ Zeroing.Allocated → range ≡ whole → RequestsOne (S.state storage.old) (S.state storage.new) result }
+    ensures ok { OnOk result (Through unit (S.state storage.old) (S.state storage.new) (middle.0 - length first.now) ((first.now ++ replicate (middle.1 - middle.0) 0) ++ last.now)) }
+    ensures err { IfErr result (UnlessLeft zeroing (S.state storage.old) (S.state storage.new)
+        (Halted unit (S.state storage.old) (S.state storage.new) (middle.0 - length first.now) ((first.now ++ replicate (middle.1 - middle.0) 0) ++ last.now))) }
+    ensures once { zeroing ≡ Zeroing.Allocated → length first.now ≡ 0 → length last.now ≡ 0 → middle ≡ whole → RequestsOne (S.state storage.old) (S.state storage.new) result }
 {
-    let (offset, last) = range;
     let (start, end) = whole;
-    zero_whole(storage, buf, zeroes, piece, zeroing, start, end - start)?;
-    write_pieces(storage, buf, zeroes, piece, offset, start - offset)?;
-    write_pieces(storage, buf, zeroes, piece, end, last - end)
+    zero_whole(storage, unit, zeroes, zeroing, start, end - start)?;
+    let low = middle.0 - first.len() as u64;
+    write_edged(storage, unit, first, &[], zeroes, low, start - middle.0)?;
+    write_edged(storage, unit, &[], last, zeroes, end, middle.1 - end)
 }
 
-// Two buffers of zeroes for writing over a range of n bytes: of a unit, and of a piece, or of the range where that is shorter.
-fn buffers(alloc: Global, unit: usize, piece: u64, n: u64) -> Result<(Vec<u8>, Vec<u8>), Fault>
-    ensures unit { IfOk result (λ buffers. length buffers.0.items ≡ unit) }
-    ensures zeroes { IfOk result (λ buffers. (k : ℕ) → slice_index buffers.1.items k ≡ 0) }
-    ensures room { IfOk result (λ buffers. min piece n ≤ length buffers.1.items) }
+// A buffer of zeroes.
+fn zero_buffer(alloc: Global, len: usize) -> Result<Vec<u8>, Fault>
+    ensures zeroes { IfOk result (λ buf. (k : ℕ) → slice_index buf.items k ≡ 0) }
+    ensures len { IfOk result (λ buf. length buf.items ≡ len) }
     ensures err { IsOkUnless result Fault.Memory }
 {
-    let block = vec![in alloc; 0u8; unit]?;
-    let zeroes = vec![in alloc; 0u8; piece.min(n) as usize]?;
-    Ok((block, zeroes))
+    Ok(vec![in alloc; 0u8; len]?)
+}
+
+// Fills the buffers of a range's two ends: what is there, and zeroes over what is of the range.
+fn lay_edges<S: Storage>(
+    storage: &mut S,
+    unit: usize,
+    first: &mut [u8],
+    last: &mut [u8],
+    zeroes: &[u8],
+    range: (u64, u64),
+    parts: (usize, usize),
+) -> Result<(), Fault>
+    requires unit { unit ≡ unit_of (S.state storage.old).shape }
+    requires positive { 0 < unit }
+    requires some { 0 < range.1 }
+    requires fits { round_up unit (range.0 + range.1) < 2 ^ 64 }
+    requires parts { Parts unit range.0 range.1 parts.0 parts.1 }
+    requires first { IsEdge unit parts.0 (length first.old) }
+    requires last { IsEdge unit (range.1 - parts.0 - parts.1) (length last.old) }
+    requires zeroes { (k : ℕ) → slice_index zeroes.now k ≡ 0 }
+    requires room { min (max unit 65536) range.1 ≤ length zeroes.now }
+    ensures ok { OnOk result (ZeroesLaid unit (S.state storage.old).bytes range.0 range.1 first.new last.new zeroes.now parts.1) }
+    ensures kept { Kept (S.state storage.old) (S.state storage.new) }
+    ensures faults { CountsFaults (S.state storage.old).faults (S.state storage.new).faults result }
+{
+    let (offset, n) = range;
+    let head = &zeroes[..parts.0];
+    let tail = &zeroes[..n as usize - parts.0 - parts.1];
+    let behind = offset + parts.0 as u64 + parts.1 as u64;
+    pad_edges(storage, unit, first, last, head, tail, offset, behind)
+}
+
+// Takes the buffers for zeroing a range that isn't empty, and fills those of its two ends.
+fn lay_zeroes<S: Storage>(
+    storage: &mut S,
+    alloc: Global,
+    unit: usize,
+    offset: u64,
+    n: u64,
+) -> Result<Laid, Fault>
+    requires unit { unit ≡ unit_of (S.state storage.old).shape }
+    requires alignment { IsAlignment unit }
+    requires some { 0 < n }
+    requires fits { round_up unit (offset + n) < 2 ^ 64 }
+    ensures ok { IfOk result (λ laid. ZeroesLaid unit (S.state storage.old).bytes offset n laid.first.items laid.last.items laid.zeroes.items laid.mid) }
+    ensures kept { Kept (S.state storage.old) (S.state storage.new) }
+    ensures faults { CountsFaults (S.state storage.old).faults (S.state storage.new).faults result }
+{
+    let parts = parts_of_range(offset, n as usize, unit);
+    let tail = n as usize - parts.0 - parts.1;
+    let (mut first, mut last) = edge_buffers(alloc, unit, parts.0, tail)?;
+    let zeroes = zero_buffer(alloc, unit.max(PIECE).min(n as usize))?;
+    lay_edges(
+        storage,
+        unit,
+        &mut first,
+        &mut last,
+        &zeroes,
+        (offset, n),
+        parts,
+    )?;
+    Ok(Laid {
+        first,
+        last,
+        zeroes,
+        mid: parts.1 as u64,
+    })
+}
+
+// Writes zeroes over a range that isn't empty.
+fn write_zeroed<S: Storage>(
+    storage: &mut S,
+    alloc: Global,
+    unit: usize,
+    offset: u64,
+    n: u64,
+) -> Result<(), Fault>
+    requires unit { unit ≡ unit_of (S.state storage.old).shape }
+    requires alignment { IsAlignment unit }
+    requires some { 0 < n }
+    requires fits { round_up unit (offset + n) < 2 ^ 64 }
+    ensures ok { OnOk result (Through unit (S.state storage.old) (S.state storage.new) offset (replicate n 0)) }
+    ensures err { IfErr result (NotThrough unit (S.state storage.old) (S.state storage.new) offset (replicate n 0)) }
+{
+    let laid = lay_zeroes(storage, alloc, unit, offset, n)?;
+    let start = offset - offset % unit as u64;
+    write_edged(
+        storage,
+        unit,
+        &laid.first,
+        &laid.last,
+        &laid.zeroes,
+        start,
+        laid.mid,
+    )
+}
+
+// Zeroes a range that has whole units of the alignment of zeroing, which begin at `whole.0` and end at `whole.1`.
+fn zero_wholes<S: Storage>(
+    storage: &mut S,
+    alloc: Global,
+    unit: usize,
+    zeroing: Zeroing,
+    offset: u64,
+    n: u64,
+    whole: (u64, u64),
+) -> Result<(), Fault>
+    requires unit { unit ≡ unit_of (S.state storage.old).shape }
+    requires alignment { IsAlignment unit }
+    requires fits { round_up unit (offset + n) < 2 ^ 64 }
+    requires before { offset ≤ whole.0 }
+    requires some { whole.0 < whole.1 }
+    requires behind { whole.1 ≤ offset + n }
+    requires whole { IsWhole unit whole.0 (whole.1 - whole.0) }
+    requires aligned { IsWhole (S.state storage.old).shape.zero_align whole.0 (whole.1 - whole.0) }
+    ensures ok { OnOk result (Through unit (S.state storage.old) (S.state storage.new) offset (replicate n 0)) }
+    ensures err { IfErr result (UnlessLeft zeroing (S.state storage.old) (S.state storage.new) (NotThrough unit (S.state storage.old) (S.state storage.new) offset (replicate n 0))) }
+    ensures once { zeroing ≡ Zeroing.Allocated → (offset, offset + n) ≡ whole → RequestsOne (S.state storage.old) (S.state storage.new) result }
+{
+    let laid = lay_zeroes(storage, alloc, unit, offset, n)?;
+    let low = offset - offset % unit as u64 + laid.first.len() as u64;
+    zero_around(
+        storage,
+        unit,
+        &laid.first,
+        &laid.last,
+        &laid.zeroes,
+        zeroing,
+        (low, low + laid.mid),
+        whole,
+    )
 }
 
 /// Zeroes any range, padded to whole units. `Zeroing::Allocated` refuses with `Fault::Unsupported` where the storage does, and
@@ -154,24 +322,15 @@ pub fn zero_padded<S: Storage>(
     if padded_end(offset, n, unit as u64).is_none() {
         return Err(Fault::RangeOverflow);
     }
-    let piece = unit.max(PIECE) as u64;
-    let (mut buf, zeroes) = buffers(alloc, unit, piece, n)?;
     match whole_part(offset, n, align as u64) {
-        None => write_pieces(storage, &mut buf, &zeroes, piece, offset, n),
-        Some(whole) => zero_around(
-            storage,
-            &mut buf,
-            &zeroes,
-            piece,
-            zeroing,
-            (offset, offset + n),
-            whole,
-        ),
+        None => write_zeroed(storage, alloc, unit, offset, n),
+        Some(whole) => zero_wholes(storage, alloc, unit, zeroing, offset, n, whole),
     }
 }
 
 /// Writes zeroes over the range, as `StorageExt::write` does, and by no other call of the storage: in pieces of at most 65,536
-/// bytes, or of a unit where that is larger. So no buffer is larger than that. The buffers are taken before the first request.
+/// bytes, or of a unit where that is larger. So no buffer is larger than that. The buffers are taken, and the range's two ends
+/// read, before it changes anything.
 ///
 /// It is refused as `StorageExt::write` is, and leaves then what that leaves.
 pub fn write_full_zeroes<S: Storage>(
@@ -198,7 +357,5 @@ pub fn write_full_zeroes<S: Storage>(
     if padded_end(offset, n, unit as u64).is_none() {
         return Err(Fault::RangeOverflow);
     }
-    let piece = unit.max(PIECE) as u64;
-    let (mut block, zeroes) = buffers(alloc, unit, piece, n)?;
-    write_pieces(storage, &mut block, &zeroes, piece, offset, n)
+    write_zeroed(storage, alloc, unit, offset, n)
 }

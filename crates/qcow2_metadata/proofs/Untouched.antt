@@ -18,6 +18,7 @@ put_nothing s at bytes = record {
   answer = record {
     shape = refl;
     cause = refl;
+    kept = inr (record { shape = refl; bytes = refl; refusals = refl; stop = refl; past = refl });
     content = λ keeps. nothing_mixed s.bytes at bytes;
     no_shorter = omega arith;
     no_longer = omega arith;

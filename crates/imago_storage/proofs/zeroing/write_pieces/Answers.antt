@@ -1,33 +1,41 @@
 -- Each piece is written behind those before.
-use Rattle.std.proofs.Common.{rules, arith, ◌≡◌, ◌+◌, ◌<◌, ◌^◌, length, take, subst, sym, ◌∙◌}
-use Rattle.imago_storage.specs.Through.{round_up, Through, NotThrough}
-use Rattle.imago_storage.proofs.ZeroSteps.{piece-fits, piece-through, piece-not}
-use Rattle.imago_storage.proofs.Rounding.{le_round_up}
+use Rattle.std.proofs.Common.{arith, ◌≡◌, ℕ, ◌+◌, ◌≤◌, length, take, replicate, ap, sym, ◌∙◌, subst}
+use Rattle.imago_storage.specs.State.{IsWhole, unit_of}
+use Rattle.imago_storage.specs.Through.{Through, OneRequest, NoRequest}
+use Rattle.imago_storage.proofs.ZeroSteps.{piece-units, piece-through, piece-not}
+use Rattle.imago_storage.proofs.Rounding.{sum_of_whole}
 use Rattle.imago_storage.proofs.Parts.{passed}
 use Rattle.imago_storage.proofs.zeroing.write_pieces.Goals as goal
 
-pub overflow_add-at : goal.overflow_add-at
-overflow_add-at g c = omega (arith, le_round_up (length c.args.buf.now) (c.args.offset + c.args.n) c.requires.positive, c.requires.fits, c.loop-done-test.true)
+pub write_whole-requires-clause-whole : goal.write_whole-requires-clause-whole
+write_whole-requires-clause-whole g c some =
+    let unit : unit_of (g.S.Storage.state c.loop-done.storage).shape ≡ c.args.unit = ap unit_of c.loop-done.invariant.2.shape ∙ sym c.requires.unit in
+    subst (λ u. IsWhole u (c.args.offset + c.loop-done.done) (length (take c.min-count.result c.args.zeroes.now))) (sym unit)
+    (piece-units c.args.unit c.larger_alignment-piece.result c.args.offset c.args.n c.loop-done.done c.min-count.result c.args.zeroes.now c.requires.alignment.positive c.larger_alignment-piece.ensures.alignment.positive c.larger_alignment-piece.ensures.first c.requires.whole c.loop-done.invariant.1 c.loop-done.invariant.0
+    c.min-count.ensures (omega (arith, c.min-count.ensures, c.larger_alignment-piece.ensures.value, c.requires.room))).1
 
-pub write_in_parts-requires-clause-fits : goal.write_in_parts-requires-clause-fits
-write_in_parts-requires-clause-fits g c =
-    subst (λ u. round_up u (c.args.offset + c.loop-done.done + length (take c.min-count.result c.args.zeroes.now)) < 2 ^ 64) (sym c.loop-done.invariant.0)
-    (piece-fits (length c.args.buf.now) c.args.offset c.loop-done.done c.min-count.result c.args.n c.args.zeroes.now c.requires.positive (omega (arith, c.min-count.ensures, c.loop-done-test.true)) c.requires.fits)
-
-pub returns-in_err-write_in_parts-clause-err : goal.returns-in_err-write_in_parts-clause-err
-returns-in_err-write_in_parts-clause-err g c =
+pub returns-in_err-write_whole-clause-err : goal.returns-in_err-write_whole-clause-err
+returns-in_err-write_whole-clause-err g c =
     let s = g.S.Storage.state in
-    passed c.from_residual.result _ c.in_err-write_in_parts.field-0.0 c.from_residual.ensures.1
-    (piece-not (length c.args.buf.now) c.requires.positive (s c.args.storage.now) (s c.loop-done.storage) (s c.write_in_parts.new.storage) c.args.offset c.loop-done.done c.min-count.result c.args.zeroes.now c.requires.zeroes (omega (arith, c.min-count.ensures, c.requires.room)) c.loop-done.invariant.2
-    c.args.n (omega (arith, c.min-count.ensures, c.loop-done-test.true)) c.in_err-write_in_parts.field-0.0
-    (subst (λ u. NotThrough u (s c.loop-done.storage) (s c.write_in_parts.new.storage) (c.args.offset + c.loop-done.done) (take c.min-count.result c.args.zeroes.now) c.in_err-write_in_parts.field-0.0) c.loop-done.invariant.0 c.in_err-write_in_parts.ensures.err))
+    let unit : unit_of (s c.loop-done.storage).shape ≡ c.args.unit = ap unit_of c.loop-done.invariant.2.shape ∙ sym c.requires.unit in
+    passed c.from_residual.result _ c.in_err-write_whole.field-0.0 c.from_residual.ensures.1
+    (piece-not c.args.unit c.requires.alignment.positive (s c.args.storage.now) (s c.loop-done.storage) (s c.write_whole.new.storage) c.args.offset c.loop-done.done c.min-count.result c.args.zeroes.now c.requires.zeroes (omega (arith, c.min-count.ensures, c.larger_alignment-piece.ensures.value, c.requires.room)) c.loop-done.invariant.2
+    c.args.n (omega (arith, c.min-count.ensures, c.loop-done-test.true)) c.in_err-write_whole.field-0.0
+    (subst (λ u. NoRequest u (s c.loop-done.storage) (s c.write_whole.new.storage) (c.args.offset + c.loop-done.done) (take c.min-count.result c.args.zeroes.now) c.in_err-write_whole.field-0.0) unit c.in_err-write_whole.ensures.err).halted)
 
 pub loop-done-preserved : goal.loop-done-preserved
 loop-done-preserved g c =
     let s = g.S.Storage.state in
-    let long : length c.write_in_parts.new.buf ≡ length c.loop-done.buf = search rules in (
-      long ∙ c.loop-done.invariant.0,
+    let unit : unit_of (s c.loop-done.storage).shape ≡ c.args.unit = ap unit_of c.loop-done.invariant.2.shape ∙ sym c.requires.unit in
+    let room : c.min-count.result ≤ length c.args.zeroes.now = omega (arith, c.min-count.ensures, c.larger_alignment-piece.ensures.value, c.requires.room) in
+    let whole = piece-units c.args.unit c.larger_alignment-piece.result c.args.offset c.args.n c.loop-done.done c.min-count.result c.args.zeroes.now c.requires.alignment.positive c.larger_alignment-piece.ensures.alignment.positive c.larger_alignment-piece.ensures.first c.requires.whole c.loop-done.invariant.1 c.loop-done.invariant.0 c.min-count.ensures room in (
       omega (arith, c.min-count.ensures, c.loop-done-test.true),
-      piece-through (length c.args.buf.now) c.requires.positive (s c.args.storage.now) (s c.loop-done.storage) (s c.write_in_parts.new.storage) c.args.offset c.loop-done.done c.min-count.result c.args.zeroes.now c.requires.zeroes (omega (arith, c.min-count.ensures, c.requires.room)) c.loop-done.invariant.2
-          (subst (λ u. Through u (s c.loop-done.storage) (s c.write_in_parts.new.storage) (c.args.offset + c.loop-done.done) (take c.min-count.result c.args.zeroes.now)) c.loop-done.invariant.0 c.in_ok-write_in_parts.ensures.ok),
+      sum_of_whole c.args.unit c.loop-done.done c.min-count.result c.requires.alignment.positive c.loop-done.invariant.1 whole.0,
+      piece-through c.args.unit c.requires.alignment.positive (s c.args.storage.now) (s c.loop-done.storage) (s c.write_whole.new.storage) c.args.offset c.loop-done.done c.min-count.result c.args.zeroes.now c.requires.zeroes room c.loop-done.invariant.2
+          (subst (λ u. OneRequest u (s c.loop-done.storage) (s c.write_whole.new.storage) (c.args.offset + c.loop-done.done) (take c.min-count.result c.args.zeroes.now)) unit c.in_ok-write_whole.ensures.ok).through,
     )
+
+pub returns-clause-ok : goal.returns-clause-ok
+returns-clause-ok g c =
+    let all : c.loop-done.done ≡ c.args.n = omega (arith, c.loop-done.invariant.0, c.loop-done-test.false) in
+    subst (λ n. Through c.args.unit (g.S.Storage.state c.args.storage.now) (g.S.Storage.state c.loop-done.storage) c.args.offset (replicate {A = ℕ} n 0)) all c.loop-done.invariant.2

@@ -1,50 +1,57 @@
 -- The whole units first, then what lies before and behind them.
-use Rattle.std.proofs.Common.{rules, arith, ◌≡◌, ◌+◌, ◌-◌, ◌<◌, ◌^◌, ℕ, length, replicate, subst, sym}
+use Rattle.std.proofs.Common.{arith, ◌≡◌, ◌+◌, ◌-◌, ◌++◌, ℕ, length, replicate, subst}
 use Rattle.std.proofs.lemmas.Result.{on_ok_weaker, IfErr-weaker}
-use Rattle.imago_storage.specs.Through.{round_up, Through, NotThrough}
+use Rattle.imago_storage.specs.State.{IsWhole}
 use Rattle.imago_storage.proofs.Parts.{passed}
-use Rattle.imago_storage.proofs.Rounding.{round_up-le}
-use Rattle.imago_storage.proofs.ZeroSteps.{mid-left, head-left, all-through, tail-left}
+use Rattle.imago_storage.proofs.Wholes.{between-whole, behind-whole, none-whole}
+use Rattle.imago_storage.proofs.ZeroSteps.{mid-left, head-left, all-through, tail-left, front, back, parts-all, start-at, end-at}
 use Rattle.imago_storage.proofs.zeroing.zero_around.Goals as goal
 
 pub returns-in_err-zero_whole-clause-err : goal.returns-in_err-zero_whole-clause-err
 returns-in_err-zero_whole-clause-err g c =
     let s = g.S.Storage.state in
+    let low : c.args.middle.0 - length c.args.first.now + length c.args.first.now ≡ c.args.middle.0 = omega (arith, c.requires.low) in
     passed c.from_residual.result _ c.in_err-zero_whole.field-0.0 c.from_residual.ensures.1
-    (mid-left (length c.args.buf.now) c.requires.positive c.args.range.0 c.args.whole.0 c.args.whole.1 c.args.range.1 c.requires.before c.requires.some c.requires.behind c.args.zeroing (s c.args.storage.now) (s c.zero_whole.new.storage) c.in_err-zero_whole.field-0.0 c.in_err-zero_whole.ensures.err)
+    (mid-left c.args.unit c.requires.alignment.positive (c.args.middle.0 - length c.args.first.now) c.args.whole.0 c.args.whole.1 (front c.args.first.now c.args.last.now c.args.middle.0 c.args.middle.1 c.args.whole.0 c.args.whole.1 c.requires.before c.requires.some c.requires.behind) (replicate {A = ℕ} (c.args.whole.1 - c.args.whole.0) 0) (back c.args.first.now c.args.last.now c.args.middle.0 c.args.middle.1 c.args.whole.0 c.args.whole.1 c.requires.before c.requires.some c.requires.behind) (c.args.first.now ++ replicate {A = ℕ} (c.args.middle.1 - c.args.middle.0) 0 ++ c.args.last.now) (parts-all c.args.first.now c.args.last.now c.args.middle.0 c.args.middle.1 c.args.whole.0 c.args.whole.1 c.requires.before c.requires.some c.requires.behind) (start-at c.args.first.now c.args.last.now c.args.middle.0 c.args.middle.1 c.args.whole.0 c.args.whole.1 c.requires.before c.requires.some c.requires.behind (c.args.middle.0 - length c.args.first.now) low) (end-at c.args.first.now c.args.last.now c.args.middle.0 c.args.middle.1 c.args.whole.0 c.args.whole.1 c.requires.before c.requires.some c.requires.behind (c.args.middle.0 - length c.args.first.now) low) c.args.zeroing (s c.args.storage.now) (s c.zero_whole.new.storage) c.in_err-zero_whole.field-0.0 c.in_err-zero_whole.ensures.err)
 
-pub write_pieces-requires-clause-fits : goal.write_pieces-requires-clause-fits
-write_pieces-requires-clause-fits g c =
-    let long : length c.zero_whole.new.buf ≡ length c.args.buf.now = search rules in
-    subst (λ u. round_up u (c.args.range.0 + (c.args.whole.0 - c.args.range.0)) < 2 ^ 64) (sym long)
-    (omega (arith, round_up-le (length c.args.buf.now) (c.args.range.0 + (c.args.whole.0 - c.args.range.0)) c.args.range.1 c.requires.positive (omega (arith, c.requires.before, c.requires.some, c.requires.behind)), c.requires.fits))
+pub write_edged-requires-clause-whole : goal.write_edged-requires-clause-whole
+write_edged-requires-clause-whole g c =
+    subst (λ (p : ℕ). IsWhole c.args.unit p (c.args.whole.0 - c.args.middle.0)) (let e : c.args.middle.0 ≡ c.args.middle.0 - length c.args.first.now + length c.args.first.now = omega (arith, c.requires.low) in e)
+    (between-whole c.args.unit c.args.middle.0 c.args.whole.0 c.requires.before c.requires.middle.start c.requires.whole.start (omega (arith, c.requires.whole.fits)))
 
-pub returns-in_err-write_pieces-clause-err : goal.returns-in_err-write_pieces-clause-err
-returns-in_err-write_pieces-clause-err g c =
+pub returns-in_err-write_edged-clause-err : goal.returns-in_err-write_edged-clause-err
+returns-in_err-write_edged-clause-err g c =
     let s = g.S.Storage.state in
-    let long : length c.zero_whole.new.buf ≡ length c.args.buf.now = search rules in
-    passed c.from_residual-in_err-write_pieces.result _ c.in_err-write_pieces.field-0.0 c.from_residual-in_err-write_pieces.ensures.1
-    (head-left (length c.args.buf.now) c.requires.positive c.args.range.0 c.args.whole.0 c.args.whole.1 c.args.range.1 c.requires.before c.requires.some c.requires.behind c.args.zeroing (s c.args.storage.now) (s c.zero_whole.new.storage) (s c.write_pieces.new.storage) c.in_ok-zero_whole.ensures.ok c.in_err-write_pieces.field-0.0
-    (subst (λ u. NotThrough u (s c.zero_whole.new.storage) (s c.write_pieces.new.storage) c.args.range.0 (replicate {A = ℕ} (c.args.whole.0 - c.args.range.0) 0) c.in_err-write_pieces.field-0.0) long c.in_err-write_pieces.ensures.err))
+    let low : c.args.middle.0 - length c.args.first.now + length c.args.first.now ≡ c.args.middle.0 = omega (arith, c.requires.low) in
+    passed c.from_residual-in_err-write_edged.result _ c.in_err-write_edged.field-0.0 c.from_residual-in_err-write_edged.ensures.1
+    (head-left c.args.unit c.requires.alignment.positive (c.args.middle.0 - length c.args.first.now) c.args.whole.0 c.args.whole.1 (front c.args.first.now c.args.last.now c.args.middle.0 c.args.middle.1 c.args.whole.0 c.args.whole.1 c.requires.before c.requires.some c.requires.behind) (replicate {A = ℕ} (c.args.whole.1 - c.args.whole.0) 0) (back c.args.first.now c.args.last.now c.args.middle.0 c.args.middle.1 c.args.whole.0 c.args.whole.1 c.requires.before c.requires.some c.requires.behind) (c.args.first.now ++ replicate {A = ℕ} (c.args.middle.1 - c.args.middle.0) 0 ++ c.args.last.now) (parts-all c.args.first.now c.args.last.now c.args.middle.0 c.args.middle.1 c.args.whole.0 c.args.whole.1 c.requires.before c.requires.some c.requires.behind) (start-at c.args.first.now c.args.last.now c.args.middle.0 c.args.middle.1 c.args.whole.0 c.args.whole.1 c.requires.before c.requires.some c.requires.behind (c.args.middle.0 - length c.args.first.now) low) (end-at c.args.first.now c.args.last.now c.args.middle.0 c.args.middle.1 c.args.whole.0 c.args.whole.1 c.requires.before c.requires.some c.requires.behind (c.args.middle.0 - length c.args.first.now) low) c.args.zeroing (s c.args.storage.now) (s c.zero_whole.new.storage) (s c.write_edged.new.storage) c.in_ok-zero_whole.ensures.ok c.in_err-write_edged.field-0.0 c.in_err-write_edged.ensures.err)
+
+pub write_edged-requires-2-clause-first : goal.write_edged-requires-2-clause-first
+write_edged-requires-2-clause-first g c =
+    none-whole c.args.unit c.args.whole.1 c.requires.alignment.positive (behind-whole c.args.unit c.args.whole.0 c.args.whole.1 c.requires.alignment.positive c.requires.some c.requires.whole) (omega (arith, c.requires.whole.fits, c.requires.some))
+
+pub write_edged-requires-2-clause-whole : goal.write_edged-requires-2-clause-whole
+write_edged-requires-2-clause-whole g c =
+    let end = behind-whole c.args.unit c.args.whole.0 c.args.whole.1 c.requires.alignment.positive c.requires.some c.requires.whole in
+    subst (λ (p : ℕ). IsWhole c.args.unit p (c.args.middle.1 - c.args.whole.1)) (let e : c.args.whole.1 ≡ c.args.whole.1 + 0 = omega arith in e)
+    (between-whole c.args.unit c.args.whole.1 c.args.middle.1 c.requires.behind end c.requires.last.start (omega (arith, c.requires.last.fits)))
+
+pub write_edged-requires-2-clause-last : goal.write_edged-requires-2-clause-last
+write_edged-requires-2-clause-last g c =
+    subst (λ (p : ℕ). IsWhole c.args.unit p (length c.args.last.now)) (let e : c.args.middle.1 ≡ c.args.whole.1 + 0 + (c.args.middle.1 - c.args.whole.1) = omega (arith, c.requires.behind) in e) c.requires.last
 
 pub returns-clause-ok : goal.returns-clause-ok
 returns-clause-ok g c =
     let s = g.S.Storage.state in
-    let long : length c.zero_whole.new.buf ≡ length c.args.buf.now = search rules in
-    let long-2 : length c.write_pieces.new.buf ≡ length c.args.buf.now = search rules in
-    on_ok_weaker c.write_pieces-2.result
-    (λ third. all-through (length c.args.buf.now) c.requires.positive c.args.range.0 c.args.whole.0 c.args.whole.1 c.args.range.1 c.requires.before c.requires.some c.requires.behind c.args.zeroing (s c.args.storage.now) (s c.zero_whole.new.storage) (s c.write_pieces.new.storage) c.in_ok-zero_whole.ensures.ok (s c.write_pieces-2.new.storage)
-    (subst (λ u. Through u (s c.zero_whole.new.storage) (s c.write_pieces.new.storage) c.args.range.0 (replicate {A = ℕ} (c.args.whole.0 - c.args.range.0) 0)) long c.in_ok-write_pieces.ensures.ok)
-    (subst (λ u. Through u (s c.write_pieces.new.storage) (s c.write_pieces-2.new.storage) c.args.whole.1 (replicate {A = ℕ} (c.args.range.1 - c.args.whole.1) 0)) long-2 third))
-    c.write_pieces-2.ensures.ok
+    let low : c.args.middle.0 - length c.args.first.now + length c.args.first.now ≡ c.args.middle.0 = omega (arith, c.requires.low) in
+    on_ok_weaker c.write_edged-2.result
+    (all-through c.args.unit c.requires.alignment.positive (c.args.middle.0 - length c.args.first.now) c.args.whole.0 c.args.whole.1 (front c.args.first.now c.args.last.now c.args.middle.0 c.args.middle.1 c.args.whole.0 c.args.whole.1 c.requires.before c.requires.some c.requires.behind) (replicate {A = ℕ} (c.args.whole.1 - c.args.whole.0) 0) (back c.args.first.now c.args.last.now c.args.middle.0 c.args.middle.1 c.args.whole.0 c.args.whole.1 c.requires.before c.requires.some c.requires.behind) (c.args.first.now ++ replicate {A = ℕ} (c.args.middle.1 - c.args.middle.0) 0 ++ c.args.last.now) (parts-all c.args.first.now c.args.last.now c.args.middle.0 c.args.middle.1 c.args.whole.0 c.args.whole.1 c.requires.before c.requires.some c.requires.behind) (start-at c.args.first.now c.args.last.now c.args.middle.0 c.args.middle.1 c.args.whole.0 c.args.whole.1 c.requires.before c.requires.some c.requires.behind (c.args.middle.0 - length c.args.first.now) low) (end-at c.args.first.now c.args.last.now c.args.middle.0 c.args.middle.1 c.args.whole.0 c.args.whole.1 c.requires.before c.requires.some c.requires.behind (c.args.middle.0 - length c.args.first.now) low) c.args.zeroing (s c.args.storage.now) (s c.zero_whole.new.storage) (s c.write_edged.new.storage) c.in_ok-zero_whole.ensures.ok (s c.write_edged-2.new.storage) c.in_ok-write_edged.ensures.ok)
+    c.write_edged-2.ensures.ok
 
 pub returns-clause-err : goal.returns-clause-err
 returns-clause-err g c =
     let s = g.S.Storage.state in
-    let long : length c.zero_whole.new.buf ≡ length c.args.buf.now = search rules in
-    let long-2 : length c.write_pieces.new.buf ≡ length c.args.buf.now = search rules in
-    IfErr-weaker c.write_pieces-2.result _ _
-    (λ fault third. tail-left (length c.args.buf.now) c.requires.positive c.args.range.0 c.args.whole.0 c.args.whole.1 c.args.range.1 c.requires.before c.requires.some c.requires.behind c.args.zeroing (s c.args.storage.now) (s c.zero_whole.new.storage) (s c.write_pieces.new.storage) c.in_ok-zero_whole.ensures.ok (s c.write_pieces-2.new.storage)
-    (subst (λ u. Through u (s c.zero_whole.new.storage) (s c.write_pieces.new.storage) c.args.range.0 (replicate {A = ℕ} (c.args.whole.0 - c.args.range.0) 0)) long c.in_ok-write_pieces.ensures.ok) fault
-    (subst (λ u. NotThrough u (s c.write_pieces.new.storage) (s c.write_pieces-2.new.storage) c.args.whole.1 (replicate {A = ℕ} (c.args.range.1 - c.args.whole.1) 0) fault) long-2 third))
-    c.write_pieces-2.ensures.err
+    let low : c.args.middle.0 - length c.args.first.now + length c.args.first.now ≡ c.args.middle.0 = omega (arith, c.requires.low) in
+    IfErr-weaker c.write_edged-2.result _ _
+    (λ fault. tail-left c.args.unit c.requires.alignment.positive (c.args.middle.0 - length c.args.first.now) c.args.whole.0 c.args.whole.1 (front c.args.first.now c.args.last.now c.args.middle.0 c.args.middle.1 c.args.whole.0 c.args.whole.1 c.requires.before c.requires.some c.requires.behind) (replicate {A = ℕ} (c.args.whole.1 - c.args.whole.0) 0) (back c.args.first.now c.args.last.now c.args.middle.0 c.args.middle.1 c.args.whole.0 c.args.whole.1 c.requires.before c.requires.some c.requires.behind) (c.args.first.now ++ replicate {A = ℕ} (c.args.middle.1 - c.args.middle.0) 0 ++ c.args.last.now) (parts-all c.args.first.now c.args.last.now c.args.middle.0 c.args.middle.1 c.args.whole.0 c.args.whole.1 c.requires.before c.requires.some c.requires.behind) (start-at c.args.first.now c.args.last.now c.args.middle.0 c.args.middle.1 c.args.whole.0 c.args.whole.1 c.requires.before c.requires.some c.requires.behind (c.args.middle.0 - length c.args.first.now) low) (end-at c.args.first.now c.args.last.now c.args.middle.0 c.args.middle.1 c.args.whole.0 c.args.whole.1 c.requires.before c.requires.some c.requires.behind (c.args.middle.0 - length c.args.first.now) low) c.args.zeroing (s c.args.storage.now) (s c.zero_whole.new.storage) (s c.write_edged.new.storage) c.in_ok-zero_whole.ensures.ok (s c.write_edged-2.new.storage) c.in_ok-write_edged.ensures.ok fault)
+    c.write_edged-2.ensures.err
