@@ -2,6 +2,8 @@
 use Rattle.std.proofs.Common.{arith, ◌≡◌, ◌+◌, ◌-◌, ◌++◌, ℕ, length, replicate, subst}
 use Rattle.std.proofs.lemmas.Result.{on_ok_weaker, IfErr-weaker}
 use Rattle.imago_storage.specs.State.{IsWhole}
+use Rattle.imago_storage.specs.Through.{Halted}
+use Rattle.imago_storage.specs.Zeroings.{UnlessLeft}
 use Rattle.imago_storage.proofs.Parts.{passed}
 use Rattle.imago_storage.proofs.Wholes.{between-whole, behind-whole, none-whole}
 use Rattle.imago_storage.proofs.ZeroSteps.{mid-left, head-left, all-through, tail-left, front, back, parts-all, start-at, end-at}
@@ -11,7 +13,9 @@ pub returns-in_err-zero_whole-clause-err : goal.returns-in_err-zero_whole-clause
 returns-in_err-zero_whole-clause-err g c =
     let s = g.S.Storage.state in
     let low : c.args.middle.0 - length c.args.first.now + length c.args.first.now ≡ c.args.middle.0 = omega (arith, c.requires.low) in
-    passed c.from_residual.result _ c.in_err-zero_whole.field-0.0 c.from_residual.ensures.1
+    passed c.from_residual.result (UnlessLeft c.args.zeroing (s c.args.storage.now) (s c.zero_whole.new.storage)
+    (Halted c.args.unit (s c.args.storage.now) (s c.zero_whole.new.storage) (c.args.middle.0 - length c.args.first.now) (c.args.first.now ++ replicate {A = ℕ} (c.args.middle.1 - c.args.middle.0) 0 ++ c.args.last.now)))
+    c.in_err-zero_whole.field-0.0 c.from_residual.ensures.1
     (mid-left c.args.unit c.requires.alignment.positive (c.args.middle.0 - length c.args.first.now) c.args.whole.0 c.args.whole.1 (front c.args.first.now c.args.last.now c.args.middle.0 c.args.middle.1 c.args.whole.0 c.args.whole.1 c.requires.before c.requires.some c.requires.behind) (replicate {A = ℕ} (c.args.whole.1 - c.args.whole.0) 0) (back c.args.first.now c.args.last.now c.args.middle.0 c.args.middle.1 c.args.whole.0 c.args.whole.1 c.requires.before c.requires.some c.requires.behind) (c.args.first.now ++ replicate {A = ℕ} (c.args.middle.1 - c.args.middle.0) 0 ++ c.args.last.now) (parts-all c.args.first.now c.args.last.now c.args.middle.0 c.args.middle.1 c.args.whole.0 c.args.whole.1 c.requires.before c.requires.some c.requires.behind) (start-at c.args.first.now c.args.last.now c.args.middle.0 c.args.middle.1 c.args.whole.0 c.args.whole.1 c.requires.before c.requires.some c.requires.behind (c.args.middle.0 - length c.args.first.now) low) (end-at c.args.first.now c.args.last.now c.args.middle.0 c.args.middle.1 c.args.whole.0 c.args.whole.1 c.requires.before c.requires.some c.requires.behind (c.args.middle.0 - length c.args.first.now) low) c.args.zeroing (s c.args.storage.now) (s c.zero_whole.new.storage) c.in_err-zero_whole.field-0.0 c.in_err-zero_whole.ensures.err)
 
 pub write_edged-requires-clause-whole : goal.write_edged-requires-clause-whole
@@ -23,7 +27,9 @@ pub returns-in_err-write_edged-clause-err : goal.returns-in_err-write_edged-clau
 returns-in_err-write_edged-clause-err g c =
     let s = g.S.Storage.state in
     let low : c.args.middle.0 - length c.args.first.now + length c.args.first.now ≡ c.args.middle.0 = omega (arith, c.requires.low) in
-    passed c.from_residual-in_err-write_edged.result _ c.in_err-write_edged.field-0.0 c.from_residual-in_err-write_edged.ensures.1
+    passed c.from_residual-in_err-write_edged.result (UnlessLeft c.args.zeroing (s c.args.storage.now) (s c.write_edged.new.storage)
+    (Halted c.args.unit (s c.args.storage.now) (s c.write_edged.new.storage) (c.args.middle.0 - length c.args.first.now) (c.args.first.now ++ replicate {A = ℕ} (c.args.middle.1 - c.args.middle.0) 0 ++ c.args.last.now)))
+    c.in_err-write_edged.field-0.0 c.from_residual-in_err-write_edged.ensures.1
     (head-left c.args.unit c.requires.alignment.positive (c.args.middle.0 - length c.args.first.now) c.args.whole.0 c.args.whole.1 (front c.args.first.now c.args.last.now c.args.middle.0 c.args.middle.1 c.args.whole.0 c.args.whole.1 c.requires.before c.requires.some c.requires.behind) (replicate {A = ℕ} (c.args.whole.1 - c.args.whole.0) 0) (back c.args.first.now c.args.last.now c.args.middle.0 c.args.middle.1 c.args.whole.0 c.args.whole.1 c.requires.before c.requires.some c.requires.behind) (c.args.first.now ++ replicate {A = ℕ} (c.args.middle.1 - c.args.middle.0) 0 ++ c.args.last.now) (parts-all c.args.first.now c.args.last.now c.args.middle.0 c.args.middle.1 c.args.whole.0 c.args.whole.1 c.requires.before c.requires.some c.requires.behind) (start-at c.args.first.now c.args.last.now c.args.middle.0 c.args.middle.1 c.args.whole.0 c.args.whole.1 c.requires.before c.requires.some c.requires.behind (c.args.middle.0 - length c.args.first.now) low) (end-at c.args.first.now c.args.last.now c.args.middle.0 c.args.middle.1 c.args.whole.0 c.args.whole.1 c.requires.before c.requires.some c.requires.behind (c.args.middle.0 - length c.args.first.now) low) c.args.zeroing (s c.args.storage.now) (s c.zero_whole.new.storage) (s c.write_edged.new.storage) c.in_ok-zero_whole.ensures.ok c.in_err-write_edged.field-0.0 c.in_err-write_edged.ensures.err)
 
 pub write_edged-requires-2-clause-first : goal.write_edged-requires-2-clause-first
