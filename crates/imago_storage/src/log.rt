@@ -2,7 +2,7 @@
 ghost use Rattle.std.specs.Prelude.{◌≡◌, ◌≤◌, ◌-◌, ◌∷◌, ◌++◌, [], List, length, take, replicate, slice_get, true, OnOk, IfOk, IfErr, IsErrOf, IsOkUnless, IsTrue};
 ghost use Rattle.imago_storage.specs.State.{InStep, IsWhole, Rose, unit_of};
 ghost use Rattle.imago_storage.specs.Calls.{CountsFaults, Kept, Later, NotResized, NotWritten, Reads, RequestsOne, Resized, UnlessUnsupported, Written};
-ghost use Rattle.imago_storage.specs.Log.{apply, NotLogged};
+ghost use Rattle.imago_storage.specs.Log.{apply, NotLogged, replay};
 
 use crate::edits::{splice, splice_zeroes};
 use crate::{Fault, PreallocateMode, Storage, StorageExt};
@@ -148,9 +148,7 @@ impl<S: Storage> LogStorage<S> {
         ensures same { self.new ≡ self.old }
     {
         let mut file = self.base.to_vec(self.alloc)?;
-        for request in &self.requests[..k] {
-            apply_request(&mut file, request)?;
-        }
+        apply_all(&mut file, &self.requests[..k])?;
         Ok(file)
     }
 }
@@ -368,4 +366,15 @@ impl<S: Storage> Storage for LogStorage<S> {
     {
         self.inner.invalidate_cache()
     }
+}
+
+// Does to a file what requests ask, one behind the other.
+fn apply_all(file: &mut Vec<u8>, requests: &[Request]) -> Result<(), Fault>
+    ensures ok { OnOk result (file.new.items ≡ replay file.old.items requests.now) }
+    ensures err { IfErr result (λ e. e ≡ Fault.Memory) }
+{
+    for request in requests {
+        apply_request(file, request)?;
+    }
+    Ok(())
 }
