@@ -1,17 +1,20 @@
 -- What a put leaves of a cache, and why it is refused.
 use Rattle.std.proofs.Common.{◌≡◌, ℕ, ◌≤◌, refl, ap, sym, subst, ◌∙◌, List, [], ◌∷◌, ◌++◌, length, Option, Some, None, Result, Ok, Err, Bool, true, false, inl, inr}
-use Rattle.std.specs.Prelude.{map, nat_eq, ⊤, IsSome, OnOk}
+use Rattle.std.specs.Prelude.{map, nat_eq, ⊤, IsSome, OnOk, MatchResult}
 use Rattle.std.specs.List.{AllByRecursion}
 use Rattle.std.specs.Map.{lookup, set_value}
 use Rattle.std.proofs.lemmas.Bool.{cases_Bool, cases_lt}
 use Rattle.imago_storage.specs.State.{StorageState}
+use Rattle.imago_storage.specs.Calls.{Kept}
 use Rattle.imago_storage.specs.declared.fault.Fault.{Fault}
+use Rattle.imago_storage.specs.declared.fault.Fault.TheVariants.{CacheFull}
 use Rattle.qcow2_alloc.specs.declared.async_lru_cache.Slot.{Slot}
 use Rattle.qcow2_alloc.specs.Cache.{FlushedAt, Evicted, MadeRoom, PutAfter, Overwritten, Inserted, hit, victim}
-use Rattle.qcow2_alloc.specs.Finding.{IsPinnedFull, PinsNothing, with_room, CountsSearch}
+use Rattle.qcow2_alloc.specs.Finding.{IsPinnedFull, PinsNothing, with_room, CountsSearch, LetsIn}
 use Rattle.qcow2_alloc.specs.Putting.{refusal_of, PutInto, MakesWay}
 use Rattle.qcow2_alloc.proofs.Counting.{Counted}
 use Rattle.qcow2_alloc.proofs.Entries.{remove_written}
+use Rattle.qcow2_alloc.proofs.FindingTables.{kept-same}
 use Rattle.qcow2_alloc.proofs.Pins.{pins-hit, pins-new, pins-set, pins-then}
 use Rattle.qcow2_alloc.proofs.Places.{Place, place-of-key, place-hit}
 use Rattle.qcow2_alloc.proofs.Readying.{is-there}
@@ -252,3 +255,40 @@ module _ {V D : Type 0} (flushes : D → ℕ → V → Result Unit Fault → D �
 pub put-then : {V X Y : Type 0} (result : Result (Option V) (Fault × V)) → (X → Y) → OnOk (put_of result) X → OnOk (put_of result) Y
 put-then (Ok back) f x = f x
 put-then (Err refused) f x = tt
+
+-- Into a full cache it comes where the entry that goes was flushed;
+module _ {V D : Type 0} (state : D → StorageState) (flushes : D → ℕ → V → Result Unit Fault → D → V → Type 0) (asks : StorageState → ℕ → V → Result Unit Fault → StorageState → V → Type 0)
+    (asked : (old new : D) (key : ℕ) (value value' : V) (answer : Result Unit Fault) → flushes old key value answer new value' → asks (state old) key value answer (state new) value')
+    (cap key : ℕ) (value : V) (before : D) (es : List (ℕ × Slot V)) (after : D) (es' : List (ℕ × Slot V)) (none : lookup (nat_eq key) es ≡ None) (full : cap ≤ length es) where
+  abbrev Refused : Result (Option V) (Fault × V) → Result Unit Fault
+  Refused result = refusal_of (put_of result)
+
+  room-lets-in : (room : Result Bool Fault) (entries : List (ℕ × Slot V)) → MadeRoom nat_eq flushes cap true before es room after entries → (result : Result (Option V) (Fault × V)) → PutAfter nat_eq flushes key value entries room result es'
+      → LetsIn asks (state before) es (Refused result) (state after) es'
+  room-lets-in room entries made result put = record {
+    stuck = λ no. no-room room (made.pinned full refl no) put;
+    goes = λ k is. by-room k room (made.evicted full refl k is) put;
+  }
+    where
+      no-room : (room : Result Bool Fault) → (room ≡ Err CacheFull) × (after ≡ before) × (entries ≡ es) → PutAfter nat_eq flushes key value entries room result es' → (Refused result ≡ Err CacheFull) × (state after ≡ state before) × (es' ≡ es)
+      no-room room (is, same, list) put =
+          let p : (result ≡ Err (CacheFull, value)) × (es' ≡ entries) = subst (λ (q : Result Bool Fault). PutAfter nat_eq flushes key value entries q result es') is put in
+          (ap Refused p.0, ap state same, p.1 ∙ list)
+
+      by-room : (k : ℕ) (room : Result Bool Fault) → Evicted nat_eq flushes k before es room after entries → PutAfter nat_eq flushes key value entries room result es'
+          → (mid : StorageState) × (answer : Result Unit Fault) × (flushed : List (ℕ × Slot V)) × FlushedAt nat_eq asks k (state before) es answer mid flushed
+          × MatchResult answer (λ _. Kept mid (state after)) (λ fault. (Refused result ≡ Err fault) × (state after ≡ mid) × (es' ≡ flushed))
+      by-room k (Ok made) (is, flushed, at, removed) put =
+          (state after, Ok tt, flushed, record { slot = at.slot; value = at.value; there = at.there; flush = asked before after k at.slot.value at.value (Ok tt) at.flush; entries = at.entries }, kept-same (state after))
+      by-room k (Err fault) at put =
+          (state after, Err fault, entries, record { slot = at.slot; value = at.value; there = at.there; flush = asked before after k at.slot.value at.value (Err fault) at.flush; entries = at.entries }, (ap Refused put.0, refl, put.1))
+
+  pub inserted-lets-in : (result : Result (Option V) (Fault × V)) → Inserted nat_eq flushes cap true key value before es result after es' → LetsIn asks (state before) es (Refused result) (state after) es'
+  inserted-lets-in result i = let a = i.fresh none in room-lets-in a.room a.entries a.made result a.put
+
+  -- without leave to flush it comes back.
+  pub inserted-barred : (result : Result (Option V) (Fault × V)) → (IsBarred result → ⊥) → Inserted nat_eq flushes cap false key value before es result after es' → ⊥
+  inserted-barred result not i =
+      let a = i.fresh none in
+      let barred : (result ≡ Ok (Some value)) × (es' ≡ a.entries) = subst (λ (q : Result Bool Fault). PutAfter nat_eq flushes key value a.entries q result es') (a.made.full full refl).0 a.put in
+      not (subst (λ (q : Result (Option V) (Fault × V)). IsBarred q) (sym barred.0) tt)

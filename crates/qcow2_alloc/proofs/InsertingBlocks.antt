@@ -18,10 +18,11 @@ use Rattle.qcow2_alloc.specs.declared.cache.CacheDependency.{CacheDependency}
 use Rattle.qcow2_alloc.specs.declared.cache.CacheDependency.TheVariants.{RbDependsOnL2}
 use Rattle.qcow2_alloc.specs.declared.cache.MetadataCaches.{MetadataCaches}
 use Rattle.qcow2_alloc.specs.declared.file.ImageFile.{ImageFile}
+use Rattle.qcow2_alloc.specs.Backends.{BlockFlushed}
 use Rattle.qcow2_alloc.specs.Cache.{MadeRoom, PutAfter, Overwritten, Inserted, hit, with_entries}
 use Rattle.qcow2_alloc.specs.Caches.{cached_in, order_of}
 use Rattle.qcow2_alloc.specs.CachesLending.{with_blocks, block_flushes}
-use Rattle.qcow2_alloc.specs.Finding.{IsPinnedFull, CountsSearch}
+use Rattle.qcow2_alloc.specs.Finding.{IsPinnedFull, CountsSearch, LetsBlockIn}
 use Rattle.qcow2_alloc.specs.Putting.{refusal_of, IsNewBlock, BlockInserted}
 use Rattle.qcow2_alloc.specs.Going.{Going, Always, ReadyBlocks, IsWhole, IsMild, AreTablesInReach, CountsWrites, WhyNotWritten, WritesTables}
 use Rattle.qcow2_alloc.specs.Memory.{Cached, memory, written, written_block}
@@ -33,8 +34,9 @@ use Rattle.qcow2_alloc.proofs.FindingTables.{going-quiet, kept-same}
 use Rattle.qcow2_alloc.proofs.FlushingBlocks.{block-flushed-whole, flushed-clean}
 use Rattle.qcow2_alloc.proofs.FlushingTables.{done_so}
 use Rattle.qcow2_alloc.proofs.Going.{going-none, going-weaker, going-ready, going-under, going-both-from, going-safely}
-use Rattle.qcow2_alloc.proofs.Inserting.{put_of, IsBarred, hit-written, inserted-put, inserted-counted, inserted-related, never-barred, put-then, way-flushed, way-barred}
+use Rattle.qcow2_alloc.proofs.Inserting.{put_of, IsBarred, hit-written, inserted-put, inserted-counted, inserted-related, never-barred, put-then, way-flushed, way-barred, inserted-lets-in, inserted-barred}
 use Rattle.qcow2_alloc.proofs.Kept.{block-kept}
+use Rattle.qcow2_alloc.proofs.LettingIn.{behind-tables, behind-refused-tables}
 use Rattle.qcow2_alloc.proofs.Pins.{pins-none}
 use Rattle.qcow2_alloc.proofs.Places.{place-of-key, away-of-all}
 use Rattle.qcow2_alloc.proofs.Readying.{is-there}
@@ -200,6 +202,8 @@ module _ {S : Type 0} (state : S → StorageState) (cluster : ℕ) (block : Bloc
               roomy = λ none room. (kept, refl);
               tables = refl;
               apart = λ no. refl;
+              behind = λ none full. absurd (inserted-barred (λ (d : ImageFile S). state d.image) (block_flushes state) (λ a key block answer b block'. BlockFlushed key block a answer b block') (λ a b key block block' answer flush. flush.1)
+                  old.rb.slots.cap cluster block before old.rb.slots.entries after es' none full result not i);
               others = (refl, ap (λ (d : ImageFile S). d.header) q.file);
               room = record { blocks = refl; tables = refl };
               cause = block-put-counts false old.rb.slots.cap before old.rb.slots.entries result after es' (state before.image).faults refl (AreTablesInReach (cached_in old)) i;
@@ -274,6 +278,13 @@ module _ {S : Type 0} (state : S → StorageState) (cluster : ℕ) (block : Bloc
           roomy = not-roomy;
           tables = ap (λ (c : Cached). c.tables) kept;
           apart = λ no. ap (λ (m : MetadataCaches S). m.l2) (idle no);
+          behind = λ none room. behind-tables (order_of old) LetsBlockIn (state before.image) (state between.image) (state after.image) (cached_in old) (record { tables = mid.l2.slots.entries; blocks = old.rb.slots.entries }) _ (refusal_of (put_of result))
+              (λ no. (behind.alone no, sym now ∙ ap (λ (m : MetadataCaches S). cached_in m) (idle no)))
+              (λ is. subst (λ (c : Cached). WritesTables (state before.image) (cached_in old) (Ok tt) (state between.image) c) now (behind.first is)) (
+                refl,
+                inserted-lets-in (λ (d : ImageFile S). state d.image) (block_flushes state) (λ a key block answer b block'. BlockFlushed key block a answer b block') (λ a b key block block' answer flush. flush.1)
+                    old.rb.slots.cap cluster block between old.rb.slots.entries after es' none room result i,
+              );
           others = (refl, header' ∙ header);
           room = record { blocks = refl; tables = cap };
           cause = block-put-counts true old.rb.slots.cap between old.rb.slots.entries result after es' (state before.image).faults faults (AreTablesInReach (cached_in old)) i;
@@ -292,8 +303,9 @@ module _ {S : Type 0} (state : S → StorageState) (cluster : ℕ) (block : Bloc
         (inserted-related (block_flushes state) (λ a b. b.header ≡ a.header) (λ a. refl) (λ a b key value value' answer f. f.0) old.rb.slots.cap true cluster block between old.rb.slots.entries after es' result i') i')
 
     pub block-put-halted : (fault : Fault) → Going before.header (order_of old) Always (failed fault ≡ Ok tt) (state before.image) (cached_in old) (state between.image) (cached_in mid)
-        → CountsWrites (AreTablesInReach (cached_in old)) (state before.image).faults (state between.image).faults (Err fault) → BlockInserted state block cluster old before (Err (fault, block)) mid between
-    block-put-halted fault going why =
+        → CountsWrites (AreTablesInReach (cached_in old)) (state before.image).faults (state between.image).faults (Err fault)
+        → ((order_of old ≡ RbDependsOnL2 → ⊥) → ⊥) → (order_of old ≡ RbDependsOnL2 → WritesTables (state before.image) (cached_in old) (Err fault) (state between.image) (cached_in mid)) → BlockInserted state block cluster old before (Err (fault, block)) mid between
+    block-put-halted fault going why some did =
         let blocks : (cached_in mid).blocks ≡ (cached_in old).blocks = ap (λ (m : MetadataCaches S). (cached_in m).blocks) same in
         record {
           going = going-under before.header (order_of old) Fresh (IsMild fault) (state before.image) (state between.image) (cached_in old) (cached_in mid)
@@ -303,6 +315,7 @@ module _ {S : Type 0} (state : S → StorageState) (cluster : ℕ) (block : Bloc
           roomy = not-roomy;
           tables = ap (λ (c : Cached). c.tables) kept;
           apart = λ no. ap (λ (m : MetadataCaches S). m.l2) (idle no);
+          behind = λ none room. behind-refused-tables (order_of old) LetsBlockIn (state before.image) (state between.image) (cached_in old) (cached_in mid) fault some did;
           others = (ap (λ (m : MetadataCaches S). m.order) same, header);
           room = record { blocks = ap (λ (m : MetadataCaches S). m.rb.slots.cap) same; tables = cap };
           cause = found-written (AreTablesInReach (cached_in old)) _ _ _ _ fault (λ f. f.0) why;

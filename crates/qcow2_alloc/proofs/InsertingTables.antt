@@ -18,10 +18,11 @@ use Rattle.qcow2_alloc.specs.declared.cache.CacheDependency.{CacheDependency}
 use Rattle.qcow2_alloc.specs.declared.cache.CacheDependency.TheVariants.{L2DependsOnRb}
 use Rattle.qcow2_alloc.specs.declared.cache.MetadataCaches.{MetadataCaches}
 use Rattle.qcow2_alloc.specs.declared.file.ImageFile.{ImageFile}
+use Rattle.qcow2_alloc.specs.Backends.{TableFlushed}
 use Rattle.qcow2_alloc.specs.Cache.{MadeRoom, PutAfter, Overwritten, Inserted, hit, with_entries}
 use Rattle.qcow2_alloc.specs.Caches.{cached_in, order_of}
 use Rattle.qcow2_alloc.specs.CachesLending.{with_tables, table_flushes}
-use Rattle.qcow2_alloc.specs.Finding.{IsPinnedFull, CountsSearch}
+use Rattle.qcow2_alloc.specs.Finding.{IsPinnedFull, CountsSearch, LetsTableIn}
 use Rattle.qcow2_alloc.specs.Putting.{refusal_of, IsNewTable, TableInserted}
 use Rattle.qcow2_alloc.specs.Going.{Going, Always, ReadyTables, IsWhole, IsMild, AreBlocksInReach, CountsWrites, WhyNotWritten, WritesBlocks}
 use Rattle.qcow2_alloc.specs.Memory.{Cached, memory, written, written_table}
@@ -31,8 +32,9 @@ use Rattle.qcow2_alloc.proofs.Entering.{away-of, table-leaves, table-leaves-safe
 use Rattle.qcow2_alloc.proofs.FindingTables.{going-quiet, kept-same, table-room-made, table-room-absent}
 use Rattle.qcow2_alloc.proofs.FlushingTables.{done_so, table-flushed-whole, flushed-clean}
 use Rattle.qcow2_alloc.proofs.Going.{going-none, going-weaker, going-ready, going-under, going-both-from, going-safely}
-use Rattle.qcow2_alloc.proofs.Inserting.{put_of, IsBarred, hit-written, inserted-put, inserted-counted, inserted-related, never-barred, put-then, way-flushed, way-barred}
+use Rattle.qcow2_alloc.proofs.Inserting.{put_of, IsBarred, hit-written, inserted-put, inserted-counted, inserted-related, never-barred, put-then, way-flushed, way-barred, inserted-lets-in, inserted-barred}
 use Rattle.qcow2_alloc.proofs.Kept.{table-kept}
+use Rattle.qcow2_alloc.proofs.LettingIn.{behind-blocks, behind-refused-blocks}
 use Rattle.qcow2_alloc.proofs.Pins.{pins-none}
 use Rattle.qcow2_alloc.proofs.Places.{place-of-key, away-of-all}
 use Rattle.qcow2_alloc.proofs.Readying.{is-there}
@@ -198,6 +200,8 @@ module _ {S : Type 0} (state : S → StorageState) (cluster : ℕ) (table : Tabl
               roomy = λ none room. (kept, refl);
               blocks = refl;
               apart = λ no. refl;
+              behind = λ none full. absurd (inserted-barred (λ (d : ImageFile S). state d.image) (table_flushes state) (λ a key table answer b table'. TableFlushed key table a answer b table') (λ a b key table table' answer flush. flush.1)
+                  old.l2.slots.cap cluster table before old.l2.slots.entries after es' none full result not i);
               others = (refl, ap (λ (d : ImageFile S). d.header) q.file);
               room = record { tables = refl; blocks = refl };
               cause = table-put-counts false old.l2.slots.cap before old.l2.slots.entries result after es' (state before.image).faults refl (AreBlocksInReach (cached_in old)) i;
@@ -272,6 +276,13 @@ module _ {S : Type 0} (state : S → StorageState) (cluster : ℕ) (table : Tabl
           roomy = not-roomy;
           blocks = ap (λ (c : Cached). c.blocks) kept;
           apart = λ no. ap (λ (m : MetadataCaches S). m.rb) (idle no);
+          behind = λ none room. behind-blocks (order_of old) LetsTableIn (state before.image) (state between.image) (state after.image) (cached_in old) (record { tables = old.l2.slots.entries; blocks = mid.rb.slots.entries }) _ (refusal_of (put_of result))
+              (λ no. (behind.alone no, sym now ∙ ap (λ (m : MetadataCaches S). cached_in m) (idle no)))
+              (λ is. subst (λ (c : Cached). WritesBlocks (state before.image) (cached_in old) (Ok tt) (state between.image) c) now (behind.first is)) (
+                refl,
+                inserted-lets-in (λ (d : ImageFile S). state d.image) (table_flushes state) (λ a key table answer b table'. TableFlushed key table a answer b table') (λ a b key table table' answer flush. flush.1)
+                    old.l2.slots.cap cluster table between old.l2.slots.entries after es' none room result i,
+              );
           others = (refl, header' ∙ header);
           room = record { tables = refl; blocks = cap };
           cause = table-put-counts true old.l2.slots.cap between old.l2.slots.entries result after es' (state before.image).faults faults (AreBlocksInReach (cached_in old)) i;
@@ -290,8 +301,9 @@ module _ {S : Type 0} (state : S → StorageState) (cluster : ℕ) (table : Tabl
         (inserted-related (table_flushes state) (λ a b. b.header ≡ a.header) (λ a. refl) (λ a b key value value' answer f. f.0) old.l2.slots.cap true cluster table between old.l2.slots.entries after es' result i') i')
 
     pub table-put-halted : (fault : Fault) → Going before.header (order_of old) Always (failed fault ≡ Ok tt) (state before.image) (cached_in old) (state between.image) (cached_in mid)
-        → CountsWrites (AreBlocksInReach (cached_in old)) (state before.image).faults (state between.image).faults (Err fault) → TableInserted state table cluster old before (Err (fault, table)) mid between
-    table-put-halted fault going why =
+        → CountsWrites (AreBlocksInReach (cached_in old)) (state before.image).faults (state between.image).faults (Err fault)
+        → ((order_of old ≡ L2DependsOnRb → ⊥) → ⊥) → (order_of old ≡ L2DependsOnRb → WritesBlocks (state before.image) (cached_in old) (Err fault) (state between.image) (cached_in mid)) → TableInserted state table cluster old before (Err (fault, table)) mid between
+    table-put-halted fault going why some did =
         let tables : (cached_in mid).tables ≡ (cached_in old).tables = ap (λ (m : MetadataCaches S). (cached_in m).tables) same in
         record {
           going = going-under before.header (order_of old) Fresh (IsMild fault) (state before.image) (state between.image) (cached_in old) (cached_in mid)
@@ -301,6 +313,7 @@ module _ {S : Type 0} (state : S → StorageState) (cluster : ℕ) (table : Tabl
           roomy = not-roomy;
           blocks = ap (λ (c : Cached). c.blocks) kept;
           apart = λ no. ap (λ (m : MetadataCaches S). m.rb) (idle no);
+          behind = λ none room. behind-refused-blocks (order_of old) LetsTableIn (state before.image) (state between.image) (cached_in old) (cached_in mid) fault some did;
           others = (ap (λ (m : MetadataCaches S). m.order) same, header);
           room = record { tables = ap (λ (m : MetadataCaches S). m.l2.slots.cap) same; blocks = cap };
           cause = found-written (AreBlocksInReach (cached_in old)) _ _ _ _ fault (λ f. f.1) why;

@@ -23,6 +23,7 @@ pub mod Readying
 pub mod FindingTables
 pub mod FindingBlocks
 pub mod Searching
+pub mod LettingIn
 pub mod SearchingTables
 pub mod SearchingBlocks
 pub mod Staying

@@ -5,7 +5,7 @@ use Rattle.std.specs.List.{AllByRecursion}
 use Rattle.std.specs.Map.{lookup}
 use Rattle.std.proofs.lemmas.Bool.{cases_lt}
 use Rattle.imago_storage.specs.State.{StorageState}
-use Rattle.imago_storage.specs.Calls.{Cause}
+use Rattle.imago_storage.specs.Calls.{Cause, Kept}
 use Rattle.imago_storage.specs.declared.fault.Fault.{Fault}
 use Rattle.imago_storage.specs.declared.fault.Fault.TheVariants.{Memory, Storage, DamagedTable}
 use Rattle.qcow2_types.specs.Bytes.{bytes_of}
@@ -17,19 +17,20 @@ use Rattle.qcow2_alloc.specs.declared.async_lru_cache.Slot.{Slot}
 use Rattle.qcow2_alloc.specs.declared.cache.CacheDependency.TheVariants.{RbDependsOnL2}
 use Rattle.qcow2_alloc.specs.declared.cache.MetadataCaches.{MetadataCaches}
 use Rattle.qcow2_alloc.specs.declared.file.ImageFile.{ImageFile}
-use Rattle.qcow2_alloc.specs.Backends.{BlockLoaded}
+use Rattle.qcow2_alloc.specs.Backends.{BlockLoaded, BlockFlushed}
 use Rattle.qcow2_alloc.specs.Cache.{Readied, with_entries}
 use Rattle.qcow2_alloc.specs.Caches.{cached_in, order_of}
 use Rattle.qcow2_alloc.specs.CachesLending.{with_blocks, block_loads, block_flushes}
-use Rattle.qcow2_alloc.specs.Finding.{Sought, BlockFound, IsPinnedFull, WhyNotFound, CountsSearch}
-use Rattle.qcow2_alloc.specs.Going.{Going, Always, ReadyBlocks, IsWhole, IsMild, AreTablesInReach, CountsWrites, WhyNotWritten}
+use Rattle.qcow2_alloc.specs.Finding.{Sought, BlockFound, LetsBlockIn, LetsIn, IsPinnedFull, WhyNotFound, CountsSearch}
+use Rattle.qcow2_alloc.specs.Going.{Going, Always, ReadyBlocks, IsWhole, IsMild, AreTablesInReach, CountsWrites, WhyNotWritten, WritesTables}
 use Rattle.qcow2_alloc.specs.Memory.{Cached, written, written_block}
-use Rattle.qcow2_alloc.specs.Safety.{Safe}
+use Rattle.qcow2_alloc.specs.Safety.{Safe, AreTablesClean}
 use Rattle.qcow2_alloc.proofs.Counting.{block-counted}
 use Rattle.qcow2_alloc.proofs.FindingBlocks.{block-readied, block-comes-quietly, block-asked}
 use Rattle.qcow2_alloc.proofs.FindingTables.{kept-same}
 use Rattle.qcow2_alloc.proofs.Going.{going-weaker, going-ready, going-safely}
 use Rattle.qcow2_alloc.proofs.Kept.{block-kept}
+use Rattle.qcow2_alloc.proofs.LettingIn.{never-now, lets-in, readied-still, tables-idle, behind-tables, behind-refused-tables}
 use Rattle.qcow2_alloc.proofs.Pins.{pins-none}
 use Rattle.qcow2_alloc.proofs.Readying.{readied-quietly, never-full}
 use Rattle.qcow2_alloc.proofs.SafeLaws.{safe-reach}
@@ -102,6 +103,20 @@ module _ {S : Type 0} (state : S → StorageState) (cluster : ℕ) where
       by-result (Err fault) why =
           found-wider _ _ _ _ _ _ _ _ (λ f. (subst (λ (h : Header). IsInReach h.fields.cluster_bits cluster) (sym header) f.0, f.2)) (λ f. f) (omega (arith, is)) (omega arith) fault why
 
+  -- What it asks for where no block is modified,
+  block-still : (may_flush : Bool) (cap : ℕ) (before : ImageFile S) (es : List (ℕ × Slot Block)) (result : Result Bool Fault) (after : ImageFile S) (es' : List (ℕ × Slot Block)) → Ready may_flush cap before es result after es'
+      → AllByRecursion (λ (e : ℕ × Slot Block). e.1.value.modified ≡ false) es → Kept (state before.image) (state after.image) × AllByRecursion (λ (e : ℕ × Slot Block). e.1.value.modified ≡ false) es'
+  block-still may_flush cap before es result after es' r =
+      readied-still (λ (d : ImageFile S). state d.image) (block_loads state) (block_flushes state) (λ a b key answer load. load.1.kept) (λ t. t.modified ≡ false) (λ a b key block load. ap (λ (t : Block). t.modified) load.1.ok.1)
+      (λ a b key block block' answer clean flush. flush.1.clean clean) cap may_flush cluster before es result after es' r
+
+  -- and in a full cache.
+  block-over : (cap : ℕ) (before : ImageFile S) (es : List (ℕ × Slot Block)) (result : Result Bool Fault) (after : ImageFile S) (es' : List (ℕ × Slot Block)) → lookup (nat_eq cluster) es ≡ None → cap ≤ length es → Ready true cap before es result after es'
+      → LetsIn (λ a key block answer b block'. BlockFlushed key block a answer b block') (state before.image) es (done_of result) (state after.image) es'
+  block-over cap before es result after es' =
+      lets-in (λ (d : ImageFile S). state d.image) (block_loads state) (block_flushes state) (λ a b key answer load. load.1.kept) (λ a key block answer b block'. BlockFlushed key block a answer b block') (λ a b key block block' answer flush. flush.1)
+      cap cluster before es result after es'
+
   -- One that is found, or loaded into room that there is.
   pub block-found-quietly : (old : MetadataCaches S) (before : ImageFile S) (result : Result Bool Fault) (after : ImageFile S) (es' : List (ℕ × Slot Block)) → (result ≡ Ok false → ⊥)
       → Ready false old.rb.slots.cap before old.rb.slots.entries result after es' → BlockFound state cluster old before (done_of result) (with_blocks old es') after
@@ -124,6 +139,8 @@ module _ {S : Type 0} (state : S → StorageState) (cluster : ℕ) where
         );
         tables = refl;
         apart = λ no. refl;
+        behind = λ none full. absurd (not (never-now (λ (d : ImageFile S). state d.image) (block_loads state) (block_flushes state) (λ a b key answer load. load.1.kept) old.rb.slots.cap cluster before old.rb.slots.entries result after es' none full r));
+        still = λ tables blocks. let k = block-still false old.rb.slots.cap before old.rb.slots.entries result after es' r blocks in (k.0, tables, k.1);
         others = (refl, header);
         room = record { tables = refl; blocks = refl };
         cause = block-counts false old.rb.slots.cap before old.rb.slots.entries result after es' before.header header (state before.image).faults refl (AreTablesInReach (cached_in old)) r;
@@ -156,14 +173,15 @@ module _ {S : Type 0} (state : S → StorageState) (cluster : ℕ) where
 
   -- One that is loaded into a full cache, once blocks are written.
   module _ (old mid : MetadataCaches S) (before between : ImageFile S) (absent : lookup (nat_eq cluster) old.rb.slots.entries ≡ None) (full : old.rb.slots.cap ≤ length old.rb.slots.entries) (same : mid ≡ record old { l2 = mid.l2 })
-      (header : between.header ≡ before.header) (kept : written (cached_in mid) ≡ written (cached_in old)) (idle : (order_of old ≡ RbDependsOnL2 → ⊥) → mid ≡ old) (cap : mid.l2.slots.cap ≡ old.l2.slots.cap) where
+      (header : between.header ≡ before.header) (kept : written (cached_in mid) ≡ written (cached_in old)) (cap : mid.l2.slots.cap ≡ old.l2.slots.cap) (idle : (order_of old ≡ RbDependsOnL2 → ⊥) → (mid ≡ old) × (between ≡ before)) where
     not-there : {X : Type 0} → IsSome (lookup (nat_eq cluster) old.rb.slots.entries) → X
     not-there there = absurd (let no = subst (λ (o : Option (Slot Block)). IsSome o) absent there in cc)
 
     block-found-loading : Going before.header (order_of old) Always (Succeeded (Ok tt)) (state before.image) (cached_in old) (state between.image) (cached_in mid) → ReadyBlocks (order_of old) (cached_in mid) → (state between.image).faults ≡ (state before.image).faults
+        → (order_of old ≡ RbDependsOnL2 → WritesTables (state before.image) (cached_in old) (Ok tt) (state between.image) (cached_in mid))
         → (result : Result Bool Fault) (after : ImageFile S) (es' : List (ℕ × Slot Block)) → (result ≡ Ok false → ⊥)
         → Ready true old.rb.slots.cap between old.rb.slots.entries result after es' → BlockFound state cluster old before (done_of result) (record old { l2 = mid.l2; rb = with_entries old.rb es' }) after
-    block-found-loading going ready faults result after es' not r =
+    block-found-loading going ready faults did result after es' not r =
         let stays = header-stays true old.rb.slots.cap between old.rb.slots.entries result after es' r ∙ header in
         let now : cached_in mid ≡ record { tables = mid.l2.slots.entries; blocks = old.rb.slots.entries } = ap (λ (m : MetadataCaches S). cached_in m) same in
         record {
@@ -177,26 +195,36 @@ module _ {S : Type 0} (state : S → StorageState) (cluster : ℕ) where
           sought = block-sought true old.rb.slots.cap between old.rb.slots.entries result after es' before.header stays not r;
           roomy = λ roomy. absurd (omega (arith, roomy, full));
           tables = ap (λ (c : Cached). c.tables) kept;
-          apart = λ no. ap (λ (m : MetadataCaches S). m.l2) (idle no);
+          apart = λ no. ap (λ (m : MetadataCaches S). m.l2) (idle no).0;
+          behind = λ none room. behind-tables (order_of old) LetsBlockIn (state before.image) (state between.image) (state after.image) (cached_in old) (record { tables = mid.l2.slots.entries; blocks = old.rb.slots.entries }) _ (done_of result)
+              (λ no. (ap (λ (f : ImageFile S). state f.image) (idle no).1, sym now ∙ ap (λ (m : MetadataCaches S). cached_in m) (idle no).0))
+              (λ is. subst (λ (c : Cached). WritesTables (state before.image) (cached_in old) (Ok tt) (state between.image) c) now (did is))
+              (refl, block-over old.rb.slots.cap between old.rb.slots.entries result after es' absent full r);
+          still = λ tables blocks.
+              let n = tables-idle state old mid before between (Ok tt) (order_of old) (λ no. (refl, (idle no).0, (idle no).1)) did tables in
+              let k = block-still true old.rb.slots.cap between old.rb.slots.entries result after es' r blocks in
+              (subst (λ (s : StorageState). Kept s (state after.image)) n.1 k.0, subst (λ (c : Cached). AreTablesClean c) (sym n.2) tables, k.1);
           others = (refl, stays);
           room = record { tables = cap; blocks = refl };
           cause = block-counts true old.rb.slots.cap between old.rb.slots.entries result after es' before.header stays (state before.image).faults faults (AreTablesInReach (cached_in old)) r;
         }
 
     pub block-found-full : Going before.header (order_of old) Always (Succeeded (Ok tt)) (state before.image) (cached_in old) (state between.image) (cached_in mid) → ReadyBlocks (order_of mid) (cached_in mid) → (state between.image).faults ≡ (state before.image).faults
+        → (order_of old ≡ RbDependsOnL2 → WritesTables (state before.image) (cached_in old) (Ok tt) (state between.image) (cached_in mid))
         → (result : Result Bool Fault) (after : ImageFile S) (new : MetadataCaches S) → new ≡ record mid { rb = with_entries mid.rb new.rb.slots.entries }
         → Ready true mid.rb.slots.cap between mid.rb.slots.entries result after new.rb.slots.entries → BlockFound state cluster old before (done_of result) new after
-    block-found-full going ready faults result after new is r =
+    block-found-full going ready faults did result after new is r =
         let es' = new.rb.slots.entries in
         let r' : Ready true old.rb.slots.cap between old.rb.slots.entries result after es' = subst (λ (m : MetadataCaches S). Ready true m.rb.slots.cap between m.rb.slots.entries result after es') same r in
         let now : new ≡ record old { l2 = mid.l2; rb = with_entries old.rb es' } = is ∙ ap (λ (m : MetadataCaches S). record m { rb = with_entries m.rb es' }) same in
         subst (λ (m : MetadataCaches S). BlockFound state cluster old before (done_of result) m after) (sym now)
-        (block-found-loading going (subst (λ (m : MetadataCaches S). ReadyBlocks (order_of m) (cached_in mid)) same ready) faults result after es'
+        (block-found-loading going (subst (λ (m : MetadataCaches S). ReadyBlocks (order_of m) (cached_in mid)) same ready) faults did result after es'
         (λ full. never-full (block_loads state) (block_flushes state) old.rb.slots.cap cluster between old.rb.slots.entries after es' (subst (λ (q : Result Bool Fault). Ready true old.rb.slots.cap between old.rb.slots.entries q after es') full r')) r')
 
     pub block-found-halted : (fault : Fault) → Going before.header (order_of old) Always (Succeeded (Err fault)) (state before.image) (cached_in old) (state between.image) (cached_in mid)
-        → CountsWrites (AreTablesInReach (cached_in old)) (state before.image).faults (state between.image).faults (Err fault) → BlockFound state cluster old before (Err fault) mid between
-    block-found-halted fault going why =
+        → CountsWrites (AreTablesInReach (cached_in old)) (state before.image).faults (state between.image).faults (Err fault)
+        → ((order_of old ≡ RbDependsOnL2 → ⊥) → ⊥) → (order_of old ≡ RbDependsOnL2 → WritesTables (state before.image) (cached_in old) (Err fault) (state between.image) (cached_in mid)) → BlockFound state cluster old before (Err fault) mid between
+    block-found-halted fault going why some did =
         let blocks : (cached_in mid).blocks ≡ (cached_in old).blocks = ap (λ (m : MetadataCaches S). (cached_in m).blocks) same in
         record {
           going = going-safely before.header (order_of old) Always (Succeeded (Err fault)) (IsWhole {T = Unit} (Err fault)) _ _ _ _ (λ safe mild. absurd (never fault safe mild why)) going;
@@ -205,7 +233,9 @@ module _ {S : Type 0} (state : S → StorageState) (cluster : ℕ) where
           sought = record { there = not-there; loaded = λ none. tt; refused = inl (ap (λ l. map written_block l) blocks); pinned = pins-none (cached_in old).blocks (cached_in mid).blocks blocks };
           roomy = λ roomy. absurd (omega (arith, roomy, full));
           tables = ap (λ (c : Cached). c.tables) kept;
-          apart = λ no. ap (λ (m : MetadataCaches S). m.l2) (idle no);
+          apart = λ no. ap (λ (m : MetadataCaches S). m.l2) (idle no).0;
+          behind = λ none room. behind-refused-tables (order_of old) LetsBlockIn (state before.image) (state between.image) (cached_in old) (cached_in mid) fault some did;
+          still = λ tables clean. absurd (let n = (tables-idle state old mid before between (Err fault) (order_of old) (λ no. absurd (some no)) did tables).0 in cc);
           others = (ap (λ (m : MetadataCaches S). m.order) same, header);
           room = record { tables = cap; blocks = ap (λ (m : MetadataCaches S). m.rb.slots.cap) same };
           cause = found-written (AreTablesInReach (cached_in old)) _ _ _ _ fault (λ f. f.1) why;

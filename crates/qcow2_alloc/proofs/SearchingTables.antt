@@ -7,6 +7,7 @@ use Rattle.std.proofs.lemmas.Bool.{cases_lt}
 use Rattle.std.proofs.lemmas.List.FromFn.{length-map-range_with_len}
 use Rattle.std.proofs.Math.Nat.{pow-le-pow_right}
 use Rattle.imago_storage.specs.State.{StorageState}
+use Rattle.imago_storage.specs.Calls.{Kept}
 use Rattle.imago_storage.specs.declared.fault.Fault.{Fault}
 use Rattle.imago_storage.specs.declared.fault.Fault.TheVariants.{Memory, Storage, DamagedTable, Limit}
 use Rattle.qcow2_types.specs.Bytes.{bytes_of}
@@ -18,18 +19,19 @@ use Rattle.qcow2_alloc.specs.declared.async_lru_cache.Slot.{Slot}
 use Rattle.qcow2_alloc.specs.declared.cache.CacheDependency.TheVariants.{L2DependsOnRb}
 use Rattle.qcow2_alloc.specs.declared.cache.MetadataCaches.{MetadataCaches}
 use Rattle.qcow2_alloc.specs.declared.file.ImageFile.{ImageFile}
-use Rattle.qcow2_alloc.specs.Backends.{TableLoaded}
+use Rattle.qcow2_alloc.specs.Backends.{TableLoaded, TableFlushed}
 use Rattle.qcow2_alloc.specs.Cache.{Readied, with_entries}
 use Rattle.qcow2_alloc.specs.Caches.{cached_in, order_of}
 use Rattle.qcow2_alloc.specs.CachesLending.{with_tables, table_loads, table_flushes}
-use Rattle.qcow2_alloc.specs.Finding.{Sought, TableFound, IsTableFine, IsPinnedFull, WhyNotFound, CountsSearch}
-use Rattle.qcow2_alloc.specs.Going.{Going, Always, ReadyTables, IsWhole, IsMild, AreBlocksInReach, CountsWrites, WhyNotWritten}
+use Rattle.qcow2_alloc.specs.Finding.{Sought, TableFound, LetsTableIn, LetsIn, IsTableFine, IsPinnedFull, WhyNotFound, CountsSearch}
+use Rattle.qcow2_alloc.specs.Going.{Going, Always, ReadyTables, IsWhole, IsMild, AreBlocksInReach, CountsWrites, WhyNotWritten, WritesBlocks}
 use Rattle.qcow2_alloc.specs.Memory.{Cached, written, written_table}
-use Rattle.qcow2_alloc.specs.Safety.{Safe}
+use Rattle.qcow2_alloc.specs.Safety.{Safe, AreBlocksClean}
 use Rattle.qcow2_alloc.proofs.Counting.{table-counted}
 use Rattle.qcow2_alloc.proofs.FindingTables.{table-readied, table-comes-quietly, table-asked, kept-same}
 use Rattle.qcow2_alloc.proofs.Going.{going-weaker, going-ready, going-safely}
 use Rattle.qcow2_alloc.proofs.Kept.{table-kept}
+use Rattle.qcow2_alloc.proofs.LettingIn.{never-now, lets-in, readied-still, blocks-idle, behind-blocks, behind-refused-blocks}
 use Rattle.qcow2_alloc.proofs.Pins.{pins-none}
 use Rattle.qcow2_alloc.proofs.Readying.{readied-quietly, never-full}
 use Rattle.qcow2_alloc.proofs.SafeLaws.{safe-reach}
@@ -110,6 +112,20 @@ module _ {S : Type 0} (state : S → StorageState) (cluster : ℕ) where
       by-result (Err fault) why =
           found-wider _ _ _ _ _ _ _ _ (λ f. (subst (λ (h : Header). IsTableFine (bytes_of (state after.image).bytes) h.fields cluster) (sym header) f.0, f.1)) (λ f. f) (omega (arith, is)) (omega arith) fault why
 
+  -- What it asks for where no table is modified,
+  table-still : (may_flush : Bool) (cap : ℕ) (before : ImageFile S) (es : List (ℕ × Slot TableValue)) (result : Result Bool Fault) (after : ImageFile S) (es' : List (ℕ × Slot TableValue)) → Ready may_flush cap before es result after es'
+      → AllByRecursion (λ (e : ℕ × Slot TableValue). e.1.value.modified ≡ false) es → Kept (state before.image) (state after.image) × AllByRecursion (λ (e : ℕ × Slot TableValue). e.1.value.modified ≡ false) es'
+  table-still may_flush cap before es result after es' r =
+      readied-still (λ (d : ImageFile S). state d.image) (table_loads state) (table_flushes state) (λ a b key answer load. load.1.kept) (λ t. t.modified ≡ false) (λ a b key table load. ap (λ (t : TableValue). t.modified) load.1.ok.1)
+      (λ a b key table table' answer clean flush. flush.1.clean clean) cap may_flush cluster before es result after es' r
+
+  -- and in a full cache.
+  table-over : (cap : ℕ) (before : ImageFile S) (es : List (ℕ × Slot TableValue)) (result : Result Bool Fault) (after : ImageFile S) (es' : List (ℕ × Slot TableValue)) → lookup (nat_eq cluster) es ≡ None → cap ≤ length es → Ready true cap before es result after es'
+      → LetsIn (λ a key table answer b table'. TableFlushed key table a answer b table') (state before.image) es (done_of result) (state after.image) es'
+  table-over cap before es result after es' =
+      lets-in (λ (d : ImageFile S). state d.image) (table_loads state) (table_flushes state) (λ a b key answer load. load.1.kept) (λ a key table answer b table'. TableFlushed key table a answer b table') (λ a b key table table' answer flush. flush.1)
+      cap cluster before es result after es'
+
   -- One that is found, or loaded into room that there is.
   pub table-found-quietly : (old : MetadataCaches S) (before : ImageFile S) (result : Result Bool Fault) (after : ImageFile S) (es' : List (ℕ × Slot TableValue)) → (result ≡ Ok false → ⊥)
       → Ready false old.l2.slots.cap before old.l2.slots.entries result after es' → TableFound state cluster old before (done_of result) (with_tables old es') after
@@ -132,6 +148,8 @@ module _ {S : Type 0} (state : S → StorageState) (cluster : ℕ) where
         );
         blocks = refl;
         apart = λ no. refl;
+        behind = λ none full. absurd (not (never-now (λ (d : ImageFile S). state d.image) (table_loads state) (table_flushes state) (λ a b key answer load. load.1.kept) old.l2.slots.cap cluster before old.l2.slots.entries result after es' none full r));
+        still = λ tables blocks. let k = table-still false old.l2.slots.cap before old.l2.slots.entries result after es' r tables in (k.0, k.1, blocks);
         others = (refl, header);
         room = record { tables = refl; blocks = refl };
         cause = table-counts false old.l2.slots.cap before old.l2.slots.entries result after es' before.header header (state before.image).faults refl (AreBlocksInReach (cached_in old)) r;
@@ -164,14 +182,15 @@ module _ {S : Type 0} (state : S → StorageState) (cluster : ℕ) where
 
   -- One that is loaded into a full cache, once blocks are written.
   module _ (old mid : MetadataCaches S) (before between : ImageFile S) (absent : lookup (nat_eq cluster) old.l2.slots.entries ≡ None) (full : old.l2.slots.cap ≤ length old.l2.slots.entries) (same : mid ≡ record old { rb = mid.rb })
-      (header : between.header ≡ before.header) (kept : written (cached_in mid) ≡ written (cached_in old)) (idle : (order_of old ≡ L2DependsOnRb → ⊥) → mid ≡ old) (cap : mid.rb.slots.cap ≡ old.rb.slots.cap) where
+      (header : between.header ≡ before.header) (kept : written (cached_in mid) ≡ written (cached_in old)) (cap : mid.rb.slots.cap ≡ old.rb.slots.cap) (idle : (order_of old ≡ L2DependsOnRb → ⊥) → (mid ≡ old) × (between ≡ before)) where
     not-there : {X : Type 0} → IsSome (lookup (nat_eq cluster) old.l2.slots.entries) → X
     not-there there = absurd (let no = subst (λ (o : Option (Slot TableValue)). IsSome o) absent there in cc)
 
     table-found-loading : Going before.header (order_of old) Always (Succeeded (Ok tt)) (state before.image) (cached_in old) (state between.image) (cached_in mid) → ReadyTables (order_of old) (cached_in mid) → (state between.image).faults ≡ (state before.image).faults
+        → (order_of old ≡ L2DependsOnRb → WritesBlocks (state before.image) (cached_in old) (Ok tt) (state between.image) (cached_in mid))
         → (result : Result Bool Fault) (after : ImageFile S) (es' : List (ℕ × Slot TableValue)) → (result ≡ Ok false → ⊥)
         → Ready true old.l2.slots.cap between old.l2.slots.entries result after es' → TableFound state cluster old before (done_of result) (record old { l2 = with_entries old.l2 es'; rb = mid.rb }) after
-    table-found-loading going ready faults result after es' not r =
+    table-found-loading going ready faults did result after es' not r =
         let stays = header-stays true old.l2.slots.cap between old.l2.slots.entries result after es' r ∙ header in
         let now : cached_in mid ≡ record { tables = old.l2.slots.entries; blocks = mid.rb.slots.entries } = ap (λ (m : MetadataCaches S). cached_in m) same in
         record {
@@ -185,26 +204,36 @@ module _ {S : Type 0} (state : S → StorageState) (cluster : ℕ) where
           sought = table-sought true old.l2.slots.cap between old.l2.slots.entries result after es' before.header stays not r;
           roomy = λ roomy. absurd (omega (arith, roomy, full));
           blocks = ap (λ (c : Cached). c.blocks) kept;
-          apart = λ no. ap (λ (m : MetadataCaches S). m.rb) (idle no);
+          apart = λ no. ap (λ (m : MetadataCaches S). m.rb) (idle no).0;
+          behind = λ none room. behind-blocks (order_of old) LetsTableIn (state before.image) (state between.image) (state after.image) (cached_in old) (record { tables = old.l2.slots.entries; blocks = mid.rb.slots.entries }) _ (done_of result)
+              (λ no. (ap (λ (f : ImageFile S). state f.image) (idle no).1, sym now ∙ ap (λ (m : MetadataCaches S). cached_in m) (idle no).0))
+              (λ is. subst (λ (c : Cached). WritesBlocks (state before.image) (cached_in old) (Ok tt) (state between.image) c) now (did is))
+              (refl, table-over old.l2.slots.cap between old.l2.slots.entries result after es' absent full r);
+          still = λ tables blocks.
+              let n = blocks-idle state old mid before between (Ok tt) (order_of old) (λ no. (refl, (idle no).0, (idle no).1)) did blocks in
+              let k = table-still true old.l2.slots.cap between old.l2.slots.entries result after es' r tables in
+              (subst (λ (s : StorageState). Kept s (state after.image)) n.1 k.0, k.1, subst (λ (c : Cached). AreBlocksClean c) (sym n.2) blocks);
           others = (refl, stays);
           room = record { tables = refl; blocks = cap };
           cause = table-counts true old.l2.slots.cap between old.l2.slots.entries result after es' before.header stays (state before.image).faults faults (AreBlocksInReach (cached_in old)) r;
         }
 
     pub table-found-full : Going before.header (order_of old) Always (Succeeded (Ok tt)) (state before.image) (cached_in old) (state between.image) (cached_in mid) → ReadyTables (order_of mid) (cached_in mid) → (state between.image).faults ≡ (state before.image).faults
+        → (order_of old ≡ L2DependsOnRb → WritesBlocks (state before.image) (cached_in old) (Ok tt) (state between.image) (cached_in mid))
         → (result : Result Bool Fault) (after : ImageFile S) (new : MetadataCaches S) → new ≡ record mid { l2 = with_entries mid.l2 new.l2.slots.entries }
         → Ready true mid.l2.slots.cap between mid.l2.slots.entries result after new.l2.slots.entries → TableFound state cluster old before (done_of result) new after
-    table-found-full going ready faults result after new is r =
+    table-found-full going ready faults did result after new is r =
         let es' = new.l2.slots.entries in
         let r' : Ready true old.l2.slots.cap between old.l2.slots.entries result after es' = subst (λ (m : MetadataCaches S). Ready true m.l2.slots.cap between m.l2.slots.entries result after es') same r in
         let now : new ≡ record old { l2 = with_entries old.l2 es'; rb = mid.rb } = is ∙ ap (λ (m : MetadataCaches S). record m { l2 = with_entries m.l2 es' }) same in
         subst (λ (m : MetadataCaches S). TableFound state cluster old before (done_of result) m after) (sym now)
-        (table-found-loading going (subst (λ (m : MetadataCaches S). ReadyTables (order_of m) (cached_in mid)) same ready) faults result after es'
+        (table-found-loading going (subst (λ (m : MetadataCaches S). ReadyTables (order_of m) (cached_in mid)) same ready) faults did result after es'
         (λ full. never-full (table_loads state) (table_flushes state) old.l2.slots.cap cluster between old.l2.slots.entries after es' (subst (λ (q : Result Bool Fault). Ready true old.l2.slots.cap between old.l2.slots.entries q after es') full r')) r')
 
     pub table-found-halted : (fault : Fault) → Going before.header (order_of old) Always (Succeeded (Err fault)) (state before.image) (cached_in old) (state between.image) (cached_in mid)
-        → CountsWrites (AreBlocksInReach (cached_in old)) (state before.image).faults (state between.image).faults (Err fault) → TableFound state cluster old before (Err fault) mid between
-    table-found-halted fault going why =
+        → CountsWrites (AreBlocksInReach (cached_in old)) (state before.image).faults (state between.image).faults (Err fault)
+        → ((order_of old ≡ L2DependsOnRb → ⊥) → ⊥) → (order_of old ≡ L2DependsOnRb → WritesBlocks (state before.image) (cached_in old) (Err fault) (state between.image) (cached_in mid)) → TableFound state cluster old before (Err fault) mid between
+    table-found-halted fault going why some did =
         let tables : (cached_in mid).tables ≡ (cached_in old).tables = ap (λ (m : MetadataCaches S). (cached_in m).tables) same in
         record {
           going = going-safely before.header (order_of old) Always (Succeeded (Err fault)) (IsWhole {T = Unit} (Err fault)) _ _ _ _ (λ safe mild. absurd (never fault safe mild why)) going;
@@ -213,7 +242,9 @@ module _ {S : Type 0} (state : S → StorageState) (cluster : ℕ) where
           sought = record { there = not-there; loaded = λ none. tt; refused = inl (ap (λ l. map written_table l) tables); pinned = pins-none (cached_in old).tables (cached_in mid).tables tables };
           roomy = λ roomy. absurd (omega (arith, roomy, full));
           blocks = ap (λ (c : Cached). c.blocks) kept;
-          apart = λ no. ap (λ (m : MetadataCaches S). m.rb) (idle no);
+          apart = λ no. ap (λ (m : MetadataCaches S). m.rb) (idle no).0;
+          behind = λ none room. behind-refused-blocks (order_of old) LetsTableIn (state before.image) (state between.image) (cached_in old) (cached_in mid) fault some did;
+          still = λ clean blocks. absurd (let n = (blocks-idle state old mid before between (Err fault) (order_of old) (λ no. absurd (some no)) did blocks).0 in cc);
           others = (ap (λ (m : MetadataCaches S). m.order) same, header);
           room = record { tables = ap (λ (m : MetadataCaches S). m.l2.slots.cap) same; blocks = cap };
           cause = found-written (AreBlocksInReach (cached_in old)) _ _ _ _ fault (λ f. f.2) why;

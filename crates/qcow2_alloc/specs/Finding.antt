@@ -1,5 +1,5 @@
 -- How L2 tables and refcount blocks are found in their caches, or loaded into them.
-use Rattle.std.specs.Prelude.{◌≡◌, ◌⊎◌, ℕ, ◌*◌, ◌<◌, ◌≤◌, ◌∷◌, ◌&&◌, ⊤, Bool, true, IsSome, OnOk, OnErr, Ok, Result, MatchResult, List, None, cond, length, map, nat_eq, nat_lt}
+use Rattle.std.specs.Prelude.{◌≡◌, ◌⊎◌, ℕ, ◌*◌, ◌<◌, ◌≤◌, ◌∷◌, ◌&&◌, ⊤, Bool, true, IsSome, OnOk, OnErr, Ok, Err, Result, MatchResult, List, None, Some, cond, length, map, nat_eq, nat_lt}
 use Rattle.std.specs.Option.{option_map_or}
 use Rattle.std.specs.List.{AllByRecursion, count_by}
 use Rattle.std.specs.Map.{lookup, remove_entry}
@@ -16,10 +16,12 @@ use Rattle.qcow2_alloc.specs.declared.async_lru_cache.Slot.{Slot}
 use Rattle.qcow2_alloc.specs.declared.cache.CacheDependency.TheVariants.{L2DependsOnRb, RbDependsOnL2}
 use Rattle.qcow2_alloc.specs.declared.cache.MetadataCaches.{MetadataCaches}
 use Rattle.qcow2_alloc.specs.declared.file.ImageFile.{ImageFile}
-use Rattle.qcow2_alloc.specs.Cache.{victim}
+use Rattle.qcow2_alloc.specs.Backends.{TableFlushed, BlockFlushed}
+use Rattle.qcow2_alloc.specs.Cache.{victim, FlushedAt}
 use Rattle.qcow2_alloc.specs.Caches.{cached_in, order_of, HasRoomOf}
-use Rattle.qcow2_alloc.specs.Going.{Going, Always, IsWhole, AreTablesInReach, AreBlocksInReach}
-use Rattle.qcow2_alloc.specs.Memory.{written_table, written_block}
+use Rattle.qcow2_alloc.specs.Going.{Going, Always, IsWhole, AreTablesInReach, AreBlocksInReach, BehindBlocks, BehindTables}
+use Rattle.qcow2_alloc.specs.Memory.{Cached, written_table, written_block}
+use Rattle.qcow2_alloc.specs.Safety.{AreTablesClean, AreBlocksClean}
 
 module _ {V : Type 0} where
   -- The entries of a cache of so many once there is room for one more: where it is full, the least recently used one that isn't pinned goes.
@@ -51,6 +53,23 @@ module _ {V : Type 0} where
     pub refused : OnErr result ((map written es' ≡ map written es) ⊎ (es' ≡ with_room cap es))
     pub pinned : PinsNothing es es'
 
+-- What lets an entry into a full cache: the one that goes is flushed in place, by one call, and nothing is written behind that. Where that
+-- flush is refused it stays, and where each is pinned nothing is asked for.
+pub record LetsIn {V : Type 0} (flushes : StorageState → ℕ → V → Result Unit Fault → StorageState → V → Type 0) (old : StorageState) (es : List (ℕ × Slot V)) (result : Result Unit Fault) (new : StorageState) (es' : List (ℕ × Slot V)) : Type 0 where
+  pub stuck : victim es ≡ None → (result ≡ Err CacheFull) × (new ≡ old) × (es' ≡ es)
+  pub goes : (key : ℕ) → victim es ≡ Some key → (mid : StorageState) × (answer : Result Unit Fault) × (flushed : List (ℕ × Slot V)) × FlushedAt nat_eq flushes key old es answer mid flushed
+      × MatchResult answer (λ _. Kept mid new) (λ fault. (result ≡ Err fault) × (new ≡ mid) × (es' ≡ flushed))
+
+-- of tables,
+abbrev pub LetsTableIn : StorageState → Cached → Result Unit Fault → StorageState → Cached → Type 0
+LetsTableIn old cached result new cached' = (cached'.blocks ≡ cached.blocks)
+    × LetsIn (λ a key table answer b table'. TableFlushed key table a answer b table') old cached.tables result new cached'.tables
+
+-- and of blocks
+abbrev pub LetsBlockIn : StorageState → Cached → Result Unit Fault → StorageState → Cached → Type 0
+LetsBlockIn old cached result new cached' = (cached'.tables ≡ cached.tables)
+    × LetsIn (λ a key block answer b block'. BlockFlushed key block a answer b block') old cached.blocks result new cached'.blocks
+
 -- Why a search was refused, by the counts of faults before and after, where `fine` says that words can name what is loaded and written
 -- and that what is loaded is sound. `Memory` may come behind a fault of the storage.
 abbrev pub WhyNotFound : Type 0 → Type 0 → ℕ → ℕ → Fault → Type 0
@@ -81,6 +100,10 @@ pub record TableFound {S : Type 0} (state : S → StorageState) (cluster : ℕ) 
   -- and blocks are only where they come first.
   pub blocks : map written_block (cached_in new).blocks ≡ map written_block (cached_in old).blocks
   pub apart : (order_of old ≡ L2DependsOnRb → ⊥) → new.rb ≡ old.rb
+  -- Where there is none, they are before a table is that has to go,
+  pub behind : lookup (nat_eq cluster) (cached_in old).tables ≡ None → old.l2.slots.cap ≤ length (cached_in old).tables → BehindBlocks (order_of old) LetsTableIn (state before.image) (cached_in old) result (state after.image) (cached_in new)
+  -- and where nothing is modified nothing is written.
+  pub still : AreTablesClean (cached_in old) → AreBlocksClean (cached_in old) → Kept (state before.image) (state after.image) × AreTablesClean (cached_in new) × AreBlocksClean (cached_in new)
   pub others : (new.order ≡ old.order) × (after.header ≡ before.header)
   pub room : HasRoomOf old new
   pub cause : CountsSearch (IsTableFine (bytes_of (state after.image).bytes) before.header.fields cluster × AreTablesInReach (cached_in old) × AreBlocksInReach (cached_in old)) (IsPinnedFull old.l2.slots.cap (cached_in old).tables) (state before.image).faults (state after.image).faults result
@@ -94,6 +117,8 @@ pub record BlockFound {S : Type 0} (state : S → StorageState) (cluster : ℕ) 
   pub roomy : length (cached_in old).blocks < old.rb.slots.cap → Kept (state before.image) (state after.image) × (new.l2 ≡ old.l2)
   pub tables : map written_table (cached_in new).tables ≡ map written_table (cached_in old).tables
   pub apart : (order_of old ≡ RbDependsOnL2 → ⊥) → new.l2 ≡ old.l2
+  pub behind : lookup (nat_eq cluster) (cached_in old).blocks ≡ None → old.rb.slots.cap ≤ length (cached_in old).blocks → BehindTables (order_of old) LetsBlockIn (state before.image) (cached_in old) result (state after.image) (cached_in new)
+  pub still : AreTablesClean (cached_in old) → AreBlocksClean (cached_in old) → Kept (state before.image) (state after.image) × AreTablesClean (cached_in new) × AreBlocksClean (cached_in new)
   pub others : (new.order ≡ old.order) × (after.header ≡ before.header)
   pub room : HasRoomOf old new
   pub cause : CountsSearch (IsInReach before.header.fields.cluster_bits cluster × AreTablesInReach (cached_in old) × AreBlocksInReach (cached_in old)) (IsPinnedFull old.rb.slots.cap (cached_in old).blocks) (state before.image).faults (state after.image).faults result

@@ -76,6 +76,16 @@ pub record InTurn (First Second : StorageState → Cached → Result Unit Fault 
   pub halted : IsErr answer → (result ≡ answer) × (new ≡ mid) × (cached' ≡ between)
   pub second : answer ≡ Ok tt → Second mid between result new cached'
 
+-- Blocks are written before something is done, where they come first,
+pub record BehindBlocks (order : CacheDependency) (Done : StorageState → Cached → Result Unit Fault → StorageState → Cached → Type 0) (old : StorageState) (cached : Cached) (result : Result Unit Fault) (new : StorageState) (cached' : Cached) : Type 0 where
+  pub alone : (order ≡ L2DependsOnRb → ⊥) → Done old cached result new cached'
+  pub in_turn : order ≡ L2DependsOnRb → InTurn WritesBlocks Done old cached result new cached'
+
+-- or tables, where these do.
+pub record BehindTables (order : CacheDependency) (Done : StorageState → Cached → Result Unit Fault → StorageState → Cached → Type 0) (old : StorageState) (cached : Cached) (result : Result Unit Fault) (new : StorageState) (cached' : Cached) : Type 0 where
+  pub alone : (order ≡ RbDependsOnL2 → ⊥) → Done old cached result new cached'
+  pub in_turn : order ≡ RbDependsOnL2 → InTurn WritesTables Done old cached result new cached'
+
 -- neither want of memory nor a storage that failed
 abbrev pub IsMild : Fault → Type 0
 IsMild Memory = ⊥

@@ -17,8 +17,8 @@ use Rattle.qcow2_alloc.specs.declared.file.ImageFile.{ImageFile}
 use Rattle.qcow2_alloc.specs.Backends.{TableFlushed, BlockFlushed}
 use Rattle.qcow2_alloc.specs.Cache.{hit, victim}
 use Rattle.qcow2_alloc.specs.Caches.{cached_in, order_of, HasRoomOf}
-use Rattle.qcow2_alloc.specs.Finding.{with_room, IsPinnedFull, PinsNothing, CountsSearch}
-use Rattle.qcow2_alloc.specs.Going.{Going, IsWhole, AreTablesInReach, AreBlocksInReach, WritesTables, WritesBlocks}
+use Rattle.qcow2_alloc.specs.Finding.{with_room, LetsTableIn, LetsBlockIn, IsPinnedFull, PinsNothing, CountsSearch}
+use Rattle.qcow2_alloc.specs.Going.{Going, IsWhole, AreTablesInReach, AreBlocksInReach, WritesTables, WritesBlocks, BehindBlocks, BehindTables}
 use Rattle.qcow2_alloc.specs.Memory.{Cached, written_table, written_block}
 use Rattle.qcow2_alloc.specs.Safety.{IsCachedTable, IsCachedBlock}
 
@@ -80,6 +80,8 @@ pub record TableInserted {S : Type 0} (state : S → StorageState) (table : Tabl
   -- and blocks are only where they come first.
   pub blocks : map written_block (cached_in new).blocks ≡ map written_block (cached_in old).blocks
   pub apart : (order_of old ≡ L2DependsOnRb → ⊥) → new.rb ≡ old.rb
+  -- Where there is none, they are before a table is that has to go.
+  pub behind : lookup (nat_eq cluster) (cached_in old).tables ≡ None → old.l2.slots.cap ≤ length (cached_in old).tables → BehindBlocks (order_of old) LetsTableIn (state before.image) (cached_in old) (refusal_of result) (state after.image) (cached_in new)
   pub others : (new.order ≡ old.order) × (after.header ≡ before.header)
   pub room : HasRoomOf old new
   pub cause : CountsSearch (AreTablesInReach (cached_in old) × AreBlocksInReach (cached_in old)) (IsPinnedFull old.l2.slots.cap (cached_in old).tables) (state before.image).faults (state after.image).faults (refusal_of result)
@@ -92,6 +94,7 @@ pub record BlockInserted {S : Type 0} (state : S → StorageState) (block : Bloc
   pub roomy : lookup (nat_eq cluster) (cached_in old).blocks ≡ None → length (cached_in old).blocks < old.rb.slots.cap → Kept (state before.image) (state after.image) × (new.l2 ≡ old.l2)
   pub tables : map written_table (cached_in new).tables ≡ map written_table (cached_in old).tables
   pub apart : (order_of old ≡ RbDependsOnL2 → ⊥) → new.l2 ≡ old.l2
+  pub behind : lookup (nat_eq cluster) (cached_in old).blocks ≡ None → old.rb.slots.cap ≤ length (cached_in old).blocks → BehindTables (order_of old) LetsBlockIn (state before.image) (cached_in old) (refusal_of result) (state after.image) (cached_in new)
   pub others : (new.order ≡ old.order) × (after.header ≡ before.header)
   pub room : HasRoomOf old new
   pub cause : CountsSearch (AreTablesInReach (cached_in old) × AreBlocksInReach (cached_in old)) (IsPinnedFull old.rb.slots.cap (cached_in old).blocks) (state before.image).faults (state after.image).faults (refusal_of result)

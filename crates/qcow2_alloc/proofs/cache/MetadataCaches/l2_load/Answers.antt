@@ -7,21 +7,21 @@ returns-in-Ok-ready g c =
     let old = c.args.self.now in
     let mid = c.before_tables-written.new.self in
     let done = c.in-Ok.ensures in
-    table-found-full g.S.Storage.state c.args.cluster old mid c.args.file.now c.before_tables-written.new.file c.requires.absent c.requires.full (rb-alone old mid done.others.0 done.others.1) done.others.2 done.kept (λ no. (done.idle no).1) done.room.blocks
-    done.going done.ready done.cause (Ok c.in-Ok-ready.field-0) c.ready.new.device (record mid { l2 = c.ready.new.self }) (ap (λ l. record mid { l2 = l }) c.ready.ensures.others) c.in-Ok-ready.ensures.readied
+    table-found-full g.S.Storage.state c.args.cluster old mid c.args.file.now c.before_tables-written.new.file c.requires.absent c.requires.full (rb-alone old mid done.others.0 done.others.1) done.others.2 done.kept done.room.blocks (λ no. ((done.idle no).1, (done.idle no).2))
+    done.going done.ready done.cause done.written (Ok c.in-Ok-ready.field-0) c.ready.new.device (record mid { l2 = c.ready.new.self }) (ap (λ l. record mid { l2 = l }) c.ready.ensures.others) c.in-Ok-ready.ensures.readied
 
 pub returns-in-Err-ready : goal.returns-in-Err-ready
 returns-in-Err-ready g c =
     let old = c.args.self.now in
     let mid = c.before_tables-written.new.self in
     let done = c.in-Ok.ensures in
-    table-found-full g.S.Storage.state c.args.cluster old mid c.args.file.now c.before_tables-written.new.file c.requires.absent c.requires.full (rb-alone old mid done.others.0 done.others.1) done.others.2 done.kept (λ no. (done.idle no).1) done.room.blocks
-    done.going done.ready done.cause (Err c.in-Err-ready.fault) c.ready.new.device (record mid { l2 = c.ready.new.self }) (ap (λ l. record mid { l2 = l }) c.ready.ensures.others) c.in-Err-ready.ensures.readied
+    table-found-full g.S.Storage.state c.args.cluster old mid c.args.file.now c.before_tables-written.new.file c.requires.absent c.requires.full (rb-alone old mid done.others.0 done.others.1) done.others.2 done.kept done.room.blocks (λ no. ((done.idle no).1, (done.idle no).2))
+    done.going done.ready done.cause done.written (Err c.in-Err-ready.fault) c.ready.new.device (record mid { l2 = c.ready.new.self }) (ap (λ l. record mid { l2 = l }) c.ready.ensures.others) c.in-Err-ready.ensures.readied
 
 pub returns-in-Err : goal.returns-in-Err
 returns-in-Err g c =
     let old = c.args.self.now in
     let mid = c.before_tables-written.new.self in
     let done = c.in-Err.ensures in
-    table-found-halted g.S.Storage.state c.args.cluster old mid c.args.file.now c.before_tables-written.new.file c.requires.absent c.requires.full (rb-alone old mid done.others.0 done.others.1) done.others.2 done.kept (λ no. (done.idle no).1) done.room.blocks
-    c.in-Err.fault done.going done.cause
+    table-found-halted g.S.Storage.state c.args.cluster old mid c.args.file.now c.before_tables-written.new.file c.requires.absent c.requires.full (rb-alone old mid done.others.0 done.others.1) done.others.2 done.kept done.room.blocks (λ no. ((done.idle no).1, (done.idle no).2))
+    c.in-Err.fault done.going done.cause (λ no. let ok = (done.idle no).0 in cc) done.written
