@@ -37,6 +37,7 @@ pub mod ChangingWords
 pub mod DroppingNames
 pub mod Using
 pub mod UsingBlocks
+pub mod UsingTables
 pub mod QuietShows
 pub mod CountedBlocks
 pub mod QuietFlushes

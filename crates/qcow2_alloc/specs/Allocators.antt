@@ -1,4 +1,4 @@
--- What contracts see of an allocator, and how a counter of a block is read or changed.
+-- What contracts see of an allocator, how cached blocks and L2 tables are used, and how a counter of a block is read or changed.
 use Rattle.std.specs.Prelude.{◌≡◌, ◌⊎◌, ℕ, ◌-◌, ◌/◌, ◌%◌, ◌<◌, ◌≤◌, ◌^◌, Option, Some, None, Result, Ok, Err, MatchOption, IfErr, IfOk, OnOk, nat_eq, if◌then◌else◌, ◌==◌, List, slice_index, length}
 use Rattle.std.specs.Option.{option_map}
 use Rattle.std.specs.Map.{lookup}
@@ -18,8 +18,8 @@ use Rattle.qcow2_alloc.specs.declared.cache.MetadataCaches.{MetadataCaches}
 use Rattle.qcow2_alloc.specs.declared.file.ImageFile.{ImageFile}
 use Rattle.qcow2_alloc.specs.Cache.{hit}
 use Rattle.qcow2_alloc.specs.Caches.{cached_in, order_of}
-use Rattle.qcow2_alloc.specs.CachesLending.{with_blocks}
-use Rattle.qcow2_alloc.specs.Finding.{BlockFound}
+use Rattle.qcow2_alloc.specs.CachesLending.{with_tables, with_blocks}
+use Rattle.qcow2_alloc.specs.Finding.{TableFound, BlockFound}
 use Rattle.qcow2_alloc.specs.Quiet.{Metadata, IsTableOf}
 
 -- the refcount table in memory, and the cluster where the search for free ones begins
@@ -57,6 +57,20 @@ pub record BlockUsed {S T : Type 0} (state : S → StorageState) (cluster : ℕ)
 -- It is found and used so, or the search is refused.
 abbrev pub UsesBlock : {S T : Type 0} → (S → StorageState) → ℕ → (Block → Result T Fault → Block → Type 0) → MetadataCaches S → ImageFile S → Result T Fault → MetadataCaches S → ImageFile S → Type 0
 UsesBlock state cluster does old before result new after = ((fault : Fault) × (result ≡ Err fault) × BlockFound state cluster old before (Err fault) new after) ⊎ BlockUsed state cluster does old before result new after
+
+-- The same of the L2 table in a cluster: it is found, lent, used and put back,
+pub record TableUsed {S T : Type 0} (state : S → StorageState) (cluster : ℕ) (does : TableValue → Result T Fault → TableValue → Type 0) (old : MetadataCaches S) (before : ImageFile S) (result : Result T Fault) (new : MetadataCaches S) (after : ImageFile S) : Type 0 where
+  pub mid : MetadataCaches S
+  pub found : TableFound state cluster old before (Ok tt) mid after
+  pub table : TableValue
+  pub table' : TableValue
+  pub there : option_map (λ s. s.value) (lookup (nat_eq cluster) (cached_in mid).tables) ≡ Some table
+  pub used : does table result table'
+  pub left : new ≡ with_tables mid (hit (nat_eq cluster) (cached_in mid).tables table')
+
+-- or the search is refused.
+abbrev pub UsesTable : {S T : Type 0} → (S → StorageState) → ℕ → (TableValue → Result T Fault → TableValue → Type 0) → MetadataCaches S → ImageFile S → Result T Fault → MetadataCaches S → ImageFile S → Type 0
+UsesTable state cluster does old before result new after = ((fault : Fault) × (result ≡ Err fault) × TableFound state cluster old before (Err fault) new after) ⊎ TableUsed state cluster does old before result new after
 
 -- How a counter of a block is lowered by 1: it is refused where there is no such counter or where it is 0.
 pub record Lowers (index : ℕ) (block : Block) (result : Result Unit Fault) (block' : Block) : Type 0 where
