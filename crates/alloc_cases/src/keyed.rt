@@ -10,6 +10,9 @@ use std::cell::Cell;
 /// How many values are noted.
 const ROOM: usize = 16;
 
+/// How often a script can hold on to a value.
+const PINS: u64 = 8;
+
 /// Values that were flushed, or dropped without a flush, by key. They take no memory, so that its want is the cache's own.
 #[derive(Clone, Copy)]
 pub struct Noted {
@@ -207,6 +210,36 @@ impl<'a> Keyed<'a> {
         }
     }
 
+    // How often the value at a key is held on to, if it is there.
+    fn pins(&self, key: u64) -> Result<String, Trouble> {
+        match self.cache.pins(key) {
+            Some(pins) => Ok(pins.to_string(self.alloc)?),
+            None => Ok("none".to_string(self.alloc)?),
+        }
+    }
+
+    // Holds on to the value at a key, which is there.
+    fn pin(&mut self, key: u64) -> Result<(), Trouble> {
+        match self.cache.pins(key) {
+            Some(pins) if pins < PINS => {
+                self.cache.pin(key);
+                Ok(())
+            }
+            _ => Err(Trouble::NoCall),
+        }
+    }
+
+    // Lets go of the value at a key, which is held on to.
+    fn unpin(&mut self, key: u64) -> Result<(), Trouble> {
+        match self.cache.pins(key) {
+            Some(pins) if pins > 0 => {
+                self.cache.unpin(key);
+                Ok(())
+            }
+            _ => Err(Trouble::NoCall),
+        }
+    }
+
     // What was flushed since this was last told, in order.
     fn flushed(&mut self) -> Result<String, Trouble> {
         let text = noted_text(self.alloc, self.device.flushed)?;
@@ -227,6 +260,7 @@ impl<'a> Keyed<'a> {
             ["dropped"] => self.dropped(),
             ["loads"] => Ok(self.device.loads.to_string(self.alloc)?),
             ["at", key] => self.at(number(key)?),
+            ["pins", key] => self.pins(number(key)?),
             _ => Err(Trouble::NoCall),
         }
     }
@@ -238,6 +272,8 @@ impl<'a> Keyed<'a> {
             ["write", key, value] => self.write(number(key)?, number(value)?),
             ["flush"] => Ok(self.cache.flush(&mut self.device)?),
             ["drop"] => Ok(self.cache.invalidate()?),
+            ["pin", key] => self.pin(number(key)?),
+            ["unpin", key] => self.unpin(number(key)?),
             _ => Err(Trouble::NoCall),
         }
     }
@@ -249,7 +285,7 @@ impl<'a> Keyed<'a> {
             ["insert", key, value, flushing] => {
                 self.insert(number(key)?, number(value)?, may_flush(flushing)?)
             }
-            ["flushed" | "dropped" | "loads" | "at", ..] => self.tell(words),
+            ["flushed" | "dropped" | "loads" | "at" | "pins", ..] => self.tell(words),
             _ => {
                 self.change(words)?;
                 Ok(ok(self.alloc)?)

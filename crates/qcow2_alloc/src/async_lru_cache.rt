@@ -112,6 +112,16 @@ impl<K: Copy + Eq + Hash, V: Drop, B: AsyncLruCacheBackend<Key = K, Value = V>> 
         }
     }
 
+    /// How often the value at a key is held on to, if it is there; the order of use stays.
+    pub fn pins(&self, key: K) -> Option<u64>
+        ensures { result ≡ option_map (λ s. s.pins) (lookup (K.eq key) self.now.slots.entries) }
+    {
+        match self.slots.peek(&key) {
+            Some(slot) => Some(slot.pins as u64),
+            None => None,
+        }
+    }
+
     // The least recently used key that is not pinned.
     fn victim(&self) -> Option<K>
         ensures { result ≡ victim self.now.slots.entries }

@@ -12,9 +12,6 @@ use qcow2_types::HostCluster;
 use std::alloc::Global;
 use std::marker::PhantomData;
 
-#[cfg(test)]
-mod tests;
-
 /// Loads and writes the L2 tables of a cache.
 #[derive(Drop)]
 pub struct L2CacheBackend<S> {
