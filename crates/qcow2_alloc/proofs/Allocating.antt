@@ -48,7 +48,7 @@ module _ {S : Type 0} (state : S → StorageState) where
         order = refl;
         moved = moved-none before.header before.header refl;
         longer = omega arith;
-        loose = λ loose. loose;
+        loose = λ any loose. loose;
         room = record { tables = refl; blocks = refl; entries = refl };
       }
 
@@ -68,7 +68,7 @@ module _ {S : Type 0} (state : S → StorageState) where
         order = two.order ∙ one.order;
         moved = moved-then fA.header fB.header fC.header one.moved two.moved;
         longer = omega (arith, le, le');
-        loose = λ loose. two.loose (one.loose loose);
+        loose = λ any loose. two.loose any (one.loose any loose);
         room = record { tables = two.room.tables ∙ one.room.tables; blocks = two.room.blocks ∙ one.room.blocks; entries = two.room.entries ∙ one.room.entries };
       }
 

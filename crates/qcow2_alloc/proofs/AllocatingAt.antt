@@ -33,6 +33,7 @@ use Rattle.qcow2_alloc.proofs.CountingOne.{handed_so, not_handed}
 use Rattle.qcow2_alloc.proofs.HandedOut.{handed-unnamed}
 use Rattle.qcow2_alloc.proofs.Listed.{covers-none}
 use Rattle.qcow2_alloc.proofs.LookingAt.{sound-safe, counts-looked, looked-allocates, counted-found, free-found}
+use Rattle.qcow2_alloc.proofs.Loose.{loose-all}
 use Rattle.qcow2_alloc.proofs.MadeBlocks.{allocated-wider, counted-wider}
 use Rattle.qcow2_alloc.proofs.QuietCounters.{here-one, away-none}
 use Rattle.qcow2_alloc.proofs.QuietFlushes.{quietly-weaker}
@@ -70,7 +71,7 @@ module _ {S : Type 0} (state : S → StorageState) (mark cluster : ℕ) (table :
       leaks = leaks-none _ _ (not_handed fault);
       step = looked-allocates state table pending old before (Option ℕ) (Err fault) mid between looks.looked;
       list = inl refl;
-      cause = allocated-wider _ _ _ _ _ _ _ _ (λ holds. sound-safe state table pending old before holds.0 holds.2) (λ loose. loose) refl fault looks.looked.cause;
+      cause = allocated-wider _ _ _ _ _ _ _ _ (λ holds. sound-safe state table pending old before holds.0 holds.2) (loose-all table old) refl fault looks.looked.cause;
     };
     one = tt;
     answer = λ order keeps sound. tt;
@@ -180,7 +181,7 @@ module _ {S : Type 0} (state : S → StorageState) (mark cluster : ℕ) (table :
         order = counted_one.counts.order ∙ looked-step.order;
         moved = moved-none before.header after.header (counted_one.counts.header ∙ looks.looked.header);
         longer = omega arith;
-        loose = λ loose. counted_one.counts.loose (looked-step.loose loose);
+        loose = λ any loose. counted_one.counts.loose any (looked-step.loose any loose);
         room = record { tables = counted_one.counts.room.tables ∙ looked-step.room.tables; blocks = counted_one.counts.room.blocks ∙ looked-step.room.blocks; entries = counted_one.counts.room.entries ∙ looked-step.room.entries };
       }
 

@@ -157,7 +157,7 @@ module _ {S : Type 0} (state : S → StorageState) (mark cluster : ℕ) (table :
       readied-at = record {
         did = record {
           leaked = one.did.leaked;
-          leaks = record { none = one.did.leaks.none; pinned = λ holds loose. one.did.leaks.pinned (holds-still holds) (counter.did.step.loose loose) };
+          leaks = record { none = one.did.leaks.none; pinned = λ holds loose. one.did.leaks.pinned (holds-still holds) (counter.did.step.loose true loose) };
           step = both;
           list = counter.did.list;
           cause = caused result one.did.cause;

@@ -1,5 +1,5 @@
 -- A run that was made ready is counted, and handed out.
-use Rattle.std.proofs.Common.{◌≡◌, ◌≢◌, ℕ, ◌+◌, ◌/◌, ◌<◌, ◌≤◌, refl, arith, ap, sym, subst, ◌∙◌, List, Bool, Result, Ok, Err, inl, inr}
+use Rattle.std.proofs.Common.{◌≡◌, ◌≢◌, ℕ, ◌+◌, ◌/◌, ◌<◌, ◌≤◌, refl, arith, ap, sym, subst, ◌∙◌, List, Bool, Result, Ok, Err, inl, inr, true}
 use Rattle.std.specs.Prelude.{⊤, IsTrue, slice_index}
 use Rattle.std.proofs.lemmas.Bool.{cases_eq, cases_lt}
 use Rattle.std.proofs.lemmas.Bool.Decides.{nat_tests}
@@ -98,8 +98,8 @@ lost-none : (fault : Fault) (first part : ℕ) → (refusal fault ≡ Err CacheF
 lost-none CacheFull first part other c = absurd (other refl)
 lost-none fault first part other c = refl
 
-lost-pinned : (sound loose : Type 0) (a b : ℕ) (fault : Fault) (first part : ℕ) → WhyNotCounted sound loose a b fault → sound → loose → (c : ℕ) → lost fault first part c ≡ 0
-lost-pinned sound loose a b CacheFull first part why holds all c = absurd (why (holds, all))
+lost-pinned : (sound : Type 0) (loose : Bool → Type 0) (a b : ℕ) (fault : Fault) (first part : ℕ) → WhyNotCounted sound loose a b fault → sound → loose true → (c : ℕ) → lost fault first part c ≡ 0
+lost-pinned sound loose a b CacheFull first part why holds all c = absurd (why (true, λ is. holds, all))
 lost-pinned sound loose a b fault first part why holds all c = refl
 
 module _ {S : Type 0} (state : S → StorageState) (mark n : ℕ) (metadata : Bool) (table : TableValue) (old : MetadataCaches S) (before : ImageFile S) (pending : List FreeEntry) where
@@ -155,7 +155,7 @@ module _ {S : Type 0} (state : S → StorageState) (mark n : ℕ) (metadata : Bo
     pub run-refused : (fault : Fault) → ReadiesRun state mark n table old before pending (Err fault) tB B fB pB → Handing (Err fault) tB B fB pB mark
     run-refused fault ready = record {
       leaked = ready.leaked;
-      leaks = leaks-on _ _ _ _ fault ready.leaked (λ holds. holds) (λ loose. loose) ready.leaks;
+      leaks = leaks-on _ _ _ _ fault ready.leaked (λ holds. holds) (λ any loose. loose) ready.leaks;
       step = allocating-as state (IsWhole {T = ℕ} (Err fault)) (IsWhole {T = FreeEntry} (Err fault)) ready.leaked (handed_by (Err fault) ready.leaked) table old before pending tB B fB pB (λ whole. whole) (λ c. refl) ready.step;
       run = tt;
       taken = λ order keeps sound. tt;
@@ -228,7 +228,7 @@ module _ {S : Type 0} (state : S → StorageState) (mark n : ℕ) (metadata : Bo
               order = counts.order ∙ begun.order;
               moved = subst (λ (H : Header). MovedTable before.header H) (sym counts.header) begun.moved;
               longer = begun.longer;
-              loose = λ loose. counts.loose (begun.loose loose);
+              loose = λ any loose. counts.loose any (begun.loose any loose);
               room = record { tables = counts.room.tables ∙ begun.room.tables; blocks = counts.room.blocks ∙ begun.room.blocks; entries = counts.room.entries ∙ begun.room.entries };
             }
 
@@ -239,7 +239,7 @@ module _ {S : Type 0} (state : S → StorageState) (mark n : ℕ) (metadata : Bo
         pub count-refused : (fault : Fault) → CountsRun state tB first n B fB (Err fault) C fC pB → Handing (Err fault) tB C fC pB mark
         count-refused fault counts = record {
           leaked = lost fault first counts.part;
-          leaks = record { none = lost-none fault first counts.part; pinned = λ holds all. lost-pinned CanCount (IsLoose tB B) _ _ fault first counts.part counts.cause (holds-on holds) (begun.loose all) };
+          leaks = record { none = lost-none fault first counts.part; pinned = λ holds all. lost-pinned CanCount (IsLoose tB B) _ _ fault first counts.part counts.cause (holds-on holds) (begun.loose true all) };
           step = stopped fault counts.cause (part-allocates (Err fault) counts);
           run = tt;
           taken = λ order keeps sound. tt;

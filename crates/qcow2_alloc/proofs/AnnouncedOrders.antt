@@ -1,5 +1,5 @@
 -- Before clusters are counted it is announced that blocks are written before tables.
-use Rattle.std.proofs.Common.{◌≡◌, ℕ, ◌+◌, ◌*◌, ◌<◌, ◌≤◌, true, Some, ◌-◌, ◌^◌, refl, arith, ap, sym, subst, List, length, Result, Ok, Err, inl, inr}
+use Rattle.std.proofs.Common.{◌≡◌, ℕ, ◌+◌, ◌*◌, ◌<◌, ◌≤◌, true, Some, ◌-◌, ◌^◌, refl, arith, ap, sym, subst, List, length, Result, Ok, Err, inl, inr, Bool}
 use Rattle.std.specs.Prelude.{⊤, IsTrue, OnOk, min, slice_index}
 use Rattle.imago_storage.specs.State.{StorageState}
 use Rattle.imago_storage.specs.declared.fault.Fault.{Fault}
@@ -42,9 +42,9 @@ pub record Announced {S : Type 0} (state : S → StorageState) (table : TableVal
   pub counts : IsTrue (state before.image).shape.keeps → IsSound (metadata_of state before old table pending) → IsWhole result → (c : ℕ) → counted (metadata_of state after new table pending) c ≡ counted (metadata_of state before old table pending) c
   pub order : OnOk result (order_of new ≡ L2DependsOnRb)
   pub header : after.header ≡ before.header
-  pub loose : IsLoose table old → IsLoose table new
+  pub loose : (any : Bool) → IsLoose table old any → IsLoose table new any
   pub room : KeepsTables old new
-  pub cause : CountsFreeing (IsTrue (state before.image).shape.keeps × IsSound (metadata_of state before old table pending)) (IsLoose table old) (state before.image).faults (state after.image).faults result
+  pub cause : CountsFreeing (IsTrue (state before.image).shape.keeps × IsSound (metadata_of state before old table pending)) (IsLoose table old true) (state before.image).faults (state after.image).faults result
 
 -- Nothing was announced, and nothing has changed, for want of memory.
 pub not-begun : {S : Type 0} (state : S → StorageState) (table : TableValue) (pending : List FreeEntry) (old : MetadataCaches S) (before : ImageFile S) → Announced state table pending old before (Err Memory) old before
@@ -55,7 +55,7 @@ not-begun state table pending old before =
       counts = λ keeps sound whole. absurd whole;
       order = tt;
       header = refl;
-      loose = λ loose. loose;
+      loose = λ any loose. loose;
       room = record { tables = refl; blocks = refl; entries = refl };
       cause = tt;
     }
@@ -68,7 +68,7 @@ module _ {S : Type 0} (state : S → StorageState) (table : TableValue) (pending
   abbrev Goes : Result Unit Fault → Type 0
   Goes result = Going before.header (order_of old) Always (result ≡ Ok tt) (state before.image) (cached_in old) (state after.image) (cached_in new)
 
-  loose-still : IsLoose table old → IsLoose table new
+  loose-still : (any : Bool) → IsLoose table old any → IsLoose table new any
   loose-still = loose-on table old new (pins-none (cached_in old).blocks (cached_in new).blocks (ap (λ l. l.slots.entries) blocks)) room.blocks
 
   never : (fault : Fault) → IsSound Old → IsMild fault → WhyNotWritten (AreTablesInReach (cached_in old)) (state before.image).faults (state after.image).faults fault → ⊥
@@ -78,7 +78,7 @@ module _ {S : Type 0} (state : S → StorageState) (table : TableValue) (pending
   never other sound mild why = why
 
   caused : (fault : Fault) → WhyNotWritten (AreTablesInReach (cached_in old)) (state before.image).faults (state after.image).faults fault
-      → WhyNotFreed (IsTrue (state before.image).shape.keeps × IsSound Old) (IsLoose table old) (state before.image).faults (state after.image).faults fault
+      → WhyNotFreed (IsTrue (state before.image).shape.keeps × IsSound Old) (IsLoose table old true) (state before.image).faults (state after.image).faults fault
   caused Memory why = tt
   caused Storage why = why
   caused DamagedTable why = λ holds. why (safe-reach _ _ _ _ holds.1.safe).0

@@ -191,7 +191,7 @@ module _ {S : Type 0} (state : S → StorageState) (table : TableValue) (pending
         let same : there.key ≡ key = (let e = sym there.names ∙ named in cc) in
         let reach = safe-reach Old.file Old.header Old.cached Old.order sound.safe in
         why (subst (λ n. IsInReach before.header.fields.cluster_bits n) same there.reach, reach.0, reach.1)
-    search-refused key named CacheFull why = λ both. loose-never table old both.1 why
+    search-refused key named CacheFull why = λ u. loose-never table old u.0 u.2 why
     search-refused key named other why = absurd why
 
     -- Where nothing is counted, that is quiet.
@@ -293,7 +293,7 @@ module _ {S : Type 0} (state : S → StorageState) (table : TableValue) (pending
                 raised = λ order keeps sound free whole d. let zero = covers-none d (run_of c 0) refl in omega (arith, zero);
                 order = refl;
                 header = refl;
-                loose = λ loose. loose;
+                loose = λ any loose. loose;
                 room = record { tables = refl; blocks = refl; entries = refl };
                 cause = λ holds. unnamed (block_offset (slice_index table.words i)) (table.layout.cluster_bits) (here holds.3).1 named;
               },

@@ -47,7 +47,7 @@ module _ {S : Type 0} (state : S → StorageState) (table : TableValue) (pending
       raised = λ order keeps sound free whole d. let zero = covers-none d (run_of c 0) refl in omega (arith, zero);
       order = refl;
       header = refl;
-      loose = λ loose. loose;
+      loose = λ any loose. loose;
       room = record { tables = refl; blocks = refl; entries = refl };
       cause = why _ (λ holds. (holds.2, (holds.3 c (omega arith) (omega arith)).0));
     };

@@ -99,7 +99,7 @@ module _ {S : Type 0} (state : S → StorageState) (table : TableValue) (pending
     raised = λ order keeps sound free whole d. let zero = none d in omega (arith, zero);
     order = refl;
     header = refl;
-    loose = λ loose. loose;
+    loose = λ any loose. loose;
     room = record { tables = refl; blocks = refl; entries = refl };
     cause = refl;
   }
@@ -143,7 +143,7 @@ module _ {S : Type 0} (state : S → StorageState) (table : TableValue) (pending
             omega (arith, more, last, same);
         order = two.order ∙ one.order;
         header = two.header ∙ one.header;
-        loose = λ loose. two.loose (one.loose loose);
+        loose = λ any loose. two.loose any (one.loose any loose);
         room = record { tables = two.room.tables ∙ one.room.tables; blocks = two.room.blocks ∙ one.room.blocks; entries = two.room.entries ∙ one.room.entries };
         cause = caused result two.cause;
       }
@@ -191,7 +191,7 @@ module _ {S : Type 0} (state : S → StorageState) (table : TableValue) (pending
         header = part.header;
         loose = part.loose;
         room = part.room;
-        cause = why-counted-wider _ _ _ _ _ _ _ (λ holds. (holds.0, holds.1, holds.2, λ d above below. holds.3 d above (omega (arith, below, le)))) (λ loose. loose) refl fault part.cause;
+        cause = why-counted-wider _ _ _ _ _ _ _ (λ holds. (holds.0, holds.1, holds.2, λ d above below. holds.3 d above (omega (arith, below, le)))) (λ any loose. loose) refl fault part.cause;
       }
 
 -- Where all are counted,
@@ -279,4 +279,4 @@ module _ {S : Type 0} (state : S → StorageState) (table : TableValue) (pending
         caused : (r : Result Unit Fault) → MatchResult r (λ _. (state after.image).faults ≡ (state before.image).faults) (WhyNotCounted (Could Named) (IsLoose table old) (state before.image).faults (state after.image).faults)
             → MatchResult r (λ _. (state after.image).faults ≡ (state before.image).faults) (WhyNotCounted (Could (λ d. ⊤)) (IsLoose table old) (state before.image).faults (state after.image).faults)
         caused (Ok done) same = same
-        caused (Err fault) why = why-counted-wider _ _ _ _ _ _ _ (named-ready some) (λ loose. loose) refl fault why
+        caused (Err fault) why = why-counted-wider _ _ _ _ _ _ _ (named-ready some) (λ any loose. loose) refl fault why

@@ -41,7 +41,7 @@ made_by (Ok done) = Ok true
 made_by (Err fault) = Err fault
 
 -- A cause stays one over more calls.
-pub why-allocated-wider : (sound sound' loose loose' : Type 0) (full full' : ℕ → Type 0) (a b c : ℕ) → (sound' → sound) → (loose' → loose) → ((n : ℕ) → full n → full' n) → b ≡ a → (fault : Fault) → WhyNotAllocated sound loose full b c fault → WhyNotAllocated sound' loose' full' a c fault
+pub why-allocated-wider : (sound sound' : Type 0) (loose loose' : Bool → Type 0) (full full' : ℕ → Type 0) (a b c : ℕ) → (sound' → sound) → ((any : Bool) → loose' any → loose any) → ((n : ℕ) → full n → full' n) → b ≡ a → (fault : Fault) → WhyNotAllocated sound loose full b c fault → WhyNotAllocated sound' loose' full' a c fault
 why-allocated-wider sound sound' loose loose' full full' a b c from from' on same (Limit number) why = (on number why.0, why.1 ∙ same)
 why-allocated-wider sound sound' loose loose' full full' a b c from from' on same Memory why = why-counted-wider sound sound' loose loose' a b c from from' same Memory why
 why-allocated-wider sound sound' loose loose' full full' a b c from from' on same Storage why = why-counted-wider sound sound' loose loose' a b c from from' same Storage why
@@ -178,5 +178,5 @@ module _ {S : Type 0} (state : S → StorageState) (pending : List FreeEntry) (f
     layout = part.layout;
     placed = part.placed;
     header = part.header;
-    cause = why-allocated-wider _ _ _ _ _ _ _ _ _ (λ holds. holds) (λ loose. loose) (λ number far. let below = far.2 in (far.0, far.1, omega (arith, below, le), far.3, far.4)) refl fault part.cause;
+    cause = why-allocated-wider _ _ _ _ _ _ _ _ _ (λ holds. holds) (λ any loose. loose) (λ number far. let below = far.2 in (far.0, far.1, omega (arith, below, le), far.3, far.4)) refl fault part.cause;
   }

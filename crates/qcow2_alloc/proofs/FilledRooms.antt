@@ -173,7 +173,7 @@ module _ {S : Type 0} (state : S → StorageState) (table : TableValue) (pending
         order = takes.counts.order;
         moved = subst (λ (h : Header). MovedTable h after.header) takes.counts.header moved;
         longer = subst (λ (t : TableValue). length table.words ≤ length t.words) (sym same) (omega arith);
-        loose = λ loose. subst (λ (t : TableValue). IsLoose t C) (sym same) (takes.counts.loose loose);
+        loose = λ any loose. subst (λ (t : TableValue). IsLoose t C any) (sym same) (takes.counts.loose any loose);
         room = takes.counts.room;
         counts = λ e keeps sound. tt;
         table_is = tt;
@@ -271,7 +271,7 @@ module _ {S : Type 0} (state : S → StorageState) (table : TableValue) (pending
       order = takes.counts.order;
       moved = subst (λ (h : Header). MovedTable h after.header) takes.counts.header (table_place copy, n, header);
       longer = subst (λ (t : TableValue). length table.words ≤ length t.words) (sym same) plan.grown.longer;
-      loose = λ loose. subst (λ (t : TableValue). IsLoose t C) (sym same) (loose-named table copied C names-kept (takes.counts.loose loose));
+      loose = λ any loose. subst (λ (t : TableValue). IsLoose t C any) (sym same) (loose-named table copied C names-kept any (takes.counts.loose any loose));
       room = takes.counts.room;
       counts = λ e keeps sound. counts-all (keeps, (free e).0, sound, (free e).1);
       table_is = same;

@@ -1,5 +1,5 @@
 -- Entries of the list of clusters to free are counted down.
-use Rattle.std.proofs.Common.{◌≡◌, ◌≢◌, ℕ, ◌*◌, ◌^◌, ◌<◌, ◌≤◌, refl, arith, ap, sym, subst, ◌∙◌, List, length, Result, Ok, Err, true, inl, inr}
+use Rattle.std.proofs.Common.{◌≡◌, ◌≢◌, ℕ, ◌*◌, ◌^◌, ◌<◌, ◌≤◌, refl, arith, ap, sym, subst, ◌∙◌, List, length, Result, Ok, Err, true, inl, inr, Bool}
 use Rattle.std.specs.Prelude.{◌⊎◌, IsTrue, min}
 use Rattle.std.proofs.lemmas.List.{length-set}
 use Rattle.std.proofs.lemmas.Bool.{cases_eq, cases_lt}
@@ -19,7 +19,7 @@ use Rattle.qcow2_alloc.specs.declared.cache.MetadataCaches.{MetadataCaches}
 use Rattle.qcow2_alloc.specs.declared.file.ImageFile.{ImageFile}
 use Rattle.qcow2_alloc.specs.Allocators.{metadata_of, LowersCluster}
 use Rattle.qcow2_alloc.specs.Caches.{cached_in, order_of}
-use Rattle.qcow2_alloc.specs.Freeing.{Frees, MayFree, WhyNotFreed, WhyNotCounted, CountsFreeing, IsWholeOrCalm}
+use Rattle.qcow2_alloc.specs.Freeing.{IsUnbarred, Frees, MayFree, WhyNotFreed, WhyNotCounted, CountsFreeing, IsWholeOrCalm}
 use Rattle.qcow2_alloc.specs.FreeList.{entry_at, shorter, shortened, listed}
 use Rattle.qcow2_alloc.specs.Going.{IsWhole}
 use Rattle.qcow2_alloc.specs.Quiet.{Metadata, IsSound, IsQuiet, counted, in_memory, waiting, waiting_metadata, metadata_in}
@@ -153,8 +153,8 @@ why-freed-wider sound sound' loose loose' a b c from from' same Counter why = λ
 why-freed-wider sound sound' loose loose' a b c from from' same CacheFull why = λ l. why (from' l)
 why-freed-wider sound sound' loose loose' a b c from from' same other why = absurd why
 
-pub why-counted-wider : (sound sound' loose loose' : Type 0) (a b c : ℕ) → (sound' → sound) → (loose' → loose) → b ≡ a → (fault : Fault) → WhyNotCounted sound loose b c fault → WhyNotCounted sound' loose' a c fault
-why-counted-wider sound sound' loose loose' a b c from from' same fault why = why-freed-wider sound sound' (sound × loose) (sound' × loose') a b c from (λ both. (from both.0, from' both.1)) same fault why
+pub why-counted-wider : (sound sound' : Type 0) (loose loose' : Bool → Type 0) (a b c : ℕ) → (sound' → sound) → ((any : Bool) → loose' any → loose any) → b ≡ a → (fault : Fault) → WhyNotCounted sound loose b c fault → WhyNotCounted sound' loose' a c fault
+why-counted-wider sound sound' loose loose' a b c from from' same fault why = why-freed-wider sound sound' (IsUnbarred sound loose) (IsUnbarred sound' loose') a b c from (λ u. (u.0, λ is. from (u.1 is), from' u.0 u.2)) same fault why
 
 counts-then : (sound sound' loose loose' : Type 0) (a b c : ℕ) → (sound' → sound) → (loose' → loose) → b ≡ a → (result : Result Unit Fault) → CountsFreeing sound loose b c result → CountsFreeing sound' loose' a c result
 counts-then sound sound' loose loose' a b c from from' same (Ok done) counts = counts ∙ same

@@ -1,5 +1,5 @@
 -- The refcount table grows once the order of writes was announced.
-use Rattle.std.proofs.Common.{inl, ◌≡◌, ℕ, ◌++◌, refl, ap, subst, ◌∙◌, List, length, Result, Ok, Err}
+use Rattle.std.proofs.Common.{inl, ◌≡◌, ℕ, ◌++◌, refl, ap, subst, ◌∙◌, List, length, Result, Ok, Err, Bool, true}
 use Rattle.std.specs.Prelude.{IsTrue, OnOk, IfErr, MatchResult}
 use Rattle.imago_storage.specs.State.{StorageState}
 use Rattle.imago_storage.specs.declared.fault.Fault.{Fault}
@@ -25,6 +25,7 @@ use Rattle.qcow2_alloc.specs.Quiet.{Metadata, IsSound}
 use Rattle.qcow2_alloc.proofs.Allocating.{moved-none}
 use Rattle.qcow2_alloc.proofs.AnnouncedOrders.{Announced, no-place-as, grown-as, quiet-behind, sound-behind, raised-behind, caused-behind}
 use Rattle.qcow2_alloc.proofs.FreeingEntries.{failed}
+use Rattle.qcow2_alloc.proofs.Loose.{loose-all}
 use Rattle.qcow2_alloc.proofs.MadeBlocks.{allocated-wider}
 use Rattle.qcow2_alloc.proofs.QuietFlushes.{memory-quietly, quiet-none}
 use Rattle.qcow2_alloc.proofs.ReadyingBlocks.{leaks-none}
@@ -37,11 +38,11 @@ module _ {S : Type 0} (state : S → StorageState) (mark at : ℕ) (table : Tabl
   Mid = metadata_of state between mid table pending
 
   -- Caches that are as loose as those were, and have as much room.
-  pub shape-behind : (result : Result Unit Fault) (table' : TableValue) (new : MetadataCaches S) (after : ImageFile S) → Announced state table pending old before result mid between → MovedTable between.header after.header → (IsLoose table mid → IsLoose table' new) → KeepsTables mid new
+  pub shape-behind : (result : Result Unit Fault) (table' : TableValue) (new : MetadataCaches S) (after : ImageFile S) → Announced state table pending old before result mid between → MovedTable between.header after.header → ((any : Bool) → IsLoose table mid any → IsLoose table' new any) → KeepsTables mid new
       → StaysInShape table old before table' new after
   shape-behind result table' new after first moved loose room = record {
     moved = subst (λ (H : Header). MovedTable H after.header) first.header moved;
-    loose = λ all. loose (first.loose all);
+    loose = λ any all. loose any (first.loose any all);
     room = record { tables = room.tables ∙ first.room.tables; blocks = room.blocks ∙ first.room.blocks; entries = room.entries ∙ first.room.entries };
   }
 
@@ -55,7 +56,7 @@ module _ {S : Type 0} (state : S → StorageState) (mark at : ℕ) (table : Tabl
     grown = λ keeps sound. tt;
     enough = tt;
     order = tt;
-    shape = record { moved = moved-none before.header before.header refl; loose = λ loose. loose; room = record { tables = refl; blocks = refl; entries = refl } };
+    shape = record { moved = moved-none before.header before.header refl; loose = λ any loose. loose; room = record { tables = refl; blocks = refl; entries = refl } };
     waits = tt;
     kept = refl;
     stays = λ mild. (refl, refl);
@@ -78,11 +79,11 @@ module _ {S : Type 0} (state : S → StorageState) (mark at : ℕ) (table : Tabl
     grown = λ keeps sound. tt;
     enough = tt;
     order = tt;
-    shape = shape-behind (failed fault) table mid between first (moved-none between.header between.header refl) (λ loose. loose) (record { tables = refl; blocks = refl; entries = refl });
+    shape = shape-behind (failed fault) table mid between first (moved-none between.header between.header refl) (λ any loose. loose) (record { tables = refl; blocks = refl; entries = refl });
     waits = tt;
     kept = refl;
     stays = λ mild. (refl, first.header);
-    cause = allocated-wider _ _ _ _ _ _ _ _ (λ holds. holds) (λ loose. loose) refl fault first.cause;
+    cause = allocated-wider _ _ _ _ _ _ _ _ (λ holds. holds) (loose-all table old) refl fault first.cause;
   }
 
   -- and else it grows as it does under that order.
@@ -127,7 +128,7 @@ module _ {S : Type 0} (state : S → StorageState) (mark at : ℕ) (table : Tabl
     pub announced-grows : GrowsReftable state mark at table old before pending result table' new after pending'
     announced-grows = record {
       leaked = grows.leaked;
-      leaks = record { none = grows.leaks.none; pinned = λ holds loose. let still = sound-behind state table pending old before mid between first holds.0 holds.1 in grows.leaks.pinned (still.0, first.order, still.1) (first.loose loose) };
+      leaks = record { none = grows.leaks.none; pinned = λ holds loose. let still = sound-behind state table pending old before mid between first holds.0 holds.1 in grows.leaks.pinned (still.0, first.order, still.1) (first.loose true loose) };
       quiet = quiet-behind state table pending old before mid between first (IsWhole result) grows.leaked (state after.image) End grows.step.quiet;
       raised = λ keeps sound whole. let still = sound-behind state table pending old before mid between first keeps sound in
           raised-behind state table pending old before mid between first End keeps sound (grows.step.raised first.order still.0 still.1 whole);

@@ -1,5 +1,5 @@
 -- The refcount table grows, from the first of the call to its last.
-use Rattle.std.proofs.Common.{◌≡◌, ◌≢◌, ℕ, ◌+◌, ◌-◌, ◌*◌, ◌/◌, ◌^◌, ◌≤◌, ◌++◌, refl, arith, ap, sym, subst, ◌∙◌, List, length, inl, inr, Result, Ok, Err, false}
+use Rattle.std.proofs.Common.{◌≡◌, ◌≢◌, ℕ, ◌+◌, ◌-◌, ◌*◌, ◌/◌, ◌^◌, ◌≤◌, ◌++◌, refl, arith, ap, sym, subst, ◌∙◌, List, length, inl, inr, Result, Ok, Err, false, true}
 use Rattle.std.specs.Prelude.{⊤, IsTrue, OnOk, OnErr, IfErr, MatchResult, min, slice_index}
 use Rattle.std.proofs.lemmas.Bool.{cases_Bool}
 use Rattle.imago_storage.specs.State.{StorageState}
@@ -33,6 +33,7 @@ use Rattle.qcow2_alloc.specs.SearchingClusters.{IsSafeWith, Looked}
 use Rattle.qcow2_alloc.proofs.Allocating.{moved-none, allocating-none, allocating-as}
 use Rattle.qcow2_alloc.proofs.FreeClusters.{flushes-count}
 use Rattle.qcow2_alloc.proofs.FreeingEntries.{failed}
+use Rattle.qcow2_alloc.proofs.Loose.{loose-all}
 use Rattle.qcow2_alloc.proofs.MadeBlocks.{first-counted, can-name, allocated-wider, counted-wider}
 use Rattle.qcow2_alloc.proofs.QuietFlushes.{going-quietly}
 use Rattle.qcow2_alloc.proofs.QuietGiven.{quietly-given, quietly-then-given}
@@ -115,7 +116,7 @@ module _ {S : Type 0} (state : S → StorageState) (mark at : ℕ) (table : Tabl
   no-room fault C fC looked =
       not-grown fault C fC (looked-allocates {T = Run} state table pending old before C fC (Err fault) looked) looked.header
       (λ keeps sound number is. looked-counts {T = Run} state table pending old before C fC (Err fault) looked keeps sound (subst (λ (f : Fault). IsWhole {T = Run} (Err f)) (sym is) tt))
-      (allocated-wider _ _ _ _ _ _ _ _ (λ known. safe-with known.0 known.2) (λ loose. loose) refl fault looked.cause)
+      (allocated-wider _ _ _ _ _ _ _ _ (λ known. safe-with known.0 known.2) (loose-all table old) refl fault looked.cause)
 
   -- A room was found for a copy.
   module _ (room : Run) (copy : TableValue) (from n : ℕ) (C : MetadataCaches S) (fC : ImageFile S) (looks : LooksForRoom state table from n old before (Ok room) C fC) (from_is : from ≡ min mark (length table.words * counters_of_block before.header.fields))
@@ -239,7 +240,7 @@ module _ {S : Type 0} (state : S → StorageState) (mark at : ℕ) (table : Tabl
       pub grows : GrowsTable state mark at table old before pending result table' D fD pending'
       grows = record {
         leaked = filled.leaked;
-        leaks = record { none = filled.leaks.none; pinned = λ holds loose. filled.leaks.pinned (was-on holds) (looked.loose loose) };
+        leaks = record { none = filled.leaks.none; pinned = λ holds loose. filled.leaks.pinned (was-on holds) (looked.loose true loose) };
         step = record {
           quiet = λ order. quietly-given (IsWhole result) filled.leaked (λ _. 0) (state before.image) start (state fD.image) end (filled.shape ∙ looked.going.shape) (later_both _ _ _ looked.going.later filled.later) (λ keeps sound.
               quietly-otherwise (IsWhole result) (λ c. 0 + filled.leaked c) (λ c. 0 + 0) filled.leaked (λ _. 0) (state before.image) start (state fD.image) end (λ s c. omega arith) (λ s c used none. refl)
@@ -252,7 +253,7 @@ module _ {S : Type 0} (state : S → StorageState) (mark at : ℕ) (table : Tabl
           order = filled.order ∙ looked.order;
           moved = subst (λ (H : Header). MovedTable H fD.header) looked.header filled.moved;
           longer = filled.longer;
-          loose = λ loose. filled.loose (looked.loose loose);
+          loose = λ any loose. filled.loose any (looked.loose any loose);
           room = record { tables = filled.room.tables ∙ looked.room.tables; blocks = filled.room.blocks ∙ looked.room.blocks; entries = filled.room.entries ∙ looked.room.entries };
         };
         grown = λ order keeps sound. on-ok result (table-grown order keeps sound);

@@ -1,5 +1,5 @@
 -- Clusters are handed out once the order of writes was announced.
-use Rattle.std.proofs.Common.{◌≡◌, ◌≢◌, ℕ, ◌+◌, ◌-◌, ◌/◌, ◌<◌, ◌≤◌, [], Bool, refl, arith, ap, subst, ◌∙◌, inl, inr, List, length, Option, None, Some, Result, Ok, Err}
+use Rattle.std.proofs.Common.{◌≡◌, ◌≢◌, ℕ, ◌+◌, ◌-◌, ◌/◌, ◌<◌, ◌≤◌, [], Bool, refl, arith, ap, subst, ◌∙◌, inl, inr, List, length, Option, None, Some, Result, Ok, Err, true}
 use Rattle.std.specs.Prelude.{⊤, IsTrue, OnOk, IfOk, MatchResult}
 use Rattle.std.proofs.lemmas.Bool.{le-leb, lt-ltb}
 use Rattle.imago_storage.specs.State.{StorageState}
@@ -34,7 +34,7 @@ use Rattle.qcow2_alloc.proofs.FreeingEntries.{failed}
 use Rattle.qcow2_alloc.proofs.FreeingRest.{rest-all, rest-none}
 use Rattle.qcow2_alloc.proofs.GrowingReftables.{shape-behind}
 use Rattle.qcow2_alloc.proofs.HandedOut.{handed-unnamed}
-use Rattle.qcow2_alloc.proofs.Loose.{loose-on}
+use Rattle.qcow2_alloc.proofs.Loose.{loose-on, loose-all}
 use Rattle.qcow2_alloc.proofs.MadeBlocks.{allocated-wider}
 use Rattle.qcow2_alloc.proofs.QuietFlushes.{memory-quietly, quiet-none, quietly-weaker}
 use Rattle.qcow2_alloc.proofs.QuietThen.{fewer-counted, quietly-then, quietly-otherwise}
@@ -61,9 +61,9 @@ module _ {S : Type 0} (state : S → StorageState) (mark cluster : ℕ) (table :
     stays = refl;
     marked = λ keeps sound whole marked c below. let same = first.counts keeps sound whole c in let was = marked c below in omega (arith, same, was);
     order = tt;
-    shape = shape-behind state mark cluster table old before pending mid between (failed fault) table mid between first (moved-none between.header between.header refl) (λ loose. loose) (record { tables = refl; blocks = refl; entries = refl });
+    shape = shape-behind state mark cluster table old before pending mid between (failed fault) table mid between first (moved-none between.header between.header refl) (λ any loose. loose) (record { tables = refl; blocks = refl; entries = refl });
     list = inl refl;
-    cause = allocated-wider _ _ _ _ _ _ _ _ (λ holds. holds) (λ loose. loose) refl fault first.cause;
+    cause = allocated-wider _ _ _ _ _ _ _ _ (λ holds. holds) (loose-all table old) refl fault first.cause;
   }
 
   -- and else as it is under that order.
@@ -114,7 +114,7 @@ module _ {S : Type 0} (state : S → StorageState) (mark cluster : ℕ) (table :
     pub at-announced : AllocatesClusterAt state mark cluster table old before pending result table' new after pending' mark'
     at-announced = record {
       leaked = at.did.leaked;
-      leaks = record { none = at.did.leaks.none; pinned = λ holds loose. let still = sound-behind state table pending old before mid between first holds.0 holds.1 in at.did.leaks.pinned (still.0, first.order, still.1) (first.loose loose) };
+      leaks = record { none = at.did.leaks.none; pinned = λ holds loose. let still = sound-behind state table pending old before mid between first holds.0 holds.1 in at.did.leaks.pinned (still.0, first.order, still.1) (first.loose true loose) };
       quiet = quiet-behind state table pending old before mid between first (IsWhole result) (handed_at result at.did.leaked) (state after.image) End at.did.step.quiet;
       raised = λ keeps sound whole. let still = sound-behind state table pending old before mid between first keeps sound in
           raised-behind state table pending old before mid between first End keeps sound (at.did.step.raised first.order still.0 still.1 whole);
@@ -214,7 +214,7 @@ module _ {S : Type 0} (state : S → StorageState) (mark n : ℕ) (metadata : Bo
       order = tt;
       shape = record { moved = moved-none before.header fA.header frees.header; loose = loose-on table old A frees.pins frees.room.blocks; room = frees.room };
       list = inl refl;
-      cause = allocated-wider _ _ _ _ _ _ _ _ (λ holds. holds) (λ loose. loose.room) refl fault frees.cause;
+      cause = allocated-wider _ _ _ _ _ _ _ _ (λ holds. holds) (λ any loose. loose.room) refl fault frees.cause;
     }
 
   -- or not begun, for want of memory,
@@ -229,7 +229,7 @@ module _ {S : Type 0} (state : S → StorageState) (mark n : ℕ) (metadata : Bo
     abbrev Ready : Metadata
     Ready = metadata_of state fB B table []
 
-    freed-loose : IsLoose table old → IsLoose table A
+    freed-loose : (any : Bool) → IsLoose table old any → IsLoose table A any
     freed-loose = loose-on table old A frees.pins frees.room.blocks
 
     still-sound : IsTrue (state before.image).shape.keeps → IsSound First → IsTrue (state fA.image).shape.keeps × IsSound Freed
@@ -279,11 +279,11 @@ module _ {S : Type 0} (state : S → StorageState) (mark n : ℕ) (metadata : Bo
       order = tt;
       shape = record {
         moved = moved-none before.header fB.header (second.header ∙ frees.header);
-        loose = λ loose. second.loose (freed-loose loose);
+        loose = λ any loose. second.loose any (freed-loose any loose);
         room = record { tables = second.room.tables ∙ frees.room.tables; blocks = second.room.blocks ∙ frees.room.blocks; entries = second.room.entries ∙ frees.room.entries };
       };
       list = inl refl;
-      cause = allocated-wider _ _ _ _ _ _ _ _ (λ holds. still-sound holds.0 holds.1) freed-loose frees.cause fault second.cause;
+      cause = allocated-wider _ _ _ _ _ _ _ _ (λ holds. still-sound holds.0 holds.1) (λ any loose. loose-all table A any (freed-loose any loose)) frees.cause fault second.cause;
     }
       where
         quiet : Quietly (IsWhole (refused_run fault)) (λ _. 0) (λ _. 0) (state before.image) First (state fB.image) Ready
@@ -296,7 +296,7 @@ module _ {S : Type 0} (state : S → StorageState) (mark n : ℕ) (metadata : Bo
             let more = frees.marked keeps sound (inl tt) was c below in
             omega (arith, same, more)
 
-        never : (f : Fault) → IsSearched (refused_run f) → WhyNotFreed (IsTrue (state fA.image).shape.keeps × IsSound Freed) (IsLoose table A) (state fA.image).faults (state fB.image).faults f → ⊥
+        never : (f : Fault) → IsSearched (refused_run f) → WhyNotFreed (IsTrue (state fA.image).shape.keeps × IsSound Freed) (IsLoose table A true) (state fA.image).faults (state fB.image).faults f → ⊥
         never (Limit number) searched why = why
         never f searched why = searched
 
@@ -326,7 +326,7 @@ module _ {S : Type 0} (state : S → StorageState) (mark n : ℕ) (metadata : Bo
       same-shape : StaysInShape table old before table' new after
       same-shape = record {
         moved = subst (λ (H : Header). MovedTable H after.header) (second.header ∙ frees.header) third.step.moved;
-        loose = λ loose. third.step.loose (second.loose (freed-loose loose));
+        loose = λ any loose. third.step.loose any (second.loose any (freed-loose any loose));
         room = record { tables = third.step.room.tables ∙ second.room.tables ∙ frees.room.tables; blocks = third.step.room.blocks ∙ second.room.blocks ∙ frees.room.blocks; entries = third.step.room.entries ∙ second.room.entries ∙ frees.room.entries };
       }
 
@@ -368,7 +368,7 @@ module _ {S : Type 0} (state : S → StorageState) (mark n : ℕ) (metadata : Bo
       pub run-announced : AllocatesClusters state mark n metadata table old before pending result table' new after pending' mark'
       run-announced = record {
         leaked = third.leaked;
-        leaks = record { none = third.leaks.none; pinned = λ holds loose. let still = ready-sound holds.0 holds.1 in third.leaks.pinned (still.0, second.order, still.1) (second.loose (freed-loose loose)) };
+        leaks = record { none = third.leaks.none; pinned = λ holds loose. let still = ready-sound holds.0 holds.1 in third.leaks.pinned (still.0, second.order, still.1) (second.loose true (freed-loose true loose)) };
         quiet = quiet-on (IsWhole result) (handed_by result third.leaked) (state after.image) Last
             (quiet-behind state table [] A fA B fB second (IsWhole result) (handed_by result third.leaked) (state after.image) Last third.step.quiet);
         run = runs;

@@ -15,7 +15,7 @@ use Rattle.qcow2_alloc.specs.declared.cache.MetadataCaches.{MetadataCaches}
 use Rattle.qcow2_alloc.specs.declared.file.ImageFile.{ImageFile}
 use Rattle.qcow2_alloc.specs.Backends.{TableFlushed, BlockFlushed}
 use Rattle.qcow2_alloc.specs.Cache.{FlushedAt, Evicted, MadeRoom, Loaded, LoadedAfter, Readied, FlushedEach, fault_of, latest, with_value, victim}
-use Rattle.qcow2_alloc.specs.Caches.{cached_in, order_of}
+use Rattle.qcow2_alloc.specs.Caches.{cached_in}
 use Rattle.qcow2_alloc.specs.Finding.{LetsIn}
 use Rattle.qcow2_alloc.specs.Going.{WritesTables, WritesBlocks, BehindBlocks, BehindTables}
 use Rattle.qcow2_alloc.specs.Memory.{Cached}

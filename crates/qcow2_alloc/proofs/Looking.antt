@@ -1,5 +1,5 @@
 -- Searches that load blocks and change nothing else, one behind the other.
-use Rattle.std.proofs.Common.{◌≡◌, ◌≢◌, ℕ, ◌+◌, ◌*◌, ◌/◌, ◌%◌, ◌<◌, ◌≤◌, refl, arith, ap, sym, subst, ◌∙◌, List, length, Some, Result, Ok, Err, inl, inr}
+use Rattle.std.proofs.Common.{◌≡◌, ◌≢◌, ℕ, ◌+◌, ◌*◌, ◌/◌, ◌%◌, ◌<◌, ◌≤◌, refl, arith, ap, sym, subst, ◌∙◌, List, length, Some, Result, Ok, Err, inl, inr, Bool, true}
 use Rattle.std.specs.Prelude.{⊤, IfOk, MatchResult, nat_eq, slice_index}
 use Rattle.std.specs.Option.{option_map}
 use Rattle.std.specs.Map.{lookup}
@@ -64,7 +64,7 @@ module _ {S : Type 0} (state : S → StorageState) (table : TableValue) where
     going = going-none file.header (order_of caches) Always ⊤ (state file.image) (cached_in caches);
     order = refl;
     header = refl;
-    loose = λ loose. loose;
+    loose = λ any loose. loose;
     room = record { tables = refl; blocks = refl; entries = refl };
     cause = refl;
   }
@@ -105,11 +105,11 @@ module _ {S : Type 0} (state : S → StorageState) (table : TableValue) where
     Goes h o = Going h o Always (IsWhole result) (state between.image) (cached_in mid) (state after.image) (cached_in new)
 
     cause-then : (r : Result U Fault) → Looked state table mid between r new after
-        → MatchResult r (λ _. (state after.image).faults ≡ (state before.image).faults) (WhyNotFreed (IsSafeWith state table old before) (IsLoose table old) (state before.image).faults (state after.image).faults)
+        → MatchResult r (λ _. (state after.image).faults ≡ (state before.image).faults) (WhyNotFreed (IsSafeWith state table old before) (IsLoose table old true) (state before.image).faults (state after.image).faults)
     cause-then (Ok w) then = then.cause ∙ first.cause
     cause-then (Err fault) then =
-        why-freed-wider (IsSafeWith state table mid between) (IsSafeWith state table old before) (IsLoose table mid) (IsLoose table old) (state before.image).faults (state between.image).faults (state after.image).faults
-        (safe-still old before v mid between first) first.loose first.cause fault then.cause
+        why-freed-wider (IsSafeWith state table mid between) (IsSafeWith state table old before) (IsLoose table mid true) (IsLoose table old true) (state before.image).faults (state between.image).faults (state after.image).faults
+        (safe-still old before v mid between first) (first.loose true) first.cause fault then.cause
 
     -- A search may go on behind another.
     pub looked-then : Looked state table old before result new after
@@ -119,7 +119,7 @@ module _ {S : Type 0} (state : S → StorageState) (table : TableValue) where
               (going-both before.header (order_of old) Always ⊤ (IsWhole result) (state before.image) (state between.image) (state after.image) (cached_in old) (cached_in mid) (cached_in new) first.going going);
           order = second.order ∙ first.order;
           header = second.header ∙ first.header;
-          loose = λ loose. second.loose (first.loose loose);
+          loose = λ any loose. second.loose any (first.loose any loose);
           room = record { tables = second.room.tables ∙ first.room.tables; blocks = second.room.blocks ∙ first.room.blocks; entries = second.room.entries ∙ first.room.entries };
           cause = cause-then result second;
         }
@@ -130,7 +130,7 @@ module _ {S : Type 0} (state : S → StorageState) (table : TableValue) where
     named-there sound = named-block (bytes_of (state before.image).bytes) before.header table i sound.table_of_file key sound.safe.consistent named
 
     abbrev Why : Fault → Type 0
-    Why fault = WhyNotFreed (IsSafeWith state table old before) (IsLoose table old) (state before.image).faults (state after.image).faults fault
+    Why fault = WhyNotFreed (IsSafeWith state table old before) (IsLoose table old true) (state before.image).faults (state after.image).faults fault
 
     why-search : (fault : Fault)
         → WhyNotFound (IsInReach before.header.fields.cluster_bits key × AreTablesInReach (cached_in old) × AreBlocksInReach (cached_in old)) (IsPinnedFull old.rb.slots.cap (cached_in old).blocks) (state before.image).faults (state after.image).faults fault
@@ -140,10 +140,10 @@ module _ {S : Type 0} (state : S → StorageState) (table : TableValue) where
     why-search DamagedTable why = λ sound.
         let reach = safe-reach (bytes_of (state before.image).bytes) before.header (cached_in old) (order_of old) sound.safe in
         why ((named-there sound).reach, reach.0, reach.1)
-    why-search CacheFull why = λ loose. loose-never table old loose why
+    why-search CacheFull why = λ loose. loose-never table old true loose why
     why-search other why = absurd why
 
-    loose-found : (answer : Result Unit Fault) → BlockFound state key old before answer new after → IsLoose table old → IsLoose table new
+    loose-found : (answer : Result Unit Fault) → BlockFound state key old before answer new after → (any : Bool) → IsLoose table old any → IsLoose table new any
     loose-found answer found = loose-on table old new found.sought.pinned found.room.blocks
 
     found-refused : {T : Type 0} (fault : Fault) → BlockFound state key old before (Err fault) new after → Looked state {T = T} table old before (Err fault) new after

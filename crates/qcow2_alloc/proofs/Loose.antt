@@ -1,5 +1,5 @@
 -- What calls of the caches leave of their room, and of what is pinned.
-use Rattle.std.proofs.Common.{◌≡◌, ◌≢◌, ℕ, ◌/◌, ◌^◌, refl, arith, ap, sym, subst, ◌∙◌, Option, None, Some, Result, Ok, Err, true, inl, inr}
+use Rattle.std.proofs.Common.{◌≡◌, ◌≢◌, ℕ, ◌/◌, ◌^◌, refl, arith, ap, sym, subst, ◌∙◌, Option, None, Some, Result, Ok, Err, true, inl, inr, Bool, false, ◌<◌}
 use Rattle.std.specs.Prelude.{MatchOption, map, nat_eq, slice_index, ◌==◌, if◌then◌else◌}
 use Rattle.std.proofs.lemmas.Bool.{cases_eq}
 use Rattle.imago_storage.specs.State.{StorageState}
@@ -11,27 +11,27 @@ use Rattle.qcow2_alloc.specs.declared.cache.MetadataCaches.{MetadataCaches}
 use Rattle.qcow2_alloc.specs.declared.file.ImageFile.{ImageFile}
 use Rattle.qcow2_alloc.specs.Allocators.{UsesBlock, BlockUsed, named_block}
 use Rattle.qcow2_alloc.specs.Caches.{cached_in, HasRoomOf, KeepsTables}
-use Rattle.qcow2_alloc.specs.Finding.{BlockFound, IsPinnedFull, PinsNothing}
+use Rattle.qcow2_alloc.specs.Finding.{BlockFound, IsPinnedFull, PinsNothing, pinned_in}
 use Rattle.qcow2_alloc.specs.Freeing.{HasSpareRoom, IsLoose}
 use Rattle.qcow2_alloc.specs.Memory.{Cached, written, written_table}
-use Rattle.qcow2_alloc.proofs.Pins.{full-pinned, pins-hit, pins-none, pins-then}
+use Rattle.qcow2_alloc.proofs.Pins.{full-pinned, pinned-less, pins-hit, pins-none, pins-then}
 
 -- There is still room to spare where nothing was pinned and the room is the same,
 pub spare-on : {S : Type 0} (old new : MetadataCaches S) → PinsNothing (cached_in old).blocks (cached_in new).blocks → new.rb.slots.cap ≡ old.rb.slots.cap → HasSpareRoom old → HasSpareRoom new
 spare-on old new pins room spare = let le = pins.among (λ _. true) in omega (arith, le, room, spare)
 
 -- and the blocks that are pinned are named,
-pub loose-on : {S : Type 0} (table : TableValue) (old new : MetadataCaches S) → PinsNothing (cached_in old).blocks (cached_in new).blocks → new.rb.slots.cap ≡ old.rb.slots.cap → IsLoose table old → IsLoose table new
-loose-on table old new pins room loose = record {
+pub loose-on : {S : Type 0} (table : TableValue) (old new : MetadataCaches S) → PinsNothing (cached_in old).blocks (cached_in new).blocks → new.rb.slots.cap ≡ old.rb.slots.cap → (any : Bool) → IsLoose table old any → IsLoose table new any
+loose-on table old new pins room any loose = record {
   room = spare-on old new pins room loose.room;
   named = λ key some. loose.named key (let le = pins.among (nat_eq key) in omega (arith, le, some));
 }
 
 -- also by another table that names them still.
-pub loose-named : {S : Type 0} (table table' : TableValue) (caches : MetadataCaches S) → ((i key : ℕ) → named_block table i ≡ Some key → named_block table' i ≡ Some key) → IsLoose table caches → IsLoose table' caches
-loose-named table table' caches kept loose = record {
+pub loose-named : {S : Type 0} (table table' : TableValue) (caches : MetadataCaches S) → ((i key : ℕ) → named_block table i ≡ Some key → named_block table' i ≡ Some key) → (any : Bool) → IsLoose table caches any → IsLoose table' caches any
+loose-named table table' caches kept any loose = record {
   room = loose.room;
-  named = λ key some. let there = loose.named key some in (there.0, kept there.0 key there.1);
+  named = λ key some. let there = loose.named key some in (there.0, (there.1.0, kept there.1.0 key there.1.1));
 }
 
 abbrev named_by : ℕ → ℕ → Option ℕ
@@ -45,9 +45,20 @@ name-kept table table' i key bits still named = elim (cases_eq (block_offset (sl
   | inr some ↦ ap (λ w. named_by w table'.layout.cluster_bits) (still some) ∙ ap (λ b. named_by (block_offset (slice_index table.words i)) b) bits ∙ named
 ]
 
+-- Where none is pinned, none bars the place of a new one in any image.
+pub loose-none : {S : Type 0} (table : TableValue) (caches : MetadataCaches S) → pinned_in (cached_in caches).blocks ≡ 0 → 0 < caches.rb.slots.cap → IsLoose table caches false
+loose-none table caches none some = record {
+  room = omega (arith, none, some);
+  named = λ key is. absurd (let le = pinned-less (nat_eq key) (cached_in caches).blocks in omega (arith, le, none, is));
+}
+
+-- It is so too where some might be pinned.
+pub loose-all : {S : Type 0} (table : TableValue) (caches : MetadataCaches S) (any : Bool) → IsLoose table caches any → IsLoose table caches true
+loose-all table caches any loose = record { room = loose.room; named = λ key some. (refl, (loose.named key some).1) }
+
 -- Where there is room to spare it can be made.
-pub loose-never : {S : Type 0} (table : TableValue) (caches : MetadataCaches S) → IsLoose table caches → IsPinnedFull caches.rb.slots.cap (cached_in caches).blocks → ⊥
-loose-never table caches loose full = let all = full-pinned (cached_in caches).blocks full in let spare = loose.room in omega (arith, all, spare)
+pub loose-never : {S : Type 0} (table : TableValue) (caches : MetadataCaches S) (any : Bool) → IsLoose table caches any → IsPinnedFull caches.rb.slots.cap (cached_in caches).blocks → ⊥
+loose-never table caches any loose full = let all = full-pinned (cached_in caches).blocks full in let spare = loose.room in omega (arith, all, spare)
 
 -- L2 tables are kept where what is cached is but for what was written.
 pub kept-tables : {S : Type 0} (old new : MetadataCaches S) → written (cached_in new) ≡ written (cached_in old) → HasRoomOf old new → KeepsTables old new
@@ -64,7 +75,7 @@ pub record KeepsPins {S : Type 0} (old : MetadataCaches S) (before : ImageFile S
 pub record StaysLoose {S : Type 0} (table : TableValue) (old : MetadataCaches S) (before : ImageFile S) (new : MetadataCaches S) (after : ImageFile S) : Type 0 where
   pub header : after.header ≡ before.header
   pub order : new.order ≡ old.order
-  pub loose : IsLoose table old → IsLoose table new
+  pub loose : (any : Bool) → IsLoose table old any → IsLoose table new any
   pub room : KeepsTables old new
 
 pub stays-loose : {S : Type 0} (table : TableValue) (old : MetadataCaches S) (before : ImageFile S) (new : MetadataCaches S) (after : ImageFile S) → KeepsPins old before new after → StaysLoose table old before new after

@@ -32,7 +32,7 @@ use Rattle.qcow2_alloc.specs.declared.file.ImageFile.{ImageFile}
 use Rattle.qcow2_alloc.specs.Allocating.{MakesBlock, OnlyRaised, WhyNotAllocated}
 use Rattle.qcow2_alloc.specs.Allocators.{metadata_of, named_block}
 use Rattle.qcow2_alloc.specs.Caches.{cached_in, order_of}
-use Rattle.qcow2_alloc.specs.Freeing.{IsLoose, WhyNotCounted, WhyNotFreed}
+use Rattle.qcow2_alloc.specs.Freeing.{IsUnbarred, IsLoose, WhyNotCounted, WhyNotFreed}
 use Rattle.qcow2_alloc.specs.Going.{IsWhole, WhyNotWritten}
 use Rattle.qcow2_alloc.specs.MakingBlocks.{Begins, CanName, WhyNotNamed, NamesWritten}
 use Rattle.qcow2_alloc.specs.MakingRoom.{with_block}
@@ -89,7 +89,7 @@ put-faults : (old new : StorageState) (at : ℕ) (bytes : List ℕ) (done : Resu
 put-faults old new at bytes (Ok done) put is = put.answer.faults
 put-faults old new at bytes (Err fault) put is = absurd (cc is)
 
-caused : (holds loose : Type 0) (full : ℕ → Type 0) (a b c : ℕ) → b ≡ a → (fault : Fault) → Cause b c fault → WhyNotAllocated holds loose full a c fault
+caused : (holds : Type 0) (loose : Bool → Type 0) (full : ℕ → Type 0) (a b c : ℕ) → b ≡ a → (fault : Fault) → Cause b c fault → WhyNotAllocated holds loose full a c fault
 caused holds loose full a b c same Memory cause = tt
 caused holds loose full a b c same Storage cause = subst (λ n. Rose n c) same cause
 caused holds loose full a b c same other cause = absurd cause
@@ -185,43 +185,43 @@ module _ {S : Type 0} (state : S → StorageState) (i d : ℕ) (counters : List 
             let all = n.named is in
             subst (λ (t : TableValue). Ends ready taken result t after) (sym all.1.1) (named-end all.1.0 n.mid after n.done is n.put result all.0)
 
-allocated-by : (sound sound' loose loose' : Type 0) (full : ℕ → Type 0) (a b c : ℕ) → (sound' → sound) → (sound' → loose' → loose) → b ≡ a → (fault : Fault) → WhyNotFreed sound loose b c fault → WhyNotAllocated sound' loose' full a c fault
+allocated-by : (sound sound' loose : Type 0) (loose' : Bool → Type 0) (full : ℕ → Type 0) (a b c : ℕ) → (sound' → sound) → (IsUnbarred sound' loose' → loose) → b ≡ a → (fault : Fault) → WhyNotFreed sound loose b c fault → WhyNotAllocated sound' loose' full a c fault
 allocated-by sound sound' loose loose' full a b c from from' same Memory why = tt
 allocated-by sound sound' loose loose' full a b c from from' same Storage why = subst (λ n. Rose n c) same why
 allocated-by sound sound' loose loose' full a b c from from' same DamagedTable why = λ s. why (from s)
 allocated-by sound sound' loose loose' full a b c from from' same Counter why = λ s. why (from s)
-allocated-by sound sound' loose loose' full a b c from from' same CacheFull why = λ both. why (from' both.0 both.1)
+allocated-by sound sound' loose loose' full a b c from from' same CacheFull why = λ u. why (from' u)
 allocated-by sound sound' loose loose' full a b c from from' same (Limit number) why = absurd why
 allocated-by sound sound' loose loose' full a b c from from' same other why = absurd why
 
 -- A cause of what frees or searches is one of what allocates, as is one of what counts,
-pub allocated-wider : (sound sound' loose loose' : Type 0) (full : ℕ → Type 0) (a b c : ℕ) → (sound' → sound) → (loose' → loose) → b ≡ a → (fault : Fault) → WhyNotFreed sound loose b c fault → WhyNotAllocated sound' loose' full a c fault
-allocated-wider sound sound' loose loose' full a b c from from' same fault why = allocated-by sound sound' loose loose' full a b c from (λ s. from') same fault why
+pub allocated-wider : (sound sound' loose : Type 0) (loose' : Bool → Type 0) (full : ℕ → Type 0) (a b c : ℕ) → (sound' → sound) → ((any : Bool) → loose' any → loose) → b ≡ a → (fault : Fault) → WhyNotFreed sound loose b c fault → WhyNotAllocated sound' loose' full a c fault
+allocated-wider sound sound' loose loose' full a b c from from' same fault why = allocated-by sound sound' loose loose' full a b c from (λ u. from' u.0 u.2) same fault why
 
-pub counted-wider : (sound sound' loose loose' : Type 0) (full : ℕ → Type 0) (a b c : ℕ) → (sound' → sound) → (loose' → loose) → b ≡ a → (fault : Fault) → WhyNotCounted sound loose b c fault → WhyNotAllocated sound' loose' full a c fault
-counted-wider sound sound' loose loose' full a b c from from' same fault why = allocated-by sound sound' (sound × loose) loose' full a b c from (λ s l. (from s, from' l)) same fault why
+pub counted-wider : (sound sound' : Type 0) (loose loose' : Bool → Type 0) (full : ℕ → Type 0) (a b c : ℕ) → (sound' → sound) → ((any : Bool) → loose' any → loose any) → b ≡ a → (fault : Fault) → WhyNotCounted sound loose b c fault → WhyNotAllocated sound' loose' full a c fault
+counted-wider sound sound' loose loose' full a b c from from' same fault why = allocated-by sound sound' (IsUnbarred sound loose) loose' full a b c from (λ u. (u.0, λ is. from (u.1 is), from' u.0 u.2)) same fault why
 
 -- and so is one of writes.
-pub allocated-written : (sound reach loose : Type 0) (full : ℕ → Type 0) (a b c : ℕ) → (sound → reach) → b ≡ a → (fault : Fault) → WhyNotWritten reach b c fault → WhyNotAllocated sound loose full a c fault
+pub allocated-written : (sound reach : Type 0) (loose : Bool → Type 0) (full : ℕ → Type 0) (a b c : ℕ) → (sound → reach) → b ≡ a → (fault : Fault) → WhyNotWritten reach b c fault → WhyNotAllocated sound loose full a c fault
 allocated-written sound reach loose full a b c from same Memory why = tt
 allocated-written sound reach loose full a b c from same Storage why = subst (λ n. Rose n c) same why
 allocated-written sound reach loose full a b c from same DamagedTable why = λ s. why (from s)
 allocated-written sound reach loose full a b c from same other why = absurd why
 
-caused-all : (holds loose : Type 0) (full : ℕ → Type 0) (a b c : ℕ) → b ≡ a → (result : Result Unit Fault) → MatchResult result (λ _. c ≡ b) (Cause b c) → MatchResult result (λ _. c ≡ a) (WhyNotAllocated holds loose full a c)
+caused-all : (holds : Type 0) (loose : Bool → Type 0) (full : ℕ → Type 0) (a b c : ℕ) → b ≡ a → (result : Result Unit Fault) → MatchResult result (λ _. c ≡ b) (Cause b c) → MatchResult result (λ _. c ≡ a) (WhyNotAllocated holds loose full a c)
 caused-all holds loose full a b c same (Ok done) counts = counts ∙ same
 caused-all holds loose full a b c same (Err fault) cause = caused holds loose full a b c same fault cause
 
-allocated-then : (sound sound' loose loose' : Type 0) (full full' : ℕ → Type 0) (a b c : ℕ) → (sound' → sound) → (loose' → loose) → ((n : ℕ) → full n → full' n) → b ≡ a → (fault : Fault) → WhyNotAllocated sound loose full b c fault → WhyNotAllocated sound' loose' full' a c fault
+allocated-then : (sound sound' : Type 0) (loose loose' : Bool → Type 0) (full full' : ℕ → Type 0) (a b c : ℕ) → (sound' → sound) → ((any : Bool) → loose' any → loose any) → ((n : ℕ) → full n → full' n) → b ≡ a → (fault : Fault) → WhyNotAllocated sound loose full b c fault → WhyNotAllocated sound' loose' full' a c fault
 allocated-then sound sound' loose loose' full full' a b c from from' to same Memory why = tt
 allocated-then sound sound' loose loose' full full' a b c from from' to same Storage why = subst (λ n. Rose n c) same why
 allocated-then sound sound' loose loose' full full' a b c from from' to same DamagedTable why = λ s. why (from s)
 allocated-then sound sound' loose loose' full full' a b c from from' to same Counter why = λ s. why (from s)
-allocated-then sound sound' loose loose' full full' a b c from from' to same CacheFull why = λ both. why (from both.0, from' both.1)
+allocated-then sound sound' loose loose' full full' a b c from from' to same CacheFull why = λ u. why (u.0, λ is. from (u.1 is), from' u.0 u.2)
 allocated-then sound sound' loose loose' full full' a b c from from' to same (Limit number) why = (to number why.0, why.1 ∙ same)
 allocated-then sound sound' loose loose' full full' a b c from from' to same other why = absurd why
 
-cause-then : (sound sound' loose loose' : Type 0) (full full' : ℕ → Type 0) (a b c : ℕ) → (sound' → sound) → (loose' → loose) → ((n : ℕ) → full n → full' n) → b ≡ a → (result : Result Unit Fault) → MatchResult result (λ _. c ≡ b) (WhyNotAllocated sound loose full b c) → MatchResult result (λ _. c ≡ a) (WhyNotAllocated sound' loose' full' a c)
+cause-then : (sound sound' : Type 0) (loose loose' : Bool → Type 0) (full full' : ℕ → Type 0) (a b c : ℕ) → (sound' → sound) → ((any : Bool) → loose' any → loose any) → ((n : ℕ) → full n → full' n) → b ≡ a → (result : Result Unit Fault) → MatchResult result (λ _. c ≡ b) (WhyNotAllocated sound loose full b c) → MatchResult result (λ _. c ≡ a) (WhyNotAllocated sound' loose' full' a c)
 cause-then sound sound' loose loose' full full' a b c from from' to same (Ok done) counts = counts ∙ same
 cause-then sound sound' loose loose' full full' a b c from from' to same (Err fault) why = allocated-then sound sound' loose loose' full full' a b c from from' to same fault why
 
@@ -245,7 +245,7 @@ module _ {S : Type 0} (state : S → StorageState) (i : ℕ) (table : TableValue
     faults = refl;
     header = refl;
     order = refl;
-    loose = λ loose. loose;
+    loose = λ any loose. loose;
     room = record { tables = refl; blocks = refl; entries = refl };
   }
 
@@ -284,7 +284,7 @@ module _ {S : Type 0} (state : S → StorageState) (i : ℕ) (table : TableValue
       faults = faults ∙ begins.faults;
       header = follows.stays.header ∙ begins.header;
       order = follows.stays.order ∙ begins.order;
-      loose = λ loose. follows.stays.loose (begins.loose loose);
+      loose = λ any loose. follows.stays.loose any (begins.loose any loose);
       room = record { tables = follows.stays.room.tables ∙ begins.room.tables; blocks = follows.stays.room.blocks ∙ begins.room.blocks; entries = follows.stays.room.entries ∙ begins.room.entries };
     }
 
@@ -311,7 +311,7 @@ module _ {S : Type 0} (state : S → StorageState) (i : ℕ) (table : TableValue
       placed = refl;
       order = follows.stays.order ∙ begins.order;
       header = follows.stays.header ∙ begins.header;
-      loose = λ loose. follows.stays.loose (begins.loose loose);
+      loose = λ any loose. follows.stays.loose any (begins.loose any loose);
       room = record { tables = follows.stays.room.tables ∙ begins.room.tables; blocks = follows.stays.room.blocks ∙ begins.room.blocks; entries = follows.stays.room.entries ∙ begins.room.entries };
       cause = why;
     }
@@ -329,7 +329,7 @@ module _ {S : Type 0} (state : S → StorageState) (i : ℕ) (table : TableValue
           later = later_same (state fC.image);
           quiet = λ order keeps sound s. memory-quietly (IsWhole (failed fault)) (λ _. 0) (λ _. 0) (state fC.image) mU mU (λ s' whole. (s', quiet-none mU s'));
           raised = λ order keeps sound s whole c. inl refl;
-          stays = record { header = refl; order = refl; loose = λ loose. loose; room = record { tables = refl; blocks = refl; entries = refl } };
+          stays = record { header = refl; order = refl; loose = λ any loose. loose; room = record { tables = refl; blocks = refl; entries = refl } };
         })
         (λ order keeps sound whole c. omega arith)
         (subst (λ n. WhyNotAllocated Holds (IsLoose table old) Full (state before.image).faults n fault) (sym begins.faults) why)
@@ -356,7 +356,8 @@ module _ {S : Type 0} (state : S → StorageState) (i : ℕ) (table : TableValue
     unforgotten d fault new unnamed (is, pinned, same) =
         subst (λ (c : MetadataCaches S). MakesBlock state i table old before (Err fault) table c fC pending) (sym same)
         (unmade fault (subst (λ (f : Fault). WhyNotAllocated Holds (IsLoose table old) Full (state before.image).faults (state before.image).faults f) (sym is)
-        (λ both. never-unnamed mU ((begins.quiet both.0.1).holds both.0.0 both.0.2 tt).0 d (unnamed both.0) ((begins.loose both.1).named d (pinned-there d (cached_in C).blocks pinned)))))
+        (λ u. let there = (begins.loose u.0 u.2).named d (pinned-there d (cached_in C).blocks pinned) in let holds = u.1 there.0 in
+        never-unnamed mU ((begins.quiet holds.1).holds holds.0 holds.2 tt).0 d (unnamed holds) there.1)))
 
   -- What makes a block from there on makes it in all.
   pub begins-makes : (C : MetadataCaches S) (fC : ImageFile S) → Begins state table pending old before (λ _. 0) C fC → (result : Result Unit Fault) (table' : TableValue) (new : MetadataCaches S) (after : ImageFile S)
@@ -373,7 +374,7 @@ module _ {S : Type 0} (state : S → StorageState) (i : ℕ) (table : TableValue
     placed = makes.placed;
     order = makes.order ∙ begins.order;
     header = makes.header ∙ begins.header;
-    loose = λ loose. makes.loose (begins.loose loose);
+    loose = λ any loose. makes.loose any (begins.loose any loose);
     room = record { tables = makes.room.tables ∙ begins.room.tables; blocks = makes.room.blocks ∙ begins.room.blocks; entries = makes.room.entries ∙ begins.room.entries };
     cause = cause-then _ _ _ _ _ _ _ _ _ (λ holds. (on holds.0, begins.order ∙ holds.1, ((begins.quiet holds.1).holds holds.0 holds.2 tt).0)) begins.loose
         (λ number full. subst (λ (h : Header). (number ≤ i * counters_of_block h.fields) × (IsInReach h.fields.cluster_bits number → ⊥)) begins.header full) begins.faults result makes.cause;
@@ -409,7 +410,7 @@ module _ {S : Type 0} (state : S → StorageState) (i : ℕ) (table : TableValue
       placed = ends.named.placed;
       order = begins.order;
       header = header ∙ begins.header;
-      loose = λ loose. loose-named table table' C kept (begins.loose loose);
+      loose = λ any loose. loose-named table table' C kept any (begins.loose any loose);
       room = begins.room;
       cause = caused-all Holds (IsLoose table old) Full (state before.image).faults (state fC.image).faults (state after.image).faults begins.faults result ends.cause;
     }

@@ -26,6 +26,10 @@ none-where false = refl
 one-where : (asked : Bool) (n : ℕ) → asked ≡ true → 0 < n → one_where asked n ≡ 1
 one-where asked n is some = ap (λ b. one_where b n) is ∙ ap (λ b. cond b 1 0) (lt-ltb 0 n some)
 
+one-less : (asked : Bool) (n : ℕ) → one_where asked n ≤ one_where true n
+one-less true n = omega arith
+one-less false n = omega arith
+
 module _ {V : Type 0} (keys : ℕ → Bool) where
   abbrev one_of : ℕ × Slot V → ℕ
   one_of e = one_where (keys e.0) e.1.pins
@@ -95,6 +99,16 @@ module _ {V : Type 0} where
       let more = pinned-cons (λ _. true) e es in
       let rest = all-pinned es all.1 in
       subst (λ n. length (e ∷ es) ≤ n) (sym more) (omega (arith, own, rest))
+
+  -- Among some keys no more are pinned than in all.
+  pub pinned-less : (keys : ℕ → Bool) (es : List (ℕ × Slot V)) → pinned_among keys es ≤ pinned_in es
+  pinned-less keys [] = omega arith
+  pinned-less keys (e ∷ es) =
+      let own = pinned-cons keys e es in
+      let all = pinned-cons (λ _. true) e es in
+      let rest = pinned-less keys es in
+      let one = one-less (keys e.0) e.1.pins in
+      subst (λ n. n ≤ pinned_in (e ∷ es)) (sym own) (subst (λ n. one_where (keys e.0) e.1.pins + pinned_among keys es ≤ n) (sym all) (omega (arith, rest, one)))
 
   -- Where no room can be made as many are pinned as there is room for.
   pub full-pinned : {cap : ℕ} (es : List (ℕ × Slot V)) → IsPinnedFull cap es → cap ≤ pinned_in es

@@ -24,18 +24,18 @@ use Rattle.qcow2_alloc.specs.ReadyingBlocks.{HasMade, HasMore, NoneCanBeMade, Re
 use Rattle.qcow2_alloc.proofs.EnsuringBlocks.{so, why-allocated-wider}
 
 -- Nothing leaks,
-pub leaks-none : {T : Type 0} (sound loose : Type 0) (result : Result T Fault) → Leaks sound loose result (λ _. 0)
+pub leaks-none : {T : Type 0} (sound : Type 0) (loose : Bool → Type 0) (result : Result T Fault) → Leaks sound loose result (λ _. 0)
 leaks-none sound loose result = record { none = λ other c. refl; pinned = λ holds all c. refl }
 
 -- or what did, where the fault is handed on,
-pub leaks-on : {T U : Type 0} (sound sound' loose loose' : Type 0) (fault : Fault) (leaked : ℕ → ℕ) → (sound' → sound) → (loose' → loose) → Leaks {T = T} sound loose (Err fault) leaked → Leaks {T = U} sound' loose' (Err fault) leaked
+pub leaks-on : {T U : Type 0} (sound sound' : Type 0) (loose loose' : Bool → Type 0) (fault : Fault) (leaked : ℕ → ℕ) → (sound' → sound) → ((any : Bool) → loose' any → loose any) → Leaks {T = T} sound loose (Err fault) leaked → Leaks {T = U} sound' loose' (Err fault) leaked
 leaks-on sound sound' loose loose' fault leaked from from' leaks = record {
   none = λ other c. leaks.none (λ is. other (ap (λ f. Err f) (let e = is in let same : fault ≡ CacheFull = cc in same))) c;
-  pinned = λ holds all c. leaks.pinned (from holds) (from' all) c;
+  pinned = λ holds all c. leaks.pinned (from holds) (from' true all) c;
 }
 
 -- and a call that succeeded leaked nothing.
-pub leaks-ok : {T : Type 0} (sound loose : Type 0) (v : T) (leaked : ℕ → ℕ) → Leaks sound loose (Ok v) leaked → (c : ℕ) → leaked c ≡ 0
+pub leaks-ok : {T : Type 0} (sound : Type 0) (loose : Bool → Type 0) (v : T) (leaked : ℕ → ℕ) → Leaks sound loose (Ok v) leaked → (c : ℕ) → leaked c ≡ 0
 leaks-ok sound loose v leaked leaks c = leaks.none (λ is. absurd (cc)) c
 
 module _ {S : Type 0} (state : S → StorageState) (mark at first last : ℕ) (table : TableValue) (old : MetadataCaches S) (before : ImageFile S) (pending : List FreeEntry) where
@@ -87,7 +87,7 @@ module _ {S : Type 0} (state : S → StorageState) (mark at first last : ℕ) (t
           → MatchResult r (λ _. (state after.image).faults ≡ (state before.image).faults)
           (WhyNotAllocated (IsTrue (state before.image).shape.keeps × (order_of old ≡ L2DependsOnRb) × IsSound (metadata_of state before old table pending)) (IsLoose table old) (λ _. Knows (NoneCanBeMade mark at first last Start)) (state before.image).faults (state after.image).faults)
       caused (Ok made) same = same
-      caused (Err fault) why = why-allocated-wider _ _ _ _ _ _ _ _ _ (λ holds. holds) (λ loose. loose) far-all refl fault why
+      caused (Err fault) why = why-allocated-wider _ _ _ _ _ _ _ _ _ (λ holds. holds) (λ any loose. loose) far-all refl fault why
 
   module _ (past : length table.words ≤ last) (table' : TableValue) (new : MetadataCaches S) (after : ImageFile S) (pending' : List FreeEntry) where
     -- It hasn't: it grows,
@@ -110,7 +110,7 @@ module _ {S : Type 0} (state : S → StorageState) (mark at first last : ℕ) (t
     pub table-not-ready : (fault : Fault) → GrowsTable state mark at table old before pending (Err fault) table' new after pending' → ReadiesBlocks state mark at first last table old before pending (Err fault) table' new after pending'
     table-not-ready fault grows = record {
       leaked = grows.leaked;
-      leaks = leaks-on _ _ _ _ fault grows.leaked (λ holds. holds) (λ loose. loose) grows.leaks;
+      leaks = leaks-on _ _ _ _ fault grows.leaked (λ holds. holds) (λ any loose. loose) grows.leaks;
       step = grows.step;
       idle = tt;
       ready = tt;
@@ -119,5 +119,5 @@ module _ {S : Type 0} (state : S → StorageState) (mark at first last : ℕ) (t
       once = λ inside. absurd (omega (arith, inside, past));
       grew = λ past. tt;
       kept = λ past. grows.kept;
-      cause = why-allocated-wider _ _ _ _ _ _ _ _ _ (λ holds. holds) (λ loose. loose) (λ number none order keeps sound. inr (past, number, none order keeps sound)) refl fault grows.cause;
+      cause = why-allocated-wider _ _ _ _ _ _ _ _ _ (λ holds. holds) (λ any loose. loose) (λ number none order keeps sound. inr (past, number, none order keeps sound)) refl fault grows.cause;
     }

@@ -35,7 +35,7 @@ use Rattle.qcow2_alloc.proofs.EnsuringBlocks.{so, refused, why-allocated-wider}
 use Rattle.qcow2_alloc.proofs.KeepingRoom.{covered-inside}
 
 -- What isn't refused for want of a place is refused for another cause.
-pub never-limit : (sound loose : Type 0) (full full' : ℕ → Type 0) (before after : ℕ) (fault : Fault) → ((number : ℕ) → fault ≢ Limit number) → WhyNotAllocated sound loose full before after fault → WhyNotAllocated sound loose full' before after fault
+pub never-limit : (sound : Type 0) (loose : Bool → Type 0) (full full' : ℕ → Type 0) (before after : ℕ) (fault : Fault) → ((number : ℕ) → fault ≢ Limit number) → WhyNotAllocated sound loose full before after fault → WhyNotAllocated sound loose full' before after fault
 never-limit sound loose full full' before after (Limit number) other why = absurd (other number refl)
 never-limit sound loose full full' before after Memory other why = why
 never-limit sound loose full full' before after Storage other why = why

@@ -35,6 +35,7 @@ use Rattle.qcow2_alloc.proofs.Looking.{counts-still}
 use Rattle.qcow2_alloc.proofs.LookingAt.{looked-allocates, counts-looked}
 use Rattle.qcow2_alloc.specs.Crowding.{IsCrowded, IsGapless, IsRoomy, TakesLittle, room_for}
 use Rattle.qcow2_alloc.proofs.GaplessRuns.{gapless-same, gapless-then, made-gapless}
+use Rattle.qcow2_alloc.proofs.Loose.{loose-all}
 use Rattle.qcow2_alloc.proofs.RoomyRuns.{RoomStays, stays-start, stays-searched, room-left, run-counted, run-early, run-fits, can-make, stays-made}
 use Rattle.qcow2_alloc.proofs.MadeBlocks.{allocated-wider, first-counted}
 use Rattle.qcow2_alloc.proofs.ReadyingBlocks.{leaks-none, leaks-on, leaks-ok}
@@ -163,7 +164,7 @@ module _ {S : Type 0} (state : S → StorageState) (table : TableValue) (old : M
       reach = tt;
       some = tt;
       list = by-table before.header fA.header table tA pending pA so_far.list;
-      cause = allocated-wider _ _ _ _ _ _ _ _ safe-with so_far.step.loose so_far.faults fault looks.looked.cause;
+      cause = allocated-wider _ _ _ _ _ _ _ _ safe-with (λ any loose. loose-all tA A any (so_far.step.loose any loose)) so_far.faults fault looks.looked.cause;
     }
 
     -- or as it makes something,

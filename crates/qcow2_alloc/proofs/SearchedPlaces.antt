@@ -22,6 +22,7 @@ use Rattle.qcow2_alloc.specs.MakingBlocks.{Begins, IsFreePlace}
 use Rattle.qcow2_alloc.specs.Quiet.{Metadata, counted, IsSound, Quietly}
 use Rattle.qcow2_alloc.specs.SearchingClusters.{IsSafeWith, Looked, LooksForFree}
 use Rattle.qcow2_alloc.proofs.FreeClusters.{flushes-count}
+use Rattle.qcow2_alloc.proofs.Loose.{loose-all}
 use Rattle.qcow2_alloc.proofs.MadeBlocks.{Follows, allocated-wider, begins-none, begins-then, begins-refused}
 use Rattle.qcow2_alloc.proofs.QuietFlushes.{going-quietly}
 
@@ -72,7 +73,7 @@ module _ {S : Type 0} (state : S → StorageState) (table : TableValue) (pending
   pub looked-refused : (fault : Fault) → Looked state table old before (refused_so fault) C fC → MakesBlock state i table old before (Err fault) table C fC pending
   looked-refused fault looked =
       begins-refused state i table pending old before (λ _. 0) (λ _. 0) old before C fC (begins-none state i table pending old before) fault (looking (refused_so fault) looked) (λ order keeps sound whole c. omega arith)
-      (allocated-wider _ _ _ _ _ _ _ _ (λ holds. safe-with holds.0 holds.2) (λ loose. loose) refl fault looked.cause)
+      (allocated-wider _ _ _ _ _ _ _ _ (λ holds. safe-with holds.0 holds.2) (loose-all table old) refl fault looked.cause)
 
   pub looked-begins : (found : Option ℕ) → Looked state table old before (found_so found) C fC → Begins state table pending old before (λ _. 0) C fC
   looked-begins found looked =

@@ -141,7 +141,7 @@ module _ {S : Type 0} (state : S → StorageState) (table : TableValue) (pending
               next.same given (sound-then given) whole c ∙ counts.raised order keeps sound free tt c;
           order = next.stays.order ∙ counts.order;
           header = next.stays.header ∙ counts.header;
-          loose = λ loose. next.stays.loose (counts.loose loose);
+          loose = λ any loose. next.stays.loose any (counts.loose any loose);
           room = record { tables = next.stays.room.tables ∙ counts.room.tables; blocks = next.stays.room.blocks ∙ counts.room.blocks; entries = next.stays.room.entries ∙ counts.room.entries };
           cause = caused result cause;
         }
@@ -159,7 +159,7 @@ module _ {S : Type 0} (state : S → StorageState) (table : TableValue) (pending
         wider Storage why = subst (λ n. Rose n (state fD.image).faults) counts.cause why
         wider DamagedTable why = λ holds. why (from holds)
         wider Counter why = λ holds. why (from holds)
-        wider CacheFull why = λ both. why (from both.0, counts.loose both.1)
+        wider CacheFull why = λ u. why (u.0, λ is. from (u.1 is), counts.loose u.0 u.2)
         wider other why = absurd why
 
         caused : (r : Result Unit Fault) → MatchResult r (λ _. (state fD.image).faults ≡ (state fC.image).faults) (WhyNotCounted (Given × IsSound (At C fC)) (IsLoose table C) (state fC.image).faults (state fD.image).faults)
@@ -232,7 +232,7 @@ module _ {S : Type 0} (state : S → StorageState) (table : TableValue) (pending
           → MatchResult r (λ _. (state fC.image).faults ≡ (state fC.image).faults) (WhyNotCounted (Given × IsSound (At C fC)) (IsLoose table C) (state fC.image).faults (state fC.image).faults)
       why-full (Ok done) none = refl
       why-full (Err fault) (is, (d, from, to, pinned)) = subst (λ (f : Fault). WhyNotCounted (Given × IsSound (At C fC)) (IsLoose table C) (state fC.image).faults (state fC.image).faults f) (sym is)
-          (λ both. never-unnamed (At C fC) both.0.1 d (unnamed-then both.0.0 d from (omega (arith, to, few))) (both.1.named d pinned))
+          (λ u. let there = u.2.named d pinned in let holds = u.1 there.0 in never-unnamed (At C fC) holds.1 d (unnamed-then holds.0 d from (omega (arith, to, few))) there.1)
 
       pub forgotten-then : Counts result D fC
       forgotten-then = counts-then result D fC forgetting (why-full result cause)
@@ -255,7 +255,7 @@ module _ {S : Type 0} (state : S → StorageState) (table : TableValue) (pending
         later = writes.writes.later;
         quiet = λ given sound. with-header (λ m. Quietly (IsWhole result) ours ours (state fC.image) (At C fC) (state fD.image) m) (writes.writes.quiet (At C fC) ours (may given));
         same = λ given sound whole c. with-header (λ m. counted m c ≡ counted (At C fC) c) ((writes.writes.counts (At C fC) ours (may given) (on given.0) sound (writes.writes.whole whole)).memory c);
-        stays = record { header = header; order = refl; loose = λ loose. loose; room = record { tables = refl; blocks = refl; entries = refl } };
+        stays = record { header = header; order = refl; loose = λ any loose. loose; room = record { tables = refl; blocks = refl; entries = refl } };
       }
 
       why-cut : (r : Result Unit Fault) → MatchResult r (λ _. (state fD.image).faults ≡ (state fC.image).faults) (Cause (state fC.image).faults (state fD.image).faults)

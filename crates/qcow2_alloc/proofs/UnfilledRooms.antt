@@ -1,5 +1,5 @@
 -- A room for a refcount table wasn't filled: the image has the table that it had.
-use Rattle.std.proofs.Common.{◌≡◌, ℕ, ◌+◌, ◌/◌, ◌<◌, ◌≤◌, refl, arith, ◌∙◌, List, inl, inr, Err}
+use Rattle.std.proofs.Common.{◌≡◌, ℕ, ◌+◌, ◌/◌, ◌<◌, ◌≤◌, refl, arith, ◌∙◌, List, inl, inr, Err, Bool, true}
 use Rattle.std.specs.Prelude.{⊤, ◌⊎◌, ◌==◌, if◌then◌else◌, IsTrue, slice_index}
 use Rattle.std.proofs.lemmas.Bool.{cases_eq, cases_lt, ne_eqb}
 use Rattle.imago_storage.specs.State.{StorageState}
@@ -51,7 +51,7 @@ abbrev leaked-by : Fault → (ℕ → ℕ) → ℕ → ℕ
 leaked-by CacheFull handed c = handed c
 leaked-by fault handed c = 0
 
-leaked-same : (sound loose : Type 0) (a b : ℕ) (fault : Fault) (handed : ℕ → ℕ) → IsMild fault → sound → WhyNotCounted sound loose a b fault → (c : ℕ) → handed c ≡ leaked-by fault handed c
+leaked-same : (sound : Type 0) (loose : Bool → Type 0) (a b : ℕ) (fault : Fault) (handed : ℕ → ℕ) → IsMild fault → sound → WhyNotCounted sound loose a b fault → (c : ℕ) → handed c ≡ leaked-by fault handed c
 leaked-same sound loose a b Memory handed mild s why c = absurd mild
 leaked-same sound loose a b Storage handed mild s why c = absurd mild
 leaked-same sound loose a b DamagedTable handed mild s why c = absurd (why s)
@@ -63,16 +63,16 @@ leaked-none : (fault : Fault) (handed : ℕ → ℕ) → (failed fault ≡ Err C
 leaked-none CacheFull handed not c = absurd (not refl)
 leaked-none fault handed not c = refl
 
-leaked-pinned : (sound loose : Type 0) (a b : ℕ) (fault : Fault) (handed : ℕ → ℕ) → sound → loose → WhyNotCounted sound loose a b fault → (c : ℕ) → leaked-by fault handed c ≡ 0
-leaked-pinned sound loose a b CacheFull handed s l why c = absurd (why (s, l))
+leaked-pinned : (sound : Type 0) (loose : Bool → Type 0) (a b : ℕ) (fault : Fault) (handed : ℕ → ℕ) → sound → loose true → WhyNotCounted sound loose a b fault → (c : ℕ) → leaked-by fault handed c ≡ 0
+leaked-pinned sound loose a b CacheFull handed s l why c = absurd (why (true, λ is. s, l))
 leaked-pinned sound loose a b fault handed s l why c = refl
 
-why-from : (sound sound' loose : Type 0) (a b : ℕ) → (sound' → sound) → (fault : Fault) → WhyNotCounted sound loose a b fault → WhyNotCounted sound' loose a b fault
+why-from : (sound sound' : Type 0) (loose : Bool → Type 0) (a b : ℕ) → (sound' → sound) → (fault : Fault) → WhyNotCounted sound loose a b fault → WhyNotCounted sound' loose a b fault
 why-from sound sound' loose a b from Memory why = tt
 why-from sound sound' loose a b from Storage why = why
 why-from sound sound' loose a b from DamagedTable why = λ s. why (from s)
 why-from sound sound' loose a b from Counter why = λ s. why (from s)
-why-from sound sound' loose a b from CacheFull why = λ both. why (from both.0, both.1)
+why-from sound sound' loose a b from CacheFull why = λ u. why (u.0, λ is. from (u.1 is), u.2)
 why-from sound sound' loose a b from other why = absurd why
 
 module _ {S : Type 0} (state : S → StorageState) (table : TableValue) (pending : List FreeEntry) (run : Run) (copy : TableValue) (old : MetadataCaches S) (before : ImageFile S)
@@ -145,7 +145,7 @@ not-begun state known table pending run copy caches file fault why = record {
   order = refl;
   moved = moved-none file.header file.header refl;
   longer = omega arith;
-  loose = λ loose. loose;
+  loose = λ any loose. loose;
   room = record { tables = refl; blocks = refl; entries = refl };
   table_is = tt;
   stays = λ mild. (refl, refl);

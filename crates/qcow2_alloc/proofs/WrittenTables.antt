@@ -71,7 +71,7 @@ module _ {S : Type 0} (state : S → StorageState) (table : TableValue) (pending
         (table-quietly m4 run n copy sound (low4 given) plan.grown plan.room (taken4 given) (state fC.image) (state mid) refl (keeps4 given) done put mine used4);
     same = λ given sound whole c. (table-counts m4 run n copy sound (low4 given) plan.grown plan.room (taken4 given) (state fC.image) (state mid) refl (keeps4 given) done put mine used4
         (put-done (state fC.image) (state mid) (table_place copy) (table_bytes copy.words) done put whole)).memory c;
-    stays = record { header = refl; order = refl; loose = λ loose. loose; room = record { tables = refl; blocks = refl; entries = refl } };
+    stays = record { header = refl; order = refl; loose = λ any loose. loose; room = record { tables = refl; blocks = refl; entries = refl } };
   }
 
   why-put : (r : Result Unit Fault) → MatchResult r (λ _. (state mid).faults ≡ (state fC.image).faults) (Cause (state fC.image).faults (state mid).faults)

@@ -42,7 +42,7 @@ OnlyRaised m m' = (c : ℕ) → (counted m' c ≡ counted m c) ⊎ ((counted m c
 
 -- Why a call that allocates was refused: as one that counts is, or since there is no place left, of which `full` says what number tells it, and
 -- no fault goes before.
-abbrev pub WhyNotAllocated : Type 0 → Type 0 → (ℕ → Type 0) → ℕ → ℕ → Fault → Type 0
+abbrev pub WhyNotAllocated : Type 0 → (Bool → Type 0) → (ℕ → Type 0) → ℕ → ℕ → Fault → Type 0
 WhyNotAllocated sound loose full before after (Limit number) = full number × (after ≡ before)
 WhyNotAllocated sound loose full before after fault = WhyNotCounted sound loose before after fault
 
@@ -61,7 +61,7 @@ pub record CountsPart {S : Type 0} (state : S → StorageState) (handed : ℕ �
       → (c : ℕ) → counted (metadata_of state after new table pending) c ≡ counted (metadata_of state before old table pending) c + handed part c
   pub order : order_of new ≡ order_of old
   pub header : after.header ≡ before.header
-  pub loose : IsLoose table old → IsLoose table new
+  pub loose : (any : Bool) → IsLoose table old any → IsLoose table new any
   pub room : KeepsTables old new
   pub cause : MatchResult result (λ _. (state after.image).faults ≡ (state before.image).faults)
       (WhyNotCounted (IsTrue (state before.image).shape.keeps × (order_of old ≡ L2DependsOnRb) × IsSound (metadata_of state before old table pending)
@@ -95,7 +95,7 @@ pub record MakesBlock {S : Type 0} (state : S → StorageState) (index : ℕ) (t
   pub placed : table'.cluster ≡ table.cluster
   pub order : order_of new ≡ order_of old
   pub header : after.header ≡ before.header
-  pub loose : IsLoose table old → IsLoose table' new
+  pub loose : (any : Bool) → IsLoose table old any → IsLoose table' new any
   pub room : KeepsTables old new
   pub cause : MatchResult result (λ _. (state after.image).faults ≡ (state before.image).faults)
       (WhyNotAllocated (IsTrue (state before.image).shape.keeps × (order_of old ≡ L2DependsOnRb) × IsSound (metadata_of state before old table pending)) (IsLoose table old)
@@ -118,7 +118,7 @@ pub record Allocating {S : Type 0} (state : S → StorageState) (ok : Type 0) (h
   pub order : order_of new ≡ order_of old
   pub moved : MovedTable before.header after.header
   pub longer : length table.words ≤ length table'.words
-  pub loose : IsLoose table old → IsLoose table' new
+  pub loose : (any : Bool) → IsLoose table old any → IsLoose table' new any
   pub room : KeepsTables old new
 
 -- The blocks at these indices are made that there aren't, and the answer is whether one was. Words that named a block stay.

@@ -26,11 +26,15 @@ HasSpareRoom caches = pinned_in (cached_in caches).blocks < caches.rb.slots.cap
 abbrev pub NamesBlock : TableValue → ℕ → Type 0
 NamesBlock table cluster = (i : ℕ) × (named_block table i ≡ Some cluster)
 
--- There is room to spare, and the refcount table names each block that is pinned. So none bars the place of a new one in a sound image, as it
--- would whatever the room.
-pub record IsLoose {S : Type 0} (table : TableValue) (caches : MetadataCaches S) : Type 0 where
+-- There is room to spare, and the refcount table names each block that is pinned, if any may be. So none bars the place of a new one, as it
+-- would whatever the room: in a sound image, and where none is pinned in every image.
+pub record IsLoose {S : Type 0} (table : TableValue) (caches : MetadataCaches S) (any : Bool) : Type 0 where
   pub room : HasSpareRoom caches
-  pub named : (key : ℕ) → 0 < pinned_among (nat_eq key) (cached_in caches).blocks → NamesBlock table key
+  pub named : (key : ℕ) → 0 < pinned_among (nat_eq key) (cached_in caches).blocks → (any ≡ true) × NamesBlock table key
+
+-- `loose` holds of what may be pinned: in an image that isn't sound nothing.
+abbrev pub IsUnbarred : Type 0 → (Bool → Type 0) → Type 0
+IsUnbarred sound loose = (any : Bool) × (any ≡ true → sound) × loose any
 
 -- Each cluster before the mark is counted.
 abbrev pub IsMarked : Metadata → ℕ → Type 0
@@ -46,9 +50,9 @@ WhyNotFreed sound loose before after Counter = sound → ⊥
 WhyNotFreed sound loose before after CacheFull = loose → ⊥
 WhyNotFreed sound loose before after fault = ⊥
 
--- Why one that counts was: so, and as a full cache only where the image isn't sound or `loose` doesn't hold.
-abbrev pub WhyNotCounted : Type 0 → Type 0 → ℕ → ℕ → Fault → Type 0
-WhyNotCounted sound loose before after fault = WhyNotFreed sound (sound × loose) before after fault
+-- Why one that counts was: so, and as a full cache only where something is pinned and the image isn't sound, or where `loose` doesn't hold.
+abbrev pub WhyNotCounted : Type 0 → (Bool → Type 0) → ℕ → ℕ → Fault → Type 0
+WhyNotCounted sound loose before after fault = WhyNotFreed sound (IsUnbarred sound loose) before after fault
 
 -- the count of faults after it
 abbrev pub CountsFreeing : Type 0 → Type 0 → ℕ → ℕ → Result Unit Fault → Type 0

@@ -1,5 +1,5 @@
 -- How the refcount table grows.
-use Rattle.std.specs.Prelude.{◌≡◌, ◌⊎◌, ℕ, ◌+◌, ◌-◌, ◌*◌, ◌/◌, ◌^◌, ◌<◌, ◌≤◌, ◌==◌, ◌++◌, ◌∷◌, [], IsTrue, min, true, if◌then◌else◌, List, Some, Result, Err, OnOk, OnErr, IfErr, MatchResult, length, slice_index}
+use Rattle.std.specs.Prelude.{◌≡◌, ◌⊎◌, ℕ, ◌+◌, ◌-◌, ◌*◌, ◌/◌, ◌^◌, ◌<◌, ◌≤◌, ◌==◌, ◌++◌, ◌∷◌, [], IsTrue, min, true, if◌then◌else◌, List, Some, Result, Err, OnOk, OnErr, IfErr, MatchResult, length, slice_index, Bool}
 use Rattle.imago_storage.specs.State.{StorageState}
 use Rattle.imago_storage.specs.declared.fault.Fault.{Fault}
 use Rattle.imago_storage.specs.declared.fault.Fault.TheVariants.{CacheFull, Limit}
@@ -76,9 +76,9 @@ pub record TableGrown (mark at : ℕ) (m m' : Metadata) : Type 0 where
 
 -- What a refused call has counted and nobody was handed: only one that found the cache full has, and so none of a sound image where there is room
 -- to spare, as `loose` says.
-pub record Leaks {T : Type 0} (sound loose : Type 0) (result : Result T Fault) (leaked : ℕ → ℕ) : Type 0 where
+pub record Leaks {T : Type 0} (sound : Type 0) (loose : Bool → Type 0) (result : Result T Fault) (leaked : ℕ → ℕ) : Type 0 where
   pub none : (result ≡ Err CacheFull → ⊥) → (c : ℕ) → leaked c ≡ 0
-  pub pinned : sound → loose → (c : ℕ) → leaked c ≡ 0
+  pub pinned : sound → loose true → (c : ℕ) → leaked c ≡ 0
 
 -- The refcount table grows until it holds an index, while blocks are written before tables. The old table waits to be freed then. Refused without
 -- being cut off, table, header and list are what they were, and of a sound image nothing is counted otherwise unless the cache is full of what is pinned.

@@ -27,7 +27,7 @@ use Rattle.qcow2_alloc.specs.ReadyingRuns.{handed_by, mark_behind, IsRunCounted}
 -- are kept; and nothing of the header has changed but perhaps the refcount table's place.
 pub record StaysInShape {S : Type 0} (table : TableValue) (old : MetadataCaches S) (before : ImageFile S) (table' : TableValue) (new : MetadataCaches S) (after : ImageFile S) : Type 0 where
   pub moved : MovedTable before.header after.header
-  pub loose : IsLoose table old → IsLoose table' new
+  pub loose : (any : Bool) → IsLoose table old any → IsLoose table' new any
   pub room : KeepsTables old new
 
 -- The refcount table grows until it holds an index: first it is announced that blocks are written before tables. The old table waits to be freed

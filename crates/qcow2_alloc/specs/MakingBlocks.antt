@@ -59,7 +59,7 @@ pub record Begins {S : Type 0} (state : S → StorageState) (table : TableValue)
   pub faults : (state after.image).faults ≡ (state before.image).faults
   pub header : after.header ≡ before.header
   pub order : new.order ≡ old.order
-  pub loose : IsLoose table old → IsLoose table new
+  pub loose : (any : Bool) → IsLoose table old any → IsLoose table new any
   pub room : KeepsTables old new
 
 -- A block is made in a cluster that another counts, by a call that came so far and knows by what the image was that this one is free.

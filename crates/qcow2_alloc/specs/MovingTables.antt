@@ -1,5 +1,5 @@
 -- How a refcount table that has grown takes its room, and becomes the image's.
-use Rattle.std.specs.Prelude.{◌≡◌, ◌≢◌, ⊤, true, ℕ, ◌+◌, ◌-◌, ◌*◌, ◌/◌, ◌%◌, ◌^◌, ◌<◌, ◌≤◌, ◌++◌, false, IsTrue, List, Some, None, Result, Ok, Err, OnOk, OnErr, IfErr, MatchResult, length, slice_index, nat_eq}
+use Rattle.std.specs.Prelude.{◌≡◌, ◌≢◌, ⊤, true, ℕ, ◌+◌, ◌-◌, ◌*◌, ◌/◌, ◌%◌, ◌^◌, ◌<◌, ◌≤◌, ◌++◌, false, IsTrue, List, Some, None, Result, Ok, Err, OnOk, OnErr, IfErr, MatchResult, length, slice_index, nat_eq, Bool}
 use Rattle.std.specs.Map.{lookup}
 use Rattle.imago_storage.specs.State.{StorageState}
 use Rattle.imago_storage.specs.Calls.{Later}
@@ -179,7 +179,7 @@ module _ {S : Type 0} (state : S → StorageState) where
     pub order : order_of new ≡ order_of old
     pub moved : MovedTable before.header after.header
     pub longer : length table.words ≤ length table'.words
-    pub loose : IsLoose table old → IsLoose table' new
+    pub loose : (any : Bool) → IsLoose table old any → IsLoose table' new any
     pub room : KeepsTables old new
     pub table_is : OnOk result (table' ≡ record copy { modified = false })
     pub stays : IfErr result (λ fault. IsMild fault → (table' ≡ table) × (after.header ≡ before.header))

@@ -1,5 +1,5 @@
 -- How free clusters are searched for: blocks are loaded, and nothing else changes.
-use Rattle.std.specs.Prelude.{max, length, ◌*◌, ◌≡◌, ◌≢◌, ℕ, ◌+◌, ◌/◌, ◌<◌, ◌≤◌, IsTrue, Result, IfOk, MatchResult, Option, MatchOption}
+use Rattle.std.specs.Prelude.{max, length, ◌*◌, ◌≡◌, ◌≢◌, ℕ, ◌+◌, ◌/◌, ◌<◌, ◌≤◌, IsTrue, Result, IfOk, MatchResult, Option, MatchOption, Bool, true}
 use Rattle.imago_storage.specs.State.{StorageState}
 use Rattle.imago_storage.specs.declared.fault.Fault.{Fault}
 use Rattle.qcow2_types.specs.Bytes.{Bytes, bytes_of}
@@ -52,9 +52,9 @@ module _ {S : Type 0} (state : S → StorageState) where
     pub going : Going before.header (order_of old) Always (IsWhole result) (state before.image) (cached_in old) (state after.image) (cached_in new)
     pub order : new.order ≡ old.order
     pub header : after.header ≡ before.header
-    pub loose : IsLoose table old → IsLoose table new
+    pub loose : (any : Bool) → IsLoose table old any → IsLoose table new any
     pub room : KeepsTables old new
-    pub cause : MatchResult result (λ _. (state after.image).faults ≡ (state before.image).faults) (WhyNotFreed (IsSafeWith table old before) (IsLoose table old) (state before.image).faults (state after.image).faults)
+    pub cause : MatchResult result (λ _. (state after.image).faults ≡ (state before.image).faults) (WhyNotFreed (IsSafeWith table old before) (IsLoose table old true) (state before.image).faults (state after.image).faults)
 
   -- The first run of n clusters that aren't counted, from one on, is searched for;
   pub record LooksForRun (table : TableValue) (from n : ℕ) (old : MetadataCaches S) (before : ImageFile S) (result : Result ℕ Fault) (new : MetadataCaches S) (after : ImageFile S) : Type 0 where

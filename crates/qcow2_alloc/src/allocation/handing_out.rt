@@ -27,8 +27,8 @@ impl Allocator {
     ///
     /// It refuses with `Fault::Limit` only where a sixteenth of the space and three times the clusters asked for aren't free in a row from
     /// the mark on, so only where no quarter of it is, or more than a sixteenth is asked for; with `Fault::Memory`; with `Fault::Storage`;
-    /// with `Fault::CacheFull`, of a sound image whose refcount table names each block that is pinned, only where as many are pinned as
-    /// there is room for; and with `Fault::Counter` and `Fault::DamagedTable`, which no sound image has. Nothing is handed out then, and no
+    /// with `Fault::CacheFull` only where a block is pinned, and of a sound image whose refcount table names each that is only where as many
+    /// are as there is room for; and with `Fault::Counter` and `Fault::DamagedTable`, which no sound image has. Nothing is handed out then, and no
     /// room is held. Blocks may have been made, and the refcount table may have grown and moved, whatever is answered: the old table's
     /// clusters wait on the list then. The file of a sound image shows the same at each stop, where the storage tells its stops and has
     /// refused no change.
@@ -61,8 +61,8 @@ impl Allocator {
     ///
     /// The answer is to be spent as that of `allocate_clusters`.
     ///
-    /// It refuses with `Fault::Memory`; with `Fault::Storage`; with `Fault::CacheFull`, of a sound image whose refcount table names each
-    /// block that is pinned, only where as many are pinned as there is room for; and with `Fault::Counter` and `Fault::DamagedTable`,
+    /// It refuses with `Fault::Memory`; with `Fault::Storage`; with `Fault::CacheFull` only where a block is pinned, and of a sound image
+    /// whose refcount table names each that is only where as many are as there is room for; and with `Fault::Counter` and `Fault::DamagedTable`,
     /// which no sound image has. Nothing is handed out then, and no room is held. A block may have been made, and the refcount table may
     /// have grown and moved, whatever is answered: the old table's clusters wait on the list then. The file of a sound image shows the
     /// same at each stop, where the storage tells its stops and has refused no change.
@@ -102,8 +102,8 @@ impl Allocator {
     ///
     /// It refuses with `Fault::Limit` where the table would have more than 2^20 words, and tells the first length past that which fills its
     /// clusters; or where its room ends out of reach of words or behind what the table could count, and tells the room's last cluster;
-    /// with `Fault::Memory`; with `Fault::Storage`; with `Fault::CacheFull`, of a sound image whose refcount table names each block that
-    /// is pinned, only where as many are pinned as there is room for; and with `Fault::Counter` and `Fault::DamagedTable`, which no sound
+    /// with `Fault::Memory`; with `Fault::Storage`; with `Fault::CacheFull` only where a block is pinned, and of a sound image whose
+    /// refcount table names each that is only where as many are as there is room for; and with `Fault::Counter` and `Fault::DamagedTable`, which no sound
     /// image has. The list stays then, and unless memory or the storage failed so do table and header; with `Fault::CacheFull` clusters
     /// may leak. The file of a sound image shows the same at each stop, where the storage tells its stops and has refused no change.
     pub fn grow_reftable<S: Storage>(
