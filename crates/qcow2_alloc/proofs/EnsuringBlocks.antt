@@ -40,15 +40,18 @@ abbrev pub made_by : Result Unit Fault → Result Bool Fault
 made_by (Ok done) = Ok true
 made_by (Err fault) = Err fault
 
--- A cause stays one over more calls.
+-- A cause stays one over more calls, as its number tells.
+pub why-allocated-as : (sound sound' : Type 0) (loose loose' : Bool → Type 0) (full full' : ℕ → Type 0) (a b c : ℕ) → (sound' → sound) → ((any : Bool) → loose' any → loose any) → b ≡ a → (fault : Fault) → ((n : ℕ) → fault ≡ Limit n → full n → full' n) → WhyNotAllocated sound loose full b c fault → WhyNotAllocated sound' loose' full' a c fault
+why-allocated-as sound sound' loose loose' full full' a b c from from' same (Limit number) on why = (on number refl why.0, why.1 ∙ same)
+why-allocated-as sound sound' loose loose' full full' a b c from from' same Memory on why = why-counted-wider sound sound' loose loose' a b c from from' same Memory why
+why-allocated-as sound sound' loose loose' full full' a b c from from' same Storage on why = why-counted-wider sound sound' loose loose' a b c from from' same Storage why
+why-allocated-as sound sound' loose loose' full full' a b c from from' same DamagedTable on why = why-counted-wider sound sound' loose loose' a b c from from' same DamagedTable why
+why-allocated-as sound sound' loose loose' full full' a b c from from' same Counter on why = why-counted-wider sound sound' loose loose' a b c from from' same Counter why
+why-allocated-as sound sound' loose loose' full full' a b c from from' same CacheFull on why = why-counted-wider sound sound' loose loose' a b c from from' same CacheFull why
+why-allocated-as sound sound' loose loose' full full' a b c from from' same fault on why = absurd why
+
 pub why-allocated-wider : (sound sound' : Type 0) (loose loose' : Bool → Type 0) (full full' : ℕ → Type 0) (a b c : ℕ) → (sound' → sound) → ((any : Bool) → loose' any → loose any) → ((n : ℕ) → full n → full' n) → b ≡ a → (fault : Fault) → WhyNotAllocated sound loose full b c fault → WhyNotAllocated sound' loose' full' a c fault
-why-allocated-wider sound sound' loose loose' full full' a b c from from' on same (Limit number) why = (on number why.0, why.1 ∙ same)
-why-allocated-wider sound sound' loose loose' full full' a b c from from' on same Memory why = why-counted-wider sound sound' loose loose' a b c from from' same Memory why
-why-allocated-wider sound sound' loose loose' full full' a b c from from' on same Storage why = why-counted-wider sound sound' loose loose' a b c from from' same Storage why
-why-allocated-wider sound sound' loose loose' full full' a b c from from' on same DamagedTable why = why-counted-wider sound sound' loose loose' a b c from from' same DamagedTable why
-why-allocated-wider sound sound' loose loose' full full' a b c from from' on same Counter why = why-counted-wider sound sound' loose loose' a b c from from' same Counter why
-why-allocated-wider sound sound' loose loose' full full' a b c from from' on same CacheFull why = why-counted-wider sound sound' loose loose' a b c from from' same CacheFull why
-why-allocated-wider sound sound' loose loose' full full' a b c from from' on same fault why = absurd why
+why-allocated-wider sound sound' loose loose' full full' a b c from from' on same fault why = why-allocated-as sound sound' loose loose' full full' a b c from from' same fault (λ n is. on n) why
 
 -- One word of a refcount table comes to name a block, and no other changes.
 fewer-missing : (table table' : TableValue) (index : ℕ) → index < length table.words → length table'.words ≡ length table.words → block_offset (slice_index table.words index) ≡ 0 → block_offset (slice_index table'.words index) ≢ 0

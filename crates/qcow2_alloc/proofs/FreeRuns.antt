@@ -161,6 +161,7 @@ module _ (m : Metadata) (sound : IsSound m) (c k : ℕ) (unnamed : (d : ℕ) →
     words = words-there;
     kept = λ d used none. away d (λ from upto. let some = given d from upto used in absurd (omega (arith, some, none)));
     apart = λ d used none. structure-same m.file x m.header.fields in-file.keeps.places (meets m.header.fields d) ∙ used.apart;
+    waits = λ d used none. omega arith;
     law = λ d. let references = over-there.references d in let counts = over-there.counts d in omega (arith, references, counts);
   }
 

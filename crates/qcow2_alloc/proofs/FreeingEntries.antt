@@ -59,7 +59,7 @@ waits-quiet m es sound same less =
         covered = λ c. let was = sound.covered c in let is = same c in omega (arith, was, is);
         unnamed = λ c some. let le = less c in sound.unnamed c (omega (arith, some, le));
       },
-      record { shows = quiet.shows; words = quiet.words; kept = quiet.kept; apart = quiet.apart; law = λ c. let is = same c in omega (arith, is) },
+      record { shows = quiet.shows; words = quiet.words; kept = quiet.kept; apart = quiet.apart; waits = λ c used none. let is = same c in omega (arith, is); law = λ c. let is = same c in omega (arith, is) },
     )
 
 module _ {S : Type 0} (state : S → StorageState) (table : TableValue) (es : List FreeEntry) (i : ℕ) (inside : i < length es) (some : 0 < (entry_at es i).count) where

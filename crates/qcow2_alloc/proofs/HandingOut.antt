@@ -25,7 +25,7 @@ use Rattle.qcow2_alloc.specs.GrowingTables.{IsInRoomToGrow, IsLengthenedByTable,
 use Rattle.qcow2_alloc.specs.HandingOut.{AllocatesClusterAt, AllocatesClusters, AreUnnamed, IsBarred, IsFreed, IsHandedAt, IsOneAt, IsSearched, StaysInShape, handed_at}
 use Rattle.qcow2_alloc.specs.HandingOutOne.{AllocatesAt}
 use Rattle.qcow2_alloc.specs.Quiet.{Metadata, IsSound, Quietly, counted}
-use Rattle.qcow2_alloc.specs.ReadyingRuns.{Allocates, IsRunCounted, handed_by}
+use Rattle.qcow2_alloc.specs.ReadyingRuns.{Allocates, IsRunCounted, IsRunTold, handed_by}
 use Rattle.qcow2_alloc.proofs.Allocating.{moved-none}
 use Rattle.qcow2_alloc.proofs.AnnouncedOrders.{Announced, no-place-as, room-as, quiet-behind, sound-behind, raised-behind, marked-behind, caused-behind}
 use Rattle.qcow2_alloc.proofs.CountingOne.{not_handed}
@@ -355,14 +355,14 @@ module _ {S : Type 0} (state : S → StorageState) (mark n : ℕ) (metadata : Bo
       run-caused : (r : Result FreeEntry Fault)
           → MatchResult r (λ _. (state after.image).faults ≡ (state fB.image).faults)
           (WhyNotAllocated (IsTrue (state fB.image).shape.keeps × (order_of B ≡ L2DependsOnRb) × IsSound Ready) (IsLoose table B)
-          (λ _. order_of B ≡ L2DependsOnRb → IsTrue (state fB.image).shape.keeps → IsSound Ready → IsCrowded Ready mark1 n) (state fB.image).faults (state after.image).faults)
+          (λ number. order_of B ≡ L2DependsOnRb → IsTrue (state fB.image).shape.keeps → IsSound Ready → IsCrowded Ready mark1 n × IsRunTold Last mark1 n number) (state fB.image).faults (state after.image).faults)
           → MatchResult r (λ _. (state after.image).faults ≡ (state before.image).faults)
           (WhyNotAllocated (IsTrue (state before.image).shape.keeps × IsSound First) (IsLoose table old)
-          (λ _. IsTrue (state before.image).shape.keeps → IsSound First → IsCrowded Ready mark1 n) (state before.image).faults (state after.image).faults)
+          (λ number. IsTrue (state before.image).shape.keeps → IsSound First → IsCrowded Ready mark1 n × IsRunTold Last mark1 n number) (state before.image).faults (state after.image).faults)
       run-caused (Ok entry) same = same ∙ second.cause ∙ frees.cause
       run-caused (Err fault) why =
           why-allocated-wider _ _ _ _ _ _ _ _ _ (λ holds. still-sound holds.0 holds.1) freed-loose (λ n full keeps sound. let still = still-sound keeps sound in full still.0 still.1) frees.cause fault
-          (caused-behind state table [] A fA B fB second _ (λ _. IsTrue (state fA.image).shape.keeps → IsSound Freed → IsCrowded Ready mark1 n) (state after.image).faults
+          (caused-behind state table [] A fA B fB second _ (λ number. IsTrue (state fA.image).shape.keeps → IsSound Freed → IsCrowded Ready mark1 n × IsRunTold Last mark1 n number) (state after.image).faults
           (λ n full keeps sound. let still = sound-behind state table [] A fA B fB second keeps sound in full second.order still.0 still.1) fault why)
 
       pub run-announced : AllocatesClusters state mark n metadata table old before pending result table' new after pending' mark'

@@ -1,20 +1,38 @@
--- The refcount table that was loaded is the file's.
-use Rattle.std.proofs.Common.{◌≡◌, ℕ, ◌*◌, ◌/◌, ◌%◌, ◌^◌, ◌<◌, ◌≤◌, refl, arith, ap, sym, subst, ◌∙◌, Some, Ok, Err, true}
-use Rattle.std.specs.Prelude.{nat_lt, slice_index}
-use Rattle.std.proofs.lemmas.Bool.{ne_eqb, lt-ltb}
+-- The refcount table that was loaded is the file's, and what a checker accepts is sound then.
+use Rattle.std.proofs.Common.{◌≡◌, ℕ, ◌*◌, ◌/◌, ◌%◌, ◌^◌, ◌<◌, ◌≤◌, refl, arith, ap, sym, subst, ◌∙◌, List, [], Bool, Some, Result, Ok, Err, true, false, inl, inr}
+use Rattle.std.specs.Prelude.{IsTrue, nat_lt, slice_index}
+use Rattle.std.proofs.lemmas.Bool.{cases_eq, ne_eqb, lt-ltb}
 use Rattle.std.proofs.lemmas.List.FromFn.{length-map-range_with_len, get_or-map-range_with_len}
 use Rattle.std.proofs.Math.Nat.{div-add-mod}
 use Rattle.imago_storage.specs.State.{StorageState}
-use Rattle.imago_storage.specs.Calls.{Kept}
+use Rattle.imago_storage.specs.Calls.{Kept, Cause}
 use Rattle.imago_storage.specs.declared.fault.Fault.{Fault}
+use Rattle.imago_storage.specs.declared.fault.Fault.TheVariants.{DamagedTable, Limit}
 use Rattle.qcow2_types.specs.Bytes.{Bytes, bytes_of, word}
-use Rattle.qcow2_types.specs.Words.{block_offset, max_offset}
-use Rattle.qcow2_types.specs.Header.{Fields, cluster_size, refcount_table_entries, layout_of}
+use Rattle.qcow2_types.specs.Words.{block_offset, l1_word_sound, max_offset}
+use Rattle.qcow2_types.specs.Header.{Fields, Header, Limited, header_of, cluster_size, refcount_table_entries, layout_of}
+use Rattle.qcow2_types.specs.Entries.{l1_table_sound}
+use Rattle.qcow2_types.specs.References.{meets}
+use Rattle.qcow2_types.specs.Slots.{SoundWords}
+use Rattle.qcow2_types.specs.Consistency.{IsConsistent, IsVerdict}
+use Rattle.qcow2_types.proofs.Consistent.{header-reading, meets-own, named-counted}
+use Rattle.qcow2_types.proofs.Counters.{some-counters}
+use Rattle.qcow2_types.proofs.Frames.{header-part}
+use Rattle.qcow2_types.proofs.HeaderLimits.{header-limited}
+use Rattle.qcow2_types.proofs.Leaks.{count-beyond}
+use Rattle.qcow2_types.proofs.Named.{structure-le-refs}
+use Rattle.qcow2_types.proofs.Sound.{all-below-holds, sound-words}
+use Rattle.qcow2_types.proofs.WriteBack.{place-near, place-whole}
 use Rattle.qcow2_metadata.specs.Places.{IsInReach}
-use Rattle.qcow2_metadata.specs.Tables.{TableValue, table_in, words_in, WhyNotLoaded, block_words}
+use Rattle.qcow2_metadata.specs.Tables.{TableValue, Kind, table_in, words_in, max_entries, word_sound, WhyNotLoaded, block_words, l1_words}
 use Rattle.qcow2_alloc.specs.declared.allocation.Allocator.{Allocator}
+use Rattle.qcow2_alloc.specs.declared.cache.CacheDependency.TheVariants.{Unset}
 use Rattle.qcow2_alloc.specs.Allocators.{IsTablePlaced, LoadsAllocator, table_of, mark_of}
-use Rattle.qcow2_alloc.specs.Quiet.{IsTableOf}
+use Rattle.qcow2_alloc.specs.Opening.{IsL1Of, opened}
+use Rattle.qcow2_alloc.specs.Quiet.{IsSound, IsTableOf}
+use Rattle.qcow2_alloc.proofs.Empty.{empty-safe}
+use Rattle.qcow2_alloc.proofs.Patches.{shaped-in}
+use Rattle.qcow2_alloc.proofs.QuietEntries.{safe-sound}
 
 -- the place of a table that begins with a cluster
 pub placed-whole : (h : Fields) → h.refcount_table_offset % cluster_size h ≡ 0 → h.refcount_table_offset / cluster_size h * cluster_size h ≡ h.refcount_table_offset
@@ -78,3 +96,88 @@ table-not-loaded old h cluster entries fault new from why kept = record {
   kept = kept;
   faults = tt;
 }
+
+-- What a checker accepts is consistent by whatever header loads from it.
+pub verdict-consistent : (f : Bytes) (found : List (ℕ × ℕ)) (writing : Bool) (H : Header) → IsVerdict f (Ok found) → header_of writing f ≡ Ok H → IsConsistent f H
+verdict-consistent f found writing H verdict loads = subst (λ (K : Header). IsConsistent f K) (same (header_of writing f) verdict.0 H (by-kind writing) loads) verdict.1
+  where
+    by-kind : (kind : Bool) → header_of kind f ≡ Ok verdict.0
+    by-kind true = verdict.1.readable.loads
+    by-kind false = header-reading f verdict.0 verdict.1.readable.loads
+
+    same : (r : Result Header Fault) (a b : Header) → r ≡ Ok a → r ≡ Ok b → a ≡ b
+    same r a b one other = let e = sym one ∙ other in cc
+
+module _ (f : Bytes) (H : Header) (consistent : IsConsistent f H) where
+  limited : Limited H.fields
+  limited = header-limited true f H consistent.readable.loads
+
+  meanings : SoundWords f H.fields
+  meanings = sound-words f H.fields consistent.readable.tables
+
+  -- Its header is counted, so its refcount table has words.
+  some-words : 0 < refcount_table_entries H.fields
+  some-words = elim (cases_eq (refcount_table_entries H.fields) 0) [
+    | inr some ↦ omega (arith, some)
+    | inl none ↦
+        let none-counted = count-beyond f H.fields 0 (some-counters H.fields (shaped-in f H consistent)) (rw none (omega arith)) in
+        let part = header-part f H.fields (meets H.fields 0) in
+        let at : 0 ≡ 0 * cluster_size H.fields = omega arith in
+        let one : meets H.fields 0 0 (cluster_size H.fields) ≡ 1 = ap (λ n. meets H.fields 0 n (cluster_size H.fields)) at ∙ meets-own H.fields 0 in
+        let le = structure-le-refs f H.fields 0 in
+        let covers = named-counted f H consistent 0 in
+        absurd (omega (arith, none-counted, part, one, le, covers))
+  ]
+
+  -- That begins with a cluster that words can name, as the L1 table does.
+  reftable-placed : IsTablePlaced H.fields
+  reftable-placed = record {
+    aligned = let whole = place-whole H.fields.cluster_bits H.fields.refcount_table_offset limited.refcount_place in omega (arith, div-add-mod H.fields.refcount_table_offset (cluster_size H.fields), whole);
+    reach = place-near H.fields.cluster_bits H.fields.refcount_table_offset limited.refcount_place;
+  }
+
+  l1-whole : H.fields.l1_offset / cluster_size H.fields * cluster_size H.fields ≡ H.fields.l1_offset
+  l1-whole = place-whole H.fields.cluster_bits H.fields.l1_offset limited.l1_place
+
+  -- Nothing but memory or the storage keeps a table from being loaded of which each word has a meaning.
+  loads-but : (kind : Kind) (place n : ℕ) → ((i : ℕ) → i < n → IsTrue (word_sound kind (layout_of H.fields) (word f place i))) → n ≤ max_entries kind
+      → (before after : ℕ) (fault : Fault) → WhyNotLoaded kind (layout_of H.fields) (words_in f place n) before after fault → Cause before after fault
+  loads-but kind place n sound few before after (Limit number) why =
+      let same = why.0 in
+      let more = why.1 in
+      let long = length-map-range_with_len (word f place) 0 n in
+      absurd (omega (arith, few, same, more, long))
+  loads-but kind place n sound few before after DamagedTable why =
+      let bad = why.0 in
+      let inside : bad.0 < n = let lt = bad.1 in let long = length-map-range_with_len (word f place) 0 n in omega (arith, lt, long) in
+      let read : slice_index (words_in f place n) bad.0 ≡ word f place bad.0 = get_or-map-range_with_len (word f place) 0 n bad.0 bad.0 0 inside (omega arith) in
+      let good = sound bad.0 inside in
+      let no : word_sound kind (layout_of H.fields) (word f place bad.0) ≡ false = subst (λ w. word_sound kind (layout_of H.fields) w ≡ false) read bad.2 in
+      absurd (let e = sym good ∙ no in cc)
+  loads-but kind place n sound few before after fault why = why
+
+  pub allocator-refused : (s s' : StorageState) (fault : Fault) → bytes_of s.bytes ≡ f → LoadsAllocator s H.fields (Err fault) s' → Cause s.faults s'.faults fault
+  allocator-refused s s' fault is loads =
+      loads-but block_words H.fields.refcount_table_offset (refcount_table_entries H.fields) meanings.blocks limited.refcount_entries s.faults s'.faults fault
+      (subst (λ (g : Bytes). WhyNotLoaded block_words (layout_of H.fields) (words_in g H.fields.refcount_table_offset (refcount_table_entries H.fields)) s.faults s'.faults fault) is (loads.err reftable-placed))
+
+  pub l1-refused : (before after : ℕ) (fault : Fault) → WhyNotLoaded l1_words (layout_of H.fields) (words_in f (H.fields.l1_offset / cluster_size H.fields * cluster_size H.fields) H.fields.l1_entries) before after fault → Cause before after fault
+  l1-refused before after fault why =
+      loads-but l1_words H.fields.l1_offset H.fields.l1_entries meanings.l1 limited.l1_entries before after fault
+      (subst (λ p. WhyNotLoaded l1_words (layout_of H.fields) (words_in f p H.fields.l1_entries) before after fault) l1-whole why)
+
+  -- The L1 table that is loaded is the file's,
+  pub l1-loaded : IsL1Of f H.fields (table_in f H.fields (H.fields.l1_offset / cluster_size H.fields) H.fields.l1_entries)
+  unfolding l1_table_sound
+  l1-loaded = record {
+    layout = refl;
+    words = ap (λ p. words_in f p H.fields.l1_entries) l1-whole;
+    sound = all-below-holds H.fields.l1_entries (λ i. l1_word_sound H.fields.cluster_bits (word f H.fields.l1_offset i)) meanings.l1;
+  }
+
+  -- and with the refcount table that is, the image is sound.
+  pub opened-sound : (s s' : StorageState) (allocator : Allocator) → bytes_of s.bytes ≡ f → LoadsAllocator s H.fields (Ok allocator) s' → IsSound (opened (bytes_of s'.bytes) H (table_of allocator))
+  opened-sound s s' allocator is loads =
+      subst (λ (g : Bytes). IsSound (opened g H (table_of allocator))) (sym (ap bytes_of loads.kept.bytes ∙ is))
+      (safe-sound f H (record { tables = []; blocks = [] }) Unset (table_of allocator) (empty-safe f H consistent)
+      (subst (λ (g : Bytes). IsTableOf g H.fields (table_of allocator)) is (loads.table some-words)))

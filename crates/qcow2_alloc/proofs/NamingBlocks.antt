@@ -322,6 +322,7 @@ module _ (m : Metadata) (i d : ℕ) (modified : Bool) (sound : IsSound m) (ready
                 absurd (let some = used.taken in omega (arith, some, uncounted))
           ]
         ];
+    waits = λ c used none. omega arith;
     law = λ c.
         let more = references-more c in
         elim (cases_eq (c / counters_of_block h) i) [

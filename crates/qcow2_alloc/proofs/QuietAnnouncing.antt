@@ -30,7 +30,7 @@ announced-quietly m order' result old new cached' at going safe =
           let safe' : (f : Bytes) (H : Header) → Safe f H cached' m.order → Safe f H cached' order' =
           subst (λ (r : Result Unit Fault). OnOk r ((f : Bytes) (H : Header) → Safe f H cached' m.order → Safe f H cached' order')) done safe in
           let turned = order-quiet (record m { file = bytes_of new.bytes; cached = cached' }) order' both.0 (safe' (bytes_of new.bytes) m.header both.0.safe) in
-          (turned.0, record { shows = quiet.shows; words = quiet.words; kept = quiet.kept; apart = quiet.apart; law = quiet.law });
+          (turned.0, record { shows = quiet.shows; words = quiet.words; kept = quiet.kept; apart = quiet.apart; waits = quiet.waits; law = quiet.law });
     }
 
 -- Writes that weren't cut off succeeded, where all is in reach,

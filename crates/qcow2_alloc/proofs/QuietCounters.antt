@@ -22,7 +22,7 @@ use Rattle.qcow2_alloc.proofs.QuietShows.{file-shows}
 -- A counter changes with the list of what waits to be freed.
 module _ (m : Metadata) (c n : ℕ) (cached' : Cached) (pending' : List FreeEntry) (handed taken : ℕ → ℕ) (sound : IsSound m) (changed : CounterChanged m.file m.header m.order m.cached c n cached')
     (here : n + waiting m c + taken c ≡ counted m c + listed pending' c + handed c) (others : (d : ℕ) → d ≢ c → waiting m d + taken d ≡ listed pending' d + handed d)
-    (covers : referenced m c + listed pending' c ≤ n) (fewer : (d : ℕ) → d ≢ c → listed pending' d ≤ waiting m d) (metadata : (d : ℕ) → listed (metadata_in pending') d ≤ waiting_metadata m d) where
+    (covers : referenced m c + listed pending' c ≤ n) (fewer : (d : ℕ) → listed pending' d ≤ waiting m d) (metadata : (d : ℕ) → listed (metadata_in pending') d ≤ waiting_metadata m d) where
   abbrev m' : Metadata
   m' = record m { cached = cached'; pending = pending' }
 
@@ -31,7 +31,7 @@ module _ (m : Metadata) (c n : ℕ) (cached' : Cached) (pending' : List FreeEntr
       let same = changed.written.block.references d in
       elim (cases_eq d c) [
         | inl e ↦ subst (λ k. referenced m' k + listed pending' k ≤ counted m' k) (sym e) (let own = changed.written.block.references c in omega (arith, covers, own, changed.written.here))
-        | inr apart ↦ let was = sound.covered d in omega (arith, same, was, fewer d apart, changed.written.others d apart)
+        | inr apart ↦ let was = sound.covered d in omega (arith, same, was, fewer d, changed.written.others d apart)
       ]
 
   counts-changed : (d : ℕ) → counted m' d + referenced m d + waiting m d + taken d ≡ counted m d + referenced m' d + listed pending' d + handed d
@@ -63,6 +63,7 @@ module _ (m : Metadata) (c n : ℕ) (cached' : Cached) (pending' : List FreeEntr
       });
       kept = λ d used none k lt. refl;
       apart = λ d used none. used.apart;
+      waits = λ d used none. fewer d;
       law = counts-changed;
     },
   )
@@ -85,7 +86,7 @@ lower-quiet m c n cached' pending' sound changed more less metadata =
     let one = here-one c in
     let was = sound.covered c in
     counter-quiet m c n cached' pending' (λ _. 0) (λ _. 0) sound changed (omega (arith, more, own, one)) (λ d apart. let at = less d in omega (arith, at, away-none c d apart))
-    (omega (arith, was, more, own, one)) (λ d apart. let at = less d in omega (arith, at)) metadata
+    (omega (arith, was, more, own, one)) (λ d. let at = less d in omega (arith, at)) metadata
 
 -- or for a cluster that was handed out and that no entry has and nothing names: it is taken back.
 pub return-quiet : (m : Metadata) (c n : ℕ) (cached' : Cached) → IsSound m → CounterChanged m.file m.header m.order m.cached c n cached' → counted m c ≡ n + 1 → referenced m c + waiting m c ≤ n
@@ -93,7 +94,7 @@ pub return-quiet : (m : Metadata) (c n : ℕ) (cached' : Cached) → IsSound m �
 return-quiet m c n cached' sound changed more enough =
     let one = here-one c in
     counter-quiet m c n cached' m.pending (λ _. 0) (one_at c) sound changed (omega (arith, more, one)) (λ d apart. omega (arith, away-none c d apart))
-    enough (λ d apart. omega arith) (λ d. omega arith)
+    enough (λ d. omega arith) (λ d. omega arith)
 
 -- It is raised for a cluster that is handed out.
 pub raise-quiet : (m : Metadata) (c : ℕ) (cached' : Cached) → IsSound m → CounterChanged m.file m.header m.order m.cached c 1 cached' → counted m c ≡ 0
@@ -102,7 +103,7 @@ raise-quiet m c cached' sound changed none =
     let one = here-one c in
     let was = sound.covered c in
     counter-quiet m c 1 cached' m.pending (one_at c) (λ _. 0) sound changed (omega (arith, none, one)) (λ d apart. omega (arith, away-none c d apart))
-    (omega (arith, was, none)) (λ d apart. omega arith) (λ d. omega arith)
+    (omega (arith, was, none)) (λ d. omega arith) (λ d. omega arith)
 
 -- What still names a cluster is covered by a lower count
 covered-by : (o : CacheDependency) (f g : Bytes) (h : Fields) (c n : ℕ) → SamePlaces f g h → named f g h c ≤ n → IsStillCovered o f g h c n

@@ -86,6 +86,7 @@ push-quiet m e sound enough unnamed = (
     words = λ i j live. refl;
     kept = λ c used none k lt. refl;
     apart = λ c used none. used.apart;
+    waits = λ c used none. let more = listed_push m.pending e c in omega (arith, more, none);
     law = λ c. let more = listed_push m.pending e c in omega (arith, more);
   },
 )

@@ -44,6 +44,7 @@ module _ (m : Metadata) (x : Bytes) (cached' : Cached) (order' : CacheDependency
     words = λ i j live. ap (λ (g : Bytes). slot g m.header.fields i j) same;
     kept = λ c used none. left-same-there m.file m.header m.cached m.order sound.safe x left c used.apart;
     apart = λ c used none. structure-same m.file x m.header.fields left.words.places (meets m.header.fields c) ∙ used.apart;
+    waits = λ c used none. omega arith;
     law = λ c.
         let counts : count (memory x m.header.fields cached') m.header.fields c ≡ counted m c = ap (λ (g : Bytes). count g m.header.fields c) same in
         let references : refs (memory x m.header.fields cached') m.header.fields c ≡ referenced m c = ap (λ (g : Bytes). refs g m.header.fields c) same in

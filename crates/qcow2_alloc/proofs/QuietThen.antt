@@ -199,6 +199,10 @@ quiet-then m m1 m2 h1 t1 h2 t2 sound sound1 named_kept first second = record {
       subst (λ n. Same m1.file m2.file (c * n) n) (size m m1 h1 t1 first) (second.kept c used1 (omega (arith, none))) in
       λ k lt. same k lt ∙ first.kept c used (omega (arith, none)) k lt;
   apart = λ c used none. second.apart c (used-then m m1 h1 t1 first sound sound1 c used (omega (arith, none))) (omega (arith, none));
+  waits = λ c used none.
+      let before = first.waits c used (omega (arith, none)) in
+      let behind = second.waits c (used-then m m1 h1 t1 first sound sound1 c used (omega (arith, none))) (omega (arith, none)) in
+      omega (arith, before, behind);
   law = λ c. let one = first.law c in let two = second.law c in omega (arith, one, two);
 }
 
@@ -209,6 +213,7 @@ quiet-otherwise m m' handed taken h t same kept quiet = record {
   words = quiet.words;
   kept = λ c used none. quiet.kept c used (kept c used none);
   apart = λ c used none. quiet.apart c used (kept c used none);
+  waits = λ c used none. quiet.waits c used (kept c used none);
   law = λ c. let law = quiet.law c in omega (arith, law, same c);
 }
 

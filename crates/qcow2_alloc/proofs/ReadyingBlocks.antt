@@ -1,10 +1,10 @@
 -- What a run of clusters needs is made, or the refcount table grows.
-use Rattle.std.proofs.Common.{◌≡◌, ◌≢◌, ℕ, ◌+◌, ◌<◌, ◌≤◌, refl, arith, ap, List, length, Bool, true, false, Result, Ok, Err, inl, inr}
+use Rattle.std.proofs.Common.{◌≡◌, ◌≢◌, ℕ, ◌+◌, ◌<◌, ◌≤◌, refl, arith, ap, sym, subst, List, length, Bool, true, false, Result, Ok, Err, inl, inr}
 use Rattle.std.specs.Prelude.{IsTrue, IfOk, OnOk, MatchResult, slice_index, ◌*◌, ◌^◌}
 use Rattle.std.proofs.Math.Nat.{mul-le-mul_right}
 use Rattle.imago_storage.specs.State.{StorageState}
 use Rattle.imago_storage.specs.declared.fault.Fault.{Fault}
-use Rattle.imago_storage.specs.declared.fault.Fault.TheVariants.{CacheFull}
+use Rattle.imago_storage.specs.declared.fault.Fault.TheVariants.{CacheFull, Limit}
 use Rattle.qcow2_types.specs.Counts.{counters_of_block}
 use Rattle.qcow2_types.specs.Words.{block_offset}
 use Rattle.qcow2_types.specs.Pending.{FreeEntry}
@@ -18,10 +18,15 @@ use Rattle.qcow2_alloc.specs.Allocators.{metadata_of}
 use Rattle.qcow2_alloc.specs.Caches.{order_of}
 use Rattle.qcow2_alloc.specs.FillingBlocks.{FillsFrom}
 use Rattle.qcow2_alloc.specs.Freeing.{IsLoose}
+use Rattle.qcow2_alloc.specs.Going.{IsMild}
 use Rattle.qcow2_alloc.specs.GrowingTables.{Leaks, GrowsTable}
 use Rattle.qcow2_alloc.specs.Quiet.{Metadata, IsSound}
 use Rattle.qcow2_alloc.specs.ReadyingBlocks.{HasMade, HasMore, NoneCanBeMade, ReadiesBlocks}
-use Rattle.qcow2_alloc.proofs.EnsuringBlocks.{so, why-allocated-wider}
+use Rattle.qcow2_alloc.proofs.EnsuringBlocks.{refused, so, why-allocated-wider}
+
+-- An answer that refuses with a number is that of its fault.
+limit-of : (fault : Fault) (number : ℕ) → refused fault ≡ Err (Limit number) → fault ≡ Limit number
+limit-of fault number is = let e = is in cc
 
 -- Nothing leaks,
 pub leaks-none : {T : Type 0} (sound : Type 0) (loose : Bool → Type 0) (result : Result T Fault) → Leaks sound loose result (λ _. 0)
@@ -59,6 +64,7 @@ module _ {S : Type 0} (state : S → StorageState) (mark at first last : ℕ) (t
     once = λ inside. (refl, makes.header, makes.long);
     grew = λ past. absurd (omega (arith, past, inside));
     kept = λ past. absurd (omega (arith, past, inside));
+    barred = λ past. absurd (omega (arith, past, inside));
     cause = caused result makes.cause;
   }
     where
@@ -74,7 +80,7 @@ module _ {S : Type 0} (state : S → StorageState) (mark at first last : ℕ) (t
       more (Ok made) fewer = λ some. inr (makes.long, fewer some)
       more (Err fault) fewer = tt
 
-      far-all : (number : ℕ) → ((i : ℕ) × (first ≤ i) × (i < last + 1) × (number ≤ i * counters_of_block before.header.fields) × (IsInReach before.header.fields.cluster_bits number → ⊥)) → Knows (NoneCanBeMade mark at first last Start)
+      far-all : (number : ℕ) → ((i : ℕ) × (first ≤ i) × (i < last + 1) × (number ≤ i * counters_of_block before.header.fields) × (IsInReach before.header.fields.cluster_bits number → ⊥)) → Knows (NoneCanBeMade mark at first last number Start)
       far-all number (i, above, below, le, far) order keeps sound = inl (λ all.
           let near : IsInReach before.header.fields.cluster_bits (i * counters_of_block before.header.fields) = all i above (omega (arith, below)) in
           let more = mul-le-mul_right (2 ^ before.header.fields.cluster_bits) le in
@@ -85,7 +91,7 @@ module _ {S : Type 0} (state : S → StorageState) (mark at first last : ℕ) (t
           (WhyNotAllocated (IsTrue (state before.image).shape.keeps × (order_of old ≡ L2DependsOnRb) × IsSound (metadata_of state before old table pending)) (IsLoose table old)
           (λ number. (i : ℕ) × (first ≤ i) × (i < last + 1) × (number ≤ i * counters_of_block before.header.fields) × (IsInReach before.header.fields.cluster_bits number → ⊥)) (state before.image).faults (state after.image).faults)
           → MatchResult r (λ _. (state after.image).faults ≡ (state before.image).faults)
-          (WhyNotAllocated (IsTrue (state before.image).shape.keeps × (order_of old ≡ L2DependsOnRb) × IsSound (metadata_of state before old table pending)) (IsLoose table old) (λ _. Knows (NoneCanBeMade mark at first last Start)) (state before.image).faults (state after.image).faults)
+          (WhyNotAllocated (IsTrue (state before.image).shape.keeps × (order_of old ≡ L2DependsOnRb) × IsSound (metadata_of state before old table pending)) (IsLoose table old) (λ number. Knows (NoneCanBeMade mark at first last number Start)) (state before.image).faults (state after.image).faults)
       caused (Ok made) same = same
       caused (Err fault) why = why-allocated-wider _ _ _ _ _ _ _ _ _ (λ holds. holds) (λ any loose. loose) far-all refl fault why
 
@@ -103,6 +109,7 @@ module _ {S : Type 0} (state : S → StorageState) (mark at first last : ℕ) (t
       once = λ inside. absurd (omega (arith, inside, past));
       grew = λ past. (let above = grows.enough.enough.above in omega (arith, above, past, behind), grows.waits);
       kept = λ past. tt;
+      barred = λ past order keeps sound number is. absurd (cc is);
       cause = grows.cause;
     }
 
@@ -119,5 +126,9 @@ module _ {S : Type 0} (state : S → StorageState) (mark at first last : ℕ) (t
       once = λ inside. absurd (omega (arith, inside, past));
       grew = λ past. tt;
       kept = λ past. grows.kept;
-      cause = why-allocated-wider _ _ _ _ _ _ _ _ _ (λ holds. holds) (λ any loose. loose) (λ number none order keeps sound. inr (past, number, none order keeps sound)) refl fault grows.cause;
+      barred = λ past order keeps sound number is.
+          let mild : IsMild fault = subst (λ (f : Fault). IsMild f) (sym (limit-of fault number is)) tt in
+          let still = grows.stays mild in
+          record { header = still.1; table = still.0; counts = grows.barred order keeps sound number (ap (λ (f : Fault). Err f) (limit-of fault number is)) };
+      cause = why-allocated-wider _ _ _ _ _ _ _ _ _ (λ holds. holds) (λ any loose. loose) (λ number none order keeps sound. inr (past, none order keeps sound)) refl fault grows.cause;
     }

@@ -4,15 +4,16 @@ use Rattle.std.specs.Prelude.{⊤, ◌⊎◌, min, IsTrue, slice_index, ◌==◌
 use Rattle.std.proofs.lemmas.Bool.{cases_lt}
 use Rattle.std.proofs.lemmas.List.Sums.{count_by-le-length}
 use Rattle.std.proofs.lemmas.Nat.{le-div}
-use Rattle.std.proofs.Math.Nat.{div-mul-le_self, mul-le-mul}
+use Rattle.std.proofs.Math.Nat.{div-mul-le_self, mul-le-mul, mul-le-mul_right}
 use Rattle.imago_storage.specs.State.{StorageState}
 use Rattle.imago_storage.specs.declared.fault.Fault.{Fault}
 use Rattle.imago_storage.specs.declared.fault.Fault.TheVariants.{DamagedTable, Limit}
 use Rattle.imago_storage.proofs.Composing.{keeps_on}
 use Rattle.qcow2_types.specs.Counts.{counters_of_block}
-use Rattle.qcow2_types.specs.Header.{Header}
+use Rattle.qcow2_types.specs.Header.{Header, cluster_size}
 use Rattle.qcow2_types.specs.Pending.{FreeEntry}
 use Rattle.qcow2_types.specs.Words.{block_offset}
+use Rattle.qcow2_types.proofs.HeaderLimits.{header-limited}
 use Rattle.qcow2_metadata.specs.Places.{IsInReach}
 use Rattle.qcow2_metadata.specs.Tables.{TableValue}
 use Rattle.qcow2_alloc.specs.declared.cache.CacheDependency.TheVariants.{L2DependsOnRb}
@@ -22,14 +23,15 @@ use Rattle.qcow2_alloc.specs.Allocating.{Allocating, MovedTable, WhyNotAllocated
 use Rattle.qcow2_alloc.specs.Allocators.{metadata_of}
 use Rattle.qcow2_alloc.specs.Caches.{order_of}
 use Rattle.qcow2_alloc.specs.Freeing.{IsLoose}
-use Rattle.qcow2_alloc.specs.GrowingTables.{IsLengthenedByTable, table_run}
+use Rattle.qcow2_alloc.specs.GrowingTables.{IsLengthenedByTable, NoPlaceToGrow, table_run}
 use Rattle.qcow2_alloc.specs.Going.{IsWhole}
 use Rattle.qcow2_alloc.specs.Quiet.{Metadata, IsSound, counted}
-use Rattle.qcow2_alloc.specs.ReadyingBlocks.{HasMore, ReadiesBlocks, WhyNotFit}
-use Rattle.qcow2_alloc.specs.ReadyingRuns.{ReadiesRun}
+use Rattle.qcow2_alloc.specs.ReadyingBlocks.{CountsAsBefore, HasMore, NoneCanBeMade, ReadiesBlocks, WhyNotFit, last_number}
+use Rattle.qcow2_alloc.specs.ReadyingRuns.{IsRunTold, ReadiesRun}
 use Rattle.qcow2_alloc.specs.SearchingClusters.{IsFirstRun, IsSafeWith, LooksForRun, counts_in}
 use Rattle.qcow2_alloc.proofs.Allocating.{allocating-none, allocating-then, allocating-as}
-use Rattle.qcow2_alloc.proofs.EnsuringBlocks.{why-allocated-wider}
+use Rattle.qcow2_alloc.proofs.AnnouncedOrders.{no-place-as}
+use Rattle.qcow2_alloc.proofs.EnsuringBlocks.{why-allocated-as}
 use Rattle.qcow2_alloc.proofs.GrowingRooms.{first-run-same}
 use Rattle.qcow2_alloc.proofs.Looking.{counts-still}
 use Rattle.qcow2_alloc.proofs.LookingAt.{looked-allocates, counts-looked}
@@ -62,6 +64,24 @@ between-blocks k first n c some above below =
       le-div (first / k) c k some (omega (arith, low, above)),
       le-div (c / k) (first + (n - 1)) k some (omega (arith, high, below)),
     )
+
+-- Words can name the first cluster that a block counts, where they can name one that it counts, or one behind.
+block-near : (H : Header) (z n i : ℕ) → i ≤ (z + (n - 1)) / counters_of_block H.fields → IsInReach H.fields.cluster_bits (z + (n - 1)) → IsInReach H.fields.cluster_bits (i * counters_of_block H.fields)
+block-near H z n i below near =
+    let le = mul-le-mul_right (counters_of_block H.fields) below in
+    let under = div-mul-le_self (z + (n - 1)) (counters_of_block H.fields) in
+    let more : i * counters_of_block H.fields * cluster_size H.fields ≤ (z + (n - 1)) * cluster_size H.fields = mul-le-mul_right (cluster_size H.fields) (omega (arith, le, under)) in
+    omega (arith, near, more)
+
+-- What tells that a table can't grow for a run tells why that can't be made ready, also where nothing that this rests on changed.
+making-told : (mark n z : ℕ) (m m' : Metadata) → CountsAsBefore m m' → IsFirstRun (counted m) mark n z → (number : ℕ)
+    → NoPlaceToGrow m mark ((z + (n - 1)) / counters_of_block m.header.fields + (n / counters_of_block m.header.fields + 2)) number → IsRunTold m' mark n number
+making-told mark n z m m' same run number none = record {
+  first = z;
+  run = first-run-same (counted m) (counted m') mark n z same.counts run;
+  told = inr (subst (λ (H : Header). NoPlaceToGrow m' mark ((z + (n - 1)) / counters_of_block H.fields + (n / counters_of_block H.fields + 2)) number) (sym same.header)
+      (no-place-as m' m (sym same.header) (sym same.table) (λ c. sym (same.counts c)) mark ((z + (n - 1)) / counters_of_block m.header.fields + (n / counters_of_block m.header.fields + 2)) number none));
+}
 
 -- What an allocation leaves of its room, turn by turn.
 pub record StaysRoomy (mark n : ℕ) (m0 m : Metadata) : Type 0 where
@@ -169,8 +189,8 @@ module _ {S : Type 0} (state : S → StorageState) (table : TableValue) (old : M
 
     -- or as it makes something,
     pub making-refused : (mark n z first last : ℕ) → 1 ≤ n → (Holds table old before pending → IsFirstRun (counted (metadata_of state fA A tA pA)) mark n z) → first ≡ z / counters_of_block fA.header.fields → last ≡ (z + (n - 1)) / counters_of_block fA.header.fields
-        → Stays mark n tA A fA pA → (fault : Fault) (tB : TableValue) (B : MetadataCaches S) (fB : ImageFile S) (pB : List FreeEntry) → ReadiesBlocks state mark (last + (n / counters_of_block fA.header.fields + 2)) first last tA A fA pA (Err fault) tB B fB pB → (length table.words < length tA.words → last < length tA.words) → ReadiesRun state mark n table old before pending (Err fault) tB B fB pB
-    making-refused mark n z first last positive run first-is last-is stays fault tB B fB pB makes covers = record {
+        → IsInReach fA.header.fields.cluster_bits (z + (n - 1)) → Stays mark n tA A fA pA → (fault : Fault) (tB : TableValue) (B : MetadataCaches S) (fB : ImageFile S) (pB : List FreeEntry) → ReadiesBlocks state mark (last + (n / counters_of_block fA.header.fields + 2)) first last tA A fA pA (Err fault) tB B fB pB → (length table.words < length tA.words → last < length tA.words) → ReadiesRun state mark n table old before pending (Err fault) tB B fB pB
+    making-refused mark n z first last positive run first-is last-is near stays fault tB B fB pB makes covers = record {
       leaked = makes.leaked;
       leaks = leaks-on _ _ _ _ fault makes.leaked holds-on so_far.step.loose makes.leaks;
       step = step-on {T = ℕ} (Err fault) makes.leaked tB B fB pB makes.step;
@@ -189,13 +209,31 @@ module _ {S : Type 0} (state : S → StorageState) (table : TableValue) (old : M
           | inr longer ↦ absurd (let inside = covers longer.0 in omega (arith, inside, past))
         ]
       ];
-      cause = why-allocated-wider _ _ _ _ _ _ _ _ _ holds-on so_far.step.loose
-          (λ number none order keeps sound roomy.
+      cause = why-allocated-as _ _ _ _ _ _ _ _ _ holds-on so_far.step.loose so_far.faults fault
+          (λ number is none order keeps sound.
           let holds : Holds table old before pending = (keeps, order, sound) in
           let there = holds-on holds in
-          can-make mark n positive (metadata_of state before old table pending) sound roomy (metadata_of state fA A tA pA) ((stays holds).room roomy) so_far.step.moved (so_far.step.raised order keeps sound tt) there.2 z (run holds) first last first-is last-is
-          (none there.1 there.0 there.2)) so_far.faults fault makes.cause;
+          let why = none there.1 there.0 there.2 in
+          (crowded number holds why, told number is holds why)) makes.cause;
     }
+      where
+        mA : Metadata
+        mA = metadata_of state fA A tA pA
+
+        CanNot : ℕ → Type 0
+        CanNot number = NoneCanBeMade mark (last + (n / counters_of_block fA.header.fields + 2)) first last number mA
+
+        crowded : (number : ℕ) → Holds table old before pending → CanNot number → IsCrowded Start mark n
+        crowded number holds none roomy =
+            let there = holds-on holds in
+            can-make mark n positive Start holds.2 roomy mA ((stays holds).room roomy) so_far.step.moved (so_far.step.raised holds.1 holds.0 holds.2 tt) there.2 z (run holds) first last first-is last-is number none
+
+        told : (number : ℕ) → fault ≡ Limit number → Holds table old before pending → CanNot number → IsRunTold (metadata_of state fB B tB pB) mark n number
+        told number is holds (inl far) = absurd (far (λ i above below. block-near fA.header z n i (omega (arith, below, last-is)) near))
+        told number is holds (inr (past, none)) =
+            let there = holds-on holds in
+            making-told mark n z mA (metadata_of state fB B tB pB) (makes.barred past there.1 there.0 there.2 number (ap (λ (f : Fault). Err f) is)) (run holds) number
+            (subst (λ (l : ℕ). NoPlaceToGrow mA mark (l + (n / counters_of_block fA.header.fields + 2)) number) last-is none)
 
     module _ (mark n z : ℕ) (some : 1 ≤ n) (B : MetadataCaches S) (fB : ImageFile S) (looks : LooksForRun state tA mark n A fA (Ok z) B fB) where
       -- What it found isn't counted.
@@ -228,6 +266,13 @@ module _ {S : Type 0} (state : S → StorageState) (table : TableValue) (old : M
               let none : counted (metadata_of state fA A tA pA) 0 ≡ 0 = subst (λ c. counted (metadata_of state fA A tA pA) c ≡ 0) is run in
               omega (arith, counts, none)
 
+          told : (number : ℕ) → WhyNotFit fB.header.fields n z (Limit number) → Holds table old before pending → IsRunTold (metadata_of state fB B tA pA) mark n number
+          told number why holds =
+              let there = holds-on holds in
+              let long = there.2.table.long in
+              let few = (header-limited true _ fA.header there.2.safe.consistent.readable.loads).refcount_entries in
+              record { first = z; run = found-run holds; told = inl (why.0, λ near. let far = why.1 near in omega (arith, long, few, far)) }
+
           crowded : (IsInReach fB.header.fields.cluster_bits (z + (n - 1)) → 2 ^ 20 ≤ (z + (n - 1)) / counters_of_block fB.header.fields) → order_of old ≡ L2DependsOnRb → IsTrue (state before.image).shape.keeps → IsSound (metadata_of state before old table pending) → IsCrowded (metadata_of state before old table pending) mark n
           crowded far order keeps sound roomy =
               let holds : Holds table old before pending = (keeps, order, sound) in
@@ -236,9 +281,9 @@ module _ {S : Type 0} (state : S → StorageState) (table : TableValue) (old : M
               (subst (λ (H : Header). IsInReach H.fields.cluster_bits (z + (n - 1)) → 2 ^ 20 ≤ (z + (n - 1)) / counters_of_block H.fields) looks.looked.header far)
 
           caused : (f : Fault) → WhyNotFit fB.header.fields n z f → WhyNotAllocated (Holds table old before pending) (IsLoose table old)
-              (λ _. order_of old ≡ L2DependsOnRb → IsTrue (state before.image).shape.keeps → IsSound (metadata_of state before old table pending) → IsCrowded (metadata_of state before old table pending) mark n) (state before.image).faults (state fB.image).faults f
+              (λ number. order_of old ≡ L2DependsOnRb → IsTrue (state before.image).shape.keeps → IsSound Start → IsCrowded Start mark n × IsRunTold (metadata_of state fB B tA pA) mark n number) (state before.image).faults (state fB.image).faults f
           caused DamagedTable is = never is
-          caused (Limit number) far = (crowded far, looks.looked.cause ∙ so_far.faults)
+          caused (Limit number) far = ((λ order keeps sound. (crowded far.1 order keeps sound, told number far (keeps, order, sound))), looks.looked.cause ∙ so_far.faults)
           caused other is = absurd is
 
       -- What it has taken is little.
@@ -252,8 +297,8 @@ module _ {S : Type 0} (state : S → StorageState) (table : TableValue) (old : M
           )
 
       -- It is refused as the table has grown and doesn't count the run,
-      pub grown-refused : (number : ℕ) → length table.words < length tA.words → length tA.words ≤ (z + (n - 1)) / counters_of_block fB.header.fields → Stays mark n tA A fA pA → ReadiesRun state mark n table old before pending (Err (Limit number)) tA B fB pA
-      grown-refused number longer past stays =
+      pub grown-refused : (number : ℕ) → number ≡ last_number z n → length table.words < length tA.words → length tA.words ≤ (z + (n - 1)) / counters_of_block fB.header.fields → Stays mark n tA A fA pA → ReadiesRun state mark n table old before pending (Err (Limit number)) tA B fB pA
+      grown-refused number is longer past stays =
           let searched = readying-searched mark n z B fB looks in record {
             leaked = λ _. 0;
             leaks = leaks-none _ _ (Err (Limit number));
@@ -264,7 +309,7 @@ module _ {S : Type 0} (state : S → StorageState) (table : TableValue) (old : M
             reach = tt;
             some = tt;
             list = by-table before.header fA.header table tA pending pA so_far.list;
-            cause = (crowded, looks.looked.cause ∙ so_far.faults);
+            cause = ((λ order keeps sound. (crowded order keeps sound, record { first = z; run = found-run (keeps, order, sound); told = inl (is, λ near. past) })), looks.looked.cause ∙ so_far.faults);
           }
         where
           crowded : order_of old ≡ L2DependsOnRb → IsTrue (state before.image).shape.keeps → IsSound (metadata_of state before old table pending) → IsCrowded (metadata_of state before old table pending) mark n

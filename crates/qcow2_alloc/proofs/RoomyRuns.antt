@@ -143,8 +143,8 @@ module _ (mark n : ℕ) (some : 1 ≤ n) (m0 : Metadata) (sound0 : IsSound m0) (
         grow-at P p = subst (λ (l : ℕ). P (l + (n / k + 2))) last-is (subst (λ (x : ℕ). P (last + (n / x + 2))) size p)
 
         -- What it needs can be made,
-        pub can-make : NoneCanBeMade mark at first last m → ⊥
-        can-make (inl far) = far (λ i above below. reach' i below)
+        pub can-make : (number : ℕ) → NoneCanBeMade mark at first last number m → ⊥
+        can-make number (inl far) = far (λ i above below. reach' i below)
           where
             reach' : (i : ℕ) → i ≤ last → IsInReach m.header.fields.cluster_bits (i * counters_of_block m.header.fields)
             reach' i below =
@@ -152,7 +152,7 @@ module _ (mark n : ℕ) (some : 1 ≤ n) (m0 : Metadata) (sound0 : IsSound m0) (
                 let under = div-mul-le_self (z + (n - 1)) k in
                 let inside = ends in
                 subst (λ (x : ℕ). IsInReach m.header.fields.cluster_bits (i * x)) (sym size) (reach (i * k) (omega (arith, le, under, inside, some)))
-        can-make (inr (past, number, none)) = elim stays.keeping [
+        can-make number (inr (past, none)) = elim stays.keeping [
           | inl was ↦ place-there-is m0.table k n (space m0.header.fields) Q s end mark (sizes s stays.start.early) stays.start.behind m size sound z run was (omega (arith, past, last-is)) still reach number (grow-at (λ (a : ℕ). NoPlaceToGrow m mark a number) none)
           | inr was ↦ let inside = found-counted m0.table k n (space m0.header.fields) Q s end mark (sizes s stays.start.early) stays.start.behind m.table (counted m) z run was in omega (arith, inside, past, last-is)
         ]

@@ -384,6 +384,7 @@ module _ (m : Metadata) (table : TableValue) (t n : ℕ) (sound : IsSound m) (re
           | inl empty ↦ let uncounted = (own-counts c empty).1 in let some = used.taken in absurd (omega (arith, some, uncounted))
           | inr there ↦ let off = taken-there c there in omega (arith, base, was, off, none)
         ];
+    waits = λ c used none. omega arith;
     law = λ c.
         let moved = references-moved c in
         elim (cases_eq (block_at f h (c / counters_of_block h)) 0) [

@@ -21,7 +21,7 @@ use Rattle.qcow2_alloc.specs.Freeing.{Frees, IsLoose, IsMarked, IsRestInTurn}
 use Rattle.qcow2_alloc.specs.Going.{IsWhole, IsMild}
 use Rattle.qcow2_alloc.specs.GrowingTables.{IsLengthenedByTable, IsTakenFor, Leaks, NoPlaceToGrow, TableGrown, table_run}
 use Rattle.qcow2_alloc.specs.Quiet.{Metadata, IsSound, IsQuiet, Quietly, counted, named_at_all, waiting, one_at}
-use Rattle.qcow2_alloc.specs.ReadyingRuns.{handed_by, mark_behind, IsRunCounted}
+use Rattle.qcow2_alloc.specs.ReadyingRuns.{handed_by, mark_behind, IsRunCounted, IsRunTold}
 
 -- Caches that had room to spare have it still, and the refcount table names what is pinned where it did; there is as much room, and the L2 tables
 -- are kept; and nothing of the header has changed but perhaps the refcount table's place.
@@ -107,7 +107,8 @@ pub record AllocatesClusters {S : Type 0} (state : S → StorageState) (mark n :
   pub list : IsLengthenedByTable before.header.fields table table' left pending'
   pub cause : MatchResult result (λ _. (state after.image).faults ≡ (state before.image).faults)
       (WhyNotAllocated (IsTrue (state before.image).shape.keeps × IsSound (metadata_of state before old table pending)) (IsLoose table old)
-      (λ _. IsTrue (state before.image).shape.keeps → IsSound (metadata_of state before old table pending) → IsCrowded mid mid_mark n)
+      (λ number. IsTrue (state before.image).shape.keeps → IsSound (metadata_of state before old table pending)
+      → IsCrowded mid mid_mark n × IsRunTold (metadata_of state after new table' pending') mid_mark n number)
       (state before.image).faults (state after.image).faults)
 
 -- what a call hands out that may answer none

@@ -21,6 +21,7 @@ pub mod Allocating
 pub mod Growing
 pub mod MakingBlocks
 pub mod NewBlocks
+pub mod Opening
 pub mod GrowingTables
 pub mod ReadyingRuns
 pub mod ReadyingBlocks

@@ -96,13 +96,14 @@ module _ (m : Metadata) where
     pub contents : (i j : ℕ) → Live (l2_table m.file m.header.fields) m.header.fields i j → (p : ℕ) → 0 < of_mapping m.header.fields (touches p 1) (slot x H.fields i j) → x p ≡ m.file p
 
 -- The image is as it was to the disk: in memory each word means what it did, and the file shows what it did there or in memory. What is used
--- keeps its bytes and its place. In memory, how often a cluster is counted beyond what names it and what waits to free it has changed by
+-- and not taken keeps its bytes and its place, and no more entries wait to free it. In memory, how often a cluster is counted beyond what names it and what waits to free it has changed by
 -- what was handed out and by what was taken back, to be named, to wait or to be free.
 pub record IsQuiet (handed taken : ℕ → ℕ) (old new : Metadata) : Type 0 where
   pub shows : ShowsEither old new.file new.header
   pub words : (i j : ℕ) → Live (l2_table old.file old.header.fields) old.header.fields i j → slot (in_memory new) new.header.fields i j ≡ slot (in_memory old) old.header.fields i j
   pub kept : (c : ℕ) → IsUsed old c → taken c ≡ 0 → Same old.file new.file (c * cluster_size old.header.fields) (cluster_size old.header.fields)
   pub apart : (c : ℕ) → IsUsed old c → taken c ≡ 0 → structure new.file new.header.fields (meets new.header.fields c) ≡ 0
+  pub waits : (c : ℕ) → IsUsed old c → taken c ≡ 0 → waiting new c ≤ waiting old c
   pub law : (c : ℕ) → counted new c + referenced old c + waiting old c + taken c ≡ counted old c + referenced new c + waiting new c + handed c
 
 -- one at cluster c, and none elsewhere

@@ -1,5 +1,5 @@
 -- What a run of clusters needs before it can be counted.
-use Rattle.std.specs.Prelude.{◌≡◌, ◌≢◌, ◌⊎◌, ℕ, ◌+◌, ◌-◌, ◌*◌, ◌/◌, ◌^◌, ◌<◌, ◌≤◌, ◌++◌, Bool, true, false, IsTrue, List, Result, IfOk, OnOk, OnErr, MatchResult, length, slice_index}
+use Rattle.std.specs.Prelude.{◌≡◌, ◌≢◌, ◌⊎◌, ℕ, min, ◌+◌, ◌-◌, ◌*◌, ◌/◌, ◌^◌, ◌<◌, ◌≤◌, ◌++◌, Bool, true, false, IsTrue, List, Result, Err, IfOk, OnOk, OnErr, MatchResult, length, slice_index}
 use Rattle.imago_storage.specs.State.{StorageState}
 use Rattle.imago_storage.specs.declared.fault.Fault.{Fault}
 use Rattle.imago_storage.specs.declared.fault.Fault.TheVariants.{DamagedTable, Limit}
@@ -19,12 +19,18 @@ use Rattle.qcow2_alloc.specs.FillingBlocks.{FillsFrom}
 use Rattle.qcow2_alloc.specs.Freeing.{IsLoose}
 use Rattle.qcow2_alloc.specs.Going.{IsWhole}
 use Rattle.qcow2_alloc.specs.GrowingTables.{Leaks, NoPlaceToGrow, TableGrown, table_run}
-use Rattle.qcow2_alloc.specs.Quiet.{Metadata, IsSound}
+use Rattle.qcow2_alloc.specs.Quiet.{Metadata, IsSound, counted}
 
--- Why no run can be counted that begins at a cluster: it is the first of the file, which holds the header, or the run ends too far behind.
+-- the number of the last cluster of a run, or the greatest one where that is more
+abbrev pub last_number : (first n : ℕ) → ℕ
+last_number first n = min (first + (n - 1)) (2 ^ 64 - 1)
+
+-- Why no run can be counted that begins at a cluster: it is the first of the file, which holds the header, or the run ends too far behind, as
+-- its last cluster tells.
 abbrev pub WhyNotFit : Fields → ℕ → ℕ → Fault → Type 0
 WhyNotFit h n first DamagedTable = first ≡ 0
-WhyNotFit h n first (Limit number) = IsInReach h.cluster_bits (first + (n - 1)) → 2 ^ 20 ≤ (first + (n - 1)) / counters_of_block h
+WhyNotFit h n first (Limit number) = (number ≡ last_number first n)
+    × (IsInReach h.cluster_bits (first + (n - 1)) → 2 ^ 20 ≤ (first + (n - 1)) / counters_of_block h)
 WhyNotFit h n first fault = ⊥
 
 -- A refcount table became longer, or as long names a block where it named none.
@@ -35,9 +41,15 @@ HasMore table table' = (length table.words < length table'.words) ⊎ ((length t
 abbrev pub HasMade : (mark at first last : ℕ) → Metadata → Metadata → Type 0
 HasMade mark at first last m m' = ((last < length m.table.words) × (length m'.table.words ≡ length m.table.words) × FillsFrom mark first (last + 1) m m') ⊎ ((length m.table.words ≤ last) × TableGrown mark at m m')
 
--- Why neither could be: words can't name the first cluster that one of the blocks counts, or there is no place for the table.
-abbrev pub NoneCanBeMade : (mark at first last : ℕ) → Metadata → Type 0
-NoneCanBeMade mark at first last m = (((i : ℕ) → first ≤ i → i ≤ last → IsInReach m.header.fields.cluster_bits (i * counters_of_block m.header.fields)) → ⊥) ⊎ ((length m.table.words ≤ last) × (number : ℕ) × NoPlaceToGrow m mark at number)
+-- Why neither could be: words can't name the first cluster that one of the blocks counts, or there is no place for the table, as a number tells.
+abbrev pub NoneCanBeMade : (mark at first last number : ℕ) → Metadata → Type 0
+NoneCanBeMade mark at first last number m = (((i : ℕ) → first ≤ i → i ≤ last → IsInReach m.header.fields.cluster_bits (i * counters_of_block m.header.fields)) → ⊥) ⊎ ((length m.table.words ≤ last) × NoPlaceToGrow m mark at number)
+
+-- An image has the header and the refcount table that it had, and counts each cluster as it did.
+pub record CountsAsBefore (m m' : Metadata) : Type 0 where
+  pub header : m'.header ≡ m.header
+  pub table : m'.table ≡ m.table
+  pub counts : (c : ℕ) → counted m' c ≡ counted m c
 
 -- The refcount table has a block at each index of a range, or has more than it had: it grows until it holds the index `at` where it has no word for
 -- the last of these. The answer is whether it does.
@@ -54,7 +66,9 @@ pub record ReadiesBlocks {S : Type 0} (state : S → StorageState) (mark at firs
   pub once : last < length table.words → (pending' ≡ pending) × (after.header ≡ before.header) × (length table'.words ≡ length table.words)
   pub grew : length table.words ≤ last → OnOk result ((length table.words < length table'.words) × (pending' ≡ pending ++ table_run before.header.fields))
   pub kept : length table.words ≤ last → OnErr result (pending' ≡ pending)
+  pub barred : length table.words ≤ last → order_of old ≡ L2DependsOnRb → IsTrue (state before.image).shape.keeps → IsSound (metadata_of state before old table pending)
+      → (number : ℕ) → result ≡ Err (Limit number) → CountsAsBefore (metadata_of state before old table pending) (metadata_of state after new table' pending')
   pub cause : MatchResult result (λ _. (state after.image).faults ≡ (state before.image).faults)
       (WhyNotAllocated (IsTrue (state before.image).shape.keeps × (order_of old ≡ L2DependsOnRb) × IsSound (metadata_of state before old table pending)) (IsLoose table old)
-      (λ _. order_of old ≡ L2DependsOnRb → IsTrue (state before.image).shape.keeps → IsSound (metadata_of state before old table pending) → NoneCanBeMade mark at first last (metadata_of state before old table pending))
+      (λ number. order_of old ≡ L2DependsOnRb → IsTrue (state before.image).shape.keeps → IsSound (metadata_of state before old table pending) → NoneCanBeMade mark at first last number (metadata_of state before old table pending))
       (state before.image).faults (state after.image).faults)

@@ -1,5 +1,5 @@
 -- How a run of free clusters is found and made ready to be counted, and handed out.
-use Rattle.std.specs.Prelude.{◌≡◌, ◌≢◌, ◌==◌, ℕ, ◌+◌, ◌-◌, ◌/◌, ◌<◌, ◌≤◌, if◌then◌else◌, Bool, IsTrue, List, Result, OnErr, IfOk, Ok, Err, MatchResult, slice_index}
+use Rattle.std.specs.Prelude.{◌≡◌, ◌≢◌, ◌⊎◌, ◌==◌, ℕ, ◌+◌, ◌-◌, ◌/◌, ◌<◌, ◌≤◌, if◌then◌else◌, Bool, IsTrue, List, Result, OnErr, IfOk, Ok, Err, MatchResult, length, slice_index}
 use Rattle.imago_storage.specs.State.{StorageState}
 use Rattle.imago_storage.specs.declared.fault.Fault.{Fault}
 use Rattle.qcow2_types.specs.Words.{block_offset}
@@ -17,9 +17,19 @@ use Rattle.qcow2_alloc.specs.Crowding.{IsCrowded, IsRoomy, TakesLittle, room_for
 use Rattle.qcow2_alloc.specs.FreeList.{covers}
 use Rattle.qcow2_alloc.specs.Freeing.{IsLoose, IsMarked}
 use Rattle.qcow2_alloc.specs.Going.{IsWhole}
-use Rattle.qcow2_alloc.specs.GrowingTables.{IsLengthenedByTable, Leaks}
+use Rattle.qcow2_alloc.specs.GrowingTables.{IsLengthenedByTable, Leaks, NoPlaceToGrow}
 use Rattle.qcow2_alloc.specs.Quiet.{Metadata, IsSound, counted}
+use Rattle.qcow2_alloc.specs.ReadyingBlocks.{last_number}
 use Rattle.qcow2_alloc.specs.SearchingClusters.{IsFirstRun}
+
+-- Why the first run of n clusters from the mark on that aren't counted isn't made ready to be, as a number tells: that of its last cluster, which
+-- words can't name or the refcount table doesn't count; or what tells that there is no place for a table that has grown for it.
+pub record IsRunTold (m : Metadata) (mark n number : ℕ) : Type 0 where
+  pub first : ℕ
+  pub run : IsFirstRun (counted m) mark n first
+  pub told : ((number ≡ last_number first n)
+      × (IsInReach m.header.fields.cluster_bits (first + (n - 1)) → length m.table.words ≤ (first + (n - 1)) / counters_of_block m.header.fields))
+      ⊎ NoPlaceToGrow m mark ((first + (n - 1)) / counters_of_block m.header.fields + (n / counters_of_block m.header.fields + 2)) number
 
 -- The first run of n clusters from the mark on that aren't counted is ready to be: the refcount table names a block for each, and words can name it.
 pub record ReadiesRun {S : Type 0} (state : S → StorageState) (mark n : ℕ) (table : TableValue) (old : MetadataCaches S) (before : ImageFile S) (pending : List FreeEntry) (result : Result ℕ Fault) (table' : TableValue) (new : MetadataCaches S) (after : ImageFile S) (pending' : List FreeEntry) : Type 0 where
@@ -36,7 +46,8 @@ pub record ReadiesRun {S : Type 0} (state : S → StorageState) (mark n : ℕ) (
   pub list : IsLengthenedByTable before.header.fields table table' pending pending'
   pub cause : MatchResult result (λ _. (state after.image).faults ≡ (state before.image).faults)
       (WhyNotAllocated (IsTrue (state before.image).shape.keeps × (order_of old ≡ L2DependsOnRb) × IsSound (metadata_of state before old table pending)) (IsLoose table old)
-      (λ _. order_of old ≡ L2DependsOnRb → IsTrue (state before.image).shape.keeps → IsSound (metadata_of state before old table pending) → IsCrowded (metadata_of state before old table pending) mark n)
+      (λ number. order_of old ≡ L2DependsOnRb → IsTrue (state before.image).shape.keeps → IsSound (metadata_of state before old table pending)
+      → IsCrowded (metadata_of state before old table pending) mark n × IsRunTold (metadata_of state after new table' pending') mark n number)
       (state before.image).faults (state after.image).faults)
 
 -- where the search begins once a run is counted: each cluster before is counted
@@ -72,5 +83,6 @@ pub record Allocates {S : Type 0} (state : S → StorageState) (mark n : ℕ) (m
   pub list : IsLengthenedByTable before.header.fields table table' pending pending'
   pub cause : MatchResult result (λ _. (state after.image).faults ≡ (state before.image).faults)
       (WhyNotAllocated (IsTrue (state before.image).shape.keeps × (order_of old ≡ L2DependsOnRb) × IsSound (metadata_of state before old table pending)) (IsLoose table old)
-      (λ _. order_of old ≡ L2DependsOnRb → IsTrue (state before.image).shape.keeps → IsSound (metadata_of state before old table pending) → IsCrowded (metadata_of state before old table pending) mark n)
+      (λ number. order_of old ≡ L2DependsOnRb → IsTrue (state before.image).shape.keeps → IsSound (metadata_of state before old table pending)
+      → IsCrowded (metadata_of state before old table pending) mark n × IsRunTold (metadata_of state after new table' pending') mark n number)
       (state before.image).faults (state after.image).faults)

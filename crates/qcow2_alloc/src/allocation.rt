@@ -32,8 +32,6 @@ mod making_blocks;
 mod moving_table;
 mod readying_runs;
 mod searching;
-#[cfg(test)]
-mod tests;
 mod writing_blocks;
 
 /// The allocator of the clusters of an image file: its refcount table in memory, and where the search for free clusters begins.

@@ -1,12 +1,12 @@
 //! What callers may rest on beside the contract of each call. The functions do nothing, and their contracts are the laws.
 
-ghost use Rattle.std.specs.Prelude.{◌≡◌, ◌⊎◌, ◌==◌, if◌then◌else◌, ◌≢◌, ℕ, ◌+◌, ◌*◌, ◌/◌, ◌%◌, ◌^◌, ◌<◌, ◌≤◌, Bool, true, false, Some, ⊤, IsTrue, Result, Ok, OnOk, List, [], ◌∷◌, ◌++◌, length, nat_eq, slice_index, slice_set, replicate, None, IsFalse};
+ghost use Rattle.std.specs.Prelude.{◌≡◌, ◌⊎◌, ◌==◌, if◌then◌else◌, ◌≢◌, ℕ, ◌+◌, ◌*◌, ◌/◌, ◌%◌, ◌^◌, ◌<◌, ◌≤◌, Bool, true, false, Some, ⊤, IsTrue, Result, Ok, Err, OnOk, List, [], ◌∷◌, ◌++◌, length, nat_eq, slice_index, slice_set, replicate, None, IsFalse};
 ghost use Rattle.std.specs.Int.{w64, to_be_bytes};
 ghost use Rattle.std.specs.List.{remove, AllByRecursion, IsDistinct};
 ghost use Rattle.std.specs.Option.{option_map};
 ghost use Rattle.std.specs.Map.{lookup, keys_of};
 ghost use Rattle.imago_storage.specs.State.{StorageState};
-ghost use Rattle.imago_storage.specs.Calls.{Later};
+ghost use Rattle.imago_storage.specs.Calls.{Later, Cause};
 ghost use Rattle.imago_storage.specs.Through.{Put, PutAtOnce};
 ghost use Rattle.imago_storage.specs.declared.fault.Fault.{Fault};
 ghost use Rattle.qcow2_types.specs.Bytes.{Bytes, bytes_of, splice};
@@ -18,15 +18,17 @@ ghost use Rattle.qcow2_types.specs.Counts.{count, counter, counters_of_block};
 ghost use Rattle.qcow2_types.specs.Pending.{FreeEntry};
 ghost use Rattle.qcow2_types.specs.References.{meets};
 ghost use Rattle.qcow2_types.specs.Slots.{slot};
-ghost use Rattle.qcow2_types.specs.Consistency.{IsConsistent};
+ghost use Rattle.qcow2_types.specs.Consistency.{IsConsistent, IsVerdict};
 ghost use Rattle.qcow2_types.specs.Versions.{named};
 ghost use Rattle.qcow2_metadata.specs.Places.{IsInReach};
-ghost use Rattle.qcow2_metadata.specs.Tables.{TableValue, mapping_in, with_word, table_place};
+ghost use Rattle.qcow2_metadata.specs.Tables.{TableValue, WhyNotLoaded, l1_words, mapping_in, table_in, table_place, with_word, words_in};
 ghost use Rattle.qcow2_metadata.specs.Blocks.{Block, BlockPut, counters_in};
 ghost use Rattle.qcow2_metadata.specs.Allocations.{kept_where, zeroed_word};
 ghost use Rattle.qcow2_alloc.specs.declared.async_lru_cache.Slot.{Slot};
 ghost use Rattle.qcow2_alloc.specs.declared.cache.CacheDependency.{CacheDependency};
 ghost use Rattle.qcow2_alloc.specs.declared.cache.CacheDependency.TheVariants.{L2DependsOnRb, RbDependsOnL2};
+ghost use Rattle.qcow2_alloc.specs.declared.allocation.Allocator.{Allocator};
+ghost use Rattle.qcow2_alloc.specs.Allocators.{LoadsAllocator, table_of};
 ghost use Rattle.qcow2_alloc.specs.Cache.{hit};
 ghost use Rattle.qcow2_alloc.specs.Crowding.{space, IsRoomy};
 ghost use Rattle.qcow2_alloc.specs.HandingOut.{IsFreed};
@@ -34,6 +36,7 @@ ghost use Rattle.qcow2_alloc.specs.Changes.{StaysAsItIs, CachesBlock, SetsCounte
 ghost use Rattle.qcow2_alloc.specs.Memory.{Cached, memory};
 ghost use Rattle.qcow2_alloc.specs.Safety.{Safe, IsLeft, IsCalm, AreTablesClean, AreBlocksClean, IsSettled};
 ghost use Rattle.qcow2_alloc.specs.Going.{Going, Always, CountsWrites, IsWhole, AreTablesInReach, AreBlocksInReach};
+ghost use Rattle.qcow2_alloc.specs.Opening.{IsL1Of, opened};
 ghost use Rattle.qcow2_alloc.specs.Quiet.{IsTableOf, Metadata, metadata_in, covers_metadata, in_memory, counted, referenced, named_at_all, waiting, waiting_metadata, one_at, IsUsed, IsSound, ShowsEither, IsQuiet, IsIn, Quietly};
 ghost use Rattle.qcow2_alloc.specs.MakingRoom.{CountsTheSame, IsReadyBlock, BlockNamed, with_block, formerly, newly_counted, IsReadyTable, TableSwitched, with_table, newly, run_of, rank, IsGrownTable};
 ghost use Rattle.qcow2_alloc.specs.FreeList.{entry_at, tail_of, shortened, covers, listed};
@@ -142,6 +145,23 @@ pub fn entries_count_one_by_one()
 pub fn what_is_safe_is_sound()
     ensures { (f : Bytes) (H : Header) (cached : Cached) (order : CacheDependency) (table : TableValue) → Safe f H cached order → IsTableOf f H.fields table
         → IsSound (record { file = f; header = H; cached = cached; order = order; table = table; pending = [] }) }
+{}
+
+/// An image that a checker accepts is sound right after it was opened: by the header that loads from it, for reading or for writing, with new
+/// caches, and with a new allocator, which only memory and the storage refuse. So is its L1 table, which is the file's.
+pub fn what_a_checker_accepts_opens_sound()
+    ensures consistent { (f : Bytes) (found : List (ℕ × ℕ)) (writing : Bool) (H : Header) → IsVerdict f (Ok found)
+        → header_of writing f ≡ Ok H → IsConsistent f H }
+    ensures sound { (s s' : StorageState) (found : List (ℕ × ℕ)) (writing : Bool) (H : Header) (allocator : Allocator)
+        → IsVerdict (bytes_of s.bytes) (Ok found) → header_of writing (bytes_of s.bytes) ≡ Ok H
+        → LoadsAllocator s H.fields (Ok allocator) s' → IsSound (opened (bytes_of s'.bytes) H (table_of allocator)) }
+    ensures allocator { (s s' : StorageState) (H : Header) (fault : Fault) → IsConsistent (bytes_of s.bytes) H
+        → LoadsAllocator s H.fields (Err fault) s' → Cause s.faults s'.faults fault }
+    ensures l1 { (f : Bytes) (H : Header) → IsConsistent f H
+        → IsL1Of f H.fields (table_in f H.fields (H.fields.l1_offset / cluster_size H.fields) H.fields.l1_entries) }
+    ensures l1_refused { (f : Bytes) (H : Header) (before after : ℕ) (fault : Fault) → IsConsistent f H
+        → WhyNotLoaded l1_words (layout_of H.fields) (words_in f (H.fields.l1_offset / cluster_size H.fields * cluster_size H.fields) H.fields.l1_entries) before after fault
+        → Cause before after fault }
 {}
 
 /// What flushes of a sound image leave shows what the image did, and so does its file.

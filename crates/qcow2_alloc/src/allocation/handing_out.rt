@@ -26,12 +26,15 @@ impl Allocator {
     /// `give_back`, for which room is held. That is held before anything else, so want of memory for it leaves all as it was.
     ///
     /// It refuses with `Fault::Limit` only where a sixteenth of the space and three times the clusters asked for aren't free in a row from
-    /// the mark on, so only where no quarter of it is, or more than a sixteenth is asked for; with `Fault::Memory`; with `Fault::Storage`;
-    /// with `Fault::CacheFull` only where a block is pinned, and of a sound image whose refcount table names each that is only where as many
-    /// are as there is room for; and with `Fault::Counter` and `Fault::DamagedTable`, which no sound image has. Nothing is handed out then, and no
-    /// room is held. Blocks may have been made, and the refcount table may have grown and moved, whatever is answered: the old table's
-    /// clusters wait on the list then. The file of a sound image shows the same at each stop, where the storage tells its stops and has
-    /// refused no change.
+    /// the mark on, so only where no quarter of it is, or more than a sixteenth is asked for. It tells the last cluster of the first free
+    /// run of so many, or the greatest number where that is more, if words can't name it or the refcount table doesn't count it; or else
+    /// what a growth of that table tells.
+    ///
+    /// Else it refuses with `Fault::Memory`; with `Fault::Storage`; with `Fault::CacheFull` only where a block is pinned, and of a sound
+    /// image whose refcount table names each that is only where as many are as there is room for; and with `Fault::Counter` and
+    /// `Fault::DamagedTable`, which no sound image has. Nothing is handed out where it refuses, and no room is held. Blocks may have been
+    /// made, and the refcount table may have grown and moved, whatever is answered: the old table's clusters wait on the list then. The
+    /// file of a sound image shows the same at each stop, where the storage tells its stops and has refused no change.
     pub fn allocate_clusters<S: Storage>(
         &mut self,
         file: &mut ImageFile<S>,

@@ -17,7 +17,8 @@ use qcow2_types::HostCluster;
 impl Allocator {
     // Finds the first run of so many clusters, from the mark on, that aren't counted, and sees to it that each has a block. A block or
     // a table that is made for that takes clusters itself, so the run is searched for again then. The table grows once at most: where there
-    // is room, one that has grown counts the run that is found then.
+    // is room, one that has grown counts the run that is found then. A refusal for want of room tells the run's last cluster, or what a growth
+    // of the table does.
     pub(super) fn ready_run<S: Storage>(
         &mut self,
         file: &mut ImageFile<S>,

@@ -3,7 +3,7 @@ use Rattle.std.proofs.lemmas.Bool.{cases_lt}
 use Rattle.imago_storage.specs.declared.fault.Fault.TheVariants.{Limit}
 use Rattle.qcow2_types.specs.Counts.{counters_of_block}
 use Rattle.qcow2_alloc.specs.Allocators.{table_of, mark_of}
-use Rattle.qcow2_alloc.specs.ReadyingBlocks.{ReadiesBlocks}
+use Rattle.qcow2_alloc.specs.ReadyingBlocks.{ReadiesBlocks, last_number}
 use Rattle.qcow2_alloc.specs.ReadyingRuns.{ReadiesRun}
 use Rattle.qcow2_alloc.proofs.ReadyingRuns.{Stays, stays-none, stays-found, stays-on, found-run, readying-none, readying-searched, readying-made, search-refused, making-refused, unfit-refused, grown-refused, run-ready, turns-fewer}
 use Rattle.qcow2_alloc.proofs.allocation.Allocator.ready_run.Goals as goal
@@ -49,7 +49,7 @@ returns-then-has_grown_short_of-clause-readies g c =
     let index = c.in-Ok-last_index.ensures.index in
     subst (λ (m : ℕ). ReadiesRun state m c.args.count (table_of c.args.self.now) c.args.caches.now c.args.file.now c.args.list.now.entries (Err (Limit c.saturating_add.result)) (table_of l.self) new.caches new.file l.list.entries) l.invariant.1
     (grown-refused state (table_of c.args.self.now) c.args.caches.now c.args.file.now c.args.list.now.entries (table_of l.self) l.caches l.file l.list.entries l.invariant.0 (mark_of l.self) c.args.count c.in-Ok.first c.requires.some new.caches new.file c.in-Ok.ensures
-    c.saturating_add.result (omega (arith, long, more)) (omega (arith, less, index))
+    c.saturating_add.result (subst (λ (z : ℕ). c.saturating_add.result ≡ last_number z c.args.count) c.first.view_is c.saturating_add.ensures) (omega (arith, long, more)) (omega (arith, less, index))
     (subst (λ (m : ℕ). Stays state (table_of c.args.self.now) c.args.caches.now c.args.file.now c.args.list.now.entries m c.args.count (table_of l.self) l.caches l.file l.list.entries) (sym l.invariant.1) l.invariant.4))
 
 -- The table that has grown has a word for the last cluster of the run where that wasn't refused.
@@ -137,5 +137,5 @@ returns-in-Err-ready_blocks-clause-readies g c =
     (readying-searched state (table_of c.args.self.now) c.args.caches.now c.args.file.now c.args.list.now.entries (table_of l.self) l.caches l.file l.list.entries l.invariant.0 (mark_of l.self) c.args.count c.in-Ok.first searched.caches searched.file c.in-Ok.ensures)
     (mark_of l.self) c.args.count c.in-Ok.first c.rt_index-first_index.result c.in-Ok-last_index.index c.requires.some
     (found-run state (table_of c.args.self.now) c.args.caches.now c.args.file.now c.args.list.now.entries (table_of l.self) l.caches l.file l.list.entries l.invariant.0 (mark_of l.self) c.args.count c.in-Ok.first c.requires.some searched.caches searched.file c.in-Ok.ensures)
-    index c.in-Ok-last_index.ensures.index kept c.in-Err-ready_blocks.fault (table_of new.self) new.caches new.file new.list.entries c.in-Err-ready_blocks.ensures.readies
+    index c.in-Ok-last_index.ensures.index c.in-Ok-last_index.ensures.reach kept c.in-Err-ready_blocks.fault (table_of new.self) new.caches new.file new.list.entries c.in-Err-ready_blocks.ensures.readies
     (covers _ (length (table_of l.self).words) c.in-Ok-last_index.index (length (table_of c.args.self.now).words) c.has_grown_short_of.result c.if-has_grown_short_of.false (λ a b. c.has_grown_short_of.ensures.1 (a, b)) l.invariant.3))

@@ -1,0 +1,18 @@
+-- What an image is right after it was opened.
+use Rattle.std.specs.Prelude.{◌≡◌, IsTrue, []}
+use Rattle.qcow2_types.specs.Bytes.{Bytes}
+use Rattle.qcow2_types.specs.Header.{Fields, Header, layout_of}
+use Rattle.qcow2_types.specs.Entries.{l1_table_sound}
+use Rattle.qcow2_metadata.specs.Tables.{TableValue, words_in}
+use Rattle.qcow2_alloc.specs.declared.cache.CacheDependency.TheVariants.{Unset}
+use Rattle.qcow2_alloc.specs.Quiet.{Metadata}
+
+-- It has the header and the refcount table that were loaded. Nothing is cached, no order is announced, and nothing waits to be freed.
+abbrev pub opened : Bytes → Header → TableValue → Metadata
+opened f H table = record { file = f; header = H; cached = record { tables = []; blocks = [] }; order = Unset; table = table; pending = [] }
+
+-- The L1 table in memory has the words of the file's, each of which has a meaning.
+pub record IsL1Of (f : Bytes) (h : Fields) (table : TableValue) : Type 0 where
+  pub layout : table.layout ≡ layout_of h
+  pub words : table.words ≡ words_in f h.l1_offset h.l1_entries
+  pub sound : IsTrue (l1_table_sound f h)
