@@ -148,7 +148,7 @@ pub fn what_is_safe_is_sound()
 {}
 
 /// An image that a checker accepts is sound right after it was opened: by the header that loads from it, for reading or for writing, with new
-/// caches, and with a new allocator, which only memory and the storage refuse. So is its L1 table, which is the file's.
+/// caches and a new allocator. Only memory and the storage refuse that allocator, and the L1 table, which is loaded as the file has it.
 pub fn what_a_checker_accepts_opens_sound()
     ensures consistent { (f : Bytes) (found : List (ℕ × ℕ)) (writing : Bool) (H : Header) → IsVerdict f (Ok found)
         → header_of writing f ≡ Ok H → IsConsistent f H }
