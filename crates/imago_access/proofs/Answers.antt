@@ -2,18 +2,18 @@
 use Rattle.std.proofs.Common.{◌≡◌, refl, sym, subst}
 use Rattle.std.specs.Prelude.{Result, Ok, Err, IsOk, IfOk, OnOk, IfErr}
 use Rattle.imago_storage.specs.declared.fault.Fault.{Fault}
-use Rattle.imago_access.specs.Files.{IsMild, IsWhole}
+use Rattle.imago_access.specs.Files.{IsMild, WasNotCutOff}
 
 pub ok_holds : {T : Type 0} (r : Result T Fault) (P : Type 0) → IsOk r → OnOk r P → P
 ok_holds (Ok v) P is h = h
 ok_holds (Err e) P is h = absurd (cc is)
 
 -- told of a value, of a success alone, and of a refusal that wasn't cut off
-pub whole_holds : {T : Type 0} (r : Result T Fault) (Q : T → Type 0) (P : Type 0) → IsWhole r → ((v : T) → r ≡ Ok v → Q v → P) → IfOk r Q → IfErr r (λ e. IsMild e → P) → P
+pub whole_holds : {T : Type 0} (r : Result T Fault) (Q : T → Type 0) (P : Type 0) → WasNotCutOff r → ((v : T) → r ≡ Ok v → Q v → P) → IfOk r Q → IfErr r (λ e. IsMild e → P) → P
 whole_holds (Ok v) Q P is from h refused = from v refl h
 whole_holds (Err e) Q P is from h refused = refused is
 
-pub ok_whole : {T : Type 0} (r : Result T Fault) → IsOk r → IsWhole r
+pub ok_whole : {T : Type 0} (r : Result T Fault) → IsOk r → WasNotCutOff r
 ok_whole (Ok v) is = tt
 ok_whole (Err e) is = absurd (cc is)
 
@@ -37,11 +37,11 @@ pub both_if_ok : {T E : Type 0} (r : Result T E) (P Q : T → Type 0) → IfOk r
 both_if_ok (Ok v) P Q p q = (p, q)
 both_if_ok (Err e) P Q p q = tt
 
-pub whole_of_ok : {T : Type 0} (r : Result T Fault) (v : T) → r ≡ Ok v → IsWhole r
-whole_of_ok r v is = subst (λ (s : Result _ Fault). IsWhole s) (sym is) tt
+pub whole_of_ok : {T : Type 0} (r : Result T Fault) (v : T) → r ≡ Ok v → WasNotCutOff r
+whole_of_ok r v is = subst (λ (s : Result _ Fault). WasNotCutOff s) (sym is) tt
 
-pub whole_of_mild : {T : Type 0} (r : Result T Fault) (e : Fault) → r ≡ Err e → IsMild e → IsWhole r
-whole_of_mild r e is mild = subst (λ (s : Result _ Fault). IsWhole s) (sym is) mild
+pub whole_of_mild : {T : Type 0} (r : Result T Fault) (e : Fault) → r ≡ Err e → IsMild e → WasNotCutOff r
+whole_of_mild r e is mild = subst (λ (s : Result _ Fault). WasNotCutOff s) (sym is) mild
 
 pub if_ok_under : {T E : Type 0} (r : Result T E) (P : Type 0) (Q : T → Type 0) → (P → IfOk r Q) → IfOk r (λ v. P → Q v)
 if_ok_under (Ok v) P Q h = h

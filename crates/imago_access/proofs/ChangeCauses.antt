@@ -10,7 +10,7 @@ use Rattle.imago_storage.specs.declared.fault.Fault.TheVariants.{ReadOnly, PastE
 use Rattle.imago_access.specs.Layer.{Layer, Fixed, unit_of_layer}
 use Rattle.imago_access.specs.Files.{Pairs, IsLater, IsDeclined}
 use Rattle.imago_access.specs.Parts.{PartCause, DeclinableCause, IsMappedAt, MappedCause}
-use Rattle.imago_access.specs.Chain.{disk_of}
+use Rattle.imago_access.specs.Chain.{disk_of, unit_of_chain}
 use Rattle.imago_access.specs.Refusals.{ChangeCause, barrier, SomeBarred}
 use Rattle.imago_access.proofs.FilePairs.{pairs_append, some_rose_behind, some_rose_left}
 use Rattle.imago_access.proofs.ReadCauses.{part_overflows}
@@ -84,17 +84,17 @@ mapped_cause below layer guest place n olds news Outdated mapped h = absurd (h.1
 mapped_cause below layer guest place n olds news e mapped h = part_cause_deeper below layer guest n (λ _. ⊥) olds news e h
 
 -- A cause of the driver, in the whole of a call, is one of the chain.
-pub change_cause : (below : List Layer) (layer : Layer) (unit : ℕ) (call : Call) (causes : Fault → Type 0) (olds news : List StorageState) → (0 < length_of call → Alters (disk_of below layer) call)
-    → (Overflows (unit_of_layer layer) (offset_of call) (length_of call) → Overflows unit (offset_of call) (length_of call)) → (e : Fault) → PartCause below layer (offset_of call) (length_of call) causes olds news e
-    → ChangeCause unit (layer ∷ below) (disk_of below layer) layer.fixed.writable call causes olds news e
-change_cause below layer unit call causes olds news alters reach ReadOnly h = (alters h.0, h.1)
-change_cause below layer unit call causes olds news alters reach PastEnd h = (alters h.0, h.1)
-change_cause below layer unit call causes olds news alters reach RangeOverflow h = reach h
-change_cause below layer unit call causes olds news alters reach Foreign h = absurd h
-change_cause below layer unit call causes olds news alters reach Unsupported h = absurd h
-change_cause below layer unit call causes olds news alters reach VersionLimit h = absurd h
-change_cause below layer unit call causes olds news alters reach Failed h = h
-change_cause below layer unit call causes olds news alters reach MissingData h = h
-change_cause below layer unit call causes olds news alters reach Memory h = h
-change_cause below layer unit call causes olds news alters reach Storage h = h
-change_cause below layer unit call causes olds news alters reach _ h = h
+pub change_cause : (below : List Layer) (layer : Layer) (call : Call) (causes : Fault → Type 0) (olds news : List StorageState) → (0 < length_of call → Alters (disk_of below layer) call)
+    → (Overflows (unit_of_layer layer) (offset_of call) (length_of call) → Overflows (unit_of_chain (layer ∷ below)) (offset_of call) (length_of call)) → (e : Fault) → PartCause below layer (offset_of call) (length_of call) causes olds news e
+    → ChangeCause below layer call causes olds news e
+change_cause below layer call causes olds news alters reach ReadOnly h = (alters h.0, h.1)
+change_cause below layer call causes olds news alters reach PastEnd h = (alters h.0, h.1)
+change_cause below layer call causes olds news alters reach RangeOverflow h = reach h
+change_cause below layer call causes olds news alters reach Foreign h = absurd h
+change_cause below layer call causes olds news alters reach Unsupported h = absurd h
+change_cause below layer call causes olds news alters reach VersionLimit h = absurd h
+change_cause below layer call causes olds news alters reach Failed h = h
+change_cause below layer call causes olds news alters reach MissingData h = h
+change_cause below layer call causes olds news alters reach Memory h = h
+change_cause below layer call causes olds news alters reach Storage h = h
+change_cause below layer call causes olds news alters reach _ h = h

@@ -9,36 +9,37 @@ use Rattle.imago_storage.specs.declared.fault.Fault.{Fault}
 use Rattle.imago_storage.specs.declared.fault.Fault.TheVariants.{ReadOnly, Foreign, MissingData, Failed, Memory, Storage}
 use Rattle.imago_access.specs.Layer.{Layer, IsFree}
 use Rattle.imago_access.specs.Files.{IsMild, ImageCause}
-use Rattle.imago_access.specs.Spending.{IsMine, IsForeignTo, is_own, Spends, GivenBack}
+use Rattle.imago_access.specs.Spending.{IsSpending, IsMine, IsForeignTo, is_own, Spends, GivenBack}
 use Rattle.imago_access.specs.Refusals.{ChangeCause}
 use Rattle.imago_access.proofs.FilePairs.{some_rose_left}
+use Rattle.imago_access.specs.declared.seen.Seen.{Ghosts}
 
-module _ {S : Type 0} (claim tag : S → ℕ) (unit : ℕ) (layer new : Layer) (below : List Layer) (disk : Disk) (olds news us vs : List StorageState) where
-  abbrev pub Cause : Option S → Fault → Type 0
-  Cause state e = ChangeCause unit (layer ∷ below) disk layer.fixed.writable (commit (is_some state) (is_own tag state layer)) (λ _. ⊥) (olds ++ us) (news ++ vs) e
+module _ {D St : Type 0} (g : Ghosts D St) (layer new : Layer) (below : List Layer) (olds news us vs : List StorageState) where
+  abbrev pub Cause : Option St → Fault → Type 0
+  Cause state e = ChangeCause below layer (commit (is_some state) (is_own g.tag state layer)) (λ _. ⊥) (olds ++ us) (news ++ vs) e
 
   -- of a mapping that was given back
-  pub back_cause : (state : Option S) (e : Fault) → GivenBack tag state layer e → Cause state e
+  pub back_cause : (state : Option St) (e : Fault) → GivenBack g.tag state layer e → Cause state e
   back_cause state Failed h = inl h
   back_cause state MissingData h = inl h
   back_cause (Some s) ReadOnly h = (refl, h)
-  back_cause (Some s) Foreign h = elim (eqb_tells (tag s) layer.fixed.number) [ inl same ↦ absurd (h same.1) | inr other ↦ other.0 ]
+  back_cause (Some s) Foreign h = elim (eqb_tells (g.tag s) layer.fixed.number) [ inl same ↦ absurd (h same.1) | inr other ↦ other.0 ]
   back_cause (Some s) _ h = absurd h
   back_cause None _ h = absurd h
 
   -- of one that is spent
-  pub spent_cause : (state : Option S) (e : Fault) → IsMine claim tag state layer ⊎ IsForeignTo tag state layer → IsSome state → Spends claim tag state layer new (IsFree new × (IsMild e → ⊥)) → ImageCause olds news e → Cause state e
+  pub spent_cause : (state : Option St) (e : Fault) → IsMine g state layer ⊎ IsForeignTo g.tag state layer → IsSome state → Spends g state layer new (IsFree new × (IsMild e → ⊥)) → ImageCause olds news e → Cause state e
   spent_cause None e whose some spends rose = absurd (cc some)
   spent_cause (Some s) Memory whose some spends rose = tt
   spent_cause (Some s) Storage whose some spends rose = some_rose_left olds news us vs rose
   spent_cause (Some s) _ whose some spends rose = elim whose [ inl mine ↦ absurd ((spends.1 mine.1).1 tt) | inr other ↦ absurd (other spends.0) ]
 
   -- told of only what a refusal of a safe image means
-  fewer : (state : Option S) (e : Fault) (safe : Type 0) → safe → Spends claim tag state layer new (IsFree new × (safe → IsMild e → ⊥)) → Spends claim tag state layer new (IsFree new × (IsMild e → ⊥))
+  fewer : (state : Option St) (e : Fault) (safe : Type 0) → safe → Spends g state layer new (IsFree new × (safe → IsMild e → ⊥)) → Spends g state layer new (IsFree new × (IsMild e → ⊥))
   fewer None e safe s h = h
   fewer (Some x) e safe s h = (h.0, λ mine. ((h.1 mine).0, (h.1 mine).1 s))
 
-  pub commit_cause : {M : Type 0} (state : Option S) (given : Option M) (safe : Type 0) (e : Fault) → IsMine claim tag state layer ⊎ IsForeignTo tag state layer → safe
-      → IfSome given (λ m. GivenBack tag state layer e) → (given ≡ None → IsSome state × IsTrue new.failed × Spends claim tag state layer new (IsFree new × (safe → IsMild e → ⊥))) → ImageCause olds news e → Cause state e
+  pub commit_cause : {M : Type 0} (state : Option St) (given : Option M) (safe : Type 0) (e : Fault) → IsMine g state layer ⊎ IsForeignTo g.tag state layer → safe
+      → IfSome given (λ m. GivenBack g.tag state layer e) → (given ≡ None → IsSome state × IsTrue new.failed × IsSpending e × Spends g state layer new (IsFree new × (safe → IsMild e → ⊥))) → ImageCause olds news e → Cause state e
   commit_cause state (Some m) safe e whose s back spent rose = back_cause state e back
-  commit_cause state None safe e whose s back spent rose = let told = spent refl in spent_cause state e whose told.0 (fewer state e safe s told.2) rose
+  commit_cause state None safe e whose s back spent rose = let told = spent refl in spent_cause state e whose told.0 (fewer state e safe s told.3) rose

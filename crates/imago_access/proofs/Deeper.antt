@@ -15,11 +15,12 @@ use Rattle.imago_access.specs.declared.mapping.Mapping.{Mapping}
 use Rattle.imago_access.specs.declared.mapping.Mapping.TheVariants.{Raw, Zero, Eof, Special}
 use Rattle.imago_access.specs.declared.mapping.ShallowMapping.{ShallowMapping}
 use Rattle.imago_access.specs.declared.mapping.ShallowMapping.TheVariants as shallow
+use Rattle.imago_access.specs.declared.seen.Seen.{Ghosts}
 use Rattle.imago_access.proofs.ReadCauses.{at_unmapped, at_own}
 use Rattle.imago_access.proofs.FilePairs.{some_rose_left, some_rose_right}
 
-stored_next : {D : Type 0} (stored : D → ℕ → ℕ → ℕ) (d : D) (ds : List D) (depth storage place : ℕ) → stored_at stored (d ∷ ds) (depth + 1) storage place ≡ stored_at stored ds depth storage place
-stored_next stored d ds depth storage place = rw (add-one depth)
+stored_next : {D St : Type 0} (g : Ghosts D St) (d : D) (ds : List D) (depth storage place : ℕ) → stored_at g (d ∷ ds) (depth + 1) storage place ≡ stored_at g ds depth storage place
+stored_next g d ds depth storage place = rw (add-one depth)
 
 both_true : (a b : Bool) → IsTrue (a && b) → IsTrue a × IsTrue b
 both_true true b h = (refl, h)
@@ -31,14 +32,14 @@ writable_next layer below depth storage place offset n top rest = subst (λ (k :
 barred_next : (layer : Layer) (below : List Layer) (depth offset n : ℕ) → SaysBarred depth below offset n → SaysBarred (depth + 1) (layer ∷ below) offset n
 barred_next layer below depth offset n rest = subst (λ (k : ℕ). SaysBarred k (layer ∷ below) offset n) (sym (add-one depth)) rest
 
-module _ {D : Type 0} (stored : D → ℕ → ℕ → ℕ) (d : D) (ds : List D) (layer : Layer) (below : List Layer) (offset n asked : ℕ) (above : Bool)
+module _ {D St : Type 0} (g : Ghosts D St) (d : D) (ds : List D) (layer : Layer) (below : List Layer) (offset n asked : ℕ) (above : Bool)
     (free : EachIs layer.cell offset asked (λ i. unmapped)) (inside : offset + asked ≤ layer.size) (top : IsTrue above → IsTrue layer.fixed.writable × IsTrue layer.fixed.lets_through) where
   through_below : (i : ℕ) → i < asked → at (layer ∷ below) (offset + i) ≡ at below (offset + i)
   through_below i lt = at_unmapped layer below (offset + i) (omega (arith, lt)) (free i lt)
 
-  pub names_lower : (m : Mapping) → IsRunBelow asked m n → DeepNames below (at below) (stored_at stored ds) offset n m → DeepNames (layer ∷ below) (at (layer ∷ below)) (stored_at stored (d ∷ ds)) offset n (lower above m)
+  pub names_lower : (m : Mapping) → IsRunBelow asked m n → DeepNames below (at below) (stored_at g ds) offset n m → DeepNames (layer ∷ below) (at (layer ∷ below)) (stored_at g (d ∷ ds)) offset n (lower above m)
   names_lower (Raw depth storage place writable) run names = (
-    λ i lt. through_below i (omega (arith, run.0, lt)) ∙ names.0 i lt ∙ ap byte (sym (stored_next stored d ds depth storage (place + i))),
+    λ i lt. through_below i (omega (arith, run.0, lt)) ∙ names.0 i lt ∙ ap byte (sym (stored_next g d ds depth storage (place + i))),
     λ is. let both = both_true writable above is in writable_next layer below depth storage place offset n (top both.1) (names.1 both.0),
   )
   names_lower (Special depth place) run names = (λ i lt. through_below i (omega (arith, run.0, lt)) ∙ names.0 i lt, names.1, barred_next layer below depth offset n names.2)

@@ -1,6 +1,6 @@
 -- Discards, one behind the other.
-use Rattle.std.proofs.Common.{◌≡◌, ◌∙◌, ◌⊎◌, inl, inr, refl, ℕ, ◌+◌, ◌^◌, ◌<◌, ◌≤◌, List, [], ◌∷◌, arith, sym, subst, map}
-use Rattle.std.specs.Prelude.{⊤, IsTrue, Result, Ok, Err, IsOk, OnOk, IfErr, None}
+use Rattle.std.proofs.Common.{◌≡◌, ◌∙◌, ◌⊎◌, inl, inr, refl, ℕ, ◌+◌, ◌^◌, ◌<◌, ◌≤◌, List, ◌∷◌, arith, sym, subst, map}
+use Rattle.std.specs.Prelude.{⊤, Result, Ok, Err, OnOk, IfErr, None}
 use Rattle.std.proofs.lemmas.Bool.{cases_lt}
 use Rattle.std.proofs.lemmas.Result.{IfErr-weaker}
 use Rattle.imago_storage.specs.State.{StorageState, IsAlignment}
@@ -11,14 +11,14 @@ use Rattle.imago_storage.specs.declared.fault.Fault.{Fault}
 use Rattle.imago_storage.specs.declared.fault.Fault.TheVariants.{Unsupported, VersionLimit}
 use Rattle.imago_storage.proofs.Rounding.{le_round_up}
 use Rattle.imago_access.specs.Layer.{Layer, IsFree, IsLike, loose}
-use Rattle.imago_access.specs.Chain.{at, Each, IsBacked, unit_of_chain}
+use Rattle.imago_access.specs.Chain.{at, IsBacked, unit_of_chain}
 use Rattle.imago_access.specs.Discards.{GivesDiscarded}
-use Rattle.imago_access.specs.Files.{IsMild, IsDeclined, IsWhole, files_of}
+use Rattle.imago_access.specs.Files.{IsMild, IsDeclined, WasNotCutOff, files_of, files}
 use Rattle.imago_access.specs.Going.{Went}
 use Rattle.imago_access.specs.Parts.{PartCause, DeclinableCause}
 use Rattle.imago_access.specs.Room.{IsUndeclined}
 use Rattle.imago_access.specs.Refusals.{change_refusal, ChangeCause}
-use Rattle.imago_access.specs.Running.{IsIntact, IsBetween, RanChain, IsIntactChain, chain_disk, RanAlone}
+use Rattle.imago_access.specs.Running.{IsIntact, IsBetween, RanChain, IsIntactChain, chain_disk, RanAlone, below_ghosts, alone_ghosts}
 use Rattle.imago_access.specs.Stops.{KeepsStops}
 use Rattle.imago_access.specs.declared.access.discarding.Discarding.{Discarding}
 use Rattle.imago_access.specs.declared.access.discarding.Discarding.TheVariants.{ToAny, ToBacking}
@@ -26,6 +26,7 @@ use Rattle.imago_access.proofs.ChangeCauses.{part_cause_left, change_cause}
 use Rattle.imago_access.proofs.Disks.{allowed_inside, disk_step, disk_partly}
 use Rattle.imago_access.proofs.Running.{holds_loose, ran_driver, ran_both, went_weaker}
 use Rattle.imago_access.proofs.Units.{overflows_chain}
+use Rattle.imago_access.specs.declared.seen.Seen.{Ghosts}
 
 -- a discard of a part gives what that of the whole may
 pub discarded_wider : (discarding : Discarding) (below : List Layer) (offset n start m : ℕ) → offset ≤ start → start + m ≤ offset + n
@@ -52,83 +53,83 @@ undeclined below layer offset n causes olds news Unsupported none declined h = n
 undeclined below layer offset n causes olds news VersionLimit none declined h = none.1 h
 undeclined below layer offset n causes olds news _ none declined h = absurd declined
 
-module _ {D : Type 0} (layer : D → Layer) (image : D → StorageState) (extras : D → List StorageState) (safe lasts : D → Type 0) (sound : ℕ → List ℕ → Type 0) (free_loose : (d : D) → IsFree (layer d) → (p : ℕ) → (layer d).held p ≡ loose) where
+module _ {D St : Type 0} (g : Ghosts D St) (free_loose : (d : D) → IsFree (g.layer d) → (p : ℕ) → (g.layer d).held p ≡ loose) where
   -- what is promised where the image is sound and the layers below are shown, of an image that has nothing prepared
-  pub ran_alone : (ok whole : Type 0) (gives : ℕ → Value → Type 0) (below : List Layer) (a b : D) → IsFree (layer a) → IsLike (layer a) (layer b) → Went layer image extras safe lasts ok whole a b
-      → (IsTrue (layer a).fixed.keeps → safe a → IsBacked below (layer a) → whole → IsBetween gives below (layer a) (layer b))
-      → (IsTrue (layer a).fixed.keeps → safe a → IsBacked below (layer a) → KeepsStops below (layer a) sound gives (image a) (image b))
-      → RanAlone layer image extras safe lasts sound ok whole gives below a b
-  ran_alone ok whole gives below a b free like went values stops = ran_driver {B = List Layer} layer image extras safe lasts (λ x. x) (λ x. []) (λ x. ⊤) (λ x. ⊤) (λ x. ⊤) (λ x. ⊤) sound ok whole gives a b below like.size went
-      (λ w i. holds_loose (at below) (layer b) (free_loose b (like.unspent ∙ free)))
-      (λ w i. values i.keeps i.is_safe i.backed w)
-      (λ i. stops i.keeps i.is_safe i.backed)
+  pub ran_alone : (whole : Type 0) (gives : ℕ → Value → Type 0) (below : List Layer) (a b : D) → IsFree (g.layer a) → IsLike (g.layer a) (g.layer b) → Went g whole whole a b
+      → (g.safe a → IsBacked below (g.layer a) → whole → IsBetween gives below (g.layer a) (g.layer b))
+      → (g.safe a → IsBacked below (g.layer a) → KeepsStops g below gives a b)
+      → RanAlone g whole gives below a b
+  ran_alone whole gives below a b free like went values stops = ran_driver {B = List Layer} g alone_ghosts whole gives a b below like.size went
+      (λ w i. holds_loose (at below) (g.layer b) (free_loose b (like.unspent ∙ free)))
+      (λ w i. values i.is_safe i.backed w)
+      (λ i. stops i.is_safe i.backed)
 
   -- such an image is intact
-  pub intact_alone : (below : List Layer) (a : D) → IsFree (layer a) → IsTrue (layer a).fixed.keeps → safe a → IsBacked below (layer a) → IsIntact below (layer a) (safe a) ⊤
-  intact_alone below a free keeps is_safe backed = record { keeps = keeps; is_safe = is_safe; is_seen = tt; backed = backed; held = holds_loose (at below) (layer a) (free_loose a free) }
+  pub intact_alone : (below : List Layer) (a : D) → IsFree (g.layer a) → g.safe a → IsBacked below (g.layer a) → IsIntact g alone_ghosts a below
+  intact_alone below a free is_safe backed = record { is_safe = is_safe; is_seen = tt; backed = backed; held = holds_loose (at below) (g.layer a) (free_loose a free) }
 
-  pub went_alone : (ok whole : Type 0) (gives : ℕ → Value → Type 0) (below : List Layer) (a b : D) → RanAlone layer image extras safe lasts sound ok whole gives below a b → Went layer image extras safe lasts ok whole a b
-  went_alone ok whole gives below a b h = went_weaker layer image extras safe lasts ok (whole × ⊤) ok whole a b (λ x. x) (λ x. (x, tt)) h.went
+  pub went_alone : (whole : Type 0) (gives : ℕ → Value → Type 0) (below : List Layer) (a b : D) → RanAlone g whole gives below a b → Went g whole whole a b
+  went_alone whole gives below a b h = went_weaker g whole (whole × ⊤) whole whole a b (λ x. x) (λ x. (x, tt)) h.went
 
   -- a discard of a part behind others
-  pub then_discarded : (ok whole : Type 0) (discarding : Discarding) (below : List Layer) (offset n start m : ℕ) (a b c : D) → offset ≤ start → start + m ≤ offset + n → IsFree (layer b)
-      → RanAlone layer image extras safe lasts sound ⊤ ⊤ (GivesDiscarded discarding below offset n) below a b → IsLike (layer b) (layer c) → Went layer image extras safe lasts ok whole b c
-      → (IsTrue (layer b).fixed.keeps → safe b → (under : List Layer) → IsBacked under (layer b) → whole → IsBetween (GivesDiscarded discarding under start m) under (layer b) (layer c))
-      → (IsTrue (layer b).fixed.keeps → safe b → (under : List Layer) → IsBacked under (layer b) → KeepsStops under (layer b) sound (GivesDiscarded discarding under start m) (image b) (image c))
-      → RanAlone layer image extras safe lasts sound ok whole (GivesDiscarded discarding below offset n) below a c
-  then_discarded ok whole discarding below offset n start m a b c from to free first like went values stops =
-      ran_both {B = List Layer} layer image extras safe lasts (λ x. x) (λ x. []) (λ x. ⊤) (λ x. ⊤) (λ x. ⊤) (λ x. ⊤) sound ok whole (GivesDiscarded discarding below offset n) (GivesDiscarded discarding below start m) (GivesDiscarded discarding below offset n) a b c below below below
+  pub then_discarded : (whole : Type 0) (discarding : Discarding) (below : List Layer) (offset n start m : ℕ) (a b c : D) → offset ≤ start → start + m ≤ offset + n → IsFree (g.layer b)
+      → RanAlone g ⊤ (GivesDiscarded discarding below offset n) below a b → IsLike (g.layer b) (g.layer c) → Went g whole whole b c
+      → (g.safe b → (under : List Layer) → IsBacked under (g.layer b) → whole → IsBetween (GivesDiscarded discarding under start m) under (g.layer b) (g.layer c))
+      → (g.safe b → (under : List Layer) → IsBacked under (g.layer b) → KeepsStops g under (GivesDiscarded discarding under start m) b c)
+      → RanAlone g whole (GivesDiscarded discarding below offset n) below a c
+  then_discarded whole discarding below offset n start m a b c from to free first like went values stops =
+      ran_both {B = List Layer} g alone_ghosts whole (GivesDiscarded discarding below offset n) (GivesDiscarded discarding below start m) (GivesDiscarded discarding below offset n) a b c below below below
       (λ p v gave. gave) (discarded_wider discarding below offset n start m from to) first
-      (ran_alone ok whole (GivesDiscarded discarding below start m) below b c free like went (λ keeps s backed w. values keeps s below backed w) (λ keeps s backed. stops keeps s below backed))
+      (ran_alone whole (GivesDiscarded discarding below start m) below b c free like went (λ s backed w. values s below backed w) (λ s backed. stops s below backed))
 
 -- a range that a change isn't refused for ends within 64 bits
 pub allowed_fits : (unit : ℕ) (layer : Layer) (offset n : ℕ) → 0 < unit → offset < 2 ^ 64 → change_refusal unit layer offset n ≡ None → offset + n < 2 ^ 64
 allowed_fits unit layer offset n positive low allowed = let up = le_round_up unit (offset + n) positive in elim (cases_lt 0 n) [ inl some ↦ grind (arith) | inr none ↦ omega (arith, none, low) ]
 
 -- What a discard of all of a range does to a chain.
-module _ {D : Type 0} (layer : D → Layer) (image : D → StorageState) (extras : D → List StorageState) (sees safe still lasts : D → Type 0) (sound : ℕ → List ℕ → Type 0) (free_loose : (d : D) → IsFree (layer d) → (p : ℕ) → (layer d).held p ≡ loose)
-    (d d' : D) (ds : List D) (discarding : Discarding) (offset n : ℕ) (is_free : IsFree (layer d)) (like : IsLike (layer d) (layer d')) where
-  was_loose : (p : ℕ) → (layer d).held p ≡ loose
+module _ {D St : Type 0} (g : Ghosts D St) (free_loose : (d : D) → IsFree (g.layer d) → (p : ℕ) → (g.layer d).held p ≡ loose)
+    (d d' : D) (ds : List D) (discarding : Discarding) (offset n : ℕ) (is_free : IsFree (g.layer d)) (like : IsLike (g.layer d) (g.layer d')) where
+  was_loose : (p : ℕ) → (g.layer d).held p ≡ loose
   was_loose = free_loose d is_free
 
-  is_loose : (p : ℕ) → (layer d').held p ≡ loose
+  is_loose : (p : ℕ) → (g.layer d').held p ≡ loose
   is_loose = free_loose d' (like.unspent ∙ is_free)
 
-  pub chain_ran : (result : Result (Unit {0}) Fault) → (IsTrue (layer d).fixed.keeps → safe d → (below : List Layer) → IsBacked below (layer d) → IsWhole result → IsBetween (GivesDiscarded discarding below offset n) below (layer d) (layer d'))
-      → Went layer image extras safe lasts (IsOk result) (IsWhole result) d d'
-      → (IsTrue (layer d).fixed.keeps → safe d → (below : List Layer) → IsBacked below (layer d) → KeepsStops below (layer d) sound (GivesDiscarded discarding below offset n) (image d) (image d'))
-      → RanChain layer image extras sees safe still lasts sound (IsOk result) (IsWhole result) (GivesDiscarded discarding (map layer ds) offset n) (d, ds) (d', ds)
-  chain_ran result values went stops = ran_driver {B = List D} layer image extras safe lasts (map layer) (files_of image extras) (Each sees) (Each safe) (Each still) (Each lasts) sound (IsOk result) (IsWhole result) (GivesDiscarded discarding (map layer ds) offset n) d d' ds like.size went
-      (λ w i. holds_loose (at (map layer ds)) (layer d') is_loose)
-      (λ w i. values i.keeps i.is_safe (map layer ds) i.backed w)
-      (λ i. stops i.keeps i.is_safe (map layer ds) i.backed)
+  pub chain_ran : (result : Result (Unit {0}) Fault) → (g.safe d → (below : List Layer) → IsBacked below (g.layer d) → WasNotCutOff result → IsBetween (GivesDiscarded discarding below offset n) below (g.layer d) (g.layer d'))
+      → Went g (WasNotCutOff result) (WasNotCutOff result) d d'
+      → (g.safe d → (below : List Layer) → IsBacked below (g.layer d) → KeepsStops g below (GivesDiscarded discarding below offset n) d d')
+      → RanChain g (WasNotCutOff result) (GivesDiscarded discarding (map g.layer ds) offset n) (d, ds) (d', ds)
+  chain_ran result values went stops = ran_driver {B = List D} g (below_ghosts g) (WasNotCutOff result) (GivesDiscarded discarding (map g.layer ds) offset n) d d' ds like.size went
+      (λ w i. holds_loose (at (map g.layer ds)) (g.layer d') is_loose)
+      (λ w i. values i.is_safe (map g.layer ds) i.backed w)
+      (λ i. stops i.is_safe (map g.layer ds) i.backed)
 
-  pub chain_done : (result : Result (Unit {0}) Fault) → (IsTrue (layer d).fixed.keeps → safe d → (below : List Layer) → IsBacked below (layer d) → IsWhole result → IsBetween (GivesDiscarded discarding below offset n) below (layer d) (layer d'))
-      → (Becomes : ℕ → Value → Value → Type 0) → ((p : ℕ) (was v : Value) → (v ≡ was) ⊎ GivesDiscarded discarding (map layer ds) offset n p v → Becomes p was v)
-      → (unit : ℕ) → change_refusal unit (layer d) offset n ≡ None → IsIntactChain layer safe sees (d, ds)
-      → OnOk result (Unless (n ≡ 0) (Stays (chain_disk layer (d, ds)) (chain_disk layer (d', ds))) (Changes Becomes (chain_disk layer (d, ds)) (chain_disk layer (d', ds)) offset n))
+  pub chain_done : (result : Result (Unit {0}) Fault) → (g.safe d → (below : List Layer) → IsBacked below (g.layer d) → WasNotCutOff result → IsBetween (GivesDiscarded discarding below offset n) below (g.layer d) (g.layer d'))
+      → (Becomes : ℕ → Value → Value → Type 0) → ((p : ℕ) (was v : Value) → (v ≡ was) ⊎ GivesDiscarded discarding (map g.layer ds) offset n p v → Becomes p was v)
+      → (unit : ℕ) → change_refusal unit (g.layer d) offset n ≡ None → IsIntactChain g (d, ds)
+      → OnOk result (Unless (n ≡ 0) (Stays (chain_disk g.layer (d, ds)) (chain_disk g.layer (d', ds))) (Changes Becomes (chain_disk g.layer (d, ds)) (chain_disk g.layer (d', ds)) offset n))
   chain_done (Ok x) values Becomes becomes unit allowed i =
-      let between = values i.keeps i.is_safe (map layer ds) i.backed tt in
-      let inside = allowed_inside unit (layer d) offset n allowed in
-      disk_step (map layer ds) (map layer ds) (layer d) (layer d') refl like.size was_loose is_loose (GivesDiscarded discarding (map layer ds) offset n) Becomes offset n inside (discarded_there discarding (map layer ds) offset n) between
-      (λ p there. becomes p (at (map layer (d ∷ ds)) p) (at (map layer (d' ∷ ds)) p) (between p (omega (arith, there.0, there.1, inside (omega (arith, there.0, there.1))))))
+      let between = values i.is_safe (map g.layer ds) i.backed tt in
+      let inside = allowed_inside unit (g.layer d) offset n allowed in
+      disk_step (map g.layer ds) (map g.layer ds) (g.layer d) (g.layer d') refl like.size was_loose is_loose (GivesDiscarded discarding (map g.layer ds) offset n) Becomes offset n inside (discarded_there discarding (map g.layer ds) offset n) between
+      (λ p there. becomes p (at (map g.layer (d ∷ ds)) p) (at (map g.layer (d' ∷ ds)) p) (between p (omega (arith, there.0, there.1, inside (omega (arith, there.0, there.1))))))
   chain_done (Err e) values Becomes becomes unit allowed i = tt
 
-  pub chain_partly : (result : Result (Unit {0}) Fault) → (IsTrue (layer d).fixed.keeps → safe d → (below : List Layer) → IsBacked below (layer d) → IsWhole result → IsBetween (GivesDiscarded discarding below offset n) below (layer d) (layer d'))
-      → (call : Call) → offset_of call ≡ offset → length_of call ≡ n → ((p : ℕ) (was v : Value) → GivesDiscarded discarding (map layer ds) offset n p v → Gives (at (map layer ds)) call p was v)
-      → IsIntactChain layer safe sees (d, ds) → IfErr result (λ e. IsMild e → PartlyDone (at (map layer ds)) call (chain_disk layer (d, ds)) (chain_disk layer (d', ds)))
+  pub chain_partly : (result : Result (Unit {0}) Fault) → (g.safe d → (below : List Layer) → IsBacked below (g.layer d) → WasNotCutOff result → IsBetween (GivesDiscarded discarding below offset n) below (g.layer d) (g.layer d'))
+      → (call : Call) → offset_of call ≡ offset → length_of call ≡ n → ((p : ℕ) (was v : Value) → GivesDiscarded discarding (map g.layer ds) offset n p v → Gives (at (map g.layer ds)) call p was v)
+      → IsIntactChain g (d, ds) → IfErr result (λ e. IsMild e → PartlyDone (at (map g.layer ds)) call (chain_disk g.layer (d, ds)) (chain_disk g.layer (d', ds)))
   chain_partly (Ok x) values call from long given i = tt
   chain_partly (Err e) values call from long given i = λ mild.
-      disk_partly (map layer ds) (map layer ds) (layer d) (layer d') refl like.size was_loose is_loose (GivesDiscarded discarding (map layer ds) offset n) call (values i.keeps i.is_safe (map layer ds) i.backed mild)
-      (λ p v gave. subst (λ (o : ℕ). IsIn o (length_of call) p) (sym from) (subst (λ (m : ℕ). IsIn offset m p) (sym long) (discarded_there discarding (map layer ds) offset n p v gave)))
-      (λ p v. given p (at (map layer (d ∷ ds)) p) v)
+      disk_partly (map g.layer ds) (map g.layer ds) (g.layer d) (g.layer d') refl like.size was_loose is_loose (GivesDiscarded discarding (map g.layer ds) offset n) call (values i.is_safe (map g.layer ds) i.backed mild)
+      (λ p v gave. subst (λ (o : ℕ). IsIn o (length_of call) p) (sym from) (subst (λ (m : ℕ). IsIn offset m p) (sym long) (discarded_there discarding (map g.layer ds) offset n p v gave)))
+      (λ p v. given p (at (map g.layer (d ∷ ds)) p) v)
 
 -- a cause in the top layer is one of the chain's call
-pub chain_cause : {D : Type 0} (layer : D → Layer) (image : D → StorageState) (extras : D → List StorageState) (aligned : (d : D) → IsAlignment (layer d).fixed.req_align × IsAlignment (layer d).fixed.mem_align) (d d' : D) (ds : List D) (result : Result (Unit {0}) Fault) (call : Call) (causes : Fault → Type 0)
-    → (0 < length_of call → Alters (chain_disk layer (d, ds)) call)
-    → IfErr result (PartCause (map layer ds) (layer d) (offset_of call) (length_of call) causes (image d ∷ extras d) (image d' ∷ extras d'))
-    → IfErr result (ChangeCause (unit_of_chain (map layer (d ∷ ds))) (map layer (d ∷ ds)) (chain_disk layer (d, ds)) (layer d).fixed.writable call causes (files_of image extras (d ∷ ds)) (files_of image extras (d' ∷ ds)))
-chain_cause layer image extras aligned d d' ds result call causes alters = IfErr-weaker result (PartCause (map layer ds) (layer d) (offset_of call) (length_of call) causes (image d ∷ extras d) (image d' ∷ extras d'))
-    (ChangeCause (unit_of_chain (map layer (d ∷ ds))) (map layer (d ∷ ds)) (chain_disk layer (d, ds)) (layer d).fixed.writable call causes (files_of image extras (d ∷ ds)) (files_of image extras (d' ∷ ds)))
-    (λ e h. change_cause (map layer ds) (layer d) (unit_of_chain (map layer (d ∷ ds))) call causes (files_of image extras (d ∷ ds)) (files_of image extras (d' ∷ ds)) alters (overflows_chain layer aligned d ds (offset_of call) (length_of call)) e
-    (part_cause_left (map layer ds) (layer d) (offset_of call) (length_of call) causes (image d ∷ extras d) (image d' ∷ extras d') (files_of image extras ds) (files_of image extras ds) e h))
+pub chain_cause : {D St : Type 0} (g : Ghosts D St) (aligned : (d : D) → IsAlignment (g.layer d).fixed.req_align × IsAlignment (g.layer d).fixed.mem_align) (d d' : D) (ds : List D) (result : Result (Unit {0}) Fault) (call : Call) (causes : Fault → Type 0)
+    → (0 < length_of call → Alters (chain_disk g.layer (d, ds)) call)
+    → IfErr result (PartCause (map g.layer ds) (g.layer d) (offset_of call) (length_of call) causes (files g d) (files g d'))
+    → IfErr result (ChangeCause (map g.layer ds) (g.layer d) call causes (files_of g (d ∷ ds)) (files_of g (d' ∷ ds)))
+chain_cause g aligned d d' ds result call causes alters = IfErr-weaker result (PartCause (map g.layer ds) (g.layer d) (offset_of call) (length_of call) causes (files g d) (files g d'))
+    (ChangeCause (map g.layer ds) (g.layer d) call causes (files_of g (d ∷ ds)) (files_of g (d' ∷ ds)))
+    (λ e h. change_cause (map g.layer ds) (g.layer d) call causes (files_of g (d ∷ ds)) (files_of g (d' ∷ ds)) alters (overflows_chain g.layer aligned d ds (offset_of call) (length_of call)) e
+    (part_cause_left (map g.layer ds) (g.layer d) (offset_of call) (length_of call) causes (files g d) (files g d') (files_of g ds) (files_of g ds) e h))

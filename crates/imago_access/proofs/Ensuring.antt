@@ -1,20 +1,21 @@
 -- A mapping that is prepared and committed at once.
 use Rattle.std.proofs.Common.{◌≡◌, refl, inl, inr, ℕ, ◌<◌, ◌≤◌, Bool, true, false, Option, Some, None, List, ◌∷◌, arith, sym, ◌∙◌, ap, subst}
 use Rattle.std.specs.Prelude.{⊤, if◌then◌else◌}
-use Rattle.imago_storage.specs.State.{StorageState}
 use Rattle.imago_storage.specs.Disk.{Value, Hold, Disk, IsFree}
 use Rattle.imago_storage.specs.declared.fault.Fault.{Fault}
 use Rattle.imago_storage.specs.declared.fault.Fault.TheVariants.{MissingData, Failed}
 use Rattle.imago_storage.specs.Steps.{Stays, Commits, IsIn, IsByte, Settles as SettlesValue}
 use Rattle.imago_access.specs.Layer.{Layer, Cell, through, Held, loose, beside, inside, hold_of}
 use Rattle.imago_access.specs.Chain.{at, disk_of}
-use Rattle.imago_access.specs.Changes.{IsHolding, Prepared, Settles, Committed}
+use Rattle.imago_access.specs.Changes.{asking, run_at, IsHolding, Prepared, Settles, Committed}
 use Rattle.imago_access.specs.Refusals.{barrier, change_refusal}
 use Rattle.imago_access.specs.Running.{IsTruly, HoldsTrue, IsIntact, Ran}
 use Rattle.imago_access.specs.Spending.{IsMine, Spends}
 use Rattle.imago_access.specs.Stops.{MayTake, GivesNone, GivesHeld, GivesAny, GivesAnnounced}
 use Rattle.imago_access.proofs.Holding.{at_inside, spent_settles}
 use Rattle.imago_access.proofs.Running.{ran_both, ran_gives_intact}
+use Rattle.imago_access.specs.declared.seen.Seen.{Ghosts}
+use Rattle.imago_access.specs.declared.seen.SeenBelow.{Ghosts as GhostsBelow}
 
 -- what a committed place shows
 value_settles : (below : ℕ → Value) (layer : Layer) (p : ℕ) (h : Held) (c : Cell) → IsTruly below layer p h → Settles h (layer.cell p) c → SettlesValue (hold_of h) (through (layer.cell p) (below p)) (through c (below p))
@@ -29,21 +30,21 @@ value_settles below layer p (inside None None true) c truly settles = elim settl
 ]
 value_settles below layer p (inside None None false) c truly settles = ap (λ (x : Cell). through x (below p)) settles
 
-pub settled_commits : {S : Type 0} (claim tag : S → ℕ) (state : Option S) (below below' : List Layer) (mid new : Layer) → below' ≡ below → new.size ≡ mid.size → HoldsTrue (at below) mid → IsMine claim tag state mid
-    → (state ≡ None → (p : ℕ) → mid.held p ≡ loose) → ((p : ℕ) → new.held p ≡ loose) → Spends claim tag state mid new (Committed mid new) → Commits (disk_of below mid) (disk_of below' new)
-settled_commits claim tag state below below' mid new same size truly mine stateless is_loose spends = rw same (record {
+pub settled_commits : {D St : Type 0} (g : Ghosts D St) (state : Option St) (below below' : List Layer) (mid new : Layer) → below' ≡ below → new.size ≡ mid.size → HoldsTrue (at below) mid → IsMine g state mid
+    → (state ≡ None → (p : ℕ) → mid.held p ≡ loose) → ((p : ℕ) → new.held p ≡ loose) → Spends g state mid new (Committed mid new) → Commits (disk_of below mid) (disk_of below' new)
+settled_commits g state below below' mid new same size truly mine stateless is_loose spends = rw same (record {
   size = size;
   value = λ p low.
-      let shown = value_settles (at below) mid p (mid.held p) (new.cell p) (truly p) (spent_settles claim tag state mid new mine stateless spends p) in
+      let shown = value_settles (at below) mid p (mid.held p) (new.cell p) (truly p) (spent_settles g state mid new mine stateless spends p) in
       subst (λ (v : Value). SettlesValue (hold_of (mid.held p)) v (at (new ∷ below) p)) (sym (at_inside mid below p low))
       (subst (λ (v : Value). SettlesValue (hold_of (mid.held p)) (through (mid.cell p) (at below p)) v) (sym (at_inside new below p (rw size low))) shown);
   is_free = λ p low. ap hold_of (is_loose p);
 })
 
 -- places that could be written are where they were
-pub settled_home : {S : Type 0} (claim tag : S → ℕ) (state : Option S) (mid new : Layer) → IsMine claim tag state mid → Spends claim tag state mid new (Committed mid new) → (p : ℕ) (place : ℕ × ℕ) → mid.home p ≡ Some place → new.home p ≡ Some place
-settled_home claim tag None mid new mine spends p place home = rw spends home
-settled_home claim tag (Some s) mid new mine spends p place home = (spends.1 mine.1).home p place home
+pub settled_home : {D St : Type 0} (g : Ghosts D St) (state : Option St) (mid new : Layer) → IsMine g state mid → Spends g state mid new (Committed mid new) → (p : ℕ) (place : ℕ × ℕ) → mid.home p ≡ Some place → new.home p ≡ Some place
+settled_home g None mid new mine spends p place home = rw spends home
+settled_home g (Some s) mid new mine spends p place home = (spends.1 mine.1).home p place home
 
 -- a byte that a commit may give to a place of a run just prepared was announced
 may_announced : (below : ℕ → Value) (layer : Layer) (offset n : ℕ) (overwrite : Bool) (p : ℕ) (h : Held) (v : Value) → IsHolding below layer offset n overwrite p h → MayTake h v → IsIn offset n p × (overwrite ≡ true) × IsByte v
@@ -59,18 +60,18 @@ may_announced below layer offset n overwrite p (inside None None false) v holdin
 announced_gives : (overwrite : Bool) (offset n : ℕ) (p : ℕ) (v : Value) → overwrite ≡ true → GivesAny offset n p v → GivesAnnounced overwrite offset n p v
 announced_gives overwrite offset n p v is gives = rw is gives
 
-module _ {D B : Type 0} (layer : D → Layer) (image : D → StorageState) (extras : D → List StorageState) (safe lasts : D → Type 0) (under : B → List Layer) (files : B → List StorageState) (sees safe_under still lasts_under : B → Type 0) (sound : ℕ → List ℕ → Type 0) where
+module _ {D St B : Type 0} (g : Ghosts D St) (u : GhostsBelow B) where
   -- prepared, and then spent
-  pub ran_ensured : (ok whole : Type 0) (a b c : D) (x y : B) (offset asked : ℕ) (overwrite : Bool) (storage place n : ℕ) (claim : Option ℕ) → n ≤ asked
-      → (IsIntact (under x) (layer a) (safe a) (sees x) → Prepared (at (under x)) (layer a) (layer b) offset asked overwrite storage place n claim)
-      → Ran layer image extras safe lasts under files sees safe_under still lasts_under sound ⊤ ⊤ GivesNone a b x y → Ran layer image extras safe lasts under files sees safe_under still lasts_under sound ok whole (GivesHeld (layer b)) b c y y
-      → Ran layer image extras safe lasts under files sees safe_under still lasts_under sound ok whole (GivesAnnounced overwrite offset asked) a c x y
-  ran_ensured ok whole a b c x y offset asked overwrite storage place n claim most prepared first second =
-      ran_gives_intact layer image extras safe lasts under files sees safe_under still lasts_under sound ok whole (GivesHeld (layer b)) (GivesAnnounced overwrite offset asked) a c x y
+  pub ran_ensured : (whole : Type 0) (a b c : D) (x y : B) (offset asked : ℕ) (overwrite : Bool) (storage place n : ℕ) (claim : Option ℕ) → n ≤ asked
+      → (IsIntact g u a x → Prepared (at (u.under x)) (g.layer a) (g.layer b) (asking offset asked overwrite) (run_at storage place n claim))
+      → Ran g u ⊤ GivesNone (a, x) (b, y) → Ran g u whole (GivesHeld (g.layer b)) (b, y) (c, y)
+      → Ran g u whole (GivesAnnounced overwrite offset asked) (a, x) (c, y)
+  ran_ensured whole a b c x y offset asked overwrite storage place n claim most prepared first second =
+      ran_gives_intact g u whole (GivesHeld (g.layer b)) (GivesAnnounced overwrite offset asked) a c x y
       (λ i p v may.
-      let it = may_announced (at (under x)) (layer b) offset n overwrite p ((layer b).held p) v ((prepared i).holds p) may in
+      let it = may_announced (at (u.under x)) (g.layer b) offset n overwrite p ((g.layer b).held p) v ((prepared i).holds p) may in
       announced_gives overwrite offset asked p v it.1 ((it.0.0, omega (arith, it.0.1, most)), it.2))
-      (ran_both layer image extras safe lasts under files sees safe_under still lasts_under sound ok whole GivesNone (GivesHeld (layer b)) (GivesHeld (layer b)) a b c x y y (λ p v none. absurd none) (λ p v may. may) first second)
+      (ran_both g u whole GivesNone (GivesHeld (g.layer b)) (GivesHeld (g.layer b)) a b c x y y (λ p v none. absurd none) (λ p v may. may) first second)
 
 -- a free disk that is kept and then committed is kept
 pub stays_committed : (a b c : Disk) → IsFree b → Stays a b → Commits b c → Stays a c

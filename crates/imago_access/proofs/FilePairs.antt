@@ -2,7 +2,7 @@
 use Rattle.std.proofs.Common.{refl, inl, inr, List, [], ◌∷◌, ◌++◌, arith, ◌∙◌}
 use Rattle.imago_storage.specs.State.{StorageState}
 use Rattle.imago_storage.proofs.Composing.{rose_behind, later_both}
-use Rattle.imago_access.specs.Files.{Pairs, IsKept, IsLater, IsSound, SomeRose}
+use Rattle.imago_access.specs.Files.{Pairs, IsKept, IsLater, IsFaultless, SomeRose}
 
 pub pairs_same : (R : StorageState → StorageState → Type 0) → ((s : StorageState) → R s s) → (xs : List StorageState) → Pairs R xs xs
 pairs_same R same [] = tt
@@ -55,11 +55,11 @@ later_all_same = pairs_same IsLater is_later_same
 pub later_all_both : (xs ys zs : List StorageState) → Pairs IsLater xs ys → Pairs IsLater ys zs → Pairs IsLater xs zs
 later_all_both = pairs_both IsLater is_later_both
 
-pub sound_all_same : (xs : List StorageState) → Pairs IsSound xs xs
-sound_all_same = pairs_same IsSound (λ s. refl)
+pub faultless_all_same : (xs : List StorageState) → Pairs IsFaultless xs xs
+faultless_all_same = pairs_same IsFaultless (λ s. (refl, refl))
 
-pub sound_all_both : (xs ys zs : List StorageState) → Pairs IsSound xs ys → Pairs IsSound ys zs → Pairs IsSound xs zs
-sound_all_both = pairs_both IsSound (λ a b c first second. second ∙ first)
+pub faultless_all_both : (xs ys zs : List StorageState) → Pairs IsFaultless xs ys → Pairs IsFaultless ys zs → Pairs IsFaultless xs zs
+faultless_all_both = pairs_both IsFaultless (λ a b c first second. (second.0 ∙ first.0, second.1 ∙ first.1))
 
 -- a storage that failed in a later call failed
 pub some_rose_behind : (xs ys zs : List StorageState) → Pairs IsLater xs ys → SomeRose ys zs → SomeRose xs zs

@@ -5,11 +5,12 @@ use Rattle.imago_storage.specs.Disk.{Value, byte}
 use Rattle.imago_storage.specs.Steps.{IsIn, IsOut}
 use Rattle.imago_access.specs.Layer.{Layer, Cell, own, through, Held, loose, beside, inside, Fixed, IsFree, IsLike}
 use Rattle.imago_access.specs.Chain.{at}
-use Rattle.imago_access.specs.Changes.{IsHolding, Prepared, TakesByte, Wrote, Settles, Committed, Cancelled}
+use Rattle.imago_access.specs.Changes.{asking, run_at, IsHolding, Prepared, TakesByte, Wrote, Settles, Committed, Cancelled}
 use Rattle.imago_access.specs.Parts.{IsMappedAt}
 use Rattle.imago_access.specs.Running.{IsTruly, HoldsTrue, IsBetween}
 use Rattle.imago_access.specs.Spending.{IsMine, Spends}
 use Rattle.imago_access.specs.Stops.{MayTake, GivesBytes, GivesHeld, GivesSettled}
+use Rattle.imago_access.specs.declared.seen.Seen.{Ghosts}
 
 pub at_inside : (layer : Layer) (below : List Layer) (p : ℕ) → p < layer.size → at (layer ∷ below) p ≡ through (layer.cell p) (at below p)
 at_inside layer below p lt = rw (lt-ltb p layer.size lt) refl
@@ -34,7 +35,7 @@ holding_truly below layer offset n overwrite p (inside (Some b) written announce
 holding_truly below layer offset n overwrite p (inside None written announced) holding = tt
 
 -- what a preparation has copied is what the places show
-pub truly_prepared : (below : ℕ → Value) (old new : Layer) (offset asked : ℕ) (overwrite : Bool) (storage place n : ℕ) (claim : Option ℕ) → Prepared below old new offset asked overwrite storage place n claim → HoldsTrue below new
+pub truly_prepared : (below : ℕ → Value) (old new : Layer) (offset asked : ℕ) (overwrite : Bool) (storage place n : ℕ) (claim : Option ℕ) → Prepared below old new (asking offset asked overwrite) (run_at storage place n claim) → HoldsTrue below new
 truly_prepared below old new offset asked overwrite storage place n claim prepared p = holding_truly below new offset n overwrite p (new.held p) (prepared.holds p)
 
 -- Written.
@@ -114,40 +115,40 @@ settled_given below layer truly p v lt_size gives = elim (settled_value (at belo
 ]
 
 -- a mapping of the image stays its own while nothing is spent
-pub mine_on : {S : Type 0} (claim tag : S → ℕ) (state : Option S) (old new : Layer) → IsLike old new → IsMine claim tag state old → IsMine claim tag state new
-mine_on claim tag None old new like mine = tt
-mine_on claim tag (Some s) old new like mine = (mine.0 ∙ ap (λ (x : Fixed). x.number) (sym like.fixed), like.unspent ∙ mine.1)
+pub mine_on : {D St : Type 0} (g : Ghosts D St) (state : Option St) (old new : Layer) → IsLike old new → IsMine g state old → IsMine g state new
+mine_on g None old new like mine = tt
+mine_on g (Some s) old new like mine = (mine.0 ∙ ap (λ (x : Fixed). x.number) (sym like.fixed), like.unspent ∙ mine.1)
 
 -- what a spent mapping without state has done: nothing, as it holds no place
-pub spent_settles : {S : Type 0} (claim tag : S → ℕ) (state : Option S) (old new : Layer) → IsMine claim tag state old → (state ≡ None → (p : ℕ) → old.held p ≡ loose) → Spends claim tag state old new (Committed old new)
+pub spent_settles : {D St : Type 0} (g : Ghosts D St) (state : Option St) (old new : Layer) → IsMine g state old → (state ≡ None → (p : ℕ) → old.held p ≡ loose) → Spends g state old new (Committed old new)
     → (p : ℕ) → Settles (old.held p) (old.cell p) (new.cell p)
-spent_settles claim tag None old new mine none spends p = subst (λ (h : Held). Settles h (old.cell p) (new.cell p)) (sym (none refl p)) (ap (λ (l : Layer). l.cell p) spends)
-spent_settles claim tag (Some s) old new mine none spends p = (spends.1 mine.1).cell p
+spent_settles g None old new mine none spends p = subst (λ (h : Held). Settles h (old.cell p) (new.cell p)) (sym (none refl p)) (ap (λ (l : Layer). l.cell p) spends)
+spent_settles g (Some s) old new mine none spends p = (spends.1 mine.1).cell p
 
-pub spends_more : {S : Type 0} (claim tag : S → ℕ) (state : Option S) (old new : Layer) (P Q : Type 0) → (P → Q) → Spends claim tag state old new P → Spends claim tag state old new Q
-spends_more claim tag None old new P Q more spends = spends
-spends_more claim tag (Some s) old new P Q more spends = (spends.0, λ is. more (spends.1 is))
+pub spends_more : {D St : Type 0} (g : Ghosts D St) (state : Option St) (old new : Layer) (P Q : Type 0) → (P → Q) → Spends g state old new P → Spends g state old new Q
+spends_more g None old new P Q more spends = spends
+spends_more g (Some s) old new P Q more spends = (spends.0, λ is. more (spends.1 is))
 
 -- a mapping that is given up leaves each place as it was
-pub given_up_fixed : {S : Type 0} (claim tag : S → ℕ) (state : Option S) (old new : Layer) → IsMine claim tag state old → Spends claim tag state old new (Cancelled old new) → new.fixed ≡ old.fixed
-given_up_fixed claim tag None old new mine spends = ap (λ (l : Layer). l.fixed) spends
-given_up_fixed claim tag (Some s) old new mine spends = (spends.1 mine.1).fixed
+pub given_up_fixed : {D St : Type 0} (g : Ghosts D St) (state : Option St) (old new : Layer) → IsMine g state old → Spends g state old new (Cancelled old new) → new.fixed ≡ old.fixed
+given_up_fixed g None old new mine spends = ap (λ (l : Layer). l.fixed) spends
+given_up_fixed g (Some s) old new mine spends = (spends.1 mine.1).fixed
 
-pub given_up_size : {S : Type 0} (claim tag : S → ℕ) (state : Option S) (old new : Layer) → IsMine claim tag state old → Spends claim tag state old new (Cancelled old new) → new.size ≡ old.size
-given_up_size claim tag None old new mine spends = ap (λ (l : Layer). l.size) spends
-given_up_size claim tag (Some s) old new mine spends = (spends.1 mine.1).size
+pub given_up_size : {D St : Type 0} (g : Ghosts D St) (state : Option St) (old new : Layer) → IsMine g state old → Spends g state old new (Cancelled old new) → new.size ≡ old.size
+given_up_size g None old new mine spends = ap (λ (l : Layer). l.size) spends
+given_up_size g (Some s) old new mine spends = (spends.1 mine.1).size
 
-pub given_up_failed : {S : Type 0} (claim tag : S → ℕ) (state : Option S) (old new : Layer) → IsMine claim tag state old → Spends claim tag state old new (Cancelled old new) → IsTrue old.failed → IsTrue new.failed
-given_up_failed claim tag None old new mine spends f = subst (λ (l : Layer). IsTrue l.failed) (sym spends) f
-given_up_failed claim tag (Some s) old new mine spends f = subst (λ b. IsTrue b) (sym (spends.1 mine.1).failed) f
+pub given_up_failed : {D St : Type 0} (g : Ghosts D St) (state : Option St) (old new : Layer) → IsMine g state old → Spends g state old new (Cancelled old new) → IsTrue old.failed → IsTrue new.failed
+given_up_failed g None old new mine spends f = subst (λ (l : Layer). IsTrue l.failed) (sym spends) f
+given_up_failed g (Some s) old new mine spends f = subst (λ b. IsTrue b) (sym (spends.1 mine.1).failed) f
 
-pub given_up_cell : {S : Type 0} (claim tag : S → ℕ) (state : Option S) (old new : Layer) → IsMine claim tag state old → Spends claim tag state old new (Cancelled old new) → new.cell ≡ old.cell
-given_up_cell claim tag None old new mine spends = ap (λ (l : Layer). l.cell) spends
-given_up_cell claim tag (Some s) old new mine spends = (spends.1 mine.1).cell
+pub given_up_cell : {D St : Type 0} (g : Ghosts D St) (state : Option St) (old new : Layer) → IsMine g state old → Spends g state old new (Cancelled old new) → new.cell ≡ old.cell
+given_up_cell g None old new mine spends = ap (λ (l : Layer). l.cell) spends
+given_up_cell g (Some s) old new mine spends = (spends.1 mine.1).cell
 
-pub given_up_free : {S : Type 0} (claim tag : S → ℕ) (state : Option S) (old new : Layer) → IsMine claim tag state old → (state ≡ None → IsFree old) → Spends claim tag state old new (Cancelled old new) → IsFree new
-given_up_free claim tag None old new mine stateless spends = ap (λ (l : Layer). l.unspent) spends ∙ stateless refl
-given_up_free claim tag (Some s) old new mine stateless spends = (spends.1 mine.1).is_free
+pub given_up_free : {D St : Type 0} (g : Ghosts D St) (state : Option St) (old new : Layer) → IsMine g state old → (state ≡ None → IsFree old) → Spends g state old new (Cancelled old new) → IsFree new
+given_up_free g None old new mine stateless spends = ap (λ (l : Layer). l.unspent) spends ∙ stateless refl
+given_up_free g (Some s) old new mine stateless spends = (spends.1 mine.1).is_free
 
 -- Prepared and written to its end.
 
@@ -164,7 +165,7 @@ took_byte b (inside copied written announced) was held is v takes may = subst (�
 
 -- what a commit may give at a place that is held are the bytes of its run
 pub held_written : (below : ℕ → Value) (old mid new : Layer) (offset asked : ℕ) (overwrite : Bool) (storage place : ℕ) (bytes : List ℕ) (claim : Option ℕ)
-    → Prepared below old mid offset asked overwrite storage place (length bytes) claim → Wrote mid new offset bytes → (p : ℕ) (v : Value) → GivesHeld new p v → GivesBytes offset bytes p v
+    → Prepared below old mid (asking offset asked overwrite) (run_at storage place (length bytes) claim) → Wrote mid new offset bytes → (p : ℕ) (v : Value) → GivesHeld new p v → GivesBytes offset bytes p v
 held_written below old mid new offset asked overwrite storage place bytes claim prepared wrote p v gives = elim (out_or_in offset (length bytes) p) [
   | inl out ↦ absurd (holding_takes below mid offset (length bytes) overwrite p (mid.held p) v (prepared.holds p) out (subst (λ (h : Held). MayTake h v) (wrote.others p out).1 gives))
   | inr into ↦

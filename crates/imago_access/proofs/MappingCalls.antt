@@ -1,6 +1,6 @@
 -- Calls of a chain on mappings, from what they do to its driver.
 use Rattle.std.proofs.Common.{◌≡◌, ◌⊎◌, refl, inl, inr, ℕ, ◌+◌, ◌<◌, ◌≤◌, Bool, true, false, Option, Some, None, List, ◌∷◌, ◌++◌, length, map, arith, sym, ◌∙◌, ap, subst}
-use Rattle.std.specs.Prelude.{Result, OnOk, IfErr, IsOk, IsTrue, is_some}
+use Rattle.std.specs.Prelude.{Result, OnOk, IfErr, is_some}
 use Rattle.std.proofs.lemmas.Bool.{cases_lt}
 use Rattle.std.proofs.lemmas.Result.{IfErr-weaker}
 use Rattle.imago_storage.specs.State.{StorageState, IsAlignment}
@@ -10,8 +10,8 @@ use Rattle.imago_storage.specs.declared.fault.Fault.{Fault}
 use Rattle.imago_storage.specs.declared.fault.Fault.TheVariants.{ReadOnly, PastEnd, RangeOverflow, Foreign, MissingData, Failed, Outdated, Memory, Storage}
 use Rattle.imago_access.specs.Layer.{Layer, Cell, through, Held, loose, beside, inside, hold_of, IsLike, unit_of_layer}
 use Rattle.imago_access.specs.Chain.{at, disk_of, unit_of_chain}
-use Rattle.imago_access.specs.Changes.{IsHolding, Prepared, NotPrepared, Wrote}
-use Rattle.imago_access.specs.Files.{IsMild, IsWhole}
+use Rattle.imago_access.specs.Changes.{asking, run_at, IsHolding, Prepared, NotPrepared, Wrote}
+use Rattle.imago_access.specs.Files.{IsMild, WasNotCutOff}
 use Rattle.imago_access.specs.Going.{Went}
 use Rattle.imago_access.specs.Parts.{IsMappedAt, MappedCause}
 use Rattle.imago_access.specs.Refusals.{ChangeCause}
@@ -23,24 +23,26 @@ use Rattle.imago_access.proofs.FilePairs.{some_rose_left}
 use Rattle.imago_access.proofs.Holding.{at_alike, truly_wrote, between_wrote}
 use Rattle.imago_access.proofs.Running.{ran_driver}
 use Rattle.imago_access.proofs.Units.{overflows_more, layer_aligned, unit_aligned}
+use Rattle.imago_access.specs.declared.seen.Seen.{Ghosts}
+use Rattle.imago_access.specs.declared.seen.SeenBelow.{Ghosts as GhostsBelow}
 
 -- Writes to a mapped range.
 
-pub write_mapped_cause : {D : Type 0} (layer : D → Layer) (aligned : (d : D) → IsAlignment (layer d).fixed.req_align × IsAlignment (layer d).fixed.mem_align) (d : D) (ds : List D) (disk : Disk) (guest place : ℕ) (bytes : List ℕ) (olds news us vs : List StorageState) (e : Fault)
-    → MappedCause (layer d) guest place (length bytes) olds news e → disk.size ≡ (layer d).size
-    → ChangeCause (unit_of_chain (map layer (d ∷ ds))) (map layer (d ∷ ds)) disk (layer d).fixed.writable (write_mapped guest bytes) (λ f. (f ≡ Outdated) × (0 < length bytes) × (IsMappedAt (layer d) guest place (length bytes) → ⊥)) (olds ++ us) (news ++ vs) e
-write_mapped_cause layer aligned d ds disk guest place bytes olds news us vs Outdated h size = (refl, h.0, h.1)
-write_mapped_cause layer aligned d ds disk guest place bytes olds news us vs ReadOnly h size = h
-write_mapped_cause layer aligned d ds disk guest place bytes olds news us vs PastEnd h size = (h.0, omega (arith, size, h.1))
-write_mapped_cause layer aligned d ds disk guest place bytes olds news us vs RangeOverflow h size =
+pub write_mapped_cause : {D : Type 0} (layer : D → Layer) (aligned : (d : D) → IsAlignment (layer d).fixed.req_align × IsAlignment (layer d).fixed.mem_align) (d : D) (ds : List D) (guest place : ℕ) (bytes : List ℕ) (olds news us vs : List StorageState) (e : Fault)
+    → MappedCause (layer d) guest place (length bytes) olds news e
+    → ChangeCause (map layer ds) (layer d) (write_mapped guest bytes) (λ f. (f ≡ Outdated) × (0 < length bytes) × (IsMappedAt (layer d) guest place (length bytes) → ⊥)) (olds ++ us) (news ++ vs) e
+write_mapped_cause layer aligned d ds guest place bytes olds news us vs Outdated h = (refl, h.0, h.1)
+write_mapped_cause layer aligned d ds guest place bytes olds news us vs ReadOnly h = h
+write_mapped_cause layer aligned d ds guest place bytes olds news us vs PastEnd h = (h.0, h.1)
+write_mapped_cause layer aligned d ds guest place bytes olds news us vs RangeOverflow h =
     let le : unit_of_layer (layer d) ≤ unit_of_chain (map layer (d ∷ ds)) = omega arith in
     overflows_more (unit_of_layer (layer d)) (unit_of_chain (map layer (d ∷ ds))) guest (length bytes) (layer_aligned layer aligned d) (unit_aligned layer aligned (d ∷ ds)) le h
-write_mapped_cause layer aligned d ds disk guest place bytes olds news us vs Foreign h size = absurd h
-write_mapped_cause layer aligned d ds disk guest place bytes olds news us vs Failed h size = elim h [ inl top ↦ inl top | inr none ↦ absurd none ]
-write_mapped_cause layer aligned d ds disk guest place bytes olds news us vs MissingData h size = elim h [ inl top ↦ inl top | inr none ↦ absurd none ]
-write_mapped_cause layer aligned d ds disk guest place bytes olds news us vs Memory h size = h
-write_mapped_cause layer aligned d ds disk guest place bytes olds news us vs Storage h size = some_rose_left olds news us vs h
-write_mapped_cause layer aligned d ds disk guest place bytes olds news us vs _ h size = absurd h
+write_mapped_cause layer aligned d ds guest place bytes olds news us vs Foreign h = absurd h
+write_mapped_cause layer aligned d ds guest place bytes olds news us vs Failed h = elim h [ inl top ↦ inl top | inr none ↦ absurd none ]
+write_mapped_cause layer aligned d ds guest place bytes olds news us vs MissingData h = elim h [ inl top ↦ inl top | inr none ↦ absurd none ]
+write_mapped_cause layer aligned d ds guest place bytes olds news us vs Memory h = h
+write_mapped_cause layer aligned d ds guest place bytes olds news us vs Storage h = some_rose_left olds news us vs h
+write_mapped_cause layer aligned d ds guest place bytes olds news us vs _ h = absurd h
 
 -- Preparations.
 
@@ -69,7 +71,7 @@ stateful_claims claim None h = absurd (cc h)
 stateful_claims claim (Some s) h = (claim s, refl)
 
 pub prepared_step : (below below' : List Layer) (old new : Layer) (offset asked : ℕ) (overwrite : Bool) (storage place n : ℕ) (claim : Option ℕ) (state : Bool) → below' ≡ below
-    → ((p : ℕ) → old.held p ≡ loose) → Prepared (at below) old new offset asked overwrite storage place n claim → n ≤ asked → (0 < asked → 0 < n) → (0 < asked → offset + n ≤ old.size)
+    → ((p : ℕ) → old.held p ≡ loose) → Prepared (at below) old new (asking offset asked overwrite) (run_at storage place n claim) → n ≤ asked → (0 < asked → 0 < n) → (0 < asked → offset + n ≤ old.size)
     → (state ≡ false → (p : ℕ) → new.held p ≡ loose) → (state ≡ true → (c : ℕ) × (claim ≡ Some c)) → (asked ≡ 0 → state ≡ false)
     → Step (at below) (disk_of below old) (prepare offset asked overwrite) (prepared n state) (disk_of below' new)
 prepared_step below below' old new offset asked overwrite storage place n claim state same was_loose done most some in_disk stateless stateful empty =
@@ -104,20 +106,20 @@ prepared_step below below' old new offset asked overwrite storage place n claim 
       )
     ])
 
-module _ {D B : Type 0} (layer : D → Layer) (image : D → StorageState) (extras : D → List StorageState) (safe lasts : D → Type 0) (under : B → List Layer) (files : B → List StorageState) (sees safe_under still lasts_under : B → Type 0) (sound : ℕ → List ℕ → Type 0) where
+module _ {D St B : Type 0} (g : Ghosts D St) (u : GhostsBelow B) where
   -- a write to a mapped range, by its answer
-  pub ran_mapped : {T : Type 0} (r : Result T Fault) (a b : D) (x : B) (guest place : ℕ) (bytes : List ℕ) → IsLike (layer a) (layer b) → Went layer image extras safe lasts (IsOk r) (IsWhole r) a b
-      → (IsTrue (layer a).fixed.keeps → safe a → OnOk r (Wrote (layer a) (layer b) guest bytes)) → OnOk r (0 < length bytes → IsMappedAt (layer a) guest place (length bytes))
-      → (IsTrue (layer a).fixed.keeps → safe a → IfErr r (λ e. IsMild e → layer b ≡ layer a))
-      → (IsTrue (layer a).fixed.keeps → safe a → (below : List Layer) → KeepsStops below (layer a) sound (GivesBytes guest bytes) (image a) (image b))
-      → Ran layer image extras safe lasts under files sees safe_under still lasts_under sound (IsOk r) (IsWhole r) (GivesBytes guest bytes) a b x x
+  pub ran_mapped : {T : Type 0} (r : Result T Fault) (a b : D) (x : B) (guest place : ℕ) (bytes : List ℕ) → IsLike (g.layer a) (g.layer b) → Went g (WasNotCutOff r) (WasNotCutOff r) a b
+      → (g.safe a → OnOk r (Wrote (g.layer a) (g.layer b) guest bytes)) → (g.safe a → OnOk r (0 < length bytes → IsMappedAt (g.layer a) guest place (length bytes)))
+      → (g.safe a → IfErr r (λ e. IsMild e → g.layer b ≡ g.layer a))
+      → (g.safe a → (below : List Layer) → KeepsStops g below (GivesBytes guest bytes) a b)
+      → Ran g u (WasNotCutOff r) (GivesBytes guest bytes) (a, x) (b, x)
   ran_mapped r a b x guest place bytes like went wrote mapped refused stops =
-      let Done = Wrote (layer a) (layer b) guest bytes × (0 < length bytes → IsMappedAt (layer a) guest place (length bytes)) in
-      ran_driver layer image extras safe lasts under files sees safe_under still lasts_under sound (IsOk r) (IsWhole r) (GivesBytes guest bytes) a b x like.size went
-      (λ w i. whole_holds r (λ _. Done) (HoldsTrue (at (under x)) (layer b)) w (λ v is h. truly_wrote (at (under x)) (layer a) (layer b) guest place bytes h.1 h.0 i.held)
-      (both_on_ok r (Wrote (layer a) (layer b) guest bytes) (0 < length bytes → IsMappedAt (layer a) guest place (length bytes)) (wrote i.keeps i.is_safe) mapped)
-      (IfErr-weaker r (λ e. IsMild e → layer b ≡ layer a) (λ e. IsMild e → HoldsTrue (at (under x)) (layer b)) (λ e same mild. subst (HoldsTrue (at (under x))) (sym (same mild)) i.held) (refused i.keeps i.is_safe)))
-      (λ w i. whole_holds r (λ _. Wrote (layer a) (layer b) guest bytes) (IsBetween (GivesBytes guest bytes) (under x) (layer a) (layer b)) w (λ v is h. between_wrote (under x) (layer a) (layer b) guest bytes h)
-      (wrote i.keeps i.is_safe)
-      (IfErr-weaker r (λ e. IsMild e → layer b ≡ layer a) (λ e. IsMild e → IsBetween (GivesBytes guest bytes) (under x) (layer a) (layer b)) (λ e same mild p low. inl (ap (λ (l : Layer). at (l ∷ under x) p) (same mild))) (refused i.keeps i.is_safe)))
-      (λ i. stops i.keeps i.is_safe (under x))
+      let Done = Wrote (g.layer a) (g.layer b) guest bytes × (0 < length bytes → IsMappedAt (g.layer a) guest place (length bytes)) in
+      ran_driver g u (WasNotCutOff r) (GivesBytes guest bytes) a b x like.size went
+      (λ w i. whole_holds r (λ _. Done) (HoldsTrue (at (u.under x)) (g.layer b)) w (λ v is h. truly_wrote (at (u.under x)) (g.layer a) (g.layer b) guest place bytes h.1 h.0 i.held)
+      (both_on_ok r (Wrote (g.layer a) (g.layer b) guest bytes) (0 < length bytes → IsMappedAt (g.layer a) guest place (length bytes)) (wrote i.is_safe) (mapped i.is_safe))
+      (IfErr-weaker r (λ e. IsMild e → g.layer b ≡ g.layer a) (λ e. IsMild e → HoldsTrue (at (u.under x)) (g.layer b)) (λ e same mild. subst (HoldsTrue (at (u.under x))) (sym (same mild)) i.held) (refused i.is_safe)))
+      (λ w i. whole_holds r (λ _. Wrote (g.layer a) (g.layer b) guest bytes) (IsBetween (GivesBytes guest bytes) (u.under x) (g.layer a) (g.layer b)) w (λ v is h. between_wrote (u.under x) (g.layer a) (g.layer b) guest bytes h)
+      (wrote i.is_safe)
+      (IfErr-weaker r (λ e. IsMild e → g.layer b ≡ g.layer a) (λ e. IsMild e → IsBetween (GivesBytes guest bytes) (u.under x) (g.layer a) (g.layer b)) (λ e same mild p low. inl (ap (λ (l : Layer). at (l ∷ u.under x) p) (same mild))) (refused i.is_safe)))
+      (λ i. stops i.is_safe (u.under x))

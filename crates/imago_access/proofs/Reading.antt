@@ -1,22 +1,25 @@
 -- Reads of a chain, run by run.
 use Rattle.std.proofs.Common.{◌≡◌, refl, inl, inr, ℕ, ◌+◌, ◌-◌, ◌<◌, ◌≤◌, ◌^◌, List, [], ◌∷◌, length, arith, sym, ◌∙◌, ap, subst}
-use Rattle.std.specs.Prelude.{⊤, Result, Ok, Err, OnOk, IsOk, Bool, map, slice_index, if◌then◌else◌}
+use Rattle.std.specs.Prelude.{⊤, Result, Ok, Err, OnOk, Bool, map, slice_index, if◌then◌else◌, IfErr, IsErrOf}
 use Rattle.std.proofs.lemmas.Bool.{cases_lt, le-ltb}
 use Rattle.imago_storage.specs.State.{StorageState, IsAlignment}
 use Rattle.imago_storage.specs.Through.{Overflows, round_up}
-use Rattle.imago_storage.specs.Disk.{byte, Shows}
+use Rattle.imago_storage.specs.Disk.{byte, Shows, Value}
 use Rattle.imago_storage.specs.Steps.{Step, read, bytes_read}
 use Rattle.imago_storage.specs.declared.fault.Fault.{Fault}
 use Rattle.imago_storage.proofs.Rounding.{le_round_up, round_up-le}
 use Rattle.imago_access.specs.Layer.{Layer, through, hold_of, unit_of_layer}
 use Rattle.imago_access.specs.Chain.{at, disk_of, Each, unit_of_chain}
-use Rattle.imago_access.specs.Files.{Pairs, IsWhole, files_of}
+use Rattle.imago_access.specs.Files.{Pairs, WasNotCutOff, files_of}
 use Rattle.imago_access.specs.Layers.{chain}
 use Rattle.imago_access.specs.Going.{Looked, LookedUnder}
 use Rattle.imago_access.specs.Refusals.{ReadCause}
-use Rattle.imago_access.proofs.Looking.{chain_like, chain_later, chain_faults, chain_kept, chain_same, chain_sees, chain_safe, chain_lasts}
+use Rattle.imago_access.specs.Running.{below_ghosts}
+use Rattle.imago_access.proofs.Looking.{seen_by, chain_cut, chain_like, chain_later, chain_faults, chain_kept, chain_same, chain_sees, chain_safe, chain_lasts}
 use Rattle.imago_access.proofs.ReadCauses.{part_overflows, read_cause_part}
-use Rattle.imago_access.proofs.Units.{likes_unit, unit_aligned}
+use Rattle.imago_access.proofs.Units.{likes_unit, unit_aligned, overflows_late}
+use Rattle.imago_access.specs.declared.seen.Seen.{Ghosts}
+use Rattle.imago_storage.specs.declared.fault.Fault.TheVariants.{RangeOverflow}
 
 -- a range in reach ends below 2 ^ 64
 pub ends_below : (unit offset n : ℕ) → 0 < unit → 0 < n → (Overflows unit offset n → ⊥) → offset + n < 2 ^ 64
@@ -30,42 +33,42 @@ pairs_length R (x ∷ xs) (y ∷ ys) h = let rest = pairs_length R xs ys h.1 in 
 pairs_length R [] (y ∷ ys) h = absurd h
 pairs_length R (x ∷ xs) [] h = absurd h
 
-module _ {D : Type 0} (layer : D → Layer) (image : D → StorageState) (extras : D → List StorageState) (sees safe still lasts : D → Type 0) (sound : ℕ → List ℕ → Type 0)
-    (aligned : (d : D) → IsAlignment (layer d).fixed.req_align × IsAlignment (layer d).fixed.mem_align) where
+module _ {D St : Type 0} (g : Ghosts D St)
+    (aligned : (d : D) → IsAlignment (g.layer d).fixed.req_align × IsAlignment (g.layer d).fixed.mem_align) where
   -- the rest of a range is in reach of the chain as it is by then
-  pub rest_calm : (xs ys : List D) (offset n done : ℕ) → Pairs (Looked layer image extras sees safe still lasts sound ⊤ ⊤) xs ys → done ≤ n → (Overflows (unit_of_chain (map layer xs)) offset n → ⊥)
-      → Overflows (unit_of_chain (map layer ys)) (offset + done) (n - done) → ⊥
+  pub rest_calm : (xs ys : List D) (offset n done : ℕ) → Pairs (Looked g ⊤) xs ys → done ≤ n → (Overflows (unit_of_chain (map g.layer xs)) offset n → ⊥)
+      → Overflows (unit_of_chain (map g.layer ys)) (offset + done) (n - done) → ⊥
   rest_calm xs ys offset n done looked le calm h =
-      let same : unit_of_chain (map layer ys) ≡ unit_of_chain (map layer xs) = likes_unit (map layer xs) (map layer ys) (chain_like layer image extras sees safe still lasts sound ⊤ ⊤ xs ys looked) in
-      calm (part_overflows (unit_of_chain (map layer xs)) offset n done (n - done) (unit_aligned layer aligned xs).positive (omega (arith, le)) (subst (λ (u : ℕ). Overflows u (offset + done) (n - done)) same h))
+      let same : unit_of_chain (map g.layer ys) ≡ unit_of_chain (map g.layer xs) = likes_unit (map g.layer xs) (map g.layer ys) (chain_like g ⊤ xs ys looked) in
+      calm (part_overflows (unit_of_chain (map g.layer xs)) offset n done (n - done) (unit_aligned g.layer aligned xs).positive (omega (arith, le)) (subst (λ (u : ℕ). Overflows u (offset + done) (n - done)) same h))
 
   -- a refusal on the way, seen from the begin
-  pub rest_cause : (xs ys zs : List D) (offset n done : ℕ) (e : Fault) → Pairs (Looked layer image extras sees safe still lasts sound ⊤ ⊤) xs ys → Each sees xs → done ≤ n
-      → (Each sees ys → ReadCause (map layer ys) (at (map layer ys)) (unit_of_chain (map layer ys)) (offset + done) (n - done) (files_of image extras ys) (files_of image extras zs) e)
-      → ReadCause (map layer xs) (at (map layer xs)) (unit_of_chain (map layer xs)) offset n (files_of image extras xs) (files_of image extras zs) e
+  pub rest_cause : (xs ys zs : List D) (offset n done : ℕ) (e : Fault) → Pairs (Looked g ⊤) xs ys → Each g.sees xs → done ≤ n
+      → (Each g.sees ys → ReadCause (map g.layer ys) (at (map g.layer ys)) (unit_of_chain (map g.layer ys)) (offset + done) (n - done) (files_of g ys) (files_of g zs) e)
+      → ReadCause (map g.layer xs) (at (map g.layer xs)) (unit_of_chain (map g.layer xs)) offset n (files_of g xs) (files_of g zs) e
   rest_cause xs ys zs offset n done e looked see le cause =
-      let same : map layer ys ≡ map layer xs = chain_same layer image extras sees safe still lasts sound ⊤ ⊤ xs ys tt see looked in
-      let now = cause (chain_sees layer image extras sees safe still lasts sound ⊤ ⊤ xs ys tt see looked) in
-      let moved = subst (λ (ls : List Layer). ReadCause ls (at ls) (unit_of_chain ls) (offset + done) (n - done) (files_of image extras ys) (files_of image extras zs) e) same now in
-      read_cause_part (map layer xs) (at (map layer xs)) (unit_of_chain (map layer xs)) offset done n (n - done) (files_of image extras xs) (files_of image extras ys) (files_of image extras zs) e moved
-      (unit_aligned layer aligned xs).positive (omega (arith, le)) (chain_later layer image extras sees safe still lasts sound ⊤ ⊤ xs ys looked)
+      let same : map g.layer ys ≡ map g.layer xs = chain_same g ⊤ xs ys tt see looked in
+      let now = cause (chain_sees g ⊤ xs ys tt see looked) in
+      let moved = subst (λ (ls : List Layer). ReadCause ls (at ls) (unit_of_chain ls) (offset + done) (n - done) (files_of g ys) (files_of g zs) e) same now in
+      read_cause_part (map g.layer xs) (at (map g.layer xs)) (unit_of_chain (map g.layer xs)) offset done n (n - done) (files_of g xs) (files_of g ys) (files_of g zs) e moved
+      (unit_aligned g.layer aligned xs).positive (omega (arith, le)) (chain_later g ⊤ xs ys looked)
 
   -- a run behind others shows what the chain showed at the begin
-  pub run_shown : (xs ys : List D) (offset done n : ℕ) (whole part : List ℕ) → Pairs (Looked layer image extras sees safe still lasts sound ⊤ ⊤) xs ys → Each sees xs
-      → (Each sees ys → (i : ℕ) → i < n → at (map layer ys) (offset + done + i) ≡ byte (slice_index part i))
+  pub run_shown : (xs ys : List D) (offset done n : ℕ) (whole part : List ℕ) → Pairs (Looked g ⊤) xs ys → Each g.sees xs
+      → (Each g.sees ys → (i : ℕ) → i < n → at (map g.layer ys) (offset + done + i) ≡ byte (slice_index part i))
       → ((i : ℕ) → i < n → slice_index whole (done + i) ≡ slice_index part i)
-      → ((i : ℕ) → i < done → at (map layer xs) (offset + i) ≡ byte (slice_index whole i))
-      → (i : ℕ) → i < done + n → at (map layer xs) (offset + i) ≡ byte (slice_index whole i)
+      → ((i : ℕ) → i < done → at (map g.layer xs) (offset + i) ≡ byte (slice_index whole i))
+      → (i : ℕ) → i < done + n → at (map g.layer xs) (offset + i) ≡ byte (slice_index whole i)
   run_shown xs ys offset done n whole part looked see shown placed before i lt =
-      let same : map layer ys ≡ map layer xs = chain_same layer image extras sees safe still lasts sound ⊤ ⊤ xs ys tt see looked in
+      let same : map g.layer ys ≡ map g.layer xs = chain_same g ⊤ xs ys tt see looked in
       elim (cases_lt i done) [
         | inl low ↦ before i low
         | inr high ↦
             let j = i - done in
             let place : offset + done + j ≡ offset + i = omega (arith, high) in
             let index : done + j ≡ i = omega (arith, high) in
-            let now = shown (chain_sees layer image extras sees safe still lasts sound ⊤ ⊤ xs ys tt see looked) j (omega (arith, high, lt)) in
-            ap (λ (ls : List Layer). at ls (offset + i)) (sym same) ∙ ap (at (map layer ys)) (sym place) ∙ now ∙ ap byte (sym (placed j (omega (arith, high, lt))) ∙ ap (λ (k : ℕ). slice_index whole k) index)
+            let now = shown (chain_sees g ⊤ xs ys tt see looked) j (omega (arith, high, lt)) in
+            ap (λ (ls : List Layer). at ls (offset + i)) (sym same) ∙ ap (at (map g.layer ys)) (sym place) ∙ now ∙ ap byte (sym (placed j (omega (arith, high, lt))) ∙ ap (λ (k : ℕ). slice_index whole k) index)
       ]
 
 -- a longer range from the same place
@@ -98,36 +101,44 @@ read_step below below' layer layer' offset n buf long shows same =
       },
     )
 
-module _ {D T : Type 0} (layer : D → Layer) (image : D → StorageState) (extras : D → List StorageState) (sees safe still lasts : D → Type 0) (sound : ℕ → List ℕ → Type 0) where
-  pub read_ok : (old new : D × List D) (offset n : ℕ) (buf : List ℕ) (result : Result T Fault) → length buf ≡ n → (Each sees (chain old) → OnOk result (Shows (at (map layer (chain old))) offset buf))
-      → Pairs (Looked layer image extras sees safe still lasts sound (IsOk result) (IsWhole result)) (chain old) (chain new) → Each sees (chain old)
-      → OnOk result (Step (at (map layer old.1)) (disk_of (map layer old.1) (layer old.0)) (read offset n) (bytes_read buf) (disk_of (map layer new.1) (layer new.0)))
+module _ {D St T : Type 0} (g : Ghosts D St) where
+  pub read_ok : (old new : D × List D) (offset n : ℕ) (buf : List ℕ) (result : Result T Fault) → length buf ≡ n → (Each g.sees (chain old) → OnOk result (Shows (at (map g.layer (chain old))) offset buf))
+      → Pairs (Looked g (WasNotCutOff result)) (chain old) (chain new) → Each g.sees (chain old)
+      → OnOk result (Step (at (map g.layer old.1)) (disk_of (map g.layer old.1) (g.layer old.0)) (read offset n) (bytes_read buf) (disk_of (map g.layer new.1) (g.layer new.0)))
   read_ok old new offset n buf (Ok x) long shown looked see =
-      read_step (map layer old.1) (map layer new.1) (layer old.0) (layer new.0) offset n buf long (shown see) (chain_same layer image extras sees safe still lasts sound (IsOk {T = T} {E = Fault} (Ok x)) ⊤ (chain old) (chain new) tt see looked)
+      read_step (map g.layer old.1) (map g.layer new.1) (g.layer old.0) (g.layer new.0) offset n buf long (shown see) (chain_same g ⊤ (chain old) (chain new) tt see looked)
   read_ok old new offset n buf (Err e) long shown looked see = tt
 
   -- what a step says of a read that may go past the end
   pub shown_of_step : (old new : D × List D) (offset n : ℕ) (buf : List ℕ) (result : Result T Fault)
-      → OnOk result (Step (at (map layer old.1)) (disk_of (map layer old.1) (layer old.0)) (read offset n) (bytes_read buf) (disk_of (map layer new.1) (layer new.0)))
-      → OnOk result (Shows (at (map layer (chain old))) offset buf)
-  shown_of_step old new offset n buf (Ok x) step = λ i lt. elim (cases_lt (offset + i) (layer old.0).size) [
+      → OnOk result (Step (at (map g.layer old.1)) (disk_of (map g.layer old.1) (g.layer old.0)) (read offset n) (bytes_read buf) (disk_of (map g.layer new.1) (g.layer new.0)))
+      → OnOk result (Shows (at (map g.layer (chain old))) offset buf)
+  shown_of_step old new offset n buf (Ok x) step = λ i lt. elim (cases_lt (offset + i) (g.layer old.0).size) [
     | inl inside ↦ step.1.below i lt inside
     | inr out ↦
-        ap (λ (t : Bool). if t then through ((layer old.0).cell (offset + i)) (at (map layer old.1) (offset + i)) else byte 0) (le-ltb (offset + i) (layer old.0).size out)
+        ap (λ (t : Bool). if t then through ((g.layer old.0).cell (offset + i)) (at (map g.layer old.1) (offset + i)) else byte 0) (le-ltb (offset + i) (g.layer old.0).size out)
         ∙ ap byte (sym (step.1.past i lt out))
   ]
   shown_of_step old new offset n buf (Err e) step = tt
 
-module _ {D B : Type 0} (view : B → List D) (layer : D → Layer) (image : D → StorageState) (extras : D → List StorageState) (sees safe still lasts : D → Type 0) (sound : ℕ → List ℕ → Type 0) where
+module _ {D St B : Type 0} (view : B → List D) (g : Ghosts D St) where
   -- the layers below, after a look
-  pub looked_under : (ok whole : Type 0) (x y : B) → Pairs (Looked layer image extras sees safe still lasts sound ok whole) (view x) (view y)
-      → LookedUnder (λ (b : B). map layer (view b)) (λ (b : B). files_of image extras (view b)) (λ (b : B). Each sees (view b)) (λ (b : B). Each safe (view b)) (λ (b : B). Each still (view b)) (λ (b : B). Each lasts (view b)) ok whole x y
-  looked_under ok whole x y looked = record {
-    like = chain_like layer image extras sees safe still lasts sound ok whole (view x) (view y) looked;
-    later = chain_later layer image extras sees safe still lasts sound ok whole (view x) (view y) looked;
-    faults = λ good. chain_faults layer image extras sees safe still lasts sound ok whole (view x) (view y) good looked;
-    stays = λ good see. (chain_same layer image extras sees safe still lasts sound ok whole (view x) (view y) good see looked, chain_sees layer image extras sees safe still lasts sound ok whole (view x) (view y) good see looked);
-    safely = λ good sound_all. chain_safe layer image extras sees safe still lasts sound ok whole (view x) (view y) good sound_all looked;
-    lasting = λ l. chain_lasts layer image extras sees safe still lasts sound ok whole (view x) (view y) l looked;
-    kept = λ quiet. chain_kept layer image extras sees safe still lasts sound ok whole (view x) (view y) quiet looked;
+  pub looked_under : (whole : Type 0) (x y : B) → Pairs (Looked g whole) (view x) (view y)
+      → LookedUnder (seen_by view (below_ghosts g)) whole x y
+  looked_under whole x y looked = record {
+    like = chain_like g whole (view x) (view y) looked;
+    later = chain_later g whole (view x) (view y) looked;
+    faults = λ good. chain_faults g whole (view x) (view y) good looked;
+    stays = λ good see. (chain_same g whole (view x) (view y) good see looked, chain_sees g whole (view x) (view y) good see looked);
+    safely = λ good sound_all. chain_safe g whole (view x) (view y) good sound_all looked;
+    cut = elim (chain_cut g whole (view x) (view y) looked) [ inl failed ↦ inl failed | inr known ↦ inr (record { seen = known.seen; safely = known.safely }) ];
+    lasting = λ l. chain_lasts g whole (view x) (view y) l looked;
+    kept = λ quiet. chain_kept g whole (view x) (view y) quiet looked;
   }
+
+-- a read of what ends below 2^63 and a little more isn't refused for its end
+pub read_near : {T : Type 0} (r : Result T Fault) (layers : List Layer) (value : ℕ → Value) (unit offset n : ℕ) (olds news : List StorageState) → IsAlignment unit → offset + n ≤ 2 ^ 63 + 2 ^ 22
+    → IfErr r (ReadCause layers value unit offset n olds news) → IsErrOf r RangeOverflow → ⊥
+read_near (Ok x) layers value unit offset n olds news aligned low cause is = absurd (cc is)
+read_near (Err RangeOverflow) layers value unit offset n olds news aligned low cause is = overflows_late unit offset n aligned low cause
+read_near (Err _) layers value unit offset n olds news aligned low cause is = absurd (cc is)

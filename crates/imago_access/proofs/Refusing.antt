@@ -9,7 +9,7 @@ use Rattle.imago_storage.specs.Causes.{offset_of, length_of, Alters}
 use Rattle.imago_storage.specs.Through.{round_up}
 use Rattle.imago_storage.specs.declared.fault.Fault.{Fault}
 use Rattle.imago_storage.specs.declared.fault.Fault.TheVariants.{ReadOnly, PastEnd, RangeOverflow, MissingData, Failed}
-use Rattle.imago_access.specs.Chain.{disk_of}
+use Rattle.imago_access.specs.Chain.{disk_of, unit_of_chain}
 use Rattle.imago_access.specs.Layer.{Layer}
 use Rattle.imago_access.specs.Refusals.{change_refusal, ChangeCause}
 
@@ -29,16 +29,16 @@ some_range n e rest h = elim (cases_lt 0 n) [
   | inr none ↦ let is : eqb n 0 ≡ true = grind (arith, nat_tests) in let bad : None ≡ Some e = rw is at h in absurd (cc bad)
 ]
 
-pub refusal_cause : (below : List Layer) (layer : Layer) (unit : ℕ) (call : Call) (causes : Fault → Type 0) (olds news : List StorageState) (e : Fault) → (0 < length_of call → Alters (disk_of below layer) call)
-    → change_refusal unit layer (offset_of call) (length_of call) ≡ Some e → ChangeCause unit (layer ∷ below) (disk_of below layer) layer.fixed.writable call causes olds news e
-refusal_cause below layer unit call causes olds news e alters h =
+pub refusal_cause : (below : List Layer) (layer : Layer) (call : Call) (causes : Fault → Type 0) (olds news : List StorageState) (e : Fault) → (0 < length_of call → Alters (disk_of below layer) call)
+    → change_refusal (unit_of_chain (layer ∷ below)) layer (offset_of call) (length_of call) ≡ Some e → ChangeCause below layer call causes olds news e
+refusal_cause below layer call causes olds news e alters h =
     let offset = offset_of call in
     let n = length_of call in
     let past_end = if ltb layer.size (offset + n) then Some PastEnd else None in
-    let too_far = if leb (2 ^ 64) (round_up unit (offset + n)) then Some RangeOverflow else past_end in
+    let too_far = if leb (2 ^ 64) (round_up (unit_of_chain (layer ∷ below)) (offset + n)) then Some RangeOverflow else past_end in
     let changing = if not layer.fixed.writable then Some ReadOnly else too_far in
     let running = if eqb n 0 then None else changing in
-    let Cause = ChangeCause unit (layer ∷ below) (disk_of below layer) layer.fixed.writable call causes olds news in
+    let Cause = ChangeCause below layer call causes olds news in
     elim (first_cause layer.failed Failed e (if layer.fixed.missing then Some MissingData else running) h) [
       | inl failed ↦ subst Cause failed.1 (inl (rw failed.0 refl))
       | inr one ↦ elim (first_cause layer.fixed.missing MissingData e running one.1) [
@@ -47,7 +47,7 @@ refusal_cause below layer unit call causes olds news e alters h =
             let three = some_range n e changing two.1 in
             elim (first_cause (not layer.fixed.writable) ReadOnly e too_far three.1) [
               | inl read_only ↦ subst Cause read_only.1 (alters three.0, not_true layer.fixed.writable read_only.0)
-              | inr four ↦ elim (first_cause (leb (2 ^ 64) (round_up unit (offset + n))) RangeOverflow e past_end four.1) [
+              | inr four ↦ elim (first_cause (leb (2 ^ 64) (round_up (unit_of_chain (layer ∷ below)) (offset + n))) RangeOverflow e past_end four.1) [
                 | inl far ↦ subst Cause far.1 (three.0, let test = far.0 in grind (arith, nat_tests))
                 | inr five ↦ elim (first_cause (ltb layer.size (offset + n)) PastEnd e None five.1) [
                   | inl past ↦ subst Cause past.1 (alters three.0, let test = past.0 in grind (arith, nat_tests))

@@ -7,10 +7,11 @@ use Rattle.imago_storage.specs.Steps.{IsIn, IsByte}
 use Rattle.imago_storage.specs.declared.fault.Fault.{Fault}
 use Rattle.imago_access.specs.Layer.{Cell, own, unmapped, through, Layer}
 use Rattle.imago_access.specs.Chain.{at, IsBacked}
-use Rattle.imago_access.specs.Files.{IsMild, IsWhole}
+use Rattle.imago_access.specs.Files.{IsMild, WasNotCutOff}
 use Rattle.imago_access.specs.Changes.{Rewrites, PartRewrites, ToAny, ToBelow}
 use Rattle.imago_access.specs.Running.{IsBetween}
 use Rattle.imago_access.specs.Stops.{GivesAny, GivesBelow}
+use Rattle.imago_access.specs.PartCalls.{IsPart}
 
 -- below the end of a layer
 pub at_inside : (layer : Layer) (below : List Layer) (p : ℕ) → p < layer.size → at (layer ∷ below) p ≡ through (layer.cell p) (at below p)
@@ -47,9 +48,9 @@ module _ (Q : ℕ → Cell → Cell → Type 0) (gives : ℕ → Value → Type 
   ])
 
   -- whatever the call answers
-  pub result_between : (result : Result (ℕ × ℕ) Fault) → IfOk result (λ r. (offset ≤ r.0) × ((r.1 ≡ 0) ⊎ (r.0 + r.1 ≤ offset + n)))
-      → IfOk result (λ r. Rewrites Q old new r.0 r.1) → IfErr result (λ e. IsMild e → PartRewrites Q old new offset n) → IsWhole result → IsBetween gives below old new
-  result_between (Ok r) part ok err whole = whole_between r.0 r.1 part.0 part.1 ok
+  pub result_between : (result : Result (ℕ × ℕ) Fault) → IfOk result (IsPart offset n)
+      → IfOk result (λ r. Rewrites Q old new r.0 r.1) → IfErr result (λ e. IsMild e → PartRewrites Q old new offset n) → WasNotCutOff result → IsBetween gives below old new
+  result_between (Ok r) part ok err whole = whole_between r.0 r.1 part.inside.0 part.inside.1 ok
   result_between (Err e) part ok err whole = part_between (err whole)
 
 pub any_shows : (below : List Layer) (offset n p : ℕ) (was is : Cell) → IsIn offset n p → ToAny p was is → (is ≡ was) ⊎ GivesAny offset n p (through is (at below p))

@@ -10,6 +10,7 @@ use Rattle.imago_access.specs.Zeroings.{IsLeft}
 use Rattle.imago_access.specs.declared.access.zeroing.Zeroing.{Zeroing}
 use Rattle.imago_access.specs.declared.access.zeroing.Zeroing.TheVariants.{Keep, GiveUp}
 use Rattle.imago_access.specs.Room.{IsWholeUnit, IsOfUnit, IsApart, Reaches, IsGivenUp, IsGivenUpTo, LeavesRoom, Takes, GivesUp}
+use Rattle.imago_access.specs.declared.seen.Seen.{Ghosts}
 
 -- a range lies in another
 pub apart_wider : (unit offset n start m p : ℕ) → offset ≤ start → start + m ≤ offset + n → IsApart unit offset n p → IsApart unit start m p
@@ -83,12 +84,12 @@ given_rest vacant unit size offset n before at start stays first reach =
     let past = at + (offset + n) in
     given_all vacant unit size offset n past (omega arith) (given_both vacant unit size offset n before at past (omega arith) (λ p u of low is. stays p is) first (given_empty vacant unit size at (offset + n - at) start past reach))
 
-module _ {D : Type 0} (vacant has_room zeroed : D → ℕ → Type 0) where
-  pub room_same : (left spared : ℕ → Type 0) (d : D) → LeavesRoom vacant has_room zeroed left spared d d
+module _ {D St : Type 0} (g : Ghosts D St) where
+  pub room_same : (left spared : ℕ → Type 0) (d : D) → LeavesRoom g left spared d d
   room_same left spared d = record { kept = λ p there has. has; free = λ p there is. is; zeroes = λ p there there' is. is }
 
   pub room_both : (left left' left'' spared spared' spared'' : ℕ → Type 0) (a b c : D) → ((p : ℕ) → left'' p → left p × left' p) → ((p : ℕ) → spared'' p → spared p × spared' p)
-      → LeavesRoom vacant has_room zeroed left spared a b → LeavesRoom vacant has_room zeroed left' spared' b c → LeavesRoom vacant has_room zeroed left'' spared'' a c
+      → LeavesRoom g left spared a b → LeavesRoom g left' spared' b c → LeavesRoom g left'' spared'' a c
   room_both left left' left'' spared spared' spared'' a b c from to first second = record {
     kept = λ p there has. second.kept p (from p there).1 (first.kept p (from p there).0 has);
     free = λ p there is. second.free p (to p there).1 (first.free p (to p there).0 is);
@@ -96,35 +97,35 @@ module _ {D : Type 0} (vacant has_room zeroed : D → ℕ → Type 0) where
   }
 
   -- calls that give nothing up, one behind the other
-  pub takes_both : (spared spared' spared'' : ℕ → Type 0) (a b c : D) → ((p : ℕ) → spared'' p → spared p × spared' p) → Takes vacant has_room zeroed spared a b → Takes vacant has_room zeroed spared' b c → Takes vacant has_room zeroed spared'' a c
+  pub takes_both : (spared spared' spared'' : ℕ → Type 0) (a b c : D) → ((p : ℕ) → spared'' p → spared p × spared' p) → Takes g spared a b → Takes g spared' b c → Takes g spared'' a c
   takes_both spared spared' spared'' a b c = room_both (λ _. ⊤) (λ _. ⊤) (λ _. ⊤) spared spared' spared'' a b c (λ p there. (tt, tt))
 
   -- a run that is mapped, written and spent: it takes nothing where nothing is held
-  pub takes_run : (layer : D → Layer) (spared : ℕ → Type 0) (a b c e : D) → Takes vacant has_room zeroed (λ _. ⊤) a b → Takes vacant has_room zeroed (λ _. ⊤) b c
-      → ((p : ℕ) → spared p → (layer c).held p ≡ loose) → Takes vacant has_room zeroed (λ p. (layer c).held p ≡ loose) c e → Takes vacant has_room zeroed spared a e
-  takes_run layer spared a b c e first second free third =
-      takes_both (λ _. ⊤) (λ p. (layer c).held p ≡ loose) spared a c e (λ p there. (tt, free p there)) (takes_both (λ _. ⊤) (λ _. ⊤) (λ _. ⊤) a b c (λ p there. (tt, tt)) first second) third
+  pub takes_run : (spared : ℕ → Type 0) (a b c e : D) → Takes g (λ _. ⊤) a b → Takes g (λ _. ⊤) b c
+      → ((p : ℕ) → spared p → (g.layer c).held p ≡ loose) → Takes g (λ p. (g.layer c).held p ≡ loose) c e → Takes g spared a e
+  takes_run spared a b c e first second free third =
+      takes_both (λ _. ⊤) (λ p. (g.layer c).held p ≡ loose) spared a c e (λ p there. (tt, free p there)) (takes_both (λ _. ⊤) (λ _. ⊤) (λ _. ⊤) a b c (λ p there. (tt, tt)) first second) third
 
   -- a discard of the rest of a range behind one
-  pub gives_up_both : (offset n start m : ℕ) (a b c : D) → offset ≤ start → start + m ≤ offset + n → GivesUp vacant has_room zeroed offset n a b → GivesUp vacant has_room zeroed start m b c → GivesUp vacant has_room zeroed offset n a c
+  pub gives_up_both : (offset n start m : ℕ) (a b c : D) → offset ≤ start → start + m ≤ offset + n → GivesUp g offset n a b → GivesUp g start m b c → GivesUp g offset n a c
   gives_up_both offset n start m a b c from to = room_both (IsOut offset n) (IsOut start m) (IsOut offset n) (λ _. ⊤) (λ _. ⊤) (λ _. ⊤) a b c (λ p out. (out, out_wider offset n start m p from to out)) (λ p there. (tt, tt))
 
 -- where fewer places are asked for
-pub room_fewer : {D : Type 0} (vacant has_room zeroed : D → ℕ → Type 0) (left left' spared : ℕ → Type 0) (a b : D) → ((p : ℕ) → left' p → left p) → LeavesRoom vacant has_room zeroed left spared a b → LeavesRoom vacant has_room zeroed left' spared a b
-room_fewer vacant has_room zeroed left left' spared a b from h = record { kept = λ p there. h.kept p (from p there); free = h.free; zeroes = λ p there. h.zeroes p (from p there) }
+pub room_fewer : {D St : Type 0} (g : Ghosts D St) (left left' spared : ℕ → Type 0) (a b : D) → ((p : ℕ) → left' p → left p) → LeavesRoom g left spared a b → LeavesRoom g left' spared a b
+room_fewer g left left' spared a b from h = record { kept = λ p there. h.kept p (from p there); free = h.free; zeroes = λ p there. h.zeroes p (from p there) }
 
 -- what a zeroing leaves stays in a call that leaves these places
-pub left_on : {D : Type 0} (vacant has_room zeroed : D → ℕ → Type 0) (left spared : ℕ → Type 0) (zeroing : Zeroing) (a b : D) (p : ℕ) → (zeroing ≡ Keep → left p) → spared p
-    → LeavesRoom vacant has_room zeroed left spared a b → IsLeft zeroing (vacant a) (zeroed a) p → IsLeft zeroing (vacant b) (zeroed b) p
-left_on vacant has_room zeroed left spared Keep a b p there apart room is = room.zeroes p (there refl) apart is
-left_on vacant has_room zeroed left spared GiveUp a b p there apart room is = room.free p apart is
+pub left_on : {D St : Type 0} (g : Ghosts D St) (left spared : ℕ → Type 0) (zeroing : Zeroing) (a b : D) (p : ℕ) → (zeroing ≡ Keep → left p) → spared p
+    → LeavesRoom g left spared a b → IsLeft zeroing (g.vacant a) (g.zeroed a) p → IsLeft zeroing (g.vacant b) (g.zeroed b) p
+left_on g left spared Keep a b p there apart room is = room.zeroes p (there refl) apart is
+left_on g left spared GiveUp a b p there apart room is = room.free p apart is
 
 -- A call on a part of a range, behind calls on parts of it.
-pub room_then : {D : Type 0} (vacant has_room zeroed : D → ℕ → Type 0) (layer : D → Layer) (left left' : ℕ → Type 0) (offset n start m : ℕ) (a b c : D) → (layer b).fixed ≡ (layer a).fixed → offset ≤ start → start + m ≤ offset + n → ((p : ℕ) → left p → left' p)
-    → LeavesRoom vacant has_room zeroed left (IsApart (layer a).fixed.unit offset n) a b → LeavesRoom vacant has_room zeroed left' (IsApart (layer b).fixed.unit start m) b c → LeavesRoom vacant has_room zeroed left (IsApart (layer a).fixed.unit offset n) a c
-room_then vacant has_room zeroed layer left left' offset n start m a b c fixed from to more first second =
-    room_both vacant has_room zeroed left left' left (IsApart (layer a).fixed.unit offset n) (IsApart (layer b).fixed.unit start m) (IsApart (layer a).fixed.unit offset n) a b c (λ p there. (there, more p there))
-    (λ p apart. (apart, subst (λ (f : Fixed). IsApart f.unit start m p) (sym fixed) (apart_wider (layer a).fixed.unit offset n start m p from to apart))) first second
+pub room_then : {D St : Type 0} (g : Ghosts D St) (left left' : ℕ → Type 0) (offset n start m : ℕ) (a b c : D) → (g.layer b).fixed ≡ (g.layer a).fixed → offset ≤ start → start + m ≤ offset + n → ((p : ℕ) → left p → left' p)
+    → LeavesRoom g left (IsApart (g.layer a).fixed.unit offset n) a b → LeavesRoom g left' (IsApart (g.layer b).fixed.unit start m) b c → LeavesRoom g left (IsApart (g.layer a).fixed.unit offset n) a c
+room_then g left left' offset n start m a b c fixed from to more first second =
+    room_both g left left' left (IsApart (g.layer a).fixed.unit offset n) (IsApart (g.layer b).fixed.unit start m) (IsApart (g.layer a).fixed.unit offset n) a b c (λ p there. (there, more p there))
+    (λ p apart. (apart, subst (λ (f : Fixed). IsApart f.unit start m p) (sym fixed) (apart_wider (g.layer a).fixed.unit offset n start m p from to apart))) first second
 
 -- Places apart from a run that is prepared and written aren't held.
 pub apart_loose : (unit offset n : ℕ) (bytes : List ℕ) (mid new : Layer) → n ≤ length bytes → ((p : ℕ) → IsApart unit offset (length bytes) p → mid.held p ≡ loose) → Wrote mid new offset (take n bytes) → (p : ℕ) → IsApart unit offset (length bytes) p → new.held p ≡ loose

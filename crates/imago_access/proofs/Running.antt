@@ -1,16 +1,18 @@
 -- Calls that change, one behind the other.
 use Rattle.std.proofs.Common.{◌≡◌, refl, ℕ, List, [], ◌∷◌, arith, sym, ◌∙◌, ap, subst, inl, inr}
 use Rattle.std.specs.Prelude.{⊤, IsTrue}
-use Rattle.imago_storage.specs.State.{StorageState}
 use Rattle.imago_storage.specs.Disk.{Value}
 use Rattle.imago_access.specs.Layer.{Layer, Fixed, loose, IsFree}
 use Rattle.imago_access.specs.Chain.{at, IsBacked}
 use Rattle.imago_access.specs.Going.{Went, LookedUnder}
 use Rattle.imago_access.specs.Stops.{KeepsStops, KeepsStopsTo, Left}
 use Rattle.imago_access.specs.Running.{IsTruly, HoldsTrue, IsIntact, IsBetween, Ran}
-use Rattle.imago_access.proofs.FilePairs.{later_all_same, later_all_both, sound_all_same, sound_all_both}
-use Rattle.imago_access.proofs.Looking.{looked_under_same, looked_under_weaker, looked_under_both}
+use Rattle.imago_access.proofs.FilePairs.{later_all_same, later_all_both, faultless_all_same, faultless_all_both}
+use Rattle.imago_access.proofs.Looking.{seen_by, looked_under_same, looked_under_weaker, looked_under_both}
 use Rattle.imago_access.proofs.Stopping.{then_left, passes_none, passes_weaker, left_weaker}
+use Rattle.imago_access.specs.Files.{files}
+use Rattle.imago_access.specs.declared.seen.Seen.{Ghosts}
+use Rattle.imago_access.specs.declared.seen.SeenBelow.{Ghosts as GhostsBelow}
 
 -- a layer shows the same layers below while what never changes is the same
 pub backed_on : (below : List Layer) (old new : Layer) → new.fixed ≡ old.fixed → IsBacked below old → IsBacked below new
@@ -36,18 +38,18 @@ between_both gives gives' more below a b c size from from' first second p inside
   | inr gave ↦ inr (from' p (at (c ∷ below) p) gave)
 ]
 
-module _ {D : Type 0} (layer : D → Layer) (image : D → StorageState) (extras : D → List StorageState) (safe lasts : D → Type 0) where
-  pub went_same : (ok whole : Type 0) (d : D) → Went layer image extras safe lasts ok whole d d
+module _ {D St : Type 0} (g : Ghosts D St) where
+  pub went_same : (ok whole : Type 0) (d : D) → Went g ok whole d d
   went_same ok whole d = record {
     fixed = refl;
     failed = λ f. f;
-    later = later_all_same (image d ∷ extras d);
-    faults = λ h. sound_all_same (image d ∷ extras d);
+    later = later_all_same (files g d);
+    faults = λ h. faultless_all_same (files g d);
     safely = λ h s. s;
     lasting = λ l. l;
   }
 
-  pub went_weaker : (ok whole ok' whole' : Type 0) (a b : D) → (ok' → ok) → (whole' → whole) → Went layer image extras safe lasts ok whole a b → Went layer image extras safe lasts ok' whole' a b
+  pub went_weaker : (ok whole ok' whole' : Type 0) (a b : D) → (ok' → ok) → (whole' → whole) → Went g ok whole a b → Went g ok' whole' a b
   went_weaker ok whole ok' whole' a b from from' h = record {
     fixed = h.fixed;
     failed = h.failed;
@@ -58,7 +60,7 @@ module _ {D : Type 0} (layer : D → Layer) (image : D → StorageState) (extras
   }
 
   -- a call, and then one that makes no request
-  pub went_then : (ok whole : Type 0) (a b c : D) → (layer c).fixed ≡ (layer b).fixed → (IsTrue (layer b).failed → IsTrue (layer c).failed) → image c ≡ image b → extras c ≡ extras b → (safe b → safe c) → (lasts b → lasts c) → Went layer image extras safe lasts ok whole a b → Went layer image extras safe lasts ok whole a c
+  pub went_then : (ok whole : Type 0) (a b c : D) → (g.layer c).fixed ≡ (g.layer b).fixed → (IsTrue (g.layer b).failed → IsTrue (g.layer c).failed) → g.image c ≡ g.image b → g.extras c ≡ g.extras b → (g.safe b → g.safe c) → (g.lasts b → g.lasts c) → Went g ok whole a b → Went g ok whole a c
   went_then ok whole a b c fixed failing same same' safely lasting h = record {
     fixed = fixed ∙ h.fixed;
     failed = λ f. failing (h.failed f);
@@ -68,117 +70,121 @@ module _ {D : Type 0} (layer : D → Layer) (image : D → StorageState) (extras
     lasting = λ l. lasting (h.lasting l);
   }
 
-module _ {D B : Type 0} (layer : D → Layer) (image : D → StorageState) (extras : D → List StorageState) (safe lasts : D → Type 0) (under : B → List Layer) (files : B → List StorageState) (sees safe_under still lasts_under : B → Type 0) (sound : ℕ → List ℕ → Type 0) where
+module _ {D St B : Type 0} (g : Ghosts D St) (u : GhostsBelow B) where
   -- nothing happened
-  pub ran_same : (ok whole : Type 0) (gives : ℕ → Value → Type 0) (d : D) (b : B) → Ran layer image extras safe lasts under files sees safe_under still lasts_under sound ok whole gives d d b b
-  ran_same ok whole gives d b = record {
+  pub ran_same : (whole : Type 0) (gives : ℕ → Value → Type 0) (d : D) (b : B) → Ran g u whole gives (d, b) (d, b)
+  ran_same whole gives d b = record {
     size = refl;
-    went = went_same layer image extras safe lasts ok (whole × sees b) d;
-    looked = looked_under_same under files sees safe_under still lasts_under ok whole b;
+    went = went_same g whole (whole × u.sees_under b) d;
+    looked = looked_under_same u whole b;
     intact = λ w i. i;
     values = λ w i p inside. inl refl;
-    stops = λ i. passes_none (Left (under b) (layer d) (image d).bytes sound (layer d).size gives) (image d) (image d) refl (refl, refl, refl, refl);
+    stops = λ i. passes_none (Left (u.under b) (g.layer d) (g.image d).bytes g.sound (g.layer d).size gives) (g.image d) (g.image d) refl (refl, refl, refl, refl);
   }
 
-  pub ran_weaker : (ok whole ok' whole' : Type 0) (gives : ℕ → Value → Type 0) (a b : D) (x y : B) → (ok' → ok) → (whole' → whole)
-      → Ran layer image extras safe lasts under files sees safe_under still lasts_under sound ok whole gives a b x y → Ran layer image extras safe lasts under files sees safe_under still lasts_under sound ok' whole' gives a b x y
-  ran_weaker ok whole ok' whole' gives a b x y from from' h = record {
+  pub ran_weaker : (whole whole' : Type 0) (gives : ℕ → Value → Type 0) (a b : D) (x y : B) → (whole' → whole)
+      → Ran g u whole gives (a, x) (b, y) → Ran g u whole' gives (a, x) (b, y)
+  ran_weaker whole whole' gives a b x y from h = record {
     size = h.size;
-    went = went_weaker layer image extras safe lasts ok (whole × sees x) ok' (whole' × sees x) a b from (λ w. (from' w.0, w.1)) h.went;
-    looked = looked_under_weaker under files sees safe_under still lasts_under ok whole ok' whole' x y from from' h.looked;
-    intact = λ w. h.intact (from' w);
-    values = λ w. h.values (from' w);
+    went = went_weaker g whole (whole × u.sees_under x) whole' (whole' × u.sees_under x) a b from (λ w. (from w.0, w.1)) h.went;
+    looked = looked_under_weaker u whole whole' x y from h.looked;
+    intact = λ w. h.intact (from w);
+    values = λ w. h.values (from w);
     stops = h.stops;
   }
 
   -- what a call gives may be weakened, by what promises on values rest on
-  pub ran_gives_intact : (ok whole : Type 0) (gives more : ℕ → Value → Type 0) (a b : D) (x y : B) → (IsIntact (under x) (layer a) (safe a) (sees x) → (p : ℕ) (v : Value) → gives p v → more p v)
-      → Ran layer image extras safe lasts under files sees safe_under still lasts_under sound ok whole gives a b x y → Ran layer image extras safe lasts under files sees safe_under still lasts_under sound ok whole more a b x y
-  ran_gives_intact ok whole gives more a b x y from h = record {
+  pub ran_gives_intact : (whole : Type 0) (gives more : ℕ → Value → Type 0) (a b : D) (x y : B) → (IsIntact g u a x → (p : ℕ) (v : Value) → gives p v → more p v)
+      → Ran g u whole gives (a, x) (b, y) → Ran g u whole more (a, x) (b, y)
+  ran_gives_intact whole gives more a b x y from h = record {
     size = h.size;
     went = h.went;
     looked = h.looked;
     intact = h.intact;
-    values = λ w i p inside. elim (h.values w i p inside) [ inl same ↦ inl same | inr gave ↦ inr (from i p (at (layer b ∷ under x) p) gave) ];
-    stops = λ i. passes_weaker (Left (under x) (layer a) (image a).bytes sound (layer a).size gives) (Left (under x) (layer a) (image a).bytes sound (layer a).size more) (image a) (image b)
-        (left_weaker (under x) sound (layer a) (image a).bytes (layer a).size gives more (λ p v inside gave. inr (inr (from i p v gave)))) (h.stops i);
+    values = λ w i p inside. elim (h.values w i p inside) [ inl same ↦ inl same | inr gave ↦ inr (from i p (at (g.layer b ∷ u.under x) p) gave) ];
+    stops = λ i. passes_weaker (Left (u.under x) (g.layer a) (g.image a).bytes g.sound (g.layer a).size gives) (Left (u.under x) (g.layer a) (g.image a).bytes g.sound (g.layer a).size more) (g.image a) (g.image b)
+        (left_weaker (u.under x) g.sound (g.layer a) (g.image a).bytes (g.layer a).size gives more (λ p v inside gave. inr (inr (from i p v gave)))) (h.stops i);
   }
 
-  pub ran_gives : (ok whole : Type 0) (gives more : ℕ → Value → Type 0) (a b : D) (x y : B) → ((p : ℕ) (v : Value) → gives p v → more p v)
-      → Ran layer image extras safe lasts under files sees safe_under still lasts_under sound ok whole gives a b x y → Ran layer image extras safe lasts under files sees safe_under still lasts_under sound ok whole more a b x y
-  ran_gives ok whole gives more a b x y from = ran_gives_intact ok whole gives more a b x y (λ i. from)
+  pub ran_gives : (whole : Type 0) (gives more : ℕ → Value → Type 0) (a b : D) (x y : B) → ((p : ℕ) (v : Value) → gives p v → more p v)
+      → Ran g u whole gives (a, x) (b, y) → Ran g u whole more (a, x) (b, y)
+  ran_gives whole gives more a b x y from = ran_gives_intact whole gives more a b x y (λ i. from)
 
   -- two calls, one behind the other
-  pub ran_both : (ok whole : Type 0) (gives gives' more : ℕ → Value → Type 0) (a b c : D) (x y z : B) → ((p : ℕ) (v : Value) → gives p v → more p v) → ((p : ℕ) (v : Value) → gives' p v → more p v)
-      → Ran layer image extras safe lasts under files sees safe_under still lasts_under sound ⊤ ⊤ gives a b x y → Ran layer image extras safe lasts under files sees safe_under still lasts_under sound ok whole gives' b c y z
-      → Ran layer image extras safe lasts under files sees safe_under still lasts_under sound ok whole more a c x z
-  ran_both ok whole gives gives' more a b c x y z from from' first second = record {
+  pub ran_both : (whole : Type 0) (gives gives' more : ℕ → Value → Type 0) (a b c : D) (x y z : B) → ((p : ℕ) (v : Value) → gives p v → more p v) → ((p : ℕ) (v : Value) → gives' p v → more p v)
+      → Ran g u ⊤ gives (a, x) (b, y) → Ran g u whole gives' (b, y) (c, z)
+      → Ran g u whole more (a, x) (c, z)
+  ran_both whole gives gives' more a b c x y z from from' first second = record {
     size = second.size ∙ first.size;
     went = record {
       fixed = second.went.fixed ∙ first.went.fixed;
       failed = λ f. second.went.failed (first.went.failed f);
-      later = later_all_both (image a ∷ extras a) (image b ∷ extras b) (image c ∷ extras c) first.went.later second.went.later;
-      faults = λ h. sound_all_both (image a ∷ extras a) (image b ∷ extras b) (image c ∷ extras c) (first.went.faults tt) (second.went.faults h);
+      later = later_all_both (files g a) (files g b) (files g c) first.went.later second.went.later;
+      faults = λ h. faultless_all_both (files g a) (files g b) (files g c) (first.went.faults tt) (second.went.faults h);
       lasting = λ l. second.went.lasting (first.went.lasting l);
       safely = λ h s. second.went.safely (h.0, (first.looked.stays tt h.1).1) (first.went.safely (tt, h.1) s);
     };
-    looked = looked_under_both under files sees safe_under still lasts_under ok whole x y z first.looked second.looked;
+    looked = looked_under_both u whole x y z first.looked second.looked;
     intact = λ w i. second.intact w (first.intact tt i);
     values = λ w i.
-        let same : under y ≡ under x = (first.looked.stays tt i.is_seen).0 in
-        between_both gives gives' more (under x) (layer a) (layer b) (layer c) first.size from from' (first.values tt i) (subst (λ (below : List Layer). IsBetween gives' below (layer b) (layer c)) same (second.values w (first.intact tt i)));
+        let same : u.under y ≡ u.under x = (first.looked.stays tt i.is_seen).0 in
+        between_both gives gives' more (u.under x) (g.layer a) (g.layer b) (g.layer c) first.size from from' (first.values tt i) (subst (λ (below : List Layer). IsBetween gives' below (g.layer b) (g.layer c)) same (second.values w (first.intact tt i)));
     stops = λ i.
-        let same : under y ≡ under x = (first.looked.stays tt i.is_seen).0 in
-        let later : KeepsStops (under x) (layer b) sound gives' (image b) (image c) = subst (λ (below : List Layer). KeepsStops below (layer b) sound gives' (image b) (image c)) same (second.stops (first.intact tt i)) in
-        then_left (under x) sound (layer a) (layer b) (layer a).size more gives' (image a) (image b) (image c) first.went.later.0 second.went.later.0 first.went.fixed first.size (omega arith)
-        (λ p inside. elim (first.values tt i p inside) [ inl was ↦ inr (inl was) | inr gave ↦ inr (inr (from p (at (layer b ∷ under x) p) gave)) ])
+        let same : u.under y ≡ u.under x = (first.looked.stays tt i.is_seen).0 in
+        let later : KeepsStops g (u.under x) gives' b c = subst (λ (below : List Layer). KeepsStops g below gives' b c) same (second.stops (first.intact tt i)) in
+        then_left (u.under x) g.sound (g.layer a) (g.layer b) (g.layer a).size more gives' (g.image a) (g.image b) (g.image c) first.went.later.0 second.went.later.0 first.went.fixed first.size (omega arith)
+        (λ p inside. elim (first.values tt i p inside) [ inl was ↦ inr (inl was) | inr gave ↦ inr (inr (from p (at (g.layer b ∷ u.under x) p) gave)) ])
         (λ p v inside gave. inr (inr (from' p v gave)))
-        (passes_weaker (Left (under x) (layer a) (image a).bytes sound (layer a).size gives) (Left (under x) (layer a) (image a).bytes sound (layer a).size more) (image a) (image b)
-        (left_weaker (under x) sound (layer a) (image a).bytes (layer a).size gives more (λ p v inside gave. inr (inr (from p v gave)))) (first.stops i))
-        (subst (λ (n : ℕ). KeepsStopsTo (under x) (layer b) sound n gives' (image b) (image c)) first.size later);
+        (passes_weaker (Left (u.under x) (g.layer a) (g.image a).bytes g.sound (g.layer a).size gives) (Left (u.under x) (g.layer a) (g.image a).bytes g.sound (g.layer a).size more) (g.image a) (g.image b)
+        (left_weaker (u.under x) g.sound (g.layer a) (g.image a).bytes (g.layer a).size gives more (λ p v inside gave. inr (inr (from p v gave)))) (first.stops i))
+        (subst (λ (n : ℕ). KeepsStopsTo g (u.under x) n gives' b c) first.size later);
   }
 
   -- a call that reads the layers below
-  pub ran_over : (ok whole : Type 0) (gives : ℕ → Value → Type 0) (a b : D) (x y : B) → (layer b).size ≡ (layer a).size → Went layer image extras safe lasts ok (whole × sees x) a b → LookedUnder under files sees safe_under still lasts_under ok whole x y
-      → (whole → IsIntact (under x) (layer a) (safe a) (sees x) → HoldsTrue (at (under x)) (layer b))
-      → (whole → IsIntact (under x) (layer a) (safe a) (sees x) → IsBetween gives (under x) (layer a) (layer b))
-      → (IsIntact (under x) (layer a) (safe a) (sees x) → KeepsStops (under x) (layer a) sound gives (image a) (image b))
-      → Ran layer image extras safe lasts under files sees safe_under still lasts_under sound ok whole gives a b x y
-  ran_over ok whole gives a b x y size went looked held values stops = record {
+  pub ran_over : (whole : Type 0) (gives : ℕ → Value → Type 0) (a b : D) (x y : B) → (g.layer b).size ≡ (g.layer a).size → Went g whole (whole × u.sees_under x) a b → LookedUnder u whole x y
+      → (whole → IsIntact g u a x → HoldsTrue (at (u.under x)) (g.layer b))
+      → (whole → IsIntact g u a x → IsBetween gives (u.under x) (g.layer a) (g.layer b))
+      → (IsIntact g u a x → KeepsStops g (u.under x) gives a b)
+      → Ran g u whole gives (a, x) (b, y)
+  ran_over whole gives a b x y size went looked held values stops = record {
     size = size;
     went = went;
     looked = looked;
     intact = λ w i.
         let stays = looked.stays w i.is_seen in
         record {
-          keeps = subst (λ (f : Fixed). IsTrue f.keeps) (sym went.fixed) i.keeps;
           is_safe = went.safely (w, i.is_seen) i.is_safe;
           is_seen = stays.1;
-          backed = subst (λ (below : List Layer). IsBacked below (layer b)) (sym stays.0) (backed_on (under x) (layer a) (layer b) went.fixed i.backed);
-          held = subst (λ (below : List Layer). HoldsTrue (at below) (layer b)) (sym stays.0) (held w i);
+          backed = subst (λ (below : List Layer). IsBacked below (g.layer b)) (sym stays.0) (backed_on (u.under x) (g.layer a) (g.layer b) went.fixed i.backed);
+          held = subst (λ (below : List Layer). HoldsTrue (at below) (g.layer b)) (sym stays.0) (held w i);
         };
     values = values;
     stops = stops;
   }
 
   -- a call on the driver alone
-  pub ran_driver : (ok whole : Type 0) (gives : ℕ → Value → Type 0) (a b : D) (x : B) → (layer b).size ≡ (layer a).size → Went layer image extras safe lasts ok whole a b
-      → (whole → IsIntact (under x) (layer a) (safe a) (sees x) → HoldsTrue (at (under x)) (layer b))
-      → (whole → IsIntact (under x) (layer a) (safe a) (sees x) → IsBetween gives (under x) (layer a) (layer b))
-      → (IsIntact (under x) (layer a) (safe a) (sees x) → KeepsStops (under x) (layer a) sound gives (image a) (image b))
-      → Ran layer image extras safe lasts under files sees safe_under still lasts_under sound ok whole gives a b x x
-  ran_driver ok whole gives a b x size went held values stops =
-      ran_over ok whole gives a b x x size (went_weaker layer image extras safe lasts ok whole ok (whole × sees x) a b (λ h. h) (λ h. h.0) went) (looked_under_same under files sees safe_under still lasts_under ok whole x) held values stops
+  pub ran_driver : (whole : Type 0) (gives : ℕ → Value → Type 0) (a b : D) (x : B) → (g.layer b).size ≡ (g.layer a).size → Went g whole whole a b
+      → (whole → IsIntact g u a x → HoldsTrue (at (u.under x)) (g.layer b))
+      → (whole → IsIntact g u a x → IsBetween gives (u.under x) (g.layer a) (g.layer b))
+      → (IsIntact g u a x → KeepsStops g (u.under x) gives a b)
+      → Ran g u whole gives (a, x) (b, x)
+  ran_driver whole gives a b x size went held values stops =
+      ran_over whole gives a b x x size (went_weaker g whole whole whole (whole × u.sees_under x) a b (λ h. h) (λ h. h.0) went) (looked_under_same u whole x) held values stops
 
 -- The same layers below, seen as another type's.
-pub ran_seen : {D B C : Type 0} (f : B → C) (layer : D → Layer) (image : D → StorageState) (extras : D → List StorageState) (safe lasts : D → Type 0) (under : C → List Layer) (files : C → List StorageState) (sees safe_under still lasts_under : C → Type 0) (sound : ℕ → List ℕ → Type 0)
-    (ok whole : Type 0) (gives : ℕ → Value → Type 0) (a b : D) (x y : B)
-    → Ran layer image extras safe lasts (λ z. under (f z)) (λ z. files (f z)) (λ z. sees (f z)) (λ z. safe_under (f z)) (λ z. still (f z)) (λ z. lasts_under (f z)) sound ok whole gives a b x y → Ran layer image extras safe lasts under files sees safe_under still lasts_under sound ok whole gives a b (f x) (f y)
-ran_seen f layer image extras safe lasts under files sees safe_under still lasts_under sound ok whole gives a b x y h = record {
-  size = h.size;
-  went = h.went;
-  looked = record { like = h.looked.like; later = h.looked.later; faults = h.looked.faults; stays = h.looked.stays; safely = h.looked.safely; lasting = h.looked.lasting; kept = h.looked.kept };
-  intact = h.intact;
-  values = h.values;
-  stops = h.stops;
-}
+module _ {D St B C : Type 0} (f : B → C) (g : Ghosts D St) (u : GhostsBelow C) where
+  pub intact_seen : (a : D) (x : B) → IsIntact g (seen_by f u) a x → IsIntact g u a (f x)
+  intact_seen a x i = record { is_safe = i.is_safe; is_seen = i.is_seen; backed = i.backed; held = i.held }
+
+  pub intact_by : (a : D) (x : B) → IsIntact g u a (f x) → IsIntact g (seen_by f u) a x
+  intact_by a x i = record { is_safe = i.is_safe; is_seen = i.is_seen; backed = i.backed; held = i.held }
+
+  pub ran_seen : (whole : Type 0) (gives : ℕ → Value → Type 0) (a b : D) (x y : B) → Ran g (seen_by f u) whole gives (a, x) (b, y) → Ran g u whole gives (a, f x) (b, f y)
+  ran_seen whole gives a b x y h = record {
+    size = h.size;
+    went = h.went;
+    looked = record { like = h.looked.like; later = h.looked.later; faults = h.looked.faults; stays = h.looked.stays; safely = h.looked.safely; cut = elim h.looked.cut [ inl failed ↦ inl failed | inr known ↦ inr (record { seen = known.seen; safely = known.safely }) ]; lasting = h.looked.lasting; kept = h.looked.kept };
+    intact = λ w i. intact_seen b y (h.intact w (intact_by a x i));
+    values = λ w i. h.values w (intact_by a x i);
+    stops = λ i. h.stops (intact_by a x i);
+  }

@@ -10,7 +10,7 @@ use Rattle.imago_access.specs.Layer.{Layer, Fixed}
 use Rattle.imago_access.specs.Chain.{at}
 use Rattle.imago_access.specs.Files.{IsLater}
 use Rattle.imago_storage.specs.Passing.{Passes}
-use Rattle.imago_access.specs.Stops.{shown, May, Left, KeepsStopsTo, MakesNone}
+use Rattle.imago_access.specs.Stops.{shown, May, Left, MakesNone}
 
 -- The file now is what the newest stop left, or there was none.
 newest : (P : List ℕ → Type 0) (a b : StorageState) (files : List (List ℕ)) → b.stop ∷ b.past ≡ files ++ (a.stop ∷ a.past) → All P files → (b.stop ≡ a.stop) ⊎ P b.stop
@@ -76,7 +76,8 @@ pub then_left : (below : List Layer) (sound : ℕ → List ℕ → Type 0) (entr
     → IsLater a b → IsLater b c → mid.fixed ≡ entry.fixed → mid.size ≡ entry.size → least ≤ entry.size
     → ((p : ℕ) → p < entry.size → May below entry a.bytes gives p (at (mid ∷ below) p))
     → ((p : ℕ) (v : Value) → p < entry.size → later_gives p v → May below entry a.bytes gives p v)
-    → KeepsStopsTo below entry sound entry.size gives a b → KeepsStopsTo below mid sound least later_gives b c → KeepsStopsTo below entry sound least gives a c
+    → Passes (Left below entry a.bytes sound entry.size gives) a b → Passes (Left below mid b.bytes sound least later_gives) b c
+    → Passes (Left below entry a.bytes sound least gives) a c
 then_left below sound entry mid least gives later_gives a b c ab bc fixed size low disk given first second =
     let between : ((b.bytes ≡ a.bytes) ⊎ Left below entry a.bytes sound entry.size gives b.bytes) → (p : ℕ) → p < entry.size → May below entry a.bytes gives p (shown below entry.fixed.means b.bytes p) = λ how p inside.
     elim how [

@@ -1,12 +1,12 @@
 -- The units of a chain and of its layers.
-use Rattle.std.proofs.Common.{◌≡◌, refl, inl, inr, ℕ, ◌+◌, ◌-◌, ◌*◌, ◌/◌, ◌%◌, ◌<◌, ◌≤◌, max, List, [], ◌∷◌, arith, sym, ◌∙◌, ap, subst}
+use Rattle.std.proofs.Common.{◌≡◌, refl, inl, inr, ℕ, ◌+◌, ◌-◌, ◌*◌, ◌/◌, ◌%◌, ◌<◌, ◌≤◌, max, List, [], ◌∷◌, arith, sym, ◌∙◌, ap, subst, ◌^◌}
 use Rattle.std.specs.Prelude.{map}
 use Rattle.std.proofs.Math.Nat.{mul-mod_left}
 use Rattle.std.proofs.lemmas.Nat.{div-add-mod'}
 use Rattle.std.proofs.lemmas.Bool.{cases_lt}
 use Rattle.imago_storage.specs.State.{IsAlignment}
 use Rattle.imago_storage.specs.Through.{Overflows, round_up}
-use Rattle.imago_storage.proofs.Rounding.{round_up-le, round_up_whole, le_round_up}
+use Rattle.imago_storage.proofs.Rounding.{round_up-le, round_up_whole, le_round_up, round_up_part}
 use Rattle.imago_storage.proofs.Powers.{divides_larger}
 use Rattle.imago_access.specs.Layer.{Layer, unit_of_layer}
 use Rattle.imago_access.specs.Chain.{req_align_of, mem_align_of, unit_of_chain, Likes}
@@ -34,6 +34,15 @@ overflows_more small big offset n first second le h =
     let same : round_up small (round_up big (offset + n)) ≡ round_up big (offset + n) = round_up_whole small (round_up big (offset + n)) first.positive whole in
     let low : round_up small (offset + n) ≤ round_up small (round_up big (offset + n)) = round_up-le small (offset + n) (round_up big (offset + n)) first.positive (le_round_up big (offset + n) second.positive) in
     (h.0, omega (arith, same, low, h.1))
+
+-- no range overflows that ends below 2^63 and a little more
+pub overflows_late : (unit offset n : ℕ) → IsAlignment unit → offset + n ≤ 2 ^ 63 + 2 ^ 22 → Overflows unit offset n → ⊥
+overflows_late unit offset n aligned low over =
+    let m = offset + n in
+    elim (cases_lt 0 (m % unit)) [
+      | inl part ↦ let is = round_up_part unit m aligned.positive part in omega (arith, is, over.1, low, aligned.small)
+      | inr whole ↦ let is = round_up_whole unit m aligned.positive (omega (arith, whole)) in omega (arith, is, over.1, low)
+    ]
 
 module _ {D : Type 0} (layer : D → Layer) (aligned : (d : D) → IsAlignment (layer d).fixed.req_align × IsAlignment (layer d).fixed.mem_align) where
   req_aligned : (ds : List D) → IsAlignment (req_align_of (map layer ds))

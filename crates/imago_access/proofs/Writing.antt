@@ -1,14 +1,13 @@
 -- Bytes that are written run by run.
 use Rattle.std.proofs.Common.{◌≡◌, ℕ, ◌+◌, ◌-◌, ◌<◌, ◌≤◌, List, ◌∷◌, length, take, drop, slice_index, arith, sym, ◌∙◌, ap, inl, inr}
-use Rattle.std.specs.Prelude.{Result, Ok, Err, OnOk, IfErr, IsOk, None, map}
+use Rattle.std.specs.Prelude.{Result, Ok, Err, OnOk, IfErr, None, map}
 use Rattle.std.proofs.lemmas.Bool.{cases_lt}
 use Rattle.std.proofs.lemmas.Grind.{common_steps}
-use Rattle.imago_storage.specs.State.{StorageState}
 use Rattle.imago_storage.specs.Disk.{Value, byte}
 use Rattle.imago_storage.specs.Steps.{Call, Step, write, done, IsIn, ToBytes}
 use Rattle.imago_storage.specs.Causes.{PartlyDone}
 use Rattle.imago_storage.specs.declared.fault.Fault.{Fault}
-use Rattle.imago_access.specs.Files.{IsMild, IsWhole}
+use Rattle.imago_access.specs.Files.{IsMild, WasNotCutOff}
 use Rattle.imago_access.specs.Layer.{Layer, loose, IsFree}
 use Rattle.imago_access.specs.Chain.{at}
 use Rattle.imago_access.specs.Parts.{IsPartOf}
@@ -16,6 +15,7 @@ use Rattle.imago_access.specs.Refusals.{change_refusal}
 use Rattle.imago_access.specs.Running.{IsBetween, IsIntactChain, RanChain, chain_disk, below_of}
 use Rattle.imago_access.specs.Stops.{GivesBytes}
 use Rattle.imago_access.proofs.Disks.{allowed_inside, disk_step, disk_partly}
+use Rattle.imago_access.specs.declared.seen.Seen.{Ghosts}
 
 -- the bytes behind the first, as the code takes them
 abbrev pub rest_of : ℕ → List ℕ → List ℕ
@@ -67,26 +67,26 @@ gives_inside offset bytes p v gives = (omega (arith, gives.2), omega (arith, giv
 gives_byte : (offset : ℕ) (bytes : List ℕ) (p : ℕ) (was v : Value) → GivesBytes offset bytes p v → ToBytes offset bytes p was v
 gives_byte offset bytes p was v gives = let is : gives.0 ≡ p - offset = omega (arith, gives.2) in gives.3 ∙ ap (λ (i : ℕ). byte (slice_index bytes i)) is
 
-module _ {D T : Type 0} (layer : D → Layer) (image : D → StorageState) (extras : D → List StorageState) (sees safe still lasts : D → Type 0) (sound : ℕ → List ℕ → Type 0) (free_loose : (d : D) → IsFree (layer d) → (p : ℕ) → (layer d).held p ≡ loose) where
+module _ {D St T : Type 0} (g : Ghosts D St) (free_loose : (d : D) → IsFree (g.layer d) → (p : ℕ) → (g.layer d).held p ≡ loose) where
   -- a write that succeeds is a step of the disk
-  pub write_ok : (old new : D × List D) (unit offset : ℕ) (bytes : List ℕ) (result : Result T Fault) → IsFree (layer old.0) → IsFree (layer new.0) → change_refusal unit (layer old.0) offset (length bytes) ≡ None
-      → (IsIntactChain layer safe sees old → OnOk result ((i : ℕ) → i < length bytes → at (layer new.0 ∷ map layer old.1) (offset + i) ≡ byte (slice_index bytes i)))
-      → RanChain layer image extras sees safe still lasts sound (IsOk result) (IsWhole result) (GivesBytes offset bytes) old new
-      → IsIntactChain layer safe sees old → OnOk result (Step (below_of layer old) (chain_disk layer old) (write offset bytes) done (chain_disk layer new))
+  pub write_ok : (old new : D × List D) (unit offset : ℕ) (bytes : List ℕ) (result : Result T Fault) → IsFree (g.layer old.0) → IsFree (g.layer new.0) → change_refusal unit (g.layer old.0) offset (length bytes) ≡ None
+      → (IsIntactChain g old → OnOk result ((i : ℕ) → i < length bytes → at (g.layer new.0 ∷ map g.layer old.1) (offset + i) ≡ byte (slice_index bytes i)))
+      → RanChain g (WasNotCutOff result) (GivesBytes offset bytes) old new
+      → IsIntactChain g old → OnOk result (Step (below_of g.layer old) (chain_disk g.layer old) (write offset bytes) done (chain_disk g.layer new))
   write_ok old new unit offset bytes (Ok x) was_free is_free allowed shown ran i =
-      disk_step (map layer old.1) (map layer new.1) (layer old.0) (layer new.0) (ran.looked.stays tt i.is_seen).0 ran.size (free_loose old.0 was_free) (free_loose new.0 is_free)
-      (GivesBytes offset bytes) (ToBytes offset bytes) offset (length bytes) (allowed_inside unit (layer old.0) offset (length bytes) allowed) (gives_inside offset bytes) (ran.values tt i)
+      disk_step (map g.layer old.1) (map g.layer new.1) (g.layer old.0) (g.layer new.0) (ran.looked.stays tt i.is_seen).0 ran.size (free_loose old.0 was_free) (free_loose new.0 is_free)
+      (GivesBytes offset bytes) (ToBytes offset bytes) offset (length bytes) (allowed_inside unit (g.layer old.0) offset (length bytes) allowed) (gives_inside offset bytes) (ran.values tt i)
       (λ p into.
       let k = p - offset in
       let is : offset + k ≡ p = omega (arith, into.0) in
-      ap (at (layer new.0 ∷ map layer old.1)) (sym is) ∙ shown i k (omega (arith, into.0, into.1)))
+      ap (at (g.layer new.0 ∷ map g.layer old.1)) (sym is) ∙ shown i k (omega (arith, into.0, into.1)))
   write_ok old new unit offset bytes (Err e) was_free is_free allowed shown ran i = tt
 
   -- a refused one is done in part
-  pub write_err : (old new : D × List D) (offset : ℕ) (bytes : List ℕ) (result : Result T Fault) → IsFree (layer old.0) → IsFree (layer new.0)
-      → RanChain layer image extras sees safe still lasts sound (IsOk result) (IsWhole result) (GivesBytes offset bytes) old new
-      → IsIntactChain layer safe sees old → IfErr result (λ e. IsMild e → PartlyDone (below_of layer old) (write offset bytes) (chain_disk layer old) (chain_disk layer new))
+  pub write_err : (old new : D × List D) (offset : ℕ) (bytes : List ℕ) (result : Result T Fault) → IsFree (g.layer old.0) → IsFree (g.layer new.0)
+      → RanChain g (WasNotCutOff result) (GivesBytes offset bytes) old new
+      → IsIntactChain g old → IfErr result (λ e. IsMild e → PartlyDone (below_of g.layer old) (write offset bytes) (chain_disk g.layer old) (chain_disk g.layer new))
   write_err old new offset bytes (Ok x) was_free is_free ran i = tt
   write_err old new offset bytes (Err e) was_free is_free ran i = λ mild.
-      disk_partly (map layer old.1) (map layer new.1) (layer old.0) (layer new.0) (ran.looked.stays mild i.is_seen).0 ran.size (free_loose old.0 was_free) (free_loose new.0 is_free)
-      (GivesBytes offset bytes) (write offset bytes) (ran.values mild i) (gives_inside offset bytes) (λ p v gave. gives_byte offset bytes p (at (layer old.0 ∷ map layer old.1) p) v gave)
+      disk_partly (map g.layer old.1) (map g.layer new.1) (g.layer old.0) (g.layer new.0) (ran.looked.stays mild i.is_seen).0 ran.size (free_loose old.0 was_free) (free_loose new.0 is_free)
+      (GivesBytes offset bytes) (write offset bytes) (ran.values mild i) (gives_inside offset bytes) (λ p v gave. gives_byte offset bytes p (at (g.layer old.0 ∷ map g.layer old.1) p) v gave)

@@ -1,6 +1,6 @@
 -- Zeroes over a range, part by part.
 use Rattle.std.proofs.Common.{◌≡◌, refl, [], inl, inr, ℕ, ◌+◌, ◌-◌, ◌<◌, ◌≤◌, List, ◌∷◌, ◌++◌, length, slice_index, arith, sym, ◌∙◌, ap, subst}
-use Rattle.std.specs.Prelude.{⊤, Bool, Option, Some, IsTrue, false, Result, Ok, Err, IsOk, OnOk, IfErr, None, map, replicate, if◌then◌else◌}
+use Rattle.std.specs.Prelude.{⊤, Bool, Option, Some, false, Result, Ok, Err, OnOk, IfErr, None, map, replicate, if◌then◌else◌}
 use Rattle.std.proofs.lemmas.Bool.{cases_lt, le-ltb}
 use Rattle.std.proofs.lemmas.List.{length-replicate, get_or-replicate}
 use Rattle.imago_storage.specs.State.{StorageState, IsAlignment}
@@ -13,7 +13,7 @@ use Rattle.imago_storage.specs.declared.fault.Fault.TheVariants.{Outdated}
 use Rattle.imago_access.specs.Layer.{Layer, Cell, Held, IsFree, IsLike, loose, through, unit_of_layer}
 use Rattle.imago_access.specs.Chain.{at}
 use Rattle.imago_access.specs.Changes.{Wrote, TakesByte}
-use Rattle.imago_access.specs.Files.{Pairs, IsLater, IsMild, IsWhole}
+use Rattle.imago_access.specs.Files.{Pairs, IsLater, IsMild, WasNotCutOff, files}
 use Rattle.imago_access.specs.Going.{Went}
 use Rattle.imago_access.specs.Parts.{PartCause, MappedCause}
 use Rattle.imago_access.specs.Refusals.{change_refusal}
@@ -27,6 +27,8 @@ use Rattle.imago_access.proofs.FilePairs.{pairs_append}
 use Rattle.imago_access.proofs.Room.{apart_out, out_wider}
 use Rattle.imago_access.proofs.Running.{holds_loose, ran_driver}
 use Rattle.imago_access.proofs.Units.{layer_aligned}
+use Rattle.imago_access.specs.declared.seen.Seen.{Ghosts}
+use Rattle.imago_access.specs.declared.seen.SeenBelow.{Ghosts as GhostsBelow}
 
 -- a zeroing of a part gives what that of the whole may
 pub zero_wider : (offset n start m : ℕ) → offset ≤ start → start + m ≤ offset + n → (p : ℕ) (v : Value) → GivesZero start m p v → GivesZero offset n p v
@@ -136,48 +138,48 @@ shown_zero value start bytes zeroes shows p there =
     let lt : i < length bytes = omega (arith, there.0, there.1) in
     ap value (sym place) ∙ shows i lt ∙ ap byte (zeroes i lt)
 
-module _ {D B : Type 0} (layer : D → Layer) (image : D → StorageState) (extras : D → List StorageState) (safe lasts : D → Type 0) (under : B → List Layer) (files : B → List StorageState) (sees safe_under still lasts_under : B → Type 0) (sound : ℕ → List ℕ → Type 0) where
+module _ {D St B : Type 0} (g : Ghosts D St) (u : GhostsBelow B) where
   -- a zeroing by the driver alone, of an image that has nothing prepared
-  pub ran_zeroed : (free_loose : (d : D) → IsFree (layer d) → (p : ℕ) → (layer d).held p ≡ loose) (ok whole : Type 0) (offset n : ℕ) (a b : D) (x : B) → IsFree (layer a) → IsLike (layer a) (layer b) → Went layer image extras safe lasts ok whole a b
-      → (IsTrue (layer a).fixed.keeps → safe a → (below : List Layer) → whole → IsBetween (GivesZero offset n) below (layer a) (layer b))
-      → (IsTrue (layer a).fixed.keeps → safe a → (below : List Layer) → KeepsStops below (layer a) sound (GivesZero offset n) (image a) (image b))
-      → Ran layer image extras safe lasts under files sees safe_under still lasts_under sound ok whole (GivesZero offset n) a b x x
-  ran_zeroed free_loose ok whole offset n a b x free like went values stops = ran_driver layer image extras safe lasts under files sees safe_under still lasts_under sound ok whole (GivesZero offset n) a b x like.size went
-      (λ w i. holds_loose (at (under x)) (layer b) (free_loose b (like.unspent ∙ free)))
-      (λ w i. values i.keeps i.is_safe (under x) w)
-      (λ i. stops i.keeps i.is_safe (under x))
+  pub ran_zeroed : (free_loose : (d : D) → IsFree (g.layer d) → (p : ℕ) → (g.layer d).held p ≡ loose) (whole : Type 0) (offset n : ℕ) (a b : D) (x : B) → IsFree (g.layer a) → IsLike (g.layer a) (g.layer b) → Went g whole whole a b
+      → (g.safe a → (below : List Layer) → whole → IsBetween (GivesZero offset n) below (g.layer a) (g.layer b))
+      → (g.safe a → (below : List Layer) → KeepsStops g below (GivesZero offset n) a b)
+      → Ran g u whole (GivesZero offset n) (a, x) (b, x)
+  ran_zeroed free_loose whole offset n a b x free like went values stops = ran_driver g u whole (GivesZero offset n) a b x like.size went
+      (λ w i. holds_loose (at (u.under x)) (g.layer b) (free_loose b (like.unspent ∙ free)))
+      (λ w i. values i.is_safe (u.under x) w)
+      (λ i. stops i.is_safe (u.under x))
 
   -- a cause in a part, behind calls that went well, is one of the whole
-  pub cause_behind : (safe_runs : (d : D) → safe d → (layer d).failed ≡ false) (aligned : (d : D) → IsAlignment (layer d).fixed.req_align × IsAlignment (layer d).fixed.mem_align) (gives : ℕ → Value → Type 0) (offset n start m : ℕ) (a b : D) (x y : B) (news : List StorageState) (own_cause : List Layer → Fault → Type 0) (e : Fault)
-      → offset ≤ start → start + m ≤ offset + n → Ran layer image extras safe lasts under files sees safe_under still lasts_under sound ⊤ ⊤ gives a b x y → IsIntact (under x) (layer a) (safe a) (sees x)
-      → PartCause (under y) (layer b) start m (own_cause (under y)) (image b ∷ extras b ++ files y) news e → PartCause (under x) (layer a) offset n (own_cause (under x)) (image a ∷ extras a ++ files x) news e
+  pub cause_behind : (safe_runs : (d : D) → g.safe d → (g.layer d).failed ≡ false) (aligned : (d : D) → IsAlignment (g.layer d).fixed.req_align × IsAlignment (g.layer d).fixed.mem_align) (gives : ℕ → Value → Type 0) (offset n start m : ℕ) (a b : D) (x y : B) (news : List StorageState) (own_cause : List Layer → Fault → Type 0) (e : Fault)
+      → offset ≤ start → start + m ≤ offset + n → Ran g u ⊤ gives (a, x) (b, y) → IsIntact g u a x
+      → PartCause (u.under y) (g.layer b) start m (own_cause (u.under y)) (files g b ++ u.files_under y) news e → PartCause (u.under x) (g.layer a) offset n (own_cause (u.under x)) (files g a ++ u.files_under x) news e
   cause_behind safe_runs aligned gives offset n start m a b x y news own_cause e from to first i h =
-      let same : under y ≡ under x = (first.looked.stays tt i.is_seen).0 in
-      part_cause_later (under x) (layer a) (layer b) offset n start m (image a ∷ extras a ++ files x) (image b ∷ extras b ++ files y) news
-      first.went.fixed first.size (safe_runs a i.is_safe) (safe_runs b (first.intact tt i).is_safe) (layer_aligned layer aligned a).positive from to
-      (pairs_append IsLater (image a ∷ extras a) (image b ∷ extras b) (files x) (files y) first.went.later first.looked.later)
-      (own_cause (under x)) (own_cause (under x)) e (λ c. c)
-      (subst (λ (below : List Layer). PartCause below (layer b) start m (own_cause below) (image b ∷ extras b ++ files y) news e) same h)
+      let same : u.under y ≡ u.under x = (first.looked.stays tt i.is_seen).0 in
+      part_cause_later (u.under x) (g.layer a) (g.layer b) offset n start m (files g a ++ u.files_under x) (files g b ++ u.files_under y) news
+      first.went.fixed first.size (safe_runs a i.is_safe) (safe_runs b (first.intact tt i).is_safe) (layer_aligned g.layer aligned a).positive from to
+      (pairs_append IsLater (files g a) (files g b) (u.files_under x) (u.files_under y) first.went.later first.looked.later)
+      (own_cause (u.under x)) (own_cause (u.under x)) e (λ c. c)
+      (subst (λ (below : List Layer). PartCause below (g.layer b) start m (own_cause below) (files g b ++ u.files_under y) news e) same h)
 
 -- What a zeroing of all of a range does to a chain's disk.
-module _ {D : Type 0} (layer : D → Layer) (image : D → StorageState) (extras : D → List StorageState) (sees safe still lasts : D → Type 0) (sound : ℕ → List ℕ → Type 0) (free_loose : (d : D) → IsFree (layer d) → (p : ℕ) → (layer d).held p ≡ loose)
-    (old new : D × List D) (offset n : ℕ) (was_free : IsFree (layer old.0)) (is_free : IsFree (layer new.0)) where
-  pub zero_ok : (unit : ℕ) (result : Result (Unit {0}) Fault) → change_refusal unit (layer old.0) offset n ≡ None
-      → (IsIntactChain layer safe sees old → OnOk result ((p : ℕ) → IsIn offset n p → at (layer new.0 ∷ map layer old.1) p ≡ byte 0))
-      → RanChain layer image extras sees safe still lasts sound (IsOk result) (IsWhole result) (GivesZero offset n) old new → IsIntactChain layer safe sees old
-      → OnOk result (Unless (n ≡ 0) (Stays (chain_disk layer old) (chain_disk layer new)) (Changes Steps.ToZero (chain_disk layer old) (chain_disk layer new) offset n))
+module _ {D St : Type 0} (g : Ghosts D St) (free_loose : (d : D) → IsFree (g.layer d) → (p : ℕ) → (g.layer d).held p ≡ loose)
+    (old new : D × List D) (offset n : ℕ) (was_free : IsFree (g.layer old.0)) (is_free : IsFree (g.layer new.0)) where
+  pub zero_ok : (unit : ℕ) (result : Result (Unit {0}) Fault) → change_refusal unit (g.layer old.0) offset n ≡ None
+      → (IsIntactChain g old → OnOk result ((p : ℕ) → IsIn offset n p → at (g.layer new.0 ∷ map g.layer old.1) p ≡ byte 0))
+      → RanChain g (WasNotCutOff result) (GivesZero offset n) old new → IsIntactChain g old
+      → OnOk result (Unless (n ≡ 0) (Stays (chain_disk g.layer old) (chain_disk g.layer new)) (Changes Steps.ToZero (chain_disk g.layer old) (chain_disk g.layer new) offset n))
   zero_ok unit (Ok x) allowed shown ran i =
-      disk_step (map layer old.1) (map layer new.1) (layer old.0) (layer new.0) (ran.looked.stays tt i.is_seen).0 ran.size (free_loose old.0 was_free) (free_loose new.0 is_free)
-      (GivesZero offset n) Steps.ToZero offset n (allowed_inside unit (layer old.0) offset n allowed) (λ p v gave. gave.0) (ran.values tt i) (shown i)
+      disk_step (map g.layer old.1) (map g.layer new.1) (g.layer old.0) (g.layer new.0) (ran.looked.stays tt i.is_seen).0 ran.size (free_loose old.0 was_free) (free_loose new.0 is_free)
+      (GivesZero offset n) Steps.ToZero offset n (allowed_inside unit (g.layer old.0) offset n allowed) (λ p v gave. gave.0) (ran.values tt i) (shown i)
   zero_ok unit (Err e) allowed shown ran i = tt
 
   -- a refused one is done in part
-  pub zero_err : (result : Result (Unit {0}) Fault) (call : Call) → offset_of call ≡ offset → length_of call ≡ n → ((p : ℕ) (was : Value) → Gives (at (map layer old.1)) call p was (byte 0))
-      → RanChain layer image extras sees safe still lasts sound (IsOk result) (IsWhole result) (GivesZero offset n) old new → IsIntactChain layer safe sees old
-      → IfErr result (λ e. IsMild e → PartlyDone (below_of layer old) call (chain_disk layer old) (chain_disk layer new))
+  pub zero_err : (result : Result (Unit {0}) Fault) (call : Call) → offset_of call ≡ offset → length_of call ≡ n → ((p : ℕ) (was : Value) → Gives (at (map g.layer old.1)) call p was (byte 0))
+      → RanChain g (WasNotCutOff result) (GivesZero offset n) old new → IsIntactChain g old
+      → IfErr result (λ e. IsMild e → PartlyDone (below_of g.layer old) call (chain_disk g.layer old) (chain_disk g.layer new))
   zero_err (Ok x) call from long given ran i = tt
   zero_err (Err e) call from long given ran i = λ mild.
-      disk_partly (map layer old.1) (map layer new.1) (layer old.0) (layer new.0) (ran.looked.stays mild i.is_seen).0 ran.size (free_loose old.0 was_free) (free_loose new.0 is_free)
+      disk_partly (map g.layer old.1) (map g.layer new.1) (g.layer old.0) (g.layer new.0) (ran.looked.stays mild i.is_seen).0 ran.size (free_loose old.0 was_free) (free_loose new.0 is_free)
       (GivesZero offset n) call (ran.values mild i)
       (λ p v gave. subst (λ (o : ℕ). IsIn o (length_of call) p) (sym from) (subst (λ (m : ℕ). IsIn offset m p) (sym long) gave.0))
-      (λ p v gave. subst (Gives (at (map layer old.1)) call p (at (layer old.0 ∷ map layer old.1) p)) (sym gave.1) (given p (at (layer old.0 ∷ map layer old.1) p)))
+      (λ p v gave. subst (Gives (at (map g.layer old.1)) call p (at (g.layer old.0 ∷ map g.layer old.1) p)) (sym gave.1) (given p (at (g.layer old.0 ∷ map g.layer old.1) p)))

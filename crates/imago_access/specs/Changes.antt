@@ -40,16 +40,36 @@ IsHolding below layer offset n overwrite p (inside (Some b) written announced) =
     IsIn offset n p × (written ≡ None) × (announced ≡ overwrite) × IsCopied below layer p b
 IsHolding below layer offset n overwrite p (inside None written announced) = IsIn offset n p × (written ≡ None) × (announced ≡ overwrite)
 
+-- what a mapping is asked for
+pub record Asked : Type 0 where
+  pub offset : ℕ
+  pub length : ℕ
+  -- all of it is going to be written
+  pub overwrite : Bool
+
+abbrev pub asking : ℕ → ℕ → Bool → Asked
+asking offset n overwrite = record { offset = offset; length = n; overwrite = overwrite }
+
+-- where the run lies that is mapped, and which mapping with state it is, if any
+pub record Run : Type 0 where
+  pub storage : ℕ
+  pub place : ℕ
+  pub length : ℕ
+  pub claim : Option ℕ
+
+abbrev pub run_at : ℕ → ℕ → ℕ → Option ℕ → Run
+run_at storage place n claim = record { storage = storage; place = place; length = n; claim = claim }
+
 -- A run from the offset on, of one byte to the length asked, can be written in a storage from a place on. Values stay, and some places
 -- of the run become held, none exactly where there is no state.
-pub record Prepared (below : ℕ → Value) (old new : Layer) (offset asked : ℕ) (overwrite : Bool) (storage place n : ℕ) (claim : Option ℕ) : Type 0 where
+pub record Prepared (below : ℕ → Value) (old new : Layer) (asked : Asked) (run : Run) : Type 0 where
   pub fixed : new.fixed ≡ old.fixed
   pub size : new.size ≡ old.size
   pub cell : new.cell ≡ old.cell
-  pub home : (i : ℕ) → i < n → new.home (offset + i) ≡ Some (storage, place + i)
-  pub unspent : new.unspent ≡ claim
-  pub holds : (p : ℕ) → IsHolding below new offset n overwrite p (new.held p)
-  pub some_held : (c : ℕ) → claim ≡ Some c → (p : ℕ) × (copied : Option ℕ) × IsIn offset n p × (new.held p ≡ inside copied None overwrite)
+  pub home : (i : ℕ) → i < run.length → new.home (asked.offset + i) ≡ Some (run.storage, run.place + i)
+  pub unspent : new.unspent ≡ run.claim
+  pub holds : (p : ℕ) → IsHolding below new asked.offset run.length asked.overwrite p (new.held p)
+  pub some_held : (c : ℕ) → run.claim ≡ Some c → (p : ℕ) × (copied : Option ℕ) × IsIn asked.offset run.length p × (new.held p ≡ inside copied None asked.overwrite)
 
 -- A refused mapping: values and what is held stay. A table that was made for it may have replaced one, and then fewer places can be
 -- written where they are.

@@ -1,7 +1,8 @@
 -- What calls do to the storages of an image or of a chain.
-use Rattle.std.specs.Prelude.{◌≡◌, ◌⊎◌, ⊤, ◌≤◌, ◌∷◌, [], ◌++◌, List, Result, MatchResult}
+use Rattle.std.specs.Prelude.{◌≡◌, ◌⊎◌, ⊤, ◌≤◌, ◌∷◌, [], ◌++◌, max, ℕ, zero, suc, List, Result, MatchResult, slice_index}
 use Rattle.imago_storage.specs.State.{StorageState, Rose}
 use Rattle.imago_storage.specs.Calls.{Kept, Later}
+use Rattle.imago_access.specs.declared.seen.Seen.{Ghosts}
 use Rattle.imago_storage.specs.declared.fault.Fault.{Fault}
 use Rattle.imago_storage.specs.declared.fault.Fault.TheVariants.{DamagedHeader, DamagedTable, DamagedDescriptor, Unsupported, VersionLimit, Limit, MissingBelow, ExtraLayer, CacheFull, BadArgument, Memory, Storage, BadCommand}
 
@@ -19,9 +20,9 @@ IsKept old new = Kept old new × (old.faults ≤ new.faults)
 abbrev pub IsLater : StorageState → StorageState → Type 0
 IsLater old new = (new.shape ≡ old.shape) × Later old new
 
--- the count of faults is the same
-abbrev pub IsSound : StorageState → StorageState → Type 0
-IsSound old new = new.faults ≡ old.faults
+-- no request failed, and no change was refused
+abbrev pub IsFaultless : StorageState → StorageState → Type 0
+IsFaultless old new = (new.faults ≡ old.faults) × (new.refusals ≡ old.refusals)
 
 -- a storage has failed
 abbrev pub SomeRose : List StorageState → List StorageState → Type 0
@@ -47,18 +48,14 @@ IsMild Storage = ⊥
 IsMild fault = ⊤
 
 -- the call succeeded, or was refused for another cause than these two
-abbrev pub IsWhole : {T : Type 0} → Result T Fault → Type 0
-IsWhole result = MatchResult result (λ _. ⊤) IsMild
+abbrev pub WasNotCutOff : {T : Type 0} → Result T Fault → Type 0
+WasNotCutOff result = MatchResult result (λ _. ⊤) IsMild
 
 -- the format can't do it, or its storage can't
 abbrev pub IsDeclined : Fault → Type 0
 IsDeclined Unsupported = ⊤
 IsDeclined VersionLimit = ⊤
 IsDeclined fault = ⊥
-
--- the call succeeded, or was declined
-abbrev pub IsAnswered : {T : Type 0} → Result T Fault → Type 0
-IsAnswered result = MatchResult result (λ _. ⊤) IsDeclined
 
 -- the files say something else than what was read of them
 abbrev pub IsStale : Fault → Type 0
@@ -69,11 +66,26 @@ IsStale (Limit bound) = ⊤
 IsStale CacheFull = ⊤
 IsStale fault = ⊥
 
--- the storages of drivers, those of the highest first: of each its image file and then the others
-abbrev pub files_of : {D : Type 0} → (D → StorageState) → (D → List StorageState) → List D → List StorageState
-files_of image extras [] = []
-files_of image extras (d ∷ ds) = (image d ∷ extras d) ++ files_of image extras ds
+-- the storages of a driver: its image file and then the others
+abbrev pub files : {D St : Type 0} → Ghosts D St → D → List StorageState
+files g d = g.image d ∷ g.extras d
+
+-- the storages of drivers, those of the highest first
+abbrev pub files_of : {D St : Type 0} → Ghosts D St → List D → List StorageState
+files_of g [] = []
+files_of g (d ∷ ds) = files g d ++ files_of g ds
+
+-- the byte at a place of the storage with this number: 0 past its end, and where there is none
+abbrev pub byte_in : List StorageState → ℕ → ℕ → ℕ
+byte_in [] storage place = 0
+byte_in (s ∷ ss) zero place = slice_index s.bytes place
+byte_in (s ∷ ss) (suc storage) place = byte_in ss storage place
+
+-- the greatest of a measure of the storages
+abbrev pub greatest : (StorageState → ℕ) → StorageState → List StorageState → ℕ
+greatest measure s [] = measure s
+greatest measure s (t ∷ ts) = max (measure s) (greatest measure t ts)
 
 -- nothing was asked of the files of a driver
-abbrev pub Unasked : {D : Type 0} → (D → StorageState) → (D → List StorageState) → D → D → Type 0
-Unasked image extras old new = (image new ≡ image old) × (extras new ≡ extras old)
+abbrev pub Unasked : {D St : Type 0} → Ghosts D St → D → D → Type 0
+Unasked g old new = (g.image new ≡ g.image old) × (g.extras new ≡ g.extras old)

@@ -1,38 +1,82 @@
--- What every call of a driver does to what contracts see of it. A call succeeded where `ok` holds, and was not cut off by want of memory
--- or a storage that failed where `whole` does.
-use Rattle.std.specs.Prelude.{◌≡◌, ℕ, List, ◌∷◌, IsTrue}
-use Rattle.imago_storage.specs.State.{StorageState}
+-- What every call of a driver does to what contracts see of it. It was not cut off by want of memory or by a storage that failed where
+-- `whole` holds.
+use Rattle.std.specs.Prelude.{◌≡◌, ◌⊎◌, ⊤, List, Option, Some, None, Result, IsTrue, IsOk, IsErrOf, IsSome}
+use Rattle.imago_storage.specs.Steps.{Call}
+use Rattle.imago_storage.specs.declared.fault.Fault.{Fault}
+use Rattle.imago_storage.specs.declared.fault.Fault.TheVariants.{Memory, Storage}
+use Rattle.imago_access.specs.declared.seen.Seen.{Ghosts}
+use Rattle.imago_access.specs.declared.seen.SeenBelow.{Ghosts as GhostsBelow}
 use Rattle.imago_access.specs.Layer.{Layer, IsLike}
 use Rattle.imago_access.specs.Chain.{Likes}
-use Rattle.imago_access.specs.Files.{Pairs, IsKept, IsLater, IsSound}
+use Rattle.imago_access.specs.Files.{Pairs, IsKept, IsLater, IsFaultless, Unasked, files}
+use Rattle.imago_access.specs.Refusals.{barrier, SomeFailed}
+use Rattle.imago_access.specs.Room.{Takes}
 use Rattle.imago_access.specs.Stops.{KeepsStops, GivesNone}
 
+-- A call is refused by this at once, if by anything, and else succeeds where it has nothing to do and the image can be used. In both cases
+-- it asks nothing of the files.
+pub record AtOnce {D St T : Type 0} (g : Ghosts D St) (refusal : Option Fault) (nothing : Type 0) (result : Result T Fault) (old new : D) : Type 0 where
+  pub refused : (f : Fault) → refusal ≡ Some f → IsErrOf result f
+  pub idle : nothing → barrier (g.layer old) ≡ None → IsOk result
+  pub unasked : nothing ⊎ IsSome refusal → Unasked g old new
+
+-- What reads and changes rest on is what it was.
+pub record IsKnown {D St : Type 0} (g : Ghosts D St) (old new : D) : Type 0 where
+  pub seen : g.sees old → (g.layer new ≡ g.layer old) × g.sees new
+  pub safely : g.safe old → g.safe new
+
+-- All is as it was.
+pub record IsUnchanged {D St : Type 0} (g : Ghosts D St) (old new : D) : Type 0 where
+  pub layer : g.layer new ≡ g.layer old
+  pub unasked : Unasked g old new
+  pub seen : g.sees old → g.sees new
+  pub safely : g.safe old → g.safe new
+  pub stilled : g.still old → g.still new
+  pub lasting : g.lasts old → g.lasts new
+  pub room : g.safe old → Takes g (λ _. ⊤) old new
+  pub began : (d : D) (call : Call) → g.began d call old → g.began d call new
+
+-- What a refusal leaves of an image of a format that marks failures: a storage's fault has marked it, and want of memory has marked it or
+-- left all as it was.
+abbrev pub Marks : {D St : Type 0} → Ghosts D St → D → D → Fault → Type 0
+Marks g old new Storage = IsTrue (g.layer old).fixed.marks → IsTrue (g.layer new).failed
+Marks g old new Memory = IsTrue (g.layer old).fixed.marks → IsTrue (g.layer new).failed ⊎ (IsKnown g old new × Pairs IsKept (files g old) (files g new))
+Marks g old new fault = ⊤
+
 -- A call that only looks. Where nothing waits to be written it makes no request; else a stop in it shows nothing new.
-pub record Looked {D : Type 0} (layer : D → Layer) (image : D → StorageState) (extras : D → List StorageState) (sees safe still lasts : D → Type 0) (sound : ℕ → List ℕ → Type 0) (ok whole : Type 0) (old new : D) : Type 0 where
-  pub like : IsLike (layer old) (layer new)
-  pub later : Pairs IsLater (image old ∷ extras old) (image new ∷ extras new)
-  pub faults : ok → Pairs IsSound (image old ∷ extras old) (image new ∷ extras new)
-  pub stays : whole → sees old → (layer new ≡ layer old) × sees new
-  pub safely : whole → safe old → safe new
-  pub lasting : lasts old → lasts new
-  pub kept : still old → Pairs IsKept (image old ∷ extras old) (image new ∷ extras new) × still new
-  pub stops : IsTrue (layer old).fixed.keeps → safe old → (below : List Layer) → KeepsStops below (layer old) sound GivesNone (image old) (image new)
+pub record Looked {D St : Type 0} (g : Ghosts D St) (whole : Type 0) (old new : D) : Type 0 where
+  pub like : IsLike (g.layer old) (g.layer new)
+  pub later : Pairs IsLater (files g old) (files g new)
+  pub faults : whole → Pairs IsFaultless (files g old) (files g new)
+  pub stays : whole → g.sees old → (g.layer new ≡ g.layer old) × g.sees new
+  pub safely : whole → g.safe old → g.safe new
+  -- one that was cut off has failed, or left what reads and changes rest on
+  pub cut : IsTrue (g.layer new).failed ⊎ IsKnown g old new
+  pub lasting : g.lasts old → g.lasts new
+  pub kept : g.still old → Pairs IsKept (files g old) (files g new) × g.still new
+  pub stops : g.safe old → (below : List Layer) → KeepsStops g below GivesNone old new
 
 -- a call that may change: an image that had failed has failed still
-pub record Went {D : Type 0} (layer : D → Layer) (image : D → StorageState) (extras : D → List StorageState) (safe lasts : D → Type 0) (ok whole : Type 0) (old new : D) : Type 0 where
-  pub fixed : (layer new).fixed ≡ (layer old).fixed
-  pub failed : IsTrue (layer old).failed → IsTrue (layer new).failed
-  pub later : Pairs IsLater (image old ∷ extras old) (image new ∷ extras new)
-  pub faults : ok → Pairs IsSound (image old ∷ extras old) (image new ∷ extras new)
-  pub safely : whole → safe old → safe new
-  pub lasting : lasts old → lasts new
+pub record Went {D St : Type 0} (g : Ghosts D St) (ok whole : Type 0) (old new : D) : Type 0 where
+  pub fixed : (g.layer new).fixed ≡ (g.layer old).fixed
+  pub failed : IsTrue (g.layer old).failed → IsTrue (g.layer new).failed
+  pub later : Pairs IsLater (files g old) (files g new)
+  pub faults : ok → Pairs IsFaultless (files g old) (files g new)
+  pub safely : whole → g.safe old → g.safe new
+  pub lasting : g.lasts old → g.lasts new
+
+-- what reads of the layers below rest on is what it was
+pub record IsKnownUnder {B : Type 0} (u : GhostsBelow B) (old new : B) : Type 0 where
+  pub seen : u.sees_under old → (u.under new ≡ u.under old) × u.sees_under new
+  pub safely : u.safe_under old → u.safe_under new
 
 -- a look at the layers below
-pub record LookedUnder {B : Type 0} (under : B → List Layer) (files : B → List StorageState) (sees safe still lasts : B → Type 0) (ok whole : Type 0) (old new : B) : Type 0 where
-  pub like : Likes (under old) (under new)
-  pub later : Pairs IsLater (files old) (files new)
-  pub faults : ok → Pairs IsSound (files old) (files new)
-  pub stays : whole → sees old → (under new ≡ under old) × sees new
-  pub safely : whole → safe old → safe new
-  pub lasting : lasts old → lasts new
-  pub kept : still old → Pairs IsKept (files old) (files new) × still new
+pub record LookedUnder {B : Type 0} (u : GhostsBelow B) (whole : Type 0) (old new : B) : Type 0 where
+  pub like : Likes (u.under old) (u.under new)
+  pub later : Pairs IsLater (u.files_under old) (u.files_under new)
+  pub faults : whole → Pairs IsFaultless (u.files_under old) (u.files_under new)
+  pub stays : whole → u.sees_under old → (u.under new ≡ u.under old) × u.sees_under new
+  pub safely : whole → u.safe_under old → u.safe_under new
+  pub cut : SomeFailed (u.under new) ⊎ IsKnownUnder u old new
+  pub lasting : u.lasts_under old → u.lasts_under new
+  pub kept : u.still_under old → Pairs IsKept (u.files_under old) (u.files_under new) × u.still_under new

@@ -56,6 +56,10 @@ pub record Fixed : Type 0 where
   pub means : List ℕ → Meaning
   -- its file states the size of the disk
   pub exact : Bool
+  -- a call that want of memory or a storage's fault cut off marks the image failed, or has left all as it was
+  pub marks : Bool
+  -- it says of each place whether something is allocated for it, and whether it is zeroed, by what its lookups answer
+  pub states_room : Bool
   -- what it allocates and gives up as a whole, in bytes: each multiple of it up to the next, or to the disk's end
   pub unit : ℕ
 

@@ -12,7 +12,10 @@ pub mod Parts
 pub mod Resizes
 pub mod Stops
 pub mod Going
+pub mod PartCalls
+pub mod Failing
 pub mod Running
+pub mod ChainCalls
 pub mod Discards
 pub mod Zeroings
 pub mod Building

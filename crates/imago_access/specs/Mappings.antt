@@ -3,6 +3,8 @@ use Rattle.std.specs.Prelude.{◌≡◌, ◌⊎◌, ⊤, ℕ, ◌+◌, ◌<◌, 
 use Rattle.imago_storage.specs.Through.{Overflows}
 use Rattle.imago_storage.specs.Disk.{Value, byte, barred}
 use Rattle.imago_access.specs.Layer.{Layer, Cell, own, unmapped, unit_of_layer, IsFree}
+use Rattle.imago_access.specs.declared.seen.Seen.{Ghosts}
+use Rattle.imago_access.specs.Files.{byte_in, files}
 use Rattle.imago_access.specs.declared.mapping.ShallowMapping.{ShallowMapping}
 use Rattle.imago_access.specs.declared.mapping.ShallowMapping.TheVariants as shallow
 use Rattle.imago_access.specs.declared.mapping.Mapping.{Mapping}
@@ -40,6 +42,11 @@ IsInReach layer offset mapping n = ⊤
 abbrev pub NamesHome : Layer → ℕ → ℕ → ShallowMapping → Type 0
 NamesHome layer offset asked mapping = IsFree layer → 0 < asked → (storage place : ℕ) → layer.home offset ≡ Some (storage, place) → mapping ≡ shallow.Raw storage place true
 
+-- where a layer says of places what room they have, one that is vacant or zeroed isn't answered as a place of a storage
+abbrev pub NamesRoom : Layer → (vacant zeroed : ℕ → Type 0) → ℕ → ℕ → ShallowMapping → Type 0
+NamesRoom layer vacant zeroed offset n (shallow.Raw storage place writable) = IsTrue layer.fixed.states_room → (i : ℕ) → i < n → (vacant (offset + i) ⊎ zeroed (offset + i)) → ⊥
+NamesRoom layer vacant zeroed offset n mapping = ⊤
+
 -- what a lookup of one layer answers
 pub record Looks (layer : Layer) (stored : ℕ → ℕ → ℕ) (offset asked : ℕ) (mapping : ShallowMapping) (n : ℕ) : Type 0 where
   pub names : Names layer stored offset n mapping
@@ -47,10 +54,10 @@ pub record Looks (layer : Layer) (stored : ℕ → ℕ → ℕ) (offset asked : 
   pub home : NamesHome layer offset asked mapping
 
 -- the byte at a place of a storage of the driver at a depth
-abbrev pub stored_at : {D : Type 0} → (D → ℕ → ℕ → ℕ) → List D → ℕ → ℕ → ℕ → ℕ
-stored_at stored [] depth storage place = 0
-stored_at stored (d ∷ ds) zero storage place = stored d storage place
-stored_at stored (d ∷ ds) (suc depth) storage place = stored_at stored ds depth storage place
+abbrev pub stored_at : {D St : Type 0} → Ghosts D St → List D → ℕ → ℕ → ℕ → ℕ
+stored_at g [] depth storage place = 0
+stored_at g (d ∷ ds) zero storage place = byte_in (files g d) storage place
+stored_at g (d ∷ ds) (suc depth) storage place = stored_at g ds depth storage place
 
 -- The layers down to this depth were opened for writing, each but the last lets through what is written below it, and in the last of them
 -- each place of the run can be written in this storage, from this place on.

@@ -1,6 +1,6 @@
 -- Why calls of a driver or of a chain are refused.
-use Rattle.std.specs.Prelude.{◌≡◌, ◌⊎◌, ⊤, ℕ, ◌+◌, ◌<◌, ◌^◌, Bool, Option, Some, None, List, [], ◌∷◌, if◌then◌else◌, ltb, leb, eqb, not, IsTrue, IsFalse}
-use Rattle.imago_storage.specs.State.{StorageState}
+use Rattle.std.specs.Prelude.{◌≡◌, ◌⊎◌, ⊤, ℕ, ◌+◌, ◌<◌, ◌^◌, max, Bool, Option, Some, None, List, [], ◌∷◌, if◌then◌else◌, ltb, leb, eqb, not, IsTrue, IsFalse}
+use Rattle.imago_storage.specs.State.{StorageState, unit_of}
 use Rattle.imago_storage.specs.Through.{round_up, Overflows}
 use Rattle.imago_storage.specs.Disk.{Value, barred, damaged_place, Disk}
 use Rattle.imago_storage.specs.Steps.{Call}
@@ -8,7 +8,8 @@ use Rattle.imago_storage.specs.Causes.{offset_of, length_of, Alters, IsForeign}
 use Rattle.imago_storage.specs.declared.fault.Fault.{Fault}
 use Rattle.imago_storage.specs.declared.fault.Fault.TheVariants.{ReadOnly, PastEnd, RangeOverflow, DamagedTable, Unsupported, Barred, VersionLimit, Foreign, MissingData, Failed, Memory, Storage}
 use Rattle.imago_access.specs.Layer.{Layer, own, unit_of_layer}
-use Rattle.imago_access.specs.Files.{SomeRose, IsStale}
+use Rattle.imago_access.specs.Chain.{disk_of, unit_of_chain}
+use Rattle.imago_access.specs.Files.{SomeRose, IsStale, greatest}
 
 -- why no call of an image but getters and a cancel succeeds
 abbrev pub barrier : Layer → Option Fault
@@ -38,6 +39,16 @@ change_refusal unit layer offset n =
     if layer.failed then Some Failed
     else if layer.fixed.missing then Some MissingData
     else range_refusal layer.fixed.writable unit layer.size offset n
+
+-- the same by the layer's own unit
+abbrev pub own_refusal : Layer → ℕ → ℕ → Option Fault
+own_refusal layer offset n = change_refusal (unit_of_layer layer) layer offset n
+
+-- Its alignments are the greatest of its storages; what it can zero by itself is none, its units, or what its image file can zero.
+pub record HasAlignmentsOf (layer : Layer) (image : StorageState) (extras : List StorageState) : Type 0 where
+  pub requests : layer.fixed.req_align ≡ greatest (λ s. s.shape.req_align) image extras
+  pub memory : layer.fixed.mem_align ≡ greatest (λ s. s.shape.mem_align) image extras
+  pub zeroing : (layer.fixed.granularity ≡ None) ⊎ ((layer.fixed.granularity ≡ Some layer.fixed.unit) ⊎ (layer.fixed.granularity ≡ Some (max (unit_of image.shape) image.shape.zero_align)))
 
 -- a layer of the chain is barred by this
 abbrev pub SomeBarred : List Layer → Fault → Type 0
@@ -75,20 +86,20 @@ ReadCause layers value unit offset n olds news Memory = ⊤
 ReadCause layers value unit offset n olds news Storage = SomeRose olds news
 ReadCause layers value unit offset n olds news fault = ⊥
 
--- Why a call that changes is refused, by the unit of its requests, from its own entry: also by a cause that the driver has of its own, but
--- never because the format can't zero or discard a part by itself.
-abbrev pub ChangeCause : ℕ → List Layer → Disk → Bool → Call → (Fault → Type 0) → List StorageState → List StorageState → Fault → Type 0
-ChangeCause unit layers disk writable call causes olds news ReadOnly = Alters disk call × IsFalse writable
-ChangeCause unit layers disk writable call causes olds news PastEnd = Alters disk call × (disk.size < offset_of call + length_of call)
-ChangeCause unit layers disk writable call causes olds news RangeOverflow = Overflows unit (offset_of call) (length_of call)
-ChangeCause unit layers disk writable call causes olds news Foreign = IsForeign call
-ChangeCause unit layers disk writable call causes olds news Unsupported = ⊥
-ChangeCause unit layers disk writable call causes olds news VersionLimit = ⊥
-ChangeCause unit layers disk writable call causes olds news Failed = SomeBarred layers Failed
-ChangeCause unit layers disk writable call causes olds news MissingData = SomeBarred layers MissingData
-ChangeCause unit layers disk writable call causes olds news Memory = ⊤
-ChangeCause unit layers disk writable call causes olds news Storage = SomeRose olds news
-ChangeCause unit layers disk writable call causes olds news fault = causes fault
+-- Why a call that changes is refused, from its own entry: also by a cause that the driver has of its own, but never because the format
+-- can't zero or discard a part by itself.
+abbrev pub ChangeCause : List Layer → Layer → Call → (Fault → Type 0) → List StorageState → List StorageState → Fault → Type 0
+ChangeCause below layer call causes olds news ReadOnly = Alters (disk_of below layer) call × IsFalse layer.fixed.writable
+ChangeCause below layer call causes olds news PastEnd = Alters (disk_of below layer) call × (layer.size < offset_of call + length_of call)
+ChangeCause below layer call causes olds news RangeOverflow = Overflows (unit_of_chain (layer ∷ below)) (offset_of call) (length_of call)
+ChangeCause below layer call causes olds news Foreign = IsForeign call
+ChangeCause below layer call causes olds news Unsupported = ⊥
+ChangeCause below layer call causes olds news VersionLimit = ⊥
+ChangeCause below layer call causes olds news Failed = SomeBarred (layer ∷ below) Failed
+ChangeCause below layer call causes olds news MissingData = SomeBarred (layer ∷ below) MissingData
+ChangeCause below layer call causes olds news Memory = ⊤
+ChangeCause below layer call causes olds news Storage = SomeRose olds news
+ChangeCause below layer call causes olds news fault = causes fault
 
 -- Why a read of the bytes of a storage is refused.
 abbrev pub ReadMappedCause : Layer → ℕ → ℕ → List StorageState → List StorageState → Fault → Type 0

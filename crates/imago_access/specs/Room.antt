@@ -3,6 +3,7 @@
 use Rattle.std.specs.Prelude.{⊤, ◌⊎◌, ℕ, ◌+◌, ◌*◌, ◌<◌, ◌≤◌, min}
 use Rattle.imago_storage.specs.Steps.{IsOut}
 use Rattle.imago_storage.specs.declared.fault.Fault.{Fault}
+use Rattle.imago_access.specs.declared.seen.Seen.{Ghosts}
 use Rattle.imago_storage.specs.declared.fault.Fault.TheVariants.{Unsupported, VersionLimit}
 
 -- unit u of a disk lies whole in a range
@@ -51,18 +52,18 @@ pub record IsGivenUpBehind (vacant : ℕ → Type 0) (unit size offset n start a
 
 -- What a call leaves of the room that was allocated, and of what was vacant: at these places, and at those. What was zeroed stays so at
 -- places that are both.
-pub record LeavesRoom {D : Type 0} (vacant has_room zeroed : D → ℕ → Type 0) (left spared : ℕ → Type 0) (old new : D) : Type 0 where
-  pub kept : (p : ℕ) → left p → has_room old p → has_room new p
-  pub free : (p : ℕ) → spared p → vacant old p → vacant new p
-  pub zeroes : (p : ℕ) → left p → spared p → zeroed old p → zeroed new p
+pub record LeavesRoom {D St : Type 0} (g : Ghosts D St) (left spared : ℕ → Type 0) (old new : D) : Type 0 where
+  pub kept : (p : ℕ) → left p → g.has_room old p → g.has_room new p
+  pub free : (p : ℕ) → spared p → g.vacant old p → g.vacant new p
+  pub zeroes : (p : ℕ) → left p → spared p → g.zeroed old p → g.zeroed new p
 
 -- A call that gives nothing up, and takes nothing at the places that it has to spare.
-abbrev pub Takes : {D : Type 0} → (D → ℕ → Type 0) → (D → ℕ → Type 0) → (D → ℕ → Type 0) → (ℕ → Type 0) → D → D → Type 0
-Takes vacant has_room zeroed spared = LeavesRoom vacant has_room zeroed (λ _. ⊤) spared
+abbrev pub Takes : {D St : Type 0} → Ghosts D St → (ℕ → Type 0) → D → D → Type 0
+Takes g spared = LeavesRoom g (λ _. ⊤) spared
 
 -- A call that takes nothing, and gives nothing up out of a range.
-abbrev pub GivesUp : {D : Type 0} → (D → ℕ → Type 0) → (D → ℕ → Type 0) → (D → ℕ → Type 0) → ℕ → ℕ → D → D → Type 0
-GivesUp vacant has_room zeroed offset n = LeavesRoom vacant has_room zeroed (IsOut offset n) (λ _. ⊤)
+abbrev pub GivesUp : {D St : Type 0} → Ghosts D St → ℕ → ℕ → D → D → Type 0
+GivesUp g offset n = LeavesRoom g (IsOut offset n) (λ _. ⊤)
 
 -- the driver has no cause of its own to decline
 abbrev pub IsUndeclined : (Fault → Type 0) → Type 0

@@ -1,18 +1,25 @@
 -- How a prepared mapping is spent.
 use Rattle.std.specs.Prelude.{◌≡◌, ◌≢◌, ⊤, ℕ, Bool, false, eqb, not, Option, Some, None, IsFalse, if◌then◌else◌}
 use Rattle.imago_storage.specs.declared.fault.Fault.{Fault}
-use Rattle.imago_storage.specs.declared.fault.Fault.TheVariants.{ReadOnly, Foreign, MissingData, Failed}
+use Rattle.imago_storage.specs.declared.fault.Fault.TheVariants.{ReadOnly, Foreign, MissingData, Failed, DamagedTable, Counter, Memory, Storage}
+use Rattle.imago_access.specs.declared.seen.Seen.{Ghosts}
 use Rattle.imago_access.specs.Layer.{Layer}
+use Rattle.imago_access.specs.Changes.{Run, run_at}
+use Rattle.imago_access.specs.declared.mapping.PreparedDataMapping.{PreparedDataMapping}
 use Rattle.imago_access.specs.Refusals.{barrier}
 
 abbrev pub claim_of : {S : Type 0} → (S → ℕ) → Option S → Option ℕ
 claim_of claim None = None
 claim_of claim (Some s) = Some (claim s)
 
+-- the run of a prepared mapping
+abbrev pub run_of : {D St : Type 0} → Ghosts D St → PreparedDataMapping St → Run
+run_of g m = run_at m.storage m.offset m.length (claim_of g.claim m.state)
+
 -- the mapping is the one that the layer has prepared; one without state is no layer's
-abbrev pub IsMine : {S : Type 0} → (S → ℕ) → (S → ℕ) → Option S → Layer → Type 0
-IsMine claim tag None layer = ⊤
-IsMine claim tag (Some s) layer = (tag s ≡ layer.fixed.number) × (layer.unspent ≡ Some (claim s))
+abbrev pub IsMine : {D St : Type 0} → Ghosts D St → Option St → Layer → Type 0
+IsMine g None layer = ⊤
+IsMine g (Some s) layer = (g.tag s ≡ layer.fixed.number) × (layer.unspent ≡ Some (g.claim s))
 
 -- it was prepared under another number
 abbrev pub IsForeignTo : {S : Type 0} → (S → ℕ) → Option S → Layer → Type 0
@@ -21,19 +28,27 @@ IsForeignTo tag (Some s) layer = tag s ≢ layer.fixed.number
 
 -- A mapping without state is spent with nothing changed. One with state was prepared under this number and, if it is the one that is
 -- prepared, does P.
-abbrev pub Spends : {S : Type 0} → (S → ℕ) → (S → ℕ) → Option S → Layer → Layer → Type 0 → Type 0
-Spends claim tag None old new P = new ≡ old
-Spends claim tag (Some s) old new P = (tag s ≡ old.fixed.number) × (old.unspent ≡ Some (claim s) → P)
+abbrev pub Spends : {D St : Type 0} → Ghosts D St → Option St → Layer → Layer → Type 0 → Type 0
+Spends g None old new P = new ≡ old
+Spends g (Some s) old new P = (g.tag s ≡ old.fixed.number) × (old.unspent ≡ Some (g.claim s) → P)
 
 -- the first cause why a mapping that is to be committed is given back
-abbrev pub commit_refusal : {S : Type 0} → (S → ℕ) → Option S → Layer → Option Fault
-commit_refusal tag None layer = barrier layer
-commit_refusal tag (Some s) layer =
+abbrev pub commit_refusal : {D St : Type 0} → Ghosts D St → Option St → Layer → Option Fault
+commit_refusal g None layer = barrier layer
+commit_refusal g (Some s) layer =
     if layer.failed then Some Failed
     else if layer.fixed.missing then Some MissingData
     else if not layer.fixed.writable then Some ReadOnly
-    else if not (eqb (tag s) layer.fixed.number) then Some Foreign
+    else if not (eqb (g.tag s) layer.fixed.number) then Some Foreign
     else None
+
+-- what a commit is refused with that has spent its mapping
+abbrev pub IsSpending : Fault → Type 0
+IsSpending DamagedTable = ⊤
+IsSpending Counter = ⊤
+IsSpending Memory = ⊤
+IsSpending Storage = ⊤
+IsSpending fault = ⊥
 
 -- why a mapping that is to be committed is given back
 abbrev pub GivenBack : {S : Type 0} → (S → ℕ) → Option S → Layer → Fault → Type 0

@@ -4,6 +4,7 @@ use Rattle.imago_storage.specs.State.{StorageState}
 use Rattle.imago_storage.specs.Passing.{Passes}
 use Rattle.imago_storage.specs.Disk.{Value, byte}
 use Rattle.imago_storage.specs.Steps.{IsIn, IsByte}
+use Rattle.imago_access.specs.declared.seen.Seen.{Ghosts}
 use Rattle.imago_access.specs.Layer.{Layer, Meaning, Cell, Held, inside, through}
 use Rattle.imago_access.specs.Chain.{at}
 use Rattle.imago_access.specs.Changes.{Settles}
@@ -23,13 +24,13 @@ pub record Left (below : List Layer) (entry : Layer) (entry_file : List ℕ) (so
   pub size : least ≤ (entry.fixed.means f).size
   pub shows : (p : ℕ) → p < (entry.fixed.means f).size → p < entry.size → May below entry entry_file gives p (shown below entry.fixed.means f p)
 
--- what a call that isn't a resize keeps at each stop, seen from its own entry: no file is shorter than the disk
-abbrev pub KeepsStops : List Layer → Layer → (ℕ → List ℕ → Type 0) → (ℕ → Value → Type 0) → StorageState → StorageState → Type 0
-KeepsStops below entry sound gives old new = Passes (Left below entry old.bytes sound entry.size gives) old new
+-- what a call keeps at each stop, seen from its own entry, with the least size that it passes through
+abbrev pub KeepsStopsTo : {D St : Type 0} → Ghosts D St → List Layer → ℕ → (ℕ → Value → Type 0) → D → D → Type 0
+KeepsStopsTo g below least gives old new = Passes (Left below (g.layer old) (g.image old).bytes g.sound least gives) (g.image old) (g.image new)
 
--- the same of a resize, with the least size that it passes through
-abbrev pub KeepsStopsTo : List Layer → Layer → (ℕ → List ℕ → Type 0) → ℕ → (ℕ → Value → Type 0) → StorageState → StorageState → Type 0
-KeepsStopsTo below entry sound least gives old new = Passes (Left below entry old.bytes sound least gives) old new
+-- the same of a call that isn't a resize: no file is shorter than the disk
+abbrev pub KeepsStops : {D St : Type 0} → Ghosts D St → List Layer → (ℕ → Value → Type 0) → D → D → Type 0
+KeepsStops g below gives old new = KeepsStopsTo g below (g.layer old).size gives old new
 
 -- no request, and nothing else has changed in the file
 abbrev pub MakesNone : StorageState → StorageState → Type 0

@@ -2,7 +2,7 @@
 ghost use Rattle.std.specs.Prelude.{◌≡◌, ◌⊎◌, true, false, Bool, ℕ, Some, None, Ok, Err, Option, Result, MatchOption, IsOkUnless, IfOk, IfErr, IsTrue};
 ghost use Rattle.imago_storage.specs.Options.{OpenOptions};
 ghost use Rattle.imago_storage.specs.declared.fault.Fault.{Fault};
-ghost use Rattle.imago_access.specs.Building.{options_with};
+ghost use Rattle.imago_access.specs.Building.{options_with, IsOpened};
 ghost use Rattle.imago_access.specs.declared.format.Format.{Format};
 ghost use Rattle.imago_access.specs.declared.format.PreallocateMode.{PreallocateMode};
 ghost use Rattle.imago_access.specs.declared.format.PreallocateMode.TheVariants as mode;
@@ -186,6 +186,9 @@ pub trait FormatDriverBuilder<S: Storage> {
     /// How the files are opened that the image names, where that was said.
     ghost options_of: { Self → Option OpenOptions };
 
+    /// The number that the open image has.
+    ghost number_of: { Self → ℕ };
+
     /// The builder that is for writing, or isn't, and else as it was.
     ghost with_writable: { Self → Bool → Self };
 
@@ -199,22 +202,26 @@ pub trait FormatDriverBuilder<S: Storage> {
     fn new(image: S) -> Self
         ensures image { image_of result ≡ image }
         ensures writable { writable_of result ≡ false }
-        ensures options { options_of result ≡ None };
+        ensures options { options_of result ≡ None }
+        ensures number { number_of result ≡ 0 };
 
     /// Whether also for writing.
     fn write(self, write: bool) -> Self
         ensures made { result ≡ with_writable self write }
         ensures image { image_of result ≡ image_of self }
         ensures writable { writable_of result ≡ write }
-        ensures options { options_of result ≡ options_of self };
+        ensures options { options_of result ≡ options_of self }
+        ensures number { number_of result ≡ number_of self };
 
     /// How the files are opened that the image names.
     fn storage_open_options(self, options: StorageOpenOptions) -> Self
         ensures image { image_of result ≡ image_of self }
         ensures writable { writable_of result ≡ writable_of self }
-        ensures options { options_of result ≡ Some options };
+        ensures options { options_of result ≡ Some options }
+        ensures number { number_of result ≡ number_of self };
 
-    /// Opens the image. The gate decides which of the files may be opened that the image names and that weren't handed in.
+    /// Opens the image. What it shows then is what its files mean by themselves; nothing waits in memory, nothing is prepared, and the
+    /// image file is as it was. Where that is sound and its storage keeps what is written, the image is safe. The gate decides which of the files may be opened that the image names and that weren't handed in.
     ///
     /// It refuses as the format's own builder says, and drops the image file then.
     fn open<G: ImplicitOpenGate<S>>(
@@ -225,6 +232,10 @@ pub trait FormatDriverBuilder<S: Storage> {
         ensures ok { IfOk result (λ d. opens self d) }
         ensures format { IfOk result (λ d. (Self.Format.layer d).fixed.format ≡ FORMAT) }
         ensures writable { IfOk result (λ d. (Self.Format.layer d).fixed.writable ≡ writable_of self) }
+        ensures number { IfOk result (λ d. (Self.Format.layer d).fixed.number ≡ number_of self) }
+        ensures opened { IfOk result (λ d. IsOpened (Self.Format.layer d) (S.state (image_of self)) (Self.Format.image d)) }
+        ensures known { IfOk result (λ d. Self.Format.sees d × Self.Format.still d) }
+        ensures safe { IfOk result (λ d. IsTrue (Self.Format.layer d).fixed.keeps → Self.Format.sound (Self.Format.layer d).fixed.kind (Self.Format.image d).bytes → Self.Format.safe d) }
         ensures err { IfErr result (refuses self) };
 
     /// Whether also for writing.

@@ -6,23 +6,26 @@ ghost use Rattle.imago_storage.specs.Through.{Overflows};
 ghost use Rattle.imago_storage.specs.Disk.{byte};
 ghost use Rattle.imago_access.specs.Layer.{Layer, own, unmapped, loose, IsFree, IsLike, unit_of_layer};
 ghost use Rattle.imago_access.specs.Chain.{at, IsBacked};
-ghost use Rattle.imago_access.specs.Room.{IsApart, IsUncutAt, Reaches, Takes, GivesUp};
-ghost use Rattle.imago_access.specs.Files.{Pairs, IsKept, ImageCause, IsMild, IsWhole, IsAnswered, IsStale, Unasked};
-ghost use Rattle.imago_access.specs.Going.{Looked, LookedUnder, Went};
-ghost use Rattle.imago_access.specs.Mappings.{IsRun, IsMappedRun, Looks};
-ghost use Rattle.imago_access.specs.Refusals.{barrier, change_refusal, LookCause, ReadMappedCause, InvalidateCause};
-ghost use Rattle.imago_access.specs.Changes.{Rewrites, PartRewrites, ToZero, ToAny, ToBelow, Prepared, NotPrepared, Wrote, Committed, Cancelled};
-ghost use Rattle.imago_access.specs.Spending.{claim_of, IsMine, Spends, commit_refusal, GivenBack, IsForeignTo};
-ghost use Rattle.imago_access.specs.Parts.{IsPartOf, IsUncutPart, announces, PartCause, DeclinableCause, PlainCause, IsMappedAt, MappedCause, GrowthCause, ShrinkCause};
+ghost use Rattle.imago_access.specs.Room.{IsApart, IsUncutAt, Takes};
+ghost use Rattle.imago_access.specs.Files.{Pairs, IsKept, ImageCause, IsMild, WasNotCutOff, IsStale, Unasked, files, byte_in};
+ghost use Rattle.imago_access.specs.PartCalls.{IsPart, DoesPart, PartRefused, ensures_zero, discards_to_zero, discards_to_any, discards_to_backing};
+ghost use Rattle.imago_access.specs.Going.{AtOnce, IsUnchanged, Marks, Looked, LookedUnder, Went};
+ghost use Rattle.imago_access.specs.Mappings.{IsRun, IsMappedRun, Looks, NamesRoom};
+ghost use Rattle.imago_access.specs.Refusals.{barrier, own_refusal, HasAlignmentsOf, LookCause, ReadMappedCause, InvalidateCause};
+ghost use Rattle.imago_access.specs.Changes.{Prepared, NotPrepared, asking, Wrote, Committed, Cancelled};
+ghost use Rattle.imago_access.specs.Spending.{run_of, IsMine, Spends, IsSpending, commit_refusal, GivenBack, IsForeignTo};
+ghost use Rattle.imago_access.specs.Parts.{IsPartOf, IsUncutPart, announces, PartCause, PlainCause, IsMappedAt, MappedCause, GrowthCause, ShrinkCause};
 ghost use Rattle.imago_access.specs.Resizes.{fill_of, Grown, NotGrown, Shrunk, NotShrunk};
 ghost use Rattle.imago_access.specs.Stops.{IsMeant, IsCovered, KeepsStops, KeepsStopsTo, MakesNone, GivesNone, GivesBytes, GivesZero, GivesAny, GivesBelow, GivesPast, GivesBelowPast, GivesSettled};
 ghost use Rattle.imago_access.specs.declared.format.PreallocateMode.{PreallocateMode};
 ghost use Rattle.imago_storage.specs.declared.fault.Fault.{Fault};
 ghost use Rattle.imago_storage.specs.declared.fault.Fault.TheVariants.{Barred, Foreign, ReadOnly};
+ghost use Rattle.imago_access.specs.Failing.{Fails, FailsOver};
 
 use crate::below::ReadBelow;
 use crate::format::{Format, PreallocateMode};
 use crate::mapping::{PreparedDataMapping, ShallowMapping};
+use crate::seen::Seen;
 use imago_storage::Fault;
 use std::alloc::Global;
 
@@ -35,88 +38,34 @@ use std::alloc::Global;
 /// Each call but the getters and a cancel refuses with `Fault::Failed` after an earlier fault, and with `Fault::MissingData` where a
 /// file that is needed wasn't handed in; then, where its range is empty, it succeeds and does nothing, but for `read_special`, which never
 /// succeeds.
-pub trait FormatDriverInstance {
+pub trait FormatDriverInstance: Seen {
     /// What its files are.
     type Storage;
 
-    /// What it needs to commit a mapping that it has prepared.
-    type State;
-
-    ghost layer: { Self → Layer };
-
-    /// The image file.
-    ghost image: { Self → StorageState };
-
-    /// The other files.
-    ghost extras: { Self → List StorageState };
-
-    /// The byte at each place of each storage, by the storage's number.
-    ghost stored: { Self → ℕ → ℕ → ℕ };
-
-    /// What it holds in memory is what its files say, so that lookups are true.
-    ghost sees: { Self → Type 0 };
-
-    /// It is as an image that was found sound has to be, so that changes are true and only the causes that are named come.
-    ghost safe: { Self → Type 0 };
-
-    /// Nothing waits in memory to be written, so that looking at it makes no request.
-    ghost still: { Self → Type 0 };
-
-    /// What lasts of it over each call, also over one that want of memory or a storage cut off.
-    ghost lasts: { Self → Type 0 };
-
-    /// Nothing is allocated for a place that the format could give up. Places past the disk's end may count as vacant.
-    ghost vacant: { Self → ℕ → Type 0 };
-
-    /// A place has room of its own, which a write or a zeroing keeps for it. What is allocated and isn't its own, as compressed bytes, is
-    /// neither.
-    ghost has_room: { Self → ℕ → Type 0 };
-
-    /// Neither bytes of a storage nor what can't be read stand for a place, where the format can say of a place that it is 0. Places past the
-    /// disk's end may count as zeroed.
-    ghost zeroed: { Self → ℕ → Type 0 };
-
-    /// Which mapping a state belongs to, and the number of the image that prepared it.
-    ghost claim: { Self.State → ℕ };
-
-    ghost tag: { Self.State → ℕ };
-
-    /// Which files are sound as images of a kind.
-    ghost sound: { ℕ → List ℕ → Type 0 };
-
-    /// From the first moment on, parts of the call have been carried out, and nothing else.
-    ghost began: { Self → Call → Self → Type 0 };
-
-    /// The causes of the driver's own to refuse a call, begun at this moment over these layers below.
-    ghost own_cause: { Self → List Layer → Call → Fault → Type 0 };
-
-    /// The same of a growth to a size in this mode.
-    ghost growth_cause: { Self → List Layer → ℕ → PreallocateMode → Fault → Type 0 };
-
     /// The format.
     fn format(&self) -> Format
-        ensures { result ≡ (layer self.now).fixed.format };
+        ensures { result ≡ (Self.layer self.now).fixed.format };
 
     /// The size of the disk, in bytes.
     fn size(&self) -> u64
-        ensures { result ≡ (layer self.now).size };
+        ensures { result ≡ (Self.layer self.now).size };
 
     /// Whether it was opened for writing.
     fn writable(&self) -> bool
-        ensures { result ≡ (layer self.now).fixed.writable };
+        ensures { result ≡ (Self.layer self.now).fixed.writable };
 
     /// The alignment of the ranges that it can zero by itself, in bytes, if it can.
     fn zero_granularity(&self) -> Option<u64>
-        ensures { result ≡ (layer self.now).fixed.granularity };
+        ensures { result ≡ (Self.layer self.now).fixed.granularity };
 
     /// The greatest request alignment of its storages, in bytes: a power of two of at most 2^20.
     fn req_align(&self) -> usize
-        ensures value { result ≡ (layer self.now).fixed.req_align }
+        ensures value { result ≡ (Self.layer self.now).fixed.req_align }
         ensures alignment { IsAlignment result };
 
     /// The greatest memory alignment of its storages, in bytes: a power of two of at most 2^20.
     fn mem_align(&self) -> usize
-        ensures value { result ≡ (layer self.now).fixed.mem_align }
+        ensures value { result ≡ (Self.layer self.now).fixed.mem_align }
         ensures alignment { IsAlignment result };
 
     /// Whether the image can be used.
@@ -124,12 +73,12 @@ pub trait FormatDriverInstance {
     /// It refuses with `Fault::Failed` after an earlier fault, else with `Fault::MissingData` where a file that is needed wasn't
     /// handed in.
     fn ready(&self) -> Result<(), Fault>
-        ensures ok { OnOk result (barrier (layer self.now) ≡ None) }
-        ensures err { IfErr result (λ e. barrier (layer self.now) ≡ Some e) };
+        ensures ok { OnOk result (barrier (Self.layer self.now) ≡ None) }
+        ensures err { IfErr result (λ e. barrier (Self.layer self.now) ≡ Some e) };
 
     /// Whether a mapping with state is prepared and not yet spent.
     fn prepared(&self) -> bool
-        ensures { result ≡ is_some (layer self.now).unspent };
+        ensures { result ≡ is_some (Self.layer self.now).unspent };
 
     /// One run of places from the offset on, not longer than asked, and where they lie: at or past the size the end, of no length, and
     /// else at least one byte where one is asked for.
@@ -142,15 +91,17 @@ pub trait FormatDriverInstance {
         offset: u64,
         max_length: u64,
     ) -> Result<(ShallowMapping, u64), Fault>
-        ensures run { IfOk result (λ r. IsRun (layer self.old) offset max_length r.0 r.1) }
-        ensures looks { sees self.old → IfOk result (λ r. Looks (layer self.old) (stored self.new) offset max_length r.0 r.1) }
-        ensures idle { max_length ≡ 0 → barrier (layer self.old) ≡ None → IsOk result }
-        ensures barred { (f : Fault) → barrier (layer self.old) ≡ Some f → IsErrOf result f }
-        ensures unasked { (max_length ≡ 0) ⊎ IsSome (barrier (layer self.old)) → Unasked image extras self.old self.new }
-        ensures looked { Looked layer image extras sees safe still lasts sound (IsOk result) (IsWhole result) self.old self.new }
-        ensures began { OnOk result ((d : Self) (call : Call) → began d call self.old → began d call self.new) }
-        ensures failed { IfErr result (ImageCause (image self.old ∷ extras self.old) (image self.new ∷ extras self.new)) }
-        ensures cause { sees self.old → IfErr result (LookCause (layer self.old) offset max_length (image self.old ∷ extras self.old) (image self.new ∷ extras self.new)) };
+        ensures run { IfOk result (λ r. IsRun (Self.layer self.old) offset max_length r.0 r.1) }
+        ensures looks { Self.sees self.old → IfOk result (λ r. Looks (Self.layer self.old) (byte_in (files Self.Seen self.new)) offset max_length r.0 r.1) }
+        ensures room { Self.sees self.old → IfOk result (λ r. NamesRoom (Self.layer self.old) (Self.vacant self.old) (Self.zeroed self.old) offset r.1 r.0) }
+
+        ensures at_once { AtOnce Self.Seen (barrier (Self.layer self.old)) (max_length ≡ 0) result self.old self.new }
+        ensures looked { Looked Self.Seen (WasNotCutOff result) self.old self.new }
+        ensures began { OnOk result ((d : Self) (call : Call) → Self.began d call self.old → Self.began d call self.new) }
+
+        ensures failed { IfErr result (Fails Self.Seen self.old self.new) }
+        ensures marks { IfErr result (Marks Self.Seen self.old self.new) }
+        ensures cause { Self.sees self.old → IfErr result (LookCause (Self.layer self.old) offset max_length (files Self.Seen self.old) (files Self.Seen self.new)) };
 
     /// Fills the buffer with the bytes of a storage from a place on, as a lookup has named them. Past its end it reads zeroes.
     ///
@@ -163,26 +114,23 @@ pub trait FormatDriverInstance {
         place: u64,
         buf: &mut [u8],
     ) -> Result<(), Fault>
-        ensures bytes { OnOk result ((i : ℕ) → i < length buf.old → slice_index buf.new i ≡ stored self.old storage (place + i)) }
-        ensures idle { length buf.old ≡ 0 → barrier (layer self.old) ≡ None → IsOk result }
-        ensures barred { (f : Fault) → barrier (layer self.old) ≡ Some f → IsErrOf result f }
-        ensures unasked { (length buf.old ≡ 0) ⊎ IsSome (barrier (layer self.old)) → Unasked image extras self.old self.new }
-        ensures looked { Looked layer image extras sees safe still lasts sound (IsOk result) (IsWhole result) self.old self.new }
-        ensures began { OnOk result ((d : Self) (call : Call) → began d call self.old → began d call self.new) }
-        ensures none { MakesNone (image self.old) (image self.new) }
-        ensures cause { IfErr result (ReadMappedCause (layer self.old) place (length buf.old) (image self.old ∷ extras self.old) (image self.new ∷ extras self.new)) };
+        ensures bytes { OnOk result ((i : ℕ) → i < length buf.old → slice_index buf.new i ≡ byte_in (files Self.Seen self.old) storage (place + i)) }
+
+        ensures at_once { AtOnce Self.Seen (barrier (Self.layer self.old)) (length buf.old ≡ 0) result self.old self.new }
+        ensures looked { Looked Self.Seen (WasNotCutOff result) self.old self.new }
+        ensures began { OnOk result ((d : Self) (call : Call) → Self.began d call self.old → Self.began d call self.new) }
+        ensures none { MakesNone (Self.image self.old) (Self.image self.new) }
+
+        ensures marks { IfErr result (Marks Self.Seen self.old self.new) }
+        ensures cause { IfErr result (ReadMappedCause (Self.layer self.old) place (length buf.old) (files Self.Seen self.old) (files Self.Seen self.new)) };
 
     /// A read of places that can't be read as bytes of a storage: `Fault::Barred`, where the image can be used. It leaves all as it was,
     /// and the buffer too.
     fn read_special(&mut self, buf: &mut [u8], offset: u64) -> Result<(), Fault>
-        ensures err { IfErr result (λ e. (barrier (layer self.old) ≡ Some e) ⊎ (e ≡ Barred)) }
         ensures refused { IsErr result }
-        ensures barred { (f : Fault) → barrier (layer self.old) ≡ Some f → IsErrOf result f }
-        ensures same { (layer self.new ≡ layer self.old) × (image self.new ≡ image self.old) × (extras self.new ≡ extras self.old) }
-        ensures sees { sees self.old → sees self.new }
-        ensures safe { safe self.old → safe self.new }
-        ensures still { still self.old → still self.new }
-        ensures lasts { lasts self.old → lasts self.new };
+        ensures err { IfErr result (λ e. (barrier (Self.layer self.old) ≡ Some e) ⊎ (e ≡ Barred)) }
+        ensures barred { (f : Fault) → barrier (Self.layer self.old) ≡ Some f → IsErrOf result f }
+        ensures unchanged { IsUnchanged Self.Seen self.old self.new };
 
     /// Maps a run from the offset on so that it can be written: at least one byte, and not more than asked. What the run shows is copied
     /// to its new place first, and what is written there is part of the disk once the mapping is committed. With `overwrite` all of the
@@ -200,28 +148,29 @@ pub trait FormatDriverInstance {
         length: u64,
         overwrite: bool,
     ) -> Result<PreparedDataMapping<Self::State>, Fault>
-        requires free { IsFree (layer self.old) }
-        ensures run { IfOk result (λ m. IsMappedRun (layer self.old) offset length m.length) }
-        ensures ok { IsTrue (layer self.old).fixed.keeps → safe self.old → B.sees_under below.old → IfOk result (λ m. Prepared (at (B.under below.old)) (layer self.old) (layer self.new) offset length overwrite m.storage m.offset m.length (claim_of claim m.state)) }
-        ensures fits { IfOk result (λ m. m.offset + m.length < 2 ^ 64) }
-        ensures uncut { IsTrue (layer self.old).fixed.keeps → safe self.old → B.sees_under below.old → IfOk result (λ m. IsUncutAt (layer self.old).fixed.unit (layer self.old).size offset length (offset + m.length)) }
-        ensures mine { IfOk result (λ m. IsMine claim tag m.state (layer self.new)) }
-        ensures stateless { IfOk result (λ m. m.state ≡ None → IsFree (layer self.new)) }
-        ensures empty { length ≡ 0 → IfOk result (λ m. (m ≡ record { storage = 0; offset = 0; length = 0; state = None }) × (layer self.new ≡ layer self.old)) }
-        ensures err { IsTrue (layer self.old).fixed.keeps → safe self.old → B.sees_under below.old → IfErr result (λ e. IsMild e → NotPrepared (layer self.old) (layer self.new)) }
-        ensures at_once { (f : Fault) → change_refusal (unit_of_layer (layer self.old)) (layer self.old) offset length ≡ Some f → IsErrOf result f }
-        ensures idle { length ≡ 0 → barrier (layer self.old) ≡ None → IsOk result }
-        ensures unasked { (length ≡ 0) ⊎ IsSome (change_refusal (unit_of_layer (layer self.old)) (layer self.old) offset length) → Unasked image extras self.old self.new × (below.new ≡ below.old) }
-        ensures size { (layer self.new).size ≡ (layer self.old).size }
-        ensures free { IsErr result → IsFree (layer self.new) }
-        ensures room { IsTrue (layer self.old).fixed.keeps → safe self.old → B.sees_under below.old → IsWhole result → Takes vacant has_room zeroed (λ _. ⊤) self.old self.new }
-        ensures near { IsTrue (layer self.old).fixed.keeps → safe self.old → B.sees_under below.old → OnOk result ((p : ℕ) → IsApart (layer self.old).fixed.unit offset length p → (layer self.new).held p ≡ loose) }
-        ensures went { Went layer image extras safe lasts (IsOk result) (IsWhole result × B.sees_under below.old) self.old self.new }
-        ensures began { (d : Self) (call : Call) → began d call self.old → IsPartOf call offset length → IsWhole result → began d call self.new }
-        ensures stops { IsTrue (layer self.old).fixed.keeps → safe self.old → B.sees_under below.old → KeepsStops (B.under below.old) (layer self.old) sound GivesNone (image self.old) (image self.new) }
-        ensures below { LookedUnder B.under B.files_under B.sees_under B.safe_under B.still_under B.lasts_under (IsOk result) (IsWhole result) below.old below.new }
-        ensures failed { IfErr result (ImageCause (image self.old ∷ extras self.old ++ B.files_under below.old) (image self.new ∷ extras self.new ++ B.files_under below.new)) }
-        ensures cause { safe self.old → B.sees_under below.old → (d : Self) (call : Call) → began d call self.old → IsUncutPart (layer self.old) call offset length → overwrite ≡ announces call → IfErr result (PartCause (B.under below.old) (layer self.old) offset length (own_cause d (B.under below.old) call) (image self.old ∷ extras self.old ++ B.files_under below.old) (image self.new ∷ extras self.new ++ B.files_under below.new)) };
+        requires free { IsFree (Self.layer self.old) }
+
+        ensures run { IfOk result (λ m. IsMappedRun (Self.layer self.old) offset length m.length × (m.offset + m.length < 2 ^ 64)) }
+        ensures mine { IfOk result (λ m. IsMine Self.Seen m.state (Self.layer self.new) × (m.state ≡ None → IsFree (Self.layer self.new))) }
+        ensures empty { length ≡ 0 → IfOk result (λ m. (m ≡ record { storage = 0; offset = 0; length = 0; state = None }) × (Self.layer self.new ≡ Self.layer self.old)) }
+        ensures size { (Self.layer self.new).size ≡ (Self.layer self.old).size }
+        ensures free { IsErr result → IsFree (Self.layer self.new) }
+
+        ensures ok { Self.safe self.old → B.sees_under below.old → IfOk result (λ m. Prepared (at (B.under below.old)) (Self.layer self.old) (Self.layer self.new) (asking offset length overwrite) (run_of Self.Seen m)) }
+        ensures err { Self.safe self.old → B.sees_under below.old → IfErr result (λ e. IsMild e → NotPrepared (Self.layer self.old) (Self.layer self.new)) }
+        ensures uncut { Self.safe self.old → B.sees_under below.old → IfOk result (λ m. IsUncutAt (Self.layer self.old).fixed.unit (Self.layer self.old).size offset length (offset + m.length)) }
+        ensures near { Self.safe self.old → B.sees_under below.old → OnOk result ((p : ℕ) → IsApart (Self.layer self.old).fixed.unit offset length p → (Self.layer self.new).held p ≡ loose) }
+        ensures room { Self.safe self.old → B.sees_under below.old → WasNotCutOff result → Takes Self.Seen (λ _. ⊤) self.old self.new }
+        ensures stops { Self.safe self.old → B.sees_under below.old → KeepsStops Self.Seen (B.under below.old) GivesNone self.old self.new }
+
+        ensures at_once { AtOnce Self.Seen (own_refusal (Self.layer self.old) offset length) (length ≡ 0) result self.old self.new }
+        ensures unread { (length ≡ 0) ⊎ IsSome (own_refusal (Self.layer self.old) offset length) → below.new ≡ below.old }
+        ensures went { Went Self.Seen (WasNotCutOff result) (WasNotCutOff result × B.sees_under below.old) self.old self.new }
+        ensures began { (d : Self) (call : Call) → Self.began d call self.old → IsPartOf call offset length → WasNotCutOff result → Self.began d call self.new }
+        ensures below { LookedUnder B.SeenBelow (WasNotCutOff result) below.old below.new }
+
+        ensures failed { IfErr result (FailsOver Self.Seen B.SeenBelow (self.old, below.old) (self.new, below.new)) }
+        ensures cause { Self.safe self.old → B.sees_under below.old → (d : Self) (call : Call) → Self.began d call self.old → IsUncutPart (Self.layer self.old) call offset length → overwrite ≡ announces call → IfErr result (PartCause (B.under below.old) (Self.layer self.old) offset length (Self.own_cause d (B.under below.old) call) (files Self.Seen self.old ++ B.files_under below.old) (files Self.Seen self.new ++ B.files_under below.new)) };
 
     /// Makes a prepared mapping part of the disk. One without state takes no memory and succeeds.
     ///
@@ -232,18 +181,20 @@ pub trait FormatDriverInstance {
         alloc: Global,
         mapping: PreparedDataMapping<Self::State>,
     ) -> Result<(), (Fault, Option<PreparedDataMapping<Self::State>>)>
-        ensures ok { OnOk result (Spends claim tag mapping.state (layer self.old) (layer self.new) (IsFree (layer self.new) × (IsTrue (layer self.old).fixed.keeps → safe self.old → Committed (layer self.old) (layer self.new)))) }
-        ensures went { Went layer image extras safe lasts (IsOk result) (IsOk result × IsMine claim tag mapping.state (layer self.old)) self.old self.new }
-        ensures back { IfErr result (λ e. IfSome e.1 (λ m. (m ≡ mapping) × (layer self.new ≡ layer self.old) × GivenBack tag mapping.state (layer self.old) e.0 × (safe self.old → safe self.new) × (sees self.old → sees self.new) × (still self.old → still self.new))) }
-        ensures at_once { (f : Fault) → commit_refusal tag mapping.state (layer self.old) ≡ Some f → MatchResult result (λ _. ⊥) (λ e. (e.0 ≡ f) × IsSome e.1) }
-        ensures unasked { (mapping.state ≡ None) ⊎ IsSome (commit_refusal tag mapping.state (layer self.old)) → Unasked image extras self.old self.new }
-        ensures spent { IfErr result (λ e. e.1 ≡ None → IsSome mapping.state × IsTrue (layer self.new).failed × Spends claim tag mapping.state (layer self.old) (layer self.new) (IsFree (layer self.new) × (safe self.old → IsMild e.0 → ⊥))) }
-        ensures size { (layer self.new).size ≡ (layer self.old).size }
-        ensures room { IsTrue (layer self.old).fixed.keeps → safe self.old → IsMine claim tag mapping.state (layer self.old) → OnOk result (Takes vacant has_room zeroed (λ p. (layer self.old).held p ≡ loose) self.old self.new) }
-        ensures back_room { IsTrue (layer self.old).fixed.keeps → safe self.old → IfErr result (λ e. IfSome e.1 (λ m. Takes vacant has_room zeroed (λ _. ⊤) self.old self.new)) }
-        ensures began { (d : Self) (call : Call) → began d call self.old → IsMine claim tag mapping.state (layer self.old) → OnOk result (began d call self.new) }
-        ensures stops { IsTrue (layer self.old).fixed.keeps → safe self.old → IsMine claim tag mapping.state (layer self.old) → (below : List Layer) → KeepsStops below (layer self.old) sound (GivesSettled below (layer self.old)) (image self.old) (image self.new) }
-        ensures failed { IfErr result (λ e. ImageCause (image self.old ∷ extras self.old) (image self.new ∷ extras self.new) e.0) };
+        ensures ok { OnOk result (Spends Self.Seen mapping.state (Self.layer self.old) (Self.layer self.new) (IsFree (Self.layer self.new) × (Self.safe self.old → Committed (Self.layer self.old) (Self.layer self.new)))) }
+        ensures size { (Self.layer self.new).size ≡ (Self.layer self.old).size }
+        ensures room { Self.safe self.old → IsMine Self.Seen mapping.state (Self.layer self.old) → OnOk result (Takes Self.Seen (λ p. (Self.layer self.old).held p ≡ loose) self.old self.new) }
+        ensures stops { Self.safe self.old → IsMine Self.Seen mapping.state (Self.layer self.old) → (below : List Layer) → KeepsStops Self.Seen below (GivesSettled below (Self.layer self.old)) self.old self.new }
+
+        ensures at_once { (f : Fault) → commit_refusal Self.Seen mapping.state (Self.layer self.old) ≡ Some f → MatchResult result (λ _. ⊥) (λ e. (e.0 ≡ f) × IsSome e.1) }
+        ensures unasked { (mapping.state ≡ None) ⊎ IsSome (commit_refusal Self.Seen mapping.state (Self.layer self.old)) → Unasked Self.Seen self.old self.new }
+        ensures back { IfErr result (λ e. IfSome e.1 (λ m. (m ≡ mapping) × GivenBack Self.tag mapping.state (Self.layer self.old) e.0 × IsUnchanged Self.Seen self.old self.new)) }
+        ensures spent { IfErr result (λ e. e.1 ≡ None → IsSome mapping.state × IsTrue (Self.layer self.new).failed × IsSpending e.0 × Spends Self.Seen mapping.state (Self.layer self.old) (Self.layer self.new) (IsFree (Self.layer self.new) × (Self.safe self.old → IsMild e.0 → ⊥))) }
+
+        ensures went { Went Self.Seen (MatchResult result (λ _. ⊤) (λ e. IsMild e.0)) (IsOk result × IsMine Self.Seen mapping.state (Self.layer self.old)) self.old self.new }
+        ensures sees { mapping.state ≡ None → Self.sees self.old → Self.sees self.new }
+        ensures began { (d : Self) (call : Call) → Self.began d call self.old → IsMine Self.Seen mapping.state (Self.layer self.old) → OnOk result (Self.began d call self.new) }
+        ensures failed { IfErr result (λ e. Fails Self.Seen self.old self.new e.0) };
 
     /// Gives a prepared mapping up: the disk is as it was before. It makes no request and takes no memory, also where the image has failed.
     ///
@@ -252,15 +203,16 @@ pub trait FormatDriverInstance {
         &mut self,
         mapping: PreparedDataMapping<Self::State>,
     ) -> Result<(), (Fault, PreparedDataMapping<Self::State>)>
-        ensures ok { OnOk result (Spends claim tag mapping.state (layer self.old) (layer self.new) (Cancelled (layer self.old) (layer self.new))) }
-        ensures safe { IsMine claim tag mapping.state (layer self.old) → safe self.old → safe self.new }
-        ensures room { IsTrue (layer self.old).fixed.keeps → safe self.old → IsMine claim tag mapping.state (layer self.old) → Takes vacant has_room zeroed (λ _. ⊤) self.old self.new }
-        ensures lasts { lasts self.old → lasts self.new }
-        ensures back { IfErr result (λ e. (e.1 ≡ mapping) × (e.0 ≡ Foreign) × (layer self.new ≡ layer self.old) × IsForeignTo tag mapping.state (layer self.old) × (safe self.old → safe self.new) × (sees self.old → sees self.new) × (still self.old → still self.new)) }
-        ensures back_room { IsTrue (layer self.old).fixed.keeps → safe self.old → IsErr result → Takes vacant has_room zeroed (λ _. ⊤) self.old self.new }
-        ensures fixed { ((layer self.new).fixed ≡ (layer self.old).fixed) × ((layer self.new).size ≡ (layer self.old).size) × ((layer self.new).failed ≡ (layer self.old).failed) }
-        ensures began { (d : Self) (call : Call) → began d call self.old → began d call self.new }
-        ensures none { (image self.new ≡ image self.old) × (extras self.new ≡ extras self.old) };
+        ensures ok { OnOk result (Spends Self.Seen mapping.state (Self.layer self.old) (Self.layer self.new) (Cancelled (Self.layer self.old) (Self.layer self.new))) }
+        ensures back { IfErr result (λ e. (e.1 ≡ mapping) × (e.0 ≡ Foreign) × IsForeignTo Self.tag mapping.state (Self.layer self.old) × IsUnchanged Self.Seen self.old self.new) }
+
+        ensures fixed { ((Self.layer self.new).fixed ≡ (Self.layer self.old).fixed) × ((Self.layer self.new).size ≡ (Self.layer self.old).size) × ((Self.layer self.new).failed ≡ (Self.layer self.old).failed) }
+        ensures none { Unasked Self.Seen self.old self.new }
+        ensures lasts { Self.lasts self.old → Self.lasts self.new }
+        ensures sees { Self.sees self.old → Self.sees self.new }
+        ensures safe { IsMine Self.Seen mapping.state (Self.layer self.old) → Self.safe self.old → Self.safe self.new }
+        ensures room { Self.safe self.old → IsMine Self.Seen mapping.state (Self.layer self.old) → Takes Self.Seen (λ _. ⊤) self.old self.new }
+        ensures began { (d : Self) (call : Call) → Self.began d call self.old → Self.began d call self.new };
 
     /// Writes bytes to a range that is mapped and can be written from a place of its storage on: by the image, or by its unspent
     /// mapping, to which they are noted.
@@ -274,20 +226,22 @@ pub trait FormatDriverInstance {
         place: u64,
         bytes: &[u8],
     ) -> Result<(), Fault>
-        ensures ok { IsTrue (layer self.old).fixed.keeps → safe self.old → OnOk result (Wrote (layer self.old) (layer self.new) guest bytes.now) }
-        ensures mapped { OnOk result (0 < length bytes.now → IsMappedAt (layer self.old) guest place (length bytes.now)) }
-        ensures err { IsTrue (layer self.old).fixed.keeps → safe self.old → IfErr result (λ e. IsMild e → layer self.new ≡ layer self.old) }
-        ensures at_once { (f : Fault) → change_refusal (unit_of_layer (layer self.old)) (layer self.old) guest (length bytes.now) ≡ Some f → IsErrOf result f }
-        ensures idle { length bytes.now ≡ 0 → barrier (layer self.old) ≡ None → IsOk result }
-        ensures unasked { (length bytes.now ≡ 0) ⊎ IsSome (change_refusal (unit_of_layer (layer self.old)) (layer self.old) guest (length bytes.now)) → Unasked image extras self.old self.new }
-        ensures empty { length bytes.now ≡ 0 → layer self.new ≡ layer self.old }
-        ensures like { IsLike (layer self.old) (layer self.new) }
-        ensures room { IsTrue (layer self.old).fixed.keeps → safe self.old → IsWhole result → Takes vacant has_room zeroed (λ _. ⊤) self.old self.new }
-        ensures went { Went layer image extras safe lasts (IsOk result) (IsWhole result) self.old self.new }
-        ensures began { (d : Self) (call : Call) → began d call self.old → OnOk result (began d call self.new) }
-        ensures stops { IsTrue (layer self.old).fixed.keeps → safe self.old → (below : List Layer) → KeepsStops below (layer self.old) sound (GivesBytes guest bytes.now) (image self.old) (image self.new) }
-        ensures failed { IfErr result (ImageCause (image self.old ∷ extras self.old) (image self.new ∷ extras self.new)) }
-        ensures cause { safe self.old → IfErr result (MappedCause (layer self.old) guest place (length bytes.now) (image self.old ∷ extras self.old) (image self.new ∷ extras self.new)) };
+        ensures mapped { Self.sees self.old → OnOk result (0 < length bytes.now → IsMappedAt (Self.layer self.old) guest place (length bytes.now)) }
+        ensures empty { length bytes.now ≡ 0 → Self.layer self.new ≡ Self.layer self.old }
+        ensures like { IsLike (Self.layer self.old) (Self.layer self.new) }
+
+        ensures ok { Self.safe self.old → OnOk result (Wrote (Self.layer self.old) (Self.layer self.new) guest bytes.now) }
+        ensures err { Self.safe self.old → IfErr result (λ e. IsMild e → Self.layer self.new ≡ Self.layer self.old) }
+        ensures room { Self.safe self.old → WasNotCutOff result → Takes Self.Seen (λ _. ⊤) self.old self.new }
+        ensures stops { Self.safe self.old → (below : List Layer) → KeepsStops Self.Seen below (GivesBytes guest bytes.now) self.old self.new }
+
+        ensures at_once { AtOnce Self.Seen (own_refusal (Self.layer self.old) guest (length bytes.now)) (length bytes.now ≡ 0) result self.old self.new }
+        ensures went { Went Self.Seen (WasNotCutOff result) (WasNotCutOff result) self.old self.new }
+        ensures began { (d : Self) (call : Call) → Self.began d call self.old → OnOk result (Self.began d call self.new) }
+
+        ensures failed { IfErr result (Fails Self.Seen self.old self.new) }
+        ensures marks { IfErr result (Marks Self.Seen self.old self.new) }
+        ensures cause { Self.safe self.old → IfErr result (MappedCause (Self.layer self.old) guest place (length bytes.now) (files Self.Seen self.old) (files Self.Seen self.new)) };
 
     /// Makes a part of the range read as 0 and keeps what is allocated for it. Nothing may be prepared.
     ///
@@ -302,23 +256,11 @@ pub trait FormatDriverInstance {
         offset: u64,
         length: u64,
     ) -> Result<(u64, u64), Fault>
-        requires free { IsFree (layer self.old) }
-        ensures part { IfOk result (λ r. (offset ≤ r.0) × ((r.1 ≡ 0) ⊎ (r.0 + r.1 ≤ offset + length))) }
-        ensures empty { length ≡ 0 → IfOk result (λ r. r ≡ (offset, 0)) }
-        ensures ok { IsTrue (layer self.old).fixed.keeps → safe self.old → IfOk result (λ r. Rewrites ToZero (layer self.old) (layer self.new) r.0 r.1) }
-        ensures err { IsTrue (layer self.old).fixed.keeps → safe self.old → IfErr result (λ e. IsMild e → PartRewrites ToZero (layer self.old) (layer self.new) offset length) }
-        ensures at_once { (f : Fault) → change_refusal (unit_of_layer (layer self.old)) (layer self.old) offset length ≡ Some f → IsErrOf result f }
-        ensures idle { length ≡ 0 → barrier (layer self.old) ≡ None → IsOk result }
-        ensures unasked { (length ≡ 0) ⊎ IsSome (change_refusal (unit_of_layer (layer self.old)) (layer self.old) offset length) → Unasked image extras self.old self.new }
-        ensures like { IsLike (layer self.old) (layer self.new) }
-        ensures room { IsTrue (layer self.old).fixed.keeps → safe self.old → IsWhole result → Takes vacant has_room zeroed (IsOut offset length) self.old self.new }
-        ensures given { IsTrue (layer self.old).fixed.keeps → safe self.old → IfOk result (λ r. (p : ℕ) → IsIn r.0 r.1 p → zeroed self.new p) }
-        ensures reach { IsTrue (layer self.old).fixed.keeps → safe self.old → IfOk result (λ r. Reaches (layer self.old).fixed.unit (layer self.old).size offset length r.0 r.1) }
-        ensures went { Went layer image extras safe lasts (IsAnswered result) (IsWhole result) self.old self.new }
-        ensures began { (d : Self) (call : Call) → began d call self.old → IsPartOf call offset length → IsWhole result → began d call self.new }
-        ensures stops { IsTrue (layer self.old).fixed.keeps → safe self.old → (below : List Layer) → KeepsStops below (layer self.old) sound (GivesZero offset length) (image self.old) (image self.new) }
-        ensures failed { IfErr result (ImageCause (image self.old ∷ extras self.old) (image self.new ∷ extras self.new)) }
-        ensures cause { safe self.old → (below : List Layer) (d : Self) (call : Call) → began d call self.old → IsPartOf call offset length → IfErr result (DeclinableCause below (layer self.old) offset length (own_cause d below call) (image self.old ∷ extras self.old) (image self.new ∷ extras self.new)) };
+        requires free { IsFree (Self.layer self.old) }
+        ensures part { IfOk result (IsPart offset length) }
+        ensures does { DoesPart ensures_zero Self.Seen offset length result self.old self.new }
+        ensures at_once { AtOnce Self.Seen (own_refusal (Self.layer self.old) offset length) (length ≡ 0) result self.old self.new }
+        ensures refused { PartRefused Self.Seen offset length result self.old self.new };
 
     /// Makes a part of the range read as 0 and gives up what is allocated for it. Nothing may be prepared.
     ///
@@ -333,23 +275,11 @@ pub trait FormatDriverInstance {
         offset: u64,
         length: u64,
     ) -> Result<(u64, u64), Fault>
-        requires free { IsFree (layer self.old) }
-        ensures part { IfOk result (λ r. (offset ≤ r.0) × ((r.1 ≡ 0) ⊎ (r.0 + r.1 ≤ offset + length))) }
-        ensures empty { length ≡ 0 → IfOk result (λ r. r ≡ (offset, 0)) }
-        ensures ok { IsTrue (layer self.old).fixed.keeps → safe self.old → IfOk result (λ r. Rewrites ToZero (layer self.old) (layer self.new) r.0 r.1) }
-        ensures err { IsTrue (layer self.old).fixed.keeps → safe self.old → IfErr result (λ e. IsMild e → PartRewrites ToZero (layer self.old) (layer self.new) offset length) }
-        ensures at_once { (f : Fault) → change_refusal (unit_of_layer (layer self.old)) (layer self.old) offset length ≡ Some f → IsErrOf result f }
-        ensures idle { length ≡ 0 → barrier (layer self.old) ≡ None → IsOk result }
-        ensures unasked { (length ≡ 0) ⊎ IsSome (change_refusal (unit_of_layer (layer self.old)) (layer self.old) offset length) → Unasked image extras self.old self.new }
-        ensures like { IsLike (layer self.old) (layer self.new) }
-        ensures room { IsTrue (layer self.old).fixed.keeps → safe self.old → IsWhole result → GivesUp vacant has_room zeroed offset length self.old self.new }
-        ensures given { IsTrue (layer self.old).fixed.keeps → safe self.old → IfOk result (λ r. (p : ℕ) → IsIn r.0 r.1 p → vacant self.new p) }
-        ensures reach { IsTrue (layer self.old).fixed.keeps → safe self.old → IfOk result (λ r. Reaches (layer self.old).fixed.unit (layer self.old).size offset length r.0 r.1) }
-        ensures went { Went layer image extras safe lasts (IsAnswered result) (IsWhole result) self.old self.new }
-        ensures began { (d : Self) (call : Call) → began d call self.old → IsPartOf call offset length → IsWhole result → began d call self.new }
-        ensures stops { IsTrue (layer self.old).fixed.keeps → safe self.old → (below : List Layer) → KeepsStops below (layer self.old) sound (GivesZero offset length) (image self.old) (image self.new) }
-        ensures failed { IfErr result (ImageCause (image self.old ∷ extras self.old) (image self.new ∷ extras self.new)) }
-        ensures cause { safe self.old → (below : List Layer) (d : Self) (call : Call) → began d call self.old → IsPartOf call offset length → IfErr result (DeclinableCause below (layer self.old) offset length (own_cause d below call) (image self.old ∷ extras self.old) (image self.new ∷ extras self.new)) };
+        requires free { IsFree (Self.layer self.old) }
+        ensures part { IfOk result (IsPart offset length) }
+        ensures does { DoesPart discards_to_zero Self.Seen offset length result self.old self.new }
+        ensures at_once { AtOnce Self.Seen (own_refusal (Self.layer self.old) offset length) (length ≡ 0) result self.old self.new }
+        ensures refused { PartRefused Self.Seen offset length result self.old self.new };
 
     /// Gives up a part of the range, whose bytes may then be any. Nothing may be prepared.
     ///
@@ -364,23 +294,11 @@ pub trait FormatDriverInstance {
         offset: u64,
         length: u64,
     ) -> Result<(u64, u64), Fault>
-        requires free { IsFree (layer self.old) }
-        ensures part { IfOk result (λ r. (offset ≤ r.0) × ((r.1 ≡ 0) ⊎ (r.0 + r.1 ≤ offset + length))) }
-        ensures empty { length ≡ 0 → IfOk result (λ r. r ≡ (offset, 0)) }
-        ensures ok { IsTrue (layer self.old).fixed.keeps → safe self.old → IfOk result (λ r. Rewrites ToAny (layer self.old) (layer self.new) r.0 r.1) }
-        ensures err { IsTrue (layer self.old).fixed.keeps → safe self.old → IfErr result (λ e. IsMild e → PartRewrites ToAny (layer self.old) (layer self.new) offset length) }
-        ensures at_once { (f : Fault) → change_refusal (unit_of_layer (layer self.old)) (layer self.old) offset length ≡ Some f → IsErrOf result f }
-        ensures idle { length ≡ 0 → barrier (layer self.old) ≡ None → IsOk result }
-        ensures unasked { (length ≡ 0) ⊎ IsSome (change_refusal (unit_of_layer (layer self.old)) (layer self.old) offset length) → Unasked image extras self.old self.new }
-        ensures like { IsLike (layer self.old) (layer self.new) }
-        ensures room { IsTrue (layer self.old).fixed.keeps → safe self.old → IsWhole result → GivesUp vacant has_room zeroed offset length self.old self.new }
-        ensures given { IsTrue (layer self.old).fixed.keeps → safe self.old → IfOk result (λ r. (p : ℕ) → IsIn r.0 r.1 p → vacant self.new p) }
-        ensures reach { IsTrue (layer self.old).fixed.keeps → safe self.old → IfOk result (λ r. Reaches (layer self.old).fixed.unit (layer self.old).size offset length r.0 r.1) }
-        ensures went { Went layer image extras safe lasts (IsAnswered result) (IsWhole result) self.old self.new }
-        ensures began { (d : Self) (call : Call) → began d call self.old → IsPartOf call offset length → IsWhole result → began d call self.new }
-        ensures stops { IsTrue (layer self.old).fixed.keeps → safe self.old → (below : List Layer) → KeepsStops below (layer self.old) sound (GivesAny offset length) (image self.old) (image self.new) }
-        ensures failed { IfErr result (ImageCause (image self.old ∷ extras self.old) (image self.new ∷ extras self.new)) }
-        ensures cause { safe self.old → (below : List Layer) (d : Self) (call : Call) → began d call self.old → IsPartOf call offset length → IfErr result (DeclinableCause below (layer self.old) offset length (own_cause d below call) (image self.old ∷ extras self.old) (image self.new ∷ extras self.new)) };
+        requires free { IsFree (Self.layer self.old) }
+        ensures part { IfOk result (IsPart offset length) }
+        ensures does { DoesPart discards_to_any Self.Seen offset length result self.old self.new }
+        ensures at_once { AtOnce Self.Seen (own_refusal (Self.layer self.old) offset length) (length ≡ 0) result self.old self.new }
+        ensures refused { PartRefused Self.Seen offset length result self.old self.new };
 
     /// Gives up a part of the range to the layer below. Nothing may be prepared.
     ///
@@ -395,52 +313,45 @@ pub trait FormatDriverInstance {
         offset: u64,
         length: u64,
     ) -> Result<(u64, u64), Fault>
-        requires free { IsFree (layer self.old) }
-        ensures part { IfOk result (λ r. (offset ≤ r.0) × ((r.1 ≡ 0) ⊎ (r.0 + r.1 ≤ offset + length))) }
-        ensures empty { length ≡ 0 → IfOk result (λ r. r ≡ (offset, 0)) }
-        ensures ok { IsTrue (layer self.old).fixed.keeps → safe self.old → IfOk result (λ r. Rewrites (ToBelow (layer self.old).fixed.blank) (layer self.old) (layer self.new) r.0 r.1) }
-        ensures err { IsTrue (layer self.old).fixed.keeps → safe self.old → IfErr result (λ e. IsMild e → PartRewrites (ToBelow (layer self.old).fixed.blank) (layer self.old) (layer self.new) offset length) }
-        ensures at_once { (f : Fault) → change_refusal (unit_of_layer (layer self.old)) (layer self.old) offset length ≡ Some f → IsErrOf result f }
-        ensures idle { length ≡ 0 → barrier (layer self.old) ≡ None → IsOk result }
-        ensures unasked { (length ≡ 0) ⊎ IsSome (change_refusal (unit_of_layer (layer self.old)) (layer self.old) offset length) → Unasked image extras self.old self.new }
-        ensures like { IsLike (layer self.old) (layer self.new) }
-        ensures room { IsTrue (layer self.old).fixed.keeps → safe self.old → IsWhole result → GivesUp vacant has_room zeroed offset length self.old self.new }
-        ensures given { IsTrue (layer self.old).fixed.keeps → safe self.old → IfOk result (λ r. (p : ℕ) → IsIn r.0 r.1 p → vacant self.new p) }
-        ensures reach { IsTrue (layer self.old).fixed.keeps → safe self.old → IfOk result (λ r. Reaches (layer self.old).fixed.unit (layer self.old).size offset length r.0 r.1) }
-        ensures went { Went layer image extras safe lasts (IsAnswered result) (IsWhole result) self.old self.new }
-        ensures began { (d : Self) (call : Call) → began d call self.old → IsPartOf call offset length → IsWhole result → began d call self.new }
-        ensures stops { IsTrue (layer self.old).fixed.keeps → safe self.old → (below : List Layer) → IsBacked below (layer self.old) → KeepsStops below (layer self.old) sound (GivesBelow below offset length) (image self.old) (image self.new) }
-        ensures failed { IfErr result (ImageCause (image self.old ∷ extras self.old) (image self.new ∷ extras self.new)) }
-        ensures cause { safe self.old → (below : List Layer) (d : Self) (call : Call) → began d call self.old → IsPartOf call offset length → IfErr result (DeclinableCause below (layer self.old) offset length (own_cause d below call) (image self.old ∷ extras self.old) (image self.new ∷ extras self.new)) };
+        requires free { IsFree (Self.layer self.old) }
+        ensures part { IfOk result (IsPart offset length) }
+        ensures does { DoesPart discards_to_backing Self.Seen offset length result self.old self.new }
+        ensures at_once { AtOnce Self.Seen (own_refusal (Self.layer self.old) offset length) (length ≡ 0) result self.old self.new }
+        ensures refused { PartRefused Self.Seen offset length result self.old self.new };
 
     /// Hands all that waits in memory to its files, and flushes these: while nothing is prepared, the files alone then mean the disk.
     ///
     /// It refuses with `Fault::Memory` and `Fault::Storage`.
     fn flush(&mut self, alloc: Global) -> Result<(), Fault>
-        ensures same { IsTrue (layer self.old).fixed.keeps → safe self.old → OnOk result (layer self.new ≡ layer self.old) }
-        ensures still { OnOk result (still self.new) }
-        ensures written { IsTrue (layer self.old).fixed.keeps → safe self.old → IsFree (layer self.old) → OnOk result (IsMeant (layer self.new) (image self.new).bytes) }
-        ensures barred { (f : Fault) → barrier (layer self.old) ≡ Some f → IsErrOf result f }
-        ensures unasked { IsSome (barrier (layer self.old)) → Unasked image extras self.old self.new }
-        ensures like { IsLike (layer self.old) (layer self.new) }
-        ensures went { Went layer image extras safe lasts (IsOk result) (IsWhole result) self.old self.new }
-        ensures stops { IsTrue (layer self.old).fixed.keeps → safe self.old → (below : List Layer) → KeepsStops below (layer self.old) sound (GivesNone) (image self.old) (image self.new) }
-        ensures failed { IfErr result (ImageCause (image self.old ∷ extras self.old) (image self.new ∷ extras self.new)) }
-        ensures cause { safe self.old → IfErr result (PlainCause (layer self.old) (image self.old ∷ extras self.old) (image self.new ∷ extras self.new)) };
+        ensures same { Self.safe self.old → OnOk result (Self.layer self.new ≡ Self.layer self.old) }
+        ensures sees { Self.sees self.old → OnOk result (Self.sees self.new) }
+        ensures still { OnOk result (Self.still self.new) }
+        ensures written { Self.safe self.old → IsFree (Self.layer self.old) → OnOk result (IsMeant (Self.layer self.new) (Self.image self.new).bytes) }
+        ensures stops { Self.safe self.old → (below : List Layer) → KeepsStops Self.Seen below GivesNone self.old self.new }
+
+        ensures at_once { AtOnce Self.Seen (barrier (Self.layer self.old)) ⊥ result self.old self.new }
+        ensures like { IsLike (Self.layer self.old) (Self.layer self.new) }
+        ensures went { Went Self.Seen (WasNotCutOff result) (WasNotCutOff result) self.old self.new }
+
+        ensures failed { IfErr result (Fails Self.Seen self.old self.new) }
+        ensures marks { IfErr result (Marks Self.Seen self.old self.new) }
+        ensures cause { Self.safe self.old → IfErr result (PlainCause (Self.layer self.old) (files Self.Seen self.old) (files Self.Seen self.new)) };
 
     /// Makes what was handed to its files durable.
     ///
     /// It refuses with `Fault::Memory` and `Fault::Storage`.
     fn sync(&mut self) -> Result<(), Fault>
-        ensures same { OnOk result (layer self.new ≡ layer self.old) }
-        ensures kept { Pairs IsKept (image self.old ∷ extras self.old) (image self.new ∷ extras self.new) }
-        ensures still { still self.old → still self.new }
-        ensures barred { (f : Fault) → barrier (layer self.old) ≡ Some f → IsErrOf result f }
-        ensures unasked { IsSome (barrier (layer self.old)) → Unasked image extras self.old self.new }
-        ensures like { IsLike (layer self.old) (layer self.new) }
-        ensures went { Went layer image extras safe lasts (IsOk result) (IsWhole result) self.old self.new }
-        ensures sees { sees self.old → sees self.new }
-        ensures cause { IfErr result (PlainCause (layer self.old) (image self.old ∷ extras self.old) (image self.new ∷ extras self.new)) };
+        ensures same { OnOk result (Self.layer self.new ≡ Self.layer self.old) }
+        ensures kept { Pairs IsKept (files Self.Seen self.old) (files Self.Seen self.new) }
+        ensures sees { Self.sees self.old → Self.sees self.new }
+        ensures still { Self.still self.old → Self.still self.new }
+
+        ensures at_once { AtOnce Self.Seen (barrier (Self.layer self.old)) ⊥ result self.old self.new }
+        ensures like { IsLike (Self.layer self.old) (Self.layer self.new) }
+        ensures went { Went Self.Seen (WasNotCutOff result) (WasNotCutOff result) self.old self.new }
+
+        ensures marks { IfErr result (Marks Self.Seen self.old self.new) }
+        ensures cause { IfErr result (PlainCause (Self.layer self.old) (files Self.Seen self.old) (files Self.Seen self.new)) };
 
     /// Drops what it holds in memory, written or not, and reads what it needs of its files again. Nothing may be prepared. Right after a
     /// flush it changes no value.
@@ -448,16 +359,18 @@ pub trait FormatDriverInstance {
     /// It refuses with `Fault::DamagedHeader`, `Fault::DamagedTable`, `Fault::Unsupported`, `Fault::Limit` and `Fault::CacheFull`, with
     /// which the image has failed, and with `Fault::Memory` and `Fault::Storage`.
     fn invalidate_cache(&mut self, alloc: Global) -> Result<(), Fault>
-        requires free { IsFree (layer self.old) }
-        ensures same { IsTrue (layer self.old).fixed.keeps → sees self.old → still self.old → OnOk result ((layer self.new ≡ layer self.old) × sees self.new) }
-        ensures kept { Pairs IsKept (image self.old ∷ extras self.old) (image self.new ∷ extras self.new) }
-        ensures still { OnOk result (still self.new) }
-        ensures barred { (f : Fault) → barrier (layer self.old) ≡ Some f → IsErrOf result f }
-        ensures unasked { IsSome (barrier (layer self.old)) → Unasked image extras self.old self.new }
-        ensures went { Went layer image extras safe lasts (IsOk result) (IsOk result) self.old self.new }
-        ensures free { IsFree (layer self.new) }
-        ensures failed { IfErr result (λ e. IsStale e → IsTrue (layer self.new).failed) }
-        ensures cause { IfErr result (InvalidateCause (layer self.old ∷ []) (image self.old ∷ extras self.old) (image self.new ∷ extras self.new)) };
+        requires free { IsFree (Self.layer self.old) }
+        ensures same { IsTrue (Self.layer self.old).fixed.keeps → Self.sees self.old → Self.still self.old → OnOk result ((Self.layer self.new ≡ Self.layer self.old) × Self.sees self.new) }
+        ensures kept { Pairs IsKept (files Self.Seen self.old) (files Self.Seen self.new) }
+        ensures still { OnOk result (Self.still self.new) }
+        ensures free { IsFree (Self.layer self.new) }
+
+        ensures at_once { AtOnce Self.Seen (barrier (Self.layer self.old)) ⊥ result self.old self.new }
+        ensures went { Went Self.Seen (IsOk result) (IsOk result) self.old self.new }
+
+        ensures failed { IfErr result (λ e. IsStale e → IsTrue (Self.layer self.new).failed) }
+        ensures marks { IfErr result (Marks Self.Seen self.old self.new) }
+        ensures cause { IfErr result (InvalidateCause (Self.layer self.old ∷ []) (files Self.Seen self.old) (files Self.Seen self.new)) };
 
     /// Makes the disk longer, to a size in bytes. Nothing may be prepared. To a size that isn't above it does nothing.
     ///
@@ -470,66 +383,82 @@ pub trait FormatDriverInstance {
         size: u64,
         mode: PreallocateMode,
     ) -> Result<(), Fault>
-        requires free { IsFree (layer self.old) }
-        ensures nothing { size ≤ (layer self.old).size → OnOk result (layer self.new ≡ layer self.old) }
-        ensures idle { size ≤ (layer self.old).size → barrier (layer self.old) ≡ None → IsOk result }
-        ensures ok { IsTrue (layer self.old).fixed.keeps → safe self.old → B.sees_under below.old → (layer self.old).size < size → OnOk result (Grown (at (B.under below.old)) (layer self.old) (layer self.new) size (fill_of mode)) }
-        ensures err { IsTrue (layer self.old).fixed.keeps → safe self.old → B.sees_under below.old → IfErr result (λ e. IsMild e → NotGrown (at (B.under below.old)) (layer self.old) (layer self.new)) }
-        ensures barred { (f : Fault) → barrier (layer self.old) ≡ Some f → IsErrOf result f }
-        ensures read_only { barrier (layer self.old) ≡ None → (layer self.old).size < size → IsFalse (layer self.old).fixed.writable → IsErrOf result ReadOnly }
-        ensures unasked { (size ≤ (layer self.old).size) ⊎ (IsSome (barrier (layer self.old)) ⊎ IsFalse (layer self.old).fixed.writable) → Unasked image extras self.old self.new × (below.new ≡ below.old) }
-        ensures free { IsFree (layer self.new) }
-        ensures went { Went layer image extras safe lasts (IsOk result) (IsWhole result × B.sees_under below.old) self.old self.new }
-        ensures stops { IsTrue (layer self.old).fixed.keeps → safe self.old → B.sees_under below.old → KeepsStopsTo (B.under below.old) (layer self.old) sound (layer self.old).size (GivesPast (layer self.old).size) (image self.old) (image self.new) }
-        ensures below { LookedUnder B.under B.files_under B.sees_under B.safe_under B.still_under B.lasts_under (IsOk result) (IsWhole result) below.old below.new }
-        ensures failed { IfErr result (ImageCause (image self.old ∷ extras self.old ++ B.files_under below.old) (image self.new ∷ extras self.new ++ B.files_under below.new)) }
-        ensures cause { safe self.old → B.sees_under below.old → IfErr result (GrowthCause (B.under below.old) (layer self.old) size (growth_cause self.old (B.under below.old) size mode) (image self.old ∷ extras self.old ++ B.files_under below.old) (image self.new ∷ extras self.new ++ B.files_under below.new)) };
+        requires free { IsFree (Self.layer self.old) }
+        ensures nothing { size ≤ (Self.layer self.old).size → OnOk result (Self.layer self.new ≡ Self.layer self.old) }
+        ensures free { IsFree (Self.layer self.new) }
+
+        ensures ok { Self.safe self.old → B.sees_under below.old → (Self.layer self.old).size < size → OnOk result (Grown (at (B.under below.old)) (Self.layer self.old) (Self.layer self.new) size (fill_of mode)) }
+        ensures err { Self.safe self.old → B.sees_under below.old → IfErr result (λ e. IsMild e → NotGrown (at (B.under below.old)) (Self.layer self.old) (Self.layer self.new)) }
+        ensures stops { Self.safe self.old → B.sees_under below.old → KeepsStopsTo Self.Seen (B.under below.old) (Self.layer self.old).size (GivesPast (Self.layer self.old).size) self.old self.new }
+
+        ensures at_once { AtOnce Self.Seen (barrier (Self.layer self.old)) (size ≤ (Self.layer self.old).size) result self.old self.new }
+        ensures read_only { barrier (Self.layer self.old) ≡ None → (Self.layer self.old).size < size → IsFalse (Self.layer self.old).fixed.writable → IsErrOf result ReadOnly × Unasked Self.Seen self.old self.new × (below.new ≡ below.old) }
+        ensures unread { (size ≤ (Self.layer self.old).size) ⊎ IsSome (barrier (Self.layer self.old)) → below.new ≡ below.old }
+        ensures went { Went Self.Seen (WasNotCutOff result) (WasNotCutOff result × B.sees_under below.old) self.old self.new }
+        ensures below { LookedUnder B.SeenBelow (WasNotCutOff result) below.old below.new }
+
+        ensures failed { IfErr result (FailsOver Self.Seen B.SeenBelow (self.old, below.old) (self.new, below.new)) }
+        ensures cause { Self.safe self.old → B.sees_under below.old → IfErr result (GrowthCause (B.under below.old) (Self.layer self.old) size (Self.growth_cause self.old (B.under below.old) size mode) (files Self.Seen self.old ++ B.files_under below.old) (files Self.Seen self.new ++ B.files_under below.new)) };
 
     /// Makes the disk shorter, to a size in bytes. Nothing may be prepared. To a size that isn't below it does nothing.
     ///
     /// It refuses with `Fault::ReadOnly`, with causes of the driver's own, with `Fault::Memory` and `Fault::Storage`. A refusal for
     /// another cause than the last two leaves the disk as it was.
     fn resize_shrink(&mut self, alloc: Global, size: u64) -> Result<(), Fault>
-        requires free { IsFree (layer self.old) }
-        ensures nothing { (layer self.old).size ≤ size → OnOk result (layer self.new ≡ layer self.old) }
-        ensures idle { (layer self.old).size ≤ size → barrier (layer self.old) ≡ None → IsOk result }
-        ensures ok { IsTrue (layer self.old).fixed.keeps → safe self.old → size < (layer self.old).size → OnOk result (Shrunk (layer self.old) (layer self.new) size) }
-        ensures err { IsTrue (layer self.old).fixed.keeps → safe self.old → IfErr result (λ e. IsMild e → NotShrunk (layer self.old) (layer self.new)) }
-        ensures barred { (f : Fault) → barrier (layer self.old) ≡ Some f → IsErrOf result f }
-        ensures read_only { barrier (layer self.old) ≡ None → size < (layer self.old).size → IsFalse (layer self.old).fixed.writable → IsErrOf result ReadOnly }
-        ensures unasked { ((layer self.old).size ≤ size) ⊎ (IsSome (barrier (layer self.old)) ⊎ IsFalse (layer self.old).fixed.writable) → Unasked image extras self.old self.new }
-        ensures went { Went layer image extras safe lasts (IsOk result) (IsWhole result) self.old self.new }
-        ensures free { IsFree (layer self.new) }
-        ensures stops { IsTrue (layer self.old).fixed.keeps → safe self.old → (below : List Layer) → IsBacked below (layer self.old) → KeepsStopsTo below (layer self.old) sound size (GivesBelowPast below size) (image self.old) (image self.new) }
-        ensures failed { IfErr result (ImageCause (image self.old ∷ extras self.old) (image self.new ∷ extras self.new)) }
-        ensures cause { safe self.old → (below : List Layer) → IfErr result (ShrinkCause below (layer self.old) size (own_cause self.old below (shrink size)) (image self.old ∷ extras self.old) (image self.new ∷ extras self.new)) };
+        requires free { IsFree (Self.layer self.old) }
+        ensures nothing { (Self.layer self.old).size ≤ size → OnOk result (Self.layer self.new ≡ Self.layer self.old) }
+        ensures free { IsFree (Self.layer self.new) }
+
+        ensures ok { Self.safe self.old → size < (Self.layer self.old).size → OnOk result (Shrunk (Self.layer self.old) (Self.layer self.new) size) }
+        ensures err { Self.safe self.old → IfErr result (λ e. IsMild e → NotShrunk (Self.layer self.old) (Self.layer self.new)) }
+        ensures stops { Self.safe self.old → (below : List Layer) → IsBacked below (Self.layer self.old) → KeepsStopsTo Self.Seen below size (GivesBelowPast below size) self.old self.new }
+
+        ensures at_once { AtOnce Self.Seen (barrier (Self.layer self.old)) ((Self.layer self.old).size ≤ size) result self.old self.new }
+        ensures read_only { barrier (Self.layer self.old) ≡ None → size < (Self.layer self.old).size → IsFalse (Self.layer self.old).fixed.writable → IsErrOf result ReadOnly × Unasked Self.Seen self.old self.new }
+        ensures went { Went Self.Seen (WasNotCutOff result) (WasNotCutOff result) self.old self.new }
+
+        ensures failed { IfErr result (Fails Self.Seen self.old self.new) }
+        ensures marks { IfErr result (Marks Self.Seen self.old self.new) }
+        ensures cause { Self.safe self.old → (below : List Layer) → IfErr result (ShrinkCause below (Self.layer self.old) size (Self.own_cause self.old below (shrink size)) (files Self.Seen self.old) (files Self.Seen self.new)) };
 
     /// A driver that is safe sees.
-    ghost safe_sees: { (d : Self) → safe d → sees d };
+    ghost safe_sees: { (d : Self) → Self.safe d → Self.sees d };
 
     /// It has not failed.
-    ghost safe_runs: { (d : Self) → safe d → (layer d).failed ≡ false };
+    ghost safe_runs: { (d : Self) → Self.safe d → (Self.layer d).failed ≡ false };
 
-    /// A place that is given up shows the layer below, or is 0.
-    ghost blanks: { (d : Self) → ((layer d).fixed.blank ≡ unmapped) ⊎ ((layer d).fixed.blank ≡ own (byte 0)) };
+    /// Its storages keep what is written.
+    ghost safe_keeps: { (d : Self) → Self.safe d → IsTrue (Self.layer d).fixed.keeps };
 
     /// Its file is sound and not shorter than the disk.
-    ghost safe_sound: { (d : Self) → safe d → IsCovered (layer d) sound (image d).bytes };
-
-    /// Its alignments are powers of two.
-    ghost aligned: { (d : Self) → IsAlignment (layer d).fixed.req_align × IsAlignment (layer d).fixed.mem_align };
-
-    /// Each call has begun where nothing of it has been carried out.
-    ghost begins: { (d : Self) (call : Call) → began d call d };
-
-    /// While nothing is prepared, no place is held.
-    ghost free_loose: { (d : Self) → IsFree (layer d) → (p : ℕ) → (layer d).held p ≡ loose };
-
-    /// A place that has room isn't vacant.
-    ghost bare: { (d : Self) (p : ℕ) → vacant d p → has_room d p → ⊥ };
+    ghost safe_sound: { (d : Self) → Self.safe d → IsCovered (Self.layer d) Self.sound (Self.image d).bytes };
 
     /// No two places can be written at one place of a storage.
-    ghost one_home: { (d : Self) (p q : ℕ) (at : ℕ × ℕ) → safe d → (layer d).home p ≡ Some at → (layer d).home q ≡ Some at → p ≡ q };
+    ghost one_home: { (d : Self) (p q : ℕ) (at : ℕ × ℕ) → Self.safe d → (Self.layer d).home p ≡ Some at → (Self.layer d).home q ≡ Some at → p ≡ q };
+
+    /// A place that is given up shows the layer below, or is 0.
+    ghost blanks: { (d : Self) → ((Self.layer d).fixed.blank ≡ unmapped) ⊎ ((Self.layer d).fixed.blank ≡ own (byte 0)) };
+
+    /// Its alignments are powers of two.
+    ghost aligned: { (d : Self) → IsAlignment (Self.layer d).fixed.req_align × IsAlignment (Self.layer d).fixed.mem_align };
+
+    /// They are the greatest of its storages, and it zeroes by itself by its units or as its storages do.
+    ghost alignments: { (d : Self) → HasAlignmentsOf (Self.layer d) (Self.image d) (Self.extras d) };
+
+    /// It allocates and gives up by at least a byte.
+    ghost units: { (d : Self) → 0 < (Self.layer d).fixed.unit };
+
+    /// Each call has begun where nothing of it has been carried out.
+    ghost begins: { (d : Self) (call : Call) → Self.began d call d };
+
+    /// While nothing is prepared, no place is held.
+    ghost free_loose: { (d : Self) → IsFree (Self.layer d) → (p : ℕ) → (Self.layer d).held p ≡ loose };
+
+    /// A place that has room isn't vacant.
+    ghost bare: { (d : Self) (p : ℕ) → Self.vacant d p → Self.has_room d p → ⊥ };
+
+    /// While nothing is prepared, a vacant or zeroed place can't be written where it is, if the format says of places what room they have.
+    ghost roomless: { (d : Self) (p : ℕ) → IsFree (Self.layer d) → IsTrue (Self.layer d).fixed.states_room → Self.vacant d p ⊎ Self.zeroed d p → (Self.layer d).home p ≡ None };
 }
 
 /// Why a mapping with state that is to be committed is given back, if it is: what `ready` says of the driver, else `Fault::ReadOnly` where it

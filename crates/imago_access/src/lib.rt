@@ -12,6 +12,7 @@ mod format;
 mod gate;
 mod mapping;
 mod ranges;
+mod seen;
 
 pub use access::FormatAccess;
 pub use below::{NoBelow, ReadBelow};
@@ -24,3 +25,4 @@ pub use format::{Format, PreallocateMode};
 pub use gate::{DenyImplicitOpenGate, ImplicitOpenGate};
 pub use mapping::{Mapping, PreparedDataMapping, ShallowMapping};
 pub use ranges::check_range;
+pub use seen::{Seen, SeenBelow};

@@ -6,7 +6,8 @@ ghost use Rattle.imago_access.specs.Layer.{Layer, IsFree, IsLike};
 ghost use Rattle.imago_access.specs.Chain.{IsBacked, unit_of_chain};
 ghost use Rattle.imago_access.specs.Layers.{chain};
 ghost use Rattle.imago_access.specs.Room.{Reaches, GivesUp, IsGivenUp, IsUndeclined};
-ghost use Rattle.imago_access.specs.Files.{IsWhole, IsDeclined, IsAnswered, IsMild, ImageCause, files_of};
+ghost use Rattle.imago_access.specs.Files.{WasNotCutOff, IsDeclined, IsMild, ImageCause, files_of, files};
+ghost use Rattle.imago_access.specs.PartCalls.{IsPart};
 ghost use Rattle.imago_access.specs.Going.{Went};
 ghost use Rattle.imago_access.specs.Parts.{IsPartOf, PartCause, DeclinableCause};
 ghost use Rattle.imago_access.specs.Refusals.{barrier, change_refusal, ChangeCause};
@@ -14,6 +15,8 @@ ghost use Rattle.imago_access.specs.Stops.{KeepsStops, GivesAny, GivesBelow};
 ghost use Rattle.imago_access.specs.Running.{IsBetween, IsIntactChain, RanChain, chain_disk, below_of};
 ghost use Rattle.imago_access.specs.declared.access.discarding.Discarding.{Discarding};
 ghost use Rattle.imago_access.specs.Discards.{GivesDiscarded};
+ghost use Rattle.imago_access.specs.ChainCalls.{ChainSteps, ChainPartly, chain_refusal, OwnCause};
+ghost use Rattle.imago_access.specs.Failing.{Fails};
 
 use crate::access::FormatAccess;
 use crate::drivers::FormatDriverInstance;
@@ -45,17 +48,17 @@ fn discard_part<D: FormatDriverInstance>(
     length: u64,
 ) -> Result<(u64, u64), Fault>
     requires free { IsFree (D.layer driver.old) }
-    ensures part { IfOk result (λ r. (offset ≤ r.0) × ((r.1 ≡ 0) ⊎ (r.0 + r.1 ≤ offset + length))) }
-    ensures values { IsTrue (D.layer driver.old).fixed.keeps → D.safe driver.old → (below : List Layer) → IsBacked below (D.layer driver.old) → IsWhole result → IsBetween (GivesDiscarded discarding below offset length) below (D.layer driver.old) (D.layer driver.new) }
+    ensures part { IfOk result (IsPart offset length) }
+    ensures values { D.safe driver.old → (below : List Layer) → IsBacked below (D.layer driver.old) → WasNotCutOff result → IsBetween (GivesDiscarded discarding below offset length) below (D.layer driver.old) (D.layer driver.new) }
     ensures like { IsLike (D.layer driver.old) (D.layer driver.new) }
-    ensures went { Went D.layer D.image D.extras D.safe D.lasts (IsAnswered result) (IsWhole result) driver.old driver.new }
-    ensures began { (d : D) (call : Call) → D.began d call driver.old → IsPartOf call offset length → IsWhole result → D.began d call driver.new }
-    ensures stops { IsTrue (D.layer driver.old).fixed.keeps → D.safe driver.old → (below : List Layer) → IsBacked below (D.layer driver.old) → KeepsStops below (D.layer driver.old) D.sound (GivesDiscarded discarding below offset length) (D.image driver.old) (D.image driver.new) }
-    ensures room { IsTrue (D.layer driver.old).fixed.keeps → D.safe driver.old → IsWhole result → GivesUp D.vacant D.has_room D.zeroed offset length driver.old driver.new }
-    ensures given { IsTrue (D.layer driver.old).fixed.keeps → D.safe driver.old → IfOk result (λ r. (p : ℕ) → IsIn r.0 r.1 p → D.vacant driver.new p) }
-    ensures reach { IsTrue (D.layer driver.old).fixed.keeps → D.safe driver.old → IfOk result (λ r. Reaches (D.layer driver.old).fixed.unit (D.layer driver.old).size offset length r.0 r.1) }
-    ensures failed { IfErr result (ImageCause (D.image driver.old ∷ D.extras driver.old) (D.image driver.new ∷ D.extras driver.new)) }
-    ensures cause { D.safe driver.old → (below : List Layer) (d : D) (call : Call) → D.began d call driver.old → IsPartOf call offset length → IfErr result (DeclinableCause below (D.layer driver.old) offset length (D.own_cause d below call) (D.image driver.old ∷ D.extras driver.old) (D.image driver.new ∷ D.extras driver.new)) }
+    ensures went { Went D.Seen (WasNotCutOff result) (WasNotCutOff result) driver.old driver.new }
+    ensures began { (d : D) (call : Call) → D.began d call driver.old → IsPartOf call offset length → WasNotCutOff result → D.began d call driver.new }
+    ensures stops { D.safe driver.old → (below : List Layer) → IsBacked below (D.layer driver.old) → KeepsStops D.Seen below (GivesDiscarded discarding below offset length) driver.old driver.new }
+    ensures room { D.safe driver.old → WasNotCutOff result → GivesUp D.Seen offset length driver.old driver.new }
+    ensures given { D.safe driver.old → IfOk result (λ r. (p : ℕ) → IsIn r.0 r.1 p → D.vacant driver.new p) }
+    ensures reach { D.safe driver.old → IfOk result (λ r. Reaches (D.layer driver.old).fixed.unit (D.layer driver.old).size offset length r.0 r.1) }
+    ensures failed { IfErr result (Fails D.Seen driver.old driver.new) }
+    ensures cause { D.safe driver.old → (below : List Layer) (d : D) (call : Call) → D.began d call driver.old → IsPartOf call offset length → IfErr result (DeclinableCause below (D.layer driver.old) offset length (D.own_cause d below call) (files D.Seen driver.old) (files D.Seen driver.new)) }
 {
     match discarding {
         Discarding::ToAny => driver.discard_to_any(alloc, offset, length),
@@ -75,14 +78,14 @@ fn discard_all<D: FormatDriverInstance>(
     requires fits { offset + n < 2 ^ 64 }
     ensures idle { n ≡ 0 → IsOk result }
     ensures untouched { n ≡ 0 → driver.new ≡ driver.old }
-    ensures values { IsTrue (D.layer driver.old).fixed.keeps → D.safe driver.old → (below : List Layer) → IsBacked below (D.layer driver.old) → IsWhole result → IsBetween (GivesDiscarded discarding below offset n) below (D.layer driver.old) (D.layer driver.new) }
+    ensures values { D.safe driver.old → (below : List Layer) → IsBacked below (D.layer driver.old) → WasNotCutOff result → IsBetween (GivesDiscarded discarding below offset n) below (D.layer driver.old) (D.layer driver.new) }
     ensures like { IsLike (D.layer driver.old) (D.layer driver.new) }
-    ensures went { Went D.layer D.image D.extras D.safe D.lasts (IsOk result) (IsWhole result) driver.old driver.new }
-    ensures stops { IsTrue (D.layer driver.old).fixed.keeps → D.safe driver.old → (below : List Layer) → IsBacked below (D.layer driver.old) → KeepsStops below (D.layer driver.old) D.sound (GivesDiscarded discarding below offset n) (D.image driver.old) (D.image driver.new) }
-    ensures room { IsTrue (D.layer driver.old).fixed.keeps → D.safe driver.old → IsWhole result → GivesUp D.vacant D.has_room D.zeroed offset n driver.old driver.new }
-    ensures gives_up { IsTrue (D.layer driver.old).fixed.keeps → D.safe driver.old → (below : List Layer) (d : D) (call : Call) → D.began d call driver.old → IsPartOf call offset n → IsUndeclined (D.own_cause d below call) → OnOk result (IsGivenUp (D.vacant driver.new) (D.layer driver.old).fixed.unit (D.layer driver.old).size offset n) }
-    ensures failed { IfErr result (ImageCause (D.image driver.old ∷ D.extras driver.old) (D.image driver.new ∷ D.extras driver.new)) }
-    ensures cause { IsTrue (D.layer driver.old).fixed.keeps → D.safe driver.old → (below : List Layer) (d : D) (call : Call) → D.began d call driver.old → IsPartOf call offset n → IfErr result (PartCause below (D.layer driver.old) offset n (D.own_cause d below call) (D.image driver.old ∷ D.extras driver.old) (D.image driver.new ∷ D.extras driver.new)) }
+    ensures went { Went D.Seen (WasNotCutOff result) (WasNotCutOff result) driver.old driver.new }
+    ensures stops { D.safe driver.old → (below : List Layer) → IsBacked below (D.layer driver.old) → KeepsStops D.Seen below (GivesDiscarded discarding below offset n) driver.old driver.new }
+    ensures room { D.safe driver.old → WasNotCutOff result → GivesUp D.Seen offset n driver.old driver.new }
+    ensures gives_up { D.safe driver.old → (below : List Layer) (d : D) (call : Call) → D.began d call driver.old → IsPartOf call offset n → IsUndeclined (D.own_cause d below call) → OnOk result (IsGivenUp (D.vacant driver.new) (D.layer driver.old).fixed.unit (D.layer driver.old).size offset n) }
+    ensures failed { IfErr result (Fails D.Seen driver.old driver.new) }
+    ensures cause { D.safe driver.old → (below : List Layer) (d : D) (call : Call) → D.began d call driver.old → IsPartOf call offset n → IfErr result (PartCause below (D.layer driver.old) offset n (D.own_cause d below call) (files D.Seen driver.old) (files D.Seen driver.new)) }
 {
     let end = offset + n;
     let mut at = offset;
@@ -107,18 +110,18 @@ impl<D: FormatDriverInstance> FormatAccess<D> {
     /// every other as it was.
     pub fn discard_to_any(&mut self, alloc: Global, offset: u64, length: u64) -> Result<(), Fault>
         requires free { IsFree (D.layer self.old.0) }
-        ensures ok { IsIntactChain D.layer D.safe D.sees self.old → OnOk result (Step (below_of D.layer self.old) (chain_disk D.layer self.old) (discard_to_any offset length) done (chain_disk D.layer self.new)) }
-        ensures err { IsIntactChain D.layer D.safe D.sees self.old → IfErr result (λ e. IsMild e → PartlyDone (below_of D.layer self.old) (discard_to_any offset length) (chain_disk D.layer self.old) (chain_disk D.layer self.new)) }
-        ensures at_once { (f : Fault) → change_refusal (unit_of_chain (map D.layer (chain self.old))) (D.layer self.old.0) offset length ≡ Some f → IsErrOf result f }
+        ensures ok { IsIntactChain D.Seen self.old → OnOk result (ChainSteps D.Seen (discard_to_any offset length) done self.old self.new) }
+        ensures err { IsIntactChain D.Seen self.old → IfErr result (λ e. IsMild e → ChainPartly D.Seen (discard_to_any offset length) self.old self.new) }
+        ensures at_once { (f : Fault) → chain_refusal D.Seen self.old offset length ≡ Some f → IsErrOf result f }
         ensures idle { length ≡ 0 → barrier (D.layer self.old.0) ≡ None → IsOk result }
-        ensures untouched { (length ≡ 0) ⊎ IsSome (change_refusal (unit_of_chain (map D.layer (chain self.old))) (D.layer self.old.0) offset length) → self.new ≡ self.old }
+        ensures untouched { (length ≡ 0) ⊎ IsSome (chain_refusal D.Seen self.old offset length) → self.new ≡ self.old }
         ensures like { IsLike (D.layer self.old.0) (D.layer self.new.0) }
-        ensures ran { RanChain D.layer D.image D.extras D.sees D.safe D.still D.lasts D.sound (IsOk result) (IsWhole result) (GivesAny offset length) self.old self.new }
+        ensures ran { RanChain D.Seen (WasNotCutOff result) (GivesAny offset length) self.old self.new }
         ensures below { self.new.1 ≡ self.old.1 }
-        ensures room { IsIntactChain D.layer D.safe D.sees self.old → IsWhole result → GivesUp D.vacant D.has_room D.zeroed offset length self.old.0 self.new.0 }
-        ensures gives_up { IsIntactChain D.layer D.safe D.sees self.old → IsUndeclined (D.own_cause self.old.0 (map D.layer self.old.1) (discard_to_any offset length)) → OnOk result (IsGivenUp (D.vacant self.new.0) (D.layer self.old.0).fixed.unit (D.layer self.old.0).size offset length) }
-        ensures failed { IfErr result (ImageCause (D.image self.old.0 ∷ D.extras self.old.0) (D.image self.new.0 ∷ D.extras self.new.0)) }
-        ensures cause { IsIntactChain D.layer D.safe D.sees self.old → IfErr result (ChangeCause (unit_of_chain (map D.layer (chain self.old))) (map D.layer (chain self.old)) (chain_disk D.layer self.old) (D.layer self.old.0).fixed.writable (discard_to_any offset length) (D.own_cause self.old.0 (map D.layer self.old.1) (discard_to_any offset length)) (files_of D.image D.extras (chain self.old)) (files_of D.image D.extras (chain self.new))) }
+        ensures room { IsIntactChain D.Seen self.old → WasNotCutOff result → GivesUp D.Seen offset length self.old.0 self.new.0 }
+        ensures gives_up { IsIntactChain D.Seen self.old → IsUndeclined (D.own_cause self.old.0 (map D.layer self.old.1) (discard_to_any offset length)) → OnOk result (IsGivenUp (D.vacant self.new.0) (D.layer self.old.0).fixed.unit (D.layer self.old.0).size offset length) }
+        ensures failed { IfErr result (Fails D.Seen self.old.0 self.new.0) }
+        ensures cause { IsIntactChain D.Seen self.old → IfErr result (OwnCause D.Seen (discard_to_any offset length) self.old self.new) }
     {
         self.check_change(offset, length)?;
         discard_all(alloc, &mut self.driver, Discarding::ToAny, offset, length)
@@ -135,18 +138,18 @@ impl<D: FormatDriverInstance> FormatAccess<D> {
         length: u64,
     ) -> Result<(), Fault>
         requires free { IsFree (D.layer self.old.0) }
-        ensures ok { IsIntactChain D.layer D.safe D.sees self.old → OnOk result (Step (below_of D.layer self.old) (chain_disk D.layer self.old) (discard_to_backing offset length) done (chain_disk D.layer self.new)) }
-        ensures err { IsIntactChain D.layer D.safe D.sees self.old → IfErr result (λ e. IsMild e → PartlyDone (below_of D.layer self.old) (discard_to_backing offset length) (chain_disk D.layer self.old) (chain_disk D.layer self.new)) }
-        ensures at_once { (f : Fault) → change_refusal (unit_of_chain (map D.layer (chain self.old))) (D.layer self.old.0) offset length ≡ Some f → IsErrOf result f }
+        ensures ok { IsIntactChain D.Seen self.old → OnOk result (ChainSteps D.Seen (discard_to_backing offset length) done self.old self.new) }
+        ensures err { IsIntactChain D.Seen self.old → IfErr result (λ e. IsMild e → ChainPartly D.Seen (discard_to_backing offset length) self.old self.new) }
+        ensures at_once { (f : Fault) → chain_refusal D.Seen self.old offset length ≡ Some f → IsErrOf result f }
         ensures idle { length ≡ 0 → barrier (D.layer self.old.0) ≡ None → IsOk result }
-        ensures untouched { (length ≡ 0) ⊎ IsSome (change_refusal (unit_of_chain (map D.layer (chain self.old))) (D.layer self.old.0) offset length) → self.new ≡ self.old }
+        ensures untouched { (length ≡ 0) ⊎ IsSome (chain_refusal D.Seen self.old offset length) → self.new ≡ self.old }
         ensures like { IsLike (D.layer self.old.0) (D.layer self.new.0) }
-        ensures ran { RanChain D.layer D.image D.extras D.sees D.safe D.still D.lasts D.sound (IsOk result) (IsWhole result) (GivesBelow (map D.layer self.old.1) offset length) self.old self.new }
+        ensures ran { RanChain D.Seen (WasNotCutOff result) (GivesBelow (map D.layer self.old.1) offset length) self.old self.new }
         ensures below { self.new.1 ≡ self.old.1 }
-        ensures room { IsIntactChain D.layer D.safe D.sees self.old → IsWhole result → GivesUp D.vacant D.has_room D.zeroed offset length self.old.0 self.new.0 }
-        ensures gives_up { IsIntactChain D.layer D.safe D.sees self.old → IsUndeclined (D.own_cause self.old.0 (map D.layer self.old.1) (discard_to_backing offset length)) → OnOk result (IsGivenUp (D.vacant self.new.0) (D.layer self.old.0).fixed.unit (D.layer self.old.0).size offset length) }
-        ensures failed { IfErr result (ImageCause (D.image self.old.0 ∷ D.extras self.old.0) (D.image self.new.0 ∷ D.extras self.new.0)) }
-        ensures cause { IsIntactChain D.layer D.safe D.sees self.old → IfErr result (ChangeCause (unit_of_chain (map D.layer (chain self.old))) (map D.layer (chain self.old)) (chain_disk D.layer self.old) (D.layer self.old.0).fixed.writable (discard_to_backing offset length) (D.own_cause self.old.0 (map D.layer self.old.1) (discard_to_backing offset length)) (files_of D.image D.extras (chain self.old)) (files_of D.image D.extras (chain self.new))) }
+        ensures room { IsIntactChain D.Seen self.old → WasNotCutOff result → GivesUp D.Seen offset length self.old.0 self.new.0 }
+        ensures gives_up { IsIntactChain D.Seen self.old → IsUndeclined (D.own_cause self.old.0 (map D.layer self.old.1) (discard_to_backing offset length)) → OnOk result (IsGivenUp (D.vacant self.new.0) (D.layer self.old.0).fixed.unit (D.layer self.old.0).size offset length) }
+        ensures failed { IfErr result (Fails D.Seen self.old.0 self.new.0) }
+        ensures cause { IsIntactChain D.Seen self.old → IfErr result (OwnCause D.Seen (discard_to_backing offset length) self.old self.new) }
     {
         self.check_change(offset, length)?;
         discard_all(

@@ -4,12 +4,13 @@ ghost use Rattle.imago_storage.specs.Steps.{Step, Stays, ensure, run};
 ghost use Rattle.imago_access.specs.Layer.{IsFree, IsLike};
 ghost use Rattle.imago_access.specs.Chain.{unit_of_chain};
 ghost use Rattle.imago_access.specs.Layers.{chain};
-ghost use Rattle.imago_access.specs.Files.{IsWhole, IsMild, ImageCause, Unasked, files_of};
+ghost use Rattle.imago_access.specs.Files.{WasNotCutOff, IsMild, ImageCause, Unasked, files_of};
 ghost use Rattle.imago_access.specs.Mappings.{IsHomeRun, IsMappedRun, IsTopRun};
 ghost use Rattle.imago_access.specs.Refusals.{barrier, change_refusal, ChangeCause};
 ghost use Rattle.imago_access.specs.declared.mapping.Mapping.TheVariants as deep;
 ghost use Rattle.imago_access.specs.Stops.{GivesAnnounced};
 ghost use Rattle.imago_access.specs.Running.{IsIntactChain, RanChain, chain_disk, below_of};
+ghost use Rattle.imago_access.specs.ChainCalls.{ChainSteps, ChainStays, ChainFails, chain_refusal, OwnCause};
 
 use crate::access::FormatAccess;
 use crate::access::writing::settle;
@@ -33,20 +34,20 @@ impl<D: FormatDriverInstance> FormatAccess<D> {
         overwrite: bool,
     ) -> Result<(Mapping, u64), Fault>
         requires free { IsFree (D.layer self.old.0) }
-        ensures ok { IsIntactChain D.layer D.safe D.sees self.old → IfOk result (λ r. Step (below_of D.layer self.old) (chain_disk D.layer self.old) (ensure offset length overwrite) (run r.1) (chain_disk D.layer self.new)) }
-        ensures home { IsIntactChain D.layer D.safe D.sees self.old → IfOk result (λ r. IsHomeRun (D.layer self.new.0) offset r.0 r.1) }
+        ensures ok { IsIntactChain D.Seen self.old → IfOk result (λ r. ChainSteps D.Seen (ensure offset length overwrite) (run r.1) self.old self.new) }
+        ensures home { IsIntactChain D.Seen self.old → IfOk result (λ r. IsHomeRun (D.layer self.new.0) offset r.0 r.1) }
         ensures empty { length ≡ 0 → IfOk result (λ r. (r ≡ (deep.Raw 0 0 0 true, 0)) × (D.layer self.new.0 ≡ D.layer self.old.0)) }
-        ensures untouched { IsSome (change_refusal (unit_of_chain (map D.layer (chain self.old))) (D.layer self.old.0) offset length) → self.new ≡ self.old }
+        ensures untouched { IsSome (chain_refusal D.Seen self.old offset length) → self.new ≡ self.old }
         ensures run { IfOk result (λ r. IsMappedRun (D.layer self.old.0) offset length r.1) }
         ensures raw { IfOk result (λ r. IsTopRun r.0 r.1) }
-        ensures err { IsIntactChain D.layer D.safe D.sees self.old → IfErr result (λ e. IsMild e → Stays (chain_disk D.layer self.old) (chain_disk D.layer self.new)) }
-        ensures at_once { (f : Fault) → change_refusal (unit_of_chain (map D.layer (chain self.old))) (D.layer self.old.0) offset length ≡ Some f → IsErrOf result f }
+        ensures err { IsIntactChain D.Seen self.old → IfErr result (λ e. IsMild e → ChainStays D.Seen self.old self.new) }
+        ensures at_once { (f : Fault) → chain_refusal D.Seen self.old offset length ≡ Some f → IsErrOf result f }
         ensures idle { length ≡ 0 → barrier (D.layer self.old.0) ≡ None → IsOk result }
-        ensures unasked { (length ≡ 0) ⊎ IsSome (change_refusal (unit_of_chain (map D.layer (chain self.old))) (D.layer self.old.0) offset length) → Unasked D.image D.extras self.old.0 self.new.0 × (self.new.1 ≡ self.old.1) }
+        ensures unasked { (length ≡ 0) ⊎ IsSome (chain_refusal D.Seen self.old offset length) → Unasked D.Seen self.old.0 self.new.0 × (self.new.1 ≡ self.old.1) }
         ensures like { IsLike (D.layer self.old.0) (D.layer self.new.0) }
-        ensures ran { RanChain D.layer D.image D.extras D.sees D.safe D.still D.lasts D.sound (IsOk result) (IsWhole result) (GivesAnnounced overwrite offset length) self.old self.new }
-        ensures failed { IfErr result (ImageCause (files_of D.image D.extras (chain self.old)) (files_of D.image D.extras (chain self.new))) }
-        ensures cause { IsIntactChain D.layer D.safe D.sees self.old → IfErr result (ChangeCause (unit_of_chain (map D.layer (chain self.old))) (map D.layer (chain self.old)) (chain_disk D.layer self.old) (D.layer self.old.0).fixed.writable (ensure offset length overwrite) (D.own_cause self.old.0 (map D.layer self.old.1) (ensure offset length overwrite)) (files_of D.image D.extras (chain self.old)) (files_of D.image D.extras (chain self.new))) }
+        ensures ran { RanChain D.Seen (WasNotCutOff result) (GivesAnnounced overwrite offset length) self.old self.new }
+        ensures failed { IfErr result (ChainFails D.Seen self.old self.new) }
+        ensures cause { IsIntactChain D.Seen self.old → IfErr result (OwnCause D.Seen (ensure offset length overwrite) self.old self.new) }
     {
         self.check_change(offset, length)?;
         let prepared = match self

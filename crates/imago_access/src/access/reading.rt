@@ -7,15 +7,17 @@ ghost use Rattle.imago_storage.specs.declared.fault.Fault.{Fault};
 ghost use Rattle.imago_access.specs.Layer.{Layer};
 ghost use Rattle.imago_access.specs.Chain.{at, disk_of, Each, unit_of_chain};
 ghost use Rattle.imago_access.specs.Layers.{chain, layers};
-ghost use Rattle.imago_access.specs.Files.{Pairs, IsWhole, ImageCause, files_of};
+ghost use Rattle.imago_access.specs.Files.{Pairs, WasNotCutOff, ImageCause, files_of};
 ghost use Rattle.imago_access.specs.Going.{Looked};
 ghost use Rattle.imago_access.specs.Mappings.{IsRun, Looks};
 ghost use Rattle.imago_access.specs.Refusals.{barrier, look_refusal, ReadCause, LookCause, DeepLookCause};
+ghost use Rattle.imago_access.specs.ChainCalls.{ChainSteps, ChainFails, chain_look_refusal, ChainReadCause};
 
 use crate::access::FormatAccess;
 use crate::below::ReadBelow;
 use crate::drivers::FormatDriverInstance;
 use crate::mapping::{Mapping, ShallowMapping};
+use crate::seen::SeenBelow;
 use imago_storage::{Fault, padded_end};
 use std::alloc::Global;
 
@@ -26,13 +28,13 @@ impl<D: FormatDriverInstance> FormatAccess<D> {
     /// `Fault::Barred` and `Fault::DamagedTable` where a place of the range has no byte, with `Fault::Memory` and `Fault::Storage`, and
     /// where a layer can't be used. A refusal leaves the buffer open, and for another cause than `Memory` and `Storage` the disk as it was.
     pub fn read(&mut self, alloc: Global, buf: &mut [u8], offset: u64) -> Result<(), Fault>
-        ensures ok { Each D.sees (chain self.old) → OnOk result (Step (at (map D.layer self.old.1)) (disk_of (map D.layer self.old.1) (D.layer self.old.0)) (read offset (length buf.old)) (bytes_read buf.new) (disk_of (map D.layer self.new.1) (D.layer self.new.0))) }
-        ensures at_once { (f : Fault) → look_refusal (unit_of_chain (map D.layer (chain self.old))) (D.layer self.old.0) offset (length buf.old) ≡ Some f → IsErrOf result f }
+        ensures ok { Each D.sees (chain self.old) → OnOk result (ChainSteps D.Seen (read offset (length buf.old)) (bytes_read buf.new) self.old self.new) }
+        ensures at_once { (f : Fault) → chain_look_refusal D.Seen self.old offset (length buf.old) ≡ Some f → IsErrOf result f }
         ensures idle { length buf.old ≡ 0 → barrier (D.layer self.old.0) ≡ None → IsOk result }
-        ensures untouched { (length buf.old ≡ 0) ⊎ IsSome (look_refusal (unit_of_chain (map D.layer (chain self.old))) (D.layer self.old.0) offset (length buf.old)) → self.new ≡ self.old }
-        ensures looked { Pairs (Looked D.layer D.image D.extras D.sees D.safe D.still D.lasts D.sound (IsOk result) (IsWhole result)) (chain self.old) (chain self.new) }
-        ensures failed { IfErr result (ImageCause (files_of D.image D.extras (chain self.old)) (files_of D.image D.extras (chain self.new))) }
-        ensures cause { Each D.sees (chain self.old) → IfErr result (ReadCause (map D.layer (chain self.old)) (at (map D.layer (chain self.old))) (unit_of_chain (map D.layer (chain self.old))) offset (length buf.old) (files_of D.image D.extras (chain self.old)) (files_of D.image D.extras (chain self.new))) }
+        ensures untouched { (length buf.old ≡ 0) ⊎ IsSome (chain_look_refusal D.Seen self.old offset (length buf.old)) → self.new ≡ self.old }
+        ensures looked { Pairs (Looked D.Seen (WasNotCutOff result)) (chain self.old) (chain self.new) }
+        ensures failed { IfErr result (ChainFails D.Seen self.old self.new) }
+        ensures cause { Each D.sees (chain self.old) → IfErr result (ChainReadCause D.Seen offset (length buf.old) self.old self.new) }
     {
         self.driver.ready()?;
         if buf.is_empty() {
@@ -49,9 +51,9 @@ impl<D: FormatDriverInstance> FormatAccess<D> {
     fn read_all(&mut self, alloc: Global, buf: &mut [u8], offset: u64) -> Result<(), Fault>
         requires fits { Overflows (unit_of_chain (map D.layer (chain self.old))) offset (length buf.old) → ⊥ }
         ensures shown { Each D.sees (chain self.old) → OnOk result (Shows (at (map D.layer (chain self.old))) offset buf.new) }
-        ensures looked { Pairs (Looked D.layer D.image D.extras D.sees D.safe D.still D.lasts D.sound (IsOk result) (IsWhole result)) (chain self.old) (chain self.new) }
-        ensures failed { IfErr result (ImageCause (files_of D.image D.extras (chain self.old)) (files_of D.image D.extras (chain self.new))) }
-        ensures cause { Each D.sees (chain self.old) → IfErr result (ReadCause (map D.layer (chain self.old)) (at (map D.layer (chain self.old))) (unit_of_chain (map D.layer (chain self.old))) offset (length buf.old) (files_of D.image D.extras (chain self.old)) (files_of D.image D.extras (chain self.new))) }
+        ensures looked { Pairs (Looked D.Seen (WasNotCutOff result)) (chain self.old) (chain self.new) }
+        ensures failed { IfErr result (ChainFails D.Seen self.old self.new) }
+        ensures cause { Each D.sees (chain self.old) → IfErr result (ChainReadCause D.Seen offset (length buf.old) self.old self.new) }
     {
         let mut done = 0;
         while done < buf.len() {
@@ -71,9 +73,9 @@ impl<D: FormatDriverInstance> FormatAccess<D> {
         requires some { 0 < length buf.old }
         ensures run { IfOk result (λ n. (0 < n) × (n ≤ length buf.old)) }
         ensures shown { Each D.sees (chain self.old) → IfOk result (λ n. (i : ℕ) → i < n → at (map D.layer (chain self.old)) (offset + i) ≡ byte (slice_index buf.new i)) }
-        ensures looked { Pairs (Looked D.layer D.image D.extras D.sees D.safe D.still D.lasts D.sound (IsOk result) (IsWhole result)) (chain self.old) (chain self.new) }
-        ensures failed { IfErr result (ImageCause (files_of D.image D.extras (chain self.old)) (files_of D.image D.extras (chain self.new))) }
-        ensures cause { Each D.sees (chain self.old) → IfErr result (ReadCause (map D.layer (chain self.old)) (at (map D.layer (chain self.old))) (unit_of_chain (map D.layer (chain self.old))) offset (length buf.old) (files_of D.image D.extras (chain self.old)) (files_of D.image D.extras (chain self.new))) }
+        ensures looked { Pairs (Looked D.Seen (WasNotCutOff result)) (chain self.old) (chain self.new) }
+        ensures failed { IfErr result (ChainFails D.Seen self.old self.new) }
+        ensures cause { Each D.sees (chain self.old) → IfErr result (ChainReadCause D.Seen offset (length buf.old) self.old self.new) }
     {
         Self::read_part(alloc, &mut self.driver, &mut self.below, buf, offset)
     }
@@ -91,9 +93,9 @@ impl<D: FormatDriverInstance> FormatAccess<D> {
         requires some { 0 < length buf.old }
         ensures run { IfOk result (λ n. (0 < n) × (n ≤ length buf.old)) }
         ensures shown { Each D.sees (driver.old ∷ layers below.old) → IfOk result (λ n. (i : ℕ) → i < n → at (map D.layer (driver.old ∷ layers below.old)) (offset + i) ≡ byte (slice_index buf.new i)) }
-        ensures looked { Pairs (Looked D.layer D.image D.extras D.sees D.safe D.still D.lasts D.sound (IsOk result) (IsWhole result)) (driver.old ∷ layers below.old) (driver.new ∷ layers below.new) }
-        ensures failed { IfErr result (ImageCause (files_of D.image D.extras (driver.old ∷ layers below.old)) (files_of D.image D.extras (driver.new ∷ layers below.new))) }
-        ensures cause { Each D.sees (driver.old ∷ layers below.old) → IfErr result (ReadCause (map D.layer (driver.old ∷ layers below.old)) (at (map D.layer (driver.old ∷ layers below.old))) (unit_of_chain (map D.layer (driver.old ∷ layers below.old))) offset (length buf.old) (files_of D.image D.extras (driver.old ∷ layers below.old)) (files_of D.image D.extras (driver.new ∷ layers below.new))) }
+        ensures looked { Pairs (Looked D.Seen (WasNotCutOff result)) (driver.old ∷ layers below.old) (driver.new ∷ layers below.new) }
+        ensures failed { IfErr result (ImageCause (files_of D.Seen (driver.old ∷ layers below.old)) (files_of D.Seen (driver.new ∷ layers below.new))) }
+        ensures cause { Each D.sees (driver.old ∷ layers below.old) → IfErr result (ReadCause (map D.layer (driver.old ∷ layers below.old)) (at (map D.layer (driver.old ∷ layers below.old))) (unit_of_chain (map D.layer (driver.old ∷ layers below.old))) offset (length buf.old) (files_of D.Seen (driver.old ∷ layers below.old)) (files_of D.Seen (driver.new ∷ layers below.new))) }
     {
         let most = buf.len();
         let (mapping, length) = match driver.get_mapping(alloc, offset, most as u64) {
@@ -140,9 +142,9 @@ impl<D: FormatDriverInstance> FormatAccess<D> {
     ) -> Result<(), Fault>
         requires fits { Overflows (unit_of_chain (map D.layer (layers below.old))) offset (length buf.old) → ⊥ }
         ensures shown { Each D.sees (layers below.old) → OnOk result (Shows (at (map D.layer (layers below.old))) offset buf.new) }
-        ensures looked { Pairs (Looked D.layer D.image D.extras D.sees D.safe D.still D.lasts D.sound (IsOk result) (IsWhole result)) (layers below.old) (layers below.new) }
-        ensures failed { IfErr result (ImageCause (files_of D.image D.extras (layers below.old)) (files_of D.image D.extras (layers below.new))) }
-        ensures cause { Each D.sees (layers below.old) → IfErr result (ReadCause (map D.layer (layers below.old)) (at (map D.layer (layers below.old))) (unit_of_chain (map D.layer (layers below.old))) offset (length buf.old) (files_of D.image D.extras (layers below.old)) (files_of D.image D.extras (layers below.new))) }
+        ensures looked { Pairs (Looked D.Seen (WasNotCutOff result)) (layers below.old) (layers below.new) }
+        ensures failed { IfErr result (ImageCause (files_of D.Seen (layers below.old)) (files_of D.Seen (layers below.new))) }
+        ensures cause { Each D.sees (layers below.old) → IfErr result (ReadCause (map D.layer (layers below.old)) (at (map D.layer (layers below.old))) (unit_of_chain (map D.layer (layers below.old))) offset (length buf.old) (files_of D.Seen (layers below.old)) (files_of D.Seen (layers below.new))) }
     {
         match below {
             Some(layer) => layer.read_all(alloc, buf, offset),
@@ -154,10 +156,10 @@ impl<D: FormatDriverInstance> FormatAccess<D> {
     }
 }
 
-impl<D: FormatDriverInstance> ReadBelow for Option<Box<FormatAccess<D>>> {
+impl<D: FormatDriverInstance> SeenBelow for Option<Box<FormatAccess<D>>> {
     ghost under = { λ b. map D.layer (layers b) };
 
-    ghost files_under = { λ b. files_of D.image D.extras (layers b) };
+    ghost files_under = { λ b. files_of D.Seen (layers b) };
 
     ghost sees_under = { λ b. Each D.sees (layers b) };
 
@@ -166,7 +168,9 @@ impl<D: FormatDriverInstance> ReadBelow for Option<Box<FormatAccess<D>>> {
     ghost still_under = { λ b. Each D.still (layers b) };
 
     ghost lasts_under = { λ b. Each D.lasts (layers b) };
+}
 
+impl<D: FormatDriverInstance> ReadBelow for Option<Box<FormatAccess<D>>> {
     fn present(&self) -> bool {
         self.is_some()
     }

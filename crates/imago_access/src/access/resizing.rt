@@ -6,13 +6,15 @@ ghost use Rattle.imago_storage.specs.declared.fault.Fault.TheVariants.{ReadOnly}
 ghost use Rattle.imago_access.specs.Layer.{IsFree};
 ghost use Rattle.imago_access.specs.Chain.{Each};
 ghost use Rattle.imago_access.specs.Layers.{chain};
-ghost use Rattle.imago_access.specs.Files.{IsWhole, IsMild, ImageCause, Unasked, files_of};
-ghost use Rattle.imago_access.specs.Going.{Went, LookedUnder};
+ghost use Rattle.imago_access.specs.Files.{WasNotCutOff, IsMild, ImageCause, Unasked, files_of, files};
+ghost use Rattle.imago_access.specs.Going.{AtOnce, Went, LookedUnder};
 ghost use Rattle.imago_access.specs.Parts.{GrowthCause, ShrinkCause};
 ghost use Rattle.imago_access.specs.Refusals.{barrier};
 ghost use Rattle.imago_access.specs.Resizes.{fill_of, resizing};
 ghost use Rattle.imago_access.specs.Stops.{KeepsStopsTo, GivesPast, GivesBelowPast};
-ghost use Rattle.imago_access.specs.Running.{IsIntactChain, chain_disk, below_of};
+ghost use Rattle.imago_access.specs.Running.{IsIntactChain, chain_disk, below_of, below_ghosts};
+ghost use Rattle.imago_access.specs.ChainCalls.{ChainSteps, ChainStays, ChainFails};
+ghost use Rattle.imago_access.specs.Failing.{Fails};
 
 use crate::access::FormatAccess;
 use crate::drivers::FormatDriverInstance;
@@ -33,19 +35,18 @@ impl<D: FormatDriverInstance> FormatAccess<D> {
         mode: PreallocateMode,
     ) -> Result<(), Fault>
         requires free { IsFree (D.layer self.old.0) }
-        ensures ok { IsIntactChain D.layer D.safe D.sees self.old → OnOk result (Step (below_of D.layer self.old) (chain_disk D.layer self.old) (grow size (fill_of mode)) done (chain_disk D.layer self.new)) }
-        ensures err { IsIntactChain D.layer D.safe D.sees self.old → IfErr result (λ e. IsMild e → Stays (chain_disk D.layer self.old) (chain_disk D.layer self.new)) }
-        ensures idle { size ≤ (D.layer self.old.0).size → barrier (D.layer self.old.0) ≡ None → IsOk result }
-        ensures barred { (f : Fault) → barrier (D.layer self.old.0) ≡ Some f → IsErrOf result f }
-        ensures read_only { barrier (D.layer self.old.0) ≡ None → (D.layer self.old.0).size < size → IsFalse (D.layer self.old.0).fixed.writable → IsErrOf result ReadOnly }
-        ensures unasked { (size ≤ (D.layer self.old.0).size) ⊎ (IsSome (barrier (D.layer self.old.0)) ⊎ IsFalse (D.layer self.old.0).fixed.writable) → Unasked D.image D.extras self.old.0 self.new.0 × (self.new.1 ≡ self.old.1) }
+        ensures ok { IsIntactChain D.Seen self.old → OnOk result (ChainSteps D.Seen (grow size (fill_of mode)) done self.old self.new) }
+        ensures err { IsIntactChain D.Seen self.old → IfErr result (λ e. IsMild e → ChainStays D.Seen self.old self.new) }
+        ensures at_once { AtOnce D.Seen (barrier (D.layer self.old.0)) (size ≤ (D.layer self.old.0).size) result self.old.0 self.new.0 }
+        ensures read_only { barrier (D.layer self.old.0) ≡ None → (D.layer self.old.0).size < size → IsFalse (D.layer self.old.0).fixed.writable → IsErrOf result ReadOnly × Unasked D.Seen self.old.0 self.new.0 × (self.new.1 ≡ self.old.1) }
+        ensures unread { (size ≤ (D.layer self.old.0).size) ⊎ IsSome (barrier (D.layer self.old.0)) → self.new.1 ≡ self.old.1 }
         ensures free { IsFree (D.layer self.new.0) }
-        ensures went { Went D.layer D.image D.extras D.safe D.lasts (IsOk result) (IsWhole result × Each D.sees self.old.1) self.old.0 self.new.0 }
-        ensures below { LookedUnder (map D.layer) (files_of D.image D.extras) (Each D.sees) (Each D.safe) (Each D.still) (Each D.lasts) (IsOk result) (IsWhole result) self.old.1 self.new.1 }
-        ensures intact { IsWhole result → IsIntactChain D.layer D.safe D.sees self.old → IsIntactChain D.layer D.safe D.sees self.new }
-        ensures stops { IsIntactChain D.layer D.safe D.sees self.old → KeepsStopsTo (map D.layer self.old.1) (D.layer self.old.0) D.sound (D.layer self.old.0).size (GivesPast (D.layer self.old.0).size) (D.image self.old.0) (D.image self.new.0) }
-        ensures failed { IfErr result (ImageCause (files_of D.image D.extras (chain self.old)) (files_of D.image D.extras (chain self.new))) }
-        ensures cause { IsIntactChain D.layer D.safe D.sees self.old → IfErr result (GrowthCause (map D.layer self.old.1) (D.layer self.old.0) size (D.growth_cause self.old.0 (map D.layer self.old.1) size mode) (files_of D.image D.extras (chain self.old)) (files_of D.image D.extras (chain self.new))) }
+        ensures went { Went D.Seen (WasNotCutOff result) (WasNotCutOff result × Each D.sees self.old.1) self.old.0 self.new.0 }
+        ensures below { LookedUnder (below_ghosts D.Seen) (WasNotCutOff result) self.old.1 self.new.1 }
+        ensures intact { WasNotCutOff result → IsIntactChain D.Seen self.old → IsIntactChain D.Seen self.new }
+        ensures stops { IsIntactChain D.Seen self.old → KeepsStopsTo D.Seen (map D.layer self.old.1) (D.layer self.old.0).size (GivesPast (D.layer self.old.0).size) self.old.0 self.new.0 }
+        ensures failed { IfErr result (ChainFails D.Seen self.old self.new) }
+        ensures cause { IsIntactChain D.Seen self.old → IfErr result (GrowthCause (map D.layer self.old.1) (D.layer self.old.0) size (D.growth_cause self.old.0 (map D.layer self.old.1) size mode) (files_of D.Seen (chain self.old)) (files_of D.Seen (chain self.new))) }
     {
         self.driver.resize_grow(alloc, &mut self.below, size, mode)
     }
@@ -56,19 +57,17 @@ impl<D: FormatDriverInstance> FormatAccess<D> {
     /// can't be used. A refusal for another cause than `Memory` and `Storage` leaves the disk as it was.
     pub fn resize_shrink(&mut self, alloc: Global, size: u64) -> Result<(), Fault>
         requires free { IsFree (D.layer self.old.0) }
-        ensures ok { IsIntactChain D.layer D.safe D.sees self.old → OnOk result (Step (below_of D.layer self.old) (chain_disk D.layer self.old) (shrink size) done (chain_disk D.layer self.new)) }
-        ensures err { IsIntactChain D.layer D.safe D.sees self.old → IfErr result (λ e. IsMild e → Stays (chain_disk D.layer self.old) (chain_disk D.layer self.new)) }
-        ensures idle { (D.layer self.old.0).size ≤ size → barrier (D.layer self.old.0) ≡ None → IsOk result }
-        ensures barred { (f : Fault) → barrier (D.layer self.old.0) ≡ Some f → IsErrOf result f }
-        ensures read_only { barrier (D.layer self.old.0) ≡ None → size < (D.layer self.old.0).size → IsFalse (D.layer self.old.0).fixed.writable → IsErrOf result ReadOnly }
-        ensures unasked { ((D.layer self.old.0).size ≤ size) ⊎ (IsSome (barrier (D.layer self.old.0)) ⊎ IsFalse (D.layer self.old.0).fixed.writable) → Unasked D.image D.extras self.old.0 self.new.0 }
+        ensures ok { IsIntactChain D.Seen self.old → OnOk result (ChainSteps D.Seen (shrink size) done self.old self.new) }
+        ensures err { IsIntactChain D.Seen self.old → IfErr result (λ e. IsMild e → ChainStays D.Seen self.old self.new) }
+        ensures at_once { AtOnce D.Seen (barrier (D.layer self.old.0)) ((D.layer self.old.0).size ≤ size) result self.old.0 self.new.0 }
+        ensures read_only { barrier (D.layer self.old.0) ≡ None → size < (D.layer self.old.0).size → IsFalse (D.layer self.old.0).fixed.writable → IsErrOf result ReadOnly × Unasked D.Seen self.old.0 self.new.0 }
         ensures free { IsFree (D.layer self.new.0) }
-        ensures went { Went D.layer D.image D.extras D.safe D.lasts (IsOk result) (IsWhole result) self.old.0 self.new.0 }
+        ensures went { Went D.Seen (WasNotCutOff result) (WasNotCutOff result) self.old.0 self.new.0 }
         ensures below { self.new.1 ≡ self.old.1 }
-        ensures intact { IsWhole result → IsIntactChain D.layer D.safe D.sees self.old → IsIntactChain D.layer D.safe D.sees self.new }
-        ensures stops { IsIntactChain D.layer D.safe D.sees self.old → KeepsStopsTo (map D.layer self.old.1) (D.layer self.old.0) D.sound size (GivesBelowPast (map D.layer self.old.1) size) (D.image self.old.0) (D.image self.new.0) }
-        ensures failed { IfErr result (ImageCause (D.image self.old.0 ∷ D.extras self.old.0) (D.image self.new.0 ∷ D.extras self.new.0)) }
-        ensures cause { IsIntactChain D.layer D.safe D.sees self.old → IfErr result (ShrinkCause (map D.layer self.old.1) (D.layer self.old.0) size (D.own_cause self.old.0 (map D.layer self.old.1) (shrink size)) (files_of D.image D.extras (chain self.old)) (files_of D.image D.extras (chain self.new))) }
+        ensures intact { WasNotCutOff result → IsIntactChain D.Seen self.old → IsIntactChain D.Seen self.new }
+        ensures stops { IsIntactChain D.Seen self.old → KeepsStopsTo D.Seen (map D.layer self.old.1) size (GivesBelowPast (map D.layer self.old.1) size) self.old.0 self.new.0 }
+        ensures failed { IfErr result (Fails D.Seen self.old.0 self.new.0) }
+        ensures cause { IsIntactChain D.Seen self.old → IfErr result (ShrinkCause (map D.layer self.old.1) (D.layer self.old.0) size (D.own_cause self.old.0 (map D.layer self.old.1) (shrink size)) (files_of D.Seen (chain self.old)) (files_of D.Seen (chain self.new))) }
     {
         self.driver.resize_shrink(alloc, size)
     }
@@ -78,21 +77,20 @@ impl<D: FormatDriverInstance> FormatAccess<D> {
     /// It refuses and leaves what `resize_grow` does for a size that isn't below, and what `resize_shrink` does for one below.
     pub fn resize(&mut self, alloc: Global, size: u64, mode: PreallocateMode) -> Result<(), Fault>
         requires free { IsFree (D.layer self.old.0) }
-        ensures ok { IsIntactChain D.layer D.safe D.sees self.old → OnOk result (Step (below_of D.layer self.old) (chain_disk D.layer self.old) (resizing (D.layer self.old.0).size size (fill_of mode)) done (chain_disk D.layer self.new)) }
-        ensures err { IsIntactChain D.layer D.safe D.sees self.old → IfErr result (λ e. IsMild e → Stays (chain_disk D.layer self.old) (chain_disk D.layer self.new)) }
-        ensures idle { size ≡ (D.layer self.old.0).size → barrier (D.layer self.old.0) ≡ None → IsOk result }
-        ensures barred { (f : Fault) → barrier (D.layer self.old.0) ≡ Some f → IsErrOf result f }
-        ensures read_only { barrier (D.layer self.old.0) ≡ None → size ≢ (D.layer self.old.0).size → IsFalse (D.layer self.old.0).fixed.writable → IsErrOf result ReadOnly }
-        ensures unasked { (size ≡ (D.layer self.old.0).size) ⊎ (IsSome (barrier (D.layer self.old.0)) ⊎ IsFalse (D.layer self.old.0).fixed.writable) → Unasked D.image D.extras self.old.0 self.new.0 × (self.new.1 ≡ self.old.1) }
+        ensures ok { IsIntactChain D.Seen self.old → OnOk result (ChainSteps D.Seen (resizing (D.layer self.old.0).size size (fill_of mode)) done self.old self.new) }
+        ensures err { IsIntactChain D.Seen self.old → IfErr result (λ e. IsMild e → ChainStays D.Seen self.old self.new) }
+        ensures at_once { AtOnce D.Seen (barrier (D.layer self.old.0)) (size ≡ (D.layer self.old.0).size) result self.old.0 self.new.0 }
+        ensures read_only { barrier (D.layer self.old.0) ≡ None → size ≢ (D.layer self.old.0).size → IsFalse (D.layer self.old.0).fixed.writable → IsErrOf result ReadOnly × Unasked D.Seen self.old.0 self.new.0 × (self.new.1 ≡ self.old.1) }
+        ensures unread { (size ≡ (D.layer self.old.0).size) ⊎ IsSome (barrier (D.layer self.old.0)) → self.new.1 ≡ self.old.1 }
         ensures free { IsFree (D.layer self.new.0) }
-        ensures went { Went D.layer D.image D.extras D.safe D.lasts (IsOk result) (IsWhole result × Each D.sees self.old.1) self.old.0 self.new.0 }
-        ensures below { LookedUnder (map D.layer) (files_of D.image D.extras) (Each D.sees) (Each D.safe) (Each D.still) (Each D.lasts) (IsOk result) (IsWhole result) self.old.1 self.new.1 }
-        ensures intact { IsWhole result → IsIntactChain D.layer D.safe D.sees self.old → IsIntactChain D.layer D.safe D.sees self.new }
-        ensures longer { IsIntactChain D.layer D.safe D.sees self.old → (D.layer self.old.0).size ≤ size → KeepsStopsTo (map D.layer self.old.1) (D.layer self.old.0) D.sound (D.layer self.old.0).size (GivesPast (D.layer self.old.0).size) (D.image self.old.0) (D.image self.new.0) }
-        ensures shorter { IsIntactChain D.layer D.safe D.sees self.old → size < (D.layer self.old.0).size → KeepsStopsTo (map D.layer self.old.1) (D.layer self.old.0) D.sound size (GivesBelowPast (map D.layer self.old.1) size) (D.image self.old.0) (D.image self.new.0) }
-        ensures failed { IfErr result (ImageCause (files_of D.image D.extras (chain self.old)) (files_of D.image D.extras (chain self.new))) }
-        ensures growth { IsIntactChain D.layer D.safe D.sees self.old → (D.layer self.old.0).size ≤ size → IfErr result (GrowthCause (map D.layer self.old.1) (D.layer self.old.0) size (D.growth_cause self.old.0 (map D.layer self.old.1) size mode) (files_of D.image D.extras (chain self.old)) (files_of D.image D.extras (chain self.new))) }
-        ensures shrinking { IsIntactChain D.layer D.safe D.sees self.old → size < (D.layer self.old.0).size → IfErr result (ShrinkCause (map D.layer self.old.1) (D.layer self.old.0) size (D.own_cause self.old.0 (map D.layer self.old.1) (shrink size)) (files_of D.image D.extras (chain self.old)) (files_of D.image D.extras (chain self.new))) }
+        ensures went { Went D.Seen (WasNotCutOff result) (WasNotCutOff result × Each D.sees self.old.1) self.old.0 self.new.0 }
+        ensures below { LookedUnder (below_ghosts D.Seen) (WasNotCutOff result) self.old.1 self.new.1 }
+        ensures intact { WasNotCutOff result → IsIntactChain D.Seen self.old → IsIntactChain D.Seen self.new }
+        ensures longer { IsIntactChain D.Seen self.old → (D.layer self.old.0).size ≤ size → KeepsStopsTo D.Seen (map D.layer self.old.1) (D.layer self.old.0).size (GivesPast (D.layer self.old.0).size) self.old.0 self.new.0 }
+        ensures shorter { IsIntactChain D.Seen self.old → size < (D.layer self.old.0).size → KeepsStopsTo D.Seen (map D.layer self.old.1) size (GivesBelowPast (map D.layer self.old.1) size) self.old.0 self.new.0 }
+        ensures failed { IfErr result (ChainFails D.Seen self.old self.new) }
+        ensures growth { IsIntactChain D.Seen self.old → (D.layer self.old.0).size ≤ size → IfErr result (GrowthCause (map D.layer self.old.1) (D.layer self.old.0) size (D.growth_cause self.old.0 (map D.layer self.old.1) size mode) (files_of D.Seen (chain self.old)) (files_of D.Seen (chain self.new))) }
+        ensures shrinking { IsIntactChain D.Seen self.old → size < (D.layer self.old.0).size → IfErr result (ShrinkCause (map D.layer self.old.1) (D.layer self.old.0) size (D.own_cause self.old.0 (map D.layer self.old.1) (shrink size)) (files_of D.Seen (chain self.old)) (files_of D.Seen (chain self.new))) }
     {
         if size < self.size() {
             self.resize_shrink(alloc, size)

@@ -5,12 +5,14 @@ ghost use Rattle.imago_storage.specs.declared.fault.Fault.{Fault};
 ghost use Rattle.imago_access.specs.Layer.{IsFree, IsLike};
 ghost use Rattle.imago_access.specs.Chain.{Each, EndsAt};
 ghost use Rattle.imago_access.specs.Layers.{chain, layers};
-ghost use Rattle.imago_access.specs.Files.{Pairs, IsKept, IsStale, ImageCause, Unasked, files_of};
+ghost use Rattle.imago_access.specs.Files.{Pairs, IsKept, IsStale, ImageCause, Unasked, files_of, files};
 ghost use Rattle.imago_access.specs.Going.{Went};
 ghost use Rattle.imago_access.specs.Parts.{PlainCause};
 ghost use Rattle.imago_access.specs.Refusals.{barrier, SomeFailed, InvalidateCause};
 ghost use Rattle.imago_access.specs.Stops.{IsMeant, GivesNone};
 ghost use Rattle.imago_access.specs.Running.{IsIntactChain, RanChain, chain_disk, below_of};
+ghost use Rattle.imago_access.specs.ChainCalls.{ChainSteps};
+ghost use Rattle.imago_access.specs.Failing.{Fails};
 
 use crate::access::FormatAccess;
 use crate::drivers::FormatDriverInstance;
@@ -23,17 +25,17 @@ impl<D: FormatDriverInstance> FormatAccess<D> {
     ///
     /// It refuses with `Fault::Memory` and `Fault::Storage`, and where the image can't be used.
     pub fn flush(&mut self, alloc: Global) -> Result<(), Fault>
-        ensures ok { IsIntactChain D.layer D.safe D.sees self.old → OnOk result (Step (below_of D.layer self.old) (chain_disk D.layer self.old) flush done (chain_disk D.layer self.new)) }
-        ensures same { IsIntactChain D.layer D.safe D.sees self.old → OnOk result (D.layer self.new.0 ≡ D.layer self.old.0) }
+        ensures ok { IsIntactChain D.Seen self.old → OnOk result (ChainSteps D.Seen flush done self.old self.new) }
+        ensures same { IsIntactChain D.Seen self.old → OnOk result (D.layer self.new.0 ≡ D.layer self.old.0) }
         ensures still { OnOk result (D.still self.new.0) }
-        ensures written { IsIntactChain D.layer D.safe D.sees self.old → IsFree (D.layer self.old.0) → OnOk result (IsMeant (D.layer self.new.0) (D.image self.new.0).bytes) }
+        ensures written { IsIntactChain D.Seen self.old → IsFree (D.layer self.old.0) → OnOk result (IsMeant (D.layer self.new.0) (D.image self.new.0).bytes) }
         ensures barred { (f : Fault) → barrier (D.layer self.old.0) ≡ Some f → IsErrOf result f }
-        ensures unasked { IsSome (barrier (D.layer self.old.0)) → Unasked D.image D.extras self.old.0 self.new.0 }
+        ensures unasked { IsSome (barrier (D.layer self.old.0)) → Unasked D.Seen self.old.0 self.new.0 }
         ensures like { IsLike (D.layer self.old.0) (D.layer self.new.0) }
-        ensures ran { RanChain D.layer D.image D.extras D.sees D.safe D.still D.lasts D.sound (IsOk result) (IsOk result) GivesNone self.old self.new }
+        ensures ran { RanChain D.Seen (IsOk result) GivesNone self.old self.new }
         ensures below { self.new.1 ≡ self.old.1 }
-        ensures failed { IfErr result (ImageCause (D.image self.old.0 ∷ D.extras self.old.0) (D.image self.new.0 ∷ D.extras self.new.0)) }
-        ensures cause { D.safe self.old.0 → IfErr result (PlainCause (D.layer self.old.0) (D.image self.old.0 ∷ D.extras self.old.0) (D.image self.new.0 ∷ D.extras self.new.0)) }
+        ensures failed { IfErr result (Fails D.Seen self.old.0 self.new.0) }
+        ensures cause { D.safe self.old.0 → IfErr result (PlainCause (D.layer self.old.0) (files D.Seen self.old.0) (files D.Seen self.new.0)) }
     {
         self.driver.flush(alloc)
     }
@@ -42,16 +44,16 @@ impl<D: FormatDriverInstance> FormatAccess<D> {
     ///
     /// It refuses with `Fault::Memory` and `Fault::Storage`, and where the image can't be used.
     pub fn sync(&mut self) -> Result<(), Fault>
-        ensures ok { OnOk result (Step (below_of D.layer self.old) (chain_disk D.layer self.old) sync done (chain_disk D.layer self.new)) }
+        ensures ok { OnOk result (ChainSteps D.Seen sync done self.old self.new) }
         ensures same { OnOk result (D.layer self.new.0 ≡ D.layer self.old.0) }
-        ensures kept { Pairs IsKept (D.image self.old.0 ∷ D.extras self.old.0) (D.image self.new.0 ∷ D.extras self.new.0) }
+        ensures kept { Pairs IsKept (files D.Seen self.old.0) (files D.Seen self.new.0) }
         ensures still { D.still self.old.0 → D.still self.new.0 }
         ensures barred { (f : Fault) → barrier (D.layer self.old.0) ≡ Some f → IsErrOf result f }
-        ensures unasked { IsSome (barrier (D.layer self.old.0)) → Unasked D.image D.extras self.old.0 self.new.0 }
+        ensures unasked { IsSome (barrier (D.layer self.old.0)) → Unasked D.Seen self.old.0 self.new.0 }
         ensures like { IsLike (D.layer self.old.0) (D.layer self.new.0) }
-        ensures ran { RanChain D.layer D.image D.extras D.sees D.safe D.still D.lasts D.sound (IsOk result) (IsOk result) GivesNone self.old self.new }
+        ensures ran { RanChain D.Seen (IsOk result) GivesNone self.old self.new }
         ensures below { self.new.1 ≡ self.old.1 }
-        ensures cause { IfErr result (PlainCause (D.layer self.old.0) (D.image self.old.0 ∷ D.extras self.old.0) (D.image self.new.0 ∷ D.extras self.new.0)) }
+        ensures cause { IfErr result (PlainCause (D.layer self.old.0) (files D.Seen self.old.0) (files D.Seen self.new.0)) }
     {
         self.driver.sync()
     }
@@ -67,15 +69,15 @@ impl<D: FormatDriverInstance> FormatAccess<D> {
         requires free { Each (λ d. IsFree (D.layer d)) (chain self.old) }
         ensures same { Each (λ d. IsTrue (D.layer d).fixed.keeps) (chain self.old) → Each D.sees (chain self.old) → Each D.still (chain self.old) → OnOk result (map D.layer (chain self.new) ≡ map D.layer (chain self.old)) }
         ensures sees { Each (λ d. IsTrue (D.layer d).fixed.keeps) (chain self.old) → Each D.sees (chain self.old) → Each D.still (chain self.old) → OnOk result (Each D.sees (chain self.new)) }
-        ensures kept { Pairs IsKept (files_of D.image D.extras (chain self.old)) (files_of D.image D.extras (chain self.new)) }
+        ensures kept { Pairs IsKept (files_of D.Seen (chain self.old)) (files_of D.Seen (chain self.new)) }
         ensures still { OnOk result (Each D.still (chain self.new)) }
         ensures barred { (f : Fault) → barrier (D.layer self.old.0) ≡ Some f → IsErrOf result f }
-        ensures unasked { IsSome (barrier (D.layer self.old.0)) → Unasked D.image D.extras self.old.0 self.new.0 × (self.new.1 ≡ self.old.1) }
-        ensures went { Pairs (Went D.layer D.image D.extras D.safe D.lasts (IsOk result) (IsOk result)) (chain self.old) (chain self.new) }
+        ensures unasked { IsSome (barrier (D.layer self.old.0)) → Unasked D.Seen self.old.0 self.new.0 × (self.new.1 ≡ self.old.1) }
+        ensures went { Pairs (Went D.Seen (IsOk result) (IsOk result)) (chain self.old) (chain self.new) }
         ensures free { Each (λ d. IsFree (D.layer d)) (chain self.new) }
         ensures downward { IfErr result (λ _. EndsAt D.still (chain self.old) (chain self.new)) }
         ensures failed { IfErr result (λ e. IsStale e → SomeFailed (map D.layer (chain self.new))) }
-        ensures cause { IfErr result (InvalidateCause (map D.layer (chain self.old)) (files_of D.image D.extras (chain self.old)) (files_of D.image D.extras (chain self.new))) }
+        ensures cause { IfErr result (InvalidateCause (map D.layer (chain self.old)) (files_of D.Seen (chain self.old)) (files_of D.Seen (chain self.new))) }
     {
         Self::invalidate_part(alloc, &mut self.driver, &mut self.below)
     }
@@ -90,15 +92,15 @@ impl<D: FormatDriverInstance> FormatAccess<D> {
         requires free { Each (λ d. IsFree (D.layer d)) (driver.old ∷ layers below.old) }
         ensures same { Each (λ d. IsTrue (D.layer d).fixed.keeps) (driver.old ∷ layers below.old) → Each D.sees (driver.old ∷ layers below.old) → Each D.still (driver.old ∷ layers below.old) → OnOk result (map D.layer (driver.new ∷ layers below.new) ≡ map D.layer (driver.old ∷ layers below.old)) }
         ensures sees { Each (λ d. IsTrue (D.layer d).fixed.keeps) (driver.old ∷ layers below.old) → Each D.sees (driver.old ∷ layers below.old) → Each D.still (driver.old ∷ layers below.old) → OnOk result (Each D.sees (driver.new ∷ layers below.new)) }
-        ensures kept { Pairs IsKept (files_of D.image D.extras (driver.old ∷ layers below.old)) (files_of D.image D.extras (driver.new ∷ layers below.new)) }
+        ensures kept { Pairs IsKept (files_of D.Seen (driver.old ∷ layers below.old)) (files_of D.Seen (driver.new ∷ layers below.new)) }
         ensures still { OnOk result (Each D.still (driver.new ∷ layers below.new)) }
         ensures barred { (f : Fault) → barrier (D.layer driver.old) ≡ Some f → IsErrOf result f }
-        ensures unasked { IsSome (barrier (D.layer driver.old)) → Unasked D.image D.extras driver.old driver.new × (layers below.new ≡ layers below.old) }
-        ensures went { Pairs (Went D.layer D.image D.extras D.safe D.lasts (IsOk result) (IsOk result)) (driver.old ∷ layers below.old) (driver.new ∷ layers below.new) }
+        ensures unasked { IsSome (barrier (D.layer driver.old)) → Unasked D.Seen driver.old driver.new × (layers below.new ≡ layers below.old) }
+        ensures went { Pairs (Went D.Seen (IsOk result) (IsOk result)) (driver.old ∷ layers below.old) (driver.new ∷ layers below.new) }
         ensures free { Each (λ d. IsFree (D.layer d)) (driver.new ∷ layers below.new) }
         ensures downward { IfErr result (λ _. EndsAt D.still (driver.old ∷ layers below.old) (driver.new ∷ layers below.new)) }
         ensures failed { IfErr result (λ e. IsStale e → SomeFailed (map D.layer (driver.new ∷ layers below.new))) }
-        ensures cause { IfErr result (InvalidateCause (map D.layer (driver.old ∷ layers below.old)) (files_of D.image D.extras (driver.old ∷ layers below.old)) (files_of D.image D.extras (driver.new ∷ layers below.new))) }
+        ensures cause { IfErr result (InvalidateCause (map D.layer (driver.old ∷ layers below.old)) (files_of D.Seen (driver.old ∷ layers below.old)) (files_of D.Seen (driver.new ∷ layers below.new))) }
     {
         match driver.invalidate_cache(alloc) {
             Ok(()) => Self::invalidate_under(alloc, below),
@@ -115,13 +117,13 @@ impl<D: FormatDriverInstance> FormatAccess<D> {
         requires free { Each (λ d. IsFree (D.layer d)) (layers below.old) }
         ensures same { Each (λ d. IsTrue (D.layer d).fixed.keeps) (layers below.old) → Each D.sees (layers below.old) → Each D.still (layers below.old) → OnOk result (map D.layer (layers below.new) ≡ map D.layer (layers below.old)) }
         ensures sees { Each (λ d. IsTrue (D.layer d).fixed.keeps) (layers below.old) → Each D.sees (layers below.old) → Each D.still (layers below.old) → OnOk result (Each D.sees (layers below.new)) }
-        ensures kept { Pairs IsKept (files_of D.image D.extras (layers below.old)) (files_of D.image D.extras (layers below.new)) }
+        ensures kept { Pairs IsKept (files_of D.Seen (layers below.old)) (files_of D.Seen (layers below.new)) }
         ensures still { OnOk result (Each D.still (layers below.new)) }
-        ensures went { Pairs (Went D.layer D.image D.extras D.safe D.lasts (IsOk result) (IsOk result)) (layers below.old) (layers below.new) }
+        ensures went { Pairs (Went D.Seen (IsOk result) (IsOk result)) (layers below.old) (layers below.new) }
         ensures free { Each (λ d. IsFree (D.layer d)) (layers below.new) }
         ensures downward { IfErr result (λ _. EndsAt D.still (layers below.old) (layers below.new)) }
         ensures failed { IfErr result (λ e. IsStale e → SomeFailed (map D.layer (layers below.new))) }
-        ensures cause { IfErr result (InvalidateCause (map D.layer (layers below.old)) (files_of D.image D.extras (layers below.old)) (files_of D.image D.extras (layers below.new))) }
+        ensures cause { IfErr result (InvalidateCause (map D.layer (layers below.old)) (files_of D.Seen (layers below.old)) (files_of D.Seen (layers below.new))) }
     {
         match below {
             Some(layer) => layer.invalidate_cache(alloc),

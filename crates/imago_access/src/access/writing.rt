@@ -9,7 +9,7 @@ ghost use Rattle.imago_access.specs.Layer.{Layer, loose, IsFree, IsLike, unit_of
 ghost use Rattle.imago_access.specs.Room.{IsApart, IsUncutAt, Takes};
 ghost use Rattle.imago_access.specs.Chain.{at, unit_of_chain};
 ghost use Rattle.imago_access.specs.Layers.{chain};
-ghost use Rattle.imago_access.specs.Files.{IsWhole, IsMild, ImageCause, Unasked, files_of};
+ghost use Rattle.imago_access.specs.Files.{WasNotCutOff, IsMild, ImageCause, Unasked, files_of, files};
 ghost use Rattle.imago_access.specs.Going.{Went};
 ghost use Rattle.imago_access.specs.Changes.{Committed, Cancelled};
 ghost use Rattle.imago_access.specs.Spending.{IsMine, Spends};
@@ -17,6 +17,8 @@ ghost use Rattle.imago_access.specs.Parts.{IsPartOf, IsUncutPart, announces, Par
 ghost use Rattle.imago_access.specs.Refusals.{barrier, change_refusal, ChangeCause};
 ghost use Rattle.imago_access.specs.Stops.{KeepsStops, MakesNone, GivesBytes, GivesSettled};
 ghost use Rattle.imago_access.specs.Running.{IsIntact, Ran, IsIntactChain, RanChain, chain_disk, below_of};
+ghost use Rattle.imago_access.specs.ChainCalls.{ChainSteps, ChainPartly, ChainFails, chain_refusal, OwnCause};
+ghost use Rattle.imago_access.specs.Failing.{Fails, FailsOver};
 
 use crate::access::FormatAccess;
 use crate::below::ReadBelow;
@@ -31,10 +33,10 @@ pub(crate) fn abandon<D: FormatDriverInstance>(
     driver: &mut D,
     mapping: PreparedDataMapping<D::State>,
 )
-    requires { IsMine D.claim D.tag mapping.state (D.layer driver.old) }
-    ensures ok { Spends D.claim D.tag mapping.state (D.layer driver.old) (D.layer driver.new) (Cancelled (D.layer driver.old) (D.layer driver.new)) }
+    requires { IsMine D.Seen mapping.state (D.layer driver.old) }
+    ensures ok { Spends D.Seen mapping.state (D.layer driver.old) (D.layer driver.new) (Cancelled (D.layer driver.old) (D.layer driver.new)) }
     ensures safe { D.safe driver.old → D.safe driver.new }
-    ensures room { IsTrue (D.layer driver.old).fixed.keeps → D.safe driver.old → Takes D.vacant D.has_room D.zeroed (λ _. ⊤) driver.old driver.new }
+    ensures room { D.safe driver.old → Takes D.Seen (λ _. ⊤) driver.old driver.new }
     ensures lasts { D.lasts driver.old → D.lasts driver.new }
     ensures began { (d : D) (call : Call) → D.began d call driver.old → D.began d call driver.new }
     ensures none { (D.image driver.new ≡ D.image driver.old) × (D.extras driver.new ≡ D.extras driver.old) }
@@ -51,19 +53,19 @@ pub(crate) fn settle<D: FormatDriverInstance>(
     alloc: Global,
     mapping: PreparedDataMapping<D::State>,
 ) -> Result<(), Fault>
-    requires { IsMine D.claim D.tag mapping.state (D.layer driver.old) }
-    ensures ok { OnOk result (Spends D.claim D.tag mapping.state (D.layer driver.old) (D.layer driver.new) (IsTrue (D.layer driver.old).fixed.keeps → D.safe driver.old → Committed (D.layer driver.old) (D.layer driver.new))) }
-    ensures err { D.safe driver.old → IfErr result (λ e. IsMild e → Spends D.claim D.tag mapping.state (D.layer driver.old) (D.layer driver.new) (Cancelled (D.layer driver.old) (D.layer driver.new))) }
+    requires { IsMine D.Seen mapping.state (D.layer driver.old) }
+    ensures ok { OnOk result (Spends D.Seen mapping.state (D.layer driver.old) (D.layer driver.new) (D.safe driver.old → Committed (D.layer driver.old) (D.layer driver.new))) }
+    ensures err { D.safe driver.old → IfErr result (λ e. IsMild e → Spends D.Seen mapping.state (D.layer driver.old) (D.layer driver.new) (Cancelled (D.layer driver.old) (D.layer driver.new))) }
     ensures free { (mapping.state ≡ None → IsFree (D.layer driver.old)) → IsFree (D.layer driver.new) }
     ensures idle { mapping.state ≡ None → barrier (D.layer driver.old) ≡ None → IsOk result }
-    ensures unasked { mapping.state ≡ None → Unasked D.image D.extras driver.old driver.new }
+    ensures unasked { mapping.state ≡ None → Unasked D.Seen driver.old driver.new }
     ensures size { (D.layer driver.new).size ≡ (D.layer driver.old).size }
-    ensures room { IsTrue (D.layer driver.old).fixed.keeps → D.safe driver.old → IsWhole result → Takes D.vacant D.has_room D.zeroed (λ p. (D.layer driver.old).held p ≡ loose) driver.old driver.new }
-    ensures went { Went D.layer D.image D.extras D.safe D.lasts (IsOk result) (IsWhole result) driver.old driver.new }
+    ensures room { D.safe driver.old → WasNotCutOff result → Takes D.Seen (λ p. (D.layer driver.old).held p ≡ loose) driver.old driver.new }
+    ensures went { Went D.Seen (WasNotCutOff result) (WasNotCutOff result) driver.old driver.new }
     ensures began { (d : D) (call : Call) → D.began d call driver.old → OnOk result (D.began d call driver.new) }
-    ensures stops { IsTrue (D.layer driver.old).fixed.keeps → D.safe driver.old → (below : List Layer) → KeepsStops below (D.layer driver.old) D.sound (GivesSettled below (D.layer driver.old)) (D.image driver.old) (D.image driver.new) }
-    ensures failed { IfErr result (ImageCause (D.image driver.old ∷ D.extras driver.old) (D.image driver.new ∷ D.extras driver.new)) }
-    ensures cause { D.safe driver.old → (below : List Layer) (offset n : ℕ) → 0 < n → IfErr result (PartCause below (D.layer driver.old) offset n (λ _. ⊥) (D.image driver.old ∷ D.extras driver.old) (D.image driver.new ∷ D.extras driver.new)) }
+    ensures stops { D.safe driver.old → (below : List Layer) → KeepsStops D.Seen below (GivesSettled below (D.layer driver.old)) driver.old driver.new }
+    ensures failed { IfErr result (Fails D.Seen driver.old driver.new) }
+    ensures cause { D.safe driver.old → (below : List Layer) (offset n : ℕ) → 0 < n → IfErr result (PartCause below (D.layer driver.old) offset n (λ _. ⊥) (files D.Seen driver.old) (files D.Seen driver.new)) }
 {
     match driver.commit_data_mapping(alloc, mapping) {
         Ok(()) => Ok(()),
@@ -86,14 +88,14 @@ pub(crate) fn write_run<D: FormatDriverInstance, B: ReadBelow>(
     requires free { IsFree (D.layer driver.old) }
     requires some { 0 < length bytes.now }
     ensures run { IfOk result (λ n. (0 < n) × (n ≤ length bytes.now)) }
-    ensures uncut { IsIntact (B.under below.old) (D.layer driver.old) (D.safe driver.old) (B.sees_under below.old) → IfOk result (λ n. IsUncutAt (D.layer driver.old).fixed.unit (D.layer driver.old).size offset (length bytes.now) (offset + n)) }
-    ensures shown { IsIntact (B.under below.old) (D.layer driver.old) (D.safe driver.old) (B.sees_under below.old) → IfOk result (λ n. (i : ℕ) → i < n → at (D.layer driver.new ∷ B.under below.old) (offset + i) ≡ byte (slice_index bytes.now i)) }
+    ensures uncut { IsIntact D.Seen B.SeenBelow driver.old below.old → IfOk result (λ n. IsUncutAt (D.layer driver.old).fixed.unit (D.layer driver.old).size offset (length bytes.now) (offset + n)) }
+    ensures shown { IsIntact D.Seen B.SeenBelow driver.old below.old → IfOk result (λ n. (i : ℕ) → i < n → at (D.layer driver.new ∷ B.under below.old) (offset + i) ≡ byte (slice_index bytes.now i)) }
     ensures free { IsFree (D.layer driver.new) }
-    ensures room { IsIntact (B.under below.old) (D.layer driver.old) (D.safe driver.old) (B.sees_under below.old) → IsWhole result → Takes D.vacant D.has_room D.zeroed (IsApart (D.layer driver.old).fixed.unit offset (length bytes.now)) driver.old driver.new }
-    ensures ran { Ran D.layer D.image D.extras D.safe D.lasts B.under B.files_under B.sees_under B.safe_under B.still_under B.lasts_under D.sound (IsOk result) (IsWhole result) (GivesBytes offset bytes.now) driver.old driver.new below.old below.new }
+    ensures room { IsIntact D.Seen B.SeenBelow driver.old below.old → WasNotCutOff result → Takes D.Seen (IsApart (D.layer driver.old).fixed.unit offset (length bytes.now)) driver.old driver.new }
+    ensures ran { Ran D.Seen B.SeenBelow (WasNotCutOff result) (GivesBytes offset bytes.now) (driver.old, below.old) (driver.new, below.new) }
     ensures began { (d : D) (call : Call) → D.began d call driver.old → IsPartOf call offset (length bytes.now) → OnOk result (D.began d call driver.new) }
-    ensures failed { IfErr result (ImageCause (D.image driver.old ∷ D.extras driver.old ++ B.files_under below.old) (D.image driver.new ∷ D.extras driver.new ++ B.files_under below.new)) }
-    ensures cause { IsIntact (B.under below.old) (D.layer driver.old) (D.safe driver.old) (B.sees_under below.old) → (d : D) (call : Call) → D.began d call driver.old → IsUncutPart (D.layer driver.old) call offset (length bytes.now) → true ≡ announces call → IfErr result (PartCause (B.under below.old) (D.layer driver.old) offset (length bytes.now) (D.own_cause d (B.under below.old) call) (D.image driver.old ∷ D.extras driver.old ++ B.files_under below.old) (D.image driver.new ∷ D.extras driver.new ++ B.files_under below.new)) }
+    ensures failed { IfErr result (FailsOver D.Seen B.SeenBelow (driver.old, below.old) (driver.new, below.new)) }
+    ensures cause { IsIntact D.Seen B.SeenBelow driver.old below.old → (d : D) (call : Call) → D.began d call driver.old → IsUncutPart (D.layer driver.old) call offset (length bytes.now) → true ≡ announces call → IfErr result (PartCause (B.under below.old) (D.layer driver.old) offset (length bytes.now) (D.own_cause d (B.under below.old) call) (files D.Seen driver.old ++ B.files_under below.old) (files D.Seen driver.new ++ B.files_under below.new)) }
 {
     let mapping = match driver.prepare_data_mapping(
         alloc,
@@ -128,15 +130,15 @@ pub(crate) fn write_all<D: FormatDriverInstance, B: ReadBelow>(
 ) -> Result<(), Fault>
     requires free { IsFree (D.layer driver.old) }
     requires inside { 0 < length bytes.now → offset + length bytes.now ≤ (D.layer driver.old).size }
-    ensures shown { IsIntact (B.under below.old) (D.layer driver.old) (D.safe driver.old) (B.sees_under below.old) → OnOk result ((i : ℕ) → i < length bytes.now → at (D.layer driver.new ∷ B.under below.old) (offset + i) ≡ byte (slice_index bytes.now i)) }
+    ensures shown { IsIntact D.Seen B.SeenBelow driver.old below.old → OnOk result ((i : ℕ) → i < length bytes.now → at (D.layer driver.new ∷ B.under below.old) (offset + i) ≡ byte (slice_index bytes.now i)) }
     ensures idle { length bytes.now ≡ 0 → IsOk result }
     ensures untouched { length bytes.now ≡ 0 → (driver.new ≡ driver.old) × (below.new ≡ below.old) }
     ensures free { IsFree (D.layer driver.new) }
-    ensures room { IsIntact (B.under below.old) (D.layer driver.old) (D.safe driver.old) (B.sees_under below.old) → IsWhole result → Takes D.vacant D.has_room D.zeroed (IsApart (D.layer driver.old).fixed.unit offset (length bytes.now)) driver.old driver.new }
-    ensures ran { Ran D.layer D.image D.extras D.safe D.lasts B.under B.files_under B.sees_under B.safe_under B.still_under B.lasts_under D.sound (IsOk result) (IsWhole result) (GivesBytes offset bytes.now) driver.old driver.new below.old below.new }
+    ensures room { IsIntact D.Seen B.SeenBelow driver.old below.old → WasNotCutOff result → Takes D.Seen (IsApart (D.layer driver.old).fixed.unit offset (length bytes.now)) driver.old driver.new }
+    ensures ran { Ran D.Seen B.SeenBelow (WasNotCutOff result) (GivesBytes offset bytes.now) (driver.old, below.old) (driver.new, below.new) }
     ensures began { (d : D) (call : Call) → D.began d call driver.old → IsPartOf call offset (length bytes.now) → OnOk result (D.began d call driver.new) }
-    ensures failed { IfErr result (ImageCause (D.image driver.old ∷ D.extras driver.old ++ B.files_under below.old) (D.image driver.new ∷ D.extras driver.new ++ B.files_under below.new)) }
-    ensures cause { IsIntact (B.under below.old) (D.layer driver.old) (D.safe driver.old) (B.sees_under below.old) → (d : D) (call : Call) → D.began d call driver.old → IsUncutPart (D.layer driver.old) call offset (length bytes.now) → true ≡ announces call → IfErr result (PartCause (B.under below.old) (D.layer driver.old) offset (length bytes.now) (D.own_cause d (B.under below.old) call) (D.image driver.old ∷ D.extras driver.old ++ B.files_under below.old) (D.image driver.new ∷ D.extras driver.new ++ B.files_under below.new)) }
+    ensures failed { IfErr result (FailsOver D.Seen B.SeenBelow (driver.old, below.old) (driver.new, below.new)) }
+    ensures cause { IsIntact D.Seen B.SeenBelow driver.old below.old → (d : D) (call : Call) → D.began d call driver.old → IsUncutPart (D.layer driver.old) call offset (length bytes.now) → true ≡ announces call → IfErr result (PartCause (B.under below.old) (D.layer driver.old) offset (length bytes.now) (D.own_cause d (B.under below.old) call) (files D.Seen driver.old ++ B.files_under below.old) (files D.Seen driver.new ++ B.files_under below.new)) }
 {
     // The range ends in the disk, whose size fits 64 bits.
     let _size = driver.size();
@@ -171,16 +173,16 @@ impl<D: FormatDriverInstance> FormatAccess<D> {
     /// as it was.
     pub fn write(&mut self, alloc: Global, bytes: &[u8], offset: u64) -> Result<(), Fault>
         requires free { IsFree (D.layer self.old.0) }
-        ensures ok { IsIntactChain D.layer D.safe D.sees self.old → OnOk result (Step (below_of D.layer self.old) (chain_disk D.layer self.old) (write offset bytes.now) done (chain_disk D.layer self.new)) }
-        ensures err { IsIntactChain D.layer D.safe D.sees self.old → IfErr result (λ e. IsMild e → PartlyDone (below_of D.layer self.old) (write offset bytes.now) (chain_disk D.layer self.old) (chain_disk D.layer self.new)) }
-        ensures at_once { (f : Fault) → change_refusal (unit_of_chain (map D.layer (chain self.old))) (D.layer self.old.0) offset (length bytes.now) ≡ Some f → IsErrOf result f }
+        ensures ok { IsIntactChain D.Seen self.old → OnOk result (ChainSteps D.Seen (write offset bytes.now) done self.old self.new) }
+        ensures err { IsIntactChain D.Seen self.old → IfErr result (λ e. IsMild e → ChainPartly D.Seen (write offset bytes.now) self.old self.new) }
+        ensures at_once { (f : Fault) → chain_refusal D.Seen self.old offset (length bytes.now) ≡ Some f → IsErrOf result f }
         ensures idle { length bytes.now ≡ 0 → barrier (D.layer self.old.0) ≡ None → IsOk result }
-        ensures untouched { (length bytes.now ≡ 0) ⊎ IsSome (change_refusal (unit_of_chain (map D.layer (chain self.old))) (D.layer self.old.0) offset (length bytes.now)) → self.new ≡ self.old }
+        ensures untouched { (length bytes.now ≡ 0) ⊎ IsSome (chain_refusal D.Seen self.old offset (length bytes.now)) → self.new ≡ self.old }
         ensures like { IsLike (D.layer self.old.0) (D.layer self.new.0) }
-        ensures ran { RanChain D.layer D.image D.extras D.sees D.safe D.still D.lasts D.sound (IsOk result) (IsWhole result) (GivesBytes offset bytes.now) self.old self.new }
-        ensures room { IsIntactChain D.layer D.safe D.sees self.old → IsWhole result → Takes D.vacant D.has_room D.zeroed (IsApart (D.layer self.old.0).fixed.unit offset (length bytes.now)) self.old.0 self.new.0 }
-        ensures failed { IfErr result (ImageCause (files_of D.image D.extras (chain self.old)) (files_of D.image D.extras (chain self.new))) }
-        ensures cause { IsIntactChain D.layer D.safe D.sees self.old → IfErr result (ChangeCause (unit_of_chain (map D.layer (chain self.old))) (map D.layer (chain self.old)) (chain_disk D.layer self.old) (D.layer self.old.0).fixed.writable (write offset bytes.now) (D.own_cause self.old.0 (map D.layer self.old.1) (write offset bytes.now)) (files_of D.image D.extras (chain self.old)) (files_of D.image D.extras (chain self.new))) }
+        ensures ran { RanChain D.Seen (WasNotCutOff result) (GivesBytes offset bytes.now) self.old self.new }
+        ensures room { IsIntactChain D.Seen self.old → WasNotCutOff result → Takes D.Seen (IsApart (D.layer self.old.0).fixed.unit offset (length bytes.now)) self.old.0 self.new.0 }
+        ensures failed { IfErr result (ChainFails D.Seen self.old self.new) }
+        ensures cause { IsIntactChain D.Seen self.old → IfErr result (OwnCause D.Seen (write offset bytes.now) self.old self.new) }
     {
         self.check_change(offset, bytes.len() as u64)?;
         write_all(alloc, &mut self.driver, &mut self.below, bytes, offset)

@@ -9,13 +9,16 @@ ghost use Rattle.imago_access.specs.Zeroings.{IsLeft};
 ghost use Rattle.imago_access.specs.declared.access.zeroing.Zeroing.TheVariants as zeroing_is;
 ghost use Rattle.imago_access.specs.Chain.{at, unit_of_chain};
 ghost use Rattle.imago_access.specs.Layers.{chain};
-ghost use Rattle.imago_access.specs.Files.{IsWhole, IsAnswered, IsMild, ImageCause, files_of};
+ghost use Rattle.imago_access.specs.Files.{WasNotCutOff, IsMild, ImageCause, files_of, files};
+ghost use Rattle.imago_access.specs.PartCalls.{IsPart};
 ghost use Rattle.imago_access.specs.Going.{Went};
 ghost use Rattle.imago_access.specs.Changes.{Rewrites, PartRewrites, ToZero, Wrote};
 ghost use Rattle.imago_access.specs.Parts.{IsPartOf, IsUncutPart, announces, PartCause, DeclinableCause, MappedCause};
 ghost use Rattle.imago_access.specs.Refusals.{barrier, change_refusal, ChangeCause};
 ghost use Rattle.imago_access.specs.Stops.{KeepsStops, GivesBytes, GivesZero};
 ghost use Rattle.imago_access.specs.Running.{IsIntact, IsBetween, Ran, RanAlone, IsIntactChain, RanChain, chain_disk, below_of};
+ghost use Rattle.imago_access.specs.ChainCalls.{ChainSteps, ChainPartly, ChainFails, chain_refusal, OwnCause};
+ghost use Rattle.imago_access.specs.Failing.{Fails, FailsOver};
 
 use crate::access::FormatAccess;
 use crate::access::discarding::is_declined;
@@ -49,18 +52,18 @@ fn zero_part<D: FormatDriverInstance>(
     length: u64,
 ) -> Result<(u64, u64), Fault>
     requires free { IsFree (D.layer driver.old) }
-    ensures part { IfOk result (λ r. (offset ≤ r.0) × ((r.1 ≡ 0) ⊎ (r.0 + r.1 ≤ offset + length))) }
-    ensures ok { IsTrue (D.layer driver.old).fixed.keeps → D.safe driver.old → IfOk result (λ r. Rewrites ToZero (D.layer driver.old) (D.layer driver.new) r.0 r.1) }
-    ensures err { IsTrue (D.layer driver.old).fixed.keeps → D.safe driver.old → IfErr result (λ e. IsMild e → PartRewrites ToZero (D.layer driver.old) (D.layer driver.new) offset length) }
+    ensures part { IfOk result (IsPart offset length) }
+    ensures ok { D.safe driver.old → IfOk result (λ r. Rewrites ToZero (D.layer driver.old) (D.layer driver.new) r.0 r.1) }
+    ensures err { D.safe driver.old → IfErr result (λ e. IsMild e → PartRewrites ToZero (D.layer driver.old) (D.layer driver.new) offset length) }
     ensures like { IsLike (D.layer driver.old) (D.layer driver.new) }
-    ensures room { IsTrue (D.layer driver.old).fixed.keeps → D.safe driver.old → IsWhole result → LeavesRoom D.vacant D.has_room D.zeroed (λ p. (zeroing ≡ zeroing_is.Keep) ⊎ IsOut offset length p) (IsOut offset length) driver.old driver.new }
-    ensures given { IsTrue (D.layer driver.old).fixed.keeps → D.safe driver.old → IfOk result (λ r. (p : ℕ) → IsIn r.0 r.1 p → IsLeft zeroing (D.vacant driver.new) (D.zeroed driver.new) p) }
-    ensures reach { IsTrue (D.layer driver.old).fixed.keeps → D.safe driver.old → IfOk result (λ r. Reaches (D.layer driver.old).fixed.unit (D.layer driver.old).size offset length r.0 r.1) }
-    ensures went { Went D.layer D.image D.extras D.safe D.lasts (IsAnswered result) (IsWhole result) driver.old driver.new }
-    ensures began { (d : D) (call : Call) → D.began d call driver.old → IsPartOf call offset length → IsWhole result → D.began d call driver.new }
-    ensures stops { IsTrue (D.layer driver.old).fixed.keeps → D.safe driver.old → (below : List Layer) → KeepsStops below (D.layer driver.old) D.sound (GivesZero offset length) (D.image driver.old) (D.image driver.new) }
-    ensures failed { IfErr result (ImageCause (D.image driver.old ∷ D.extras driver.old) (D.image driver.new ∷ D.extras driver.new)) }
-    ensures cause { D.safe driver.old → (below : List Layer) (d : D) (call : Call) → D.began d call driver.old → IsPartOf call offset length → IfErr result (DeclinableCause below (D.layer driver.old) offset length (D.own_cause d below call) (D.image driver.old ∷ D.extras driver.old) (D.image driver.new ∷ D.extras driver.new)) }
+    ensures room { D.safe driver.old → WasNotCutOff result → LeavesRoom D.Seen (λ p. (zeroing ≡ zeroing_is.Keep) ⊎ IsOut offset length p) (IsOut offset length) driver.old driver.new }
+    ensures given { D.safe driver.old → IfOk result (λ r. (p : ℕ) → IsIn r.0 r.1 p → IsLeft zeroing (D.vacant driver.new) (D.zeroed driver.new) p) }
+    ensures reach { D.safe driver.old → IfOk result (λ r. Reaches (D.layer driver.old).fixed.unit (D.layer driver.old).size offset length r.0 r.1) }
+    ensures went { Went D.Seen (WasNotCutOff result) (WasNotCutOff result) driver.old driver.new }
+    ensures began { (d : D) (call : Call) → D.began d call driver.old → IsPartOf call offset length → WasNotCutOff result → D.began d call driver.new }
+    ensures stops { D.safe driver.old → (below : List Layer) → KeepsStops D.Seen below (GivesZero offset length) driver.old driver.new }
+    ensures failed { IfErr result (Fails D.Seen driver.old driver.new) }
+    ensures cause { D.safe driver.old → (below : List Layer) (d : D) (call : Call) → D.began d call driver.old → IsPartOf call offset length → IfErr result (DeclinableCause below (D.layer driver.old) offset length (D.own_cause d below call) (files D.Seen driver.old) (files D.Seen driver.new)) }
 {
     match zeroing {
         Zeroing::Keep => driver.ensure_zero_mapping(alloc, offset, length),
@@ -86,13 +89,13 @@ fn write_mapped_zeroes<D: FormatDriverInstance>(
 ) -> Result<(), Fault>
     requires fits { guest + n < 2 ^ 64 }
     requires place_fits { place + n < 2 ^ 64 }
-    ensures ok { IsTrue (D.layer driver.old).fixed.keeps → D.safe driver.old → OnOk result (Wrote (D.layer driver.old) (D.layer driver.new) guest (replicate n 0)) }
+    ensures ok { D.safe driver.old → OnOk result (Wrote (D.layer driver.old) (D.layer driver.new) guest (replicate n 0)) }
     ensures like { IsLike (D.layer driver.old) (D.layer driver.new) }
-    ensures room { IsTrue (D.layer driver.old).fixed.keeps → D.safe driver.old → IsWhole result → Takes D.vacant D.has_room D.zeroed (λ _. ⊤) driver.old driver.new }
-    ensures ran { (below : List Layer) → RanAlone D.layer D.image D.extras D.safe D.lasts D.sound (IsOk result) (IsWhole result) (GivesBytes guest (replicate n 0)) below driver.old driver.new }
+    ensures room { D.safe driver.old → WasNotCutOff result → Takes D.Seen (λ _. ⊤) driver.old driver.new }
+    ensures ran { (below : List Layer) → RanAlone D.Seen (WasNotCutOff result) (GivesBytes guest (replicate n 0)) below driver.old driver.new }
     ensures began { (d : D) (call : Call) → D.began d call driver.old → OnOk result (D.began d call driver.new) }
-    ensures failed { IfErr result (ImageCause (D.image driver.old ∷ D.extras driver.old) (D.image driver.new ∷ D.extras driver.new)) }
-    ensures cause { IsTrue (D.layer driver.old).fixed.keeps → D.safe driver.old → IfErr result (MappedCause (D.layer driver.old) guest place n (D.image driver.old ∷ D.extras driver.old) (D.image driver.new ∷ D.extras driver.new)) }
+    ensures failed { IfErr result (Fails D.Seen driver.old driver.new) }
+    ensures cause { D.safe driver.old → IfErr result (MappedCause (D.layer driver.old) guest place n (files D.Seen driver.old) (files D.Seen driver.new)) }
 {
     let mut done = 0;
     while done < n {
@@ -119,14 +122,14 @@ fn write_zero_run<D: FormatDriverInstance, B: ReadBelow>(
     requires some { 0 < n }
     requires fits { offset + n < 2 ^ 64 }
     ensures run { IfOk result (λ count. (0 < count) × (count ≤ n)) }
-    ensures uncut { IsIntact (B.under below.old) (D.layer driver.old) (D.safe driver.old) (B.sees_under below.old) → IfOk result (λ count. IsUncutAt (D.layer driver.old).fixed.unit (D.layer driver.old).size offset n (offset + count)) }
-    ensures shown { IsIntact (B.under below.old) (D.layer driver.old) (D.safe driver.old) (B.sees_under below.old) → IfOk result (λ count. (i : ℕ) → i < count → at (D.layer driver.new ∷ B.under below.old) (offset + i) ≡ byte 0) }
+    ensures uncut { IsIntact D.Seen B.SeenBelow driver.old below.old → IfOk result (λ count. IsUncutAt (D.layer driver.old).fixed.unit (D.layer driver.old).size offset n (offset + count)) }
+    ensures shown { IsIntact D.Seen B.SeenBelow driver.old below.old → IfOk result (λ count. (i : ℕ) → i < count → at (D.layer driver.new ∷ B.under below.old) (offset + i) ≡ byte 0) }
     ensures free { IsFree (D.layer driver.new) }
-    ensures room { IsIntact (B.under below.old) (D.layer driver.old) (D.safe driver.old) (B.sees_under below.old) → IsWhole result → Takes D.vacant D.has_room D.zeroed (IsApart (D.layer driver.old).fixed.unit offset n) driver.old driver.new }
-    ensures ran { Ran D.layer D.image D.extras D.safe D.lasts B.under B.files_under B.sees_under B.safe_under B.still_under B.lasts_under D.sound (IsOk result) (IsWhole result) (GivesZero offset n) driver.old driver.new below.old below.new }
+    ensures room { IsIntact D.Seen B.SeenBelow driver.old below.old → WasNotCutOff result → Takes D.Seen (IsApart (D.layer driver.old).fixed.unit offset n) driver.old driver.new }
+    ensures ran { Ran D.Seen B.SeenBelow (WasNotCutOff result) (GivesZero offset n) (driver.old, below.old) (driver.new, below.new) }
     ensures began { (d : D) (call : Call) → D.began d call driver.old → IsPartOf call offset n → OnOk result (D.began d call driver.new) }
-    ensures failed { IfErr result (ImageCause (D.image driver.old ∷ D.extras driver.old ++ B.files_under below.old) (D.image driver.new ∷ D.extras driver.new ++ B.files_under below.new)) }
-    ensures cause { IsIntact (B.under below.old) (D.layer driver.old) (D.safe driver.old) (B.sees_under below.old) → (d : D) (call : Call) → D.began d call driver.old → IsUncutPart (D.layer driver.old) call offset n → true ≡ announces call → IfErr result (PartCause (B.under below.old) (D.layer driver.old) offset n (D.own_cause d (B.under below.old) call) (D.image driver.old ∷ D.extras driver.old ++ B.files_under below.old) (D.image driver.new ∷ D.extras driver.new ++ B.files_under below.new)) }
+    ensures failed { IfErr result (FailsOver D.Seen B.SeenBelow (driver.old, below.old) (driver.new, below.new)) }
+    ensures cause { IsIntact D.Seen B.SeenBelow driver.old below.old → (d : D) (call : Call) → D.began d call driver.old → IsUncutPart (D.layer driver.old) call offset n → true ≡ announces call → IfErr result (PartCause (B.under below.old) (D.layer driver.old) offset n (D.own_cause d (B.under below.old) call) (files D.Seen driver.old ++ B.files_under below.old) (files D.Seen driver.new ++ B.files_under below.new)) }
 {
     let mapping = match driver.prepare_data_mapping(alloc, below, offset, n, true) {
         Ok(mapping) => mapping,
@@ -156,13 +159,13 @@ fn write_zero_bytes<D: FormatDriverInstance, B: ReadBelow>(
     requires free { IsFree (D.layer driver.old) }
     requires fits { offset + n < 2 ^ 64 }
     requires inside { offset + n ≤ (D.layer driver.old).size }
-    ensures shown { IsIntact (B.under below.old) (D.layer driver.old) (D.safe driver.old) (B.sees_under below.old) → OnOk result ((p : ℕ) → IsIn offset n p → at (D.layer driver.new ∷ B.under below.old) p ≡ byte 0) }
+    ensures shown { IsIntact D.Seen B.SeenBelow driver.old below.old → OnOk result ((p : ℕ) → IsIn offset n p → at (D.layer driver.new ∷ B.under below.old) p ≡ byte 0) }
     ensures free { IsFree (D.layer driver.new) }
-    ensures room { IsIntact (B.under below.old) (D.layer driver.old) (D.safe driver.old) (B.sees_under below.old) → IsWhole result → Takes D.vacant D.has_room D.zeroed (IsApart (D.layer driver.old).fixed.unit offset n) driver.old driver.new }
-    ensures ran { Ran D.layer D.image D.extras D.safe D.lasts B.under B.files_under B.sees_under B.safe_under B.still_under B.lasts_under D.sound (IsOk result) (IsWhole result) (GivesZero offset n) driver.old driver.new below.old below.new }
+    ensures room { IsIntact D.Seen B.SeenBelow driver.old below.old → WasNotCutOff result → Takes D.Seen (IsApart (D.layer driver.old).fixed.unit offset n) driver.old driver.new }
+    ensures ran { Ran D.Seen B.SeenBelow (WasNotCutOff result) (GivesZero offset n) (driver.old, below.old) (driver.new, below.new) }
     ensures began { (d : D) (call : Call) → D.began d call driver.old → IsPartOf call offset n → OnOk result (D.began d call driver.new) }
-    ensures failed { IfErr result (ImageCause (D.image driver.old ∷ D.extras driver.old ++ B.files_under below.old) (D.image driver.new ∷ D.extras driver.new ++ B.files_under below.new)) }
-    ensures cause { IsIntact (B.under below.old) (D.layer driver.old) (D.safe driver.old) (B.sees_under below.old) → (d : D) (call : Call) → D.began d call driver.old → IsUncutPart (D.layer driver.old) call offset n → true ≡ announces call → IfErr result (PartCause (B.under below.old) (D.layer driver.old) offset n (D.own_cause d (B.under below.old) call) (D.image driver.old ∷ D.extras driver.old ++ B.files_under below.old) (D.image driver.new ∷ D.extras driver.new ++ B.files_under below.new)) }
+    ensures failed { IfErr result (FailsOver D.Seen B.SeenBelow (driver.old, below.old) (driver.new, below.new)) }
+    ensures cause { IsIntact D.Seen B.SeenBelow driver.old below.old → (d : D) (call : Call) → D.began d call driver.old → IsUncutPart (D.layer driver.old) call offset n → true ≡ announces call → IfErr result (PartCause (B.under below.old) (D.layer driver.old) offset n (D.own_cause d (B.under below.old) call) (files D.Seen driver.old ++ B.files_under below.old) (files D.Seen driver.new ++ B.files_under below.new)) }
 {
     let mut done = 0;
     while done < n {
@@ -187,17 +190,17 @@ fn zero_by_driver<D: FormatDriverInstance>(
     requires some { 0 < n }
     requires fits { offset + n < 2 ^ 64 }
     ensures part { IfOk result (λ r. (offset ≤ r.0) × (r.0 ≤ r.1) × (offset < r.1) × (r.1 ≤ offset + n)) }
-    ensures uncut { IsTrue (D.layer driver.old).fixed.keeps → D.safe driver.old → IfOk result (λ r. IsUncutAt (D.layer driver.old).fixed.unit (D.layer driver.old).size offset n r.0 × IsUncutAt (D.layer driver.old).fixed.unit (D.layer driver.old).size offset n r.1) }
-    ensures zeroed { IsTrue (D.layer driver.old).fixed.keeps → D.safe driver.old → (below : List Layer) → IfOk result (λ r. (p : ℕ) → r.0 ≤ p → p < r.1 → at (D.layer driver.new ∷ below) p ≡ byte 0) }
-    ensures values { IsTrue (D.layer driver.old).fixed.keeps → D.safe driver.old → (below : List Layer) → IsWhole result → IsBetween (GivesZero offset n) below (D.layer driver.old) (D.layer driver.new) }
+    ensures uncut { D.safe driver.old → IfOk result (λ r. IsUncutAt (D.layer driver.old).fixed.unit (D.layer driver.old).size offset n r.0 × IsUncutAt (D.layer driver.old).fixed.unit (D.layer driver.old).size offset n r.1) }
+    ensures zeroed { D.safe driver.old → (below : List Layer) → IfOk result (λ r. (p : ℕ) → r.0 ≤ p → p < r.1 → at (D.layer driver.new ∷ below) p ≡ byte 0) }
+    ensures values { D.safe driver.old → (below : List Layer) → WasNotCutOff result → IsBetween (GivesZero offset n) below (D.layer driver.old) (D.layer driver.new) }
     ensures like { IsLike (D.layer driver.old) (D.layer driver.new) }
-    ensures room { IsTrue (D.layer driver.old).fixed.keeps → D.safe driver.old → IsWhole result → LeavesRoom D.vacant D.has_room D.zeroed (λ p. (zeroing ≡ zeroing_is.Keep) ⊎ IsOut offset n p) (IsOut offset n) driver.old driver.new }
-    ensures given { IsTrue (D.layer driver.old).fixed.keeps → D.safe driver.old → (below : List Layer) (d : D) (call : Call) → D.began d call driver.old → IsPartOf call offset n → IsUndeclined (D.own_cause d below call) → IfOk result (λ r. IsGivenUpBehind (IsLeft zeroing (D.vacant driver.new) (D.zeroed driver.new)) (D.layer driver.old).fixed.unit (D.layer driver.old).size offset n r.0 r.1) }
-    ensures went { Went D.layer D.image D.extras D.safe D.lasts (IsOk result) (IsWhole result) driver.old driver.new }
+    ensures room { D.safe driver.old → WasNotCutOff result → LeavesRoom D.Seen (λ p. (zeroing ≡ zeroing_is.Keep) ⊎ IsOut offset n p) (IsOut offset n) driver.old driver.new }
+    ensures given { D.safe driver.old → (below : List Layer) (d : D) (call : Call) → D.began d call driver.old → IsPartOf call offset n → IsUndeclined (D.own_cause d below call) → IfOk result (λ r. IsGivenUpBehind (IsLeft zeroing (D.vacant driver.new) (D.zeroed driver.new)) (D.layer driver.old).fixed.unit (D.layer driver.old).size offset n r.0 r.1) }
+    ensures went { Went D.Seen (WasNotCutOff result) (WasNotCutOff result) driver.old driver.new }
     ensures began { (d : D) (call : Call) → D.began d call driver.old → IsPartOf call offset n → OnOk result (D.began d call driver.new) }
-    ensures stops { IsTrue (D.layer driver.old).fixed.keeps → D.safe driver.old → (below : List Layer) → KeepsStops below (D.layer driver.old) D.sound (GivesZero offset n) (D.image driver.old) (D.image driver.new) }
-    ensures failed { IfErr result (ImageCause (D.image driver.old ∷ D.extras driver.old) (D.image driver.new ∷ D.extras driver.new)) }
-    ensures cause { D.safe driver.old → (below : List Layer) (d : D) (call : Call) → D.began d call driver.old → IsPartOf call offset n → IfErr result (PartCause below (D.layer driver.old) offset n (D.own_cause d below call) (D.image driver.old ∷ D.extras driver.old) (D.image driver.new ∷ D.extras driver.new)) }
+    ensures stops { D.safe driver.old → (below : List Layer) → KeepsStops D.Seen below (GivesZero offset n) driver.old driver.new }
+    ensures failed { IfErr result (Fails D.Seen driver.old driver.new) }
+    ensures cause { D.safe driver.old → (below : List Layer) (d : D) (call : Call) → D.began d call driver.old → IsPartOf call offset n → IfErr result (PartCause below (D.layer driver.old) offset n (D.own_cause d below call) (files D.Seen driver.old) (files D.Seen driver.new)) }
 {
     let end = offset + n;
     match zero_part(alloc, driver, zeroing, offset, n) {
@@ -224,15 +227,15 @@ fn zero_run<D: FormatDriverInstance, B: ReadBelow>(
     requires fits { offset + n < 2 ^ 64 }
     requires inside { offset + n ≤ (D.layer driver.old).size }
     ensures run { IfOk result (λ end. (offset < end) × (end ≤ offset + n)) }
-    ensures uncut { IsIntact (B.under below.old) (D.layer driver.old) (D.safe driver.old) (B.sees_under below.old) → IfOk result (IsUncutAt (D.layer driver.old).fixed.unit (D.layer driver.old).size offset n) }
-    ensures shown { IsIntact (B.under below.old) (D.layer driver.old) (D.safe driver.old) (B.sees_under below.old) → IfOk result (λ end. (p : ℕ) → offset ≤ p → p < end → at (D.layer driver.new ∷ B.under below.old) p ≡ byte 0) }
+    ensures uncut { IsIntact D.Seen B.SeenBelow driver.old below.old → IfOk result (IsUncutAt (D.layer driver.old).fixed.unit (D.layer driver.old).size offset n) }
+    ensures shown { IsIntact D.Seen B.SeenBelow driver.old below.old → IfOk result (λ end. (p : ℕ) → offset ≤ p → p < end → at (D.layer driver.new ∷ B.under below.old) p ≡ byte 0) }
     ensures free { IsFree (D.layer driver.new) }
-    ensures room { IsIntact (B.under below.old) (D.layer driver.old) (D.safe driver.old) (B.sees_under below.old) → IsWhole result → LeavesRoom D.vacant D.has_room D.zeroed (λ p. (zeroing ≡ zeroing_is.Keep) ⊎ IsOut offset n p) (IsApart (D.layer driver.old).fixed.unit offset n) driver.old driver.new }
-    ensures given { IsIntact (B.under below.old) (D.layer driver.old) (D.safe driver.old) (B.sees_under below.old) → (d : D) (call : Call) → D.began d call driver.old → IsPartOf call offset n → IsUndeclined (D.own_cause d (B.under below.old) call) → IfOk result (IsGivenUpTo (IsLeft zeroing (D.vacant driver.new) (D.zeroed driver.new)) (D.layer driver.old).fixed.unit (D.layer driver.old).size offset n) }
-    ensures ran { Ran D.layer D.image D.extras D.safe D.lasts B.under B.files_under B.sees_under B.safe_under B.still_under B.lasts_under D.sound (IsOk result) (IsWhole result) (GivesZero offset n) driver.old driver.new below.old below.new }
+    ensures room { IsIntact D.Seen B.SeenBelow driver.old below.old → WasNotCutOff result → LeavesRoom D.Seen (λ p. (zeroing ≡ zeroing_is.Keep) ⊎ IsOut offset n p) (IsApart (D.layer driver.old).fixed.unit offset n) driver.old driver.new }
+    ensures given { IsIntact D.Seen B.SeenBelow driver.old below.old → (d : D) (call : Call) → D.began d call driver.old → IsPartOf call offset n → IsUndeclined (D.own_cause d (B.under below.old) call) → IfOk result (IsGivenUpTo (IsLeft zeroing (D.vacant driver.new) (D.zeroed driver.new)) (D.layer driver.old).fixed.unit (D.layer driver.old).size offset n) }
+    ensures ran { Ran D.Seen B.SeenBelow (WasNotCutOff result) (GivesZero offset n) (driver.old, below.old) (driver.new, below.new) }
     ensures began { (d : D) (call : Call) → D.began d call driver.old → IsPartOf call offset n → OnOk result (D.began d call driver.new) }
-    ensures failed { IfErr result (ImageCause (D.image driver.old ∷ D.extras driver.old ++ B.files_under below.old) (D.image driver.new ∷ D.extras driver.new ++ B.files_under below.new)) }
-    ensures cause { IsIntact (B.under below.old) (D.layer driver.old) (D.safe driver.old) (B.sees_under below.old) → (d : D) (call : Call) → D.began d call driver.old → IsUncutPart (D.layer driver.old) call offset n → true ≡ announces call → IfErr result (PartCause (B.under below.old) (D.layer driver.old) offset n (D.own_cause d (B.under below.old) call) (D.image driver.old ∷ D.extras driver.old ++ B.files_under below.old) (D.image driver.new ∷ D.extras driver.new ++ B.files_under below.new)) }
+    ensures failed { IfErr result (FailsOver D.Seen B.SeenBelow (driver.old, below.old) (driver.new, below.new)) }
+    ensures cause { IsIntact D.Seen B.SeenBelow driver.old below.old → (d : D) (call : Call) → D.began d call driver.old → IsUncutPart (D.layer driver.old) call offset n → true ≡ announces call → IfErr result (PartCause (B.under below.old) (D.layer driver.old) offset n (D.own_cause d (B.under below.old) call) (files D.Seen driver.old ++ B.files_under below.old) (files D.Seen driver.new ++ B.files_under below.new)) }
 {
     let (start, end) = match zero_by_driver(alloc, driver, zeroing, offset, n) {
         Ok(part) => part,
@@ -258,13 +261,13 @@ fn zero_all<D: FormatDriverInstance, B: ReadBelow>(
     requires inside { 0 < n → offset + n ≤ (D.layer driver.old).size }
     ensures idle { n ≡ 0 → IsOk result }
     ensures untouched { n ≡ 0 → (driver.new ≡ driver.old) × (below.new ≡ below.old) }
-    ensures shown { IsIntact (B.under below.old) (D.layer driver.old) (D.safe driver.old) (B.sees_under below.old) → OnOk result ((p : ℕ) → IsIn offset n p → at (D.layer driver.new ∷ B.under below.old) p ≡ byte 0) }
+    ensures shown { IsIntact D.Seen B.SeenBelow driver.old below.old → OnOk result ((p : ℕ) → IsIn offset n p → at (D.layer driver.new ∷ B.under below.old) p ≡ byte 0) }
     ensures free { IsFree (D.layer driver.new) }
-    ensures room { IsIntact (B.under below.old) (D.layer driver.old) (D.safe driver.old) (B.sees_under below.old) → IsWhole result → LeavesRoom D.vacant D.has_room D.zeroed (λ p. (zeroing ≡ zeroing_is.Keep) ⊎ IsOut offset n p) (IsApart (D.layer driver.old).fixed.unit offset n) driver.old driver.new }
-    ensures leaves { IsIntact (B.under below.old) (D.layer driver.old) (D.safe driver.old) (B.sees_under below.old) → (d : D) (call : Call) → D.began d call driver.old → IsPartOf call offset n → IsUndeclined (D.own_cause d (B.under below.old) call) → OnOk result (IsGivenUp (IsLeft zeroing (D.vacant driver.new) (D.zeroed driver.new)) (D.layer driver.old).fixed.unit (D.layer driver.old).size offset n) }
-    ensures ran { Ran D.layer D.image D.extras D.safe D.lasts B.under B.files_under B.sees_under B.safe_under B.still_under B.lasts_under D.sound (IsOk result) (IsWhole result) (GivesZero offset n) driver.old driver.new below.old below.new }
-    ensures failed { IfErr result (ImageCause (D.image driver.old ∷ D.extras driver.old ++ B.files_under below.old) (D.image driver.new ∷ D.extras driver.new ++ B.files_under below.new)) }
-    ensures cause { IsIntact (B.under below.old) (D.layer driver.old) (D.safe driver.old) (B.sees_under below.old) → (d : D) (call : Call) → D.began d call driver.old → IsUncutPart (D.layer driver.old) call offset n → true ≡ announces call → IfErr result (PartCause (B.under below.old) (D.layer driver.old) offset n (D.own_cause d (B.under below.old) call) (D.image driver.old ∷ D.extras driver.old ++ B.files_under below.old) (D.image driver.new ∷ D.extras driver.new ++ B.files_under below.new)) }
+    ensures room { IsIntact D.Seen B.SeenBelow driver.old below.old → WasNotCutOff result → LeavesRoom D.Seen (λ p. (zeroing ≡ zeroing_is.Keep) ⊎ IsOut offset n p) (IsApart (D.layer driver.old).fixed.unit offset n) driver.old driver.new }
+    ensures leaves { IsIntact D.Seen B.SeenBelow driver.old below.old → (d : D) (call : Call) → D.began d call driver.old → IsPartOf call offset n → IsUndeclined (D.own_cause d (B.under below.old) call) → OnOk result (IsGivenUp (IsLeft zeroing (D.vacant driver.new) (D.zeroed driver.new)) (D.layer driver.old).fixed.unit (D.layer driver.old).size offset n) }
+    ensures ran { Ran D.Seen B.SeenBelow (WasNotCutOff result) (GivesZero offset n) (driver.old, below.old) (driver.new, below.new) }
+    ensures failed { IfErr result (FailsOver D.Seen B.SeenBelow (driver.old, below.old) (driver.new, below.new)) }
+    ensures cause { IsIntact D.Seen B.SeenBelow driver.old below.old → (d : D) (call : Call) → D.began d call driver.old → IsUncutPart (D.layer driver.old) call offset n → true ≡ announces call → IfErr result (PartCause (B.under below.old) (D.layer driver.old) offset n (D.own_cause d (B.under below.old) call) (files D.Seen driver.old ++ B.files_under below.old) (files D.Seen driver.new ++ B.files_under below.new)) }
 {
     let end = offset + n;
     let mut at = offset;
@@ -287,17 +290,17 @@ impl<D: FormatDriverInstance> FormatAccess<D> {
     /// it was. The chain itself takes no memory for it: want of it is the driver's.
     pub fn write_zeroes(&mut self, alloc: Global, offset: u64, length: u64) -> Result<(), Fault>
         requires free { IsFree (D.layer self.old.0) }
-        ensures ok { IsIntactChain D.layer D.safe D.sees self.old → OnOk result (Step (below_of D.layer self.old) (chain_disk D.layer self.old) (write_zeroes offset length) done (chain_disk D.layer self.new)) }
-        ensures err { IsIntactChain D.layer D.safe D.sees self.old → IfErr result (λ e. IsMild e → PartlyDone (below_of D.layer self.old) (write_zeroes offset length) (chain_disk D.layer self.old) (chain_disk D.layer self.new)) }
-        ensures at_once { (f : Fault) → change_refusal (unit_of_chain (map D.layer (chain self.old))) (D.layer self.old.0) offset length ≡ Some f → IsErrOf result f }
+        ensures ok { IsIntactChain D.Seen self.old → OnOk result (ChainSteps D.Seen (write_zeroes offset length) done self.old self.new) }
+        ensures err { IsIntactChain D.Seen self.old → IfErr result (λ e. IsMild e → ChainPartly D.Seen (write_zeroes offset length) self.old self.new) }
+        ensures at_once { (f : Fault) → chain_refusal D.Seen self.old offset length ≡ Some f → IsErrOf result f }
         ensures idle { length ≡ 0 → barrier (D.layer self.old.0) ≡ None → IsOk result }
-        ensures untouched { (length ≡ 0) ⊎ IsSome (change_refusal (unit_of_chain (map D.layer (chain self.old))) (D.layer self.old.0) offset length) → self.new ≡ self.old }
+        ensures untouched { (length ≡ 0) ⊎ IsSome (chain_refusal D.Seen self.old offset length) → self.new ≡ self.old }
         ensures like { IsLike (D.layer self.old.0) (D.layer self.new.0) }
-        ensures ran { RanChain D.layer D.image D.extras D.sees D.safe D.still D.lasts D.sound (IsOk result) (IsWhole result) (GivesZero offset length) self.old self.new }
-        ensures room { IsIntactChain D.layer D.safe D.sees self.old → IsWhole result → Takes D.vacant D.has_room D.zeroed (IsApart (D.layer self.old.0).fixed.unit offset length) self.old.0 self.new.0 }
-        ensures zeroed { IsIntactChain D.layer D.safe D.sees self.old → IsUndeclined (D.own_cause self.old.0 (map D.layer self.old.1) (write_zeroes offset length)) → OnOk result (IsZeroed (D.zeroed self.new.0) (D.layer self.old.0).fixed.unit (D.layer self.old.0).size offset length) }
-        ensures failed { IfErr result (ImageCause (files_of D.image D.extras (chain self.old)) (files_of D.image D.extras (chain self.new))) }
-        ensures cause { IsIntactChain D.layer D.safe D.sees self.old → IfErr result (ChangeCause (unit_of_chain (map D.layer (chain self.old))) (map D.layer (chain self.old)) (chain_disk D.layer self.old) (D.layer self.old.0).fixed.writable (write_zeroes offset length) (D.own_cause self.old.0 (map D.layer self.old.1) (write_zeroes offset length)) (files_of D.image D.extras (chain self.old)) (files_of D.image D.extras (chain self.new))) }
+        ensures ran { RanChain D.Seen (WasNotCutOff result) (GivesZero offset length) self.old self.new }
+        ensures room { IsIntactChain D.Seen self.old → WasNotCutOff result → Takes D.Seen (IsApart (D.layer self.old.0).fixed.unit offset length) self.old.0 self.new.0 }
+        ensures zeroed { IsIntactChain D.Seen self.old → IsUndeclined (D.own_cause self.old.0 (map D.layer self.old.1) (write_zeroes offset length)) → OnOk result (IsZeroed (D.zeroed self.new.0) (D.layer self.old.0).fixed.unit (D.layer self.old.0).size offset length) }
+        ensures failed { IfErr result (ChainFails D.Seen self.old self.new) }
+        ensures cause { IsIntactChain D.Seen self.old → IfErr result (OwnCause D.Seen (write_zeroes offset length) self.old self.new) }
     {
         self.check_change(offset, length)?;
         zero_all(
@@ -316,17 +319,17 @@ impl<D: FormatDriverInstance> FormatAccess<D> {
     /// It refuses as `write_zeroes` does, and leaves the same. The chain itself takes no memory for it either.
     pub fn discard_to_zero(&mut self, alloc: Global, offset: u64, length: u64) -> Result<(), Fault>
         requires free { IsFree (D.layer self.old.0) }
-        ensures ok { IsIntactChain D.layer D.safe D.sees self.old → OnOk result (Step (below_of D.layer self.old) (chain_disk D.layer self.old) (discard_to_zero offset length) done (chain_disk D.layer self.new)) }
-        ensures err { IsIntactChain D.layer D.safe D.sees self.old → IfErr result (λ e. IsMild e → PartlyDone (below_of D.layer self.old) (discard_to_zero offset length) (chain_disk D.layer self.old) (chain_disk D.layer self.new)) }
-        ensures at_once { (f : Fault) → change_refusal (unit_of_chain (map D.layer (chain self.old))) (D.layer self.old.0) offset length ≡ Some f → IsErrOf result f }
+        ensures ok { IsIntactChain D.Seen self.old → OnOk result (ChainSteps D.Seen (discard_to_zero offset length) done self.old self.new) }
+        ensures err { IsIntactChain D.Seen self.old → IfErr result (λ e. IsMild e → ChainPartly D.Seen (discard_to_zero offset length) self.old self.new) }
+        ensures at_once { (f : Fault) → chain_refusal D.Seen self.old offset length ≡ Some f → IsErrOf result f }
         ensures idle { length ≡ 0 → barrier (D.layer self.old.0) ≡ None → IsOk result }
-        ensures untouched { (length ≡ 0) ⊎ IsSome (change_refusal (unit_of_chain (map D.layer (chain self.old))) (D.layer self.old.0) offset length) → self.new ≡ self.old }
+        ensures untouched { (length ≡ 0) ⊎ IsSome (chain_refusal D.Seen self.old offset length) → self.new ≡ self.old }
         ensures like { IsLike (D.layer self.old.0) (D.layer self.new.0) }
-        ensures ran { RanChain D.layer D.image D.extras D.sees D.safe D.still D.lasts D.sound (IsOk result) (IsWhole result) (GivesZero offset length) self.old self.new }
-        ensures room { IsIntactChain D.layer D.safe D.sees self.old → IsWhole result → LeavesRoom D.vacant D.has_room D.zeroed (IsOut offset length) (IsApart (D.layer self.old.0).fixed.unit offset length) self.old.0 self.new.0 }
-        ensures gives_up { IsIntactChain D.layer D.safe D.sees self.old → IsUndeclined (D.own_cause self.old.0 (map D.layer self.old.1) (discard_to_zero offset length)) → OnOk result (IsGivenUp (D.vacant self.new.0) (D.layer self.old.0).fixed.unit (D.layer self.old.0).size offset length) }
-        ensures failed { IfErr result (ImageCause (files_of D.image D.extras (chain self.old)) (files_of D.image D.extras (chain self.new))) }
-        ensures cause { IsIntactChain D.layer D.safe D.sees self.old → IfErr result (ChangeCause (unit_of_chain (map D.layer (chain self.old))) (map D.layer (chain self.old)) (chain_disk D.layer self.old) (D.layer self.old.0).fixed.writable (discard_to_zero offset length) (D.own_cause self.old.0 (map D.layer self.old.1) (discard_to_zero offset length)) (files_of D.image D.extras (chain self.old)) (files_of D.image D.extras (chain self.new))) }
+        ensures ran { RanChain D.Seen (WasNotCutOff result) (GivesZero offset length) self.old self.new }
+        ensures room { IsIntactChain D.Seen self.old → WasNotCutOff result → LeavesRoom D.Seen (IsOut offset length) (IsApart (D.layer self.old.0).fixed.unit offset length) self.old.0 self.new.0 }
+        ensures gives_up { IsIntactChain D.Seen self.old → IsUndeclined (D.own_cause self.old.0 (map D.layer self.old.1) (discard_to_zero offset length)) → OnOk result (IsGivenUp (D.vacant self.new.0) (D.layer self.old.0).fixed.unit (D.layer self.old.0).size offset length) }
+        ensures failed { IfErr result (ChainFails D.Seen self.old self.new) }
+        ensures cause { IsIntactChain D.Seen self.old → IfErr result (OwnCause D.Seen (discard_to_zero offset length) self.old self.new) }
     {
         self.check_change(offset, length)?;
         zero_all(

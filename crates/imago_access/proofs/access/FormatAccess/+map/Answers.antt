@@ -1,8 +1,8 @@
-use Rattle.std.proofs.Common.{rules, arith, sym, subst, ◌≡◌, ◌∷◌, map, true, false}
-use Rattle.std.specs.Prelude.{⊤, IsOk}
+use Rattle.std.proofs.Common.{rules, arith, sym, subst, ◌≡◌, ◌∷◌, map}
+use Rattle.std.specs.Prelude.{⊤}
 use Rattle.imago_access.specs.Chain.{at}
 use Rattle.imago_access.specs.Layers.{layers}
-use Rattle.imago_access.specs.Files.{IsMild, IsWhole, files_of}
+use Rattle.imago_access.specs.Files.{IsMild, WasNotCutOff, files_of, files, byte_in}
 use Rattle.imago_access.specs.Mappings.{NamesHome, DeepNames, stored_at, lower}
 use Rattle.imago_access.specs.declared.mapping.Mapping.{Mapping}
 use Rattle.imago_access.proofs.Looking.{all_looked_same, chain_same}
@@ -16,66 +16,66 @@ pub get_mapping-returns-clause-home : goal.get_mapping-returns-clause-home
 get_mapping-returns-clause-home g t c = rw (← c.self.view_is) c.map_part.ensures.home
 
 pub map_part-returns-in-Err-clause-looked : goal.map_part-returns-in-Err-clause-looked
-map_part-returns-in-Err-clause-looked g t c = let d = g.D.FormatDriverInstance in (c.in-Err.ensures.looked, all_looked_same d.layer d.image d.extras d.sees d.safe d.still d.lasts d.sound (false ≡ true) (IsMild c.in-Err.fault) (layers c.args.below.now))
+map_part-returns-in-Err-clause-looked g t c = let d = g.D.Seen in (c.in-Err.ensures.looked, all_looked_same d (IsMild c.in-Err.fault) (layers c.args.below.now))
 
 pub map_part-returns-in-Err-clause-failed : goal.map_part-returns-in-Err-clause-failed
-map_part-returns-in-Err-clause-failed g t c = let d = g.D.FormatDriverInstance in
-    let a0 = c.args.driver.now in let a1 = c.get_mapping.new.self in let files = files_of d.image d.extras (layers c.args.below.now) in
-    failed_left (d.image a0 ∷ d.extras a0) (d.image a1 ∷ d.extras a1) files files c.in-Err.fault c.in-Err.ensures.failed
+map_part-returns-in-Err-clause-failed g t c = let d = g.D.Seen in
+    let a0 = c.args.driver.now in let a1 = c.get_mapping.new.self in let others = files_of d (layers c.args.below.now) in
+    failed_left (files d a0) (files d a1) others others c.in-Err.fault c.in-Err.ensures.failed
 
 pub map_part-returns-in-Err-clause-cause : goal.map_part-returns-in-Err-clause-cause
-map_part-returns-in-Err-clause-cause g t c = λ see. let d = g.D.FormatDriverInstance in deep_look_top (d.layer c.args.driver.now) (map d.layer (layers c.args.below.now)) c.args.offset c.args.max_length (d.image c.args.driver.now ∷ d.extras c.args.driver.now) (d.image c.get_mapping.new.self ∷ d.extras c.get_mapping.new.self) (files_of d.image d.extras (layers c.args.below.now)) (files_of d.image d.extras (layers c.args.below.now)) c.in-Err.fault (c.in-Err.ensures.cause see.0)
+map_part-returns-in-Err-clause-cause g t c = λ see. let d = g.D.Seen in deep_look_top (d.layer c.args.driver.now) (map d.layer (layers c.args.below.now)) c.args.offset c.args.max_length (files d c.args.driver.now) (files d c.get_mapping.new.self) (files_of d (layers c.args.below.now)) (files_of d (layers c.args.below.now)) c.in-Err.fault (c.in-Err.ensures.cause see.0)
 
 pub map_part-returns-then-length-eq0-clause-looked : goal.map_part-returns-then-length-eq0-clause-looked
-map_part-returns-then-length-eq0-clause-looked g t c = let d = g.D.FormatDriverInstance in (c.in-Ok.ensures.looked, all_looked_same d.layer d.image d.extras d.sees d.safe d.still d.lasts d.sound (true ≡ true) ⊤ (layers c.args.below.now))
+map_part-returns-then-length-eq0-clause-looked g t c = let d = g.D.Seen in (c.in-Ok.ensures.looked, all_looked_same d ⊤ (layers c.args.below.now))
 
 pub map_part-returns-in-Raw-clause-looked : goal.map_part-returns-in-Raw-clause-looked
-map_part-returns-in-Raw-clause-looked g t c = let d = g.D.FormatDriverInstance in (c.in-Ok.ensures.looked, all_looked_same d.layer d.image d.extras d.sees d.safe d.still d.lasts d.sound (true ≡ true) ⊤ (layers c.args.below.now))
+map_part-returns-in-Raw-clause-looked g t c = let d = g.D.Seen in (c.in-Ok.ensures.looked, all_looked_same d ⊤ (layers c.args.below.now))
 
 pub map_part-returns-in-Zero-clause-looked : goal.map_part-returns-in-Zero-clause-looked
-map_part-returns-in-Zero-clause-looked g t c = let d = g.D.FormatDriverInstance in (c.in-Ok.ensures.looked, all_looked_same d.layer d.image d.extras d.sees d.safe d.still d.lasts d.sound (true ≡ true) ⊤ (layers c.args.below.now))
+map_part-returns-in-Zero-clause-looked g t c = let d = g.D.Seen in (c.in-Ok.ensures.looked, all_looked_same d ⊤ (layers c.args.below.now))
 
 pub map_part-returns-in-Eof-clause-looked : goal.map_part-returns-in-Eof-clause-looked
-map_part-returns-in-Eof-clause-looked g t c = let d = g.D.FormatDriverInstance in (c.in-Ok.ensures.looked, all_looked_same d.layer d.image d.extras d.sees d.safe d.still d.lasts d.sound (true ≡ true) ⊤ (layers c.args.below.now))
+map_part-returns-in-Eof-clause-looked g t c = let d = g.D.Seen in (c.in-Ok.ensures.looked, all_looked_same d ⊤ (layers c.args.below.now))
 
 pub map_part-returns-in-Special-clause-looked : goal.map_part-returns-in-Special-clause-looked
-map_part-returns-in-Special-clause-looked g t c = let d = g.D.FormatDriverInstance in (c.in-Ok.ensures.looked, all_looked_same d.layer d.image d.extras d.sees d.safe d.still d.lasts d.sound (true ≡ true) ⊤ (layers c.args.below.now))
+map_part-returns-in-Special-clause-looked g t c = let d = g.D.Seen in (c.in-Ok.ensures.looked, all_looked_same d ⊤ (layers c.args.below.now))
 
 pub map_part-returns-in-Ok-map_under-clause-run : goal.map_part-returns-in-Ok-map_under-clause-run
-map_part-returns-in-Ok-map_under-clause-run g t c = let d = g.D.FormatDriverInstance in let run = indirect_run (d.layer c.args.driver.now) c.args.offset c.args.max_length (c.in-Ok.run').1 c.in-Indirect.offset c.in-Indirect.writable (c.in-Ok.run').0 c.in-Indirect.is c.in-Ok.ensures.run in
+map_part-returns-in-Ok-map_under-clause-run g t c = let d = g.D.Seen in let run = indirect_run (d.layer c.args.driver.now) c.args.offset c.args.max_length (c.in-Ok.run').1 c.in-Indirect.offset c.in-Indirect.writable (c.in-Ok.run').0 c.in-Indirect.is c.in-Ok.ensures.run in
     run_inside (d.layer c.args.driver.now).size c.args.offset c.args.max_length (c.in-Ok.run').1 c.in-Ok-map_under.length c.in-Ok-map_under.mapping c.lowered.result c.in-Ok-map_under.ensures.run c.lowered.ensures.end run.0 run.2 run.1 run.3
 
 pub map_part-returns-in-Ok-map_under-clause-names : goal.map_part-returns-in-Ok-map_under-clause-names
-map_part-returns-in-Ok-map_under-clause-names g t c = λ few see. let d = g.D.FormatDriverInstance in let looks = c.in-Ok.ensures.looks see.0 in
+map_part-returns-in-Ok-map_under-clause-names g t c = λ few see. let d = g.D.Seen in let looks = c.in-Ok.ensures.looks see.0 in
     let m = c.in-Ok-map_under.mapping in
     let n = (c.in-Ok.run').1 in
     let run = indirect_run (d.layer c.args.driver.now) c.args.offset c.args.max_length n c.in-Indirect.offset c.in-Indirect.writable (c.in-Ok.run').0 c.in-Indirect.is c.in-Ok.ensures.run in
-    let free = indirect_free (d.layer c.args.driver.now) (d.stored c.get_mapping.new.self) c.args.offset c.args.max_length (c.in-Ok.run').0 n looks c.in-Indirect.offset c.in-Indirect.writable c.in-Indirect.is in
+    let free = indirect_free (d.layer c.args.driver.now) (byte_in (files d c.get_mapping.new.self)) c.args.offset c.args.max_length (c.in-Ok.run').0 n looks c.in-Indirect.offset c.in-Indirect.writable c.in-Indirect.is in
     let lowered : c.lowered.result ≡ lower c.in-Indirect.writable m = c.lowered.ensures.value (search (rules)) in
-    subst (λ (x : Mapping). DeepNames (d.layer c.args.driver.now ∷ map d.layer (layers c.args.below.now)) (at (d.layer c.args.driver.now ∷ map d.layer (layers c.args.below.now))) (stored_at d.stored (c.get_mapping.new.self ∷ layers c.map_under.new.below)) c.args.offset c.in-Ok-map_under.length x) (sym lowered)
-    (names_lower d.stored c.get_mapping.new.self (layers c.map_under.new.below) (d.layer c.args.driver.now) (map d.layer (layers c.args.below.now)) c.args.offset c.in-Ok-map_under.length n c.in-Indirect.writable free run.2
-    (indirect_writable (d.layer c.args.driver.now) (d.stored c.get_mapping.new.self) c.args.offset n c.in-Indirect.offset c.in-Indirect.writable (c.in-Ok.run').0 c.in-Indirect.is looks.names) m c.in-Ok-map_under.ensures.run (c.in-Ok-map_under.ensures.names (omega (arith, few)) see.1))
+    subst (λ (x : Mapping). DeepNames (d.layer c.args.driver.now ∷ map d.layer (layers c.args.below.now)) (at (d.layer c.args.driver.now ∷ map d.layer (layers c.args.below.now))) (stored_at d (c.get_mapping.new.self ∷ layers c.map_under.new.below)) c.args.offset c.in-Ok-map_under.length x) (sym lowered)
+    (names_lower d c.get_mapping.new.self (layers c.map_under.new.below) (d.layer c.args.driver.now) (map d.layer (layers c.args.below.now)) c.args.offset c.in-Ok-map_under.length n c.in-Indirect.writable free run.2
+    (indirect_writable (d.layer c.args.driver.now) (byte_in (files d c.get_mapping.new.self)) c.args.offset n c.in-Indirect.offset c.in-Indirect.writable (c.in-Ok.run').0 c.in-Indirect.is looks.names) m c.in-Ok-map_under.ensures.run (c.in-Ok-map_under.ensures.names (omega (arith, few)) see.1))
 
 pub map_part-returns-in-Raw-clause-writable : goal.map_part-returns-in-Raw-clause-writable
-map_part-returns-in-Raw-clause-writable g t c = λ few see. let d = g.D.FormatDriverInstance in
+map_part-returns-in-Raw-clause-writable g t c = λ few see. let d = g.D.Seen in
     writable_here (d.layer c.args.driver.now) (map d.layer (layers c.args.below.now)) c.args.offset c.args.max_length c.in-Raw.storage c.in-Raw.place c.in-Raw.writable
     (subst (NamesHome (d.layer c.args.driver.now) c.args.offset c.args.max_length) c.in-Raw.is (c.in-Ok.ensures.looks see.0).home)
 
 pub map_part-returns-in-Err-map_under-clause-failed : goal.map_part-returns-in-Err-map_under-clause-failed
-map_part-returns-in-Err-map_under-clause-failed g t c = let d = g.D.FormatDriverInstance in
+map_part-returns-in-Err-map_under-clause-failed g t c = let d = g.D.Seen in
     let a0 = c.args.driver.now in let a1 = c.get_mapping.new.self in
-    failed_right (d.image a0 ∷ d.extras a0) (d.image a1 ∷ d.extras a1) (files_of d.image d.extras (layers c.args.below.now)) (files_of d.image d.extras (layers c.map_under.new.below)) c.in-Err-map_under.fault c.in-Ok.ensures.looked.later c.in-Err-map_under.ensures.failed
+    failed_right (files d a0) (files d a1) (files_of d (layers c.args.below.now)) (files_of d (layers c.map_under.new.below)) c.in-Err-map_under.fault c.in-Ok.ensures.looked.later c.in-Err-map_under.ensures.failed
 
 pub map_part-returns-in-Err-map_under-clause-cause : goal.map_part-returns-in-Err-map_under-clause-cause
-map_part-returns-in-Err-map_under-clause-cause g t c = λ see. let d = g.D.FormatDriverInstance in let looks = c.in-Ok.ensures.looks see.0 in
+map_part-returns-in-Err-map_under-clause-cause g t c = λ see. let d = g.D.Seen in let looks = c.in-Ok.ensures.looks see.0 in
     let n = (c.in-Ok.run').1 in
     let run = indirect_run (d.layer c.args.driver.now) c.args.offset c.args.max_length n c.in-Indirect.offset c.in-Indirect.writable (c.in-Ok.run').0 c.in-Indirect.is c.in-Ok.ensures.run in
-    let free = indirect_free (d.layer c.args.driver.now) (d.stored c.get_mapping.new.self) c.args.offset c.args.max_length (c.in-Ok.run').0 n looks c.in-Indirect.offset c.in-Indirect.writable c.in-Indirect.is in
-    deep_look_below (d.layer c.args.driver.now) (map d.layer (layers c.args.below.now)) c.args.offset n c.args.max_length (d.image c.args.driver.now ∷ d.extras c.args.driver.now) (d.image c.get_mapping.new.self ∷ d.extras c.get_mapping.new.self) (files_of d.image d.extras (layers c.args.below.now)) (files_of d.image d.extras (layers c.map_under.new.below)) c.in-Err-map_under.fault (c.in-Err-map_under.ensures.cause see.1) free run.2 run.1 c.in-Ok.ensures.looked.later
+    let free = indirect_free (d.layer c.args.driver.now) (byte_in (files d c.get_mapping.new.self)) c.args.offset c.args.max_length (c.in-Ok.run').0 n looks c.in-Indirect.offset c.in-Indirect.writable c.in-Indirect.is in
+    deep_look_below (d.layer c.args.driver.now) (map d.layer (layers c.args.below.now)) c.args.offset n c.args.max_length (files d c.args.driver.now) (files d c.get_mapping.new.self) (files_of d (layers c.args.below.now)) (files_of d (layers c.map_under.new.below)) c.in-Err-map_under.fault (c.in-Err-map_under.ensures.cause see.1) free run.2 run.1 c.in-Ok.ensures.looked.later
 
 pub get_mapping-returns-clause-ok : goal.get_mapping-returns-clause-ok
-get_mapping-returns-clause-ok g t c = let d = g.D.FormatDriverInstance in
+get_mapping-returns-clause-ok g t c = let d = g.D.Seen in
     let below = layers c.self.inside.below in let after = layers c.map_part.new.below in let looked = c.map_part.ensures.looked in
-    rw (← c.self.view_is) (λ few see. deep_step (d.layer c.self.inside.driver) (map d.layer below) (stored_at d.stored (c.map_part.new.driver ∷ after)) c.args.offset c.args.max_length (d.layer c.map_part.new.driver) (map d.layer after) c.map_part.result
+    rw (← c.self.view_is) (λ few see. deep_step (d.layer c.self.inside.driver) (map d.layer below) (stored_at d (c.map_part.new.driver ∷ after)) c.args.offset c.args.max_length (d.layer c.map_part.new.driver) (map d.layer after) c.map_part.result
     c.map_part.ensures.run (c.map_part.ensures.names few see)
-    (λ whole. ((looked.0.stays whole see.0).0, chain_same d.layer d.image d.extras d.sees d.safe d.still d.lasts d.sound (IsOk c.map_part.result) (IsWhole c.map_part.result) below after whole see.1 looked.1)))
+    (λ whole. ((looked.0.stays whole see.0).0, chain_same d (WasNotCutOff c.map_part.result) below after whole see.1 looked.1)))

@@ -12,8 +12,8 @@ invariant-read_all-loop-done g l = record {
   inside : l.done ≤ length l.buf;
   long : length l.buf ≡ length l.fn.buf;
   deep : length l.self.1 ≡ length l.fn.self.1;
-  shown : Each g.D.FormatDriverInstance.sees (chain l.fn.self) → (i : ℕ) → i < l.done → at (map g.D.FormatDriverInstance.layer (chain l.fn.self)) (l.offset + i) ≡ byte (slice_index l.buf i);
-  looked : Pairs (Looked g.D.FormatDriverInstance.layer g.D.FormatDriverInstance.image g.D.FormatDriverInstance.extras g.D.FormatDriverInstance.sees g.D.FormatDriverInstance.safe g.D.FormatDriverInstance.still g.D.FormatDriverInstance.lasts g.D.FormatDriverInstance.sound ⊤ ⊤) (chain l.fn.self) (chain l.self);
+  shown : Each g.D.Seen.sees (chain l.fn.self) → (i : ℕ) → i < l.done → at (map g.D.Seen.layer (chain l.fn.self)) (l.offset + i) ≡ byte (slice_index l.buf i);
+  looked : Pairs (Looked g.D.Seen ⊤) (chain l.fn.self) (chain l.self);
 }
 
 -- proposed from the loop's first test

@@ -1,9 +1,8 @@
 use Rattle.std.proofs.Common.{arith, inl, inr, refl, ◌∷◌, List, map}
-use Rattle.std.specs.Prelude.{IsOk}
 use Rattle.imago_storage.specs.Steps.{discard_to_any, ToAny}
 use Rattle.imago_storage.proofs.Parts.{passed}
-use Rattle.imago_access.specs.Chain.{Each, disk_of, unit_of_chain}
-use Rattle.imago_access.specs.Files.{IsWhole, files_of}
+use Rattle.imago_access.specs.Chain.{disk_of, unit_of_chain}
+use Rattle.imago_access.specs.Files.{WasNotCutOff, files_of}
 use Rattle.imago_access.specs.Layers.{layers}
 use Rattle.imago_access.specs.Refusals.{ChangeCause}
 use Rattle.imago_access.specs.Stops.{GivesAny}
@@ -13,38 +12,39 @@ use Rattle.imago_access.proofs.Refusing.{refusal_cause}
 use Rattle.imago_access.proofs.Running.{ran_same}
 use Rattle.imago_access.proofs.Units.{unit_aligned}
 use Rattle.imago_access.proofs.access.FormatAccess.discard_to_any.Goals as goal
+use Rattle.imago_access.specs.Running.{below_ghosts}
 
 pub returns-in_err-check_change-clause-ran : goal.returns-in_err-check_change-clause-ran
-returns-in_err-check_change-clause-ran g c = let d = g.D.FormatDriverInstance in
-    ran_same {B = List _} d.layer d.image d.extras d.safe d.lasts (map d.layer) (files_of d.image d.extras) (Each d.sees) (Each d.safe) (Each d.still) (Each d.lasts) d.sound (IsOk c.from_residual.result) (IsWhole c.from_residual.result) (GivesAny c.args.offset c.args.length) c.args.self.now.0 c.args.self.now.1
+returns-in_err-check_change-clause-ran g c = let d = g.D.Seen in
+    ran_same {B = List _} d (below_ghosts d) (WasNotCutOff c.from_residual.result) (GivesAny c.args.offset c.args.length) c.args.self.now.0 c.args.self.now.1
 
 pub discard_all-requires-clause-fits : goal.discard_all-requires-clause-fits
-discard_all-requires-clause-fits g c = let d = g.D.FormatDriverInstance in
+discard_all-requires-clause-fits g c = let d = g.D.Seen in
     allowed_fits (unit_of_chain (map d.layer (c.args.self.now.0 ∷ c.args.self.now.1))) (d.layer c.args.self.now.0) c.args.offset c.args.length (unit_aligned d.layer g.met.D.FormatDriverInstance.aligned (c.args.self.now.0 ∷ c.args.self.now.1)).positive c.ranges.offset.fits c.in_ok-check_change.ensures.ok
 
 pub returns-clause-ok : goal.returns-clause-ok
-returns-clause-ok g c = let d = g.D.FormatDriverInstance in
+returns-clause-ok g c = let d = g.D.Seen in
     let free = rw (← c.self.view_is) at c.requires.free in
     let calm = rw (← c.self.view_is) at c.in_ok-check_change.ensures.ok in
-    rw (← c.self.view_is) (chain_done d.layer d.image d.extras d.sees d.safe d.still d.lasts d.sound g.met.D.FormatDriverInstance.free_loose c.self.inside.driver c.discard_all.new.driver (layers c.self.inside.below) discards.ToAny c.args.offset c.args.length free c.discard_all.ensures.like c.discard_all.result c.discard_all.ensures.values ToAny (λ p was v how. elim how [ inl same ↦ inl same | inr gave ↦ inr gave.1 ]) (unit_of_chain (map d.layer (c.self.inside.driver ∷ layers c.self.inside.below))) calm)
+    rw (← c.self.view_is) (chain_done d g.met.D.FormatDriverInstance.free_loose c.self.inside.driver c.discard_all.new.driver (layers c.self.inside.below) discards.ToAny c.args.offset c.args.length free c.discard_all.ensures.like c.discard_all.result c.discard_all.ensures.values ToAny (λ p was v how. elim how [ inl same ↦ inl same | inr gave ↦ inr gave.1 ]) (unit_of_chain (map d.layer (c.self.inside.driver ∷ layers c.self.inside.below))) calm)
 
 pub returns-clause-err : goal.returns-clause-err
-returns-clause-err g c = let d = g.D.FormatDriverInstance in
+returns-clause-err g c = let d = g.D.Seen in
     let free = rw (← c.self.view_is) at c.requires.free in
-    rw (← c.self.view_is) (chain_partly d.layer d.image d.extras d.sees d.safe d.still d.lasts d.sound g.met.D.FormatDriverInstance.free_loose c.self.inside.driver c.discard_all.new.driver (layers c.self.inside.below) discards.ToAny c.args.offset c.args.length free c.discard_all.ensures.like c.discard_all.result c.discard_all.ensures.values (discard_to_any c.args.offset c.args.length) refl refl (λ p was v gave. inr gave.1))
+    rw (← c.self.view_is) (chain_partly d g.met.D.FormatDriverInstance.free_loose c.self.inside.driver c.discard_all.new.driver (layers c.self.inside.below) discards.ToAny c.args.offset c.args.length free c.discard_all.ensures.like c.discard_all.result c.discard_all.ensures.values (discard_to_any c.args.offset c.args.length) refl refl (λ p was v gave. inr gave.1))
 
 pub returns-clause-ran : goal.returns-clause-ran
-returns-clause-ran g c = let d = g.D.FormatDriverInstance in
+returns-clause-ran g c = let d = g.D.Seen in
     let free = rw (← c.self.view_is) at c.requires.free in
-    rw (← c.self.view_is) (chain_ran d.layer d.image d.extras d.sees d.safe d.still d.lasts d.sound g.met.D.FormatDriverInstance.free_loose c.self.inside.driver c.discard_all.new.driver (layers c.self.inside.below) discards.ToAny c.args.offset c.args.length free c.discard_all.ensures.like c.discard_all.result c.discard_all.ensures.values c.discard_all.ensures.went c.discard_all.ensures.stops)
+    rw (← c.self.view_is) (chain_ran d g.met.D.FormatDriverInstance.free_loose c.self.inside.driver c.discard_all.new.driver (layers c.self.inside.below) discards.ToAny c.args.offset c.args.length free c.discard_all.ensures.like c.discard_all.result c.discard_all.ensures.values c.discard_all.ensures.went c.discard_all.ensures.stops)
 
 pub returns-clause-cause : goal.returns-clause-cause
-returns-clause-cause g c = let d = g.D.FormatDriverInstance in
-    rw (← c.self.view_is) (λ i. chain_cause d.layer d.image d.extras g.met.D.FormatDriverInstance.aligned c.self.inside.driver c.discard_all.new.driver (layers c.self.inside.below) c.discard_all.result (discard_to_any c.args.offset c.args.length) (d.own_cause c.self.inside.driver (map d.layer (layers c.self.inside.below)) (discard_to_any c.args.offset c.args.length)) (λ some. some)
-    (c.discard_all.ensures.cause i.keeps i.is_safe (map d.layer (layers c.self.inside.below)) c.self.inside.driver (discard_to_any c.args.offset c.args.length) (g.met.D.FormatDriverInstance.begins c.self.inside.driver (discard_to_any c.args.offset c.args.length)) (record { start = omega arith; end = omega arith })))
+returns-clause-cause g c = let d = g.D.Seen in
+    rw (← c.self.view_is) (λ i. chain_cause d g.met.D.FormatDriverInstance.aligned c.self.inside.driver c.discard_all.new.driver (layers c.self.inside.below) c.discard_all.result (discard_to_any c.args.offset c.args.length) (d.own_cause c.self.inside.driver (map d.layer (layers c.self.inside.below)) (discard_to_any c.args.offset c.args.length)) (λ some. some)
+    (c.discard_all.ensures.cause i.is_safe (map d.layer (layers c.self.inside.below)) c.self.inside.driver (discard_to_any c.args.offset c.args.length) (g.met.D.FormatDriverInstance.begins c.self.inside.driver (discard_to_any c.args.offset c.args.length)) (record { start = omega arith; end = omega arith })))
 
 pub returns-in_err-check_change-clause-cause : goal.returns-in_err-check_change-clause-cause
-returns-in_err-check_change-clause-cause g c = λ i. let d = g.D.FormatDriverInstance in let a = c.args.self.now.0 in let ds = c.args.self.now.1 in let call = discard_to_any c.args.offset c.args.length in
-    let files = files_of d.image d.extras (a ∷ ds) in
-    passed c.from_residual.result (ChangeCause (unit_of_chain (map d.layer (a ∷ ds))) (map d.layer (a ∷ ds)) (disk_of (map d.layer ds) (d.layer a)) (d.layer a).fixed.writable call (d.own_cause a (map d.layer ds) call) files files) c.in_err-check_change.field-0.0 c.from_residual.ensures.1
-    (refusal_cause (map d.layer ds) (d.layer a) (unit_of_chain (map d.layer (a ∷ ds))) call (d.own_cause a (map d.layer ds) call) files files c.in_err-check_change.field-0.0 (λ some. some) c.in_err-check_change.ensures.err)
+returns-in_err-check_change-clause-cause g c = λ i. let d = g.D.Seen in let a = c.args.self.now.0 in let ds = c.args.self.now.1 in let call = discard_to_any c.args.offset c.args.length in
+    let others = files_of d (a ∷ ds) in
+    passed c.from_residual.result (ChangeCause (map d.layer ds) (d.layer a) call (d.own_cause a (map d.layer ds) call) others others) c.in_err-check_change.field-0.0 c.from_residual.ensures.1
+    (refusal_cause (map d.layer ds) (d.layer a) call (d.own_cause a (map d.layer ds) call) others others c.in_err-check_change.field-0.0 (λ some. some) c.in_err-check_change.ensures.err)

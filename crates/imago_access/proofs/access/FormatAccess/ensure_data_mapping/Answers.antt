@@ -1,19 +1,19 @@
-use Rattle.std.proofs.Common.{◌≡◌, ◌∷◌, ◌++◌, ◌+◌, refl, arith, true, false, None, map, ap, sym, subst, ◌∙◌, inl, inr}
-use Rattle.std.specs.Prelude.{⊤, Err, IsOk, IsTrue, is_some}
+use Rattle.std.proofs.Common.{◌≡◌, ◌∷◌, ◌++◌, ◌+◌, refl, arith, None, map, ap, sym, subst, ◌∙◌, inl, inr, ℕ}
+use Rattle.std.specs.Prelude.{⊤, Err, is_some}
 use Rattle.std.proofs.lemmas.Bool.{cases_lt}
 use Rattle.imago_storage.specs.Steps.{ensure}
-use Rattle.imago_access.specs.Layer.{IsFree, Fixed, hold_of}
+use Rattle.imago_access.specs.Layer.{IsFree, hold_of, Cell, through}
 use Rattle.imago_access.specs.Layers.{chain, layers}
-use Rattle.imago_access.specs.Chain.{at, Each, disk_of, unit_of_chain}
+use Rattle.imago_access.specs.Chain.{at, disk_of, unit_of_chain}
 use Rattle.imago_access.specs.Changes.{Committed}
-use Rattle.imago_access.specs.Files.{IsMild, IsWhole, files_of}
+use Rattle.imago_access.specs.Files.{IsMild, WasNotCutOff, files_of, files}
 use Rattle.imago_access.specs.Refusals.{barrier}
 use Rattle.imago_access.specs.Spending.{claim_of}
 use Rattle.imago_access.specs.Stops.{GivesNone, GivesAnnounced}
 use Rattle.imago_access.specs.declared.mapping.PreparedDataMapping.{PreparedDataMapping}
 use Rattle.imago_access.proofs.ChangeCauses.{change_cause, part_cause_alone}
 use Rattle.imago_access.proofs.Ensuring.{unbarred, stays_committed, settled_commits, settled_home, ran_ensured}
-use Rattle.imago_access.proofs.Holding.{truly_prepared, spends_more}
+use Rattle.imago_access.proofs.Holding.{truly_prepared, spends_more, at_alike, given_up_cell}
 use Rattle.imago_access.proofs.HoldingRuns.{ran_mapped, ran_prepared, ran_settled, ran_unsettled}
 use Rattle.imago_access.proofs.MappingCalls.{prepared_step, stateless_is, stateful_claims}
 use Rattle.imago_access.proofs.Running.{ran_same, ran_seen, ran_gives}
@@ -21,13 +21,15 @@ use Rattle.imago_access.proofs.Units.{layer_aligned, overflows_chain}
 use Rattle.imago_access.proofs.ImageCauses.{failed_alone}
 use Rattle.imago_access.proofs.Uncut.{own_part}
 use Rattle.imago_access.proofs.access.FormatAccess.ensure_data_mapping.Goals as goal
+use Rattle.imago_access.specs.Running.{below_ghosts}
+use Rattle.imago_access.proofs.Looking.{seen_by}
 
 pub returns-in_err-check_change-clause-ran : goal.returns-in_err-check_change-clause-ran
-returns-in_err-check_change-clause-ran g c = let d = g.D.FormatDriverInstance in
-    ran_same d.layer d.image d.extras d.safe d.lasts (map d.layer) (files_of d.image d.extras) (Each d.sees) (Each d.safe) (Each d.still) (Each d.lasts) d.sound (IsOk c.from_residual.result) (IsWhole c.from_residual.result) (GivesAnnounced c.args.overwrite c.args.offset c.args.length) c.args.self.now.0 c.args.self.now.1
+returns-in_err-check_change-clause-ran g c = let d = g.D.Seen in
+    ran_same d (below_ghosts d) (WasNotCutOff c.from_residual.result) (GivesAnnounced c.args.overwrite c.args.offset c.args.length) c.args.self.now.0 c.args.self.now.1
 
 pub returns-in-Err-clause-ran : goal.returns-in-Err-clause-ran
-returns-in-Err-clause-ran g c = let d = g.D.FormatDriverInstance in
+returns-in-Err-clause-ran g c = let d = g.D.Seen in
     let laws = g.met.D.FormatDriverInstance in
     let r = c.prepare_data_mapping in
     let a0 = c.self.inside.driver in
@@ -37,12 +39,12 @@ returns-in-Err-clause-ran g c = let d = g.D.FormatDriverInstance in
     let under = map d.layer (layers x0) in
     let free : IsFree (d.layer a0) = subst (λ (v : _). IsFree (d.layer v.0)) (sym c.self.view_is) c.requires.free in
     let e = c.in-Err.ensures in
-    rw (← c.self.view_is) (ran_seen layers d.layer d.image d.extras d.safe d.lasts (map d.layer) (files_of d.image d.extras) (Each d.sees) (Each d.safe) (Each d.still) (Each d.lasts) d.sound (false ≡ true) (IsMild c.in-Err.fault) (GivesAnnounced c.args.overwrite c.args.offset c.args.length) a0 a1 x0 x1
-    (ran_gives d.layer d.image d.extras d.safe d.lasts (λ b. map d.layer (layers b)) (λ b. files_of d.image d.extras (layers b)) (λ b. Each d.sees (layers b)) (λ b. Each d.safe (layers b)) (λ b. Each d.still (layers b)) (λ b. Each d.lasts (layers b)) d.sound (false ≡ true) (IsMild c.in-Err.fault) GivesNone (GivesAnnounced c.args.overwrite c.args.offset c.args.length) a0 a1 x0 x1 (λ p v none. absurd none)
-    (ran_prepared d.layer d.image d.extras d.safe d.lasts (λ b. map d.layer (layers b)) (λ b. files_of d.image d.extras (layers b)) (λ b. Each d.sees (layers b)) (λ b. Each d.safe (layers b)) (λ b. Each d.still (layers b)) (λ b. Each d.lasts (layers b)) d.sound d.claim (Err c.in-Err.fault) a0 a1 x0 x1 c.args.offset c.args.length c.args.overwrite (laws.free_loose a0 free) e.size e.went e.below e.ok e.err e.stops)))
+    rw (← c.self.view_is) (ran_seen layers d (below_ghosts d) (IsMild c.in-Err.fault) (GivesAnnounced c.args.overwrite c.args.offset c.args.length) a0 a1 x0 x1
+    (ran_gives d (seen_by layers (below_ghosts d)) (IsMild c.in-Err.fault) GivesNone (GivesAnnounced c.args.overwrite c.args.offset c.args.length) a0 a1 x0 x1 (λ p v none. absurd none)
+    (ran_prepared d (seen_by layers (below_ghosts d)) (Err c.in-Err.fault) a0 a1 x0 x1 c.args.offset c.args.length c.args.overwrite (laws.free_loose a0 free) e.size e.went e.below e.ok e.err e.stops)))
 
 pub returns-in-Err-clause-cause : goal.returns-in-Err-clause-cause
-returns-in-Err-clause-cause g c = let d = g.D.FormatDriverInstance in
+returns-in-Err-clause-cause g c = let d = g.D.Seen in
     let laws = g.met.D.FormatDriverInstance in
     let r = c.prepare_data_mapping in
     let a0 = c.self.inside.driver in
@@ -52,11 +54,11 @@ returns-in-Err-clause-cause g c = let d = g.D.FormatDriverInstance in
     let under = map d.layer (layers x0) in
     let free : IsFree (d.layer a0) = subst (λ (v : _). IsFree (d.layer v.0)) (sym c.self.view_is) c.requires.free in
     let call = ensure c.args.offset c.args.length c.args.overwrite in
-    rw (← c.self.view_is) (λ intact. change_cause under (d.layer a0) (unit_of_chain (map d.layer (a0 ∷ layers x0))) call (d.own_cause a0 under call) (d.image a0 ∷ (d.extras a0 ++ files_of d.image d.extras (layers x0))) (d.image a1 ∷ (d.extras a1 ++ files_of d.image d.extras (layers x1))) (λ some. some) (overflows_chain d.layer laws.aligned a0 (layers x0) c.args.offset c.args.length) c.in-Err.fault
+    rw (← c.self.view_is) (λ intact. change_cause under (d.layer a0) call (d.own_cause a0 under call) (d.image a0 ∷ (d.extras a0 ++ files_of d (layers x0))) (d.image a1 ∷ (d.extras a1 ++ files_of d (layers x1))) (λ some. some) (overflows_chain d.layer laws.aligned a0 (layers x0) c.args.offset c.args.length) c.in-Err.fault
     (c.in-Err.ensures.cause intact.is_safe intact.is_seen a0 call (laws.begins a0 call) (own_part (d.layer a0) call) refl))
 
 pub returns-in-Err-settle-clause-ran : goal.returns-in-Err-settle-clause-ran
-returns-in-Err-settle-clause-ran g c = let d = g.D.FormatDriverInstance in
+returns-in-Err-settle-clause-ran g c = let d = g.D.Seen in
     let laws = g.met.D.FormatDriverInstance in
     let r = c.prepare_data_mapping in
     let a0 = c.self.inside.driver in
@@ -68,20 +70,20 @@ returns-in-Err-settle-clause-ran g c = let d = g.D.FormatDriverInstance in
     let m = c.in-Ok.prepared in
     let a2 = c.settle.new.driver in
     let claim = claim_of d.claim m.state in
-    let stateless = λ (none : m.state ≡ None). laws.free_loose a1 (c.in-Ok.ensures.stateless none) in
+    let stateless = λ (none : m.state ≡ None). laws.free_loose a1 (c.in-Ok.ensures.mine.1 none) in
     let s = c.in-Err-settle.ensures in
-    rw (← c.self.view_is) (ran_seen layers d.layer d.image d.extras d.safe d.lasts (map d.layer) (files_of d.image d.extras) (Each d.sees) (Each d.safe) (Each d.still) (Each d.lasts) d.sound (false ≡ true) (IsMild c.in-Err-settle.fault) (GivesAnnounced c.args.overwrite c.args.offset c.args.length) a0 a2 x0 x1
-    (ran_ensured d.layer d.image d.extras d.safe d.lasts (λ b. map d.layer (layers b)) (λ b. files_of d.image d.extras (layers b)) (λ b. Each d.sees (layers b)) (λ b. Each d.safe (layers b)) (λ b. Each d.still (layers b)) (λ b. Each d.lasts (layers b)) d.sound (false ≡ true) (IsMild c.in-Err-settle.fault) a0 a1 a2 x0 x1 c.args.offset c.args.length c.args.overwrite m.storage m.offset m.length claim c.in-Ok.ensures.run.0 (λ i. c.in-Ok.ensures.ok i.keeps i.is_safe i.is_seen)
-    (ran_mapped d.layer d.image d.extras d.safe d.lasts (λ b. map d.layer (layers b)) (λ b. files_of d.image d.extras (layers b)) (λ b. Each d.sees (layers b)) (λ b. Each d.safe (layers b)) (λ b. Each d.still (layers b)) (λ b. Each d.lasts (layers b)) d.sound d.claim m.state a0 a1 x0 x1 c.args.offset c.args.length c.args.overwrite m.storage m.offset m.length (laws.free_loose a0 free) c.in-Ok.ensures.size c.in-Ok.ensures.went c.in-Ok.ensures.below c.in-Ok.ensures.ok c.in-Ok.ensures.stops)
-    (ran_unsettled d.layer d.image d.extras d.safe d.lasts (λ b. map d.layer (layers b)) (λ b. files_of d.image d.extras (layers b)) (λ b. Each d.sees (layers b)) (λ b. Each d.safe (layers b)) (λ b. Each d.still (layers b)) (λ b. Each d.lasts (layers b)) d.sound d.claim d.tag m.state (false ≡ true) (IsMild c.in-Err-settle.fault) a1 a2 x1 laws.free_loose s.size s.went c.in-Ok.ensures.mine (s.free c.in-Ok.ensures.stateless) (λ mild safe. s.err safe mild) s.stops)))
+    rw (← c.self.view_is) (ran_seen layers d (below_ghosts d) (IsMild c.in-Err-settle.fault) (GivesAnnounced c.args.overwrite c.args.offset c.args.length) a0 a2 x0 x1
+    (ran_ensured d (seen_by layers (below_ghosts d)) (IsMild c.in-Err-settle.fault) a0 a1 a2 x0 x1 c.args.offset c.args.length c.args.overwrite m.storage m.offset m.length claim c.in-Ok.ensures.run.0.0 (λ i. c.in-Ok.ensures.ok i.is_safe i.is_seen)
+    (ran_mapped d (seen_by layers (below_ghosts d)) m.state a0 a1 x0 x1 c.args.offset c.args.length c.args.overwrite m.storage m.offset m.length (laws.free_loose a0 free) c.in-Ok.ensures.size c.in-Ok.ensures.went c.in-Ok.ensures.below c.in-Ok.ensures.ok c.in-Ok.ensures.stops)
+    (ran_unsettled d (seen_by layers (below_ghosts d)) m.state (IsMild c.in-Err-settle.fault) a1 a2 x1 laws.free_loose s.size s.went c.in-Ok.ensures.mine.0 (s.free c.in-Ok.ensures.mine.1) (λ mild safe. s.err safe mild) s.stops)))
 
 pub returns-in-Err-settle-clause-failed : goal.returns-in-Err-settle-clause-failed
-returns-in-Err-settle-clause-failed g c = let d = g.D.FormatDriverInstance in
+returns-in-Err-settle-clause-failed g c = let d = g.D.Seen in
     let a0 = c.self.inside.driver in let a1 = c.prepare_data_mapping.new.self in let a2 = c.settle.new.driver in
-    rw (← c.self.view_is) (failed_alone (d.image a0 ∷ d.extras a0) (d.image a1 ∷ d.extras a1) (d.image a2 ∷ d.extras a2) (files_of d.image d.extras (layers c.self.inside.below)) (files_of d.image d.extras (layers c.prepare_data_mapping.new.below)) c.in-Err-settle.fault c.in-Ok.ensures.went.later c.in-Ok.ensures.below.later c.in-Err-settle.ensures.failed)
+    rw (← c.self.view_is) (failed_alone (files d a0) (files d a1) (files d a2) (files_of d (layers c.self.inside.below)) (files_of d (layers c.prepare_data_mapping.new.below)) c.in-Err-settle.fault c.in-Ok.ensures.went.later c.in-Ok.ensures.below.later c.in-Err-settle.ensures.failed)
 
 pub returns-in-Err-settle-clause-cause : goal.returns-in-Err-settle-clause-cause
-returns-in-Err-settle-clause-cause g c = let d = g.D.FormatDriverInstance in
+returns-in-Err-settle-clause-cause g c = let d = g.D.Seen in
     let laws = g.met.D.FormatDriverInstance in
     let r = c.prepare_data_mapping in
     let a0 = c.self.inside.driver in
@@ -93,13 +95,13 @@ returns-in-Err-settle-clause-cause g c = let d = g.D.FormatDriverInstance in
     let m = c.in-Ok.prepared in
     let a2 = c.settle.new.driver in
     let claim = claim_of d.claim m.state in
-    let stateless = λ (none : m.state ≡ None). laws.free_loose a1 (c.in-Ok.ensures.stateless none) in
+    let stateless = λ (none : m.state ≡ None). laws.free_loose a1 (c.in-Ok.ensures.mine.1 none) in
     let s = c.in-Err-settle.ensures in
     let call = ensure c.args.offset c.args.length c.args.overwrite in
     rw (← c.self.view_is) (λ intact.
     let safe : d.safe a1 = c.in-Ok.ensures.went.safely (tt, intact.is_seen) intact.is_safe in
-    change_cause under (d.layer a0) (unit_of_chain (map d.layer (a0 ∷ layers x0))) call (d.own_cause a0 under call) (d.image a0 ∷ (d.extras a0 ++ files_of d.image d.extras (layers x0))) (d.image a2 ∷ (d.extras a2 ++ files_of d.image d.extras (layers x1))) (λ some. some) (overflows_chain d.layer laws.aligned a0 (layers x0) c.args.offset c.args.length) c.in-Err-settle.fault
-    (part_cause_alone under (d.layer a0) (d.layer a1) c.args.offset c.args.length c.args.offset c.args.length (d.image a0 ∷ d.extras a0) (d.image a1 ∷ d.extras a1) (d.image a2 ∷ d.extras a2) (files_of d.image d.extras (layers x0)) (files_of d.image d.extras (layers x1))
+    change_cause under (d.layer a0) call (d.own_cause a0 under call) (d.image a0 ∷ (d.extras a0 ++ files_of d (layers x0))) (d.image a2 ∷ (d.extras a2 ++ files_of d (layers x1))) (λ some. some) (overflows_chain d.layer laws.aligned a0 (layers x0) c.args.offset c.args.length) c.in-Err-settle.fault
+    (part_cause_alone under (d.layer a0) (d.layer a1) c.args.offset c.args.length c.args.offset c.args.length (files d a0) (files d a1) (files d a2) (files_of d (layers x0)) (files_of d (layers x1))
     c.in-Ok.ensures.went.fixed c.in-Ok.ensures.size (laws.safe_runs a0 intact.is_safe) (laws.safe_runs a1 safe) (layer_aligned d.layer laws.aligned a0).positive (omega arith) (omega arith) c.in-Ok.ensures.went.later c.in-Ok.ensures.below.later
     (d.own_cause a0 under call) (λ _. ⊥) c.in-Err-settle.fault (λ none. absurd none) (s.cause safe under c.args.offset c.args.length (elim (cases_lt 0 c.args.length) [
       | inl some ↦ some
@@ -112,7 +114,7 @@ returns-in-Err-settle-clause-cause g c = let d = g.D.FormatDriverInstance in
     ]))))
 
 pub returns-clause-ok : goal.returns-clause-ok
-returns-clause-ok g c = let d = g.D.FormatDriverInstance in
+returns-clause-ok g c = let d = g.D.Seen in
     let laws = g.met.D.FormatDriverInstance in
     let r = c.prepare_data_mapping in
     let a0 = c.self.inside.driver in
@@ -124,16 +126,15 @@ returns-clause-ok g c = let d = g.D.FormatDriverInstance in
     let m = c.in-Ok.prepared in
     let a2 = c.settle.new.driver in
     let claim = claim_of d.claim m.state in
-    let stateless = λ (none : m.state ≡ None). laws.free_loose a1 (c.in-Ok.ensures.stateless none) in
+    let stateless = λ (none : m.state ≡ None). laws.free_loose a1 (c.in-Ok.ensures.mine.1 none) in
     let s = c.in_default.ensures in
     rw (← c.self.view_is) (λ intact.
-    let made = c.in-Ok.ensures.ok intact.keeps intact.is_safe intact.is_seen in
+    let made = c.in-Ok.ensures.ok intact.is_safe intact.is_seen in
     let same = (c.in-Ok.ensures.below.stays tt intact.is_seen).0 in
     let safe : d.safe a1 = c.in-Ok.ensures.went.safely (tt, intact.is_seen) intact.is_safe in
-    let keeps : IsTrue (d.layer a1).fixed.keeps = subst (λ (f : Fixed). IsTrue f.keeps) (sym c.in-Ok.ensures.went.fixed) intact.keeps in
-    let settles = spends_more d.claim d.tag m.state (d.layer a1) (d.layer a2) (IsTrue (d.layer a1).fixed.keeps → d.safe a1 → Committed (d.layer a1) (d.layer a2)) (Committed (d.layer a1) (d.layer a2)) (λ h. h keeps safe) s.ok in
-    let commits = settled_commits d.claim d.tag m.state under (map d.layer (layers x1)) (d.layer a1) (d.layer a2) same s.size (truly_prepared (at under) (d.layer a0) (d.layer a1) c.args.offset c.args.length c.args.overwrite m.storage m.offset m.length claim made) c.in-Ok.ensures.mine stateless (laws.free_loose a2 (s.free c.in-Ok.ensures.stateless)) settles in
-    let first = prepared_step under under (d.layer a0) (d.layer a1) c.args.offset c.args.length c.args.overwrite m.storage m.offset m.length claim (is_some m.state) refl (laws.free_loose a0 free) made c.in-Ok.ensures.run.0 c.in-Ok.ensures.run.1 c.in-Ok.ensures.run.2
+    let settles = spends_more d m.state (d.layer a1) (d.layer a2) (d.safe a1 → Committed (d.layer a1) (d.layer a2)) (Committed (d.layer a1) (d.layer a2)) (λ h. h safe) s.ok in
+    let commits = settled_commits d m.state under (map d.layer (layers x1)) (d.layer a1) (d.layer a2) same s.size (truly_prepared (at under) (d.layer a0) (d.layer a1) c.args.offset c.args.length c.args.overwrite m.storage m.offset m.length claim made) c.in-Ok.ensures.mine.0 stateless (laws.free_loose a2 (s.free c.in-Ok.ensures.mine.1)) settles in
+    let first = prepared_step under under (d.layer a0) (d.layer a1) c.args.offset c.args.length c.args.overwrite m.storage m.offset m.length claim (is_some m.state) refl (laws.free_loose a0 free) made c.in-Ok.ensures.run.0.0 c.in-Ok.ensures.run.0.1 c.in-Ok.ensures.run.0.2
     (λ none. stateless (stateless_is m.state none)) (stateful_claims d.claim m.state) (λ zero. ap (λ (m' : PreparedDataMapping g.row.D-State.Denot). is_some m'.state) (c.in-Ok.ensures.empty zero).0) in
     rw c.length-length.ensures (elim first [
       | inl idle ↦ inl (idle.0, (stays_committed (disk_of under (d.layer a0)) (disk_of under (d.layer a1)) (disk_of (map d.layer (layers x1)) (d.layer a2)) (λ p low. ap hold_of (stateless (stateless_is m.state idle.1.2) p)) idle.1.0 commits, idle.1.1))
@@ -141,7 +142,7 @@ returns-clause-ok g c = let d = g.D.FormatDriverInstance in
     ]))
 
 pub returns-clause-home : goal.returns-clause-home
-returns-clause-home g c = let d = g.D.FormatDriverInstance in
+returns-clause-home g c = let d = g.D.Seen in
     let laws = g.met.D.FormatDriverInstance in
     let r = c.prepare_data_mapping in
     let a0 = c.self.inside.driver in
@@ -153,17 +154,16 @@ returns-clause-home g c = let d = g.D.FormatDriverInstance in
     let m = c.in-Ok.prepared in
     let a2 = c.settle.new.driver in
     let claim = claim_of d.claim m.state in
-    let stateless = λ (none : m.state ≡ None). laws.free_loose a1 (c.in-Ok.ensures.stateless none) in
+    let stateless = λ (none : m.state ≡ None). laws.free_loose a1 (c.in-Ok.ensures.mine.1 none) in
     let s = c.in_default.ensures in
     rw (← c.self.view_is) (λ intact.
-    let made = c.in-Ok.ensures.ok intact.keeps intact.is_safe intact.is_seen in
+    let made = c.in-Ok.ensures.ok intact.is_safe intact.is_seen in
     let safe : d.safe a1 = c.in-Ok.ensures.went.safely (tt, intact.is_seen) intact.is_safe in
-    let keeps : IsTrue (d.layer a1).fixed.keeps = subst (λ (f : Fixed). IsTrue f.keeps) (sym c.in-Ok.ensures.went.fixed) intact.keeps in
-    let settles = spends_more d.claim d.tag m.state (d.layer a1) (d.layer a2) (IsTrue (d.layer a1).fixed.keeps → d.safe a1 → Committed (d.layer a1) (d.layer a2)) (Committed (d.layer a1) (d.layer a2)) (λ h. h keeps safe) s.ok in
-    rw (c.storage.ensures, c.offset.ensures, c.length-length.ensures) (refl, refl, λ i lt. settled_home d.claim d.tag m.state (d.layer a1) (d.layer a2) c.in-Ok.ensures.mine settles (c.args.offset + i) (m.storage, m.offset + i) (made.home i lt)))
+    let settles = spends_more d m.state (d.layer a1) (d.layer a2) (d.safe a1 → Committed (d.layer a1) (d.layer a2)) (Committed (d.layer a1) (d.layer a2)) (λ h. h safe) s.ok in
+    rw (c.storage.ensures, c.offset.ensures, c.length-length.ensures) (refl, refl, λ i lt. settled_home d m.state (d.layer a1) (d.layer a2) c.in-Ok.ensures.mine.0 settles (c.args.offset + i) (m.storage, m.offset + i) (made.home i lt)))
 
 pub returns-clause-ran : goal.returns-clause-ran
-returns-clause-ran g c = let d = g.D.FormatDriverInstance in
+returns-clause-ran g c = let d = g.D.Seen in
     let laws = g.met.D.FormatDriverInstance in
     let r = c.prepare_data_mapping in
     let a0 = c.self.inside.driver in
@@ -175,18 +175,42 @@ returns-clause-ran g c = let d = g.D.FormatDriverInstance in
     let m = c.in-Ok.prepared in
     let a2 = c.settle.new.driver in
     let claim = claim_of d.claim m.state in
-    let stateless = λ (none : m.state ≡ None). laws.free_loose a1 (c.in-Ok.ensures.stateless none) in
+    let stateless = λ (none : m.state ≡ None). laws.free_loose a1 (c.in-Ok.ensures.mine.1 none) in
     let s = c.in_default.ensures in
-    rw (← c.self.view_is) (ran_seen layers d.layer d.image d.extras d.safe d.lasts (map d.layer) (files_of d.image d.extras) (Each d.sees) (Each d.safe) (Each d.still) (Each d.lasts) d.sound (true ≡ true) ⊤ (GivesAnnounced c.args.overwrite c.args.offset c.args.length) a0 a2 x0 x1
-    (ran_ensured d.layer d.image d.extras d.safe d.lasts (λ b. map d.layer (layers b)) (λ b. files_of d.image d.extras (layers b)) (λ b. Each d.sees (layers b)) (λ b. Each d.safe (layers b)) (λ b. Each d.still (layers b)) (λ b. Each d.lasts (layers b)) d.sound (true ≡ true) ⊤ a0 a1 a2 x0 x1 c.args.offset c.args.length c.args.overwrite m.storage m.offset m.length claim c.in-Ok.ensures.run.0 (λ i. c.in-Ok.ensures.ok i.keeps i.is_safe i.is_seen)
-    (ran_mapped d.layer d.image d.extras d.safe d.lasts (λ b. map d.layer (layers b)) (λ b. files_of d.image d.extras (layers b)) (λ b. Each d.sees (layers b)) (λ b. Each d.safe (layers b)) (λ b. Each d.still (layers b)) (λ b. Each d.lasts (layers b)) d.sound d.claim m.state a0 a1 x0 x1 c.args.offset c.args.length c.args.overwrite m.storage m.offset m.length (laws.free_loose a0 free) c.in-Ok.ensures.size c.in-Ok.ensures.went c.in-Ok.ensures.below c.in-Ok.ensures.ok c.in-Ok.ensures.stops)
-    (ran_settled d.layer d.image d.extras d.safe d.lasts (λ b. map d.layer (layers b)) (λ b. files_of d.image d.extras (layers b)) (λ b. Each d.sees (layers b)) (λ b. Each d.safe (layers b)) (λ b. Each d.still (layers b)) (λ b. Each d.lasts (layers b)) d.sound d.claim d.tag m.state (true ≡ true) ⊤ a1 a2 x1 laws.free_loose s.size s.went c.in-Ok.ensures.mine c.in-Ok.ensures.stateless (s.free c.in-Ok.ensures.stateless) (λ w keeps safe. spends_more d.claim d.tag m.state (d.layer a1) (d.layer a2) (IsTrue (d.layer a1).fixed.keeps → d.safe a1 → Committed (d.layer a1) (d.layer a2)) (Committed (d.layer a1) (d.layer a2)) (λ h. h keeps safe) s.ok) s.stops)))
+    rw (← c.self.view_is) (ran_seen layers d (below_ghosts d) ⊤ (GivesAnnounced c.args.overwrite c.args.offset c.args.length) a0 a2 x0 x1
+    (ran_ensured d (seen_by layers (below_ghosts d)) ⊤ a0 a1 a2 x0 x1 c.args.offset c.args.length c.args.overwrite m.storage m.offset m.length claim c.in-Ok.ensures.run.0.0 (λ i. c.in-Ok.ensures.ok i.is_safe i.is_seen)
+    (ran_mapped d (seen_by layers (below_ghosts d)) m.state a0 a1 x0 x1 c.args.offset c.args.length c.args.overwrite m.storage m.offset m.length (laws.free_loose a0 free) c.in-Ok.ensures.size c.in-Ok.ensures.went c.in-Ok.ensures.below c.in-Ok.ensures.ok c.in-Ok.ensures.stops)
+    (ran_settled d (seen_by layers (below_ghosts d)) m.state ⊤ a1 a2 x1 laws.free_loose s.size s.went c.in-Ok.ensures.mine.0 c.in-Ok.ensures.mine.1 (s.free c.in-Ok.ensures.mine.1) (λ w safe. spends_more d m.state (d.layer a1) (d.layer a2) (d.safe a1 → Committed (d.layer a1) (d.layer a2)) (Committed (d.layer a1) (d.layer a2)) (λ h. h safe) s.ok) s.stops)))
 
 pub returns-clause-unasked : goal.returns-clause-unasked
 returns-clause-unasked g c = λ how.
     let calm = c.in_ok-check_change.ensures.ok in
     let empty : c.args.length ≡ 0 = elim how [ inl none ↦ none | inr some ↦ absurd (grind (arith, some, calm)) ] in
-    let first = c.in-Ok.ensures.unasked (inl empty) in
+    let first = c.in-Ok.ensures.at_once.unasked (inl empty) in
     let state : c.in-Ok.prepared.state ≡ None = ap (λ m. m.state) (c.in-Ok.ensures.empty empty).0 in
     let second = c.in_default.ensures.unasked state in
-    rw (← c.self.view_is) ((second.0 ∙ first.0.0, second.1 ∙ first.0.1), ap layers first.1)
+    rw (← c.self.view_is) ((second.0 ∙ first.0, second.1 ∙ first.1), ap layers (c.in-Ok.ensures.unread (inl empty)))
+
+pub returns-in-Err-settle-clause-err : goal.returns-in-Err-settle-clause-err
+returns-in-Err-settle-clause-err g c = let d = g.D.Seen in
+    let laws = g.met.D.FormatDriverInstance in
+    let r = c.prepare_data_mapping in
+    let a0 = c.self.inside.driver in
+    let a1 = r.new.self in
+    let a2 = c.settle.new.driver in
+    let x0 = c.self.inside.below in
+    let under = map d.layer (layers x0) in
+    let free : IsFree (d.layer a0) = subst (λ (v : _). IsFree (d.layer v.0)) (sym c.self.view_is) c.requires.free in
+    let m = c.in-Ok.prepared in
+    let s = c.in-Err-settle.ensures in
+    rw (← c.self.view_is) (λ intact mild.
+    let made = c.in-Ok.ensures.ok intact.is_safe intact.is_seen in
+    let same = (c.in-Ok.ensures.below.stays tt intact.is_seen).0 in
+    let safe : d.safe a1 = c.in-Ok.ensures.went.safely (tt, intact.is_seen) intact.is_safe in
+    let spends = s.err safe mild in
+    let size : (d.layer a2).size ≡ (d.layer a0).size = s.size ∙ c.in-Ok.ensures.size in
+    rw same (record {
+      size = size;
+      value = λ p low. at_alike (d.layer a0) (d.layer a2) under p size (ap (λ (cell : ℕ → Cell). through (cell p) (at under p)) (given_up_cell d m.state (d.layer a1) (d.layer a2) c.in-Ok.ensures.mine.0 spends ∙ made.cell));
+      hold = λ p low. ap hold_of (laws.free_loose a2 (s.free c.in-Ok.ensures.mine.1) p ∙ sym (laws.free_loose a0 free p));
+    }))

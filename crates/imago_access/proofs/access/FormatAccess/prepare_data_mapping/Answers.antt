@@ -1,12 +1,12 @@
 use Rattle.std.proofs.Common.{◌≡◌, ◌∷◌, ◌++◌, refl, map, ap, sym, subst}
-use Rattle.std.specs.Prelude.{IsOk, is_some}
+use Rattle.std.specs.Prelude.{is_some}
 use Rattle.std.proofs.lemmas.Result.{IfErr-weaker}
 use Rattle.imago_storage.specs.Steps.{Stays, prepare}
 use Rattle.imago_access.specs.Layer.{IsFree}
 use Rattle.imago_access.specs.Layers.{layers}
-use Rattle.imago_access.specs.Chain.{Each, disk_of, unit_of_chain}
+use Rattle.imago_access.specs.Chain.{disk_of, unit_of_chain}
 use Rattle.imago_access.specs.Changes.{NotPrepared}
-use Rattle.imago_access.specs.Files.{IsMild, IsWhole, files_of}
+use Rattle.imago_access.specs.Files.{IsMild, WasNotCutOff, files_of}
 use Rattle.imago_access.specs.Spending.{claim_of}
 use Rattle.imago_access.specs.Stops.{GivesNone}
 use Rattle.imago_access.specs.declared.mapping.PreparedDataMapping.{PreparedDataMapping}
@@ -18,13 +18,15 @@ use Rattle.imago_access.proofs.Running.{ran_same, ran_seen}
 use Rattle.imago_access.proofs.MappingCalls.{not_prepared_stays, prepared_step, stateless_is, stateful_claims}
 use Rattle.imago_access.proofs.Uncut.{own_part}
 use Rattle.imago_access.proofs.access.FormatAccess.prepare_data_mapping.Goals as goal
+use Rattle.imago_access.specs.Running.{below_ghosts}
+use Rattle.imago_access.proofs.Looking.{seen_by}
 
 pub returns-in_err-check_change-clause-ran : goal.returns-in_err-check_change-clause-ran
-returns-in_err-check_change-clause-ran g c = let d = g.D.FormatDriverInstance in
-    ran_same d.layer d.image d.extras d.safe d.lasts (map d.layer) (files_of d.image d.extras) (Each d.sees) (Each d.safe) (Each d.still) (Each d.lasts) d.sound (IsOk c.from_residual.result) (IsWhole c.from_residual.result) GivesNone c.args.self.now.0 c.args.self.now.1
+returns-in_err-check_change-clause-ran g c = let d = g.D.Seen in
+    ran_same d (below_ghosts d) (WasNotCutOff c.from_residual.result) GivesNone c.args.self.now.0 c.args.self.now.1
 
 pub returns-clause-ok : goal.returns-clause-ok
-returns-clause-ok g c = let d = g.D.FormatDriverInstance in
+returns-clause-ok g c = let d = g.D.Seen in
     let laws = g.met.D.FormatDriverInstance in
     let r = c.prepare_data_mapping in
     let old = c.self.inside.driver in
@@ -32,38 +34,38 @@ returns-clause-ok g c = let d = g.D.FormatDriverInstance in
     let under = map d.layer (layers c.self.inside.below) in
     let later = map d.layer (layers r.new.below) in
     rw (← c.self.view_is) (λ intact.
-    let told = both_if_ok r.result _ _ (r.ensures.ok intact.keeps intact.is_safe intact.is_seen) (both_if_ok r.result _ _ r.ensures.run (both_if_ok r.result _ _ r.ensures.stateless (if_ok_under r.result (c.args.length ≡ 0) _ r.ensures.empty))) in
+    let told = both_if_ok r.result _ _ (r.ensures.ok intact.is_safe intact.is_seen) (both_if_ok r.result _ _ r.ensures.run (both_if_ok r.result _ _ r.ensures.mine (if_ok_under r.result (c.args.length ≡ 0) _ r.ensures.empty))) in
     if_ok_with r.result _ _ (λ m is h. prepared_step under later (d.layer old) (d.layer r.new.self) c.args.offset c.args.length c.args.overwrite m.storage m.offset m.length (claim_of d.claim m.state) (is_some m.state)
-    (r.ensures.below.stays (whole_of_ok r.result m is) intact.is_seen).0 (laws.free_loose old free) h.0 h.1.0.0 h.1.0.1 h.1.0.2
-    (λ none. laws.free_loose r.new.self (h.1.1.0 (stateless_is m.state none))) (stateful_claims d.claim m.state) (λ zero. ap (λ (m' : PreparedDataMapping g.row.D-State.Denot). is_some m'.state) (h.1.1.1 zero).0)) told)
+    (r.ensures.below.stays (whole_of_ok r.result m is) intact.is_seen).0 (laws.free_loose old free) h.0 h.1.0.0.0 h.1.0.0.1 h.1.0.0.2
+    (λ none. laws.free_loose r.new.self (h.1.1.0.1 (stateless_is m.state none))) (stateful_claims d.claim m.state) (λ zero. ap (λ (m' : PreparedDataMapping g.row.D-State.Denot). is_some m'.state) (h.1.1.1 zero).0)) told)
 
 pub returns-clause-err : goal.returns-clause-err
-returns-clause-err g c = let d = g.D.FormatDriverInstance in
+returns-clause-err g c = let d = g.D.Seen in
     let r = c.prepare_data_mapping in
     let old = c.self.inside.driver in
     let under = map d.layer (layers c.self.inside.below) in
     let later = map d.layer (layers r.new.below) in
     rw (← c.self.view_is) (λ intact. if_err_with r.result (λ e. IsMild e → NotPrepared (d.layer old) (d.layer r.new.self)) (λ e. IsMild e → Stays (disk_of under (d.layer old)) (disk_of later (d.layer r.new.self)))
-    (λ e is not mild. not_prepared_stays under later (d.layer old) (d.layer r.new.self) (r.ensures.below.stays (whole_of_mild r.result e is mild) intact.is_seen).0 (not mild)) (r.ensures.err intact.keeps intact.is_safe intact.is_seen))
+    (λ e is not mild. not_prepared_stays under later (d.layer old) (d.layer r.new.self) (r.ensures.below.stays (whole_of_mild r.result e is mild) intact.is_seen).0 (not mild)) (r.ensures.err intact.is_safe intact.is_seen))
 
 pub returns-clause-ran : goal.returns-clause-ran
-returns-clause-ran g c = let d = g.D.FormatDriverInstance in
+returns-clause-ran g c = let d = g.D.Seen in
     let laws = g.met.D.FormatDriverInstance in
     let r = c.prepare_data_mapping in
     let old = c.self.inside.driver in
     let new = r.new.self in
     let free : IsFree (d.layer old) = subst (λ (v : _). IsFree (d.layer v.0)) (sym c.self.view_is) c.requires.free in
-    rw (← c.self.view_is) (ran_seen layers d.layer d.image d.extras d.safe d.lasts (map d.layer) (files_of d.image d.extras) (Each d.sees) (Each d.safe) (Each d.still) (Each d.lasts) d.sound (IsOk r.result) (IsWhole r.result) GivesNone old new c.self.inside.below r.new.below
-    (ran_prepared d.layer d.image d.extras d.safe d.lasts (λ b. map d.layer (layers b)) (λ b. files_of d.image d.extras (layers b)) (λ b. Each d.sees (layers b)) (λ b. Each d.safe (layers b)) (λ b. Each d.still (layers b)) (λ b. Each d.lasts (layers b)) d.sound d.claim r.result old new c.self.inside.below r.new.below c.args.offset c.args.length c.args.overwrite
+    rw (← c.self.view_is) (ran_seen layers d (below_ghosts d) (WasNotCutOff r.result) GivesNone old new c.self.inside.below r.new.below
+    (ran_prepared d (seen_by layers (below_ghosts d)) r.result old new c.self.inside.below r.new.below c.args.offset c.args.length c.args.overwrite
     (laws.free_loose old free) r.ensures.size r.ensures.went r.ensures.below r.ensures.ok r.ensures.err r.ensures.stops))
 
 pub returns-clause-cause : goal.returns-clause-cause
-returns-clause-cause g c = let d = g.D.FormatDriverInstance in
+returns-clause-cause g c = let d = g.D.Seen in
     let laws = g.met.D.FormatDriverInstance in
     let r = c.prepare_data_mapping in
     let old = c.self.inside.driver in
     let under = layers c.self.inside.below in
     let call = prepare c.args.offset c.args.length c.args.overwrite in
     rw (← c.self.view_is) (λ intact. IfErr-weaker r.result _ _
-    (λ e cause. change_cause (map d.layer under) (d.layer old) (unit_of_chain (map d.layer (old ∷ under))) call (d.own_cause old (map d.layer under) call) (d.image old ∷ (d.extras old ++ files_of d.image d.extras under)) (d.image r.new.self ∷ (d.extras r.new.self ++ files_of d.image d.extras (layers r.new.below))) (λ some. some) (overflows_chain d.layer laws.aligned old under c.args.offset c.args.length) e cause)
+    (λ e cause. change_cause (map d.layer under) (d.layer old) call (d.own_cause old (map d.layer under) call) (d.image old ∷ (d.extras old ++ files_of d under)) (d.image r.new.self ∷ (d.extras r.new.self ++ files_of d (layers r.new.below))) (λ some. some) (overflows_chain d.layer laws.aligned old under c.args.offset c.args.length) e cause)
     (r.ensures.cause intact.is_safe intact.is_seen old call (laws.begins old call) (own_part (d.layer old) call) refl))

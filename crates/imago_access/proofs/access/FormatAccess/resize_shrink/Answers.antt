@@ -1,23 +1,23 @@
-use Rattle.std.proofs.Common.{◌∷◌, ◌++◌, ◌<◌, map}
+use Rattle.std.proofs.Common.{◌++◌, ◌<◌, map}
 use Rattle.std.proofs.lemmas.Result.{IfErr-weaker}
 use Rattle.imago_storage.specs.Steps.{shrink}
-use Rattle.imago_access.specs.Files.{files_of}
+use Rattle.imago_access.specs.Files.{files_of, files}
 use Rattle.imago_access.specs.Layers.{layers}
 use Rattle.imago_access.specs.Parts.{ShrinkCause}
 use Rattle.imago_access.proofs.ResizeCauses.{resize_cause_wider}
 use Rattle.imago_access.proofs.access.FormatAccess.resize_shrink.Goals as goal
 
 pub returns-clause-stops : goal.returns-clause-stops
-returns-clause-stops g c = let d = g.D.FormatDriverInstance in rw (← c.self.view_is) (λ intact. c.resize_shrink.ensures.stops intact.keeps intact.is_safe (map d.layer (layers c.self.inside.below)) intact.backed)
+returns-clause-stops g c = let d = g.D.Seen in rw (← c.self.view_is) (λ intact. c.resize_shrink.ensures.stops intact.is_safe (map d.layer (layers c.self.inside.below)) intact.backed)
 
 pub returns-clause-cause : goal.returns-clause-cause
-returns-clause-cause g c = let d = g.D.FormatDriverInstance in
+returns-clause-cause g c = let d = g.D.Seen in
     let top = c.self.inside.driver in
     let under = layers c.self.inside.below in
     let own = d.own_cause top (map d.layer under) (shrink c.args.size) in
-    let olds = d.image top ∷ d.extras top in
-    let news = d.image c.resize_shrink.new.self ∷ d.extras c.resize_shrink.new.self in
-    let files = files_of d.image d.extras under in
-    rw (← c.self.view_is) (λ intact. IfErr-weaker c.resize_shrink.result (ShrinkCause (map d.layer under) (d.layer top) c.args.size own olds news) (ShrinkCause (map d.layer under) (d.layer top) c.args.size own (olds ++ files) (news ++ files))
-    (resize_cause_wider (c.args.size < (d.layer top).size) (map d.layer under) (d.layer top) own olds news files files)
+    let olds = files d top in
+    let news = files d c.resize_shrink.new.self in
+    let others = files_of d under in
+    rw (← c.self.view_is) (λ intact. IfErr-weaker c.resize_shrink.result (ShrinkCause (map d.layer under) (d.layer top) c.args.size own olds news) (ShrinkCause (map d.layer under) (d.layer top) c.args.size own (olds ++ others) (news ++ others))
+    (resize_cause_wider (c.args.size < (d.layer top).size) (map d.layer under) (d.layer top) own olds news others others)
     (c.resize_shrink.ensures.cause intact.is_safe (map d.layer under)))

@@ -1,14 +1,14 @@
-use Rattle.std.proofs.Common.{refl, inl, ◌⊎◌, ◌≡◌, ◌∷◌, arith, true, IsOk, IfErr, map}
+use Rattle.std.proofs.Common.{refl, inl, ◌⊎◌, ◌≡◌, ◌∷◌, arith, true, IfErr, map}
 use Rattle.std.proofs.lemmas.Result.{IfErr-weaker}
 use Rattle.imago_storage.specs.Steps.{Call, write_zeroes, IsOut}
 use Rattle.std.specs.Prelude.{⊤}
 use Rattle.imago_storage.proofs.Parts.{passed}
-use Rattle.imago_access.specs.Chain.{Each, disk_of, unit_of_chain}
-use Rattle.imago_access.specs.Files.{IsWhole, files_of}
+use Rattle.imago_access.specs.Chain.{disk_of, unit_of_chain}
+use Rattle.imago_access.specs.Files.{WasNotCutOff, files_of}
 use Rattle.imago_access.specs.Layers.{chain, layers}
 use Rattle.imago_access.specs.Parts.{IsUncutPart, announces, PartCause}
 use Rattle.imago_access.specs.Refusals.{ChangeCause}
-use Rattle.imago_access.specs.Running.{IsIntact}
+use Rattle.imago_access.specs.Running.{IsIntact, below_ghosts}
 use Rattle.imago_access.specs.Stops.{GivesZero}
 use Rattle.imago_access.proofs.ChangeCauses.{change_cause}
 use Rattle.imago_access.proofs.Discarding.{allowed_fits}
@@ -16,55 +16,55 @@ use Rattle.imago_access.specs.Room.{IsApart}
 use Rattle.imago_access.specs.declared.access.zeroing.Zeroing.TheVariants as zeroing_is
 use Rattle.imago_access.proofs.Room.{room_fewer}
 use Rattle.imago_access.proofs.Refusing.{refusal_cause}
-use Rattle.imago_access.proofs.Running.{ran_same, ran_seen}
+use Rattle.imago_access.proofs.Running.{ran_same, intact_by, ran_seen}
 use Rattle.imago_access.proofs.Units.{overflows_chain, unit_aligned}
 use Rattle.imago_access.proofs.Zeroing.{zero_ok, zero_err}
 use Rattle.imago_access.proofs.Uncut.{own_part}
 use Rattle.imago_access.proofs.access.FormatAccess.write_zeroes.Goals as goal
 
 pub returns-in_err-check_change-clause-ran : goal.returns-in_err-check_change-clause-ran
-returns-in_err-check_change-clause-ran g c = let d = g.D.FormatDriverInstance in
-    ran_same d.layer d.image d.extras d.safe d.lasts (map d.layer) (files_of d.image d.extras) (Each d.sees) (Each d.safe) (Each d.still) (Each d.lasts) d.sound (IsOk c.from_residual.result) (IsWhole c.from_residual.result) (GivesZero c.args.offset c.args.length) c.args.self.now.0 c.args.self.now.1
+returns-in_err-check_change-clause-ran g c = let d = g.D.Seen in
+    ran_same d (below_ghosts d) (WasNotCutOff c.from_residual.result) (GivesZero c.args.offset c.args.length) c.args.self.now.0 c.args.self.now.1
 
 pub zero_all-requires-clause-fits : goal.zero_all-requires-clause-fits
-zero_all-requires-clause-fits g c = let d = g.D.FormatDriverInstance in
+zero_all-requires-clause-fits g c = let d = g.D.Seen in
     allowed_fits (unit_of_chain (map d.layer (chain c.args.self.now))) (d.layer c.args.self.now.0) c.args.offset c.args.length (unit_aligned d.layer g.met.D.FormatDriverInstance.aligned (chain c.args.self.now)).positive c.ranges.offset.fits c.in_ok-check_change.ensures.ok
 
 pub returns-clause-ran : goal.returns-clause-ran
-returns-clause-ran g c = let d = g.D.FormatDriverInstance in
-    rw (← c.self.view_is) (ran_seen layers d.layer d.image d.extras d.safe d.lasts (map d.layer) (files_of d.image d.extras) (Each d.sees) (Each d.safe) (Each d.still) (Each d.lasts) d.sound (IsOk c.zero_all.result) (IsWhole c.zero_all.result) (GivesZero c.args.offset c.args.length) c.self.inside.driver c.zero_all.new.driver c.self.inside.below c.zero_all.new.below c.zero_all.ensures.ran)
+returns-clause-ran g c = let d = g.D.Seen in
+    rw (← c.self.view_is) (ran_seen layers d (below_ghosts d) (WasNotCutOff c.zero_all.result) (GivesZero c.args.offset c.args.length) c.self.inside.driver c.zero_all.new.driver c.self.inside.below c.zero_all.new.below c.zero_all.ensures.ran)
 
 pub returns-clause-ok : goal.returns-clause-ok
-returns-clause-ok g c = let d = g.D.FormatDriverInstance in
-    zero_ok d.layer d.image d.extras d.sees d.safe d.still d.lasts d.sound g.met.D.FormatDriverInstance.free_loose c.args.self.now (c.zero_all.new.driver, layers c.zero_all.new.below) c.args.offset c.args.length c.requires.free c.zero_all.ensures.free (unit_of_chain (map d.layer (chain c.args.self.now))) c.zero_all.result
-    c.in_ok-check_change.ensures.ok (rw (← c.self.view_is) c.zero_all.ensures.shown) (returns-clause-ran g c)
+returns-clause-ok g c = let d = g.D.Seen in
+    zero_ok d g.met.D.FormatDriverInstance.free_loose c.args.self.now (c.zero_all.new.driver, layers c.zero_all.new.below) c.args.offset c.args.length c.requires.free c.zero_all.ensures.free (unit_of_chain (map d.layer (chain c.args.self.now))) c.zero_all.result
+    c.in_ok-check_change.ensures.ok (rw (← c.self.view_is) (λ i. c.zero_all.ensures.shown (intact_by layers d (below_ghosts d) c.self.inside.driver c.self.inside.below i))) (returns-clause-ran g c)
 
 pub returns-clause-err : goal.returns-clause-err
-returns-clause-err g c = let d = g.D.FormatDriverInstance in
-    zero_err d.layer d.image d.extras d.sees d.safe d.still d.lasts d.sound g.met.D.FormatDriverInstance.free_loose c.args.self.now (c.zero_all.new.driver, layers c.zero_all.new.below) c.args.offset c.args.length c.requires.free c.zero_all.ensures.free c.zero_all.result
+returns-clause-err g c = let d = g.D.Seen in
+    zero_err d g.met.D.FormatDriverInstance.free_loose c.args.self.now (c.zero_all.new.driver, layers c.zero_all.new.below) c.args.offset c.args.length c.requires.free c.zero_all.ensures.free c.zero_all.result
     (write_zeroes c.args.offset c.args.length) refl refl (λ p was. refl) (returns-clause-ran g c)
 
 pub returns-clause-cause : goal.returns-clause-cause
-returns-clause-cause g c = λ i. let d = g.D.FormatDriverInstance in let a = c.args.self.now.0 in let ds = c.args.self.now.1 in let e = c.zero_all.new.driver in let call = write_zeroes c.args.offset c.args.length in
-    let below = map d.layer ds in let olds = files_of d.image d.extras (chain c.args.self.now) in let news = files_of d.image d.extras (e ∷ layers c.zero_all.new.below) in
-    let told : IsIntact below (d.layer a) (d.safe a) (Each d.sees ds) → (x : g.row.D.Denot) (k : Call) → d.began x k a → IsUncutPart (d.layer a) k c.args.offset c.args.length → true ≡ announces k
-    → IfErr c.zero_all.result (PartCause below (d.layer a) c.args.offset c.args.length (d.own_cause x below k) olds news) = rw (← c.self.view_is) c.zero_all.ensures.cause in
+returns-clause-cause g c = λ i. let d = g.D.Seen in let a = c.args.self.now.0 in let ds = c.args.self.now.1 in let e = c.zero_all.new.driver in let call = write_zeroes c.args.offset c.args.length in
+    let below = map d.layer ds in let olds = files_of d (chain c.args.self.now) in let news = files_of d (e ∷ layers c.zero_all.new.below) in
+    let told : IsIntact d (below_ghosts d) a ds → (x : g.row.D.Denot) (k : Call) → d.began x k a → IsUncutPart (d.layer a) k c.args.offset c.args.length → true ≡ announces k
+    → IfErr c.zero_all.result (PartCause below (d.layer a) c.args.offset c.args.length (d.own_cause x below k) olds news) = rw (← c.self.view_is) (λ i. c.zero_all.ensures.cause (intact_by layers d (below_ghosts d) c.self.inside.driver c.self.inside.below i)) in
     IfErr-weaker c.zero_all.result (PartCause below (d.layer a) c.args.offset c.args.length (d.own_cause a below call) olds news)
-    (ChangeCause (unit_of_chain (map d.layer (a ∷ ds))) (d.layer a ∷ below) (disk_of below (d.layer a)) (d.layer a).fixed.writable call (d.own_cause a below call) olds news)
-    (change_cause below (d.layer a) (unit_of_chain (map d.layer (a ∷ ds))) call (d.own_cause a below call) olds news (λ some. some) (overflows_chain d.layer g.met.D.FormatDriverInstance.aligned a ds c.args.offset c.args.length))
+    (ChangeCause below (d.layer a) call (d.own_cause a below call) olds news)
+    (change_cause below (d.layer a) call (d.own_cause a below call) olds news (λ some. some) (overflows_chain d.layer g.met.D.FormatDriverInstance.aligned a ds c.args.offset c.args.length))
     (told i a call (g.met.D.FormatDriverInstance.begins a call) (own_part (d.layer a) call) refl)
 
 pub returns-in_err-check_change-clause-cause : goal.returns-in_err-check_change-clause-cause
-returns-in_err-check_change-clause-cause g c = λ i. let d = g.D.FormatDriverInstance in let a = c.args.self.now.0 in let ds = c.args.self.now.1 in let call = write_zeroes c.args.offset c.args.length in
-    let files = files_of d.image d.extras (a ∷ ds) in
-    passed c.from_residual.result (ChangeCause (unit_of_chain (map d.layer (a ∷ ds))) (map d.layer (a ∷ ds)) (disk_of (map d.layer ds) (d.layer a)) (d.layer a).fixed.writable call (d.own_cause a (map d.layer ds) call) files files) c.in_err-check_change.field-0.0 c.from_residual.ensures.1
-    (refusal_cause (map d.layer ds) (d.layer a) (unit_of_chain (map d.layer (a ∷ ds))) call (d.own_cause a (map d.layer ds) call) files files c.in_err-check_change.field-0.0 (λ some. some) c.in_err-check_change.ensures.err)
+returns-in_err-check_change-clause-cause g c = λ i. let d = g.D.Seen in let a = c.args.self.now.0 in let ds = c.args.self.now.1 in let call = write_zeroes c.args.offset c.args.length in
+    let others = files_of d (a ∷ ds) in
+    passed c.from_residual.result (ChangeCause (map d.layer ds) (d.layer a) call (d.own_cause a (map d.layer ds) call) others others) c.in_err-check_change.field-0.0 c.from_residual.ensures.1
+    (refusal_cause (map d.layer ds) (d.layer a) call (d.own_cause a (map d.layer ds) call) others others c.in_err-check_change.field-0.0 (λ some. some) c.in_err-check_change.ensures.err)
 
 pub returns-clause-room : goal.returns-clause-room
-returns-clause-room g c = let d = g.D.FormatDriverInstance in let old = c.self.inside.driver in
-    rw (← c.self.view_is) (λ i whole. room_fewer d.vacant d.has_room d.zeroed (λ p. (zeroing_is.Keep ≡ zeroing_is.Keep) ⊎ IsOut c.args.offset c.args.length p) (λ _. ⊤) (IsApart (d.layer old).fixed.unit c.args.offset c.args.length) old c.zero_all.new.driver
-    (λ p there. inl refl) (c.zero_all.ensures.room i whole))
+returns-clause-room g c = let d = g.D.Seen in let old = c.self.inside.driver in
+    rw (← c.self.view_is) (λ i whole. room_fewer d (λ p. (zeroing_is.Keep ≡ zeroing_is.Keep) ⊎ IsOut c.args.offset c.args.length p) (λ _. ⊤) (IsApart (d.layer old).fixed.unit c.args.offset c.args.length) old c.zero_all.new.driver
+    (λ p there. inl refl) (c.zero_all.ensures.room (intact_by layers d (below_ghosts d) old c.self.inside.below i) whole))
 
 pub returns-clause-zeroed : goal.returns-clause-zeroed
-returns-clause-zeroed g c = let old = c.self.inside.driver in let call = write_zeroes c.args.offset c.args.length in
-    rw (← c.self.view_is) (λ i undeclined. c.zero_all.ensures.leaves i old call (g.met.D.FormatDriverInstance.begins old call) (record { start = omega arith; end = omega arith }) undeclined)
+returns-clause-zeroed g c = let d = g.D.Seen in let old = c.self.inside.driver in let call = write_zeroes c.args.offset c.args.length in
+    rw (← c.self.view_is) (λ i undeclined. c.zero_all.ensures.leaves (intact_by layers d (below_ghosts d) old c.self.inside.below i) old call (g.met.D.FormatDriverInstance.begins old call) (record { start = omega arith; end = omega arith }) undeclined)

@@ -8,24 +8,24 @@ use Rattle.imago_access.proofs.Rewriting.{result_between, any_shows, below_shows
 use Rattle.imago_access.proofs.access.discarding.discard_part.Goals as goal
 
 pub returns-in-ToAny-clause-values : goal.returns-in-ToAny-clause-values
-returns-in-ToAny-clause-values g c = λ keeps safe below backed whole. let d = g.D.FormatDriverInstance in
+returns-in-ToAny-clause-values g c = λ safe below backed whole. let d = g.D.Seen in
     let done = c.discard_to_any.ensures in
     subst (λ (k : Discarding). IsBetween (GivesDiscarded k below c.args.offset c.args.length) below (d.layer c.args.driver.now) (d.layer c.discard_to_any.new.self)) (sym c.in-ToAny.is)
-    (result_between ToAny (GivesAny c.args.offset c.args.length) below (d.layer c.args.driver.now) (d.layer c.discard_to_any.new.self) c.args.offset c.args.length (any_shows below c.args.offset c.args.length) c.discard_to_any.result done.part (done.ok keeps safe) (done.err keeps safe) whole)
+    (result_between ToAny (GivesAny c.args.offset c.args.length) below (d.layer c.args.driver.now) (d.layer c.discard_to_any.new.self) c.args.offset c.args.length (any_shows below c.args.offset c.args.length) c.discard_to_any.result done.part (done.does.ok safe) (done.does.err safe) whole)
 
 pub returns-in-ToAny-clause-stops : goal.returns-in-ToAny-clause-stops
-returns-in-ToAny-clause-stops g c = λ keeps safe below backed. let d = g.D.FormatDriverInstance in
-    subst (λ (k : Discarding). KeepsStops below (d.layer c.args.driver.now) d.sound (GivesDiscarded k below c.args.offset c.args.length) (d.image c.args.driver.now) (d.image c.discard_to_any.new.self)) (sym c.in-ToAny.is)
-    (c.discard_to_any.ensures.stops keeps safe below)
+returns-in-ToAny-clause-stops g c = λ safe below backed. let d = g.D.Seen in
+    subst (λ (k : Discarding). KeepsStops d below (GivesDiscarded k below c.args.offset c.args.length) c.args.driver.now c.discard_to_any.new.self) (sym c.in-ToAny.is)
+    (c.discard_to_any.ensures.does.stops safe below tt)
 
 pub returns-in-ToBacking-clause-values : goal.returns-in-ToBacking-clause-values
-returns-in-ToBacking-clause-values g c = λ keeps safe below backed whole. let d = g.D.FormatDriverInstance in
+returns-in-ToBacking-clause-values g c = λ safe below backed whole. let d = g.D.Seen in
     let done = c.discard_to_backing.ensures in
     subst (λ (k : Discarding). IsBetween (GivesDiscarded k below c.args.offset c.args.length) below (d.layer c.args.driver.now) (d.layer c.discard_to_backing.new.self)) (sym c.in-ToBacking.is)
     (result_between (ToBelow (d.layer c.args.driver.now).fixed.blank) (GivesBelow below c.args.offset c.args.length) below (d.layer c.args.driver.now) (d.layer c.discard_to_backing.new.self) c.args.offset c.args.length
-    (below_shows below (d.layer c.args.driver.now) c.args.offset c.args.length (g.met.D.FormatDriverInstance.blanks c.args.driver.now) backed) c.discard_to_backing.result done.part (done.ok keeps safe) (done.err keeps safe) whole)
+    (below_shows below (d.layer c.args.driver.now) c.args.offset c.args.length (g.met.D.FormatDriverInstance.blanks c.args.driver.now) backed) c.discard_to_backing.result done.part (done.does.ok safe) (done.does.err safe) whole)
 
 pub returns-in-ToBacking-clause-stops : goal.returns-in-ToBacking-clause-stops
-returns-in-ToBacking-clause-stops g c = λ keeps safe below backed. let d = g.D.FormatDriverInstance in
-    subst (λ (k : Discarding). KeepsStops below (d.layer c.args.driver.now) d.sound (GivesDiscarded k below c.args.offset c.args.length) (d.image c.args.driver.now) (d.image c.discard_to_backing.new.self)) (sym c.in-ToBacking.is)
-    (c.discard_to_backing.ensures.stops keeps safe below backed)
+returns-in-ToBacking-clause-stops g c = λ safe below backed. let d = g.D.Seen in
+    subst (λ (k : Discarding). KeepsStops d below (GivesDiscarded k below c.args.offset c.args.length) c.args.driver.now c.discard_to_backing.new.self) (sym c.in-ToBacking.is)
+    (c.discard_to_backing.ensures.does.stops safe below backed)

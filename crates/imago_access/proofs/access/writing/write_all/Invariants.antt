@@ -13,13 +13,13 @@ use Rattle.imago_access.proofs.access.writing.write_all.Given as goal
 abbrev pub invariant-loop-done : goal.invariant-loop-done
 invariant-loop-done g l = record {
   inside : l.done ≤ length l.bytes;
-  free : IsFree (g.D.FormatDriverInstance.layer l.driver);
+  free : IsFree (g.D.Seen.layer l.driver);
   untouched : length l.bytes ≡ 0 → (l.driver ≡ l.fn.driver) × (l.below ≡ l.fn.below);
-  shown : IsIntact (g.B.ReadBelow.under l.fn.below) (g.D.FormatDriverInstance.layer l.fn.driver) (g.D.FormatDriverInstance.safe l.fn.driver) (g.B.ReadBelow.sees_under l.fn.below) → (i : ℕ) → i < l.done → at (g.D.FormatDriverInstance.layer l.driver ∷ g.B.ReadBelow.under l.fn.below) (l.offset + i) ≡ byte (slice_index l.bytes i);
-  uncut : IsIntact (g.B.ReadBelow.under l.fn.below) (g.D.FormatDriverInstance.layer l.fn.driver) (g.D.FormatDriverInstance.safe l.fn.driver) (g.B.ReadBelow.sees_under l.fn.below) → IsUncutAt (g.D.FormatDriverInstance.layer l.fn.driver).fixed.unit (g.D.FormatDriverInstance.layer l.fn.driver).size l.offset (length l.bytes) (l.offset + l.done);
-  room : IsIntact (g.B.ReadBelow.under l.fn.below) (g.D.FormatDriverInstance.layer l.fn.driver) (g.D.FormatDriverInstance.safe l.fn.driver) (g.B.ReadBelow.sees_under l.fn.below) → Takes g.D.FormatDriverInstance.vacant g.D.FormatDriverInstance.has_room g.D.FormatDriverInstance.zeroed (IsApart (g.D.FormatDriverInstance.layer l.fn.driver).fixed.unit l.offset (length l.bytes)) l.fn.driver l.driver;
-  ran : Ran g.D.FormatDriverInstance.layer g.D.FormatDriverInstance.image g.D.FormatDriverInstance.extras g.D.FormatDriverInstance.safe g.D.FormatDriverInstance.lasts g.B.ReadBelow.under g.B.ReadBelow.files_under g.B.ReadBelow.sees_under g.B.ReadBelow.safe_under g.B.ReadBelow.still_under g.B.ReadBelow.lasts_under g.D.FormatDriverInstance.sound ⊤ ⊤ (GivesBytes l.offset l.bytes) l.fn.driver l.driver l.fn.below l.below;
-  began : (d : g.row.D.Denot) (call : Call) → g.D.FormatDriverInstance.began d call l.fn.driver → IsPartOf call l.offset (length l.bytes) → g.D.FormatDriverInstance.began d call l.driver;
+  shown : IsIntact g.D.Seen g.B.SeenBelow l.fn.driver l.fn.below → (i : ℕ) → i < l.done → at (g.D.Seen.layer l.driver ∷ g.B.SeenBelow.under l.fn.below) (l.offset + i) ≡ byte (slice_index l.bytes i);
+  uncut : IsIntact g.D.Seen g.B.SeenBelow l.fn.driver l.fn.below → IsUncutAt (g.D.Seen.layer l.fn.driver).fixed.unit (g.D.Seen.layer l.fn.driver).size l.offset (length l.bytes) (l.offset + l.done);
+  room : IsIntact g.D.Seen g.B.SeenBelow l.fn.driver l.fn.below → Takes g.D.Seen (IsApart (g.D.Seen.layer l.fn.driver).fixed.unit l.offset (length l.bytes)) l.fn.driver l.driver;
+  ran : Ran g.D.Seen g.B.SeenBelow ⊤ (GivesBytes l.offset l.bytes) (l.fn.driver, l.fn.below) (l.driver, l.below);
+  began : (d : g.row.D.Denot) (call : Call) → g.D.Seen.began d call l.fn.driver → IsPartOf call l.offset (length l.bytes) → g.D.Seen.began d call l.driver;
 }
 
 abbrev pub decreases-loop-done : goal.decreases-loop-done

@@ -1,10 +1,10 @@
-use Rattle.std.proofs.Common.{refl, [], ℕ, ◌≡◌, ◌≤◌, ◌+◌, ◌∷◌, List, length, arith, true, false, sym, subst}
-use Rattle.std.specs.Prelude.{⊤, IsTrue, replicate}
-use Rattle.imago_access.specs.Layer.{Layer, Fixed}
+use Rattle.std.proofs.Common.{refl, [], ℕ, ◌≡◌, ◌≤◌, ◌+◌, List, length, arith, subst}
+use Rattle.std.specs.Prelude.{⊤, replicate}
+use Rattle.imago_access.specs.Layer.{Layer}
 use Rattle.imago_access.specs.Changes.{Wrote}
-use Rattle.imago_access.specs.Files.{IsMild}
+use Rattle.imago_access.specs.Files.{IsMild, files}
 use Rattle.imago_access.specs.Parts.{MappedCause}
-use Rattle.imago_access.specs.Running.{RanAlone}
+use Rattle.imago_access.specs.Running.{RanAlone, alone_ghosts}
 use Rattle.imago_access.specs.Stops.{GivesBytes}
 use Rattle.imago_access.proofs.Discarding.{like_both}
 use Rattle.imago_access.proofs.HoldingRuns.{ran_wrote, ran_refused}
@@ -16,63 +16,61 @@ use Rattle.imago_access.proofs.Zeroing.{zeroes_long, wrote_none, wrote_more, zer
 use Rattle.imago_access.proofs.access.zeroing.write_mapped_zeroes.Goals as goal
 
 pub loop-done-init : goal.loop-done-init
-loop-done-init g c = let d = g.D.FormatDriverInstance in let y0 = c.args.driver.now in record {
+loop-done-init g c = let d = g.D.Seen in let y0 = c.args.driver.now in record {
   inside = omega arith;
-  wrote = λ keeps safe. wrote_none (d.layer y0) c.args.guest;
+  wrote = λ safe. wrote_none (d.layer y0) c.args.guest;
   like = record { fixed = refl; size = refl; unspent = refl; failed = λ f. f };
-  room = λ keeps safe. room_same d.vacant d.has_room d.zeroed (λ _. ⊤) (λ _. ⊤) y0;
-  ran = λ below. ran_same {B = List Layer} d.layer d.image d.extras d.safe d.lasts (λ x. x) (λ x. []) (λ x. ⊤) (λ x. ⊤) (λ x. ⊤) (λ x. ⊤) d.sound ⊤ ⊤ (GivesBytes c.args.guest (replicate c.args.n 0)) y0 below;
+  room = λ safe. room_same d (λ _. ⊤) (λ _. ⊤) y0;
+  ran = λ below. ran_same {B = List Layer} d alone_ghosts ⊤ (GivesBytes c.args.guest (replicate c.args.n 0)) y0 below;
   began = λ x call begun. begun;
 }
 
 pub loop-done-preserved : goal.loop-done-preserved
-loop-done-preserved g c = let d = g.D.FormatDriverInstance in let l = c.loop-done.invariant in
+loop-done-preserved g c = let d = g.D.Seen in let l = c.loop-done.invariant in
     let done = c.loop-done.done in let count = c.min-count.result in let bytes = c.zero_bytes.result.now in
     let y0 = c.args.driver.now in let y1 = c.loop-done.driver in let y2 = c.write_mapped.new.self in
     let inside : done + count ≤ c.args.n = omega (arith, c.min-count.ensures, c.loop-done-test.true, l.inside) in
-    let wrote : IsTrue (d.layer y1).fixed.keeps → d.safe y1 → Wrote (d.layer y1) (d.layer y2) (c.args.guest + done) (replicate count 0) = λ keeps safe.
-    subst (Wrote (d.layer y1) (d.layer y2) (c.args.guest + done)) c.zero_bytes.ensures (c.in-Ok.ensures.ok keeps safe) in
-    let keeps_on : IsTrue (d.layer y0).fixed.keeps → IsTrue (d.layer y1).fixed.keeps = subst (λ (f : Fixed). IsTrue f.keeps) (sym l.like.fixed) in
+    let wrote : d.safe y1 → Wrote (d.layer y1) (d.layer y2) (c.args.guest + done) (replicate count 0) = λ safe.
+    subst (Wrote (d.layer y1) (d.layer y2) (c.args.guest + done)) c.zero_bytes.ensures (c.in-Ok.ensures.ok safe) in
     let safe_on : d.safe y0 → d.safe y1 = (l.ran []).went.safely (tt, tt) in
     let gives = zeroes_wider c.args.guest c.args.n (c.args.guest + done) count (omega arith) (omega (arith, inside)) in
     record {
       inside = inside;
-      wrote = λ keeps safe. wrote_more (d.layer y0) (d.layer y1) (d.layer y2) c.args.guest done count (l.wrote keeps safe) (wrote (keeps_on keeps) (safe_on safe));
+      wrote = λ safe. wrote_more (d.layer y0) (d.layer y1) (d.layer y2) c.args.guest done count (l.wrote safe) (wrote (safe_on safe));
       like = like_both (d.layer y0) (d.layer y1) (d.layer y2) l.like c.in-Ok.ensures.like;
-      room = λ keeps safe. takes_both d.vacant d.has_room d.zeroed (λ _. ⊤) (λ _. ⊤) (λ _. ⊤) y0 y1 y2 (λ p there. (tt, tt)) (l.room keeps safe) (c.in-Ok.ensures.room (keeps_on keeps) (safe_on safe) tt);
-      ran = λ below. ran_both {B = List Layer} d.layer d.image d.extras d.safe d.lasts (λ x. x) (λ x. []) (λ x. ⊤) (λ x. ⊤) (λ x. ⊤) (λ x. ⊤) d.sound ⊤ ⊤ (GivesBytes c.args.guest (replicate c.args.n 0)) (GivesBytes (c.args.guest + done) (replicate count 0)) (GivesBytes c.args.guest (replicate c.args.n 0)) y0 y1 y2 below below below
+      room = λ safe. takes_both d (λ _. ⊤) (λ _. ⊤) (λ _. ⊤) y0 y1 y2 (λ p there. (tt, tt)) (l.room safe) (c.in-Ok.ensures.room (safe_on safe) tt);
+      ran = λ below. ran_both {B = List Layer} d alone_ghosts ⊤ (GivesBytes c.args.guest (replicate c.args.n 0)) (GivesBytes (c.args.guest + done) (replicate count 0)) (GivesBytes c.args.guest (replicate c.args.n 0)) y0 y1 y2 below below below
           (λ p v gave. gave) gives (l.ran below)
-          (ran_weaker {B = List Layer} d.layer d.image d.extras d.safe d.lasts (λ x. x) (λ x. []) (λ x. ⊤) (λ x. ⊤) (λ x. ⊤) (λ x. ⊤) d.sound (true ≡ true) ⊤ ⊤ ⊤ (GivesBytes (c.args.guest + done) (replicate count 0)) y1 y2 below below (λ h. refl) (λ h. h)
-          (subst (λ (z : List ℕ). RanAlone d.layer d.image d.extras d.safe d.lasts d.sound (true ≡ true) ⊤ (GivesBytes (c.args.guest + done) z) below y1 y2) c.zero_bytes.ensures
-          (ran_wrote {B = List Layer} d.layer d.image d.extras d.safe d.lasts (λ x. x) (λ x. []) (λ x. ⊤) (λ x. ⊤) (λ x. ⊤) (λ x. ⊤) d.sound (true ≡ true) ⊤ y1 y2 below (c.args.guest + done) (c.args.place + done) bytes c.in-Ok.ensures.like c.in-Ok.ensures.went (λ w. c.in-Ok.ensures.mapped) (λ w. c.in-Ok.ensures.ok) c.in-Ok.ensures.stops)));
+          (ran_weaker {B = List Layer} d alone_ghosts ⊤ ⊤ (GivesBytes (c.args.guest + done) (replicate count 0)) y1 y2 below below (λ h. h)
+          (subst (λ (z : List ℕ). RanAlone d ⊤ (GivesBytes (c.args.guest + done) z) below y1 y2) c.zero_bytes.ensures
+          (ran_wrote {B = List Layer} d alone_ghosts ⊤ y1 y2 below (c.args.guest + done) (c.args.place + done) bytes c.in-Ok.ensures.like c.in-Ok.ensures.went (λ w safe. c.in-Ok.ensures.mapped (g.met.D.FormatDriverInstance.safe_sees y1 safe)) (λ w. c.in-Ok.ensures.ok) c.in-Ok.ensures.stops)));
       began = λ x call begun. c.in-Ok.ensures.began x call (l.began x call begun);
     }
 
 pub returns-in-Err : goal.returns-in-Err
-returns-in-Err g c = let d = g.D.FormatDriverInstance in let l = c.loop-done.invariant in
+returns-in-Err g c = let d = g.D.Seen in let l = c.loop-done.invariant in
     let done = c.loop-done.done in let count = c.min-count.result in let bytes = c.zero_bytes.result.now in
     let y0 = c.args.driver.now in let y1 = c.loop-done.driver in let y2 = c.write_mapped.new.self in let e = c.in-Err.ensures in
     let inside : done + count ≤ c.args.n = omega (arith, c.min-count.ensures, c.loop-done-test.true, l.inside) in
     let long : length bytes ≡ count = zeroes_long count bytes c.zero_bytes.ensures in
-    let keeps_on : IsTrue (d.layer y0).fixed.keeps → IsTrue (d.layer y1).fixed.keeps = subst (λ (f : Fixed). IsTrue f.keeps) (sym l.like.fixed) in
     let safe_on : d.safe y0 → d.safe y1 = (l.ran []).went.safely (tt, tt) in
     let gives = zeroes_wider c.args.guest c.args.n (c.args.guest + done) count (omega arith) (omega (arith, inside)) in
     record {
-      ok = λ keeps safe. tt;
+      ok = λ safe. tt;
       like = like_both (d.layer y0) (d.layer y1) (d.layer y2) l.like e.like;
-      ran = λ below. ran_both {B = List Layer} d.layer d.image d.extras d.safe d.lasts (λ x. x) (λ x. []) (λ x. ⊤) (λ x. ⊤) (λ x. ⊤) (λ x. ⊤) d.sound (false ≡ true) (IsMild c.in-Err.fault) (GivesBytes c.args.guest (replicate c.args.n 0)) (GivesBytes (c.args.guest + done) (replicate count 0)) (GivesBytes c.args.guest (replicate c.args.n 0)) y0 y1 y2 below below below
+      ran = λ below. ran_both {B = List Layer} d alone_ghosts (IsMild c.in-Err.fault) (GivesBytes c.args.guest (replicate c.args.n 0)) (GivesBytes (c.args.guest + done) (replicate count 0)) (GivesBytes c.args.guest (replicate c.args.n 0)) y0 y1 y2 below below below
           (λ p v gave. gave) gives (l.ran below)
-          (subst (λ (z : List ℕ). RanAlone d.layer d.image d.extras d.safe d.lasts d.sound (false ≡ true) (IsMild c.in-Err.fault) (GivesBytes (c.args.guest + done) z) below y1 y2) c.zero_bytes.ensures
-          (ran_refused {B = List Layer} d.layer d.image d.extras d.safe d.lasts (λ x. x) (λ x. []) (λ x. ⊤) (λ x. ⊤) (λ x. ⊤) (λ x. ⊤) d.sound (false ≡ true) (IsMild c.in-Err.fault) (GivesBytes (c.args.guest + done) bytes) y1 y2 below e.like e.went (λ mild keeps safe. e.err keeps safe mild) e.stops));
-      room = λ keeps safe mild. takes_both d.vacant d.has_room d.zeroed (λ _. ⊤) (λ _. ⊤) (λ _. ⊤) y0 y1 y2 (λ p there. (tt, tt)) (l.room keeps safe) (e.room (keeps_on keeps) (safe_on safe) mild);
+          (subst (λ (z : List ℕ). RanAlone d (IsMild c.in-Err.fault) (GivesBytes (c.args.guest + done) z) below y1 y2) c.zero_bytes.ensures
+          (ran_refused {B = List Layer} d alone_ghosts (IsMild c.in-Err.fault) (GivesBytes (c.args.guest + done) bytes) y1 y2 below e.like e.went (λ mild safe. e.err safe mild) e.stops));
+      room = λ safe mild. takes_both d (λ _. ⊤) (λ _. ⊤) (λ _. ⊤) y0 y1 y2 (λ p there. (tt, tt)) (l.room safe) (e.room (safe_on safe) mild);
       began = λ x call begun. tt;
-      failed = failed_behind (d.image y0 ∷ d.extras y0) (d.image y1 ∷ d.extras y1) (d.image y2 ∷ d.extras y2) c.in-Err.fault (l.ran []).went.later e.failed;
-      cause = λ keeps safe.
-          mapped_later (d.layer y0) (d.layer y1) c.args.guest c.args.place c.args.n done count (d.image y0 ∷ d.extras y0) (d.image y1 ∷ d.extras y1) (d.image y2 ∷ d.extras y2) l.like.fixed l.like.size (l.wrote keeps safe).home
+      failed = failed_behind (files d y0) (files d y1) (files d y2) c.in-Err.fault (l.ran []).went.later e.failed;
+      cause = λ safe.
+          mapped_later (d.layer y0) (d.layer y1) c.args.guest c.args.place c.args.n done count (files d y0) (files d y1) (files d y2) l.like.fixed l.like.size (l.wrote safe).home
           (g.met.D.FormatDriverInstance.safe_runs y0 safe) (g.met.D.FormatDriverInstance.safe_runs y1 (safe_on safe)) (layer_aligned d.layer g.met.D.FormatDriverInstance.aligned y0).positive inside (l.ran []).went.later c.in-Err.fault
-          (subst (λ (m : ℕ). MappedCause (d.layer y1) (c.args.guest + done) (c.args.place + done) m (d.image y1 ∷ d.extras y1) (d.image y2 ∷ d.extras y2) c.in-Err.fault) long (e.cause (safe_on safe)));
+          (subst (λ (m : ℕ). MappedCause (d.layer y1) (c.args.guest + done) (c.args.place + done) m (files d y1) (files d y2) c.in-Err.fault) long (e.cause (safe_on safe)));
     }
 
 pub returns-clause-ran : goal.returns-clause-ran
-returns-clause-ran g c = λ below. let d = g.D.FormatDriverInstance in
-    ran_weaker {B = List Layer} d.layer d.image d.extras d.safe d.lasts (λ x. x) (λ x. []) (λ x. ⊤) (λ x. ⊤) (λ x. ⊤) (λ x. ⊤) d.sound ⊤ ⊤ (true ≡ true) ⊤ (GivesBytes c.args.guest (replicate c.args.n 0)) c.args.driver.now c.loop-done.driver below below (λ h. tt) (λ h. h) (c.loop-done.invariant.ran below)
+returns-clause-ran g c = λ below. let d = g.D.Seen in
+    c.loop-done.invariant.ran below

@@ -1,5 +1,5 @@
 use Rattle.std.proofs.Common.{◌-◌, ◌≤◌, List}
-use Rattle.std.specs.Prelude.{⊤, IsTrue, replicate}
+use Rattle.std.specs.Prelude.{⊤, replicate}
 use Rattle.imago_storage.specs.Steps.{Call}
 use Rattle.imago_access.specs.Layer.{Layer, IsLike}
 use Rattle.imago_access.specs.Changes.{Wrote}
@@ -9,12 +9,12 @@ use Rattle.imago_access.specs.Stops.{GivesBytes}
 use Rattle.imago_access.proofs.access.zeroing.write_mapped_zeroes.Given as goal
 
 abbrev pub invariant-loop-done : goal.invariant-loop-done
-invariant-loop-done g l = let d = g.D.FormatDriverInstance in record {
+invariant-loop-done g l = let d = g.D.Seen in record {
   inside : l.done ≤ l.n;
-  wrote : IsTrue (d.layer l.fn.driver).fixed.keeps → d.safe l.fn.driver → Wrote (d.layer l.fn.driver) (d.layer l.driver) l.guest (replicate l.done 0);
+  wrote : d.safe l.fn.driver → Wrote (d.layer l.fn.driver) (d.layer l.driver) l.guest (replicate l.done 0);
   like : IsLike (d.layer l.fn.driver) (d.layer l.driver);
-  room : IsTrue (d.layer l.fn.driver).fixed.keeps → d.safe l.fn.driver → Takes d.vacant d.has_room d.zeroed (λ _. ⊤) l.fn.driver l.driver;
-  ran : (below : List Layer) → RanAlone d.layer d.image d.extras d.safe d.lasts d.sound ⊤ ⊤ (GivesBytes l.guest (replicate l.n 0)) below l.fn.driver l.driver;
+  room : d.safe l.fn.driver → Takes d (λ _. ⊤) l.fn.driver l.driver;
+  ran : (below : List Layer) → RanAlone d ⊤ (GivesBytes l.guest (replicate l.n 0)) below l.fn.driver l.driver;
   began : (x : _) (call : Call) → d.began x call l.fn.driver → d.began x call l.driver;
 }
 

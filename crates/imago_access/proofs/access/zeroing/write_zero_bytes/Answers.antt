@@ -1,9 +1,9 @@
-use Rattle.std.proofs.Common.{refl, ◌≡◌, ◌+◌, ◌-◌, ◌∷◌, ◌++◌, ℕ, List, arith, false, true, ◌<◌, inl, inr, subst}
+use Rattle.std.proofs.Common.{◌≡◌, ◌+◌, ◌-◌, ◌∷◌, ◌++◌, ℕ, List, arith, ◌<◌, inl, inr, subst}
 use Rattle.std.specs.Prelude.{⊤}
 use Rattle.imago_storage.specs.Disk.{byte}
 use Rattle.imago_access.specs.Layer.{Layer}
 use Rattle.imago_access.specs.Chain.{at}
-use Rattle.imago_access.specs.Files.{IsMild}
+use Rattle.imago_access.specs.Files.{IsMild, files}
 use Rattle.imago_access.specs.Running.{IsBetween}
 use Rattle.imago_access.specs.Stops.{GivesZero}
 use Rattle.imago_access.proofs.Running.{ran_same, ran_both, ran_weaker}
@@ -15,23 +15,23 @@ use Rattle.imago_access.proofs.ImageCauses.{failed_then}
 use Rattle.imago_access.proofs.access.zeroing.write_zero_bytes.Goals as goal
 
 pub loop-done-init : goal.loop-done-init
-loop-done-init g c = let d = g.D.FormatDriverInstance in let b = g.B.ReadBelow in record {
+loop-done-init g c = let d = g.D.Seen in let b = g.B.SeenBelow in record {
   inside = omega arith;
   free = c.requires.free;
   uncut = λ i. subst (IsUncutAt (d.layer c.args.driver.now).fixed.unit (d.layer c.args.driver.now).size c.args.offset c.args.n) (omega arith) (uncut_start (d.layer c.args.driver.now).fixed.unit (d.layer c.args.driver.now).size c.args.offset c.args.n);
   shown = λ i p there. absurd (omega (arith, there.0, there.1));
-  takes = λ i. room_same d.vacant d.has_room d.zeroed (λ _. ⊤) (IsApart (d.layer c.args.driver.now).fixed.unit c.args.offset c.args.n) c.args.driver.now;
-  ran = ran_same d.layer d.image d.extras d.safe d.lasts b.under b.files_under b.sees_under b.safe_under b.still_under b.lasts_under d.sound ⊤ ⊤ (GivesZero c.args.offset c.args.n) c.args.driver.now c.args.below.now;
+  takes = λ i. room_same d (λ _. ⊤) (IsApart (d.layer c.args.driver.now).fixed.unit c.args.offset c.args.n) c.args.driver.now;
+  ran = ran_same d b ⊤ (GivesZero c.args.offset c.args.n) c.args.driver.now c.args.below.now;
   began = λ e call begun part. begun;
 }
 
 pub loop-done-preserved : goal.loop-done-preserved
-loop-done-preserved g c = let count = c.in-Ok.count in let d = g.D.FormatDriverInstance in let b = g.B.ReadBelow in let l = c.loop-done.invariant in
+loop-done-preserved g c = let count = c.in-Ok.count in let d = g.D.Seen in let b = g.B.SeenBelow in let l = c.loop-done.invariant in
     let done = c.loop-done.done in let rest = c.args.n - done in
     let y0 = c.args.driver.now in let y1 = c.loop-done.driver in let y2 = c.write_zero_run.new.driver in let x0 = c.args.below.now in let x1 = c.loop-done.below in let x2 = c.write_zero_run.new.below in
     let gives = zero_wider c.args.offset c.args.n (c.args.offset + done) rest (omega arith) (omega (arith, l.inside)) in
-    let ran = ran_both d.layer d.image d.extras d.safe d.lasts b.under b.files_under b.sees_under b.safe_under b.still_under b.lasts_under d.sound ⊤ ⊤ (GivesZero c.args.offset c.args.n) (GivesZero (c.args.offset + done) rest) (GivesZero c.args.offset c.args.n) y0 y1 y2 x0 x1 x2 (λ p v gave. gave) gives l.ran
-    (ran_weaker d.layer d.image d.extras d.safe d.lasts b.under b.files_under b.sees_under b.safe_under b.still_under b.lasts_under d.sound (true ≡ true) ⊤ ⊤ ⊤ (GivesZero (c.args.offset + done) rest) y1 y2 x1 x2 (λ h. refl) (λ h. h) c.in-Ok.ensures.ran) in
+    let ran = ran_both d b ⊤ (GivesZero c.args.offset c.args.n) (GivesZero (c.args.offset + done) rest) (GivesZero c.args.offset c.args.n) y0 y1 y2 x0 x1 x2 (λ p v gave. gave) gives l.ran
+    (ran_weaker d b ⊤ ⊤ (GivesZero (c.args.offset + done) rest) y1 y2 x1 x2 (λ h. h) c.in-Ok.ensures.ran) in
     record {
       inside = omega (arith, c.in-Ok.ensures.run.1, l.inside);
       free = c.in-Ok.ensures.free;
@@ -53,34 +53,34 @@ loop-done-preserved g c = let count = c.in-Ok.count in let d = g.D.FormatDriverI
           subst (IsUncutAt unit size c.args.offset c.args.n) next
           (uncut_later (d.layer y0) (d.layer y1) c.args.offset c.args.n start (start + count) l.ran.went.fixed l.ran.size (omega arith) (l.uncut i)
           (subst (λ (m : ℕ). IsUncutAt (d.layer y1).fixed.unit (d.layer y1).size start m (start + count)) left (c.in-Ok.ensures.uncut (l.ran.intact tt i))));
-      takes = λ i. room_then d.vacant d.has_room d.zeroed d.layer (λ _. ⊤) (λ _. ⊤) c.args.offset c.args.n (c.args.offset + done) rest y0 y1 y2 l.ran.went.fixed (omega arith) (omega (arith, l.inside)) (λ p there. tt) (l.takes i) (c.in-Ok.ensures.room (l.ran.intact tt i) tt);
+      takes = λ i. room_then d (λ _. ⊤) (λ _. ⊤) c.args.offset c.args.n (c.args.offset + done) rest y0 y1 y2 l.ran.went.fixed (omega arith) (omega (arith, l.inside)) (λ p there. tt) (l.takes i) (c.in-Ok.ensures.room (l.ran.intact tt i) tt);
       ran = ran;
       began = λ e call begun part. c.in-Ok.ensures.began e call (l.began e call begun part) (record { start = omega (arith, part.start); end = omega (arith, part.end, l.inside) });
     }
 
 pub returns-in-Err-clause-ran : goal.returns-in-Err-clause-ran
-returns-in-Err-clause-ran g c = let d = g.D.FormatDriverInstance in let b = g.B.ReadBelow in let l = c.loop-done.invariant in
+returns-in-Err-clause-ran g c = let d = g.D.Seen in let b = g.B.SeenBelow in let l = c.loop-done.invariant in
     let done = c.loop-done.done in let rest = c.args.n - done in
     let y0 = c.args.driver.now in let y1 = c.loop-done.driver in let y2 = c.write_zero_run.new.driver in let x0 = c.args.below.now in let x1 = c.loop-done.below in let x2 = c.write_zero_run.new.below in
     let gives = zero_wider c.args.offset c.args.n (c.args.offset + done) rest (omega arith) (omega (arith, l.inside)) in
-    ran_both d.layer d.image d.extras d.safe d.lasts b.under b.files_under b.sees_under b.safe_under b.still_under b.lasts_under d.sound (false ≡ true) (IsMild c.in-Err.fault) (GivesZero c.args.offset c.args.n) (GivesZero (c.args.offset + done) rest) (GivesZero c.args.offset c.args.n) y0 y1 y2 x0 x1 x2 (λ p v gave. gave) gives l.ran c.in-Err.ensures.ran
+    ran_both d b (IsMild c.in-Err.fault) (GivesZero c.args.offset c.args.n) (GivesZero (c.args.offset + done) rest) (GivesZero c.args.offset c.args.n) y0 y1 y2 x0 x1 x2 (λ p v gave. gave) gives l.ran c.in-Err.ensures.ran
 
 pub returns-in-Err-clause-room : goal.returns-in-Err-clause-room
-returns-in-Err-clause-room g c = λ i mild. let d = g.D.FormatDriverInstance in let b = g.B.ReadBelow in let l = c.loop-done.invariant in
+returns-in-Err-clause-room g c = λ i mild. let d = g.D.Seen in let b = g.B.SeenBelow in let l = c.loop-done.invariant in
     let done = c.loop-done.done in let rest = c.args.n - done in
     let y0 = c.args.driver.now in let y1 = c.loop-done.driver in let y2 = c.write_zero_run.new.driver in let x0 = c.args.below.now in let x1 = c.loop-done.below in let x2 = c.write_zero_run.new.below in
-    room_then d.vacant d.has_room d.zeroed d.layer (λ _. ⊤) (λ _. ⊤) c.args.offset c.args.n (c.args.offset + done) rest y0 y1 y2 l.ran.went.fixed (omega arith) (omega (arith, l.inside)) (λ p there. tt) (l.takes i) (c.in-Err.ensures.room (l.ran.intact tt i) mild)
+    room_then d (λ _. ⊤) (λ _. ⊤) c.args.offset c.args.n (c.args.offset + done) rest y0 y1 y2 l.ran.went.fixed (omega arith) (omega (arith, l.inside)) (λ p there. tt) (l.takes i) (c.in-Err.ensures.room (l.ran.intact tt i) mild)
 
 pub returns-in-Err-clause-failed : goal.returns-in-Err-clause-failed
-returns-in-Err-clause-failed g c = let d = g.D.FormatDriverInstance in let b = g.B.ReadBelow in let l = c.loop-done.invariant in
+returns-in-Err-clause-failed g c = let d = g.D.Seen in let b = g.B.SeenBelow in let l = c.loop-done.invariant in
     let y0 = c.args.driver.now in let y1 = c.loop-done.driver in let y2 = c.write_zero_run.new.driver in
-    failed_then (d.image y0 ∷ d.extras y0) (d.image y1 ∷ d.extras y1) (d.image y2 ∷ d.extras y2) (b.files_under c.args.below.now) (b.files_under c.loop-done.below) (b.files_under c.write_zero_run.new.below) c.in-Err.fault l.ran.went.later l.ran.looked.later c.in-Err.ensures.failed
+    failed_then (files d y0) (files d y1) (files d y2) (b.files_under c.args.below.now) (b.files_under c.loop-done.below) (b.files_under c.write_zero_run.new.below) c.in-Err.fault l.ran.went.later l.ran.looked.later c.in-Err.ensures.failed
 
 pub returns-in-Err-clause-cause : goal.returns-in-Err-clause-cause
-returns-in-Err-clause-cause g c = λ i e call begun part says. let d = g.D.FormatDriverInstance in let b = g.B.ReadBelow in let l = c.loop-done.invariant in
+returns-in-Err-clause-cause g c = λ i e call begun part says. let d = g.D.Seen in let b = g.B.SeenBelow in let l = c.loop-done.invariant in
     let done = c.loop-done.done in let rest = c.args.n - done in
     let y0 = c.args.driver.now in let y1 = c.loop-done.driver in let y2 = c.write_zero_run.new.driver in let x0 = c.args.below.now in let x1 = c.loop-done.below in let x2 = c.write_zero_run.new.below in
-    cause_behind d.layer d.image d.extras d.safe d.lasts b.under b.files_under b.sees_under b.safe_under b.still_under b.lasts_under d.sound g.met.D.FormatDriverInstance.safe_runs g.met.D.FormatDriverInstance.aligned (GivesZero c.args.offset c.args.n) c.args.offset c.args.n (c.args.offset + done) rest y0 y1 x0 x1 (d.image y2 ∷ d.extras y2 ++ b.files_under x2)
+    cause_behind d b g.met.D.FormatDriverInstance.safe_runs g.met.D.FormatDriverInstance.aligned (GivesZero c.args.offset c.args.n) c.args.offset c.args.n (c.args.offset + done) rest y0 y1 x0 x1 (files d y2 ++ b.files_under x2)
     (λ below. d.own_cause e below call) c.in-Err.fault (omega arith) (omega (arith, l.inside)) l.ran i
     (c.in-Err.ensures.cause (l.ran.intact tt i) e call (l.began e call begun part.part)
     (part_within (d.layer y0) (d.layer y1) call c.args.offset c.args.n (c.args.offset + done) rest l.ran.went.fixed l.ran.size (omega arith) (omega (arith, l.inside)) (l.uncut i)

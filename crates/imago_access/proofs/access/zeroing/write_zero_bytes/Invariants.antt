@@ -11,13 +11,13 @@ use Rattle.imago_access.specs.Stops.{GivesZero}
 use Rattle.imago_access.proofs.access.zeroing.write_zero_bytes.Given as goal
 
 abbrev pub invariant-loop-done : goal.invariant-loop-done
-invariant-loop-done g l = let d = g.D.FormatDriverInstance in let b = g.B.ReadBelow in record {
+invariant-loop-done g l = let d = g.D.Seen in let b = g.B.SeenBelow in record {
   inside : l.done ≤ l.n;
   free : IsFree (d.layer l.driver);
-  shown : IsIntact (b.under l.fn.below) (d.layer l.fn.driver) (d.safe l.fn.driver) (b.sees_under l.fn.below) → (p : ℕ) → IsIn l.offset l.done p → at (d.layer l.driver ∷ b.under l.fn.below) p ≡ byte 0;
-  uncut : IsIntact (b.under l.fn.below) (d.layer l.fn.driver) (d.safe l.fn.driver) (b.sees_under l.fn.below) → IsUncutAt (d.layer l.fn.driver).fixed.unit (d.layer l.fn.driver).size l.offset l.n (l.offset + l.done);
-  takes : IsIntact (b.under l.fn.below) (d.layer l.fn.driver) (d.safe l.fn.driver) (b.sees_under l.fn.below) → Takes d.vacant d.has_room d.zeroed (IsApart (d.layer l.fn.driver).fixed.unit l.offset l.n) l.fn.driver l.driver;
-  ran : Ran d.layer d.image d.extras d.safe d.lasts b.under b.files_under b.sees_under b.safe_under b.still_under b.lasts_under d.sound ⊤ ⊤ (GivesZero l.offset l.n) l.fn.driver l.driver l.fn.below l.below;
+  shown : IsIntact d b l.fn.driver l.fn.below → (p : ℕ) → IsIn l.offset l.done p → at (d.layer l.driver ∷ b.under l.fn.below) p ≡ byte 0;
+  uncut : IsIntact d b l.fn.driver l.fn.below → IsUncutAt (d.layer l.fn.driver).fixed.unit (d.layer l.fn.driver).size l.offset l.n (l.offset + l.done);
+  takes : IsIntact d b l.fn.driver l.fn.below → Takes d (IsApart (d.layer l.fn.driver).fixed.unit l.offset l.n) l.fn.driver l.driver;
+  ran : Ran d b ⊤ (GivesZero l.offset l.n) (l.fn.driver, l.fn.below) (l.driver, l.below);
   began : (x : _) (call : Call) → d.began x call l.fn.driver → IsPartOf call l.offset l.n → d.began x call l.driver;
 }
 

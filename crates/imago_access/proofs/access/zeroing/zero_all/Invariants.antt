@@ -14,16 +14,16 @@ use Rattle.imago_access.specs.Stops.{GivesZero}
 use Rattle.imago_access.proofs.access.zeroing.zero_all.Given as goal
 
 abbrev pub invariant-loop-at : goal.invariant-loop-at
-invariant-loop-at g l = let d = g.D.FormatDriverInstance in let b = g.B.ReadBelow in record {
+invariant-loop-at g l = let d = g.D.Seen in let b = g.B.SeenBelow in record {
   from : l.offset ≤ l.at;
   inside : l.at ≤ l.offset + l.n;
   free : IsFree (d.layer l.driver);
   untouched : l.n ≡ 0 → (l.driver ≡ l.fn.driver) × (l.below ≡ l.fn.below);
-  shown : IsIntact (b.under l.fn.below) (d.layer l.fn.driver) (d.safe l.fn.driver) (b.sees_under l.fn.below) → (p : ℕ) → l.offset ≤ p → p < l.at → at (d.layer l.driver ∷ b.under l.fn.below) p ≡ byte 0;
-  uncut : IsIntact (b.under l.fn.below) (d.layer l.fn.driver) (d.safe l.fn.driver) (b.sees_under l.fn.below) → IsUncutAt (d.layer l.fn.driver).fixed.unit (d.layer l.fn.driver).size l.offset l.n l.at;
-  room : IsIntact (b.under l.fn.below) (d.layer l.fn.driver) (d.safe l.fn.driver) (b.sees_under l.fn.below) → LeavesRoom d.vacant d.has_room d.zeroed (λ p. (l.zeroing ≡ zeroing_is.Keep) ⊎ IsOut l.offset l.n p) (IsApart (d.layer l.fn.driver).fixed.unit l.offset l.n) l.fn.driver l.driver;
-  given : IsIntact (b.under l.fn.below) (d.layer l.fn.driver) (d.safe l.fn.driver) (b.sees_under l.fn.below) → (x : _) (call : Call) → d.began x call l.fn.driver → IsPartOf call l.offset l.n → IsUndeclined (d.own_cause x (b.under l.fn.below) call) → IsGivenUpTo (IsLeft l.zeroing (d.vacant l.driver) (d.zeroed l.driver)) (d.layer l.fn.driver).fixed.unit (d.layer l.fn.driver).size l.offset l.n l.at;
-  ran : Ran d.layer d.image d.extras d.safe d.lasts b.under b.files_under b.sees_under b.safe_under b.still_under b.lasts_under d.sound ⊤ ⊤ (GivesZero l.offset l.n) l.fn.driver l.driver l.fn.below l.below;
+  shown : IsIntact d b l.fn.driver l.fn.below → (p : ℕ) → l.offset ≤ p → p < l.at → at (d.layer l.driver ∷ b.under l.fn.below) p ≡ byte 0;
+  uncut : IsIntact d b l.fn.driver l.fn.below → IsUncutAt (d.layer l.fn.driver).fixed.unit (d.layer l.fn.driver).size l.offset l.n l.at;
+  room : IsIntact d b l.fn.driver l.fn.below → LeavesRoom d (λ p. (l.zeroing ≡ zeroing_is.Keep) ⊎ IsOut l.offset l.n p) (IsApart (d.layer l.fn.driver).fixed.unit l.offset l.n) l.fn.driver l.driver;
+  given : IsIntact d b l.fn.driver l.fn.below → (x : _) (call : Call) → d.began x call l.fn.driver → IsPartOf call l.offset l.n → IsUndeclined (d.own_cause x (b.under l.fn.below) call) → IsGivenUpTo (IsLeft l.zeroing (d.vacant l.driver) (d.zeroed l.driver)) (d.layer l.fn.driver).fixed.unit (d.layer l.fn.driver).size l.offset l.n l.at;
+  ran : Ran d b ⊤ (GivesZero l.offset l.n) (l.fn.driver, l.fn.below) (l.driver, l.below);
   began : (x : _) (call : Call) → d.began x call l.fn.driver → IsPartOf call l.offset l.n → d.began x call l.driver;
 }
 

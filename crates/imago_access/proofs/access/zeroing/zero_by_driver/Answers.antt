@@ -1,12 +1,13 @@
-use Rattle.std.proofs.Common.{refl, ◌∷◌}
+use Rattle.std.proofs.Common.{refl}
 use Rattle.imago_access.proofs.ChangeCauses.{undeclined_cause}
 use Rattle.imago_access.proofs.Discarding.{undeclined}
 use Rattle.imago_access.proofs.access.zeroing.zero_by_driver.Goals as goal
+use Rattle.imago_access.specs.Files.{files}
 
 pub returns-in-Err-2-clause-cause : goal.returns-in-Err-2-clause-cause
-returns-in-Err-2-clause-cause g c = λ safe below x call begun part. let d = g.D.FormatDriverInstance in
-    undeclined_cause below (d.layer c.args.driver.now) c.args.offset c.args.n (d.own_cause x below call) (d.image c.args.driver.now ∷ d.extras c.args.driver.now) (d.image c.zero_part.new.driver ∷ d.extras c.zero_part.new.driver) c.in-Err.fault (λ h. absurd (cc (c.if-is_declined.ensures.1 h))) (c.in-Err.ensures.cause safe below x call begun part)
+returns-in-Err-2-clause-cause g c = λ safe below x call begun part. let d = g.D.Seen in
+    undeclined_cause below (d.layer c.args.driver.now) c.args.offset c.args.n (d.own_cause x below call) (files d c.args.driver.now) (files d c.zero_part.new.driver) c.in-Err.fault (λ h. absurd (cc (c.if-is_declined.ensures.1 h))) (c.in-Err.ensures.cause safe below x call begun part)
 
 pub returns-in-Err-clause-given : goal.returns-in-Err-clause-given
-returns-in-Err-clause-given g c = λ keeps safe below x call began part none. let d = g.D.FormatDriverInstance in
-    absurd (undeclined below (d.layer c.args.driver.now) c.args.offset c.args.n (d.own_cause x below call) (d.image c.args.driver.now ∷ d.extras c.args.driver.now) (d.image c.zero_part.new.driver ∷ d.extras c.zero_part.new.driver) c.in-Err.fault none (c.if-is_declined.ensures.0 refl) (c.in-Err.ensures.cause safe below x call began part))
+returns-in-Err-clause-given g c = λ safe below x call began part none. let d = g.D.Seen in
+    absurd (undeclined below (d.layer c.args.driver.now) c.args.offset c.args.n (d.own_cause x below call) (files d c.args.driver.now) (files d c.zero_part.new.driver) c.in-Err.fault none (c.if-is_declined.ensures.0 refl) (c.in-Err.ensures.cause safe below x call began part))

@@ -6,9 +6,15 @@ use Rattle.imago_access.specs.declared.access.zeroing.Zeroing.{Zeroing}
 use Rattle.imago_access.proofs.access.zeroing.zero_part.Goals as goal
 
 pub returns-in-Keep-clause-given : goal.returns-in-Keep-clause-given
-returns-in-Keep-clause-given g c = λ keeps safe. let d = g.D.FormatDriverInstance in let r = c.ensure_zero_mapping in
-    subst (λ (k : Zeroing). IfOk r.result (λ part. (p : ℕ) → IsIn part.0 part.1 p → IsLeft k (d.vacant r.new.self) (d.zeroed r.new.self) p)) (sym c.in-Keep.is) (r.ensures.given keeps safe)
+returns-in-Keep-clause-given g c = λ safe. let d = g.D.Seen in let r = c.ensure_zero_mapping in
+    subst (λ (k : Zeroing). IfOk r.result (λ part. (p : ℕ) → IsIn part.0 part.1 p → IsLeft k (d.vacant r.new.self) (d.zeroed r.new.self) p)) (sym c.in-Keep.is) (r.ensures.does.given safe)
 
 pub returns-in-GiveUp-clause-given : goal.returns-in-GiveUp-clause-given
-returns-in-GiveUp-clause-given g c = λ keeps safe. let d = g.D.FormatDriverInstance in let r = c.discard_to_zero in
-    subst (λ (k : Zeroing). IfOk r.result (λ part. (p : ℕ) → IsIn part.0 part.1 p → IsLeft k (d.vacant r.new.self) (d.zeroed r.new.self) p)) (sym c.in-GiveUp.is) (r.ensures.given keeps safe)
+returns-in-GiveUp-clause-given g c = λ safe. let d = g.D.Seen in let r = c.discard_to_zero in
+    subst (λ (k : Zeroing). IfOk r.result (λ part. (p : ℕ) → IsIn part.0 part.1 p → IsLeft k (d.vacant r.new.self) (d.zeroed r.new.self) p)) (sym c.in-GiveUp.is) (r.ensures.does.given safe)
+
+pub returns-in-Keep-clause-stops : goal.returns-in-Keep-clause-stops
+returns-in-Keep-clause-stops g c = λ safe below. c.ensure_zero_mapping.ensures.does.stops safe below tt
+
+pub returns-in-GiveUp-clause-stops : goal.returns-in-GiveUp-clause-stops
+returns-in-GiveUp-clause-stops g c = λ safe below. c.discard_to_zero.ensures.does.stops safe below tt

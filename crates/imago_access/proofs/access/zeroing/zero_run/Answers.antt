@@ -1,7 +1,7 @@
-use Rattle.std.proofs.Common.{refl, ℕ, ◌≡◌, ◌⊎◌, ◌-◌, ◌+◌, ◌∷◌, ◌++◌, List, arith, false, true, inl, inr, ◌≤◌, sym, subst}
+use Rattle.std.proofs.Common.{ℕ, ◌≡◌, ◌⊎◌, ◌-◌, ◌+◌, ◌++◌, List, arith, inl, inr, ◌≤◌, sym, subst}
 use Rattle.std.specs.Prelude.{⊤}
 use Rattle.std.proofs.lemmas.Bool.{cases_lt}
-use Rattle.imago_access.specs.Files.{IsMild}
+use Rattle.imago_access.specs.Files.{IsMild, files}
 use Rattle.imago_storage.specs.Steps.{IsOut}
 use Rattle.imago_access.specs.Layer.{Layer, Fixed}
 use Rattle.imago_access.specs.Room.{IsApart, IsUncutAt}
@@ -11,120 +11,120 @@ use Rattle.imago_access.proofs.Room.{room_both, apart_out, apart_wider, given_on
 use Rattle.imago_access.specs.Zeroings.{IsLeft}
 use Rattle.imago_access.specs.Stops.{GivesZero}
 use Rattle.imago_access.proofs.ChangeCauses.{part_cause_left}
-use Rattle.imago_access.proofs.Running.{went_weaker, ran_both}
+use Rattle.imago_access.proofs.Running.{ran_both}
 use Rattle.imago_access.proofs.Zeroing.{zero_wider, zero_stays, ran_zeroed, cause_behind}
 use Rattle.imago_access.proofs.FilePairs.{later_all_same}
 use Rattle.imago_access.proofs.ImageCauses.{failed_left, failed_then}
 use Rattle.imago_access.proofs.access.zeroing.zero_run.Goals as goal
 
 pub returns-in-Err-clause-ran : goal.returns-in-Err-clause-ran
-returns-in-Err-clause-ran g c = let d = g.D.FormatDriverInstance in let b = g.B.ReadBelow in
-    ran_zeroed d.layer d.image d.extras d.safe d.lasts b.under b.files_under b.sees_under b.safe_under b.still_under b.lasts_under d.sound g.met.D.FormatDriverInstance.free_loose (false ≡ true) (IsMild c.in-Err.fault) c.args.offset c.args.n c.args.driver.now c.zero_by_driver.new.driver c.args.below.now c.requires.free c.in-Err.ensures.like c.in-Err.ensures.went c.in-Err.ensures.values c.in-Err.ensures.stops
+returns-in-Err-clause-ran g c = let d = g.D.Seen in let b = g.B.SeenBelow in
+    ran_zeroed d b g.met.D.FormatDriverInstance.free_loose (IsMild c.in-Err.fault) c.args.offset c.args.n c.args.driver.now c.zero_by_driver.new.driver c.args.below.now c.requires.free c.in-Err.ensures.like c.in-Err.ensures.went c.in-Err.ensures.values c.in-Err.ensures.stops
 
 pub returns-in-Err-clause-failed : goal.returns-in-Err-clause-failed
-returns-in-Err-clause-failed g c = let d = g.D.FormatDriverInstance in
-    let y0 = c.args.driver.now in let y1 = c.zero_by_driver.new.driver in let files = g.B.ReadBelow.files_under c.args.below.now in
-    failed_left (d.image y0 ∷ d.extras y0) (d.image y1 ∷ d.extras y1) files files c.in-Err.fault c.in-Err.ensures.failed
+returns-in-Err-clause-failed g c = let d = g.D.Seen in
+    let y0 = c.args.driver.now in let y1 = c.zero_by_driver.new.driver in let others = g.B.SeenBelow.files_under c.args.below.now in
+    failed_left (files d y0) (files d y1) others others c.in-Err.fault c.in-Err.ensures.failed
 
 pub returns-in-Err-clause-cause : goal.returns-in-Err-clause-cause
-returns-in-Err-clause-cause g c = λ i e call begun part says. let d = g.D.FormatDriverInstance in let b = g.B.ReadBelow in
+returns-in-Err-clause-cause g c = λ i e call begun part says. let d = g.D.Seen in let b = g.B.SeenBelow in
     let y0 = c.args.driver.now in let y1 = c.zero_by_driver.new.driver in let x0 = c.args.below.now in
-    part_cause_left (b.under x0) (d.layer y0) c.args.offset c.args.n (d.own_cause e (b.under x0) call) (d.image y0 ∷ d.extras y0) (d.image y1 ∷ d.extras y1) (b.files_under x0) (b.files_under x0) c.in-Err.fault (c.in-Err.ensures.cause i.is_safe (b.under x0) e call begun part.part)
+    part_cause_left (b.under x0) (d.layer y0) c.args.offset c.args.n (d.own_cause e (b.under x0) call) (files d y0) (files d y1) (b.files_under x0) (b.files_under x0) c.in-Err.fault (c.in-Err.ensures.cause i.is_safe (b.under x0) e call begun part.part)
 
 pub returns-in-Ok-write_zero_bytes-clause-shown : goal.returns-in-Ok-write_zero_bytes-clause-shown
-returns-in-Ok-write_zero_bytes-clause-shown g c = λ i p from to. let d = g.D.FormatDriverInstance in let b = g.B.ReadBelow in
+returns-in-Ok-write_zero_bytes-clause-shown g c = λ i p from to. let d = g.D.Seen in let b = g.B.SeenBelow in
     let y0 = c.args.driver.now in let y1 = c.zero_by_driver.new.driver in let y2 = c.write_zero_bytes.new.driver in let x0 = c.args.below.now in let x2 = c.write_zero_bytes.new.below in
     let start = c.in-Ok.part.0 in let done = c.in-Ok.ensures in
     let inside : start ≤ c.args.offset + c.args.n = omega (arith, done.part.1, done.part.3) in
     let gap = start - c.args.offset in
     let gives = zero_wider c.args.offset c.args.n c.args.offset gap (omega arith) (omega (arith, inside, done.part.0)) in
-    let one = ran_zeroed d.layer d.image d.extras d.safe d.lasts b.under b.files_under b.sees_under b.safe_under b.still_under b.lasts_under d.sound g.met.D.FormatDriverInstance.free_loose ⊤ ⊤ c.args.offset c.args.n y0 y1 x0 c.requires.free done.like (went_weaker d.layer d.image d.extras d.safe d.lasts (true ≡ true) ⊤ ⊤ ⊤ y0 y1 (λ h. refl) (λ h. h) done.went) done.values done.stops in
+    let one = ran_zeroed d b g.met.D.FormatDriverInstance.free_loose ⊤ c.args.offset c.args.n y0 y1 x0 c.requires.free done.like done.went done.values done.stops in
     let written = c.in-Ok-write_zero_bytes.ensures in
     elim (cases_lt p start) [
       | inl low ↦ written.shown (one.intact tt i) p (from, omega (arith, low, from))
-      | inr high ↦ zero_stays (b.under x0) (d.layer y1) (d.layer y2) c.args.offset gap written.ran.size (written.ran.values tt (one.intact tt i)) p (done.zeroed i.keeps i.is_safe (b.under x0) p high to)
+      | inr high ↦ zero_stays (b.under x0) (d.layer y1) (d.layer y2) c.args.offset gap written.ran.size (written.ran.values tt (one.intact tt i)) p (done.zeroed i.is_safe (b.under x0) p high to)
     ]
 
 pub returns-in-Ok-write_zero_bytes-clause-ran : goal.returns-in-Ok-write_zero_bytes-clause-ran
-returns-in-Ok-write_zero_bytes-clause-ran g c = let d = g.D.FormatDriverInstance in let b = g.B.ReadBelow in
+returns-in-Ok-write_zero_bytes-clause-ran g c = let d = g.D.Seen in let b = g.B.SeenBelow in
     let y0 = c.args.driver.now in let y1 = c.zero_by_driver.new.driver in let y2 = c.write_zero_bytes.new.driver in let x0 = c.args.below.now in let x2 = c.write_zero_bytes.new.below in
     let start = c.in-Ok.part.0 in let done = c.in-Ok.ensures in
     let inside : start ≤ c.args.offset + c.args.n = omega (arith, done.part.1, done.part.3) in
     let gap = start - c.args.offset in
     let gives = zero_wider c.args.offset c.args.n c.args.offset gap (omega arith) (omega (arith, inside, done.part.0)) in
-    let one = ran_zeroed d.layer d.image d.extras d.safe d.lasts b.under b.files_under b.sees_under b.safe_under b.still_under b.lasts_under d.sound g.met.D.FormatDriverInstance.free_loose ⊤ ⊤ c.args.offset c.args.n y0 y1 x0 c.requires.free done.like (went_weaker d.layer d.image d.extras d.safe d.lasts (true ≡ true) ⊤ ⊤ ⊤ y0 y1 (λ h. refl) (λ h. h) done.went) done.values done.stops in
-    ran_both d.layer d.image d.extras d.safe d.lasts b.under b.files_under b.sees_under b.safe_under b.still_under b.lasts_under d.sound (true ≡ true) ⊤ (GivesZero c.args.offset c.args.n) (GivesZero c.args.offset gap) (GivesZero c.args.offset c.args.n) y0 y1 y2 x0 x0 x2 (λ p v gave. gave) gives one c.in-Ok-write_zero_bytes.ensures.ran
+    let one = ran_zeroed d b g.met.D.FormatDriverInstance.free_loose ⊤ c.args.offset c.args.n y0 y1 x0 c.requires.free done.like done.went done.values done.stops in
+    ran_both d b ⊤ (GivesZero c.args.offset c.args.n) (GivesZero c.args.offset gap) (GivesZero c.args.offset c.args.n) y0 y1 y2 x0 x0 x2 (λ p v gave. gave) gives one c.in-Ok-write_zero_bytes.ensures.ran
 
 pub returns-in-Err-write_zero_bytes-clause-ran : goal.returns-in-Err-write_zero_bytes-clause-ran
-returns-in-Err-write_zero_bytes-clause-ran g c = let d = g.D.FormatDriverInstance in let b = g.B.ReadBelow in
+returns-in-Err-write_zero_bytes-clause-ran g c = let d = g.D.Seen in let b = g.B.SeenBelow in
     let y0 = c.args.driver.now in let y1 = c.zero_by_driver.new.driver in let y2 = c.write_zero_bytes.new.driver in let x0 = c.args.below.now in let x2 = c.write_zero_bytes.new.below in
     let start = c.in-Ok.part.0 in let done = c.in-Ok.ensures in
     let inside : start ≤ c.args.offset + c.args.n = omega (arith, done.part.1, done.part.3) in
     let gap = start - c.args.offset in
     let gives = zero_wider c.args.offset c.args.n c.args.offset gap (omega arith) (omega (arith, inside, done.part.0)) in
-    let one = ran_zeroed d.layer d.image d.extras d.safe d.lasts b.under b.files_under b.sees_under b.safe_under b.still_under b.lasts_under d.sound g.met.D.FormatDriverInstance.free_loose ⊤ ⊤ c.args.offset c.args.n y0 y1 x0 c.requires.free done.like (went_weaker d.layer d.image d.extras d.safe d.lasts (true ≡ true) ⊤ ⊤ ⊤ y0 y1 (λ h. refl) (λ h. h) done.went) done.values done.stops in
-    ran_both d.layer d.image d.extras d.safe d.lasts b.under b.files_under b.sees_under b.safe_under b.still_under b.lasts_under d.sound (false ≡ true) (IsMild c.in-Err-write_zero_bytes.fault) (GivesZero c.args.offset c.args.n) (GivesZero c.args.offset gap) (GivesZero c.args.offset c.args.n) y0 y1 y2 x0 x0 x2 (λ p v gave. gave) gives one c.in-Err-write_zero_bytes.ensures.ran
+    let one = ran_zeroed d b g.met.D.FormatDriverInstance.free_loose ⊤ c.args.offset c.args.n y0 y1 x0 c.requires.free done.like done.went done.values done.stops in
+    ran_both d b (IsMild c.in-Err-write_zero_bytes.fault) (GivesZero c.args.offset c.args.n) (GivesZero c.args.offset gap) (GivesZero c.args.offset c.args.n) y0 y1 y2 x0 x0 x2 (λ p v gave. gave) gives one c.in-Err-write_zero_bytes.ensures.ran
 
 pub returns-in-Err-write_zero_bytes-clause-failed : goal.returns-in-Err-write_zero_bytes-clause-failed
-returns-in-Err-write_zero_bytes-clause-failed g c = let d = g.D.FormatDriverInstance in let b = g.B.ReadBelow in
-    let y0 = c.args.driver.now in let y1 = c.zero_by_driver.new.driver in let y2 = c.write_zero_bytes.new.driver in let files = b.files_under c.args.below.now in
-    failed_then (d.image y0 ∷ d.extras y0) (d.image y1 ∷ d.extras y1) (d.image y2 ∷ d.extras y2) files files (b.files_under c.write_zero_bytes.new.below) c.in-Err-write_zero_bytes.fault c.in-Ok.ensures.went.later (later_all_same files) c.in-Err-write_zero_bytes.ensures.failed
+returns-in-Err-write_zero_bytes-clause-failed g c = let d = g.D.Seen in let b = g.B.SeenBelow in
+    let y0 = c.args.driver.now in let y1 = c.zero_by_driver.new.driver in let y2 = c.write_zero_bytes.new.driver in let others = b.files_under c.args.below.now in
+    failed_then (files d y0) (files d y1) (files d y2) others others (b.files_under c.write_zero_bytes.new.below) c.in-Err-write_zero_bytes.fault c.in-Ok.ensures.went.later (later_all_same others) c.in-Err-write_zero_bytes.ensures.failed
 
 pub returns-in-Err-write_zero_bytes-clause-cause : goal.returns-in-Err-write_zero_bytes-clause-cause
-returns-in-Err-write_zero_bytes-clause-cause g c = λ i e call begun part says. let d = g.D.FormatDriverInstance in let b = g.B.ReadBelow in
+returns-in-Err-write_zero_bytes-clause-cause g c = λ i e call begun part says. let d = g.D.Seen in let b = g.B.SeenBelow in
     let y0 = c.args.driver.now in let y1 = c.zero_by_driver.new.driver in let y2 = c.write_zero_bytes.new.driver in let x0 = c.args.below.now in let x2 = c.write_zero_bytes.new.below in
     let start = c.in-Ok.part.0 in let done = c.in-Ok.ensures in
     let inside : start ≤ c.args.offset + c.args.n = omega (arith, done.part.1, done.part.3) in
     let gap = start - c.args.offset in
     let gives = zero_wider c.args.offset c.args.n c.args.offset gap (omega arith) (omega (arith, inside, done.part.0)) in
-    let one = ran_zeroed d.layer d.image d.extras d.safe d.lasts b.under b.files_under b.sees_under b.safe_under b.still_under b.lasts_under d.sound g.met.D.FormatDriverInstance.free_loose ⊤ ⊤ c.args.offset c.args.n y0 y1 x0 c.requires.free done.like (went_weaker d.layer d.image d.extras d.safe d.lasts (true ≡ true) ⊤ ⊤ ⊤ y0 y1 (λ h. refl) (λ h. h) done.went) done.values done.stops in
-    cause_behind d.layer d.image d.extras d.safe d.lasts b.under b.files_under b.sees_under b.safe_under b.still_under b.lasts_under d.sound g.met.D.FormatDriverInstance.safe_runs g.met.D.FormatDriverInstance.aligned (GivesZero c.args.offset c.args.n) c.args.offset c.args.n c.args.offset gap y0 y1 x0 x0 (d.image y2 ∷ d.extras y2 ++ b.files_under x2)
+    let one = ran_zeroed d b g.met.D.FormatDriverInstance.free_loose ⊤ c.args.offset c.args.n y0 y1 x0 c.requires.free done.like done.went done.values done.stops in
+    cause_behind d b g.met.D.FormatDriverInstance.safe_runs g.met.D.FormatDriverInstance.aligned (GivesZero c.args.offset c.args.n) c.args.offset c.args.n c.args.offset gap y0 y1 x0 x0 (files d y2 ++ b.files_under x2)
     (λ (below : List Layer). d.own_cause e below call) c.in-Err-write_zero_bytes.fault (omega arith) (omega (arith, inside, done.part.0)) one i
     (let back : start ≡ c.args.offset + gap = omega (arith, done.part.0) in
     c.in-Err-write_zero_bytes.ensures.cause (one.intact tt i) e call (done.began e call begun part.part)
     (part_within (d.layer y0) (d.layer y1) call c.args.offset c.args.n c.args.offset gap done.like.fixed done.like.size (omega arith) (omega (arith, inside, done.part.0))
     (uncut_start (d.layer y0).fixed.unit (d.layer y0).size c.args.offset c.args.n)
-    (subst (IsUncutAt (d.layer y0).fixed.unit (d.layer y0).size c.args.offset c.args.n) back (done.uncut i.keeps i.is_safe).0) part) says)
+    (subst (IsUncutAt (d.layer y0).fixed.unit (d.layer y0).size c.args.offset c.args.n) back (done.uncut i.is_safe).0) part) says)
 
 pub returns-in-Ok-write_zero_bytes-clause-room : goal.returns-in-Ok-write_zero_bytes-clause-room
-returns-in-Ok-write_zero_bytes-clause-room g c = λ i whole. let d = g.D.FormatDriverInstance in let b = g.B.ReadBelow in
+returns-in-Ok-write_zero_bytes-clause-room g c = λ i whole. let d = g.D.Seen in let b = g.B.SeenBelow in
     let y0 = c.args.driver.now in let y1 = c.zero_by_driver.new.driver in let y2 = c.write_zero_bytes.new.driver in let x0 = c.args.below.now in let x2 = c.write_zero_bytes.new.below in
     let start = c.in-Ok.part.0 in let done = c.in-Ok.ensures in
     let inside : start ≤ c.args.offset + c.args.n = omega (arith, done.part.1, done.part.3) in
     let gap = start - c.args.offset in
-    let one = ran_zeroed d.layer d.image d.extras d.safe d.lasts b.under b.files_under b.sees_under b.safe_under b.still_under b.lasts_under d.sound g.met.D.FormatDriverInstance.free_loose ⊤ ⊤ c.args.offset c.args.n y0 y1 x0 c.requires.free done.like (went_weaker d.layer d.image d.extras d.safe d.lasts (true ≡ true) ⊤ ⊤ ⊤ y0 y1 (λ h. refl) (λ h. h) done.went) done.values done.stops in
+    let one = ran_zeroed d b g.met.D.FormatDriverInstance.free_loose ⊤ c.args.offset c.args.n y0 y1 x0 c.requires.free done.like done.went done.values done.stops in
     let unit = (d.layer y0).fixed.unit in
     let left = (λ (p : ℕ). (c.args.zeroing ≡ zeroing_is.Keep) ⊎ IsOut c.args.offset c.args.n p) in
-    room_both d.vacant d.has_room d.zeroed left (λ _. ⊤) left (IsOut c.args.offset c.args.n) (IsApart (d.layer y1).fixed.unit c.args.offset gap) (IsApart unit c.args.offset c.args.n) y0 y1 y2 (λ p there. (there, tt))
+    room_both d left (λ _. ⊤) left (IsOut c.args.offset c.args.n) (IsApart (d.layer y1).fixed.unit c.args.offset gap) (IsApart unit c.args.offset c.args.n) y0 y1 y2 (λ p there. (there, tt))
     (λ p apart. (apart_out unit c.args.offset c.args.n p apart, subst (λ (f : Fixed). IsApart f.unit c.args.offset gap p) (sym done.like.fixed) (apart_wider unit c.args.offset c.args.n c.args.offset gap p (omega arith) (omega (arith, inside, done.part.0)) apart)))
-    (done.room i.keeps i.is_safe tt) (c.in-Ok-write_zero_bytes.ensures.room (one.intact tt i) tt)
+    (done.room i.is_safe tt) (c.in-Ok-write_zero_bytes.ensures.room (one.intact tt i) tt)
 
 pub returns-in-Err-write_zero_bytes-clause-room : goal.returns-in-Err-write_zero_bytes-clause-room
-returns-in-Err-write_zero_bytes-clause-room g c = λ i whole. let d = g.D.FormatDriverInstance in let b = g.B.ReadBelow in
+returns-in-Err-write_zero_bytes-clause-room g c = λ i whole. let d = g.D.Seen in let b = g.B.SeenBelow in
     let y0 = c.args.driver.now in let y1 = c.zero_by_driver.new.driver in let y2 = c.write_zero_bytes.new.driver in let x0 = c.args.below.now in let x2 = c.write_zero_bytes.new.below in
     let start = c.in-Ok.part.0 in let done = c.in-Ok.ensures in
     let inside : start ≤ c.args.offset + c.args.n = omega (arith, done.part.1, done.part.3) in
     let gap = start - c.args.offset in
-    let one = ran_zeroed d.layer d.image d.extras d.safe d.lasts b.under b.files_under b.sees_under b.safe_under b.still_under b.lasts_under d.sound g.met.D.FormatDriverInstance.free_loose ⊤ ⊤ c.args.offset c.args.n y0 y1 x0 c.requires.free done.like (went_weaker d.layer d.image d.extras d.safe d.lasts (true ≡ true) ⊤ ⊤ ⊤ y0 y1 (λ h. refl) (λ h. h) done.went) done.values done.stops in
+    let one = ran_zeroed d b g.met.D.FormatDriverInstance.free_loose ⊤ c.args.offset c.args.n y0 y1 x0 c.requires.free done.like done.went done.values done.stops in
     let unit = (d.layer y0).fixed.unit in
     let left = (λ (p : ℕ). (c.args.zeroing ≡ zeroing_is.Keep) ⊎ IsOut c.args.offset c.args.n p) in
-    room_both d.vacant d.has_room d.zeroed left (λ _. ⊤) left (IsOut c.args.offset c.args.n) (IsApart (d.layer y1).fixed.unit c.args.offset gap) (IsApart unit c.args.offset c.args.n) y0 y1 y2 (λ p there. (there, tt))
+    room_both d left (λ _. ⊤) left (IsOut c.args.offset c.args.n) (IsApart (d.layer y1).fixed.unit c.args.offset gap) (IsApart unit c.args.offset c.args.n) y0 y1 y2 (λ p there. (there, tt))
     (λ p apart. (apart_out unit c.args.offset c.args.n p apart, subst (λ (f : Fixed). IsApart f.unit c.args.offset gap p) (sym done.like.fixed) (apart_wider unit c.args.offset c.args.n c.args.offset gap p (omega arith) (omega (arith, inside, done.part.0)) apart)))
-    (done.room i.keeps i.is_safe tt) (c.in-Err-write_zero_bytes.ensures.room (one.intact tt i) whole)
+    (done.room i.is_safe tt) (c.in-Err-write_zero_bytes.ensures.room (one.intact tt i) whole)
 
 pub returns-in-Ok-write_zero_bytes-clause-given : goal.returns-in-Ok-write_zero_bytes-clause-given
-returns-in-Ok-write_zero_bytes-clause-given g c = λ i e call begun part none. let d = g.D.FormatDriverInstance in let b = g.B.ReadBelow in
+returns-in-Ok-write_zero_bytes-clause-given g c = λ i e call begun part none. let d = g.D.Seen in let b = g.B.SeenBelow in
     let y0 = c.args.driver.now in let y1 = c.zero_by_driver.new.driver in let y2 = c.write_zero_bytes.new.driver in let x0 = c.args.below.now in let x2 = c.write_zero_bytes.new.below in
     let start = c.in-Ok.part.0 in let done = c.in-Ok.ensures in
     let inside : start ≤ c.args.offset + c.args.n = omega (arith, done.part.1, done.part.3) in
     let gap = start - c.args.offset in
-    let one = ran_zeroed d.layer d.image d.extras d.safe d.lasts b.under b.files_under b.sees_under b.safe_under b.still_under b.lasts_under d.sound g.met.D.FormatDriverInstance.free_loose ⊤ ⊤ c.args.offset c.args.n y0 y1 x0 c.requires.free done.like (went_weaker d.layer d.image d.extras d.safe d.lasts (true ≡ true) ⊤ ⊤ ⊤ y0 y1 (λ h. refl) (λ h. h) done.went) done.values done.stops in
+    let one = ran_zeroed d b g.met.D.FormatDriverInstance.free_loose ⊤ c.args.offset c.args.n y0 y1 x0 c.requires.free done.like done.went done.values done.stops in
     let unit = (d.layer y0).fixed.unit in let size = (d.layer y0).size in
-    let given = done.given i.keeps i.is_safe (b.under x0) e call begun part none in
+    let given = done.given i.is_safe (b.under x0) e call begun part none in
     let written = c.in-Ok-write_zero_bytes.ensures.room (one.intact tt i) tt in
     given_on (IsLeft c.args.zeroing (d.vacant y1) (d.zeroed y1)) (IsLeft c.args.zeroing (d.vacant y2) (d.zeroed y2)) unit size c.args.offset c.args.n c.in-Ok.part.1
-    (λ u p whole of was. left_on d.vacant d.has_room d.zeroed (λ _. ⊤) (IsApart (d.layer y1).fixed.unit c.args.offset gap) c.args.zeroing y1 y2 p (λ keep. tt) (subst (λ (f : Fixed). IsApart f.unit c.args.offset gap p) (sym done.like.fixed) (begun_apart unit size c.args.offset start u p done.part.0 (given.none_before u whole) of)) written was)
+    (λ u p whole of was. left_on d (λ _. ⊤) (IsApart (d.layer y1).fixed.unit c.args.offset gap) c.args.zeroing y1 y2 p (λ keep. tt) (subst (λ (f : Fixed). IsApart f.unit c.args.offset gap p) (sym done.like.fixed) (begun_apart unit size c.args.offset start u p done.part.0 (given.none_before u whole) of)) written was)
     given.given
 
 pub returns-in-Ok-write_zero_bytes-clause-uncut : goal.returns-in-Ok-write_zero_bytes-clause-uncut
-returns-in-Ok-write_zero_bytes-clause-uncut g c = λ i. (c.in-Ok.ensures.uncut i.keeps i.is_safe).1
+returns-in-Ok-write_zero_bytes-clause-uncut g c = λ i. (c.in-Ok.ensures.uncut i.is_safe).1
