@@ -51,6 +51,7 @@ both_stops old mid new from cut later =
 pub grown_behind : (old mid new : StorageState) (from to : ℕ) → from ≤ to → CutTo old mid from → Resized mid new to → GrownTo old new from to
 grown_behind old mid new from to longer cut resized = record {
   faults = resized.changed.faults ∙ cut.faults;
+  refusals = resized.changed.refusals ∙ cut.refusals;
   size = resized.size;
   kept = λ keeps k lt. resized.content (keeps_on old mid cut.shape keeps) k (omega (arith, lt, longer)) ∙ cut.kept keeps k lt;
   filled = λ keeps k from_on lt. resized.content (keeps_on old mid cut.shape keeps) k lt ∙ get_or_past mid.bytes k 0 (omega (arith, cut.size, from_on));
@@ -58,7 +59,7 @@ grown_behind old mid new from to longer cut resized = record {
   stops = both_stops old mid new from cut (resized_stop mid new from to longer resized);
 }
 
-refused_resize : (old new : StorageState) (from : ℕ) → (fault : Fault) → ResizeCause old.faults new.faults fault → NotResized old new fault → NotGrown old new from fault
+refused_resize : (old new : StorageState) (from : ℕ) → (fault : Fault) → ResizeCause old new fault → NotResized old new fault → NotGrown old new from fault
 refused_resize old new from fault cause refused = record {
   cause = cause;
   long = λ fits. omega (arith, ap (length {A = ℕ}) refused.bytes, fits);
@@ -70,7 +71,7 @@ refused_resize old new from fault cause refused = record {
 -- a storage that isn't resized
 pub not_cut : (old new : StorageState) (from : ℕ) → (fault : Fault) → UnlessUnsupported old new (NotResized old new) fault → NotGrown old new from fault
 not_cut old new from Unsupported same = record {
-  cause = ap (λ (s : StorageState). s.faults) same;
+  cause = (ap (λ (s : StorageState). s.faults) same, ap (λ (s : StorageState). s.refusals) same);
   long = λ fits. omega (arith, ap (λ (s : StorageState). length s.bytes) same, fits);
   kept = λ keeps k lt. ap (λ (s : StorageState). slice_index s.bytes k) same;
   in_step = inr (subst (λ (s : StorageState). InStep old → InStep s) (sym same) (λ step. step));
@@ -80,11 +81,18 @@ not_cut old new from Memory refused = refused_resize old new from Memory refused
 not_cut old new from Storage refused = refused_resize old new from Storage refused.refused.cause refused
 not_cut old new from _ refused = absurd refused.refused.cause
 
+-- why a storage isn't made longer that was cut before
+cause_behind : (old mid new : StorageState) (from : ℕ) → CutTo old mid from → (fault : Fault) → ResizeCause mid new fault → ResizeCause old new fault
+cause_behind old mid new from cut Unsupported cause = (cause.0 ∙ cut.faults, cause.1 ∙ cut.refusals)
+cause_behind old mid new from cut Memory cause = cause ∙ cut.faults
+cause_behind old mid new from cut Storage cause = subst (λ (n : ℕ). Rose n new.faults) cut.faults cause
+cause_behind old mid new from cut _ cause = absurd cause
+
 pub not_grown_behind : (old mid new : StorageState) (from : ℕ) → CutTo old mid from → (fault : Fault) → UnlessUnsupported mid new (NotResized mid new) fault → NotGrown old new from fault
 not_grown_behind old mid new from cut fault refused =
     let later = not_cut mid new from fault refused in
     record {
-      cause = subst (λ (n : ℕ). ResizeCause n new.faults fault) cut.faults later.cause;
+      cause = cause_behind old mid new from cut fault later.cause;
       long = λ fits. later.long (omega (arith, cut.size));
       kept = λ keeps k lt. later.kept (keeps_on old mid cut.shape keeps) k lt ∙ cut.kept keeps k lt;
       in_step = ⊎_elim (λ rose. inl (subst (λ (n : ℕ). Rose n new.refusals) cut.refusals rose)) (λ on. inr (λ same. on (cut.in_step same))) later.in_step;

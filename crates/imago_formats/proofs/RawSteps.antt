@@ -1,28 +1,36 @@
 -- What the calls of a storage do to the raw image over it.
 use Rattle.std.proofs.Common.{◌≡◌, ◌⊎◌, refl, inl, inr, ⊎_elim, ℕ, ◌+◌, ◌-◌, ◌<◌, ◌≤◌, List, [], ◌∷◌, length, arith, sym, ◌∙◌, ap, subst}
-use Rattle.std.specs.Prelude.{⊤, Bool, false, ◌&&◌, Some, None, Result, Ok, Err, OnOk, IfErr, IsTrue, EachIndex, slice_index, if◌then◌else◌, ltb}
+use Rattle.std.specs.Prelude.{⊤, Bool, false, ◌&&◌, Some, None, Result, Ok, Err, OnOk, IfOk, IfErr, IsTrue, EachIndex, slice_index, replicate, if◌then◌else◌, ltb}
+use Rattle.std.proofs.Math.Nat.{le_refl}
+use Rattle.std.proofs.lemmas.List.{length-replicate, get_or-replicate}
 use Rattle.std.proofs.lemmas.Bool.{cases_lt, lt-ltb}
 use Rattle.imago_storage.specs.State.{Shape, StorageState, Rose, InStep, unit_of}
+use Rattle.imago_storage.specs.Passing.{Passes}
 use Rattle.imago_storage.specs.Disk.{Value, byte}
 use Rattle.imago_storage.specs.Steps.{IsIn, IsOut}
 use Rattle.imago_storage.specs.Calls.{Mixed, Resized}
-use Rattle.imago_storage.specs.Through.{Stops, StopsAsLong, WrittenThrough, NotWrittenThrough, HasWhole, GivenUp, discard_unit, whole_start, whole_size}
+use Rattle.imago_storage.specs.Through.{Stops, StopsAsLong, WrittenThrough, NotWrittenThrough, HasWhole, GivenUp, NotGivenUp, discard_unit, whole_start, whole_size}
 use Rattle.imago_storage.specs.declared.fault.Fault.{Fault}
-use Rattle.imago_storage.specs.declared.fault.Fault.TheVariants.{RangeOverflow}
+use Rattle.imago_storage.specs.declared.fault.Fault.TheVariants.{RangeOverflow, Unsupported, Memory, Storage}
 use Rattle.imago_storage.proofs.Composing.{tells_on, keeps_on, no_stops, one_stop, stops_and, stops_weaker}
 use Rattle.imago_storage.proofs.Rounding.{le_round_up}
 use Rattle.imago_storage.proofs.Wholes.{round_down-le}
+use Rattle.imago_access.specs.Files.{IsMild, IsFaultless}
 use Rattle.imago_access.specs.Layer.{Layer, own, unmapped, loose, IsLike}
 use Rattle.imago_access.specs.Chain.{at, IsBacked}
-use Rattle.imago_access.specs.Changes.{Rewrites, ToAny}
-use Rattle.imago_access.specs.Stops.{Left, KeepsStops, KeepsStopsTo, GivesZero, GivesAny, GivesBelow, GivesBytes}
+use Rattle.imago_access.specs.Changes.{Rewrites, PartRewrites, ToZero, ToAny, ToBelow}
+use Rattle.imago_access.specs.Stops.{Left, GivesZero, GivesAny, GivesBelow, GivesBytes}
 use Rattle.imago_access.proofs.Stopping.{left_weaker, passes_weaker}
 use Rattle.imago_formats.specs.RawLayer.{raw_fixed, raw_layer}
-use Rattle.imago_formats.specs.Growing.{HasFirst}
+use Rattle.imago_formats.specs.Growing.{HasFirst, NotGrown}
 
 -- a storage of the same shape
 pub raw_like : (old new : StorageState) (size : ℕ) (w : Bool) → new.shape ≡ old.shape → IsLike (raw_layer old size w) (raw_layer new size w)
 raw_like old new size w shape = record { fixed = ap (λ (s : Shape). raw_fixed s w) shape; size = refl; unspent = refl; failed = λ f. f }
+
+-- what a call keeps at each stop of the storage of a raw image, with the least size that it passes through
+abbrev pub RawStops : List Layer → ℕ → Bool → ℕ → (ℕ → Value → Type 0) → StorageState → StorageState → Type 0
+RawStops below size w least gives old new = Passes (Left below (raw_layer old size w) old.bytes (λ kind file. ⊤) least gives) old new
 
 -- a file that a stop leaves: no shorter than asked, and below the disk's size each byte was there or is given
 pub raw_left : (below : List Layer) (old : StorageState) (size : ℕ) (w : Bool) (least : ℕ) (gives : ℕ → Value → Type 0) (f : List ℕ) → size ≤ length old.bytes → least ≤ length f
@@ -61,11 +69,58 @@ backed_zero [] s size w backed p = refl
 backed_zero (next ∷ below) s size w backed p = let is : own (byte 0) ≡ unmapped = backed in absurd (cc is)
 
 pub backed_stops : (below : List Layer) (old new : StorageState) (size : ℕ) (w : Bool) (at n : ℕ) → IsBacked below (raw_layer old size w)
-    → KeepsStops below (raw_layer old size w) (λ kind file. ⊤) (GivesZero at n) old new → KeepsStops below (raw_layer old size w) (λ kind file. ⊤) (GivesBelow below at n) old new
+    → RawStops below size w size (GivesZero at n) old new → RawStops below size w size (GivesBelow below at n) old new
 backed_stops below old new size w at n backed =
     let l = raw_layer old size w in
     passes_weaker (Left below l old.bytes (λ kind file. ⊤) size (GivesZero at n)) (Left below l old.bytes (λ kind file. ⊤) size (GivesBelow below at n)) old new
     (left_weaker below (λ kind file. ⊤) l old.bytes size (GivesZero at n) (GivesBelow below at n) (λ p v inside gave. inr (inr (gave.0, gave.1 ∙ sym (backed_zero below old size w backed p)))))
+
+-- A refused call for another cause than want of memory and a storage's fault has changed nothing.
+pub unwritten_same : (old new : StorageState) (at : ℕ) (bytes : List ℕ) (fault : Fault) → NotWrittenThrough old new at bytes fault → IsMild fault → new ≡ old
+unwritten_same old new at bytes RangeOverflow h mild = h.1
+unwritten_same old new at bytes Memory h mild = absurd mild
+unwritten_same old new at bytes Storage h mild = absurd mild
+unwritten_same old new at bytes _ h mild = absurd h.cause
+
+pub ungiven_same : (old new : StorageState) (at n : ℕ) (fault : Fault) → NotGivenUp old new at n fault → IsMild fault → new ≡ old
+ungiven_same old new at n RangeOverflow h mild = h.1
+ungiven_same old new at n Memory h mild = absurd mild
+ungiven_same old new at n Storage h mild = absurd mild
+ungiven_same old new at n _ h mild = absurd h.1.refused.cause
+
+pub ungrown_faultless : (old new : StorageState) (from : ℕ) (fault : Fault) → NotGrown old new from fault → IsMild fault → IsFaultless old new
+ungrown_faultless old new from Unsupported h mild = h.cause
+ungrown_faultless old new from Memory h mild = absurd mild
+ungrown_faultless old new from Storage h mild = absurd mild
+ungrown_faultless old new from _ h mild = absurd h.cause
+
+pub same_faultless : (old new : StorageState) → new ≡ old → IsFaultless old new
+same_faultless old new same = (ap (λ (s : StorageState). s.faults) same, ap (λ (s : StorageState). s.refusals) same)
+
+-- the storage gets no shorter
+pub unwritten_long : (old new : StorageState) (at : ℕ) (bytes : List ℕ) (fault : Fault) → NotWrittenThrough old new at bytes fault → length old.bytes ≤ length new.bytes
+unwritten_long old new at bytes RangeOverflow h = rw h.1 (le_refl _)
+unwritten_long old new at bytes _ h = h.no_shorter
+
+pub ungiven_long : (old new : StorageState) (at n : ℕ) (fault : Fault) → NotGivenUp old new at n fault → length new.bytes ≡ length old.bytes
+ungiven_long old new at n RangeOverflow h = ap (λ (s : StorageState). length s.bytes) h.1
+ungiven_long old new at n _ h = h.1.size
+
+-- A zeroing is a discard to the layer below.
+pub zeroed_below : (result : Result (ℕ × ℕ) Fault) (old new : Layer) → IfOk result (λ r. Rewrites ToZero old new r.0 r.1) → IfOk result (λ r. Rewrites (ToBelow (own (byte 0))) old new r.0 r.1)
+zeroed_below (Ok r) old new h = record { like = h.like; range = λ p within. inr (h.range p within); others = h.others }
+zeroed_below (Err fault) old new h = tt
+
+pub partly_below : (result : Result (ℕ × ℕ) Fault) (old new : Layer) (at n : ℕ) → IfErr result (λ e. IsMild e → PartRewrites ToZero old new at n)
+    → IfErr result (λ e. IsMild e → PartRewrites (ToBelow (own (byte 0))) old new at n)
+partly_below (Ok r) old new at n h = tt
+partly_below (Err fault) old new at n h = λ mild.
+    let part = h mild in
+    record {
+      like = part.like;
+      range = λ p within. ⊎_elim (λ same. inl same) (λ zero. inr (inr zero)) (part.range p within);
+      others = part.others;
+    }
 
 unwritten_step : (old new : StorageState) (at : ℕ) (bytes : List ℕ) (fault : Fault) → NotWrittenThrough old new at bytes fault → (Rose old.refusals new.refusals → ⊥) → InStep old → InStep new
 unwritten_step old new at bytes RangeOverflow h calm = subst (λ (s : StorageState). InStep old → InStep s) (sym h.1) (λ same. same)
@@ -81,7 +136,7 @@ module _ {T : Type 0} (result : Result T Fault) (old new : StorageState) (at : �
 
   pub written_stops : (below : List Layer) (size : ℕ) (w : Bool) (gives : ℕ → Value → Type 0) → size ≤ length old.bytes → Stops (Mixed old.bytes at bytes) old new → StopsAsLong old new
       → ((f : List ℕ) → Mixed old.bytes at bytes f → (p : ℕ) → p < size → (slice_index f p ≡ slice_index old.bytes p) ⊎ gives p (byte (slice_index f p)))
-      → KeepsStops below (raw_layer old size w) (λ kind file. ⊤) gives old new
+      → RawStops below size w size gives old new
   written_stops below size w gives fits stops long each calm = (
     written_step calm,
     stops_weaker (λ f. Mixed old.bytes at bytes f × (length old.bytes ≤ length f)) (Left below (raw_layer old size w) old.bytes (λ kind file. ⊤) size gives) old new
@@ -112,6 +167,16 @@ pub mixed_bytes : (old : List ℕ) (at : ℕ) (bytes f : List ℕ) → Mixed old
 mixed_bytes old at bytes f mixed p =
     ⊎_elim (λ same. inl same) (λ new. inr (p - at, omega (arith, new.0.0, new.0.1), omega (arith, new.0.0), ap byte new.1)) (mixed_place old at bytes f mixed p)
 
+pub mixed_zeroes : (old : List ℕ) (at n : ℕ) (f : List ℕ) → Mixed old at (replicate n 0) f → (p : ℕ) → (slice_index f p ≡ slice_index old p) ⊎ GivesZero at n p (byte (slice_index f p))
+mixed_zeroes old at n f mixed p =
+    let long : length {A = ℕ} (replicate n 0) ≡ n = length-replicate n 0 in
+    ⊎_elim
+    (λ same. inl same)
+    (λ new.
+    let within : IsIn at n p = (new.0.0, omega (arith, new.0.1, long)) in
+    inr (within, ap byte (new.1 ∙ get_or-replicate n (p - at) 0 0 (omega (arith, within.0, within.1)))))
+    (mixed_place old at (replicate n 0) f mixed p)
+
 -- Resizes.
 
 -- a file with the first bytes of the disk
@@ -123,7 +188,7 @@ first_left below old size from w gives f fits first past =
 
 -- one that shrinks has no place past its new size
 pub shrunk_stops : (below : List Layer) (old new : StorageState) (size to : ℕ) (w : Bool) (gives : ℕ → Value → Type 0) → size ≤ length old.bytes → Resized old new to
-    → KeepsStopsTo below (raw_layer old size w) (λ kind file. ⊤) to gives old new
+    → RawStops below size w to gives old new
 shrunk_stops below old new size to w gives fits resized calm = (
   resized.changed.in_step,
   one_stop (Left below (raw_layer old size w) old.bytes (λ kind file. ⊤) to gives) old new resized.changed.mark
@@ -161,7 +226,7 @@ module _ (old new : StorageState) (size : ℕ) (w : Bool) (at n : ℕ) (positive
     others = λ p out. ap (λ (b : ℕ). own (byte b)) (given_outside keeps given p out);
   }
 
-  pub given_stops : (below : List Layer) → size ≤ length old.bytes → GivenUp old new at n → KeepsStops below (raw_layer old size w) (λ kind file. ⊤) (GivesAny at n) old new
+  pub given_stops : (below : List Layer) → size ≤ length old.bytes → GivenUp old new at n → RawStops below size w size (GivesAny at n) old new
   given_stops below fits given calm =
       let P : List ℕ → Type 0 = Left below (raw_layer old size w) old.bytes (λ kind file. ⊤) size (GivesAny at n) in
       ⊎_elim

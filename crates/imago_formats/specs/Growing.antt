@@ -24,6 +24,7 @@ pub record CutTo (old new : StorageState) (from : ℕ) : Type 0 where
 -- the first bytes are left, and those behind them are 0
 pub record GrownTo (old new : StorageState) (from to : ℕ) : Type 0 where
   pub faults : new.faults ≡ old.faults
+  pub refusals : new.refusals ≡ old.refusals
   pub size : length new.bytes ≡ to
   pub kept : IsTrue old.shape.keeps → (k : ℕ) → k < from → slice_index new.bytes k ≡ slice_index old.bytes k
   pub filled : IsTrue old.shape.keeps → (k : ℕ) → from ≤ k → k < to → slice_index new.bytes k ≡ 0
@@ -31,13 +32,13 @@ pub record GrownTo (old new : StorageState) (from to : ℕ) : Type 0 where
   pub stops : Stops (HasFirst old.bytes from) old new
 
 -- why a storage isn't resized
-abbrev pub ResizeCause : ℕ → ℕ → Fault → Type 0
-ResizeCause before after Unsupported = after ≡ before
-ResizeCause before after fault = Cause before after fault
+abbrev pub ResizeCause : StorageState → StorageState → Fault → Type 0
+ResizeCause old new Unsupported = (new.faults ≡ old.faults) × (new.refusals ≡ old.refusals)
+ResizeCause old new fault = Cause old.faults new.faults fault
 
 -- the first bytes are left
 pub record NotGrown (old new : StorageState) (from : ℕ) (fault : Fault) : Type 0 where
-  pub cause : ResizeCause old.faults new.faults fault
+  pub cause : ResizeCause old new fault
   pub long : from ≤ length old.bytes → from ≤ length new.bytes
   pub kept : IsTrue old.shape.keeps → (k : ℕ) → k < from → slice_index new.bytes k ≡ slice_index old.bytes k
   pub in_step : Rose old.refusals new.refusals ⊎ (InStep old → InStep new)

@@ -1,6 +1,6 @@
 -- Where the places of a raw image can be written.
 use Rattle.std.proofs.Common.{◌≡◌, ℕ, ap}
-use Rattle.std.specs.Prelude.{Bool, true, false, ◌&&◌, Some, None, if◌then◌else◌, ltb}
+use Rattle.std.specs.Prelude.{Bool, true, false, ◌&&◌, Some, None, if◌then◌else◌, ltb, IsTrue}
 
 -- a place can be written at its own number alone
 pub one_home : (size : ℕ) (writable : Bool) (p q : ℕ) (at : ℕ × ℕ)
@@ -10,3 +10,7 @@ one_home size writable p q at first second = from (ltb p size && writable) (ltb 
   from true true first second = let is : ◌≡◌ {A = ℕ × ℕ} (0, p) (0, q) = cc in ap (λ (x : ℕ × ℕ). x.1) is
   from true false first second = absurd (cc second)
   from false b first second = absurd (cc first)
+
+-- what isn't so has no consequences
+pub never : {A : Type 0} → IsTrue false → A
+never states = absurd (cc states)

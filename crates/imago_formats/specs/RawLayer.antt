@@ -28,6 +28,8 @@ raw_fixed shape writable = record {
   kind = 0;
   means = raw_meaning;
   exact = false;
+  marks = false;
+  states_room = false;
   unit = 1;
 }
 

@@ -1,6 +1,7 @@
 // How raw images are opened and created.
 ghost use Rattle.std.specs.Prelude.{◌≡◌, ◌⊎◌, length, true, false, Ok, Err, None, IsTrue, IfOk, IfErr};
 ghost use Rattle.imago_storage.specs.State.{StorageState};
+ghost use Rattle.imago_access.specs.Building.{IsOpened};
 ghost use Rattle.imago_access.specs.declared.format.Format.TheVariants as format;
 ghost use Rattle.imago_access.specs.declared.format.PreallocateMode.TheVariants as mode;
 ghost use Rattle.imago_formats.specs.RawLayer.{raw_layer};
@@ -9,8 +10,7 @@ ghost use Rattle.imago_formats.specs.Creating.{IsNewRaw, NotCreated};
 use crate::raw::{Raw, grow_storage, storage_mode};
 use imago_access::{
     Format, FormatCreateBuilder, FormatCreateBuilderBase, FormatDriverBuilder,
-    FormatDriverBuilderBase, FormatDriverInstance, ImplicitOpenGate, MakeOpenBuilder,
-    PreallocateMode,
+    FormatDriverBuilderBase, ImplicitOpenGate, MakeOpenBuilder, PreallocateMode, Seen,
 };
 use imago_storage::{Fault, Storage, StorageOpenOptions};
 use std::alloc::Global;
@@ -34,9 +34,11 @@ impl<S: Storage> FormatDriverBuilder<S> for RawOpenBuilder<S> {
 
     ghost options_of = { λ b. b.base.options };
 
+    ghost number_of = { λ b. 0 };
+
     ghost with_writable = { λ b writable. record b { base = record b.base { writable = writable } } };
 
-    ghost opens = { λ b d. let image = S.state b.base.image in (d.storage ≡ b.base.image) × (⟦<Raw<S> as FormatDriverInstance>⟧.layer d ≡ raw_layer image (length image.bytes) b.base.writable) × ⟦<Raw<S> as FormatDriverInstance>⟧.safe d × ⟦<Raw<S> as FormatDriverInstance>⟧.lasts d };
+    ghost opens = { λ b d. let image = S.state b.base.image in (d.storage ≡ b.base.image) × (⟦<Raw<S> as Seen>⟧.layer d ≡ raw_layer image (length image.bytes) b.base.writable) × ⟦<Raw<S> as Seen>⟧.lasts d };
 
     ghost refuses = { λ b fault. ⊥ };
 
@@ -58,8 +60,12 @@ impl<S: Storage> FormatDriverBuilder<S> for RawOpenBuilder<S> {
 
     fn open<G: ImplicitOpenGate<S>>(self, _alloc: Global, gate: &mut G) -> Result<Raw<S>, Fault>
         ensures ok { IfOk result (⟦<RawOpenBuilder<S> as FormatDriverBuilder<S>>⟧.opens self) }
-        ensures format { IfOk result (λ d. (⟦<Raw<S> as FormatDriverInstance>⟧.layer d).fixed.format ≡ format.Raw) }
-        ensures writable { IfOk result (λ d. (⟦<Raw<S> as FormatDriverInstance>⟧.layer d).fixed.writable ≡ self.base.writable) }
+        ensures format { IfOk result (λ d. (⟦<Raw<S> as Seen>⟧.layer d).fixed.format ≡ format.Raw) }
+        ensures writable { IfOk result (λ d. (⟦<Raw<S> as Seen>⟧.layer d).fixed.writable ≡ self.base.writable) }
+        ensures number { IfOk result (λ d. (⟦<Raw<S> as Seen>⟧.layer d).fixed.number ≡ 0) }
+        ensures opened { IfOk result (λ d. IsOpened (⟦<Raw<S> as Seen>⟧.layer d) (S.state self.base.image) (⟦<Raw<S> as Seen>⟧.image d)) }
+        ensures known { let r = ⟦<Raw<S> as Seen>⟧ in IfOk result (λ d. r.sees d × r.still d) }
+        ensures safe { let r = ⟦<Raw<S> as Seen>⟧ in IfOk result (λ d. IsTrue (r.layer d).fixed.keeps → r.sound (r.layer d).fixed.kind (r.image d).bytes → r.safe d) }
         ensures err { IfErr result (⟦<RawOpenBuilder<S> as FormatDriverBuilder<S>>⟧.refuses self) }
         // The gate isn't asked.
         ensures gate { gate.new ≡ gate.old }
@@ -154,8 +160,8 @@ impl<S: Storage> FormatCreateBuilder<S> for RawCreateBuilder<S> {
     ) -> Result<Raw<S>, Fault>
         requires { let c = ⟦<RawCreateBuilder<S> as FormatCreateBuilder<S>>⟧ in (s : S) → c.hands self s → F.takes open_builder s }
         ensures ok { let c = ⟦<RawCreateBuilder<S> as FormatCreateBuilder<S>>⟧ in IfOk result (λ d. (s : S) × (b b' : _) × c.hands self s × F.makes open_builder s (Ok b) × c.opens_with self b b' × ⟦<RawOpenBuilder<S> as FormatDriverBuilder<S>>⟧.opens b' d) }
-        ensures format { IfOk result (λ d. (⟦<Raw<S> as FormatDriverInstance>⟧.layer d).fixed.format ≡ format.Raw) }
-        ensures writable { IfOk result (λ d. IsTrue (⟦<Raw<S> as FormatDriverInstance>⟧.layer d).fixed.writable) }
+        ensures format { IfOk result (λ d. (⟦<Raw<S> as Seen>⟧.layer d).fixed.format ≡ format.Raw) }
+        ensures writable { IfOk result (λ d. IsTrue (⟦<Raw<S> as Seen>⟧.layer d).fixed.writable) }
         ensures err { let c = ⟦<RawCreateBuilder<S> as FormatCreateBuilder<S>>⟧ in IfErr result (λ e. c.refuses self e ⊎ (((s : S) × c.hands self s × F.makes open_builder s (Err e)) ⊎ ((s : S) × (b b' : _) × c.hands self s × F.makes open_builder s (Ok b) × c.opens_with self b b' × ⟦<RawOpenBuilder<S> as FormatDriverBuilder<S>>⟧.refuses b' e))) }
         // The gate isn't asked.
         ensures gate { gate.new ≡ gate.old }

@@ -1,36 +1,37 @@
 // A raw image: the disk is the storage's bytes.
-ghost use Rattle.std.specs.Prelude.{◌≡◌, ◌⊎◌, min, ◌-◌, ◌+◌, ◌≤◌, ◌<◌, ◌^◌, ◌∷◌, [], ⊤, refl, ℕ, List, length, slice_index, replicate, OnOk, IfOk, IfErr, IfSome, IsSome, IsTrue, IsOk, IsErr, IsErrOf, MatchResult, None, Some, true, ◌++◌, IsFalse};
+ghost use Rattle.std.specs.Prelude.{◌≡◌, ◌⊎◌, min, ◌-◌, ◌+◌, ◌≤◌, ◌<◌, ◌^◌, [], ⊤, refl, List, length, replicate, OnOk, IfOk, IfErr, IfSome, IsSome, IsTrue, IsOk, MatchResult, None, Some, true, ◌∷◌, ℕ, slice_index, IsErr, IsErrOf, ◌++◌, IsFalse};
 ghost use Rattle.std.proofs.Common.{inr};
-ghost use Rattle.imago_storage.specs.State.{StorageState, unit_of};
+ghost use Rattle.std.proofs.Math.Nat.{le_refl};
 ghost use Rattle.imago_storage.specs.Steps.{Call, shrink};
-ghost use Rattle.imago_storage.specs.Calls.{Mixed, Later};
+ghost use Rattle.imago_storage.specs.Calls.{Mixed, Later, Resized, NotResized, UnlessUnsupported};
 ghost use Rattle.imago_storage.specs.Through.{WrittenThrough, NotWrittenThrough, Stops, StopsAsLong};
 ghost use Rattle.imago_storage.specs.declared.fault.Fault.{Fault};
 ghost use Rattle.imago_storage.specs.declared.fault.Fault.TheVariants.{Foreign, ReadOnly, Unsupported};
-ghost use Rattle.imago_access.specs.Layer.{Layer, loose, IsFree, IsLike, unit_of_layer};
+ghost use Rattle.imago_access.specs.Changes.{Committed, Cancelled};
+ghost use Rattle.imago_access.specs.Files.{ImageCause, IsMild, Unasked, files, byte_in, WasNotCutOff};
+ghost use Rattle.imago_access.specs.Going.{AtOnce, IsUnchanged, Went, Looked, LookedUnder, Marks};
+ghost use Rattle.imago_access.specs.Layer.{Layer, IsFree, loose};
+ghost use Rattle.imago_access.specs.PartCalls.{DoesPart, PartRefused, ensures_zero};
+ghost use Rattle.imago_access.specs.Refusals.{own_refusal, barrier, LookCause};
 ghost use Rattle.imago_access.specs.Room.{Takes};
-ghost use Rattle.imago_access.specs.Changes.{Committed, Cancelled, Rewrites, ToZero};
-ghost use Rattle.imago_access.specs.Files as Files;
-ghost use Rattle.imago_access.specs.Files.{IsMild, SomeRose, ImageCause};
-ghost use Rattle.imago_access.specs.Going.{Looked, Went, LookedUnder};
-ghost use Rattle.imago_access.specs.Refusals.{change_refusal, barrier, LookCause};
-ghost use Rattle.imago_access.specs.Mappings.{IsRun, Looks};
-ghost use Rattle.imago_access.specs.Parts.{DeclinableCause, GrowthCause, ShrinkCause};
-ghost use Rattle.imago_access.specs.Spending.{IsMine, Spends, commit_refusal, GivenBack, IsForeignTo};
-ghost use Rattle.imago_access.specs.Stops.{KeepsStops, GivesSettled, GivesZero, KeepsStopsTo, GivesBelowPast, GivesPast};
-ghost use Rattle.imago_access.specs.Chain.{at, IsBacked};
+ghost use Rattle.imago_access.specs.Spending.{IsMine, Spends, IsSpending, commit_refusal, GivenBack, IsForeignTo};
+ghost use Rattle.imago_access.specs.Stops.{KeepsStops, GivesSettled, KeepsStopsTo, GivesPast, GivesBelowPast};
+ghost use Rattle.imago_access.specs.declared.mapping.ShallowMapping.TheVariants as shallow;
+ghost use Rattle.imago_access.specs.Mappings.{IsRun, Looks, NamesRoom};
+ghost use Rattle.imago_access.specs.Failing.{Fails, FailsOver};
 ghost use Rattle.imago_access.specs.Resizes as Resizes;
 ghost use Rattle.imago_access.specs.Resizes.{fill_of, Grown, Shrunk, NotShrunk};
-ghost use Rattle.imago_access.specs.declared.format.PreallocateMode.{PreallocateMode};
+ghost use Rattle.imago_access.specs.Parts.{GrowthCause, ShrinkCause};
+ghost use Rattle.imago_access.specs.Chain.{at, IsBacked};
 ghost use Rattle.std.specs.Borrow.{Lends, sem};
 ghost use Rattle.imago_formats.specs.contracts.raw.Raw.{the_row};
 ghost use Rattle.imago_formats.specs.RawLayer.{raw_layer, raw_text, RawCause};
-ghost use Rattle.imago_formats.specs.RawHome.{one_home};
+ghost use Rattle.imago_formats.specs.RawHome.{one_home, never};
 ghost use Rattle.imago_formats.specs.Growing.{CutTo, GrownTo, NotGrown};
 
 use imago_access::{
-    Format, FormatDriverInstance, PreallocateMode, PreparedDataMapping, ReadBelow, ShallowMapping,
-    check_range,
+    Format, FormatDriverInstance, PreallocateMode, PreparedDataMapping, ReadBelow, Seen,
+    ShallowMapping, check_range,
 };
 use imago_storage::{
     Fault, PreallocateMode as StorageMode, Storage, StorageExt, larger_alignment, write_full_zeroes,
@@ -60,9 +61,9 @@ pub struct Raw<S> {
 impl<S: Storage> Raw<S> {
     /// Opens a storage as a raw image, for reading alone or also for writing.
     pub fn open_image(storage: S, writable: bool) -> Self
-        ensures layer { ⟦<Raw<S> as FormatDriverInstance>⟧.layer result ≡ raw_layer (S.state storage) (length (S.state storage).bytes) writable }
-        ensures safe { ⟦<Raw<S> as FormatDriverInstance>⟧.safe result }
-        ensures lasts { ⟦<Raw<S> as FormatDriverInstance>⟧.lasts result }
+        ensures layer { ⟦<Raw<S> as Seen>⟧.layer result ≡ raw_layer (S.state storage) (length (S.state storage).bytes) writable }
+        ensures safe { IsTrue (S.state storage).shape.keeps → ⟦<Raw<S> as Seen>⟧.safe result }
+        ensures lasts { ⟦<Raw<S> as Seen>⟧.lasts result }
         ensures storage { result.storage ≡ storage }
     {
         let size = storage.size();
@@ -129,10 +130,10 @@ impl<S: Storage> Raw<S> {
     // Why a change of a range that isn't empty is refused before anything is done.
     fn check_change(&self, offset: u64, length: u64) -> Result<(), Fault>
         requires { 0 < length }
-        ensures ok { OnOk result (change_refusal (unit_of (S.state self.now.storage).shape) (raw_layer (S.state self.now.storage) self.now.size self.now.writable) offset length ≡ None) }
+        ensures ok { let d = ⟦<Raw<S> as Seen>⟧ in OnOk result (own_refusal (d.layer self.now) offset length ≡ None) }
         ensures inside { OnOk result (offset + length ≤ self.now.size) }
         ensures fits { OnOk result (offset + length < 2 ^ 64) }
-        ensures err { IfErr result (λ e. change_refusal (unit_of (S.state self.now.storage).shape) (raw_layer (S.state self.now.storage) self.now.size self.now.writable) offset length ≡ Some e) }
+        ensures err { let d = ⟦<Raw<S> as Seen>⟧ in IfErr result (λ e. own_refusal (d.layer self.now) offset length ≡ Some e) }
     {
         let unit = larger_alignment(self.storage.req_align(), self.storage.mem_align());
         check_range(self.writable, unit as u64, self.size, offset, length)
@@ -147,16 +148,9 @@ impl<S: Storage> Raw<S> {
         length: u64,
     ) -> Result<(u64, u64), Fault>
         ensures all { IfOk result (λ r. r ≡ (offset, length)) }
-        ensures ok { let d = ⟦<Raw<S> as FormatDriverInstance>⟧ in IsTrue (d.layer self.old).fixed.keeps → OnOk result (Rewrites ToZero (d.layer self.old) (d.layer self.new) offset length) }
-        ensures err { let d = ⟦<Raw<S> as FormatDriverInstance>⟧ in IfErr result (λ e. IsMild e → self.new ≡ self.old) }
-        ensures at_once { let d = ⟦<Raw<S> as FormatDriverInstance>⟧ in (f : Fault) → change_refusal (unit_of_layer (d.layer self.old)) (d.layer self.old) offset length ≡ Some f → IsErrOf result f }
-        ensures idle { length ≡ 0 → IsOk result }
-        ensures unasked { let d = ⟦<Raw<S> as FormatDriverInstance>⟧ in (length ≡ 0) ⊎ IsSome (change_refusal (unit_of_layer (d.layer self.old)) (d.layer self.old) offset length) → Files.Unasked d.image d.extras self.old self.new }
-        ensures like { let d = ⟦<Raw<S> as FormatDriverInstance>⟧ in IsLike (d.layer self.old) (d.layer self.new) }
-        ensures went { let d = ⟦<Raw<S> as FormatDriverInstance>⟧ in Went d.layer d.image d.extras d.safe d.lasts (IsOk result) (Files.IsWhole result) self.old self.new }
-        ensures stops { let d = ⟦<Raw<S> as FormatDriverInstance>⟧ in d.safe self.old → (below : List Layer) → KeepsStops below (d.layer self.old) d.sound (GivesZero offset length) (d.image self.old) (d.image self.new) }
-        ensures failed { let d = ⟦<Raw<S> as FormatDriverInstance>⟧ in IfErr result (ImageCause (d.image self.old ∷ d.extras self.old) (d.image self.new ∷ d.extras self.new)) }
-        ensures cause { let d = ⟦<Raw<S> as FormatDriverInstance>⟧ in (below : List Layer) (e : _) (call : Call) → IfErr result (DeclinableCause below (d.layer self.old) offset length (d.own_cause e below call) (d.image self.old ∷ d.extras self.old) (d.image self.new ∷ d.extras self.new)) }
+        ensures does { DoesPart ensures_zero ⟦<Raw<S> as Seen>⟧ offset length result self.old self.new }
+        ensures at_once { let d = ⟦<Raw<S> as Seen>⟧ in AtOnce d (own_refusal (d.layer self.old) offset length) (length ≡ 0) result self.old self.new }
+        ensures refused { PartRefused ⟦<Raw<S> as Seen>⟧ offset length result self.old self.new }
     {
         if length == 0 {
             return Ok((offset, 0));
@@ -167,6 +161,59 @@ impl<S: Storage> Raw<S> {
         }
         match zero_range(&mut self.storage, alloc, zeroes, offset, length) {
             Ok(()) => Ok((offset, length)),
+            Err(fault) => Err(fault),
+        }
+    }
+}
+
+impl<S: Storage> Raw<S> {
+    // The run from an offset on: all of the range that lies in the disk.
+    fn run_from(&self, offset: u64, max_length: u64) -> (ShallowMapping, u64)
+        ensures end { self.now.size ≤ offset → result ≡ (shallow.Eof, 0) }
+        ensures whole { offset < self.now.size → result ≡ (shallow.Raw 0 offset self.now.writable, min max_length (self.now.size - offset)) }
+    {
+        if offset >= self.size {
+            return (ShallowMapping::Eof, 0);
+        }
+        let mapping = ShallowMapping::Raw {
+            storage: 0,
+            offset,
+            writable: self.writable,
+        };
+        (mapping, max_length.min(self.size - offset))
+    }
+
+    // Makes the disk longer, and its storage as long. Refused, it leaves the size, and its storage no shorter than the disk.
+    fn grow_to(&mut self, size: u64, mode: StorageMode) -> Result<(), Fault>
+        requires { self.old.size ≤ size }
+        ensures ok { OnOk result (GrownTo (S.state self.old.storage) (S.state self.new.storage) self.old.size size × (self.new.size ≡ size)) }
+        ensures err { IfErr result (λ e. NotGrown (S.state self.old.storage) (S.state self.new.storage) self.old.size e × (self.new.size ≡ self.old.size)) }
+        ensures shape { (S.state self.new.storage).shape ≡ (S.state self.old.storage).shape }
+        ensures later { Later (S.state self.old.storage) (S.state self.new.storage) }
+        ensures writable { self.new.writable ≡ self.old.writable }
+    {
+        match grow_storage(&mut self.storage, self.size, size, mode) {
+            Ok(()) => {
+                self.size = size;
+                Ok(())
+            }
+            Err(fault) => Err(fault),
+        }
+    }
+
+    // Makes the disk shorter, and its storage as short. Refused, it leaves the size and each byte.
+    fn shrink_to(&mut self, size: u64) -> Result<(), Fault>
+        ensures ok { OnOk result (Resized (S.state self.old.storage) (S.state self.new.storage) size × (self.new.size ≡ size)) }
+        ensures err { IfErr result (λ e. UnlessUnsupported (S.state self.old.storage) (S.state self.new.storage) (NotResized (S.state self.old.storage) (S.state self.new.storage)) e × (self.new.size ≡ self.old.size)) }
+        ensures shape { (S.state self.new.storage).shape ≡ (S.state self.old.storage).shape }
+        ensures later { Later (S.state self.old.storage) (S.state self.new.storage) }
+        ensures writable { self.new.writable ≡ self.old.writable }
+    {
+        match self.storage.resize(size, StorageMode::None) {
+            Ok(()) => {
+                self.size = size;
+                Ok(())
+            }
             Err(fault) => Err(fault),
         }
     }
@@ -208,9 +255,7 @@ fn zero_range<S: Storage>(
     }
 }
 
-impl<S: Storage> FormatDriverInstance for Raw<S> {
-    type Storage = S;
-
+impl<S: Storage> Seen for Raw<S> {
     type State = NoState;
 
     ghost layer = { λ r. raw_layer (S.state r.storage) r.size r.writable };
@@ -219,11 +264,9 @@ impl<S: Storage> FormatDriverInstance for Raw<S> {
 
     ghost extras = { λ _. [] };
 
-    ghost stored = { λ r n p. slice_index (S.state r.storage).bytes p };
-
     ghost sees = { λ _. ⊤ };
 
-    ghost safe = { λ r. r.size ≤ length (S.state r.storage).bytes };
+    ghost safe = { λ r. IsTrue (S.state r.storage).shape.keeps × (r.size ≤ length (S.state r.storage).bytes) };
 
     ghost still = { λ _. ⊤ };
 
@@ -246,14 +289,28 @@ impl<S: Storage> FormatDriverInstance for Raw<S> {
     ghost own_cause = { λ d below call fault. RawCause call fault };
 
     ghost growth_cause = { λ d below size mode fault. fault ≡ Unsupported };
+}
+
+impl<S: Storage> FormatDriverInstance for Raw<S> {
+    type Storage = S;
 
     ghost safe_sees = { λ d safe. tt };
 
     ghost safe_runs = { λ d safe. refl };
 
+    ghost safe_keeps = { λ d safe. safe.0 };
+
+    ghost safe_sound = { λ d safe. record { is_sound = tt; size = safe.1 } };
+
+    ghost one_home = { λ d p q at safe. one_home d.size d.writable p q at };
+
     ghost blanks = { λ d. inr refl };
 
-    ghost safe_sound = { λ d safe. record { is_sound = tt; size = safe } };
+    ghost aligned = { λ d. let shape = S.aligned d.storage in (shape.requests, shape.memory) };
+
+    ghost alignments = { λ d. record { requests = refl; memory = refl; zeroing = inr (inr refl) } };
+
+    ghost units = { λ d. le_refl 1 };
 
     ghost begins = { λ d call. tt };
 
@@ -261,9 +318,7 @@ impl<S: Storage> FormatDriverInstance for Raw<S> {
 
     ghost bare = { λ d p free has. has };
 
-    ghost one_home = { λ d p q at safe. one_home d.size d.writable p q at };
-
-    ghost aligned = { λ d. let shape = S.aligned d.storage in (shape.requests, shape.memory) };
+    ghost roomless = { λ d p free states given. never states };
 
     fn format(&self) -> Format {
         Format::Raw
@@ -308,36 +363,32 @@ impl<S: Storage> FormatDriverInstance for Raw<S> {
         offset: u64,
         max_length: u64,
     ) -> Result<(ShallowMapping, u64), Fault>
-        ensures run { let d = ⟦<Raw<S> as FormatDriverInstance>⟧ in IfOk result (λ r. IsRun (d.layer self.old) offset max_length r.0 r.1) }
-        ensures looks { let d = ⟦<Raw<S> as FormatDriverInstance>⟧ in d.sees self.old → IfOk result (λ r. Looks (d.layer self.old) (d.stored self.new) offset max_length r.0 r.1) }
-        ensures idle { let d = ⟦<Raw<S> as FormatDriverInstance>⟧ in max_length ≡ 0 → barrier (d.layer self.old) ≡ None → IsOk result }
-        ensures barred { let d = ⟦<Raw<S> as FormatDriverInstance>⟧ in (f : Fault) → barrier (d.layer self.old) ≡ Some f → IsErrOf result f }
-        ensures unasked { let d = ⟦<Raw<S> as FormatDriverInstance>⟧ in (max_length ≡ 0) ⊎ IsSome (barrier (d.layer self.old)) → Files.Unasked d.image d.extras self.old self.new }
-        ensures looked { let d = ⟦<Raw<S> as FormatDriverInstance>⟧ in Looked d.layer d.image d.extras d.sees d.safe d.still d.lasts d.sound (IsOk result) (Files.IsWhole result) self.old self.new }
-        ensures began { let d = ⟦<Raw<S> as FormatDriverInstance>⟧ in OnOk result ((e : _) (call : Call) → d.began e call self.old → d.began e call self.new) }
-        ensures failed { let d = ⟦<Raw<S> as FormatDriverInstance>⟧ in IfErr result (ImageCause (d.image self.old ∷ d.extras self.old) (d.image self.new ∷ d.extras self.new)) }
-        ensures cause { let d = ⟦<Raw<S> as FormatDriverInstance>⟧ in d.sees self.old → IfErr result (LookCause (d.layer self.old) offset max_length (d.image self.old ∷ d.extras self.old) (d.image self.new ∷ d.extras self.new)) }
+        ensures run { let d = ⟦<Raw<S> as Seen>⟧ in IfOk result (λ r. IsRun (d.layer self.old) offset max_length r.0 r.1) }
+        ensures looks { let d = ⟦<Raw<S> as Seen>⟧ in d.sees self.old → IfOk result (λ r. Looks (d.layer self.old) (byte_in (files d self.new)) offset max_length r.0 r.1) }
+        ensures room { let d = ⟦<Raw<S> as Seen>⟧ in d.sees self.old → IfOk result (λ r. NamesRoom (d.layer self.old) (d.vacant self.old) (d.zeroed self.old) offset r.1 r.0) }
+        ensures at_once { let d = ⟦<Raw<S> as Seen>⟧ in AtOnce d (barrier (d.layer self.old)) (max_length ≡ 0) result self.old self.new }
+        ensures looked { let d = ⟦<Raw<S> as Seen>⟧ in Looked d (WasNotCutOff result) self.old self.new }
+        ensures began { let d = ⟦<Raw<S> as Seen>⟧ in OnOk result ((e : _) (call : Call) → d.began e call self.old → d.began e call self.new) }
+        ensures failed { let d = ⟦<Raw<S> as Seen>⟧ in IfErr result (Fails d self.old self.new) }
+        ensures marks { let d = ⟦<Raw<S> as Seen>⟧ in IfErr result (Marks d self.old self.new) }
+        ensures cause { let d = ⟦<Raw<S> as Seen>⟧ in d.sees self.old → IfErr result (LookCause (d.layer self.old) offset max_length (files d self.old) (files d self.new)) }
         // All of the range that lies in the disk is one run.
         ensures whole { offset < self.old.size → IfOk result (λ r. r.1 ≡ min max_length (self.old.size - offset)) }
     {
-        if offset >= self.size {
-            return Ok((ShallowMapping::Eof, 0));
-        }
-        let mapping = ShallowMapping::Raw {
-            storage: 0,
-            offset,
-            writable: self.writable,
-        };
-        Ok((mapping, max_length.min(self.size - offset)))
+        Ok(self.run_from(offset, max_length))
     }
 
     fn read_mapped(
         &mut self,
         alloc: Global,
-        _storage: usize,
+        storage: usize,
         place: u64,
         buf: &mut [u8],
     ) -> Result<(), Fault> {
+        if storage != 0 {
+            buf.fill(0);
+            return Ok(());
+        }
         self.storage.read(alloc, buf, place)
     }
 
@@ -367,18 +418,18 @@ impl<S: Storage> FormatDriverInstance for Raw<S> {
         _alloc: Global,
         mapping: PreparedDataMapping<NoState>,
     ) -> Result<(), (Fault, Option<PreparedDataMapping<NoState>>)>
-        ensures ok { let d = ⟦<Raw<S> as FormatDriverInstance>⟧ in OnOk result (Spends d.claim d.tag mapping.state (d.layer self.old) (d.layer self.new) (IsFree (d.layer self.new) × (IsTrue (d.layer self.old).fixed.keeps → d.safe self.old → Committed (d.layer self.old) (d.layer self.new)))) }
-        ensures went { let d = ⟦<Raw<S> as FormatDriverInstance>⟧ in Went d.layer d.image d.extras d.safe d.lasts (IsOk result) (IsOk result × IsMine d.claim d.tag mapping.state (d.layer self.old)) self.old self.new }
-        ensures back { let d = ⟦<Raw<S> as FormatDriverInstance>⟧ in IfErr result (λ e. IfSome e.1 (λ m. (m ≡ mapping) × (d.layer self.new ≡ d.layer self.old) × GivenBack d.tag mapping.state (d.layer self.old) e.0 × (d.safe self.old → d.safe self.new) × (d.sees self.old → d.sees self.new) × (d.still self.old → d.still self.new))) }
-        ensures at_once { let d = ⟦<Raw<S> as FormatDriverInstance>⟧ in (f : Fault) → commit_refusal d.tag mapping.state (d.layer self.old) ≡ Some f → MatchResult result (λ _. ⊥) (λ e. (e.0 ≡ f) × IsSome e.1) }
-        ensures unasked { let d = ⟦<Raw<S> as FormatDriverInstance>⟧ in (mapping.state ≡ None) ⊎ IsSome (commit_refusal d.tag mapping.state (d.layer self.old)) → Files.Unasked d.image d.extras self.old self.new }
-        ensures spent { let d = ⟦<Raw<S> as FormatDriverInstance>⟧ in IfErr result (λ e. e.1 ≡ None → IsSome mapping.state × IsTrue (d.layer self.new).failed × Spends d.claim d.tag mapping.state (d.layer self.old) (d.layer self.new) (IsFree (d.layer self.new) × (d.safe self.old → IsMild e.0 → ⊥))) }
-        ensures size { let d = ⟦<Raw<S> as FormatDriverInstance>⟧ in (d.layer self.new).size ≡ (d.layer self.old).size }
-        ensures room { let d = ⟦<Raw<S> as FormatDriverInstance>⟧ in IsTrue (d.layer self.old).fixed.keeps → d.safe self.old → IsMine d.claim d.tag mapping.state (d.layer self.old) → OnOk result (Takes d.vacant d.has_room d.zeroed (λ p. (d.layer self.old).held p ≡ loose) self.old self.new) }
-        ensures back_room { let d = ⟦<Raw<S> as FormatDriverInstance>⟧ in IsTrue (d.layer self.old).fixed.keeps → d.safe self.old → IfErr result (λ e. IfSome e.1 (λ m. Takes d.vacant d.has_room d.zeroed (λ _. ⊤) self.old self.new)) }
-        ensures began { let d = ⟦<Raw<S> as FormatDriverInstance>⟧ in (e : _) (call : Call) → d.began e call self.old → IsMine d.claim d.tag mapping.state (d.layer self.old) → OnOk result (d.began e call self.new) }
-        ensures stops { let d = ⟦<Raw<S> as FormatDriverInstance>⟧ in IsTrue (d.layer self.old).fixed.keeps → d.safe self.old → IsMine d.claim d.tag mapping.state (d.layer self.old) → (below : List Layer) → KeepsStops below (d.layer self.old) d.sound (GivesSettled below (d.layer self.old)) (d.image self.old) (d.image self.new) }
-        ensures failed { let d = ⟦<Raw<S> as FormatDriverInstance>⟧ in IfErr result (λ e. ImageCause (d.image self.old ∷ d.extras self.old) (d.image self.new ∷ d.extras self.new) e.0) }
+        ensures ok { let d = ⟦<Raw<S> as Seen>⟧ in OnOk result (Spends d mapping.state (d.layer self.old) (d.layer self.new) (IsFree (d.layer self.new) × (d.safe self.old → Committed (d.layer self.old) (d.layer self.new)))) }
+        ensures size { let d = ⟦<Raw<S> as Seen>⟧ in (d.layer self.new).size ≡ (d.layer self.old).size }
+        ensures room { let d = ⟦<Raw<S> as Seen>⟧ in d.safe self.old → IsMine d mapping.state (d.layer self.old) → OnOk result (Takes d (λ p. (d.layer self.old).held p ≡ loose) self.old self.new) }
+        ensures stops { let d = ⟦<Raw<S> as Seen>⟧ in d.safe self.old → IsMine d mapping.state (d.layer self.old) → (below : List Layer) → KeepsStops d below (GivesSettled below (d.layer self.old)) self.old self.new }
+        ensures at_once { let d = ⟦<Raw<S> as Seen>⟧ in (f : Fault) → commit_refusal d mapping.state (d.layer self.old) ≡ Some f → MatchResult result (λ _. ⊥) (λ e. (e.0 ≡ f) × IsSome e.1) }
+        ensures unasked { let d = ⟦<Raw<S> as Seen>⟧ in (mapping.state ≡ None) ⊎ IsSome (commit_refusal d mapping.state (d.layer self.old)) → Unasked d self.old self.new }
+        ensures back { let d = ⟦<Raw<S> as Seen>⟧ in IfErr result (λ e. IfSome e.1 (λ m. (m ≡ mapping) × GivenBack d.tag mapping.state (d.layer self.old) e.0 × IsUnchanged d self.old self.new)) }
+        ensures spent { let d = ⟦<Raw<S> as Seen>⟧ in IfErr result (λ e. e.1 ≡ None → IsSome mapping.state × IsTrue (d.layer self.new).failed × IsSpending e.0 × Spends d mapping.state (d.layer self.old) (d.layer self.new) (IsFree (d.layer self.new) × (d.safe self.old → IsMild e.0 → ⊥))) }
+        ensures went { let d = ⟦<Raw<S> as Seen>⟧ in Went d (MatchResult result (λ _. ⊤) (λ e. IsMild e.0)) (IsOk result × IsMine d mapping.state (d.layer self.old)) self.old self.new }
+        ensures sees { let d = ⟦<Raw<S> as Seen>⟧ in mapping.state ≡ None → d.sees self.old → d.sees self.new }
+        ensures began { let d = ⟦<Raw<S> as Seen>⟧ in (e : _) (call : Call) → d.began e call self.old → IsMine d mapping.state (d.layer self.old) → OnOk result (d.began e call self.new) }
+        ensures failed { let d = ⟦<Raw<S> as Seen>⟧ in IfErr result (λ e. ImageCause (files d self.old) (files d self.new) e.0) }
     {
         match mapping.into_state() {
             None => Ok(()),
@@ -390,15 +441,15 @@ impl<S: Storage> FormatDriverInstance for Raw<S> {
         &mut self,
         mapping: PreparedDataMapping<NoState>,
     ) -> Result<(), (Fault, PreparedDataMapping<NoState>)>
-        ensures ok { let d = ⟦<Raw<S> as FormatDriverInstance>⟧ in OnOk result (Spends d.claim d.tag mapping.state (d.layer self.old) (d.layer self.new) (Cancelled (d.layer self.old) (d.layer self.new))) }
-        ensures safe { let d = ⟦<Raw<S> as FormatDriverInstance>⟧ in IsMine d.claim d.tag mapping.state (d.layer self.old) → d.safe self.old → d.safe self.new }
-        ensures room { let d = ⟦<Raw<S> as FormatDriverInstance>⟧ in IsTrue (d.layer self.old).fixed.keeps → d.safe self.old → IsMine d.claim d.tag mapping.state (d.layer self.old) → Takes d.vacant d.has_room d.zeroed (λ _. ⊤) self.old self.new }
-        ensures lasts { let d = ⟦<Raw<S> as FormatDriverInstance>⟧ in d.lasts self.old → d.lasts self.new }
-        ensures back { let d = ⟦<Raw<S> as FormatDriverInstance>⟧ in IfErr result (λ e. (e.1 ≡ mapping) × (e.0 ≡ Foreign) × (d.layer self.new ≡ d.layer self.old) × IsForeignTo d.tag mapping.state (d.layer self.old) × (d.safe self.old → d.safe self.new) × (d.sees self.old → d.sees self.new) × (d.still self.old → d.still self.new)) }
-        ensures back_room { let d = ⟦<Raw<S> as FormatDriverInstance>⟧ in IsTrue (d.layer self.old).fixed.keeps → d.safe self.old → IsErr result → Takes d.vacant d.has_room d.zeroed (λ _. ⊤) self.old self.new }
-        ensures fixed { let d = ⟦<Raw<S> as FormatDriverInstance>⟧ in ((d.layer self.new).fixed ≡ (d.layer self.old).fixed) × ((d.layer self.new).size ≡ (d.layer self.old).size) × ((d.layer self.new).failed ≡ (d.layer self.old).failed) }
-        ensures began { let d = ⟦<Raw<S> as FormatDriverInstance>⟧ in (e : _) (call : Call) → d.began e call self.old → d.began e call self.new }
-        ensures none { let d = ⟦<Raw<S> as FormatDriverInstance>⟧ in (d.image self.new ≡ d.image self.old) × (d.extras self.new ≡ d.extras self.old) }
+        ensures ok { let d = ⟦<Raw<S> as Seen>⟧ in OnOk result (Spends d mapping.state (d.layer self.old) (d.layer self.new) (Cancelled (d.layer self.old) (d.layer self.new))) }
+        ensures back { let d = ⟦<Raw<S> as Seen>⟧ in IfErr result (λ e. (e.1 ≡ mapping) × (e.0 ≡ Foreign) × IsForeignTo d.tag mapping.state (d.layer self.old) × IsUnchanged d self.old self.new) }
+        ensures fixed { let d = ⟦<Raw<S> as Seen>⟧ in ((d.layer self.new).fixed ≡ (d.layer self.old).fixed) × ((d.layer self.new).size ≡ (d.layer self.old).size) × ((d.layer self.new).failed ≡ (d.layer self.old).failed) }
+        ensures none { let d = ⟦<Raw<S> as Seen>⟧ in Unasked d self.old self.new }
+        ensures lasts { let d = ⟦<Raw<S> as Seen>⟧ in d.lasts self.old → d.lasts self.new }
+        ensures sees { let d = ⟦<Raw<S> as Seen>⟧ in d.sees self.old → d.sees self.new }
+        ensures safe { let d = ⟦<Raw<S> as Seen>⟧ in IsMine d mapping.state (d.layer self.old) → d.safe self.old → d.safe self.new }
+        ensures room { let d = ⟦<Raw<S> as Seen>⟧ in d.safe self.old → IsMine d mapping.state (d.layer self.old) → Takes d (λ _. ⊤) self.old self.new }
+        ensures began { let d = ⟦<Raw<S> as Seen>⟧ in (e : _) (call : Call) → d.began e call self.old → d.began e call self.new }
     {
         match mapping.into_state() {
             None => Ok(()),
@@ -499,23 +550,22 @@ impl<S: Storage> FormatDriverInstance for Raw<S> {
         size: u64,
         mode: PreallocateMode,
     ) -> Result<(), Fault>
-        ensures nothing { let d = ⟦<Raw<S> as FormatDriverInstance>⟧ in size ≤ (d.layer self.old).size → OnOk result (d.layer self.new ≡ d.layer self.old) }
-        ensures idle { let d = ⟦<Raw<S> as FormatDriverInstance>⟧ in size ≤ (d.layer self.old).size → barrier (d.layer self.old) ≡ None → IsOk result }
-        ensures ok { let d = ⟦<Raw<S> as FormatDriverInstance>⟧ in IsTrue (d.layer self.old).fixed.keeps → d.safe self.old → B.sees_under _below.old → (d.layer self.old).size < size → OnOk result (Grown (at (B.under _below.old)) (d.layer self.old) (d.layer self.new) size (fill_of mode)) }
-        ensures err { let d = ⟦<Raw<S> as FormatDriverInstance>⟧ in IsTrue (d.layer self.old).fixed.keeps → d.safe self.old → B.sees_under _below.old → IfErr result (λ e. IsMild e → Resizes.NotGrown (at (B.under _below.old)) (d.layer self.old) (d.layer self.new)) }
-        ensures barred { let d = ⟦<Raw<S> as FormatDriverInstance>⟧ in (f : Fault) → barrier (d.layer self.old) ≡ Some f → IsErrOf result f }
-        ensures read_only { let d = ⟦<Raw<S> as FormatDriverInstance>⟧ in barrier (d.layer self.old) ≡ None → (d.layer self.old).size < size → IsFalse (d.layer self.old).fixed.writable → IsErrOf result ReadOnly }
-        ensures unasked { let d = ⟦<Raw<S> as FormatDriverInstance>⟧ in (size ≤ (d.layer self.old).size) ⊎ (IsSome (barrier (d.layer self.old)) ⊎ IsFalse (d.layer self.old).fixed.writable) → Files.Unasked d.image d.extras self.old self.new × (_below.new ≡ _below.old) }
-        ensures free { let d = ⟦<Raw<S> as FormatDriverInstance>⟧ in IsFree (d.layer self.new) }
-        ensures went { let d = ⟦<Raw<S> as FormatDriverInstance>⟧ in Went d.layer d.image d.extras d.safe d.lasts (IsOk result) (Files.IsWhole result × B.sees_under _below.old) self.old self.new }
-        ensures stops { let d = ⟦<Raw<S> as FormatDriverInstance>⟧ in IsTrue (d.layer self.old).fixed.keeps → d.safe self.old → B.sees_under _below.old → KeepsStopsTo (B.under _below.old) (d.layer self.old) d.sound (d.layer self.old).size (GivesPast (d.layer self.old).size) (d.image self.old) (d.image self.new) }
-        ensures below { let d = ⟦<Raw<S> as FormatDriverInstance>⟧ in LookedUnder B.under B.files_under B.sees_under B.safe_under B.still_under B.lasts_under (IsOk result) (Files.IsWhole result) _below.old _below.new }
-        ensures failed { let d = ⟦<Raw<S> as FormatDriverInstance>⟧ in IfErr result (ImageCause (d.image self.old ∷ d.extras self.old ++ B.files_under _below.old) (d.image self.new ∷ d.extras self.new ++ B.files_under _below.new)) }
-        ensures cause { let d = ⟦<Raw<S> as FormatDriverInstance>⟧ in d.safe self.old → B.sees_under _below.old → IfErr result (GrowthCause (B.under _below.old) (d.layer self.old) size (d.growth_cause self.old (B.under _below.old) size mode) (d.image self.old ∷ d.extras self.old ++ B.files_under _below.old) (d.image self.new ∷ d.extras self.new ++ B.files_under _below.new)) }
+        ensures nothing { let d = ⟦<Raw<S> as Seen>⟧ in size ≤ (d.layer self.old).size → OnOk result (d.layer self.new ≡ d.layer self.old) }
+        ensures free { let d = ⟦<Raw<S> as Seen>⟧ in IsFree (d.layer self.new) }
+        ensures ok { let d = ⟦<Raw<S> as Seen>⟧ in d.safe self.old → B.sees_under _below.old → (d.layer self.old).size < size → OnOk result (Grown (at (B.under _below.old)) (d.layer self.old) (d.layer self.new) size (fill_of mode)) }
+        ensures err { let d = ⟦<Raw<S> as Seen>⟧ in d.safe self.old → B.sees_under _below.old → IfErr result (λ e. IsMild e → Resizes.NotGrown (at (B.under _below.old)) (d.layer self.old) (d.layer self.new)) }
+        ensures stops { let d = ⟦<Raw<S> as Seen>⟧ in d.safe self.old → B.sees_under _below.old → KeepsStopsTo d (B.under _below.old) (d.layer self.old).size (GivesPast (d.layer self.old).size) self.old self.new }
+        ensures at_once { let d = ⟦<Raw<S> as Seen>⟧ in AtOnce d (barrier (d.layer self.old)) (size ≤ (d.layer self.old).size) result self.old self.new }
+        ensures read_only { let d = ⟦<Raw<S> as Seen>⟧ in barrier (d.layer self.old) ≡ None → (d.layer self.old).size < size → IsFalse (d.layer self.old).fixed.writable → IsErrOf result ReadOnly × Unasked d self.old self.new × (_below.new ≡ _below.old) }
+        ensures unread { let d = ⟦<Raw<S> as Seen>⟧ in (size ≤ (d.layer self.old).size) ⊎ IsSome (barrier (d.layer self.old)) → _below.new ≡ _below.old }
+        ensures went { let d = ⟦<Raw<S> as Seen>⟧ in Went d (WasNotCutOff result) (WasNotCutOff result × B.sees_under _below.old) self.old self.new }
+        ensures below { LookedUnder B.SeenBelow (WasNotCutOff result) _below.old _below.new }
+        ensures failed { let d = ⟦<Raw<S> as Seen>⟧ in IfErr result (FailsOver d B.SeenBelow (self.old, _below.old) (self.new, _below.new)) }
+        ensures cause { let d = ⟦<Raw<S> as Seen>⟧ in d.safe self.old → B.sees_under _below.old → IfErr result (GrowthCause (B.under _below.old) (d.layer self.old) size (d.growth_cause self.old (B.under _below.old) size mode) (files d self.old ++ B.files_under _below.old) (files d self.new ++ B.files_under _below.new)) }
         // The storage is then as long as the disk; refused, the disk has its size, and its storage is no shorter than it.
         ensures exact { self.old.size < size → OnOk result ((length (S.state self.new.storage).bytes ≡ size) × (self.new.size ≡ size)) }
         ensures refused { IfErr result (λ e. self.new.size ≡ self.old.size) }
-        ensures within { let d = ⟦<Raw<S> as FormatDriverInstance>⟧ in d.safe self.old → d.safe self.new }
+        ensures within { let d = ⟦<Raw<S> as Seen>⟧ in d.safe self.old → d.safe self.new }
     {
         if size <= self.size {
             return Ok(());
@@ -523,32 +573,28 @@ impl<S: Storage> FormatDriverInstance for Raw<S> {
         if !self.writable {
             return Err(Fault::ReadOnly);
         }
-        match grow_storage(&mut self.storage, self.size, size, storage_mode(mode)) {
-            Ok(()) => {
-                self.size = size;
-                Ok(())
-            }
+        match self.grow_to(size, storage_mode(mode)) {
+            Ok(()) => Ok(()),
             Err(fault) => Err(fault),
         }
     }
 
     fn resize_shrink(&mut self, _alloc: Global, size: u64) -> Result<(), Fault>
-        ensures nothing { let d = ⟦<Raw<S> as FormatDriverInstance>⟧ in (d.layer self.old).size ≤ size → OnOk result (d.layer self.new ≡ d.layer self.old) }
-        ensures idle { let d = ⟦<Raw<S> as FormatDriverInstance>⟧ in (d.layer self.old).size ≤ size → barrier (d.layer self.old) ≡ None → IsOk result }
-        ensures ok { let d = ⟦<Raw<S> as FormatDriverInstance>⟧ in IsTrue (d.layer self.old).fixed.keeps → d.safe self.old → size < (d.layer self.old).size → OnOk result (Shrunk (d.layer self.old) (d.layer self.new) size) }
-        ensures err { let d = ⟦<Raw<S> as FormatDriverInstance>⟧ in IsTrue (d.layer self.old).fixed.keeps → d.safe self.old → IfErr result (λ e. IsMild e → NotShrunk (d.layer self.old) (d.layer self.new)) }
-        ensures barred { let d = ⟦<Raw<S> as FormatDriverInstance>⟧ in (f : Fault) → barrier (d.layer self.old) ≡ Some f → IsErrOf result f }
-        ensures read_only { let d = ⟦<Raw<S> as FormatDriverInstance>⟧ in barrier (d.layer self.old) ≡ None → size < (d.layer self.old).size → IsFalse (d.layer self.old).fixed.writable → IsErrOf result ReadOnly }
-        ensures unasked { let d = ⟦<Raw<S> as FormatDriverInstance>⟧ in ((d.layer self.old).size ≤ size) ⊎ (IsSome (barrier (d.layer self.old)) ⊎ IsFalse (d.layer self.old).fixed.writable) → Files.Unasked d.image d.extras self.old self.new }
-        ensures went { let d = ⟦<Raw<S> as FormatDriverInstance>⟧ in Went d.layer d.image d.extras d.safe d.lasts (IsOk result) (Files.IsWhole result) self.old self.new }
-        ensures free { let d = ⟦<Raw<S> as FormatDriverInstance>⟧ in IsFree (d.layer self.new) }
-        ensures stops { let d = ⟦<Raw<S> as FormatDriverInstance>⟧ in IsTrue (d.layer self.old).fixed.keeps → d.safe self.old → (below : List Layer) → IsBacked below (d.layer self.old) → KeepsStopsTo below (d.layer self.old) d.sound size (GivesBelowPast below size) (d.image self.old) (d.image self.new) }
-        ensures failed { let d = ⟦<Raw<S> as FormatDriverInstance>⟧ in IfErr result (ImageCause (d.image self.old ∷ d.extras self.old) (d.image self.new ∷ d.extras self.new)) }
-        ensures cause { let d = ⟦<Raw<S> as FormatDriverInstance>⟧ in d.safe self.old → (below : List Layer) → IfErr result (ShrinkCause below (d.layer self.old) size (d.own_cause self.old below (shrink size)) (d.image self.old ∷ d.extras self.old) (d.image self.new ∷ d.extras self.new)) }
+        ensures nothing { let d = ⟦<Raw<S> as Seen>⟧ in (d.layer self.old).size ≤ size → OnOk result (d.layer self.new ≡ d.layer self.old) }
+        ensures free { let d = ⟦<Raw<S> as Seen>⟧ in IsFree (d.layer self.new) }
+        ensures ok { let d = ⟦<Raw<S> as Seen>⟧ in d.safe self.old → size < (d.layer self.old).size → OnOk result (Shrunk (d.layer self.old) (d.layer self.new) size) }
+        ensures err { let d = ⟦<Raw<S> as Seen>⟧ in d.safe self.old → IfErr result (λ e. IsMild e → NotShrunk (d.layer self.old) (d.layer self.new)) }
+        ensures stops { let d = ⟦<Raw<S> as Seen>⟧ in d.safe self.old → (below : List Layer) → IsBacked below (d.layer self.old) → KeepsStopsTo d below size (GivesBelowPast below size) self.old self.new }
+        ensures at_once { let d = ⟦<Raw<S> as Seen>⟧ in AtOnce d (barrier (d.layer self.old)) ((d.layer self.old).size ≤ size) result self.old self.new }
+        ensures read_only { let d = ⟦<Raw<S> as Seen>⟧ in barrier (d.layer self.old) ≡ None → size < (d.layer self.old).size → IsFalse (d.layer self.old).fixed.writable → IsErrOf result ReadOnly × Unasked d self.old self.new }
+        ensures went { let d = ⟦<Raw<S> as Seen>⟧ in Went d (WasNotCutOff result) (WasNotCutOff result) self.old self.new }
+        ensures failed { let d = ⟦<Raw<S> as Seen>⟧ in IfErr result (Fails d self.old self.new) }
+        ensures marks { let d = ⟦<Raw<S> as Seen>⟧ in IfErr result (Marks d self.old self.new) }
+        ensures cause { let d = ⟦<Raw<S> as Seen>⟧ in d.safe self.old → (below : List Layer) → IfErr result (ShrinkCause below (d.layer self.old) size (d.own_cause self.old below (shrink size)) (files d self.old) (files d self.new)) }
         // The storage is then as long as the disk; refused, the disk has its size, and its storage is no shorter than it.
         ensures exact { size < self.old.size → OnOk result ((length (S.state self.new.storage).bytes ≡ size) × (self.new.size ≡ size)) }
         ensures refused { IfErr result (λ e. self.new.size ≡ self.old.size) }
-        ensures within { let d = ⟦<Raw<S> as FormatDriverInstance>⟧ in d.safe self.old → d.safe self.new }
+        ensures within { let d = ⟦<Raw<S> as Seen>⟧ in d.safe self.old → d.safe self.new }
     {
         if size >= self.size {
             return Ok(());
@@ -556,11 +602,8 @@ impl<S: Storage> FormatDriverInstance for Raw<S> {
         if !self.writable {
             return Err(Fault::ReadOnly);
         }
-        match self.storage.resize(size, StorageMode::None) {
-            Ok(()) => {
-                self.size = size;
-                Ok(())
-            }
+        match self.shrink_to(size) {
+            Ok(()) => Ok(()),
             Err(fault) => Err(fault),
         }
     }

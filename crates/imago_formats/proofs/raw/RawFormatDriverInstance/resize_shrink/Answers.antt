@@ -3,6 +3,6 @@ use Rattle.imago_formats.proofs.RawSteps.{shrunk_stops}
 use Rattle.imago_formats.proofs.raw.RawFormatDriverInstance.resize_shrink.Goals as goal
 
 pub returns-in-Ok-clause-stops : goal.returns-in-Ok-clause-stops
-returns-in-Ok-clause-stops g c = λ keeps safe below backed.
+returns-in-Ok-clause-stops g c = λ safe below backed.
     let r = c.args.self.now in
-    shrunk_stops below (g.S.Storage.state r.storage) (g.S.Storage.state c.resize.new.self) r.size c.args.size r.writable (GivesBelowPast below c.args.size) safe c.in-Ok.ensures.ok
+    shrunk_stops below (g.S.Storage.state r.storage) (g.S.Storage.state c.shrink_to.new.self.storage) r.size c.args.size r.writable (GivesBelowPast below c.args.size) safe.1 c.in-Ok.ensures.ok.0
