@@ -1,2 +1,3 @@
 pub mod PreparedRuns
 pub mod OwnCauses
+pub mod Declining

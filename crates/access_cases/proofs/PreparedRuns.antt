@@ -6,12 +6,12 @@ use Rattle.std.proofs.lemmas.Bool.Decides.{nat_tests}
 use Rattle.std.proofs.lemmas.List.{get_or-replicate, get_or_past}
 use Rattle.std.proofs.lemmas.Option.{cond_some}
 use Rattle.std.proofs.Math.ListN.{length-replicate}
-use Rattle.std.specs.Prelude.{◌&&◌, ◌⊎◌, if◌then◌else◌, ltb, leb, IsTrue}
+use Rattle.std.specs.Prelude.{[], ◌∷◌, length, slice_index, ◌&&◌, ◌⊎◌, if◌then◌else◌, ltb, leb, IsTrue}
 use Rattle.std.specs.Option.{unwrap_or}
 use Rattle.imago_storage.specs.Disk.{Value, byte}
-use Rattle.imago_access.specs.Layer.{Layer, own, loose, inside}
-use Rattle.imago_access.specs.Changes.{IsHolding, Prepared, Settles}
-use Rattle.access_cases.specs.Clusters.{home_in, held_in, blank_of, IsRunOf}
+use Rattle.imago_access.specs.Layer.{Layer, Cell, own, loose, inside}
+use Rattle.imago_access.specs.Changes.{IsHolding, asking, run_at, Prepared, Settles}
+use Rattle.access_cases.specs.Clusters.{cell_of, home_in, held_in, blank_of, IsRunOf}
 
 is_inside : (start n p : ℕ) → start ≤ p → p < start + n → (leb start p && ltb p (start + n)) ≡ true
 is_inside start n p ge lt = grind (arith, nat_tests)
@@ -35,7 +35,7 @@ run_holds below layer start n size p overwrite = from (leb start p && ltb p (sta
 pub run_prepared : (below : ℕ → Value) (old new : Layer) (start n size claim : ℕ) (overwrite : Bool) → 0 < n
     → new.fixed ≡ old.fixed → new.size ≡ old.size → new.cell ≡ old.cell → new.unspent ≡ Some claim
     → new.home ≡ home_in start (start + n) → new.held ≡ held_in start (start + n) overwrite (replicate size None)
-    → Prepared below old new start n overwrite 0 start n (Some claim)
+    → Prepared below old new (asking start n overwrite) (run_at 0 start n (Some claim))
 run_prepared below old new start n size claim overwrite some fixed same cell unspent home held = record {
   fixed = fixed;
   size = same;
@@ -76,3 +76,8 @@ home_kept size start end p writable at within opened is =
     let before : p < size = grind (arith, nat_tests) in
     let there : (leb 0 p && ltb p size) ≡ true = grind (arith, nat_tests) in
     rw opened (rw there (ap (λ (x : ℕ × ℕ). Some x) parts.1))
+
+-- the bytes of a cluster that is mapped are what its file means
+pub file_means : (blank : Cell) (bytes : List ℕ) (p : ℕ) → p < length bytes → cell_of blank bytes p ≡ own (byte (slice_index bytes p))
+file_means blank [] p lt = absurd (omega (arith, lt))
+file_means blank (first ∷ bytes) p lt = refl

@@ -13,16 +13,20 @@ abbrev pub blank_of : Bool → Cell
 blank_of true = unmapped
 blank_of false = own (byte 0)
 
--- The image as a file: nothing, a mark of 0 where no place can be read, or another mark and the bytes of the cluster.
+-- The image as a file: nothing, or the bytes of the cluster.
 abbrev pub cell_of : Cell → List ℕ → ℕ → Cell
 cell_of blank [] p = blank
-cell_of blank (zero ∷ bytes) p = own barred
-cell_of blank (suc mark ∷ bytes) p = own (byte (slice_index bytes p))
+cell_of blank (first ∷ bytes) p = own (byte (slice_index (first ∷ bytes) p))
+
+-- an image that states the same of each place has no bytes
+abbrev pub stated_cell : Option Cell → Cell → List ℕ → ℕ → Cell
+stated_cell None blank bytes p = cell_of blank bytes p
+stated_cell (Some cell) blank bytes p = cell
 
 -- what never changes of it: its size in bytes, its number, whether it was opened for writing, whether it lets writes through, whether it
--- shows layers below, and whether a file is missing
-abbrev pub cluster_fixed : ℕ → ℕ → Bool → Bool → Bool → Bool → Fixed
-cluster_fixed size number writable through backed missing = record {
+-- shows layers below, whether a file is missing, and what it states of each place, if it does
+abbrev pub cluster_fixed : ℕ → ℕ → Bool → Bool → Bool → Bool → Option Cell → Fixed
+cluster_fixed size number writable through backed missing stated = record {
   format = format.Qcow2;
   writable = writable;
   lets_through = writable && through;
@@ -34,8 +38,10 @@ cluster_fixed size number writable through backed missing = record {
   mem_align = 1;
   granularity = None;
   kind = 0;
-  means = λ f. record { size = size; cell = cell_of (blank_of backed) f };
+  means = λ f. record { size = size; cell = stated_cell stated (blank_of backed) f };
   exact = false;
+  marks = true;
+  states_room = false;
   unit = 1;
 }
 

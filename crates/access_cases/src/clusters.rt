@@ -3,26 +3,28 @@
 ghost use Rattle.std.specs.Prelude.{◌≡◌, ◌⊎◌, ◌+◌, ◌≤◌, ◌<◌, ◌∷◌, [], ⊤, refl, ℕ, List, Option, length, slice_index, slice_index_or, map, replicate, OnOk, IfOk, IfErr, IfSome, IsSome, IsTrue, IsOk, IsErr, IsErrOf, MatchResult, None, Some, true, false, if◌then◌else◌};
 ghost use Rattle.std.specs.Option.{unwrap_or};
 ghost use Rattle.std.proofs.Common.{inl, inr, arith};
+ghost use Rattle.std.proofs.Math.Nat.{le_refl};
+ghost use Rattle.imago_formats.specs.RawHome.{never};
 ghost use Rattle.imago_storage.specs.State.{StorageState, IsAlignment};
-ghost use Rattle.imago_storage.specs.Disk.{byte};
+ghost use Rattle.imago_storage.specs.Disk.{byte, barred};
 ghost use Rattle.imago_storage.specs.Steps.{Call, IsOut};
 ghost use Rattle.imago_storage.specs.declared.fault.Fault.{Fault};
 ghost use Rattle.imago_storage.specs.declared.fault.Fault.TheVariants.{Foreign, Unsupported};
 ghost use Rattle.imago_access.specs.Layer.{Layer, own, unmapped, Held, loose, IsFree};
 ghost use Rattle.imago_access.specs.Room.{Takes};
 ghost use Rattle.imago_access.specs.Changes.{Committed, Cancelled};
-ghost use Rattle.imago_access.specs.Files.{IsMild, ImageCause, Unasked};
-ghost use Rattle.imago_access.specs.Going.{Went};
-ghost use Rattle.imago_access.specs.Spending.{commit_refusal, IsMine, Spends, GivenBack, IsForeignTo};
+ghost use Rattle.imago_access.specs.Files.{IsMild, WasNotCutOff, ImageCause, Unasked, files};
+ghost use Rattle.imago_access.specs.Going.{IsUnchanged, Went};
+ghost use Rattle.imago_access.specs.Spending.{commit_refusal, IsMine, Spends, IsSpending, GivenBack, IsForeignTo};
 ghost use Rattle.imago_access.specs.Stops.{KeepsStops, GivesSettled};
 ghost use Rattle.imago_access.specs.Refusals.{barrier, change_refusal};
 ghost use Rattle.imago_access.specs.Parts.{PartCause, DeclinableCause};
-ghost use Rattle.access_cases.specs.Clusters.{cell_of, blank_of, cluster_fixed, cluster_file, home_in, held_in, cluster_cause, IsRunOf, one_home};
+ghost use Rattle.access_cases.specs.Clusters.{blank_of, cluster_fixed, cluster_file, home_in, held_in, cluster_cause, IsRunOf, one_home};
 ghost use Rattle.access_cases.specs.declared.clusters.Content.TheVariants as content;
 
 use imago_access::{
-    Format, FormatDriverInstance, PreallocateMode, PreparedDataMapping, ReadBelow, ShallowMapping,
-    check_commit, check_range,
+    Format, FormatDriverInstance, PreallocateMode, PreparedDataMapping, ReadBelow, Seen,
+    ShallowMapping, check_commit, check_range,
 };
 use imago_storage::Fault;
 use std::alloc::{AllocError, Global};
@@ -135,9 +137,9 @@ fn copy_out(bytes: &[u8], at: u64, buf: &mut [u8])
 impl OneCluster {
     // An image of so many bytes of 0, opened for writing. Nothing of it is mapped.
     pub fn new(size: u64, number: u64) -> Self
-        ensures free { IsFree (⟦<OneCluster as FormatDriverInstance>⟧.layer result) }
-        ensures safe { ⟦<OneCluster as FormatDriverInstance>⟧.safe result }
-        ensures sees { ⟦<OneCluster as FormatDriverInstance>⟧.sees result }
+        ensures free { IsFree (⟦<OneCluster as Seen>⟧.layer result) }
+        ensures safe { ⟦<OneCluster as Seen>⟧.safe result }
+        ensures sees { ⟦<OneCluster as Seen>⟧.sees result }
     {
         OneCluster {
             size,
@@ -157,14 +159,14 @@ impl OneCluster {
 
     // Why a change of a range is refused before anything is done.
     fn check(&self, offset: u64, length: u64) -> Result<(), Fault>
-        ensures ok { OnOk result (change_refusal 1 (⟦<OneCluster as FormatDriverInstance>⟧.layer self.now) offset length ≡ None) }
+        ensures ok { OnOk result (change_refusal 1 (⟦<OneCluster as Seen>⟧.layer self.now) offset length ≡ None) }
         ensures writing { 0 < length → OnOk result (IsTrue self.now.writable) }
         ensures inside { 0 < length → OnOk result (offset + length ≤ self.now.size) }
         ensures runs { OnOk result (self.now.failed ≡ false) }
-        ensures err { IfErr result (λ e. change_refusal 1 (⟦<OneCluster as FormatDriverInstance>⟧.layer self.now) offset length ≡ Some e) }
+        ensures err { IfErr result (λ e. change_refusal 1 (⟦<OneCluster as Seen>⟧.layer self.now) offset length ≡ Some e) }
         ensures mild { IfErr result IsMild }
         ensures failed { (olds news : List StorageState) → IfErr result (ImageCause olds news) }
-        ensures cause { (below : List Layer) (olds news : List StorageState) → IfErr result (PartCause below (⟦<OneCluster as FormatDriverInstance>⟧.layer self.now) offset length cluster_cause olds news) }
+        ensures cause { (below : List Layer) (olds news : List StorageState) → IfErr result (PartCause below (⟦<OneCluster as Seen>⟧.layer self.now) offset length cluster_cause olds news) }
     {
         self.ready()?;
         check_range(self.writable, 1, self.size, offset, length)
@@ -173,11 +175,11 @@ impl OneCluster {
     // The part of a range that it zeroes or discards by itself: none.
     fn change(&self, offset: u64, length: u64) -> Result<(u64, u64), Fault>
         ensures ok { IfOk result (λ r. (r ≡ (offset, 0)) × (length ≡ 0)) }
-        ensures at_once { (f : Fault) → change_refusal 1 (⟦<OneCluster as FormatDriverInstance>⟧.layer self.now) offset length ≡ Some f → IsErrOf result f }
-        ensures idle { length ≡ 0 → barrier (⟦<OneCluster as FormatDriverInstance>⟧.layer self.now) ≡ None → IsOk result }
+        ensures at_once { (f : Fault) → change_refusal 1 (⟦<OneCluster as Seen>⟧.layer self.now) offset length ≡ Some f → IsErrOf result f }
+        ensures idle { length ≡ 0 → barrier (⟦<OneCluster as Seen>⟧.layer self.now) ≡ None → IsOk result }
         ensures mild { IfErr result IsMild }
-        ensures failed { let d = ⟦<OneCluster as FormatDriverInstance>⟧ in IfErr result (ImageCause (d.image self.now ∷ []) (d.image self.now ∷ [])) }
-        ensures cause { let d = ⟦<OneCluster as FormatDriverInstance>⟧ in (below : List Layer) → IfErr result (DeclinableCause below (d.layer self.now) offset length cluster_cause (d.image self.now ∷ []) (d.image self.now ∷ [])) }
+        ensures failed { let d = ⟦<OneCluster as Seen>⟧ in IfErr result (ImageCause (d.image self.now ∷ []) (d.image self.now ∷ [])) }
+        ensures cause { let d = ⟦<OneCluster as Seen>⟧ in (below : List Layer) → IfErr result (DeclinableCause below (d.layer self.now) offset length cluster_cause (d.image self.now ∷ []) (d.image self.now ∷ [])) }
     {
         match self.check(offset, length) {
             Ok(()) => {}
@@ -191,11 +193,11 @@ impl OneCluster {
 
     // Whether a mapping that is handed in to be committed is taken.
     fn check_commit(&self, mapping: PreparedCluster) -> Result<(), Fault>
-        ensures ok { let d = ⟦<OneCluster as FormatDriverInstance>⟧ in OnOk result (commit_refusal d.tag (Some mapping) (d.layer self.now) ≡ None) }
+        ensures ok { let d = ⟦<OneCluster as Seen>⟧ in OnOk result (commit_refusal d (Some mapping) (d.layer self.now) ≡ None) }
         ensures own { OnOk result (mapping.image ≡ self.now.number) }
         ensures writing { OnOk result (IsTrue self.now.writable) }
-        ensures err { let d = ⟦<OneCluster as FormatDriverInstance>⟧ in IfErr result (λ e. commit_refusal d.tag (Some mapping) (d.layer self.now) ≡ Some e) }
-        ensures back { let d = ⟦<OneCluster as FormatDriverInstance>⟧ in IfErr result (GivenBack d.tag (Some mapping) (d.layer self.now)) }
+        ensures err { let d = ⟦<OneCluster as Seen>⟧ in IfErr result (λ e. commit_refusal d (Some mapping) (d.layer self.now) ≡ Some e) }
+        ensures back { let d = ⟦<OneCluster as Seen>⟧ in IfErr result (GivenBack d.tag (Some mapping) (d.layer self.now)) }
         ensures failed { (olds news : List StorageState) → IfErr result (ImageCause olds news) }
     {
         check_commit(self.ready(), self.writable, self.number, mapping.image)
@@ -204,11 +206,11 @@ impl OneCluster {
     // Makes the run that is prepared part of the disk, if it is the mapping's: all other places are 0.
     fn settle(&mut self, alloc: Global, mapping: PreparedCluster) -> Result<(), Fault>
         requires { IsTrue self.old.writable }
-        ensures ok { let d = ⟦<OneCluster as FormatDriverInstance>⟧ in OnOk result ((d.layer self.old).unspent ≡ Some mapping.claim → IsFree (d.layer self.new) × (d.safe self.old → Committed (d.layer self.old) (d.layer self.new))) }
-        ensures went { let d = ⟦<OneCluster as FormatDriverInstance>⟧ in Went d.layer d.image d.extras d.safe d.lasts (IsOk result) (IsOk result × ((d.layer self.old).unspent ≡ Some mapping.claim)) self.old self.new }
-        ensures failing { let d = ⟦<OneCluster as FormatDriverInstance>⟧ in IfErr result (λ e. IsTrue self.new.failed × IsFree (d.layer self.new) × (IsMild e → ⊥)) }
+        ensures ok { let d = ⟦<OneCluster as Seen>⟧ in OnOk result ((d.layer self.old).unspent ≡ Some mapping.claim → IsFree (d.layer self.new) × (d.safe self.old → Committed (d.layer self.old) (d.layer self.new))) }
+        ensures went { let d = ⟦<OneCluster as Seen>⟧ in Went d (WasNotCutOff result) (IsOk result × ((d.layer self.old).unspent ≡ Some mapping.claim)) self.old self.new }
+        ensures failing { let d = ⟦<OneCluster as Seen>⟧ in IfErr result (λ e. IsTrue self.new.failed × IsFree (d.layer self.new) × IsSpending e × (IsMild e → ⊥)) }
         ensures size { self.new.size ≡ self.old.size }
-        ensures failed { let d = ⟦<OneCluster as FormatDriverInstance>⟧ in IfErr result (ImageCause (d.image self.old ∷ []) (d.image self.new ∷ [])) }
+        ensures failed { let d = ⟦<OneCluster as Seen>⟧ in IfErr result (ImageCause (d.image self.old ∷ []) (d.image self.new ∷ [])) }
     {
         let bytes = match &self.content {
             Content::Prepared(run) if run.claim == mapping.claim => { settled(alloc, &run.written) }
@@ -234,26 +236,22 @@ impl OneCluster {
     }
 }
 
-impl FormatDriverInstance for OneCluster {
-    type Storage = ();
-
+impl Seen for OneCluster {
     type State = PreparedCluster;
 
     ghost layer = { λ d. record {
-      fixed = cluster_fixed d.size d.number d.writable d.through d.backed d.missing;
+      fixed = cluster_fixed d.size d.number d.writable d.through d.backed d.missing (elim d.content [ content.Unmapped ↦ None | content.Zeroed ↦ Some (own (byte 0)) | content.Barred ↦ Some (own barred) | content.Prepared r ↦ None | content.Mapped v ↦ None ]);
       size = d.size;
       failed = d.failed;
-      cell = cell_of (blank_of d.backed) (elim d.content [ content.Unmapped ↦ [] | content.Zeroed ↦ 1 ∷ [] | content.Barred ↦ 0 ∷ [] | content.Prepared r ↦ [] | content.Mapped v ↦ 1 ∷ v.items ]);
+      cell = elim d.content [ content.Unmapped ↦ λ p. blank_of d.backed | content.Zeroed ↦ λ p. own (byte 0) | content.Barred ↦ λ p. own barred | content.Prepared r ↦ λ p. blank_of d.backed | content.Mapped v ↦ λ p. own (byte (slice_index v.items p)) ];
       home = elim d.content [ content.Unmapped ↦ λ p. None | content.Zeroed ↦ λ p. None | content.Barred ↦ λ p. None | content.Prepared r ↦ home_in r.start r.end | content.Mapped v ↦ home_in 0 (if d.writable then d.size else 0) ];
       held = elim d.content [ content.Unmapped ↦ λ p. loose | content.Zeroed ↦ λ p. loose | content.Barred ↦ λ p. loose | content.Prepared r ↦ held_in r.start r.end r.overwrite r.written.items | content.Mapped v ↦ λ p. loose ];
       unspent = elim d.content [ content.Unmapped ↦ None | content.Zeroed ↦ None | content.Barred ↦ None | content.Prepared r ↦ Some r.claim | content.Mapped v ↦ None ];
     } };
 
-    ghost image = { λ d. cluster_file (elim d.content [ content.Unmapped ↦ [] | content.Zeroed ↦ 1 ∷ [] | content.Barred ↦ 0 ∷ [] | content.Prepared r ↦ [] | content.Mapped v ↦ 1 ∷ v.items ]) d.faults };
+    ghost image = { λ d. cluster_file (elim d.content [ content.Unmapped ↦ [] | content.Zeroed ↦ [] | content.Barred ↦ [] | content.Prepared r ↦ [] | content.Mapped v ↦ v.items ]) d.faults };
 
     ghost extras = { λ _. [] };
-
-    ghost stored = { λ d n p. elim d.content [ content.Unmapped ↦ 0 | content.Zeroed ↦ 0 | content.Barred ↦ 0 | content.Prepared r ↦ 0 | content.Mapped v ↦ slice_index v.items p ] };
 
     ghost sees = { λ _. ⊤ };
 
@@ -280,14 +278,28 @@ impl FormatDriverInstance for OneCluster {
     ghost own_cause = { λ d below call. cluster_cause };
 
     ghost growth_cause = { λ d below size mode fault. fault ≡ Unsupported };
+}
+
+impl FormatDriverInstance for OneCluster {
+    type Storage = ();
 
     ghost safe_sees = { λ d safe. tt };
 
     ghost safe_runs = { λ d safe. safe.0 };
 
+    ghost safe_keeps = { λ d safe. refl };
+
+    ghost safe_sound = { λ d safe. record { is_sound = tt; size = le_refl d.size } };
+
+    ghost one_home = { λ d p q at safe. elim d.content as (λ c. ◌≡◌ {A = Option (ℕ × ℕ)} ((elim c as (λ x. ℕ → Option (ℕ × ℕ)) [ content.Unmapped ↦ λ p. None | content.Zeroed ↦ λ p. None | content.Barred ↦ λ p. None | content.Prepared r ↦ home_in r.start r.end | content.Mapped v ↦ home_in 0 (if d.writable then d.size else 0) ]) p) (Some at) → ◌≡◌ {A = Option (ℕ × ℕ)} ((elim c as (λ x. ℕ → Option (ℕ × ℕ)) [ content.Unmapped ↦ λ p. None | content.Zeroed ↦ λ p. None | content.Barred ↦ λ p. None | content.Prepared r ↦ home_in r.start r.end | content.Mapped v ↦ home_in 0 (if d.writable then d.size else 0) ]) q) (Some at) → p ≡ q) [ content.Unmapped ↦ λ first second. absurd (Prim.cc first) | content.Zeroed ↦ λ first second. absurd (Prim.cc first) | content.Barred ↦ λ first second. absurd (Prim.cc first) | content.Prepared r ↦ one_home r.start r.end p q at | content.Mapped v ↦ one_home 0 (if d.writable then d.size else 0) p q at ] };
+
     ghost blanks = { λ d. elim d.backed as (λ b. (blank_of b ≡ unmapped) ⊎ (blank_of b ≡ own (byte 0))) [ true ↦ inl refl | false ↦ inr refl ] };
 
-    ghost safe_sound = { λ d safe. record { is_sound = tt; size = Prim.omega arith } };
+    ghost aligned = { λ d. let one : IsAlignment 1 = record { positive = Prim.omega arith; small = Prim.omega arith; divides = refl } in (one, one) };
+
+    ghost alignments = { λ d. record { requests = refl; memory = refl; zeroing = inl refl } };
+
+    ghost units = { λ d. le_refl 1 };
 
     ghost begins = { λ d call. tt };
 
@@ -295,9 +307,7 @@ impl FormatDriverInstance for OneCluster {
 
     ghost bare = { λ d p free has. has };
 
-    ghost one_home = { λ d p q at safe. elim d.content as (λ c. ◌≡◌ {A = Option (ℕ × ℕ)} ((elim c as (λ x. ℕ → Option (ℕ × ℕ)) [ content.Unmapped ↦ λ p. None | content.Zeroed ↦ λ p. None | content.Barred ↦ λ p. None | content.Prepared r ↦ home_in r.start r.end | content.Mapped v ↦ home_in 0 (if d.writable then d.size else 0) ]) p) (Some at) → ◌≡◌ {A = Option (ℕ × ℕ)} ((elim c as (λ x. ℕ → Option (ℕ × ℕ)) [ content.Unmapped ↦ λ p. None | content.Zeroed ↦ λ p. None | content.Barred ↦ λ p. None | content.Prepared r ↦ home_in r.start r.end | content.Mapped v ↦ home_in 0 (if d.writable then d.size else 0) ]) q) (Some at) → p ≡ q) [ content.Unmapped ↦ λ first second. absurd (Prim.cc first) | content.Zeroed ↦ λ first second. absurd (Prim.cc first) | content.Barred ↦ λ first second. absurd (Prim.cc first) | content.Prepared r ↦ one_home r.start r.end p q at | content.Mapped v ↦ one_home 0 (if d.writable then d.size else 0) p q at ] };
-
-    ghost aligned = { λ d. let one : IsAlignment 1 = record { positive = Prim.omega arith; small = Prim.omega arith; divides = refl } in (one, one) };
+    ghost roomless = { λ d p free states given. never states };
 
     fn format(&self) -> Format {
         Format::Qcow2
@@ -368,13 +378,13 @@ impl FormatDriverInstance for OneCluster {
     fn read_mapped(
         &mut self,
         _alloc: Global,
-        _storage: usize,
+        storage: usize,
         place: u64,
         buf: &mut [u8],
     ) -> Result<(), Fault> {
         self.ready()?;
         match &self.content {
-            Content::Mapped(bytes) => copy_out(bytes, place, buf),
+            Content::Mapped(bytes) if storage == 0 => copy_out(bytes, place, buf),
             _ => buf.fill(0),
         }
         Ok(())
@@ -435,18 +445,18 @@ impl FormatDriverInstance for OneCluster {
         alloc: Global,
         mapping: PreparedDataMapping<PreparedCluster>,
     ) -> Result<(), (Fault, Option<PreparedDataMapping<PreparedCluster>>)>
-        ensures ok { let d = ⟦<OneCluster as FormatDriverInstance>⟧ in OnOk result (Spends d.claim d.tag mapping.state (d.layer self.old) (d.layer self.new) (IsFree (d.layer self.new) × (IsTrue (d.layer self.old).fixed.keeps → d.safe self.old → Committed (d.layer self.old) (d.layer self.new)))) }
-        ensures went { let d = ⟦<OneCluster as FormatDriverInstance>⟧ in Went d.layer d.image d.extras d.safe d.lasts (IsOk result) (IsOk result × IsMine d.claim d.tag mapping.state (d.layer self.old)) self.old self.new }
-        ensures at_once { let d = ⟦<OneCluster as FormatDriverInstance>⟧ in (f : Fault) → commit_refusal d.tag mapping.state (d.layer self.old) ≡ Some f → MatchResult result (λ _. ⊥) (λ e. (e.0 ≡ f) × IsSome e.1) }
-        ensures unasked { let d = ⟦<OneCluster as FormatDriverInstance>⟧ in (mapping.state ≡ None) ⊎ IsSome (commit_refusal d.tag mapping.state (d.layer self.old)) → Unasked d.image d.extras self.old self.new }
-        ensures back { let d = ⟦<OneCluster as FormatDriverInstance>⟧ in IfErr result (λ e. IfSome e.1 (λ m. (m ≡ mapping) × (d.layer self.new ≡ d.layer self.old) × GivenBack d.tag mapping.state (d.layer self.old) e.0 × (d.safe self.old → d.safe self.new) × (d.sees self.old → d.sees self.new) × (d.still self.old → d.still self.new))) }
-        ensures spent { let d = ⟦<OneCluster as FormatDriverInstance>⟧ in IfErr result (λ e. e.1 ≡ None → IsSome mapping.state × IsTrue (d.layer self.new).failed × Spends d.claim d.tag mapping.state (d.layer self.old) (d.layer self.new) (IsFree (d.layer self.new) × (d.safe self.old → IsMild e.0 → ⊥))) }
-        ensures size { let d = ⟦<OneCluster as FormatDriverInstance>⟧ in (d.layer self.new).size ≡ (d.layer self.old).size }
-        ensures room { let d = ⟦<OneCluster as FormatDriverInstance>⟧ in IsTrue (d.layer self.old).fixed.keeps → d.safe self.old → IsMine d.claim d.tag mapping.state (d.layer self.old) → OnOk result (Takes d.vacant d.has_room d.zeroed (λ p. (d.layer self.old).held p ≡ loose) self.old self.new) }
-        ensures back_room { let d = ⟦<OneCluster as FormatDriverInstance>⟧ in IsTrue (d.layer self.old).fixed.keeps → d.safe self.old → IfErr result (λ e. IfSome e.1 (λ m. Takes d.vacant d.has_room d.zeroed (λ _. ⊤) self.old self.new)) }
-        ensures began { let d = ⟦<OneCluster as FormatDriverInstance>⟧ in (e : _) (call : Call) → d.began e call self.old → IsMine d.claim d.tag mapping.state (d.layer self.old) → OnOk result (d.began e call self.new) }
-        ensures stops { let d = ⟦<OneCluster as FormatDriverInstance>⟧ in IsTrue (d.layer self.old).fixed.keeps → d.safe self.old → IsMine d.claim d.tag mapping.state (d.layer self.old) → (below : List Layer) → KeepsStops below (d.layer self.old) d.sound (GivesSettled below (d.layer self.old)) (d.image self.old) (d.image self.new) }
-        ensures failed { let d = ⟦<OneCluster as FormatDriverInstance>⟧ in IfErr result (λ e. ImageCause (d.image self.old ∷ d.extras self.old) (d.image self.new ∷ d.extras self.new) e.0) }
+        ensures ok { let d = ⟦<OneCluster as Seen>⟧ in OnOk result (Spends d mapping.state (d.layer self.old) (d.layer self.new) (IsFree (d.layer self.new) × (d.safe self.old → Committed (d.layer self.old) (d.layer self.new)))) }
+        ensures size { let d = ⟦<OneCluster as Seen>⟧ in (d.layer self.new).size ≡ (d.layer self.old).size }
+        ensures room { let d = ⟦<OneCluster as Seen>⟧ in d.safe self.old → IsMine d mapping.state (d.layer self.old) → OnOk result (Takes d (λ p. (d.layer self.old).held p ≡ loose) self.old self.new) }
+        ensures stops { let d = ⟦<OneCluster as Seen>⟧ in d.safe self.old → IsMine d mapping.state (d.layer self.old) → (below : List Layer) → KeepsStops d below (GivesSettled below (d.layer self.old)) self.old self.new }
+        ensures at_once { let d = ⟦<OneCluster as Seen>⟧ in (f : Fault) → commit_refusal d mapping.state (d.layer self.old) ≡ Some f → MatchResult result (λ _. ⊥) (λ e. (e.0 ≡ f) × IsSome e.1) }
+        ensures unasked { let d = ⟦<OneCluster as Seen>⟧ in (mapping.state ≡ None) ⊎ IsSome (commit_refusal d mapping.state (d.layer self.old)) → Unasked d self.old self.new }
+        ensures back { let d = ⟦<OneCluster as Seen>⟧ in IfErr result (λ e. IfSome e.1 (λ m. (m ≡ mapping) × GivenBack d.tag mapping.state (d.layer self.old) e.0 × IsUnchanged d self.old self.new)) }
+        ensures spent { let d = ⟦<OneCluster as Seen>⟧ in IfErr result (λ e. e.1 ≡ None → IsSome mapping.state × IsTrue (d.layer self.new).failed × IsSpending e.0 × Spends d mapping.state (d.layer self.old) (d.layer self.new) (IsFree (d.layer self.new) × (d.safe self.old → IsMild e.0 → ⊥))) }
+        ensures went { let d = ⟦<OneCluster as Seen>⟧ in Went d (MatchResult result (λ _. ⊤) (λ e. IsMild e.0)) (IsOk result × IsMine d mapping.state (d.layer self.old)) self.old self.new }
+        ensures sees { let d = ⟦<OneCluster as Seen>⟧ in mapping.state ≡ None → d.sees self.old → d.sees self.new }
+        ensures began { let d = ⟦<OneCluster as Seen>⟧ in (e : _) (call : Call) → d.began e call self.old → IsMine d mapping.state (d.layer self.old) → OnOk result (d.began e call self.new) }
+        ensures failed { let d = ⟦<OneCluster as Seen>⟧ in IfErr result (λ e. ImageCause (files d self.old) (files d self.new) e.0) }
     {
         let (storage, place, length) = (mapping.storage(), mapping.offset(), mapping.length());
         match mapping.into_state() {
@@ -474,15 +484,15 @@ impl FormatDriverInstance for OneCluster {
         &mut self,
         mapping: PreparedDataMapping<PreparedCluster>,
     ) -> Result<(), (Fault, PreparedDataMapping<PreparedCluster>)>
-        ensures ok { let d = ⟦<OneCluster as FormatDriverInstance>⟧ in OnOk result (Spends d.claim d.tag mapping.state (d.layer self.old) (d.layer self.new) (Cancelled (d.layer self.old) (d.layer self.new))) }
-        ensures safe { let d = ⟦<OneCluster as FormatDriverInstance>⟧ in IsMine d.claim d.tag mapping.state (d.layer self.old) → d.safe self.old → d.safe self.new }
-        ensures room { let d = ⟦<OneCluster as FormatDriverInstance>⟧ in IsTrue (d.layer self.old).fixed.keeps → d.safe self.old → IsMine d.claim d.tag mapping.state (d.layer self.old) → Takes d.vacant d.has_room d.zeroed (λ _. ⊤) self.old self.new }
-        ensures lasts { let d = ⟦<OneCluster as FormatDriverInstance>⟧ in d.lasts self.old → d.lasts self.new }
-        ensures back { let d = ⟦<OneCluster as FormatDriverInstance>⟧ in IfErr result (λ e. (e.1 ≡ mapping) × (e.0 ≡ Foreign) × (d.layer self.new ≡ d.layer self.old) × IsForeignTo d.tag mapping.state (d.layer self.old) × (d.safe self.old → d.safe self.new) × (d.sees self.old → d.sees self.new) × (d.still self.old → d.still self.new)) }
-        ensures back_room { let d = ⟦<OneCluster as FormatDriverInstance>⟧ in IsTrue (d.layer self.old).fixed.keeps → d.safe self.old → IsErr result → Takes d.vacant d.has_room d.zeroed (λ _. ⊤) self.old self.new }
-        ensures fixed { let d = ⟦<OneCluster as FormatDriverInstance>⟧ in ((d.layer self.new).fixed ≡ (d.layer self.old).fixed) × ((d.layer self.new).size ≡ (d.layer self.old).size) × ((d.layer self.new).failed ≡ (d.layer self.old).failed) }
-        ensures began { let d = ⟦<OneCluster as FormatDriverInstance>⟧ in (e : _) (call : Call) → d.began e call self.old → d.began e call self.new }
-        ensures none { let d = ⟦<OneCluster as FormatDriverInstance>⟧ in (d.image self.new ≡ d.image self.old) × (d.extras self.new ≡ d.extras self.old) }
+        ensures ok { let d = ⟦<OneCluster as Seen>⟧ in OnOk result (Spends d mapping.state (d.layer self.old) (d.layer self.new) (Cancelled (d.layer self.old) (d.layer self.new))) }
+        ensures back { let d = ⟦<OneCluster as Seen>⟧ in IfErr result (λ e. (e.1 ≡ mapping) × (e.0 ≡ Foreign) × IsForeignTo d.tag mapping.state (d.layer self.old) × IsUnchanged d self.old self.new) }
+        ensures fixed { let d = ⟦<OneCluster as Seen>⟧ in ((d.layer self.new).fixed ≡ (d.layer self.old).fixed) × ((d.layer self.new).size ≡ (d.layer self.old).size) × ((d.layer self.new).failed ≡ (d.layer self.old).failed) }
+        ensures none { let d = ⟦<OneCluster as Seen>⟧ in Unasked d self.old self.new }
+        ensures lasts { let d = ⟦<OneCluster as Seen>⟧ in d.lasts self.old → d.lasts self.new }
+        ensures sees { let d = ⟦<OneCluster as Seen>⟧ in d.sees self.old → d.sees self.new }
+        ensures safe { let d = ⟦<OneCluster as Seen>⟧ in IsMine d mapping.state (d.layer self.old) → d.safe self.old → d.safe self.new }
+        ensures room { let d = ⟦<OneCluster as Seen>⟧ in d.safe self.old → IsMine d mapping.state (d.layer self.old) → Takes d (λ _. ⊤) self.old self.new }
+        ensures began { let d = ⟦<OneCluster as Seen>⟧ in (e : _) (call : Call) → d.began e call self.old → d.began e call self.new }
     {
         let (storage, place, length) = (mapping.storage(), mapping.offset(), mapping.length());
         match mapping.into_state() {

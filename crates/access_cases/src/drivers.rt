@@ -1,7 +1,8 @@
 // The driver of a chain of cases: raw images, and images of words.
-ghost use Rattle.std.specs.Prelude.{◌≡◌, ◌⊎◌, ◌≤◌, ◌∷◌, [], ⊤, refl, ℕ, List, Option, length, slice_index, OnOk, IfOk, IfErr, IfSome, IsSome, IsTrue, IsOk, IsErr, MatchResult, None, Some, true, false, if◌then◌else◌};
+ghost use Rattle.std.specs.Prelude.{◌≡◌, ◌⊎◌, ◌≤◌, [], ⊤, refl, ℕ, List, Option, length, OnOk, IfOk, IfErr, IfSome, IsSome, IsTrue, IsOk, MatchResult, None, Some, true, false, if◌then◌else◌};
 ghost use Rattle.std.proofs.Common.{inl, inr, arith};
 ghost use Rattle.imago_storage.specs.State.{IsAlignment};
+ghost use Rattle.std.proofs.Math.Nat.{le_refl};
 ghost use Rattle.imago_storage.specs.Disk.{byte};
 ghost use Rattle.imago_storage.specs.Steps.{Call};
 ghost use Rattle.imago_storage.specs.declared.fault.Fault.{Fault};
@@ -9,9 +10,10 @@ ghost use Rattle.imago_storage.specs.declared.fault.Fault.TheVariants.{Foreign, 
 ghost use Rattle.imago_access.specs.Layer.{Layer, own, unmapped, Held, loose, IsFree};
 ghost use Rattle.imago_access.specs.Room.{Takes};
 ghost use Rattle.imago_access.specs.Changes.{Committed, Cancelled};
-ghost use Rattle.imago_access.specs.Files.{IsMild, ImageCause, Unasked};
-ghost use Rattle.imago_access.specs.Going.{Went};
-ghost use Rattle.imago_access.specs.Spending.{commit_refusal, IsMine, Spends, GivenBack, IsForeignTo};
+ghost use Rattle.imago_access.specs.Failing.{Fails};
+ghost use Rattle.imago_access.specs.Files.{IsMild, Unasked};
+ghost use Rattle.imago_access.specs.Going.{IsUnchanged, Went};
+ghost use Rattle.imago_access.specs.Spending.{commit_refusal, IsMine, Spends, IsSpending, GivenBack, IsForeignTo};
 ghost use Rattle.imago_access.specs.Stops.{KeepsStops, GivesSettled};
 ghost use Rattle.imago_formats.specs.RawLayer.{raw_layer};
 ghost use Rattle.imago_formats.specs.RawHome as raw_home;
@@ -22,8 +24,8 @@ ghost use Rattle.access_cases.specs.declared.drivers.Driver.TheVariants as drive
 
 use crate::clusters::{OneCluster, PreparedCluster};
 use imago_access::{
-    Format, FormatDriverInstance, PreallocateMode, PreparedDataMapping, ReadBelow, ShallowMapping,
-    check_commit,
+    Format, FormatDriverInstance, PreallocateMode, PreparedDataMapping, ReadBelow, Seen,
+    ShallowMapping, check_commit,
 };
 use imago_formats::{NoState, Raw};
 use imago_storage::{Fault, Storage};
@@ -52,7 +54,7 @@ fn stateless(mapping: PreparedDataMapping<NoState>) -> PreparedDataMapping<Prepa
 impl<S: Storage> Driver<S> {
     /// Whether it can stand over another layer.
     pub fn shows_below(&self) -> bool
-        ensures { IsTrue result → (⟦<Driver<S> as FormatDriverInstance>⟧.layer self.now).fixed.blank ≡ unmapped }
+        ensures { IsTrue result → (⟦<Driver<S> as Seen>⟧.layer self.now).fixed.blank ≡ unmapped }
     {
         match self {
             Driver::Raw(_) => false,
@@ -70,22 +72,18 @@ impl<S: Storage> Display for Driver<S> {
     }
 }
 
-impl<S: Storage> FormatDriverInstance for Driver<S> {
-    type Storage = S;
-
+impl<S: Storage> Seen for Driver<S> {
     type State = PreparedCluster;
 
-    ghost layer = { elim [ driver.Raw r ↦ raw_layer (S.state r.storage) r.size r.writable | driver.Words w ↦ ⟦<OneCluster as FormatDriverInstance>⟧.layer w ] };
+    ghost layer = { elim [ driver.Raw r ↦ ⟦<Raw<S> as Seen>⟧.layer r | driver.Words w ↦ ⟦<OneCluster as Seen>⟧.layer w ] };
 
-    ghost image = { elim [ driver.Raw r ↦ S.state r.storage | driver.Words w ↦ ⟦<OneCluster as FormatDriverInstance>⟧.image w ] };
+    ghost image = { elim [ driver.Raw r ↦ S.state r.storage | driver.Words w ↦ ⟦<OneCluster as Seen>⟧.image w ] };
 
     ghost extras = { λ _. [] };
 
-    ghost stored = { elim [ driver.Raw r ↦ λ n p. slice_index (S.state r.storage).bytes p | driver.Words w ↦ ⟦<OneCluster as FormatDriverInstance>⟧.stored w ] };
-
     ghost sees = { λ _. ⊤ };
 
-    ghost safe = { elim [ driver.Raw r ↦ r.size ≤ length (S.state r.storage).bytes | driver.Words w ↦ ⟦<OneCluster as FormatDriverInstance>⟧.safe w ] };
+    ghost safe = { elim [ driver.Raw r ↦ ⟦<Raw<S> as Seen>⟧.safe r | driver.Words w ↦ ⟦<OneCluster as Seen>⟧.safe w ] };
 
     ghost still = { λ _. ⊤ };
 
@@ -108,14 +106,28 @@ impl<S: Storage> FormatDriverInstance for Driver<S> {
     ghost own_cause = { λ d below call fault. kind_cause (elim d [ driver.Raw r ↦ false | driver.Words w ↦ true ]) call fault };
 
     ghost growth_cause = { λ d below size mode fault. fault ≡ Unsupported };
+}
+
+impl<S: Storage> FormatDriverInstance for Driver<S> {
+    type Storage = S;
 
     ghost safe_sees = { λ d safe. tt };
 
     ghost safe_runs = { elim [ driver.Raw r ↦ λ safe. refl | driver.Words w ↦ λ safe. safe.0 ] };
 
+    ghost safe_keeps = { elim [ driver.Raw r ↦ λ safe. safe.0 | driver.Words w ↦ λ safe. refl ] };
+
+    ghost safe_sound = { elim [ driver.Raw r ↦ λ safe. record { is_sound = tt; size = safe.1 } | driver.Words w ↦ λ safe. record { is_sound = tt; size = le_refl w.size } ] };
+
+    ghost one_home = { elim [ driver.Raw r ↦ λ p q at safe. raw_home.one_home r.size r.writable p q at | driver.Words w ↦ λ p q at safe. elim w.content as (λ c. ◌≡◌ {A = Option (ℕ × ℕ)} ((elim c as (λ x. ℕ → Option (ℕ × ℕ)) [ content.Unmapped ↦ λ p. None | content.Zeroed ↦ λ p. None | content.Barred ↦ λ p. None | content.Prepared r ↦ home_in r.start r.end | content.Mapped v ↦ home_in 0 (if w.writable then w.size else 0) ]) p) (Some at) → ◌≡◌ {A = Option (ℕ × ℕ)} ((elim c as (λ x. ℕ → Option (ℕ × ℕ)) [ content.Unmapped ↦ λ p. None | content.Zeroed ↦ λ p. None | content.Barred ↦ λ p. None | content.Prepared r ↦ home_in r.start r.end | content.Mapped v ↦ home_in 0 (if w.writable then w.size else 0) ]) q) (Some at) → p ≡ q) [ content.Unmapped ↦ λ first second. absurd (Prim.cc first) | content.Zeroed ↦ λ first second. absurd (Prim.cc first) | content.Barred ↦ λ first second. absurd (Prim.cc first) | content.Prepared r ↦ one_home r.start r.end p q at | content.Mapped v ↦ one_home 0 (if w.writable then w.size else 0) p q at ] ] };
+
     ghost blanks = { elim [ driver.Raw r ↦ inr refl | driver.Words w ↦ (elim w.backed as (λ b. (blank_of b ≡ unmapped) ⊎ (blank_of b ≡ own (byte 0))) [ true ↦ inl refl | false ↦ inr refl ]) ] };
 
-    ghost safe_sound = { elim [ driver.Raw r ↦ λ safe. record { is_sound = tt; size = safe } | driver.Words w ↦ λ safe. record { is_sound = tt; size = Prim.omega arith } ] };
+    ghost aligned = { elim [ driver.Raw r ↦ (let shape = S.aligned r.storage in (shape.requests, shape.memory)) | driver.Words w ↦ (let one : IsAlignment 1 = record { positive = Prim.omega arith; small = Prim.omega arith; divides = refl } in (one, one)) ] };
+
+    ghost alignments = { elim [ driver.Raw r ↦ record { requests = refl; memory = refl; zeroing = inr (inr refl) } | driver.Words w ↦ record { requests = refl; memory = refl; zeroing = inl refl } ] };
+
+    ghost units = { elim [ driver.Raw r ↦ le_refl 1 | driver.Words w ↦ le_refl 1 ] };
 
     ghost begins = { λ d call. refl };
 
@@ -123,9 +135,7 @@ impl<S: Storage> FormatDriverInstance for Driver<S> {
 
     ghost bare = { λ d p free has. has };
 
-    ghost one_home = { elim [ driver.Raw r ↦ λ p q at safe. raw_home.one_home r.size r.writable p q at | driver.Words w ↦ λ p q at safe. elim w.content as (λ c. ◌≡◌ {A = Option (ℕ × ℕ)} ((elim c as (λ x. ℕ → Option (ℕ × ℕ)) [ content.Unmapped ↦ λ p. None | content.Zeroed ↦ λ p. None | content.Barred ↦ λ p. None | content.Prepared r ↦ home_in r.start r.end | content.Mapped v ↦ home_in 0 (if w.writable then w.size else 0) ]) p) (Some at) → ◌≡◌ {A = Option (ℕ × ℕ)} ((elim c as (λ x. ℕ → Option (ℕ × ℕ)) [ content.Unmapped ↦ λ p. None | content.Zeroed ↦ λ p. None | content.Barred ↦ λ p. None | content.Prepared r ↦ home_in r.start r.end | content.Mapped v ↦ home_in 0 (if w.writable then w.size else 0) ]) q) (Some at) → p ≡ q) [ content.Unmapped ↦ λ first second. absurd (Prim.cc first) | content.Zeroed ↦ λ first second. absurd (Prim.cc first) | content.Barred ↦ λ first second. absurd (Prim.cc first) | content.Prepared r ↦ one_home r.start r.end p q at | content.Mapped v ↦ one_home 0 (if w.writable then w.size else 0) p q at ] ] };
-
-    ghost aligned = { elim [ driver.Raw r ↦ (let shape = S.aligned r.storage in (shape.requests, shape.memory)) | driver.Words w ↦ (let one : IsAlignment 1 = record { positive = Prim.omega arith; small = Prim.omega arith; divides = refl } in (one, one)) ] };
+    ghost roomless = { elim [ driver.Raw r ↦ λ p free states given. raw_home.never states | driver.Words w ↦ λ p free states given. raw_home.never states ] };
 
     fn format(&self) -> Format {
         match self {
@@ -241,18 +251,18 @@ impl<S: Storage> FormatDriverInstance for Driver<S> {
         alloc: Global,
         mapping: PreparedDataMapping<PreparedCluster>,
     ) -> Result<(), (Fault, Option<PreparedDataMapping<PreparedCluster>>)>
-        ensures ok { let d = ⟦<Driver<S> as FormatDriverInstance>⟧ in OnOk result (Spends d.claim d.tag mapping.state (d.layer self.old) (d.layer self.new) (IsFree (d.layer self.new) × (IsTrue (d.layer self.old).fixed.keeps → d.safe self.old → Committed (d.layer self.old) (d.layer self.new)))) }
-        ensures went { let d = ⟦<Driver<S> as FormatDriverInstance>⟧ in Went d.layer d.image d.extras d.safe d.lasts (IsOk result) (IsOk result × IsMine d.claim d.tag mapping.state (d.layer self.old)) self.old self.new }
-        ensures at_once { let d = ⟦<Driver<S> as FormatDriverInstance>⟧ in (f : Fault) → commit_refusal d.tag mapping.state (d.layer self.old) ≡ Some f → MatchResult result (λ _. ⊥) (λ e. (e.0 ≡ f) × IsSome e.1) }
-        ensures unasked { let d = ⟦<Driver<S> as FormatDriverInstance>⟧ in (mapping.state ≡ None) ⊎ IsSome (commit_refusal d.tag mapping.state (d.layer self.old)) → Unasked d.image d.extras self.old self.new }
-        ensures back { let d = ⟦<Driver<S> as FormatDriverInstance>⟧ in IfErr result (λ e. IfSome e.1 (λ m. (m ≡ mapping) × (d.layer self.new ≡ d.layer self.old) × GivenBack d.tag mapping.state (d.layer self.old) e.0 × (d.safe self.old → d.safe self.new) × (d.sees self.old → d.sees self.new) × (d.still self.old → d.still self.new))) }
-        ensures spent { let d = ⟦<Driver<S> as FormatDriverInstance>⟧ in IfErr result (λ e. e.1 ≡ None → IsSome mapping.state × IsTrue (d.layer self.new).failed × Spends d.claim d.tag mapping.state (d.layer self.old) (d.layer self.new) (IsFree (d.layer self.new) × (d.safe self.old → IsMild e.0 → ⊥))) }
-        ensures size { let d = ⟦<Driver<S> as FormatDriverInstance>⟧ in (d.layer self.new).size ≡ (d.layer self.old).size }
-        ensures room { let d = ⟦<Driver<S> as FormatDriverInstance>⟧ in IsTrue (d.layer self.old).fixed.keeps → d.safe self.old → IsMine d.claim d.tag mapping.state (d.layer self.old) → OnOk result (Takes d.vacant d.has_room d.zeroed (λ p. (d.layer self.old).held p ≡ loose) self.old self.new) }
-        ensures back_room { let d = ⟦<Driver<S> as FormatDriverInstance>⟧ in IsTrue (d.layer self.old).fixed.keeps → d.safe self.old → IfErr result (λ e. IfSome e.1 (λ m. Takes d.vacant d.has_room d.zeroed (λ _. ⊤) self.old self.new)) }
-        ensures began { let d = ⟦<Driver<S> as FormatDriverInstance>⟧ in (e : _) (call : Call) → d.began e call self.old → IsMine d.claim d.tag mapping.state (d.layer self.old) → OnOk result (d.began e call self.new) }
-        ensures stops { let d = ⟦<Driver<S> as FormatDriverInstance>⟧ in IsTrue (d.layer self.old).fixed.keeps → d.safe self.old → IsMine d.claim d.tag mapping.state (d.layer self.old) → (below : List Layer) → KeepsStops below (d.layer self.old) d.sound (GivesSettled below (d.layer self.old)) (d.image self.old) (d.image self.new) }
-        ensures failed { let d = ⟦<Driver<S> as FormatDriverInstance>⟧ in IfErr result (λ e. ImageCause (d.image self.old ∷ d.extras self.old) (d.image self.new ∷ d.extras self.new) e.0) }
+        ensures ok { let d = ⟦<Driver<S> as Seen>⟧ in OnOk result (Spends d mapping.state (d.layer self.old) (d.layer self.new) (IsFree (d.layer self.new) × (d.safe self.old → Committed (d.layer self.old) (d.layer self.new)))) }
+        ensures size { let d = ⟦<Driver<S> as Seen>⟧ in (d.layer self.new).size ≡ (d.layer self.old).size }
+        ensures room { let d = ⟦<Driver<S> as Seen>⟧ in d.safe self.old → IsMine d mapping.state (d.layer self.old) → OnOk result (Takes d (λ p. (d.layer self.old).held p ≡ loose) self.old self.new) }
+        ensures stops { let d = ⟦<Driver<S> as Seen>⟧ in d.safe self.old → IsMine d mapping.state (d.layer self.old) → (below : List Layer) → KeepsStops d below (GivesSettled below (d.layer self.old)) self.old self.new }
+        ensures at_once { let d = ⟦<Driver<S> as Seen>⟧ in (f : Fault) → commit_refusal d mapping.state (d.layer self.old) ≡ Some f → MatchResult result (λ _. ⊥) (λ e. (e.0 ≡ f) × IsSome e.1) }
+        ensures unasked { let d = ⟦<Driver<S> as Seen>⟧ in (mapping.state ≡ None) ⊎ IsSome (commit_refusal d mapping.state (d.layer self.old)) → Unasked d self.old self.new }
+        ensures back { let d = ⟦<Driver<S> as Seen>⟧ in IfErr result (λ e. IfSome e.1 (λ m. (m ≡ mapping) × GivenBack d.tag mapping.state (d.layer self.old) e.0 × IsUnchanged d self.old self.new)) }
+        ensures spent { let d = ⟦<Driver<S> as Seen>⟧ in IfErr result (λ e. e.1 ≡ None → IsSome mapping.state × IsTrue (d.layer self.new).failed × IsSpending e.0 × Spends d mapping.state (d.layer self.old) (d.layer self.new) (IsFree (d.layer self.new) × (d.safe self.old → IsMild e.0 → ⊥))) }
+        ensures went { let d = ⟦<Driver<S> as Seen>⟧ in Went d (MatchResult result (λ _. ⊤) (λ e. IsMild e.0)) (IsOk result × IsMine d mapping.state (d.layer self.old)) self.old self.new }
+        ensures sees { let d = ⟦<Driver<S> as Seen>⟧ in mapping.state ≡ None → d.sees self.old → d.sees self.new }
+        ensures began { let d = ⟦<Driver<S> as Seen>⟧ in (e : _) (call : Call) → d.began e call self.old → IsMine d mapping.state (d.layer self.old) → OnOk result (d.began e call self.new) }
+        ensures failed { let d = ⟦<Driver<S> as Seen>⟧ in IfErr result (λ e. Fails d self.old self.new e.0) }
     {
         let raw = match self {
             Driver::Words(words) => return words.commit_data_mapping(alloc, mapping),
@@ -275,15 +285,15 @@ impl<S: Storage> FormatDriverInstance for Driver<S> {
         &mut self,
         mapping: PreparedDataMapping<PreparedCluster>,
     ) -> Result<(), (Fault, PreparedDataMapping<PreparedCluster>)>
-        ensures ok { let d = ⟦<Driver<S> as FormatDriverInstance>⟧ in OnOk result (Spends d.claim d.tag mapping.state (d.layer self.old) (d.layer self.new) (Cancelled (d.layer self.old) (d.layer self.new))) }
-        ensures safe { let d = ⟦<Driver<S> as FormatDriverInstance>⟧ in IsMine d.claim d.tag mapping.state (d.layer self.old) → d.safe self.old → d.safe self.new }
-        ensures room { let d = ⟦<Driver<S> as FormatDriverInstance>⟧ in IsTrue (d.layer self.old).fixed.keeps → d.safe self.old → IsMine d.claim d.tag mapping.state (d.layer self.old) → Takes d.vacant d.has_room d.zeroed (λ _. ⊤) self.old self.new }
-        ensures lasts { let d = ⟦<Driver<S> as FormatDriverInstance>⟧ in d.lasts self.old → d.lasts self.new }
-        ensures back { let d = ⟦<Driver<S> as FormatDriverInstance>⟧ in IfErr result (λ e. (e.1 ≡ mapping) × (e.0 ≡ Foreign) × (d.layer self.new ≡ d.layer self.old) × IsForeignTo d.tag mapping.state (d.layer self.old) × (d.safe self.old → d.safe self.new) × (d.sees self.old → d.sees self.new) × (d.still self.old → d.still self.new)) }
-        ensures back_room { let d = ⟦<Driver<S> as FormatDriverInstance>⟧ in IsTrue (d.layer self.old).fixed.keeps → d.safe self.old → IsErr result → Takes d.vacant d.has_room d.zeroed (λ _. ⊤) self.old self.new }
-        ensures fixed { let d = ⟦<Driver<S> as FormatDriverInstance>⟧ in ((d.layer self.new).fixed ≡ (d.layer self.old).fixed) × ((d.layer self.new).size ≡ (d.layer self.old).size) × ((d.layer self.new).failed ≡ (d.layer self.old).failed) }
-        ensures began { let d = ⟦<Driver<S> as FormatDriverInstance>⟧ in (e : _) (call : Call) → d.began e call self.old → d.began e call self.new }
-        ensures none { let d = ⟦<Driver<S> as FormatDriverInstance>⟧ in (d.image self.new ≡ d.image self.old) × (d.extras self.new ≡ d.extras self.old) }
+        ensures ok { let d = ⟦<Driver<S> as Seen>⟧ in OnOk result (Spends d mapping.state (d.layer self.old) (d.layer self.new) (Cancelled (d.layer self.old) (d.layer self.new))) }
+        ensures back { let d = ⟦<Driver<S> as Seen>⟧ in IfErr result (λ e. (e.1 ≡ mapping) × (e.0 ≡ Foreign) × IsForeignTo d.tag mapping.state (d.layer self.old) × IsUnchanged d self.old self.new) }
+        ensures fixed { let d = ⟦<Driver<S> as Seen>⟧ in ((d.layer self.new).fixed ≡ (d.layer self.old).fixed) × ((d.layer self.new).size ≡ (d.layer self.old).size) × ((d.layer self.new).failed ≡ (d.layer self.old).failed) }
+        ensures none { let d = ⟦<Driver<S> as Seen>⟧ in Unasked d self.old self.new }
+        ensures lasts { let d = ⟦<Driver<S> as Seen>⟧ in d.lasts self.old → d.lasts self.new }
+        ensures sees { let d = ⟦<Driver<S> as Seen>⟧ in d.sees self.old → d.sees self.new }
+        ensures safe { let d = ⟦<Driver<S> as Seen>⟧ in IsMine d mapping.state (d.layer self.old) → d.safe self.old → d.safe self.new }
+        ensures room { let d = ⟦<Driver<S> as Seen>⟧ in d.safe self.old → IsMine d mapping.state (d.layer self.old) → Takes d (λ _. ⊤) self.old self.new }
+        ensures began { let d = ⟦<Driver<S> as Seen>⟧ in (e : _) (call : Call) → d.began e call self.old → d.began e call self.new }
     {
         if let Driver::Words(words) = self {
             return words.cancel_data_mapping(mapping);

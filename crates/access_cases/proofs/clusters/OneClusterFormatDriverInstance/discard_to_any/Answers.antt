@@ -1,4 +1,11 @@
+use Rattle.std.proofs.Common.{arith}
+use Rattle.imago_access.specs.PartCalls.{discards_to_any}
+use Rattle.access_cases.specs.contracts.clusters.OneClusterSeen.TheImpl.{ghosts}
+use Rattle.access_cases.proofs.Declining.{does_nothing, refused_mildly}
 use Rattle.access_cases.proofs.clusters.OneClusterFormatDriverInstance.discard_to_any.Goals as goal
 
-pub returns-clause-cause : goal.returns-clause-cause
-returns-clause-cause c = λ safe below d call began part. c.change.ensures.cause below
+pub returns-clause-does : goal.returns-clause-does
+returns-clause-does c = does_nothing discards_to_any _ c.args.offset c.args.length c.change.result c.args.self.now (omega arith) c.change.ensures.ok
+
+pub returns-clause-refused : goal.returns-clause-refused
+returns-clause-refused c = refused_mildly _ c.args.offset c.args.length c.change.result c.args.self.now c.change.ensures.mild c.change.ensures.failed (λ below x whole. c.change.ensures.cause below)

@@ -8,32 +8,32 @@ use Rattle.imago_access.proofs.Looking.{looked_under_same}
 use Rattle.access_cases.proofs.clusters.OneClusterFormatDriverInstance.prepare_data_mapping.Goals as goal
 
 pub returns-in-Err-clause-below : goal.returns-in-Err-clause-below
-returns-in-Err-clause-below g c = looked_under_same g.B.ReadBelow.under g.B.ReadBelow.files_under g.B.ReadBelow.sees_under g.B.ReadBelow.safe_under g.B.ReadBelow.still_under g.B.ReadBelow.lasts_under (false ≡ true) (IsMild c.in-Err.fault) c.args._below.now
+returns-in-Err-clause-below g c = looked_under_same g.B.SeenBelow (IsMild c.in-Err.fault) c.args._below.now
 
 pub returns-then-length-eq0-clause-below : goal.returns-then-length-eq0-clause-below
-returns-then-length-eq0-clause-below g c = looked_under_same g.B.ReadBelow.under g.B.ReadBelow.files_under g.B.ReadBelow.sees_under g.B.ReadBelow.safe_under g.B.ReadBelow.still_under g.B.ReadBelow.lasts_under (true ≡ true) (⊤) c.args._below.now
+returns-then-length-eq0-clause-below g c = looked_under_same g.B.SeenBelow (⊤) c.args._below.now
 
 pub returns-in-Mapped-clause-below : goal.returns-in-Mapped-clause-below
-returns-in-Mapped-clause-below g c = looked_under_same g.B.ReadBelow.under g.B.ReadBelow.files_under g.B.ReadBelow.sees_under g.B.ReadBelow.safe_under g.B.ReadBelow.still_under g.B.ReadBelow.lasts_under (true ≡ true) (⊤) c.args._below.now
+returns-in-Mapped-clause-below g c = looked_under_same g.B.SeenBelow (⊤) c.args._below.now
 
 pub returns-then-self-clause-below : goal.returns-then-self-clause-below
-returns-then-self-clause-below g c = looked_under_same g.B.ReadBelow.under g.B.ReadBelow.files_under g.B.ReadBelow.sees_under g.B.ReadBelow.safe_under g.B.ReadBelow.still_under g.B.ReadBelow.lasts_under (false ≡ true) (⊤) c.args._below.now
+returns-then-self-clause-below g c = looked_under_same g.B.SeenBelow (⊤) c.args._below.now
 
 pub returns-in-Err-unwritten-clause-below : goal.returns-in-Err-unwritten-clause-below
-returns-in-Err-unwritten-clause-below g c = looked_under_same g.B.ReadBelow.under g.B.ReadBelow.files_under g.B.ReadBelow.sees_under g.B.ReadBelow.safe_under g.B.ReadBelow.still_under g.B.ReadBelow.lasts_under (false ≡ true) (⊥) c.args._below.now
+returns-in-Err-unwritten-clause-below g c = looked_under_same g.B.SeenBelow (⊥) c.args._below.now
 
 pub returns-clause-below : goal.returns-clause-below
-returns-clause-below g c = looked_under_same g.B.ReadBelow.under g.B.ReadBelow.files_under g.B.ReadBelow.sees_under g.B.ReadBelow.safe_under g.B.ReadBelow.still_under g.B.ReadBelow.lasts_under (true ≡ true) (⊤) c.args._below.now
+returns-clause-below g c = looked_under_same g.B.SeenBelow (⊤) c.args._below.now
 
 pub returns-clause-ok : goal.returns-clause-ok
-returns-clause-ok g c = λ keeps safe sees.
+returns-clause-ok g c = λ safe sees.
     let d = c.args.self.now in
     let start = c.args.offset in
     let n = c.args.length in
-    rw c.to_commit.ensures (rw c.in-Unmapped.is (run_prepared (at (g.B.ReadBelow.under c.args._below.now)) _ _ start n d.size _ c.args.overwrite (omega arith) refl refl refl refl refl (ap (held_in start (start + n) c.args.overwrite) c.in-Ok-unwritten.ensures)))
+    rw c.to_commit.ensures (rw c.in-Unmapped.is (run_prepared (at (g.B.SeenBelow.under c.args._below.now)) _ _ start n d.size _ c.args.overwrite (omega arith) refl refl refl refl refl (ap (held_in start (start + n) c.args.overwrite) c.in-Ok-unwritten.ensures)))
 
 pub returns-in-Zeroed-clause-below : goal.returns-in-Zeroed-clause-below
-returns-in-Zeroed-clause-below g c = looked_under_same g.B.ReadBelow.under g.B.ReadBelow.files_under g.B.ReadBelow.sees_under g.B.ReadBelow.safe_under g.B.ReadBelow.still_under g.B.ReadBelow.lasts_under (false ≡ true) (⊤) c.args._below.now
+returns-in-Zeroed-clause-below g c = looked_under_same g.B.SeenBelow (⊤) c.args._below.now
 
 pub returns-in-Barred-clause-below : goal.returns-in-Barred-clause-below
-returns-in-Barred-clause-below g c = looked_under_same g.B.ReadBelow.under g.B.ReadBelow.files_under g.B.ReadBelow.sees_under g.B.ReadBelow.safe_under g.B.ReadBelow.still_under g.B.ReadBelow.lasts_under (false ≡ true) (⊤) c.args._below.now
+returns-in-Barred-clause-below g c = looked_under_same g.B.SeenBelow (⊤) c.args._below.now
