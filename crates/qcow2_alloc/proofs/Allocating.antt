@@ -12,7 +12,7 @@ use Rattle.qcow2_alloc.specs.declared.cache.MetadataCaches.{MetadataCaches}
 use Rattle.qcow2_alloc.specs.declared.file.ImageFile.{ImageFile}
 use Rattle.qcow2_alloc.specs.Allocating.{Allocating, MakesBlock, MovedTable, OnlyRaised}
 use Rattle.qcow2_alloc.specs.Allocators.{metadata_of}
-use Rattle.qcow2_alloc.specs.Going.{IsWhole}
+use Rattle.qcow2_alloc.specs.Going.{WasNotCutOff}
 use Rattle.qcow2_alloc.specs.Quiet.{Metadata, counted}
 use Rattle.qcow2_alloc.proofs.QuietFlushes.{memory-quietly, quiet-none, quietly-weaker}
 use Rattle.qcow2_alloc.proofs.QuietThen.{quietly-then, quietly-otherwise}
@@ -88,7 +88,7 @@ module _ {S : Type 0} (state : S → StorageState) where
 
   -- A block is made so.
   pub block-allocates : (index : ℕ) (table : TableValue) (old : MetadataCaches S) (before : ImageFile S) (result : Result Unit Fault) (table' : TableValue) (new : MetadataCaches S) (after : ImageFile S) (pending : List FreeEntry)
-      → MakesBlock state index table old before result table' new after pending → Allocating state (IsWhole result) (λ _. 0) table old before pending table' new after pending
+      → MakesBlock state index table old before result table' new after pending → Allocating state (WasNotCutOff result) (λ _. 0) table old before pending table' new after pending
   block-allocates index table old before result table' new after pending made =
       let long = made.long in
       record {

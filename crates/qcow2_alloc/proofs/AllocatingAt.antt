@@ -20,7 +20,7 @@ use Rattle.qcow2_alloc.specs.Allocators.{metadata_of}
 use Rattle.qcow2_alloc.specs.Caches.{order_of}
 use Rattle.qcow2_alloc.specs.Freeing.{IsLoose, IsMarked, WhyNotCounted}
 use Rattle.qcow2_alloc.specs.FreeList.{covers}
-use Rattle.qcow2_alloc.specs.Going.{IsWhole}
+use Rattle.qcow2_alloc.specs.Going.{WasNotCutOff}
 use Rattle.qcow2_alloc.specs.HandingOut.{mark_past}
 use Rattle.qcow2_alloc.specs.HandingOutOne.{AllocatesAt, CountsOne, counting_of}
 use Rattle.qcow2_alloc.specs.MakingRoom.{run_of}
@@ -129,26 +129,26 @@ module _ {S : Type 0} (state : S → StorageState) (mark cluster : ℕ) (table :
       abbrev given : ℕ → ℕ
       given d = covers d (run_of cluster counted_one.counts.part)
 
-      whole-as : (r : Result (Option FreeEntry) Fault) → IsWhole r → IsWhole (counting_of r)
+      whole-as : (r : Result (Option FreeEntry) Fault) → WasNotCutOff r → WasNotCutOff (counting_of r)
       whole-as (Ok o) whole = tt
       whole-as (Err fault) whole = whole
 
       only-here : IsTrue (state before.image).shape.keeps → IsSound Old → (c : ℕ) → cluster ≤ c → c < cluster + 1 → counted Mid c ≡ 0
       only-here keeps sound c le lt = let here : c ≡ cluster = omega (arith, le, lt) in subst (λ d. counted Mid d ≡ 0) (sym here) (free keeps sound)
 
-      counts-more : order_of old ≡ L2DependsOnRb → IsTrue (state before.image).shape.keeps → IsSound Old → IsWhole result → (c : ℕ) → counted New c ≡ counted Old c + given c
+      counts-more : order_of old ≡ L2DependsOnRb → IsTrue (state before.image).shape.keeps → IsSound Old → WasNotCutOff result → (c : ℕ) → counted New c ≡ counted Old c + given c
       counts-more order keeps sound whole c =
           let first = looked-step.quiet order in
           let up = counted_one.counts.raised (looked-step.order ∙ order) (keeps_on (state before.image) (state between.image) first.shape keeps) (first.holds keeps sound tt).0 (only-here keeps sound) (whole-as result whole) c in
           let same = counts-same keeps sound c in
           omega (arith, up, same)
 
-      quietly : order_of old ≡ L2DependsOnRb → Quietly (IsWhole result) given (λ _. 0) (state before.image) Old (state after.image) New
+      quietly : order_of old ≡ L2DependsOnRb → Quietly (WasNotCutOff result) given (λ _. 0) (state before.image) Old (state after.image) New
       quietly order =
           let first = looked-step.quiet order in
-          quietly-otherwise (IsWhole result) (λ c. 0 + given c) (λ c. 0 + 0) given (λ _. 0) (state before.image) Old (state after.image) New (λ sound c. omega arith) (λ sound c used none. omega arith)
-          (quietly-then-given ⊤ (IsWhole result) (λ _. 0) (λ _. 0) given (λ _. 0) (state before.image) Old (state between.image) Mid (state after.image) New tt (λ sound c more. refl) first counted_one.counts.shape counted_one.counts.later
-          (λ keeps sound sound' quiet. quietly-weaker (IsWhole (counting_of result)) (IsWhole result) given (λ _. 0) (state between.image) Mid (state after.image) New (λ s. whole-as result)
+          quietly-otherwise (WasNotCutOff result) (λ c. 0 + given c) (λ c. 0 + 0) given (λ _. 0) (state before.image) Old (state after.image) New (λ sound c. omega arith) (λ sound c used none. omega arith)
+          (quietly-then-given ⊤ (WasNotCutOff result) (λ _. 0) (λ _. 0) given (λ _. 0) (state before.image) Old (state between.image) Mid (state after.image) New tt (λ sound c more. refl) first counted_one.counts.shape counted_one.counts.later
+          (λ keeps sound sound' quiet. quietly-weaker (WasNotCutOff (counting_of result)) (WasNotCutOff result) given (λ _. 0) (state between.image) Mid (state after.image) New (λ s. whole-as result)
           (counted_one.counts.quiet (looked-step.order ∙ order) (λ s. only-here keeps sound))))
 
       given-none : counted_one.counts.part ≡ 0 → (c : ℕ) → given c ≡ 0
@@ -157,7 +157,7 @@ module _ {S : Type 0} (state : S → StorageState) (mark cluster : ℕ) (table :
       given-one : counted_one.counts.part ≡ 1 → (c : ℕ) → given c ≡ one_at cluster c
       given-one one c = ap (λ n. covers c (run_of cluster n)) one ∙ one-run cluster c
 
-      raised : order_of old ≡ L2DependsOnRb → IsTrue (state before.image).shape.keeps → IsSound Old → IsWhole result → OnlyRaised Old New
+      raised : order_of old ≡ L2DependsOnRb → IsTrue (state before.image).shape.keeps → IsSound Old → WasNotCutOff result → OnlyRaised Old New
       raised order keeps sound whole c =
           let up = counts-more order keeps sound whole c in
           let le = counted_one.counts.inside in
@@ -174,9 +174,9 @@ module _ {S : Type 0} (state : S → StorageState) (mark cluster : ℕ) (table :
                 ]
           ]
 
-      step : (handed : ℕ → ℕ) → ((c : ℕ) → given c ≡ handed c) → Allocating state (IsWhole result) handed table old before pending table new after pending
+      step : (handed : ℕ → ℕ) → ((c : ℕ) → given c ≡ handed c) → Allocating state (WasNotCutOff result) handed table old before pending table new after pending
       step handed same = record {
-        quiet = λ order. quietly-otherwise (IsWhole result) given (λ _. 0) handed (λ _. 0) (state before.image) Old (state after.image) New (λ sound c. let is' = same c in omega (arith, is')) (λ sound c used none. none) (quietly order);
+        quiet = λ order. quietly-otherwise (WasNotCutOff result) given (λ _. 0) handed (λ _. 0) (state before.image) Old (state after.image) New (λ sound c. let is' = same c in omega (arith, is')) (λ sound c used none. none) (quietly order);
         raised = raised;
         order = counted_one.counts.order ∙ looked-step.order;
         moved = moved-none before.header after.header (counted_one.counts.header ∙ looks.looked.header);
@@ -205,7 +205,7 @@ module _ {S : Type 0} (state : S → StorageState) (mark cluster : ℕ) (table :
             ),
           )
 
-      further-marked : (mark'' : ℕ) → (mark'' ≤ mark) ⊎ ((mark'' ≡ cluster + 1) × (mark ≡ cluster) × (counted_one.counts.part ≡ 1)) → order_of old ≡ L2DependsOnRb → IsTrue (state before.image).shape.keeps → IsSound Old → IsWhole result → IsMarked Old mark → IsMarked New mark''
+      further-marked : (mark'' : ℕ) → (mark'' ≤ mark) ⊎ ((mark'' ≡ cluster + 1) × (mark ≡ cluster) × (counted_one.counts.part ≡ 1)) → order_of old ≡ L2DependsOnRb → IsTrue (state before.image).shape.keeps → IsSound Old → WasNotCutOff result → IsMarked Old mark → IsMarked New mark''
       further-marked mark'' near order keeps sound whole marked c below =
           let up = counts-more order keeps sound whole c in
           elim (cases_lt c mark) [
@@ -226,7 +226,7 @@ module _ {S : Type 0} (state : S → StorageState) (mark cluster : ℕ) (table :
         did = record {
           leaked = λ _. 0;
           leaks = leaks-none _ _ (not_handed fault);
-          step = subst (λ (r : Result (Option FreeEntry) Fault). Allocating state (IsWhole r) (λ _. 0) table old before pending table new after pending) refused (step (λ _. 0) (given-none none));
+          step = subst (λ (r : Result (Option FreeEntry) Fault). Allocating state (WasNotCutOff r) (λ _. 0) table old before pending table new after pending) refused (step (λ _. 0) (given-none none));
           list = inl refl;
           cause = counted-wider _ _ _ _ _ _ _ _ knows looked-step.loose looks.looked.cause fault
               (subst (λ (r : Result (Option FreeEntry) Fault). MatchResult (counting_of r) (λ _. (state after.image).faults ≡ (state between.image).faults)
@@ -239,7 +239,7 @@ module _ {S : Type 0} (state : S → StorageState) (mark cluster : ℕ) (table :
         further = tt;
         stays = mark-is;
         marked = λ order keeps sound whole.
-            let whole' : IsWhole result = subst (λ (r : Result (Option FreeEntry) Fault). IsWhole r) (sym refused) whole in
+            let whole' : WasNotCutOff result = subst (λ (r : Result (Option FreeEntry) Fault). WasNotCutOff r) (sym refused) whole in
             further-marked mark' (inl (let is' = mark-is in omega (arith, is'))) order keeps sound whole';
       }
         where
@@ -258,13 +258,13 @@ module _ {S : Type 0} (state : S → StorageState) (mark cluster : ℕ) (table :
         did = record {
           leaked = λ _. 0;
           leaks = leaks-none _ _ (handed_so (Some itself));
-          step = subst (λ (r : Result (Option FreeEntry) Fault). Allocating state (IsWhole r) (one_at cluster) table old before pending table new after pending) ok (step (one_at cluster) (given-one one));
+          step = subst (λ (r : Result (Option FreeEntry) Fault). Allocating state (WasNotCutOff r) (one_at cluster) table old before pending table new after pending) ok (step (one_at cluster) (given-one one));
           list = inl refl;
           cause = faults ∙ looks.looked.cause;
         };
         one = (refl, some-place, reach);
         answer = λ order keeps sound.
-            let whole : IsWhole result = subst (λ (r : Result (Option FreeEntry) Fault). IsWhole r) (sym ok) tt in
+            let whole : WasNotCutOff result = subst (λ (r : Result (Option FreeEntry) Fault). WasNotCutOff r) (sym ok) tt in
             let zero = was-free keeps sound in
             let up = counts-more order keeps sound whole cluster in
             let yes = given-one one cluster in
@@ -275,7 +275,7 @@ module _ {S : Type 0} (state : S → StorageState) (mark cluster : ℕ) (table :
             let unnamed = handed-unnamed Old New (one_at cluster) cluster sound held.0 order held.1 zero is' own in
             (zero, is', unnamed.0, unnamed.1);
         near = λ order keeps sound c none more.
-            let whole : IsWhole result = subst (λ (r : Result (Option FreeEntry) Fault). IsWhole r) (sym ok) tt in
+            let whole : WasNotCutOff result = subst (λ (r : Result (Option FreeEntry) Fault). WasNotCutOff r) (sym ok) tt in
             let up = counts-more order keeps sound whole c in
             let inside = covered-inside c cluster counted_one.counts.part (omega (arith, up, none, more)) in
             let ends = inside.1 in
@@ -284,7 +284,7 @@ module _ {S : Type 0} (state : S → StorageState) (mark cluster : ℕ) (table :
         further = mark-is;
         stays = tt;
         marked = λ order keeps sound whole.
-            let whole' : IsWhole result = subst (λ (r : Result (Option FreeEntry) Fault). IsWhole r) (sym ok) tt in
+            let whole' : WasNotCutOff result = subst (λ (r : Result (Option FreeEntry) Fault). WasNotCutOff r) (sym ok) tt in
             further-marked mark' near order keeps sound whole';
       }
         where

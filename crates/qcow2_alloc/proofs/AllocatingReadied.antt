@@ -20,7 +20,7 @@ use Rattle.qcow2_alloc.specs.Allocating.{Allocating, OnlyRaised, WhyNotAllocated
 use Rattle.qcow2_alloc.specs.Allocators.{metadata_of}
 use Rattle.qcow2_alloc.specs.Caches.{order_of}
 use Rattle.qcow2_alloc.specs.Freeing.{IsLoose, IsMarked}
-use Rattle.qcow2_alloc.specs.Going.{IsWhole}
+use Rattle.qcow2_alloc.specs.Going.{WasNotCutOff}
 use Rattle.qcow2_alloc.specs.GrowingTables.{IsTakenFor}
 use Rattle.qcow2_alloc.specs.HandingOut.{handed_at, IsBarred, IsHandedAt, IsOneAt}
 use Rattle.qcow2_alloc.specs.HandingOutOne.{AllocatesAt, ReadiesCounter, leaked_by}
@@ -106,14 +106,14 @@ module _ {S : Type 0} (state : S → StorageState) (mark cluster : ℕ) (table :
       holds-still : IsTrue (state before.image).shape.keeps × (order_of old ≡ L2DependsOnRb) × IsSound Old → IsTrue (state between.image).shape.keeps × (order_of mid ≡ L2DependsOnRb) × IsSound Mid
       holds-still holds = let quiet = counter.did.step.quiet holds.1 in (keeps_on (state before.image) (state between.image) quiet.shape holds.0, counter.did.step.order ∙ holds.1, (quiet.holds holds.0 holds.2 tt).0)
 
-      both : Allocating state (IsWhole result) (handed_at result one.did.leaked) table old before pending mid_table new after mid_pending
-      both = allocating-as state (IsWhole result) (IsWhole result) (λ c. leaked_by (so true) counter.did.leaked c + handed_at result one.did.leaked c) (handed_at result one.did.leaked) table old before pending mid_table new after mid_pending (λ w. w) (λ c. omega arith)
-          (allocating-then state ⊤ (IsWhole result) (leaked_by (so true) counter.did.leaked) (handed_at result one.did.leaked) table old before pending mid_table mid between mid_pending mid_table new after mid_pending tt counter.did.step one.did.step)
+      both : Allocating state (WasNotCutOff result) (handed_at result one.did.leaked) table old before pending mid_table new after mid_pending
+      both = allocating-as state (WasNotCutOff result) (WasNotCutOff result) (λ c. leaked_by (so true) counter.did.leaked c + handed_at result one.did.leaked c) (handed_at result one.did.leaked) table old before pending mid_table new after mid_pending (λ w. w) (λ c. omega arith)
+          (allocating-then state ⊤ (WasNotCutOff result) (leaked_by (so true) counter.did.leaked) (handed_at result one.did.leaked) table old before pending mid_table mid between mid_pending mid_table new after mid_pending tt counter.did.step one.did.step)
 
       -- None is answered of a cluster that is counted by now: it was before, or something stands in it.
       taken-by : result ≡ Ok None → order_of old ≡ L2DependsOnRb → IsTrue (state before.image).shape.keeps → IsSound Old → 0 < counted Mid cluster → (0 < counted Old cluster) ⊎ (0 < structure New.file New.header.fields (meets New.header.fields cluster))
       taken-by none order keeps sound more =
-          let whole : IsWhole result = subst (λ (r : Result (Option FreeEntry) Fault). IsWhole r) (sym none) tt in
+          let whole : WasNotCutOff result = subst (λ (r : Result (Option FreeEntry) Fault). WasNotCutOff r) (sym none) tt in
           let held = holds-still (keeps, order, sound) in
           let after-all = (both.quiet order).holds keeps sound whole in
           let kept : handed_at result one.did.leaked cluster ≡ 0 = subst (λ (r : Result (Option FreeEntry) Fault). handed_at r one.did.leaked cluster ≡ 0) (sym none) refl in

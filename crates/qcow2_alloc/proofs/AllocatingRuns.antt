@@ -21,7 +21,7 @@ use Rattle.qcow2_alloc.specs.Caches.{order_of}
 use Rattle.qcow2_alloc.specs.Crowding.{IsGapless, IsRoomy, room_for}
 use Rattle.qcow2_alloc.specs.FreeList.{covers}
 use Rattle.qcow2_alloc.specs.Freeing.{IsLoose, IsMarked, WhyNotCounted}
-use Rattle.qcow2_alloc.specs.Going.{IsWhole}
+use Rattle.qcow2_alloc.specs.Going.{WasNotCutOff}
 use Rattle.qcow2_alloc.specs.MakingRoom.{run_of}
 use Rattle.qcow2_alloc.specs.Quiet.{Metadata, IsSound, counted}
 use Rattle.qcow2_alloc.specs.ReadyingRuns.{Allocates, IsRunCounted, ReadiesRun, handed_by, mark_behind}
@@ -156,7 +156,7 @@ module _ {S : Type 0} (state : S → StorageState) (mark n : ℕ) (metadata : Bo
     run-refused fault ready = record {
       leaked = ready.leaked;
       leaks = leaks-on _ _ _ _ fault ready.leaked (λ holds. holds) (λ any loose. loose) ready.leaks;
-      step = allocating-as state (IsWhole {T = ℕ} (Err fault)) (IsWhole {T = FreeEntry} (Err fault)) ready.leaked (handed_by (Err fault) ready.leaked) table old before pending tB B fB pB (λ whole. whole) (λ c. refl) ready.step;
+      step = allocating-as state (WasNotCutOff {T = ℕ} (Err fault)) (WasNotCutOff {T = FreeEntry} (Err fault)) ready.leaked (handed_by (Err fault) ready.leaked) table old before pending tB B fB pB (λ whole. whole) (λ c. refl) ready.step;
       run = tt;
       taken = λ order keeps sound. tt;
       fresh = λ order keeps sound. tt;
@@ -201,12 +201,12 @@ module _ {S : Type 0} (state : S → StorageState) (mark n : ℕ) (metadata : Bo
         mC = metadata_of state fC C tB pB
 
         -- A part of the run is counted, each cluster of it once.
-        counted-more : (result : Result Unit Fault) (counts : CountsRun state tB first n B fB result C fC pB) → order_of old ≡ L2DependsOnRb → Keeps → IsSound mA → IsWhole result → (c : ℕ) → counted mC c ≡ counted mB c + covers c (run_of first counts.part)
+        counted-more : (result : Result Unit Fault) (counts : CountsRun state tB first n B fB result C fC pB) → order_of old ≡ L2DependsOnRb → Keeps → IsSound mA → WasNotCutOff result → (c : ℕ) → counted mC c ≡ counted mB c + covers c (run_of first counts.part)
         counted-more result counts order keeps sound whole =
             let there = holds-on (keeps, order, sound) in
             counts.raised there.1 there.0 there.2 (free order keeps sound) whole
 
-        part-raised : (result : Result Unit Fault) → CountsRun state tB first n B fB result C fC pB → order_of old ≡ L2DependsOnRb → Keeps → IsSound mA → IsWhole result → OnlyRaised mB mC
+        part-raised : (result : Result Unit Fault) → CountsRun state tB first n B fB result C fC pB → order_of old ≡ L2DependsOnRb → Keeps → IsSound mA → WasNotCutOff result → OnlyRaised mB mC
         part-raised result counts order keeps sound whole c =
             let more = counted-more result counts order keeps sound whole c in
             let le = counts.inside in
@@ -218,11 +218,11 @@ module _ {S : Type 0} (state : S → StorageState) (mark n : ℕ) (metadata : Bo
               ]
             ]
 
-        part-allocates : (result : Result Unit Fault) (counts : CountsRun state tB first n B fB result C fC pB) → Allocating state (IsWhole result) (λ c. covers c (run_of first counts.part)) table old before pending tB C fC pB
+        part-allocates : (result : Result Unit Fault) (counts : CountsRun state tB first n B fB result C fC pB) → Allocating state (WasNotCutOff result) (λ c. covers c (run_of first counts.part)) table old before pending tB C fC pB
         part-allocates result counts =
             let part : ℕ → ℕ = λ c. covers c (run_of first counts.part) in record {
-              quiet = λ order. quietly-otherwise (IsWhole result) (λ c. 0 + part c) (λ c. 0 + 0) part (λ _. 0) (state before.image) mA (state fC.image) mC (λ sound c. omega arith) (λ sound c used none. omega arith)
-                  (quietly-then-given ⊤ (IsWhole result) (λ _. 0) (λ _. 0) part (λ _. 0) (state before.image) mA (state fB.image) mB (state fC.image) mC tt (λ sound c some. refl) (begun.quiet order) counts.shape counts.later
+              quiet = λ order. quietly-otherwise (WasNotCutOff result) (λ c. 0 + part c) (λ c. 0 + 0) part (λ _. 0) (state before.image) mA (state fC.image) mC (λ sound c. omega arith) (λ sound c used none. omega arith)
+                  (quietly-then-given ⊤ (WasNotCutOff result) (λ _. 0) (λ _. 0) part (λ _. 0) (state before.image) mA (state fB.image) mB (state fC.image) mC tt (λ sound c some. refl) (begun.quiet order) counts.shape counts.later
                   (λ keeps sound there quiet. counts.quiet (begun.order ∙ order) (λ again. free order keeps sound)));
               raised = λ order keeps sound whole. raised-then mA mB mC (begun.raised order keeps sound tt) (part-raised result counts order keeps sound whole);
               order = counts.order ∙ begun.order;
@@ -233,7 +233,7 @@ module _ {S : Type 0} (state : S → StorageState) (mark n : ℕ) (metadata : Bo
             }
 
         abbrev Stopped : Fault → (ℕ → ℕ) → Type 0
-        Stopped f h = Allocating state (IsWhole {T = FreeEntry} (Err f)) h table old before pending tB C fC pB
+        Stopped f h = Allocating state (WasNotCutOff {T = FreeEntry} (Err f)) h table old before pending tB C fC pB
 
         -- Counting is refused.
         pub count-refused : (fault : Fault) → CountsRun state tB first n B fB (Err fault) C fC pB → Handing (Err fault) tB C fC pB mark
@@ -253,7 +253,7 @@ module _ {S : Type 0} (state : S → StorageState) (mark n : ℕ) (metadata : Bo
         }
           where
             stopped : (f : Fault) → WhyNotCounted CanCount (IsLoose tB B) (state fB.image).faults (state fC.image).faults f → Stopped f (λ c. covers c (run_of first counts.part)) → Stopped f (handed_by (Err f) (lost f first counts.part))
-            stopped CacheFull why step = allocating-as state (IsWhole {T = FreeEntry} (Err CacheFull)) (IsWhole {T = FreeEntry} (Err CacheFull)) _ _ table old before pending tB C fC pB (λ whole. whole) (λ c. refl) step
+            stopped CacheFull why step = allocating-as state (WasNotCutOff {T = FreeEntry} (Err CacheFull)) (WasNotCutOff {T = FreeEntry} (Err CacheFull)) _ _ table old before pending tB C fC pB (λ whole. whole) (λ c. refl) step
             stopped Memory why step = allocating-never _ _ _ tB C fC pB (λ order keeps sound whole. whole) step
             stopped Storage why step = allocating-never _ _ _ tB C fC pB (λ order keeps sound whole. whole) step
             stopped DamagedTable why step = allocating-never _ _ _ tB C fC pB (λ order keeps sound whole. why (holds-on (keeps, order, sound))) step

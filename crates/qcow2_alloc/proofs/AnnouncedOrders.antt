@@ -21,7 +21,7 @@ use Rattle.qcow2_alloc.specs.Allocating.{OnlyRaised, WhyNotAllocated}
 use Rattle.qcow2_alloc.specs.Allocators.{metadata_of}
 use Rattle.qcow2_alloc.specs.Caches.{cached_in, order_of, HasRoomOf, KeepsTables}
 use Rattle.qcow2_alloc.specs.Freeing.{IsLoose, IsMarked, CountsFreeing, WhyNotFreed}
-use Rattle.qcow2_alloc.specs.Going.{Going, Always, IsMild, IsWhole, AreTablesInReach, CountsWrites, WhyNotWritten}
+use Rattle.qcow2_alloc.specs.Going.{Going, Always, IsMild, WasNotCutOff, AreTablesInReach, CountsWrites, WhyNotWritten}
 use Rattle.qcow2_alloc.specs.Growing.{IsFirstRoom, lacks, lacking}
 use Rattle.qcow2_alloc.specs.GrowingTables.{IsRoomToGrow, IsRoomInReach, NoPlaceToGrow, TableGrown}
 use Rattle.qcow2_alloc.specs.MakingRoom.{rank}
@@ -38,8 +38,8 @@ use Rattle.qcow2_alloc.proofs.SafeLaws.{safe-reach}
 
 -- What the announcement does: it is quiet, and changes no count.
 pub record Announced {S : Type 0} (state : S → StorageState) (table : TableValue) (pending : List FreeEntry) (old : MetadataCaches S) (before : ImageFile S) (result : Result Unit Fault) (new : MetadataCaches S) (after : ImageFile S) : Type 0 where
-  pub quiet : Quietly (IsWhole result) (λ _. 0) (λ _. 0) (state before.image) (metadata_of state before old table pending) (state after.image) (metadata_of state after new table pending)
-  pub counts : IsTrue (state before.image).shape.keeps → IsSound (metadata_of state before old table pending) → IsWhole result → (c : ℕ) → counted (metadata_of state after new table pending) c ≡ counted (metadata_of state before old table pending) c
+  pub quiet : Quietly (WasNotCutOff result) (λ _. 0) (λ _. 0) (state before.image) (metadata_of state before old table pending) (state after.image) (metadata_of state after new table pending)
+  pub counts : IsTrue (state before.image).shape.keeps → IsSound (metadata_of state before old table pending) → WasNotCutOff result → (c : ℕ) → counted (metadata_of state after new table pending) c ≡ counted (metadata_of state before old table pending) c
   pub order : OnOk result (order_of new ≡ L2DependsOnRb)
   pub header : after.header ≡ before.header
   pub loose : (any : Bool) → IsLoose table old any → IsLoose table new any
@@ -51,7 +51,7 @@ pub not-begun : {S : Type 0} (state : S → StorageState) (table : TableValue) (
 not-begun state table pending old before =
     let m = metadata_of state before old table pending in
     record {
-      quiet = memory-quietly (IsWhole {T = Unit {0}} (Err Memory)) (λ _. 0) (λ _. 0) (state before.image) m m (λ sound whole. absurd whole);
+      quiet = memory-quietly (WasNotCutOff {T = Unit {0}} (Err Memory)) (λ _. 0) (λ _. 0) (state before.image) m m (λ sound whole. absurd whole);
       counts = λ keeps sound whole. absurd whole;
       order = tt;
       header = refl;

@@ -9,7 +9,7 @@ use Rattle.qcow2_types.specs.Bytes.{Bytes, bytes_of, splice}
 use Rattle.qcow2_types.specs.Header.{Header}
 use Rattle.qcow2_alloc.specs.Quiet.{Metadata, IsSound, IsQuiet, ShowsEither, IsIn, Quietly}
 use Rattle.qcow2_alloc.proofs.FlushingTables.{spliced-bytes, never-mild}
-use Rattle.qcow2_alloc.specs.Going.{IsWhole}
+use Rattle.qcow2_alloc.specs.Going.{WasNotCutOff}
 use Rattle.qcow2_alloc.proofs.QuietFlushes.{quietly-weaker}
 
 -- The metadata is what the file makes it.
@@ -53,10 +53,10 @@ at-once-file m at bytes old new is_in (Ok done) put keeps is = spliced-bytes old
 at-once-file m at bytes old new is_in (Err fault) put keeps is = absurd (cc is)
 
 -- A write that wasn't cut off succeeded.
-pub put-done : (old new : StorageState) (at : ℕ) (bytes : List ℕ) (result : Result Unit Fault) → Put old new at bytes result → IsWhole result → result ≡ Ok tt
+pub put-done : (old new : StorageState) (at : ℕ) (bytes : List ℕ) (result : Result Unit Fault) → Put old new at bytes result → WasNotCutOff result → result ≡ Ok tt
 put-done old new at bytes (Ok done) put whole = refl
 put-done old new at bytes (Err fault) put mild = absurd (never-mild old.faults new.faults fault put.answer.cause mild)
 
 pub put-whole : (m m' : Metadata) (handed taken : ℕ → ℕ) (old new : StorageState) (at : ℕ) (bytes : List ℕ) (result : Result Unit Fault) → Put old new at bytes result
-    → Quietly (result ≡ Ok tt) handed taken old m new m' → Quietly (IsWhole result) handed taken old m new m'
-put-whole m m' handed taken old new at bytes result put quietly = quietly-weaker (result ≡ Ok tt) (IsWhole result) handed taken old m new m' (λ sound whole. put-done old new at bytes result put whole) quietly
+    → Quietly (result ≡ Ok tt) handed taken old m new m' → Quietly (WasNotCutOff result) handed taken old m new m'
+put-whole m m' handed taken old new at bytes result put quietly = quietly-weaker (result ≡ Ok tt) (WasNotCutOff result) handed taken old m new m' (λ sound whole. put-done old new at bytes result put whole) quietly

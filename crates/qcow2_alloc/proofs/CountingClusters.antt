@@ -31,7 +31,7 @@ use Rattle.qcow2_alloc.specs.Changes.{CachesBlock, SetsCounter}
 use Rattle.qcow2_alloc.specs.Finding.{BlockFound, IsPinnedFull, WhyNotFound}
 use Rattle.qcow2_alloc.specs.Freeing.{IsLoose, WhyNotCounted}
 use Rattle.qcow2_alloc.specs.FreeList.{covers}
-use Rattle.qcow2_alloc.specs.Going.{IsWhole, AreTablesInReach, AreBlocksInReach}
+use Rattle.qcow2_alloc.specs.Going.{WasNotCutOff, AreTablesInReach, AreBlocksInReach}
 use Rattle.qcow2_alloc.specs.MakingRoom.{run_of}
 use Rattle.qcow2_alloc.specs.Memory.{memory}
 use Rattle.qcow2_alloc.specs.Quiet.{Metadata, IsSound, IsQuiet, Quietly, counted, one_at}
@@ -174,7 +174,7 @@ module _ {S : Type 0} (state : S → StorageState) (table : TableValue) (pending
     Counts q = MatchResult q (λ _. (state after.image).faults ≡ (state before.image).faults) (WhyNotCounted Holds (IsLoose table old) (state before.image).faults (state after.image).faults)
 
     -- The counts are what they were behind a search that wasn't cut off.
-    found-counts : (key : ℕ) (answer : Result Unit Fault) (mid : MetadataCaches S) → BlockFound state key old before answer mid after → Keeps → IsSound Old → IsWhole answer → (d : ℕ) → counted (At mid after) d ≡ counted Old d
+    found-counts : (key : ℕ) (answer : Result Unit Fault) (mid : MetadataCaches S) → BlockFound state key old before answer mid after → Keeps → IsSound Old → WasNotCutOff answer → (d : ℕ) → counted (At mid after) d ≡ counted Old d
     found-counts key answer mid found keeps sound whole d =
         let settled = found.going.holds keeps sound.safe tt (inl whole) in
         subst (λ (h : Header). count (memory (bytes_of (state after.image).bytes) h.fields (cached_in mid)) h.fields d ≡ counted Old d) (sym found.others.1) (ap (λ g. count g before.header.fields d) settled.memory_same)
@@ -195,9 +195,9 @@ module _ {S : Type 0} (state : S → StorageState) (table : TableValue) (pending
     search-refused key named other why = absurd why
 
     -- Where nothing is counted, that is quiet.
-    none-given : (fault : Fault) (new' : MetadataCaches S) (after' : ImageFile S) → Quietly (IsWhole (failed fault)) (λ _. 0) (λ _. 0) (state before.image) Old (state after'.image) (At new' after')
-        → Quietly (IsWhole (failed fault)) (given (Err fault)) (λ _. 0) (state before.image) Old (state after'.image) (At new' after')
-    none-given fault new' after' quiet = quietly-otherwise (IsWhole (failed fault)) (λ _. 0) (λ _. 0) (given (Err fault)) (λ _. 0) (state before.image) Old (state after'.image) (At new' after')
+    none-given : (fault : Fault) (new' : MetadataCaches S) (after' : ImageFile S) → Quietly (WasNotCutOff (failed fault)) (λ _. 0) (λ _. 0) (state before.image) Old (state after'.image) (At new' after')
+        → Quietly (WasNotCutOff (failed fault)) (given (Err fault)) (λ _. 0) (state before.image) Old (state after'.image) (At new' after')
+    none-given fault new' after' quiet = quietly-otherwise (WasNotCutOff (failed fault)) (λ _. 0) (λ _. 0) (given (Err fault)) (λ _. 0) (state before.image) Old (state after'.image) (At new' after')
         (λ sound d. let zero = covers-none d (run_of c 0) refl in omega (arith, zero)) (λ sound d used none. none) quiet
 
     -- A run of one cluster is counted, or none of it.
@@ -240,11 +240,11 @@ module _ {S : Type 0} (state : S → StorageState) (table : TableValue) (pending
             whole = all-done result;
             shape = found.shape;
             later = found.later;
-            quiet = λ order free. subst (λ (m : MetadataCaches S). Quietly (IsWhole result) (given result) (λ _. 0) (state before.image) Old (state after.image) (At m after)) (sym u.left)
-                (quietly-otherwise (IsWhole result) (λ d. 0 + given result d) (λ d. 0 + 0) (given result) (λ _. 0) (state before.image) Old (state after.image) _ (λ sound d. omega arith) (λ sound d used none. omega arith)
-                (quietly-then-given ⊤ (IsWhole result) (λ _. 0) (λ _. 0) (given result) (λ _. 0) (state before.image) Old (state after.image) (At u.mid after) (state after.image) (With key u.mid after named-now u.block u.there u.block') tt (λ sound d some. refl)
+            quiet = λ order free. subst (λ (m : MetadataCaches S). Quietly (WasNotCutOff result) (given result) (λ _. 0) (state before.image) Old (state after.image) (At m after)) (sym u.left)
+                (quietly-otherwise (WasNotCutOff result) (λ d. 0 + given result d) (λ d. 0 + 0) (given result) (λ _. 0) (state before.image) Old (state after.image) _ (λ sound d. omega arith) (λ sound d used none. omega arith)
+                (quietly-then-given ⊤ (WasNotCutOff result) (λ _. 0) (λ _. 0) (given result) (λ _. 0) (state before.image) Old (state after.image) (At u.mid after) (state after.image) (With key u.mid after named-now u.block u.there u.block') tt (λ sound d some. refl)
                 found refl (later_same (state after.image)) (λ keeps sound sound1 quiet.
-                memory-quietly (IsWhole result) (given result) (λ _. 0) (state after.image) (At u.mid after) (With key u.mid after named-now u.block u.there u.block') (λ sound2 whole.
+                memory-quietly (WasNotCutOff result) (given result) (λ _. 0) (state after.image) (At u.mid after) (With key u.mid after named-now u.block u.there u.block') (λ sound2 whole.
                 let e = ends key u.mid after named-now u.block u.there result u.block' raises (order-now order) sound2 (zero keeps sound (free sound)) in (e.0, e.1)))));
             raised = λ order keeps sound free whole d.
                 let e = ends key u.mid after named-now u.block u.there result u.block' raises (order-now order) (mid-sound keeps sound) (zero keeps sound free) in

@@ -19,7 +19,7 @@ use Rattle.qcow2_alloc.specs.Allocators.{metadata_of}
 use Rattle.qcow2_alloc.specs.Caches.{order_of}
 use Rattle.qcow2_alloc.specs.Freeing.{IsLoose, WhyNotCounted}
 use Rattle.qcow2_alloc.specs.FreeList.{covers}
-use Rattle.qcow2_alloc.specs.Going.{IsWhole}
+use Rattle.qcow2_alloc.specs.Going.{WasNotCutOff}
 use Rattle.qcow2_alloc.specs.MakingRoom.{run_of}
 use Rattle.qcow2_alloc.specs.Quiet.{Metadata, IsSound, counted}
 use Rattle.qcow2_alloc.proofs.CountingClusters.{succeeded}
@@ -92,7 +92,7 @@ module _ {S : Type 0} (state : S → StorageState) (table : TableValue) (pending
     whole = whole;
     shape = refl;
     later = later_same (state before.image);
-    quiet = λ order free. memory-quietly (IsWhole succeeded) (part_of passed first part) (λ _. 0) (state before.image) (At old before) (At old before) (λ sound whole. (
+    quiet = λ order free. memory-quietly (WasNotCutOff succeeded) (part_of passed first part) (λ _. 0) (state before.image) (At old before) (At old before) (λ sound whole. (
       sound,
       quiet-otherwise (At old before) (At old before) (λ _. 0) (λ _. 0) (part_of passed first part) (λ _. 0) (λ d. let zero = none d in omega (arith, zero)) (λ d used zero. zero) (quiet-none (At old before) sound),
     ));
@@ -130,9 +130,9 @@ module _ {S : Type 0} (state : S → StorageState) (table : TableValue) (pending
         shape = two.shape ∙ one.shape;
         later = later_both (state fA.image) (state fB.image) (state fC.image) one.later two.later;
         quiet = λ order free.
-            quietly-otherwise (IsWhole result) (λ d. part_of passed first one.part d + part_of passed (first + n) two.part d) (λ d. 0 + 0) (part_of passed first (n + two.part)) (λ _. 0)
+            quietly-otherwise (WasNotCutOff result) (λ d. part_of passed first one.part d + part_of passed (first + n) two.part d) (λ d. 0 + 0) (part_of passed first (n + two.part)) (λ _. 0)
             (state fA.image) (At A fA) (state fC.image) (At C fC) (λ sound d. let same = joined d in omega (arith, same)) (λ sound d used none. omega arith)
-            (quietly-then-given (IsWhole succeeded) (IsWhole result) (part_of passed first one.part) (λ _. 0) (part_of passed (first + n) two.part) (λ _. 0)
+            (quietly-then-given (WasNotCutOff succeeded) (WasNotCutOff result) (part_of passed first one.part) (λ _. 0) (part_of passed (first + n) two.part) (λ _. 0)
             (state fA.image) (At A fA) (state fB.image) (At B fB) (state fC.image) (At C fC) tt (λ sound d some. refl) (one.quiet order (λ sound. within (free sound))) two.shape two.later (λ keeps sound sound1 quiet.
             two.quiet (one.order ∙ order) (λ again. next order keeps sound (free sound))));
         raised = λ order keeps sound free whole d.
@@ -266,7 +266,7 @@ module _ {S : Type 0} (state : S → StorageState) (table : TableValue) (pending
           shape = run.shape;
           later = run.later;
           quiet = λ order free.
-              quietly-otherwise (IsWhole result) (λ d. covers d (run_of c run.part)) (λ _. 0) (named_part table (counters_of_block before.header.fields) c run.part) (λ _. 0)
+              quietly-otherwise (WasNotCutOff result) (λ d. covers d (run_of c run.part)) (λ _. 0) (named_part table (counters_of_block before.header.fields) c run.part) (λ _. 0)
               (state before.image) (metadata_of state before old table pending) (state after.image) (metadata_of state after new table pending) (λ sound d. let is = same d in omega (arith, is)) (λ sound d used none. none) (run.quiet order free);
           raised = λ order keeps sound free whole d. let is = same d in let more = run.raised order keeps sound free whole d in omega (arith, is, more);
           order = run.order;

@@ -22,7 +22,7 @@ use Rattle.qcow2_alloc.specs.Allocating.{Allocating, MakesBlock, MakesBlocks, Wh
 use Rattle.qcow2_alloc.specs.Allocators.{metadata_of}
 use Rattle.qcow2_alloc.specs.Caches.{order_of}
 use Rattle.qcow2_alloc.specs.Freeing.{IsLoose}
-use Rattle.qcow2_alloc.specs.Going.{IsWhole}
+use Rattle.qcow2_alloc.specs.Going.{WasNotCutOff}
 use Rattle.qcow2_alloc.specs.Quiet.{IsSound}
 use Rattle.qcow2_alloc.proofs.Allocating.{allocating-none, allocating-then, allocating-as, block-allocates}
 use Rattle.qcow2_alloc.proofs.FreeingEntries.{why-counted-wider}
@@ -120,11 +120,11 @@ module _ {S : Type 0} (state : S → StorageState) (pending : List FreeEntry) (f
       cause = caused result two.cause;
     }
       where
-        step : (r : Result Unit Fault) → Allocating state (IsWhole r) (λ _. 0) tB B fB pending tC C fC pending → Allocating state (IsWhole (made_by r)) (λ _. 0) tA A fA pending tC C fC pending
-        step (Ok done) more = allocating-as state (IsWhole (so true)) (IsWhole (so true)) (λ d. 0 + 0) (λ _. 0) tA A fA pending tC C fC pending (λ w. w) (λ d. omega arith)
-            (allocating-then state (IsWhole (so made)) (IsWhole (so true)) (λ _. 0) (λ _. 0) tA A fA pending tB B fB pending tC C fC pending tt one.step more)
-        step (Err fault) more = allocating-as state (IsWhole (made_by (Err fault))) (IsWhole (made_by (Err fault))) (λ d. 0 + 0) (λ _. 0) tA A fA pending tC C fC pending (λ w. w) (λ d. omega arith)
-            (allocating-then state (IsWhole (so made)) (IsWhole (made_by (Err fault))) (λ _. 0) (λ _. 0) tA A fA pending tB B fB pending tC C fC pending tt one.step more)
+        step : (r : Result Unit Fault) → Allocating state (WasNotCutOff r) (λ _. 0) tB B fB pending tC C fC pending → Allocating state (WasNotCutOff (made_by r)) (λ _. 0) tA A fA pending tC C fC pending
+        step (Ok done) more = allocating-as state (WasNotCutOff (so true)) (WasNotCutOff (so true)) (λ d. 0 + 0) (λ _. 0) tA A fA pending tC C fC pending (λ w. w) (λ d. omega arith)
+            (allocating-then state (WasNotCutOff (so made)) (WasNotCutOff (so true)) (λ _. 0) (λ _. 0) tA A fA pending tB B fB pending tC C fC pending tt one.step more)
+        step (Err fault) more = allocating-as state (WasNotCutOff (made_by (Err fault))) (WasNotCutOff (made_by (Err fault))) (λ d. 0 + 0) (λ _. 0) tA A fA pending tC C fC pending (λ w. w) (λ d. omega arith)
+            (allocating-then state (WasNotCutOff (so made)) (WasNotCutOff (made_by (Err fault))) (λ _. 0) (λ _. 0) tA A fA pending tB B fB pending tC C fC pending tt one.step more)
 
         others : (i : ℕ) → i ≢ c → slice_index tC.words i ≡ slice_index tB.words i
         others = two.others

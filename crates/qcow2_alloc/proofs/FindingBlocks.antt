@@ -17,7 +17,7 @@ use Rattle.qcow2_metadata.specs.Blocks.{Block}
 use Rattle.qcow2_alloc.specs.declared.async_lru_cache.Slot.{Slot}
 use Rattle.qcow2_alloc.specs.declared.cache.CacheDependency.{CacheDependency}
 use Rattle.qcow2_alloc.specs.Memory.{Cached}
-use Rattle.qcow2_alloc.specs.Going.{Going, ReadyBlocks, IsWhole}
+use Rattle.qcow2_alloc.specs.Going.{Going, ReadyBlocks, WasNotCutOff}
 use Rattle.qcow2_alloc.specs.Cache.{MadeRoom, Readied}
 use Rattle.qcow2_alloc.specs.declared.file.ImageFile.{ImageFile}
 use Rattle.qcow2_alloc.proofs.Readying.{readied, room-made, room-absent}
@@ -71,7 +71,7 @@ module _ {S : Type 0} (state : S → StorageState) (H : Header) (order : CacheDe
 
   pub block-readied : (cap : ℕ) (may_flush : Bool) (key : ℕ) (before : ImageFile S) (es : List (ℕ × Slot Block)) (result : Result Bool Fault) (after : ImageFile S) (es' : List (ℕ × Slot Block)) → before.header ≡ H
       → Readied nat_eq loads flushes cap may_flush key before es result after es'
-      → Going H order (ReadyBlocks order) (IsWhole result) (state before.image) (with_tables es) (state after.image) (with_tables es')
+      → Going H order (ReadyBlocks order) (WasNotCutOff result) (state before.image) (with_tables es) (state after.image) (with_tables es')
   block-readied cap may_flush key before es result after es' header r =
       readied (λ d. state d.image) loads flushes H order (ReadyBlocks order) with_tables (λ t. t.modified ≡ false)
       (λ old new key v v' flush. flushed-clean key v (state old.image) (state new.image) v' flush.1)
@@ -86,7 +86,7 @@ module _ {S : Type 0} (state : S → StorageState) (H : Header) (order : CacheDe
 
   -- Room is made.
   pub block-room-made : (cap : ℕ) (may_flush : Bool) (before : ImageFile S) (es : List (ℕ × Slot Block)) (result : Result Bool Fault) (after : ImageFile S) (es' : List (ℕ × Slot Block))
-      → MadeRoom nat_eq flushes cap may_flush before es result after es' → Going H order (ReadyBlocks order) (IsWhole result) (state before.image) (with_tables es) (state after.image) (with_tables es')
+      → MadeRoom nat_eq flushes cap may_flush before es result after es' → Going H order (ReadyBlocks order) (WasNotCutOff result) (state before.image) (with_tables es) (state after.image) (with_tables es')
   block-room-made cap may_flush before es result after es' made =
       room-made (λ d. state d.image) loads flushes H order (ReadyBlocks order) with_tables (λ t. t.modified ≡ false)
       (λ old new key v v' flush. flushed-clean key v (state old.image) (state new.image) v' flush.1)

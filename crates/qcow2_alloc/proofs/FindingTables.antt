@@ -24,7 +24,7 @@ use Rattle.qcow2_alloc.specs.Memory.{Cached, memory}
 use Rattle.qcow2_alloc.specs.Safety.{Safe, IsLeft}
 use Rattle.qcow2_alloc.specs.Going.{Going, ReadyTables}
 use Rattle.qcow2_alloc.specs.Cache.{MadeRoom, Readied}
-use Rattle.qcow2_alloc.specs.Going.{IsWhole}
+use Rattle.qcow2_alloc.specs.Going.{WasNotCutOff}
 use Rattle.qcow2_alloc.specs.declared.file.ImageFile.{ImageFile}
 use Rattle.qcow2_alloc.proofs.Readying.{readied, room-made, room-absent}
 use Rattle.qcow2_alloc.proofs.FlushingTables.{table-flushed-whole, flushed-clean}
@@ -105,7 +105,7 @@ module _ {S : Type 0} (state : S → StorageState) (H : Header) (order : CacheDe
 
   pub table-readied : (cap : ℕ) (may_flush : Bool) (key : ℕ) (before : ImageFile S) (es : List (ℕ × Slot TableValue)) (result : Result Bool Fault) (after : ImageFile S) (es' : List (ℕ × Slot TableValue)) → before.header ≡ H
       → Readied nat_eq loads flushes cap may_flush key before es result after es'
-      → Going H order (ReadyTables order) (IsWhole result) (state before.image) (with_blocks es) (state after.image) (with_blocks es')
+      → Going H order (ReadyTables order) (WasNotCutOff result) (state before.image) (with_blocks es) (state after.image) (with_blocks es')
   table-readied cap may_flush key before es result after es' header r =
       readied (λ d. state d.image) loads flushes H order (ReadyTables order) with_blocks (λ t. t.modified ≡ false)
       (λ old new key v v' flush. flushed-clean key v (state old.image) (state new.image) v' flush.1)
@@ -120,7 +120,7 @@ module _ {S : Type 0} (state : S → StorageState) (H : Header) (order : CacheDe
 
   -- Room is made.
   pub table-room-made : (cap : ℕ) (may_flush : Bool) (before : ImageFile S) (es : List (ℕ × Slot TableValue)) (result : Result Bool Fault) (after : ImageFile S) (es' : List (ℕ × Slot TableValue))
-      → MadeRoom nat_eq flushes cap may_flush before es result after es' → Going H order (ReadyTables order) (IsWhole result) (state before.image) (with_blocks es) (state after.image) (with_blocks es')
+      → MadeRoom nat_eq flushes cap may_flush before es result after es' → Going H order (ReadyTables order) (WasNotCutOff result) (state before.image) (with_blocks es) (state after.image) (with_blocks es')
   table-room-made cap may_flush before es result after es' made =
       room-made (λ d. state d.image) loads flushes H order (ReadyTables order) with_blocks (λ t. t.modified ≡ false)
       (λ old new key v v' flush. flushed-clean key v (state old.image) (state new.image) v' flush.1)

@@ -24,7 +24,7 @@ use Rattle.qcow2_alloc.proofs.CachedBlocks.{blocks_with, this-block, block-settl
 use Rattle.qcow2_alloc.proofs.WritingBlocks.{block-left, block-safe}
 use Rattle.qcow2_alloc.proofs.Patches.{block-length, shaped-in}
 use Rattle.qcow2_alloc.specs.Going.{Going, ReadyBlocks}
-use Rattle.qcow2_alloc.specs.Going.{IsMild, IsWhole}
+use Rattle.qcow2_alloc.specs.Going.{IsMild, WasNotCutOff}
 use Rattle.qcow2_alloc.proofs.Going.{going-none, going-weaker, settled-same}
 use Rattle.qcow2_alloc.proofs.FlushingTables.{never-mild, spliced-bytes, calm-same, done_so}
 
@@ -135,7 +135,7 @@ module _ (H : Header) (order : CacheDependency) (tables : List (ℕ × Slot Tabl
   ]
 
   whole-answer : (result : Result Unit Fault) (value : Block) → here.value.modified ≡ true → IsInReach here.value.cluster_bits key → BlockFlushed key here.value old result new value
-      → Going H order (ReadyBlocks order) (IsWhole result) old before new (blocks_with tables front key (record here { value = value }) back)
+      → Going H order (ReadyBlocks order) (WasNotCutOff result) old before new (blocks_with tables front key (record here { value = value }) back)
   whole-answer (Ok done) value modified reach flushed = going-weaker H order (ReadyBlocks order) (done_so ≡ done_so) ⊤ old new before (blocks_with tables front key (record here { value = value }) back) (λ w. refl) (by-answer (Ok done) value modified reach flushed)
   whole-answer (Err fault) value modified reach flushed =
       going-weaker H order (ReadyBlocks order) (Err fault ≡ done_so) (IsMild fault) old new before (blocks_with tables front key (record here { value = value }) back)
@@ -143,11 +143,11 @@ module _ (H : Header) (order : CacheDependency) (tables : List (ℕ × Slot Tabl
 
   -- The same where it wasn't cut off.
   pub block-flushed-whole : (result : Result Unit Fault) (value : Block) → BlockFlushed key here.value old result new value
-      → Going H order (ReadyBlocks order) (IsWhole result) old before new (blocks_with tables front key (record here { value = value }) back)
+      → Going H order (ReadyBlocks order) (WasNotCutOff result) old before new (blocks_with tables front key (record here { value = value }) back)
   block-flushed-whole result value flushed = elim (cases_Bool here.value.modified) [
-    | inr clean ↦ let none = flushed.clean clean in stays (IsWhole result) value none.1 none.2
+    | inr clean ↦ let none = flushed.clean clean in stays (WasNotCutOff result) value none.1 none.2
     | inl modified ↦ elim (cases_lt max_offset (key * 2 ^ here.value.cluster_bits)) [
-      | inl far ↦ let none = flushed.out modified (λ reach. omega (arith, far, reach)) in stays (IsWhole result) value none.1 none.2
+      | inl far ↦ let none = flushed.out modified (λ reach. omega (arith, far, reach)) in stays (WasNotCutOff result) value none.1 none.2
       | inr reach ↦ whole-answer result value modified reach flushed
     ]
   ]

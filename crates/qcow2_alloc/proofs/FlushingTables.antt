@@ -7,7 +7,7 @@ use Rattle.std.proofs.Math.Path.{fun_ext}
 use Rattle.imago_storage.specs.State.{StorageState, Rose, InStep}
 use Rattle.imago_storage.specs.Calls.{Spliced, Cause}
 use Rattle.imago_storage.specs.declared.fault.Fault.TheVariants.{Memory, Storage}
-use Rattle.qcow2_alloc.specs.Going.{IsMild, IsWhole}
+use Rattle.qcow2_alloc.specs.Going.{IsMild, WasNotCutOff}
 use Rattle.imago_storage.specs.Through.{PutAtOnce}
 use Rattle.imago_storage.specs.declared.fault.Fault.{Fault}
 use Rattle.imago_storage.proofs.Composing.{no_stops, one_stop, tells_on, keeps_on}
@@ -154,7 +154,7 @@ module _ (H : Header) (order : CacheDependency) (front : List (ℕ × Slot Table
   ]
 
   whole-answer : (result : Result Unit Fault) (value : TableValue) → here.value.modified ≡ true → IsInReach here.value.layout.cluster_bits key → TableFlushed key here.value old result new value
-      → Going H order (ReadyTables order) (IsWhole result) old before new (tables_with front key (record here { value = value }) back blocks)
+      → Going H order (ReadyTables order) (WasNotCutOff result) old before new (tables_with front key (record here { value = value }) back blocks)
   whole-answer (Ok done) value modified reach flushed = going-weaker H order (ReadyTables order) (done_so ≡ done_so) ⊤ old new before (tables_with front key (record here { value = value }) back blocks) (λ w. refl) (by-answer (Ok done) value modified reach flushed)
   whole-answer (Err fault) value modified reach flushed =
       going-weaker H order (ReadyTables order) (Err fault ≡ done_so) (IsMild fault) old new before (tables_with front key (record here { value = value }) back blocks)
@@ -162,11 +162,11 @@ module _ (H : Header) (order : CacheDependency) (front : List (ℕ × Slot Table
 
   -- The same where it wasn't cut off.
   pub table-flushed-whole : (result : Result Unit Fault) (value : TableValue) → TableFlushed key here.value old result new value
-      → Going H order (ReadyTables order) (IsWhole result) old (tables_with front key here back blocks) new (tables_with front key (record here { value = value }) back blocks)
+      → Going H order (ReadyTables order) (WasNotCutOff result) old (tables_with front key here back blocks) new (tables_with front key (record here { value = value }) back blocks)
   table-flushed-whole result value flushed = elim (cases_Bool here.value.modified) [
-    | inr clean ↦ let none = flushed.clean clean in stays (IsWhole result) value none.1 none.2
+    | inr clean ↦ let none = flushed.clean clean in stays (WasNotCutOff result) value none.1 none.2
     | inl modified ↦ elim (cases_lt max_offset (key * 2 ^ here.value.layout.cluster_bits)) [
-      | inl far ↦ let none = flushed.out modified (λ reach. omega (arith, far, reach)) in stays (IsWhole result) value none.1 none.2
+      | inl far ↦ let none = flushed.out modified (λ reach. omega (arith, far, reach)) in stays (WasNotCutOff result) value none.1 none.2
       | inr reach ↦ whole-answer result value modified reach flushed
     ]
   ]

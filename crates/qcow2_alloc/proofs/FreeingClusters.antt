@@ -28,7 +28,7 @@ use Rattle.qcow2_alloc.specs.Finding.{BlockFound, IsPinnedFull, WhyNotFound}
 use Rattle.qcow2_alloc.specs.Freeing.{HasSpareRoom, WhyNotFreed, CountsFreeing, IsWholeOrCalm}
 use Rattle.qcow2_metadata.specs.Places.{IsInReach}
 use Rattle.qcow2_alloc.specs.FreeList.{listed}
-use Rattle.qcow2_alloc.specs.Going.{IsWhole, AreTablesInReach, AreBlocksInReach}
+use Rattle.qcow2_alloc.specs.Going.{WasNotCutOff, AreTablesInReach, AreBlocksInReach}
 use Rattle.qcow2_alloc.specs.Memory.{memory}
 use Rattle.qcow2_alloc.specs.Quiet.{Metadata, IsSound, IsQuiet, Quietly, counted, in_memory, metadata_in, one_at}
 use Rattle.qcow2_alloc.proofs.NamedBlocks.{named-block}
@@ -63,14 +63,14 @@ module _ {S : Type 0} (state : S → StorageState) (table : TableValue) where
       → Quietly (IsWholeOrCalm answer (state before.image) (state after.image)) still still (state before.image) (At old before pending) (state after.image) (At mid after pending)
   search-calmly key pending old before answer mid after found =
       let m = At old before pending in
-      let quiet = flushes-quietly m (IsWhole answer) (state before.image) (state after.image) (cached_in mid) refl found.going in
+      let quiet = flushes-quietly m (WasNotCutOff answer) (state before.image) (state after.image) (cached_in mid) refl found.going in
       subst (λ (h : Header). Quietly (IsWholeOrCalm answer (state before.image) (state after.image)) still still (state before.image) m (state after.image) (record m { file = bytes_of (state after.image).bytes; cached = cached_in mid; header = h; order = order_of mid })) (sym found.others.1)
       (subst (λ (o : CacheDependency). Quietly (IsWholeOrCalm answer (state before.image) (state after.image)) still still (state before.image) m (state after.image) (record m { file = bytes_of (state after.image).bytes; cached = cached_in mid; order = o })) (sym found.others.0) quiet)
 
   pub search-quietly : (key : ℕ) (pending : List FreeEntry) (old : MetadataCaches S) (before : ImageFile S) (answer : Result Unit Fault) (mid : MetadataCaches S) (after : ImageFile S) → BlockFound state key old before answer mid after
-      → Quietly (IsWhole answer) still still (state before.image) (At old before pending) (state after.image) (At mid after pending)
+      → Quietly (WasNotCutOff answer) still still (state before.image) (At old before pending) (state after.image) (At mid after pending)
   search-quietly key pending old before answer mid after found =
-      quietly-weaker _ (IsWhole answer) still still (state before.image) (At old before pending) (state after.image) (At mid after pending) (λ sound whole. inl whole) (search-calmly key pending old before answer mid after found)
+      quietly-weaker _ (WasNotCutOff answer) still still (state before.image) (At old before pending) (state after.image) (At mid after pending) (λ sound whole. inl whole) (search-calmly key pending old before answer mid after found)
 
   module _ (c : ℕ) (pending pending' : List FreeEntry) where
     -- what waits once the answer is known

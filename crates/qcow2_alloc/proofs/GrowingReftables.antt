@@ -17,7 +17,7 @@ use Rattle.qcow2_alloc.specs.Allocating.{MovedTable, WhyNotAllocated}
 use Rattle.qcow2_alloc.specs.Allocators.{metadata_of}
 use Rattle.qcow2_alloc.specs.Caches.{order_of, KeepsTables}
 use Rattle.qcow2_alloc.specs.Freeing.{IsLoose}
-use Rattle.qcow2_alloc.specs.Going.{IsMild, IsWhole}
+use Rattle.qcow2_alloc.specs.Going.{IsMild, WasNotCutOff}
 use Rattle.qcow2_alloc.specs.GrowingTables.{GrowsTable, NoPlaceToGrow, TableGrown, table_run}
 use Rattle.qcow2_alloc.specs.HandingOut.{GrowsReftable, StaysInShape}
 use Rattle.qcow2_alloc.specs.MovingTables.{WhyNotGrown}
@@ -51,7 +51,7 @@ module _ {S : Type 0} (state : S → StorageState) (mark at : ℕ) (table : Tabl
   not-copied fault why = record {
     leaked = λ _. 0;
     leaks = leaks-none _ _ (failed fault);
-    quiet = memory-quietly (IsWhole (failed fault)) (λ _. 0) (λ _. 0) (state before.image) Start Start (λ sound whole. (sound, quiet-none Start sound));
+    quiet = memory-quietly (WasNotCutOff (failed fault)) (λ _. 0) (λ _. 0) (state before.image) Start Start (λ sound whole. (sound, quiet-none Start sound));
     raised = λ keeps sound whole c. inl refl;
     grown = λ keeps sound. tt;
     enough = tt;
@@ -129,7 +129,7 @@ module _ {S : Type 0} (state : S → StorageState) (mark at : ℕ) (table : Tabl
     announced-grows = record {
       leaked = grows.leaked;
       leaks = record { none = grows.leaks.none; pinned = λ holds loose. let still = sound-behind state table pending old before mid between first holds.0 holds.1 in grows.leaks.pinned (still.0, first.order, still.1) (first.loose true loose) };
-      quiet = quiet-behind state table pending old before mid between first (IsWhole result) grows.leaked (state after.image) End grows.step.quiet;
+      quiet = quiet-behind state table pending old before mid between first (WasNotCutOff result) grows.leaked (state after.image) End grows.step.quiet;
       raised = λ keeps sound whole. let still = sound-behind state table pending old before mid between first keeps sound in
           raised-behind state table pending old before mid between first End keeps sound (grows.step.raised first.order still.0 still.1 whole);
       grown = λ keeps sound. let still = sound-behind state table pending old before mid between first keeps sound in grown result keeps sound (grows.grown first.order still.0 still.1);

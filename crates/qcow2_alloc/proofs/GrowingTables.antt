@@ -23,7 +23,7 @@ use Rattle.qcow2_alloc.specs.Allocators.{metadata_of}
 use Rattle.qcow2_alloc.specs.Caches.{cached_in, order_of}
 use Rattle.qcow2_alloc.specs.FreeList.{covers}
 use Rattle.qcow2_alloc.specs.Freeing.{IsLoose, WhyNotCounted}
-use Rattle.qcow2_alloc.specs.Going.{IsWhole, IsMild}
+use Rattle.qcow2_alloc.specs.Going.{WasNotCutOff, IsMild}
 use Rattle.qcow2_alloc.specs.Growing.{lacks, IsFirstRoom, LooksForRoom}
 use Rattle.qcow2_alloc.specs.GrowingTables.{GrowsTable, TableGrown, IsRoomToGrow, IsRoomInReach, NoPlaceToGrow, room_from, table_run}
 use Rattle.qcow2_alloc.specs.MakingRoom.{run_of}
@@ -52,14 +52,14 @@ module _ {S T : Type 0} (state : S → StorageState) (table : TableValue) (pendi
       subst (λ (h : Header). P (record m0 { file = bytes_of (state fC.image).bytes; cached = cached_in C; header = h; order = order_of C })) (sym looked.header)
       (subst (λ (o : CacheDependency). P (record m0 { file = bytes_of (state fC.image).bytes; cached = cached_in C; order = o })) (sym looked.order) p)
 
-  pub looked-counts : IsTrue (state before.image).shape.keeps → IsSound m0 → IsWhole result → (c : ℕ) → counted mC c ≡ counted m0 c
+  pub looked-counts : IsTrue (state before.image).shape.keeps → IsSound m0 → WasNotCutOff result → (c : ℕ) → counted mC c ≡ counted m0 c
   looked-counts keeps sound whole c =
       moved (λ m. counted m c ≡ counted m0 c) (flushes-count m0 (state before.image).bytes (state fC.image).bytes (cached_in C) refl (looked.going.holds keeps sound.safe tt (inl whole)) c).0
 
-  pub looked-allocates : Allocating state (IsWhole result) (λ _. 0) table old before pending table C fC pending
+  pub looked-allocates : Allocating state (WasNotCutOff result) (λ _. 0) table old before pending table C fC pending
   looked-allocates = record {
-    quiet = λ order. moved (λ m. Quietly (IsWhole result) (λ _. 0) (λ _. 0) (state before.image) m0 (state fC.image) m)
-        (going-quietly m0 (IsWhole result) (state before.image) (state fC.image) (cached_in C) refl looked.going);
+    quiet = λ order. moved (λ m. Quietly (WasNotCutOff result) (λ _. 0) (λ _. 0) (state before.image) m0 (state fC.image) m)
+        (going-quietly m0 (WasNotCutOff result) (state before.image) (state fC.image) (cached_in C) refl looked.going);
     raised = λ order keeps sound whole c. inl (looked-counts keeps sound whole c);
     order = looked.order;
     moved = moved-none before.header fC.header looked.header;
@@ -115,7 +115,7 @@ module _ {S : Type 0} (state : S → StorageState) (mark at : ℕ) (table : Tabl
   pub no-room : (fault : Fault) (C : MetadataCaches S) (fC : ImageFile S) → Looked state {T = Run} table old before (Err fault) C fC → GrowsTable state mark at table old before pending (failed fault) table C fC pending
   no-room fault C fC looked =
       not-grown fault C fC (looked-allocates {T = Run} state table pending old before C fC (Err fault) looked) looked.header
-      (λ keeps sound number is. looked-counts {T = Run} state table pending old before C fC (Err fault) looked keeps sound (subst (λ (f : Fault). IsWhole {T = Run} (Err f)) (sym is) tt))
+      (λ keeps sound number is. looked-counts {T = Run} state table pending old before C fC (Err fault) looked keeps sound (subst (λ (f : Fault). WasNotCutOff {T = Run} (Err f)) (sym is) tt))
       (allocated-wider _ _ _ _ _ _ _ _ (λ known. safe-with known.0 known.2) (loose-all table old) refl fault looked.cause)
 
   -- A room was found for a copy.
@@ -242,9 +242,9 @@ module _ {S : Type 0} (state : S → StorageState) (mark at : ℕ) (table : Tabl
         leaked = filled.leaked;
         leaks = record { none = filled.leaks.none; pinned = λ holds loose. filled.leaks.pinned (was-on holds) (looked.loose true loose) };
         step = record {
-          quiet = λ order. quietly-given (IsWhole result) filled.leaked (λ _. 0) (state before.image) start (state fD.image) end (filled.shape ∙ looked.going.shape) (later_both _ _ _ looked.going.later filled.later) (λ keeps sound.
-              quietly-otherwise (IsWhole result) (λ c. 0 + filled.leaked c) (λ c. 0 + 0) filled.leaked (λ _. 0) (state before.image) start (state fD.image) end (λ s c. omega arith) (λ s c used none. refl)
-              (quietly-then-given ⊤ (IsWhole result) (λ _. 0) (λ _. 0) filled.leaked (λ _. 0) (state before.image) start (state fC.image) mid (state fD.image) end tt (λ s c some. refl) (one.quiet order) filled.shape filled.later
+          quiet = λ order. quietly-given (WasNotCutOff result) filled.leaked (λ _. 0) (state before.image) start (state fD.image) end (filled.shape ∙ looked.going.shape) (later_both _ _ _ looked.going.later filled.later) (λ keeps sound.
+              quietly-otherwise (WasNotCutOff result) (λ c. 0 + filled.leaked c) (λ c. 0 + 0) filled.leaked (λ _. 0) (state before.image) start (state fD.image) end (λ s c. omega arith) (λ s c used none. refl)
+              (quietly-then-given ⊤ (WasNotCutOff result) (λ _. 0) (λ _. 0) filled.leaked (λ _. 0) (state before.image) start (state fC.image) mid (state fD.image) end tt (λ s c some. refl) (one.quiet order) filled.shape filled.later
               (λ k s s1 quiet. filled.quiet (order, keeps, sound))));
           raised = λ order keeps sound ok c. elim (filled.raised (order, keeps, sound) (on keeps) (mid-sound order keeps sound) ok c) [
             | inl stays ↦ inl (stays ∙ mid-counts keeps sound c)

@@ -20,7 +20,7 @@ use Rattle.qcow2_alloc.specs.Caches.{order_of}
 use Rattle.qcow2_alloc.specs.Crowding.{IsCrowded}
 use Rattle.qcow2_alloc.specs.Freeing.{Frees, HasSpareRoom, IsLoose, IsMarked, IsRestInTurn, WhyNotFreed}
 use Rattle.qcow2_alloc.specs.FreeList.{covers}
-use Rattle.qcow2_alloc.specs.Going.{IsWhole}
+use Rattle.qcow2_alloc.specs.Going.{WasNotCutOff}
 use Rattle.qcow2_alloc.specs.GrowingTables.{IsInRoomToGrow, IsLengthenedByTable, IsRoomToGrow, IsTakenFor, NoPlaceToGrow}
 use Rattle.qcow2_alloc.specs.HandingOut.{AllocatesClusterAt, AllocatesClusters, AreUnnamed, IsBarred, IsFreed, IsHandedAt, IsOneAt, IsSearched, StaysInShape, handed_at}
 use Rattle.qcow2_alloc.specs.HandingOutOne.{AllocatesAt}
@@ -115,7 +115,7 @@ module _ {S : Type 0} (state : S → StorageState) (mark cluster : ℕ) (table :
     at-announced = record {
       leaked = at.did.leaked;
       leaks = record { none = at.did.leaks.none; pinned = λ holds loose. let still = sound-behind state table pending old before mid between first holds.0 holds.1 in at.did.leaks.pinned (still.0, first.order, still.1) (first.loose true loose) };
-      quiet = quiet-behind state table pending old before mid between first (IsWhole result) (handed_at result at.did.leaked) (state after.image) End at.did.step.quiet;
+      quiet = quiet-behind state table pending old before mid between first (WasNotCutOff result) (handed_at result at.did.leaked) (state after.image) End at.did.step.quiet;
       raised = λ keeps sound whole. let still = sound-behind state table pending old before mid between first keeps sound in
           raised-behind state table pending old before mid between first End keeps sound (at.did.step.raised first.order still.0 still.1 whole);
       one = subst (λ (H : Header). IfOk result (IsOneAt cluster H.fields.cluster_bits)) first.header at.one;
@@ -180,7 +180,7 @@ module _ {S : Type 0} (state : S → StorageState) (mark n : ℕ) (metadata : Bo
     run-not-freed = record {
       leaked = λ _. 0;
       leaks = leaks-none _ _ (refused_run fault);
-      quiet = quietly-weaker _ (IsWhole (refused_run fault)) (λ _. 0) (λ _. 0) (state before.image) First (state fA.image) Rest (λ sound whole. inl whole) frees.quiet;
+      quiet = quietly-weaker _ (WasNotCutOff (refused_run fault)) (λ _. 0) (λ _. 0) (state before.image) First (state fA.image) Rest (λ sound whole. inl whole) frees.quiet;
       run = tt;
       unnamed = λ keeps sound. tt;
       answer = failed fault;
@@ -286,10 +286,10 @@ module _ {S : Type 0} (state : S → StorageState) (mark n : ℕ) (metadata : Bo
       cause = allocated-wider _ _ _ _ _ _ _ _ (λ holds. still-sound holds.0 holds.1) (λ any loose. loose-all table A any (freed-loose any loose)) frees.cause fault second.cause;
     }
       where
-        quiet : Quietly (IsWhole (refused_run fault)) (λ _. 0) (λ _. 0) (state before.image) First (state fB.image) Ready
-        quiet = quiet-on (IsWhole (refused_run fault)) (λ _. 0) (state fB.image) Ready second.quiet
+        quiet : Quietly (WasNotCutOff (refused_run fault)) (λ _. 0) (λ _. 0) (state before.image) First (state fB.image) Ready
+        quiet = quiet-on (WasNotCutOff (refused_run fault)) (λ _. 0) (state fB.image) Ready second.quiet
 
-        marked : IsTrue (state before.image).shape.keeps → IsSound First → IsWhole (refused_run fault) → IsMarked First mark → IsMarked Ready mark1
+        marked : IsTrue (state before.image).shape.keeps → IsSound First → WasNotCutOff (refused_run fault) → IsMarked First mark → IsMarked Ready mark1
         marked keeps sound whole was c below =
             let still = still-sound keeps sound in
             let same = second.counts still.0 still.1 whole c in
@@ -341,8 +341,8 @@ module _ {S : Type 0} (state : S → StorageState) (mark n : ℕ) (metadata : Bo
       unnamed-run keeps sound (Err fault) is run taken fresh = tt
       unnamed-run keeps sound (Ok entry) is run taken fresh = λ c above below.
           let still = ready-sound keeps sound in
-          let quiet : Quietly (IsWhole (run_so entry)) (handed_by (run_so entry) third.leaked) (λ _. 0) (state fB.image) Ready (state after.image) Last =
-          subst (λ (r : Result FreeEntry Fault). Quietly (IsWhole r) (handed_by r third.leaked) (λ _. 0) (state fB.image) Ready (state after.image) Last) is (third.step.quiet second.order) in
+          let quiet : Quietly (WasNotCutOff (run_so entry)) (handed_by (run_so entry) third.leaked) (λ _. 0) (state fB.image) Ready (state after.image) Last =
+          subst (λ (r : Result FreeEntry Fault). Quietly (WasNotCutOff r) (handed_by r third.leaked) (λ _. 0) (state fB.image) Ready (state after.image) Last) is (third.step.quiet second.order) in
           let held = quiet.holds still.0 still.1 tt in
           let length-is = run.0 in
           let inside : c < entry.first + n = omega (arith, below, length-is) in
@@ -369,8 +369,8 @@ module _ {S : Type 0} (state : S → StorageState) (mark n : ℕ) (metadata : Bo
       run-announced = record {
         leaked = third.leaked;
         leaks = record { none = third.leaks.none; pinned = λ holds loose. let still = ready-sound holds.0 holds.1 in third.leaks.pinned (still.0, second.order, still.1) (second.loose true (freed-loose true loose)) };
-        quiet = quiet-on (IsWhole result) (handed_by result third.leaked) (state after.image) Last
-            (quiet-behind state table [] A fA B fB second (IsWhole result) (handed_by result third.leaked) (state after.image) Last third.step.quiet);
+        quiet = quiet-on (WasNotCutOff result) (handed_by result third.leaked) (state after.image) Last
+            (quiet-behind state table [] A fA B fB second (WasNotCutOff result) (handed_by result third.leaked) (state after.image) Last third.step.quiet);
         run = runs;
         unnamed = λ keeps sound. let still = ready-sound keeps sound in unnamed-run keeps sound result refl runs (third.taken second.order still.0 still.1) (third.fresh second.order still.0 still.1);
         answer = Ok tt;

@@ -24,7 +24,7 @@ use Rattle.qcow2_alloc.specs.Caches.{cached_in, order_of}
 use Rattle.qcow2_alloc.specs.CachesLending.{with_blocks, block_flushes}
 use Rattle.qcow2_alloc.specs.Finding.{IsPinnedFull, CountsSearch, LetsBlockIn}
 use Rattle.qcow2_alloc.specs.Putting.{refusal_of, IsNewBlock, BlockInserted}
-use Rattle.qcow2_alloc.specs.Going.{Going, Always, ReadyBlocks, IsWhole, IsMild, AreTablesInReach, CountsWrites, WhyNotWritten, WritesTables}
+use Rattle.qcow2_alloc.specs.Going.{Going, Always, ReadyBlocks, WasNotCutOff, IsMild, AreTablesInReach, CountsWrites, WhyNotWritten, WritesTables}
 use Rattle.qcow2_alloc.specs.Memory.{Cached, memory, written, written_block}
 use Rattle.qcow2_alloc.specs.Safety.{Safe, IsLeft, IsCachedBlock}
 use Rattle.qcow2_alloc.proofs.Counting.{block-counted}
@@ -86,22 +86,22 @@ module _ (H : Header) (order : CacheDependency) (tables : List (ℕ × Slot Tabl
       then-so ok' es2 second = going-ready H order (ReadyBlocks order) ok ok' a (state before.image) (state after.image) A (put es) (put es2) done ready first second
 
       by-put : lookup (nat_eq key) es ≡ None → (room : Result Bool Fault) (entries : List (ℕ × Slot Block)) → MadeRoom nat_eq (block_flushes state) cap true before es room after entries → (result : Result (Option Block) (Fault × Block))
-          → PutAfter nat_eq (block_flushes state) key value entries room result es' → Going H order (λ _. P) (IsWhole (refusal_of (put_of result))) a A (state after.image) (put es')
+          → PutAfter nat_eq (block_flushes state) key value entries room result es' → Going H order (λ _. P) (WasNotCutOff (refusal_of (put_of result))) a A (state after.image) (put es')
       by-put none room entries made result later =
-          let second = then-so (IsWhole room) entries (block-room-made state H order tables cap true before es room after entries made) in
+          let second = then-so (WasNotCutOff room) entries (block-room-made state H order tables cap true before es room after entries made) in
           by-room room (block-room-absent state H order tables cap true key before es room after entries made) second later
         where
-          by-room : (room : Result Bool Fault) → (room ≡ Ok true → lookup (nat_eq key) es ≡ None → lookup (nat_eq key) entries ≡ None) → Going H order Always (IsWhole room) a A (state after.image) (put entries)
-              → PutAfter nat_eq (block_flushes state) key value entries room result es' → Going H order (λ _. P) (IsWhole (refusal_of (put_of result))) a A (state after.image) (put es')
+          by-room : (room : Result Bool Fault) → (room ≡ Ok true → lookup (nat_eq key) es ≡ None → lookup (nat_eq key) entries ≡ None) → Going H order Always (WasNotCutOff room) a A (state after.image) (put entries)
+              → PutAfter nat_eq (block_flushes state) key value entries room result es' → Going H order (λ _. P) (WasNotCutOff (refusal_of (put_of result))) a A (state after.image) (put es')
           by-room (Ok true) absent second (inl now) =
-              subst (λ (l : List (ℕ × Slot Block)). Going H order (λ _. P) (IsWhole (refusal_of (put_of result))) a A (state after.image) (put l)) (sym now.1)
-              (last (state after.image) entries _ ⊤ (IsWhole (refusal_of (put_of result))) (λ w. tt) second (block-put (state after.image) entries (absent refl none)))
-          by-room (Ok true) absent second (inr short) = halted (state after.image) entries es' ⊤ (IsWhole (refusal_of (put_of result))) (λ w. tt) short.1 second
-          by-room (Ok false) absent second later = halted (state after.image) entries es' ⊤ (IsWhole (refusal_of (put_of result))) (λ w. tt) later.1 second
+              subst (λ (l : List (ℕ × Slot Block)). Going H order (λ _. P) (WasNotCutOff (refusal_of (put_of result))) a A (state after.image) (put l)) (sym now.1)
+              (last (state after.image) entries _ ⊤ (WasNotCutOff (refusal_of (put_of result))) (λ w. tt) second (block-put (state after.image) entries (absent refl none)))
+          by-room (Ok true) absent second (inr short) = halted (state after.image) entries es' ⊤ (WasNotCutOff (refusal_of (put_of result))) (λ w. tt) short.1 second
+          by-room (Ok false) absent second later = halted (state after.image) entries es' ⊤ (WasNotCutOff (refusal_of (put_of result))) (λ w. tt) later.1 second
           by-room (Err fault) absent second later =
-              halted (state after.image) entries es' (IsMild fault) (IsWhole (refusal_of (put_of result))) (λ w. subst (λ (q : Result (Option Block) (Fault × Block)). IsWhole (refusal_of (put_of q))) later.0 w) later.1 second
+              halted (state after.image) entries es' (IsMild fault) (WasNotCutOff (refusal_of (put_of result))) (λ w. subst (λ (q : Result (Option Block) (Fault × Block)). WasNotCutOff (refusal_of (put_of q))) later.0 w) later.1 second
 
-      by-over : (result : Result (Option Block) (Fault × Block)) → Overwritten nat_eq (block_flushes state) key value before es result after es' → Going H order (λ _. P) (IsWhole (refusal_of (put_of result))) a A (state after.image) (put es')
+      by-over : (result : Result (Option Block) (Fault × Block)) → Overwritten nat_eq (block_flushes state) key value before es result after es' → Going H order (λ _. P) (WasNotCutOff (refusal_of (put_of result))) a A (state after.image) (put es')
       by-over (Ok back) (none, mid, at, list) =
           let p = place-of-key key es at.slot at.there in
           let w = record at.slot { value = at.value } in
@@ -123,7 +123,7 @@ module _ (H : Header) (order : CacheDependency) (tables : List (ℕ × Slot Tabl
 
       -- It is put, where what has to be written before is,
       pub block-inserted-going : (result : Result (Option Block) (Fault × Block)) → Inserted nat_eq (block_flushes state) cap true key value before es result after es'
-          → Going H order (λ _. P) (IsWhole (refusal_of (put_of result))) a A (state after.image) (put es')
+          → Going H order (λ _. P) (WasNotCutOff (refusal_of (put_of result))) a A (state after.image) (put es')
       block-inserted-going result i = elim (is-there (lookup (nat_eq key) es)) [
         | inr none ↦ let added = i.fresh none in by-put none added.room added.entries added.made result added.put
         | inl there ↦ by-over result (i.over there refl)
@@ -188,12 +188,12 @@ module _ {S : Type 0} (state : S → StorageState) (cluster : ℕ) (block : Bloc
             let q = quiet state before.header (order_of old) old.l2.slots.entries cluster block old.rb.slots.cap before old.rb.slots.entries after es' result not i in
             let kept : Kept (state before.image) (state after.image) = subst (λ (d : ImageFile S). Kept (state before.image) (state d.image)) (sym q.file) (kept-same (state before.image)) in
             record {
-              going = subst (λ (d : ImageFile S). Going before.header (order_of old) (λ _. IsNewBlock (bytes_of (state before.image).bytes) before.header.fields cluster block old.rb.slots.entries) (IsWhole (refusal_of (put_of result))) (state before.image) (cached_in old) (state d.image) (record { blocks = es'; tables = old.l2.slots.entries })) (sym q.file)
+              going = subst (λ (d : ImageFile S). Going before.header (order_of old) (λ _. IsNewBlock (bytes_of (state before.image).bytes) before.header.fields cluster block old.rb.slots.entries) (WasNotCutOff (refusal_of (put_of result))) (state before.image) (cached_in old) (state d.image) (record { blocks = es'; tables = old.l2.slots.entries })) (sym q.file)
                   (elim q.way [
-                    | inl stays ↦ subst (λ (l : List (ℕ × Slot Block)). Going before.header (order_of old) (λ _. IsNewBlock (bytes_of (state before.image).bytes) before.header.fields cluster block old.rb.slots.entries) (IsWhole (refusal_of (put_of result))) (state before.image) (cached_in old) (state before.image) (record { blocks = l; tables = old.l2.slots.entries })) (sym stays)
-                        (going-none before.header (order_of old) _ (IsWhole (refusal_of (put_of result))) (state before.image) (cached_in old))
-                    | inr comes ↦ subst (λ (l : List (ℕ × Slot Block)). Going before.header (order_of old) (λ _. IsNewBlock (bytes_of (state before.image).bytes) before.header.fields cluster block old.rb.slots.entries) (IsWhole (refusal_of (put_of result))) (state before.image) (cached_in old) (state before.image) (record { blocks = l; tables = old.l2.slots.entries })) (sym comes.0)
-                        (going-quiet before.header (order_of old) _ (IsWhole (refusal_of (put_of result))) (state before.image) (state before.image) (cached_in old) _ (kept-same (state before.image)) (omega arith) (λ r. r)
+                    | inl stays ↦ subst (λ (l : List (ℕ × Slot Block)). Going before.header (order_of old) (λ _. IsNewBlock (bytes_of (state before.image).bytes) before.header.fields cluster block old.rb.slots.entries) (WasNotCutOff (refusal_of (put_of result))) (state before.image) (cached_in old) (state before.image) (record { blocks = l; tables = old.l2.slots.entries })) (sym stays)
+                        (going-none before.header (order_of old) _ (WasNotCutOff (refusal_of (put_of result))) (state before.image) (cached_in old))
+                    | inr comes ↦ subst (λ (l : List (ℕ × Slot Block)). Going before.header (order_of old) (λ _. IsNewBlock (bytes_of (state before.image).bytes) before.header.fields cluster block old.rb.slots.entries) (WasNotCutOff (refusal_of (put_of result))) (state before.image) (cached_in old) (state before.image) (record { blocks = l; tables = old.l2.slots.entries })) (sym comes.0)
+                        (going-quiet before.header (order_of old) _ (WasNotCutOff (refusal_of (put_of result))) (state before.image) (state before.image) (cached_in old) _ (kept-same (state before.image)) (omega arith) (λ r. r)
                         (λ fresh safe. block-comes-safe (bytes_of (state before.image).bytes) before.header (order_of old) old.l2.slots.entries [] cluster (record { value = block; pins = 0 }) [] old.rb.slots.entries fresh.clean (away-of-all cluster old.rb.slots.entries q.absent) fresh.fits safe)
                         (λ fresh. block-comes (bytes_of (state before.image).bytes) before.header (order_of old) old.l2.slots.entries [] cluster (record { value = block; pins = 0 }) [] old.rb.slots.entries fresh.clean))
                   ]);

@@ -24,7 +24,7 @@ use Rattle.qcow2_alloc.specs.Caches.{cached_in, order_of}
 use Rattle.qcow2_alloc.specs.CachesLending.{with_tables, table_flushes}
 use Rattle.qcow2_alloc.specs.Finding.{IsPinnedFull, CountsSearch, LetsTableIn}
 use Rattle.qcow2_alloc.specs.Putting.{refusal_of, IsNewTable, TableInserted}
-use Rattle.qcow2_alloc.specs.Going.{Going, Always, ReadyTables, IsWhole, IsMild, AreBlocksInReach, CountsWrites, WhyNotWritten, WritesBlocks}
+use Rattle.qcow2_alloc.specs.Going.{Going, Always, ReadyTables, WasNotCutOff, IsMild, AreBlocksInReach, CountsWrites, WhyNotWritten, WritesBlocks}
 use Rattle.qcow2_alloc.specs.Memory.{Cached, memory, written, written_table}
 use Rattle.qcow2_alloc.specs.Safety.{Safe, IsLeft, IsCachedTable}
 use Rattle.qcow2_alloc.proofs.Counting.{table-counted}
@@ -84,22 +84,22 @@ module _ (H : Header) (order : CacheDependency) (blocks : List (ℕ × Slot Bloc
       then-so ok' es2 second = going-ready H order (ReadyTables order) ok ok' a (state before.image) (state after.image) A (put es) (put es2) done ready first second
 
       by-put : lookup (nat_eq key) es ≡ None → (room : Result Bool Fault) (entries : List (ℕ × Slot TableValue)) → MadeRoom nat_eq (table_flushes state) cap true before es room after entries → (result : Result (Option TableValue) (Fault × TableValue))
-          → PutAfter nat_eq (table_flushes state) key value entries room result es' → Going H order (λ _. P) (IsWhole (refusal_of (put_of result))) a A (state after.image) (put es')
+          → PutAfter nat_eq (table_flushes state) key value entries room result es' → Going H order (λ _. P) (WasNotCutOff (refusal_of (put_of result))) a A (state after.image) (put es')
       by-put none room entries made result later =
-          let second = then-so (IsWhole room) entries (table-room-made state H order blocks cap true before es room after entries made) in
+          let second = then-so (WasNotCutOff room) entries (table-room-made state H order blocks cap true before es room after entries made) in
           by-room room (table-room-absent state H order blocks cap true key before es room after entries made) second later
         where
-          by-room : (room : Result Bool Fault) → (room ≡ Ok true → lookup (nat_eq key) es ≡ None → lookup (nat_eq key) entries ≡ None) → Going H order Always (IsWhole room) a A (state after.image) (put entries)
-              → PutAfter nat_eq (table_flushes state) key value entries room result es' → Going H order (λ _. P) (IsWhole (refusal_of (put_of result))) a A (state after.image) (put es')
+          by-room : (room : Result Bool Fault) → (room ≡ Ok true → lookup (nat_eq key) es ≡ None → lookup (nat_eq key) entries ≡ None) → Going H order Always (WasNotCutOff room) a A (state after.image) (put entries)
+              → PutAfter nat_eq (table_flushes state) key value entries room result es' → Going H order (λ _. P) (WasNotCutOff (refusal_of (put_of result))) a A (state after.image) (put es')
           by-room (Ok true) absent second (inl now) =
-              subst (λ (l : List (ℕ × Slot TableValue)). Going H order (λ _. P) (IsWhole (refusal_of (put_of result))) a A (state after.image) (put l)) (sym now.1)
-              (last (state after.image) entries _ ⊤ (IsWhole (refusal_of (put_of result))) (λ w. tt) second (table-put (state after.image) entries (absent refl none)))
-          by-room (Ok true) absent second (inr short) = halted (state after.image) entries es' ⊤ (IsWhole (refusal_of (put_of result))) (λ w. tt) short.1 second
-          by-room (Ok false) absent second later = halted (state after.image) entries es' ⊤ (IsWhole (refusal_of (put_of result))) (λ w. tt) later.1 second
+              subst (λ (l : List (ℕ × Slot TableValue)). Going H order (λ _. P) (WasNotCutOff (refusal_of (put_of result))) a A (state after.image) (put l)) (sym now.1)
+              (last (state after.image) entries _ ⊤ (WasNotCutOff (refusal_of (put_of result))) (λ w. tt) second (table-put (state after.image) entries (absent refl none)))
+          by-room (Ok true) absent second (inr short) = halted (state after.image) entries es' ⊤ (WasNotCutOff (refusal_of (put_of result))) (λ w. tt) short.1 second
+          by-room (Ok false) absent second later = halted (state after.image) entries es' ⊤ (WasNotCutOff (refusal_of (put_of result))) (λ w. tt) later.1 second
           by-room (Err fault) absent second later =
-              halted (state after.image) entries es' (IsMild fault) (IsWhole (refusal_of (put_of result))) (λ w. subst (λ (q : Result (Option TableValue) (Fault × TableValue)). IsWhole (refusal_of (put_of q))) later.0 w) later.1 second
+              halted (state after.image) entries es' (IsMild fault) (WasNotCutOff (refusal_of (put_of result))) (λ w. subst (λ (q : Result (Option TableValue) (Fault × TableValue)). WasNotCutOff (refusal_of (put_of q))) later.0 w) later.1 second
 
-      by-over : (result : Result (Option TableValue) (Fault × TableValue)) → Overwritten nat_eq (table_flushes state) key value before es result after es' → Going H order (λ _. P) (IsWhole (refusal_of (put_of result))) a A (state after.image) (put es')
+      by-over : (result : Result (Option TableValue) (Fault × TableValue)) → Overwritten nat_eq (table_flushes state) key value before es result after es' → Going H order (λ _. P) (WasNotCutOff (refusal_of (put_of result))) a A (state after.image) (put es')
       by-over (Ok back) (none, mid, at, list) =
           let p = place-of-key key es at.slot at.there in
           let w = record at.slot { value = at.value } in
@@ -121,7 +121,7 @@ module _ (H : Header) (order : CacheDependency) (blocks : List (ℕ × Slot Bloc
 
       -- It is put, where what has to be written before is,
       pub table-inserted-going : (result : Result (Option TableValue) (Fault × TableValue)) → Inserted nat_eq (table_flushes state) cap true key value before es result after es'
-          → Going H order (λ _. P) (IsWhole (refusal_of (put_of result))) a A (state after.image) (put es')
+          → Going H order (λ _. P) (WasNotCutOff (refusal_of (put_of result))) a A (state after.image) (put es')
       table-inserted-going result i = elim (is-there (lookup (nat_eq key) es)) [
         | inr none ↦ let added = i.fresh none in by-put none added.room added.entries added.made result added.put
         | inl there ↦ by-over result (i.over there refl)
@@ -186,12 +186,12 @@ module _ {S : Type 0} (state : S → StorageState) (cluster : ℕ) (table : Tabl
             let q = quiet state before.header (order_of old) old.rb.slots.entries cluster table old.l2.slots.cap before old.l2.slots.entries after es' result not i in
             let kept : Kept (state before.image) (state after.image) = subst (λ (d : ImageFile S). Kept (state before.image) (state d.image)) (sym q.file) (kept-same (state before.image)) in
             record {
-              going = subst (λ (d : ImageFile S). Going before.header (order_of old) (λ _. IsNewTable (bytes_of (state before.image).bytes) before.header.fields cluster table old.l2.slots.entries) (IsWhole (refusal_of (put_of result))) (state before.image) (cached_in old) (state d.image) (record { tables = es'; blocks = old.rb.slots.entries })) (sym q.file)
+              going = subst (λ (d : ImageFile S). Going before.header (order_of old) (λ _. IsNewTable (bytes_of (state before.image).bytes) before.header.fields cluster table old.l2.slots.entries) (WasNotCutOff (refusal_of (put_of result))) (state before.image) (cached_in old) (state d.image) (record { tables = es'; blocks = old.rb.slots.entries })) (sym q.file)
                   (elim q.way [
-                    | inl stays ↦ subst (λ (l : List (ℕ × Slot TableValue)). Going before.header (order_of old) (λ _. IsNewTable (bytes_of (state before.image).bytes) before.header.fields cluster table old.l2.slots.entries) (IsWhole (refusal_of (put_of result))) (state before.image) (cached_in old) (state before.image) (record { tables = l; blocks = old.rb.slots.entries })) (sym stays)
-                        (going-none before.header (order_of old) _ (IsWhole (refusal_of (put_of result))) (state before.image) (cached_in old))
-                    | inr comes ↦ subst (λ (l : List (ℕ × Slot TableValue)). Going before.header (order_of old) (λ _. IsNewTable (bytes_of (state before.image).bytes) before.header.fields cluster table old.l2.slots.entries) (IsWhole (refusal_of (put_of result))) (state before.image) (cached_in old) (state before.image) (record { tables = l; blocks = old.rb.slots.entries })) (sym comes.0)
-                        (going-quiet before.header (order_of old) _ (IsWhole (refusal_of (put_of result))) (state before.image) (state before.image) (cached_in old) _ (kept-same (state before.image)) (omega arith) (λ r. r)
+                    | inl stays ↦ subst (λ (l : List (ℕ × Slot TableValue)). Going before.header (order_of old) (λ _. IsNewTable (bytes_of (state before.image).bytes) before.header.fields cluster table old.l2.slots.entries) (WasNotCutOff (refusal_of (put_of result))) (state before.image) (cached_in old) (state before.image) (record { tables = l; blocks = old.rb.slots.entries })) (sym stays)
+                        (going-none before.header (order_of old) _ (WasNotCutOff (refusal_of (put_of result))) (state before.image) (cached_in old))
+                    | inr comes ↦ subst (λ (l : List (ℕ × Slot TableValue)). Going before.header (order_of old) (λ _. IsNewTable (bytes_of (state before.image).bytes) before.header.fields cluster table old.l2.slots.entries) (WasNotCutOff (refusal_of (put_of result))) (state before.image) (cached_in old) (state before.image) (record { tables = l; blocks = old.rb.slots.entries })) (sym comes.0)
+                        (going-quiet before.header (order_of old) _ (WasNotCutOff (refusal_of (put_of result))) (state before.image) (state before.image) (cached_in old) _ (kept-same (state before.image)) (omega arith) (λ r. r)
                         (λ fresh safe. table-comes-safe (bytes_of (state before.image).bytes) before.header (order_of old) [] cluster (record { value = table; pins = 0 }) [] old.rb.slots.entries old.l2.slots.entries fresh.clean (away-of-all cluster old.l2.slots.entries q.absent) fresh.fits safe)
                         (λ fresh. table-comes (bytes_of (state before.image).bytes) before.header (order_of old) [] cluster (record { value = table; pins = 0 }) [] old.rb.slots.entries old.l2.slots.entries fresh.clean))
                   ]);

@@ -27,7 +27,7 @@ use Rattle.qcow2_alloc.specs.CachesLending.{with_blocks}
 use Rattle.qcow2_alloc.specs.Changes.{CachesBlock, StaysAsItIs}
 use Rattle.qcow2_alloc.specs.Finding.{BlockFound, IsPinnedFull, WhyNotFound}
 use Rattle.qcow2_alloc.specs.Freeing.{IsLoose, WhyNotFreed}
-use Rattle.qcow2_alloc.specs.Going.{Going, Always, IsWhole, AreTablesInReach, AreBlocksInReach}
+use Rattle.qcow2_alloc.specs.Going.{Going, Always, WasNotCutOff, AreTablesInReach, AreBlocksInReach}
 use Rattle.qcow2_alloc.specs.Memory.{Cached, memory}
 use Rattle.qcow2_alloc.specs.Quiet.{IsTableOf}
 use Rattle.qcow2_alloc.specs.Safety.{Safe, IsSettled, IsCachedBlock}
@@ -102,7 +102,7 @@ module _ {S : Type 0} (state : S → StorageState) (table : TableValue) where
   module _ {T U : Type 0} (old : MetadataCaches S) (before : ImageFile S) (v : T) (mid : MetadataCaches S) (between : ImageFile S) (result : Result U Fault) (new : MetadataCaches S) (after : ImageFile S)
       (first : Looked state table old before (Ok v) mid between) (second : Looked state table mid between result new after) where
     abbrev Goes : Header → CacheDependency → Type 0
-    Goes h o = Going h o Always (IsWhole result) (state between.image) (cached_in mid) (state after.image) (cached_in new)
+    Goes h o = Going h o Always (WasNotCutOff result) (state between.image) (cached_in mid) (state after.image) (cached_in new)
 
     cause-then : (r : Result U Fault) → Looked state table mid between r new after
         → MatchResult r (λ _. (state after.image).faults ≡ (state before.image).faults) (WhyNotFreed (IsSafeWith state table old before) (IsLoose table old true) (state before.image).faults (state after.image).faults)
@@ -115,8 +115,8 @@ module _ {S : Type 0} (state : S → StorageState) (table : TableValue) where
     pub looked-then : Looked state table old before result new after
     looked-then =
         let going : Goes before.header (order_of old) = subst (λ (h : Header). Goes h (order_of old)) first.header (subst (λ (o : CacheDependency). Goes between.header o) first.order second.going) in record {
-          going = going-weaker before.header (order_of old) Always (⊤ × IsWhole result) (IsWhole result) (state before.image) (state after.image) (cached_in old) (cached_in new) (λ whole. (tt, whole))
-              (going-both before.header (order_of old) Always ⊤ (IsWhole result) (state before.image) (state between.image) (state after.image) (cached_in old) (cached_in mid) (cached_in new) first.going going);
+          going = going-weaker before.header (order_of old) Always (⊤ × WasNotCutOff result) (WasNotCutOff result) (state before.image) (state after.image) (cached_in old) (cached_in new) (λ whole. (tt, whole))
+              (going-both before.header (order_of old) Always ⊤ (WasNotCutOff result) (state before.image) (state between.image) (state after.image) (cached_in old) (cached_in mid) (cached_in new) first.going going);
           order = second.order ∙ first.order;
           header = second.header ∙ first.header;
           loose = λ any loose. second.loose any (first.loose any loose);

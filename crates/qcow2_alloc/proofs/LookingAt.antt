@@ -19,7 +19,7 @@ use Rattle.qcow2_alloc.specs.declared.file.ImageFile.{ImageFile}
 use Rattle.qcow2_alloc.specs.Allocating.{Allocating}
 use Rattle.qcow2_alloc.specs.Allocators.{metadata_of}
 use Rattle.qcow2_alloc.specs.Caches.{cached_in, order_of}
-use Rattle.qcow2_alloc.specs.Going.{IsWhole}
+use Rattle.qcow2_alloc.specs.Going.{WasNotCutOff}
 use Rattle.qcow2_alloc.specs.Quiet.{Metadata, counted, IsSound, Quietly}
 use Rattle.qcow2_alloc.specs.SearchingClusters.{FindsFree, HasCounter, IsSafeWith, Looked, LooksForFree, counts_in}
 use Rattle.qcow2_alloc.proofs.Allocating.{moved-none}
@@ -44,13 +44,13 @@ module _ {S : Type 0} (state : S → StorageState) (table : TableValue) (pending
         (subst (λ (o : CacheDependency). P (record Old { file = bytes_of (state after.image).bytes; cached = cached_in new; order = o })) (sym looked.order) p)
 
     -- Each cluster is counted as it was.
-    pub counts-looked : IsTrue (state before.image).shape.keeps → IsSound Old → IsWhole result → (c : ℕ) → counted New c ≡ counted Old c
+    pub counts-looked : IsTrue (state before.image).shape.keeps → IsSound Old → WasNotCutOff result → (c : ℕ) → counted New c ≡ counted Old c
     counts-looked keeps sound whole c =
         moved (λ m. counted m c ≡ counted Old c) (flushes-count Old (state before.image).bytes (state after.image).bytes (cached_in new) refl (looked.going.holds keeps sound.safe tt (inl whole)) c).0
 
-    pub looked-allocates : Allocating state (IsWhole result) (λ _. 0) table old before pending table new after pending
+    pub looked-allocates : Allocating state (WasNotCutOff result) (λ _. 0) table old before pending table new after pending
     looked-allocates = record {
-      quiet = λ order. moved (λ m. Quietly (IsWhole result) (λ _. 0) (λ _. 0) (state before.image) Old (state after.image) m) (going-quietly Old (IsWhole result) (state before.image) (state after.image) (cached_in new) refl looked.going);
+      quiet = λ order. moved (λ m. Quietly (WasNotCutOff result) (λ _. 0) (λ _. 0) (state before.image) Old (state after.image) m) (going-quietly Old (WasNotCutOff result) (state before.image) (state after.image) (cached_in new) refl looked.going);
       raised = λ order keeps sound whole c. inl (counts-looked keeps sound whole c);
       order = looked.order;
       moved = moved-none before.header after.header looked.header;

@@ -33,7 +33,7 @@ use Rattle.qcow2_alloc.specs.Allocating.{MakesBlock, OnlyRaised, WhyNotAllocated
 use Rattle.qcow2_alloc.specs.Allocators.{metadata_of, named_block}
 use Rattle.qcow2_alloc.specs.Caches.{cached_in, order_of}
 use Rattle.qcow2_alloc.specs.Freeing.{IsUnbarred, IsLoose, WhyNotCounted, WhyNotFreed}
-use Rattle.qcow2_alloc.specs.Going.{IsWhole, WhyNotWritten}
+use Rattle.qcow2_alloc.specs.Going.{WasNotCutOff, WhyNotWritten}
 use Rattle.qcow2_alloc.specs.MakingBlocks.{Begins, CanName, WhyNotNamed, NamesWritten}
 use Rattle.qcow2_alloc.specs.MakingRoom.{with_block}
 use Rattle.qcow2_alloc.specs.Quiet.{Metadata, in_memory, counted, IsUsed, IsSound, Quietly, named_at_all}
@@ -130,8 +130,8 @@ module _ {S : Type 0} (state : S → StorageState) (i d : ℕ) (counters : List 
   pub record Ends (ready : Type 0) (taken : ℕ → ℕ) (result : Result Unit Fault) (table' : TableValue) (after : StorageState) : Type 0 where
     pub shape : after.shape ≡ (state fC.image).shape
     pub later : Later (state fC.image) after
-    pub quiet : IsTrue (state fC.image).shape.keeps → ready → Quietly (IsWhole result) (λ _. 0) taken (state fC.image) mC after (record mC { file = bytes_of after.bytes; table = table' })
-    pub raised : IsTrue (state fC.image).shape.keeps → IsSound mC → ready → IsWhole result → OnlyRaised mC (record mC { file = bytes_of after.bytes; table = table' })
+    pub quiet : IsTrue (state fC.image).shape.keeps → ready → Quietly (WasNotCutOff result) (λ _. 0) taken (state fC.image) mC after (record mC { file = bytes_of after.bytes; table = table' })
+    pub raised : IsTrue (state fC.image).shape.keeps → IsSound mC → ready → WasNotCutOff result → OnlyRaised mC (record mC { file = bytes_of after.bytes; table = table' })
     pub named : NamedAt table i d result table'
     pub cause : MatchResult result (λ _. after.faults ≡ (state fC.image).faults) (Cause (state fC.image).faults after.faults)
 
@@ -162,11 +162,11 @@ module _ {S : Type 0} (state : S → StorageState) (i d : ℕ) (counters : List 
         → PutAtOnce mid new (table_place (with_word table i (d * cluster_size fC.header.fields)) + 8 * i) (to_be_bytes w64 (slice_index (with_word table i (d * cluster_size fC.header.fields)).words i)) result
         → Ends ready taken result (record (with_word table i (d * cluster_size fC.header.fields)) { modified = modified }) new
     named-end modified mid new done is put result names =
-        let end = λ (whole : IsWhole result). put-done mid new _ _ result names.put whole in
+        let end = λ (whole : WasNotCutOff result). put-done mid new _ _ result names.put whole in
         record {
           shape = names.put.shape ∙ put.put.put.shape;
           later = later_both (state fC.image) mid new put.put.put.later names.put.later;
-          quiet = λ keeps r. quietly-weaker (result ≡ Ok tt) (IsWhole result) (λ _. 0) taken (state fC.image) mC new (with_block mC i d modified (bytes_of new.bytes)) (λ sound whole. end whole) (named r modified mid new done is put result names).0;
+          quiet = λ keeps r. quietly-weaker (result ≡ Ok tt) (WasNotCutOff result) (λ _. 0) taken (state fC.image) mC new (with_block mC i d modified (bytes_of new.bytes)) (λ sound whole. end whole) (named r modified mid new done is put result names).0;
           raised = λ keeps sound r whole. (named r modified mid new done is put result names).1 keeps sound (end whole);
           named = word-named table i d fC.header.fields.cluster_bits result modified inside low some reach;
           cause = answer-caused result (state fC.image) mid new _ _ (put-faults (state fC.image) mid _ _ done put.put.put is) names.put;
@@ -289,12 +289,12 @@ module _ {S : Type 0} (state : S → StorageState) (i : ℕ) (table : TableValue
     }
 
     -- It is refused, and wasn't cut off only where nothing was handed out.
-    pub begins-refused : (fault : Fault) → Follows (IsWhole (failed fault)) more C fC D fD
-        → (order_of old ≡ L2DependsOnRb → IsTrue (state before.image).shape.keeps → IsSound m0 → IsWhole (failed fault) → (c : ℕ) → handed c + more c ≡ 0)
+    pub begins-refused : (fault : Fault) → Follows (WasNotCutOff (failed fault)) more C fC D fD
+        → (order_of old ≡ L2DependsOnRb → IsTrue (state before.image).shape.keeps → IsSound m0 → WasNotCutOff (failed fault) → (c : ℕ) → handed c + more c ≡ 0)
         → WhyNotAllocated Holds (IsLoose table old) Full (state before.image).faults (state fD.image).faults fault → MakesBlock state i table old before (Err fault) table D fD pending
     begins-refused fault follows none why = record {
       quiet = λ order.
-          let q = both-quietly (IsWhole (failed fault)) follows order in
+          let q = both-quietly (WasNotCutOff (failed fault)) follows order in
           record {
             shape = q.shape;
             later = q.later;
@@ -303,7 +303,7 @@ module _ {S : Type 0} (state : S → StorageState) (i : ℕ) (table : TableValue
                 let all = q.holds keeps sound whole in
                 (all.0, quiet-otherwise m0 mD (λ c. handed c + more c) (λ _. 0 + 0) (λ _. 0) (λ _. 0) (λ c. let zero = none order keeps sound whole c in omega (arith, zero)) (λ c used zero. omega arith) all.1);
           };
-      raised = λ order keeps sound whole. both-raised (IsWhole (failed fault)) follows order keeps sound whole;
+      raised = λ order keeps sound whole. both-raised (WasNotCutOff (failed fault)) follows order keeps sound whole;
       named = tt;
       others = λ k apart. refl;
       long = refl;
@@ -327,7 +327,7 @@ module _ {S : Type 0} (state : S → StorageState) (i : ℕ) (table : TableValue
         (record {
           shape = refl;
           later = later_same (state fC.image);
-          quiet = λ order keeps sound s. memory-quietly (IsWhole (failed fault)) (λ _. 0) (λ _. 0) (state fC.image) mU mU (λ s' whole. (s', quiet-none mU s'));
+          quiet = λ order keeps sound s. memory-quietly (WasNotCutOff (failed fault)) (λ _. 0) (λ _. 0) (state fC.image) mU mU (λ s' whole. (s', quiet-none mU s'));
           raised = λ order keeps sound s whole c. inl refl;
           stays = record { header = refl; order = refl; loose = λ any loose. loose; room = record { tables = refl; blocks = refl; entries = refl } };
         })
@@ -363,7 +363,7 @@ module _ {S : Type 0} (state : S → StorageState) (i : ℕ) (table : TableValue
   pub begins-makes : (C : MetadataCaches S) (fC : ImageFile S) → Begins state table pending old before (λ _. 0) C fC → (result : Result Unit Fault) (table' : TableValue) (new : MetadataCaches S) (after : ImageFile S)
       → MakesBlock state i table C fC result table' new after pending → MakesBlock state i table old before result table' new after pending
   begins-makes C fC begins result table' new after makes = record {
-    quiet = λ order. quietly-then ⊤ (IsWhole result) (λ _. 0) (λ _. 0) (λ _. 0) (λ _. 0) (state before.image) m0 (state fC.image) (metadata_of state fC C table pending) (state after.image) (metadata_of state after new table' pending) tt (λ s c some. refl)
+    quiet = λ order. quietly-then ⊤ (WasNotCutOff result) (λ _. 0) (λ _. 0) (λ _. 0) (λ _. 0) (state before.image) m0 (state fC.image) (metadata_of state fC C table pending) (state after.image) (metadata_of state after new table' pending) tt (λ s c some. refl)
         (begins.quiet order) (makes.quiet (begins.order ∙ order));
     raised = λ order keeps sound whole. raised-then m0 (metadata_of state fC C table pending) (metadata_of state after new table' pending) (begins.raised order keeps sound)
         (makes.raised (begins.order ∙ order) (on keeps) ((begins.quiet order).holds keeps sound tt).0 whole);
@@ -394,11 +394,11 @@ module _ {S : Type 0} (state : S → StorageState) (i : ℕ) (table : TableValue
         → MakesBlock state i table old before result table' C after pending
     made empty result table' after header ends = record {
       quiet = λ order.
-          quietly-given (IsWhole result) (λ _. 0) (λ _. 0) (state before.image) m0 (state after.image) (metadata_of state after C table' pending) (ends.shape ∙ begins.shape) (later_both _ _ _ begins.later ends.later) (λ keeps sound.
-          quietly-otherwise (IsWhole result) (λ c. both c + 0) (λ c. 0 + both c) (λ _. 0) (λ _. 0) (state before.image) m0 (state after.image) (metadata_of state after C table' pending) (λ s c. omega arith)
+          quietly-given (WasNotCutOff result) (λ _. 0) (λ _. 0) (state before.image) m0 (state after.image) (metadata_of state after C table' pending) (ends.shape ∙ begins.shape) (later_both _ _ _ begins.later ends.later) (λ keeps sound.
+          quietly-otherwise (WasNotCutOff result) (λ c. both c + 0) (λ c. 0 + both c) (λ _. 0) (λ _. 0) (state before.image) m0 (state after.image) (metadata_of state after C table' pending) (λ s c. omega arith)
           (λ s c used none. let no = unused order keeps s c used in omega (arith, no))
-          (there (λ m. Quietly (IsWhole result) (λ c. both c + 0) (λ c. 0 + both c) (state before.image) m0 (state after.image) m)
-          (quietly-then-given ⊤ (IsWhole result) both (λ _. 0) (λ _. 0) both (state before.image) m0 (state fC.image) m1 (state after.image) (ended m1.header) tt (λ s c some. refl) (begins.quiet order) ends.shape ends.later
+          (there (λ m. Quietly (WasNotCutOff result) (λ c. both c + 0) (λ c. 0 + both c) (state before.image) m0 (state after.image) m)
+          (quietly-then-given ⊤ (WasNotCutOff result) both (λ _. 0) (λ _. 0) both (state before.image) m0 (state fC.image) m1 (state after.image) (ended m1.header) tt (λ s c some. refl) (begins.quiet order) ends.shape ends.later
           (λ k s s1 quiet. ends.quiet (on keeps) (from order keeps s s1)))));
       raised = λ order keeps sound whole.
           let s1 = ((begins.quiet order).holds keeps sound tt).0 in

@@ -9,7 +9,7 @@ use Rattle.qcow2_types.specs.Header.{Header}
 use Rattle.qcow2_alloc.specs.declared.async_lru_cache.Slot.{Slot}
 use Rattle.qcow2_alloc.specs.declared.cache.CacheDependency.{CacheDependency}
 use Rattle.qcow2_alloc.specs.Cache.{Evicted, MadeRoom, Loaded, LoadedAfter, Readied, victim}
-use Rattle.qcow2_alloc.specs.Going.{IsMild, IsWhole}
+use Rattle.qcow2_alloc.specs.Going.{IsMild, WasNotCutOff}
 use Rattle.qcow2_alloc.specs.Memory.{Cached}
 use Rattle.qcow2_alloc.specs.Going.{Going}
 use Rattle.qcow2_alloc.proofs.Entries.{remove_absent}
@@ -24,14 +24,14 @@ module _ {V D : Type 0} (state : D → StorageState) (loads : D → ℕ → Resu
     (H : Header) (order : CacheDependency) (Ready : Cached → Type 0) (put : List (ℕ × Slot V) → Cached) (clean : V → Type 0)
     (cleaned : (old new : D) (key : ℕ) (v v' : V) → flushes old key v (Ok tt) new v' → clean v')
     (flushed : (front : List (ℕ × Slot V)) (key : ℕ) (slot : Slot V) (back : List (ℕ × Slot V)) (old new : D) (result : Result Unit Fault) (value : V) → flushes old key slot.value result new value
-    → Going H order Ready (IsWhole result) (state old) (put (front ++ (key, slot) ∷ back)) (state new) (put (front ++ (key, record slot { value = value }) ∷ back)))
+    → Going H order Ready (WasNotCutOff result) (state old) (put (front ++ (key, slot) ∷ back)) (state new) (put (front ++ (key, record slot { value = value }) ∷ back)))
     (leaves : (front : List (ℕ × Slot V)) (key : ℕ) (slot : Slot V) (back : List (ℕ × Slot V)) (s : StorageState) → clean slot.value → Going H order Ready ⊤ s (put (front ++ (key, slot) ∷ back)) s (put (front ++ back)))
     (Fits : D → Type 0) (fits : (old new : D) (key : ℕ) (v v' : V) (result : Result Unit Fault) → flushes old key v result new v' → Fits old → Fits new)
     (comes : (key : ℕ) (value : V) (es : List (ℕ × Slot V)) (old new : D) → Fits old → loads old key (Ok value) new → lookup (nat_eq key) es ≡ None → Going H order Ready ⊤ (state old) (put es) (state new) (put ((key, record { value = value; pins = 0 }) ∷ es)))
     (asked : (key : ℕ) (result : Result V Fault) (es : List (ℕ × Slot V)) (old new : D) → Fits old → loads old key result new → Going H order Ready ⊤ (state old) (put es) (state new) (put es)) where
   -- one is flushed, and removed where that succeeded
   evicted : (key : ℕ) (before : D) (es : List (ℕ × Slot V)) (result : Result Bool Fault) (after : D) (es' : List (ℕ × Slot V)) → Evicted nat_eq flushes key before es result after es'
-      → Going H order Ready (IsWhole result) (state before) (put es) (state after) (put es')
+      → Going H order Ready (WasNotCutOff result) (state before) (put es) (state after) (put es')
   evicted key before es (Ok made) after es' (is, mid, at, removed) =
       let p = place-of-key key es at.slot at.there in
       let one : Going H order Ready ⊤ (state before) (put es) (state after) (put (p.front ++ (key, record at.slot { value = at.value }) ∷ p.back)) =
@@ -62,17 +62,17 @@ module _ {V D : Type 0} (state : D → StorageState) (loads : D → ℕ → Resu
 
   -- Room is made.
   pub room-made : (cap : ℕ) (may_flush : Bool) (before : D) (es : List (ℕ × Slot V)) (result : Result Bool Fault) (after : D) (es' : List (ℕ × Slot V)) → MadeRoom nat_eq flushes cap may_flush before es result after es'
-      → Going H order Ready (IsWhole result) (state before) (put es) (state after) (put es')
+      → Going H order Ready (WasNotCutOff result) (state before) (put es) (state after) (put es')
   room-made cap may_flush before es result after es' made = elim (cases_lt (length es) cap) [
-    | inl roomy ↦ let r = made.roomy roomy in stays (IsWhole result) before es after es' r.1 r.2
+    | inl roomy ↦ let r = made.roomy roomy in stays (WasNotCutOff result) before es after es' r.1 r.2
     | inr full ↦ elim (cases_Bool may_flush) [
-      | inr not ↦ let r = made.full full not in stays (IsWhole result) before es after es' r.1 r.2
+      | inr not ↦ let r = made.full full not in stays (WasNotCutOff result) before es after es' r.1 r.2
       | inl may ↦ by-victim (victim es) refl full may
     ]
   ]
     where
-      by-victim : (v : Option ℕ) → victim es ≡ v → cap ≤ length es → may_flush ≡ true → Going H order Ready (IsWhole result) (state before) (put es) (state after) (put es')
-      by-victim None is full may = let r = made.pinned full may is in stays (IsWhole result) before es after es' r.1 r.2
+      by-victim : (v : Option ℕ) → victim es ≡ v → cap ≤ length es → may_flush ≡ true → Going H order Ready (WasNotCutOff result) (state before) (put es) (state after) (put es')
+      by-victim None is full may = let r = made.pinned full may is in stays (WasNotCutOff result) before es after es' r.1 r.2
       by-victim (Some key) is full may = evicted key before es result after es' (made.evicted full may key is)
 
   pub room-absent : (cap : ℕ) (may_flush : Bool) (key : ℕ) (before : D) (es : List (ℕ × Slot V)) (result : Result Bool Fault) (after : D) (es' : List (ℕ × Slot V)) → MadeRoom nat_eq flushes cap may_flush before es result after es'
@@ -114,24 +114,24 @@ module _ {V D : Type 0} (state : D → StorageState) (loads : D → ℕ → Resu
 
   -- It is found or loaded.
   pub readied : (cap : ℕ) (may_flush : Bool) (key : ℕ) (before : D) (es : List (ℕ × Slot V)) (result : Result Bool Fault) (after : D) (es' : List (ℕ × Slot V)) → Fits before → Readied nat_eq loads flushes cap may_flush key before es result after es'
-      → Going H order Ready (IsWhole result) (state before) (put es) (state after) (put es')
+      → Going H order Ready (WasNotCutOff result) (state before) (put es) (state after) (put es')
   readied cap may_flush key before es result after es' f r = elim (is-there (lookup (nat_eq key) es)) [
-    | inl there ↦ let f = r.found there in stays (IsWhole result) before es after es' f.1 f.2
+    | inl there ↦ let f = r.found there in stays (WasNotCutOff result) before es after es' f.1 f.2
     | inr none ↦ let m = r.missed none in by-room none m.room m.mid m.entries m.made m.loaded
   ]
     where
       by-room : lookup (nat_eq key) es ≡ None → (room : Result Bool Fault) (mid : D) (entries : List (ℕ × Slot V)) → MadeRoom nat_eq flushes cap may_flush before es room mid entries → LoadedAfter loads key mid entries room result after es'
-          → Going H order Ready (IsWhole result) (state before) (put es) (state after) (put es')
+          → Going H order Ready (WasNotCutOff result) (state before) (put es) (state after) (put es')
       by-room none (Ok true) mid entries made later =
-          going-weaker H order Ready (⊤ × ⊤) (IsWhole result) (state before) (state after) (put es) (put es') (λ w. (tt, tt))
+          going-weaker H order Ready (⊤ × ⊤) (WasNotCutOff result) (state before) (state after) (put es) (put es') (λ w. (tt, tt))
           (going-both H order Ready ⊤ ⊤ (state before) (state mid) (state after) (put es) (put entries) (put es') (room-made cap may_flush before es (Ok true) mid entries made)
           (loaded key mid entries result after es' (room-absent cap may_flush key before es (Ok true) mid entries made refl none) (room-fits cap may_flush before es (Ok true) mid entries made f) later))
       by-room none (Ok false) mid entries made later =
-          subst (λ (d : D). Going H order Ready (IsWhole result) (state before) (put es) (state d) (put es')) (sym later.1)
-          (subst (λ (l : List (ℕ × Slot V)). Going H order Ready (IsWhole result) (state before) (put es) (state mid) (put l)) (sym later.2)
-          (going-weaker H order Ready ⊤ (IsWhole result) (state before) (state mid) (put es) (put entries) (λ w. tt) (room-made cap may_flush before es (Ok false) mid entries made)))
+          subst (λ (d : D). Going H order Ready (WasNotCutOff result) (state before) (put es) (state d) (put es')) (sym later.1)
+          (subst (λ (l : List (ℕ × Slot V)). Going H order Ready (WasNotCutOff result) (state before) (put es) (state mid) (put l)) (sym later.2)
+          (going-weaker H order Ready ⊤ (WasNotCutOff result) (state before) (state mid) (put es) (put entries) (λ w. tt) (room-made cap may_flush before es (Ok false) mid entries made)))
       by-room none (Err fault) mid entries made later =
-          subst (λ (r : Result Bool Fault). Going H order Ready (IsWhole r) (state before) (put es) (state after) (put es')) (sym later.0)
+          subst (λ (r : Result Bool Fault). Going H order Ready (WasNotCutOff r) (state before) (put es) (state after) (put es')) (sym later.0)
           (subst (λ (d : D). Going H order Ready (IsMild fault) (state before) (put es) (state d) (put es')) (sym later.1)
           (subst (λ (l : List (ℕ × Slot V)). Going H order Ready (IsMild fault) (state before) (put es) (state mid) (put l)) (sym later.2)
           (room-made cap may_flush before es (Err fault) mid entries made)))

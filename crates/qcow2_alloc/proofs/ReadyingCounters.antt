@@ -25,7 +25,7 @@ use Rattle.qcow2_alloc.specs.Allocators.{metadata_of}
 use Rattle.qcow2_alloc.specs.Caches.{order_of}
 use Rattle.qcow2_alloc.specs.FillingBlocks.{FillsFrom}
 use Rattle.qcow2_alloc.specs.Freeing.{IsLoose}
-use Rattle.qcow2_alloc.specs.Going.{IsWhole}
+use Rattle.qcow2_alloc.specs.Going.{WasNotCutOff}
 use Rattle.qcow2_alloc.specs.GrowingTables.{GrowsTable, IsInRoomToGrow, IsLengthenedByTable, NoPlaceToGrow, table_run}
 use Rattle.qcow2_alloc.specs.HandingOutOne.{HandsOut, ReadiesCounter, ReadiesWord, leaked_by}
 use Rattle.qcow2_alloc.specs.Quiet.{IsSound, counted}
@@ -87,7 +87,7 @@ module _ {S : Type 0} (state : S → StorageState) (mark cluster : ℕ) (table :
       did = record {
         leaked = λ _. 0;
         leaks = leaks-none _ _ (so true);
-        step = allocating-as state (IsWhole result) (IsWhole (so true)) grows.leaked (λ _. 0) table old before pending table' new after pending' (λ whole. subst (λ (r : Result Unit Fault). IsWhole r) (sym ok) tt) (no-leak (λ full. let e = sym ok ∙ full in cc)) grows.step;
+        step = allocating-as state (WasNotCutOff result) (WasNotCutOff (so true)) grows.leaked (λ _. 0) table old before pending table' new after pending' (λ whole. subst (λ (r : Result Unit Fault). WasNotCutOff r) (sym ok) tt) (no-leak (λ full. let e = sym ok ∙ full in cc)) grows.step;
         list = grown-list result grows.enough grows.waits grows.kept;
         cause = by-cause _ result ok grows.cause;
       };
@@ -122,7 +122,7 @@ module _ {S : Type 0} (state : S → StorageState) (mark cluster : ℕ) (table :
       did = record {
         leaked = λ _. 0;
         leaks = leaks-none _ _ (so false);
-        step = allocating-as state (IsWhole result) (IsWhole (so false)) grows.leaked (λ _. 0) table old before pending table' new after pending' (λ whole. subst (λ (r : Result Unit Fault). IsWhole r) (sym limit) tt) (no-leak (λ full. let e = sym limit ∙ full in cc)) grows.step;
+        step = allocating-as state (WasNotCutOff result) (WasNotCutOff (so false)) grows.leaked (λ _. 0) table old before pending table' new after pending' (λ whole. subst (λ (r : Result Unit Fault). WasNotCutOff r) (sym limit) tt) (no-leak (λ full. let e = sym limit ∙ full in cc)) grows.step;
         list = grown-list result grows.enough grows.waits grows.kept;
         cause = cause.1;
       };
@@ -143,7 +143,7 @@ module _ {S : Type 0} (state : S → StorageState) (mark cluster : ℕ) (table :
       did = record {
         leaked = grows.leaked;
         leaks = record { none = λ full. grows.leaks.none (λ at. full (let e = sym is ∙ at in cc)); pinned = grows.leaks.pinned };
-        step = allocating-as state (IsWhole result) (IsWhole (refused fault)) grows.leaked grows.leaked table old before pending table' new after pending' (λ whole. subst (λ (r : Result Unit Fault). IsWhole r) (sym is) whole) (λ c. refl) grows.step;
+        step = allocating-as state (WasNotCutOff result) (WasNotCutOff (refused fault)) grows.leaked grows.leaked table old before pending table' new after pending' (λ whole. subst (λ (r : Result Unit Fault). WasNotCutOff r) (sym is) whole) (λ c. refl) grows.step;
         list = grown-list result grows.enough grows.waits grows.kept;
         cause = never-limit _ _ _ _ _ _ fault other (subst (λ (r : Result Unit Fault). MatchResult r (λ _. (state after.image).faults ≡ (state before.image).faults)
             (WhyNotAllocated (IsTrue (state before.image).shape.keeps × (order_of old ≡ L2DependsOnRb) × IsSound (metadata_of state before old table pending)) (IsLoose table old)
@@ -226,7 +226,7 @@ module _ {S : Type 0} (state : S → StorageState) (mark cluster : ℕ) (table :
         did = record {
           leaked = λ _. 0;
           leaks = leaks-none _ _ (refused fault);
-          step = both (IsWhole (refused fault)) blocks.step;
+          step = both (WasNotCutOff (refused fault)) blocks.step;
           list = blocks-behind word.did.list blocks.long;
           cause = why-allocated-wider _ _ _ _ _ _ _ _ _ holds-still word.did.step.loose never-far word.did.cause fault blocks.cause;
         };

@@ -24,7 +24,7 @@ use Rattle.qcow2_alloc.specs.Allocators.{metadata_of}
 use Rattle.qcow2_alloc.specs.Caches.{order_of}
 use Rattle.qcow2_alloc.specs.Freeing.{IsLoose}
 use Rattle.qcow2_alloc.specs.GrowingTables.{IsLengthenedByTable, NoPlaceToGrow, table_run}
-use Rattle.qcow2_alloc.specs.Going.{IsWhole}
+use Rattle.qcow2_alloc.specs.Going.{WasNotCutOff}
 use Rattle.qcow2_alloc.specs.Quiet.{Metadata, IsSound, counted}
 use Rattle.qcow2_alloc.specs.ReadyingBlocks.{CountsAsBefore, HasMore, NoneCanBeMade, ReadiesBlocks, WhyNotFit, last_number}
 use Rattle.qcow2_alloc.specs.ReadyingRuns.{IsRunTold, ReadiesRun}
@@ -114,10 +114,10 @@ module _ {S : Type 0} (state : S → StorageState) (table : TableValue) (old : M
     safe-with : Holds table old before pending → IsSafeWith state tA A fA
     safe-with holds = let there = holds-on holds in record { keeps = there.0; safe = there.2.safe; table_of_file = there.2.table }
 
-    step-on : {T : Type 0} (result : Result T Fault) (leaked : ℕ → ℕ) (tB : TableValue) (B : MetadataCaches S) (fB : ImageFile S) (pB : List FreeEntry) → Allocating state (IsWhole result) leaked tA A fA pA tB B fB pB → Allocating state (IsWhole result) leaked table old before pending tB B fB pB
+    step-on : {T : Type 0} (result : Result T Fault) (leaked : ℕ → ℕ) (tB : TableValue) (B : MetadataCaches S) (fB : ImageFile S) (pB : List FreeEntry) → Allocating state (WasNotCutOff result) leaked tA A fA pA tB B fB pB → Allocating state (WasNotCutOff result) leaked table old before pending tB B fB pB
     step-on result leaked tB B fB pB step =
-        allocating-as state (IsWhole result) (IsWhole result) (λ c. 0 + leaked c) leaked table old before pending tB B fB pB (λ whole. whole) (λ c. omega arith)
-        (allocating-then state ⊤ (IsWhole result) (λ _. 0) leaked table old before pending tA A fA pA tB B fB pB tt so_far.step step)
+        allocating-as state (WasNotCutOff result) (WasNotCutOff result) (λ c. 0 + leaked c) leaked table old before pending tB B fB pB (λ whole. whole) (λ c. omega arith)
+        (allocating-then state ⊤ (WasNotCutOff result) (λ _. 0) leaked table old before pending tA A fA pA tB B fB pB tt so_far.step step)
 
     -- It goes on with a search,
     pub readying-searched : (mark n z : ℕ) (B : MetadataCaches S) (fB : ImageFile S) → LooksForRun state tA mark n A fA (Ok z) B fB → Readying state table old before pending tA B fB pA
@@ -248,7 +248,7 @@ module _ {S : Type 0} (state : S → StorageState) (table : TableValue) (old : M
           let searched = readying-searched mark n z B fB looks in record {
             leaked = λ _. 0;
             leaks = leaks-none _ _ (Err fault);
-            step = allocating-as state ⊤ (IsWhole {T = ℕ} (Err fault)) (λ _. 0) (λ _. 0) table old before pending tA B fB pA (λ whole. tt) (λ c. refl) searched.step;
+            step = allocating-as state ⊤ (WasNotCutOff {T = ℕ} (Err fault)) (λ _. 0) (λ _. 0) table old before pending tA B fB pA (λ whole. tt) (λ c. refl) searched.step;
             found = λ order keeps sound. tt;
             little = λ order keeps sound. tt;
             ready = tt;
@@ -302,7 +302,7 @@ module _ {S : Type 0} (state : S → StorageState) (table : TableValue) (old : M
           let searched = readying-searched mark n z B fB looks in record {
             leaked = λ _. 0;
             leaks = leaks-none _ _ (Err (Limit number));
-            step = allocating-as state ⊤ (IsWhole {T = ℕ} (Err (Limit number))) (λ _. 0) (λ _. 0) table old before pending tA B fB pA (λ whole. tt) (λ c. refl) searched.step;
+            step = allocating-as state ⊤ (WasNotCutOff {T = ℕ} (Err (Limit number))) (λ _. 0) (λ _. 0) table old before pending tA B fB pA (λ whole. tt) (λ c. refl) searched.step;
             found = λ order keeps sound. tt;
             little = λ order keeps sound. tt;
             ready = tt;

@@ -17,7 +17,7 @@ use Rattle.qcow2_alloc.specs.declared.file.ImageFile.{ImageFile}
 use Rattle.qcow2_alloc.specs.Allocating.{MakesBlock}
 use Rattle.qcow2_alloc.specs.Allocators.{metadata_of}
 use Rattle.qcow2_alloc.specs.Caches.{cached_in, order_of}
-use Rattle.qcow2_alloc.specs.Going.{IsWhole}
+use Rattle.qcow2_alloc.specs.Going.{WasNotCutOff}
 use Rattle.qcow2_alloc.specs.MakingBlocks.{Begins, IsFreePlace}
 use Rattle.qcow2_alloc.specs.Quiet.{Metadata, counted, IsSound, Quietly}
 use Rattle.qcow2_alloc.specs.SearchingClusters.{IsSafeWith, Looked, LooksForFree}
@@ -56,16 +56,16 @@ module _ {S : Type 0} (state : S → StorageState) (table : TableValue) (pending
         (subst (λ (o : CacheDependency). P (record m0 { file = bytes_of (state fC.image).bytes; cached = cached_in C; order = o })) (sym looked.order) p)
 
     -- Each cluster is counted as it was.
-    counts-same : Keeps → IsSound m0 → IsWhole result → (c : ℕ) → counted mC c ≡ counted m0 c
+    counts-same : Keeps → IsSound m0 → WasNotCutOff result → (c : ℕ) → counted mC c ≡ counted m0 c
     counts-same keeps sound whole c =
         moved (λ m. counted m c ≡ counted m0 c) (flushes-count m0 (state before.image).bytes (state fC.image).bytes (cached_in C) refl (looked.going.holds keeps sound.safe tt (inl whole)) c).0
 
-    looking : Follows state i table pending old before (IsWhole result) (λ _. 0) old before C fC
+    looking : Follows state i table pending old before (WasNotCutOff result) (λ _. 0) old before C fC
     looking = record {
       shape = looked.going.shape;
       later = looked.going.later;
-      quiet = λ order keeps sound s. moved (λ m. Quietly (IsWhole result) (λ _. 0) (λ _. 0) (state before.image) m0 (state fC.image) m)
-          (going-quietly m0 (IsWhole result) (state before.image) (state fC.image) (cached_in C) refl looked.going);
+      quiet = λ order keeps sound s. moved (λ m. Quietly (WasNotCutOff result) (λ _. 0) (λ _. 0) (state before.image) m0 (state fC.image) m)
+          (going-quietly m0 (WasNotCutOff result) (state before.image) (state fC.image) (cached_in C) refl looked.going);
       raised = λ order keeps sound s whole c. inl (counts-same keeps s whole c);
       stays = record { header = looked.header; order = looked.order; loose = looked.loose; room = looked.room };
     }

@@ -13,7 +13,7 @@ use Rattle.imago_storage.proofs.Composing.{rose_before, rose_behind}
 use Rattle.qcow2_alloc.specs.declared.async_lru_cache.Slot.{Slot}
 use Rattle.qcow2_alloc.specs.Cache.{Evicted, MadeRoom, Loaded, LoadedAfter, Readied, victim, victim_from}
 use Rattle.qcow2_alloc.specs.Finding.{with_room, IsPinnedFull, PinsNothing, Sought, WhyNotFound, CountsSearch}
-use Rattle.qcow2_alloc.specs.Going.{WhyNotWritten, IsWhole}
+use Rattle.qcow2_alloc.specs.Going.{WhyNotWritten, WasNotCutOff}
 use Rattle.qcow2_alloc.proofs.Counting.{Counted}
 use Rattle.qcow2_alloc.proofs.Pins.{pins-none, pins-then, pins-removed, pins-set, pins-new}
 use Rattle.qcow2_alloc.proofs.Places.{place-of-key}
@@ -25,7 +25,7 @@ done_of (Ok found) = Ok tt
 done_of (Err fault) = Err fault
 
 -- what holds of the one holds of the other
-pub whole-done : (r : Result Bool Fault) → IsWhole (done_of r) → IsWhole r
+pub whole-done : (r : Result Bool Fault) → WasNotCutOff (done_of r) → WasNotCutOff r
 whole-done (Ok found) w = tt
 whole-done (Err fault) w = w
 

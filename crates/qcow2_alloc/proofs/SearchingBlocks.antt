@@ -22,7 +22,7 @@ use Rattle.qcow2_alloc.specs.Cache.{Readied, with_entries}
 use Rattle.qcow2_alloc.specs.Caches.{cached_in, order_of}
 use Rattle.qcow2_alloc.specs.CachesLending.{with_blocks, block_loads, block_flushes}
 use Rattle.qcow2_alloc.specs.Finding.{Sought, BlockFound, LetsBlockIn, LetsIn, IsPinnedFull, WhyNotFound, CountsSearch}
-use Rattle.qcow2_alloc.specs.Going.{Going, Always, ReadyBlocks, IsWhole, IsMild, AreTablesInReach, CountsWrites, WhyNotWritten, WritesTables}
+use Rattle.qcow2_alloc.specs.Going.{Going, Always, ReadyBlocks, WasNotCutOff, IsMild, AreTablesInReach, CountsWrites, WhyNotWritten, WritesTables}
 use Rattle.qcow2_alloc.specs.Memory.{Cached, written, written_block}
 use Rattle.qcow2_alloc.specs.Safety.{Safe, AreTablesClean}
 use Rattle.qcow2_alloc.proofs.Counting.{block-counted}
@@ -123,7 +123,7 @@ module _ {S : Type 0} (state : S → StorageState) (cluster : ℕ) where
   block-found-quietly old before result after es' not r =
       let header = header-stays false old.rb.slots.cap before old.rb.slots.entries result after es' r in
       record {
-        going = going-weaker before.header (order_of old) Always ⊤ (IsWhole (done_of result)) _ _ _ _ (λ w. tt)
+        going = going-weaker before.header (order_of old) Always ⊤ (WasNotCutOff (done_of result)) _ _ _ _ (λ w. tt)
             (readied-quietly (λ (d : ImageFile S). state d.image) (block_loads state) (block_flushes state) before.header (order_of old) Always (λ blocks. record { tables = old.l2.slots.entries; blocks = blocks }) (λ d. d.header ≡ before.header)
             (λ key value es a b same load none. block-comes-quietly state before.header (order_of old) Always old.l2.slots.entries (λ A B r. r) key value es (state a.image) (state b.image)
             (subst (λ (h : Header). BlockLoaded h.fields key (state a.image) (Ok value) (state b.image)) same load.1) none)
@@ -185,8 +185,8 @@ module _ {S : Type 0} (state : S → StorageState) (cluster : ℕ) where
         let stays = header-stays true old.rb.slots.cap between old.rb.slots.entries result after es' r ∙ header in
         let now : cached_in mid ≡ record { tables = mid.l2.slots.entries; blocks = old.rb.slots.entries } = ap (λ (m : MetadataCaches S). cached_in m) same in
         record {
-          going = going-weaker before.header (order_of old) Always (IsWhole result) (IsWhole (done_of result)) _ _ _ _ (whole-done result)
-              (going-ready before.header (order_of old) (ReadyBlocks (order_of old)) (Succeeded (Ok tt)) (IsWhole result) (state before.image) (state between.image) (state after.image) (cached_in old) (record { tables = mid.l2.slots.entries; blocks = old.rb.slots.entries }) _ refl
+          going = going-weaker before.header (order_of old) Always (WasNotCutOff result) (WasNotCutOff (done_of result)) _ _ _ _ (whole-done result)
+              (going-ready before.header (order_of old) (ReadyBlocks (order_of old)) (Succeeded (Ok tt)) (WasNotCutOff result) (state before.image) (state between.image) (state after.image) (cached_in old) (record { tables = mid.l2.slots.entries; blocks = old.rb.slots.entries }) _ refl
               (subst (λ (c : Cached). ReadyBlocks (order_of old) c) now ready)
               (subst (λ (c : Cached). Going before.header (order_of old) Always (Succeeded (Ok tt)) (state before.image) (cached_in old) (state between.image) c) now going)
               (block-readied state before.header (order_of old) mid.l2.slots.entries old.rb.slots.cap true cluster between old.rb.slots.entries result after es' header r));
@@ -227,7 +227,7 @@ module _ {S : Type 0} (state : S → StorageState) (cluster : ℕ) where
     block-found-halted fault going why some did =
         let blocks : (cached_in mid).blocks ≡ (cached_in old).blocks = ap (λ (m : MetadataCaches S). (cached_in m).blocks) same in
         record {
-          going = going-safely before.header (order_of old) Always (Succeeded (Err fault)) (IsWhole {T = Unit} (Err fault)) _ _ _ _ (λ safe mild. absurd (never fault safe mild why)) going;
+          going = going-safely before.header (order_of old) Always (Succeeded (Err fault)) (WasNotCutOff {T = Unit} (Err fault)) _ _ _ _ (λ safe mild. absurd (never fault safe mild why)) going;
           hit = not-there;
           there = tt;
           sought = record { there = not-there; loaded = λ none. tt; refused = inl (ap (λ l. map written_block l) blocks); pinned = pins-none (cached_in old).blocks (cached_in mid).blocks blocks };

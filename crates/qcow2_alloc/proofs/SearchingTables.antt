@@ -24,7 +24,7 @@ use Rattle.qcow2_alloc.specs.Cache.{Readied, with_entries}
 use Rattle.qcow2_alloc.specs.Caches.{cached_in, order_of}
 use Rattle.qcow2_alloc.specs.CachesLending.{with_tables, table_loads, table_flushes}
 use Rattle.qcow2_alloc.specs.Finding.{Sought, TableFound, LetsTableIn, LetsIn, IsTableFine, IsPinnedFull, WhyNotFound, CountsSearch}
-use Rattle.qcow2_alloc.specs.Going.{Going, Always, ReadyTables, IsWhole, IsMild, AreBlocksInReach, CountsWrites, WhyNotWritten, WritesBlocks}
+use Rattle.qcow2_alloc.specs.Going.{Going, Always, ReadyTables, WasNotCutOff, IsMild, AreBlocksInReach, CountsWrites, WhyNotWritten, WritesBlocks}
 use Rattle.qcow2_alloc.specs.Memory.{Cached, written, written_table}
 use Rattle.qcow2_alloc.specs.Safety.{Safe, AreBlocksClean}
 use Rattle.qcow2_alloc.proofs.Counting.{table-counted}
@@ -132,7 +132,7 @@ module _ {S : Type 0} (state : S → StorageState) (cluster : ℕ) where
   table-found-quietly old before result after es' not r =
       let header = header-stays false old.l2.slots.cap before old.l2.slots.entries result after es' r in
       record {
-        going = going-weaker before.header (order_of old) Always ⊤ (IsWhole (done_of result)) _ _ _ _ (λ w. tt)
+        going = going-weaker before.header (order_of old) Always ⊤ (WasNotCutOff (done_of result)) _ _ _ _ (λ w. tt)
             (readied-quietly (λ (d : ImageFile S). state d.image) (table_loads state) (table_flushes state) before.header (order_of old) Always (λ tables. record { tables = tables; blocks = old.rb.slots.entries }) (λ d. d.header ≡ before.header)
             (λ key value es a b same load none. table-comes-quietly state before.header (order_of old) Always old.rb.slots.entries (λ A B r. r) key value es (state a.image) (state b.image)
             (subst (λ (h : Header). TableLoaded h.fields key (state a.image) (Ok value) (state b.image)) same load.1) none)
@@ -194,8 +194,8 @@ module _ {S : Type 0} (state : S → StorageState) (cluster : ℕ) where
         let stays = header-stays true old.l2.slots.cap between old.l2.slots.entries result after es' r ∙ header in
         let now : cached_in mid ≡ record { tables = old.l2.slots.entries; blocks = mid.rb.slots.entries } = ap (λ (m : MetadataCaches S). cached_in m) same in
         record {
-          going = going-weaker before.header (order_of old) Always (IsWhole result) (IsWhole (done_of result)) _ _ _ _ (whole-done result)
-              (going-ready before.header (order_of old) (ReadyTables (order_of old)) (Succeeded (Ok tt)) (IsWhole result) (state before.image) (state between.image) (state after.image) (cached_in old) (record { tables = old.l2.slots.entries; blocks = mid.rb.slots.entries }) _ refl
+          going = going-weaker before.header (order_of old) Always (WasNotCutOff result) (WasNotCutOff (done_of result)) _ _ _ _ (whole-done result)
+              (going-ready before.header (order_of old) (ReadyTables (order_of old)) (Succeeded (Ok tt)) (WasNotCutOff result) (state before.image) (state between.image) (state after.image) (cached_in old) (record { tables = old.l2.slots.entries; blocks = mid.rb.slots.entries }) _ refl
               (subst (λ (c : Cached). ReadyTables (order_of old) c) now ready)
               (subst (λ (c : Cached). Going before.header (order_of old) Always (Succeeded (Ok tt)) (state before.image) (cached_in old) (state between.image) c) now going)
               (table-readied state before.header (order_of old) mid.rb.slots.entries old.l2.slots.cap true cluster between old.l2.slots.entries result after es' header r));
@@ -236,7 +236,7 @@ module _ {S : Type 0} (state : S → StorageState) (cluster : ℕ) where
     table-found-halted fault going why some did =
         let tables : (cached_in mid).tables ≡ (cached_in old).tables = ap (λ (m : MetadataCaches S). (cached_in m).tables) same in
         record {
-          going = going-safely before.header (order_of old) Always (Succeeded (Err fault)) (IsWhole {T = Unit} (Err fault)) _ _ _ _ (λ safe mild. absurd (never fault safe mild why)) going;
+          going = going-safely before.header (order_of old) Always (Succeeded (Err fault)) (WasNotCutOff {T = Unit} (Err fault)) _ _ _ _ (λ safe mild. absurd (never fault safe mild why)) going;
           hit = not-there;
           there = tt;
           sought = record { there = not-there; loaded = λ none. tt; refused = inl (ap (λ l. map written_table l) tables); pinned = pins-none (cached_in old).tables (cached_in mid).tables tables };

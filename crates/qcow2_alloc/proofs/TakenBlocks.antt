@@ -25,7 +25,7 @@ use Rattle.qcow2_alloc.specs.Allocating.{MakesBlock, OnlyRaised, RaisesCluster, 
 use Rattle.qcow2_alloc.specs.Allocators.{metadata_of}
 use Rattle.qcow2_alloc.specs.Caches.{cached_in, order_of, HasRoomOf}
 use Rattle.qcow2_alloc.specs.FreeList.{covers}
-use Rattle.qcow2_alloc.specs.Going.{Going, Always, IsWhole, CountsWrites, AreTablesInReach, AreBlocksInReach}
+use Rattle.qcow2_alloc.specs.Going.{Going, Always, WasNotCutOff, CountsWrites, AreTablesInReach, AreBlocksInReach}
 use Rattle.qcow2_alloc.specs.MakingBlocks.{Begins, NamesWritten, IsFreePlace}
 use Rattle.qcow2_alloc.specs.MakingRoom.{run_of}
 use Rattle.qcow2_alloc.specs.Memory.{Cached, written, written_block}
@@ -132,7 +132,7 @@ module _ {S : Type 0} (state : S → StorageState) (table : TableValue) (pending
     all-zero : order_of old ≡ L2DependsOnRb → Keeps → IsSound m0 → (c : ℕ) → d ≤ c → c < d + 1 → counted m1 c ≡ 0
     all-zero order keeps sound c ge lt = let same : d ≡ c = omega (arith, ge, lt) in subst (λ n. counted m1 n ≡ 0) same (zero1 order keeps sound)
 
-    only-one : order_of old ≡ L2DependsOnRb → Keeps → IsSound m0 → IsSound m1 → IsWhole result → OnlyRaised m1 (At C fC)
+    only-one : order_of old ≡ L2DependsOnRb → Keeps → IsSound m0 → IsSound m1 → WasNotCutOff result → OnlyRaised m1 (At C fC)
     only-one order keeps sound sound1 whole c =
         let is = run.raised (begin.order ∙ order) (on keeps) sound1 (all-zero order keeps sound) whole c in
         elim (cases_eq run.part 0) [
@@ -149,7 +149,7 @@ module _ {S : Type 0} (state : S → StorageState) (table : TableValue) (pending
               ]
         ]
 
-    counting : Follows state i table pending old before (IsWhole result) more C1 fA C fC
+    counting : Follows state i table pending old before (WasNotCutOff result) more C1 fA C fC
     counting = record {
       shape = run.shape;
       later = run.later;
@@ -193,7 +193,7 @@ module _ {S : Type 0} (state : S → StorageState) (table : TableValue) (pending
       sound2 : order_of old ≡ L2DependsOnRb → Keeps → IsSound m0 → IsSound m2
       sound2 order keeps sound = ((taken.quiet order).holds keeps sound tt).0
 
-      done-so : IsSound m2 → IsWhole result → result ≡ Ok tt
+      done-so : IsSound m2 → WasNotCutOff result → result ≡ Ok tt
       done-so sound whole = written-whole _ _ _ result cause (safe-reach m2.file m2.header m2.cached m2.order sound.safe) whole
 
       -- Each cluster is counted as it was, and named no more.
@@ -202,11 +202,11 @@ module _ {S : Type 0} (state : S → StorageState) (table : TableValue) (pending
           moved (λ m. (counted m c ≡ counted m2 c) × (named_at_all m c ≤ named_at_all m2 c))
           (flushes-count m2 (state fC.image).bytes (state fD.image).bytes (cached_in D) refl (going.holds (keeps_on (state before.image) (state fC.image) taken.shape keeps) sound.safe tt (inl done)) c)
 
-      flushing : Follows state i table pending old before (IsWhole result) (λ _. 0) C fC D fD
+      flushing : Follows state i table pending old before (WasNotCutOff result) (λ _. 0) C fC D fD
       flushing = record {
         shape = going.shape;
         later = going.later;
-        quiet = λ order keeps sound s. moved (λ m. Quietly (IsWhole result) (λ _. 0) (λ _. 0) (state fC.image) m2 (state fD.image) m)
+        quiet = λ order keeps sound s. moved (λ m. Quietly (WasNotCutOff result) (λ _. 0) (λ _. 0) (state fC.image) m2 (state fD.image) m)
             (whole-quietly m2 _ _ _ result (λ _. 0) (λ _. 0) (state fC.image) (state fD.image) _ (λ reach. reach) cause (going-quietly m2 (result ≡ Ok tt) (state fC.image) (state fD.image) (cached_in D) refl going));
         raised = λ order keeps sound s whole c. inl (same keeps s (done-so s whole) c).0;
         stays = record {

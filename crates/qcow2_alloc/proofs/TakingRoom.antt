@@ -24,7 +24,7 @@ use Rattle.qcow2_alloc.specs.Caches.{cached_in, order_of, HasRoomOf, KeepsTables
 use Rattle.qcow2_alloc.specs.Finding.{PinsNothing}
 use Rattle.qcow2_alloc.specs.FreeList.{covers}
 use Rattle.qcow2_alloc.specs.Freeing.{IsLoose, WhyNotCounted, WhyNotFreed}
-use Rattle.qcow2_alloc.specs.Going.{Going, Always, IsWhole, CountsWrites, AreTablesInReach, AreBlocksInReach, WhyNotWritten}
+use Rattle.qcow2_alloc.specs.Going.{Going, Always, WasNotCutOff, CountsWrites, AreTablesInReach, AreBlocksInReach, WhyNotWritten}
 use Rattle.qcow2_alloc.specs.Growing.{lacks, lacking}
 use Rattle.qcow2_alloc.specs.MakingRoom.{run_of, rank}
 use Rattle.qcow2_alloc.specs.Memory.{Cached, written, written_block}
@@ -118,7 +118,7 @@ module _ {S : Type 0} (state : S → StorageState) (table : TableValue) (pending
         omega (arith, less, none)
 
     -- The next step goes on with it,
-    pub counts-then : (result : Result Unit Fault) (D : MetadataCaches S) (fD : ImageFile S) → Next (IsWhole result) C fC D fD
+    pub counts-then : (result : Result Unit Fault) (D : MetadataCaches S) (fD : ImageFile S) → Next (WasNotCutOff result) C fC D fD
         → MatchResult result (λ _. (state fD.image).faults ≡ (state fC.image).faults) (WhyNotCounted (Given × IsSound (At C fC)) (IsLoose table C) (state fC.image).faults (state fD.image).faults) → Counts result D fD
     counts-then result D fD next cause =
         let part = counts.part in
@@ -130,11 +130,11 @@ module _ {S : Type 0} (state : S → StorageState) (table : TableValue) (pending
           shape = next.shape ∙ counts.shape;
           later = later_both _ _ _ counts.later next.later;
           quiet = λ order free.
-              quietly-given (IsWhole result) handed (λ _. 0) (state before.image) m0 (state fD.image) (At D fD) (next.shape ∙ counts.shape) (later_both _ _ _ counts.later next.later) (λ keeps sound.
+              quietly-given (WasNotCutOff result) handed (λ _. 0) (state before.image) m0 (state fD.image) (At D fD) (next.shape ∙ counts.shape) (later_both _ _ _ counts.later next.later) (λ keeps sound.
               let given : Given = (keeps, order, sound, free sound) in
-              quietly-otherwise (IsWhole result) (λ c. handed c + ours c) (λ c. 0 + ours c) handed (λ _. 0) (state before.image) m0 (state fD.image) (At D fD) (λ s c. omega arith)
+              quietly-otherwise (WasNotCutOff result) (λ c. handed c + ours c) (λ c. 0 + ours c) handed (λ _. 0) (state before.image) m0 (state fD.image) (At D fD) (λ s c. omega arith)
               (λ s c used none. let off = ours-unused (free s) c used in omega (arith, off))
-              (quietly-then-given (IsWhole succeeded) (IsWhole result) handed (λ _. 0) ours ours (state before.image) m0 (state fC.image) (At C fC) (state fD.image) (At D fD) tt (λ s c some. refl) (counts.quiet order free) next.shape next.later
+              (quietly-then-given (WasNotCutOff succeeded) (WasNotCutOff result) handed (λ _. 0) ours ours (state before.image) m0 (state fC.image) (At C fC) (state fD.image) (At D fD) tt (λ s c some. refl) (counts.quiet order free) next.shape next.later
               (λ k s s1 quiet. next.quiet given s1)));
           raised = λ order keeps sound free whole c.
               let given : Given = (keeps, order, sound, free) in
@@ -176,15 +176,15 @@ module _ {S : Type 0} (state : S → StorageState) (table : TableValue) (pending
           subst (λ (h : Header). P (record (At C fC) { file = bytes_of (state fD.image).bytes; cached = cached_in D; header = h; order = order_of D })) (sym others.1)
           (subst (λ (o : CacheDependency). P (record (At C fC) { file = bytes_of (state fD.image).bytes; cached = cached_in D; order = o })) (sym others.0) p)
 
-      done-so : IsSound (At C fC) → IsWhole result → result ≡ Ok tt
+      done-so : IsSound (At C fC) → WasNotCutOff result → result ≡ Ok tt
       done-so sound whole = written-whole _ _ _ result cause (safe-reach (At C fC).file (At C fC).header (At C fC).cached (At C fC).order sound.safe) whole
 
-      flushing : Next (IsWhole result) C fC D fD
+      flushing : Next (WasNotCutOff result) C fC D fD
       flushing = record {
         shape = going.shape;
         later = going.later;
-        quiet = λ given sound. moved (λ m. Quietly (IsWhole result) ours ours (state fC.image) (At C fC) (state fD.image) m)
-            (quietly-otherwise (IsWhole result) (λ _. 0) (λ _. 0) ours ours (state fC.image) (At C fC) (state fD.image) _ (λ s c. omega arith) (λ s c used none. refl)
+        quiet = λ given sound. moved (λ m. Quietly (WasNotCutOff result) ours ours (state fC.image) (At C fC) (state fD.image) m)
+            (quietly-otherwise (WasNotCutOff result) (λ _. 0) (λ _. 0) ours ours (state fC.image) (At C fC) (state fD.image) _ (λ s c. omega arith) (λ s c used none. refl)
             (whole-quietly (At C fC) _ _ _ result (λ _. 0) (λ _. 0) (state fC.image) (state fD.image) _ (λ reach. reach) cause (going-quietly (At C fC) (result ≡ Ok tt) (state fC.image) (state fD.image) (cached_in D) refl going)));
         same = λ given sound whole c. moved (λ m. counted m c ≡ counted (At C fC) c)
             (flushes-count (At C fC) (state fC.image).bytes (state fD.image).bytes (cached_in D) refl (going.holds (on given.0) sound.safe tt (inl (done-so sound whole))) c).0;
@@ -216,13 +216,13 @@ module _ {S : Type 0} (state : S → StorageState) (table : TableValue) (pending
       pub forgotten-same : Given → (c : ℕ) → counted (At D fC) c ≡ counted (At C fC) c
       forgotten-same given c = there (λ m. counted m c ≡ counted (At C fC) c) (memory-counts (At C fC) (cached_in D) (forgotten-there given).0 c)
 
-      forgetting : Next (IsWhole result) C fC D fC
+      forgetting : Next (WasNotCutOff result) C fC D fC
       forgetting = record {
         shape = refl;
         later = later_same (state fC.image);
-        quiet = λ given sound. there (λ m. Quietly (IsWhole result) ours ours (state fC.image) (At C fC) (state fC.image) m)
-            (quietly-otherwise (IsWhole result) (λ _. 0) (λ _. 0) ours ours (state fC.image) (At C fC) (state fC.image) _ (λ s c. omega arith) (λ s c used none. refl)
-            (memory-quietly (IsWhole result) (λ _. 0) (λ _. 0) (state fC.image) (At C fC) _ (λ s whole. let stays = (forgotten-there given).0 in (stays.sound, stays.quiet))));
+        quiet = λ given sound. there (λ m. Quietly (WasNotCutOff result) ours ours (state fC.image) (At C fC) (state fC.image) m)
+            (quietly-otherwise (WasNotCutOff result) (λ _. 0) (λ _. 0) ours ours (state fC.image) (At C fC) (state fC.image) _ (λ s c. omega arith) (λ s c used none. refl)
+            (memory-quietly (WasNotCutOff result) (λ _. 0) (λ _. 0) (state fC.image) (At C fC) _ (λ s whole. let stays = (forgotten-there given).0 in (stays.sound, stays.quiet))));
         same = λ given sound whole. forgotten-same given;
         stays = record { header = refl; order = order; loose = loose-on table C D pins room.blocks; room = room };
       }
@@ -249,11 +249,11 @@ module _ {S : Type 0} (state : S → StorageState) (table : TableValue) (pending
         free = λ sound d from to. (unnamed-then given d from to, λ used. let one = covers-inside d run.first run.len from to in omega (arith, one));
       }
 
-      writing : Next (IsWhole result) C fC C fD
+      writing : Next (WasNotCutOff result) C fC C fD
       writing = record {
         shape = writes.writes.shape;
         later = writes.writes.later;
-        quiet = λ given sound. with-header (λ m. Quietly (IsWhole result) ours ours (state fC.image) (At C fC) (state fD.image) m) (writes.writes.quiet (At C fC) ours (may given));
+        quiet = λ given sound. with-header (λ m. Quietly (WasNotCutOff result) ours ours (state fC.image) (At C fC) (state fD.image) m) (writes.writes.quiet (At C fC) ours (may given));
         same = λ given sound whole c. with-header (λ m. counted m c ≡ counted (At C fC) c) ((writes.writes.counts (At C fC) ours (may given) (on given.0) sound (writes.writes.whole whole)).memory c);
         stays = record { header = header; order = refl; loose = λ any loose. loose; room = record { tables = refl; blocks = refl; entries = refl } };
       }

@@ -22,7 +22,7 @@ use Rattle.qcow2_metadata.specs.Places.{IsInReach, place_of}
 use Rattle.qcow2_metadata.specs.Tables.{TableValue}
 use Rattle.qcow2_alloc.specs.declared.allocation.searching.Run.{Run}
 use Rattle.qcow2_alloc.specs.FreeList.{covers}
-use Rattle.qcow2_alloc.specs.Going.{IsWhole}
+use Rattle.qcow2_alloc.specs.Going.{WasNotCutOff}
 use Rattle.qcow2_alloc.specs.Growing.{lacks, lacking}
 use Rattle.qcow2_alloc.specs.MakingRoom.{rank, run_of, CountsTheSame}
 use Rattle.qcow2_alloc.specs.NewBlocks.{CountsItsOwn, HasCountedOwn, with_file, MayWrite, WritesClusters, WritesBlockTo, WritesLacking}
@@ -59,7 +59,7 @@ module _ (h : Header) (index : ℕ) (run : Run) (d : ℕ) (block : Block) (own :
     free-there : IsSound m → (named_at_all m d ≡ 0) × (IsUsed m d → 0 < taken d)
     free-there sound = may.free sound d (omega arith) (omega arith)
 
-    written-quietly : Quietly (IsWhole result) taken taken old m new (with_file m new)
+    written-quietly : Quietly (WasNotCutOff result) taken taken old m new (with_file m new)
     written-quietly =
         put-whole m (with_file m new) taken taken old new (d * cluster_size f) put-there.bytes result put-there.put.put
         (block-quietly m d block old new may.file own-there.order own-there.long taken free-there result put-there)
@@ -113,9 +113,9 @@ block-not-written h index run d s result failed = record {
   writes = record {
     shape = refl;
     later = later_same s;
-    whole = λ whole. absurd (subst (λ (r : Result Unit Fault). IsWhole r) failed whole);
+    whole = λ whole. absurd (subst (λ (r : Result Unit Fault). WasNotCutOff r) failed whole);
     cause = subst (λ (r : Result Unit Fault). MatchResult r (λ _. s.faults ≡ s.faults) (Cause s.faults s.faults)) (sym failed) refl;
-    quiet = λ m taken may. memory-quietly (IsWhole result) taken taken s m (with_file m s) (λ sound whole. absurd (subst (λ (r : Result Unit Fault). IsWhole r) failed whole));
+    quiet = λ m taken may. memory-quietly (WasNotCutOff result) taken taken s m (with_file m s) (λ sound whole. absurd (subst (λ (r : Result Unit Fault). WasNotCutOff r) failed whole));
     counts = λ m taken may keeps sound done. absurd (refused done);
     others = λ keeps done p off. refl;
   };
@@ -237,11 +237,11 @@ module _ (h : Header) (s n : ℕ) (a b : StorageState) (result : Result Unit Fau
             names = λ d. again.names d ∙ first-counts.names d;
           }
 
-    then-quietly : Quietly (IsWhole result) taken taken a m c (with_file m c)
+    then-quietly : Quietly (WasNotCutOff result) taken taken a m c (with_file m c)
     then-quietly =
-        quietly-otherwise (IsWhole result) (λ d. within s n taken d + taken d) (λ d. within s n taken d + taken d) taken taken a m c (with_file m c) (λ sound d. omega arith)
+        quietly-otherwise (WasNotCutOff result) (λ d. within s n taken d + taken d) (λ d. within s n taken d + taken d) taken taken a m c (with_file m c) (λ sound d. omega arith)
         (λ sound d used none. let le = within-le s n d (taken d) in omega (arith, le, none))
-        (quietly-then-given ⊤ (IsWhole result) (within s n taken) (within s n taken) taken taken a m b (with_file m b) c (with_file m c) tt named-kept first-quietly second.shape second.later
+        (quietly-then-given ⊤ (WasNotCutOff result) (within s n taken) (within s n taken) taken taken a m b (with_file m b) c (with_file m c) tt named-kept first-quietly second.shape second.later
         (λ keeps sound sound1 quiet. second.quiet (with_file m b) taken (may-second keeps sound)))
 
   pub clusters-then : WritesClusters h s (n + 1) a result c

@@ -15,7 +15,7 @@ use Rattle.qcow2_alloc.specs.declared.file.ImageFile.{ImageFile}
 use Rattle.qcow2_alloc.specs.Allocating.{CountsNamed}
 use Rattle.qcow2_alloc.specs.Allocators.{metadata_of}
 use Rattle.qcow2_alloc.specs.Freeing.{IsLoose, WhyNotCounted}
-use Rattle.qcow2_alloc.specs.Going.{IsWhole}
+use Rattle.qcow2_alloc.specs.Going.{WasNotCutOff}
 use Rattle.qcow2_alloc.specs.MovingTables.{clusters_of, IsPlan, IsTaken, TakesRoom}
 use Rattle.qcow2_alloc.specs.Quiet.{Metadata, IsSound}
 use Rattle.qcow2_alloc.proofs.CountingClusters.{succeeded}
@@ -63,7 +63,7 @@ module _ {S : Type 0} (state : S → StorageState) (table : TableValue) (pending
   used4 : (c : ℕ) → run.first ≤ c → c < run.first + run.len → 0 < mine c
   used4 c from to = let one = covers-inside c run.first run.len from to in omega (arith, one)
 
-  table-next : Next state table pending run old before (IsWhole done) C fC C between
+  table-next : Next state table pending run old before (WasNotCutOff done) C fC C between
   table-next = record {
     shape = put.shape;
     later = put.later;

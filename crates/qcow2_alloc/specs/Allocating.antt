@@ -20,7 +20,7 @@ use Rattle.qcow2_alloc.specs.Allocators.{metadata_of, named_block, UsesBlock}
 use Rattle.qcow2_alloc.specs.Caches.{order_of, KeepsTables}
 use Rattle.qcow2_alloc.specs.FreeList.{covers}
 use Rattle.qcow2_alloc.specs.Freeing.{IsLoose, WhyNotCounted}
-use Rattle.qcow2_alloc.specs.Going.{IsWhole}
+use Rattle.qcow2_alloc.specs.Going.{WasNotCutOff}
 use Rattle.qcow2_alloc.specs.MakingRoom.{run_of}
 use Rattle.qcow2_alloc.specs.Quiet.{Metadata, IsSound, Quietly, counted}
 
@@ -55,9 +55,9 @@ pub record CountsPart {S : Type 0} (state : S → StorageState) (handed : ℕ �
   pub shape : (state after.image).shape ≡ (state before.image).shape
   pub later : Later (state before.image) (state after.image)
   pub quiet : order_of old ≡ L2DependsOnRb → (IsSound (metadata_of state before old table pending) → (c : ℕ) → first ≤ c → c < first + n → counted (metadata_of state before old table pending) c ≡ 0)
-      → Quietly (IsWhole result) (handed part) (λ _. 0) (state before.image) (metadata_of state before old table pending) (state after.image) (metadata_of state after new table pending)
+      → Quietly (WasNotCutOff result) (handed part) (λ _. 0) (state before.image) (metadata_of state before old table pending) (state after.image) (metadata_of state after new table pending)
   pub raised : order_of old ≡ L2DependsOnRb → IsTrue (state before.image).shape.keeps → IsSound (metadata_of state before old table pending)
-      → ((c : ℕ) → first ≤ c → c < first + n → counted (metadata_of state before old table pending) c ≡ 0) → IsWhole result
+      → ((c : ℕ) → first ≤ c → c < first + n → counted (metadata_of state before old table pending) c ≡ 0) → WasNotCutOff result
       → (c : ℕ) → counted (metadata_of state after new table pending) c ≡ counted (metadata_of state before old table pending) c + handed part c
   pub order : order_of new ≡ order_of old
   pub header : after.header ≡ before.header
@@ -85,8 +85,8 @@ CountsNamed state table first n old before result new after pending = CountsPart
 -- A block is made, where there was none, while blocks are written before tables: at the first place from the mark on that another block
 -- counts, or at the first cluster that it counts itself. Where that is cut off, the table in memory may name it already.
 pub record MakesBlock {S : Type 0} (state : S → StorageState) (index : ℕ) (table : TableValue) (old : MetadataCaches S) (before : ImageFile S) (result : Result Unit Fault) (table' : TableValue) (new : MetadataCaches S) (after : ImageFile S) (pending : List FreeEntry) : Type 0 where
-  pub quiet : order_of old ≡ L2DependsOnRb → Quietly (IsWhole result) (λ _. 0) (λ _. 0) (state before.image) (metadata_of state before old table pending) (state after.image) (metadata_of state after new table' pending)
-  pub raised : order_of old ≡ L2DependsOnRb → IsTrue (state before.image).shape.keeps → IsSound (metadata_of state before old table pending) → IsWhole result
+  pub quiet : order_of old ≡ L2DependsOnRb → Quietly (WasNotCutOff result) (λ _. 0) (λ _. 0) (state before.image) (metadata_of state before old table pending) (state after.image) (metadata_of state after new table' pending)
+  pub raised : order_of old ≡ L2DependsOnRb → IsTrue (state before.image).shape.keeps → IsSound (metadata_of state before old table pending) → WasNotCutOff result
       → OnlyRaised (metadata_of state before old table pending) (metadata_of state after new table' pending)
   pub named : OnOk result (block_offset (slice_index table'.words index) ≢ 0)
   pub others : (i : ℕ) → i ≢ index → slice_index table'.words i ≡ slice_index table.words i
@@ -123,7 +123,7 @@ pub record Allocating {S : Type 0} (state : S → StorageState) (ok : Type 0) (h
 
 -- The blocks at these indices are made that there aren't, and the answer is whether one was. Words that named a block stay.
 pub record MakesBlocks {S : Type 0} (state : S → StorageState) (first end : ℕ) (table : TableValue) (old : MetadataCaches S) (before : ImageFile S) (result : Result Bool Fault) (table' : TableValue) (new : MetadataCaches S) (after : ImageFile S) (pending : List FreeEntry) : Type 0 where
-  pub step : Allocating state (IsWhole result) (λ _. 0) table old before pending table' new after pending
+  pub step : Allocating state (WasNotCutOff result) (λ _. 0) table old before pending table' new after pending
   pub named : OnOk result ((i : ℕ) → first ≤ i → i < end → block_offset (slice_index table'.words i) ≢ 0)
   pub kept : (i : ℕ) → block_offset (slice_index table.words i) ≢ 0 → slice_index table'.words i ≡ slice_index table.words i
   pub idle : IfOk result (λ made. made ≡ false → (table' ≡ table) × (new ≡ old) × (after ≡ before))

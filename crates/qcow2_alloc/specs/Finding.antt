@@ -19,7 +19,7 @@ use Rattle.qcow2_alloc.specs.declared.file.ImageFile.{ImageFile}
 use Rattle.qcow2_alloc.specs.Backends.{TableFlushed, BlockFlushed}
 use Rattle.qcow2_alloc.specs.Cache.{victim, FlushedAt}
 use Rattle.qcow2_alloc.specs.Caches.{cached_in, order_of, HasRoomOf}
-use Rattle.qcow2_alloc.specs.Going.{Going, Always, IsWhole, AreTablesInReach, AreBlocksInReach, BehindBlocks, BehindTables}
+use Rattle.qcow2_alloc.specs.Going.{Going, Always, WasNotCutOff, AreTablesInReach, AreBlocksInReach, BehindBlocks, BehindTables}
 use Rattle.qcow2_alloc.specs.Memory.{Cached, written_table, written_block}
 use Rattle.qcow2_alloc.specs.Safety.{AreTablesClean, AreBlocksClean}
 
@@ -90,7 +90,7 @@ pub record IsTableFine (f : Bytes) (h : Fields) (cluster : ℕ) : Type 0 where
 
 -- What the search of an L2 table does.
 pub record TableFound {S : Type 0} (state : S → StorageState) (cluster : ℕ) (old : MetadataCaches S) (before : ImageFile S) (result : Result Unit Fault) (new : MetadataCaches S) (after : ImageFile S) : Type 0 where
-  pub going : Going before.header (order_of old) Always (IsWhole result) (state before.image) (cached_in old) (state after.image) (cached_in new)
+  pub going : Going before.header (order_of old) Always (WasNotCutOff result) (state before.image) (cached_in old) (state after.image) (cached_in new)
   -- One that is there is found: nothing else happens.
   pub hit : IsSome (lookup (nat_eq cluster) (cached_in old).tables) → (result ≡ Ok tt) × (new ≡ old) × (after ≡ before)
   pub there : OnOk result (IsSome (lookup (nat_eq cluster) (cached_in new).tables))
@@ -110,7 +110,7 @@ pub record TableFound {S : Type 0} (state : S → StorageState) (cluster : ℕ) 
 
 -- The same of a refcount block.
 pub record BlockFound {S : Type 0} (state : S → StorageState) (cluster : ℕ) (old : MetadataCaches S) (before : ImageFile S) (result : Result Unit Fault) (new : MetadataCaches S) (after : ImageFile S) : Type 0 where
-  pub going : Going before.header (order_of old) Always (IsWhole result) (state before.image) (cached_in old) (state after.image) (cached_in new)
+  pub going : Going before.header (order_of old) Always (WasNotCutOff result) (state before.image) (cached_in old) (state after.image) (cached_in new)
   pub hit : IsSome (lookup (nat_eq cluster) (cached_in old).blocks) → (result ≡ Ok tt) × (new ≡ old) × (after ≡ before)
   pub there : OnOk result (IsSome (lookup (nat_eq cluster) (cached_in new).blocks))
   pub sought : Sought written_block old.rb.slots.cap cluster (block_in (bytes_of (state after.image).bytes) before.header.fields cluster) (cached_in old).blocks result (cached_in new).blocks

@@ -14,7 +14,7 @@ use Rattle.qcow2_alloc.specs.Allocators.{metadata_of, named_block}
 use Rattle.qcow2_alloc.specs.Caches.{cached_in, KeepsTables}
 use Rattle.qcow2_alloc.specs.Finding.{pinned_among, pinned_in, PinsNothing}
 use Rattle.qcow2_alloc.specs.FreeList.{entry_at, listed, shortened}
-use Rattle.qcow2_alloc.specs.Going.{IsWhole}
+use Rattle.qcow2_alloc.specs.Going.{WasNotCutOff}
 use Rattle.qcow2_alloc.specs.Quiet.{Metadata, IsSound, Quietly, counted, metadata_in}
 use Rattle.qcow2_alloc.specs.Safety.{IsCalm}
 
@@ -64,7 +64,7 @@ MayFree order e = (e.metadata ≡ true) ⊎ (order ≡ RbDependsOnL2)
 
 -- It wasn't cut off; or it was over a storage that tells its stops, which refused no change.
 abbrev pub IsWholeOrCalm : Result Unit Fault → StorageState → StorageState → Type 0
-IsWholeOrCalm result old new = IsWhole result ⊎ IsCalm old new
+IsWholeOrCalm result old new = WasNotCutOff result ⊎ IsCalm old new
 
 -- Clusters were counted down, and what waits to be freed is less by them. The mark stays, or falls to a cluster that waited and was freed.
 -- What contracts see of an image: its file, its caches, the mark, and what waits to be freed.

@@ -93,6 +93,6 @@ IsMild Storage = ⊥
 IsMild fault = ⊤
 
 -- the call wasn't cut off by one of these
-abbrev pub IsWhole : {T : Type 0} → Result T Fault → Type 0
-IsWhole (Ok v) = ⊤
-IsWhole (Err fault) = IsMild fault
+abbrev pub WasNotCutOff : {T : Type 0} → Result T Fault → Type 0
+WasNotCutOff (Ok v) = ⊤
+WasNotCutOff (Err fault) = IsMild fault

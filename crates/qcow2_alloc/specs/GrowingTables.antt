@@ -18,7 +18,7 @@ use Rattle.qcow2_alloc.specs.Allocators.{metadata_of}
 use Rattle.qcow2_alloc.specs.Caches.{order_of}
 use Rattle.qcow2_alloc.specs.FreeList.{covers}
 use Rattle.qcow2_alloc.specs.Freeing.{IsLoose}
-use Rattle.qcow2_alloc.specs.Going.{IsWhole, IsMild}
+use Rattle.qcow2_alloc.specs.Going.{WasNotCutOff, IsMild}
 use Rattle.qcow2_alloc.specs.Growing.{lacks, lacking, IsFirstRoom}
 use Rattle.qcow2_alloc.specs.MakingRoom.{run_of, rank}
 use Rattle.qcow2_alloc.specs.Quiet.{Metadata, IsSound, counted}
@@ -85,7 +85,7 @@ pub record Leaks {T : Type 0} (sound : Type 0) (loose : Bool → Type 0) (result
 pub record GrowsTable {S : Type 0} (state : S → StorageState) (mark at : ℕ) (table : TableValue) (old : MetadataCaches S) (before : ImageFile S) (pending : List FreeEntry) (result : Result Unit Fault) (table' : TableValue) (new : MetadataCaches S) (after : ImageFile S) (pending' : List FreeEntry) : Type 0 where
   pub leaked : ℕ → ℕ
   pub leaks : Leaks (IsTrue (state before.image).shape.keeps × (order_of old ≡ L2DependsOnRb) × IsSound (metadata_of state before old table pending)) (IsLoose table old) result leaked
-  pub step : Allocating state (IsWhole result) leaked table old before pending table' new after pending'
+  pub step : Allocating state (WasNotCutOff result) leaked table old before pending table' new after pending'
   pub grown : order_of old ≡ L2DependsOnRb → IsTrue (state before.image).shape.keeps → IsSound (metadata_of state before old table pending)
       → OnOk result (TableGrown mark at (metadata_of state before old table pending) (metadata_of state after new table' pending'))
   pub barred : order_of old ≡ L2DependsOnRb → IsTrue (state before.image).shape.keeps → IsSound (metadata_of state before old table pending)

@@ -18,7 +18,7 @@ use Rattle.qcow2_alloc.specs.Allocators.{metadata_of}
 use Rattle.qcow2_alloc.specs.Caches.{order_of, KeepsTables}
 use Rattle.qcow2_alloc.specs.Crowding.{IsCrowded, TakesLittle}
 use Rattle.qcow2_alloc.specs.Freeing.{Frees, IsLoose, IsMarked, IsRestInTurn}
-use Rattle.qcow2_alloc.specs.Going.{IsWhole, IsMild}
+use Rattle.qcow2_alloc.specs.Going.{WasNotCutOff, IsMild}
 use Rattle.qcow2_alloc.specs.GrowingTables.{IsLengthenedByTable, IsTakenFor, Leaks, NoPlaceToGrow, TableGrown, table_run}
 use Rattle.qcow2_alloc.specs.Quiet.{Metadata, IsSound, IsQuiet, Quietly, counted, named_at_all, waiting, one_at}
 use Rattle.qcow2_alloc.specs.ReadyingRuns.{handed_by, mark_behind, IsRunCounted, IsRunTold}
@@ -36,8 +36,8 @@ pub record StaysInShape {S : Type 0} (table : TableValue) (old : MetadataCaches 
 pub record GrowsReftable {S : Type 0} (state : S → StorageState) (mark at : ℕ) (table : TableValue) (old : MetadataCaches S) (before : ImageFile S) (pending : List FreeEntry) (result : Result Unit Fault) (table' : TableValue) (new : MetadataCaches S) (after : ImageFile S) (pending' : List FreeEntry) : Type 0 where
   pub leaked : ℕ → ℕ
   pub leaks : Leaks (IsTrue (state before.image).shape.keeps × IsSound (metadata_of state before old table pending)) (IsLoose table old) result leaked
-  pub quiet : Quietly (IsWhole result) leaked (λ _. 0) (state before.image) (metadata_of state before old table pending) (state after.image) (metadata_of state after new table' pending')
-  pub raised : IsTrue (state before.image).shape.keeps → IsSound (metadata_of state before old table pending) → IsWhole result → OnlyRaised (metadata_of state before old table pending) (metadata_of state after new table' pending')
+  pub quiet : Quietly (WasNotCutOff result) leaked (λ _. 0) (state before.image) (metadata_of state before old table pending) (state after.image) (metadata_of state after new table' pending')
+  pub raised : IsTrue (state before.image).shape.keeps → IsSound (metadata_of state before old table pending) → WasNotCutOff result → OnlyRaised (metadata_of state before old table pending) (metadata_of state after new table' pending')
   pub grown : IsTrue (state before.image).shape.keeps → IsSound (metadata_of state before old table pending) → OnOk result (TableGrown mark at (metadata_of state before old table pending) (metadata_of state after new table' pending'))
   pub enough : OnOk result (IsGrownLength (words_of_cluster before.header.fields) (counters_of_block before.header.fields) at (length table'.words))
   pub order : OnOk result (order_of new ≡ L2DependsOnRb)
@@ -76,7 +76,7 @@ AreUnnamed m entry = (c : ℕ) → entry.first ≤ c → c < entry.first + entry
 pub record AllocatesClusters {S : Type 0} (state : S → StorageState) (mark n : ℕ) (metadata : Bool) (table : TableValue) (old : MetadataCaches S) (before : ImageFile S) (pending : List FreeEntry) (result : Result FreeEntry Fault) (table' : TableValue) (new : MetadataCaches S) (after : ImageFile S) (pending' : List FreeEntry) (mark' : ℕ) : Type 0 where
   pub leaked : ℕ → ℕ
   pub leaks : Leaks (IsTrue (state before.image).shape.keeps × IsSound (metadata_of state before old table pending)) (IsLoose table old) result leaked
-  pub quiet : Quietly (IsWhole result) (handed_by result leaked) (λ _. 0) (state before.image) (metadata_of state before old table pending) (state after.image) (metadata_of state after new table' pending')
+  pub quiet : Quietly (WasNotCutOff result) (handed_by result leaked) (λ _. 0) (state before.image) (metadata_of state before old table pending) (state after.image) (metadata_of state after new table' pending')
   pub run : IfOk result (λ entry. (entry.count ≡ n) × (entry.metadata ≡ metadata) × (0 < n → (entry.first ≢ 0) × IsInReach before.header.fields.cluster_bits (entry.first + (n - 1))))
   pub unnamed : IsTrue (state before.image).shape.keeps → IsSound (metadata_of state before old table pending) → IfOk result (AreUnnamed (metadata_of state after new table' pending'))
   -- What waits is freed; where that is refused nothing else is done.
@@ -91,14 +91,14 @@ pub record AllocatesClusters {S : Type 0} (state : S → StorageState) (mark n :
   -- the image once the order was announced then
   pub mid : Metadata
   pub mid_left : mid.pending ≡ left
-  pub freed : IsTrue (state before.image).shape.keeps → IsSound (metadata_of state before old table pending) → IsWhole result → IsFreed (metadata_of state before old table pending) mark mid mid_mark
+  pub freed : IsTrue (state before.image).shape.keeps → IsSound (metadata_of state before old table pending) → WasNotCutOff result → IsFreed (metadata_of state before old table pending) mark mid mid_mark
   pub emptied : OnOk answer (left ≡ [])
   pub searched : IsSearched result → (answer ≡ Ok tt) × (mid.order ≡ L2DependsOnRb)
   pub fresh : IsTrue (state before.image).shape.keeps → IsSound (metadata_of state before old table pending) → IfOk result (λ entry. (c : ℕ) → entry.first ≤ c → c < entry.first + n → counted mid c ≡ 0)
   pub taken : IsTrue (state before.image).shape.keeps → IsSound (metadata_of state before old table pending) → IfOk result (IsRunCounted mid_mark n (metadata_of state after new table' pending'))
   pub little : IsTrue (state before.image).shape.keeps → IsSound (metadata_of state before old table pending) → IfOk result (λ _. TakesLittle mid_mark n mid (metadata_of state after new table' pending'))
-  pub raised : IsTrue (state before.image).shape.keeps → IsSound (metadata_of state before old table pending) → IsWhole result → OnlyRaised mid (metadata_of state after new table' pending')
-  pub marked : IsTrue (state before.image).shape.keeps → IsSound (metadata_of state before old table pending) → IsWhole result
+  pub raised : IsTrue (state before.image).shape.keeps → IsSound (metadata_of state before old table pending) → WasNotCutOff result → OnlyRaised mid (metadata_of state after new table' pending')
+  pub marked : IsTrue (state before.image).shape.keeps → IsSound (metadata_of state before old table pending) → WasNotCutOff result
       → IsMarked (metadata_of state before old table pending) mark → IsMarked (metadata_of state after new table' pending') mark'
   pub further : IfOk result (λ entry. mark' ≡ mark_behind mid_mark n entry.first)
   pub stays : OnErr result (mark' ≡ mid_mark)
@@ -150,15 +150,15 @@ mark_past mark cluster None = mark
 pub record AllocatesClusterAt {S : Type 0} (state : S → StorageState) (mark cluster : ℕ) (table : TableValue) (old : MetadataCaches S) (before : ImageFile S) (pending : List FreeEntry) (result : Result (Option FreeEntry) Fault) (table' : TableValue) (new : MetadataCaches S) (after : ImageFile S) (pending' : List FreeEntry) (mark' : ℕ) : Type 0 where
   pub leaked : ℕ → ℕ
   pub leaks : Leaks (IsTrue (state before.image).shape.keeps × IsSound (metadata_of state before old table pending)) (IsLoose table old) result leaked
-  pub quiet : Quietly (IsWhole result) (handed_at result leaked) (λ _. 0) (state before.image) (metadata_of state before old table pending) (state after.image) (metadata_of state after new table' pending')
-  pub raised : IsTrue (state before.image).shape.keeps → IsSound (metadata_of state before old table pending) → IsWhole result → OnlyRaised (metadata_of state before old table pending) (metadata_of state after new table' pending')
+  pub quiet : Quietly (WasNotCutOff result) (handed_at result leaked) (λ _. 0) (state before.image) (metadata_of state before old table pending) (state after.image) (metadata_of state after new table' pending')
+  pub raised : IsTrue (state before.image).shape.keeps → IsSound (metadata_of state before old table pending) → WasNotCutOff result → OnlyRaised (metadata_of state before old table pending) (metadata_of state after new table' pending')
   pub one : IfOk result (IsOneAt cluster before.header.fields.cluster_bits)
   pub answer : IsTrue (state before.image).shape.keeps → IsSound (metadata_of state before old table pending) → IfOk result (IsHandedAt (IsBarred (metadata_of state before old table pending) mark cluster) cluster (metadata_of state before old table pending) (metadata_of state after new table' pending'))
   pub near : IsTrue (state before.image).shape.keeps → IsSound (metadata_of state before old table pending)
       → IfOk result (λ _. IsTakenFor mark cluster (metadata_of state before old table pending) (metadata_of state after new table' pending'))
   pub further : IfOk result (λ found. mark' ≡ mark_past mark cluster found)
   pub stays : OnErr result (mark' ≡ mark)
-  pub marked : IsTrue (state before.image).shape.keeps → IsSound (metadata_of state before old table pending) → IsWhole result
+  pub marked : IsTrue (state before.image).shape.keeps → IsSound (metadata_of state before old table pending) → WasNotCutOff result
       → IsMarked (metadata_of state before old table pending) mark → IsMarked (metadata_of state after new table' pending') mark'
   pub order : OnOk result (order_of new ≡ L2DependsOnRb)
   pub shape : StaysInShape table old before table' new after

@@ -13,7 +13,7 @@ use Rattle.qcow2_alloc.specs.Allocating.{Allocating, CountsRun, WhyNotAllocated}
 use Rattle.qcow2_alloc.specs.Allocators.{metadata_of}
 use Rattle.qcow2_alloc.specs.Caches.{order_of}
 use Rattle.qcow2_alloc.specs.Freeing.{IsLoose, IsMarked}
-use Rattle.qcow2_alloc.specs.Going.{IsWhole}
+use Rattle.qcow2_alloc.specs.Going.{WasNotCutOff}
 use Rattle.qcow2_alloc.specs.GrowingTables.{IsLengthenedByTable, IsTakenFor, Leaks}
 use Rattle.qcow2_alloc.specs.HandingOut.{handed_at, mark_past, IsBarred, IsHandedAt, IsOneAt}
 use Rattle.qcow2_alloc.specs.Quiet.{Metadata, IsSound}
@@ -28,7 +28,7 @@ leaked_by (Err fault) leaked c = leaked c
 pub record HandsOut {S T : Type 0} (state : S → StorageState) (handed : Result T Fault → (ℕ → ℕ) → ℕ → ℕ) (table : TableValue) (old : MetadataCaches S) (before : ImageFile S) (pending : List FreeEntry) (result : Result T Fault) (table' : TableValue) (new : MetadataCaches S) (after : ImageFile S) (pending' : List FreeEntry) : Type 0 where
   pub leaked : ℕ → ℕ
   pub leaks : Leaks (IsTrue (state before.image).shape.keeps × (order_of old ≡ L2DependsOnRb) × IsSound (metadata_of state before old table pending)) (IsLoose table old) result leaked
-  pub step : Allocating state (IsWhole result) (handed result leaked) table old before pending table' new after pending'
+  pub step : Allocating state (WasNotCutOff result) (handed result leaked) table old before pending table' new after pending'
   pub list : IsLengthenedByTable before.header.fields table table' pending pending'
   pub cause : MatchResult result (λ _. (state after.image).faults ≡ (state before.image).faults)
       (WhyNotAllocated (IsTrue (state before.image).shape.keeps × (order_of old ≡ L2DependsOnRb) × IsSound (metadata_of state before old table pending)) (IsLoose table old) (λ _. ⊥) (state before.image).faults (state after.image).faults)
@@ -73,5 +73,5 @@ pub record AllocatesAt {S : Type 0} (state : S → StorageState) (barred : Metad
       → IfOk result (λ _. IsTakenFor mark cluster (metadata_of state before old table pending) (metadata_of state after new table' pending'))
   pub further : IfOk result (λ found. mark' ≡ mark_past mark cluster found)
   pub stays : OnErr result (mark' ≡ mark)
-  pub marked : order_of old ≡ L2DependsOnRb → IsTrue (state before.image).shape.keeps → IsSound (metadata_of state before old table pending) → IsWhole result
+  pub marked : order_of old ≡ L2DependsOnRb → IsTrue (state before.image).shape.keeps → IsSound (metadata_of state before old table pending) → WasNotCutOff result
       → IsMarked (metadata_of state before old table pending) mark → IsMarked (metadata_of state after new table' pending') mark'

@@ -27,7 +27,7 @@ use Rattle.qcow2_alloc.specs.Caches.{cached_in, order_of, KeepsTables}
 use Rattle.qcow2_alloc.specs.Finding.{pinned_among}
 use Rattle.qcow2_alloc.specs.FreeList.{covers}
 use Rattle.qcow2_alloc.specs.Freeing.{IsLoose, WhyNotCounted}
-use Rattle.qcow2_alloc.specs.Going.{IsWhole, IsMild}
+use Rattle.qcow2_alloc.specs.Going.{WasNotCutOff, IsMild}
 use Rattle.qcow2_alloc.specs.Growing.{lacks, lacking}
 use Rattle.qcow2_alloc.specs.GrowingTables.{Leaks, table_run}
 use Rattle.qcow2_alloc.specs.MakingRoom.{run_of, rank}
@@ -171,8 +171,8 @@ module _ {S : Type 0} (state : S → StorageState) where
     pub leaks : Leaks (known × IsTrue (state before.image).shape.keeps × IsSound (metadata_of state before old table pending)) (IsLoose table old) result leaked
     pub shape : (state after.image).shape ≡ (state before.image).shape
     pub later : Later (state before.image) (state after.image)
-    pub quiet : known → Quietly (IsWhole result) leaked (λ _. 0) (state before.image) (metadata_of state before old table pending) (state after.image) (metadata_of state after new table' pending')
-    pub raised : known → IsTrue (state before.image).shape.keeps → IsSound (metadata_of state before old table pending) → IsWhole result
+    pub quiet : known → Quietly (WasNotCutOff result) leaked (λ _. 0) (state before.image) (metadata_of state before old table pending) (state after.image) (metadata_of state after new table' pending')
+    pub raised : known → IsTrue (state before.image).shape.keeps → IsSound (metadata_of state before old table pending) → WasNotCutOff result
         → OnlyRaised (metadata_of state before old table pending) (metadata_of state after new table' pending')
     pub counts : known → IsTrue (state before.image).shape.keeps → IsSound (metadata_of state before old table pending)
         → OnOk result ((c : ℕ) → counted (metadata_of state after new table' pending') c ≡ counted (metadata_of state before old table pending) c + covers c (run_of run.first run.len))

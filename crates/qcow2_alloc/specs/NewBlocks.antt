@@ -10,7 +10,7 @@ use Rattle.qcow2_metadata.specs.Blocks.{Block}
 use Rattle.qcow2_metadata.specs.Tables.{TableValue}
 use Rattle.qcow2_alloc.specs.declared.allocation.searching.Run.{Run}
 use Rattle.qcow2_alloc.specs.FreeList.{covers}
-use Rattle.qcow2_alloc.specs.Going.{IsWhole}
+use Rattle.qcow2_alloc.specs.Going.{WasNotCutOff}
 use Rattle.qcow2_alloc.specs.Growing.{lacks}
 use Rattle.qcow2_alloc.specs.MakingRoom.{rank, run_of, CountsTheSame}
 use Rattle.qcow2_alloc.specs.Quiet.{Metadata, named_at_all, IsUsed, IsSound, IsIn, Quietly}
@@ -41,9 +41,9 @@ pub record MayWrite (h : Header) (first n : ℕ) (taken : ℕ → ℕ) (s : Stor
 pub record WritesClusters (h : Header) (first n : ℕ) (old : StorageState) (result : Result Unit Fault) (new : StorageState) : Type 0 where
   pub shape : new.shape ≡ old.shape
   pub later : Later old new
-  pub whole : IsWhole result → result ≡ Ok tt
+  pub whole : WasNotCutOff result → result ≡ Ok tt
   pub cause : MatchResult result (λ _. new.faults ≡ old.faults) (Cause old.faults new.faults)
-  pub quiet : (m : Metadata) (taken : ℕ → ℕ) → MayWrite h first n taken old m → Quietly (IsWhole result) taken taken old m new (with_file m new)
+  pub quiet : (m : Metadata) (taken : ℕ → ℕ) → MayWrite h first n taken old m → Quietly (WasNotCutOff result) taken taken old m new (with_file m new)
   pub counts : (m : Metadata) (taken : ℕ → ℕ) → MayWrite h first n taken old m → IsTrue old.shape.keeps → IsSound m → result ≡ Ok tt → CountsTheSame m (with_file m new)
   pub others : IsTrue old.shape.keeps → result ≡ Ok tt → (p : ℕ) → (p < first * cluster_size h.fields) ⊎ ((first + n) * cluster_size h.fields ≤ p) → bytes_of new.bytes p ≡ bytes_of old.bytes p
 

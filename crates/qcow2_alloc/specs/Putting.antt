@@ -18,7 +18,7 @@ use Rattle.qcow2_alloc.specs.Backends.{TableFlushed, BlockFlushed}
 use Rattle.qcow2_alloc.specs.Cache.{hit, victim}
 use Rattle.qcow2_alloc.specs.Caches.{cached_in, order_of, HasRoomOf}
 use Rattle.qcow2_alloc.specs.Finding.{with_room, LetsTableIn, LetsBlockIn, IsPinnedFull, PinsNothing, CountsSearch}
-use Rattle.qcow2_alloc.specs.Going.{Going, IsWhole, AreTablesInReach, AreBlocksInReach, WritesTables, WritesBlocks, BehindBlocks, BehindTables}
+use Rattle.qcow2_alloc.specs.Going.{Going, WasNotCutOff, AreTablesInReach, AreBlocksInReach, WritesTables, WritesBlocks, BehindBlocks, BehindTables}
 use Rattle.qcow2_alloc.specs.Memory.{Cached, written_table, written_block}
 use Rattle.qcow2_alloc.specs.Safety.{IsCachedTable, IsCachedBlock}
 
@@ -72,7 +72,7 @@ pub record BlockMadeWay (order : CacheDependency) (cluster : ℕ) (block : Block
 
 -- What the put of an L2 table does. It keeps a safe image safe where the table is what the file has.
 pub record TableInserted {S : Type 0} (state : S → StorageState) (table : TableValue) (cluster : ℕ) (old : MetadataCaches S) (before : ImageFile S) (result : Result Unit (Fault × TableValue)) (new : MetadataCaches S) (after : ImageFile S) : Type 0 where
-  pub going : Going before.header (order_of old) (λ _. IsNewTable (bytes_of (state before.image).bytes) before.header.fields cluster table (cached_in old).tables) (IsWhole (refusal_of result)) (state before.image) (cached_in old) (state after.image) (cached_in new)
+  pub going : Going before.header (order_of old) (λ _. IsNewTable (bytes_of (state before.image).bytes) before.header.fields cluster table (cached_in old).tables) (WasNotCutOff (refusal_of result)) (state before.image) (cached_in old) (state after.image) (cached_in new)
   pub put : PutInto written_table old.l2.slots.cap cluster table (cached_in old).tables result (cached_in new).tables
   pub flushed : (key : ℕ) (slot : Slot TableValue) → MakesWay old.l2.slots.cap cluster (cached_in old).tables key → lookup (nat_eq key) (cached_in old).tables ≡ Some slot → OnOk result (TableMadeWay (order_of old) key slot.value (cached_in old) (state before.image) (state after.image))
   -- Where there is room for it nothing is written,
@@ -88,7 +88,7 @@ pub record TableInserted {S : Type 0} (state : S → StorageState) (table : Tabl
 
 -- The same of a refcount block.
 pub record BlockInserted {S : Type 0} (state : S → StorageState) (block : Block) (cluster : ℕ) (old : MetadataCaches S) (before : ImageFile S) (result : Result Unit (Fault × Block)) (new : MetadataCaches S) (after : ImageFile S) : Type 0 where
-  pub going : Going before.header (order_of old) (λ _. IsNewBlock (bytes_of (state before.image).bytes) before.header.fields cluster block (cached_in old).blocks) (IsWhole (refusal_of result)) (state before.image) (cached_in old) (state after.image) (cached_in new)
+  pub going : Going before.header (order_of old) (λ _. IsNewBlock (bytes_of (state before.image).bytes) before.header.fields cluster block (cached_in old).blocks) (WasNotCutOff (refusal_of result)) (state before.image) (cached_in old) (state after.image) (cached_in new)
   pub put : PutInto written_block old.rb.slots.cap cluster block (cached_in old).blocks result (cached_in new).blocks
   pub flushed : (key : ℕ) (slot : Slot Block) → MakesWay old.rb.slots.cap cluster (cached_in old).blocks key → lookup (nat_eq key) (cached_in old).blocks ≡ Some slot → OnOk result (BlockMadeWay (order_of old) key slot.value (cached_in old) (state before.image) (state after.image))
   pub roomy : lookup (nat_eq cluster) (cached_in old).blocks ≡ None → length (cached_in old).blocks < old.rb.slots.cap → Kept (state before.image) (state after.image) × (new.l2 ≡ old.l2)

@@ -16,7 +16,7 @@ use Rattle.qcow2_alloc.specs.Caches.{order_of}
 use Rattle.qcow2_alloc.specs.Crowding.{IsCrowded, IsRoomy, TakesLittle, room_for}
 use Rattle.qcow2_alloc.specs.FreeList.{covers}
 use Rattle.qcow2_alloc.specs.Freeing.{IsLoose, IsMarked}
-use Rattle.qcow2_alloc.specs.Going.{IsWhole}
+use Rattle.qcow2_alloc.specs.Going.{WasNotCutOff}
 use Rattle.qcow2_alloc.specs.GrowingTables.{IsLengthenedByTable, Leaks, NoPlaceToGrow}
 use Rattle.qcow2_alloc.specs.Quiet.{Metadata, IsSound, counted}
 use Rattle.qcow2_alloc.specs.ReadyingBlocks.{last_number}
@@ -35,7 +35,7 @@ pub record IsRunTold (m : Metadata) (mark n number : ℕ) : Type 0 where
 pub record ReadiesRun {S : Type 0} (state : S → StorageState) (mark n : ℕ) (table : TableValue) (old : MetadataCaches S) (before : ImageFile S) (pending : List FreeEntry) (result : Result ℕ Fault) (table' : TableValue) (new : MetadataCaches S) (after : ImageFile S) (pending' : List FreeEntry) : Type 0 where
   pub leaked : ℕ → ℕ
   pub leaks : Leaks (IsTrue (state before.image).shape.keeps × (order_of old ≡ L2DependsOnRb) × IsSound (metadata_of state before old table pending)) (IsLoose table old) result leaked
-  pub step : Allocating state (IsWhole result) leaked table old before pending table' new after pending'
+  pub step : Allocating state (WasNotCutOff result) leaked table old before pending table' new after pending'
   pub found : order_of old ≡ L2DependsOnRb → IsTrue (state before.image).shape.keeps → IsSound (metadata_of state before old table pending) → IfOk result (IsFirstRun (counted (metadata_of state after new table' pending')) mark n)
   pub little : order_of old ≡ L2DependsOnRb → IsTrue (state before.image).shape.keeps → IsSound (metadata_of state before old table pending)
       → IfOk result (λ first. TakesLittle mark n (metadata_of state before old table pending) (metadata_of state after new table' pending')
@@ -69,7 +69,7 @@ pub record IsRunCounted (mark n : ℕ) (m' : Metadata) (entry : FreeEntry) : Typ
 pub record Allocates {S : Type 0} (state : S → StorageState) (mark n : ℕ) (metadata : Bool) (table : TableValue) (old : MetadataCaches S) (before : ImageFile S) (pending : List FreeEntry) (result : Result FreeEntry Fault) (table' : TableValue) (new : MetadataCaches S) (after : ImageFile S) (pending' : List FreeEntry) (mark' : ℕ) : Type 0 where
   pub leaked : ℕ → ℕ
   pub leaks : Leaks (IsTrue (state before.image).shape.keeps × (order_of old ≡ L2DependsOnRb) × IsSound (metadata_of state before old table pending)) (IsLoose table old) result leaked
-  pub step : Allocating state (IsWhole result) (handed_by result leaked) table old before pending table' new after pending'
+  pub step : Allocating state (WasNotCutOff result) (handed_by result leaked) table old before pending table' new after pending'
   pub run : IfOk result (λ entry. (entry.count ≡ n) × (entry.metadata ≡ metadata) × (0 < n → (entry.first ≢ 0) × IsInReach before.header.fields.cluster_bits (entry.first + (n - 1))))
   pub taken : order_of old ≡ L2DependsOnRb → IsTrue (state before.image).shape.keeps → IsSound (metadata_of state before old table pending) → IfOk result (IsRunCounted mark n (metadata_of state after new table' pending'))
   pub fresh : order_of old ≡ L2DependsOnRb → IsTrue (state before.image).shape.keeps → IsSound (metadata_of state before old table pending)
@@ -78,7 +78,7 @@ pub record Allocates {S : Type 0} (state : S → StorageState) (mark n : ℕ) (m
       → IfOk result (λ _. TakesLittle mark n (metadata_of state before old table pending) (metadata_of state after new table' pending'))
   pub moved : IfOk result (λ entry. mark' ≡ mark_behind mark n entry.first)
   pub stays : OnErr result (mark' ≡ mark)
-  pub marked : order_of old ≡ L2DependsOnRb → IsTrue (state before.image).shape.keeps → IsSound (metadata_of state before old table pending) → IsWhole result
+  pub marked : order_of old ≡ L2DependsOnRb → IsTrue (state before.image).shape.keeps → IsSound (metadata_of state before old table pending) → WasNotCutOff result
       → IsMarked (metadata_of state before old table pending) mark → IsMarked (metadata_of state after new table' pending') mark'
   pub list : IsLengthenedByTable before.header.fields table table' pending pending'
   pub cause : MatchResult result (λ _. (state after.image).faults ≡ (state before.image).faults)

@@ -10,7 +10,7 @@ use Rattle.qcow2_alloc.specs.declared.cache.MetadataCaches.{MetadataCaches}
 use Rattle.qcow2_alloc.specs.declared.file.ImageFile.{ImageFile}
 use Rattle.qcow2_alloc.specs.Caches.{cached_in, order_of, KeepsTables}
 use Rattle.qcow2_alloc.specs.Freeing.{IsLoose, WhyNotFreed}
-use Rattle.qcow2_alloc.specs.Going.{Going, Always, IsWhole}
+use Rattle.qcow2_alloc.specs.Going.{Going, Always, WasNotCutOff}
 use Rattle.qcow2_alloc.specs.Memory.{memory}
 use Rattle.qcow2_alloc.specs.Quiet.{IsTableOf}
 use Rattle.qcow2_alloc.specs.Safety.{Safe}
@@ -49,7 +49,7 @@ module _ {S : Type 0} (state : S → StorageState) where
 
   -- What a search does: blocks are loaded, in the place of others where the cache is full.
   pub record Looked {T : Type 0} (table : TableValue) (old : MetadataCaches S) (before : ImageFile S) (result : Result T Fault) (new : MetadataCaches S) (after : ImageFile S) : Type 0 where
-    pub going : Going before.header (order_of old) Always (IsWhole result) (state before.image) (cached_in old) (state after.image) (cached_in new)
+    pub going : Going before.header (order_of old) Always (WasNotCutOff result) (state before.image) (cached_in old) (state after.image) (cached_in new)
     pub order : new.order ≡ old.order
     pub header : after.header ≡ before.header
     pub loose : (any : Bool) → IsLoose table old any → IsLoose table new any

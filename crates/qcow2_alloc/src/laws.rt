@@ -35,7 +35,7 @@ ghost use Rattle.qcow2_alloc.specs.HandingOut.{IsFreed};
 ghost use Rattle.qcow2_alloc.specs.Changes.{StaysAsItIs, CachesBlock, SetsCounter, CounterChanged, IsStillCovered, CachesTable, SetsWord, NamesNoMore, NamesDropped, ClusterNamed, zeroed};
 ghost use Rattle.qcow2_alloc.specs.Memory.{Cached, memory};
 ghost use Rattle.qcow2_alloc.specs.Safety.{Safe, IsLeft, IsCalm, AreTablesClean, AreBlocksClean, IsSettled};
-ghost use Rattle.qcow2_alloc.specs.Going.{Going, Always, CountsWrites, IsWhole, AreTablesInReach, AreBlocksInReach};
+ghost use Rattle.qcow2_alloc.specs.Going.{Going, Always, CountsWrites, WasNotCutOff, AreTablesInReach, AreBlocksInReach};
 ghost use Rattle.qcow2_alloc.specs.Opening.{IsL1Of, opened};
 ghost use Rattle.qcow2_alloc.specs.Quiet.{IsTableOf, Metadata, metadata_in, covers_metadata, in_memory, counted, referenced, named_at_all, waiting, waiting_metadata, one_at, IsUsed, IsSound, ShowsEither, IsQuiet, IsIn, Quietly};
 ghost use Rattle.qcow2_alloc.specs.MakingRoom.{CountsTheSame, IsReadyBlock, BlockNamed, with_block, formerly, newly_counted, IsReadyTable, TableSwitched, with_table, newly, run_of, rank, IsGrownTable};
@@ -186,13 +186,13 @@ pub fn what_stays_is_quiet()
 pub fn what_is_done_quietly()
     ensures flushes { (m : Metadata) (result : Result Unit Fault) (old new : StorageState) (cached' : Cached) → IsIn old m → Going m.header m.order Always (result ≡ Ok tt) old m.cached new cached'
         → Quietly ((result ≡ Ok tt) ⊎ IsCalm old new) (λ _. 0) (λ _. 0) old m new (record m { file = bytes_of new.bytes; cached = cached' }) }
-    ensures found { (m : Metadata) (result : Result Unit Fault) (old new : StorageState) (cached' : Cached) → IsIn old m → Going m.header m.order Always (IsWhole result) old m.cached new cached'
-        → Quietly (IsWhole result) (λ _. 0) (λ _. 0) old m new (record m { file = bytes_of new.bytes; cached = cached' }) }
+    ensures found { (m : Metadata) (result : Result Unit Fault) (old new : StorageState) (cached' : Cached) → IsIn old m → Going m.header m.order Always (WasNotCutOff result) old m.cached new cached'
+        → Quietly (WasNotCutOff result) (λ _. 0) (λ _. 0) old m new (record m { file = bytes_of new.bytes; cached = cached' }) }
     ensures announced { (m : Metadata) (order' : CacheDependency) (result : Result Unit Fault) (old new : StorageState) (cached' : Cached) → IsIn old m → Going m.header m.order Always (result ≡ Ok tt) old m.cached new cached'
         → OnOk result ((f : Bytes) (H : Header) → Safe f H cached' m.order → Safe f H cached' order')
         → Quietly (result ≡ Ok tt) (λ _. 0) (λ _. 0) old m new (record m { file = bytes_of new.bytes; cached = cached'; order = order' }) }
     ensures whole { (m : Metadata) (before after : ℕ) (result : Result Unit Fault) (handed taken : ℕ → ℕ) (old new : StorageState) (m' : Metadata) → CountsWrites (AreTablesInReach m.cached × AreBlocksInReach m.cached) before after result
-        → Quietly (result ≡ Ok tt) handed taken old m new m' → Quietly (IsWhole result) handed taken old m new m' }
+        → Quietly (result ≡ Ok tt) handed taken old m new m' → Quietly (WasNotCutOff result) handed taken old m new m' }
     ensures memory { (handed taken : ℕ → ℕ) (s : StorageState) (m m' : Metadata) → (IsSound m → IsSound m' × IsQuiet handed taken m m') → Quietly ⊤ handed taken s m s m' }
 {}
 
@@ -220,12 +220,12 @@ pub fn what_is_used_is_not_named_anew()
 /// Of two calls, where the first wasn't cut off, what is handed out and taken adds up, too; also where the second was cut off over a storage
 /// that tells its stops, which refused no change.
 pub fn what_is_done_quietly_adds_up()
-    ensures then { (first second : Result Unit Fault) (h t h' t' : ℕ → ℕ) (s : StorageState) (m : Metadata) (s' : StorageState) (m' : Metadata) (s'' : StorageState) (m'' : Metadata) → IsWhole first → (IsSound m → (c : ℕ) → 0 < referenced m c → t c ≡ 0)
-        → Quietly (IsWhole first) h t s m s' m' → Quietly (IsWhole second) h' t' s' m' s'' m'' → Quietly (IsWhole second) (λ c. h c + h' c) (λ c. t c + t' c) s m s'' m'' }
-    ensures calm { (first second : Result Unit Fault) (h t h' t' : ℕ → ℕ) (s : StorageState) (m : Metadata) (s' : StorageState) (m' : Metadata) (s'' : StorageState) (m'' : Metadata) → IsWhole first → (IsSound m → (c : ℕ) → 0 < referenced m c → t c ≡ 0)
-        → Quietly (IsWhole first ⊎ IsCalm s s') h t s m s' m' → Quietly (IsWhole second ⊎ IsCalm s' s'') h' t' s' m' s'' m'' → Quietly (IsWhole second ⊎ IsCalm s s'') (λ c. h c + h' c) (λ c. t c + t' c) s m s'' m'' }
+    ensures then { (first second : Result Unit Fault) (h t h' t' : ℕ → ℕ) (s : StorageState) (m : Metadata) (s' : StorageState) (m' : Metadata) (s'' : StorageState) (m'' : Metadata) → WasNotCutOff first → (IsSound m → (c : ℕ) → 0 < referenced m c → t c ≡ 0)
+        → Quietly (WasNotCutOff first) h t s m s' m' → Quietly (WasNotCutOff second) h' t' s' m' s'' m'' → Quietly (WasNotCutOff second) (λ c. h c + h' c) (λ c. t c + t' c) s m s'' m'' }
+    ensures calm { (first second : Result Unit Fault) (h t h' t' : ℕ → ℕ) (s : StorageState) (m : Metadata) (s' : StorageState) (m' : Metadata) (s'' : StorageState) (m'' : Metadata) → WasNotCutOff first → (IsSound m → (c : ℕ) → 0 < referenced m c → t c ≡ 0)
+        → Quietly (WasNotCutOff first ⊎ IsCalm s s') h t s m s' m' → Quietly (WasNotCutOff second ⊎ IsCalm s' s'') h' t' s' m' s'' m'' → Quietly (WasNotCutOff second ⊎ IsCalm s s'') (λ c. h c + h' c) (λ c. t c + t' c) s m s'' m'' }
     ensures otherwise { (result : Result Unit Fault) (handed taken h t : ℕ → ℕ) (s : StorageState) (m : Metadata) (s' : StorageState) (m' : Metadata) → (IsSound m → (c : ℕ) → handed c + t c ≡ h c + taken c)
-        → (IsSound m → (c : ℕ) → IsUsed m c → t c ≡ 0 → taken c ≡ 0) → Quietly (IsWhole result) handed taken s m s' m' → Quietly (IsWhole result) h t s m s' m' }
+        → (IsSound m → (c : ℕ) → IsUsed m c → t c ≡ 0 → taken c ≡ 0) → Quietly (WasNotCutOff result) handed taken s m s' m' → Quietly (WasNotCutOff result) h t s m s' m' }
 {}
 
 /// A counter of a cached block may be lowered where an entry of the list of clusters to free had its cluster, while tables are written before
@@ -276,7 +276,7 @@ pub fn what_is_uncounted_is_free()
 /// A write that is quiet where it succeeded is so where it wasn't cut off.
 pub fn what_is_written_quietly()
     ensures { (m m' : Metadata) (handed taken : ℕ → ℕ) (old new : StorageState) (at : ℕ) (bytes : List ℕ) (result : Result Unit Fault) → Put old new at bytes result
-        → Quietly (result ≡ Ok tt) handed taken old m new m' → Quietly (IsWhole result) handed taken old m new m' }
+        → Quietly (result ≡ Ok tt) handed taken old m new m' → Quietly (WasNotCutOff result) handed taken old m new m' }
 {}
 
 /// Clusters c to c + k, which nothing names, in the file or in memory, may be written by any number of requests: the image is to the disk as
