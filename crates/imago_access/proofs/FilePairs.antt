@@ -1,8 +1,9 @@
 -- Storages before and after calls, pair by pair.
 use Rattle.std.proofs.Common.{refl, inl, inr, List, [], ◌∷◌, ◌++◌, arith, ◌∙◌}
+use Rattle.imago_storage.specs.Calls.{IsFaultless}
 use Rattle.imago_storage.specs.State.{StorageState}
 use Rattle.imago_storage.proofs.Composing.{rose_behind, later_both}
-use Rattle.imago_access.specs.Files.{Pairs, IsKept, IsLater, IsFaultless, SomeRose}
+use Rattle.imago_access.specs.Files.{Pairs, IsKept, IsLater, SomeRose}
 
 pub pairs_same : (R : StorageState → StorageState → Type 0) → ((s : StorageState) → R s s) → (xs : List StorageState) → Pairs R xs xs
 pairs_same R same [] = tt

@@ -1,9 +1,10 @@
 -- Looks one behind the other, at one layer and at a chain.
 use Rattle.std.proofs.Common.{◌≡◌, refl, ℕ, List, [], ◌∷◌, arith, ◌∙◌, ap, subst, inl, inr}
 use Rattle.std.specs.Prelude.{⊤, map, ◌⊎◌}
+use Rattle.imago_storage.specs.Calls.{IsFaultless}
 use Rattle.imago_access.specs.Layer.{Layer}
 use Rattle.imago_access.specs.Chain.{at, Each, Likes}
-use Rattle.imago_access.specs.Files.{Pairs, IsKept, IsLater, IsFaultless, files_of, files}
+use Rattle.imago_access.specs.Files.{Pairs, IsKept, IsLater, files_of, files}
 use Rattle.imago_access.specs.Going.{Looked, LookedUnder, IsKnownUnder}
 use Rattle.imago_access.specs.Refusals.{SomeFailed}
 use Rattle.imago_access.specs.Running.{below_ghosts}

@@ -20,10 +20,6 @@ IsKept old new = Kept old new × (old.faults ≤ new.faults)
 abbrev pub IsLater : StorageState → StorageState → Type 0
 IsLater old new = (new.shape ≡ old.shape) × Later old new
 
--- no request failed, and no change was refused
-abbrev pub IsFaultless : StorageState → StorageState → Type 0
-IsFaultless old new = (new.faults ≡ old.faults) × (new.refusals ≡ old.refusals)
-
 -- a storage has failed
 abbrev pub SomeRose : List StorageState → List StorageState → Type 0
 SomeRose (old ∷ olds) (new ∷ news) = Rose old.faults new.faults ⊎ SomeRose olds news

@@ -1,6 +1,7 @@
 -- What every call of a driver does to what contracts see of it. It was not cut off by want of memory or by a storage that failed where
 -- `whole` holds.
 use Rattle.std.specs.Prelude.{◌≡◌, ◌⊎◌, ⊤, List, Option, Some, None, Result, IsTrue, IsOk, IsErrOf, IsSome}
+use Rattle.imago_storage.specs.Calls.{IsFaultless}
 use Rattle.imago_storage.specs.Steps.{Call}
 use Rattle.imago_storage.specs.declared.fault.Fault.{Fault}
 use Rattle.imago_storage.specs.declared.fault.Fault.TheVariants.{Memory, Storage}
@@ -8,7 +9,7 @@ use Rattle.imago_access.specs.declared.seen.Seen.{Ghosts}
 use Rattle.imago_access.specs.declared.seen.SeenBelow.{Ghosts as GhostsBelow}
 use Rattle.imago_access.specs.Layer.{Layer, IsLike}
 use Rattle.imago_access.specs.Chain.{Likes}
-use Rattle.imago_access.specs.Files.{Pairs, IsKept, IsLater, IsFaultless, Unasked, files}
+use Rattle.imago_access.specs.Files.{Pairs, IsKept, IsLater, Unasked, files}
 use Rattle.imago_access.specs.Refusals.{barrier, SomeFailed}
 use Rattle.imago_access.specs.Room.{Takes}
 use Rattle.imago_access.specs.Stops.{KeepsStops, GivesNone}

@@ -8,14 +8,14 @@ use Rattle.imago_storage.specs.State.{Shape, StorageState, Rose, InStep, unit_of
 use Rattle.imago_storage.specs.Passing.{Passes}
 use Rattle.imago_storage.specs.Disk.{Value, byte}
 use Rattle.imago_storage.specs.Steps.{IsIn, IsOut}
-use Rattle.imago_storage.specs.Calls.{Mixed, Resized}
+use Rattle.imago_storage.specs.Calls.{Mixed, Resized, IsFaultless}
 use Rattle.imago_storage.specs.Through.{Stops, StopsAsLong, WrittenThrough, NotWrittenThrough, HasWhole, GivenUp, NotGivenUp, discard_unit, whole_start, whole_size}
 use Rattle.imago_storage.specs.declared.fault.Fault.{Fault}
 use Rattle.imago_storage.specs.declared.fault.Fault.TheVariants.{RangeOverflow, Unsupported, Memory, Storage}
 use Rattle.imago_storage.proofs.Composing.{tells_on, keeps_on, no_stops, one_stop, stops_and, stops_weaker}
 use Rattle.imago_storage.proofs.Rounding.{le_round_up}
 use Rattle.imago_storage.proofs.Wholes.{round_down-le}
-use Rattle.imago_access.specs.Files.{IsMild, IsFaultless}
+use Rattle.imago_access.specs.Files.{IsMild}
 use Rattle.imago_access.specs.Layer.{Layer, own, unmapped, loose, IsLike}
 use Rattle.imago_access.specs.Chain.{at, IsBacked}
 use Rattle.imago_access.specs.Changes.{Rewrites, PartRewrites, ToZero, ToAny, ToBelow}

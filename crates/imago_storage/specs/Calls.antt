@@ -48,6 +48,10 @@ pub record Later (old new : StorageState) : Type 0 where
   pub faults : old.faults ≤ new.faults
   pub refusals : old.refusals ≤ new.refusals
 
+-- no request failed, and no change was refused
+abbrev pub IsFaultless : StorageState → StorageState → Type 0
+IsFaultless old new = (new.faults ≡ old.faults) × (new.refusals ≡ old.refusals)
+
 -- one request where the call succeeds, and none where it is refused
 abbrev pub RequestsOne : {T : Type 0} → StorageState → StorageState → Result T Fault → Type 0
 RequestsOne old new result = MatchResult result (λ _. IsTrue old.shape.tells → new.past ≡ old.stop ∷ old.past) (λ _. (new.stop ≡ old.stop) × (new.past ≡ old.past))
