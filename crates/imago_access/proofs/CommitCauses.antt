@@ -1,9 +1,8 @@
 -- Why a commit is refused.
-use Rattle.std.proofs.Common.{◌≡◌, ◌⊎◌, refl, ℕ, List, ◌∷◌, ◌++◌, inl, inr}
+use Rattle.std.proofs.Common.{◌≡◌, ◌⊎◌, refl, List, ◌++◌, inl, inr}
 use Rattle.std.specs.Prelude.{Option, Some, None, IfSome, IsSome, IsTrue, is_some}
 use Rattle.std.proofs.lemmas.Bool.Decides.{eqb_tells}
 use Rattle.imago_storage.specs.State.{StorageState}
-use Rattle.imago_storage.specs.Disk.{Disk}
 use Rattle.imago_storage.specs.Steps.{commit}
 use Rattle.imago_storage.specs.declared.fault.Fault.{Fault}
 use Rattle.imago_storage.specs.declared.fault.Fault.TheVariants.{ReadOnly, Foreign, MissingData, Failed, Memory, Storage}

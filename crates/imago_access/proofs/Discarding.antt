@@ -11,7 +11,7 @@ use Rattle.imago_storage.specs.declared.fault.Fault.{Fault}
 use Rattle.imago_storage.specs.declared.fault.Fault.TheVariants.{Unsupported, VersionLimit}
 use Rattle.imago_storage.proofs.Rounding.{le_round_up}
 use Rattle.imago_access.specs.Layer.{Layer, IsFree, IsLike, loose}
-use Rattle.imago_access.specs.Chain.{at, IsBacked, unit_of_chain}
+use Rattle.imago_access.specs.Chain.{at, IsBacked}
 use Rattle.imago_access.specs.Discards.{GivesDiscarded}
 use Rattle.imago_access.specs.Files.{IsMild, IsDeclined, WasNotCutOff, files_of, files}
 use Rattle.imago_access.specs.Going.{Went}

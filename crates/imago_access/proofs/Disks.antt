@@ -1,15 +1,18 @@
 -- What a change of a range does to the disk of a chain.
-use Rattle.std.proofs.Common.{◌≡◌, refl, inl, inr, ℕ, ◌+◌, ◌<◌, ◌≤◌, List, ◌∷◌, arith, ◌∙◌, ap}
-use Rattle.std.specs.Prelude.{None}
+use Rattle.std.proofs.Common.{◌≡◌, refl, inl, inr, ℕ, ◌+◌, ◌<◌, ◌≤◌, List, ◌∷◌, arith, ◌∙◌, ap, sym}
+use Rattle.std.specs.Prelude.{None, Result, Ok, Err, OnOk}
 use Rattle.std.proofs.lemmas.Bool.{cases_lt}
 use Rattle.imago_storage.specs.Disk.{Value}
-use Rattle.imago_storage.specs.Steps.{Call, IsIn, IsOut, Stays, Changes, Unless}
+use Rattle.imago_storage.specs.Steps.{Call, Growth, IsIn, IsOut, Stays, Step, Changes, Unless, grow, done}
 use Rattle.imago_storage.specs.Causes.{offset_of, length_of, Gives, PartlyDone}
-use Rattle.imago_access.specs.Layer.{Layer, loose, hold_of}
+use Rattle.imago_access.specs.Layer.{Layer, through, loose, hold_of}
 use Rattle.imago_access.specs.Chain.{at, disk_of}
 use Rattle.imago_access.specs.Refusals.{change_refusal}
+use Rattle.imago_access.specs.Files.{WasNotCutOff}
 use Rattle.imago_access.specs.Running.{IsBetween}
-use Rattle.imago_access.proofs.Holding.{out_or_in}
+use Rattle.imago_access.proofs.Holding.{out_or_in, at_inside}
+use Rattle.imago_access.specs.Resizes.{Grown}
+use Rattle.imago_storage.specs.declared.fault.Fault.{Fault}
 
 -- a range that a change isn't refused for lies in the disk
 pub allowed_inside : (unit : ℕ) (layer : Layer) (offset n : ℕ) → change_refusal unit layer offset n ≡ None → 0 < n → offset + n ≤ layer.size
@@ -71,3 +74,24 @@ module _ (below below' : List Layer) (old new : Layer) (same : below' ≡ below)
     others = λ p lt out. value_on p ∙ others_same gives below old new (offset_of call) (length_of call) within between p lt out;
     hold = λ p lt. hold_same p;
   }
+
+-- a place that was there before a growth
+pub shows_grown : (old new : Layer) (below : List Layer) (p : ℕ) → p < old.size → p < new.size → through (new.cell p) (at below p) ≡ through (old.cell p) (at below p)
+    → at (new ∷ below) p ≡ at (old ∷ below) p
+shows_grown old new below p was is same = at_inside new below p is ∙ same ∙ sym (at_inside old below p was)
+
+-- a growth of a driver is one of the disk, whose layers below stay
+pub grown_step : (under later : List Layer) (old new : Layer) (size : ℕ) (fill : Growth) (r : Result Unit Fault) → ((p : ℕ) → new.held p ≡ loose)
+    → (size ≤ old.size → OnOk r (new ≡ old)) → (old.size < size → OnOk r (Grown (at under) old new size fill)) → (WasNotCutOff r → later ≡ under)
+    → OnOk r (Step (at under) (disk_of under old) (grow size fill) done (disk_of later new))
+grown_step under later old new size fill (Err e) is_free nothing grown stays = tt
+grown_step under later old new size fill (Ok v) is_free nothing grown stays = rw (stays tt) (elim (cases_lt old.size size) [
+  | inl large ↦ let g = grown large in let longer : old.size < new.size = omega (arith, large, g.size) in inr (λ small. omega (arith, small, large), record {
+      new_size = g.size;
+      kept = λ p low. shows_grown old new under p low (omega (arith, longer, low)) (g.kept p low);
+      filled = λ p from to. rw (at_inside new under p (omega (arith, to, g.size))) (g.filled p from to);
+      is_free = λ p low. ap hold_of (is_free p);
+    })
+  | inr small ↦ inl (small, record { size = ap (λ (l : Layer). l.size) (nothing small); value = λ p low. ap (λ (l : Layer). at (l ∷ under) p) (nothing small);
+      hold = λ p low. ap (λ (l : Layer). hold_of (l.held p)) (nothing small) })
+])

@@ -4,7 +4,7 @@ use Rattle.std.specs.Prelude.{Result, OnOk, IfErr, is_some}
 use Rattle.std.proofs.lemmas.Bool.{cases_lt}
 use Rattle.std.proofs.lemmas.Result.{IfErr-weaker}
 use Rattle.imago_storage.specs.State.{StorageState, IsAlignment}
-use Rattle.imago_storage.specs.Disk.{Value, Disk, free, held}
+use Rattle.imago_storage.specs.Disk.{Value, free, held}
 use Rattle.imago_storage.specs.Steps.{Step, Stays, IsIn, prepare, prepared, write_mapped}
 use Rattle.imago_storage.specs.declared.fault.Fault.{Fault}
 use Rattle.imago_storage.specs.declared.fault.Fault.TheVariants.{ReadOnly, PastEnd, RangeOverflow, Foreign, MissingData, Failed, Outdated, Memory, Storage}

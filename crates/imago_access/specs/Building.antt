@@ -1,19 +1,39 @@
 -- How the files that an image names are opened.
-use Rattle.std.specs.Prelude.{◌≡◌, Bool, Option, Some, None, false}
+use Rattle.std.specs.Prelude.{◌≡◌, ◌⊎◌, [], ℕ, Bool, Option, Some, None, Result, Ok, Err, false, IsTrue}
 use Rattle.imago_storage.specs.Options.{OpenOptions}
 use Rattle.imago_storage.specs.State.{StorageState}
-use Rattle.imago_access.specs.Layer.{Layer, IsFree}
+use Rattle.imago_storage.specs.declared.fault.Fault.{Fault}
+use Rattle.imago_access.specs.declared.format.Format.{Format}
+use Rattle.imago_access.specs.declared.seen.Seen.{Ghosts}
+use Rattle.imago_access.specs.Layer.{IsFree}
 use Rattle.imago_access.specs.Files.{IsKept}
-use Rattle.imago_access.specs.Stops.{IsMeant}
+use Rattle.imago_access.specs.Stops.{IsWritten}
 
 -- these options, or new ones, for writing or not
 abbrev pub options_with : Option OpenOptions → Bool → OpenOptions
 options_with None writable = record { filename = None; writable = writable; direct = false }
 options_with (Some options) writable = record options { writable = writable }
 
--- A layer just opened: it shows what its image file means, which opening has only read; nothing is prepared, and it has not failed.
-pub record IsOpened (layer : Layer) (before image : StorageState) : Type 0 where
-  pub meant : IsMeant layer image.bytes
-  pub kept : IsKept before image
-  pub free : IsFree layer
-  pub runs : layer.failed ≡ false
+-- A driver just opened, of this format, for writing or not, and with this number, over an image file that was so before. It shows what the file
+-- means, where that is its only one, and opening has only read that; nothing is prepared, nothing waits in memory, and it has not failed. Where
+-- the file is sound and its storage keeps what is written, it is as an image that was found sound has to be.
+pub record IsOpened {D St : Type 0} (g : Ghosts D St) (format : Format) (writable : Bool) (number : ℕ) (before : StorageState) (d : D) : Type 0 where
+  pub format_is : (g.layer d).fixed.format ≡ format
+  pub writable_is : (g.layer d).fixed.writable ≡ writable
+  pub number_is : (g.layer d).fixed.number ≡ number
+  pub meant : g.extras d ≡ [] → IsWritten g d
+  pub kept : IsKept before (g.image d)
+  pub free : IsFree (g.layer d)
+  pub runs : (g.layer d).failed ≡ false
+  pub sees : g.sees d
+  pub still : g.still d
+  pub safe : IsTrue (g.layer d).fixed.keeps → g.sound (g.layer d).fixed.kind (g.image d).bytes → g.safe d
+
+-- What was created is handed to the closure that makes the builder for it, and opened by that builder, or by another that was made for that.
+abbrev pub OpensCreated : {S B : Type 0} → (S → Type 0) → (S → Result B Fault → Type 0) → (B → B → Type 0) → (B → Type 0) → Type 0
+OpensCreated {S} {B} hands makes opens_with Opens = (s : S) × (b b' : B) × hands s × makes s (Ok b) × opens_with b b' × Opens b'
+
+-- Why it isn't created and opened: by a cause of creation, of the closure, or of the builder.
+abbrev pub NotOpened : {S B : Type 0} → (Fault → Type 0) → (S → Type 0) → (S → Result B Fault → Type 0) → (B → B → Type 0) → (B → Fault → Type 0) → Fault → Type 0
+NotOpened {S} {B} refuses hands makes opens_with refused e =
+    refuses e ⊎ (((s : S) × hands s × makes s (Err e)) ⊎ OpensCreated hands makes opens_with (λ b. refused b e))

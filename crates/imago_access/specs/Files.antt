@@ -1,5 +1,5 @@
 -- What calls do to the storages of an image or of a chain.
-use Rattle.std.specs.Prelude.{◌≡◌, ◌⊎◌, ⊤, ◌≤◌, ◌∷◌, [], ◌++◌, max, ℕ, zero, suc, List, Result, MatchResult, slice_index}
+use Rattle.std.specs.Prelude.{◌≡◌, ◌⊎◌, ⊤, ◌<◌, ◌≤◌, ◌+◌, ◌∷◌, [], ◌++◌, ◌&&◌, max, ℕ, zero, suc, Bool, List, Result, MatchResult, slice_index}
 use Rattle.imago_storage.specs.State.{StorageState, Rose}
 use Rattle.imago_storage.specs.Calls.{Kept, Later}
 use Rattle.imago_access.specs.declared.seen.Seen.{Ghosts}
@@ -81,6 +81,15 @@ byte_in (s ∷ ss) (suc storage) place = byte_in ss storage place
 abbrev pub greatest : (StorageState → ℕ) → StorageState → List StorageState → ℕ
 greatest measure s [] = measure s
 greatest measure s (t ∷ ts) = max (measure s) (greatest measure t ts)
+
+-- each storage keeps what is written
+abbrev pub keep_all : StorageState → List StorageState → Bool
+keep_all s [] = s.shape.keeps
+keep_all s (t ∷ ts) = s.shape.keeps && keep_all t ts
+
+-- the bytes of a storage from a place on fill a buffer of this length
+abbrev pub AreRead : List StorageState → ℕ → ℕ → ℕ → List ℕ → Type 0
+AreRead storages storage place n buf = (i : ℕ) → i < n → slice_index buf i ≡ byte_in storages storage (place + i)
 
 -- nothing was asked of the files of a driver
 abbrev pub Unasked : {D St : Type 0} → Ghosts D St → D → D → Type 0

@@ -1,6 +1,6 @@
 -- What every call of a driver does to what contracts see of it. It was not cut off by want of memory or by a storage that failed where
 -- `whole` holds.
-use Rattle.std.specs.Prelude.{◌≡◌, ◌⊎◌, ⊤, List, Option, Some, None, Result, IsTrue, IsOk, IsErrOf, IsSome}
+use Rattle.std.specs.Prelude.{◌≡◌, ◌⊎◌, ⊤, ℕ, List, Option, Some, None, Result, IsTrue, IsOk, OnOk, IsErrOf, IsSome}
 use Rattle.imago_storage.specs.Calls.{IsFaultless}
 use Rattle.imago_storage.specs.Steps.{Call}
 use Rattle.imago_storage.specs.declared.fault.Fault.{Fault}
@@ -9,8 +9,8 @@ use Rattle.imago_access.specs.declared.seen.Seen.{Ghosts}
 use Rattle.imago_access.specs.declared.seen.SeenBelow.{Ghosts as GhostsBelow}
 use Rattle.imago_access.specs.Layer.{Layer, IsLike}
 use Rattle.imago_access.specs.Chain.{Likes}
-use Rattle.imago_access.specs.Files.{Pairs, IsKept, IsLater, Unasked, files}
-use Rattle.imago_access.specs.Refusals.{barrier, SomeFailed}
+use Rattle.imago_access.specs.Files.{Pairs, IsKept, IsLater, SomeRose, Unasked, files}
+use Rattle.imago_access.specs.Refusals.{barrier, own_refusal, SomeFailed}
 use Rattle.imago_access.specs.Room.{Takes}
 use Rattle.imago_access.specs.Stops.{KeepsStops, GivesNone}
 
@@ -20,6 +20,14 @@ pub record AtOnce {D St T : Type 0} (g : Ghosts D St) (refusal : Option Fault) (
   pub refused : (f : Fault) → refusal ≡ Some f → IsErrOf result f
   pub idle : nothing → barrier (g.layer old) ≡ None → IsOk result
   pub unasked : nothing ⊎ IsSome refusal → Unasked g old new
+
+-- the same of a change of a range, in bytes
+abbrev pub RangeAtOnce : {D St T : Type 0} → Ghosts D St → ℕ → ℕ → Result T Fault → D → D → Type 0
+RangeAtOnce g offset n result old new = AtOnce g (own_refusal (g.layer old) offset n) (n ≡ 0) result old new
+
+-- Right after a flush nothing is lost by a driver that drops what it holds in memory.
+abbrev pub KeepsWhatIsFlushed : {D St : Type 0} → Ghosts D St → Result Unit Fault → D → D → Type 0
+KeepsWhatIsFlushed g result old new = IsTrue (g.layer old).fixed.keeps → g.sees old → g.still old → OnOk result ((g.layer new ≡ g.layer old) × g.sees new)
 
 -- What reads and changes rest on is what it was.
 pub record IsKnown {D St : Type 0} (g : Ghosts D St) (old new : D) : Type 0 where
@@ -37,12 +45,22 @@ pub record IsUnchanged {D St : Type 0} (g : Ghosts D St) (old new : D) : Type 0 
   pub room : g.safe old → Takes g (λ _. ⊤) old new
   pub began : (d : D) (call : Call) → g.began d call old → g.began d call new
 
+-- what reads and changes rest on, and the files, are what they were
+abbrev pub IsSpared : {D St : Type 0} → Ghosts D St → D → D → Type 0
+IsSpared g old new = IsKnown g old new × Pairs IsKept (files g old) (files g new)
+
 -- What a refusal leaves of an image of a format that marks failures: a storage's fault has marked it, and want of memory has marked it or
 -- left all as it was.
 abbrev pub Marks : {D St : Type 0} → Ghosts D St → D → D → Fault → Type 0
 Marks g old new Storage = IsTrue (g.layer old).fixed.marks → IsTrue (g.layer new).failed
-Marks g old new Memory = IsTrue (g.layer old).fixed.marks → IsTrue (g.layer new).failed ⊎ (IsKnown g old new × Pairs IsKept (files g old) (files g new))
+Marks g old new Memory = IsTrue (g.layer old).fixed.marks → IsTrue (g.layer new).failed ⊎ IsSpared g old new
 Marks g old new fault = ⊤
+
+-- the same of a call that reads the layers below too: a fault of its own storages has marked it
+abbrev pub MarksOver : {D St : Type 0} → Ghosts D St → D → D → Fault → Type 0
+MarksOver g old new Storage = IsTrue (g.layer old).fixed.marks → SomeRose (files g old) (files g new) → IsTrue (g.layer new).failed
+MarksOver g old new Memory = IsTrue (g.layer old).fixed.marks → IsTrue (g.layer new).failed ⊎ IsSpared g old new
+MarksOver g old new fault = ⊤
 
 -- A call that only looks. Where nothing waits to be written it makes no request; else a stop in it shows nothing new.
 pub record Looked {D St : Type 0} (g : Ghosts D St) (whole : Type 0) (old new : D) : Type 0 where

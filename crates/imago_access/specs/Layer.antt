@@ -1,5 +1,5 @@
 -- What a layer of a chain is to the access above it.
-use Rattle.std.specs.Prelude.{◌≡◌, ℕ, max, Bool, Option, None, List, IsTrue}
+use Rattle.std.specs.Prelude.{◌≡◌, ℕ, max, Bool, Option, Some, None, List, IsTrue}
 use Rattle.imago_storage.specs.Disk.{Value, Hold, free, held}
 use Rattle.imago_access.specs.declared.format.Format.{Format}
 
@@ -83,6 +83,10 @@ unit_of_layer layer = max layer.fixed.req_align layer.fixed.mem_align
 -- nothing is prepared
 abbrev pub IsFree : Layer → Type 0
 IsFree layer = layer.unspent ≡ None
+
+-- two places that can be written at one place of a storage are one
+abbrev pub IsOneAt : Layer → ℕ × ℕ → ℕ → ℕ → Type 0
+IsOneAt layer at p q = layer.home p ≡ Some at → layer.home q ≡ Some at → p ≡ q
 
 -- what it was and will be, but for a resize or a mapping: what never changes, its size and the unspent mapping; and one that had failed has
 pub record IsLike (old new : Layer) : Type 0 where

@@ -14,6 +14,8 @@ pub mod Stops
 pub mod Going
 pub mod PartCalls
 pub mod Failing
+pub mod PreparingCalls
+pub mod ResizeCalls
 pub mod Running
 pub mod ChainCalls
 pub mod Discards

@@ -42,9 +42,14 @@ IsInReach layer offset mapping n = ⊤
 abbrev pub NamesHome : Layer → ℕ → ℕ → ShallowMapping → Type 0
 NamesHome layer offset asked mapping = IsFree layer → 0 < asked → (storage place : ℕ) → layer.home offset ≡ Some (storage, place) → mapping ≡ shallow.Raw storage place true
 
--- where a layer says of places what room they have, one that is vacant or zeroed isn't answered as a place of a storage
+-- where a layer says of places what room they have, one that is vacant or zeroed isn't answered as a place of a storage, nor as one that
+-- can't be read
+abbrev pub IsRoomy : Layer → (vacant zeroed : ℕ → Type 0) → ℕ → ℕ → Type 0
+IsRoomy layer vacant zeroed offset n = IsTrue layer.fixed.states_room → (i : ℕ) → i < n → (vacant (offset + i) ⊎ zeroed (offset + i)) → ⊥
+
 abbrev pub NamesRoom : Layer → (vacant zeroed : ℕ → Type 0) → ℕ → ℕ → ShallowMapping → Type 0
-NamesRoom layer vacant zeroed offset n (shallow.Raw storage place writable) = IsTrue layer.fixed.states_room → (i : ℕ) → i < n → (vacant (offset + i) ⊎ zeroed (offset + i)) → ⊥
+NamesRoom layer vacant zeroed offset n (shallow.Raw storage place writable) = IsRoomy layer vacant zeroed offset n
+NamesRoom layer vacant zeroed offset n (shallow.Special place) = IsRoomy layer vacant zeroed offset n
 NamesRoom layer vacant zeroed offset n mapping = ⊤
 
 -- what a lookup of one layer answers
@@ -52,6 +57,13 @@ pub record Looks (layer : Layer) (stored : ℕ → ℕ → ℕ) (offset asked : 
   pub names : Names layer stored offset n mapping
   pub reach : IsInReach layer offset mapping n
   pub home : NamesHome layer offset asked mapping
+
+-- what a lookup in a driver answers, by the bytes of its files, and of the room that the places have
+abbrev pub LooksIn : {D St : Type 0} → Ghosts D St → ℕ → ℕ → D → D → ShallowMapping × ℕ → Type 0
+LooksIn g offset asked old new answer = Looks (g.layer old) (byte_in (files g new)) offset asked answer.0 answer.1
+
+abbrev pub NamesRoomIn : {D St : Type 0} → Ghosts D St → ℕ → D → ShallowMapping × ℕ → Type 0
+NamesRoomIn g offset old answer = NamesRoom (g.layer old) (g.vacant old) (g.zeroed old) offset answer.1 answer.0
 
 -- the byte at a place of a storage of the driver at a depth
 abbrev pub stored_at : {D St : Type 0} → Ghosts D St → List D → ℕ → ℕ → ℕ → ℕ

@@ -2,14 +2,14 @@
 use Rattle.std.specs.Prelude.{◌≡◌, ◌⊎◌, ⊤, ℕ, ◌+◌, ◌<◌, ◌^◌, max, Bool, Option, Some, None, List, [], ◌∷◌, if◌then◌else◌, ltb, leb, eqb, not, IsTrue, IsFalse}
 use Rattle.imago_storage.specs.State.{StorageState, unit_of}
 use Rattle.imago_storage.specs.Through.{round_up, Overflows}
-use Rattle.imago_storage.specs.Disk.{Value, barred, damaged_place, Disk}
+use Rattle.imago_storage.specs.Disk.{Value, barred, damaged_place}
 use Rattle.imago_storage.specs.Steps.{Call}
 use Rattle.imago_storage.specs.Causes.{offset_of, length_of, Alters, IsForeign}
 use Rattle.imago_storage.specs.declared.fault.Fault.{Fault}
 use Rattle.imago_storage.specs.declared.fault.Fault.TheVariants.{ReadOnly, PastEnd, RangeOverflow, DamagedTable, Unsupported, Barred, VersionLimit, Foreign, MissingData, Failed, Memory, Storage}
 use Rattle.imago_access.specs.Layer.{Layer, own, unit_of_layer}
 use Rattle.imago_access.specs.Chain.{disk_of, unit_of_chain}
-use Rattle.imago_access.specs.Files.{SomeRose, IsStale, greatest}
+use Rattle.imago_access.specs.Files.{SomeRose, IsStale, greatest, keep_all}
 
 -- why no call of an image but getters and a cancel succeeds
 abbrev pub barrier : Layer → Option Fault
@@ -44,11 +44,14 @@ change_refusal unit layer offset n =
 abbrev pub own_refusal : Layer → ℕ → ℕ → Option Fault
 own_refusal layer offset n = change_refusal (unit_of_layer layer) layer offset n
 
--- Its alignments are the greatest of its storages; what it can zero by itself is none, its units, or what its image file can zero.
-pub record HasAlignmentsOf (layer : Layer) (image : StorageState) (extras : List StorageState) : Type 0 where
+-- What the storages of a layer make of it: its alignments are the greatest of theirs, and it keeps what is written where each does. What it
+-- can zero by itself is none, its units, or what its image file can zero.
+pub record IsOfStorages (layer : Layer) (image : StorageState) (extras : List StorageState) : Type 0 where
   pub requests : layer.fixed.req_align ≡ greatest (λ s. s.shape.req_align) image extras
   pub memory : layer.fixed.mem_align ≡ greatest (λ s. s.shape.mem_align) image extras
-  pub zeroing : (layer.fixed.granularity ≡ None) ⊎ ((layer.fixed.granularity ≡ Some layer.fixed.unit) ⊎ (layer.fixed.granularity ≡ Some (max (unit_of image.shape) image.shape.zero_align)))
+  pub keeps : layer.fixed.keeps ≡ keep_all image extras
+  pub zeroing : (layer.fixed.granularity ≡ None) ⊎ ((layer.fixed.granularity ≡ Some layer.fixed.unit)
+      ⊎ (layer.fixed.granularity ≡ Some (max (unit_of image.shape) image.shape.zero_align)))
 
 -- a layer of the chain is barred by this
 abbrev pub SomeBarred : List Layer → Fault → Type 0

@@ -1,6 +1,6 @@
 -- What calls take and give up of the room that a layer has allocated, in its units: unit u is the places from u times the unit on, up to
 -- the next, or to the disk's end.
-use Rattle.std.specs.Prelude.{⊤, ◌⊎◌, ℕ, ◌+◌, ◌*◌, ◌<◌, ◌≤◌, min}
+use Rattle.std.specs.Prelude.{⊤, ◌≡◌, ◌⊎◌, ℕ, ◌+◌, ◌*◌, ◌<◌, ◌≤◌, min, None, IsSome}
 use Rattle.imago_storage.specs.Steps.{IsOut}
 use Rattle.imago_storage.specs.declared.fault.Fault.{Fault}
 use Rattle.imago_access.specs.declared.seen.Seen.{Ghosts}
@@ -68,3 +68,8 @@ GivesUp g offset n = LeavesRoom g (IsOut offset n) (λ _. ⊤)
 -- the driver has no cause of its own to decline
 abbrev pub IsUndeclined : (Fault → Type 0) → Type 0
 IsUndeclined causes = (causes Unsupported → ⊥) × (causes VersionLimit → ⊥)
+
+-- What room a layer says that a place has, by where it can be written: nowhere what is vacant or zeroed, and what can be written has room.
+pub record SaysRoom {D St : Type 0} (g : Ghosts D St) (d : D) (p : ℕ) : Type 0 where
+  pub homeless : g.vacant d p ⊎ g.zeroed d p → (g.layer d).home p ≡ None
+  pub housed : IsSome ((g.layer d).home p) → g.has_room d p

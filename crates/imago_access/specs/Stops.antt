@@ -89,6 +89,10 @@ pub record IsMeant (layer : Layer) (f : List ℕ) : Type 0 where
   pub exactly : IsTrue layer.fixed.exact → (layer.fixed.means f).size ≡ layer.size
   pub cell : (p : ℕ) → p < layer.size → (layer.fixed.means f).cell p ≡ layer.cell p
 
+-- the image file of a driver means its disk by itself
+abbrev pub IsWritten : {D St : Type 0} → Ghosts D St → D → Type 0
+IsWritten g d = IsMeant (g.layer d) (g.image d).bytes
+
 -- the file is sound, and not shorter than the disk
 pub record IsCovered (layer : Layer) (sound : ℕ → List ℕ → Type 0) (f : List ℕ) : Type 0 where
   pub is_sound : sound layer.fixed.kind f

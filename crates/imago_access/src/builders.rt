@@ -1,8 +1,8 @@
 // How images are opened and created, option by option.
-ghost use Rattle.std.specs.Prelude.{◌≡◌, ◌⊎◌, true, false, Bool, ℕ, Some, None, Ok, Err, Option, Result, MatchOption, IsOkUnless, IfOk, IfErr, IsTrue};
+ghost use Rattle.std.specs.Prelude.{◌≡◌, ◌⊎◌, false, Bool, ℕ, Some, None, Ok, Err, Option, Result, MatchOption, IsOkUnless, IfOk, IfErr, IsTrue};
 ghost use Rattle.imago_storage.specs.Options.{OpenOptions};
 ghost use Rattle.imago_storage.specs.declared.fault.Fault.{Fault};
-ghost use Rattle.imago_access.specs.Building.{options_with, IsOpened};
+ghost use Rattle.imago_access.specs.Building.{options_with, IsOpened, OpensCreated, NotOpened};
 ghost use Rattle.imago_access.specs.declared.format.Format.{Format};
 ghost use Rattle.imago_access.specs.declared.format.PreallocateMode.{PreallocateMode};
 ghost use Rattle.imago_access.specs.declared.format.PreallocateMode.TheVariants as mode;
@@ -220,8 +220,7 @@ pub trait FormatDriverBuilder<S: Storage> {
         ensures options { options_of result ≡ Some options }
         ensures number { number_of result ≡ number_of self };
 
-    /// Opens the image. What it shows then is what its files mean by themselves; nothing waits in memory, nothing is prepared, and the
-    /// image file is as it was. Where that is sound and its storage keeps what is written, the image is safe. The gate decides which of the files may be opened that the image names and that weren't handed in.
+    /// Opens the image. The gate decides which of the files may be opened that the image names and that weren't handed in.
     ///
     /// It refuses as the format's own builder says, and drops the image file then.
     fn open<G: ImplicitOpenGate<S>>(
@@ -229,13 +228,7 @@ pub trait FormatDriverBuilder<S: Storage> {
         alloc: Global,
         gate: &mut G,
     ) -> Result<Self::Format, Fault>
-        ensures ok { IfOk result (λ d. opens self d) }
-        ensures format { IfOk result (λ d. (Self.Format.layer d).fixed.format ≡ FORMAT) }
-        ensures writable { IfOk result (λ d. (Self.Format.layer d).fixed.writable ≡ writable_of self) }
-        ensures number { IfOk result (λ d. (Self.Format.layer d).fixed.number ≡ number_of self) }
-        ensures opened { IfOk result (λ d. IsOpened (Self.Format.layer d) (S.state (image_of self)) (Self.Format.image d)) }
-        ensures known { IfOk result (λ d. Self.Format.sees d × Self.Format.still d) }
-        ensures safe { IfOk result (λ d. IsTrue (Self.Format.layer d).fixed.keeps → Self.Format.sound (Self.Format.layer d).fixed.kind (Self.Format.image d).bytes → Self.Format.safe d) }
+        ensures ok { IfOk result (opens self) }
         ensures err { IfErr result (refuses self) };
 
     /// Whether also for writing.
@@ -245,6 +238,10 @@ pub trait FormatDriverBuilder<S: Storage> {
     /// How the files are opened that the image names, where that was said.
     fn get_storage_open_options(&self) -> Option<&StorageOpenOptions>
         ensures { MatchOption result (options_of self.now ≡ None) (λ o. options_of self.now ≡ Some o.now) };
+
+    /// What it opens shows what its files mean by themselves; nothing waits in memory, nothing is prepared, and the image file is as it
+    /// was. Where that is sound and its storage keeps what is written, the image is safe.
+    ghost opened: { (b : Self) (d : Self.Format) → opens b d → IsOpened Self.Format.Seen FORMAT (writable_of b) (number_of b) (S.state (image_of b)) d };
 }
 
 /// Makes the builder that opens an image file: each closure that takes the file and answers a builder does.
@@ -348,8 +345,8 @@ pub trait FormatCreateBuilder<S: Storage> {
         open_builder: F,
     ) -> Result<<Self::DriverBuilder as FormatDriverBuilder<S>>::Format, Fault>
         requires { (s : S) → hands self s → F.takes open_builder s }
-        ensures ok { IfOk result (λ d. (s : S) × (b b' : Self.DriverBuilder) × hands self s × F.makes open_builder s (Ok b) × opens_with self b b' × Self.DriverBuilder.opens b' d) }
+        ensures ok { IfOk result (λ d. OpensCreated (hands self) (F.makes open_builder) (opens_with self) (λ b. Self.DriverBuilder.opens b d)) }
         ensures format { IfOk result (λ d. (Self.DriverBuilder.Format.layer d).fixed.format ≡ FORMAT) }
         ensures writable { IfOk result (λ d. IsTrue (Self.DriverBuilder.Format.layer d).fixed.writable) }
-        ensures err { IfErr result (λ e. refuses self e ⊎ (((s : S) × hands self s × F.makes open_builder s (Err e)) ⊎ ((s : S) × (b b' : Self.DriverBuilder) × hands self s × F.makes open_builder s (Ok b) × opens_with self b b' × Self.DriverBuilder.refuses b' e))) };
+        ensures err { IfErr result (NotOpened (refuses self) (hands self) (F.makes open_builder) (opens_with self) Self.DriverBuilder.refuses) };
 }

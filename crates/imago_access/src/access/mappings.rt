@@ -81,6 +81,7 @@ impl<D: FormatDriverInstance> FormatAccess<D> {
         ensures spent { IfErr result (λ e. e.1 ≡ None → IsSome mapping.state × IsTrue (D.layer self.new.0).failed × IsSpending e.0 × Spends D.Seen mapping.state (D.layer self.old.0) (D.layer self.new.0) (IsFree (D.layer self.new.0) × (D.safe self.old.0 → IsMild e.0 → ⊥))) }
         ensures free { IsMine D.Seen mapping.state (D.layer self.old.0) → IsSome mapping.state → OnOk result (IsFree (D.layer self.new.0)) }
         ensures stateless { mapping.state ≡ None → OnOk result (D.layer self.new.0 ≡ D.layer self.old.0) }
+        ensures sees { mapping.state ≡ None → D.sees self.old.0 → D.sees self.new.0 }
         ensures size { (D.layer self.new.0).size ≡ (D.layer self.old.0).size }
         ensures intact { IsMine D.Seen mapping.state (D.layer self.old.0) → OnOk result (IsIntactChain D.Seen self.old → IsIntactChain D.Seen self.new) }
         ensures went { Went D.Seen (MatchResult result (λ _. ⊤) (λ e. IsMild e.0)) (IsOk result × IsMine D.Seen mapping.state (D.layer self.old.0)) self.old.0 self.new.0 }
@@ -106,6 +107,7 @@ impl<D: FormatDriverInstance> FormatAccess<D> {
         ensures stateless { mapping.state ≡ None → D.layer self.new.0 ≡ D.layer self.old.0 }
         ensures fixed { ((D.layer self.new.0).fixed ≡ (D.layer self.old.0).fixed) × ((D.layer self.new.0).size ≡ (D.layer self.old.0).size) × ((D.layer self.new.0).failed ≡ (D.layer self.old.0).failed) }
         ensures intact { IsMine D.Seen mapping.state (D.layer self.old.0) → IsIntactChain D.Seen self.old → IsIntactChain D.Seen self.new }
+        ensures sees { D.sees self.old.0 → D.sees self.new.0 }
         ensures lasts { D.lasts self.old.0 → D.lasts self.new.0 }
         ensures none { (D.image self.new.0 ≡ D.image self.old.0) × (D.extras self.new.0 ≡ D.extras self.old.0) }
         ensures below { self.new.1 ≡ self.old.1 }

@@ -1,18 +1,17 @@
 // Calls that keep an image and its files in step.
 ghost use Rattle.std.specs.Prelude.{◌≡◌, ◌∷◌, IsTrue, map, IsOk, IfErr, OnOk, IsErrOf, IsSome, Some};
-ghost use Rattle.imago_storage.specs.Steps.{Step, flush, sync, done};
+ghost use Rattle.imago_storage.specs.Steps.{flush, sync, done};
 ghost use Rattle.imago_storage.specs.declared.fault.Fault.{Fault};
 ghost use Rattle.imago_access.specs.Layer.{IsFree, IsLike};
 ghost use Rattle.imago_access.specs.Chain.{Each, EndsAt};
 ghost use Rattle.imago_access.specs.Layers.{chain, layers};
-ghost use Rattle.imago_access.specs.Files.{Pairs, IsKept, IsStale, ImageCause, Unasked, files_of, files};
+ghost use Rattle.imago_access.specs.Files.{Pairs, IsKept, IsStale, Unasked, files_of, files};
 ghost use Rattle.imago_access.specs.Going.{Went};
-ghost use Rattle.imago_access.specs.Parts.{PlainCause};
 ghost use Rattle.imago_access.specs.Refusals.{barrier, SomeFailed, InvalidateCause};
-ghost use Rattle.imago_access.specs.Stops.{IsMeant, GivesNone};
-ghost use Rattle.imago_access.specs.Running.{IsIntactChain, RanChain, chain_disk, below_of};
+ghost use Rattle.imago_access.specs.Stops.{IsWritten, GivesNone};
+ghost use Rattle.imago_access.specs.Running.{IsIntactChain, RanChain};
 ghost use Rattle.imago_access.specs.ChainCalls.{ChainSteps};
-ghost use Rattle.imago_access.specs.Failing.{Fails};
+ghost use Rattle.imago_access.specs.Failing.{Fails, RefusesFlush};
 
 use crate::access::FormatAccess;
 use crate::drivers::FormatDriverInstance;
@@ -27,15 +26,16 @@ impl<D: FormatDriverInstance> FormatAccess<D> {
     pub fn flush(&mut self, alloc: Global) -> Result<(), Fault>
         ensures ok { IsIntactChain D.Seen self.old → OnOk result (ChainSteps D.Seen flush done self.old self.new) }
         ensures same { IsIntactChain D.Seen self.old → OnOk result (D.layer self.new.0 ≡ D.layer self.old.0) }
+        ensures sees { D.sees self.old.0 → OnOk result (D.sees self.new.0) }
         ensures still { OnOk result (D.still self.new.0) }
-        ensures written { IsIntactChain D.Seen self.old → IsFree (D.layer self.old.0) → OnOk result (IsMeant (D.layer self.new.0) (D.image self.new.0).bytes) }
+        ensures written { IsIntactChain D.Seen self.old → IsFree (D.layer self.old.0) → OnOk result (IsWritten D.Seen self.new.0) }
         ensures barred { (f : Fault) → barrier (D.layer self.old.0) ≡ Some f → IsErrOf result f }
         ensures unasked { IsSome (barrier (D.layer self.old.0)) → Unasked D.Seen self.old.0 self.new.0 }
         ensures like { IsLike (D.layer self.old.0) (D.layer self.new.0) }
         ensures ran { RanChain D.Seen (IsOk result) GivesNone self.old self.new }
         ensures below { self.new.1 ≡ self.old.1 }
         ensures failed { IfErr result (Fails D.Seen self.old.0 self.new.0) }
-        ensures cause { D.safe self.old.0 → IfErr result (PlainCause (D.layer self.old.0) (files D.Seen self.old.0) (files D.Seen self.new.0)) }
+        ensures cause { D.safe self.old.0 → IfErr result (RefusesFlush D.Seen self.old.0 self.new.0) }
     {
         self.driver.flush(alloc)
     }
@@ -53,7 +53,7 @@ impl<D: FormatDriverInstance> FormatAccess<D> {
         ensures like { IsLike (D.layer self.old.0) (D.layer self.new.0) }
         ensures ran { RanChain D.Seen (IsOk result) GivesNone self.old self.new }
         ensures below { self.new.1 ≡ self.old.1 }
-        ensures cause { IfErr result (PlainCause (D.layer self.old.0) (files D.Seen self.old.0) (files D.Seen self.new.0)) }
+        ensures cause { IfErr result (RefusesFlush D.Seen self.old.0 self.new.0) }
     {
         self.driver.sync()
     }

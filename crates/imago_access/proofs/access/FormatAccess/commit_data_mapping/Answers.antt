@@ -1,7 +1,6 @@
-use Rattle.std.proofs.Common.{◌∷◌, map}
+use Rattle.std.proofs.Common.{map}
 use Rattle.std.proofs.lemmas.Result.{IfErr-weaker}
 use Rattle.std.proofs.lemmas.Option.{IfSome_then}
-use Rattle.imago_access.specs.Chain.{unit_of_chain, disk_of}
 use Rattle.imago_access.specs.Files.{files_of, files}
 use Rattle.imago_access.proofs.Answers.{both_on_err}
 use Rattle.imago_access.proofs.CommitCauses.{commit_cause}
@@ -13,7 +12,7 @@ pub returns-clause-stops : goal.returns-clause-stops
 returns-clause-stops g c = let d = g.D.Seen in
     let old = c.self.inside.driver in
     let under = map d.layer (layers c.self.inside.below) in
-    rw (← c.self.view_is) (λ intact mine. held_stops d under old c.commit_data_mapping.new.self intact.held (c.commit_data_mapping.ensures.stops intact.is_safe mine under))
+    rw (← c.self.view_is) (λ intact mine. held_stops d under old c.commit_data_mapping.new.self intact.held (c.commit_data_mapping.ensures.commits.stops intact.is_safe mine under))
 
 pub returns-clause-cause : goal.returns-clause-cause
 returns-clause-cause g c = let d = g.D.Seen in
@@ -21,7 +20,7 @@ returns-clause-cause g c = let d = g.D.Seen in
     let new = c.commit_data_mapping.new.self in
     let under = layers c.self.inside.below in
     let others = files_of d under in
-    let told = both_on_err c.commit_data_mapping.result _ _ c.commit_data_mapping.ensures.back (both_on_err c.commit_data_mapping.result _ _ c.commit_data_mapping.ensures.spent c.commit_data_mapping.ensures.failed) in
+    let told = both_on_err c.commit_data_mapping.result _ _ c.commit_data_mapping.ensures.refused.back (both_on_err c.commit_data_mapping.result _ _ c.commit_data_mapping.ensures.refused.spent c.commit_data_mapping.ensures.refused.failed) in
     rw (← c.self.view_is) (λ intact whose. IfErr-weaker c.commit_data_mapping.result _ _
     (λ e h. commit_cause d (d.layer old) (d.layer new) (map d.layer under) (files d old) (files d new) others others c.args.mapping.state e.1 (d.safe old) e.0 whose intact.is_safe (IfSome_then e.1 h.0 (λ m back. back.1)) h.1.0 h.1.1)
     told)

@@ -1,7 +1,7 @@
 use Rattle.std.proofs.Common.{arith, inl, inr, refl, ◌∷◌, List, map}
 use Rattle.imago_storage.specs.Steps.{discard_to_any, ToAny}
 use Rattle.imago_storage.proofs.Parts.{passed}
-use Rattle.imago_access.specs.Chain.{disk_of, unit_of_chain}
+use Rattle.imago_access.specs.Chain.{unit_of_chain}
 use Rattle.imago_access.specs.Files.{WasNotCutOff, files_of}
 use Rattle.imago_access.specs.Layers.{layers}
 use Rattle.imago_access.specs.Refusals.{ChangeCause}

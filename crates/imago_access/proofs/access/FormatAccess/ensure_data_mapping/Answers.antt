@@ -41,7 +41,7 @@ returns-in-Err-clause-ran g c = let d = g.D.Seen in
     let e = c.in-Err.ensures in
     rw (← c.self.view_is) (ran_seen layers d (below_ghosts d) (IsMild c.in-Err.fault) (GivesAnnounced c.args.overwrite c.args.offset c.args.length) a0 a1 x0 x1
     (ran_gives d (seen_by layers (below_ghosts d)) (IsMild c.in-Err.fault) GivesNone (GivesAnnounced c.args.overwrite c.args.offset c.args.length) a0 a1 x0 x1 (λ p v none. absurd none)
-    (ran_prepared d (seen_by layers (below_ghosts d)) (Err c.in-Err.fault) a0 a1 x0 x1 c.args.offset c.args.length c.args.overwrite (laws.free_loose a0 free) e.size e.went e.below e.ok e.err e.stops)))
+    (ran_prepared d (seen_by layers (below_ghosts d)) (Err c.in-Err.fault) a0 a1 x0 x1 c.args.offset c.args.length c.args.overwrite (laws.free_loose a0 free) e.size e.does.went e.below e.does.ok e.does.err e.does.stops)))
 
 pub returns-in-Err-clause-cause : goal.returns-in-Err-clause-cause
 returns-in-Err-clause-cause g c = let d = g.D.Seen in
@@ -55,7 +55,7 @@ returns-in-Err-clause-cause g c = let d = g.D.Seen in
     let free : IsFree (d.layer a0) = subst (λ (v : _). IsFree (d.layer v.0)) (sym c.self.view_is) c.requires.free in
     let call = ensure c.args.offset c.args.length c.args.overwrite in
     rw (← c.self.view_is) (λ intact. change_cause under (d.layer a0) call (d.own_cause a0 under call) (d.image a0 ∷ (d.extras a0 ++ files_of d (layers x0))) (d.image a1 ∷ (d.extras a1 ++ files_of d (layers x1))) (λ some. some) (overflows_chain d.layer laws.aligned a0 (layers x0) c.args.offset c.args.length) c.in-Err.fault
-    (c.in-Err.ensures.cause intact.is_safe intact.is_seen a0 call (laws.begins a0 call) (own_part (d.layer a0) call) refl))
+    (c.in-Err.ensures.does.refused.cause intact.is_safe intact.is_seen a0 call (laws.begins a0 call) (own_part (d.layer a0) call) refl))
 
 pub returns-in-Err-settle-clause-ran : goal.returns-in-Err-settle-clause-ran
 returns-in-Err-settle-clause-ran g c = let d = g.D.Seen in
@@ -73,14 +73,14 @@ returns-in-Err-settle-clause-ran g c = let d = g.D.Seen in
     let stateless = λ (none : m.state ≡ None). laws.free_loose a1 (c.in-Ok.ensures.mine.1 none) in
     let s = c.in-Err-settle.ensures in
     rw (← c.self.view_is) (ran_seen layers d (below_ghosts d) (IsMild c.in-Err-settle.fault) (GivesAnnounced c.args.overwrite c.args.offset c.args.length) a0 a2 x0 x1
-    (ran_ensured d (seen_by layers (below_ghosts d)) (IsMild c.in-Err-settle.fault) a0 a1 a2 x0 x1 c.args.offset c.args.length c.args.overwrite m.storage m.offset m.length claim c.in-Ok.ensures.run.0.0 (λ i. c.in-Ok.ensures.ok i.is_safe i.is_seen)
-    (ran_mapped d (seen_by layers (below_ghosts d)) m.state a0 a1 x0 x1 c.args.offset c.args.length c.args.overwrite m.storage m.offset m.length (laws.free_loose a0 free) c.in-Ok.ensures.size c.in-Ok.ensures.went c.in-Ok.ensures.below c.in-Ok.ensures.ok c.in-Ok.ensures.stops)
+    (ran_ensured d (seen_by layers (below_ghosts d)) (IsMild c.in-Err-settle.fault) a0 a1 a2 x0 x1 c.args.offset c.args.length c.args.overwrite m.storage m.offset m.length claim c.in-Ok.ensures.run.0.0 (λ i. c.in-Ok.ensures.does.ok i.is_safe i.is_seen)
+    (ran_mapped d (seen_by layers (below_ghosts d)) m.state a0 a1 x0 x1 c.args.offset c.args.length c.args.overwrite m.storage m.offset m.length (laws.free_loose a0 free) c.in-Ok.ensures.size c.in-Ok.ensures.does.went c.in-Ok.ensures.below c.in-Ok.ensures.does.ok c.in-Ok.ensures.does.stops)
     (ran_unsettled d (seen_by layers (below_ghosts d)) m.state (IsMild c.in-Err-settle.fault) a1 a2 x1 laws.free_loose s.size s.went c.in-Ok.ensures.mine.0 (s.free c.in-Ok.ensures.mine.1) (λ mild safe. s.err safe mild) s.stops)))
 
 pub returns-in-Err-settle-clause-failed : goal.returns-in-Err-settle-clause-failed
 returns-in-Err-settle-clause-failed g c = let d = g.D.Seen in
     let a0 = c.self.inside.driver in let a1 = c.prepare_data_mapping.new.self in let a2 = c.settle.new.driver in
-    rw (← c.self.view_is) (failed_alone (files d a0) (files d a1) (files d a2) (files_of d (layers c.self.inside.below)) (files_of d (layers c.prepare_data_mapping.new.below)) c.in-Err-settle.fault c.in-Ok.ensures.went.later c.in-Ok.ensures.below.later c.in-Err-settle.ensures.failed)
+    rw (← c.self.view_is) (failed_alone (files d a0) (files d a1) (files d a2) (files_of d (layers c.self.inside.below)) (files_of d (layers c.prepare_data_mapping.new.below)) c.in-Err-settle.fault c.in-Ok.ensures.does.went.later c.in-Ok.ensures.below.later c.in-Err-settle.ensures.failed)
 
 pub returns-in-Err-settle-clause-cause : goal.returns-in-Err-settle-clause-cause
 returns-in-Err-settle-clause-cause g c = let d = g.D.Seen in
@@ -99,10 +99,10 @@ returns-in-Err-settle-clause-cause g c = let d = g.D.Seen in
     let s = c.in-Err-settle.ensures in
     let call = ensure c.args.offset c.args.length c.args.overwrite in
     rw (← c.self.view_is) (λ intact.
-    let safe : d.safe a1 = c.in-Ok.ensures.went.safely (tt, intact.is_seen) intact.is_safe in
+    let safe : d.safe a1 = c.in-Ok.ensures.does.went.safely (tt, intact.is_seen) intact.is_safe in
     change_cause under (d.layer a0) call (d.own_cause a0 under call) (d.image a0 ∷ (d.extras a0 ++ files_of d (layers x0))) (d.image a2 ∷ (d.extras a2 ++ files_of d (layers x1))) (λ some. some) (overflows_chain d.layer laws.aligned a0 (layers x0) c.args.offset c.args.length) c.in-Err-settle.fault
     (part_cause_alone under (d.layer a0) (d.layer a1) c.args.offset c.args.length c.args.offset c.args.length (files d a0) (files d a1) (files d a2) (files_of d (layers x0)) (files_of d (layers x1))
-    c.in-Ok.ensures.went.fixed c.in-Ok.ensures.size (laws.safe_runs a0 intact.is_safe) (laws.safe_runs a1 safe) (layer_aligned d.layer laws.aligned a0).positive (omega arith) (omega arith) c.in-Ok.ensures.went.later c.in-Ok.ensures.below.later
+    c.in-Ok.ensures.does.went.fixed c.in-Ok.ensures.size (laws.safe_runs a0 intact.is_safe) (laws.safe_runs a1 safe) (layer_aligned d.layer laws.aligned a0).positive (omega arith) (omega arith) c.in-Ok.ensures.does.went.later c.in-Ok.ensures.below.later
     (d.own_cause a0 under call) (λ _. ⊥) c.in-Err-settle.fault (λ none. absurd none) (s.cause safe under c.args.offset c.args.length (elim (cases_lt 0 c.args.length) [
       | inl some ↦ some
       | inr none ↦
@@ -129,9 +129,9 @@ returns-clause-ok g c = let d = g.D.Seen in
     let stateless = λ (none : m.state ≡ None). laws.free_loose a1 (c.in-Ok.ensures.mine.1 none) in
     let s = c.in_default.ensures in
     rw (← c.self.view_is) (λ intact.
-    let made = c.in-Ok.ensures.ok intact.is_safe intact.is_seen in
+    let made = c.in-Ok.ensures.does.ok intact.is_safe intact.is_seen in
     let same = (c.in-Ok.ensures.below.stays tt intact.is_seen).0 in
-    let safe : d.safe a1 = c.in-Ok.ensures.went.safely (tt, intact.is_seen) intact.is_safe in
+    let safe : d.safe a1 = c.in-Ok.ensures.does.went.safely (tt, intact.is_seen) intact.is_safe in
     let settles = spends_more d m.state (d.layer a1) (d.layer a2) (d.safe a1 → Committed (d.layer a1) (d.layer a2)) (Committed (d.layer a1) (d.layer a2)) (λ h. h safe) s.ok in
     let commits = settled_commits d m.state under (map d.layer (layers x1)) (d.layer a1) (d.layer a2) same s.size (truly_prepared (at under) (d.layer a0) (d.layer a1) c.args.offset c.args.length c.args.overwrite m.storage m.offset m.length claim made) c.in-Ok.ensures.mine.0 stateless (laws.free_loose a2 (s.free c.in-Ok.ensures.mine.1)) settles in
     let first = prepared_step under under (d.layer a0) (d.layer a1) c.args.offset c.args.length c.args.overwrite m.storage m.offset m.length claim (is_some m.state) refl (laws.free_loose a0 free) made c.in-Ok.ensures.run.0.0 c.in-Ok.ensures.run.0.1 c.in-Ok.ensures.run.0.2
@@ -157,8 +157,8 @@ returns-clause-home g c = let d = g.D.Seen in
     let stateless = λ (none : m.state ≡ None). laws.free_loose a1 (c.in-Ok.ensures.mine.1 none) in
     let s = c.in_default.ensures in
     rw (← c.self.view_is) (λ intact.
-    let made = c.in-Ok.ensures.ok intact.is_safe intact.is_seen in
-    let safe : d.safe a1 = c.in-Ok.ensures.went.safely (tt, intact.is_seen) intact.is_safe in
+    let made = c.in-Ok.ensures.does.ok intact.is_safe intact.is_seen in
+    let safe : d.safe a1 = c.in-Ok.ensures.does.went.safely (tt, intact.is_seen) intact.is_safe in
     let settles = spends_more d m.state (d.layer a1) (d.layer a2) (d.safe a1 → Committed (d.layer a1) (d.layer a2)) (Committed (d.layer a1) (d.layer a2)) (λ h. h safe) s.ok in
     rw (c.storage.ensures, c.offset.ensures, c.length-length.ensures) (refl, refl, λ i lt. settled_home d m.state (d.layer a1) (d.layer a2) c.in-Ok.ensures.mine.0 settles (c.args.offset + i) (m.storage, m.offset + i) (made.home i lt)))
 
@@ -178,8 +178,8 @@ returns-clause-ran g c = let d = g.D.Seen in
     let stateless = λ (none : m.state ≡ None). laws.free_loose a1 (c.in-Ok.ensures.mine.1 none) in
     let s = c.in_default.ensures in
     rw (← c.self.view_is) (ran_seen layers d (below_ghosts d) ⊤ (GivesAnnounced c.args.overwrite c.args.offset c.args.length) a0 a2 x0 x1
-    (ran_ensured d (seen_by layers (below_ghosts d)) ⊤ a0 a1 a2 x0 x1 c.args.offset c.args.length c.args.overwrite m.storage m.offset m.length claim c.in-Ok.ensures.run.0.0 (λ i. c.in-Ok.ensures.ok i.is_safe i.is_seen)
-    (ran_mapped d (seen_by layers (below_ghosts d)) m.state a0 a1 x0 x1 c.args.offset c.args.length c.args.overwrite m.storage m.offset m.length (laws.free_loose a0 free) c.in-Ok.ensures.size c.in-Ok.ensures.went c.in-Ok.ensures.below c.in-Ok.ensures.ok c.in-Ok.ensures.stops)
+    (ran_ensured d (seen_by layers (below_ghosts d)) ⊤ a0 a1 a2 x0 x1 c.args.offset c.args.length c.args.overwrite m.storage m.offset m.length claim c.in-Ok.ensures.run.0.0 (λ i. c.in-Ok.ensures.does.ok i.is_safe i.is_seen)
+    (ran_mapped d (seen_by layers (below_ghosts d)) m.state a0 a1 x0 x1 c.args.offset c.args.length c.args.overwrite m.storage m.offset m.length (laws.free_loose a0 free) c.in-Ok.ensures.size c.in-Ok.ensures.does.went c.in-Ok.ensures.below c.in-Ok.ensures.does.ok c.in-Ok.ensures.does.stops)
     (ran_settled d (seen_by layers (below_ghosts d)) m.state ⊤ a1 a2 x1 laws.free_loose s.size s.went c.in-Ok.ensures.mine.0 c.in-Ok.ensures.mine.1 (s.free c.in-Ok.ensures.mine.1) (λ w safe. spends_more d m.state (d.layer a1) (d.layer a2) (d.safe a1 → Committed (d.layer a1) (d.layer a2)) (Committed (d.layer a1) (d.layer a2)) (λ h. h safe) s.ok) s.stops)))
 
 pub returns-clause-unasked : goal.returns-clause-unasked
@@ -204,9 +204,9 @@ returns-in-Err-settle-clause-err g c = let d = g.D.Seen in
     let m = c.in-Ok.prepared in
     let s = c.in-Err-settle.ensures in
     rw (← c.self.view_is) (λ intact mild.
-    let made = c.in-Ok.ensures.ok intact.is_safe intact.is_seen in
+    let made = c.in-Ok.ensures.does.ok intact.is_safe intact.is_seen in
     let same = (c.in-Ok.ensures.below.stays tt intact.is_seen).0 in
-    let safe : d.safe a1 = c.in-Ok.ensures.went.safely (tt, intact.is_seen) intact.is_safe in
+    let safe : d.safe a1 = c.in-Ok.ensures.does.went.safely (tt, intact.is_seen) intact.is_safe in
     let spends = s.err safe mild in
     let size : (d.layer a2).size ≡ (d.layer a0).size = s.size ∙ c.in-Ok.ensures.size in
     rw same (record {

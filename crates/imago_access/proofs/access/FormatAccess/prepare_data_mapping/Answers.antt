@@ -4,7 +4,7 @@ use Rattle.std.proofs.lemmas.Result.{IfErr-weaker}
 use Rattle.imago_storage.specs.Steps.{Stays, prepare}
 use Rattle.imago_access.specs.Layer.{IsFree}
 use Rattle.imago_access.specs.Layers.{layers}
-use Rattle.imago_access.specs.Chain.{disk_of, unit_of_chain}
+use Rattle.imago_access.specs.Chain.{disk_of}
 use Rattle.imago_access.specs.Changes.{NotPrepared}
 use Rattle.imago_access.specs.Files.{IsMild, WasNotCutOff, files_of}
 use Rattle.imago_access.specs.Spending.{claim_of}
@@ -34,7 +34,7 @@ returns-clause-ok g c = let d = g.D.Seen in
     let under = map d.layer (layers c.self.inside.below) in
     let later = map d.layer (layers r.new.below) in
     rw (← c.self.view_is) (λ intact.
-    let told = both_if_ok r.result _ _ (r.ensures.ok intact.is_safe intact.is_seen) (both_if_ok r.result _ _ r.ensures.run (both_if_ok r.result _ _ r.ensures.mine (if_ok_under r.result (c.args.length ≡ 0) _ r.ensures.empty))) in
+    let told = both_if_ok r.result _ _ (r.ensures.does.ok intact.is_safe intact.is_seen) (both_if_ok r.result _ _ r.ensures.run (both_if_ok r.result _ _ r.ensures.mine (if_ok_under r.result (c.args.length ≡ 0) _ r.ensures.empty))) in
     if_ok_with r.result _ _ (λ m is h. prepared_step under later (d.layer old) (d.layer r.new.self) c.args.offset c.args.length c.args.overwrite m.storage m.offset m.length (claim_of d.claim m.state) (is_some m.state)
     (r.ensures.below.stays (whole_of_ok r.result m is) intact.is_seen).0 (laws.free_loose old free) h.0 h.1.0.0.0 h.1.0.0.1 h.1.0.0.2
     (λ none. laws.free_loose r.new.self (h.1.1.0.1 (stateless_is m.state none))) (stateful_claims d.claim m.state) (λ zero. ap (λ (m' : PreparedDataMapping g.row.D-State.Denot). is_some m'.state) (h.1.1.1 zero).0)) told)
@@ -46,7 +46,7 @@ returns-clause-err g c = let d = g.D.Seen in
     let under = map d.layer (layers c.self.inside.below) in
     let later = map d.layer (layers r.new.below) in
     rw (← c.self.view_is) (λ intact. if_err_with r.result (λ e. IsMild e → NotPrepared (d.layer old) (d.layer r.new.self)) (λ e. IsMild e → Stays (disk_of under (d.layer old)) (disk_of later (d.layer r.new.self)))
-    (λ e is not mild. not_prepared_stays under later (d.layer old) (d.layer r.new.self) (r.ensures.below.stays (whole_of_mild r.result e is mild) intact.is_seen).0 (not mild)) (r.ensures.err intact.is_safe intact.is_seen))
+    (λ e is not mild. not_prepared_stays under later (d.layer old) (d.layer r.new.self) (r.ensures.below.stays (whole_of_mild r.result e is mild) intact.is_seen).0 (not mild)) (r.ensures.does.err intact.is_safe intact.is_seen))
 
 pub returns-clause-ran : goal.returns-clause-ran
 returns-clause-ran g c = let d = g.D.Seen in
@@ -57,7 +57,7 @@ returns-clause-ran g c = let d = g.D.Seen in
     let free : IsFree (d.layer old) = subst (λ (v : _). IsFree (d.layer v.0)) (sym c.self.view_is) c.requires.free in
     rw (← c.self.view_is) (ran_seen layers d (below_ghosts d) (WasNotCutOff r.result) GivesNone old new c.self.inside.below r.new.below
     (ran_prepared d (seen_by layers (below_ghosts d)) r.result old new c.self.inside.below r.new.below c.args.offset c.args.length c.args.overwrite
-    (laws.free_loose old free) r.ensures.size r.ensures.went r.ensures.below r.ensures.ok r.ensures.err r.ensures.stops))
+    (laws.free_loose old free) r.ensures.size r.ensures.does.went r.ensures.below r.ensures.does.ok r.ensures.does.err r.ensures.does.stops))
 
 pub returns-clause-cause : goal.returns-clause-cause
 returns-clause-cause g c = let d = g.D.Seen in
@@ -68,4 +68,4 @@ returns-clause-cause g c = let d = g.D.Seen in
     let call = prepare c.args.offset c.args.length c.args.overwrite in
     rw (← c.self.view_is) (λ intact. IfErr-weaker r.result _ _
     (λ e cause. change_cause (map d.layer under) (d.layer old) call (d.own_cause old (map d.layer under) call) (d.image old ∷ (d.extras old ++ files_of d under)) (d.image r.new.self ∷ (d.extras r.new.self ++ files_of d (layers r.new.below))) (λ some. some) (overflows_chain d.layer laws.aligned old under c.args.offset c.args.length) e cause)
-    (r.ensures.cause intact.is_safe intact.is_seen old call (laws.begins old call) (own_part (d.layer old) call) refl))
+    (r.ensures.does.refused.cause intact.is_safe intact.is_seen old call (laws.begins old call) (own_part (d.layer old) call) refl))

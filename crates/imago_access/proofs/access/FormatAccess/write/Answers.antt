@@ -1,7 +1,7 @@
 use Rattle.std.proofs.Common.{◌≡◌, ◌∷◌, length, refl, true, IfErr, map}
 use Rattle.std.proofs.lemmas.Result.{IfErr-weaker}
 use Rattle.imago_storage.specs.Steps.{Call, write}
-use Rattle.imago_access.specs.Chain.{unit_of_chain, disk_of}
+use Rattle.imago_access.specs.Chain.{unit_of_chain}
 use Rattle.imago_access.specs.Files.{WasNotCutOff, files_of}
 use Rattle.imago_access.specs.Layers.{chain, layers}
 use Rattle.imago_access.specs.Parts.{IsUncutPart, announces, PartCause}

@@ -1,7 +1,5 @@
-use Rattle.std.proofs.Common.{refl, map}
 use Rattle.std.proofs.lemmas.Result.{IfErr-weaker}
 use Rattle.imago_access.specs.Layers.{layers}
-use Rattle.imago_access.specs.Chain.{disk_of}
 use Rattle.imago_access.specs.Files.{WasNotCutOff, files_of, files}
 use Rattle.imago_access.specs.Stops.{GivesBytes}
 use Rattle.imago_access.proofs.Running.{ran_same}
@@ -16,8 +14,8 @@ returns-in_err-check_change-clause-ran g c = let d = g.D.Seen in
 pub returns-clause-ran : goal.returns-clause-ran
 returns-clause-ran g c = let d = g.D.Seen in
     let r = c.write_mapped in
-    rw (← c.self.view_is) (ran_mapped d (below_ghosts d) r.result c.self.inside.driver r.new.self (layers c.self.inside.below) c.args.guest c.args.place c.args.bytes.now r.ensures.like r.ensures.went
-    r.ensures.ok (λ safe. r.ensures.mapped (g.met.D.FormatDriverInstance.safe_sees c.self.inside.driver safe)) r.ensures.err r.ensures.stops)
+    rw (← c.self.view_is) (ran_mapped d (below_ghosts d) r.result c.self.inside.driver r.new.self (layers c.self.inside.below) c.args.guest c.args.place c.args.bytes.now r.ensures.writes.like r.ensures.writes.went
+    r.ensures.writes.ok (λ safe. r.ensures.writes.mapped (g.met.D.FormatDriverInstance.safe_sees c.self.inside.driver safe)) r.ensures.writes.err r.ensures.writes.stops)
 
 pub returns-clause-cause : goal.returns-clause-cause
 returns-clause-cause g c = let d = g.D.Seen in
@@ -27,4 +25,4 @@ returns-clause-cause g c = let d = g.D.Seen in
     let others = files_of d under in
     rw (← c.self.view_is) (λ intact. IfErr-weaker r.result _ _
     (λ e cause. write_mapped_cause d.layer g.met.D.FormatDriverInstance.aligned old under c.args.guest c.args.place c.args.bytes.now (files d old) (files d r.new.self) others others e cause)
-    (r.ensures.cause intact.is_safe))
+    (r.ensures.refused.cause intact.is_safe))

@@ -3,7 +3,7 @@ use Rattle.std.proofs.lemmas.Result.{IfErr-weaker}
 use Rattle.imago_storage.specs.Steps.{Call, write_zeroes, IsOut}
 use Rattle.std.specs.Prelude.{⊤}
 use Rattle.imago_storage.proofs.Parts.{passed}
-use Rattle.imago_access.specs.Chain.{disk_of, unit_of_chain}
+use Rattle.imago_access.specs.Chain.{unit_of_chain}
 use Rattle.imago_access.specs.Files.{WasNotCutOff, files_of}
 use Rattle.imago_access.specs.Layers.{chain, layers}
 use Rattle.imago_access.specs.Parts.{IsUncutPart, announces, PartCause}

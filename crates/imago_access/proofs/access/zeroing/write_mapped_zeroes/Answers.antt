@@ -31,20 +31,20 @@ loop-done-preserved g c = let d = g.D.Seen in let l = c.loop-done.invariant in
     let y0 = c.args.driver.now in let y1 = c.loop-done.driver in let y2 = c.write_mapped.new.self in
     let inside : done + count ≤ c.args.n = omega (arith, c.min-count.ensures, c.loop-done-test.true, l.inside) in
     let wrote : d.safe y1 → Wrote (d.layer y1) (d.layer y2) (c.args.guest + done) (replicate count 0) = λ safe.
-    subst (Wrote (d.layer y1) (d.layer y2) (c.args.guest + done)) c.zero_bytes.ensures (c.in-Ok.ensures.ok safe) in
+    subst (Wrote (d.layer y1) (d.layer y2) (c.args.guest + done)) c.zero_bytes.ensures (c.in-Ok.ensures.writes.ok safe) in
     let safe_on : d.safe y0 → d.safe y1 = (l.ran []).went.safely (tt, tt) in
     let gives = zeroes_wider c.args.guest c.args.n (c.args.guest + done) count (omega arith) (omega (arith, inside)) in
     record {
       inside = inside;
       wrote = λ safe. wrote_more (d.layer y0) (d.layer y1) (d.layer y2) c.args.guest done count (l.wrote safe) (wrote (safe_on safe));
-      like = like_both (d.layer y0) (d.layer y1) (d.layer y2) l.like c.in-Ok.ensures.like;
-      room = λ safe. takes_both d (λ _. ⊤) (λ _. ⊤) (λ _. ⊤) y0 y1 y2 (λ p there. (tt, tt)) (l.room safe) (c.in-Ok.ensures.room (safe_on safe) tt);
+      like = like_both (d.layer y0) (d.layer y1) (d.layer y2) l.like c.in-Ok.ensures.writes.like;
+      room = λ safe. takes_both d (λ _. ⊤) (λ _. ⊤) (λ _. ⊤) y0 y1 y2 (λ p there. (tt, tt)) (l.room safe) (c.in-Ok.ensures.writes.room (safe_on safe) tt);
       ran = λ below. ran_both {B = List Layer} d alone_ghosts ⊤ (GivesBytes c.args.guest (replicate c.args.n 0)) (GivesBytes (c.args.guest + done) (replicate count 0)) (GivesBytes c.args.guest (replicate c.args.n 0)) y0 y1 y2 below below below
           (λ p v gave. gave) gives (l.ran below)
           (ran_weaker {B = List Layer} d alone_ghosts ⊤ ⊤ (GivesBytes (c.args.guest + done) (replicate count 0)) y1 y2 below below (λ h. h)
           (subst (λ (z : List ℕ). RanAlone d ⊤ (GivesBytes (c.args.guest + done) z) below y1 y2) c.zero_bytes.ensures
-          (ran_wrote {B = List Layer} d alone_ghosts ⊤ y1 y2 below (c.args.guest + done) (c.args.place + done) bytes c.in-Ok.ensures.like c.in-Ok.ensures.went (λ w safe. c.in-Ok.ensures.mapped (g.met.D.FormatDriverInstance.safe_sees y1 safe)) (λ w. c.in-Ok.ensures.ok) c.in-Ok.ensures.stops)));
-      began = λ x call begun. c.in-Ok.ensures.began x call (l.began x call begun);
+          (ran_wrote {B = List Layer} d alone_ghosts ⊤ y1 y2 below (c.args.guest + done) (c.args.place + done) bytes c.in-Ok.ensures.writes.like c.in-Ok.ensures.writes.went (λ w safe. c.in-Ok.ensures.writes.mapped (g.met.D.FormatDriverInstance.safe_sees y1 safe)) (λ w. c.in-Ok.ensures.writes.ok) c.in-Ok.ensures.writes.stops)));
+      began = λ x call begun. c.in-Ok.ensures.writes.began x call (l.began x call begun);
     }
 
 pub returns-in-Err : goal.returns-in-Err
@@ -57,18 +57,18 @@ returns-in-Err g c = let d = g.D.Seen in let l = c.loop-done.invariant in
     let gives = zeroes_wider c.args.guest c.args.n (c.args.guest + done) count (omega arith) (omega (arith, inside)) in
     record {
       ok = λ safe. tt;
-      like = like_both (d.layer y0) (d.layer y1) (d.layer y2) l.like e.like;
+      like = like_both (d.layer y0) (d.layer y1) (d.layer y2) l.like e.writes.like;
       ran = λ below. ran_both {B = List Layer} d alone_ghosts (IsMild c.in-Err.fault) (GivesBytes c.args.guest (replicate c.args.n 0)) (GivesBytes (c.args.guest + done) (replicate count 0)) (GivesBytes c.args.guest (replicate c.args.n 0)) y0 y1 y2 below below below
           (λ p v gave. gave) gives (l.ran below)
           (subst (λ (z : List ℕ). RanAlone d (IsMild c.in-Err.fault) (GivesBytes (c.args.guest + done) z) below y1 y2) c.zero_bytes.ensures
-          (ran_refused {B = List Layer} d alone_ghosts (IsMild c.in-Err.fault) (GivesBytes (c.args.guest + done) bytes) y1 y2 below e.like e.went (λ mild safe. e.err safe mild) e.stops));
-      room = λ safe mild. takes_both d (λ _. ⊤) (λ _. ⊤) (λ _. ⊤) y0 y1 y2 (λ p there. (tt, tt)) (l.room safe) (e.room (safe_on safe) mild);
+          (ran_refused {B = List Layer} d alone_ghosts (IsMild c.in-Err.fault) (GivesBytes (c.args.guest + done) bytes) y1 y2 below e.writes.like e.writes.went (λ mild safe. e.writes.err safe mild) e.writes.stops));
+      room = λ safe mild. takes_both d (λ _. ⊤) (λ _. ⊤) (λ _. ⊤) y0 y1 y2 (λ p there. (tt, tt)) (l.room safe) (e.writes.room (safe_on safe) mild);
       began = λ x call begun. tt;
-      failed = failed_behind (files d y0) (files d y1) (files d y2) c.in-Err.fault (l.ran []).went.later e.failed;
+      failed = failed_behind (files d y0) (files d y1) (files d y2) c.in-Err.fault (l.ran []).went.later e.refused.failed;
       cause = λ safe.
           mapped_later (d.layer y0) (d.layer y1) c.args.guest c.args.place c.args.n done count (files d y0) (files d y1) (files d y2) l.like.fixed l.like.size (l.wrote safe).home
           (g.met.D.FormatDriverInstance.safe_runs y0 safe) (g.met.D.FormatDriverInstance.safe_runs y1 (safe_on safe)) (layer_aligned d.layer g.met.D.FormatDriverInstance.aligned y0).positive inside (l.ran []).went.later c.in-Err.fault
-          (subst (λ (m : ℕ). MappedCause (d.layer y1) (c.args.guest + done) (c.args.place + done) m (files d y1) (files d y2) c.in-Err.fault) long (e.cause (safe_on safe)));
+          (subst (λ (m : ℕ). MappedCause (d.layer y1) (c.args.guest + done) (c.args.place + done) m (files d y1) (files d y2) c.in-Err.fault) long (e.refused.cause (safe_on safe)));
     }
 
 pub returns-clause-ran : goal.returns-clause-ran

@@ -30,7 +30,7 @@ returns-in-Ok-settle-clause-ran g c = let d = g.D.Seen in let b = g.B.SeenBelow 
     ran_gives d b ⊤ (GivesBytes c.args.offset bytes) (GivesZero c.args.offset asked) a0 a3 x0 x1
     (bytes_zero c.args.offset asked c.args.offset bytes (zeroes_zero asked bytes refl) (omega arith) (omega (arith, long)))
     (ran_spent d b m.state ⊤ a0 a1 a2 a3 x0 x1 c.args.offset asked m.storage place n bytes (omega (arith, run, long))
-    (g.met.D.FormatDriverInstance.free_loose a0 c.requires.free) c.in-Ok.ensures.size c.in-Ok.ensures.went c.in-Ok.ensures.below (rw (c.length-count.ensures, c.offset.ensures) c.in-Ok.ensures.ok) c.in-Ok.ensures.stops
+    (g.met.D.FormatDriverInstance.free_loose a0 c.requires.free) c.in-Ok.ensures.size c.in-Ok.ensures.does.went c.in-Ok.ensures.below (rw (c.length-count.ensures, c.offset.ensures) c.in-Ok.ensures.does.ok) c.in-Ok.ensures.does.stops
     (λ safe. subst (Wrote (d.layer a1) (d.layer a2) c.args.offset) first_zeroes (wrote.ok safe))
     (subst (λ (z : List ℕ). Ran d b ⊤ (GivesBytes c.args.offset z) (a1, x1) (a2, x1)) first_zeroes
     (ran_seen_over d b ⊤ (GivesBytes c.args.offset (replicate n 0)) a1 a2 x1 (wrote.ran (b.under x1))))
@@ -48,7 +48,7 @@ returns-in-Err-settle-clause-ran g c = let d = g.D.Seen in let b = g.B.SeenBelow
     ran_gives d b (IsMild c.in-Err-settle.fault) (GivesBytes c.args.offset bytes) (GivesZero c.args.offset asked) a0 a3 x0 x1
     (bytes_zero c.args.offset asked c.args.offset bytes (zeroes_zero asked bytes refl) (omega arith) (omega (arith, long)))
     (ran_spent d b m.state (IsMild c.in-Err-settle.fault) a0 a1 a2 a3 x0 x1 c.args.offset asked m.storage place n bytes (omega (arith, run, long))
-    (g.met.D.FormatDriverInstance.free_loose a0 c.requires.free) c.in-Ok.ensures.size c.in-Ok.ensures.went c.in-Ok.ensures.below (rw (c.length-count.ensures, c.offset.ensures) c.in-Ok.ensures.ok) c.in-Ok.ensures.stops
+    (g.met.D.FormatDriverInstance.free_loose a0 c.requires.free) c.in-Ok.ensures.size c.in-Ok.ensures.does.went c.in-Ok.ensures.below (rw (c.length-count.ensures, c.offset.ensures) c.in-Ok.ensures.does.ok) c.in-Ok.ensures.does.stops
     (λ safe. subst (Wrote (d.layer a1) (d.layer a2) c.args.offset) first_zeroes (wrote.ok safe))
     (subst (λ (z : List ℕ). Ran d b ⊤ (GivesBytes c.args.offset z) (a1, x1) (a2, x1)) first_zeroes
     (ran_seen_over d b ⊤ (GivesBytes c.args.offset (replicate n 0)) a1 a2 x1 (wrote.ran (b.under x1))))
@@ -59,17 +59,17 @@ pub returns-in-Err-settle-clause-failed : goal.returns-in-Err-settle-clause-fail
 returns-in-Err-settle-clause-failed g c = let d = g.D.Seen in let b = g.B.SeenBelow in
     let a0 = c.args.driver.now in let a1 = c.prepare_data_mapping.new.self in let a2 = c.write_mapped_zeroes.new.driver in let a3 = c.settle.new.driver in
     failed_alone (files d a0) (files d a2) (files d a3) (b.files_under c.args.below.now) (b.files_under c.prepare_data_mapping.new.below) c.in-Err-settle.fault
-    (later_all_both (files d a0) (files d a1) (files d a2) c.in-Ok.ensures.went.later (c.in-Ok-write_mapped_zeroes.ensures.ran []).went.later) c.in-Ok.ensures.below.later c.in-Err-settle.ensures.failed
+    (later_all_both (files d a0) (files d a1) (files d a2) c.in-Ok.ensures.does.went.later (c.in-Ok-write_mapped_zeroes.ensures.ran []).went.later) c.in-Ok.ensures.below.later c.in-Err-settle.ensures.failed
 
 pub returns-in-Err-settle-clause-cause : goal.returns-in-Err-settle-clause-cause
 returns-in-Err-settle-clause-cause g c = λ i e call begun part says. let d = g.D.Seen in let b = g.B.SeenBelow in
     let a0 = c.args.driver.now in let a1 = c.prepare_data_mapping.new.self in let a2 = c.write_mapped_zeroes.new.driver in let a3 = c.settle.new.driver in let x0 = c.args.below.now in let x1 = c.prepare_data_mapping.new.below in
     let wrote = c.in-Ok-write_mapped_zeroes.ensures in
-    let safe : d.safe a2 = (wrote.ran []).went.safely (tt, tt) (c.in-Ok.ensures.went.safely (tt, i.is_seen) i.is_safe) in
+    let safe : d.safe a2 = (wrote.ran []).went.safely (tt, tt) (c.in-Ok.ensures.does.went.safely (tt, i.is_seen) i.is_safe) in
     part_cause_alone (b.under x0) (d.layer a0) (d.layer a2) c.args.offset c.args.n c.args.offset c.args.n (files d a0) (files d a2) (files d a3) (b.files_under x0) (b.files_under x1)
-    (wrote.like.fixed ∙ c.in-Ok.ensures.went.fixed) (wrote.like.size ∙ c.in-Ok.ensures.size) (g.met.D.FormatDriverInstance.safe_runs a0 i.is_safe) (g.met.D.FormatDriverInstance.safe_runs a2 safe)
+    (wrote.like.fixed ∙ c.in-Ok.ensures.does.went.fixed) (wrote.like.size ∙ c.in-Ok.ensures.size) (g.met.D.FormatDriverInstance.safe_runs a0 i.is_safe) (g.met.D.FormatDriverInstance.safe_runs a2 safe)
     (layer_aligned d.layer g.met.D.FormatDriverInstance.aligned a0).positive (omega arith) (omega arith)
-    (later_all_both (files d a0) (files d a1) (files d a2) c.in-Ok.ensures.went.later (wrote.ran []).went.later) c.in-Ok.ensures.below.later
+    (later_all_both (files d a0) (files d a1) (files d a2) c.in-Ok.ensures.does.went.later (wrote.ran []).went.later) c.in-Ok.ensures.below.later
     (d.own_cause e (b.under x0) call) (λ _. ⊥) c.in-Err-settle.fault (λ none. absurd none) (c.in-Err-settle.ensures.cause safe (b.under x0) c.args.offset c.args.n c.requires.some)
 
 pub returns-in-Err-write_mapped_zeroes-clause-ran : goal.returns-in-Err-write_mapped_zeroes-clause-ran
@@ -77,7 +77,7 @@ returns-in-Err-write_mapped_zeroes-clause-ran g c = let d = g.D.Seen in let b = 
     let a0 = c.args.driver.now in let a1 = c.prepare_data_mapping.new.self in let a2 = c.write_mapped_zeroes.new.driver in let a3 = c.abandon.new.driver in let x0 = c.args.below.now in let x1 = c.prepare_data_mapping.new.below in
     let asked = c.args.n in let zeroes = replicate n 0 in let long : length zeroes ≡ n = zeroes_long n zeroes refl in
     let run : n ≤ asked = rw c.length-count.ensures c.in-Ok.ensures.run.0.0 in
-    let first = ran_mapped d b m.state a0 a1 x0 x1 c.args.offset asked true m.storage m.offset m.length (g.met.D.FormatDriverInstance.free_loose a0 c.requires.free) c.in-Ok.ensures.size c.in-Ok.ensures.went c.in-Ok.ensures.below c.in-Ok.ensures.ok c.in-Ok.ensures.stops in
+    let first = ran_mapped d b m.state a0 a1 x0 x1 c.args.offset asked true m.storage m.offset m.length (g.met.D.FormatDriverInstance.free_loose a0 c.requires.free) c.in-Ok.ensures.size c.in-Ok.ensures.does.went c.in-Ok.ensures.below c.in-Ok.ensures.does.ok c.in-Ok.ensures.does.stops in
     let like = c.in-Err-write_mapped_zeroes.ensures.like in
     ran_both d b (IsMild c.in-Err-write_mapped_zeroes.fault) GivesNone (GivesBytes c.args.offset zeroes) (GivesZero c.args.offset asked) a0 a1 a3 x0 x1 x1 (λ p v none. absurd none)
     (bytes_zero c.args.offset asked c.args.offset zeroes (zeroes_zero n zeroes refl) (omega arith) (omega (arith, long, run))) first
@@ -89,50 +89,50 @@ returns-in-Err-write_mapped_zeroes-clause-ran g c = let d = g.D.Seen in let b = 
 pub returns-in-Err-write_mapped_zeroes-clause-failed : goal.returns-in-Err-write_mapped_zeroes-clause-failed
 returns-in-Err-write_mapped_zeroes-clause-failed g c = let d = g.D.Seen in let b = g.B.SeenBelow in
     let a0 = c.args.driver.now in let a1 = c.prepare_data_mapping.new.self in let a2 = c.write_mapped_zeroes.new.driver in
-    rw (c.abandon.ensures.none.0, c.abandon.ensures.none.1) (failed_alone (files d a0) (files d a1) (files d a2) (b.files_under c.args.below.now) (b.files_under c.prepare_data_mapping.new.below) c.in-Err-write_mapped_zeroes.fault c.in-Ok.ensures.went.later c.in-Ok.ensures.below.later c.in-Err-write_mapped_zeroes.ensures.failed)
+    rw (c.abandon.ensures.none.0, c.abandon.ensures.none.1) (failed_alone (files d a0) (files d a1) (files d a2) (b.files_under c.args.below.now) (b.files_under c.prepare_data_mapping.new.below) c.in-Err-write_mapped_zeroes.fault c.in-Ok.ensures.does.went.later c.in-Ok.ensures.below.later c.in-Err-write_mapped_zeroes.ensures.failed)
 
 pub returns-in-Err-write_mapped_zeroes-clause-cause : goal.returns-in-Err-write_mapped_zeroes-clause-cause
 returns-in-Err-write_mapped_zeroes-clause-cause g c = λ i e call begun part says. let d = g.D.Seen in let b = g.B.SeenBelow in let m = c.in-Ok.mapping in let n = c.length-count.result in let place = c.offset.result in
     let a0 = c.args.driver.now in let a1 = c.prepare_data_mapping.new.self in let a2 = c.write_mapped_zeroes.new.driver in let a3 = c.abandon.new.driver in let x0 = c.args.below.now in let x1 = c.prepare_data_mapping.new.below in
     let run : n ≤ c.args.n = rw c.length-count.ensures c.in-Ok.ensures.run.0.0 in
-    let made : Prepared (at (b.under x0)) (d.layer a0) (d.layer a1) (asking c.args.offset c.args.n true) (run_at m.storage place n (claim_of d.claim m.state)) = rw (c.length-count.ensures, c.offset.ensures) (c.in-Ok.ensures.ok i.is_safe i.is_seen) in
-    let safe : d.safe a1 = c.in-Ok.ensures.went.safely (tt, i.is_seen) i.is_safe in
+    let made : Prepared (at (b.under x0)) (d.layer a0) (d.layer a1) (asking c.args.offset c.args.n true) (run_at m.storage place n (claim_of d.claim m.state)) = rw (c.length-count.ensures, c.offset.ensures) (c.in-Ok.ensures.does.ok i.is_safe i.is_seen) in
+    let safe : d.safe a1 = c.in-Ok.ensures.does.went.safely (tt, i.is_seen) i.is_safe in
     let met = mapped_cause (b.under x0) (d.layer a1) c.args.offset place n (files d a1) (files d a2) c.in-Err-write_mapped_zeroes.fault
     (λ some. (m.storage, made.home)) (c.in-Err-write_mapped_zeroes.ensures.cause safe) in
     rw (c.abandon.ensures.none.0, c.abandon.ensures.none.1)
     (part_cause_alone (b.under x0) (d.layer a0) (d.layer a1) c.args.offset c.args.n c.args.offset n (files d a0) (files d a1) (files d a2) (b.files_under x0) (b.files_under x1)
-    c.in-Ok.ensures.went.fixed c.in-Ok.ensures.size (g.met.D.FormatDriverInstance.safe_runs a0 i.is_safe) (g.met.D.FormatDriverInstance.safe_runs a1 safe)
-    (layer_aligned d.layer g.met.D.FormatDriverInstance.aligned a0).positive (omega arith) (omega (arith, run)) c.in-Ok.ensures.went.later c.in-Ok.ensures.below.later
+    c.in-Ok.ensures.does.went.fixed c.in-Ok.ensures.size (g.met.D.FormatDriverInstance.safe_runs a0 i.is_safe) (g.met.D.FormatDriverInstance.safe_runs a1 safe)
+    (layer_aligned d.layer g.met.D.FormatDriverInstance.aligned a0).positive (omega arith) (omega (arith, run)) c.in-Ok.ensures.does.went.later c.in-Ok.ensures.below.later
     (d.own_cause e (b.under x0) call) (λ _. ⊥) c.in-Err-write_mapped_zeroes.fault (λ none. absurd none) met)
 
 pub returns-in-Ok-settle-clause-room : goal.returns-in-Ok-settle-clause-room
 returns-in-Ok-settle-clause-room g c = λ i mild. let d = g.D.Seen in let b = g.B.SeenBelow in
     let a0 = c.args.driver.now in let a1 = c.prepare_data_mapping.new.self in let a2 = c.write_mapped_zeroes.new.driver in let a3 = c.settle.new.driver in let n = c.length-count.result in
     let run : n ≤ c.args.n = rw c.length-count.ensures c.in-Ok.ensures.run.0.0 in
-    let safe1 : d.safe a1 = c.in-Ok.ensures.went.safely (tt, i.is_seen) i.is_safe in
+    let safe1 : d.safe a1 = c.in-Ok.ensures.does.went.safely (tt, i.is_seen) i.is_safe in
     let wrote = c.in-Ok-write_mapped_zeroes.ensures in
-    takes_run d (IsApart (d.layer a0).fixed.unit c.args.offset c.args.n) a0 a1 a2 a3 (c.in-Ok.ensures.room i.is_safe i.is_seen tt) (wrote.room safe1 tt)
-    (zeroes_loose (d.layer a0).fixed.unit c.args.offset c.args.n n (d.layer a1) (d.layer a2) run (c.in-Ok.ensures.near i.is_safe i.is_seen) (wrote.ok safe1))
+    takes_run d (IsApart (d.layer a0).fixed.unit c.args.offset c.args.n) a0 a1 a2 a3 (c.in-Ok.ensures.does.room i.is_safe i.is_seen tt) (wrote.room safe1 tt)
+    (zeroes_loose (d.layer a0).fixed.unit c.args.offset c.args.n n (d.layer a1) (d.layer a2) run (c.in-Ok.ensures.does.near i.is_safe i.is_seen) (wrote.ok safe1))
     (c.in-Ok-settle.ensures.room ((wrote.ran []).went.safely (tt, tt) safe1) tt)
 
 pub returns-in-Err-settle-clause-room : goal.returns-in-Err-settle-clause-room
 returns-in-Err-settle-clause-room g c = λ i mild. let d = g.D.Seen in let b = g.B.SeenBelow in
     let a0 = c.args.driver.now in let a1 = c.prepare_data_mapping.new.self in let a2 = c.write_mapped_zeroes.new.driver in let a3 = c.settle.new.driver in let n = c.length-count.result in
     let run : n ≤ c.args.n = rw c.length-count.ensures c.in-Ok.ensures.run.0.0 in
-    let safe1 : d.safe a1 = c.in-Ok.ensures.went.safely (tt, i.is_seen) i.is_safe in
+    let safe1 : d.safe a1 = c.in-Ok.ensures.does.went.safely (tt, i.is_seen) i.is_safe in
     let wrote = c.in-Ok-write_mapped_zeroes.ensures in
-    takes_run d (IsApart (d.layer a0).fixed.unit c.args.offset c.args.n) a0 a1 a2 a3 (c.in-Ok.ensures.room i.is_safe i.is_seen tt) (wrote.room safe1 tt)
-    (zeroes_loose (d.layer a0).fixed.unit c.args.offset c.args.n n (d.layer a1) (d.layer a2) run (c.in-Ok.ensures.near i.is_safe i.is_seen) (wrote.ok safe1))
+    takes_run d (IsApart (d.layer a0).fixed.unit c.args.offset c.args.n) a0 a1 a2 a3 (c.in-Ok.ensures.does.room i.is_safe i.is_seen tt) (wrote.room safe1 tt)
+    (zeroes_loose (d.layer a0).fixed.unit c.args.offset c.args.n n (d.layer a1) (d.layer a2) run (c.in-Ok.ensures.does.near i.is_safe i.is_seen) (wrote.ok safe1))
     (c.in-Err-settle.ensures.room ((wrote.ran []).went.safely (tt, tt) safe1) mild)
 
 pub returns-in-Ok-settle-clause-uncut : goal.returns-in-Ok-settle-clause-uncut
-returns-in-Ok-settle-clause-uncut g c = λ i. rw c.length-count.ensures (c.in-Ok.ensures.uncut i.is_safe i.is_seen)
+returns-in-Ok-settle-clause-uncut g c = λ i. rw c.length-count.ensures (c.in-Ok.ensures.does.uncut i.is_safe i.is_seen)
 
 pub returns-in-Err-clause-ran : goal.returns-in-Err-clause-ran
 returns-in-Err-clause-ran g c = let d = g.D.Seen in let b = g.B.SeenBelow in let e = c.in-Err.ensures in
     let a0 = c.args.driver.now in let a1 = c.prepare_data_mapping.new.self in let x0 = c.args.below.now in let x1 = c.prepare_data_mapping.new.below in
     ran_gives d b (IsMild c.in-Err.fault) GivesNone (GivesZero c.args.offset c.args.n) a0 a1 x0 x1 (λ p v none. absurd none)
-    (ran_prepared d b (Err c.in-Err.fault) a0 a1 x0 x1 c.args.offset c.args.n true (g.met.D.FormatDriverInstance.free_loose a0 c.requires.free) e.size e.went e.below e.ok e.err e.stops)
+    (ran_prepared d b (Err c.in-Err.fault) a0 a1 x0 x1 c.args.offset c.args.n true (g.met.D.FormatDriverInstance.free_loose a0 c.requires.free) e.size e.does.went e.below e.does.ok e.does.err e.does.stops)
 
 pub returns-in-Ok-settle-clause-shown : goal.returns-in-Ok-settle-clause-shown
 returns-in-Ok-settle-clause-shown g c = λ i k low. let d = g.D.Seen in let b = g.B.SeenBelow in let m = c.in-Ok.mapping in let n = c.length-count.result in let place = c.offset.result in
@@ -140,10 +140,10 @@ returns-in-Ok-settle-clause-shown g c = λ i k low. let d = g.D.Seen in let b = 
     let asked = c.args.n in let bytes = replicate asked 0 in let long : length bytes ≡ asked = zeroes_long asked bytes refl in let run : n ≤ asked = rw c.length-count.ensures c.in-Ok.ensures.run.0.0 in
     let wrote = c.in-Ok-write_mapped_zeroes.ensures in let settled = c.in-Ok-settle.ensures in
     let first_zeroes : replicate n 0 ≡ take n bytes = sym (take-replicate n asked 0 run) in
-    let safe1 = c.in-Ok.ensures.went.safely (tt, i.is_seen) i.is_safe in
+    let safe1 = c.in-Ok.ensures.does.went.safely (tt, i.is_seen) i.is_safe in
     let in_disk : c.args.offset + n ≤ (d.layer a3).size = rw c.length-count.ensures (omega (arith, c.in-Ok.ensures.run.0.2 c.requires.some, c.in-Ok.ensures.size, wrote.like.size, settled.size)) in
     run_shows d m.state (b.under c.args.below.now) (d.layer c.args.driver.now) (d.layer a1) (d.layer a2) (d.layer a3) c.args.offset asked true m.storage place n bytes (claim_of d.claim m.state) (omega (arith, run, long)) in_disk
-    (rw (c.length-count.ensures, c.offset.ensures) (c.in-Ok.ensures.ok i.is_safe i.is_seen)) (subst (Wrote (d.layer a1) (d.layer a2) c.args.offset) first_zeroes (wrote.ok safe1)) (mine_on d m.state (d.layer a1) (d.layer a2) wrote.like c.in-Ok.ensures.mine.0)
+    (rw (c.length-count.ensures, c.offset.ensures) (c.in-Ok.ensures.does.ok i.is_safe i.is_seen)) (subst (Wrote (d.layer a1) (d.layer a2) c.args.offset) first_zeroes (wrote.ok safe1)) (mine_on d m.state (d.layer a1) (d.layer a2) wrote.like c.in-Ok.ensures.mine.0)
     (λ none. g.met.D.FormatDriverInstance.free_loose a2 (wrote.like.unspent ∙ c.in-Ok.ensures.mine.1 none))
     (spends_more d m.state (d.layer a2) (d.layer a3) (d.safe a2 → Committed (d.layer a2) (d.layer a3)) (Committed (d.layer a2) (d.layer a3)) (λ h. h ((wrote.ran []).went.safely (tt, tt) safe1)) settled.ok) k low
     ∙ ap byte (zeroes_zero asked bytes refl k (omega (arith, low, run, long)))
