@@ -1,10 +1,13 @@
 // How raw images are opened and created.
-ghost use Rattle.std.specs.Prelude.{◌≡◌, ◌⊎◌, length, true, false, Ok, Err, None, IsTrue, IfOk, IfErr};
-ghost use Rattle.imago_storage.specs.State.{StorageState};
-ghost use Rattle.imago_access.specs.Building.{IsOpened};
+ghost use Rattle.std.specs.Prelude.{refl, ◌≡◌, length, true, false, Ok, Err, None, IsTrue, IfOk, IfErr};
+ghost use Rattle.imago_access.specs.Building.{OpensCreated, NotOpened};
 ghost use Rattle.imago_access.specs.declared.format.Format.TheVariants as format;
 ghost use Rattle.imago_access.specs.declared.format.PreallocateMode.TheVariants as mode;
+ghost use Rattle.std.proofs.Common.{ap};
+ghost use Rattle.imago_access.specs.Layer.{Layer};
+ghost use Rattle.imago_formats.specs.RawHome.{never};
 ghost use Rattle.imago_formats.specs.RawLayer.{raw_layer};
+ghost use Rattle.imago_formats.specs.RawOpening.{kept_same};
 ghost use Rattle.imago_formats.specs.Creating.{IsNewRaw, NotCreated};
 
 use crate::raw::{Raw, grow_storage, storage_mode};
@@ -42,6 +45,19 @@ impl<S: Storage> FormatDriverBuilder<S> for RawOpenBuilder<S> {
 
     ghost refuses = { λ b fault. ⊥ };
 
+    ghost opened = { λ b d opens. record {
+      format_is = refl;
+      writable_is = ap (λ (l : Layer). l.fixed.writable) opens.1;
+      number_is = refl;
+      meant = λ alone. record { size = opens.2; exactly = never; cell = λ p low. refl };
+      kept = kept_same (S.state b.base.image) (S.state d.storage) (ap S.state opens.0);
+      free = refl;
+      runs = refl;
+      sees = tt;
+      still = tt;
+      safe = λ keeps sound. (keeps, opens.2);
+    } };
+
     fn new(image: S) -> Self {
         RawOpenBuilder {
             base: FormatDriverBuilderBase::new(image),
@@ -60,12 +76,6 @@ impl<S: Storage> FormatDriverBuilder<S> for RawOpenBuilder<S> {
 
     fn open<G: ImplicitOpenGate<S>>(self, _alloc: Global, gate: &mut G) -> Result<Raw<S>, Fault>
         ensures ok { IfOk result (⟦<RawOpenBuilder<S> as FormatDriverBuilder<S>>⟧.opens self) }
-        ensures format { IfOk result (λ d. (⟦<Raw<S> as Seen>⟧.layer d).fixed.format ≡ format.Raw) }
-        ensures writable { IfOk result (λ d. (⟦<Raw<S> as Seen>⟧.layer d).fixed.writable ≡ self.base.writable) }
-        ensures number { IfOk result (λ d. (⟦<Raw<S> as Seen>⟧.layer d).fixed.number ≡ 0) }
-        ensures opened { IfOk result (λ d. IsOpened (⟦<Raw<S> as Seen>⟧.layer d) (S.state self.base.image) (⟦<Raw<S> as Seen>⟧.image d)) }
-        ensures known { let r = ⟦<Raw<S> as Seen>⟧ in IfOk result (λ d. r.sees d × r.still d) }
-        ensures safe { let r = ⟦<Raw<S> as Seen>⟧ in IfOk result (λ d. IsTrue (r.layer d).fixed.keeps → r.sound (r.layer d).fixed.kind (r.image d).bytes → r.safe d) }
         ensures err { IfErr result (⟦<RawOpenBuilder<S> as FormatDriverBuilder<S>>⟧.refuses self) }
         // The gate isn't asked.
         ensures gate { gate.new ≡ gate.old }
@@ -159,10 +169,10 @@ impl<S: Storage> FormatCreateBuilder<S> for RawCreateBuilder<S> {
         open_builder: F,
     ) -> Result<Raw<S>, Fault>
         requires { let c = ⟦<RawCreateBuilder<S> as FormatCreateBuilder<S>>⟧ in (s : S) → c.hands self s → F.takes open_builder s }
-        ensures ok { let c = ⟦<RawCreateBuilder<S> as FormatCreateBuilder<S>>⟧ in IfOk result (λ d. (s : S) × (b b' : _) × c.hands self s × F.makes open_builder s (Ok b) × c.opens_with self b b' × ⟦<RawOpenBuilder<S> as FormatDriverBuilder<S>>⟧.opens b' d) }
+        ensures ok { let c = ⟦<RawCreateBuilder<S> as FormatCreateBuilder<S>>⟧ in IfOk result (λ d. OpensCreated (c.hands self) (F.makes open_builder) (c.opens_with self) (λ b. ⟦<RawOpenBuilder<S> as FormatDriverBuilder<S>>⟧.opens b d)) }
         ensures format { IfOk result (λ d. (⟦<Raw<S> as Seen>⟧.layer d).fixed.format ≡ format.Raw) }
         ensures writable { IfOk result (λ d. IsTrue (⟦<Raw<S> as Seen>⟧.layer d).fixed.writable) }
-        ensures err { let c = ⟦<RawCreateBuilder<S> as FormatCreateBuilder<S>>⟧ in IfErr result (λ e. c.refuses self e ⊎ (((s : S) × c.hands self s × F.makes open_builder s (Err e)) ⊎ ((s : S) × (b b' : _) × c.hands self s × F.makes open_builder s (Ok b) × c.opens_with self b b' × ⟦<RawOpenBuilder<S> as FormatDriverBuilder<S>>⟧.refuses b' e))) }
+        ensures err { let c = ⟦<RawCreateBuilder<S> as FormatCreateBuilder<S>>⟧ in IfErr result (NotOpened (c.refuses self) (c.hands self) (F.makes open_builder) (c.opens_with self) ⟦<RawOpenBuilder<S> as FormatDriverBuilder<S>>⟧.refuses) }
         // The gate isn't asked.
         ensures gate { gate.new ≡ gate.old }
     {

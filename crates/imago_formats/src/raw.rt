@@ -1,28 +1,23 @@
 // A raw image: the disk is the storage's bytes.
-ghost use Rattle.std.specs.Prelude.{◌≡◌, ◌⊎◌, min, ◌-◌, ◌+◌, ◌≤◌, ◌<◌, ◌^◌, [], ⊤, refl, List, length, replicate, OnOk, IfOk, IfErr, IfSome, IsSome, IsTrue, IsOk, MatchResult, None, Some, true, ◌∷◌, ℕ, slice_index, IsErr, IsErrOf, ◌++◌, IsFalse};
+ghost use Rattle.std.specs.Prelude.{◌≡◌, min, ◌-◌, ◌+◌, ◌≤◌, ◌<◌, ◌^◌, [], ⊤, refl, length, replicate, OnOk, IfOk, IfErr, IsTrue, None, Some, true};
 ghost use Rattle.std.proofs.Common.{inr};
 ghost use Rattle.std.proofs.Math.Nat.{le_refl};
-ghost use Rattle.imago_storage.specs.Steps.{Call, shrink};
+ghost use Rattle.imago_storage.specs.Steps.{Call};
 ghost use Rattle.imago_storage.specs.Calls.{Mixed, Later, Resized, NotResized, UnlessUnsupported};
 ghost use Rattle.imago_storage.specs.Through.{WrittenThrough, NotWrittenThrough, Stops, StopsAsLong};
 ghost use Rattle.imago_storage.specs.declared.fault.Fault.{Fault};
-ghost use Rattle.imago_storage.specs.declared.fault.Fault.TheVariants.{Foreign, ReadOnly, Unsupported};
-ghost use Rattle.imago_access.specs.Changes.{Committed, Cancelled};
-ghost use Rattle.imago_access.specs.Files.{ImageCause, IsMild, Unasked, files, byte_in, WasNotCutOff};
-ghost use Rattle.imago_access.specs.Going.{AtOnce, IsUnchanged, Went, Looked, LookedUnder, Marks};
-ghost use Rattle.imago_access.specs.Layer.{Layer, IsFree, loose};
+ghost use Rattle.imago_storage.specs.declared.fault.Fault.TheVariants.{ReadOnly, Unsupported};
+ghost use Rattle.imago_access.specs.Files.{WasNotCutOff};
+ghost use Rattle.imago_access.specs.Going.{AtOnce, Looked, LookedUnder, Marks};
 ghost use Rattle.imago_access.specs.PartCalls.{DoesPart, PartRefused, ensures_zero};
-ghost use Rattle.imago_access.specs.Refusals.{own_refusal, barrier, LookCause};
-ghost use Rattle.imago_access.specs.Room.{Takes};
-ghost use Rattle.imago_access.specs.Spending.{IsMine, Spends, IsSpending, commit_refusal, GivenBack, IsForeignTo};
-ghost use Rattle.imago_access.specs.Stops.{KeepsStops, GivesSettled, KeepsStopsTo, GivesPast, GivesBelowPast};
+ghost use Rattle.imago_access.specs.Refusals.{own_refusal, barrier};
 ghost use Rattle.imago_access.specs.declared.mapping.ShallowMapping.TheVariants as shallow;
-ghost use Rattle.imago_access.specs.Mappings.{IsRun, Looks, NamesRoom};
-ghost use Rattle.imago_access.specs.Failing.{Fails, FailsOver};
+ghost use Rattle.imago_access.specs.Mappings.{IsRun, LooksIn, NamesRoomIn};
+ghost use Rattle.imago_access.specs.Failing.{Fails, RefusesLookup};
+ghost use Rattle.imago_access.specs.PreparingCalls.{Commits, CommitRefused, Cancels};
+ghost use Rattle.imago_access.specs.ResizeCalls.{Resizes, Grows, GrowthRefused, IsUngrown, Shrinks, ShrinkRefused};
 ghost use Rattle.imago_access.specs.Resizes as Resizes;
-ghost use Rattle.imago_access.specs.Resizes.{fill_of, Grown, Shrunk, NotShrunk};
-ghost use Rattle.imago_access.specs.Parts.{GrowthCause, ShrinkCause};
-ghost use Rattle.imago_access.specs.Chain.{at, IsBacked};
+ghost use Rattle.imago_access.specs.Chain.{at};
 ghost use Rattle.std.specs.Borrow.{Lends, sem};
 ghost use Rattle.imago_formats.specs.contracts.raw.Raw.{the_row};
 ghost use Rattle.imago_formats.specs.RawLayer.{raw_layer, raw_text, RawCause};
@@ -308,7 +303,9 @@ impl<S: Storage> FormatDriverInstance for Raw<S> {
 
     ghost aligned = { λ d. let shape = S.aligned d.storage in (shape.requests, shape.memory) };
 
-    ghost alignments = { λ d. record { requests = refl; memory = refl; zeroing = inr (inr refl) } };
+    ghost of_storages = { λ d. record { requests = refl; memory = refl; keeps = refl; zeroing = inr (inr refl) } };
+
+    ghost marked = { λ d is. absurd (cc is) };
 
     ghost units = { λ d. le_refl 1 };
 
@@ -318,7 +315,11 @@ impl<S: Storage> FormatDriverInstance for Raw<S> {
 
     ghost bare = { λ d p free has. has };
 
-    ghost roomless = { λ d p free states given. never states };
+    ghost rooms = { λ d p free states. never states };
+
+    fn image_file(&self) -> &S {
+        &self.storage
+    }
 
     fn format(&self) -> Format {
         Format::Raw
@@ -364,14 +365,14 @@ impl<S: Storage> FormatDriverInstance for Raw<S> {
         max_length: u64,
     ) -> Result<(ShallowMapping, u64), Fault>
         ensures run { let d = ⟦<Raw<S> as Seen>⟧ in IfOk result (λ r. IsRun (d.layer self.old) offset max_length r.0 r.1) }
-        ensures looks { let d = ⟦<Raw<S> as Seen>⟧ in d.sees self.old → IfOk result (λ r. Looks (d.layer self.old) (byte_in (files d self.new)) offset max_length r.0 r.1) }
-        ensures room { let d = ⟦<Raw<S> as Seen>⟧ in d.sees self.old → IfOk result (λ r. NamesRoom (d.layer self.old) (d.vacant self.old) (d.zeroed self.old) offset r.1 r.0) }
+        ensures looks { let d = ⟦<Raw<S> as Seen>⟧ in d.sees self.old → IfOk result (LooksIn d offset max_length self.old self.new) }
+        ensures room { let d = ⟦<Raw<S> as Seen>⟧ in d.sees self.old → IfOk result (NamesRoomIn d offset self.old) }
         ensures at_once { let d = ⟦<Raw<S> as Seen>⟧ in AtOnce d (barrier (d.layer self.old)) (max_length ≡ 0) result self.old self.new }
         ensures looked { let d = ⟦<Raw<S> as Seen>⟧ in Looked d (WasNotCutOff result) self.old self.new }
         ensures began { let d = ⟦<Raw<S> as Seen>⟧ in OnOk result ((e : _) (call : Call) → d.began e call self.old → d.began e call self.new) }
         ensures failed { let d = ⟦<Raw<S> as Seen>⟧ in IfErr result (Fails d self.old self.new) }
         ensures marks { let d = ⟦<Raw<S> as Seen>⟧ in IfErr result (Marks d self.old self.new) }
-        ensures cause { let d = ⟦<Raw<S> as Seen>⟧ in d.sees self.old → IfErr result (LookCause (d.layer self.old) offset max_length (files d self.old) (files d self.new)) }
+        ensures cause { let d = ⟦<Raw<S> as Seen>⟧ in d.sees self.old → IfErr result (RefusesLookup d offset max_length self.old self.new) }
         // All of the range that lies in the disk is one run.
         ensures whole { offset < self.old.size → IfOk result (λ r. r.1 ≡ min max_length (self.old.size - offset)) }
     {
@@ -418,18 +419,8 @@ impl<S: Storage> FormatDriverInstance for Raw<S> {
         _alloc: Global,
         mapping: PreparedDataMapping<NoState>,
     ) -> Result<(), (Fault, Option<PreparedDataMapping<NoState>>)>
-        ensures ok { let d = ⟦<Raw<S> as Seen>⟧ in OnOk result (Spends d mapping.state (d.layer self.old) (d.layer self.new) (IsFree (d.layer self.new) × (d.safe self.old → Committed (d.layer self.old) (d.layer self.new)))) }
-        ensures size { let d = ⟦<Raw<S> as Seen>⟧ in (d.layer self.new).size ≡ (d.layer self.old).size }
-        ensures room { let d = ⟦<Raw<S> as Seen>⟧ in d.safe self.old → IsMine d mapping.state (d.layer self.old) → OnOk result (Takes d (λ p. (d.layer self.old).held p ≡ loose) self.old self.new) }
-        ensures stops { let d = ⟦<Raw<S> as Seen>⟧ in d.safe self.old → IsMine d mapping.state (d.layer self.old) → (below : List Layer) → KeepsStops d below (GivesSettled below (d.layer self.old)) self.old self.new }
-        ensures at_once { let d = ⟦<Raw<S> as Seen>⟧ in (f : Fault) → commit_refusal d mapping.state (d.layer self.old) ≡ Some f → MatchResult result (λ _. ⊥) (λ e. (e.0 ≡ f) × IsSome e.1) }
-        ensures unasked { let d = ⟦<Raw<S> as Seen>⟧ in (mapping.state ≡ None) ⊎ IsSome (commit_refusal d mapping.state (d.layer self.old)) → Unasked d self.old self.new }
-        ensures back { let d = ⟦<Raw<S> as Seen>⟧ in IfErr result (λ e. IfSome e.1 (λ m. (m ≡ mapping) × GivenBack d.tag mapping.state (d.layer self.old) e.0 × IsUnchanged d self.old self.new)) }
-        ensures spent { let d = ⟦<Raw<S> as Seen>⟧ in IfErr result (λ e. e.1 ≡ None → IsSome mapping.state × IsTrue (d.layer self.new).failed × IsSpending e.0 × Spends d mapping.state (d.layer self.old) (d.layer self.new) (IsFree (d.layer self.new) × (d.safe self.old → IsMild e.0 → ⊥))) }
-        ensures went { let d = ⟦<Raw<S> as Seen>⟧ in Went d (MatchResult result (λ _. ⊤) (λ e. IsMild e.0)) (IsOk result × IsMine d mapping.state (d.layer self.old)) self.old self.new }
-        ensures sees { let d = ⟦<Raw<S> as Seen>⟧ in mapping.state ≡ None → d.sees self.old → d.sees self.new }
-        ensures began { let d = ⟦<Raw<S> as Seen>⟧ in (e : _) (call : Call) → d.began e call self.old → IsMine d mapping.state (d.layer self.old) → OnOk result (d.began e call self.new) }
-        ensures failed { let d = ⟦<Raw<S> as Seen>⟧ in IfErr result (λ e. ImageCause (files d self.old) (files d self.new) e.0) }
+        ensures commits { Commits ⟦<Raw<S> as Seen>⟧ mapping.state result self.old self.new }
+        ensures refused { CommitRefused ⟦<Raw<S> as Seen>⟧ mapping result self.old self.new }
     {
         match mapping.into_state() {
             None => Ok(()),
@@ -441,15 +432,7 @@ impl<S: Storage> FormatDriverInstance for Raw<S> {
         &mut self,
         mapping: PreparedDataMapping<NoState>,
     ) -> Result<(), (Fault, PreparedDataMapping<NoState>)>
-        ensures ok { let d = ⟦<Raw<S> as Seen>⟧ in OnOk result (Spends d mapping.state (d.layer self.old) (d.layer self.new) (Cancelled (d.layer self.old) (d.layer self.new))) }
-        ensures back { let d = ⟦<Raw<S> as Seen>⟧ in IfErr result (λ e. (e.1 ≡ mapping) × (e.0 ≡ Foreign) × IsForeignTo d.tag mapping.state (d.layer self.old) × IsUnchanged d self.old self.new) }
-        ensures fixed { let d = ⟦<Raw<S> as Seen>⟧ in ((d.layer self.new).fixed ≡ (d.layer self.old).fixed) × ((d.layer self.new).size ≡ (d.layer self.old).size) × ((d.layer self.new).failed ≡ (d.layer self.old).failed) }
-        ensures none { let d = ⟦<Raw<S> as Seen>⟧ in Unasked d self.old self.new }
-        ensures lasts { let d = ⟦<Raw<S> as Seen>⟧ in d.lasts self.old → d.lasts self.new }
-        ensures sees { let d = ⟦<Raw<S> as Seen>⟧ in d.sees self.old → d.sees self.new }
-        ensures safe { let d = ⟦<Raw<S> as Seen>⟧ in IsMine d mapping.state (d.layer self.old) → d.safe self.old → d.safe self.new }
-        ensures room { let d = ⟦<Raw<S> as Seen>⟧ in d.safe self.old → IsMine d mapping.state (d.layer self.old) → Takes d (λ _. ⊤) self.old self.new }
-        ensures began { let d = ⟦<Raw<S> as Seen>⟧ in (e : _) (call : Call) → d.began e call self.old → d.began e call self.new }
+        ensures cancels { Cancels ⟦<Raw<S> as Seen>⟧ mapping result self.old self.new }
     {
         match mapping.into_state() {
             None => Ok(()),
@@ -550,21 +533,14 @@ impl<S: Storage> FormatDriverInstance for Raw<S> {
         size: u64,
         mode: PreallocateMode,
     ) -> Result<(), Fault>
-        ensures nothing { let d = ⟦<Raw<S> as Seen>⟧ in size ≤ (d.layer self.old).size → OnOk result (d.layer self.new ≡ d.layer self.old) }
-        ensures free { let d = ⟦<Raw<S> as Seen>⟧ in IsFree (d.layer self.new) }
-        ensures ok { let d = ⟦<Raw<S> as Seen>⟧ in d.safe self.old → B.sees_under _below.old → (d.layer self.old).size < size → OnOk result (Grown (at (B.under _below.old)) (d.layer self.old) (d.layer self.new) size (fill_of mode)) }
-        ensures err { let d = ⟦<Raw<S> as Seen>⟧ in d.safe self.old → B.sees_under _below.old → IfErr result (λ e. IsMild e → Resizes.NotGrown (at (B.under _below.old)) (d.layer self.old) (d.layer self.new)) }
-        ensures stops { let d = ⟦<Raw<S> as Seen>⟧ in d.safe self.old → B.sees_under _below.old → KeepsStopsTo d (B.under _below.old) (d.layer self.old).size (GivesPast (d.layer self.old).size) self.old self.new }
-        ensures at_once { let d = ⟦<Raw<S> as Seen>⟧ in AtOnce d (barrier (d.layer self.old)) (size ≤ (d.layer self.old).size) result self.old self.new }
-        ensures read_only { let d = ⟦<Raw<S> as Seen>⟧ in barrier (d.layer self.old) ≡ None → (d.layer self.old).size < size → IsFalse (d.layer self.old).fixed.writable → IsErrOf result ReadOnly × Unasked d self.old self.new × (_below.new ≡ _below.old) }
-        ensures unread { let d = ⟦<Raw<S> as Seen>⟧ in (size ≤ (d.layer self.old).size) ⊎ IsSome (barrier (d.layer self.old)) → _below.new ≡ _below.old }
-        ensures went { let d = ⟦<Raw<S> as Seen>⟧ in Went d (WasNotCutOff result) (WasNotCutOff result × B.sees_under _below.old) self.old self.new }
+        ensures resizes { let d = ⟦<Raw<S> as Seen>⟧ in Resizes d size (d.layer self.old).size result self.old self.new }
+        ensures grows { Grows ⟦<Raw<S> as Seen>⟧ B.SeenBelow size mode result (self.old, _below.old) (self.new, _below.new) }
+        ensures unread { let d = ⟦<Raw<S> as Seen>⟧ in IsUngrown (d.layer self.old) size → _below.new ≡ _below.old }
         ensures below { LookedUnder B.SeenBelow (WasNotCutOff result) _below.old _below.new }
-        ensures failed { let d = ⟦<Raw<S> as Seen>⟧ in IfErr result (FailsOver d B.SeenBelow (self.old, _below.old) (self.new, _below.new)) }
-        ensures cause { let d = ⟦<Raw<S> as Seen>⟧ in d.safe self.old → B.sees_under _below.old → IfErr result (GrowthCause (B.under _below.old) (d.layer self.old) size (d.growth_cause self.old (B.under _below.old) size mode) (files d self.old ++ B.files_under _below.old) (files d self.new ++ B.files_under _below.new)) }
+        ensures refused { GrowthRefused ⟦<Raw<S> as Seen>⟧ B.SeenBelow size mode result (self.old, _below.old) (self.new, _below.new) }
         // The storage is then as long as the disk; refused, the disk has its size, and its storage is no shorter than it.
         ensures exact { self.old.size < size → OnOk result ((length (S.state self.new.storage).bytes ≡ size) × (self.new.size ≡ size)) }
-        ensures refused { IfErr result (λ e. self.new.size ≡ self.old.size) }
+        ensures kept { IfErr result (λ e. self.new.size ≡ self.old.size) }
         ensures within { let d = ⟦<Raw<S> as Seen>⟧ in d.safe self.old → d.safe self.new }
     {
         if size <= self.size {
@@ -580,20 +556,12 @@ impl<S: Storage> FormatDriverInstance for Raw<S> {
     }
 
     fn resize_shrink(&mut self, _alloc: Global, size: u64) -> Result<(), Fault>
-        ensures nothing { let d = ⟦<Raw<S> as Seen>⟧ in (d.layer self.old).size ≤ size → OnOk result (d.layer self.new ≡ d.layer self.old) }
-        ensures free { let d = ⟦<Raw<S> as Seen>⟧ in IsFree (d.layer self.new) }
-        ensures ok { let d = ⟦<Raw<S> as Seen>⟧ in d.safe self.old → size < (d.layer self.old).size → OnOk result (Shrunk (d.layer self.old) (d.layer self.new) size) }
-        ensures err { let d = ⟦<Raw<S> as Seen>⟧ in d.safe self.old → IfErr result (λ e. IsMild e → NotShrunk (d.layer self.old) (d.layer self.new)) }
-        ensures stops { let d = ⟦<Raw<S> as Seen>⟧ in d.safe self.old → (below : List Layer) → IsBacked below (d.layer self.old) → KeepsStopsTo d below size (GivesBelowPast below size) self.old self.new }
-        ensures at_once { let d = ⟦<Raw<S> as Seen>⟧ in AtOnce d (barrier (d.layer self.old)) ((d.layer self.old).size ≤ size) result self.old self.new }
-        ensures read_only { let d = ⟦<Raw<S> as Seen>⟧ in barrier (d.layer self.old) ≡ None → size < (d.layer self.old).size → IsFalse (d.layer self.old).fixed.writable → IsErrOf result ReadOnly × Unasked d self.old self.new }
-        ensures went { let d = ⟦<Raw<S> as Seen>⟧ in Went d (WasNotCutOff result) (WasNotCutOff result) self.old self.new }
-        ensures failed { let d = ⟦<Raw<S> as Seen>⟧ in IfErr result (Fails d self.old self.new) }
-        ensures marks { let d = ⟦<Raw<S> as Seen>⟧ in IfErr result (Marks d self.old self.new) }
-        ensures cause { let d = ⟦<Raw<S> as Seen>⟧ in d.safe self.old → (below : List Layer) → IfErr result (ShrinkCause below (d.layer self.old) size (d.own_cause self.old below (shrink size)) (files d self.old) (files d self.new)) }
+        ensures resizes { let d = ⟦<Raw<S> as Seen>⟧ in Resizes d (d.layer self.old).size size result self.old self.new }
+        ensures shrinks { Shrinks ⟦<Raw<S> as Seen>⟧ size result self.old self.new }
+        ensures refused { ShrinkRefused ⟦<Raw<S> as Seen>⟧ size result self.old self.new }
         // The storage is then as long as the disk; refused, the disk has its size, and its storage is no shorter than it.
         ensures exact { size < self.old.size → OnOk result ((length (S.state self.new.storage).bytes ≡ size) × (self.new.size ≡ size)) }
-        ensures refused { IfErr result (λ e. self.new.size ≡ self.old.size) }
+        ensures kept { IfErr result (λ e. self.new.size ≡ self.old.size) }
         ensures within { let d = ⟦<Raw<S> as Seen>⟧ in d.safe self.old → d.safe self.new }
     {
         if size >= self.size {

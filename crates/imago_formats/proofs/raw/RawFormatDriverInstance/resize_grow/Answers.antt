@@ -18,17 +18,22 @@ returns-in-Ok-clause-below g c = looked_under_same g.B.SeenBelow ⊤ c.args._bel
 pub returns-in-Err-clause-below : goal.returns-in-Err-clause-below
 returns-in-Err-clause-below g c = looked_under_same g.B.SeenBelow (IsMild c.in-Err.fault) c.args._below.now
 
-pub returns-in-Err-clause-went : goal.returns-in-Err-clause-went
-returns-in-Err-clause-went g c =
+pub returns-in-Err-clause-grows : goal.returns-in-Err-clause-grows
+returns-in-Err-clause-grows g c =
     let r = c.args.self.now in
     let old = g.S.Storage.state r.storage in
     let new = g.S.Storage.state c.grow_to.new.self.storage in
     let refused = c.in-Err.ensures.err.0 in
     record {
-      fixed = search rules;
-      failed = λ failed. failed;
-      later = ((c.grow_to.ensures.shape, c.grow_to.ensures.later), tt);
-      faults = λ mild. (ungrown_faultless old new r.size c.in-Err.fault refused mild, tt);
-      safely = λ mild safe. (keeps_on old new c.grow_to.ensures.shape safe.0, rw c.in-Err.ensures.err.1 (refused.long safe.1));
-      lasting = λ lasts. rw c.in-Err.ensures.err.1 (refused.long lasts);
+      ok = search rules;
+      err = search rules;
+      stops = search rules;
+      went = record {
+        fixed = search rules;
+        failed = λ failed. failed;
+        later = ((c.grow_to.ensures.shape, c.grow_to.ensures.later), tt);
+        faults = λ mild. (ungrown_faultless old new r.size c.in-Err.fault refused mild, tt);
+        safely = λ mild safe. (keeps_on old new c.grow_to.ensures.shape safe.0, rw c.in-Err.ensures.err.1 (refused.long safe.1));
+        lasting = λ lasts. rw c.in-Err.ensures.err.1 (refused.long lasts);
+      };
     }

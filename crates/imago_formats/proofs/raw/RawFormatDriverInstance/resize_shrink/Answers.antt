@@ -1,8 +1,13 @@
+use Rattle.std.proofs.Common.{rules}
 use Rattle.imago_access.specs.Stops.{GivesBelowPast}
 use Rattle.imago_formats.proofs.RawSteps.{shrunk_stops}
 use Rattle.imago_formats.proofs.raw.RawFormatDriverInstance.resize_shrink.Goals as goal
 
-pub returns-in-Ok-clause-stops : goal.returns-in-Ok-clause-stops
-returns-in-Ok-clause-stops g c = λ safe below backed.
-    let r = c.args.self.now in
-    shrunk_stops below (g.S.Storage.state r.storage) (g.S.Storage.state c.shrink_to.new.self.storage) r.size c.args.size r.writable (GivesBelowPast below c.args.size) safe.1 c.in-Ok.ensures.ok.0
+pub returns-in-Ok-clause-shrinks : goal.returns-in-Ok-clause-shrinks
+returns-in-Ok-clause-shrinks g c = let r = c.args.self.now in record {
+  ok = search rules;
+  err = search rules;
+  stops = λ safe below backed. shrunk_stops below (g.S.Storage.state r.storage) (g.S.Storage.state c.shrink_to.new.self.storage) r.size c.args.size r.writable
+      (GivesBelowPast below c.args.size) safe.1 c.in-Ok.ensures.ok.0;
+  went = search rules;
+}
