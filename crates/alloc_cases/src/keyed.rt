@@ -272,6 +272,7 @@ impl<'a> Keyed<'a> {
             ["write", key, value] => self.write(number(key)?, number(value)?),
             ["flush"] => Ok(self.cache.flush(&mut self.device)?),
             ["drop"] => Ok(self.cache.invalidate()?),
+            ["forget", key] => Ok(self.cache.forget(number(key)?)?),
             ["pin", key] => self.pin(number(key)?),
             ["unpin", key] => self.unpin(number(key)?),
             _ => Err(Trouble::NoCall),

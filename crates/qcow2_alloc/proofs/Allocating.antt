@@ -14,6 +14,7 @@ use Rattle.qcow2_alloc.specs.Allocating.{Allocating, MakesBlock, MovedTable, Onl
 use Rattle.qcow2_alloc.specs.Allocators.{metadata_of}
 use Rattle.qcow2_alloc.specs.Going.{WasNotCutOff}
 use Rattle.qcow2_alloc.specs.Quiet.{Metadata, counted}
+use Rattle.qcow2_alloc.proofs.Faultless.{faultless-then}
 use Rattle.qcow2_alloc.proofs.QuietFlushes.{memory-quietly, quiet-none, quietly-weaker}
 use Rattle.qcow2_alloc.proofs.QuietThen.{quietly-then, quietly-otherwise}
 
@@ -43,6 +44,7 @@ module _ {S : Type 0} (state : S → StorageState) where
   allocating-none table old before pending =
       let m = At table old before pending in
       record {
+        faults = λ done. (refl, refl);
         quiet = λ order. memory-quietly ⊤ (λ _. 0) (λ _. 0) (state before.image) m m (λ sound done. (sound, quiet-none m sound));
         raised = λ order keeps sound done c. inl refl;
         order = refl;
@@ -59,6 +61,7 @@ module _ {S : Type 0} (state : S → StorageState) where
       let le = one.longer in
       let le' = two.longer in
       record {
+        faults = λ whole. faultless-then (one.faults done) (two.faults whole);
         quiet = λ order. quietly-otherwise ok' (λ c. h c + h' c) (λ c. 0 + 0) (λ c. h c + h' c) (λ _. 0) (state fA.image) (At tA A fA pA) (state fC.image) (At tC C fC pC) (λ sound c. omega arith) (λ sound c used none. omega arith)
             (quietly-then ok ok' h (λ _. 0) h' (λ _. 0) (state fA.image) (At tA A fA pA) (state fB.image) (At tB B fB pB) (state fC.image) (At tC C fC pC) done (λ sound c some. refl) (one.quiet order) (two.quiet (one.order ∙ order)));
         raised = λ order keeps sound whole.
@@ -76,6 +79,7 @@ module _ {S : Type 0} (state : S → StorageState) where
   pub allocating-as : (ok ok' : Type 0) (h h' : ℕ → ℕ) (tA : TableValue) (A : MetadataCaches S) (fA : ImageFile S) (pA : List FreeEntry) (tB : TableValue) (B : MetadataCaches S) (fB : ImageFile S) (pB : List FreeEntry)
       → (ok' → ok) → ((c : ℕ) → h c ≡ h' c) → Allocating state ok h tA A fA pA tB B fB pB → Allocating state ok' h' tA A fA pA tB B fB pB
   allocating-as ok ok' h h' tA A fA pA tB B fB pB from same one = record {
+    faults = λ whole. one.faults (from whole);
     quiet = λ order. quietly-weaker ok ok' h' (λ _. 0) (state fA.image) (At tA A fA pA) (state fB.image) (At tB B fB pB) (λ sound. from)
         (quietly-otherwise ok h (λ _. 0) h' (λ _. 0) (state fA.image) (At tA A fA pA) (state fB.image) (At tB B fB pB) (λ sound c. let is = same c in omega (arith, is)) (λ sound c used none. none) (one.quiet order));
     raised = λ order keeps sound whole. one.raised order keeps sound (from whole);
@@ -92,6 +96,7 @@ module _ {S : Type 0} (state : S → StorageState) where
   block-allocates index table old before result table' new after pending made =
       let long = made.long in
       record {
+        faults = made.faults;
         quiet = made.quiet;
         raised = made.raised;
         order = made.order;

@@ -26,6 +26,7 @@ use Rattle.qcow2_alloc.specs.HandingOutOne.{AllocatesAt, CountsOne, counting_of}
 use Rattle.qcow2_alloc.specs.MakingRoom.{run_of}
 use Rattle.qcow2_alloc.specs.Quiet.{Metadata, IsSound, Quietly, counted, one_at}
 use Rattle.qcow2_alloc.specs.SearchingClusters.{LooksForFree}
+use Rattle.qcow2_alloc.proofs.Faultless.{faultless-then}
 use Rattle.qcow2_alloc.proofs.KeepingRoom.{covered-inside}
 use Rattle.qcow2_alloc.proofs.Allocating.{moved-none}
 use Rattle.qcow2_alloc.proofs.CountingClusters.{one-run}
@@ -176,6 +177,7 @@ module _ {S : Type 0} (state : S → StorageState) (mark cluster : ℕ) (table :
 
       step : (handed : ℕ → ℕ) → ((c : ℕ) → given c ≡ handed c) → Allocating state (WasNotCutOff result) handed table old before pending table new after pending
       step handed same = record {
+        faults = λ whole. faultless-then (looked-step.faults tt) (counted_one.counts.faults (whole-as result whole));
         quiet = λ order. quietly-otherwise (WasNotCutOff result) given (λ _. 0) handed (λ _. 0) (state before.image) Old (state after.image) New (λ sound c. let is' = same c in omega (arith, is')) (λ sound c used none. none) (quietly order);
         raised = raised;
         order = counted_one.counts.order ∙ looked-step.order;

@@ -26,6 +26,7 @@ use Rattle.qcow2_alloc.specs.MakingRoom.{run_of}
 use Rattle.qcow2_alloc.specs.Quiet.{Metadata, IsSound, counted}
 use Rattle.qcow2_alloc.specs.ReadyingRuns.{Allocates, IsRunCounted, ReadiesRun, handed_by, mark_behind}
 use Rattle.qcow2_alloc.proofs.Allocating.{allocating-none, allocating-as, raised-then}
+use Rattle.qcow2_alloc.proofs.Faultless.{faultless-then}
 use Rattle.qcow2_alloc.proofs.GaplessRuns.{gapless-same}
 use Rattle.qcow2_alloc.proofs.GrownTables.{covers-inside}
 use Rattle.qcow2_alloc.proofs.KeepingRoom.{covered-inside}
@@ -116,6 +117,7 @@ module _ {S : Type 0} (state : S → StorageState) (mark n : ℕ) (metadata : Bo
   allocating-never : (ok : Type 0) (h h' : ℕ → ℕ) (table' : TableValue) (new : MetadataCaches S) (after : ImageFile S) (pending' : List FreeEntry) → (order_of old ≡ L2DependsOnRb → Keeps → IsSound mA → ok → ⊥)
       → Allocating state ok h table old before pending table' new after pending' → Allocating state ok h' table old before pending table' new after pending'
   allocating-never ok h h' table' new after pending' never step = record {
+    faults = step.faults;
     quiet = λ order. let quiet = step.quiet order in record { shape = quiet.shape; later = quiet.later; passes = quiet.passes; holds = λ keeps sound done. absurd (never order keeps sound done) };
     raised = step.raised;
     order = step.order;
@@ -221,6 +223,7 @@ module _ {S : Type 0} (state : S → StorageState) (mark n : ℕ) (metadata : Bo
         part-allocates : (result : Result Unit Fault) (counts : CountsRun state tB first n B fB result C fC pB) → Allocating state (WasNotCutOff result) (λ c. covers c (run_of first counts.part)) table old before pending tB C fC pB
         part-allocates result counts =
             let part : ℕ → ℕ = λ c. covers c (run_of first counts.part) in record {
+              faults = λ whole. faultless-then (begun.faults tt) (counts.faults whole);
               quiet = λ order. quietly-otherwise (WasNotCutOff result) (λ c. 0 + part c) (λ c. 0 + 0) part (λ _. 0) (state before.image) mA (state fC.image) mC (λ sound c. omega arith) (λ sound c used none. omega arith)
                   (quietly-then-given ⊤ (WasNotCutOff result) (λ _. 0) (λ _. 0) part (λ _. 0) (state before.image) mA (state fB.image) mB (state fC.image) mC tt (λ sound c some. refl) (begun.quiet order) counts.shape counts.later
                   (λ keeps sound there quiet. counts.quiet (begun.order ∙ order) (λ again. free order keeps sound)));

@@ -1,6 +1,7 @@
 -- Before clusters are counted it is announced that blocks are written before tables.
 use Rattle.std.proofs.Common.{◌≡◌, ℕ, ◌+◌, ◌*◌, ◌<◌, ◌≤◌, true, Some, ◌-◌, ◌^◌, refl, arith, ap, sym, subst, List, length, Result, Ok, Err, inl, inr, Bool}
 use Rattle.std.specs.Prelude.{⊤, IsTrue, OnOk, min, slice_index}
+use Rattle.imago_storage.specs.Calls.{IsFaultless}
 use Rattle.imago_storage.specs.State.{StorageState}
 use Rattle.imago_storage.specs.declared.fault.Fault.{Fault}
 use Rattle.imago_storage.specs.declared.fault.Fault.TheVariants.{Memory, Storage, DamagedTable}
@@ -38,6 +39,7 @@ use Rattle.qcow2_alloc.proofs.SafeLaws.{safe-reach}
 
 -- What the announcement does: it is quiet, and changes no count.
 pub record Announced {S : Type 0} (state : S → StorageState) (table : TableValue) (pending : List FreeEntry) (old : MetadataCaches S) (before : ImageFile S) (result : Result Unit Fault) (new : MetadataCaches S) (after : ImageFile S) : Type 0 where
+  pub faults : WasNotCutOff result → IsFaultless (state before.image) (state after.image)
   pub quiet : Quietly (WasNotCutOff result) (λ _. 0) (λ _. 0) (state before.image) (metadata_of state before old table pending) (state after.image) (metadata_of state after new table pending)
   pub counts : IsTrue (state before.image).shape.keeps → IsSound (metadata_of state before old table pending) → WasNotCutOff result → (c : ℕ) → counted (metadata_of state after new table pending) c ≡ counted (metadata_of state before old table pending) c
   pub order : OnOk result (order_of new ≡ L2DependsOnRb)
@@ -51,6 +53,7 @@ pub not-begun : {S : Type 0} (state : S → StorageState) (table : TableValue) (
 not-begun state table pending old before =
     let m = metadata_of state before old table pending in
     record {
+      faults = λ whole. absurd whole;
       quiet = memory-quietly (WasNotCutOff {T = Unit {0}} (Err Memory)) (λ _. 0) (λ _. 0) (state before.image) m m (λ sound whole. absurd whole);
       counts = λ keeps sound whole. absurd whole;
       order = tt;
@@ -85,11 +88,12 @@ module _ {S : Type 0} (state : S → StorageState) (table : TableValue) (pending
   caused other why = absurd why
 
   pub announced : (result : Result Unit Fault) → Goes result → OnOk result (order_of new ≡ L2DependsOnRb) → OnOk result ((f : Bytes) (H : Header) → Safe f H (cached_in new) (order_of old) → Safe f H (cached_in new) L2DependsOnRb)
-      → CountsWrites (AreTablesInReach (cached_in old)) (state before.image).faults (state after.image).faults result → Announced state table pending old before result new after
-  announced (Ok done) going order safe counts =
+      → CountsWrites (AreTablesInReach (cached_in old)) (state before.image).faults (state after.image).faults result → (WasNotCutOff result → IsFaultless (state before.image) (state after.image)) → Announced state table pending old before result new after
+  announced (Ok done) going order safe counts faultless =
       let announces = announced-quietly Old L2DependsOnRb (Ok tt) (state before.image) (state after.image) (cached_in new) refl going safe in
       let quiet = whole-quietly Old (AreTablesInReach (cached_in old)) (state before.image).faults (state after.image).faults (Ok tt) (λ _. 0) (λ _. 0) (state before.image) (state after.image) _ (λ reach. reach.0) counts announces in
       record {
+        faults = faultless;
         quiet = subst (λ (h : Header). Quietly ⊤ (λ _. 0) (λ _. 0) (state before.image) Old (state after.image) (record Old { file = bytes_of (state after.image).bytes; header = h; cached = cached_in new; order = order_of new })) (sym header)
             (subst (λ (o : CacheDependency). Quietly ⊤ (λ _. 0) (λ _. 0) (state before.image) Old (state after.image) (record Old { file = bytes_of (state after.image).bytes; cached = cached_in new; order = o })) (sym order) quiet);
         counts = λ keeps sound whole c.
@@ -101,7 +105,8 @@ module _ {S : Type 0} (state : S → StorageState) (table : TableValue) (pending
         room = kept-tables old new kept room;
         cause = counts;
       }
-  announced (Err fault) going order safe why = record {
+  announced (Err fault) going order safe why faultless = record {
+    faults = faultless;
     quiet = record {
       shape = going.shape;
       later = going.later;

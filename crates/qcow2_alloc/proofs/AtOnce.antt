@@ -8,7 +8,8 @@ use Rattle.imago_storage.proofs.Composing.{no_stops, one_stop, tells_on, keeps_o
 use Rattle.qcow2_types.specs.Bytes.{Bytes, bytes_of, splice}
 use Rattle.qcow2_types.specs.Header.{Header}
 use Rattle.qcow2_alloc.specs.Quiet.{Metadata, IsSound, IsQuiet, ShowsEither, IsIn, Quietly}
-use Rattle.qcow2_alloc.proofs.FlushingTables.{spliced-bytes, never-mild}
+use Rattle.qcow2_alloc.proofs.Faultless.{never-mild}
+use Rattle.qcow2_alloc.proofs.FlushingTables.{spliced-bytes}
 use Rattle.qcow2_alloc.specs.Going.{WasNotCutOff}
 use Rattle.qcow2_alloc.proofs.QuietFlushes.{quietly-weaker}
 

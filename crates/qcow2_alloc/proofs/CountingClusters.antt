@@ -214,6 +214,7 @@ module _ {S : Type 0} (state : S → StorageState) (table : TableValue) (pending
             whole = tt;
             shape = quiet.shape;
             later = quiet.later;
+            faults = found.going.faults;
             quiet = λ order free. none-given fault new after quiet;
             raised = λ order keeps sound free whole d. let same = found-counts key (Err fault) new found keeps sound whole d in let zero = covers-none d (run_of c 0) refl in omega (arith, same, zero);
             order = stays.order;
@@ -240,6 +241,7 @@ module _ {S : Type 0} (state : S → StorageState) (table : TableValue) (pending
             whole = all-done result;
             shape = found.shape;
             later = found.later;
+            faults = λ whole. u.found.going.faults tt;
             quiet = λ order free. subst (λ (m : MetadataCaches S). Quietly (WasNotCutOff result) (given result) (λ _. 0) (state before.image) Old (state after.image) (At m after)) (sym u.left)
                 (quietly-otherwise (WasNotCutOff result) (λ d. 0 + given result d) (λ d. 0 + 0) (given result) (λ _. 0) (state before.image) Old (state after.image) _ (λ sound d. omega arith) (λ sound d used none. omega arith)
                 (quietly-then-given ⊤ (WasNotCutOff result) (λ _. 0) (λ _. 0) (given result) (λ _. 0) (state before.image) Old (state after.image) (At u.mid after) (state after.image) (With key u.mid after named-now u.block u.there u.block') tt (λ sound d some. refl)
@@ -289,6 +291,7 @@ module _ {S : Type 0} (state : S → StorageState) (table : TableValue) (pending
                 whole = tt;
                 shape = refl;
                 later = later_same (state before.image);
+                faults = λ whole. (refl, refl);
                 quiet = λ order free. none-given DamagedTable old before still;
                 raised = λ order keeps sound free whole d. let zero = covers-none d (run_of c 0) refl in omega (arith, zero);
                 order = refl;

@@ -42,6 +42,7 @@ module _ {S : Type 0} (state : S → StorageState) (table : TableValue) (pending
       whole = tt;
       shape = refl;
       later = later_same (state before.image);
+      faults = λ whole. (refl, refl);
       quiet = λ order free. quietly-otherwise _ (λ _. 0) (λ _. 0) (λ d. covers d (run_of c 0)) (λ _. 0) (state before.image) Old (state before.image) Old (λ sound d. let zero = covers-none d (run_of c 0) refl in omega (arith, zero)) (λ sound d used none. omega arith)
           (memory-quietly _ (λ _. 0) (λ _. 0) (state before.image) Old Old (λ sound whole. (sound, quiet-none Old sound)));
       raised = λ order keeps sound free whole d. let zero = covers-none d (run_of c 0) refl in omega (arith, zero);

@@ -23,6 +23,7 @@ use Rattle.qcow2_alloc.specs.Going.{WasNotCutOff}
 use Rattle.qcow2_alloc.specs.MakingRoom.{run_of}
 use Rattle.qcow2_alloc.specs.Quiet.{Metadata, IsSound, counted}
 use Rattle.qcow2_alloc.proofs.CountingClusters.{succeeded}
+use Rattle.qcow2_alloc.proofs.Faultless.{faultless-then}
 use Rattle.qcow2_alloc.proofs.FreeingEntries.{failed, why-counted-wider}
 use Rattle.qcow2_alloc.proofs.Listed.{covers-none}
 use Rattle.qcow2_alloc.proofs.QuietFlushes.{memory-quietly, quiet-none}
@@ -92,6 +93,7 @@ module _ {S : Type 0} (state : S → StorageState) (table : TableValue) (pending
     whole = whole;
     shape = refl;
     later = later_same (state before.image);
+    faults = λ whole. (refl, refl);
     quiet = λ order free. memory-quietly (WasNotCutOff succeeded) (part_of passed first part) (λ _. 0) (state before.image) (At old before) (At old before) (λ sound whole. (
       sound,
       quiet-otherwise (At old before) (At old before) (λ _. 0) (λ _. 0) (part_of passed first part) (λ _. 0) (λ d. let zero = none d in omega (arith, zero)) (λ d used zero. zero) (quiet-none (At old before) sound),
@@ -129,6 +131,7 @@ module _ {S : Type 0} (state : S → StorageState) (table : TableValue) (pending
         whole = ended result two.part two.whole;
         shape = two.shape ∙ one.shape;
         later = later_both (state fA.image) (state fB.image) (state fC.image) one.later two.later;
+        faults = λ whole. faultless-then (one.faults tt) (two.faults whole);
         quiet = λ order free.
             quietly-otherwise (WasNotCutOff result) (λ d. part_of passed first one.part d + part_of passed (first + n) two.part d) (λ d. 0 + 0) (part_of passed first (n + two.part)) (λ _. 0)
             (state fA.image) (At A fA) (state fC.image) (At C fC) (λ sound d. let same = joined d in omega (arith, same)) (λ sound d used none. omega arith)
@@ -185,6 +188,7 @@ module _ {S : Type 0} (state : S → StorageState) (table : TableValue) (pending
         whole = tt;
         shape = part.shape;
         later = part.later;
+        faults = part.faults;
         quiet = λ order free. part.quiet order (λ sound. within (free sound));
         raised = λ order keeps sound free whole d. part.raised order keeps sound (within free) whole d;
         order = part.order;
@@ -265,6 +269,7 @@ module _ {S : Type 0} (state : S → StorageState) (table : TableValue) (pending
           whole = run.whole;
           shape = run.shape;
           later = run.later;
+          faults = run.faults;
           quiet = λ order free.
               quietly-otherwise (WasNotCutOff result) (λ d. covers d (run_of c run.part)) (λ _. 0) (named_part table (counters_of_block before.header.fields) c run.part) (λ _. 0)
               (state before.image) (metadata_of state before old table pending) (state after.image) (metadata_of state after new table pending) (λ sound d. let is = same d in omega (arith, is)) (λ sound d used none. none) (run.quiet order free);

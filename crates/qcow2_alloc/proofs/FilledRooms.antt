@@ -27,7 +27,7 @@ use Rattle.qcow2_alloc.specs.Allocators.{metadata_of, named_block}
 use Rattle.qcow2_alloc.specs.Caches.{cached_in, order_of}
 use Rattle.qcow2_alloc.specs.Freeing.{IsLoose}
 use Rattle.qcow2_alloc.specs.FreeList.{covers}
-use Rattle.qcow2_alloc.specs.Going.{IsMild}
+use Rattle.qcow2_alloc.specs.Going.{IsMild, WasNotCutOff}
 use Rattle.qcow2_alloc.specs.Growing.{lacks}
 use Rattle.qcow2_alloc.specs.GrowingTables.{table_run}
 use Rattle.qcow2_alloc.specs.MakingRoom.{run_of, rank, formerly, newly_counted, with_table}
@@ -40,7 +40,7 @@ use Rattle.qcow2_alloc.proofs.FreeingEntries.{failed}
 use Rattle.qcow2_alloc.proofs.GrownTables.{covers-inside, covers-before}
 use Rattle.qcow2_alloc.proofs.QuietGiven.{quietly-given}
 use Rattle.qcow2_alloc.proofs.QuietThen.{quietly-then, quietly-otherwise}
-use Rattle.qcow2_alloc.proofs.FlushingTables.{never-mild}
+use Rattle.qcow2_alloc.proofs.Faultless.{never-mild, faultless-then, put-faultless}
 use Rattle.qcow2_alloc.proofs.MadeBlocks.{first-counted}
 use Rattle.qcow2_alloc.proofs.Loose.{loose-named, name-kept}
 use Rattle.qcow2_alloc.proofs.MemoryWords.{places-in-memory}
@@ -164,6 +164,7 @@ module _ {S : Type 0} (state : S → StorageState) (table : TableValue) (pending
         leaks = record { none = λ not c. refl; pinned = λ sound loose c. refl };
         shape = shape5;
         later = later5;
+        faults = λ mild. absurd (never-mild _ _ fault cause mild);
         quiet = λ e. quietly-given (IsMild fault) (λ _. 0) (λ _. 0) (state before.image) m0 (state after.image) (metadata_of state after C table' pending) shape5 later5 (λ keeps sound.
             let given : Known = (keeps, (free e).0, sound, (free e).1) in
             let q = quietly-then ⊤ (result ≡ Ok tt) handed (λ _. 0) (formerly m5) (newly_counted m5 place n) (state before.image) m0 (state mid) m5 (state after.image) (with_table m5 copied place n (bytes_of (state after.image).bytes)) tt
@@ -264,6 +265,7 @@ module _ {S : Type 0} (state : S → StorageState) (table : TableValue) (pending
       leaks = record { none = λ not c. refl; pinned = λ sound loose c. refl };
       shape = shape5;
       later = later5;
+      faults = λ whole. faultless-then (at5.faults tt) (put-faultless (state mid) (state after.image) _ _ result pointed.put (subst (λ (r : Result Unit Fault). WasNotCutOff r) (sym done) tt));
       quiet = quiet-all;
       raised = λ e keeps sound whole c.
           let given : Known = (keeps, (free e).0, sound, (free e).1) in

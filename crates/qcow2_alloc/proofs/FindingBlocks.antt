@@ -1,12 +1,14 @@
 -- A cached block is found or loaded.
-use Rattle.std.proofs.Common.{◌≡◌, ℕ, refl, arith, ap, sym, subst, ◌∙◌, List, [], ◌∷◌, ◌++◌, length, None, Result, Ok, Bool, true, false}
+use Rattle.std.proofs.Common.{◌≡◌, ℕ, ◌*◌, ◌^◌, refl, arith, ap, sym, subst, ◌∙◌, List, [], ◌∷◌, ◌++◌, inl, inr, length, None, Result, Ok, Err, Bool, true, false}
+use Rattle.std.proofs.lemmas.Bool.{cases_lt}
 use Rattle.std.specs.Prelude.{nat_eq, ⊤}
 use Rattle.std.specs.Map.{lookup}
 use Rattle.std.proofs.lemmas.List.FromFn.{length-map-range_with_len}
 use Rattle.imago_storage.specs.State.{StorageState}
 use Rattle.imago_storage.specs.declared.fault.Fault.{Fault}
 use Rattle.qcow2_types.specs.Bytes.{bytes_of}
-use Rattle.qcow2_types.specs.Header.{Header}
+use Rattle.qcow2_types.specs.Header.{Fields, Header}
+use Rattle.qcow2_types.specs.Words.{max_offset}
 use Rattle.qcow2_types.specs.Counts.{counters_of_block}
 use Rattle.qcow2_alloc.specs.Backends.{BlockLoaded, BlockFlushed}
 use Rattle.qcow2_alloc.proofs.Places.{away-of-all}
@@ -22,7 +24,16 @@ use Rattle.qcow2_alloc.specs.Cache.{MadeRoom, Readied}
 use Rattle.qcow2_alloc.specs.declared.file.ImageFile.{ImageFile}
 use Rattle.qcow2_alloc.proofs.Readying.{readied, room-made, room-absent}
 use Rattle.qcow2_alloc.proofs.FlushingBlocks.{block-flushed-whole, flushed-clean}
+use Rattle.qcow2_alloc.proofs.Faultless.{never-mild}
 use Rattle.qcow2_alloc.proofs.FindingTables.{going-quiet, kept-same}
+
+-- A load that wasn't cut off leaves the count of faults as it was.
+block-load-counted : (h : Fields) (key : ℕ) (old : StorageState) (result : Result Block Fault) (new : StorageState) → BlockLoaded h key old result new → WasNotCutOff result → new.faults ≡ old.faults
+block-load-counted h key old (Ok block) new loaded whole = loaded.faults
+block-load-counted h key old (Err fault) new loaded mild = elim (cases_lt max_offset (key * 2 ^ h.cluster_bits)) [
+  | inl far ↦ ap (λ (s : StorageState). s.faults) (loaded.out (λ reach. omega (arith, far, reach))).1
+  | inr reach ↦ absurd (never-mild old.faults new.faults fault (loaded.err reach) mild)
+]
 
 -- A block of the file fits.
 loaded-fits : (H : Header) (key : ℕ) (old : StorageState) (value : Block) (new : StorageState) → BlockLoaded H.fields key old (Ok value) new → IsCachedBlock (bytes_of old.bytes) H.fields key value
@@ -43,20 +54,20 @@ module _ {S : Type 0} (state : S → StorageState) (H : Header) (order : CacheDe
   block-leaves-quietly : (ready : (A B : List (ℕ × Slot Block)) → Ready (put A) → Ready (put B)) (front : List (ℕ × Slot Block)) (key : ℕ) (slot : Slot Block) (back : List (ℕ × Slot Block)) (s : StorageState)
       → slot.value.modified ≡ false → Going H order Ready ⊤ s (put (front ++ (key, slot) ∷ back)) s (put (front ++ back))
   block-leaves-quietly ready front key slot back s clean =
-      going-quiet H order Ready ⊤ s s (put (front ++ (key, slot) ∷ back)) (put (front ++ back)) (kept-same s) (omega arith) (ready (front ++ (key, slot) ∷ back) (front ++ back))
+      going-quiet H order Ready ⊤ s s (put (front ++ (key, slot) ∷ back)) (put (front ++ back)) (kept-same s) (omega arith) (λ o. refl) (ready (front ++ (key, slot) ∷ back) (front ++ back))
       (λ r safe. block-leaves-safe (bytes_of s.bytes) H order tables front key slot back clean safe) (λ r. block-leaves (bytes_of s.bytes) H order tables front key slot back clean)
 
   pub block-comes-quietly : (ready : (A B : List (ℕ × Slot Block)) → Ready (put A) → Ready (put B)) (key : ℕ) (value : Block) (es : List (ℕ × Slot Block)) (old new : StorageState)
       → BlockLoaded H.fields key old (Ok value) new → lookup (nat_eq key) es ≡ None → Going H order Ready ⊤ old (put es) new (put ((key, record { value = value; pins = 0 }) ∷ es))
   block-comes-quietly ready key value es old new loaded none =
       let off : value.modified ≡ false = ap (λ (t : Block). t.modified) loaded.ok.1 in
-      going-quiet H order Ready ⊤ old new (put es) (put ((key, record { value = value; pins = 0 }) ∷ es)) loaded.kept (let same = loaded.faults in omega (arith, same)) (ready es ((key, record { value = value; pins = 0 }) ∷ es))
+      going-quiet H order Ready ⊤ old new (put es) (put ((key, record { value = value; pins = 0 }) ∷ es)) loaded.kept (let same = loaded.faults in omega (arith, same)) (λ o. loaded.faults) (ready es ((key, record { value = value; pins = 0 }) ∷ es))
       (λ r safe. block-comes-safe (bytes_of old.bytes) H order tables [] key (record { value = value; pins = 0 }) [] es off (away-of-all key es none) (loaded-fits H key old value new loaded) safe)
       (λ r. block-comes (bytes_of old.bytes) H order tables [] key (record { value = value; pins = 0 }) [] es off)
 
-  pub block-asked : (key : ℕ) (result : Result Block Fault) (es : List (ℕ × Slot Block)) (old new : StorageState) → BlockLoaded H.fields key old result new → Going H order Ready ⊤ old (put es) new (put es)
+  pub block-asked : (key : ℕ) (result : Result Block Fault) (es : List (ℕ × Slot Block)) (old new : StorageState) → BlockLoaded H.fields key old result new → Going H order Ready (WasNotCutOff result) old (put es) new (put es)
   block-asked key result es old new loaded =
-      going-quiet H order Ready ⊤ old new (put es) (put es) loaded.kept loaded.later (λ r. r) (λ r safe. safe) (λ r. refl)
+      going-quiet H order Ready (WasNotCutOff result) old new (put es) (put es) loaded.kept loaded.later (block-load-counted H.fields key old result new loaded) (λ r. r) (λ r safe. safe) (λ r. refl)
 
 -- A block is found or loaded, where what has to be written before is.
 module _ {S : Type 0} (state : S → StorageState) (H : Header) (order : CacheDependency) (tables : List (ℕ × Slot TableValue)) where

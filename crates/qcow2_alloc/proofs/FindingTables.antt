@@ -1,22 +1,25 @@
 -- A cached table is found or loaded.
-use Rattle.std.proofs.Common.{◌≡◌, ℕ, ◌^◌, ◌≤◌, refl, arith, ap, sym, subst, ◌∙◌, List, [], ◌∷◌, ◌++◌, Some, None, Result, Ok, Bool, true, false}
+use Rattle.std.proofs.Common.{◌≡◌, ℕ, ◌*◌, ◌^◌, ◌≤◌, refl, arith, ap, sym, subst, ◌∙◌, List, [], ◌∷◌, ◌++◌, inl, inr, Some, None, Result, Ok, Err, Bool, true, false}
+use Rattle.std.proofs.lemmas.Bool.{cases_lt}
 use Rattle.std.specs.Prelude.{nat_eq, ⊤, IsTrue, ◌==◌, if◌then◌else◌}
 use Rattle.std.specs.Map.{lookup}
 use Rattle.imago_storage.specs.State.{StorageState, Shape}
 use Rattle.imago_storage.specs.Calls.{Kept}
 use Rattle.imago_storage.specs.declared.fault.Fault.{Fault}
+use Rattle.imago_storage.specs.declared.fault.Fault.TheVariants.{Limit, DamagedTable, Memory, Storage}
 use Rattle.imago_storage.proofs.Composing.{no_stops}
 use Rattle.qcow2_types.specs.Bytes.{bytes_of}
-use Rattle.qcow2_types.specs.Header.{Header, Shaped, words_of_cluster}
+use Rattle.qcow2_types.specs.Header.{Fields, Header, Shaped, words_of_cluster, layout_of}
+use Rattle.qcow2_types.specs.Words.{Layout, max_offset}
 use Rattle.std.proofs.lemmas.Nat.{le-div}
 use Rattle.std.proofs.Math.Nat.{pow-le-pow_right}
 use Rattle.std.proofs.lemmas.Bool.Decides.{nat_tests}
-use Rattle.qcow2_alloc.specs.Backends.{TableLoaded, TableFlushed}
+use Rattle.qcow2_alloc.specs.Backends.{TableLoaded, TableFlushed, l2_words_in}
 use Rattle.qcow2_alloc.proofs.Patches.{shaped-in}
 use Rattle.qcow2_alloc.proofs.Places.{away-of-all}
 use Rattle.qcow2_alloc.proofs.Entering.{table-leaves, table-leaves-safe, table-comes, table-comes-safe}
 use Rattle.qcow2_alloc.specs.Safety.{IsCachedTable}
-use Rattle.qcow2_metadata.specs.Tables.{TableValue}
+use Rattle.qcow2_metadata.specs.Tables.{TableValue, Kind, WhyNotLoaded, l2_words}
 use Rattle.qcow2_metadata.specs.Blocks.{Block}
 use Rattle.qcow2_alloc.specs.declared.async_lru_cache.Slot.{Slot}
 use Rattle.qcow2_alloc.specs.declared.cache.CacheDependency.{CacheDependency}
@@ -24,7 +27,7 @@ use Rattle.qcow2_alloc.specs.Memory.{Cached, memory}
 use Rattle.qcow2_alloc.specs.Safety.{Safe, IsLeft}
 use Rattle.qcow2_alloc.specs.Going.{Going, ReadyTables}
 use Rattle.qcow2_alloc.specs.Cache.{MadeRoom, Readied}
-use Rattle.qcow2_alloc.specs.Going.{WasNotCutOff}
+use Rattle.qcow2_alloc.specs.Going.{IsMild, WasNotCutOff}
 use Rattle.qcow2_alloc.specs.declared.file.ImageFile.{ImageFile}
 use Rattle.qcow2_alloc.proofs.Readying.{readied, room-made, room-absent}
 use Rattle.qcow2_alloc.proofs.FlushingTables.{table-flushed-whole, flushed-clean}
@@ -34,11 +37,12 @@ pub kept-same : (s : StorageState) → Kept s s
 kept-same s = record { shape = refl; bytes = refl; refusals = refl; stop = refl; past = refl }
 
 -- A call that makes no request, and after which what is cached is as safe.
-pub going-quiet : (H : Header) (order : CacheDependency) (Ready : Cached → Type 0) (ok : Type 0) (a b : StorageState) (A B : Cached) → Kept a b → a.faults ≤ b.faults → (Ready A → Ready B)
+pub going-quiet : (H : Header) (order : CacheDependency) (Ready : Cached → Type 0) (ok : Type 0) (a b : StorageState) (A B : Cached) → Kept a b → a.faults ≤ b.faults → (ok → b.faults ≡ a.faults) → (Ready A → Ready B)
     → (Ready A → Safe (bytes_of a.bytes) H A order → Safe (bytes_of a.bytes) H B order) → (Ready A → memory (bytes_of a.bytes) H.fields B ≡ memory (bytes_of a.bytes) H.fields A) → Going H order Ready ok a A b B
-going-quiet H order Ready ok a b A B kept faults ready safely same = record {
+going-quiet H order Ready ok a b A B kept faults same-count ready safely same = record {
   shape = kept.shape;
   later = record { faults = faults; refusals = omega (arith, kept.refusals) };
+  faults = λ o. (same-count o, kept.refusals);
   ready = ready;
   passes = λ keeps safe r calm. (
     λ was tells' keeps'. kept.stop ∙ was (back (λ s. IsTrue s.tells) tells') (back (λ s. IsTrue s.keeps) keeps') ∙ sym kept.bytes,
@@ -53,6 +57,21 @@ going-quiet H order Ready ok a b A B kept faults ready safely same = record {
   where
     back : (P : Shape → Type 0) → P b.shape → P a.shape
     back P = subst P kept.shape
+
+-- A load that wasn't cut off leaves the count of faults as it was.
+pub load-counted : (kind : Kind) (layout : Layout) (words : List ℕ) (old new : ℕ) (fault : Fault) → WhyNotLoaded kind layout words old new fault → IsMild fault → new ≡ old
+load-counted kind layout words old new (Limit n) why mild = why.2
+load-counted kind layout words old new DamagedTable why mild = why.1
+load-counted kind layout words old new Memory why mild = absurd mild
+load-counted kind layout words old new Storage why mild = absurd mild
+load-counted kind layout words old new fault why mild = absurd why
+
+table-load-counted : (h : Fields) (key : ℕ) (old : StorageState) (result : Result TableValue Fault) (new : StorageState) → TableLoaded h key old result new → WasNotCutOff result → new.faults ≡ old.faults
+table-load-counted h key old (Ok table) new loaded whole = loaded.faults
+table-load-counted h key old (Err fault) new loaded mild = elim (cases_lt max_offset (key * 2 ^ h.cluster_bits)) [
+  | inl far ↦ ap (λ (s : StorageState). s.faults) (loaded.out (λ reach. omega (arith, far, reach))).1
+  | inr reach ↦ load-counted l2_words (layout_of h) (l2_words_in old h key) old.faults new.faults fault (loaded.err reach) mild
+]
 
 -- A table of the file fits.
 loaded-fits : (H : Header) (key : ℕ) (old : StorageState) (value : TableValue) (new : StorageState) → TableLoaded H.fields key old (Ok value) new → Shaped H.fields → IsCachedTable (bytes_of old.bytes) H.fields key value
@@ -77,20 +96,20 @@ module _ {S : Type 0} (state : S → StorageState) (H : Header) (order : CacheDe
   table-leaves-quietly : (ready : (A B : List (ℕ × Slot TableValue)) → Ready (put A) → Ready (put B)) (front : List (ℕ × Slot TableValue)) (key : ℕ) (slot : Slot TableValue) (back : List (ℕ × Slot TableValue)) (s : StorageState)
       → slot.value.modified ≡ false → Going H order Ready ⊤ s (put (front ++ (key, slot) ∷ back)) s (put (front ++ back))
   table-leaves-quietly ready front key slot back s clean =
-      going-quiet H order Ready ⊤ s s (put (front ++ (key, slot) ∷ back)) (put (front ++ back)) (kept-same s) (omega arith) (ready (front ++ (key, slot) ∷ back) (front ++ back))
+      going-quiet H order Ready ⊤ s s (put (front ++ (key, slot) ∷ back)) (put (front ++ back)) (kept-same s) (omega arith) (λ o. refl) (ready (front ++ (key, slot) ∷ back) (front ++ back))
       (λ r safe. table-leaves-safe (bytes_of s.bytes) H order front key slot back blocks clean safe) (λ r. table-leaves (bytes_of s.bytes) H order front key slot back blocks clean)
 
   pub table-comes-quietly : (ready : (A B : List (ℕ × Slot TableValue)) → Ready (put A) → Ready (put B)) (key : ℕ) (value : TableValue) (es : List (ℕ × Slot TableValue)) (old new : StorageState)
       → TableLoaded H.fields key old (Ok value) new → lookup (nat_eq key) es ≡ None → Going H order Ready ⊤ old (put es) new (put ((key, record { value = value; pins = 0 }) ∷ es))
   table-comes-quietly ready key value es old new loaded none =
       let off : value.modified ≡ false = ap (λ (t : TableValue). t.modified) loaded.ok.1 in
-      going-quiet H order Ready ⊤ old new (put es) (put ((key, record { value = value; pins = 0 }) ∷ es)) loaded.kept (let same = loaded.faults in omega (arith, same)) (ready es ((key, record { value = value; pins = 0 }) ∷ es))
+      going-quiet H order Ready ⊤ old new (put es) (put ((key, record { value = value; pins = 0 }) ∷ es)) loaded.kept (let same = loaded.faults in omega (arith, same)) (λ o. loaded.faults) (ready es ((key, record { value = value; pins = 0 }) ∷ es))
       (λ r safe. table-comes-safe (bytes_of old.bytes) H order [] key (record { value = value; pins = 0 }) [] blocks es off (away-of-all key es none) (loaded-fits H key old value new loaded (shaped-in (bytes_of old.bytes) H safe.consistent)) safe)
       (λ r. table-comes (bytes_of old.bytes) H order [] key (record { value = value; pins = 0 }) [] blocks es off)
 
-  pub table-asked : (key : ℕ) (result : Result TableValue Fault) (es : List (ℕ × Slot TableValue)) (old new : StorageState) → TableLoaded H.fields key old result new → Going H order Ready ⊤ old (put es) new (put es)
+  pub table-asked : (key : ℕ) (result : Result TableValue Fault) (es : List (ℕ × Slot TableValue)) (old new : StorageState) → TableLoaded H.fields key old result new → Going H order Ready (WasNotCutOff result) old (put es) new (put es)
   table-asked key result es old new loaded =
-      going-quiet H order Ready ⊤ old new (put es) (put es) loaded.kept loaded.later (λ r. r) (λ r safe. safe) (λ r. refl)
+      going-quiet H order Ready (WasNotCutOff result) old new (put es) (put es) loaded.kept loaded.later (table-load-counted H.fields key old result new loaded) (λ r. r) (λ r safe. safe) (λ r. refl)
 
 -- A table is found or loaded, where what has to be written before is; and without writing anything.
 module _ {S : Type 0} (state : S → StorageState) (H : Header) (order : CacheDependency) (blocks : List (ℕ × Slot Block)) where

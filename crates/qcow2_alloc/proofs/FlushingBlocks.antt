@@ -26,7 +26,8 @@ use Rattle.qcow2_alloc.proofs.Patches.{block-length, shaped-in}
 use Rattle.qcow2_alloc.specs.Going.{Going, ReadyBlocks}
 use Rattle.qcow2_alloc.specs.Going.{IsMild, WasNotCutOff}
 use Rattle.qcow2_alloc.proofs.Going.{going-none, going-weaker, settled-same}
-use Rattle.qcow2_alloc.proofs.FlushingTables.{never-mild, spliced-bytes, calm-same, done_so}
+use Rattle.qcow2_alloc.proofs.Faultless.{never-mild, put-faultless}
+use Rattle.qcow2_alloc.proofs.FlushingTables.{spliced-bytes, calm-same, done_so}
 
 -- a refusal changes nothing of a block that was modified
 noted : (b : Block) (key : ℕ) → b.cluster ≡ Some key → b.modified ≡ true → record b { cluster = Some key; modified = true } ≡ b
@@ -45,6 +46,7 @@ module _ (H : Header) (order : CacheDependency) (tables : List (ℕ × Slot Tabl
   put modified done = record {
     shape = done.put.put.shape;
     later = done.put.put.later;
+    faults = λ ok. put-faultless old new _ _ done_so done.put.put tt;
     ready = λ r. r;
     passes = λ keeps safe ready calm.
         let settled = there keeps safe ready in (
@@ -96,6 +98,7 @@ module _ (H : Header) (order : CacheDependency) (tables : List (ℕ × Slot Tabl
   not-put fault modified (Err other) is refused = record {
     shape = refused.put.put.shape;
     later = refused.put.put.later;
+    faults = λ ok. absurd (cc ok);
     ready = λ r. r;
     passes = λ keeps safe ready calm. (elim refused.put.put.answer.in_step [ inl rose ↦ absurd (calm rose) | inr stays ↦ stays ], no_stops _ old new refused.put.once.0 refused.put.once.1);
     holds = λ keeps safe ready why. elim why [

@@ -5,8 +5,7 @@ use Rattle.std.proofs.lemmas.Bool.{cases_Bool, cases_lt}
 use Rattle.std.proofs.lemmas.Nat.{pow_pos}
 use Rattle.std.proofs.Math.Path.{fun_ext}
 use Rattle.imago_storage.specs.State.{StorageState, Rose, InStep}
-use Rattle.imago_storage.specs.Calls.{Spliced, Cause}
-use Rattle.imago_storage.specs.declared.fault.Fault.TheVariants.{Memory, Storage}
+use Rattle.imago_storage.specs.Calls.{Spliced}
 use Rattle.qcow2_alloc.specs.Going.{IsMild, WasNotCutOff}
 use Rattle.imago_storage.specs.Through.{PutAtOnce}
 use Rattle.imago_storage.specs.declared.fault.Fault.{Fault}
@@ -28,6 +27,7 @@ use Rattle.qcow2_alloc.proofs.CachedTables.{tables_with, table-settled}
 use Rattle.qcow2_alloc.proofs.WritingTables.{this-table, table-left, table-safe}
 use Rattle.qcow2_alloc.proofs.Patches.{table-long}
 use Rattle.qcow2_alloc.specs.Going.{Going, ReadyTables}
+use Rattle.qcow2_alloc.proofs.Faultless.{never-mild, put-faultless}
 use Rattle.qcow2_alloc.proofs.Going.{going-none, going-weaker, settled-same}
 
 -- a splice of lists is one of files
@@ -50,12 +50,6 @@ calm-same old new shape stop in_step keeps calm = elim in_step [
   | inr stays ↦ sym (stays calm.in_step (tells_on old new shape calm.tells) (keeps_on old new shape keeps)) ∙ stop ∙ calm.in_step calm.tells keeps
 ]
 
--- a request is refused for want of memory or by its storage alone
-pub never-mild : (before after : ℕ) (fault : Fault) → Cause before after fault → IsMild fault → ⊥
-never-mild before after Memory cause mild = mild
-never-mild before after Storage cause mild = mild
-never-mild before after _ cause mild = cause
-
 -- a flush that succeeded
 abbrev pub done_so : Result Unit Fault
 done_so = Ok tt
@@ -74,6 +68,7 @@ module _ (H : Header) (order : CacheDependency) (front : List (ℕ × Slot Table
   put modified done = record {
     shape = done.put.shape;
     later = done.put.later;
+    faults = λ ok. put-faultless old new _ _ done_so done.put tt;
     ready = λ r. r;
     passes = λ keeps safe ready calm.
         let settled = there keeps safe ready in (
@@ -115,6 +110,7 @@ module _ (H : Header) (order : CacheDependency) (front : List (ℕ × Slot Table
   not-put fault modified (Err other) is refused = record {
     shape = refused.put.shape;
     later = refused.put.later;
+    faults = λ ok. absurd (cc ok);
     ready = λ r. r;
     passes = λ keeps safe ready calm. (elim refused.put.answer.in_step [ inl rose ↦ absurd (calm rose) | inr stays ↦ stays ], no_stops _ old new refused.once.0 refused.once.1);
     holds = λ keeps safe ready why. elim why [

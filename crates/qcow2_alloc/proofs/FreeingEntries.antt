@@ -1,5 +1,5 @@
 -- Entries of the list of clusters to free are counted down.
-use Rattle.std.proofs.Common.{◌≡◌, ◌≢◌, ℕ, ◌*◌, ◌^◌, ◌<◌, ◌≤◌, refl, arith, ap, sym, subst, ◌∙◌, List, length, Result, Ok, Err, true, inl, inr, Bool}
+use Rattle.std.proofs.Common.{◌≡◌, ◌≢◌, ℕ, ◌*◌, ◌^◌, ◌<◌, ◌≤◌, refl, arith, ap, sym, subst, ◌∙◌, List, length, Result, Ok, Err, true, inl, inr, Bool, ◌/◌, ◌%◌}
 use Rattle.std.specs.Prelude.{◌⊎◌, IsTrue, min}
 use Rattle.std.proofs.lemmas.List.{length-set}
 use Rattle.std.proofs.lemmas.Bool.{cases_eq, cases_lt}
@@ -17,12 +17,13 @@ use Rattle.qcow2_metadata.specs.Tables.{TableValue}
 use Rattle.qcow2_alloc.specs.declared.cache.CacheDependency.{CacheDependency}
 use Rattle.qcow2_alloc.specs.declared.cache.MetadataCaches.{MetadataCaches}
 use Rattle.qcow2_alloc.specs.declared.file.ImageFile.{ImageFile}
-use Rattle.qcow2_alloc.specs.Allocators.{metadata_of, LowersCluster}
+use Rattle.qcow2_alloc.specs.Allocators.{metadata_of, LowersCluster, named_block, Lowers}
 use Rattle.qcow2_alloc.specs.Caches.{cached_in, order_of}
 use Rattle.qcow2_alloc.specs.Freeing.{IsUnbarred, Frees, MayFree, WhyNotFreed, WhyNotCounted, CountsFreeing, IsWholeOrCalm}
 use Rattle.qcow2_alloc.specs.FreeList.{entry_at, shorter, shortened, listed}
 use Rattle.qcow2_alloc.specs.Going.{WasNotCutOff}
 use Rattle.qcow2_alloc.specs.Quiet.{Metadata, IsSound, IsQuiet, counted, in_memory, waiting, waiting_metadata, metadata_in}
+use Rattle.qcow2_alloc.proofs.Faultless.{faultless-then, named-faultless}
 use Rattle.qcow2_alloc.proofs.FreeingClusters.{LosesOne, left, cluster-freed, freeing-caused, counts-stay, freeing-stays}
 use Rattle.qcow2_alloc.proofs.FreeingLists.{last, last-off, metadata-less, metadata-last, entry-shortened}
 use Rattle.qcow2_alloc.proofs.Loose.{spare-on}
@@ -107,6 +108,7 @@ module _ {S : Type 0} (state : S → StorageState) (table : TableValue) (es : Li
       let stays = freeing-stays state table c es (shortened es i 1) old before result new after l lowers in
       let quiet = cluster-freed state table c es (shortened es i 1) old before result new after l lowers in
       record {
+        faults = named-faultless state (Lowers (c % counters_of_block before.header.fields)) old before result new after (named_block table (c / counters_of_block before.header.fields)) (result ≡ Err DamagedTable) lowers;
         quiet = quiet;
         marked = λ keeps sound why marked d below. by-result result (quiet.holds keeps sound why).0 below (λ away under. let same = counts-stay state table c es (shortened es i 1) old before result new after l lowers (keeps, sound) why d away in let was = marked d under in omega (arith, same, was));
         lower = falls mark result;
@@ -132,6 +134,7 @@ module _ {S : Type 0} (state : S → StorageState) (table : TableValue) (es : Li
   far-refused old before mark far =
       let m = metadata_of state before old table es in
       record {
+        faults = λ whole. (refl, refl);
         quiet = memory-quietly _ (λ _. 0) (λ _. 0) (state before.image) m m (λ sound whole. (sound, quiet-none m sound));
         marked = λ keeps sound whole marked. marked;
         lower = omega arith;
@@ -185,6 +188,7 @@ module _ {S : Type 0} (state : S → StorageState) (table : TableValue) where
   frees-none old before mark es =
       let m = metadata_of state before old table es in
       record {
+        faults = λ whole. (refl, refl);
         quiet = memory-quietly _ (λ _. 0) (λ _. 0) (state before.image) m m (λ sound whole. (sound, quiet-none m sound));
         marked = λ keeps sound whole marked. marked;
         lower = omega arith;
@@ -207,6 +211,7 @@ module _ {S : Type 0} (state : S → StorageState) (table : TableValue) where
       let few = first.fewer in
       let few' = second.fewer in
       record {
+        faults = λ whole. faultless-then (first.faults tt) (second.faults whole);
         quiet = calmly-then _ (WasNotCutOff result) (λ _. 0) (λ _. 0) (λ _. 0) (λ _. 0) (state fA.image) (metadata_of state fA A table es) (state fB.image) (metadata_of state fB B table es1) (state fC.image) (metadata_of state fC C table es2) (inl tt) (λ sound d some. refl) first.quiet second.quiet;
         marked = λ keeps sound why marked. second.marked (on keeps) (first.quiet.holds keeps sound (inl tt)).0 (behind keeps sound why) (first.marked keeps sound (inl tt) marked);
         lower = omega (arith, le, le');
@@ -233,6 +238,7 @@ module _ {S : Type 0} (state : S → StorageState) (table : TableValue) where
       let metadata : (d : ℕ) → listed (metadata_in (remove es i)) d ≤ listed (metadata_in es) d = λ d. let off = metadata-remove es i d inside in omega (arith, off) in
       let long = length-remove es i inside in
       record {
+        faults = λ whole. (refl, refl);
         quiet = memory-quietly _ (λ _. 0) (λ _. 0) (state before.image) m (record m { pending = remove es i }) (λ sound whole. waits-quiet m (remove es i) sound less metadata);
         marked = λ keeps sound whole marked. marked;
         lower = omega arith;

@@ -4,6 +4,7 @@ use Rattle.std.specs.Prelude.{◌⊎◌, ⊤, IsTrue, not, OnOk, OnErr}
 use Rattle.std.specs.List.{filter, remove, position, position_or_len, prefix_len}
 use Rattle.std.proofs.lemmas.Bool.{cases_Bool, cases_lt, lt-ltb}
 use Rattle.std.proofs.lemmas.List.Quantifiers.{position-Some}
+use Rattle.imago_storage.specs.Calls.{IsFaultless}
 use Rattle.imago_storage.specs.State.{StorageState}
 use Rattle.imago_storage.specs.declared.fault.Fault.{Fault}
 use Rattle.imago_storage.specs.declared.fault.Fault.TheVariants.{Memory, Storage, DamagedTable}
@@ -21,7 +22,7 @@ use Rattle.qcow2_alloc.specs.Caches.{cached_in, order_of, HasRoomOf}
 use Rattle.qcow2_alloc.specs.Finding.{PinsNothing}
 use Rattle.qcow2_alloc.specs.Freeing.{Frees, HasSpareRoom, IsMarked, IsWholeOrCalm, WhyNotFreed, data_in}
 use Rattle.qcow2_alloc.specs.FreeList.{entry_at}
-use Rattle.qcow2_alloc.specs.Going.{Going, Always, IsMild, AreBlocksInReach, CountsWrites, WhyNotWritten}
+use Rattle.qcow2_alloc.specs.Going.{Going, Always, IsMild, AreBlocksInReach, CountsWrites, WhyNotWritten, WasNotCutOff}
 use Rattle.qcow2_alloc.specs.Memory.{Cached, memory, written, written_block}
 use Rattle.qcow2_alloc.specs.Quiet.{Metadata, IsSound, Quietly, metadata_in}
 use Rattle.qcow2_alloc.specs.Safety.{Safe, IsCalm}
@@ -69,11 +70,12 @@ module _ {S : Type 0} (state : S → StorageState) (table : TableValue) (old : M
       subst (λ (h : Header). 0 < count (memory (bytes_of (state after.image).bytes) h.fields (cached_in new)) h.fields d) (sym header) (subst (λ (g : Bytes). 0 < count g before.header.fields d) (sym settled.memory_same) was)
 
   pub announcing-frees : (result : Result Unit Fault) → Goes result → OnOk result (order_of new ≡ RbDependsOnL2) → OnErr result (order_of new ≡ order_of old) → OnOk result ((f : Bytes) (H : Header) → Safe f H (cached_in new) (order_of old) → Safe f H (cached_in new) RbDependsOnL2)
-      → CountsWrites (AreBlocksInReach (cached_in old)) (state before.image).faults (state after.image).faults result → Frees state table old before mark es result new after mark es
-  announcing-frees (Ok done) going order stays safe counts =
+      → CountsWrites (AreBlocksInReach (cached_in old)) (state before.image).faults (state after.image).faults result → (WasNotCutOff result → IsFaultless (state before.image) (state after.image)) → Frees state table old before mark es result new after mark es
+  announcing-frees (Ok done) going order stays safe counts faultless =
       let announced = announced-quietly Old RbDependsOnL2 (Ok tt) (state before.image) (state after.image) (cached_in new) refl going safe in
       let quiet = whole-quietly Old (AreBlocksInReach (cached_in old)) (state before.image).faults (state after.image).faults (Ok tt) (λ _. 0) (λ _. 0) (state before.image) (state after.image) _ (λ reach. reach.1) counts announced in
       record {
+        faults = faultless;
         quiet = quietly-weaker ⊤ _ (λ _. 0) (λ _. 0) (state before.image) Old (state after.image) New (λ sound why. tt)
             (subst (λ (h : Header). Quietly ⊤ (λ _. 0) (λ _. 0) (state before.image) Old (state after.image) (record Old { file = bytes_of (state after.image).bytes; header = h; cached = cached_in new; order = order_of new })) (sym header)
             (subst (λ (o : CacheDependency). Quietly ⊤ (λ _. 0) (λ _. 0) (state before.image) Old (state after.image) (record Old { file = bytes_of (state after.image).bytes; cached = cached_in new; order = o })) (sym order) quiet));
@@ -87,11 +89,12 @@ module _ {S : Type 0} (state : S → StorageState) (table : TableValue) (old : M
         fewer = omega arith;
         cause = counts;
       }
-  announcing-frees (Err fault) going order stays safe why =
+  announcing-frees (Err fault) going order stays safe why faultless =
       let flushed = flushes-quietly Old (Succeeds (Err fault)) (state before.image) (state after.image) (cached_in new) refl going in
       let cut : IsSound Old → IsWholeOrCalm (Err fault) (state before.image) (state after.image) → Succeeds (Err fault) ⊎ IsCalm (state before.image) (state after.image) =
       λ sound why'. elim why' [ inl mild ↦ absurd (never fault sound mild why) | inr calm ↦ inr calm ] in
       record {
+        faults = faultless;
         quiet = quietly-weaker _ _ (λ _. 0) (λ _. 0) (state before.image) Old (state after.image) New cut
             (subst (λ (h : Header). Quietly (Succeeds (Err fault) ⊎ IsCalm (state before.image) (state after.image)) (λ _. 0) (λ _. 0) (state before.image) Old (state after.image) (record Old { file = bytes_of (state after.image).bytes; header = h; cached = cached_in new; order = order_of new })) (sym header)
             (subst (λ (o : CacheDependency). Quietly (Succeeds (Err fault) ⊎ IsCalm (state before.image) (state after.image)) (λ _. 0) (λ _. 0) (state before.image) Old (state after.image) (record Old { file = bytes_of (state after.image).bytes; cached = cached_in new; order = o })) (sym stays) flushed));
@@ -112,6 +115,7 @@ external-dropped state table old before mark es external =
     let m = metadata_of state before old table es in
     let never : IsSound m → ⊥ = (λ sound. let inside = sound.safe.consistent.readable.data_inside in let both = sym external ∙ inside in cc) in
     record {
+      faults = λ whole. (refl, refl);
       quiet = memory-quietly _ (λ _. 0) (λ _. 0) (state before.image) m (record m { pending = [] }) (λ sound whole. absurd (never sound));
       marked = λ keeps sound. absurd (never sound);
       lower = omega arith;

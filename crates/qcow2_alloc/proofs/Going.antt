@@ -2,6 +2,7 @@
 use Rattle.std.proofs.Common.{◌≡◌, ℕ, refl, sym, subst, ◌∙◌, List, [], ◌∷◌, ◌++◌, inl, inr, Option, None, Result, Ok, Err}
 use Rattle.std.specs.Prelude.{IsTrue}
 use Rattle.imago_storage.specs.State.{StorageState, Rose, InStep, Shape}
+use Rattle.imago_storage.specs.Calls.{IsFaultless}
 use Rattle.imago_storage.specs.Through.{Stops}
 use Rattle.imago_storage.proofs.Composing.{keeps_on, no_stops, stops_both, later_same, later_both, rose_before, rose_behind}
 use Rattle.qcow2_types.specs.Bytes.{Bytes, bytes_of}
@@ -14,6 +15,7 @@ use Rattle.std.proofs.lemmas.List.{append_assoc}
 use Rattle.imago_storage.specs.declared.fault.Fault.{Fault}
 use Rattle.qcow2_alloc.specs.declared.async_lru_cache.Slot.{Slot}
 use Rattle.qcow2_alloc.specs.Cache.{FlushedEach, with_value}
+use Rattle.qcow2_alloc.proofs.Faultless.{faultless-then}
 use Rattle.qcow2_alloc.proofs.Turns.{none-later}
 use Rattle.qcow2_alloc.specs.declared.cache.CacheDependency.{CacheDependency}
 use Rattle.qcow2_alloc.specs.Memory.{Cached, memory}
@@ -52,6 +54,7 @@ module _ (H : Header) (order : CacheDependency) (Ready : Cached → Type 0) wher
   going-none ok old cached = record {
     shape = refl;
     later = later_same old;
+    faults = λ o. (refl, refl);
     ready = λ r. r;
     passes = λ keeps safe ready calm. (λ same. same, no_stops _ old old refl refl);
     holds = λ keeps safe ready why. settled-same old.bytes cached safe;
@@ -71,6 +74,7 @@ pub going-both-from : (H : Header) (order : CacheDependency) (Ready Ready' : Cac
 going-both-from H order Ready Ready' ok ok' a b c A B C from stays first second = record {
   shape = second.shape ∙ first.shape;
   later = later_both a b c first.later second.later;
+  faults = λ both. faultless-then (first.faults both.0) (second.faults both.1);
   ready = stays;
   passes = λ keeps safe ready calm.
       let calm-first : Rose a.refusals b.refusals → ⊥ = λ r. calm (rose_before a.refusals b.refusals c.refusals r second.later.refusals) in
@@ -112,16 +116,18 @@ pub going-weaker : (H : Header) (order : CacheDependency) (Ready : Cached → Ty
 going-weaker H order Ready ok ok' a b A B from h = record {
   shape = h.shape;
   later = h.later;
+  faults = λ o. h.faults (from o);
   ready = h.ready;
   passes = h.passes;
   holds = λ keeps safe ready why. h.holds keeps safe ready (elim why [ inl done ↦ inl (from done) | inr calm ↦ inr calm ]);
 }
 
 -- also from what is safe
-pub going-safely : (H : Header) (order : CacheDependency) (Ready : Cached → Type 0) (ok ok' : Type 0) (a b : StorageState) (A B : Cached) → (Safe (bytes_of a.bytes) H A order → ok' → ok) → Going H order Ready ok a A b B → Going H order Ready ok' a A b B
-going-safely H order Ready ok ok' a b A B from h = record {
+pub going-safely : (H : Header) (order : CacheDependency) (Ready : Cached → Type 0) (ok ok' : Type 0) (a b : StorageState) (A B : Cached) → (ok' → IsFaultless a b) → (Safe (bytes_of a.bytes) H A order → ok' → ok) → Going H order Ready ok a A b B → Going H order Ready ok' a A b B
+going-safely H order Ready ok ok' a b A B faultless from h = record {
   shape = h.shape;
   later = h.later;
+  faults = faultless;
   ready = h.ready;
   passes = h.passes;
   holds = λ keeps safe ready why. h.holds keeps safe ready (elim why [ inl done ↦ inl (from safe done) | inr calm ↦ inr calm ]);
@@ -155,6 +161,7 @@ pub going-under : (H : Header) (order : CacheDependency) (P : Type 0) (ok : Type
 going-under H order P ok a b A B h = record {
   shape = h.shape;
   later = h.later;
+  faults = h.faults;
   ready = λ r. r;
   passes = λ keeps safe r. h.passes keeps safe tt;
   holds = λ keeps safe r. h.holds keeps safe tt;
@@ -165,6 +172,7 @@ pub going-now : (H : Header) (order : CacheDependency) (Ready : Cached → Type 
 going-now H order Ready ok a b A B ready h = record {
   shape = h.shape;
   later = h.later;
+  faults = h.faults;
   ready = λ r. tt;
   passes = λ keeps safe r. h.passes keeps safe ready;
   holds = λ keeps safe r. h.holds keeps safe ready;

@@ -24,6 +24,7 @@ use Rattle.qcow2_alloc.specs.MovingTables.{WhyNotGrown}
 use Rattle.qcow2_alloc.specs.Quiet.{Metadata, IsSound}
 use Rattle.qcow2_alloc.proofs.Allocating.{moved-none}
 use Rattle.qcow2_alloc.proofs.AnnouncedOrders.{Announced, no-place-as, grown-as, quiet-behind, sound-behind, raised-behind, caused-behind}
+use Rattle.qcow2_alloc.proofs.Faultless.{faultless-then}
 use Rattle.qcow2_alloc.proofs.FreeingEntries.{failed}
 use Rattle.qcow2_alloc.proofs.Loose.{loose-all}
 use Rattle.qcow2_alloc.proofs.MadeBlocks.{allocated-wider}
@@ -51,6 +52,7 @@ module _ {S : Type 0} (state : S → StorageState) (mark at : ℕ) (table : Tabl
   not-copied fault why = record {
     leaked = λ _. 0;
     leaks = leaks-none _ _ (failed fault);
+    faults = λ whole. (refl, refl);
     quiet = memory-quietly (WasNotCutOff (failed fault)) (λ _. 0) (λ _. 0) (state before.image) Start Start (λ sound whole. (sound, quiet-none Start sound));
     raised = λ keeps sound whole c. inl refl;
     grown = λ keeps sound. tt;
@@ -74,6 +76,7 @@ module _ {S : Type 0} (state : S → StorageState) (mark at : ℕ) (table : Tabl
   not-announced fault first = record {
     leaked = λ _. 0;
     leaks = leaks-none _ _ (failed fault);
+    faults = first.faults;
     quiet = first.quiet;
     raised = λ keeps sound whole c. inl (first.counts keeps sound whole c);
     grown = λ keeps sound. tt;
@@ -129,6 +132,7 @@ module _ {S : Type 0} (state : S → StorageState) (mark at : ℕ) (table : Tabl
     announced-grows = record {
       leaked = grows.leaked;
       leaks = record { none = grows.leaks.none; pinned = λ holds loose. let still = sound-behind state table pending old before mid between first holds.0 holds.1 in grows.leaks.pinned (still.0, first.order, still.1) (first.loose true loose) };
+      faults = λ whole. faultless-then (first.faults tt) (grows.step.faults whole);
       quiet = quiet-behind state table pending old before mid between first (WasNotCutOff result) grows.leaked (state after.image) End grows.step.quiet;
       raised = λ keeps sound whole. let still = sound-behind state table pending old before mid between first keeps sound in
           raised-behind state table pending old before mid between first End keeps sound (grows.step.raised first.order still.0 still.1 whole);

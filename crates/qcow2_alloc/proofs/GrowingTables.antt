@@ -31,6 +31,7 @@ use Rattle.qcow2_alloc.specs.MovingTables.{clusters_of, IsPlan, WhyNotGrown, Why
 use Rattle.qcow2_alloc.specs.Quiet.{Metadata, counted, IsSound, Quietly}
 use Rattle.qcow2_alloc.specs.SearchingClusters.{IsSafeWith, Looked}
 use Rattle.qcow2_alloc.proofs.Allocating.{moved-none, allocating-none, allocating-as}
+use Rattle.qcow2_alloc.proofs.Faultless.{faultless-then}
 use Rattle.qcow2_alloc.proofs.FreeClusters.{flushes-count}
 use Rattle.qcow2_alloc.proofs.FreeingEntries.{failed}
 use Rattle.qcow2_alloc.proofs.Loose.{loose-all}
@@ -58,6 +59,7 @@ module _ {S T : Type 0} (state : S → StorageState) (table : TableValue) (pendi
 
   pub looked-allocates : Allocating state (WasNotCutOff result) (λ _. 0) table old before pending table C fC pending
   looked-allocates = record {
+    faults = looked.going.faults;
     quiet = λ order. moved (λ m. Quietly (WasNotCutOff result) (λ _. 0) (λ _. 0) (state before.image) m0 (state fC.image) m)
         (going-quietly m0 (WasNotCutOff result) (state before.image) (state fC.image) (cached_in C) refl looked.going);
     raised = λ order keeps sound whole c. inl (looked-counts keeps sound whole c);
@@ -242,6 +244,7 @@ module _ {S : Type 0} (state : S → StorageState) (mark at : ℕ) (table : Tabl
         leaked = filled.leaked;
         leaks = record { none = filled.leaks.none; pinned = λ holds loose. filled.leaks.pinned (was-on holds) (looked.loose true loose) };
         step = record {
+          faults = λ whole. faultless-then (one.faults tt) (filled.faults whole);
           quiet = λ order. quietly-given (WasNotCutOff result) filled.leaked (λ _. 0) (state before.image) start (state fD.image) end (filled.shape ∙ looked.going.shape) (later_both _ _ _ looked.going.later filled.later) (λ keeps sound.
               quietly-otherwise (WasNotCutOff result) (λ c. 0 + filled.leaked c) (λ c. 0 + 0) filled.leaked (λ _. 0) (state before.image) start (state fD.image) end (λ s c. omega arith) (λ s c used none. refl)
               (quietly-then-given ⊤ (WasNotCutOff result) (λ _. 0) (λ _. 0) filled.leaked (λ _. 0) (state before.image) start (state fC.image) mid (state fD.image) end tt (λ s c some. refl) (one.quiet order) filled.shape filled.later

@@ -30,6 +30,7 @@ use Rattle.qcow2_alloc.proofs.Allocating.{moved-none}
 use Rattle.qcow2_alloc.proofs.AnnouncedOrders.{Announced, no-place-as, room-as, quiet-behind, sound-behind, raised-behind, marked-behind, caused-behind}
 use Rattle.qcow2_alloc.proofs.CountingOne.{not_handed}
 use Rattle.qcow2_alloc.proofs.EnsuringBlocks.{why-allocated-wider}
+use Rattle.qcow2_alloc.proofs.Faultless.{faultless-then}
 use Rattle.qcow2_alloc.proofs.FreeingEntries.{failed}
 use Rattle.qcow2_alloc.proofs.FreeingRest.{rest-all, rest-none}
 use Rattle.qcow2_alloc.proofs.GrowingReftables.{shape-behind}
@@ -52,6 +53,7 @@ module _ {S : Type 0} (state : S → StorageState) (mark cluster : ℕ) (table :
   at-not-announced fault first = record {
     leaked = λ _. 0;
     leaks = leaks-none _ _ (not_handed fault);
+    faults = first.faults;
     quiet = first.quiet;
     raised = λ keeps sound whole c. inl (first.counts keeps sound whole c);
     one = tt;
@@ -115,6 +117,7 @@ module _ {S : Type 0} (state : S → StorageState) (mark cluster : ℕ) (table :
     at-announced = record {
       leaked = at.did.leaked;
       leaks = record { none = at.did.leaks.none; pinned = λ holds loose. let still = sound-behind state table pending old before mid between first holds.0 holds.1 in at.did.leaks.pinned (still.0, first.order, still.1) (first.loose true loose) };
+      faults = λ whole. faultless-then (first.faults tt) (at.did.step.faults whole);
       quiet = quiet-behind state table pending old before mid between first (WasNotCutOff result) (handed_at result at.did.leaked) (state after.image) End at.did.step.quiet;
       raised = λ keeps sound whole. let still = sound-behind state table pending old before mid between first keeps sound in
           raised-behind state table pending old before mid between first End keeps sound (at.did.step.raised first.order still.0 still.1 whole);
@@ -136,6 +139,7 @@ memory-unfreed : {S : Type 0} (state : S → StorageState) (table : TableValue) 
 memory-unfreed state table old before mark pending =
     let m = metadata_of state before old table pending in
     record {
+      faults = λ whole. absurd whole;
       quiet = memory-quietly _ (λ _. 0) (λ _. 0) (state before.image) m m (λ sound whole. (sound, quiet-none m sound));
       marked = λ keeps sound whole marked. marked;
       lower = omega arith;
@@ -180,6 +184,7 @@ module _ {S : Type 0} (state : S → StorageState) (mark n : ℕ) (metadata : Bo
     run-not-freed = record {
       leaked = λ _. 0;
       leaks = leaks-none _ _ (refused_run fault);
+      faults = frees.faults;
       quiet = quietly-weaker _ (WasNotCutOff (refused_run fault)) (λ _. 0) (λ _. 0) (state before.image) First (state fA.image) Rest (λ sound whole. inl whole) frees.quiet;
       run = tt;
       unnamed = λ keeps sound. tt;
@@ -245,6 +250,7 @@ module _ {S : Type 0} (state : S → StorageState) (mark n : ℕ) (metadata : Bo
     run-not-announced fault second = record {
       leaked = λ _. 0;
       leaks = leaks-none _ _ (refused_run fault);
+      faults = λ mild. faultless-then (frees.faults tt) (second.faults mild);
       quiet = quiet;
       run = tt;
       unnamed = λ keeps sound. tt;
@@ -369,6 +375,7 @@ module _ {S : Type 0} (state : S → StorageState) (mark n : ℕ) (metadata : Bo
       run-announced = record {
         leaked = third.leaked;
         leaks = record { none = third.leaks.none; pinned = λ holds loose. let still = ready-sound holds.0 holds.1 in third.leaks.pinned (still.0, second.order, still.1) (second.loose true (freed-loose true loose)) };
+        faults = λ whole. faultless-then (frees.faults tt) (faultless-then (second.faults tt) (third.step.faults whole));
         quiet = quiet-on (WasNotCutOff result) (handed_by result third.leaked) (state after.image) Last
             (quiet-behind state table [] A fA B fB second (WasNotCutOff result) (handed_by result third.leaked) (state after.image) Last third.step.quiet);
         run = runs;

@@ -5,7 +5,7 @@ use Rattle.std.specs.List.{AllByRecursion}
 use Rattle.std.specs.Map.{lookup}
 use Rattle.std.proofs.lemmas.Bool.{cases_lt}
 use Rattle.imago_storage.specs.State.{StorageState}
-use Rattle.imago_storage.specs.Calls.{Kept}
+use Rattle.imago_storage.specs.Calls.{Kept, IsFaultless}
 use Rattle.imago_storage.specs.declared.fault.Fault.{Fault}
 use Rattle.imago_storage.specs.declared.fault.Fault.TheVariants.{Memory, Storage, DamagedTable}
 use Rattle.qcow2_types.specs.Bytes.{bytes_of}
@@ -58,14 +58,14 @@ module _ (H : Header) (order : CacheDependency) (tables : List (ℕ × Slot Tabl
 
   block-put : (s : StorageState) (es : List (ℕ × Slot Block)) → lookup (nat_eq key) es ≡ None → Going H order (Fits s) ⊤ s (put es) s (put ((key, record { value = value; pins = 0 }) ∷ es))
   block-put s es none =
-      going-quiet H order (Fits s) ⊤ s s (put es) (put ((key, record { value = value; pins = 0 }) ∷ es)) (kept-same s) (omega arith) (λ r. r)
+      going-quiet H order (Fits s) ⊤ s s (put es) (put ((key, record { value = value; pins = 0 }) ∷ es)) (kept-same s) (omega arith) (λ o. refl) (λ r. r)
       (λ fits safe. block-comes-safe (bytes_of s.bytes) H order tables [] key (record { value = value; pins = 0 }) [] es fits.0 (away-of-all key es none) fits.1 safe)
       (λ fits. block-comes (bytes_of s.bytes) H order tables [] key (record { value = value; pins = 0 }) [] es fits.0)
 
   block-replaced : (s : StorageState) (front : List (ℕ × Slot Block)) (slot : Slot Block) (back : List (ℕ × Slot Block)) → slot.value.modified ≡ false
       → Going H order (Fits s) ⊤ s (put (front ++ (key, slot) ∷ back)) s (put ((key, record slot { value = value }) ∷ front ++ back))
   block-replaced s front slot back off =
-      going-quiet H order (Fits s) ⊤ s s (put (front ++ (key, slot) ∷ back)) (put ((key, record slot { value = value }) ∷ front ++ back)) (kept-same s) (omega arith) (λ r. r)
+      going-quiet H order (Fits s) ⊤ s s (put (front ++ (key, slot) ∷ back)) (put ((key, record slot { value = value }) ∷ front ++ back)) (kept-same s) (omega arith) (λ o. refl) (λ r. r)
       (λ fits safe. block-comes-safe (bytes_of s.bytes) H order tables [] key (record slot { value = value }) [] (front ++ back) fits.0 (away-of front key slot back safe.blocks_apart) fits.1 (block-leaves-safe (bytes_of s.bytes) H order tables front key slot back off safe))
       (λ fits. block-comes (bytes_of s.bytes) H order tables [] key (record slot { value = value }) [] (front ++ back) fits.0 ∙ block-leaves (bytes_of s.bytes) H order tables front key slot back off)
 
@@ -193,7 +193,7 @@ module _ {S : Type 0} (state : S → StorageState) (cluster : ℕ) (block : Bloc
                     | inl stays ↦ subst (λ (l : List (ℕ × Slot Block)). Going before.header (order_of old) (λ _. IsNewBlock (bytes_of (state before.image).bytes) before.header.fields cluster block old.rb.slots.entries) (WasNotCutOff (refusal_of (put_of result))) (state before.image) (cached_in old) (state before.image) (record { blocks = l; tables = old.l2.slots.entries })) (sym stays)
                         (going-none before.header (order_of old) _ (WasNotCutOff (refusal_of (put_of result))) (state before.image) (cached_in old))
                     | inr comes ↦ subst (λ (l : List (ℕ × Slot Block)). Going before.header (order_of old) (λ _. IsNewBlock (bytes_of (state before.image).bytes) before.header.fields cluster block old.rb.slots.entries) (WasNotCutOff (refusal_of (put_of result))) (state before.image) (cached_in old) (state before.image) (record { blocks = l; tables = old.l2.slots.entries })) (sym comes.0)
-                        (going-quiet before.header (order_of old) _ (WasNotCutOff (refusal_of (put_of result))) (state before.image) (state before.image) (cached_in old) _ (kept-same (state before.image)) (omega arith) (λ r. r)
+                        (going-quiet before.header (order_of old) _ (WasNotCutOff (refusal_of (put_of result))) (state before.image) (state before.image) (cached_in old) _ (kept-same (state before.image)) (omega arith) (λ o. refl) (λ r. r)
                         (λ fresh safe. block-comes-safe (bytes_of (state before.image).bytes) before.header (order_of old) old.l2.slots.entries [] cluster (record { value = block; pins = 0 }) [] old.rb.slots.entries fresh.clean (away-of-all cluster old.rb.slots.entries q.absent) fresh.fits safe)
                         (λ fresh. block-comes (bytes_of (state before.image).bytes) before.header (order_of old) old.l2.slots.entries [] cluster (record { value = block; pins = 0 }) [] old.rb.slots.entries fresh.clean))
                   ]);
@@ -304,12 +304,13 @@ module _ {S : Type 0} (state : S → StorageState) (cluster : ℕ) (block : Bloc
 
     pub block-put-halted : (fault : Fault) → Going before.header (order_of old) Always (failed fault ≡ Ok tt) (state before.image) (cached_in old) (state between.image) (cached_in mid)
         → CountsWrites (AreTablesInReach (cached_in old)) (state before.image).faults (state between.image).faults (Err fault)
+        → (IsMild fault → IsFaultless (state before.image) (state between.image))
         → ((order_of old ≡ RbDependsOnL2 → ⊥) → ⊥) → (order_of old ≡ RbDependsOnL2 → WritesTables (state before.image) (cached_in old) (Err fault) (state between.image) (cached_in mid)) → BlockInserted state block cluster old before (Err (fault, block)) mid between
-    block-put-halted fault going why some did =
+    block-put-halted fault going why faultless some did =
         let blocks : (cached_in mid).blocks ≡ (cached_in old).blocks = ap (λ (m : MetadataCaches S). (cached_in m).blocks) same in
         record {
           going = going-under before.header (order_of old) Fresh (IsMild fault) (state before.image) (state between.image) (cached_in old) (cached_in mid)
-              (going-safely before.header (order_of old) Always (failed fault ≡ Ok tt) (IsMild fault) _ _ _ _ (λ safe mild. absurd (never fault safe mild why)) going);
+              (going-safely before.header (order_of old) Always (failed fault ≡ Ok tt) (IsMild fault) _ _ _ _ faultless (λ safe mild. absurd (never fault safe mild why)) going);
           put = record { over = λ there. tt; added = λ none. tt; refused = (refl, inl (ap (λ l. map written_block l) blocks)); pinned = pins-none (cached_in old).blocks (cached_in mid).blocks blocks };
           flushed = λ k slot way there. tt;
           roomy = not-roomy;

@@ -5,7 +5,7 @@ use Rattle.std.specs.List.{AllByRecursion}
 use Rattle.std.specs.Map.{lookup}
 use Rattle.std.proofs.lemmas.Bool.{cases_lt}
 use Rattle.imago_storage.specs.State.{StorageState}
-use Rattle.imago_storage.specs.Calls.{Kept}
+use Rattle.imago_storage.specs.Calls.{Kept, IsFaultless}
 use Rattle.imago_storage.specs.declared.fault.Fault.{Fault}
 use Rattle.imago_storage.specs.declared.fault.Fault.TheVariants.{Memory, Storage, DamagedTable}
 use Rattle.qcow2_types.specs.Bytes.{bytes_of}
@@ -56,14 +56,14 @@ module _ (H : Header) (order : CacheDependency) (blocks : List (ℕ × Slot Bloc
 
   table-put : (s : StorageState) (es : List (ℕ × Slot TableValue)) → lookup (nat_eq key) es ≡ None → Going H order (Fits s) ⊤ s (put es) s (put ((key, record { value = value; pins = 0 }) ∷ es))
   table-put s es none =
-      going-quiet H order (Fits s) ⊤ s s (put es) (put ((key, record { value = value; pins = 0 }) ∷ es)) (kept-same s) (omega arith) (λ r. r)
+      going-quiet H order (Fits s) ⊤ s s (put es) (put ((key, record { value = value; pins = 0 }) ∷ es)) (kept-same s) (omega arith) (λ o. refl) (λ r. r)
       (λ fits safe. table-comes-safe (bytes_of s.bytes) H order [] key (record { value = value; pins = 0 }) [] blocks es fits.0 (away-of-all key es none) fits.1 safe)
       (λ fits. table-comes (bytes_of s.bytes) H order [] key (record { value = value; pins = 0 }) [] blocks es fits.0)
 
   table-replaced : (s : StorageState) (front : List (ℕ × Slot TableValue)) (slot : Slot TableValue) (back : List (ℕ × Slot TableValue)) → slot.value.modified ≡ false
       → Going H order (Fits s) ⊤ s (put (front ++ (key, slot) ∷ back)) s (put ((key, record slot { value = value }) ∷ front ++ back))
   table-replaced s front slot back off =
-      going-quiet H order (Fits s) ⊤ s s (put (front ++ (key, slot) ∷ back)) (put ((key, record slot { value = value }) ∷ front ++ back)) (kept-same s) (omega arith) (λ r. r)
+      going-quiet H order (Fits s) ⊤ s s (put (front ++ (key, slot) ∷ back)) (put ((key, record slot { value = value }) ∷ front ++ back)) (kept-same s) (omega arith) (λ o. refl) (λ r. r)
       (λ fits safe. table-comes-safe (bytes_of s.bytes) H order [] key (record slot { value = value }) [] blocks (front ++ back) fits.0 (away-of front key slot back safe.tables_apart) fits.1 (table-leaves-safe (bytes_of s.bytes) H order front key slot back blocks off safe))
       (λ fits. table-comes (bytes_of s.bytes) H order [] key (record slot { value = value }) [] blocks (front ++ back) fits.0 ∙ table-leaves (bytes_of s.bytes) H order front key slot back blocks off)
 
@@ -191,7 +191,7 @@ module _ {S : Type 0} (state : S → StorageState) (cluster : ℕ) (table : Tabl
                     | inl stays ↦ subst (λ (l : List (ℕ × Slot TableValue)). Going before.header (order_of old) (λ _. IsNewTable (bytes_of (state before.image).bytes) before.header.fields cluster table old.l2.slots.entries) (WasNotCutOff (refusal_of (put_of result))) (state before.image) (cached_in old) (state before.image) (record { tables = l; blocks = old.rb.slots.entries })) (sym stays)
                         (going-none before.header (order_of old) _ (WasNotCutOff (refusal_of (put_of result))) (state before.image) (cached_in old))
                     | inr comes ↦ subst (λ (l : List (ℕ × Slot TableValue)). Going before.header (order_of old) (λ _. IsNewTable (bytes_of (state before.image).bytes) before.header.fields cluster table old.l2.slots.entries) (WasNotCutOff (refusal_of (put_of result))) (state before.image) (cached_in old) (state before.image) (record { tables = l; blocks = old.rb.slots.entries })) (sym comes.0)
-                        (going-quiet before.header (order_of old) _ (WasNotCutOff (refusal_of (put_of result))) (state before.image) (state before.image) (cached_in old) _ (kept-same (state before.image)) (omega arith) (λ r. r)
+                        (going-quiet before.header (order_of old) _ (WasNotCutOff (refusal_of (put_of result))) (state before.image) (state before.image) (cached_in old) _ (kept-same (state before.image)) (omega arith) (λ o. refl) (λ r. r)
                         (λ fresh safe. table-comes-safe (bytes_of (state before.image).bytes) before.header (order_of old) [] cluster (record { value = table; pins = 0 }) [] old.rb.slots.entries old.l2.slots.entries fresh.clean (away-of-all cluster old.l2.slots.entries q.absent) fresh.fits safe)
                         (λ fresh. table-comes (bytes_of (state before.image).bytes) before.header (order_of old) [] cluster (record { value = table; pins = 0 }) [] old.rb.slots.entries old.l2.slots.entries fresh.clean))
                   ]);
@@ -302,12 +302,13 @@ module _ {S : Type 0} (state : S → StorageState) (cluster : ℕ) (table : Tabl
 
     pub table-put-halted : (fault : Fault) → Going before.header (order_of old) Always (failed fault ≡ Ok tt) (state before.image) (cached_in old) (state between.image) (cached_in mid)
         → CountsWrites (AreBlocksInReach (cached_in old)) (state before.image).faults (state between.image).faults (Err fault)
+        → (IsMild fault → IsFaultless (state before.image) (state between.image))
         → ((order_of old ≡ L2DependsOnRb → ⊥) → ⊥) → (order_of old ≡ L2DependsOnRb → WritesBlocks (state before.image) (cached_in old) (Err fault) (state between.image) (cached_in mid)) → TableInserted state table cluster old before (Err (fault, table)) mid between
-    table-put-halted fault going why some did =
+    table-put-halted fault going why faultless some did =
         let tables : (cached_in mid).tables ≡ (cached_in old).tables = ap (λ (m : MetadataCaches S). (cached_in m).tables) same in
         record {
           going = going-under before.header (order_of old) Fresh (IsMild fault) (state before.image) (state between.image) (cached_in old) (cached_in mid)
-              (going-safely before.header (order_of old) Always (failed fault ≡ Ok tt) (IsMild fault) _ _ _ _ (λ safe mild. absurd (never fault safe mild why)) going);
+              (going-safely before.header (order_of old) Always (failed fault ≡ Ok tt) (IsMild fault) _ _ _ _ faultless (λ safe mild. absurd (never fault safe mild why)) going);
           put = record { over = λ there. tt; added = λ none. tt; refused = (refl, inl (ap (λ l. map written_table l) tables)); pinned = pins-none (cached_in old).tables (cached_in mid).tables tables };
           flushed = λ k slot way there. tt;
           roomy = not-roomy;

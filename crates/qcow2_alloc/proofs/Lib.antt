@@ -9,6 +9,7 @@ pub mod Listed
 pub mod CachedBlocks
 pub mod WritingBlocks
 pub mod Going
+pub mod Faultless
 pub mod FlushingTables
 pub mod FlushingBlocks
 pub mod Announcing

@@ -31,6 +31,7 @@ use Rattle.qcow2_alloc.specs.Allocators.{IsTablePlaced, LoadsAllocator, table_of
 use Rattle.qcow2_alloc.specs.Opening.{IsL1Of, opened}
 use Rattle.qcow2_alloc.specs.Quiet.{IsSound, IsTableOf}
 use Rattle.qcow2_alloc.proofs.Empty.{empty-safe}
+use Rattle.qcow2_alloc.proofs.FindingTables.{load-counted}
 use Rattle.qcow2_alloc.proofs.Patches.{shaped-in}
 use Rattle.qcow2_alloc.proofs.QuietEntries.{safe-sound}
 
@@ -81,7 +82,7 @@ table-loaded old h cluster entries a table new from is same mark kept faults =
       out = λ no. absurd (no from.placed);
       err = λ placed. tt;
       kept = kept;
-      faults = faults;
+      faults = λ whole. (faults, kept.refusals);
     }
 
 pub table-not-loaded : (old : StorageState) (h : Fields) (cluster entries : ℕ) (fault : Fault) (new : StorageState) → IsLoadedFrom h cluster entries → WhyNotLoaded block_words (layout_of h) (words_in (bytes_of old.bytes) (cluster * cluster_size h) entries) old.faults new.faults fault → Kept old new
@@ -94,7 +95,7 @@ table-not-loaded old h cluster entries fault new from why kept = record {
       (subst (λ n. WhyNotLoaded block_words (layout_of h) (words_in (bytes_of old.bytes) (h.refcount_table_offset / cluster_size h * cluster_size h) n) old.faults new.faults fault) from.entries_are
       (subst (λ n. WhyNotLoaded block_words (layout_of h) (words_in (bytes_of old.bytes) (n * cluster_size h) entries) old.faults new.faults fault) from.cluster_is why));
   kept = kept;
-  faults = tt;
+  faults = λ mild. (load-counted block_words (layout_of h) (words_in (bytes_of old.bytes) (cluster * cluster_size h) entries) old.faults new.faults fault why mild, kept.refusals);
 }
 
 -- What a checker accepts is consistent by whatever header loads from it.

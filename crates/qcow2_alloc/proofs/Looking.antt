@@ -51,6 +51,7 @@ going-used : (H : Header) (order : CacheDependency) (s : StorageState) (cached c
 going-used H order s cached cached' stays = record {
   shape = refl;
   later = later_same s;
+  faults = λ done. (refl, refl);
   ready = λ r. r;
   passes = λ keeps safe ready calm. (λ same. same, no_stops _ s s refl refl);
   holds = λ keeps safe ready why. let stay = stays safe in

@@ -50,6 +50,7 @@ module _ {S : Type 0} (state : S → StorageState) (table : TableValue) (pending
 
     pub looked-allocates : Allocating state (WasNotCutOff result) (λ _. 0) table old before pending table new after pending
     looked-allocates = record {
+      faults = looked.going.faults;
       quiet = λ order. moved (λ m. Quietly (WasNotCutOff result) (λ _. 0) (λ _. 0) (state before.image) Old (state after.image) m) (going-quietly Old (WasNotCutOff result) (state before.image) (state after.image) (cached_in new) refl looked.going);
       raised = λ order keeps sound whole c. inl (counts-looked keeps sound whole c);
       order = looked.order;

@@ -6,7 +6,7 @@ use Rattle.std.specs.Map.{lookup}
 use Rattle.std.proofs.lemmas.List.{length-set, get_or-set_same, get_or-set_other}
 use Rattle.std.proofs.lemmas.Nat.{pow_pos}
 use Rattle.imago_storage.specs.State.{StorageState, Rose}
-use Rattle.imago_storage.specs.Calls.{Cause, Later}
+use Rattle.imago_storage.specs.Calls.{Cause, Later, IsFaultless}
 use Rattle.imago_storage.specs.Through.{Put, PutAtOnce}
 use Rattle.imago_storage.specs.declared.fault.Fault.{Fault}
 use Rattle.imago_storage.specs.declared.fault.Fault.TheVariants.{Memory, Storage, DamagedTable, CacheFull, Counter, Limit}
@@ -39,7 +39,7 @@ use Rattle.qcow2_alloc.specs.MakingRoom.{with_block}
 use Rattle.qcow2_alloc.specs.Quiet.{Metadata, in_memory, counted, IsUsed, IsSound, Quietly, named_at_all}
 use Rattle.qcow2_alloc.proofs.Allocating.{raised-then}
 use Rattle.qcow2_alloc.proofs.AtOnce.{put-done}
-use Rattle.qcow2_alloc.proofs.FlushingTables.{never-mild}
+use Rattle.qcow2_alloc.proofs.Faultless.{never-mild, faultless-then, put-faultless}
 use Rattle.qcow2_alloc.proofs.Forgetting.{never-unnamed}
 use Rattle.qcow2_alloc.proofs.FreeingEntries.{failed}
 use Rattle.qcow2_alloc.proofs.Loose.{StaysLoose, loose-named, name-kept}
@@ -130,6 +130,7 @@ module _ {S : Type 0} (state : S → StorageState) (i d : ℕ) (counters : List 
   pub record Ends (ready : Type 0) (taken : ℕ → ℕ) (result : Result Unit Fault) (table' : TableValue) (after : StorageState) : Type 0 where
     pub shape : after.shape ≡ (state fC.image).shape
     pub later : Later (state fC.image) after
+    pub faults : WasNotCutOff result → IsFaultless (state fC.image) after
     pub quiet : IsTrue (state fC.image).shape.keeps → ready → Quietly (WasNotCutOff result) (λ _. 0) taken (state fC.image) mC after (record mC { file = bytes_of after.bytes; table = table' })
     pub raised : IsTrue (state fC.image).shape.keeps → IsSound mC → ready → WasNotCutOff result → OnlyRaised mC (record mC { file = bytes_of after.bytes; table = table' })
     pub named : NamedAt table i d result table'
@@ -147,6 +148,7 @@ module _ {S : Type 0} (state : S → StorageState) (i d : ℕ) (counters : List 
         record {
           shape = put.put.put.shape;
           later = put.put.put.later;
+          faults = λ mild. absurd (never-mild _ _ fault cause mild);
           quiet = λ keeps r. let q = written r mid done put in record { shape = q.shape; later = q.later; passes = q.passes; holds = λ k sound mild. absurd (never-mild _ _ fault cause mild) };
           raised = λ keeps sound r mild. absurd (never-mild _ _ fault cause mild);
           named = refused-named table i d fault;
@@ -166,6 +168,7 @@ module _ {S : Type 0} (state : S → StorageState) (i d : ℕ) (counters : List 
         record {
           shape = names.put.shape ∙ put.put.put.shape;
           later = later_both (state fC.image) mid new put.put.put.later names.put.later;
+          faults = λ whole. faultless-then (put-faultless (state fC.image) mid (d * cluster_size fC.header.fields) put.bytes done put.put.put (subst (λ (r : Result Unit Fault). WasNotCutOff r) (sym is) tt)) (put-faultless mid new _ _ result names.put whole);
           quiet = λ keeps r. quietly-weaker (result ≡ Ok tt) (WasNotCutOff result) (λ _. 0) taken (state fC.image) mC new (with_block mC i d modified (bytes_of new.bytes)) (λ sound whole. end whole) (named r modified mid new done is put result names).0;
           raised = λ keeps sound r whole. (named r modified mid new done is put result names).1 keeps sound (end whole);
           named = word-named table i d fC.header.fields.cluster_bits result modified inside low some reach;
@@ -242,7 +245,7 @@ module _ {S : Type 0} (state : S → StorageState) (i : ℕ) (table : TableValue
     later = later_same (state before.image);
     quiet = λ order. memory-quietly ⊤ (λ _. 0) (λ _. 0) (state before.image) m0 m0 (λ sound done. (sound, quiet-none m0 sound));
     raised = λ order keeps sound c. inl refl;
-    faults = refl;
+    faults = (refl, refl);
     header = refl;
     order = refl;
     loose = λ any loose. loose;
@@ -253,6 +256,7 @@ module _ {S : Type 0} (state : S → StorageState) (i : ℕ) (table : TableValue
   pub record Follows (ok : Type 0) (more : ℕ → ℕ) (C : MetadataCaches S) (fC : ImageFile S) (D : MetadataCaches S) (fD : ImageFile S) : Type 0 where
     pub shape : (state fD.image).shape ≡ (state fC.image).shape
     pub later : Later (state fC.image) (state fD.image)
+    pub faults : ok → IsFaultless (state fC.image) (state fD.image)
     pub quiet : order_of old ≡ L2DependsOnRb → IsTrue (state before.image).shape.keeps → IsSound m0 → IsSound (metadata_of state fC C table pending)
         → Quietly ok more (λ _. 0) (state fC.image) (metadata_of state fC C table pending) (state fD.image) (metadata_of state fD D table pending)
     pub raised : order_of old ≡ L2DependsOnRb → IsTrue (state before.image).shape.keeps → IsSound m0 → IsSound (metadata_of state fC C table pending) → ok → OnlyRaised (metadata_of state fC C table pending) (metadata_of state fD D table pending)
@@ -275,13 +279,13 @@ module _ {S : Type 0} (state : S → StorageState) (i : ℕ) (table : TableValue
     both-raised ok follows order keeps sound done =
         raised-then m0 mB mD (begins.raised order keeps sound) (follows.raised order keeps sound ((begins.quiet order).holds keeps sound tt).0 done)
 
-    pub begins-then : (all : ℕ → ℕ) → ((c : ℕ) → handed c + more c ≡ all c) → Follows ⊤ more C fC D fD → (state fD.image).faults ≡ (state fC.image).faults → Begins state table pending old before all D fD
-    begins-then all sum follows faults = record {
+    pub begins-then : (all : ℕ → ℕ) → ((c : ℕ) → handed c + more c ≡ all c) → Follows ⊤ more C fC D fD → Begins state table pending old before all D fD
+    begins-then all sum follows = record {
       shape = follows.shape ∙ begins.shape;
       later = later_both _ _ _ begins.later follows.later;
       quiet = λ order. quietly-otherwise ⊤ (λ c. handed c + more c) (λ _. 0 + 0) all (λ _. 0) (state before.image) m0 (state fD.image) mD (λ s c. let is = sum c in omega (arith, is)) (λ s c used none. omega arith) (both-quietly ⊤ follows order);
       raised = λ order keeps sound. both-raised ⊤ follows order keeps sound tt;
-      faults = faults ∙ begins.faults;
+      faults = faultless-then begins.faults (follows.faults tt);
       header = follows.stays.header ∙ begins.header;
       order = follows.stays.order ∙ begins.order;
       loose = λ any loose. follows.stays.loose any (begins.loose any loose);
@@ -293,6 +297,7 @@ module _ {S : Type 0} (state : S → StorageState) (i : ℕ) (table : TableValue
         → (order_of old ≡ L2DependsOnRb → IsTrue (state before.image).shape.keeps → IsSound m0 → WasNotCutOff (failed fault) → (c : ℕ) → handed c + more c ≡ 0)
         → WhyNotAllocated Holds (IsLoose table old) Full (state before.image).faults (state fD.image).faults fault → MakesBlock state i table old before (Err fault) table D fD pending
     begins-refused fault follows none why = record {
+      faults = λ whole. faultless-then begins.faults (follows.faults whole);
       quiet = λ order.
           let q = both-quietly (WasNotCutOff (failed fault)) follows order in
           record {
@@ -327,12 +332,13 @@ module _ {S : Type 0} (state : S → StorageState) (i : ℕ) (table : TableValue
         (record {
           shape = refl;
           later = later_same (state fC.image);
+          faults = λ whole. (refl, refl);
           quiet = λ order keeps sound s. memory-quietly (WasNotCutOff (failed fault)) (λ _. 0) (λ _. 0) (state fC.image) mU mU (λ s' whole. (s', quiet-none mU s'));
           raised = λ order keeps sound s whole c. inl refl;
           stays = record { header = refl; order = refl; loose = λ any loose. loose; room = record { tables = refl; blocks = refl; entries = refl } };
         })
         (λ order keeps sound whole c. omega arith)
-        (subst (λ n. WhyNotAllocated Holds (IsLoose table old) Full (state before.image).faults n fault) (sym begins.faults) why)
+        (subst (λ n. WhyNotAllocated Holds (IsLoose table old) Full (state before.image).faults n fault) (sym begins.faults.0) why)
 
     -- for want of memory,
     pub unmade-memory : (fault : Fault) → fault ≡ Memory → MakesBlock state i table old before (Err fault) table C fC pending
@@ -363,6 +369,7 @@ module _ {S : Type 0} (state : S → StorageState) (i : ℕ) (table : TableValue
   pub begins-makes : (C : MetadataCaches S) (fC : ImageFile S) → Begins state table pending old before (λ _. 0) C fC → (result : Result Unit Fault) (table' : TableValue) (new : MetadataCaches S) (after : ImageFile S)
       → MakesBlock state i table C fC result table' new after pending → MakesBlock state i table old before result table' new after pending
   begins-makes C fC begins result table' new after makes = record {
+    faults = λ whole. faultless-then begins.faults (makes.faults whole);
     quiet = λ order. quietly-then ⊤ (WasNotCutOff result) (λ _. 0) (λ _. 0) (λ _. 0) (λ _. 0) (state before.image) m0 (state fC.image) (metadata_of state fC C table pending) (state after.image) (metadata_of state after new table' pending) tt (λ s c some. refl)
         (begins.quiet order) (makes.quiet (begins.order ∙ order));
     raised = λ order keeps sound whole. raised-then m0 (metadata_of state fC C table pending) (metadata_of state after new table' pending) (begins.raised order keeps sound)
@@ -377,7 +384,7 @@ module _ {S : Type 0} (state : S → StorageState) (i : ℕ) (table : TableValue
     loose = λ any loose. makes.loose any (begins.loose any loose);
     room = record { tables = makes.room.tables ∙ begins.room.tables; blocks = makes.room.blocks ∙ begins.room.blocks; entries = makes.room.entries ∙ begins.room.entries };
     cause = cause-then _ _ _ _ _ _ _ _ _ (λ holds. (on holds.0, begins.order ∙ holds.1, ((begins.quiet holds.1).holds holds.0 holds.2 tt).0)) begins.loose
-        (λ number full. subst (λ (h : Header). (number ≤ i * counters_of_block h.fields) × (IsInReach h.fields.cluster_bits number → ⊥)) begins.header full) begins.faults result makes.cause;
+        (λ number full. subst (λ (h : Header). (number ≤ i * counters_of_block h.fields) × (IsInReach h.fields.cluster_bits number → ⊥)) begins.header full) begins.faults.0 result makes.cause;
   }
     where
       on : IsTrue (state before.image).shape.keeps → IsTrue (state fC.image).shape.keeps
@@ -393,6 +400,7 @@ module _ {S : Type 0} (state : S → StorageState) (i : ℕ) (table : TableValue
     pub made : block_offset (slice_index table.words i) ≡ 0 → (result : Result Unit Fault) (table' : TableValue) (after : ImageFile S) → after.header ≡ fC.header → Ends state i d counters table C fC pending ready both result table' (state after.image)
         → MakesBlock state i table old before result table' C after pending
     made empty result table' after header ends = record {
+      faults = λ whole. faultless-then begins.faults (ends.faults whole);
       quiet = λ order.
           quietly-given (WasNotCutOff result) (λ _. 0) (λ _. 0) (state before.image) m0 (state after.image) (metadata_of state after C table' pending) (ends.shape ∙ begins.shape) (later_both _ _ _ begins.later ends.later) (λ keeps sound.
           quietly-otherwise (WasNotCutOff result) (λ c. both c + 0) (λ c. 0 + both c) (λ _. 0) (λ _. 0) (state before.image) m0 (state after.image) (metadata_of state after C table' pending) (λ s c. omega arith)
@@ -412,7 +420,7 @@ module _ {S : Type 0} (state : S → StorageState) (i : ℕ) (table : TableValue
       header = header ∙ begins.header;
       loose = λ any loose. loose-named table table' C kept any (begins.loose any loose);
       room = begins.room;
-      cause = caused-all Holds (IsLoose table old) Full (state before.image).faults (state fC.image).faults (state after.image).faults begins.faults result ends.cause;
+      cause = caused-all Holds (IsLoose table old) Full (state before.image).faults (state fC.image).faults (state after.image).faults begins.faults.0 result ends.cause;
     }
       where
         kept : (k key : ℕ) → named_block table k ≡ Some key → named_block table' k ≡ Some key

@@ -53,7 +53,7 @@ module _ {S : Type 0} (state : S → StorageState) (table : TableValue) (pending
     quiet = λ order. quietly-given ⊤ (λ _. 0) (λ _. 0) (state before.image) m (state before.image) (metadata_of state before without table pending) refl (later_same (state before.image))
         (λ keeps sound. memory-quietly ⊤ (λ _. 0) (λ _. 0) (state before.image) m (metadata_of state before without table pending) (λ s done. forgotten-quiet m d s (unnamed order keeps s)));
     raised = λ order keeps sound c. inl (forgotten-counts m d sound (unnamed order keeps sound) c);
-    faults = refl;
+    faults = (refl, refl);
     header = refl;
     order = refl;
     loose = loose-on table old without (pins-removed (nat_eq d) (cached_in old).blocks) refl;

@@ -28,7 +28,7 @@ module _ {V D : Type 0} (state : D → StorageState) (loads : D → ℕ → Resu
     (leaves : (front : List (ℕ × Slot V)) (key : ℕ) (slot : Slot V) (back : List (ℕ × Slot V)) (s : StorageState) → clean slot.value → Going H order Ready ⊤ s (put (front ++ (key, slot) ∷ back)) s (put (front ++ back)))
     (Fits : D → Type 0) (fits : (old new : D) (key : ℕ) (v v' : V) (result : Result Unit Fault) → flushes old key v result new v' → Fits old → Fits new)
     (comes : (key : ℕ) (value : V) (es : List (ℕ × Slot V)) (old new : D) → Fits old → loads old key (Ok value) new → lookup (nat_eq key) es ≡ None → Going H order Ready ⊤ (state old) (put es) (state new) (put ((key, record { value = value; pins = 0 }) ∷ es)))
-    (asked : (key : ℕ) (result : Result V Fault) (es : List (ℕ × Slot V)) (old new : D) → Fits old → loads old key result new → Going H order Ready ⊤ (state old) (put es) (state new) (put es)) where
+    (asked : (key : ℕ) (result : Result V Fault) (es : List (ℕ × Slot V)) (old new : D) → Fits old → loads old key result new → Going H order Ready (WasNotCutOff result) (state old) (put es) (state new) (put es)) where
   -- one is flushed, and removed where that succeeded
   evicted : (key : ℕ) (before : D) (es : List (ℕ × Slot V)) (result : Result Bool Fault) (after : D) (es' : List (ℕ × Slot V)) → Evicted nat_eq flushes key before es result after es'
       → Going H order Ready (WasNotCutOff result) (state before) (put es) (state after) (put es')
@@ -105,12 +105,15 @@ module _ {V D : Type 0} (state : D → StorageState) (loads : D → ℕ → Resu
 
   -- The entry is loaded.
   loaded : (key : ℕ) (before : D) (es : List (ℕ × Slot V)) (result : Result Bool Fault) (after : D) (es' : List (ℕ × Slot V)) → lookup (nat_eq key) es ≡ None → Fits before → Loaded loads key before es result after es'
-      → Going H order Ready ⊤ (state before) (put es) (state after) (put es')
+      → Going H order Ready (WasNotCutOff result) (state before) (put es) (state after) (put es')
   loaded key before es (Ok made) after es' none f (is, value, load, entries) =
       subst (λ (l : List (ℕ × Slot V)). Going H order Ready ⊤ (state before) (put es) (state after) (put l)) (sym entries) (comes key value es before after f load none)
   loaded key before es (Err fault) after es' none f (same, why) =
-      subst (λ (l : List (ℕ × Slot V)). Going H order Ready ⊤ (state before) (put es) (state after) (put l)) (sym same)
-      (elim why [ inl load ↦ asked key (Err fault) es before after f load | inr full ↦ asked key (Ok full.1) es before after f full.2 ])
+      subst (λ (l : List (ℕ × Slot V)). Going H order Ready (IsMild fault) (state before) (put es) (state after) (put l)) (sym same)
+      (elim why [
+        | inl load ↦ asked key (Err fault) es before after f load
+        | inr full ↦ going-weaker H order Ready ⊤ (IsMild fault) (state before) (state after) (put es) (put es) (λ w. tt) (asked key (Ok full.1) es before after f full.2)
+      ])
 
   -- It is found or loaded.
   pub readied : (cap : ℕ) (may_flush : Bool) (key : ℕ) (before : D) (es : List (ℕ × Slot V)) (result : Result Bool Fault) (after : D) (es' : List (ℕ × Slot V)) → Fits before → Readied nat_eq loads flushes cap may_flush key before es result after es'
@@ -123,8 +126,8 @@ module _ {V D : Type 0} (state : D → StorageState) (loads : D → ℕ → Resu
       by-room : lookup (nat_eq key) es ≡ None → (room : Result Bool Fault) (mid : D) (entries : List (ℕ × Slot V)) → MadeRoom nat_eq flushes cap may_flush before es room mid entries → LoadedAfter loads key mid entries room result after es'
           → Going H order Ready (WasNotCutOff result) (state before) (put es) (state after) (put es')
       by-room none (Ok true) mid entries made later =
-          going-weaker H order Ready (⊤ × ⊤) (WasNotCutOff result) (state before) (state after) (put es) (put es') (λ w. (tt, tt))
-          (going-both H order Ready ⊤ ⊤ (state before) (state mid) (state after) (put es) (put entries) (put es') (room-made cap may_flush before es (Ok true) mid entries made)
+          going-weaker H order Ready (⊤ × WasNotCutOff result) (WasNotCutOff result) (state before) (state after) (put es) (put es') (λ w. (tt, w))
+          (going-both H order Ready ⊤ (WasNotCutOff result) (state before) (state mid) (state after) (put es) (put entries) (put es') (room-made cap may_flush before es (Ok true) mid entries made)
           (loaded key mid entries result after es' (room-absent cap may_flush key before es (Ok true) mid entries made refl none) (room-fits cap may_flush before es (Ok true) mid entries made f) later))
       by-room none (Ok false) mid entries made later =
           subst (λ (d : D). Going H order Ready (WasNotCutOff result) (state before) (put es) (state d) (put es')) (sym later.1)
@@ -140,24 +143,27 @@ module _ {V D : Type 0} (state : D → StorageState) (loads : D → ℕ → Resu
 module _ {V D : Type 0} (state : D → StorageState) (loads : D → ℕ → Result V Fault → D → Type 0) (flushes : D → ℕ → V → Result Unit Fault → D → V → Type 0)
     (H : Header) (order : CacheDependency) (Ready : Cached → Type 0) (put : List (ℕ × Slot V) → Cached) (Fits : D → Type 0)
     (comes : (key : ℕ) (value : V) (es : List (ℕ × Slot V)) (old new : D) → Fits old → loads old key (Ok value) new → lookup (nat_eq key) es ≡ None → Going H order Ready ⊤ (state old) (put es) (state new) (put ((key, record { value = value; pins = 0 }) ∷ es)))
-    (asked : (key : ℕ) (result : Result V Fault) (es : List (ℕ × Slot V)) (old new : D) → Fits old → loads old key result new → Going H order Ready ⊤ (state old) (put es) (state new) (put es)) where
+    (asked : (key : ℕ) (result : Result V Fault) (es : List (ℕ × Slot V)) (old new : D) → Fits old → loads old key result new → Going H order Ready (WasNotCutOff result) (state old) (put es) (state new) (put es)) where
   quiet-stays : (ok : Type 0) (before : D) (es : List (ℕ × Slot V)) (after : D) (es' : List (ℕ × Slot V)) → after ≡ before → es' ≡ es → Going H order Ready ok (state before) (put es) (state after) (put es')
   quiet-stays ok before es after es' same same' =
       subst (λ (d : D). Going H order Ready ok (state before) (put es) (state d) (put es')) (sym same)
       (subst (λ (l : List (ℕ × Slot V)). Going H order Ready ok (state before) (put es) (state before) (put l)) (sym same') (going-none H order Ready ok (state before) (put es)))
 
   quiet-loaded : (key : ℕ) (before : D) (es : List (ℕ × Slot V)) (result : Result Bool Fault) (after : D) (es' : List (ℕ × Slot V)) → lookup (nat_eq key) es ≡ None → Fits before → Loaded loads key before es result after es'
-      → Going H order Ready ⊤ (state before) (put es) (state after) (put es')
+      → Going H order Ready (WasNotCutOff result) (state before) (put es) (state after) (put es')
   quiet-loaded key before es (Ok made) after es' none f (is, value, load, entries) =
       subst (λ (l : List (ℕ × Slot V)). Going H order Ready ⊤ (state before) (put es) (state after) (put l)) (sym entries) (comes key value es before after f load none)
   quiet-loaded key before es (Err fault) after es' none f (same, why) =
-      subst (λ (l : List (ℕ × Slot V)). Going H order Ready ⊤ (state before) (put es) (state after) (put l)) (sym same)
-      (elim why [ inl load ↦ asked key (Err fault) es before after f load | inr full ↦ asked key (Ok full.1) es before after f full.2 ])
+      subst (λ (l : List (ℕ × Slot V)). Going H order Ready (IsMild fault) (state before) (put es) (state after) (put l)) (sym same)
+      (elim why [
+        | inl load ↦ asked key (Err fault) es before after f load
+        | inr full ↦ going-weaker H order Ready ⊤ (IsMild fault) (state before) (state after) (put es) (put es) (λ w. tt) (asked key (Ok full.1) es before after f full.2)
+      ])
 
   pub readied-quietly : (cap : ℕ) (key : ℕ) (before : D) (es : List (ℕ × Slot V)) (result : Result Bool Fault) (after : D) (es' : List (ℕ × Slot V)) → Fits before → Readied nat_eq loads flushes cap false key before es result after es'
-      → Going H order Ready ⊤ (state before) (put es) (state after) (put es')
+      → Going H order Ready (WasNotCutOff result) (state before) (put es) (state after) (put es')
   readied-quietly cap key before es result after es' f r = elim (is-there (lookup (nat_eq key) es)) [
-    | inl there ↦ let found = r.found there in quiet-stays ⊤ before es after es' found.1 found.2
+    | inl there ↦ let found = r.found there in quiet-stays (WasNotCutOff result) before es after es' found.1 found.2
     | inr none ↦
         let m = r.missed none in
         elim (cases_lt (length es) cap) [
@@ -167,17 +173,17 @@ module _ {V D : Type 0} (state : D → StorageState) (loads : D → ℕ → Resu
   ]
     where
       by-room : lookup (nat_eq key) es ≡ None → (room : Result Bool Fault) (mid : D) (entries : List (ℕ × Slot V)) → room ≡ Ok true → mid ≡ before → entries ≡ es → LoadedAfter loads key mid entries room result after es'
-          → Going H order Ready ⊤ (state before) (put es) (state after) (put es')
+          → Going H order Ready (WasNotCutOff result) (state before) (put es) (state after) (put es')
       by-room none room mid entries is same same' later =
           let load : Loaded loads key before es result after es' =
           subst (λ (d : D). Loaded loads key d es result after es') same (subst (λ (l : List (ℕ × Slot V)). Loaded loads key mid l result after es') same' (subst (λ (q : Result Bool Fault). LoadedAfter loads key mid entries q result after es') is later)) in
           quiet-loaded key before es result after es' none f load
 
       no-room : (room : Result Bool Fault) (mid : D) (entries : List (ℕ × Slot V)) → room ≡ Ok false → mid ≡ before → entries ≡ es → LoadedAfter loads key mid entries room result after es'
-          → Going H order Ready ⊤ (state before) (put es) (state after) (put es')
+          → Going H order Ready (WasNotCutOff result) (state before) (put es) (state after) (put es')
       no-room room mid entries is same same' later =
           let full : (result ≡ Ok false) × (after ≡ mid) × (es' ≡ entries) = subst (λ (q : Result Bool Fault). LoadedAfter loads key mid entries q result after es') is later in
-          quiet-stays ⊤ before es after es' (full.1 ∙ same) (full.2 ∙ same')
+          quiet-stays (WasNotCutOff result) before es after es' (full.1 ∙ same) (full.2 ∙ same')
 
 -- With leave to flush it never says that there is no room.
 pub never-full : {V D : Type 0} (loads : D → ℕ → Result V Fault → D → Type 0) (flushes : D → ℕ → V → Result Unit Fault → D → V → Type 0) (cap : ℕ) (key : ℕ) (before : D) (es : List (ℕ × Slot V)) (after : D) (es' : List (ℕ × Slot V))

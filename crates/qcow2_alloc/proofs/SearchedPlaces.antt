@@ -64,6 +64,7 @@ module _ {S : Type 0} (state : S → StorageState) (table : TableValue) (pending
     looking = record {
       shape = looked.going.shape;
       later = looked.going.later;
+      faults = looked.going.faults;
       quiet = λ order keeps sound s. moved (λ m. Quietly (WasNotCutOff result) (λ _. 0) (λ _. 0) (state before.image) m0 (state fC.image) m)
           (going-quietly m0 (WasNotCutOff result) (state before.image) (state fC.image) (cached_in C) refl looked.going);
       raised = λ order keeps sound s whole c. inl (counts-same keeps s whole c);
@@ -77,7 +78,7 @@ module _ {S : Type 0} (state : S → StorageState) (table : TableValue) (pending
 
   pub looked-begins : (found : Option ℕ) → Looked state table old before (found_so found) C fC → Begins state table pending old before (λ _. 0) C fC
   looked-begins found looked =
-      begins-then state i table pending old before (λ _. 0) (λ _. 0) old before C fC (begins-none state i table pending old before) (λ _. 0) (λ c. omega arith) (looking (found_so found) looked) looked.cause
+      begins-then state i table pending old before (λ _. 0) (λ _. 0) old before C fC (begins-none state i table pending old before) (λ _. 0) (λ c. omega arith) (looking (found_so found) looked)
 
   -- What was found is free.
   free-place : (from place : ℕ) → LooksForFree state table from (i * counters_of_block before.header.fields) old before (found_so (Some place)) C fC → Keeps → IsSound m0 → IsFreePlace mC i place

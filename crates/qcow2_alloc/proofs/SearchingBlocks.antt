@@ -1,11 +1,11 @@
 -- The search of a refcount block.
 use Rattle.std.proofs.Common.{◌≡◌, ℕ, ◌*◌, ◌^◌, ◌≤◌, refl, arith, ap, sym, subst, ◌∙◌, List, length, Option, None, Result, Ok, Err, Bool, true, false, inl, inr}
-use Rattle.std.specs.Prelude.{nat_eq, map, ⊤, IsSome, MatchResult}
+use Rattle.std.specs.Prelude.{nat_eq, map, IsSome, MatchResult}
 use Rattle.std.specs.List.{AllByRecursion}
 use Rattle.std.specs.Map.{lookup}
 use Rattle.std.proofs.lemmas.Bool.{cases_lt}
 use Rattle.imago_storage.specs.State.{StorageState}
-use Rattle.imago_storage.specs.Calls.{Cause, Kept}
+use Rattle.imago_storage.specs.Calls.{Cause, Kept, IsFaultless}
 use Rattle.imago_storage.specs.declared.fault.Fault.{Fault}
 use Rattle.imago_storage.specs.declared.fault.Fault.TheVariants.{Memory, Storage, DamagedTable}
 use Rattle.qcow2_types.specs.Bytes.{bytes_of}
@@ -123,7 +123,7 @@ module _ {S : Type 0} (state : S → StorageState) (cluster : ℕ) where
   block-found-quietly old before result after es' not r =
       let header = header-stays false old.rb.slots.cap before old.rb.slots.entries result after es' r in
       record {
-        going = going-weaker before.header (order_of old) Always ⊤ (WasNotCutOff (done_of result)) _ _ _ _ (λ w. tt)
+        going = going-weaker before.header (order_of old) Always (WasNotCutOff result) (WasNotCutOff (done_of result)) _ _ _ _ (whole-done result)
             (readied-quietly (λ (d : ImageFile S). state d.image) (block_loads state) (block_flushes state) before.header (order_of old) Always (λ blocks. record { tables = old.l2.slots.entries; blocks = blocks }) (λ d. d.header ≡ before.header)
             (λ key value es a b same load none. block-comes-quietly state before.header (order_of old) Always old.l2.slots.entries (λ A B r. r) key value es (state a.image) (state b.image)
             (subst (λ (h : Header). BlockLoaded h.fields key (state a.image) (Ok value) (state b.image)) same load.1) none)
@@ -223,11 +223,12 @@ module _ {S : Type 0} (state : S → StorageState) (cluster : ℕ) where
 
     pub block-found-halted : (fault : Fault) → Going before.header (order_of old) Always (Succeeded (Err fault)) (state before.image) (cached_in old) (state between.image) (cached_in mid)
         → CountsWrites (AreTablesInReach (cached_in old)) (state before.image).faults (state between.image).faults (Err fault)
+        → (IsMild fault → IsFaultless (state before.image) (state between.image))
         → ((order_of old ≡ RbDependsOnL2 → ⊥) → ⊥) → (order_of old ≡ RbDependsOnL2 → WritesTables (state before.image) (cached_in old) (Err fault) (state between.image) (cached_in mid)) → BlockFound state cluster old before (Err fault) mid between
-    block-found-halted fault going why some did =
+    block-found-halted fault going why faultless some did =
         let blocks : (cached_in mid).blocks ≡ (cached_in old).blocks = ap (λ (m : MetadataCaches S). (cached_in m).blocks) same in
         record {
-          going = going-safely before.header (order_of old) Always (Succeeded (Err fault)) (WasNotCutOff {T = Unit} (Err fault)) _ _ _ _ (λ safe mild. absurd (never fault safe mild why)) going;
+          going = going-safely before.header (order_of old) Always (Succeeded (Err fault)) (WasNotCutOff {T = Unit} (Err fault)) _ _ _ _ faultless (λ safe mild. absurd (never fault safe mild why)) going;
           hit = not-there;
           there = tt;
           sought = record { there = not-there; loaded = λ none. tt; refused = inl (ap (λ l. map written_block l) blocks); pinned = pins-none (cached_in old).blocks (cached_in mid).blocks blocks };

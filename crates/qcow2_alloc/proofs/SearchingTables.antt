@@ -1,13 +1,13 @@
 -- The search of an L2 table.
 use Rattle.std.proofs.Common.{◌≡◌, ℕ, ◌*◌, ◌^◌, ◌≤◌, refl, arith, ap, sym, subst, ◌∙◌, List, length, Option, None, Result, Ok, Err, Bool, true, false, inl, inr}
-use Rattle.std.specs.Prelude.{nat_eq, map, ⊤, IsSome, MatchResult}
+use Rattle.std.specs.Prelude.{nat_eq, map, IsSome, MatchResult}
 use Rattle.std.specs.List.{AllByRecursion}
 use Rattle.std.specs.Map.{lookup}
 use Rattle.std.proofs.lemmas.Bool.{cases_lt}
 use Rattle.std.proofs.lemmas.List.FromFn.{length-map-range_with_len}
 use Rattle.std.proofs.Math.Nat.{pow-le-pow_right}
 use Rattle.imago_storage.specs.State.{StorageState}
-use Rattle.imago_storage.specs.Calls.{Kept}
+use Rattle.imago_storage.specs.Calls.{Kept, IsFaultless}
 use Rattle.imago_storage.specs.declared.fault.Fault.{Fault}
 use Rattle.imago_storage.specs.declared.fault.Fault.TheVariants.{Memory, Storage, DamagedTable, Limit}
 use Rattle.qcow2_types.specs.Bytes.{bytes_of}
@@ -132,7 +132,7 @@ module _ {S : Type 0} (state : S → StorageState) (cluster : ℕ) where
   table-found-quietly old before result after es' not r =
       let header = header-stays false old.l2.slots.cap before old.l2.slots.entries result after es' r in
       record {
-        going = going-weaker before.header (order_of old) Always ⊤ (WasNotCutOff (done_of result)) _ _ _ _ (λ w. tt)
+        going = going-weaker before.header (order_of old) Always (WasNotCutOff result) (WasNotCutOff (done_of result)) _ _ _ _ (whole-done result)
             (readied-quietly (λ (d : ImageFile S). state d.image) (table_loads state) (table_flushes state) before.header (order_of old) Always (λ tables. record { tables = tables; blocks = old.rb.slots.entries }) (λ d. d.header ≡ before.header)
             (λ key value es a b same load none. table-comes-quietly state before.header (order_of old) Always old.rb.slots.entries (λ A B r. r) key value es (state a.image) (state b.image)
             (subst (λ (h : Header). TableLoaded h.fields key (state a.image) (Ok value) (state b.image)) same load.1) none)
@@ -232,11 +232,12 @@ module _ {S : Type 0} (state : S → StorageState) (cluster : ℕ) where
 
     pub table-found-halted : (fault : Fault) → Going before.header (order_of old) Always (Succeeded (Err fault)) (state before.image) (cached_in old) (state between.image) (cached_in mid)
         → CountsWrites (AreBlocksInReach (cached_in old)) (state before.image).faults (state between.image).faults (Err fault)
+        → (IsMild fault → IsFaultless (state before.image) (state between.image))
         → ((order_of old ≡ L2DependsOnRb → ⊥) → ⊥) → (order_of old ≡ L2DependsOnRb → WritesBlocks (state before.image) (cached_in old) (Err fault) (state between.image) (cached_in mid)) → TableFound state cluster old before (Err fault) mid between
-    table-found-halted fault going why some did =
+    table-found-halted fault going why faultless some did =
         let tables : (cached_in mid).tables ≡ (cached_in old).tables = ap (λ (m : MetadataCaches S). (cached_in m).tables) same in
         record {
-          going = going-safely before.header (order_of old) Always (Succeeded (Err fault)) (WasNotCutOff {T = Unit} (Err fault)) _ _ _ _ (λ safe mild. absurd (never fault safe mild why)) going;
+          going = going-safely before.header (order_of old) Always (Succeeded (Err fault)) (WasNotCutOff {T = Unit} (Err fault)) _ _ _ _ faultless (λ safe mild. absurd (never fault safe mild why)) going;
           hit = not-there;
           there = tt;
           sought = record { there = not-there; loaded = λ none. tt; refused = inl (ap (λ l. map written_table l) tables); pinned = pins-none (cached_in old).tables (cached_in mid).tables tables };

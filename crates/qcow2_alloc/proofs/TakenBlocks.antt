@@ -6,6 +6,7 @@ use Rattle.std.proofs.lemmas.Bool.{cases_eq, cases_Bool}
 use Rattle.std.proofs.lemmas.List.{length-replicate}
 use Rattle.std.proofs.Math.Nat.{div-mul-le_self}
 use Rattle.imago_storage.specs.State.{StorageState}
+use Rattle.imago_storage.specs.Calls.{IsFaultless}
 use Rattle.imago_storage.specs.declared.fault.Fault.{Fault}
 use Rattle.imago_storage.proofs.Composing.{keeps_on, later_same}
 use Rattle.qcow2_types.specs.Bytes.{bytes_of}
@@ -25,7 +26,7 @@ use Rattle.qcow2_alloc.specs.Allocating.{MakesBlock, OnlyRaised, RaisesCluster, 
 use Rattle.qcow2_alloc.specs.Allocators.{metadata_of}
 use Rattle.qcow2_alloc.specs.Caches.{cached_in, order_of, HasRoomOf}
 use Rattle.qcow2_alloc.specs.FreeList.{covers}
-use Rattle.qcow2_alloc.specs.Going.{Going, Always, WasNotCutOff, CountsWrites, AreTablesInReach, AreBlocksInReach}
+use Rattle.qcow2_alloc.specs.Going.{Going, Always, WasNotCutOff, CountsWrites, AreTablesInReach, AreBlocksInReach, IsMild}
 use Rattle.qcow2_alloc.specs.MakingBlocks.{Begins, NamesWritten, IsFreePlace}
 use Rattle.qcow2_alloc.specs.MakingRoom.{run_of}
 use Rattle.qcow2_alloc.specs.Memory.{Cached, written, written_block}
@@ -95,6 +96,7 @@ module _ {S : Type 0} (state : S → StorageState) (table : TableValue) (pending
       (record {
         shape = refl;
         later = later_same (state fA.image);
+        faults = λ done. (refl, refl);
         quiet = λ order keeps sound s. memory-quietly ⊤ (λ _. 0) (λ _. 0) (state fA.image) mA m1 (λ s' done. forgotten-quiet mA d s' (unused order keeps sound).0);
         raised = λ order keeps sound s done c. inl (forgotten-counts mA d s (unused order keeps sound).0 c);
         stays = record {
@@ -104,7 +106,6 @@ module _ {S : Type 0} (state : S → StorageState) (table : TableValue) (pending
           room = record { tables = refl; blocks = refl; entries = refl };
         };
       })
-      refl
 
   zero1 : order_of old ≡ L2DependsOnRb → Keeps → IsSound m0 → counted m1 d ≡ 0
   zero1 order keeps sound = forgotten-counts mA d (sound-then order keeps sound) (unused order keeps sound).0 d ∙ (free order keeps sound).uncounted
@@ -153,6 +154,7 @@ module _ {S : Type 0} (state : S → StorageState) (table : TableValue) (pending
     counting = record {
       shape = run.shape;
       later = run.later;
+      faults = run.faults;
       quiet = λ order keeps sound sound1. run.quiet (begin.order ∙ order) (λ s. all-zero order keeps sound);
       raised = only-one;
       stays = record { header = run.header; order = run.order; loose = run.loose; room = run.room };
@@ -168,7 +170,7 @@ module _ {S : Type 0} (state : S → StorageState) (table : TableValue) (pending
         ((begin.quiet holds.1).holds holds.0 holds.2 tt).0,
         λ c ge lt. (all-zero (Err fault) C fC raises holds.1 holds.0 holds.2 c ge lt, subst (λ n. block_offset (slice_index table.words (n / counters_of_block fA.header.fields)) ≢ 0) (let same : d ≡ c = omega (arith, ge, lt) in same) (free holds.1 holds.0 holds.2).there),
       ))
-      begin.loose begin.faults fault (run (Err fault) C fC raises).cause)
+      begin.loose begin.faults.0 fault (run (Err fault) C fC raises).cause)
 
   module _ (C : MetadataCaches S) (fC : ImageFile S) (raises : RaisesCluster state table d C1 fA succeeded C fC) where
     abbrev m2 : Metadata
@@ -177,7 +179,6 @@ module _ {S : Type 0} (state : S → StorageState) (table : TableValue) (pending
     taken : Begins state table pending old before (one_at d) C fC
     taken =
         begins-then state i table pending old before (λ _. 0) (more succeeded C fC raises) C1 fA C fC begin (one_at d) (λ c. let one = more-one succeeded C fC raises (part-is succeeded C fC raises) c in omega (arith, one)) (counting succeeded C fC raises)
-        (run succeeded C fC raises).cause
 
     -- and the block that counts it is written.
     module _ (result : Result Unit Fault) (D : MetadataCaches S) (fD : ImageFile S) (going : Going fC.header (order_of C) Always (result ≡ Ok tt) (state fC.image) (cached_in C) (state fD.image) (cached_in D)) (kept : written (cached_in D) ≡ written (cached_in C))
@@ -202,10 +203,11 @@ module _ {S : Type 0} (state : S → StorageState) (table : TableValue) (pending
           moved (λ m. (counted m c ≡ counted m2 c) × (named_at_all m c ≤ named_at_all m2 c))
           (flushes-count m2 (state fC.image).bytes (state fD.image).bytes (cached_in D) refl (going.holds (keeps_on (state before.image) (state fC.image) taken.shape keeps) sound.safe tt (inl done)) c)
 
-      flushing : Follows state i table pending old before (WasNotCutOff result) (λ _. 0) C fC D fD
-      flushing = record {
+      flushing : (WasNotCutOff result → IsFaultless (state fC.image) (state fD.image)) → Follows state i table pending old before (WasNotCutOff result) (λ _. 0) C fC D fD
+      flushing faultless = record {
         shape = going.shape;
         later = going.later;
+        faults = faultless;
         quiet = λ order keeps sound s. moved (λ m. Quietly (WasNotCutOff result) (λ _. 0) (λ _. 0) (state fC.image) m2 (state fD.image) m)
             (whole-quietly m2 _ _ _ result (λ _. 0) (λ _. 0) (state fC.image) (state fD.image) _ (λ reach. reach) cause (going-quietly m2 (result ≡ Ok tt) (state fC.image) (state fD.image) (cached_in D) refl going));
         raised = λ order keeps sound s whole c. inl (same keeps s (done-so s whole) c).0;
@@ -218,12 +220,12 @@ module _ {S : Type 0} (state : S → StorageState) (table : TableValue) (pending
       }
 
     pub unwritten-made : (fault : Fault) (D : MetadataCaches S) (fD : ImageFile S) → Going fC.header (order_of C) Always (failed fault ≡ Ok tt) (state fC.image) (cached_in C) (state fD.image) (cached_in D) → written (cached_in D) ≡ written (cached_in C)
-        → (D.order ≡ C.order) × (fD.header ≡ fC.header) → HasRoomOf C D → CountsWrites (AreTablesInReach (cached_in C) × AreBlocksInReach (cached_in C)) (state fC.image).faults (state fD.image).faults (failed fault)
+        → (D.order ≡ C.order) × (fD.header ≡ fC.header) → HasRoomOf C D → CountsWrites (AreTablesInReach (cached_in C) × AreBlocksInReach (cached_in C)) (state fC.image).faults (state fD.image).faults (failed fault) → (IsMild fault → IsFaultless (state fC.image) (state fD.image))
         → MakesBlock state i table old before (Err fault) table D fD pending
-    unwritten-made fault D fD going kept others room cause =
-        begins-refused state i table pending old before (one_at d) (λ _. 0) C fC D fD taken fault (flushing (failed fault) D fD going kept others room cause)
+    unwritten-made fault D fD going kept others room cause faultless =
+        begins-refused state i table pending old before (one_at d) (λ _. 0) C fC D fD taken fault (flushing (failed fault) D fD going kept others room cause faultless)
         (λ order keeps sound whole c. absurd (let no = done-so (failed fault) D fD going kept others room cause (sound2 (failed fault) D fD going kept others room cause order keeps sound) whole in cc no))
-        (allocated-written _ _ _ _ _ _ _ (λ holds. let s = sound2 (failed fault) D fD going kept others room cause holds.1 holds.0 holds.2 in safe-reach m2.file m2.header m2.cached m2.order s.safe) taken.faults fault cause)
+        (allocated-written _ _ _ _ _ _ _ (λ holds. let s = sound2 (failed fault) D fD going kept others room cause holds.1 holds.0 holds.2 in safe-reach m2.file m2.header m2.cached m2.order s.safe) taken.faults.0 fault cause)
 
     -- Then the new block is written and named.
     module _ (D : MetadataCaches S) (fD : ImageFile S) (going : Going fC.header (order_of C) Always (succeeded ≡ Ok tt) (state fC.image) (cached_in C) (state fD.image) (cached_in D)) (kept : written (cached_in D) ≡ written (cached_in C))
@@ -267,7 +269,7 @@ module _ {S : Type 0} (state : S → StorageState) (table : TableValue) (pending
           → NamesWritten table i (B state i d counters table D fD pending) (state fD.image) result table' (state after.image) → MakesBlock state i table old before result table' D after pending
       taken-made inside empty low some reach other result table' after header names =
           made state i table pending old before (one_at d) Ready d counters D fD
-          (begins-then state i table pending old before (one_at d) (λ _. 0) C fC D fD taken (one_at d) (λ c. omega arith) (flushing succeeded D fD going kept others room faults) faults)
+          (begins-then state i table pending old before (one_at d) (λ _. 0) C fC D fD taken (one_at d) (λ c. omega arith) (flushing succeeded D fD going kept others room faults (λ whole. going.faults refl)))
           (λ order keeps sound c used. elim (cases_eq c d) [
             | inr away ↦ away-none d c away
             | inl same ↦ absurd ((unused order keeps sound).2 (used-then m0 mA (λ _. 0) (λ _. 0) ((begun.quiet order).holds keeps sound tt).1 sound (sound-then order keeps sound) d (subst (λ n. IsUsed m0 n) same used) refl))

@@ -4,7 +4,7 @@ use Rattle.std.specs.Prelude.{⊤, IsTrue, OnOk, IfErr, MatchResult, nat_eq}
 use Rattle.std.specs.Map.{lookup}
 use Rattle.std.proofs.lemmas.Bool.{cases_lt}
 use Rattle.imago_storage.specs.State.{StorageState, Rose}
-use Rattle.imago_storage.specs.Calls.{Later, Cause}
+use Rattle.imago_storage.specs.Calls.{Later, Cause, IsFaultless}
 use Rattle.imago_storage.specs.declared.fault.Fault.{Fault}
 use Rattle.imago_storage.specs.declared.fault.Fault.TheVariants.{Memory, Storage, DamagedTable, CacheFull, Counter}
 use Rattle.imago_storage.proofs.Composing.{keeps_on, later_both, later_same}
@@ -34,6 +34,7 @@ use Rattle.qcow2_alloc.specs.Quiet.{Metadata, counted, named_at_all, IsUsed, IsS
 use Rattle.qcow2_alloc.specs.Safety.{AreBlocksClean}
 use Rattle.qcow2_alloc.proofs.CountingClusters.{succeeded}
 use Rattle.qcow2_alloc.proofs.CountingRuns.{covers-behind}
+use Rattle.qcow2_alloc.proofs.Faultless.{faultless-then}
 use Rattle.qcow2_alloc.proofs.Forgetting.{never-unnamed}
 use Rattle.qcow2_alloc.proofs.ForgettingRuns.{memory-counts}
 use Rattle.qcow2_alloc.proofs.FreeClusters.{uncounted-free, flushes-count, clean-counts}
@@ -98,6 +99,7 @@ module _ {S : Type 0} (state : S → StorageState) (table : TableValue) (pending
   pub record Next (ok : Type 0) (C : MetadataCaches S) (fC : ImageFile S) (D : MetadataCaches S) (fD : ImageFile S) : Type 0 where
     pub shape : (state fD.image).shape ≡ (state fC.image).shape
     pub later : Later (state fC.image) (state fD.image)
+    pub faults : ok → IsFaultless (state fC.image) (state fD.image)
     pub quiet : Given → IsSound (At C fC) → Quietly ok ours ours (state fC.image) (At C fC) (state fD.image) (At D fD)
     pub same : Given → IsSound (At C fC) → ok → (c : ℕ) → counted (At D fD) c ≡ counted (At C fC) c
     pub stays : StaysLoose table C fC D fD
@@ -129,6 +131,7 @@ module _ {S : Type 0} (state : S → StorageState) (table : TableValue) (pending
           whole = on-ok result counts.whole;
           shape = next.shape ∙ counts.shape;
           later = later_both _ _ _ counts.later next.later;
+          faults = λ whole. faultless-then (counts.faults tt) (next.faults whole);
           quiet = λ order free.
               quietly-given (WasNotCutOff result) handed (λ _. 0) (state before.image) m0 (state fD.image) (At D fD) (next.shape ∙ counts.shape) (later_both _ _ _ counts.later next.later) (λ keeps sound.
               let given : Given = (keeps, order, sound, free sound) in
@@ -179,10 +182,11 @@ module _ {S : Type 0} (state : S → StorageState) (table : TableValue) (pending
       done-so : IsSound (At C fC) → WasNotCutOff result → result ≡ Ok tt
       done-so sound whole = written-whole _ _ _ result cause (safe-reach (At C fC).file (At C fC).header (At C fC).cached (At C fC).order sound.safe) whole
 
-      flushing : Next (WasNotCutOff result) C fC D fD
-      flushing = record {
+      flushing : (WasNotCutOff result → IsFaultless (state fC.image) (state fD.image)) → Next (WasNotCutOff result) C fC D fD
+      flushing faultless = record {
         shape = going.shape;
         later = going.later;
+        faults = faultless;
         quiet = λ given sound. moved (λ m. Quietly (WasNotCutOff result) ours ours (state fC.image) (At C fC) (state fD.image) m)
             (quietly-otherwise (WasNotCutOff result) (λ _. 0) (λ _. 0) ours ours (state fC.image) (At C fC) (state fD.image) _ (λ s c. omega arith) (λ s c used none. refl)
             (whole-quietly (At C fC) _ _ _ result (λ _. 0) (λ _. 0) (state fC.image) (state fD.image) _ (λ reach. reach) cause (going-quietly (At C fC) (result ≡ Ok tt) (state fC.image) (state fD.image) (cached_in D) refl going)));
@@ -201,8 +205,8 @@ module _ {S : Type 0} (state : S → StorageState) (table : TableValue) (pending
       why (Ok done) same = same
       why (Err fault) not = why-written _ _ _ _ _ _ (λ holds. safe-reach (At C fC).file (At C fC).header (At C fC).cached (At C fC).order holds.1.safe) refl fault not
 
-      pub flushed-then : Counts result D fD
-      flushed-then = counts-then result D fD flushing (why result cause)
+      pub flushed-then : (WasNotCutOff result → IsFaultless (state fC.image) (state fD.image)) → Counts result D fD
+      flushed-then faultless = counts-then result D fD (flushing faultless) (why result cause)
 
     -- or forgotten,
     module _ (result : Result Unit Fault) (D : MetadataCaches S) (n : ℕ) (few : n ≤ run.len) (forgets : ForgetsRun run.first n (cached_in C) result (cached_in D)) (order : D.order ≡ C.order) (pins : PinsNothing (cached_in C).blocks (cached_in D).blocks) (room : KeepsTables C D)
@@ -220,6 +224,7 @@ module _ {S : Type 0} (state : S → StorageState) (table : TableValue) (pending
       forgetting = record {
         shape = refl;
         later = later_same (state fC.image);
+        faults = λ whole. (refl, refl);
         quiet = λ given sound. there (λ m. Quietly (WasNotCutOff result) ours ours (state fC.image) (At C fC) (state fC.image) m)
             (quietly-otherwise (WasNotCutOff result) (λ _. 0) (λ _. 0) ours ours (state fC.image) (At C fC) (state fC.image) _ (λ s c. omega arith) (λ s c used none. refl)
             (memory-quietly (WasNotCutOff result) (λ _. 0) (λ _. 0) (state fC.image) (At C fC) _ (λ s whole. let stays = (forgotten-there given).0 in (stays.sound, stays.quiet))));
@@ -253,6 +258,7 @@ module _ {S : Type 0} (state : S → StorageState) (table : TableValue) (pending
       writing = record {
         shape = writes.writes.shape;
         later = writes.writes.later;
+        faults = writes.writes.faults;
         quiet = λ given sound. with-header (λ m. Quietly (WasNotCutOff result) ours ours (state fC.image) (At C fC) (state fD.image) m) (writes.writes.quiet (At C fC) ours (may given));
         same = λ given sound whole c. with-header (λ m. counted m c ≡ counted (At C fC) c) ((writes.writes.counts (At C fC) ours (may given) (on given.0) sound (writes.writes.whole whole)).memory c);
         stays = record { header = header; order = refl; loose = λ any loose. loose; room = record { tables = refl; blocks = refl; entries = refl } };
@@ -290,7 +296,7 @@ module _ {S : Type 0} (state : S → StorageState) (table : TableValue) (pending
     (D : MetadataCaches S) (fD : ImageFile S) (going : Going fC.header (order_of C) Always (succeeded ≡ Ok tt) (state fC.image) (cached_in C) (state fD.image) (cached_in D)) (kept : written (cached_in D) ≡ written (cached_in C))
     (others : (D.order ≡ C.order) × (fD.header ≡ fC.header)) (room : HasRoomOf C D) (cause : (state fD.image).faults ≡ (state fC.image).faults) (clean : AreBlocksClean (cached_in D)) (n : ℕ) (few : n ≤ run.len) where
   pub counts-flushed : CountsNamed state table run.first run.len old before succeeded D fD pending
-  counts-flushed = flushed-then state table pending run old before C fC counts succeeded D fD going kept others room cause
+  counts-flushed = flushed-then state table pending run old before C fC counts succeeded D fD going kept others room cause (λ whole. going.faults refl)
 
   pub header-there : fD.header ≡ before.header
   header-there = counts-flushed.header

@@ -149,7 +149,8 @@ module _ {K V : Type 0} where
 -- no fault of all is none of each
 pub none-later : (first : Option Fault) (result : Result Unit Fault) → latest first result ≡ None → (first ≡ None) × (result ≡ Ok tt)
 none-later first (Ok done) none = (none, refl)
-none-later first (Err fault) none = absurd (cc none)
+none-later None (Err fault) none = absurd (cc none)
+none-later (Some earlier) (Err fault) none = absurd (cc none)
 
 -- What holds of each flush holds of all.
 module _ {K V D : Type 0} (flushes : D → K → V → Result Unit Fault → D → V → Type 0) where

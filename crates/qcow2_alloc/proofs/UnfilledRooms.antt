@@ -106,6 +106,7 @@ module _ {S : Type 0} (state : S → StorageState) (table : TableValue) (pending
       leaks = record { none = leaked-none fault handed; pinned = λ sound loose. leaked-pinned Sound (IsLoose table old) _ _ fault handed sound loose why };
       shape = counts.shape;
       later = counts.later;
+      faults = counts.faults;
       quiet = λ e. quietly-given (IsMild fault) (leaked-by fault handed) (λ _. 0) (state before.image) m0 (state fD.image) mD counts.shape counts.later (λ keeps sound.
           let q = counts.quiet (free e).0 (λ s. (free e).1) in
           record {
@@ -139,6 +140,7 @@ not-begun state known table pending run copy caches file fault why = record {
   leaks = record { none = λ not c. refl; pinned = λ sound loose c. refl };
   shape = refl;
   later = later_same (state file.image);
+  faults = λ mild. (refl, refl);
   quiet = λ e. memory-quietly (IsMild fault) (λ _. 0) (λ _. 0) (state file.image) (metadata_of state file caches table pending) (metadata_of state file caches table pending) (λ sound mild. (sound, quiet-none (metadata_of state file caches table pending) sound));
   raised = λ e keeps sound mild c. inl refl;
   counts = λ e keeps sound. tt;

@@ -28,6 +28,7 @@ use Rattle.qcow2_alloc.specs.MakingRoom.{rank, run_of, CountsTheSame}
 use Rattle.qcow2_alloc.specs.NewBlocks.{CountsItsOwn, HasCountedOwn, with_file, MayWrite, WritesClusters, WritesBlockTo, WritesLacking}
 use Rattle.qcow2_alloc.specs.Quiet.{Metadata, in_memory, referenced, named_at_all, IsUsed, IsSound, IsQuiet, Quietly}
 use Rattle.qcow2_alloc.proofs.AtOnce.{put-done, put-whole}
+use Rattle.qcow2_alloc.proofs.Faultless.{faultless-then, put-faultless}
 use Rattle.qcow2_alloc.proofs.FreeRuns.{block-quietly, block-counts, block-short, put-outside}
 use Rattle.qcow2_alloc.proofs.FindingRoom.{rank-longer, index-near, lacks-inside}
 use Rattle.qcow2_alloc.proofs.GrownTables.{rank-new}
@@ -85,6 +86,7 @@ module _ (h : Header) (index : ℕ) (run : Run) (d : ℕ) (block : Block) (own :
     writes = record {
       shape = put.put.put.shape;
       later = put.put.put.later;
+      faults = put-faultless old new (d * cluster_size h.fields) put.bytes result put.put.put;
       whole = put-done old new (d * cluster_size h.fields) put.bytes result put.put.put;
       cause = put-counts old new (d * cluster_size h.fields) put.bytes result put.put.put;
       quiet = written-quietly;
@@ -113,6 +115,7 @@ block-not-written h index run d s result failed = record {
   writes = record {
     shape = refl;
     later = later_same s;
+    faults = λ whole. absurd (subst (λ (r : Result Unit Fault). WasNotCutOff r) failed whole);
     whole = λ whole. absurd (subst (λ (r : Result Unit Fault). WasNotCutOff r) failed whole);
     cause = subst (λ (r : Result Unit Fault). MatchResult r (λ _. s.faults ≡ s.faults) (Cause s.faults s.faults)) (sym failed) refl;
     quiet = λ m taken may. memory-quietly (WasNotCutOff result) taken taken s m (with_file m s) (λ sound whole. absurd (subst (λ (r : Result Unit Fault). WasNotCutOff r) failed whole));
@@ -152,6 +155,7 @@ pub clusters-none : (h : Header) (s n : ℕ) (a : StorageState) → WritesCluste
 clusters-none h s n a = record {
   shape = refl;
   later = later_same a;
+  faults = λ whole. (refl, refl);
   whole = λ whole. refl;
   cause = refl;
   quiet = λ m taken may. memory-quietly ⊤ taken taken a m (with_file m a) (λ sound whole.
@@ -169,6 +173,7 @@ pub clusters-more : (h : Header) (s n k : ℕ) (a : StorageState) (result : Resu
 clusters-more h s n k a result c le writes = record {
   shape = writes.shape;
   later = writes.later;
+  faults = writes.faults;
   whole = writes.whole;
   cause = writes.cause;
   quiet = λ m taken may. writes.quiet m taken (may-fewer h s n k taken a m le may);
@@ -248,6 +253,7 @@ module _ (h : Header) (s n : ℕ) (a b : StorageState) (result : Result Unit Fau
   clusters-then = record {
     shape = second.shape ∙ first.shape;
     later = later_both a b c first.later second.later;
+    faults = λ whole. faultless-then (first.faults tt) (second.faults whole);
     whole = second.whole;
     cause = subst (λ (n : ℕ). MatchResult result (λ _. c.faults ≡ n) (Cause n c.faults)) first.cause second.cause;
     quiet = then-quietly;

@@ -19,6 +19,7 @@ use Rattle.qcow2_alloc.specs.Going.{WasNotCutOff}
 use Rattle.qcow2_alloc.specs.MovingTables.{clusters_of, IsPlan, IsTaken, TakesRoom}
 use Rattle.qcow2_alloc.specs.Quiet.{Metadata, IsSound}
 use Rattle.qcow2_alloc.proofs.CountingClusters.{succeeded}
+use Rattle.qcow2_alloc.proofs.Faultless.{put-faultless}
 use Rattle.qcow2_alloc.proofs.GrownTables.{covers-inside}
 use Rattle.qcow2_alloc.proofs.AtOnce.{put-whole, put-done}
 use Rattle.qcow2_alloc.proofs.MovedTables.{table-quietly, table-counts}
@@ -67,6 +68,7 @@ module _ {S : Type 0} (state : S → StorageState) (table : TableValue) (pending
   table-next = record {
     shape = put.shape;
     later = put.later;
+    faults = put-faultless (state fC.image) (state mid) (table_place copy) (table_bytes copy.words) done put;
     quiet = λ given sound. put-whole m4 m5 mine mine (state fC.image) (state mid) (table_place copy) (table_bytes copy.words) done put
         (table-quietly m4 run n copy sound (low4 given) plan.grown plan.room (taken4 given) (state fC.image) (state mid) refl (keeps4 given) done put mine used4);
     same = λ given sound whole c. (table-counts m4 run n copy sound (low4 given) plan.grown plan.room (taken4 given) (state fC.image) (state mid) refl (keeps4 given) done put mine used4

@@ -2,7 +2,7 @@
 use Rattle.std.specs.Prelude.{⊤, ◌==◌, if◌then◌else◌, Bool, true, false, IfOk, ◌≡◌, ◌≢◌, ◌⊎◌, ℕ, ◌+◌, ◌*◌, ◌/◌, ◌%◌, ◌<◌, ◌≤◌, IsTrue, Result, OnOk, Ok, Err, MatchResult, MatchOption, List, length, slice_index}
 use Rattle.std.specs.List.{sum_by}
 use Rattle.imago_storage.specs.State.{StorageState}
-use Rattle.imago_storage.specs.Calls.{Later}
+use Rattle.imago_storage.specs.Calls.{Later, IsFaultless}
 use Rattle.imago_storage.specs.declared.fault.Fault.{Fault}
 use Rattle.imago_storage.specs.declared.fault.Fault.TheVariants.{DamagedTable, Counter, Limit}
 use Rattle.qcow2_types.specs.Words.{block_offset}
@@ -54,6 +54,7 @@ pub record CountsPart {S : Type 0} (state : S → StorageState) (handed : ℕ �
   pub whole : OnOk result (part ≡ n)
   pub shape : (state after.image).shape ≡ (state before.image).shape
   pub later : Later (state before.image) (state after.image)
+  pub faults : WasNotCutOff result → IsFaultless (state before.image) (state after.image)
   pub quiet : order_of old ≡ L2DependsOnRb → (IsSound (metadata_of state before old table pending) → (c : ℕ) → first ≤ c → c < first + n → counted (metadata_of state before old table pending) c ≡ 0)
       → Quietly (WasNotCutOff result) (handed part) (λ _. 0) (state before.image) (metadata_of state before old table pending) (state after.image) (metadata_of state after new table pending)
   pub raised : order_of old ≡ L2DependsOnRb → IsTrue (state before.image).shape.keeps → IsSound (metadata_of state before old table pending)
@@ -85,6 +86,7 @@ CountsNamed state table first n old before result new after pending = CountsPart
 -- A block is made, where there was none, while blocks are written before tables: at the first place from the mark on that another block
 -- counts, or at the first cluster that it counts itself. Where that is cut off, the table in memory may name it already.
 pub record MakesBlock {S : Type 0} (state : S → StorageState) (index : ℕ) (table : TableValue) (old : MetadataCaches S) (before : ImageFile S) (result : Result Unit Fault) (table' : TableValue) (new : MetadataCaches S) (after : ImageFile S) (pending : List FreeEntry) : Type 0 where
+  pub faults : WasNotCutOff result → IsFaultless (state before.image) (state after.image)
   pub quiet : order_of old ≡ L2DependsOnRb → Quietly (WasNotCutOff result) (λ _. 0) (λ _. 0) (state before.image) (metadata_of state before old table pending) (state after.image) (metadata_of state after new table' pending)
   pub raised : order_of old ≡ L2DependsOnRb → IsTrue (state before.image).shape.keeps → IsSound (metadata_of state before old table pending) → WasNotCutOff result
       → OnlyRaised (metadata_of state before old table pending) (metadata_of state after new table' pending)
@@ -112,6 +114,7 @@ MovedTable H H' = (offset : ℕ) × (clusters : ℕ) × (H' ≡ with_refcount_ta
 -- What a call does that counts clusters, while blocks are written before tables, and hands out so many of them. Counts are raised from 0 to
 -- 1 alone. It wasn't cut off where `ok` holds.
 pub record Allocating {S : Type 0} (state : S → StorageState) (ok : Type 0) (handed : ℕ → ℕ) (table : TableValue) (old : MetadataCaches S) (before : ImageFile S) (pending : List FreeEntry) (table' : TableValue) (new : MetadataCaches S) (after : ImageFile S) (pending' : List FreeEntry) : Type 0 where
+  pub faults : ok → IsFaultless (state before.image) (state after.image)
   pub quiet : order_of old ≡ L2DependsOnRb → Quietly ok handed (λ _. 0) (state before.image) (metadata_of state before old table pending) (state after.image) (metadata_of state after new table' pending')
   pub raised : order_of old ≡ L2DependsOnRb → IsTrue (state before.image).shape.keeps → IsSound (metadata_of state before old table pending) → ok
       → OnlyRaised (metadata_of state before old table pending) (metadata_of state after new table' pending')

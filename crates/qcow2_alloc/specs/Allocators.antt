@@ -1,9 +1,9 @@
 -- What contracts see of an allocator, how cached blocks and L2 tables are used, and how a counter of a block is read or changed.
-use Rattle.std.specs.Prelude.{◌≡◌, ◌⊎◌, ℕ, ◌-◌, ◌/◌, ◌%◌, ◌<◌, ◌≤◌, ◌^◌, Option, Some, None, Result, Ok, Err, MatchOption, IfErr, IfOk, OnOk, nat_eq, if◌then◌else◌, ◌==◌, List, slice_index, length}
+use Rattle.std.specs.Prelude.{◌≡◌, ◌⊎◌, ℕ, ◌-◌, ◌/◌, ◌%◌, ◌<◌, ◌≤◌, ◌^◌, Option, Some, None, Result, Ok, Err, MatchOption, IfErr, IfOk, nat_eq, if◌then◌else◌, ◌==◌, List, slice_index, length}
 use Rattle.std.specs.Option.{option_map}
 use Rattle.std.specs.Map.{lookup}
 use Rattle.imago_storage.specs.State.{StorageState}
-use Rattle.imago_storage.specs.Calls.{Kept}
+use Rattle.imago_storage.specs.Calls.{Kept, IsFaultless}
 use Rattle.imago_storage.specs.declared.fault.Fault.{Fault}
 use Rattle.imago_storage.specs.declared.fault.Fault.TheVariants.{DamagedTable, Counter}
 use Rattle.qcow2_types.specs.Bytes.{bytes_of}
@@ -20,6 +20,7 @@ use Rattle.qcow2_alloc.specs.Cache.{hit}
 use Rattle.qcow2_alloc.specs.Caches.{cached_in, order_of}
 use Rattle.qcow2_alloc.specs.CachesLending.{with_tables, with_blocks}
 use Rattle.qcow2_alloc.specs.Finding.{TableFound, BlockFound}
+use Rattle.qcow2_alloc.specs.Going.{WasNotCutOff}
 use Rattle.qcow2_alloc.specs.Quiet.{Metadata, IsTableOf}
 
 -- the refcount table in memory, and the cluster where the search for free ones begins
@@ -96,4 +97,4 @@ pub record LoadsAllocator (old : StorageState) (h : Fields) (result : Result All
   pub out : (IsTablePlaced h → ⊥) → (result ≡ Err DamagedTable) × (new ≡ old)
   pub err : IsTablePlaced h → IfErr result (WhyNotLoaded block_words (layout_of h) (words_in (bytes_of old.bytes) h.refcount_table_offset (refcount_table_entries h)) old.faults new.faults)
   pub kept : Kept old new
-  pub faults : OnOk result (new.faults ≡ old.faults)
+  pub faults : WasNotCutOff result → IsFaultless old new

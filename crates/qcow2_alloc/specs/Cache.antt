@@ -1,11 +1,11 @@
 -- What a cache of tables does.
-use Rattle.std.specs.Prelude.{◌≡◌, ℕ, ◌==◌, ◌<◌, ◌≤◌, Bool, true, false, cond, List, [], ◌∷◌, ◌++◌, Option, Some, None, IsSome, ◌⊎◌, Result, Ok, Err, nat_lt, length}
+use Rattle.std.specs.Prelude.{◌≡◌, ℕ, ◌==◌, ◌<◌, ◌≤◌, Bool, true, false, not, ◌&&◌, cond, List, [], ◌∷◌, ◌++◌, Option, Some, None, IsSome, ◌⊎◌, Result, Ok, Err, nat_lt, length}
 use Rattle.std.specs.Option.{option_map_or}
 use Rattle.std.specs.List.{filter}
 use Rattle.std.specs.Map.{lookup, lookup_entry, remove_entry, set_value}
 use Rattle.lru.specs.LruCache.{lru_cache}
 use Rattle.imago_storage.specs.declared.fault.Fault.{Fault}
-use Rattle.imago_storage.specs.declared.fault.Fault.TheVariants.{CacheFull, Memory}
+use Rattle.imago_storage.specs.declared.fault.Fault.TheVariants.{CacheFull, Memory, Storage}
 use Rattle.qcow2_alloc.specs.declared.async_lru_cache.Slot.{Slot}
 use Rattle.qcow2_alloc.specs.declared.async_lru_cache.AsyncLruCache.{AsyncLruCache}
 
@@ -108,10 +108,17 @@ abbrev pub fault_of : {T : Type 0} → Result T Fault → Option Fault
 fault_of (Ok value) = None
 fault_of (Err fault) = Some fault
 
--- the latest fault, after one more answer
+-- neither want of memory nor a storage that failed
+abbrev pub is_mild : Fault → Bool
+is_mild Memory = false
+is_mild Storage = false
+is_mild fault = true
+
+-- the fault to tell, after one more answer: the latest, but a mild one doesn't take the place of one that isn't
 abbrev pub latest : Option Fault → Result Unit Fault → Option Fault
 latest first (Ok done) = first
-latest first (Err fault) = Some fault
+latest None (Err fault) = Some fault
+latest (Some earlier) (Err fault) = Some (cond (not (is_mild earlier) && is_mild fault) earlier fault)
 
 module _ {K V D : Type 0} (flushes : D → K → V → Result Unit Fault → D → V → Type 0) where
   -- the last value was flushed in place, and its entry goes first

@@ -2,6 +2,7 @@
 use Rattle.std.specs.Prelude.{◌≡◌, ◌⊎◌, ⊤, ℕ, ◌<◌, ◌≤◌, IsTrue, Result, MatchResult, OnOk, Bool, List, [], ◌∷◌, Some, length, nat_eq, not, true, false}
 use Rattle.std.specs.List.{filter}
 use Rattle.imago_storage.specs.State.{StorageState, Rose}
+use Rattle.imago_storage.specs.Calls.{IsFaultless}
 use Rattle.imago_storage.specs.declared.fault.Fault.{Fault}
 use Rattle.imago_storage.specs.declared.fault.Fault.TheVariants.{Memory, Storage, DamagedTable, CacheFull, Counter}
 use Rattle.qcow2_types.specs.Pending.{FreeEntry}
@@ -69,6 +70,7 @@ IsWholeOrCalm result old new = WasNotCutOff result ⊎ IsCalm old new
 -- Clusters were counted down, and what waits to be freed is less by them. The mark stays, or falls to a cluster that waited and was freed.
 -- What contracts see of an image: its file, its caches, the mark, and what waits to be freed.
 pub record Frees {S : Type 0} (state : S → StorageState) (table : TableValue) (old : MetadataCaches S) (before : ImageFile S) (mark : ℕ) (pending : List FreeEntry) (result : Result Unit Fault) (new : MetadataCaches S) (after : ImageFile S) (mark' : ℕ) (pending' : List FreeEntry) : Type 0 where
+  pub faults : WasNotCutOff result → IsFaultless (state before.image) (state after.image)
   pub quiet : Quietly (IsWholeOrCalm result (state before.image) (state after.image)) (λ _. 0) (λ _. 0) (state before.image) (metadata_of state before old table pending) (state after.image) (metadata_of state after new table pending')
   pub marked : IsTrue (state before.image).shape.keeps → IsSound (metadata_of state before old table pending) → IsWholeOrCalm result (state before.image) (state after.image) → IsMarked (metadata_of state before old table pending) mark → IsMarked (metadata_of state after new table pending') mark'
   pub lower : mark' ≤ mark

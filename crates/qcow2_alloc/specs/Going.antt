@@ -2,7 +2,7 @@
 use Rattle.std.specs.Prelude.{◌≡◌, ◌⊎◌, ℕ, ⊤, IsTrue, true, Result, IsErr, Ok, Err, MatchResult}
 use Rattle.std.specs.List.{AllByRecursion}
 use Rattle.imago_storage.specs.State.{StorageState, Rose}
-use Rattle.imago_storage.specs.Calls.{Later}
+use Rattle.imago_storage.specs.Calls.{Later, IsFaultless}
 use Rattle.imago_storage.specs.Passing.{Passes}
 use Rattle.imago_storage.specs.declared.fault.Fault.{Fault}
 use Rattle.imago_storage.specs.declared.fault.Fault.TheVariants.{Memory, Storage, DamagedTable}
@@ -33,6 +33,7 @@ Always cached = ⊤
 pub record Going (H : Header) (order : CacheDependency) (Ready : Cached → Type 0) (ok : Type 0) (old : StorageState) (cached : Cached) (new : StorageState) (cached' : Cached) : Type 0 where
   pub shape : new.shape ≡ old.shape
   pub later : Later old new
+  pub faults : ok → IsFaultless old new
   pub ready : Ready cached → Ready cached'
   pub passes : IsTrue old.shape.keeps → Safe (bytes_of old.bytes) H cached order → Ready cached → Passes (λ x. IsLeft (bytes_of old.bytes) (memory (bytes_of old.bytes) H.fields cached) H (bytes_of x)) old new
   pub holds : IsTrue old.shape.keeps → Safe (bytes_of old.bytes) H cached order → Ready cached → ok ⊎ IsCalm old new → IsSettled H order old.bytes cached new.bytes cached'

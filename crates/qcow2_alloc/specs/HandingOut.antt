@@ -1,6 +1,7 @@
 -- What the public calls do that hand out clusters and let the refcount table grow.
 use Rattle.std.specs.Prelude.{◌≡◌, ◌≢◌, ⊤, ◌⊎◌, ◌==◌, ℕ, ◌+◌, ◌-◌, ◌/◌, ◌<◌, ◌≤◌, ◌++◌, [], if◌then◌else◌, Bool, false, IsTrue, List, Option, Some, None, Result, OnOk, OnErr, IfOk, IfErr, Ok, Err, MatchResult, length}
 use Rattle.imago_storage.specs.State.{StorageState}
+use Rattle.imago_storage.specs.Calls.{IsFaultless}
 use Rattle.imago_storage.specs.declared.fault.Fault.{Fault}
 use Rattle.imago_storage.specs.declared.fault.Fault.TheVariants.{Limit}
 use Rattle.qcow2_types.specs.Header.{words_of_cluster}
@@ -34,6 +35,7 @@ pub record StaysInShape {S : Type 0} (table : TableValue) (old : MetadataCaches 
 -- then. A sound image stays sound, and its disk as it is, stops included. Refused without being cut off, table, header and list are what they
 -- were, and nothing is counted otherwise unless the cache is full of what is pinned.
 pub record GrowsReftable {S : Type 0} (state : S → StorageState) (mark at : ℕ) (table : TableValue) (old : MetadataCaches S) (before : ImageFile S) (pending : List FreeEntry) (result : Result Unit Fault) (table' : TableValue) (new : MetadataCaches S) (after : ImageFile S) (pending' : List FreeEntry) : Type 0 where
+  pub faults : WasNotCutOff result → IsFaultless (state before.image) (state after.image)
   pub leaked : ℕ → ℕ
   pub leaks : Leaks (IsTrue (state before.image).shape.keeps × IsSound (metadata_of state before old table pending)) (IsLoose table old) result leaked
   pub quiet : Quietly (WasNotCutOff result) leaked (λ _. 0) (state before.image) (metadata_of state before old table pending) (state after.image) (metadata_of state after new table' pending')
@@ -74,6 +76,7 @@ AreUnnamed m entry = (c : ℕ) → entry.first ≤ c → c < entry.first + entry
 -- Clusters in a row are handed out: first what waits is freed, then it is announced that blocks are written before tables, and then the first run of
 -- n clusters from the mark on is taken of which none is counted. A sound image stays sound, and its disk as it is, stops included.
 pub record AllocatesClusters {S : Type 0} (state : S → StorageState) (mark n : ℕ) (metadata : Bool) (table : TableValue) (old : MetadataCaches S) (before : ImageFile S) (pending : List FreeEntry) (result : Result FreeEntry Fault) (table' : TableValue) (new : MetadataCaches S) (after : ImageFile S) (pending' : List FreeEntry) (mark' : ℕ) : Type 0 where
+  pub faults : WasNotCutOff result → IsFaultless (state before.image) (state after.image)
   pub leaked : ℕ → ℕ
   pub leaks : Leaks (IsTrue (state before.image).shape.keeps × IsSound (metadata_of state before old table pending)) (IsLoose table old) result leaked
   pub quiet : Quietly (WasNotCutOff result) (handed_by result leaked) (λ _. 0) (state before.image) (metadata_of state before old table pending) (state after.image) (metadata_of state after new table' pending')
@@ -148,6 +151,7 @@ mark_past mark cluster None = mark
 -- One cluster is handed out if it is free: first it is announced that blocks are written before tables. A sound image stays sound, and its disk as it
 -- is, stops included. What waits to be freed waits on.
 pub record AllocatesClusterAt {S : Type 0} (state : S → StorageState) (mark cluster : ℕ) (table : TableValue) (old : MetadataCaches S) (before : ImageFile S) (pending : List FreeEntry) (result : Result (Option FreeEntry) Fault) (table' : TableValue) (new : MetadataCaches S) (after : ImageFile S) (pending' : List FreeEntry) (mark' : ℕ) : Type 0 where
+  pub faults : WasNotCutOff result → IsFaultless (state before.image) (state after.image)
   pub leaked : ℕ → ℕ
   pub leaks : Leaks (IsTrue (state before.image).shape.keeps × IsSound (metadata_of state before old table pending)) (IsLoose table old) result leaked
   pub quiet : Quietly (WasNotCutOff result) (handed_at result leaked) (λ _. 0) (state before.image) (metadata_of state before old table pending) (state after.image) (metadata_of state after new table' pending')

@@ -2,7 +2,7 @@
 use Rattle.std.specs.Prelude.{◌≡◌, ◌≢◌, ⊤, ℕ, ◌+◌, ◌*◌, ◌/◌, ◌<◌, Bool, IsTrue, Result, Ok, Err, List, slice_index}
 use Rattle.std.specs.Int.{w64, to_be_bytes}
 use Rattle.imago_storage.specs.State.{StorageState}
-use Rattle.imago_storage.specs.Calls.{Later}
+use Rattle.imago_storage.specs.Calls.{Later, IsFaultless}
 use Rattle.imago_storage.specs.Through.{PutAtOnce}
 use Rattle.imago_storage.specs.declared.fault.Fault.{Fault}
 use Rattle.imago_storage.specs.declared.fault.Fault.TheVariants.{DamagedTable, Limit}
@@ -56,7 +56,7 @@ pub record Begins {S : Type 0} (state : S → StorageState) (table : TableValue)
   pub quiet : order_of old ≡ L2DependsOnRb → Quietly ⊤ handed (λ _. 0) (state before.image) (metadata_of state before old table pending) (state after.image) (metadata_of state after new table pending)
   pub raised : order_of old ≡ L2DependsOnRb → IsTrue (state before.image).shape.keeps → IsSound (metadata_of state before old table pending)
       → OnlyRaised (metadata_of state before old table pending) (metadata_of state after new table pending)
-  pub faults : (state after.image).faults ≡ (state before.image).faults
+  pub faults : IsFaultless (state before.image) (state after.image)
   pub header : after.header ≡ before.header
   pub order : new.order ≡ old.order
   pub loose : (any : Bool) → IsLoose table old any → IsLoose table new any

@@ -2,7 +2,7 @@
 use Rattle.std.specs.Prelude.{◌≡◌, ◌≢◌, ⊤, true, ℕ, ◌+◌, ◌-◌, ◌*◌, ◌/◌, ◌%◌, ◌^◌, ◌<◌, ◌≤◌, ◌++◌, false, IsTrue, List, Some, None, Result, Ok, Err, OnOk, OnErr, IfErr, MatchResult, length, slice_index, nat_eq, Bool}
 use Rattle.std.specs.Map.{lookup}
 use Rattle.imago_storage.specs.State.{StorageState}
-use Rattle.imago_storage.specs.Calls.{Later}
+use Rattle.imago_storage.specs.Calls.{Later, IsFaultless}
 use Rattle.imago_storage.specs.Through.{Put, PutAtOnce}
 use Rattle.imago_storage.specs.declared.fault.Fault.{Fault}
 use Rattle.imago_storage.specs.declared.fault.Fault.TheVariants.{Memory, DamagedTable, Limit}
@@ -171,6 +171,7 @@ module _ {S : Type 0} (state : S → StorageState) where
     pub leaks : Leaks (known × IsTrue (state before.image).shape.keeps × IsSound (metadata_of state before old table pending)) (IsLoose table old) result leaked
     pub shape : (state after.image).shape ≡ (state before.image).shape
     pub later : Later (state before.image) (state after.image)
+    pub faults : WasNotCutOff result → IsFaultless (state before.image) (state after.image)
     pub quiet : known → Quietly (WasNotCutOff result) leaked (λ _. 0) (state before.image) (metadata_of state before old table pending) (state after.image) (metadata_of state after new table' pending')
     pub raised : known → IsTrue (state before.image).shape.keeps → IsSound (metadata_of state before old table pending) → WasNotCutOff result
         → OnlyRaised (metadata_of state before old table pending) (metadata_of state after new table' pending')

@@ -1,7 +1,7 @@
 -- How the refcount blocks that are lacking for a run are written to its first clusters.
 use Rattle.std.specs.Prelude.{◌≡◌, ◌⊎◌, true, ℕ, ◌+◌, ◌*◌, ◌/◌, ◌%◌, ◌<◌, ◌≤◌, IsTrue, Result, Ok, length, slice_index, MatchResult}
 use Rattle.imago_storage.specs.State.{StorageState}
-use Rattle.imago_storage.specs.Calls.{Later, Cause}
+use Rattle.imago_storage.specs.Calls.{Later, IsFaultless, Cause}
 use Rattle.imago_storage.specs.declared.fault.Fault.{Fault}
 use Rattle.qcow2_types.specs.Bytes.{Bytes, bytes_of}
 use Rattle.qcow2_types.specs.Header.{Fields, Header, cluster_size}
@@ -41,6 +41,7 @@ pub record MayWrite (h : Header) (first n : ℕ) (taken : ℕ → ℕ) (s : Stor
 pub record WritesClusters (h : Header) (first n : ℕ) (old : StorageState) (result : Result Unit Fault) (new : StorageState) : Type 0 where
   pub shape : new.shape ≡ old.shape
   pub later : Later old new
+  pub faults : WasNotCutOff result → IsFaultless old new
   pub whole : WasNotCutOff result → result ≡ Ok tt
   pub cause : MatchResult result (λ _. new.faults ≡ old.faults) (Cause old.faults new.faults)
   pub quiet : (m : Metadata) (taken : ℕ → ℕ) → MayWrite h first n taken old m → Quietly (WasNotCutOff result) taken taken old m new (with_file m new)

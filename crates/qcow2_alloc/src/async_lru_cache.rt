@@ -14,9 +14,6 @@ use std::alloc::Global;
 use std::hash::Hash;
 use std::num::NonZeroUsize;
 
-#[cfg(test)]
-mod tests;
-
 /// Loads and flushes the entries of a cache.
 pub trait AsyncLruCacheBackend {
     /// What a value is found by.
@@ -350,7 +347,8 @@ impl<K: Copy + Eq + Hash, V: Drop, B: AsyncLruCacheBackend<Key = K, Value = V>> 
         }
     }
 
-    /// Flushes every value in place, the least recently used first, past faults too, and answers the last of those. The order of use stays.
+    /// Flushes every value in place, the least recently used first, past faults too, and answers the last of those; but where one was
+    /// `Fault::Memory` or `Fault::Storage`, the last of these. The order of use stays.
     pub fn flush(&mut self, device: &mut B::Device) -> Result<(), Fault>
         ensures flushed { FlushedEach B.flushes device.old self.old.slots.entries (fault_of result) device.new self.new.slots.entries }
         ensures others { self.new ≡ with_entries self.old self.new.slots.entries }
@@ -413,9 +411,10 @@ impl<K: Copy + Eq + Hash, V: Drop, B: AsyncLruCacheBackend<Key = K, Value = V>> 
         }
     }
 
-    // Drops the value at a key, if it is there, without flushing it. It refuses with `Fault::CacheFull` where that is pinned, and then changes
-    // nothing.
-    pub(crate) fn forget(&mut self, key: K) -> Result<(), Fault>
+    /// Drops the value at a key, if it is there, without flushing it.
+    ///
+    /// It refuses with `Fault::CacheFull` where that is pinned, and then changes nothing.
+    pub fn forget(&mut self, key: K) -> Result<(), Fault>
         ensures pinned { IsSomeAnd (lookup (K.eq key) self.old.slots.entries) (λ s. 0 < s.pins) → IsErr result }
         ensures ok { OnOk result (self.new ≡ with_entries self.old (remove_entry (K.eq key) self.old.slots.entries)) }
         ensures err { IfErr result (λ e. (e ≡ Fault.CacheFull) × IsSomeAnd (lookup (K.eq key) self.old.slots.entries) (λ s. 0 < s.pins) × (self.new ≡ self.old)) }
@@ -471,8 +470,25 @@ impl<K: Copy + Eq + Hash, V: Drop, B: AsyncLruCacheBackend<Key = K, Value = V>> 
 fn latest(first: Option<Fault>, answer: Result<(), Fault>) -> Option<Fault>
     ensures { result ≡ spec.latest first answer }
 {
-    match answer {
-        Ok(()) => first,
-        Err(fault) => Some(fault),
+    let fault = match answer {
+        Ok(()) => return first,
+        Err(fault) => fault,
+    };
+    match first {
+        Some(earlier) => {
+            if !is_mild(earlier) && is_mild(fault) {
+                Some(earlier)
+            } else {
+                Some(fault)
+            }
+        }
+        None => Some(fault),
     }
+}
+
+// Whether a fault is neither want of memory nor of the storage.
+fn is_mild(fault: Fault) -> bool
+    ensures { result ≡ spec.is_mild fault }
+{
+    !matches!(fault, Fault::Memory | Fault::Storage)
 }

@@ -151,7 +151,8 @@ pub struct MetadataCaches<S: Storage> {
 }
 
 impl<S: Storage> MetadataCaches<S> {
-    ghost use Rattle.qcow2_alloc.specs.Going.{Going, ReadyTables, ReadyBlocks, Always, AreTablesInReach, AreBlocksInReach, CountsWrites, WritesTables, WritesBlocks, InTurn};
+    ghost use Rattle.imago_storage.specs.Calls.{IsFaultless};
+    ghost use Rattle.qcow2_alloc.specs.Going.{Going, ReadyTables, ReadyBlocks, Always, AreTablesInReach, AreBlocksInReach, CountsWrites, WasNotCutOff, WritesTables, WritesBlocks, InTurn};
     ghost use Rattle.qcow2_alloc.specs.Safety.{Safe, AreTablesClean, AreBlocksClean};
     ghost use Rattle.qcow2_types.specs.Bytes.{Bytes};
     ghost use Rattle.qcow2_types.specs.Header.{Header};
@@ -196,6 +197,7 @@ impl<S: Storage> MetadataCaches<S> {
         ensures others { (self.new.rb ≡ self.old.rb) × (self.new.order ≡ self.old.order) × (file.new.header ≡ file.old.header) }
         ensures room { HasRoomOf self.old self.new }
         ensures cause { CountsWrites (AreTablesInReach (cached_in self.old)) (S.state file.old.image).faults (S.state file.new.image).faults result }
+        ensures faults { WasNotCutOff result → IsFaultless (S.state file.old.image) (S.state file.new.image) }
         ensures written { WritesTables (S.state file.old.image) (cached_in self.old) result (S.state file.new.image) (cached_in self.new) }
     {
         self.l2.flush(file)
@@ -209,6 +211,7 @@ impl<S: Storage> MetadataCaches<S> {
         ensures others { (self.new.l2 ≡ self.old.l2) × (self.new.order ≡ self.old.order) × (file.new.header ≡ file.old.header) }
         ensures room { HasRoomOf self.old self.new }
         ensures cause { CountsWrites (AreBlocksInReach (cached_in self.old)) (S.state file.old.image).faults (S.state file.new.image).faults result }
+        ensures faults { WasNotCutOff result → IsFaultless (S.state file.old.image) (S.state file.new.image) }
         ensures written { WritesBlocks (S.state file.old.image) (cached_in self.old) result (S.state file.new.image) (cached_in self.new) }
     {
         self.rb.flush(file)
@@ -223,6 +226,7 @@ impl<S: Storage> MetadataCaches<S> {
         ensures others { (self.new.l2 ≡ self.old.l2) × (self.new.order ≡ self.old.order) × (file.new.header ≡ file.old.header) }
         ensures room { HasRoomOf self.old self.new }
         ensures cause { CountsWrites (AreBlocksInReach (cached_in self.old)) (S.state file.old.image).faults (S.state file.new.image).faults result }
+        ensures faults { WasNotCutOff result → IsFaultless (S.state file.old.image) (S.state file.new.image) }
         ensures written { order_of self.old ≡ L2DependsOnRb → WritesBlocks (S.state file.old.image) (cached_in self.old) result (S.state file.new.image) (cached_in self.new) }
     {
         if self.order == CacheDependency::L2DependsOnRb {
@@ -240,6 +244,7 @@ impl<S: Storage> MetadataCaches<S> {
         ensures others { (self.new.rb ≡ self.old.rb) × (self.new.order ≡ self.old.order) × (file.new.header ≡ file.old.header) }
         ensures room { HasRoomOf self.old self.new }
         ensures cause { CountsWrites (AreTablesInReach (cached_in self.old)) (S.state file.old.image).faults (S.state file.new.image).faults result }
+        ensures faults { WasNotCutOff result → IsFaultless (S.state file.old.image) (S.state file.new.image) }
         ensures written { order_of self.old ≡ RbDependsOnL2 → WritesTables (S.state file.old.image) (cached_in self.old) result (S.state file.new.image) (cached_in self.new) }
     {
         if self.order == CacheDependency::RbDependsOnL2 {
@@ -260,6 +265,7 @@ impl<S: Storage> MetadataCaches<S> {
         ensures tables { (order_of self.old ≡ RbDependsOnL2 → ⊥) → self.new.l2 ≡ self.old.l2 }
         ensures room { HasRoomOf self.old self.new }
         ensures cause { CountsWrites (AreTablesInReach (cached_in self.old) × AreBlocksInReach (cached_in self.old)) (S.state file.old.image).faults (S.state file.new.image).faults result }
+        ensures faults { WasNotCutOff result → IsFaultless (S.state file.old.image) (S.state file.new.image) }
         ensures alone { (order_of self.old ≡ RbDependsOnL2 → ⊥) → WritesBlocks (S.state file.old.image) (cached_in self.old) result (S.state file.new.image) (cached_in self.new) }
         ensures in_turn { order_of self.old ≡ RbDependsOnL2 → InTurn WritesTables WritesBlocks (S.state file.old.image) (cached_in self.old) result (S.state file.new.image) (cached_in self.new) }
     {
@@ -278,6 +284,7 @@ impl<S: Storage> MetadataCaches<S> {
         ensures blocks { (order_of self.old ≡ L2DependsOnRb → ⊥) → self.new.rb ≡ self.old.rb }
         ensures room { HasRoomOf self.old self.new }
         ensures cause { CountsWrites (AreTablesInReach (cached_in self.old) × AreBlocksInReach (cached_in self.old)) (S.state file.old.image).faults (S.state file.new.image).faults result }
+        ensures faults { WasNotCutOff result → IsFaultless (S.state file.old.image) (S.state file.new.image) }
         ensures alone { (order_of self.old ≡ L2DependsOnRb → ⊥) → WritesTables (S.state file.old.image) (cached_in self.old) result (S.state file.new.image) (cached_in self.new) }
         ensures in_turn { order_of self.old ≡ L2DependsOnRb → InTurn WritesBlocks WritesTables (S.state file.old.image) (cached_in self.old) result (S.state file.new.image) (cached_in self.new) }
     {
@@ -299,6 +306,7 @@ impl<S: Storage> MetadataCaches<S> {
         ensures others { (self.new.order ≡ self.old.order) × (file.new.header ≡ file.old.header) }
         ensures room { HasRoomOf self.old self.new }
         ensures cause { CountsWrites (AreTablesInReach (cached_in self.old) × AreBlocksInReach (cached_in self.old)) (S.state file.old.image).faults (S.state file.new.image).faults result }
+        ensures faults { WasNotCutOff result → IsFaultless (S.state file.old.image) (S.state file.new.image) }
         ensures blocks_first { order_of self.old ≡ L2DependsOnRb → InTurn WritesBlocks WritesTables (S.state file.old.image) (cached_in self.old) result (S.state file.new.image) (cached_in self.new) }
         ensures tables_first { (order_of self.old ≡ L2DependsOnRb → ⊥) → InTurn WritesTables WritesBlocks (S.state file.old.image) (cached_in self.old) result (S.state file.new.image) (cached_in self.new) }
     {
@@ -330,6 +338,7 @@ impl<S: Storage> MetadataCaches<S> {
         ensures header { file.new.header ≡ file.old.header }
         ensures room { HasRoomOf self.old self.new }
         ensures cause { CountsWrites (AreTablesInReach (cached_in self.old)) (S.state file.old.image).faults (S.state file.new.image).faults result }
+        ensures faults { WasNotCutOff result → IsFaultless (S.state file.old.image) (S.state file.new.image) }
         ensures written { order_of self.old ≡ RbDependsOnL2 → WritesTables (S.state file.old.image) (cached_in self.old) result (S.state file.new.image) (cached_in self.new) }
     {
         if let Err(fault) = self.before_blocks(file) {
@@ -355,6 +364,7 @@ impl<S: Storage> MetadataCaches<S> {
         ensures header { file.new.header ≡ file.old.header }
         ensures room { HasRoomOf self.old self.new }
         ensures cause { CountsWrites (AreBlocksInReach (cached_in self.old)) (S.state file.old.image).faults (S.state file.new.image).faults result }
+        ensures faults { WasNotCutOff result → IsFaultless (S.state file.old.image) (S.state file.new.image) }
         ensures written { order_of self.old ≡ L2DependsOnRb → WritesBlocks (S.state file.old.image) (cached_in self.old) result (S.state file.new.image) (cached_in self.new) }
     {
         if let Err(fault) = self.before_tables(file) {

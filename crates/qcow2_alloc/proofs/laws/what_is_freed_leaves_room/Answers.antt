@@ -1,4 +1,4 @@
-use Rattle.std.proofs.Common.{◌≡◌, ℕ, ◌+◌, ◌≤◌, arith, ap, sym, subst}
+use Rattle.std.proofs.Common.{◌+◌, ◌≤◌, arith, sym, subst}
 use Rattle.qcow2_types.specs.Header.{Header}
 use Rattle.qcow2_alloc.specs.Crowding.{space, room_for}
 use Rattle.qcow2_alloc.proofs.laws.what_is_freed_leaves_room.Goals as goal

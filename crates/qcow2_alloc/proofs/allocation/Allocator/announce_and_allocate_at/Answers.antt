@@ -13,7 +13,7 @@ returns-in-Ok-clause-allocates g c =
     let a = c.l2_depends_on_rb.new in
     let new = c.allocate_at.new in
     let done = c.in-Ok.ensures in
-    let first = announced state t entries c.args.caches.now c.args.file.now a.self a.file done.kept done.blocks done.header done.room succeeded done.going done.announced done.safe done.cause in
+    let first = announced state t entries c.args.caches.now c.args.file.now a.self a.file done.kept done.blocks done.header done.room succeeded done.going done.announced done.safe done.cause done.faults in
     at-announced state (mark_of c.args.self.now) c.args.cluster t c.args.caches.now c.args.file.now entries a.self a.file first c.allocate_at.result (table_of new.self) new.caches new.file new.list.entries (mark_of new.self) c.allocate_at.ensures.allocates
 
 pub returns-in-Err-clause-allocates : goal.returns-in-Err-clause-allocates
@@ -24,4 +24,4 @@ returns-in-Err-clause-allocates g c =
     let a = c.l2_depends_on_rb.new in
     let done = c.in-Err.ensures in
     at-not-announced state (mark_of c.args.self.now) c.args.cluster t c.args.caches.now c.args.file.now entries a.self a.file c.in-Err.fault
-    (announced state t entries c.args.caches.now c.args.file.now a.self a.file done.kept done.blocks done.header done.room (failed c.in-Err.fault) done.going tt tt done.cause)
+    (announced state t entries c.args.caches.now c.args.file.now a.self a.file done.kept done.blocks done.header done.room (failed c.in-Err.fault) done.going tt tt done.cause done.faults)

@@ -39,7 +39,7 @@ returns-in-Ok-l2_depends_on_rb-clause-grows g c =
     let a = c.l2_depends_on_rb.new in
     let new = c.place_grown.new in
     let done = c.in-Ok-l2_depends_on_rb.ensures in
-    let first = announced state t entries c.args.caches.now c.args.file.now a.self a.file done.kept done.blocks done.header done.room succeeded done.going done.announced done.safe done.cause in
+    let first = announced state t entries c.args.caches.now c.args.file.now a.self a.file done.kept done.blocks done.header done.room succeeded done.going done.announced done.safe done.cause done.faults in
     let grown = subst (λ (H : Header). IsGrownFor H.fields t c.args.index c.in-Ok.copy) (sym done.header) c.in-Ok.ensures.ok in
     let grows = subst (λ (l : FreeList). GrowsTable state (mark_of c.args.self.now) c.args.index t a.self a.file l.entries c.place_grown.result (table_of new.self) new.caches new.file new.list.entries) c.in_default.ensures.ok (c.place_grown.ensures.grows c.args.index grown) in
     announced-grows state (mark_of c.args.self.now) c.args.index t c.args.caches.now c.args.file.now entries a.self a.file first c.place_grown.result (table_of new.self) new.caches new.file new.list.entries grows
@@ -54,4 +54,4 @@ returns-in-Err-l2_depends_on_rb-clause-grows g c =
     let still = ap (λ (l : FreeList). l.entries) c.release.ensures ∙ ap (λ (l : FreeList). l.entries) c.in_default.ensures.ok in
     subst (λ (es : List FreeEntry). GrowsReftable state (mark_of c.args.self.now) c.args.index t c.args.caches.now c.args.file.now entries (failed c.in-Err-l2_depends_on_rb.fault) t a.self a.file es) (sym still)
     (not-announced state (mark_of c.args.self.now) c.args.index t c.args.caches.now c.args.file.now entries a.self a.file c.in-Err-l2_depends_on_rb.fault
-    (announced state t entries c.args.caches.now c.args.file.now a.self a.file done.kept done.blocks done.header done.room (failed c.in-Err-l2_depends_on_rb.fault) done.going tt tt done.cause))
+    (announced state t entries c.args.caches.now c.args.file.now a.self a.file done.kept done.blocks done.header done.room (failed c.in-Err-l2_depends_on_rb.fault) done.going tt tt done.cause done.faults))

@@ -80,7 +80,7 @@ returns-in-Err-flush_rb-clause-makes g c = λ first f pending begun free.
     let flushed = c.flush_rb.new in
     let done = c.in-Err-flush_rb.ensures in
     let raises = subst (λ (m : MetadataCaches _). RaisesCluster state table c.args.place m c.args.file.now succeeded mid.caches mid.file) c.in_default-rb_forget.ensures.ok c.in_default-count_cluster.ensures in
-    unwritten-made state table pending first f c.args.index c.args.place c.args.caches.now c.args.file.now begun free mid.caches mid.file raises c.in-Err-flush_rb.fault flushed.self flushed.file done.going done.kept done.others done.room done.cause
+    unwritten-made state table pending first f c.args.index c.args.place c.args.caches.now c.args.file.now begun free mid.caches mid.file raises c.in-Err-flush_rb.fault flushed.self flushed.file done.going done.kept done.others done.room done.cause done.faults
 
 pub returns-in-Ok-flush_rb-clause-at : goal.returns-in-Ok-flush_rb-clause-at
 returns-in-Ok-flush_rb-clause-at g c =

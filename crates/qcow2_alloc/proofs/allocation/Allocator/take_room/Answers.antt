@@ -22,7 +22,7 @@ returns-in-Err-flush_rb g c = λ pending.
     let D = c.flush_rb.new in
     let e = c.in-Err-flush_rb.ensures in
     record {
-      counts = flushed-then state table pending c.args.room c.args.caches.now c.args.file.now C.caches C.file (c.in_default.ensures pending) (Err c.in-Err-flush_rb.fault) D.self D.file e.going e.kept e.others e.room e.cause;
+      counts = flushed-then state table pending c.args.room c.args.caches.now c.args.file.now C.caches C.file (c.in_default.ensures pending) (Err c.in-Err-flush_rb.fault) D.self D.file e.going e.kept e.others e.room e.cause e.faults;
       taken = λ order keeps sound zero. tt;
     }
 

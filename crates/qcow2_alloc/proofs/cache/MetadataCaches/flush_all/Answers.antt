@@ -3,6 +3,7 @@ use Rattle.qcow2_types.specs.Header.{Header}
 use Rattle.qcow2_alloc.specs.declared.cache.CacheDependency.{CacheDependency}
 use Rattle.qcow2_alloc.specs.Caches.{cached_in, order_of}
 use Rattle.qcow2_alloc.specs.Going.{Going, ReadyTables, ReadyBlocks, WritesTables, WritesBlocks}
+use Rattle.qcow2_alloc.proofs.Faultless.{faultless-then}
 use Rattle.qcow2_alloc.proofs.Going.{going-ready, in-turn-both, in-turn-halted}
 use Rattle.qcow2_alloc.proofs.cache.MetadataCaches.flush_all.Goals as goal
 
@@ -41,3 +42,9 @@ returns-in-Ok-flush_tables-clause-tables_first g c = λ order. in-turn-both Writ
 
 pub returns-in-Err-flush_tables-clause-tables_first : goal.returns-in-Err-flush_tables-clause-tables_first
 returns-in-Err-flush_tables-clause-tables_first g c = λ order. in-turn-halted WritesTables WritesBlocks _ _ _ _ c.in-Err-flush_tables.fault (c.in-Err-flush_tables.ensures.alone order)
+
+pub returns-in-Ok-clause-faults : goal.returns-in-Ok-clause-faults
+returns-in-Ok-clause-faults g c = λ whole. faultless-then (c.in-Ok.ensures.faults tt) (c.flush_l2.ensures.faults whole)
+
+pub returns-in-Ok-flush_tables-clause-faults : goal.returns-in-Ok-flush_tables-clause-faults
+returns-in-Ok-flush_tables-clause-faults g c = λ whole. faultless-then (c.in-Ok-flush_tables.ensures.faults tt) (c.flush_blocks.ensures.faults whole)

@@ -12,7 +12,7 @@ use Rattle.qcow2_alloc.proofs.Going.{going-weaker, each-flushed}
 use Rattle.qcow2_alloc.proofs.FlushingBlocks.{block-flushed, flushed-clean}
 use Rattle.qcow2_metadata.specs.Blocks.{Block}
 use Rattle.qcow2_metadata.specs.Places.{IsInReach}
-use Rattle.qcow2_alloc.proofs.Counting.{block-counted, each-counted}
+use Rattle.qcow2_alloc.proofs.Counting.{block-counted, each-counted, each-faultless}
 use Rattle.qcow2_alloc.specs.declared.async_lru_cache.Slot.{Slot}
 use Rattle.qcow2_alloc.specs.Memory.{written_table, written_block}
 use Rattle.qcow2_alloc.proofs.Kept.{block-kept}
@@ -46,6 +46,12 @@ pub returns-clause-cause : goal.returns-clause-cause
 returns-clause-cause g c =
     let state = g.S.Storage.state in
     each-counted (λ d. state d.image) _ (λ (key : ℕ) (t : Block). t.modified ≡ true → IsInReach t.cluster_bits key) (λ old key t result new t' flush. block-counted key t (state old.image) (state new.image) result t' flush.1)
+    c.args.file.now c.args.self.now.rb.slots.entries c.flush.result c.flush.new.device c.flush.new.self.slots.entries c.flush.ensures.flushed
+
+pub returns-clause-faults : goal.returns-clause-faults
+returns-clause-faults g c =
+    let state = g.S.Storage.state in
+    each-faultless (λ d. state d.image) _ (λ (key : ℕ) (t : Block). t.modified ≡ true → IsInReach t.cluster_bits key) (λ old key t result new t' flush. block-counted key t (state old.image) (state new.image) result t' flush.1)
     c.args.file.now c.args.self.now.rb.slots.entries c.flush.result c.flush.new.device c.flush.new.self.slots.entries c.flush.ensures.flushed
 
 pub returns-clause-kept : goal.returns-clause-kept

@@ -3,6 +3,7 @@ use Rattle.qcow2_types.specs.Header.{Header}
 use Rattle.qcow2_alloc.specs.declared.cache.CacheDependency.{CacheDependency}
 use Rattle.qcow2_alloc.specs.Caches.{cached_in, order_of}
 use Rattle.qcow2_alloc.specs.Going.{Going, ReadyTables, WritesTables, WritesBlocks}
+use Rattle.qcow2_alloc.proofs.Faultless.{faultless-then}
 use Rattle.qcow2_alloc.proofs.Going.{going-ready, in-turn-both, in-turn-halted}
 use Rattle.qcow2_alloc.proofs.cache.MetadataCaches.flush_tables.Goals as goal
 
@@ -24,3 +25,6 @@ returns-in-Ok-clause-in_turn g c = λ order. in-turn-both WritesBlocks WritesTab
 
 pub returns-in-Err-clause-in_turn : goal.returns-in-Err-clause-in_turn
 returns-in-Err-clause-in_turn g c = λ order. in-turn-halted WritesBlocks WritesTables _ _ _ _ c.in-Err.fault (c.in-Err.ensures.written order)
+
+pub returns-in-Ok-clause-faults : goal.returns-in-Ok-clause-faults
+returns-in-Ok-clause-faults g c = λ whole. faultless-then (c.in-Ok.ensures.faults tt) (c.flush_l2.ensures.faults whole)

@@ -24,4 +24,4 @@ returns-in-Err g c =
     let mid = c.before_tables-written.new.self in
     let done = c.in-Err.ensures in
     table-found-halted g.S.Storage.state c.args.cluster old mid c.args.file.now c.before_tables-written.new.file c.requires.absent c.requires.full (rb-alone old mid done.others.0 done.others.1) done.others.2 done.kept done.room.blocks (λ no. ((done.idle no).1, (done.idle no).2))
-    c.in-Err.fault done.going done.cause (λ no. let ok = (done.idle no).0 in cc) done.written
+    c.in-Err.fault done.going done.cause done.faults (λ no. let ok = (done.idle no).0 in cc) done.written

@@ -24,4 +24,4 @@ returns-in-Err g c =
     let mid = c.before_blocks-written.new.self in
     let done = c.in-Err.ensures in
     block-found-halted g.S.Storage.state c.args.cluster old mid c.args.file.now c.before_blocks-written.new.file c.requires.absent c.requires.full (l2-alone old mid done.others.0 done.others.1) done.others.2 done.kept done.room.tables (λ no. ((done.idle no).1, (done.idle no).2))
-    c.in-Err.fault done.going done.cause (λ no. let ok = (done.idle no).0 in cc) done.written
+    c.in-Err.fault done.going done.cause done.faults (λ no. let ok = (done.idle no).0 in cc) done.written

@@ -26,4 +26,4 @@ returns g c =
     let mid = c.before_blocks-flushed.new.self in
     let done = c.in-Err.ensures in
     block-put-halted g.S.Storage.state c.args.cluster c.args.block old mid c.args.file.now c.before_blocks-flushed.new.file c.requires (l2-alone old mid done.others.0 done.others.1) done.others.2 done.kept (λ no. (done.idle no).1) done.room.tables
-    c.in-Err.fault done.going done.cause (λ no. let ok = (done.idle no).0 in cc) done.written
+    c.in-Err.fault done.going done.cause done.faults (λ no. let ok = (done.idle no).0 in cc) done.written

@@ -1,0 +1,65 @@
+-- Calls that fail no request and have no change refused.
+use Rattle.std.proofs.Common.{◌≡◌, ℕ, refl, ap, sym, subst, ◌∙◌, inl, inr, List, Option, Some, None, Result, Ok, Err, Bool, true, false}
+use Rattle.std.specs.Prelude.{IfSome, MatchOption, not, cond, ◌&&◌}
+use Rattle.imago_storage.specs.State.{StorageState}
+use Rattle.imago_storage.specs.Calls.{Cause, IsFaultless}
+use Rattle.imago_storage.specs.Through.{Put}
+use Rattle.imago_storage.specs.declared.fault.Fault.{Fault}
+use Rattle.imago_storage.specs.declared.fault.Fault.TheVariants.{Memory, Storage}
+use Rattle.qcow2_metadata.specs.Blocks.{Block}
+use Rattle.qcow2_alloc.specs.declared.cache.MetadataCaches.{MetadataCaches}
+use Rattle.qcow2_alloc.specs.declared.file.ImageFile.{ImageFile}
+use Rattle.qcow2_alloc.specs.Allocators.{UsesBlock}
+use Rattle.qcow2_alloc.specs.Cache.{is_mild, latest}
+use Rattle.qcow2_alloc.specs.Going.{IsMild, WasNotCutOff}
+
+-- One that leaves all as it was does so,
+pub faultless-same : (old new : StorageState) → new ≡ old → IsFaultless old new
+faultless-same old new same = (ap (λ (s : StorageState). s.faults) same, ap (λ (s : StorageState). s.refusals) same)
+
+-- and calls one behind the other, by the counts of faults and of refusals.
+pub faultless-then : {a b c r s t : ℕ} → (b ≡ a) × (s ≡ r) → (c ≡ b) × (t ≡ s) → (c ≡ a) × (t ≡ r)
+faultless-then first second = (second.0 ∙ first.0, second.1 ∙ first.1)
+
+-- A storage's refusal isn't mild.
+pub never-mild : (old new : ℕ) (fault : Fault) → Cause old new fault → IsMild fault → ⊥
+never-mild old new Memory cause mild = mild
+never-mild old new Storage cause mild = mild
+never-mild old new fault cause mild = cause
+
+-- So a write that it didn't cut off failed no request.
+pub put-faultless : (old new : StorageState) (at : ℕ) (bytes : List ℕ) (result : Result Unit Fault) → Put old new at bytes result → WasNotCutOff result → IsFaultless old new
+put-faultless old new at bytes (Ok done) put whole = (put.answer.faults, put.answer.refusals)
+put-faultless old new at bytes (Err fault) put whole = absurd (never-mild old.faults new.faults fault put.answer.cause whole)
+
+mild-tested : (fault : Fault) → IsMild fault → is_mild fault ≡ true
+mild-tested Memory mild = absurd mild
+mild-tested Storage mild = absurd mild
+mild-tested fault mild = refl
+
+tested-mild : (fault : Fault) → is_mild fault ≡ true → IsMild fault
+tested-mild Memory is = absurd (cc is)
+tested-mild Storage is = absurd (cc is)
+tested-mild fault is = tt
+
+-- A fault that is told of several is mild only where each is.
+pub mild-later : (first : Option Fault) (result : Result Unit Fault) → IfSome (latest first result) IsMild → IfSome first IsMild × WasNotCutOff result
+mild-later first (Ok done) mild = (mild, tt)
+mild-later None (Err fault) mild = (tt, mild)
+mild-later (Some earlier) (Err fault) mild = by-test (is_mild earlier) (is_mild fault) refl refl mild
+  where
+    by-test : (one two : Bool) → is_mild earlier ≡ one → is_mild fault ≡ two → IsMild (cond (not one && two) earlier fault) → IsMild earlier × IsMild fault
+    by-test true two is is' told = (tested-mild earlier is, told)
+    by-test false true is is' told = absurd (let no = sym is ∙ mild-tested earlier told in cc)
+    by-test false false is is' told = absurd (let no = sym is' ∙ mild-tested fault told in cc)
+
+module _ {S T : Type 0} (state : S → StorageState) (does : Block → Result T Fault → Block → Type 0) (old : MetadataCaches S) (before : ImageFile S) (result : Result T Fault) (new : MetadataCaches S) (after : ImageFile S) where
+  -- The use of a cached block fails no request where it wasn't cut off,
+  uses-faultless : (key : ℕ) → UsesBlock state key does old before result new after → WasNotCutOff result → IsFaultless (state before.image) (state after.image)
+  uses-faultless key (inl (fault, is, found)) whole = found.going.faults (subst (λ (r : Result T Fault). WasNotCutOff r) is whole)
+  uses-faultless key (inr used) whole = used.found.going.faults tt
+
+  -- nor does that of one that a word names, if it names one.
+  pub named-faultless : (o : Option ℕ) (Refused : Type 0) → MatchOption o (Refused × (new ≡ old) × (after ≡ before)) (λ key. UsesBlock state key does old before result new after) → WasNotCutOff result → IsFaultless (state before.image) (state after.image)
+  named-faultless None Refused refused whole = faultless-same (state before.image) (state after.image) (ap (λ (f : ImageFile S). state f.image) refused.2)
+  named-faultless (Some key) Refused uses whole = uses-faultless key uses whole
