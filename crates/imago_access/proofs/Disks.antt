@@ -86,12 +86,21 @@ pub grown_step : (under later : List Layer) (old new : Layer) (size : ℕ) (fill
     → OnOk r (Step (at under) (disk_of under old) (grow size fill) done (disk_of later new))
 grown_step under later old new size fill (Err e) is_free nothing grown stays = tt
 grown_step under later old new size fill (Ok v) is_free nothing grown stays = rw (stays tt) (elim (cases_lt old.size size) [
-  | inl large ↦ let g = grown large in let longer : old.size < new.size = omega (arith, large, g.size) in inr (λ small. omega (arith, small, large), record {
+  | inl large ↦ let g = grown large in let longer : old.size < new.size = omega (arith, large, g.size) in inr (
+    λ small. omega (arith, small, large),
+    record {
       new_size = g.size;
       kept = λ p low. shows_grown old new under p low (omega (arith, longer, low)) (g.kept p low);
       filled = λ p from to. rw (at_inside new under p (omega (arith, to, g.size))) (g.filled p from to);
       is_free = λ p low. ap hold_of (is_free p);
-    })
-  | inr small ↦ inl (small, record { size = ap (λ (l : Layer). l.size) (nothing small); value = λ p low. ap (λ (l : Layer). at (l ∷ under) p) (nothing small);
-      hold = λ p low. ap (λ (l : Layer). hold_of (l.held p)) (nothing small) })
+    },
+  )
+  | inr small ↦ inl (
+    small,
+    record {
+      size = ap (λ (l : Layer). l.size) (nothing small);
+      value = λ p low. ap (λ (l : Layer). at (l ∷ under) p) (nothing small);
+      hold = λ p low. ap (λ (l : Layer). hold_of (l.held p)) (nothing small);
+    },
+  )
 ])

@@ -1,5 +1,5 @@
 -- How the files that an image names are opened.
-use Rattle.std.specs.Prelude.{◌≡◌, ◌⊎◌, [], ℕ, Bool, Option, Some, None, Result, Ok, Err, false, IsTrue}
+use Rattle.std.specs.Prelude.{◌≡◌, ◌⊎◌, [], ℕ, Bool, Option, Some, None, Result, Ok, Err, IfErr, false, IsTrue}
 use Rattle.imago_storage.specs.Options.{OpenOptions}
 use Rattle.imago_storage.specs.State.{StorageState}
 use Rattle.imago_storage.specs.declared.fault.Fault.{Fault}
@@ -29,11 +29,22 @@ pub record IsOpened {D St : Type 0} (g : Ghosts D St) (format : Format) (writabl
   pub still : g.still d
   pub safe : IsTrue (g.layer d).fixed.keeps → g.sound (g.layer d).fixed.kind (g.image d).bytes → g.safe d
 
+-- Each driver that may be opened is one just opened.
+abbrev pub OpensOnly : {D St : Type 0} → Ghosts D St → (D → Type 0) → Format → Bool → ℕ → StorageState → Type 0
+OpensOnly {D} g opens format writable number before = (d : D) → opens d → IsOpened g format writable number before d
+
 -- What was created is handed to the closure that makes the builder for it, and opened by that builder, or by another that was made for that.
 abbrev pub OpensCreated : {S B : Type 0} → (S → Type 0) → (S → Result B Fault → Type 0) → (B → B → Type 0) → (B → Type 0) → Type 0
 OpensCreated {S} {B} hands makes opens_with Opens = (s : S) × (b b' : B) × hands s × makes s (Ok b) × opens_with b b' × Opens b'
+
+-- The driver is one that may be opened then.
+abbrev pub IsOpenedThen : {S B D : Type 0} → (S → Type 0) → (S → Result B Fault → Type 0) → (B → B → Type 0) → (B → D → Type 0) → D → Type 0
+IsOpenedThen hands makes opens_with opens d = OpensCreated hands makes opens_with (λ b. opens b d)
 
 -- Why it isn't created and opened: by a cause of creation, of the closure, or of the builder.
 abbrev pub NotOpened : {S B : Type 0} → (Fault → Type 0) → (S → Type 0) → (S → Result B Fault → Type 0) → (B → B → Type 0) → (B → Fault → Type 0) → Fault → Type 0
 NotOpened {S} {B} refuses hands makes opens_with refused e =
     refuses e ⊎ (((s : S) × hands s × makes s (Err e)) ⊎ OpensCreated hands makes opens_with (λ b. refused b e))
+
+abbrev pub IsUnopened : {T S B : Type 0} → Result T Fault → (Fault → Type 0) → (S → Type 0) → (S → Result B Fault → Type 0) → (B → B → Type 0) → (B → Fault → Type 0) → Type 0
+IsUnopened result refuses hands makes opens_with refused = IfErr result (NotOpened refuses hands makes opens_with refused)

@@ -1,14 +1,25 @@
 -- What calls of a chain are, are refused with and leave, by its drivers before and after.
-use Rattle.std.specs.Prelude.{ℕ, List, Option, map}
-use Rattle.imago_storage.specs.Steps.{Call, Answer, Step, Stays}
+use Rattle.std.specs.Prelude.{◌≡◌, ◌⊎◌, ⊤, ℕ, ◌+◌, ◌<◌, ◌≤◌, List, Option, Some, None, Result, OnOk, IfErr, IsErrOf, IsSome, IsFalse, length, is_some, map}
+use Rattle.imago_storage.specs.Steps.{Call, Answer, Step, Stays, ensure, run, prepare, prepared, commit, cancel, write_mapped, grow, shrink, done}
 use Rattle.imago_storage.specs.Causes.{PartlyDone}
 use Rattle.imago_storage.specs.declared.fault.Fault.{Fault}
+use Rattle.imago_storage.specs.declared.fault.Fault.TheVariants.{ReadOnly, Outdated}
 use Rattle.imago_access.specs.declared.seen.Seen.{Ghosts}
-use Rattle.imago_access.specs.Chain.{at, unit_of_chain}
+use Rattle.imago_access.specs.declared.mapping.Mapping.{Mapping}
+use Rattle.imago_access.specs.declared.mapping.PreparedDataMapping.{PreparedDataMapping}
+use Rattle.imago_access.specs.declared.format.PreallocateMode.{PreallocateMode}
+use Rattle.imago_access.specs.Layer.{Layer}
+use Rattle.imago_access.specs.Chain.{unit_of_chain}
 use Rattle.imago_access.specs.Layers.{chain}
-use Rattle.imago_access.specs.Files.{ImageCause, files_of}
-use Rattle.imago_access.specs.Refusals.{change_refusal, look_refusal, ChangeCause, ReadCause, DeepLookCause}
-use Rattle.imago_access.specs.Running.{chain_disk, below_of}
+use Rattle.imago_access.specs.Changes.{Asked}
+use Rattle.imago_access.specs.Files.{ImageCause, IsMild, Unasked, files_of}
+use Rattle.imago_access.specs.Parts.{IsMappedAt, GrowthCause, ShrinkCause}
+use Rattle.imago_access.specs.Refusals.{barrier, change_refusal, look_refusal, ChangeCause}
+use Rattle.imago_access.specs.Resizes.{fill_of, resizing}
+use Rattle.imago_access.specs.Room.{IsUndeclined, IsGivenUp, IsZeroed}
+use Rattle.imago_access.specs.Running.{IsIntactChain, chain_disk, below_of}
+use Rattle.imago_access.specs.Spending.{IsMine, IsForeignTo, is_own}
+use Rattle.imago_access.specs.Stops.{KeepsStops, KeepsStopsTo, GivesHeld, GivesPast, GivesBelowPast}
 
 -- the call is a step of the chain's disk, and answers this
 abbrev pub ChainSteps : {D St : Type 0} → Ghosts D St → Call → Answer → D × List D → D × List D → Type 0
@@ -40,9 +51,106 @@ ChainCause g call causes old new = ChangeCause (map g.layer old.1) (g.layer old.
 abbrev pub OwnCause : {D St : Type 0} → Ghosts D St → Call → D × List D → D × List D → Fault → Type 0
 OwnCause g call old new = ChainCause g call (g.own_cause old.0 (map g.layer old.1) call) old new
 
--- why a read of a range is refused, and a lookup
-abbrev pub ChainReadCause : {D St : Type 0} → Ghosts D St → ℕ → ℕ → D × List D → D × List D → Fault → Type 0
-ChainReadCause g offset n old new = let layers = map g.layer (chain old) in ReadCause layers (at layers) (unit_of_chain layers) offset n (files_of g (chain old)) (files_of g (chain new))
+-- P, where it was refused for another cause than want of memory or a storage that failed
+abbrev pub IfMild : {T : Type 0} → Result T Fault → Type 0 → Type 0
+IfMild result P = IfErr result (λ e. IsMild e → P)
 
-abbrev pub ChainLookCause : {D St : Type 0} → Ghosts D St → ℕ → ℕ → D × List D → D × List D → Fault → Type 0
-ChainLookCause g offset n old new = let layers = map g.layer (chain old) in DeepLookCause layers (at layers) offset n (files_of g (chain old)) (files_of g (chain new))
+-- a call over this range, in bytes, has nothing to do, or is refused before anything is done: one that changes, and one that only looks
+abbrev pub EndsAtOnce : {D St : Type 0} → Ghosts D St → D × List D → ℕ → ℕ → Type 0
+EndsAtOnce g c offset n = (n ≡ 0) ⊎ IsSome (chain_refusal g c offset n)
+
+abbrev pub LookEndsAtOnce : {D St : Type 0} → Ghosts D St → D × List D → ℕ → ℕ → Type 0
+LookEndsAtOnce g c offset n = (n ≡ 0) ⊎ IsSome (chain_look_refusal g c offset n)
+
+-- nothing was asked of the files of the top driver, and the drivers below are what they were
+abbrev pub AllUnasked : {D St : Type 0} → Ghosts D St → D × List D → D × List D → Type 0
+AllUnasked g old new = Unasked g old.0 new.0 × (new.1 ≡ old.1)
+
+-- what promises on values rest on still holds
+abbrev pub StaysIntact : {D St : Type 0} → Ghosts D St → D × List D → D × List D → Type 0
+StaysIntact g old new = IsIntactChain g old → IsIntactChain g new
+
+-- the top driver has no cause of its own to decline the call
+abbrev pub WontDecline : {D St : Type 0} → Ghosts D St → Call → D × List D → Type 0
+WontDecline g call c = IsUndeclined (g.own_cause c.0 (map g.layer c.1) call)
+
+-- each whole unit of the range has been given up, or zeroed
+abbrev pub GaveUpUnits : {D St : Type 0} → Ghosts D St → ℕ → ℕ → D → D → Type 0
+GaveUpUnits g offset n old new = IsGivenUp (g.vacant new) (g.layer old).fixed.unit (g.layer old).size offset n
+
+abbrev pub ZeroedUnits : {D St : Type 0} → Ghosts D St → ℕ → ℕ → D → D → Type 0
+ZeroedUnits g offset n old new = IsZeroed (g.zeroed new) (g.layer old).fixed.unit (g.layer old).size offset n
+
+-- a run of the range was mapped as part of the disk, and to be written and committed
+abbrev pub ChainEnsures : {D St : Type 0} → Ghosts D St → Asked → D × List D → D × List D → Mapping × ℕ → Type 0
+ChainEnsures g asked old new answer = ChainSteps g (ensure asked.offset asked.length asked.overwrite) (run answer.1) old new
+
+abbrev pub ChainPrepares : {D St : Type 0} → Ghosts D St → Asked → D × List D → D × List D → PreparedDataMapping St → Type 0
+ChainPrepares g asked old new m = ChainSteps g (prepare asked.offset asked.length asked.overwrite) (prepared m.length (is_some m.state)) old new
+
+-- each place of the run of a prepared mapping, from an offset on, can be written where the mapping says
+abbrev pub CanWriteRun : {St : Type 0} → Layer → ℕ → PreparedDataMapping St → Type 0
+CanWriteRun layer offset m = (i : ℕ) → i < m.length → layer.home (offset + i) ≡ Some (m.storage, m.offset + i)
+
+-- the commit of a mapping with this state, if it has any, by whether it was prepared under the top driver's number
+abbrev pub commit_of : {D St : Type 0} → Ghosts D St → Option St → D × List D → Call
+commit_of g state c = commit (is_some state) (is_own g.tag state (g.layer c.0))
+
+-- the mapping was committed, or cancelled
+abbrev pub ChainCommits : {D St : Type 0} → Ghosts D St → Option St → D × List D → D × List D → Type 0
+ChainCommits g state old new = ChainSteps g (commit_of g state old) done old new
+
+abbrev pub ChainCancels : {D St : Type 0} → Ghosts D St → Option St → D × List D → D × List D → Type 0
+ChainCancels g state old new = ChainSteps g (cancel (is_some state) (is_own g.tag state (g.layer old.0))) done old new
+
+-- P, where the chain is intact and its top driver has prepared the mapping
+abbrev pub WhereMine : {D St : Type 0} → Ghosts D St → Option St → D × List D → Type 0 → Type 0
+WhereMine g state c P = IsIntactChain g c → IsMine g state (g.layer c.0) → P
+
+-- each place that could be written can be, in the same place
+abbrev pub KeepsHomes : Layer → Layer → Type 0
+KeepsHomes old new = (p : ℕ) (place : ℕ × ℕ) → old.home p ≡ Some place → new.home p ≡ Some place
+
+-- a stop in a commit shows what was written to the mapping, place by place
+abbrev pub CommitStops : {D St : Type 0} → Ghosts D St → D × List D → D × List D → Type 0
+CommitStops g old new = KeepsStops g (map g.layer old.1) (GivesHeld (g.layer old.0)) old.0 new.0
+
+-- why the commit of a mapping is refused that the top driver has prepared, or that was prepared under another number
+abbrev pub ChainCommitRefused : {D St T : Type 0} → Ghosts D St → Option St → Result Unit (Fault × T) → D × List D → D × List D → Type 0
+ChainCommitRefused g state result old new = IsIntactChain g old → IsMine g state (g.layer old.0) ⊎ IsForeignTo g.tag state (g.layer old.0)
+    → IfErr result (λ e. ChainCause g (commit_of g state old) (λ _. ⊥) old new e.0)
+
+-- the range, where it isn't empty, is mapped from a place of one of the top driver's storages on
+abbrev pub IsMappedFor : Layer → ℕ → ℕ → ℕ → Type 0
+IsMappedFor layer guest place n = 0 < n → IsMappedAt layer guest place n
+
+-- why a write to a mapping is refused: also where the range isn't mapped there
+abbrev pub IsUnmapped : Layer → ℕ → ℕ → ℕ → Fault → Type 0
+IsUnmapped layer guest place n f = (f ≡ Outdated) × (0 < n) × (IsMappedAt layer guest place n → ⊥)
+
+abbrev pub ChainMappedCause : {D St : Type 0} → Ghosts D St → ℕ → ℕ → List ℕ → D × List D → D × List D → Fault → Type 0
+ChainMappedCause g guest place bytes old new = ChainCause g (write_mapped guest bytes) (IsUnmapped (g.layer old.0) guest place (length bytes)) old new
+
+-- A resize of a chain that has something to do is refused by a top driver that wasn't opened for writing.
+abbrev pub NeedsWritable : {D St : Type 0} → Ghosts D St → Type 0 → Result Unit Fault → D × List D → D × List D → Type 0
+NeedsWritable g Alters result old new = barrier (g.layer old.0) ≡ None → Alters → IsFalse (g.layer old.0).fixed.writable → IsErrOf result ReadOnly × AllUnasked g old new
+
+-- the disk has this size then
+abbrev pub ChainResizes : {D St : Type 0} → Ghosts D St → ℕ → PreallocateMode → D × List D → D × List D → Type 0
+ChainResizes g size mode old new = ChainSteps g (resizing (g.layer old.0).size size (fill_of mode)) done old new
+
+-- a stop in a growth shows anything behind the old size, and one in a shrink to this size the layers below behind that
+abbrev pub GrowthStops : {D St : Type 0} → Ghosts D St → D × List D → D × List D → Type 0
+GrowthStops g old new = KeepsStopsTo g (map g.layer old.1) (g.layer old.0).size (GivesPast (g.layer old.0).size) old.0 new.0
+
+abbrev pub ShrinkStops : {D St : Type 0} → Ghosts D St → ℕ → D × List D → D × List D → Type 0
+ShrinkStops g size old new = KeepsStopsTo g (map g.layer old.1) size (GivesBelowPast (map g.layer old.1) size) old.0 new.0
+
+-- why a growth or a shrink to this size is refused
+abbrev pub ChainGrowthRefused : {D St : Type 0} → Ghosts D St → ℕ → PreallocateMode → Result Unit Fault → D × List D → D × List D → Type 0
+ChainGrowthRefused g size mode result old new = IsIntactChain g old → IfErr result (GrowthCause (map g.layer old.1) (g.layer old.0) size
+    (g.growth_cause old.0 (map g.layer old.1) size mode) (files_of g (chain old)) (files_of g (chain new)))
+
+abbrev pub ChainShrinkRefused : {D St : Type 0} → Ghosts D St → ℕ → Result Unit Fault → D × List D → D × List D → Type 0
+ChainShrinkRefused g size result old new = IsIntactChain g old → IfErr result (ShrinkCause (map g.layer old.1) (g.layer old.0) size
+    (g.own_cause old.0 (map g.layer old.1) (shrink size)) (files_of g (chain old)) (files_of g (chain new)))

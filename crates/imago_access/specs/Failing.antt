@@ -3,9 +3,10 @@ use Rattle.std.specs.Prelude.{◌++◌, ℕ, [], ◌∷◌}
 use Rattle.imago_storage.specs.declared.fault.Fault.{Fault}
 use Rattle.imago_access.specs.declared.seen.Seen.{Ghosts}
 use Rattle.imago_access.specs.declared.seen.SeenBelow.{Ghosts as GhostsBelow}
+use Rattle.imago_access.specs.Chain.{at, unit_of_chain}
 use Rattle.imago_access.specs.Files.{ImageCause, files}
 use Rattle.imago_access.specs.Parts.{PlainCause}
-use Rattle.imago_access.specs.Refusals.{LookCause, ReadMappedCause, InvalidateCause}
+use Rattle.imago_access.specs.Refusals.{LookCause, ReadMappedCause, ReadCause, InvalidateCause}
 
 -- by its own storages
 abbrev pub Fails : {D St : Type 0} → Ghosts D St → D → D → Fault → Type 0
@@ -15,12 +16,17 @@ Fails g old new = ImageCause (files g old) (files g new)
 abbrev pub FailsOver : {D St B : Type 0} → Ghosts D St → GhostsBelow B → D × B → D × B → Fault → Type 0
 FailsOver g u old new = ImageCause (files g old.0 ++ u.files_under old.1) (files g new.0 ++ u.files_under new.1)
 
--- What refuses a call of a driver: a lookup of a range, a read of places of a storage, a flush or a sync, and reading its files again.
+-- What refuses a call of a driver: a lookup of a range, a read of places of a storage or of the layers below, a flush or a sync, and reading
+-- its files again.
 abbrev pub RefusesLookup : {D St : Type 0} → Ghosts D St → ℕ → ℕ → D → D → Fault → Type 0
 RefusesLookup g offset n old new = LookCause (g.layer old) offset n (files g old) (files g new)
 
 abbrev pub RefusesRead : {D St : Type 0} → Ghosts D St → ℕ → ℕ → D → D → Fault → Type 0
 RefusesRead g place n old new = ReadMappedCause (g.layer old) place n (files g old) (files g new)
+
+abbrev pub RefusesReads : {B : Type 0} → GhostsBelow B → ℕ → ℕ → B → B → Fault → Type 0
+RefusesReads u offset n old new =
+    ReadCause (u.under old) (at (u.under old)) (unit_of_chain (u.under old)) offset n (u.files_under old) (u.files_under new)
 
 abbrev pub RefusesFlush : {D St : Type 0} → Ghosts D St → D → D → Fault → Type 0
 RefusesFlush g old new = PlainCause (g.layer old) (files g old) (files g new)

@@ -18,6 +18,8 @@ pub mod PreparingCalls
 pub mod ResizeCalls
 pub mod Running
 pub mod ChainCalls
+pub mod ChainLooks
 pub mod Discards
 pub mod Zeroings
+pub mod RunCalls
 pub mod Building

@@ -1,5 +1,5 @@
 -- Why calls of a driver or of a chain are refused.
-use Rattle.std.specs.Prelude.{◌≡◌, ◌⊎◌, ⊤, ℕ, ◌+◌, ◌<◌, ◌^◌, max, Bool, Option, Some, None, List, [], ◌∷◌, if◌then◌else◌, ltb, leb, eqb, not, IsTrue, IsFalse}
+use Rattle.std.specs.Prelude.{◌≡◌, ◌⊎◌, ⊤, ℕ, ◌+◌, ◌<◌, ◌^◌, max, Bool, Option, Some, None, List, [], ◌∷◌, if◌then◌else◌, ltb, leb, eqb, not, IsTrue, IsFalse, IsSome}
 use Rattle.imago_storage.specs.State.{StorageState, unit_of}
 use Rattle.imago_storage.specs.Through.{round_up, Overflows}
 use Rattle.imago_storage.specs.Disk.{Value, barred, damaged_place}
@@ -14,6 +14,9 @@ use Rattle.imago_access.specs.Files.{SomeRose, IsStale, greatest, keep_all}
 -- why no call of an image but getters and a cancel succeeds
 abbrev pub barrier : Layer → Option Fault
 barrier layer = if layer.failed then Some Failed else if layer.fixed.missing then Some MissingData else None
+
+abbrev pub IsBarred : Layer → Type 0
+IsBarred layer = IsSome (barrier layer)
 
 -- The first cause why a change of a range, in bytes, is refused, by whether the image was opened for writing, its unit of requests and its size.
 abbrev pub range_refusal : Bool → (unit size offset n : ℕ) → Option Fault

@@ -1,5 +1,5 @@
 -- How a prepared mapping is spent.
-use Rattle.std.specs.Prelude.{◌≡◌, ◌≢◌, ⊤, ℕ, Bool, false, eqb, not, Option, Some, None, IsFalse, if◌then◌else◌}
+use Rattle.std.specs.Prelude.{◌≡◌, ◌≢◌, ◌⊎◌, ⊤, ℕ, Bool, false, eqb, not, Option, Some, None, IsTrue, IsFalse, Result, MatchResult, if◌then◌else◌}
 use Rattle.imago_storage.specs.declared.fault.Fault.{Fault}
 use Rattle.imago_storage.specs.declared.fault.Fault.TheVariants.{ReadOnly, Foreign, MissingData, Failed, DamagedTable, Counter, Memory, Storage}
 use Rattle.imago_access.specs.declared.seen.Seen.{Ghosts}
@@ -58,6 +58,11 @@ GivenBack tag None layer fault = ⊥
 GivenBack tag (Some s) layer ReadOnly = IsFalse layer.fixed.writable
 GivenBack tag (Some s) layer Foreign = tag s ≢ layer.fixed.number
 GivenBack tag (Some s) layer fault = ⊥
+
+-- why a mapping with state is given back, by what `ready` says of the driver, by whether it was opened for writing, and by the two numbers
+abbrev pub CommitCheck : Result Unit Fault → Bool → (number prepared_by : ℕ) → Fault → Type 0
+CommitCheck ready writable number prepared_by e =
+    MatchResult ready (λ _. (IsFalse writable × (e ≡ ReadOnly)) ⊎ (IsTrue writable × (prepared_by ≢ number) × (e ≡ Foreign))) (λ f. e ≡ f)
 
 -- it has state, and was prepared under this number
 abbrev pub is_own : {S : Type 0} → (S → ℕ) → Option S → Layer → Bool

@@ -1,13 +1,11 @@
 // The layers below one, as its driver reads them.
 ghost use Rattle.std.specs.Prelude.{◌≡◌, ◌+◌, ◌≤◌, ◌^◌, [], ⊤, length, OnOk, IfErr, IsErrOf};
-ghost use Rattle.imago_storage.specs.State.{StorageState};
 ghost use Rattle.imago_storage.specs.Disk.{Shows};
-ghost use Rattle.imago_access.specs.Layer.{Layer};
-ghost use Rattle.imago_access.specs.Chain.{at, has_any, unit_of_chain};
+ghost use Rattle.imago_access.specs.Chain.{at, has_any};
 ghost use Rattle.imago_access.specs.Files.{WasNotCutOff, ImageCause};
 ghost use Rattle.imago_access.specs.Going.{LookedUnder};
-ghost use Rattle.imago_access.specs.Refusals.{ReadCause};
 ghost use Rattle.imago_storage.specs.declared.fault.Fault.TheVariants.{RangeOverflow};
+ghost use Rattle.imago_access.specs.Failing.{RefusesReads};
 
 use crate::seen::SeenBelow;
 use imago_storage::Fault;
@@ -30,7 +28,7 @@ pub trait ReadBelow: SeenBelow {
         ensures looked { LookedUnder Self.SeenBelow (WasNotCutOff result) self.old self.new }
         ensures near { Self.sees_under self.old → offset + length buf.old ≤ 2 ^ 63 + 2 ^ 22 → IsErrOf result RangeOverflow → ⊥ }
         ensures failed { IfErr result (ImageCause (Self.files_under self.old) (Self.files_under self.new)) }
-        ensures cause { Self.sees_under self.old → IfErr result (ReadCause (Self.under self.old) (at (Self.under self.old)) (unit_of_chain (Self.under self.old)) offset (length buf.old) (Self.files_under self.old) (Self.files_under self.new)) };
+        ensures cause { Self.sees_under self.old → IfErr result (RefusesReads Self.SeenBelow offset (length buf.old) self.old self.new) };
 }
 
 /// No layer.

@@ -1,8 +1,8 @@
 // How images are opened and created, option by option.
-ghost use Rattle.std.specs.Prelude.{◌≡◌, ◌⊎◌, false, Bool, ℕ, Some, None, Ok, Err, Option, Result, MatchOption, IsOkUnless, IfOk, IfErr, IsTrue};
+ghost use Rattle.std.specs.Prelude.{◌≡◌, false, Bool, ℕ, Some, None, Ok, Option, Result, MatchOption, IsOkUnless, IfOk, IfErr, IsTrue};
 ghost use Rattle.imago_storage.specs.Options.{OpenOptions};
 ghost use Rattle.imago_storage.specs.declared.fault.Fault.{Fault};
-ghost use Rattle.imago_access.specs.Building.{options_with, IsOpened, OpensCreated, NotOpened};
+ghost use Rattle.imago_access.specs.Building.{options_with, IsOpenedThen, IsUnopened, OpensOnly};
 ghost use Rattle.imago_access.specs.declared.format.Format.{Format};
 ghost use Rattle.imago_access.specs.declared.format.PreallocateMode.{PreallocateMode};
 ghost use Rattle.imago_access.specs.declared.format.PreallocateMode.TheVariants as mode;
@@ -241,7 +241,7 @@ pub trait FormatDriverBuilder<S: Storage> {
 
     /// What it opens shows what its files mean by themselves; nothing waits in memory, nothing is prepared, and the image file is as it
     /// was. Where that is sound and its storage keeps what is written, the image is safe.
-    ghost opened: { (b : Self) (d : Self.Format) → opens b d → IsOpened Self.Format.Seen FORMAT (writable_of b) (number_of b) (S.state (image_of b)) d };
+    ghost opened: { (b : Self) → OpensOnly Self.Format.Seen (opens b) FORMAT (writable_of b) (number_of b) (S.state (image_of b)) };
 }
 
 /// Makes the builder that opens an image file: each closure that takes the file and answers a builder does.
@@ -345,8 +345,8 @@ pub trait FormatCreateBuilder<S: Storage> {
         open_builder: F,
     ) -> Result<<Self::DriverBuilder as FormatDriverBuilder<S>>::Format, Fault>
         requires { (s : S) → hands self s → F.takes open_builder s }
-        ensures ok { IfOk result (λ d. OpensCreated (hands self) (F.makes open_builder) (opens_with self) (λ b. Self.DriverBuilder.opens b d)) }
+        ensures ok { IfOk result (IsOpenedThen (hands self) (F.makes open_builder) (opens_with self) Self.DriverBuilder.opens) }
         ensures format { IfOk result (λ d. (Self.DriverBuilder.Format.layer d).fixed.format ≡ FORMAT) }
         ensures writable { IfOk result (λ d. IsTrue (Self.DriverBuilder.Format.layer d).fixed.writable) }
-        ensures err { IfErr result (NotOpened (refuses self) (hands self) (F.makes open_builder) (opens_with self) Self.DriverBuilder.refuses) };
+        ensures err { IsUnopened result (refuses self) (hands self) (F.makes open_builder) (opens_with self) Self.DriverBuilder.refuses };
 }

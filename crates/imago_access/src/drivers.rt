@@ -1,5 +1,5 @@
 // What a driver of a format promises to the chain above it.
-ghost use Rattle.std.specs.Prelude.{IsFalse, false, ◌≡◌, ◌≢◌, [], ◌<◌, ◌+◌, ◌^◌, ◌⊎◌, ℕ, Option, Some, None, List, is_some, IsSome, IsTrue, IsOk, IfOk, IfErr, OnOk, IsErr, IsErrOf, MatchResult, length};
+ghost use Rattle.std.specs.Prelude.{false, ◌≡◌, ◌<◌, ◌+◌, ◌^◌, ◌⊎◌, ℕ, Some, None, List, is_some, IsSome, IsTrue, IsOk, IfOk, IfErr, OnOk, IsErr, IsErrOf, length};
 ghost use Rattle.imago_storage.specs.State.{IsAlignment};
 ghost use Rattle.imago_storage.specs.Steps.{Call};
 ghost use Rattle.imago_storage.specs.Disk.{byte};
@@ -13,13 +13,13 @@ ghost use Rattle.imago_access.specs.Mappings.{IsRun, IsMappedRun, LooksIn, Names
 ghost use Rattle.imago_access.specs.Refusals.{barrier, own_refusal, IsOfStorages};
 ghost use Rattle.imago_access.specs.Changes.{asking};
 ghost use Rattle.imago_access.specs.Stops.{IsWritten, IsCovered, KeepsStops, MakesNone, GivesNone};
-ghost use Rattle.imago_access.specs.declared.format.PreallocateMode.{PreallocateMode};
 ghost use Rattle.imago_storage.specs.declared.fault.Fault.{Fault};
-ghost use Rattle.imago_storage.specs.declared.fault.Fault.TheVariants.{Barred, Foreign, ReadOnly};
+ghost use Rattle.imago_storage.specs.declared.fault.Fault.TheVariants.{Barred};
 ghost use Rattle.imago_access.specs.Failing.{Fails, RefusesLookup, RefusesRead, RefusesFlush, RefusesReload};
 ghost use Rattle.imago_access.specs.PreparingCalls.{IsHeldBy, Prepares, Commits, CommitRefused, Cancels, WritesMapped, WritingRefused, nowhere};
 ghost use Rattle.imago_access.specs.ResizeCalls.{Resizes, Grows, GrowthRefused, IsUngrown, Shrinks, ShrinkRefused};
 ghost use Rattle.imago_access.specs.declared.format.Format.TheVariants.{Qcow2};
+ghost use Rattle.imago_access.specs.Spending.{CommitCheck};
 
 use crate::below::ReadBelow;
 use crate::format::{Format, PreallocateMode};
@@ -415,7 +415,7 @@ pub fn check_commit(
     prepared_by: u64,
 ) -> Result<(), Fault>
     ensures ok { OnOk result (IsOk ready × IsTrue writable × (prepared_by ≡ number)) }
-    ensures err { IfErr result (λ e. MatchResult ready (λ _. (IsFalse writable × (e ≡ ReadOnly)) ⊎ (IsTrue writable × (prepared_by ≢ number) × (e ≡ Foreign))) (λ f. e ≡ f)) }
+    ensures err { IfErr result (CommitCheck ready writable number prepared_by) }
 {
     ready?;
     if !writable {

@@ -1,21 +1,18 @@
 // Discards that may leave parts of their range as they are.
-ghost use Rattle.std.specs.Prelude.{ℕ, ◌≡◌, ◌↔◌, ◌⊎◌, ◌<◌, ◌≤◌, ◌+◌, ◌^◌, ◌∷◌, List, IsTrue, length, map, IsOk, IfOk, IfErr, OnOk, IsErrOf, IsSome, Some};
-ghost use Rattle.imago_storage.specs.Steps.{Call, Step, discard_to_any, discard_to_backing, done, IsIn};
-ghost use Rattle.imago_storage.specs.Causes.{PartlyDone};
+ghost use Rattle.std.specs.Prelude.{ℕ, ◌≡◌, ◌↔◌, ◌<◌, ◌+◌, ◌^◌, List, IsTrue, length, map, IsOk, IfOk, IfErr, OnOk, IsErrOf, Some};
+ghost use Rattle.imago_storage.specs.Steps.{Call, discard_to_any, discard_to_backing, done, IsIn};
 ghost use Rattle.imago_access.specs.Layer.{Layer, IsFree, IsLike};
-ghost use Rattle.imago_access.specs.Chain.{IsBacked, unit_of_chain};
-ghost use Rattle.imago_access.specs.Layers.{chain};
+ghost use Rattle.imago_access.specs.Chain.{IsBacked};
 ghost use Rattle.imago_access.specs.Room.{Reaches, GivesUp, IsGivenUp, IsUndeclined};
-ghost use Rattle.imago_access.specs.Files.{WasNotCutOff, IsDeclined, IsMild, ImageCause, files_of, files};
+ghost use Rattle.imago_access.specs.Files.{WasNotCutOff, IsDeclined, files};
 ghost use Rattle.imago_access.specs.PartCalls.{IsPart};
 ghost use Rattle.imago_access.specs.Going.{Went};
 ghost use Rattle.imago_access.specs.Parts.{IsPartOf, PartCause, DeclinableCause};
-ghost use Rattle.imago_access.specs.Refusals.{barrier, change_refusal, ChangeCause};
+ghost use Rattle.imago_access.specs.Refusals.{barrier};
 ghost use Rattle.imago_access.specs.Stops.{KeepsStops, GivesAny, GivesBelow};
-ghost use Rattle.imago_access.specs.Running.{IsBetween, IsIntactChain, RanChain, chain_disk, below_of};
-ghost use Rattle.imago_access.specs.declared.access.discarding.Discarding.{Discarding};
+ghost use Rattle.imago_access.specs.Running.{IsBetween, IsIntactChain, RanChain};
 ghost use Rattle.imago_access.specs.Discards.{GivesDiscarded};
-ghost use Rattle.imago_access.specs.ChainCalls.{ChainSteps, ChainPartly, chain_refusal, OwnCause};
+ghost use Rattle.imago_access.specs.ChainCalls.{ChainSteps, ChainPartly, chain_refusal, OwnCause, EndsAtOnce, GaveUpUnits, IfMild, WontDecline};
 ghost use Rattle.imago_access.specs.Failing.{Fails};
 
 use crate::access::FormatAccess;
@@ -111,15 +108,15 @@ impl<D: FormatDriverInstance> FormatAccess<D> {
     pub fn discard_to_any(&mut self, alloc: Global, offset: u64, length: u64) -> Result<(), Fault>
         requires free { IsFree (D.layer self.old.0) }
         ensures ok { IsIntactChain D.Seen self.old → OnOk result (ChainSteps D.Seen (discard_to_any offset length) done self.old self.new) }
-        ensures err { IsIntactChain D.Seen self.old → IfErr result (λ e. IsMild e → ChainPartly D.Seen (discard_to_any offset length) self.old self.new) }
+        ensures err { IsIntactChain D.Seen self.old → IfMild result (ChainPartly D.Seen (discard_to_any offset length) self.old self.new) }
         ensures at_once { (f : Fault) → chain_refusal D.Seen self.old offset length ≡ Some f → IsErrOf result f }
         ensures idle { length ≡ 0 → barrier (D.layer self.old.0) ≡ None → IsOk result }
-        ensures untouched { (length ≡ 0) ⊎ IsSome (chain_refusal D.Seen self.old offset length) → self.new ≡ self.old }
+        ensures untouched { EndsAtOnce D.Seen self.old offset length → self.new ≡ self.old }
         ensures like { IsLike (D.layer self.old.0) (D.layer self.new.0) }
         ensures ran { RanChain D.Seen (WasNotCutOff result) (GivesAny offset length) self.old self.new }
         ensures below { self.new.1 ≡ self.old.1 }
         ensures room { IsIntactChain D.Seen self.old → WasNotCutOff result → GivesUp D.Seen offset length self.old.0 self.new.0 }
-        ensures gives_up { IsIntactChain D.Seen self.old → IsUndeclined (D.own_cause self.old.0 (map D.layer self.old.1) (discard_to_any offset length)) → OnOk result (IsGivenUp (D.vacant self.new.0) (D.layer self.old.0).fixed.unit (D.layer self.old.0).size offset length) }
+        ensures gives_up { IsIntactChain D.Seen self.old → WontDecline D.Seen (discard_to_any offset length) self.old → OnOk result (GaveUpUnits D.Seen offset length self.old.0 self.new.0) }
         ensures failed { IfErr result (Fails D.Seen self.old.0 self.new.0) }
         ensures cause { IsIntactChain D.Seen self.old → IfErr result (OwnCause D.Seen (discard_to_any offset length) self.old self.new) }
     {
@@ -139,15 +136,15 @@ impl<D: FormatDriverInstance> FormatAccess<D> {
     ) -> Result<(), Fault>
         requires free { IsFree (D.layer self.old.0) }
         ensures ok { IsIntactChain D.Seen self.old → OnOk result (ChainSteps D.Seen (discard_to_backing offset length) done self.old self.new) }
-        ensures err { IsIntactChain D.Seen self.old → IfErr result (λ e. IsMild e → ChainPartly D.Seen (discard_to_backing offset length) self.old self.new) }
+        ensures err { IsIntactChain D.Seen self.old → IfMild result (ChainPartly D.Seen (discard_to_backing offset length) self.old self.new) }
         ensures at_once { (f : Fault) → chain_refusal D.Seen self.old offset length ≡ Some f → IsErrOf result f }
         ensures idle { length ≡ 0 → barrier (D.layer self.old.0) ≡ None → IsOk result }
-        ensures untouched { (length ≡ 0) ⊎ IsSome (chain_refusal D.Seen self.old offset length) → self.new ≡ self.old }
+        ensures untouched { EndsAtOnce D.Seen self.old offset length → self.new ≡ self.old }
         ensures like { IsLike (D.layer self.old.0) (D.layer self.new.0) }
         ensures ran { RanChain D.Seen (WasNotCutOff result) (GivesBelow (map D.layer self.old.1) offset length) self.old self.new }
         ensures below { self.new.1 ≡ self.old.1 }
         ensures room { IsIntactChain D.Seen self.old → WasNotCutOff result → GivesUp D.Seen offset length self.old.0 self.new.0 }
-        ensures gives_up { IsIntactChain D.Seen self.old → IsUndeclined (D.own_cause self.old.0 (map D.layer self.old.1) (discard_to_backing offset length)) → OnOk result (IsGivenUp (D.vacant self.new.0) (D.layer self.old.0).fixed.unit (D.layer self.old.0).size offset length) }
+        ensures gives_up { IsIntactChain D.Seen self.old → WontDecline D.Seen (discard_to_backing offset length) self.old → OnOk result (GaveUpUnits D.Seen offset length self.old.0 self.new.0) }
         ensures failed { IfErr result (Fails D.Seen self.old.0 self.new.0) }
         ensures cause { IsIntactChain D.Seen self.old → IfErr result (OwnCause D.Seen (discard_to_backing offset length) self.old self.new) }
     {

@@ -1,16 +1,15 @@
 // Runs that are mapped as part of the disk at once.
-ghost use Rattle.std.specs.Prelude.{◌≡◌, ◌⊎◌, IsTrue, map, IsOk, IfOk, IfErr, IsErrOf, IsSome, Some, None, true};
-ghost use Rattle.imago_storage.specs.Steps.{Step, Stays, ensure, run};
+ghost use Rattle.std.specs.Prelude.{◌≡◌, IsOk, IfOk, IfErr, IsErrOf, IsSome, Some, None, true};
+ghost use Rattle.imago_storage.specs.Steps.{ensure};
 ghost use Rattle.imago_access.specs.Layer.{IsFree, IsLike};
-ghost use Rattle.imago_access.specs.Chain.{unit_of_chain};
-ghost use Rattle.imago_access.specs.Layers.{chain};
-ghost use Rattle.imago_access.specs.Files.{WasNotCutOff, IsMild, ImageCause, Unasked, files_of};
+ghost use Rattle.imago_access.specs.Files.{WasNotCutOff};
 ghost use Rattle.imago_access.specs.Mappings.{IsHomeRun, IsMappedRun, IsTopRun};
-ghost use Rattle.imago_access.specs.Refusals.{barrier, change_refusal, ChangeCause};
+ghost use Rattle.imago_access.specs.Refusals.{barrier};
 ghost use Rattle.imago_access.specs.declared.mapping.Mapping.TheVariants as deep;
 ghost use Rattle.imago_access.specs.Stops.{GivesAnnounced};
-ghost use Rattle.imago_access.specs.Running.{IsIntactChain, RanChain, chain_disk, below_of};
-ghost use Rattle.imago_access.specs.ChainCalls.{ChainSteps, ChainStays, ChainFails, chain_refusal, OwnCause};
+ghost use Rattle.imago_access.specs.Running.{IsIntactChain, RanChain};
+ghost use Rattle.imago_access.specs.ChainCalls.{ChainStays, ChainFails, chain_refusal, OwnCause, AllUnasked, ChainEnsures, EndsAtOnce, IfMild};
+ghost use Rattle.imago_access.specs.Changes.{asking};
 
 use crate::access::FormatAccess;
 use crate::access::writing::settle;
@@ -34,16 +33,16 @@ impl<D: FormatDriverInstance> FormatAccess<D> {
         overwrite: bool,
     ) -> Result<(Mapping, u64), Fault>
         requires free { IsFree (D.layer self.old.0) }
-        ensures ok { IsIntactChain D.Seen self.old → IfOk result (λ r. ChainSteps D.Seen (ensure offset length overwrite) (run r.1) self.old self.new) }
+        ensures ok { IsIntactChain D.Seen self.old → IfOk result (ChainEnsures D.Seen (asking offset length overwrite) self.old self.new) }
         ensures home { IsIntactChain D.Seen self.old → IfOk result (λ r. IsHomeRun (D.layer self.new.0) offset r.0 r.1) }
         ensures empty { length ≡ 0 → IfOk result (λ r. (r ≡ (deep.Raw 0 0 0 true, 0)) × (D.layer self.new.0 ≡ D.layer self.old.0)) }
         ensures untouched { IsSome (chain_refusal D.Seen self.old offset length) → self.new ≡ self.old }
         ensures run { IfOk result (λ r. IsMappedRun (D.layer self.old.0) offset length r.1) }
         ensures raw { IfOk result (λ r. IsTopRun r.0 r.1) }
-        ensures err { IsIntactChain D.Seen self.old → IfErr result (λ e. IsMild e → ChainStays D.Seen self.old self.new) }
+        ensures err { IsIntactChain D.Seen self.old → IfMild result (ChainStays D.Seen self.old self.new) }
         ensures at_once { (f : Fault) → chain_refusal D.Seen self.old offset length ≡ Some f → IsErrOf result f }
         ensures idle { length ≡ 0 → barrier (D.layer self.old.0) ≡ None → IsOk result }
-        ensures unasked { (length ≡ 0) ⊎ IsSome (chain_refusal D.Seen self.old offset length) → Unasked D.Seen self.old.0 self.new.0 × (self.new.1 ≡ self.old.1) }
+        ensures unasked { EndsAtOnce D.Seen self.old offset length → AllUnasked D.Seen self.old self.new }
         ensures like { IsLike (D.layer self.old.0) (D.layer self.new.0) }
         ensures ran { RanChain D.Seen (WasNotCutOff result) (GivesAnnounced overwrite offset length) self.old self.new }
         ensures failed { IfErr result (ChainFails D.Seen self.old self.new) }

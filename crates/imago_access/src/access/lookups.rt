@@ -1,17 +1,14 @@
 // Lookups, from the top layer downward.
-ghost use Rattle.std.specs.Prelude.{◌≡◌, ◌⊎◌, ◌∷◌, ◌<◌, ◌+◌, ◌^◌, length, map, IsOk, IfOk, IfErr, IsErrOf, IsSome, Some, None};
+ghost use Rattle.std.specs.Prelude.{◌≡◌, ◌∷◌, IsOk, IfOk, IfErr, IsErrOf, Some, None};
 ghost use Rattle.imago_storage.specs.declared.fault.Fault.{Fault};
-ghost use Rattle.imago_storage.specs.Steps.{Step, lookup, found};
-ghost use Rattle.imago_access.specs.Chain.{at, Each};
-ghost use Rattle.imago_access.specs.Kinds.{kind_of, deep_kind_of};
-ghost use Rattle.imago_access.specs.Running.{chain_disk, below_of};
 ghost use Rattle.imago_access.specs.Layers.{chain, layers};
-ghost use Rattle.imago_access.specs.Files.{Pairs, WasNotCutOff, ImageCause, Unasked, files_of, files, byte_in};
+ghost use Rattle.imago_access.specs.Files.{Pairs, WasNotCutOff, ImageCause, Unasked, files_of};
 ghost use Rattle.imago_access.specs.Going.{Looked};
-ghost use Rattle.imago_access.specs.Mappings.{IsRun, Looks, NamesRoom, IsDeepRun, IsDeepBelow, IsRunBelow, DeepNames, DeepNamesHome, DeepNamesWritable, stored_at};
-ghost use Rattle.imago_access.specs.Refusals.{barrier, LookCause, DeepLookCause};
-ghost use Rattle.imago_access.specs.ChainCalls.{ChainSteps, ChainFails, ChainLookCause};
-ghost use Rattle.imago_access.specs.Failing.{Fails};
+ghost use Rattle.imago_access.specs.Mappings.{IsRun, IsDeepRun, IsRunBelow, DeepNamesHome, LooksIn, NamesRoomIn};
+ghost use Rattle.imago_access.specs.Refusals.{barrier};
+ghost use Rattle.imago_access.specs.ChainCalls.{ChainFails};
+ghost use Rattle.imago_access.specs.Failing.{Fails, RefusesLookup};
+ghost use Rattle.imago_access.specs.ChainLooks.{ChainFinds, LookRefused, NamesLayer, NamesTruly, NamesWritable, NeedsNoLook, TopFinds, UnaskedIfIdle, WhereAllSee};
 
 use crate::access::FormatAccess;
 use crate::drivers::FormatDriverInstance;
@@ -31,17 +28,17 @@ impl<D: FormatDriverInstance> FormatAccess<D> {
         offset: u64,
         max_length: u64,
     ) -> Result<(ShallowMapping, u64), Fault>
-        ensures ok { D.sees self.old.0 → IfOk result (λ r. ChainSteps D.Seen (lookup offset max_length) (found (kind_of r.0) r.1) self.old self.new) }
+        ensures ok { D.sees self.old.0 → IfOk result (TopFinds D.Seen offset max_length self.old self.new) }
         ensures run { IfOk result (λ r. IsRun (D.layer self.old.0) offset max_length r.0 r.1) }
-        ensures looks { D.sees self.old.0 → IfOk result (λ r. Looks (D.layer self.old.0) (byte_in (files D.Seen self.new.0)) offset max_length r.0 r.1) }
-        ensures room { D.sees self.old.0 → IfOk result (λ r. NamesRoom (D.layer self.old.0) (D.vacant self.old.0) (D.zeroed self.old.0) offset r.1 r.0) }
+        ensures looks { D.sees self.old.0 → IfOk result (LooksIn D.Seen offset max_length self.old.0 self.new.0) }
+        ensures room { D.sees self.old.0 → IfOk result (NamesRoomIn D.Seen offset self.old.0) }
         ensures idle { max_length ≡ 0 → barrier (D.layer self.old.0) ≡ None → IsOk result }
         ensures barred { (f : Fault) → barrier (D.layer self.old.0) ≡ Some f → IsErrOf result f }
-        ensures unasked { (max_length ≡ 0) ⊎ IsSome (barrier (D.layer self.old.0)) → Unasked D.Seen self.old.0 self.new.0 }
+        ensures unasked { NeedsNoLook (D.layer self.old.0) max_length → Unasked D.Seen self.old.0 self.new.0 }
         ensures looked { Pairs (Looked D.Seen (WasNotCutOff result)) (chain self.old) (chain self.new) }
         ensures below { self.new.1 ≡ self.old.1 }
         ensures failed { IfErr result (Fails D.Seen self.old.0 self.new.0) }
-        ensures cause { D.sees self.old.0 → IfErr result (LookCause (D.layer self.old.0) offset max_length (files D.Seen self.old.0) (files D.Seen self.new.0)) }
+        ensures cause { D.sees self.old.0 → IfErr result (RefusesLookup D.Seen offset max_length self.old.0 self.new.0) }
     {
         self.driver.get_mapping(alloc, offset, max_length)
     }
@@ -61,18 +58,18 @@ impl<D: FormatDriverInstance> FormatAccess<D> {
         offset: u64,
         max_length: u64,
     ) -> Result<(Mapping, u64), Fault>
-        ensures ok { length self.old.1 + 1 < 2 ^ 64 → Each D.sees (chain self.old) → IfOk result (λ r. ChainSteps D.Seen (lookup offset max_length) (found (deep_kind_of r.0) r.1) self.old self.new) }
+        ensures ok { WhereAllSee D.Seen (chain self.old) (IfOk result (ChainFinds D.Seen offset max_length self.old self.new)) }
         ensures run { IfOk result (λ r. IsDeepRun (D.layer self.old.0).size offset max_length r.0 r.1) }
-        ensures names { length self.old.1 + 1 < 2 ^ 64 → Each D.sees (chain self.old) → IfOk result (λ r. DeepNames (map D.layer (chain self.old)) (at (map D.layer (chain self.old))) (stored_at D.Seen (chain self.new)) offset r.1 r.0) }
-        ensures deep { length self.old.1 + 1 < 2 ^ 64 → IfOk result (λ r. IsDeepBelow (length self.old.1 + 1) r.0) }
+        ensures names { NamesTruly D.Seen offset result (chain self.old) (chain self.new) }
+        ensures deep { NamesLayer result (chain self.old) }
         ensures home { D.sees self.old.0 → IfOk result (λ r. DeepNamesHome (D.layer self.old.0) offset max_length r.0) }
-        ensures writable { length self.old.1 + 1 < 2 ^ 64 → Each D.sees (chain self.old) → IfOk result (λ r. DeepNamesWritable (map D.layer (chain self.old)) offset max_length r.0) }
+        ensures writable { NamesWritable D.Seen offset max_length result (chain self.old) }
         ensures idle { max_length ≡ 0 → barrier (D.layer self.old.0) ≡ None → IsOk result }
         ensures barred { (f : Fault) → barrier (D.layer self.old.0) ≡ Some f → IsErrOf result f }
-        ensures unasked { (max_length ≡ 0) ⊎ IsSome (barrier (D.layer self.old.0)) → Unasked D.Seen self.old.0 self.new.0 × (self.new.1 ≡ self.old.1) }
+        ensures unasked { UnaskedIfIdle D.Seen max_length self.old self.new }
         ensures looked { Pairs (Looked D.Seen (WasNotCutOff result)) (chain self.old) (chain self.new) }
         ensures failed { IfErr result (ChainFails D.Seen self.old self.new) }
-        ensures cause { Each D.sees (chain self.old) → IfErr result (ChainLookCause D.Seen offset max_length self.old self.new) }
+        ensures cause { LookRefused D.Seen offset max_length result (chain self.old) (chain self.new) }
     {
         Self::map_part(alloc, &mut self.driver, &mut self.below, offset, max_length)
     }
@@ -87,16 +84,16 @@ impl<D: FormatDriverInstance> FormatAccess<D> {
         max_length: u64,
     ) -> Result<(Mapping, u64), Fault>
         ensures run { IfOk result (λ r. IsDeepRun (D.layer driver.old).size offset max_length r.0 r.1) }
-        ensures names { length (layers below.old) + 1 < 2 ^ 64 → Each D.sees (driver.old ∷ layers below.old) → IfOk result (λ r. DeepNames (map D.layer (driver.old ∷ layers below.old)) (at (map D.layer (driver.old ∷ layers below.old))) (stored_at D.Seen (driver.new ∷ layers below.new)) offset r.1 r.0) }
-        ensures deep { length (layers below.old) + 1 < 2 ^ 64 → IfOk result (λ r. IsDeepBelow (length (layers below.old) + 1) r.0) }
+        ensures names { NamesTruly D.Seen offset result (driver.old ∷ layers below.old) (driver.new ∷ layers below.new) }
+        ensures deep { NamesLayer result (driver.old ∷ layers below.old) }
         ensures home { D.sees driver.old → IfOk result (λ r. DeepNamesHome (D.layer driver.old) offset max_length r.0) }
-        ensures writable { length (layers below.old) + 1 < 2 ^ 64 → Each D.sees (driver.old ∷ layers below.old) → IfOk result (λ r. DeepNamesWritable (map D.layer (driver.old ∷ layers below.old)) offset max_length r.0) }
+        ensures writable { NamesWritable D.Seen offset max_length result (driver.old ∷ layers below.old) }
         ensures idle { max_length ≡ 0 → barrier (D.layer driver.old) ≡ None → IsOk result }
         ensures barred { (f : Fault) → barrier (D.layer driver.old) ≡ Some f → IsErrOf result f }
-        ensures unasked { (max_length ≡ 0) ⊎ IsSome (barrier (D.layer driver.old)) → Unasked D.Seen driver.old driver.new × (layers below.new ≡ layers below.old) }
+        ensures unasked { UnaskedIfIdle D.Seen max_length (driver.old, layers below.old) (driver.new, layers below.new) }
         ensures looked { Pairs (Looked D.Seen (WasNotCutOff result)) (driver.old ∷ layers below.old) (driver.new ∷ layers below.new) }
-        ensures failed { IfErr result (ImageCause (files_of D.Seen (driver.old ∷ layers below.old)) (files_of D.Seen (driver.new ∷ layers below.new))) }
-        ensures cause { Each D.sees (driver.old ∷ layers below.old) → IfErr result (DeepLookCause (map D.layer (driver.old ∷ layers below.old)) (at (map D.layer (driver.old ∷ layers below.old))) offset max_length (files_of D.Seen (driver.old ∷ layers below.old)) (files_of D.Seen (driver.new ∷ layers below.new))) }
+        ensures failed { IfErr result (ChainFails D.Seen (driver.old, layers below.old) (driver.new, layers below.new)) }
+        ensures cause { LookRefused D.Seen offset max_length result (driver.old ∷ layers below.old) (driver.new ∷ layers below.new) }
     {
         let (mapping, length) = match driver.get_mapping(alloc, offset, max_length) {
             Ok(run) => run,
@@ -146,12 +143,12 @@ impl<D: FormatDriverInstance> FormatAccess<D> {
         max_length: u64,
     ) -> Result<(Mapping, u64), Fault>
         ensures run { IfOk result (λ r. IsRunBelow max_length r.0 r.1) }
-        ensures names { length (layers below.old) < 2 ^ 64 → Each D.sees (layers below.old) → IfOk result (λ r. DeepNames (map D.layer (layers below.old)) (at (map D.layer (layers below.old))) (stored_at D.Seen (layers below.new)) offset r.1 r.0) }
-        ensures deep { length (layers below.old) < 2 ^ 64 → IfOk result (λ r. IsDeepBelow (length (layers below.old)) r.0) }
-        ensures writable { length (layers below.old) < 2 ^ 64 → Each D.sees (layers below.old) → IfOk result (λ r. DeepNamesWritable (map D.layer (layers below.old)) offset max_length r.0) }
+        ensures names { NamesTruly D.Seen offset result (layers below.old) (layers below.new) }
+        ensures deep { NamesLayer result (layers below.old) }
+        ensures writable { NamesWritable D.Seen offset max_length result (layers below.old) }
         ensures looked { Pairs (Looked D.Seen (WasNotCutOff result)) (layers below.old) (layers below.new) }
         ensures failed { IfErr result (ImageCause (files_of D.Seen (layers below.old)) (files_of D.Seen (layers below.new))) }
-        ensures cause { Each D.sees (layers below.old) → IfErr result (DeepLookCause (map D.layer (layers below.old)) (at (map D.layer (layers below.old))) offset max_length (files_of D.Seen (layers below.old)) (files_of D.Seen (layers below.new))) }
+        ensures cause { LookRefused D.Seen offset max_length result (layers below.old) (layers below.new) }
     {
         match below {
             None => Ok((Mapping::Zero { explicit: false }, max_length)),

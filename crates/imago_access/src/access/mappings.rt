@@ -1,21 +1,18 @@
 // Mappings that a caller prepares, writes to, and commits or cancels.
-ghost use Rattle.std.specs.Prelude.{◌≡◌, ◌⊎◌, ⊤, ◌<◌, ◌+◌, ◌^◌, ◌∷◌, ℕ, List, IsTrue, length, map, is_some, IsOk, IfOk, IfErr, OnOk, IsErr, IsErrOf, IfSome, IsSome, MatchResult, Some, None};
-ghost use Rattle.imago_storage.specs.Steps.{Step, Stays, SameValues, prepare, commit, cancel, write_mapped, done, prepared};
+ghost use Rattle.std.specs.Prelude.{◌≡◌, ◌<◌, ◌+◌, ◌^◌, length, IsOk, IfOk, IfErr, OnOk, IsErr, IsErrOf, IsSome, Some, None};
+ghost use Rattle.imago_storage.specs.Steps.{prepare, write_mapped, done};
 ghost use Rattle.imago_storage.specs.declared.fault.Fault.{Fault};
-ghost use Rattle.imago_storage.specs.declared.fault.Fault.TheVariants.{Foreign, Outdated};
 ghost use Rattle.imago_access.specs.Layer.{IsFree, IsLike};
-ghost use Rattle.imago_access.specs.Chain.{unit_of_chain};
-ghost use Rattle.imago_access.specs.Layers.{chain};
-ghost use Rattle.imago_access.specs.Files.{WasNotCutOff, IsMild, ImageCause, Unasked, files_of, files};
-ghost use Rattle.imago_access.specs.Going.{IsUnchanged, Went};
+ghost use Rattle.imago_access.specs.Files.{WasNotCutOff, Unasked};
 ghost use Rattle.imago_access.specs.Mappings.{IsMappedRun};
-ghost use Rattle.imago_access.specs.Spending.{IsMine, is_own, Spends, IsSpending, commit_refusal, GivenBack, IsForeignTo};
-ghost use Rattle.imago_access.specs.Parts.{IsMappedAt};
-ghost use Rattle.imago_access.specs.Refusals.{barrier, change_refusal, ChangeCause};
-ghost use Rattle.imago_access.specs.Stops.{KeepsStops, GivesNone, GivesBytes, GivesHeld};
-ghost use Rattle.imago_access.specs.Running.{IsIntactChain, RanChain, chain_disk, below_of};
-ghost use Rattle.imago_access.specs.ChainCalls.{ChainSteps, ChainStays, ChainFails, chain_refusal, OwnCause, ChainCause};
+ghost use Rattle.imago_access.specs.Spending.{IsMine, IsForeignTo};
+ghost use Rattle.imago_access.specs.Refusals.{barrier};
+ghost use Rattle.imago_access.specs.Stops.{GivesNone, GivesBytes};
+ghost use Rattle.imago_access.specs.Running.{IsIntactChain, RanChain};
+ghost use Rattle.imago_access.specs.ChainCalls.{ChainSteps, ChainStays, ChainFails, chain_refusal, OwnCause, AllUnasked, CanWriteRun, ChainCancels, ChainCommitRefused, ChainCommits, ChainMappedCause, ChainPrepares, CommitStops, EndsAtOnce, IfMild, IsMappedFor, KeepsHomes, StaysIntact, WhereMine};
 ghost use Rattle.imago_access.specs.Failing.{Fails};
+ghost use Rattle.imago_access.specs.PreparingCalls.{Cancels, CommitRefused, Commits, nowhere};
+ghost use Rattle.imago_access.specs.Changes.{asking};
 
 use crate::access::FormatAccess;
 use crate::drivers::FormatDriverInstance;
@@ -40,17 +37,17 @@ impl<D: FormatDriverInstance> FormatAccess<D> {
         overwrite: bool,
     ) -> Result<PreparedDataMapping<D::State>, Fault>
         requires free { IsFree (D.layer self.old.0) }
-        ensures ok { IsIntactChain D.Seen self.old → IfOk result (λ m. ChainSteps D.Seen (prepare offset length overwrite) (prepared m.length (is_some m.state)) self.old self.new) }
-        ensures home { IsIntactChain D.Seen self.old → IfOk result (λ m. (i : ℕ) → i < m.length → (D.layer self.new.0).home (offset + i) ≡ Some (m.storage, m.offset + i)) }
+        ensures ok { IsIntactChain D.Seen self.old → IfOk result (ChainPrepares D.Seen (asking offset length overwrite) self.old self.new) }
+        ensures home { IsIntactChain D.Seen self.old → IfOk result (CanWriteRun (D.layer self.new.0) offset) }
         ensures run { IfOk result (λ m. IsMappedRun (D.layer self.old.0) offset length m.length × (m.offset + m.length < 2 ^ 64)) }
         ensures mine { IfOk result (λ m. IsMine D.Seen m.state (D.layer self.new.0)) }
         ensures stateless { IfOk result (λ m. m.state ≡ None → IsFree (D.layer self.new.0)) }
-        ensures empty { length ≡ 0 → IfOk result (λ m. (m ≡ record { storage = 0; offset = 0; length = 0; state = None }) × (D.layer self.new.0 ≡ D.layer self.old.0)) }
+        ensures empty { length ≡ 0 → IfOk result (λ m. (m ≡ nowhere) × (D.layer self.new.0 ≡ D.layer self.old.0)) }
         ensures untouched { IsSome (chain_refusal D.Seen self.old offset length) → self.new ≡ self.old }
-        ensures err { IsIntactChain D.Seen self.old → IfErr result (λ e. IsMild e → ChainStays D.Seen self.old self.new) }
+        ensures err { IsIntactChain D.Seen self.old → IfMild result (ChainStays D.Seen self.old self.new) }
         ensures at_once { (f : Fault) → chain_refusal D.Seen self.old offset length ≡ Some f → IsErrOf result f }
         ensures idle { length ≡ 0 → barrier (D.layer self.old.0) ≡ None → IsOk result }
-        ensures unasked { (length ≡ 0) ⊎ IsSome (chain_refusal D.Seen self.old offset length) → Unasked D.Seen self.old.0 self.new.0 × (self.new.1 ≡ self.old.1) }
+        ensures unasked { EndsAtOnce D.Seen self.old offset length → AllUnasked D.Seen self.old self.new }
         ensures free { IsErr result → IsFree (D.layer self.new.0) }
         ensures ran { RanChain D.Seen (WasNotCutOff result) GivesNone self.old self.new }
         ensures failed { IfErr result (ChainFails D.Seen self.old self.new) }
@@ -72,23 +69,17 @@ impl<D: FormatDriverInstance> FormatAccess<D> {
         alloc: Global,
         mapping: PreparedDataMapping<D::State>,
     ) -> Result<(), (Fault, Option<PreparedDataMapping<D::State>>)>
-        ensures ok { IsIntactChain D.Seen self.old → IsMine D.Seen mapping.state (D.layer self.old.0) → OnOk result (ChainSteps D.Seen (commit (is_some mapping.state) (is_own D.tag mapping.state (D.layer self.old.0))) done self.old self.new) }
+        ensures ok { WhereMine D.Seen mapping.state self.old (OnOk result (ChainCommits D.Seen mapping.state self.old self.new)) }
         ensures own { IsForeignTo D.tag mapping.state (D.layer self.old.0) → IsErr result }
-        ensures home { IsIntactChain D.Seen self.old → IsMine D.Seen mapping.state (D.layer self.old.0) → OnOk result ((p : ℕ) (place : ℕ × ℕ) → (D.layer self.old.0).home p ≡ Some place → (D.layer self.new.0).home p ≡ Some place) }
-        ensures back { IfErr result (λ e. IfSome e.1 (λ m. (m ≡ mapping) × GivenBack D.tag mapping.state (D.layer self.old.0) e.0 × IsUnchanged D.Seen self.old.0 self.new.0)) }
-        ensures at_once { (f : Fault) → commit_refusal D.Seen mapping.state (D.layer self.old.0) ≡ Some f → MatchResult result (λ _. ⊥) (λ e. (e.0 ≡ f) × IsSome e.1) }
-        ensures unasked { (mapping.state ≡ None) ⊎ IsSome (commit_refusal D.Seen mapping.state (D.layer self.old.0)) → Unasked D.Seen self.old.0 self.new.0 }
-        ensures spent { IfErr result (λ e. e.1 ≡ None → IsSome mapping.state × IsTrue (D.layer self.new.0).failed × IsSpending e.0 × Spends D.Seen mapping.state (D.layer self.old.0) (D.layer self.new.0) (IsFree (D.layer self.new.0) × (D.safe self.old.0 → IsMild e.0 → ⊥))) }
+        ensures home { WhereMine D.Seen mapping.state self.old (OnOk result (KeepsHomes (D.layer self.old.0) (D.layer self.new.0))) }
+        ensures refused { CommitRefused D.Seen mapping result self.old.0 self.new.0 }
         ensures free { IsMine D.Seen mapping.state (D.layer self.old.0) → IsSome mapping.state → OnOk result (IsFree (D.layer self.new.0)) }
         ensures stateless { mapping.state ≡ None → OnOk result (D.layer self.new.0 ≡ D.layer self.old.0) }
-        ensures sees { mapping.state ≡ None → D.sees self.old.0 → D.sees self.new.0 }
-        ensures size { (D.layer self.new.0).size ≡ (D.layer self.old.0).size }
-        ensures intact { IsMine D.Seen mapping.state (D.layer self.old.0) → OnOk result (IsIntactChain D.Seen self.old → IsIntactChain D.Seen self.new) }
-        ensures went { Went D.Seen (MatchResult result (λ _. ⊤) (λ e. IsMild e.0)) (IsOk result × IsMine D.Seen mapping.state (D.layer self.old.0)) self.old.0 self.new.0 }
-        ensures stops { IsIntactChain D.Seen self.old → IsMine D.Seen mapping.state (D.layer self.old.0) → KeepsStops D.Seen (map D.layer self.old.1) (GivesHeld (D.layer self.old.0)) self.old.0 self.new.0 }
-        ensures failed { IfErr result (λ e. Fails D.Seen self.old.0 self.new.0 e.0) }
+        ensures commits { Commits D.Seen mapping.state result self.old.0 self.new.0 }
+        ensures intact { IsMine D.Seen mapping.state (D.layer self.old.0) → OnOk result (StaysIntact D.Seen self.old self.new) }
+        ensures stops { WhereMine D.Seen mapping.state self.old (CommitStops D.Seen self.old self.new) }
         ensures below { self.new.1 ≡ self.old.1 }
-        ensures cause { IsIntactChain D.Seen self.old → IsMine D.Seen mapping.state (D.layer self.old.0) ⊎ IsForeignTo D.tag mapping.state (D.layer self.old.0) → IfErr result (λ e. ChainCause D.Seen (commit (is_some mapping.state) (is_own D.tag mapping.state (D.layer self.old.0))) (λ _. ⊥) self.old self.new e.0) }
+        ensures cause { ChainCommitRefused D.Seen mapping.state result self.old self.new }
     {
         self.driver.commit_data_mapping(alloc, mapping)
     }
@@ -100,16 +91,12 @@ impl<D: FormatDriverInstance> FormatAccess<D> {
         &mut self,
         mapping: PreparedDataMapping<D::State>,
     ) -> Result<(), (Fault, PreparedDataMapping<D::State>)>
-        ensures ok { IsMine D.Seen mapping.state (D.layer self.old.0) → OnOk result (ChainSteps D.Seen (cancel (is_some mapping.state) (is_own D.tag mapping.state (D.layer self.old.0))) done self.old self.new) }
+        ensures ok { IsMine D.Seen mapping.state (D.layer self.old.0) → OnOk result (ChainCancels D.Seen mapping.state self.old self.new) }
         ensures own { IsForeignTo D.tag mapping.state (D.layer self.old.0) → IsErr result }
-        ensures back { IfErr result (λ e. (e.1 ≡ mapping) × (e.0 ≡ Foreign) × IsForeignTo D.tag mapping.state (D.layer self.old.0) × IsUnchanged D.Seen self.old.0 self.new.0) }
+        ensures cancels { Cancels D.Seen mapping result self.old.0 self.new.0 }
         ensures free { IsMine D.Seen mapping.state (D.layer self.old.0) → IsSome mapping.state → IsFree (D.layer self.new.0) }
         ensures stateless { mapping.state ≡ None → D.layer self.new.0 ≡ D.layer self.old.0 }
-        ensures fixed { ((D.layer self.new.0).fixed ≡ (D.layer self.old.0).fixed) × ((D.layer self.new.0).size ≡ (D.layer self.old.0).size) × ((D.layer self.new.0).failed ≡ (D.layer self.old.0).failed) }
-        ensures intact { IsMine D.Seen mapping.state (D.layer self.old.0) → IsIntactChain D.Seen self.old → IsIntactChain D.Seen self.new }
-        ensures sees { D.sees self.old.0 → D.sees self.new.0 }
-        ensures lasts { D.lasts self.old.0 → D.lasts self.new.0 }
-        ensures none { (D.image self.new.0 ≡ D.image self.old.0) × (D.extras self.new.0 ≡ D.extras self.old.0) }
+        ensures intact { IsMine D.Seen mapping.state (D.layer self.old.0) → StaysIntact D.Seen self.old self.new }
         ensures below { self.new.1 ≡ self.old.1 }
     {
         self.driver.cancel_data_mapping(mapping)
@@ -129,19 +116,19 @@ impl<D: FormatDriverInstance> FormatAccess<D> {
         bytes: &[u8],
     ) -> Result<(), Fault>
         ensures ok { IsIntactChain D.Seen self.old → OnOk result (ChainSteps D.Seen (write_mapped guest bytes.now) done self.old self.new) }
-        ensures mapped { D.sees self.old.0 → OnOk result (0 < length bytes.now → IsMappedAt (D.layer self.old.0) guest place (length bytes.now)) }
+        ensures mapped { D.sees self.old.0 → OnOk result (IsMappedFor (D.layer self.old.0) guest place (length bytes.now)) }
         ensures home { IsIntactChain D.Seen self.old → OnOk result ((D.layer self.new.0).home ≡ (D.layer self.old.0).home) }
-        ensures err { IsIntactChain D.Seen self.old → IfErr result (λ e. IsMild e → D.layer self.new.0 ≡ D.layer self.old.0) }
+        ensures err { IsIntactChain D.Seen self.old → IfMild result (D.layer self.new.0 ≡ D.layer self.old.0) }
         ensures at_once { (f : Fault) → chain_refusal D.Seen self.old guest (length bytes.now) ≡ Some f → IsErrOf result f }
         ensures idle { length bytes.now ≡ 0 → barrier (D.layer self.old.0) ≡ None → IsOk result }
-        ensures unasked { (length bytes.now ≡ 0) ⊎ IsSome (chain_refusal D.Seen self.old guest (length bytes.now)) → Unasked D.Seen self.old.0 self.new.0 }
+        ensures unasked { EndsAtOnce D.Seen self.old guest (length bytes.now) → Unasked D.Seen self.old.0 self.new.0 }
         ensures untouched { IsSome (chain_refusal D.Seen self.old guest (length bytes.now)) → self.new ≡ self.old }
         ensures empty { length bytes.now ≡ 0 → D.layer self.new.0 ≡ D.layer self.old.0 }
         ensures like { IsLike (D.layer self.old.0) (D.layer self.new.0) }
         ensures ran { RanChain D.Seen (WasNotCutOff result) (GivesBytes guest bytes.now) self.old self.new }
         ensures below { self.new.1 ≡ self.old.1 }
         ensures failed { IfErr result (Fails D.Seen self.old.0 self.new.0) }
-        ensures cause { IsIntactChain D.Seen self.old → IfErr result (ChainCause D.Seen (write_mapped guest bytes.now) (λ f. (f ≡ Outdated) × (0 < length bytes.now) × (IsMappedAt (D.layer self.old.0) guest place (length bytes.now) → ⊥)) self.old self.new) }
+        ensures cause { IsIntactChain D.Seen self.old → IfErr result (ChainMappedCause D.Seen guest place bytes.now self.old self.new) }
     {
         self.check_change(guest, bytes.len() as u64)?;
         self.driver.write_mapped(alloc, guest, place, bytes)

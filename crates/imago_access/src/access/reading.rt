@@ -1,17 +1,15 @@
 // Reads and lookups, from the top layer downward.
-ghost use Rattle.std.specs.Prelude.{◌≡◌, ◌⊎◌, ◌∷◌, ◌<◌, ◌≤◌, ◌+◌, ◌^◌, ℕ, List, length, slice_index, map, IsTrue, IsOk, IfOk, IfErr, OnOk, IsErrOf, IsSome, Some, None};
-ghost use Rattle.imago_storage.specs.Disk.{Shows, byte};
+ghost use Rattle.std.specs.Prelude.{◌≡◌, ◌∷◌, ◌<◌, ◌≤◌, length, map, IsOk, IfOk, IfErr, OnOk, IsErrOf, Some, None};
+ghost use Rattle.imago_storage.specs.Disk.{Shows};
 ghost use Rattle.imago_storage.specs.Through.{Overflows};
-ghost use Rattle.imago_storage.specs.Steps.{Step, read, bytes_read};
 ghost use Rattle.imago_storage.specs.declared.fault.Fault.{Fault};
-ghost use Rattle.imago_access.specs.Layer.{Layer};
-ghost use Rattle.imago_access.specs.Chain.{at, disk_of, Each, unit_of_chain};
+ghost use Rattle.imago_access.specs.Chain.{at, Each, unit_of_chain};
 ghost use Rattle.imago_access.specs.Layers.{chain, layers};
 ghost use Rattle.imago_access.specs.Files.{Pairs, WasNotCutOff, ImageCause, files_of};
 ghost use Rattle.imago_access.specs.Going.{Looked};
-ghost use Rattle.imago_access.specs.Mappings.{IsRun, Looks};
-ghost use Rattle.imago_access.specs.Refusals.{barrier, look_refusal, ReadCause, LookCause, DeepLookCause};
-ghost use Rattle.imago_access.specs.ChainCalls.{ChainSteps, ChainFails, chain_look_refusal, ChainReadCause};
+ghost use Rattle.imago_access.specs.Refusals.{barrier};
+ghost use Rattle.imago_access.specs.ChainCalls.{ChainFails, chain_look_refusal, LookEndsAtOnce};
+ghost use Rattle.imago_access.specs.ChainLooks.{ChainReads, ReadRefused, ReadsRun};
 
 use crate::access::FormatAccess;
 use crate::below::ReadBelow;
@@ -28,13 +26,13 @@ impl<D: FormatDriverInstance> FormatAccess<D> {
     /// `Fault::Barred` and `Fault::DamagedTable` where a place of the range has no byte, with `Fault::Memory` and `Fault::Storage`, and
     /// where a layer can't be used. A refusal leaves the buffer open, and for another cause than `Memory` and `Storage` the disk as it was.
     pub fn read(&mut self, alloc: Global, buf: &mut [u8], offset: u64) -> Result<(), Fault>
-        ensures ok { Each D.sees (chain self.old) → OnOk result (ChainSteps D.Seen (read offset (length buf.old)) (bytes_read buf.new) self.old self.new) }
+        ensures ok { Each D.sees (chain self.old) → OnOk result (ChainReads D.Seen offset (length buf.old) buf.new self.old self.new) }
         ensures at_once { (f : Fault) → chain_look_refusal D.Seen self.old offset (length buf.old) ≡ Some f → IsErrOf result f }
         ensures idle { length buf.old ≡ 0 → barrier (D.layer self.old.0) ≡ None → IsOk result }
-        ensures untouched { (length buf.old ≡ 0) ⊎ IsSome (chain_look_refusal D.Seen self.old offset (length buf.old)) → self.new ≡ self.old }
+        ensures untouched { LookEndsAtOnce D.Seen self.old offset (length buf.old) → self.new ≡ self.old }
         ensures looked { Pairs (Looked D.Seen (WasNotCutOff result)) (chain self.old) (chain self.new) }
         ensures failed { IfErr result (ChainFails D.Seen self.old self.new) }
-        ensures cause { Each D.sees (chain self.old) → IfErr result (ChainReadCause D.Seen offset (length buf.old) self.old self.new) }
+        ensures cause { ReadRefused D.Seen offset (length buf.old) result (chain self.old) (chain self.new) }
     {
         self.driver.ready()?;
         if buf.is_empty() {
@@ -53,7 +51,7 @@ impl<D: FormatDriverInstance> FormatAccess<D> {
         ensures shown { Each D.sees (chain self.old) → OnOk result (Shows (at (map D.layer (chain self.old))) offset buf.new) }
         ensures looked { Pairs (Looked D.Seen (WasNotCutOff result)) (chain self.old) (chain self.new) }
         ensures failed { IfErr result (ChainFails D.Seen self.old self.new) }
-        ensures cause { Each D.sees (chain self.old) → IfErr result (ChainReadCause D.Seen offset (length buf.old) self.old self.new) }
+        ensures cause { ReadRefused D.Seen offset (length buf.old) result (chain self.old) (chain self.new) }
     {
         let mut done = 0;
         while done < buf.len() {
@@ -72,10 +70,10 @@ impl<D: FormatDriverInstance> FormatAccess<D> {
         requires fits { Overflows (unit_of_chain (map D.layer (chain self.old))) offset (length buf.old) → ⊥ }
         requires some { 0 < length buf.old }
         ensures run { IfOk result (λ n. (0 < n) × (n ≤ length buf.old)) }
-        ensures shown { Each D.sees (chain self.old) → IfOk result (λ n. (i : ℕ) → i < n → at (map D.layer (chain self.old)) (offset + i) ≡ byte (slice_index buf.new i)) }
+        ensures shown { ReadsRun D.Seen offset result buf.new (chain self.old) }
         ensures looked { Pairs (Looked D.Seen (WasNotCutOff result)) (chain self.old) (chain self.new) }
         ensures failed { IfErr result (ChainFails D.Seen self.old self.new) }
-        ensures cause { Each D.sees (chain self.old) → IfErr result (ChainReadCause D.Seen offset (length buf.old) self.old self.new) }
+        ensures cause { ReadRefused D.Seen offset (length buf.old) result (chain self.old) (chain self.new) }
     {
         Self::read_part(alloc, &mut self.driver, &mut self.below, buf, offset)
     }
@@ -92,10 +90,10 @@ impl<D: FormatDriverInstance> FormatAccess<D> {
         requires fits { Overflows (unit_of_chain (map D.layer (driver.old ∷ layers below.old))) offset (length buf.old) → ⊥ }
         requires some { 0 < length buf.old }
         ensures run { IfOk result (λ n. (0 < n) × (n ≤ length buf.old)) }
-        ensures shown { Each D.sees (driver.old ∷ layers below.old) → IfOk result (λ n. (i : ℕ) → i < n → at (map D.layer (driver.old ∷ layers below.old)) (offset + i) ≡ byte (slice_index buf.new i)) }
+        ensures shown { ReadsRun D.Seen offset result buf.new (driver.old ∷ layers below.old) }
         ensures looked { Pairs (Looked D.Seen (WasNotCutOff result)) (driver.old ∷ layers below.old) (driver.new ∷ layers below.new) }
-        ensures failed { IfErr result (ImageCause (files_of D.Seen (driver.old ∷ layers below.old)) (files_of D.Seen (driver.new ∷ layers below.new))) }
-        ensures cause { Each D.sees (driver.old ∷ layers below.old) → IfErr result (ReadCause (map D.layer (driver.old ∷ layers below.old)) (at (map D.layer (driver.old ∷ layers below.old))) (unit_of_chain (map D.layer (driver.old ∷ layers below.old))) offset (length buf.old) (files_of D.Seen (driver.old ∷ layers below.old)) (files_of D.Seen (driver.new ∷ layers below.new))) }
+        ensures failed { IfErr result (ChainFails D.Seen (driver.old, layers below.old) (driver.new, layers below.new)) }
+        ensures cause { ReadRefused D.Seen offset (length buf.old) result (driver.old ∷ layers below.old) (driver.new ∷ layers below.new) }
     {
         let most = buf.len();
         let (mapping, length) = match driver.get_mapping(alloc, offset, most as u64) {
@@ -144,7 +142,7 @@ impl<D: FormatDriverInstance> FormatAccess<D> {
         ensures shown { Each D.sees (layers below.old) → OnOk result (Shows (at (map D.layer (layers below.old))) offset buf.new) }
         ensures looked { Pairs (Looked D.Seen (WasNotCutOff result)) (layers below.old) (layers below.new) }
         ensures failed { IfErr result (ImageCause (files_of D.Seen (layers below.old)) (files_of D.Seen (layers below.new))) }
-        ensures cause { Each D.sees (layers below.old) → IfErr result (ReadCause (map D.layer (layers below.old)) (at (map D.layer (layers below.old))) (unit_of_chain (map D.layer (layers below.old))) offset (length buf.old) (files_of D.Seen (layers below.old)) (files_of D.Seen (layers below.new))) }
+        ensures cause { ReadRefused D.Seen offset (length buf.old) result (layers below.old) (layers below.new) }
     {
         match below {
             Some(layer) => layer.read_all(alloc, buf, offset),

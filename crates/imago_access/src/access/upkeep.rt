@@ -1,5 +1,5 @@
 // Calls that keep an image and its files in step.
-ghost use Rattle.std.specs.Prelude.{◌≡◌, ◌∷◌, IsTrue, map, IsOk, IfErr, OnOk, IsErrOf, IsSome, Some};
+ghost use Rattle.std.specs.Prelude.{◌≡◌, ◌∷◌, map, IsOk, IfErr, OnOk, IsErrOf, Some};
 ghost use Rattle.imago_storage.specs.Steps.{flush, sync, done};
 ghost use Rattle.imago_storage.specs.declared.fault.Fault.{Fault};
 ghost use Rattle.imago_access.specs.Layer.{IsFree, IsLike};
@@ -7,11 +7,12 @@ ghost use Rattle.imago_access.specs.Chain.{Each, EndsAt};
 ghost use Rattle.imago_access.specs.Layers.{chain, layers};
 ghost use Rattle.imago_access.specs.Files.{Pairs, IsKept, IsStale, Unasked, files_of, files};
 ghost use Rattle.imago_access.specs.Going.{Went};
-ghost use Rattle.imago_access.specs.Refusals.{barrier, SomeFailed, InvalidateCause};
+ghost use Rattle.imago_access.specs.Refusals.{barrier, SomeFailed, IsBarred};
 ghost use Rattle.imago_access.specs.Stops.{IsWritten, GivesNone};
 ghost use Rattle.imago_access.specs.Running.{IsIntactChain, RanChain};
-ghost use Rattle.imago_access.specs.ChainCalls.{ChainSteps};
+ghost use Rattle.imago_access.specs.ChainCalls.{ChainSteps, AllUnasked};
 ghost use Rattle.imago_access.specs.Failing.{Fails, RefusesFlush};
+ghost use Rattle.imago_access.specs.ChainLooks.{KeepsLayers, KeepsSight, RefusesReloads};
 
 use crate::access::FormatAccess;
 use crate::drivers::FormatDriverInstance;
@@ -30,7 +31,7 @@ impl<D: FormatDriverInstance> FormatAccess<D> {
         ensures still { OnOk result (D.still self.new.0) }
         ensures written { IsIntactChain D.Seen self.old → IsFree (D.layer self.old.0) → OnOk result (IsWritten D.Seen self.new.0) }
         ensures barred { (f : Fault) → barrier (D.layer self.old.0) ≡ Some f → IsErrOf result f }
-        ensures unasked { IsSome (barrier (D.layer self.old.0)) → Unasked D.Seen self.old.0 self.new.0 }
+        ensures unasked { IsBarred (D.layer self.old.0) → Unasked D.Seen self.old.0 self.new.0 }
         ensures like { IsLike (D.layer self.old.0) (D.layer self.new.0) }
         ensures ran { RanChain D.Seen (IsOk result) GivesNone self.old self.new }
         ensures below { self.new.1 ≡ self.old.1 }
@@ -49,7 +50,7 @@ impl<D: FormatDriverInstance> FormatAccess<D> {
         ensures kept { Pairs IsKept (files D.Seen self.old.0) (files D.Seen self.new.0) }
         ensures still { D.still self.old.0 → D.still self.new.0 }
         ensures barred { (f : Fault) → barrier (D.layer self.old.0) ≡ Some f → IsErrOf result f }
-        ensures unasked { IsSome (barrier (D.layer self.old.0)) → Unasked D.Seen self.old.0 self.new.0 }
+        ensures unasked { IsBarred (D.layer self.old.0) → Unasked D.Seen self.old.0 self.new.0 }
         ensures like { IsLike (D.layer self.old.0) (D.layer self.new.0) }
         ensures ran { RanChain D.Seen (IsOk result) GivesNone self.old self.new }
         ensures below { self.new.1 ≡ self.old.1 }
@@ -67,17 +68,17 @@ impl<D: FormatDriverInstance> FormatAccess<D> {
     #[cycle(invalidate)]
     pub fn invalidate_cache(&mut self, alloc: Global) -> Result<(), Fault>
         requires free { Each (λ d. IsFree (D.layer d)) (chain self.old) }
-        ensures same { Each (λ d. IsTrue (D.layer d).fixed.keeps) (chain self.old) → Each D.sees (chain self.old) → Each D.still (chain self.old) → OnOk result (map D.layer (chain self.new) ≡ map D.layer (chain self.old)) }
-        ensures sees { Each (λ d. IsTrue (D.layer d).fixed.keeps) (chain self.old) → Each D.sees (chain self.old) → Each D.still (chain self.old) → OnOk result (Each D.sees (chain self.new)) }
+        ensures same { KeepsLayers D.Seen result (chain self.old) (chain self.new) }
+        ensures sees { KeepsSight D.Seen result (chain self.old) (chain self.new) }
         ensures kept { Pairs IsKept (files_of D.Seen (chain self.old)) (files_of D.Seen (chain self.new)) }
         ensures still { OnOk result (Each D.still (chain self.new)) }
         ensures barred { (f : Fault) → barrier (D.layer self.old.0) ≡ Some f → IsErrOf result f }
-        ensures unasked { IsSome (barrier (D.layer self.old.0)) → Unasked D.Seen self.old.0 self.new.0 × (self.new.1 ≡ self.old.1) }
+        ensures unasked { IsBarred (D.layer self.old.0) → AllUnasked D.Seen self.old self.new }
         ensures went { Pairs (Went D.Seen (IsOk result) (IsOk result)) (chain self.old) (chain self.new) }
         ensures free { Each (λ d. IsFree (D.layer d)) (chain self.new) }
         ensures downward { IfErr result (λ _. EndsAt D.still (chain self.old) (chain self.new)) }
         ensures failed { IfErr result (λ e. IsStale e → SomeFailed (map D.layer (chain self.new))) }
-        ensures cause { IfErr result (InvalidateCause (map D.layer (chain self.old)) (files_of D.Seen (chain self.old)) (files_of D.Seen (chain self.new))) }
+        ensures cause { IfErr result (RefusesReloads D.Seen (chain self.old) (chain self.new)) }
     {
         Self::invalidate_part(alloc, &mut self.driver, &mut self.below)
     }
@@ -90,17 +91,17 @@ impl<D: FormatDriverInstance> FormatAccess<D> {
         below: &mut Option<Box<FormatAccess<D>>>,
     ) -> Result<(), Fault>
         requires free { Each (λ d. IsFree (D.layer d)) (driver.old ∷ layers below.old) }
-        ensures same { Each (λ d. IsTrue (D.layer d).fixed.keeps) (driver.old ∷ layers below.old) → Each D.sees (driver.old ∷ layers below.old) → Each D.still (driver.old ∷ layers below.old) → OnOk result (map D.layer (driver.new ∷ layers below.new) ≡ map D.layer (driver.old ∷ layers below.old)) }
-        ensures sees { Each (λ d. IsTrue (D.layer d).fixed.keeps) (driver.old ∷ layers below.old) → Each D.sees (driver.old ∷ layers below.old) → Each D.still (driver.old ∷ layers below.old) → OnOk result (Each D.sees (driver.new ∷ layers below.new)) }
+        ensures same { KeepsLayers D.Seen result (driver.old ∷ layers below.old) (driver.new ∷ layers below.new) }
+        ensures sees { KeepsSight D.Seen result (driver.old ∷ layers below.old) (driver.new ∷ layers below.new) }
         ensures kept { Pairs IsKept (files_of D.Seen (driver.old ∷ layers below.old)) (files_of D.Seen (driver.new ∷ layers below.new)) }
         ensures still { OnOk result (Each D.still (driver.new ∷ layers below.new)) }
         ensures barred { (f : Fault) → barrier (D.layer driver.old) ≡ Some f → IsErrOf result f }
-        ensures unasked { IsSome (barrier (D.layer driver.old)) → Unasked D.Seen driver.old driver.new × (layers below.new ≡ layers below.old) }
+        ensures unasked { IsBarred (D.layer driver.old) → AllUnasked D.Seen (driver.old, layers below.old) (driver.new, layers below.new) }
         ensures went { Pairs (Went D.Seen (IsOk result) (IsOk result)) (driver.old ∷ layers below.old) (driver.new ∷ layers below.new) }
         ensures free { Each (λ d. IsFree (D.layer d)) (driver.new ∷ layers below.new) }
         ensures downward { IfErr result (λ _. EndsAt D.still (driver.old ∷ layers below.old) (driver.new ∷ layers below.new)) }
         ensures failed { IfErr result (λ e. IsStale e → SomeFailed (map D.layer (driver.new ∷ layers below.new))) }
-        ensures cause { IfErr result (InvalidateCause (map D.layer (driver.old ∷ layers below.old)) (files_of D.Seen (driver.old ∷ layers below.old)) (files_of D.Seen (driver.new ∷ layers below.new))) }
+        ensures cause { IfErr result (RefusesReloads D.Seen (driver.old ∷ layers below.old) (driver.new ∷ layers below.new)) }
     {
         match driver.invalidate_cache(alloc) {
             Ok(()) => Self::invalidate_under(alloc, below),
@@ -115,15 +116,15 @@ impl<D: FormatDriverInstance> FormatAccess<D> {
         below: &mut Option<Box<FormatAccess<D>>>,
     ) -> Result<(), Fault>
         requires free { Each (λ d. IsFree (D.layer d)) (layers below.old) }
-        ensures same { Each (λ d. IsTrue (D.layer d).fixed.keeps) (layers below.old) → Each D.sees (layers below.old) → Each D.still (layers below.old) → OnOk result (map D.layer (layers below.new) ≡ map D.layer (layers below.old)) }
-        ensures sees { Each (λ d. IsTrue (D.layer d).fixed.keeps) (layers below.old) → Each D.sees (layers below.old) → Each D.still (layers below.old) → OnOk result (Each D.sees (layers below.new)) }
+        ensures same { KeepsLayers D.Seen result (layers below.old) (layers below.new) }
+        ensures sees { KeepsSight D.Seen result (layers below.old) (layers below.new) }
         ensures kept { Pairs IsKept (files_of D.Seen (layers below.old)) (files_of D.Seen (layers below.new)) }
         ensures still { OnOk result (Each D.still (layers below.new)) }
         ensures went { Pairs (Went D.Seen (IsOk result) (IsOk result)) (layers below.old) (layers below.new) }
         ensures free { Each (λ d. IsFree (D.layer d)) (layers below.new) }
         ensures downward { IfErr result (λ _. EndsAt D.still (layers below.old) (layers below.new)) }
         ensures failed { IfErr result (λ e. IsStale e → SomeFailed (map D.layer (layers below.new))) }
-        ensures cause { IfErr result (InvalidateCause (map D.layer (layers below.old)) (files_of D.Seen (layers below.old)) (files_of D.Seen (layers below.new))) }
+        ensures cause { IfErr result (RefusesReloads D.Seen (layers below.old) (layers below.new)) }
     {
         match below {
             Some(layer) => layer.invalidate_cache(alloc),

@@ -1,24 +1,21 @@
 // Writes, through mappings that are prepared and committed run by run.
-ghost use Rattle.std.specs.Prelude.{⊤, ◌≡◌, ◌⊎◌, ◌<◌, ◌≤◌, ◌+◌, ◌∷◌, ◌++◌, ℕ, List, IsTrue, true, length, slice_index, map, IsOk, IfOk, IfErr, OnOk, IsErr, IsErrOf, IsSome, Some, None};
+ghost use Rattle.std.specs.Prelude.{⊤, ◌≡◌, ◌<◌, ◌≤◌, ◌+◌, ◌∷◌, ◌++◌, ℕ, List, true, length, slice_index, IsOk, IfOk, IfErr, OnOk, IsErrOf, Some, None};
 ghost use Rattle.imago_storage.specs.State.{StorageState};
 ghost use Rattle.imago_storage.specs.Disk.{byte};
-ghost use Rattle.imago_storage.specs.Through.{Overflows};
-ghost use Rattle.imago_storage.specs.Steps.{Call, Step, write, done};
-ghost use Rattle.imago_storage.specs.Causes.{PartlyDone};
-ghost use Rattle.imago_access.specs.Layer.{Layer, loose, IsFree, IsLike, unit_of_layer};
+ghost use Rattle.imago_storage.specs.Steps.{Call, write, done};
+ghost use Rattle.imago_access.specs.Layer.{loose, IsFree, IsLike};
 ghost use Rattle.imago_access.specs.Room.{IsApart, IsUncutAt, Takes};
-ghost use Rattle.imago_access.specs.Chain.{at, unit_of_chain};
-ghost use Rattle.imago_access.specs.Layers.{chain};
-ghost use Rattle.imago_access.specs.Files.{WasNotCutOff, IsMild, ImageCause, Unasked, files_of, files};
+ghost use Rattle.imago_access.specs.Chain.{at};
+ghost use Rattle.imago_access.specs.Files.{WasNotCutOff, IsMild, ImageCause, Unasked, files};
 ghost use Rattle.imago_access.specs.Going.{Went};
-ghost use Rattle.imago_access.specs.Changes.{Committed, Cancelled};
-ghost use Rattle.imago_access.specs.Spending.{IsMine, Spends};
+ghost use Rattle.imago_access.specs.Spending.{IsMine};
 ghost use Rattle.imago_access.specs.Parts.{IsPartOf, IsUncutPart, announces, PartCause};
-ghost use Rattle.imago_access.specs.Refusals.{barrier, change_refusal, ChangeCause};
-ghost use Rattle.imago_access.specs.Stops.{KeepsStops, MakesNone, GivesBytes, GivesSettled};
-ghost use Rattle.imago_access.specs.Running.{IsIntact, Ran, IsIntactChain, RanChain, chain_disk, below_of};
-ghost use Rattle.imago_access.specs.ChainCalls.{ChainSteps, ChainPartly, ChainFails, chain_refusal, OwnCause};
+ghost use Rattle.imago_access.specs.Refusals.{barrier};
+ghost use Rattle.imago_access.specs.Stops.{GivesBytes};
+ghost use Rattle.imago_access.specs.Running.{IsIntact, Ran, IsIntactChain, RanChain};
+ghost use Rattle.imago_access.specs.ChainCalls.{ChainSteps, ChainPartly, ChainFails, chain_refusal, OwnCause, EndsAtOnce, IfMild};
 ghost use Rattle.imago_access.specs.Failing.{Fails, FailsOver};
+ghost use Rattle.imago_access.specs.RunCalls.{GivesMappingUp, SettlesMapping, SettlingRefused, SettlingStops};
 
 use crate::access::FormatAccess;
 use crate::below::ReadBelow;
@@ -34,7 +31,7 @@ pub(crate) fn abandon<D: FormatDriverInstance>(
     mapping: PreparedDataMapping<D::State>,
 )
     requires { IsMine D.Seen mapping.state (D.layer driver.old) }
-    ensures ok { Spends D.Seen mapping.state (D.layer driver.old) (D.layer driver.new) (Cancelled (D.layer driver.old) (D.layer driver.new)) }
+    ensures ok { GivesMappingUp D.Seen mapping.state driver.old driver.new }
     ensures safe { D.safe driver.old → D.safe driver.new }
     ensures room { D.safe driver.old → Takes D.Seen (λ _. ⊤) driver.old driver.new }
     ensures lasts { D.lasts driver.old → D.lasts driver.new }
@@ -54,8 +51,8 @@ pub(crate) fn settle<D: FormatDriverInstance>(
     mapping: PreparedDataMapping<D::State>,
 ) -> Result<(), Fault>
     requires { IsMine D.Seen mapping.state (D.layer driver.old) }
-    ensures ok { OnOk result (Spends D.Seen mapping.state (D.layer driver.old) (D.layer driver.new) (D.safe driver.old → Committed (D.layer driver.old) (D.layer driver.new))) }
-    ensures err { D.safe driver.old → IfErr result (λ e. IsMild e → Spends D.Seen mapping.state (D.layer driver.old) (D.layer driver.new) (Cancelled (D.layer driver.old) (D.layer driver.new))) }
+    ensures ok { OnOk result (SettlesMapping D.Seen mapping.state driver.old driver.new) }
+    ensures err { D.safe driver.old → IfMild result (GivesMappingUp D.Seen mapping.state driver.old driver.new) }
     ensures free { (mapping.state ≡ None → IsFree (D.layer driver.old)) → IsFree (D.layer driver.new) }
     ensures idle { mapping.state ≡ None → barrier (D.layer driver.old) ≡ None → IsOk result }
     ensures unasked { mapping.state ≡ None → Unasked D.Seen driver.old driver.new }
@@ -63,9 +60,9 @@ pub(crate) fn settle<D: FormatDriverInstance>(
     ensures room { D.safe driver.old → WasNotCutOff result → Takes D.Seen (λ p. (D.layer driver.old).held p ≡ loose) driver.old driver.new }
     ensures went { Went D.Seen (WasNotCutOff result) (WasNotCutOff result) driver.old driver.new }
     ensures began { (d : D) (call : Call) → D.began d call driver.old → OnOk result (D.began d call driver.new) }
-    ensures stops { D.safe driver.old → (below : List Layer) → KeepsStops D.Seen below (GivesSettled below (D.layer driver.old)) driver.old driver.new }
+    ensures stops { SettlingStops D.Seen driver.old driver.new }
     ensures failed { IfErr result (Fails D.Seen driver.old driver.new) }
-    ensures cause { D.safe driver.old → (below : List Layer) (offset n : ℕ) → 0 < n → IfErr result (PartCause below (D.layer driver.old) offset n (λ _. ⊥) (files D.Seen driver.old) (files D.Seen driver.new)) }
+    ensures cause { SettlingRefused D.Seen result driver.old driver.new }
 {
     match driver.commit_data_mapping(alloc, mapping) {
         Ok(()) => Ok(()),
@@ -155,8 +152,8 @@ pub(crate) fn write_all<D: FormatDriverInstance, B: ReadBelow>(
 impl<D: FormatDriverInstance> FormatAccess<D> {
     // Why a change of a range is refused before anything is done. An empty range is refused only where the image can't be used.
     pub(crate) fn check_change(&self, offset: u64, length: u64) -> Result<(), Fault>
-        ensures ok { OnOk result (change_refusal (unit_of_chain (map D.layer (chain self.now))) (D.layer self.now.0) offset length ≡ None) }
-        ensures err { IfErr result (λ e. change_refusal (unit_of_chain (map D.layer (chain self.now))) (D.layer self.now.0) offset length ≡ Some e) }
+        ensures ok { OnOk result (chain_refusal D.Seen self.now offset length ≡ None) }
+        ensures err { IfErr result (λ e. chain_refusal D.Seen self.now offset length ≡ Some e) }
         ensures mild { IfErr result IsMild }
         ensures failed { (olds news : List StorageState) → IfErr result (ImageCause olds news) }
     {
@@ -174,10 +171,10 @@ impl<D: FormatDriverInstance> FormatAccess<D> {
     pub fn write(&mut self, alloc: Global, bytes: &[u8], offset: u64) -> Result<(), Fault>
         requires free { IsFree (D.layer self.old.0) }
         ensures ok { IsIntactChain D.Seen self.old → OnOk result (ChainSteps D.Seen (write offset bytes.now) done self.old self.new) }
-        ensures err { IsIntactChain D.Seen self.old → IfErr result (λ e. IsMild e → ChainPartly D.Seen (write offset bytes.now) self.old self.new) }
+        ensures err { IsIntactChain D.Seen self.old → IfMild result (ChainPartly D.Seen (write offset bytes.now) self.old self.new) }
         ensures at_once { (f : Fault) → chain_refusal D.Seen self.old offset (length bytes.now) ≡ Some f → IsErrOf result f }
         ensures idle { length bytes.now ≡ 0 → barrier (D.layer self.old.0) ≡ None → IsOk result }
-        ensures untouched { (length bytes.now ≡ 0) ⊎ IsSome (chain_refusal D.Seen self.old offset (length bytes.now)) → self.new ≡ self.old }
+        ensures untouched { EndsAtOnce D.Seen self.old offset (length bytes.now) → self.new ≡ self.old }
         ensures like { IsLike (D.layer self.old.0) (D.layer self.new.0) }
         ensures ran { RanChain D.Seen (WasNotCutOff result) (GivesBytes offset bytes.now) self.old self.new }
         ensures room { IsIntactChain D.Seen self.old → WasNotCutOff result → Takes D.Seen (IsApart (D.layer self.old.0).fixed.unit offset (length bytes.now)) self.old.0 self.new.0 }

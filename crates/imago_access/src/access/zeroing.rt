@@ -1,23 +1,21 @@
 // Zeroing of ranges: by the driver where it can, and else by writing zeroes.
-ghost use Rattle.std.specs.Prelude.{⊤, ◌≡◌, ◌⊎◌, ◌<◌, ◌≤◌, ◌+◌, ◌-◌, ◌^◌, ◌∷◌, ◌++◌, ℕ, List, IsTrue, true, length, slice_index, map, IsOk, IfOk, IfErr, OnOk, IsErrOf, IsSome, Some, replicate};
+ghost use Rattle.std.specs.Prelude.{⊤, ◌≡◌, ◌⊎◌, ◌<◌, ◌≤◌, ◌+◌, ◌^◌, ◌∷◌, ◌++◌, ℕ, List, true, length, IsOk, IfOk, IfErr, OnOk, IsErrOf, Some, replicate};
 ghost use Rattle.imago_storage.specs.Disk.{byte};
-ghost use Rattle.imago_storage.specs.Steps.{Call, Step, write_zeroes, discard_to_zero, done, IsIn, IsOut};
-ghost use Rattle.imago_storage.specs.Causes.{PartlyDone};
+ghost use Rattle.imago_storage.specs.Steps.{Call, write_zeroes, discard_to_zero, done, IsIn, IsOut};
 ghost use Rattle.imago_access.specs.Layer.{Layer, IsFree, IsLike};
-ghost use Rattle.imago_access.specs.Room.{IsApart, IsUncutAt, Reaches, LeavesRoom, Takes, IsGivenUp, IsGivenUpTo, IsGivenUpBehind, IsZeroed, IsUndeclined};
+ghost use Rattle.imago_access.specs.Room.{IsApart, IsUncutAt, Reaches, LeavesRoom, Takes, IsGivenUp, IsGivenUpTo, IsGivenUpBehind, IsUndeclined};
 ghost use Rattle.imago_access.specs.Zeroings.{IsLeft};
 ghost use Rattle.imago_access.specs.declared.access.zeroing.Zeroing.TheVariants as zeroing_is;
-ghost use Rattle.imago_access.specs.Chain.{at, unit_of_chain};
-ghost use Rattle.imago_access.specs.Layers.{chain};
-ghost use Rattle.imago_access.specs.Files.{WasNotCutOff, IsMild, ImageCause, files_of, files};
+ghost use Rattle.imago_access.specs.Chain.{at};
+ghost use Rattle.imago_access.specs.Files.{WasNotCutOff, IsMild, files};
 ghost use Rattle.imago_access.specs.PartCalls.{IsPart};
 ghost use Rattle.imago_access.specs.Going.{Went};
 ghost use Rattle.imago_access.specs.Changes.{Rewrites, PartRewrites, ToZero, Wrote};
 ghost use Rattle.imago_access.specs.Parts.{IsPartOf, IsUncutPart, announces, PartCause, DeclinableCause, MappedCause};
-ghost use Rattle.imago_access.specs.Refusals.{barrier, change_refusal, ChangeCause};
+ghost use Rattle.imago_access.specs.Refusals.{barrier};
 ghost use Rattle.imago_access.specs.Stops.{KeepsStops, GivesBytes, GivesZero};
-ghost use Rattle.imago_access.specs.Running.{IsIntact, IsBetween, Ran, RanAlone, IsIntactChain, RanChain, chain_disk, below_of};
-ghost use Rattle.imago_access.specs.ChainCalls.{ChainSteps, ChainPartly, ChainFails, chain_refusal, OwnCause};
+ghost use Rattle.imago_access.specs.Running.{IsIntact, IsBetween, Ran, RanAlone, IsIntactChain, RanChain};
+ghost use Rattle.imago_access.specs.ChainCalls.{ChainSteps, ChainPartly, ChainFails, chain_refusal, OwnCause, EndsAtOnce, GaveUpUnits, IfMild, WontDecline, ZeroedUnits};
 ghost use Rattle.imago_access.specs.Failing.{Fails, FailsOver};
 
 use crate::access::FormatAccess;
@@ -291,14 +289,14 @@ impl<D: FormatDriverInstance> FormatAccess<D> {
     pub fn write_zeroes(&mut self, alloc: Global, offset: u64, length: u64) -> Result<(), Fault>
         requires free { IsFree (D.layer self.old.0) }
         ensures ok { IsIntactChain D.Seen self.old → OnOk result (ChainSteps D.Seen (write_zeroes offset length) done self.old self.new) }
-        ensures err { IsIntactChain D.Seen self.old → IfErr result (λ e. IsMild e → ChainPartly D.Seen (write_zeroes offset length) self.old self.new) }
+        ensures err { IsIntactChain D.Seen self.old → IfMild result (ChainPartly D.Seen (write_zeroes offset length) self.old self.new) }
         ensures at_once { (f : Fault) → chain_refusal D.Seen self.old offset length ≡ Some f → IsErrOf result f }
         ensures idle { length ≡ 0 → barrier (D.layer self.old.0) ≡ None → IsOk result }
-        ensures untouched { (length ≡ 0) ⊎ IsSome (chain_refusal D.Seen self.old offset length) → self.new ≡ self.old }
+        ensures untouched { EndsAtOnce D.Seen self.old offset length → self.new ≡ self.old }
         ensures like { IsLike (D.layer self.old.0) (D.layer self.new.0) }
         ensures ran { RanChain D.Seen (WasNotCutOff result) (GivesZero offset length) self.old self.new }
         ensures room { IsIntactChain D.Seen self.old → WasNotCutOff result → Takes D.Seen (IsApart (D.layer self.old.0).fixed.unit offset length) self.old.0 self.new.0 }
-        ensures zeroed { IsIntactChain D.Seen self.old → IsUndeclined (D.own_cause self.old.0 (map D.layer self.old.1) (write_zeroes offset length)) → OnOk result (IsZeroed (D.zeroed self.new.0) (D.layer self.old.0).fixed.unit (D.layer self.old.0).size offset length) }
+        ensures zeroed { IsIntactChain D.Seen self.old → WontDecline D.Seen (write_zeroes offset length) self.old → OnOk result (ZeroedUnits D.Seen offset length self.old.0 self.new.0) }
         ensures failed { IfErr result (ChainFails D.Seen self.old self.new) }
         ensures cause { IsIntactChain D.Seen self.old → IfErr result (OwnCause D.Seen (write_zeroes offset length) self.old self.new) }
     {
@@ -320,14 +318,14 @@ impl<D: FormatDriverInstance> FormatAccess<D> {
     pub fn discard_to_zero(&mut self, alloc: Global, offset: u64, length: u64) -> Result<(), Fault>
         requires free { IsFree (D.layer self.old.0) }
         ensures ok { IsIntactChain D.Seen self.old → OnOk result (ChainSteps D.Seen (discard_to_zero offset length) done self.old self.new) }
-        ensures err { IsIntactChain D.Seen self.old → IfErr result (λ e. IsMild e → ChainPartly D.Seen (discard_to_zero offset length) self.old self.new) }
+        ensures err { IsIntactChain D.Seen self.old → IfMild result (ChainPartly D.Seen (discard_to_zero offset length) self.old self.new) }
         ensures at_once { (f : Fault) → chain_refusal D.Seen self.old offset length ≡ Some f → IsErrOf result f }
         ensures idle { length ≡ 0 → barrier (D.layer self.old.0) ≡ None → IsOk result }
-        ensures untouched { (length ≡ 0) ⊎ IsSome (chain_refusal D.Seen self.old offset length) → self.new ≡ self.old }
+        ensures untouched { EndsAtOnce D.Seen self.old offset length → self.new ≡ self.old }
         ensures like { IsLike (D.layer self.old.0) (D.layer self.new.0) }
         ensures ran { RanChain D.Seen (WasNotCutOff result) (GivesZero offset length) self.old self.new }
         ensures room { IsIntactChain D.Seen self.old → WasNotCutOff result → LeavesRoom D.Seen (IsOut offset length) (IsApart (D.layer self.old.0).fixed.unit offset length) self.old.0 self.new.0 }
-        ensures gives_up { IsIntactChain D.Seen self.old → IsUndeclined (D.own_cause self.old.0 (map D.layer self.old.1) (discard_to_zero offset length)) → OnOk result (IsGivenUp (D.vacant self.new.0) (D.layer self.old.0).fixed.unit (D.layer self.old.0).size offset length) }
+        ensures gives_up { IsIntactChain D.Seen self.old → WontDecline D.Seen (discard_to_zero offset length) self.old → OnOk result (GaveUpUnits D.Seen offset length self.old.0 self.new.0) }
         ensures failed { IfErr result (ChainFails D.Seen self.old self.new) }
         ensures cause { IsIntactChain D.Seen self.old → IfErr result (OwnCause D.Seen (discard_to_zero offset length) self.old self.new) }
     {

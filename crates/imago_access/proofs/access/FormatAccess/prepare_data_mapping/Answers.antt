@@ -1,6 +1,6 @@
 use Rattle.std.proofs.Common.{◌≡◌, ◌∷◌, ◌++◌, refl, map, ap, sym, subst}
 use Rattle.std.specs.Prelude.{is_some}
-use Rattle.std.proofs.lemmas.Result.{IfErr-weaker}
+use Rattle.std.proofs.lemmas.Result.{IfErr-weaker, IfOk-weaker}
 use Rattle.imago_storage.specs.Steps.{Stays, prepare}
 use Rattle.imago_access.specs.Layer.{IsFree}
 use Rattle.imago_access.specs.Layers.{layers}
@@ -38,6 +38,10 @@ returns-clause-ok g c = let d = g.D.Seen in
     if_ok_with r.result _ _ (λ m is h. prepared_step under later (d.layer old) (d.layer r.new.self) c.args.offset c.args.length c.args.overwrite m.storage m.offset m.length (claim_of d.claim m.state) (is_some m.state)
     (r.ensures.below.stays (whole_of_ok r.result m is) intact.is_seen).0 (laws.free_loose old free) h.0 h.1.0.0.0 h.1.0.0.1 h.1.0.0.2
     (λ none. laws.free_loose r.new.self (h.1.1.0.1 (stateless_is m.state none))) (stateful_claims d.claim m.state) (λ zero. ap (λ (m' : PreparedDataMapping g.row.D-State.Denot). is_some m'.state) (h.1.1.1 zero).0)) told)
+
+pub returns-clause-home : goal.returns-clause-home
+returns-clause-home g c = let r = c.prepare_data_mapping in
+    rw (← c.self.view_is) (λ intact. IfOk-weaker r.result _ _ (λ m made. made.home) (r.ensures.does.ok intact.is_safe intact.is_seen))
 
 pub returns-clause-err : goal.returns-clause-err
 returns-clause-err g c = let d = g.D.Seen in

@@ -1,0 +1,81 @@
+-- What calls that only look at a chain answer and are refused with, by its drivers before and after, the top first.
+use Rattle.std.specs.Prelude.{◌≡◌, ◌⊎◌, ℕ, ◌+◌, ◌<◌, ◌^◌, List, Result, OnOk, IfOk, IfErr, IsTrue, length, slice_index, map}
+use Rattle.imago_storage.specs.Disk.{byte}
+use Rattle.imago_storage.specs.Steps.{lookup, found, read, bytes_read}
+use Rattle.imago_storage.specs.declared.fault.Fault.{Fault}
+use Rattle.imago_access.specs.declared.seen.Seen.{Ghosts}
+use Rattle.imago_access.specs.declared.mapping.ShallowMapping.{ShallowMapping}
+use Rattle.imago_access.specs.declared.mapping.Mapping.{Mapping}
+use Rattle.imago_access.specs.Layer.{Layer}
+use Rattle.imago_access.specs.Chain.{at, Each, unit_of_chain}
+use Rattle.imago_access.specs.Files.{files_of}
+use Rattle.imago_access.specs.Kinds.{kind_of, deep_kind_of}
+use Rattle.imago_access.specs.Mappings.{DeepNames, DeepNamesWritable, IsDeepBelow, stored_at}
+use Rattle.imago_access.specs.Refusals.{IsBarred, ReadCause, DeepLookCause, InvalidateCause}
+use Rattle.imago_access.specs.ChainCalls.{ChainSteps, AllUnasked}
+
+-- a read of this many bytes fills the buffer with those of the chain's disk
+abbrev pub ChainReads : {D St : Type 0} → Ghosts D St → ℕ → ℕ → List ℕ → D × List D → D × List D → Type 0
+ChainReads g offset n buf old new = ChainSteps g (read offset n) (bytes_read buf) old new
+
+-- a lookup of a range is answered with a run of this kind and length: by the top layer alone, and by the chain
+abbrev pub TopFinds : {D St : Type 0} → Ghosts D St → ℕ → ℕ → D × List D → D × List D → ShallowMapping × ℕ → Type 0
+TopFinds g offset asked old new answer = ChainSteps g (lookup offset asked) (found (kind_of answer.0) answer.1) old new
+
+abbrev pub ChainFinds : {D St : Type 0} → Ghosts D St → ℕ → ℕ → D × List D → D × List D → Mapping × ℕ → Type 0
+ChainFinds g offset asked old new answer = ChainSteps g (lookup offset asked) (found (deep_kind_of answer.0) answer.1) old new
+
+-- the layers show these bytes, so many of them, from an offset on
+abbrev pub ShowBytes : List Layer → ℕ → List ℕ → ℕ → Type 0
+ShowBytes layers offset bytes n = (i : ℕ) → i < n → at layers (offset + i) ≡ byte (slice_index bytes i)
+
+-- P, where lookups in each of these layers are true, and they are fewer than depths can name
+abbrev pub WhereAllSee : {D St : Type 0} → Ghosts D St → List D → Type 0 → Type 0
+WhereAllSee g ds P = length ds < 2 ^ 64 → Each g.sees ds → P
+
+-- The answer says what the places of its run are, by the bytes that the files hold then, and which places can be written; it names a depth
+-- that there is.
+abbrev pub NamesTruly : {D St : Type 0} → Ghosts D St → ℕ → Result (Mapping × ℕ) Fault → List D → List D → Type 0
+NamesTruly g offset result olds news = WhereAllSee g olds (IfOk result (λ r. DeepNames (map g.layer olds) (at (map g.layer olds)) (stored_at g news) offset r.1 r.0))
+
+abbrev pub NamesWritable : {D St : Type 0} → Ghosts D St → ℕ → ℕ → Result (Mapping × ℕ) Fault → List D → Type 0
+NamesWritable g offset asked result olds = WhereAllSee g olds (IfOk result (λ r. DeepNamesWritable (map g.layer olds) offset asked r.0))
+
+abbrev pub NamesLayer : {D : Type 0} → Result (Mapping × ℕ) Fault → List D → Type 0
+NamesLayer result ds = length ds < 2 ^ 64 → IfOk result (λ r. IsDeepBelow (length ds) r.0)
+
+-- a read of a run has filled the buffer's begin with what these layers show
+abbrev pub ReadsRun : {D St : Type 0} → Ghosts D St → ℕ → Result ℕ Fault → List ℕ → List D → Type 0
+ReadsRun g offset result buf ds = Each g.sees ds → IfOk result (ShowBytes (map g.layer ds) offset buf)
+
+-- a lookup of so many bytes in a layer has nothing to do, or is refused at once
+abbrev pub NeedsNoLook : Layer → ℕ → Type 0
+NeedsNoLook layer asked = (asked ≡ 0) ⊎ IsBarred layer
+
+-- then it asks nothing of the files
+abbrev pub UnaskedIfIdle : {D St : Type 0} → Ghosts D St → ℕ → D × List D → D × List D → Type 0
+UnaskedIfIdle g asked old new = NeedsNoLook (g.layer old.0) asked → AllUnasked g old new
+
+-- why a lookup through these layers is refused, and a read
+abbrev pub LookRefused : {D St T : Type 0} → Ghosts D St → ℕ → ℕ → Result T Fault → List D → List D → Type 0
+LookRefused g offset asked result olds news = Each g.sees olds
+    → IfErr result (DeepLookCause (map g.layer olds) (at (map g.layer olds)) offset asked (files_of g olds) (files_of g news))
+
+abbrev pub ReadRefused : {D St T : Type 0} → Ghosts D St → ℕ → ℕ → Result T Fault → List D → List D → Type 0
+ReadRefused g offset n result olds news = Each g.sees olds
+    → IfErr result (ReadCause (map g.layer olds) (at (map g.layer olds)) (unit_of_chain (map g.layer olds)) offset n (files_of g olds) (files_of g news))
+
+-- Right after a flush of each layer nothing is lost by a call that drops what they hold in memory: they are what they were, and lookups stay
+-- true.
+abbrev pub WhereFlushed : {D St : Type 0} → Ghosts D St → List D → Type 0 → Type 0
+WhereFlushed g ds P = Each (λ d. IsTrue (g.layer d).fixed.keeps) ds → Each g.sees ds → Each g.still ds → P
+
+abbrev pub KeepsLayers : {D St : Type 0} → Ghosts D St → Result Unit Fault → List D → List D → Type 0
+KeepsLayers g result olds news = WhereFlushed g olds (OnOk result (map g.layer news ≡ map g.layer olds))
+
+abbrev pub KeepsSight : {D St : Type 0} → Ghosts D St → Result Unit Fault → List D → List D → Type 0
+KeepsSight g result olds news = WhereFlushed g olds (OnOk result (Each g.sees news))
+
+-- why the layers' files can't be read again
+abbrev pub RefusesReloads : {D St : Type 0} → Ghosts D St → List D → List D → Fault → Type 0
+RefusesReloads g olds news = InvalidateCause (map g.layer olds) (files_of g olds) (files_of g news)
