@@ -21,6 +21,7 @@ pub mod Disks
 pub mod MappingCalls
 pub mod Ensuring
 pub mod Writing
+pub mod Works
 pub mod Rewriting
 pub mod Discarding
 pub mod Zeroing

@@ -1,7 +1,7 @@
 -- What calls of a chain are, are refused with and leave, by its drivers before and after.
-use Rattle.std.specs.Prelude.{◌≡◌, ◌⊎◌, ⊤, ℕ, ◌+◌, ◌<◌, ◌≤◌, List, Option, Some, None, Result, OnOk, IfErr, IsErrOf, IsSome, IsFalse, length, is_some, map}
-use Rattle.imago_storage.specs.Steps.{Call, Answer, Step, Stays, ensure, run, prepare, prepared, commit, cancel, write_mapped, grow, shrink, done}
-use Rattle.imago_storage.specs.Causes.{PartlyDone}
+use Rattle.std.specs.Prelude.{◌≡◌, ◌⊎◌, ℕ, ◌+◌, ◌<◌, List, Option, Some, None, Result, OnOk, IfErr, IsErrOf, IsSome, IsFalse, length, is_some, map}
+use Rattle.imago_storage.specs.Steps.{Call, Answer, Step, Stays, ensure, run, prepare, prepared, commit, cancel, write_mapped, shrink, done, IsOut}
+use Rattle.imago_storage.specs.Causes.{PartlyDone, offset_of, length_of}
 use Rattle.imago_storage.specs.declared.fault.Fault.{Fault}
 use Rattle.imago_storage.specs.declared.fault.Fault.TheVariants.{ReadOnly, Outdated}
 use Rattle.imago_access.specs.declared.seen.Seen.{Ghosts}
@@ -12,11 +12,11 @@ use Rattle.imago_access.specs.Layer.{Layer}
 use Rattle.imago_access.specs.Chain.{unit_of_chain}
 use Rattle.imago_access.specs.Layers.{chain}
 use Rattle.imago_access.specs.Changes.{Asked}
-use Rattle.imago_access.specs.Files.{ImageCause, IsMild, Unasked, files_of}
+use Rattle.imago_access.specs.Files.{ImageCause, IsMild, WasNotCutOff, Unasked, files_of}
 use Rattle.imago_access.specs.Parts.{IsMappedAt, GrowthCause, ShrinkCause}
 use Rattle.imago_access.specs.Refusals.{barrier, change_refusal, look_refusal, ChangeCause}
 use Rattle.imago_access.specs.Resizes.{fill_of, resizing}
-use Rattle.imago_access.specs.Room.{IsUndeclined, IsGivenUp, IsZeroed}
+use Rattle.imago_access.specs.Room.{IsApart, Takes, LeavesRoom, IsUndeclined, IsGivenUp, IsZeroed}
 use Rattle.imago_access.specs.Running.{IsIntactChain, chain_disk, below_of}
 use Rattle.imago_access.specs.Spending.{IsMine, IsForeignTo, is_own}
 use Rattle.imago_access.specs.Stops.{KeepsStops, KeepsStopsTo, GivesHeld, GivesPast, GivesBelowPast}
@@ -74,12 +74,32 @@ StaysIntact g old new = IsIntactChain g old → IsIntactChain g new
 abbrev pub WontDecline : {D St : Type 0} → Ghosts D St → Call → D × List D → Type 0
 WontDecline g call c = IsUndeclined (g.own_cause c.0 (map g.layer c.1) call)
 
--- each whole unit of the range has been given up, or zeroed
-abbrev pub GaveUpUnits : {D St : Type 0} → Ghosts D St → ℕ → ℕ → D → D → Type 0
-GaveUpUnits g offset n old new = IsGivenUp (g.vacant new) (g.layer old).fixed.unit (g.layer old).size offset n
+-- a call that changes the disk is carried out, is done in part where it was refused and not cut off, and is refused by these
+abbrev pub IsCarriedOut : {D St : Type 0} → Ghosts D St → Call → Result Unit Fault → D × List D → D × List D → Type 0
+IsCarriedOut g call result old new = IsIntactChain g old → OnOk result (ChainSteps g call done old new)
 
-abbrev pub ZeroedUnits : {D St : Type 0} → Ghosts D St → ℕ → ℕ → D → D → Type 0
-ZeroedUnits g offset n old new = IsZeroed (g.zeroed new) (g.layer old).fixed.unit (g.layer old).size offset n
+abbrev pub IsDoneInPart : {D St : Type 0} → Ghosts D St → Call → Result Unit Fault → D × List D → D × List D → Type 0
+IsDoneInPart g call result old new = IsIntactChain g old → IfMild result (ChainPartly g call old new)
+
+abbrev pub CallRefused : {D St T : Type 0} → Ghosts D St → Call → Result T Fault → D × List D → D × List D → Type 0
+CallRefused g call result old new = IsIntactChain g old → IfErr result (OwnCause g call old new)
+
+-- Each whole unit of the range of the call is given up, or zeroed, where the top driver doesn't decline that.
+abbrev pub GivesUnitsUp : {D St : Type 0} → Ghosts D St → Call → Result Unit Fault → D × List D → D × List D → Type 0
+GivesUnitsUp g call result old new = IsIntactChain g old → WontDecline g call old
+    → OnOk result (IsGivenUp (g.vacant new.0) (g.layer old.0).fixed.unit (g.layer old.0).size (offset_of call) (length_of call))
+
+abbrev pub ZeroesUnits : {D St : Type 0} → Ghosts D St → Call → Result Unit Fault → D × List D → D × List D → Type 0
+ZeroesUnits g call result old new = IsIntactChain g old → WontDecline g call old
+    → OnOk result (IsZeroed (g.zeroed new.0) (g.layer old.0).fixed.unit (g.layer old.0).size (offset_of call) (length_of call))
+
+-- A call that gives no room up, or none out of the range, and takes none but in units that the range touches.
+abbrev pub TakesNear : {D St T : Type 0} → Ghosts D St → ℕ → ℕ → Result T Fault → D × List D → D × List D → Type 0
+TakesNear g offset n result old new = IsIntactChain g old → WasNotCutOff result → Takes g (IsApart (g.layer old.0).fixed.unit offset n) old.0 new.0
+
+abbrev pub GivesUpNear : {D St T : Type 0} → Ghosts D St → ℕ → ℕ → Result T Fault → D × List D → D × List D → Type 0
+GivesUpNear g offset n result old new = IsIntactChain g old → WasNotCutOff result
+    → LeavesRoom g (IsOut offset n) (IsApart (g.layer old.0).fixed.unit offset n) old.0 new.0
 
 -- a run of the range was mapped as part of the disk, and to be written and committed
 abbrev pub ChainEnsures : {D St : Type 0} → Ghosts D St → Asked → D × List D → D × List D → Mapping × ℕ → Type 0

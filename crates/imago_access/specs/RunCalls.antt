@@ -1,6 +1,6 @@
 -- What changes of a range do that are carried out run by run, to a driver and to the layers below it.
-use Rattle.std.specs.Prelude.{◌≡◌, ◌⊎◌, ⊤, ℕ, ◌+◌, ◌<◌, ◌≤◌, List, [], ◌∷◌, ◌++◌, Option, Result, OnOk, IfOk, IfErr, length, true}
-use Rattle.imago_storage.specs.Disk.{Value, byte}
+use Rattle.std.specs.Prelude.{◌≡◌, ◌⊎◌, ⊤, ℕ, ◌+◌, ◌<◌, ◌≤◌, List, ◌∷◌, ◌++◌, Option, Result, OnOk, IfOk, IfErr, length, true}
+use Rattle.imago_storage.specs.Disk.{Value, Shows, byte}
 use Rattle.imago_storage.specs.Steps.{Call, IsIn, IsOut}
 use Rattle.imago_storage.specs.declared.fault.Fault.{Fault}
 use Rattle.imago_access.specs.declared.seen.Seen.{Ghosts}
@@ -8,13 +8,16 @@ use Rattle.imago_access.specs.declared.seen.SeenBelow.{Ghosts as GhostsBelow}
 use Rattle.imago_access.specs.declared.access.zeroing.Zeroing.{Zeroing}
 use Rattle.imago_access.specs.declared.access.zeroing.Zeroing.TheVariants as zeroing_is
 use Rattle.imago_access.specs.Layer.{Layer}
-use Rattle.imago_access.specs.Chain.{at}
+use Rattle.imago_access.specs.declared.access.discarding.Discarding.{Discarding}
+use Rattle.imago_access.specs.Chain.{at, IsBacked}
+use Rattle.imago_access.specs.ChainLooks.{ShowBytes}
 use Rattle.imago_access.specs.Changes.{Committed, Cancelled}
+use Rattle.imago_access.specs.Discards.{GivesDiscarded}
 use Rattle.imago_access.specs.Failing.{FailsOver}
 use Rattle.imago_access.specs.Files.{WasNotCutOff, files}
-use Rattle.imago_access.specs.Parts.{IsPartOf, IsUncutPart, announces, PartCause}
-use Rattle.imago_access.specs.Room.{IsApart, IsUncutAt, IsUndeclined, IsGivenUp, IsGivenUpTo, IsGivenUpBehind, LeavesRoom}
-use Rattle.imago_access.specs.Running.{IsIntact, Ran}
+use Rattle.imago_access.specs.Parts.{IsPartOf, IsUncutPart, announces, PartCause, MappedCause}
+use Rattle.imago_access.specs.Room.{IsApart, IsUncutAt, Reaches, IsUndeclined, IsGivenUp, IsGivenUpTo, IsGivenUpBehind, LeavesRoom}
+use Rattle.imago_access.specs.Running.{IsIntact, IsBetween, Ran, RanAlone}
 use Rattle.imago_access.specs.Spending.{Spends}
 use Rattle.imago_access.specs.Stops.{KeepsStops, GivesBytes, GivesZero, GivesSettled}
 use Rattle.imago_access.specs.Zeroings.{IsLeft}
@@ -26,30 +29,30 @@ pub data Work : Type 0 where
   -- to write zeroes
   writing_zeroes : ℕ → ℕ → Work
   -- to zero in this way
-  zeroing : Zeroing → ℕ → ℕ → Work
+  zeroing_by : Zeroing → ℕ → ℕ → Work
 
 -- where its range begins, and how long it is
 abbrev pub start_of : Work → ℕ
 start_of (writing offset bytes) = offset
 start_of (writing_zeroes offset n) = offset
-start_of (zeroing how offset n) = offset
+start_of (zeroing_by how offset n) = offset
 
 abbrev pub extent_of : Work → ℕ
 extent_of (writing offset bytes) = length bytes
 extent_of (writing_zeroes offset n) = n
-extent_of (zeroing how offset n) = n
+extent_of (zeroing_by how offset n) = n
 
 -- what it gives at places
 abbrev pub WorkGives : Work → ℕ → Value → Type 0
 WorkGives (writing offset bytes) = GivesBytes offset bytes
 WorkGives (writing_zeroes offset n) = GivesZero offset n
-WorkGives (zeroing how offset n) = GivesZero offset n
+WorkGives (zeroing_by how offset n) = GivesZero offset n
 
 -- where it gives up no room: a zeroing that gives up does so in its range
 abbrev pub WorkKeeps : Work → ℕ → Type 0
 WorkKeeps (writing offset bytes) p = ⊤
 WorkKeeps (writing_zeroes offset n) p = ⊤
-WorkKeeps (zeroing how offset n) p = (how ≡ zeroing_is.Keep) ⊎ IsOut offset n p
+WorkKeeps (zeroing_by how offset n) p = (how ≡ zeroing_is.Keep) ⊎ IsOut offset n p
 
 -- What it does: it gives its values at places of its range, and takes room only in units that the range touches.
 pub record DoesWork {D St B T : Type 0} (g : Ghosts D St) (u : GhostsBelow B) (work : Work) (result : Result T Fault) (old new : D × B) : Type 0 where
@@ -66,22 +69,37 @@ pub record WorkRefused {D St B T : Type 0} (g : Ghosts D St) (u : GhostsBelow B)
       → IfErr result (PartCause (u.under old.1) (g.layer old.0) (start_of work) (extent_of work) (g.own_cause d (u.under old.1) call)
       (files g old.0 ++ u.files_under old.1) (files g new.0 ++ u.files_under new.1))
 
--- the layers show 0 at so many places from an offset on, over a range, and up to a place
-abbrev pub ShowZeroes : List Layer → ℕ → ℕ → Type 0
-ShowZeroes layers offset n = (i : ℕ) → i < n → at layers (offset + i) ≡ byte 0
+-- where the image is intact, the layers show what was written: the bytes of a first run, and all;
+abbrev pub ShowsRun : {D St B : Type 0} → Ghosts D St → GhostsBelow B → ℕ → List ℕ → Result ℕ Fault → D × B → D × B → Type 0
+ShowsRun g u offset bytes result old new = IsIntact g u old.0 old.1 → IfOk result (ShowBytes (g.layer new.0 ∷ u.under old.1) offset bytes)
 
-abbrev pub ShowZeroIn : List Layer → ℕ → ℕ → Type 0
-ShowZeroIn layers offset n = (p : ℕ) → IsIn offset n p → at layers p ≡ byte 0
+abbrev pub ShowsAll : {D St B : Type 0} → Ghosts D St → GhostsBelow B → ℕ → List ℕ → Result Unit Fault → D × B → D × B → Type 0
+ShowsAll g u offset bytes result old new = IsIntact g u old.0 old.1 → OnOk result (Shows (at (g.layer new.0 ∷ u.under old.1)) offset bytes)
 
-abbrev pub ShowZeroTo : List Layer → ℕ → ℕ → Type 0
-ShowZeroTo layers offset end = (p : ℕ) → offset ≤ p → p < end → at layers p ≡ byte 0
+-- zeroes over a first run of so many places, and over a range; and zeroes up to a place
+abbrev pub ShowsZeroRun : {D St B : Type 0} → Ghosts D St → GhostsBelow B → ℕ → Result ℕ Fault → D × B → D × B → Type 0
+ShowsZeroRun g u offset result old new = IsIntact g u old.0 old.1
+    → IfOk result (λ count. (i : ℕ) → i < count → at (g.layer new.0 ∷ u.under old.1) (offset + i) ≡ byte 0)
 
--- a place cuts no unit of the layer that lies whole in a range, and a run of the range ends at such a place
+abbrev pub ShowsZeroes : {D St B : Type 0} → Ghosts D St → GhostsBelow B → ℕ → ℕ → Result Unit Fault → D × B → D × B → Type 0
+ShowsZeroes g u offset n result old new = IsIntact g u old.0 old.1
+    → OnOk result ((p : ℕ) → IsIn offset n p → at (g.layer new.0 ∷ u.under old.1) p ≡ byte 0)
+
+abbrev pub AreZeroTo : List Layer → ℕ → ℕ → Type 0
+AreZeroTo layers offset end = (p : ℕ) → offset ≤ p → p < end → at layers p ≡ byte 0
+
+abbrev pub ShowsZeroTo : {D St B : Type 0} → Ghosts D St → GhostsBelow B → ℕ → Result ℕ Fault → D × B → D × B → Type 0
+ShowsZeroTo g u offset result old new = IsIntact g u old.0 old.1 → IfOk result (AreZeroTo (g.layer new.0 ∷ u.under old.1) offset)
+
+-- Places cut no unit of the layer that lies whole in a range: one, both ends of a part, and the end of a first run.
 abbrev pub CutsNoUnit : Layer → ℕ → ℕ → ℕ → Type 0
 CutsNoUnit layer offset n at = IsUncutAt layer.fixed.unit layer.size offset n at
 
-abbrev pub EndsUncut : Layer → ℕ → ℕ → ℕ → Type 0
-EndsUncut layer offset n count = CutsNoUnit layer offset n (offset + count)
+abbrev pub EndsCutNone : Layer → ℕ → ℕ → ℕ × ℕ → Type 0
+EndsCutNone layer offset n part = CutsNoUnit layer offset n part.0 × CutsNoUnit layer offset n part.1
+
+abbrev pub RunIsUncut : {D St B : Type 0} → Ghosts D St → GhostsBelow B → ℕ → ℕ → Result ℕ Fault → D × B → Type 0
+RunIsUncut g u offset n result old = IsIntact g u old.0 old.1 → IfOk result (λ count. CutsNoUnit (g.layer old.0) offset n (offset + count))
 
 -- The mapping of this state was committed, or given up; one without state is spent with nothing changed.
 abbrev pub SettlesMapping : {D St : Type 0} → Ghosts D St → Option St → D → D → Type 0
@@ -99,22 +117,64 @@ abbrev pub SettlingRefused : {D St : Type 0} → Ghosts D St → Result Unit Fau
 SettlingRefused g result old new = g.safe old → (below : List Layer) (offset n : ℕ) → 0 < n
     → IfErr result (PartCause below (g.layer old) offset n (λ _. ⊥) (files g old) (files g new))
 
+-- A part of a call that was begun leaves it begun where the part was not cut off.
+abbrev pub StaysBegun : {D St : Type 0} → Ghosts D St → ℕ → ℕ → Type 0 → D → D → Type 0
+StaysBegun {D} g offset n whole old new = (d : D) (call : Call) → g.began d call old → IsPartOf call offset n → whole → g.began d call new
+
+-- the same change of a driver alone, over whatever layers below
+abbrev pub RanAnywhere : {D St : Type 0} → Ghosts D St → Type 0 → (ℕ → Value → Type 0) → D → D → Type 0
+RanAnywhere g whole gives old new = (below : List Layer) → RanAlone g whole gives below old new
+
+-- why zeroes aren't written to a range that is mapped from a place of a storage on
+abbrev pub MappedRefused : {D St : Type 0} → Ghosts D St → ℕ → ℕ → ℕ → Result Unit Fault → D → D → Type 0
+MappedRefused g guest place n result old new = g.safe old → IfErr result (MappedCause (g.layer old) guest place n (files g old) (files g new))
+
 -- why a driver refuses a range, as part of a call that was begun, over whatever layers below
 abbrev pub RangeRefused : {D St T : Type 0} → Ghosts D St → ℕ → ℕ → Result T Fault → D → D → Type 0
 RangeRefused {D} g offset n result old new = g.safe old → (below : List Layer) (d : D) (call : Call) → g.began d call old → IsPartOf call offset n
     → IfErr result (PartCause below (g.layer old) offset n (g.own_cause d below call) (files g old) (files g new))
 
+-- What a driver alone zeroes, and what it discards, over layers below that it shows, and at a stop: places of the range take what is given.
+abbrev pub ZeroesAlone : {D St T : Type 0} → Ghosts D St → ℕ → ℕ → Result T Fault → D → D → Type 0
+ZeroesAlone g offset n result old new = g.safe old → (below : List Layer) → WasNotCutOff result → IsBetween (GivesZero offset n) below (g.layer old) (g.layer new)
+
+abbrev pub DiscardsAlone : {D St T : Type 0} → Ghosts D St → Discarding → ℕ → ℕ → Result T Fault → D → D → Type 0
+DiscardsAlone g how offset n result old new = g.safe old → (below : List Layer) → IsBacked below (g.layer old) → WasNotCutOff result
+    → IsBetween (GivesDiscarded how below offset n) below (g.layer old) (g.layer new)
+
+abbrev pub DiscardStops : {D St : Type 0} → Ghosts D St → Discarding → ℕ → ℕ → D → D → Type 0
+DiscardStops g how offset n old new = g.safe old → (below : List Layer) → IsBacked below (g.layer old) → KeepsStops g below (GivesDiscarded how below offset n) old new
+
+-- what room a driver's zeroing leaves: it takes none outside its range, and gives up none there, nor where what is allocated is kept
+abbrev pub ZeroingLeaves : {D St T : Type 0} → Ghosts D St → Zeroing → ℕ → ℕ → Result T Fault → D → D → Type 0
+ZeroingLeaves g how offset n result old new = g.safe old → WasNotCutOff result → LeavesRoom g (WorkKeeps (zeroing_by how offset n)) (IsOut offset n) old new
+
+-- the part that was done of a range leaves out no whole unit of the layer before it, cuts none, and isn't empty where the range has one
+abbrev pub ReachesUnits : Layer → ℕ → ℕ → ℕ × ℕ → Type 0
+ReachesUnits layer offset n part = Reaches layer.fixed.unit layer.size offset n part.0 part.1
+
+-- each place of the part is left as this way of zeroing says
+abbrev pub IsLeftIn : {D St : Type 0} → Ghosts D St → Zeroing → D → ℕ × ℕ → Type 0
+IsLeftIn g how new part = (p : ℕ) → IsIn part.0 part.1 p → IsLeft how (g.vacant new) (g.zeroed new) p
+
 -- P, where this range is part of a call that was begun and that the driver has no cause of its own to decline
 abbrev pub UnlessDeclined : {D St : Type 0} → Ghosts D St → List Layer → ℕ → ℕ → D → Type 0 → Type 0
 UnlessDeclined {D} g below offset n old P = (d : D) (call : Call) → g.began d call old → IsPartOf call offset n → IsUndeclined (g.own_cause d below call) → P
 
--- Each whole unit of the range is left as this way of zeroing says; so far, up to a place; and between two places.
-abbrev pub LeftUnits : {D St : Type 0} → Ghosts D St → Zeroing → ℕ → ℕ → D → D → Type 0
-LeftUnits g how offset n old new = IsGivenUp (IsLeft how (g.vacant new) (g.zeroed new)) (g.layer old).fixed.unit (g.layer old).size offset n
+-- Then each whole unit of the range is given up by a discard,
+abbrev pub GivesUpUnits : {D St : Type 0} → Ghosts D St → ℕ → ℕ → Result Unit Fault → D → D → Type 0
+GivesUpUnits g offset n result old new = g.safe old → (below : List Layer)
+    → UnlessDeclined g below offset n old (OnOk result (IsGivenUp (g.vacant new) (g.layer old).fixed.unit (g.layer old).size offset n))
 
-abbrev pub LeftUnitsTo : {D St : Type 0} → Ghosts D St → Zeroing → ℕ → ℕ → D → D → ℕ → Type 0
-LeftUnitsTo g how offset n old new = IsGivenUpTo (IsLeft how (g.vacant new) (g.zeroed new)) (g.layer old).fixed.unit (g.layer old).size offset n
+-- and left by a zeroing as its way says: by a driver alone between two places, so far up to a place, and in the whole range.
+abbrev pub LeavesUnitsBehind : {D St : Type 0} → Ghosts D St → Zeroing → ℕ → ℕ → Result (ℕ × ℕ) Fault → D → D → Type 0
+LeavesUnitsBehind g how offset n result old new = g.safe old → (below : List Layer) → UnlessDeclined g below offset n old
+    (IfOk result (λ r. IsGivenUpBehind (IsLeft how (g.vacant new) (g.zeroed new)) (g.layer old).fixed.unit (g.layer old).size offset n r.0 r.1))
 
-abbrev pub LeftUnitsBehind : {D St : Type 0} → Ghosts D St → Zeroing → ℕ → ℕ → D → D → ℕ × ℕ → Type 0
-LeftUnitsBehind g how offset n old new part =
-    IsGivenUpBehind (IsLeft how (g.vacant new) (g.zeroed new)) (g.layer old).fixed.unit (g.layer old).size offset n part.0 part.1
+abbrev pub LeavesUnitsTo : {D St B : Type 0} → Ghosts D St → GhostsBelow B → Zeroing → ℕ → ℕ → Result ℕ Fault → D × B → D × B → Type 0
+LeavesUnitsTo g u how offset n result old new = IsIntact g u old.0 old.1 → UnlessDeclined g (u.under old.1) offset n old.0
+    (IfOk result (IsGivenUpTo (IsLeft how (g.vacant new.0) (g.zeroed new.0)) (g.layer old.0).fixed.unit (g.layer old.0).size offset n))
+
+abbrev pub LeavesUnits : {D St B : Type 0} → Ghosts D St → GhostsBelow B → Zeroing → ℕ → ℕ → Result Unit Fault → D × B → D × B → Type 0
+LeavesUnits g u how offset n result old new = IsIntact g u old.0 old.1 → UnlessDeclined g (u.under old.1) offset n old.0
+    (OnOk result (IsGivenUp (IsLeft how (g.vacant new.0) (g.zeroed new.0)) (g.layer old.0).fixed.unit (g.layer old.0).size offset n))

@@ -1,19 +1,17 @@
 // Discards that may leave parts of their range as they are.
-ghost use Rattle.std.specs.Prelude.{ℕ, ◌≡◌, ◌↔◌, ◌<◌, ◌+◌, ◌^◌, List, IsTrue, length, map, IsOk, IfOk, IfErr, OnOk, IsErrOf, Some};
-ghost use Rattle.imago_storage.specs.Steps.{Call, discard_to_any, discard_to_backing, done, IsIn};
-ghost use Rattle.imago_access.specs.Layer.{Layer, IsFree, IsLike};
-ghost use Rattle.imago_access.specs.Chain.{IsBacked};
-ghost use Rattle.imago_access.specs.Room.{Reaches, GivesUp, IsGivenUp, IsUndeclined};
-ghost use Rattle.imago_access.specs.Files.{WasNotCutOff, IsDeclined, files};
-ghost use Rattle.imago_access.specs.PartCalls.{IsPart};
+ghost use Rattle.std.specs.Prelude.{ℕ, ◌≡◌, ◌↔◌, ◌<◌, ◌+◌, ◌^◌, IsTrue, length, map, IsOk, IfOk, IfErr, IsErrOf, Some};
+ghost use Rattle.imago_storage.specs.Steps.{discard_to_any, discard_to_backing, IsIn};
+ghost use Rattle.imago_access.specs.Layer.{IsFree, IsLike};
+ghost use Rattle.imago_access.specs.Room.{GivesUp};
+ghost use Rattle.imago_access.specs.Files.{WasNotCutOff, IsDeclined};
+ghost use Rattle.imago_access.specs.PartCalls.{IsPart, PartRefused};
 ghost use Rattle.imago_access.specs.Going.{Went};
-ghost use Rattle.imago_access.specs.Parts.{IsPartOf, PartCause, DeclinableCause};
 ghost use Rattle.imago_access.specs.Refusals.{barrier};
-ghost use Rattle.imago_access.specs.Stops.{KeepsStops, GivesAny, GivesBelow};
-ghost use Rattle.imago_access.specs.Running.{IsBetween, IsIntactChain, RanChain};
-ghost use Rattle.imago_access.specs.Discards.{GivesDiscarded};
-ghost use Rattle.imago_access.specs.ChainCalls.{ChainSteps, ChainPartly, chain_refusal, OwnCause, EndsAtOnce, GaveUpUnits, IfMild, WontDecline};
+ghost use Rattle.imago_access.specs.Stops.{GivesAny, GivesBelow};
+ghost use Rattle.imago_access.specs.Running.{IsIntactChain, RanChain};
+ghost use Rattle.imago_access.specs.ChainCalls.{chain_refusal, EndsAtOnce, CallRefused, GivesUnitsUp, IsCarriedOut, IsDoneInPart};
 ghost use Rattle.imago_access.specs.Failing.{Fails};
+ghost use Rattle.imago_access.specs.RunCalls.{DiscardStops, DiscardsAlone, GivesUpUnits, RangeRefused, ReachesUnits, StaysBegun};
 
 use crate::access::FormatAccess;
 use crate::drivers::FormatDriverInstance;
@@ -46,16 +44,15 @@ fn discard_part<D: FormatDriverInstance>(
 ) -> Result<(u64, u64), Fault>
     requires free { IsFree (D.layer driver.old) }
     ensures part { IfOk result (IsPart offset length) }
-    ensures values { D.safe driver.old → (below : List Layer) → IsBacked below (D.layer driver.old) → WasNotCutOff result → IsBetween (GivesDiscarded discarding below offset length) below (D.layer driver.old) (D.layer driver.new) }
+    ensures values { DiscardsAlone D.Seen discarding offset length result driver.old driver.new }
     ensures like { IsLike (D.layer driver.old) (D.layer driver.new) }
     ensures went { Went D.Seen (WasNotCutOff result) (WasNotCutOff result) driver.old driver.new }
-    ensures began { (d : D) (call : Call) → D.began d call driver.old → IsPartOf call offset length → WasNotCutOff result → D.began d call driver.new }
-    ensures stops { D.safe driver.old → (below : List Layer) → IsBacked below (D.layer driver.old) → KeepsStops D.Seen below (GivesDiscarded discarding below offset length) driver.old driver.new }
+    ensures began { StaysBegun D.Seen offset length (WasNotCutOff result) driver.old driver.new }
+    ensures stops { DiscardStops D.Seen discarding offset length driver.old driver.new }
     ensures room { D.safe driver.old → WasNotCutOff result → GivesUp D.Seen offset length driver.old driver.new }
     ensures given { D.safe driver.old → IfOk result (λ r. (p : ℕ) → IsIn r.0 r.1 p → D.vacant driver.new p) }
-    ensures reach { D.safe driver.old → IfOk result (λ r. Reaches (D.layer driver.old).fixed.unit (D.layer driver.old).size offset length r.0 r.1) }
-    ensures failed { IfErr result (Fails D.Seen driver.old driver.new) }
-    ensures cause { D.safe driver.old → (below : List Layer) (d : D) (call : Call) → D.began d call driver.old → IsPartOf call offset length → IfErr result (DeclinableCause below (D.layer driver.old) offset length (D.own_cause d below call) (files D.Seen driver.old) (files D.Seen driver.new)) }
+    ensures reach { D.safe driver.old → IfOk result (ReachesUnits (D.layer driver.old) offset length) }
+    ensures refused { PartRefused D.Seen offset length result driver.old driver.new }
 {
     match discarding {
         Discarding::ToAny => driver.discard_to_any(alloc, offset, length),
@@ -75,14 +72,14 @@ fn discard_all<D: FormatDriverInstance>(
     requires fits { offset + n < 2 ^ 64 }
     ensures idle { n ≡ 0 → IsOk result }
     ensures untouched { n ≡ 0 → driver.new ≡ driver.old }
-    ensures values { D.safe driver.old → (below : List Layer) → IsBacked below (D.layer driver.old) → WasNotCutOff result → IsBetween (GivesDiscarded discarding below offset n) below (D.layer driver.old) (D.layer driver.new) }
+    ensures values { DiscardsAlone D.Seen discarding offset n result driver.old driver.new }
     ensures like { IsLike (D.layer driver.old) (D.layer driver.new) }
     ensures went { Went D.Seen (WasNotCutOff result) (WasNotCutOff result) driver.old driver.new }
-    ensures stops { D.safe driver.old → (below : List Layer) → IsBacked below (D.layer driver.old) → KeepsStops D.Seen below (GivesDiscarded discarding below offset n) driver.old driver.new }
+    ensures stops { DiscardStops D.Seen discarding offset n driver.old driver.new }
     ensures room { D.safe driver.old → WasNotCutOff result → GivesUp D.Seen offset n driver.old driver.new }
-    ensures gives_up { D.safe driver.old → (below : List Layer) (d : D) (call : Call) → D.began d call driver.old → IsPartOf call offset n → IsUndeclined (D.own_cause d below call) → OnOk result (IsGivenUp (D.vacant driver.new) (D.layer driver.old).fixed.unit (D.layer driver.old).size offset n) }
+    ensures gives_up { GivesUpUnits D.Seen offset n result driver.old driver.new }
     ensures failed { IfErr result (Fails D.Seen driver.old driver.new) }
-    ensures cause { D.safe driver.old → (below : List Layer) (d : D) (call : Call) → D.began d call driver.old → IsPartOf call offset n → IfErr result (PartCause below (D.layer driver.old) offset n (D.own_cause d below call) (files D.Seen driver.old) (files D.Seen driver.new)) }
+    ensures cause { RangeRefused D.Seen offset n result driver.old driver.new }
 {
     let end = offset + n;
     let mut at = offset;
@@ -107,8 +104,8 @@ impl<D: FormatDriverInstance> FormatAccess<D> {
     /// every other as it was.
     pub fn discard_to_any(&mut self, alloc: Global, offset: u64, length: u64) -> Result<(), Fault>
         requires free { IsFree (D.layer self.old.0) }
-        ensures ok { IsIntactChain D.Seen self.old → OnOk result (ChainSteps D.Seen (discard_to_any offset length) done self.old self.new) }
-        ensures err { IsIntactChain D.Seen self.old → IfMild result (ChainPartly D.Seen (discard_to_any offset length) self.old self.new) }
+        ensures ok { IsCarriedOut D.Seen (discard_to_any offset length) result self.old self.new }
+        ensures err { IsDoneInPart D.Seen (discard_to_any offset length) result self.old self.new }
         ensures at_once { (f : Fault) → chain_refusal D.Seen self.old offset length ≡ Some f → IsErrOf result f }
         ensures idle { length ≡ 0 → barrier (D.layer self.old.0) ≡ None → IsOk result }
         ensures untouched { EndsAtOnce D.Seen self.old offset length → self.new ≡ self.old }
@@ -116,9 +113,9 @@ impl<D: FormatDriverInstance> FormatAccess<D> {
         ensures ran { RanChain D.Seen (WasNotCutOff result) (GivesAny offset length) self.old self.new }
         ensures below { self.new.1 ≡ self.old.1 }
         ensures room { IsIntactChain D.Seen self.old → WasNotCutOff result → GivesUp D.Seen offset length self.old.0 self.new.0 }
-        ensures gives_up { IsIntactChain D.Seen self.old → WontDecline D.Seen (discard_to_any offset length) self.old → OnOk result (GaveUpUnits D.Seen offset length self.old.0 self.new.0) }
+        ensures gives_up { GivesUnitsUp D.Seen (discard_to_any offset length) result self.old self.new }
         ensures failed { IfErr result (Fails D.Seen self.old.0 self.new.0) }
-        ensures cause { IsIntactChain D.Seen self.old → IfErr result (OwnCause D.Seen (discard_to_any offset length) self.old self.new) }
+        ensures cause { CallRefused D.Seen (discard_to_any offset length) result self.old self.new }
     {
         self.check_change(offset, length)?;
         discard_all(alloc, &mut self.driver, Discarding::ToAny, offset, length)
@@ -135,8 +132,8 @@ impl<D: FormatDriverInstance> FormatAccess<D> {
         length: u64,
     ) -> Result<(), Fault>
         requires free { IsFree (D.layer self.old.0) }
-        ensures ok { IsIntactChain D.Seen self.old → OnOk result (ChainSteps D.Seen (discard_to_backing offset length) done self.old self.new) }
-        ensures err { IsIntactChain D.Seen self.old → IfMild result (ChainPartly D.Seen (discard_to_backing offset length) self.old self.new) }
+        ensures ok { IsCarriedOut D.Seen (discard_to_backing offset length) result self.old self.new }
+        ensures err { IsDoneInPart D.Seen (discard_to_backing offset length) result self.old self.new }
         ensures at_once { (f : Fault) → chain_refusal D.Seen self.old offset length ≡ Some f → IsErrOf result f }
         ensures idle { length ≡ 0 → barrier (D.layer self.old.0) ≡ None → IsOk result }
         ensures untouched { EndsAtOnce D.Seen self.old offset length → self.new ≡ self.old }
@@ -144,9 +141,9 @@ impl<D: FormatDriverInstance> FormatAccess<D> {
         ensures ran { RanChain D.Seen (WasNotCutOff result) (GivesBelow (map D.layer self.old.1) offset length) self.old self.new }
         ensures below { self.new.1 ≡ self.old.1 }
         ensures room { IsIntactChain D.Seen self.old → WasNotCutOff result → GivesUp D.Seen offset length self.old.0 self.new.0 }
-        ensures gives_up { IsIntactChain D.Seen self.old → WontDecline D.Seen (discard_to_backing offset length) self.old → OnOk result (GaveUpUnits D.Seen offset length self.old.0 self.new.0) }
+        ensures gives_up { GivesUnitsUp D.Seen (discard_to_backing offset length) result self.old self.new }
         ensures failed { IfErr result (Fails D.Seen self.old.0 self.new.0) }
-        ensures cause { IsIntactChain D.Seen self.old → IfErr result (OwnCause D.Seen (discard_to_backing offset length) self.old self.new) }
+        ensures cause { CallRefused D.Seen (discard_to_backing offset length) result self.old self.new }
     {
         self.check_change(offset, length)?;
         discard_all(

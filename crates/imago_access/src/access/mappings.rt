@@ -1,6 +1,6 @@
 // Mappings that a caller prepares, writes to, and commits or cancels.
 ghost use Rattle.std.specs.Prelude.{◌≡◌, ◌<◌, ◌+◌, ◌^◌, length, IsOk, IfOk, IfErr, OnOk, IsErr, IsErrOf, IsSome, Some, None};
-ghost use Rattle.imago_storage.specs.Steps.{prepare, write_mapped, done};
+ghost use Rattle.imago_storage.specs.Steps.{prepare, write_mapped};
 ghost use Rattle.imago_storage.specs.declared.fault.Fault.{Fault};
 ghost use Rattle.imago_access.specs.Layer.{IsFree, IsLike};
 ghost use Rattle.imago_access.specs.Files.{WasNotCutOff, Unasked};
@@ -9,7 +9,7 @@ ghost use Rattle.imago_access.specs.Spending.{IsMine, IsForeignTo};
 ghost use Rattle.imago_access.specs.Refusals.{barrier};
 ghost use Rattle.imago_access.specs.Stops.{GivesNone, GivesBytes};
 ghost use Rattle.imago_access.specs.Running.{IsIntactChain, RanChain};
-ghost use Rattle.imago_access.specs.ChainCalls.{ChainSteps, ChainStays, ChainFails, chain_refusal, OwnCause, AllUnasked, CanWriteRun, ChainCancels, ChainCommitRefused, ChainCommits, ChainMappedCause, ChainPrepares, CommitStops, EndsAtOnce, IfMild, IsMappedFor, KeepsHomes, StaysIntact, WhereMine};
+ghost use Rattle.imago_access.specs.ChainCalls.{ChainStays, ChainFails, chain_refusal, AllUnasked, CanWriteRun, ChainCancels, ChainCommitRefused, ChainCommits, ChainMappedCause, ChainPrepares, CommitStops, EndsAtOnce, IfMild, IsMappedFor, KeepsHomes, StaysIntact, WhereMine, CallRefused, IsCarriedOut};
 ghost use Rattle.imago_access.specs.Failing.{Fails};
 ghost use Rattle.imago_access.specs.PreparingCalls.{Cancels, CommitRefused, Commits, nowhere};
 ghost use Rattle.imago_access.specs.Changes.{asking};
@@ -51,7 +51,7 @@ impl<D: FormatDriverInstance> FormatAccess<D> {
         ensures free { IsErr result → IsFree (D.layer self.new.0) }
         ensures ran { RanChain D.Seen (WasNotCutOff result) GivesNone self.old self.new }
         ensures failed { IfErr result (ChainFails D.Seen self.old self.new) }
-        ensures cause { IsIntactChain D.Seen self.old → IfErr result (OwnCause D.Seen (prepare offset length overwrite) self.old self.new) }
+        ensures cause { CallRefused D.Seen (prepare offset length overwrite) result self.old self.new }
     {
         self.check_change(offset, length)?;
         self.driver
@@ -115,7 +115,7 @@ impl<D: FormatDriverInstance> FormatAccess<D> {
         place: u64,
         bytes: &[u8],
     ) -> Result<(), Fault>
-        ensures ok { IsIntactChain D.Seen self.old → OnOk result (ChainSteps D.Seen (write_mapped guest bytes.now) done self.old self.new) }
+        ensures ok { IsCarriedOut D.Seen (write_mapped guest bytes.now) result self.old self.new }
         ensures mapped { D.sees self.old.0 → OnOk result (IsMappedFor (D.layer self.old.0) guest place (length bytes.now)) }
         ensures home { IsIntactChain D.Seen self.old → OnOk result ((D.layer self.new.0).home ≡ (D.layer self.old.0).home) }
         ensures err { IsIntactChain D.Seen self.old → IfMild result (D.layer self.new.0 ≡ D.layer self.old.0) }

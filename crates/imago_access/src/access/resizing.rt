@@ -1,6 +1,6 @@
 // Changes of the size of a disk.
 ghost use Rattle.std.specs.Prelude.{◌≡◌, ◌⊎◌, ◌≢◌, ◌<◌, ◌≤◌, IfErr, OnOk};
-ghost use Rattle.imago_storage.specs.Steps.{grow, shrink, done};
+ghost use Rattle.imago_storage.specs.Steps.{grow, shrink};
 ghost use Rattle.imago_access.specs.Layer.{IsFree};
 ghost use Rattle.imago_access.specs.Chain.{Each};
 ghost use Rattle.imago_access.specs.Files.{WasNotCutOff};
@@ -8,7 +8,7 @@ ghost use Rattle.imago_access.specs.Going.{AtOnce, Went, LookedUnder};
 ghost use Rattle.imago_access.specs.Refusals.{barrier, IsBarred};
 ghost use Rattle.imago_access.specs.Resizes.{fill_of};
 ghost use Rattle.imago_access.specs.Running.{IsIntactChain, below_ghosts};
-ghost use Rattle.imago_access.specs.ChainCalls.{ChainSteps, ChainStays, ChainFails, ChainGrowthRefused, ChainResizes, ChainShrinkRefused, GrowthStops, IfMild, NeedsWritable, ShrinkStops, StaysIntact};
+ghost use Rattle.imago_access.specs.ChainCalls.{ChainStays, ChainFails, ChainGrowthRefused, ChainResizes, ChainShrinkRefused, GrowthStops, IfMild, NeedsWritable, ShrinkStops, StaysIntact, IsCarriedOut};
 ghost use Rattle.imago_access.specs.Failing.{Fails};
 ghost use Rattle.imago_access.specs.ResizeCalls.{IsUngrown, Resizes};
 
@@ -31,7 +31,7 @@ impl<D: FormatDriverInstance> FormatAccess<D> {
         mode: PreallocateMode,
     ) -> Result<(), Fault>
         requires free { IsFree (D.layer self.old.0) }
-        ensures ok { IsIntactChain D.Seen self.old → OnOk result (ChainSteps D.Seen (grow size (fill_of mode)) done self.old self.new) }
+        ensures ok { IsCarriedOut D.Seen (grow size (fill_of mode)) result self.old self.new }
         ensures err { IsIntactChain D.Seen self.old → IfMild result (ChainStays D.Seen self.old self.new) }
         ensures resizes { Resizes D.Seen size (D.layer self.old.0).size result self.old.0 self.new.0 }
         ensures unread { IsUngrown (D.layer self.old.0) size → self.new.1 ≡ self.old.1 }
@@ -52,7 +52,7 @@ impl<D: FormatDriverInstance> FormatAccess<D> {
     /// can't be used. A refusal for another cause than `Memory` and `Storage` leaves the disk as it was.
     pub fn resize_shrink(&mut self, alloc: Global, size: u64) -> Result<(), Fault>
         requires free { IsFree (D.layer self.old.0) }
-        ensures ok { IsIntactChain D.Seen self.old → OnOk result (ChainSteps D.Seen (shrink size) done self.old self.new) }
+        ensures ok { IsCarriedOut D.Seen (shrink size) result self.old self.new }
         ensures err { IsIntactChain D.Seen self.old → IfMild result (ChainStays D.Seen self.old self.new) }
         ensures resizes { Resizes D.Seen (D.layer self.old.0).size size result self.old.0 self.new.0 }
         ensures free { IsFree (D.layer self.new.0) }

@@ -10,7 +10,7 @@ ghost use Rattle.imago_access.specs.Going.{Went};
 ghost use Rattle.imago_access.specs.Refusals.{barrier, SomeFailed, IsBarred};
 ghost use Rattle.imago_access.specs.Stops.{IsWritten, GivesNone};
 ghost use Rattle.imago_access.specs.Running.{IsIntactChain, RanChain};
-ghost use Rattle.imago_access.specs.ChainCalls.{ChainSteps, AllUnasked};
+ghost use Rattle.imago_access.specs.ChainCalls.{ChainSteps, AllUnasked, IsCarriedOut};
 ghost use Rattle.imago_access.specs.Failing.{Fails, RefusesFlush};
 ghost use Rattle.imago_access.specs.ChainLooks.{KeepsLayers, KeepsSight, RefusesReloads};
 
@@ -25,7 +25,7 @@ impl<D: FormatDriverInstance> FormatAccess<D> {
     ///
     /// It refuses with `Fault::Memory` and `Fault::Storage`, and where the image can't be used.
     pub fn flush(&mut self, alloc: Global) -> Result<(), Fault>
-        ensures ok { IsIntactChain D.Seen self.old → OnOk result (ChainSteps D.Seen flush done self.old self.new) }
+        ensures ok { IsCarriedOut D.Seen flush result self.old self.new }
         ensures same { IsIntactChain D.Seen self.old → OnOk result (D.layer self.new.0 ≡ D.layer self.old.0) }
         ensures sees { D.sees self.old.0 → OnOk result (D.sees self.new.0) }
         ensures still { OnOk result (D.still self.new.0) }

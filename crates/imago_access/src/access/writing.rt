@@ -1,21 +1,18 @@
 // Writes, through mappings that are prepared and committed run by run.
-ghost use Rattle.std.specs.Prelude.{⊤, ◌≡◌, ◌<◌, ◌≤◌, ◌+◌, ◌∷◌, ◌++◌, ℕ, List, true, length, slice_index, IsOk, IfOk, IfErr, OnOk, IsErrOf, Some, None};
+ghost use Rattle.std.specs.Prelude.{⊤, ◌≡◌, ◌<◌, ◌≤◌, ◌+◌, List, length, IsOk, IfOk, IfErr, OnOk, IsErrOf, Some, None};
 ghost use Rattle.imago_storage.specs.State.{StorageState};
-ghost use Rattle.imago_storage.specs.Disk.{byte};
-ghost use Rattle.imago_storage.specs.Steps.{Call, write, done};
+ghost use Rattle.imago_storage.specs.Steps.{Call, write};
 ghost use Rattle.imago_access.specs.Layer.{loose, IsFree, IsLike};
-ghost use Rattle.imago_access.specs.Room.{IsApart, IsUncutAt, Takes};
-ghost use Rattle.imago_access.specs.Chain.{at};
-ghost use Rattle.imago_access.specs.Files.{WasNotCutOff, IsMild, ImageCause, Unasked, files};
+ghost use Rattle.imago_access.specs.Room.{Takes};
+ghost use Rattle.imago_access.specs.Files.{WasNotCutOff, IsMild, ImageCause, Unasked};
 ghost use Rattle.imago_access.specs.Going.{Went};
 ghost use Rattle.imago_access.specs.Spending.{IsMine};
-ghost use Rattle.imago_access.specs.Parts.{IsPartOf, IsUncutPart, announces, PartCause};
 ghost use Rattle.imago_access.specs.Refusals.{barrier};
 ghost use Rattle.imago_access.specs.Stops.{GivesBytes};
-ghost use Rattle.imago_access.specs.Running.{IsIntact, Ran, IsIntactChain, RanChain};
-ghost use Rattle.imago_access.specs.ChainCalls.{ChainSteps, ChainPartly, ChainFails, chain_refusal, OwnCause, EndsAtOnce, IfMild};
-ghost use Rattle.imago_access.specs.Failing.{Fails, FailsOver};
-ghost use Rattle.imago_access.specs.RunCalls.{GivesMappingUp, SettlesMapping, SettlingRefused, SettlingStops};
+ghost use Rattle.imago_access.specs.Running.{RanChain};
+ghost use Rattle.imago_access.specs.ChainCalls.{ChainFails, chain_refusal, EndsAtOnce, IfMild, CallRefused, IsCarriedOut, IsDoneInPart, TakesNear};
+ghost use Rattle.imago_access.specs.Failing.{Fails};
+ghost use Rattle.imago_access.specs.RunCalls.{GivesMappingUp, SettlesMapping, SettlingRefused, SettlingStops, DoesWork, RunIsUncut, ShowsAll, ShowsRun, WorkRefused, writing};
 
 use crate::access::FormatAccess;
 use crate::below::ReadBelow;
@@ -85,14 +82,11 @@ pub(crate) fn write_run<D: FormatDriverInstance, B: ReadBelow>(
     requires free { IsFree (D.layer driver.old) }
     requires some { 0 < length bytes.now }
     ensures run { IfOk result (λ n. (0 < n) × (n ≤ length bytes.now)) }
-    ensures uncut { IsIntact D.Seen B.SeenBelow driver.old below.old → IfOk result (λ n. IsUncutAt (D.layer driver.old).fixed.unit (D.layer driver.old).size offset (length bytes.now) (offset + n)) }
-    ensures shown { IsIntact D.Seen B.SeenBelow driver.old below.old → IfOk result (λ n. (i : ℕ) → i < n → at (D.layer driver.new ∷ B.under below.old) (offset + i) ≡ byte (slice_index bytes.now i)) }
+    ensures uncut { RunIsUncut D.Seen B.SeenBelow offset (length bytes.now) result (driver.old, below.old) }
+    ensures shown { ShowsRun D.Seen B.SeenBelow offset bytes.now result (driver.old, below.old) (driver.new, below.new) }
     ensures free { IsFree (D.layer driver.new) }
-    ensures room { IsIntact D.Seen B.SeenBelow driver.old below.old → WasNotCutOff result → Takes D.Seen (IsApart (D.layer driver.old).fixed.unit offset (length bytes.now)) driver.old driver.new }
-    ensures ran { Ran D.Seen B.SeenBelow (WasNotCutOff result) (GivesBytes offset bytes.now) (driver.old, below.old) (driver.new, below.new) }
-    ensures began { (d : D) (call : Call) → D.began d call driver.old → IsPartOf call offset (length bytes.now) → OnOk result (D.began d call driver.new) }
-    ensures failed { IfErr result (FailsOver D.Seen B.SeenBelow (driver.old, below.old) (driver.new, below.new)) }
-    ensures cause { IsIntact D.Seen B.SeenBelow driver.old below.old → (d : D) (call : Call) → D.began d call driver.old → IsUncutPart (D.layer driver.old) call offset (length bytes.now) → true ≡ announces call → IfErr result (PartCause (B.under below.old) (D.layer driver.old) offset (length bytes.now) (D.own_cause d (B.under below.old) call) (files D.Seen driver.old ++ B.files_under below.old) (files D.Seen driver.new ++ B.files_under below.new)) }
+    ensures does { DoesWork D.Seen B.SeenBelow (writing offset bytes.now) result (driver.old, below.old) (driver.new, below.new) }
+    ensures refused { WorkRefused D.Seen B.SeenBelow (writing offset bytes.now) result (driver.old, below.old) (driver.new, below.new) }
 {
     let mapping = match driver.prepare_data_mapping(
         alloc,
@@ -127,15 +121,12 @@ pub(crate) fn write_all<D: FormatDriverInstance, B: ReadBelow>(
 ) -> Result<(), Fault>
     requires free { IsFree (D.layer driver.old) }
     requires inside { 0 < length bytes.now → offset + length bytes.now ≤ (D.layer driver.old).size }
-    ensures shown { IsIntact D.Seen B.SeenBelow driver.old below.old → OnOk result ((i : ℕ) → i < length bytes.now → at (D.layer driver.new ∷ B.under below.old) (offset + i) ≡ byte (slice_index bytes.now i)) }
+    ensures shown { ShowsAll D.Seen B.SeenBelow offset bytes.now result (driver.old, below.old) (driver.new, below.new) }
     ensures idle { length bytes.now ≡ 0 → IsOk result }
     ensures untouched { length bytes.now ≡ 0 → (driver.new ≡ driver.old) × (below.new ≡ below.old) }
     ensures free { IsFree (D.layer driver.new) }
-    ensures room { IsIntact D.Seen B.SeenBelow driver.old below.old → WasNotCutOff result → Takes D.Seen (IsApart (D.layer driver.old).fixed.unit offset (length bytes.now)) driver.old driver.new }
-    ensures ran { Ran D.Seen B.SeenBelow (WasNotCutOff result) (GivesBytes offset bytes.now) (driver.old, below.old) (driver.new, below.new) }
-    ensures began { (d : D) (call : Call) → D.began d call driver.old → IsPartOf call offset (length bytes.now) → OnOk result (D.began d call driver.new) }
-    ensures failed { IfErr result (FailsOver D.Seen B.SeenBelow (driver.old, below.old) (driver.new, below.new)) }
-    ensures cause { IsIntact D.Seen B.SeenBelow driver.old below.old → (d : D) (call : Call) → D.began d call driver.old → IsUncutPart (D.layer driver.old) call offset (length bytes.now) → true ≡ announces call → IfErr result (PartCause (B.under below.old) (D.layer driver.old) offset (length bytes.now) (D.own_cause d (B.under below.old) call) (files D.Seen driver.old ++ B.files_under below.old) (files D.Seen driver.new ++ B.files_under below.new)) }
+    ensures does { DoesWork D.Seen B.SeenBelow (writing offset bytes.now) result (driver.old, below.old) (driver.new, below.new) }
+    ensures refused { WorkRefused D.Seen B.SeenBelow (writing offset bytes.now) result (driver.old, below.old) (driver.new, below.new) }
 {
     // The range ends in the disk, whose size fits 64 bits.
     let _size = driver.size();
@@ -170,16 +161,16 @@ impl<D: FormatDriverInstance> FormatAccess<D> {
     /// as it was.
     pub fn write(&mut self, alloc: Global, bytes: &[u8], offset: u64) -> Result<(), Fault>
         requires free { IsFree (D.layer self.old.0) }
-        ensures ok { IsIntactChain D.Seen self.old → OnOk result (ChainSteps D.Seen (write offset bytes.now) done self.old self.new) }
-        ensures err { IsIntactChain D.Seen self.old → IfMild result (ChainPartly D.Seen (write offset bytes.now) self.old self.new) }
+        ensures ok { IsCarriedOut D.Seen (write offset bytes.now) result self.old self.new }
+        ensures err { IsDoneInPart D.Seen (write offset bytes.now) result self.old self.new }
         ensures at_once { (f : Fault) → chain_refusal D.Seen self.old offset (length bytes.now) ≡ Some f → IsErrOf result f }
         ensures idle { length bytes.now ≡ 0 → barrier (D.layer self.old.0) ≡ None → IsOk result }
         ensures untouched { EndsAtOnce D.Seen self.old offset (length bytes.now) → self.new ≡ self.old }
         ensures like { IsLike (D.layer self.old.0) (D.layer self.new.0) }
         ensures ran { RanChain D.Seen (WasNotCutOff result) (GivesBytes offset bytes.now) self.old self.new }
-        ensures room { IsIntactChain D.Seen self.old → WasNotCutOff result → Takes D.Seen (IsApart (D.layer self.old.0).fixed.unit offset (length bytes.now)) self.old.0 self.new.0 }
+        ensures room { TakesNear D.Seen offset (length bytes.now) result self.old self.new }
         ensures failed { IfErr result (ChainFails D.Seen self.old self.new) }
-        ensures cause { IsIntactChain D.Seen self.old → IfErr result (OwnCause D.Seen (write offset bytes.now) self.old self.new) }
+        ensures cause { CallRefused D.Seen (write offset bytes.now) result self.old self.new }
     {
         self.check_change(offset, bytes.len() as u64)?;
         write_all(alloc, &mut self.driver, &mut self.below, bytes, offset)

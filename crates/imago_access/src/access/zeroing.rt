@@ -1,22 +1,19 @@
 // Zeroing of ranges: by the driver where it can, and else by writing zeroes.
-ghost use Rattle.std.specs.Prelude.{⊤, ◌≡◌, ◌⊎◌, ◌<◌, ◌≤◌, ◌+◌, ◌^◌, ◌∷◌, ◌++◌, ℕ, List, true, length, IsOk, IfOk, IfErr, OnOk, IsErrOf, Some, replicate};
-ghost use Rattle.imago_storage.specs.Disk.{byte};
-ghost use Rattle.imago_storage.specs.Steps.{Call, write_zeroes, discard_to_zero, done, IsIn, IsOut};
+ghost use Rattle.std.specs.Prelude.{⊤, ◌≡◌, ◌<◌, ◌≤◌, ◌+◌, ◌^◌, ◌∷◌, List, length, IsOk, IfOk, IfErr, OnOk, IsErrOf, Some, replicate};
+ghost use Rattle.imago_storage.specs.Steps.{Call, write_zeroes, discard_to_zero};
 ghost use Rattle.imago_access.specs.Layer.{Layer, IsFree, IsLike};
-ghost use Rattle.imago_access.specs.Room.{IsApart, IsUncutAt, Reaches, LeavesRoom, Takes, IsGivenUp, IsGivenUpTo, IsGivenUpBehind, IsUndeclined};
-ghost use Rattle.imago_access.specs.Zeroings.{IsLeft};
-ghost use Rattle.imago_access.specs.declared.access.zeroing.Zeroing.TheVariants as zeroing_is;
-ghost use Rattle.imago_access.specs.Chain.{at};
-ghost use Rattle.imago_access.specs.Files.{WasNotCutOff, IsMild, files};
-ghost use Rattle.imago_access.specs.PartCalls.{IsPart};
+ghost use Rattle.imago_access.specs.Room.{Takes};
+ghost use Rattle.imago_access.specs.Files.{WasNotCutOff};
+ghost use Rattle.imago_access.specs.PartCalls.{IsPart, PartRefused};
 ghost use Rattle.imago_access.specs.Going.{Went};
 ghost use Rattle.imago_access.specs.Changes.{Rewrites, PartRewrites, ToZero, Wrote};
-ghost use Rattle.imago_access.specs.Parts.{IsPartOf, IsUncutPart, announces, PartCause, DeclinableCause, MappedCause};
+ghost use Rattle.imago_access.specs.Parts.{IsPartOf};
 ghost use Rattle.imago_access.specs.Refusals.{barrier};
 ghost use Rattle.imago_access.specs.Stops.{KeepsStops, GivesBytes, GivesZero};
-ghost use Rattle.imago_access.specs.Running.{IsIntact, IsBetween, Ran, RanAlone, IsIntactChain, RanChain};
-ghost use Rattle.imago_access.specs.ChainCalls.{ChainSteps, ChainPartly, ChainFails, chain_refusal, OwnCause, EndsAtOnce, GaveUpUnits, IfMild, WontDecline, ZeroedUnits};
-ghost use Rattle.imago_access.specs.Failing.{Fails, FailsOver};
+ghost use Rattle.imago_access.specs.Running.{IsIntact, RanChain};
+ghost use Rattle.imago_access.specs.ChainCalls.{ChainFails, chain_refusal, EndsAtOnce, IfMild, CallRefused, GivesUnitsUp, GivesUpNear, IsCarriedOut, IsDoneInPart, TakesNear, ZeroesUnits};
+ghost use Rattle.imago_access.specs.Failing.{Fails};
+ghost use Rattle.imago_access.specs.RunCalls.{AreZeroTo, CutsNoUnit, DoesWork, EndsCutNone, IsLeftIn, LeavesUnits, LeavesUnitsBehind, LeavesUnitsTo, MappedRefused, RanAnywhere, RangeRefused, ReachesUnits, RunIsUncut, ShowsZeroRun, ShowsZeroTo, ShowsZeroes, StaysBegun, WorkRefused, ZeroesAlone, ZeroingLeaves, writing_zeroes, zeroing_by};
 
 use crate::access::FormatAccess;
 use crate::access::discarding::is_declined;
@@ -52,16 +49,15 @@ fn zero_part<D: FormatDriverInstance>(
     requires free { IsFree (D.layer driver.old) }
     ensures part { IfOk result (IsPart offset length) }
     ensures ok { D.safe driver.old → IfOk result (λ r. Rewrites ToZero (D.layer driver.old) (D.layer driver.new) r.0 r.1) }
-    ensures err { D.safe driver.old → IfErr result (λ e. IsMild e → PartRewrites ToZero (D.layer driver.old) (D.layer driver.new) offset length) }
+    ensures err { D.safe driver.old → IfMild result (PartRewrites ToZero (D.layer driver.old) (D.layer driver.new) offset length) }
     ensures like { IsLike (D.layer driver.old) (D.layer driver.new) }
-    ensures room { D.safe driver.old → WasNotCutOff result → LeavesRoom D.Seen (λ p. (zeroing ≡ zeroing_is.Keep) ⊎ IsOut offset length p) (IsOut offset length) driver.old driver.new }
-    ensures given { D.safe driver.old → IfOk result (λ r. (p : ℕ) → IsIn r.0 r.1 p → IsLeft zeroing (D.vacant driver.new) (D.zeroed driver.new) p) }
-    ensures reach { D.safe driver.old → IfOk result (λ r. Reaches (D.layer driver.old).fixed.unit (D.layer driver.old).size offset length r.0 r.1) }
+    ensures room { ZeroingLeaves D.Seen zeroing offset length result driver.old driver.new }
+    ensures given { D.safe driver.old → IfOk result (IsLeftIn D.Seen zeroing driver.new) }
+    ensures reach { D.safe driver.old → IfOk result (ReachesUnits (D.layer driver.old) offset length) }
     ensures went { Went D.Seen (WasNotCutOff result) (WasNotCutOff result) driver.old driver.new }
-    ensures began { (d : D) (call : Call) → D.began d call driver.old → IsPartOf call offset length → WasNotCutOff result → D.began d call driver.new }
+    ensures began { StaysBegun D.Seen offset length (WasNotCutOff result) driver.old driver.new }
     ensures stops { D.safe driver.old → (below : List Layer) → KeepsStops D.Seen below (GivesZero offset length) driver.old driver.new }
-    ensures failed { IfErr result (Fails D.Seen driver.old driver.new) }
-    ensures cause { D.safe driver.old → (below : List Layer) (d : D) (call : Call) → D.began d call driver.old → IsPartOf call offset length → IfErr result (DeclinableCause below (D.layer driver.old) offset length (D.own_cause d below call) (files D.Seen driver.old) (files D.Seen driver.new)) }
+    ensures refused { PartRefused D.Seen offset length result driver.old driver.new }
 {
     match zeroing {
         Zeroing::Keep => driver.ensure_zero_mapping(alloc, offset, length),
@@ -90,10 +86,10 @@ fn write_mapped_zeroes<D: FormatDriverInstance>(
     ensures ok { D.safe driver.old → OnOk result (Wrote (D.layer driver.old) (D.layer driver.new) guest (replicate n 0)) }
     ensures like { IsLike (D.layer driver.old) (D.layer driver.new) }
     ensures room { D.safe driver.old → WasNotCutOff result → Takes D.Seen (λ _. ⊤) driver.old driver.new }
-    ensures ran { (below : List Layer) → RanAlone D.Seen (WasNotCutOff result) (GivesBytes guest (replicate n 0)) below driver.old driver.new }
+    ensures ran { RanAnywhere D.Seen (WasNotCutOff result) (GivesBytes guest (replicate n 0)) driver.old driver.new }
     ensures began { (d : D) (call : Call) → D.began d call driver.old → OnOk result (D.began d call driver.new) }
     ensures failed { IfErr result (Fails D.Seen driver.old driver.new) }
-    ensures cause { D.safe driver.old → IfErr result (MappedCause (D.layer driver.old) guest place n (files D.Seen driver.old) (files D.Seen driver.new)) }
+    ensures cause { MappedRefused D.Seen guest place n result driver.old driver.new }
 {
     let mut done = 0;
     while done < n {
@@ -120,14 +116,11 @@ fn write_zero_run<D: FormatDriverInstance, B: ReadBelow>(
     requires some { 0 < n }
     requires fits { offset + n < 2 ^ 64 }
     ensures run { IfOk result (λ count. (0 < count) × (count ≤ n)) }
-    ensures uncut { IsIntact D.Seen B.SeenBelow driver.old below.old → IfOk result (λ count. IsUncutAt (D.layer driver.old).fixed.unit (D.layer driver.old).size offset n (offset + count)) }
-    ensures shown { IsIntact D.Seen B.SeenBelow driver.old below.old → IfOk result (λ count. (i : ℕ) → i < count → at (D.layer driver.new ∷ B.under below.old) (offset + i) ≡ byte 0) }
+    ensures uncut { RunIsUncut D.Seen B.SeenBelow offset n result (driver.old, below.old) }
+    ensures shown { ShowsZeroRun D.Seen B.SeenBelow offset result (driver.old, below.old) (driver.new, below.new) }
     ensures free { IsFree (D.layer driver.new) }
-    ensures room { IsIntact D.Seen B.SeenBelow driver.old below.old → WasNotCutOff result → Takes D.Seen (IsApart (D.layer driver.old).fixed.unit offset n) driver.old driver.new }
-    ensures ran { Ran D.Seen B.SeenBelow (WasNotCutOff result) (GivesZero offset n) (driver.old, below.old) (driver.new, below.new) }
-    ensures began { (d : D) (call : Call) → D.began d call driver.old → IsPartOf call offset n → OnOk result (D.began d call driver.new) }
-    ensures failed { IfErr result (FailsOver D.Seen B.SeenBelow (driver.old, below.old) (driver.new, below.new)) }
-    ensures cause { IsIntact D.Seen B.SeenBelow driver.old below.old → (d : D) (call : Call) → D.began d call driver.old → IsUncutPart (D.layer driver.old) call offset n → true ≡ announces call → IfErr result (PartCause (B.under below.old) (D.layer driver.old) offset n (D.own_cause d (B.under below.old) call) (files D.Seen driver.old ++ B.files_under below.old) (files D.Seen driver.new ++ B.files_under below.new)) }
+    ensures does { DoesWork D.Seen B.SeenBelow (writing_zeroes offset n) result (driver.old, below.old) (driver.new, below.new) }
+    ensures refused { WorkRefused D.Seen B.SeenBelow (writing_zeroes offset n) result (driver.old, below.old) (driver.new, below.new) }
 {
     let mapping = match driver.prepare_data_mapping(alloc, below, offset, n, true) {
         Ok(mapping) => mapping,
@@ -157,13 +150,10 @@ fn write_zero_bytes<D: FormatDriverInstance, B: ReadBelow>(
     requires free { IsFree (D.layer driver.old) }
     requires fits { offset + n < 2 ^ 64 }
     requires inside { offset + n ≤ (D.layer driver.old).size }
-    ensures shown { IsIntact D.Seen B.SeenBelow driver.old below.old → OnOk result ((p : ℕ) → IsIn offset n p → at (D.layer driver.new ∷ B.under below.old) p ≡ byte 0) }
+    ensures shown { ShowsZeroes D.Seen B.SeenBelow offset n result (driver.old, below.old) (driver.new, below.new) }
     ensures free { IsFree (D.layer driver.new) }
-    ensures room { IsIntact D.Seen B.SeenBelow driver.old below.old → WasNotCutOff result → Takes D.Seen (IsApart (D.layer driver.old).fixed.unit offset n) driver.old driver.new }
-    ensures ran { Ran D.Seen B.SeenBelow (WasNotCutOff result) (GivesZero offset n) (driver.old, below.old) (driver.new, below.new) }
-    ensures began { (d : D) (call : Call) → D.began d call driver.old → IsPartOf call offset n → OnOk result (D.began d call driver.new) }
-    ensures failed { IfErr result (FailsOver D.Seen B.SeenBelow (driver.old, below.old) (driver.new, below.new)) }
-    ensures cause { IsIntact D.Seen B.SeenBelow driver.old below.old → (d : D) (call : Call) → D.began d call driver.old → IsUncutPart (D.layer driver.old) call offset n → true ≡ announces call → IfErr result (PartCause (B.under below.old) (D.layer driver.old) offset n (D.own_cause d (B.under below.old) call) (files D.Seen driver.old ++ B.files_under below.old) (files D.Seen driver.new ++ B.files_under below.new)) }
+    ensures does { DoesWork D.Seen B.SeenBelow (writing_zeroes offset n) result (driver.old, below.old) (driver.new, below.new) }
+    ensures refused { WorkRefused D.Seen B.SeenBelow (writing_zeroes offset n) result (driver.old, below.old) (driver.new, below.new) }
 {
     let mut done = 0;
     while done < n {
@@ -188,17 +178,17 @@ fn zero_by_driver<D: FormatDriverInstance>(
     requires some { 0 < n }
     requires fits { offset + n < 2 ^ 64 }
     ensures part { IfOk result (λ r. (offset ≤ r.0) × (r.0 ≤ r.1) × (offset < r.1) × (r.1 ≤ offset + n)) }
-    ensures uncut { D.safe driver.old → IfOk result (λ r. IsUncutAt (D.layer driver.old).fixed.unit (D.layer driver.old).size offset n r.0 × IsUncutAt (D.layer driver.old).fixed.unit (D.layer driver.old).size offset n r.1) }
-    ensures zeroed { D.safe driver.old → (below : List Layer) → IfOk result (λ r. (p : ℕ) → r.0 ≤ p → p < r.1 → at (D.layer driver.new ∷ below) p ≡ byte 0) }
-    ensures values { D.safe driver.old → (below : List Layer) → WasNotCutOff result → IsBetween (GivesZero offset n) below (D.layer driver.old) (D.layer driver.new) }
+    ensures uncut { D.safe driver.old → IfOk result (EndsCutNone (D.layer driver.old) offset n) }
+    ensures zeroed { D.safe driver.old → (below : List Layer) → IfOk result (λ r. AreZeroTo (D.layer driver.new ∷ below) r.0 r.1) }
+    ensures values { ZeroesAlone D.Seen offset n result driver.old driver.new }
     ensures like { IsLike (D.layer driver.old) (D.layer driver.new) }
-    ensures room { D.safe driver.old → WasNotCutOff result → LeavesRoom D.Seen (λ p. (zeroing ≡ zeroing_is.Keep) ⊎ IsOut offset n p) (IsOut offset n) driver.old driver.new }
-    ensures given { D.safe driver.old → (below : List Layer) (d : D) (call : Call) → D.began d call driver.old → IsPartOf call offset n → IsUndeclined (D.own_cause d below call) → IfOk result (λ r. IsGivenUpBehind (IsLeft zeroing (D.vacant driver.new) (D.zeroed driver.new)) (D.layer driver.old).fixed.unit (D.layer driver.old).size offset n r.0 r.1) }
+    ensures room { ZeroingLeaves D.Seen zeroing offset n result driver.old driver.new }
+    ensures given { LeavesUnitsBehind D.Seen zeroing offset n result driver.old driver.new }
     ensures went { Went D.Seen (WasNotCutOff result) (WasNotCutOff result) driver.old driver.new }
     ensures began { (d : D) (call : Call) → D.began d call driver.old → IsPartOf call offset n → OnOk result (D.began d call driver.new) }
     ensures stops { D.safe driver.old → (below : List Layer) → KeepsStops D.Seen below (GivesZero offset n) driver.old driver.new }
     ensures failed { IfErr result (Fails D.Seen driver.old driver.new) }
-    ensures cause { D.safe driver.old → (below : List Layer) (d : D) (call : Call) → D.began d call driver.old → IsPartOf call offset n → IfErr result (PartCause below (D.layer driver.old) offset n (D.own_cause d below call) (files D.Seen driver.old) (files D.Seen driver.new)) }
+    ensures cause { RangeRefused D.Seen offset n result driver.old driver.new }
 {
     let end = offset + n;
     match zero_part(alloc, driver, zeroing, offset, n) {
@@ -225,15 +215,12 @@ fn zero_run<D: FormatDriverInstance, B: ReadBelow>(
     requires fits { offset + n < 2 ^ 64 }
     requires inside { offset + n ≤ (D.layer driver.old).size }
     ensures run { IfOk result (λ end. (offset < end) × (end ≤ offset + n)) }
-    ensures uncut { IsIntact D.Seen B.SeenBelow driver.old below.old → IfOk result (IsUncutAt (D.layer driver.old).fixed.unit (D.layer driver.old).size offset n) }
-    ensures shown { IsIntact D.Seen B.SeenBelow driver.old below.old → IfOk result (λ end. (p : ℕ) → offset ≤ p → p < end → at (D.layer driver.new ∷ B.under below.old) p ≡ byte 0) }
+    ensures uncut { IsIntact D.Seen B.SeenBelow driver.old below.old → IfOk result (CutsNoUnit (D.layer driver.old) offset n) }
+    ensures shown { ShowsZeroTo D.Seen B.SeenBelow offset result (driver.old, below.old) (driver.new, below.new) }
     ensures free { IsFree (D.layer driver.new) }
-    ensures room { IsIntact D.Seen B.SeenBelow driver.old below.old → WasNotCutOff result → LeavesRoom D.Seen (λ p. (zeroing ≡ zeroing_is.Keep) ⊎ IsOut offset n p) (IsApart (D.layer driver.old).fixed.unit offset n) driver.old driver.new }
-    ensures given { IsIntact D.Seen B.SeenBelow driver.old below.old → (d : D) (call : Call) → D.began d call driver.old → IsPartOf call offset n → IsUndeclined (D.own_cause d (B.under below.old) call) → IfOk result (IsGivenUpTo (IsLeft zeroing (D.vacant driver.new) (D.zeroed driver.new)) (D.layer driver.old).fixed.unit (D.layer driver.old).size offset n) }
-    ensures ran { Ran D.Seen B.SeenBelow (WasNotCutOff result) (GivesZero offset n) (driver.old, below.old) (driver.new, below.new) }
-    ensures began { (d : D) (call : Call) → D.began d call driver.old → IsPartOf call offset n → OnOk result (D.began d call driver.new) }
-    ensures failed { IfErr result (FailsOver D.Seen B.SeenBelow (driver.old, below.old) (driver.new, below.new)) }
-    ensures cause { IsIntact D.Seen B.SeenBelow driver.old below.old → (d : D) (call : Call) → D.began d call driver.old → IsUncutPart (D.layer driver.old) call offset n → true ≡ announces call → IfErr result (PartCause (B.under below.old) (D.layer driver.old) offset n (D.own_cause d (B.under below.old) call) (files D.Seen driver.old ++ B.files_under below.old) (files D.Seen driver.new ++ B.files_under below.new)) }
+    ensures given { LeavesUnitsTo D.Seen B.SeenBelow zeroing offset n result (driver.old, below.old) (driver.new, below.new) }
+    ensures does { DoesWork D.Seen B.SeenBelow (zeroing_by zeroing offset n) result (driver.old, below.old) (driver.new, below.new) }
+    ensures refused { WorkRefused D.Seen B.SeenBelow (zeroing_by zeroing offset n) result (driver.old, below.old) (driver.new, below.new) }
 {
     let (start, end) = match zero_by_driver(alloc, driver, zeroing, offset, n) {
         Ok(part) => part,
@@ -259,13 +246,11 @@ fn zero_all<D: FormatDriverInstance, B: ReadBelow>(
     requires inside { 0 < n → offset + n ≤ (D.layer driver.old).size }
     ensures idle { n ≡ 0 → IsOk result }
     ensures untouched { n ≡ 0 → (driver.new ≡ driver.old) × (below.new ≡ below.old) }
-    ensures shown { IsIntact D.Seen B.SeenBelow driver.old below.old → OnOk result ((p : ℕ) → IsIn offset n p → at (D.layer driver.new ∷ B.under below.old) p ≡ byte 0) }
+    ensures shown { ShowsZeroes D.Seen B.SeenBelow offset n result (driver.old, below.old) (driver.new, below.new) }
     ensures free { IsFree (D.layer driver.new) }
-    ensures room { IsIntact D.Seen B.SeenBelow driver.old below.old → WasNotCutOff result → LeavesRoom D.Seen (λ p. (zeroing ≡ zeroing_is.Keep) ⊎ IsOut offset n p) (IsApart (D.layer driver.old).fixed.unit offset n) driver.old driver.new }
-    ensures leaves { IsIntact D.Seen B.SeenBelow driver.old below.old → (d : D) (call : Call) → D.began d call driver.old → IsPartOf call offset n → IsUndeclined (D.own_cause d (B.under below.old) call) → OnOk result (IsGivenUp (IsLeft zeroing (D.vacant driver.new) (D.zeroed driver.new)) (D.layer driver.old).fixed.unit (D.layer driver.old).size offset n) }
-    ensures ran { Ran D.Seen B.SeenBelow (WasNotCutOff result) (GivesZero offset n) (driver.old, below.old) (driver.new, below.new) }
-    ensures failed { IfErr result (FailsOver D.Seen B.SeenBelow (driver.old, below.old) (driver.new, below.new)) }
-    ensures cause { IsIntact D.Seen B.SeenBelow driver.old below.old → (d : D) (call : Call) → D.began d call driver.old → IsUncutPart (D.layer driver.old) call offset n → true ≡ announces call → IfErr result (PartCause (B.under below.old) (D.layer driver.old) offset n (D.own_cause d (B.under below.old) call) (files D.Seen driver.old ++ B.files_under below.old) (files D.Seen driver.new ++ B.files_under below.new)) }
+    ensures leaves { LeavesUnits D.Seen B.SeenBelow zeroing offset n result (driver.old, below.old) (driver.new, below.new) }
+    ensures does { DoesWork D.Seen B.SeenBelow (zeroing_by zeroing offset n) result (driver.old, below.old) (driver.new, below.new) }
+    ensures refused { WorkRefused D.Seen B.SeenBelow (zeroing_by zeroing offset n) result (driver.old, below.old) (driver.new, below.new) }
 {
     let end = offset + n;
     let mut at = offset;
@@ -288,17 +273,17 @@ impl<D: FormatDriverInstance> FormatAccess<D> {
     /// it was. The chain itself takes no memory for it: want of it is the driver's.
     pub fn write_zeroes(&mut self, alloc: Global, offset: u64, length: u64) -> Result<(), Fault>
         requires free { IsFree (D.layer self.old.0) }
-        ensures ok { IsIntactChain D.Seen self.old → OnOk result (ChainSteps D.Seen (write_zeroes offset length) done self.old self.new) }
-        ensures err { IsIntactChain D.Seen self.old → IfMild result (ChainPartly D.Seen (write_zeroes offset length) self.old self.new) }
+        ensures ok { IsCarriedOut D.Seen (write_zeroes offset length) result self.old self.new }
+        ensures err { IsDoneInPart D.Seen (write_zeroes offset length) result self.old self.new }
         ensures at_once { (f : Fault) → chain_refusal D.Seen self.old offset length ≡ Some f → IsErrOf result f }
         ensures idle { length ≡ 0 → barrier (D.layer self.old.0) ≡ None → IsOk result }
         ensures untouched { EndsAtOnce D.Seen self.old offset length → self.new ≡ self.old }
         ensures like { IsLike (D.layer self.old.0) (D.layer self.new.0) }
         ensures ran { RanChain D.Seen (WasNotCutOff result) (GivesZero offset length) self.old self.new }
-        ensures room { IsIntactChain D.Seen self.old → WasNotCutOff result → Takes D.Seen (IsApart (D.layer self.old.0).fixed.unit offset length) self.old.0 self.new.0 }
-        ensures zeroed { IsIntactChain D.Seen self.old → WontDecline D.Seen (write_zeroes offset length) self.old → OnOk result (ZeroedUnits D.Seen offset length self.old.0 self.new.0) }
+        ensures room { TakesNear D.Seen offset length result self.old self.new }
+        ensures zeroed { ZeroesUnits D.Seen (write_zeroes offset length) result self.old self.new }
         ensures failed { IfErr result (ChainFails D.Seen self.old self.new) }
-        ensures cause { IsIntactChain D.Seen self.old → IfErr result (OwnCause D.Seen (write_zeroes offset length) self.old self.new) }
+        ensures cause { CallRefused D.Seen (write_zeroes offset length) result self.old self.new }
     {
         self.check_change(offset, length)?;
         zero_all(
@@ -317,17 +302,17 @@ impl<D: FormatDriverInstance> FormatAccess<D> {
     /// It refuses as `write_zeroes` does, and leaves the same. The chain itself takes no memory for it either.
     pub fn discard_to_zero(&mut self, alloc: Global, offset: u64, length: u64) -> Result<(), Fault>
         requires free { IsFree (D.layer self.old.0) }
-        ensures ok { IsIntactChain D.Seen self.old → OnOk result (ChainSteps D.Seen (discard_to_zero offset length) done self.old self.new) }
-        ensures err { IsIntactChain D.Seen self.old → IfMild result (ChainPartly D.Seen (discard_to_zero offset length) self.old self.new) }
+        ensures ok { IsCarriedOut D.Seen (discard_to_zero offset length) result self.old self.new }
+        ensures err { IsDoneInPart D.Seen (discard_to_zero offset length) result self.old self.new }
         ensures at_once { (f : Fault) → chain_refusal D.Seen self.old offset length ≡ Some f → IsErrOf result f }
         ensures idle { length ≡ 0 → barrier (D.layer self.old.0) ≡ None → IsOk result }
         ensures untouched { EndsAtOnce D.Seen self.old offset length → self.new ≡ self.old }
         ensures like { IsLike (D.layer self.old.0) (D.layer self.new.0) }
         ensures ran { RanChain D.Seen (WasNotCutOff result) (GivesZero offset length) self.old self.new }
-        ensures room { IsIntactChain D.Seen self.old → WasNotCutOff result → LeavesRoom D.Seen (IsOut offset length) (IsApart (D.layer self.old.0).fixed.unit offset length) self.old.0 self.new.0 }
-        ensures gives_up { IsIntactChain D.Seen self.old → WontDecline D.Seen (discard_to_zero offset length) self.old → OnOk result (GaveUpUnits D.Seen offset length self.old.0 self.new.0) }
+        ensures room { GivesUpNear D.Seen offset length result self.old self.new }
+        ensures gives_up { GivesUnitsUp D.Seen (discard_to_zero offset length) result self.old self.new }
         ensures failed { IfErr result (ChainFails D.Seen self.old self.new) }
-        ensures cause { IsIntactChain D.Seen self.old → IfErr result (OwnCause D.Seen (discard_to_zero offset length) self.old self.new) }
+        ensures cause { CallRefused D.Seen (discard_to_zero offset length) result self.old self.new }
     {
         self.check_change(offset, length)?;
         zero_all(

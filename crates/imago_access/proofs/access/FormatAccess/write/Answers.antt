@@ -21,7 +21,7 @@ returns-in_err-check_change-clause-ran g c = let d = g.D.Seen in
 
 pub returns-clause-ran : goal.returns-clause-ran
 returns-clause-ran g c = let d = g.D.Seen in
-    rw (← c.self.view_is) (ran_seen layers d (below_ghosts d) (WasNotCutOff c.write_all.result) (GivesBytes c.args.offset c.args.bytes.now) c.self.inside.driver c.write_all.new.driver c.self.inside.below c.write_all.new.below c.write_all.ensures.ran)
+    rw (← c.self.view_is) (ran_seen layers d (below_ghosts d) (WasNotCutOff c.write_all.result) (GivesBytes c.args.offset c.args.bytes.now) c.self.inside.driver c.write_all.new.driver c.self.inside.below c.write_all.new.below c.write_all.ensures.does.ran)
 
 pub returns-clause-ok : goal.returns-clause-ok
 returns-clause-ok g c = let d = g.D.Seen in
@@ -37,8 +37,12 @@ pub returns-clause-cause : goal.returns-clause-cause
 returns-clause-cause g c = λ i. let d = g.D.Seen in let a = c.args.self.now.0 in let ds = c.args.self.now.1 in let e = c.write_all.new.driver in let call = write c.args.offset c.args.bytes.now in
     let below = map d.layer ds in let olds = files_of d (chain c.args.self.now) in let news = files_of d (e ∷ layers c.write_all.new.below) in
     let told : IsIntact d (below_ghosts d) a ds → (x : g.row.D.Denot) (k : Call) → d.began x k a → IsUncutPart (d.layer a) k c.args.offset (length c.args.bytes.now) → true ≡ announces k
-    → IfErr c.write_all.result (PartCause below (d.layer a) c.args.offset (length c.args.bytes.now) (d.own_cause x below k) olds news) = rw (← c.self.view_is) (λ i. c.write_all.ensures.cause (intact_by layers d (below_ghosts d) c.self.inside.driver c.self.inside.below i)) in
+    → IfErr c.write_all.result (PartCause below (d.layer a) c.args.offset (length c.args.bytes.now) (d.own_cause x below k) olds news) = rw (← c.self.view_is) (λ i. c.write_all.ensures.refused.cause (intact_by layers d (below_ghosts d) c.self.inside.driver c.self.inside.below i)) in
     IfErr-weaker c.write_all.result (PartCause below (d.layer a) c.args.offset (length c.args.bytes.now) (d.own_cause a below call) olds news)
     (ChangeCause below (d.layer a) call (d.own_cause a below call) olds news)
     (change_cause below (d.layer a) call (d.own_cause a below call) olds news (λ some. some) (overflows_chain d.layer g.met.D.FormatDriverInstance.aligned a ds c.args.offset (length c.args.bytes.now)))
     (told i a call (g.met.D.FormatDriverInstance.begins a call) (own_part (d.layer a) call) refl)
+
+pub returns-clause-room : goal.returns-clause-room
+returns-clause-room g c = let d = g.D.Seen in
+    rw (← c.self.view_is) (λ i whole. c.write_all.ensures.does.room (intact_by layers d (below_ghosts d) c.self.inside.driver c.self.inside.below i) whole)

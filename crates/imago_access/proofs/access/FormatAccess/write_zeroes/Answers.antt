@@ -32,7 +32,7 @@ zero_all-requires-clause-fits g c = let d = g.D.Seen in
 
 pub returns-clause-ran : goal.returns-clause-ran
 returns-clause-ran g c = let d = g.D.Seen in
-    rw (← c.self.view_is) (ran_seen layers d (below_ghosts d) (WasNotCutOff c.zero_all.result) (GivesZero c.args.offset c.args.length) c.self.inside.driver c.zero_all.new.driver c.self.inside.below c.zero_all.new.below c.zero_all.ensures.ran)
+    rw (← c.self.view_is) (ran_seen layers d (below_ghosts d) (WasNotCutOff c.zero_all.result) (GivesZero c.args.offset c.args.length) c.self.inside.driver c.zero_all.new.driver c.self.inside.below c.zero_all.new.below c.zero_all.ensures.does.ran)
 
 pub returns-clause-ok : goal.returns-clause-ok
 returns-clause-ok g c = let d = g.D.Seen in
@@ -48,7 +48,7 @@ pub returns-clause-cause : goal.returns-clause-cause
 returns-clause-cause g c = λ i. let d = g.D.Seen in let a = c.args.self.now.0 in let ds = c.args.self.now.1 in let e = c.zero_all.new.driver in let call = write_zeroes c.args.offset c.args.length in
     let below = map d.layer ds in let olds = files_of d (chain c.args.self.now) in let news = files_of d (e ∷ layers c.zero_all.new.below) in
     let told : IsIntact d (below_ghosts d) a ds → (x : g.row.D.Denot) (k : Call) → d.began x k a → IsUncutPart (d.layer a) k c.args.offset c.args.length → true ≡ announces k
-    → IfErr c.zero_all.result (PartCause below (d.layer a) c.args.offset c.args.length (d.own_cause x below k) olds news) = rw (← c.self.view_is) (λ i. c.zero_all.ensures.cause (intact_by layers d (below_ghosts d) c.self.inside.driver c.self.inside.below i)) in
+    → IfErr c.zero_all.result (PartCause below (d.layer a) c.args.offset c.args.length (d.own_cause x below k) olds news) = rw (← c.self.view_is) (λ i. c.zero_all.ensures.refused.cause (intact_by layers d (below_ghosts d) c.self.inside.driver c.self.inside.below i)) in
     IfErr-weaker c.zero_all.result (PartCause below (d.layer a) c.args.offset c.args.length (d.own_cause a below call) olds news)
     (ChangeCause below (d.layer a) call (d.own_cause a below call) olds news)
     (change_cause below (d.layer a) call (d.own_cause a below call) olds news (λ some. some) (overflows_chain d.layer g.met.D.FormatDriverInstance.aligned a ds c.args.offset c.args.length))
@@ -63,7 +63,7 @@ returns-in_err-check_change-clause-cause g c = λ i. let d = g.D.Seen in let a =
 pub returns-clause-room : goal.returns-clause-room
 returns-clause-room g c = let d = g.D.Seen in let old = c.self.inside.driver in
     rw (← c.self.view_is) (λ i whole. room_fewer d (λ p. (zeroing_is.Keep ≡ zeroing_is.Keep) ⊎ IsOut c.args.offset c.args.length p) (λ _. ⊤) (IsApart (d.layer old).fixed.unit c.args.offset c.args.length) old c.zero_all.new.driver
-    (λ p there. inl refl) (c.zero_all.ensures.room (intact_by layers d (below_ghosts d) old c.self.inside.below i) whole))
+    (λ p there. inl refl) (c.zero_all.ensures.does.room (intact_by layers d (below_ghosts d) old c.self.inside.below i) whole))
 
 pub returns-clause-zeroed : goal.returns-clause-zeroed
 returns-clause-zeroed g c = let d = g.D.Seen in let old = c.self.inside.driver in let call = write_zeroes c.args.offset c.args.length in

@@ -91,7 +91,7 @@ returns-in-Err g c = let d = g.D.Seen in
       stops = λ safe below backed. (ran below).stops (intact_alone d g.met.D.FormatDriverInstance.free_loose below c.args.driver.now c.requires.free safe backed);
       room = λ safe whole. gives_up_both d c.args.offset c.args.n at rest first mid last l.from (omega (arith, l.from)) (l.room safe) (done.room (safe_on safe) mild);
       gives_up = λ safe below x call began part none.
-          absurd (undeclined below (d.layer mid) at rest (d.own_cause x below call) (files d mid) (files d last) c.in-Err.fault none declined (done.cause (safe_on safe) below x call (l.began x call began part) (record { start = omega (arith, part.start, l.from); end = omega (arith, part.end, l.from) })));
+          absurd (undeclined below (d.layer mid) at rest (d.own_cause x below call) (files d mid) (files d last) c.in-Err.fault none declined (done.refused.cause (safe_on safe) below x call (l.began x call began part) (record { start = omega (arith, part.start, l.from); end = omega (arith, part.end, l.from) })));
       failed = tt;
       cause = λ safe below x call began part. tt;
     }
@@ -113,13 +113,13 @@ returns-in-Err-2 g c = let d = g.D.Seen in
       stops = λ safe below backed. (ran below).stops (intact_alone d g.met.D.FormatDriverInstance.free_loose below c.args.driver.now c.requires.free safe backed);
       room = λ safe whole. gives_up_both d c.args.offset c.args.n at rest first mid last l.from (omega (arith, l.from)) (l.room safe) (done.room (safe_on safe) whole);
       gives_up = λ safe below x call began part none. tt;
-      failed = failed_behind (files d c.args.driver.now) (files d c.loop-at.driver) (files d c.discard_part.new.driver) c.in-Err.fault (l.ran []).went.later done.failed;
+      failed = failed_behind (files d c.args.driver.now) (files d c.loop-at.driver) (files d c.discard_part.new.driver) c.in-Err.fault (l.ran []).went.later done.refused.failed;
       cause = λ safe below x call began part.
           let within : IsPartOf call c.loop-at.at (c.args.offset + c.args.n - c.loop-at.at) = record { start = omega (arith, part.start, l.from); end = omega (arith, part.end, l.from) } in
           let still = (l.ran []).went.safely (tt, tt) safe in
           part_cause_later below (d.layer c.args.driver.now) (d.layer c.loop-at.driver) c.args.offset c.args.n c.loop-at.at (c.args.offset + c.args.n - c.loop-at.at) (files d c.args.driver.now) (files d c.loop-at.driver) (files d c.discard_part.new.driver)
           l.like.fixed l.like.size (g.met.D.FormatDriverInstance.safe_runs c.args.driver.now safe) (g.met.D.FormatDriverInstance.safe_runs c.loop-at.driver still) (layer_aligned d.layer g.met.D.FormatDriverInstance.aligned c.args.driver.now).positive
-          l.from (omega (arith, l.from)) (l.ran []).went.later (d.own_cause x below call) (d.own_cause x below call) c.in-Err.fault (λ h. h) (undeclined_cause below (d.layer c.loop-at.driver) c.loop-at.at (c.args.offset + c.args.n - c.loop-at.at) (d.own_cause x below call) (files d c.loop-at.driver) (files d c.discard_part.new.driver) c.in-Err.fault (λ h. absurd (cc (c.if-is_declined.ensures.1 h))) (done.cause still below x call (l.began x call began part) within));
+          l.from (omega (arith, l.from)) (l.ran []).went.later (d.own_cause x below call) (d.own_cause x below call) c.in-Err.fault (λ h. h) (undeclined_cause below (d.layer c.loop-at.driver) c.loop-at.at (c.args.offset + c.args.n - c.loop-at.at) (d.own_cause x below call) (files d c.loop-at.driver) (files d c.discard_part.new.driver) c.in-Err.fault (λ h. absurd (cc (c.if-is_declined.ensures.1 h))) (done.refused.cause still below x call (l.began x call began part) within));
     }
 
 pub returns-clause-went : goal.returns-clause-went

@@ -42,7 +42,7 @@ loop-done-preserved g c = let d = g.D.Seen in let b = g.B.SeenBelow in let l = c
           let mid = l.ran.intact tt i in
           let same : b.under x1 ≡ b.under x0 = (l.ran.looked.stays tt i.is_seen).0 in
           shown_more (b.under x0) (d.layer y1) (d.layer y2) c.args.offset done n bytes fits (omega (arith, c.requires.inside (omega (arith, c.loop-done-test.true)), l.ran.size))
-          (subst (λ (below : List Layer). IsBetween (GivesBytes (c.args.offset + done) (rest_of done bytes)) below (d.layer y1) (d.layer y2)) same (c.in-Ok.ensures.ran.values tt mid))
+          (subst (λ (below : List Layer). IsBetween (GivesBytes (c.args.offset + done) (rest_of done bytes)) below (d.layer y1) (d.layer y2)) same (c.in-Ok.ensures.does.ran.values tt mid))
           (l.shown i)
           (subst (λ (below : List Layer). (k : ℕ) → k < n → at (d.layer y2 ∷ below) (c.args.offset + done + k) ≡ byte (slice_index (rest_of done bytes) k)) same (c.in-Ok.ensures.shown mid));
       uncut = λ i.
@@ -52,37 +52,51 @@ loop-done-preserved g c = let d = g.D.Seen in let b = g.B.SeenBelow in let l = c
           subst (IsUncutAt unit size c.args.offset (length bytes)) next
           (uncut_later (d.layer y0) (d.layer y1) c.args.offset (length bytes) start (start + n) l.ran.went.fixed l.ran.size (omega arith) (l.uncut i)
           (subst (λ (m : ℕ). IsUncutAt (d.layer y1).fixed.unit (d.layer y1).size start m (start + n)) rest (c.in-Ok.ensures.uncut (l.ran.intact tt i))));
-      room = λ i. room_then d (λ _. ⊤) (λ _. ⊤) c.args.offset (length bytes) (c.args.offset + done) (length (rest_of done bytes)) y0 y1 y2 l.ran.went.fixed (omega arith) (omega (arith, rest_long done bytes l.inside, l.inside)) (λ p there. tt) (l.room i) (c.in-Ok.ensures.room (l.ran.intact tt i) tt);
+      room = λ i. room_then d (λ _. ⊤) (λ _. ⊤) c.args.offset (length bytes) (c.args.offset + done) (length (rest_of done bytes)) y0 y1 y2 l.ran.went.fixed (omega arith) (omega (arith, rest_long done bytes l.inside, l.inside)) (λ p there. tt) (l.room i) (c.in-Ok.ensures.does.room (l.ran.intact tt i) tt);
       ran = ran_both d b ⊤ (GivesBytes c.args.offset bytes) (GivesBytes (c.args.offset + done) (rest_of done bytes)) (GivesBytes c.args.offset bytes) y0 y1 y2 x0 x1 x2 (λ p v gave. gave) (gives_rest c.args.offset done bytes l.inside) l.ran
-          (ran_weaker d b ⊤ ⊤ (GivesBytes (c.args.offset + done) (rest_of done bytes)) y1 y2 x1 x2 (λ h. h) c.in-Ok.ensures.ran);
-      began = λ e call begun part. c.in-Ok.ensures.began e call (l.began e call begun part) (part_rest call c.args.offset done bytes l.inside part);
+          (ran_weaker d b ⊤ ⊤ (GivesBytes (c.args.offset + done) (rest_of done bytes)) y1 y2 x1 x2 (λ h. h) c.in-Ok.ensures.does.ran);
+      began = λ e call begun part. c.in-Ok.ensures.does.began e call (l.began e call begun part) (part_rest call c.args.offset done bytes l.inside part);
     }
 
-pub returns-in-Err-clause-ran : goal.returns-in-Err-clause-ran
-returns-in-Err-clause-ran g c = let d = g.D.Seen in let b = g.B.SeenBelow in let l = c.loop-done.invariant in let done = c.loop-done.done in let bytes = c.args.bytes.now in
-    ran_both d b (IsMild c.in-Err.fault) (GivesBytes c.args.offset bytes) (GivesBytes (c.args.offset + done) (rest_of done bytes)) (GivesBytes c.args.offset bytes) c.args.driver.now c.loop-done.driver c.write_run.new.driver c.args.below.now c.loop-done.below c.write_run.new.below
-    (λ p v gave. gave) (gives_rest c.args.offset done bytes l.inside) l.ran c.in-Err.ensures.ran
+pub returns-in-Err-clause-does : goal.returns-in-Err-clause-does
+returns-in-Err-clause-does g c = record {
+  ran = let d = g.D.Seen in let b = g.B.SeenBelow in let l = c.loop-done.invariant in let done = c.loop-done.done in let bytes = c.args.bytes.now in
+      ran_both d b (IsMild c.in-Err.fault) (GivesBytes c.args.offset bytes) (GivesBytes (c.args.offset + done) (rest_of done bytes)) (GivesBytes c.args.offset bytes) c.args.driver.now c.loop-done.driver c.write_run.new.driver c.args.below.now c.loop-done.below c.write_run.new.below
+      (λ p v gave. gave) (gives_rest c.args.offset done bytes l.inside) l.ran c.in-Err.ensures.does.ran;
+  room = λ i mild. let d = g.D.Seen in let l = c.loop-done.invariant in let done = c.loop-done.done in let bytes = c.args.bytes.now in
+      room_then d (λ _. ⊤) (λ _. ⊤) c.args.offset (length bytes) (c.args.offset + done) (length (rest_of done bytes)) c.args.driver.now c.loop-done.driver c.write_run.new.driver l.ran.went.fixed (omega arith) (omega (arith, rest_long done bytes l.inside, l.inside)) (λ p there. tt) (l.room i) (c.in-Err.ensures.does.room (l.ran.intact tt i) mild);
+  began = λ e call begun part. tt;
+}
 
-pub returns-in-Err-clause-failed : goal.returns-in-Err-clause-failed
-returns-in-Err-clause-failed g c = let d = g.D.Seen in let b = g.B.SeenBelow in let l = c.loop-done.invariant in
-    let y0 = c.args.driver.now in let y1 = c.loop-done.driver in let y2 = c.write_run.new.driver in
-    failed_then (files d y0) (files d y1) (files d y2) (b.files_under c.args.below.now) (b.files_under c.loop-done.below) (b.files_under c.write_run.new.below) c.in-Err.fault l.ran.went.later l.ran.looked.later c.in-Err.ensures.failed
+pub returns-in-Err-clause-refused : goal.returns-in-Err-clause-refused
+returns-in-Err-clause-refused g c = record {
+  failed = let d = g.D.Seen in let b = g.B.SeenBelow in let l = c.loop-done.invariant in
+      let y0 = c.args.driver.now in let y1 = c.loop-done.driver in let y2 = c.write_run.new.driver in
+      failed_then (files d y0) (files d y1) (files d y2) (b.files_under c.args.below.now) (b.files_under c.loop-done.below) (b.files_under c.write_run.new.below) c.in-Err.fault l.ran.went.later l.ran.looked.later c.in-Err.ensures.refused.failed;
+  cause = λ i e call begun part says. let d = g.D.Seen in let b = g.B.SeenBelow in let l = c.loop-done.invariant in let done = c.loop-done.done in let bytes = c.args.bytes.now in
+      let y0 = c.args.driver.now in let y1 = c.loop-done.driver in let y2 = c.write_run.new.driver in let x0 = c.args.below.now in let x1 = c.loop-done.below in let x2 = c.write_run.new.below in
+      let mid = l.ran.intact tt i in
+      let same : b.under x1 ≡ b.under x0 = (l.ran.looked.stays tt i.is_seen).0 in
+      let long = rest_long done bytes l.inside in
+      part_cause_later (b.under x0) (d.layer y0) (d.layer y1) c.args.offset (length bytes) (c.args.offset + done) (length (rest_of done bytes)) (files d y0 ++ b.files_under x0) (files d y1 ++ b.files_under x1) (files d y2 ++ b.files_under x2)
+      l.ran.went.fixed l.ran.size (g.met.D.FormatDriverInstance.safe_runs y0 i.is_safe) (g.met.D.FormatDriverInstance.safe_runs y1 mid.is_safe) (layer_aligned d.layer g.met.D.FormatDriverInstance.aligned y0).positive (omega arith) (omega (arith, long, l.inside))
+      (pairs_append IsLater (files d y0) (files d y1) (b.files_under x0) (b.files_under x1) l.ran.went.later l.ran.looked.later)
+      (d.own_cause e (b.under x0) call) (d.own_cause e (b.under x0) call) c.in-Err.fault (λ h. h)
+      (subst (λ (below : List Layer). PartCause below (d.layer y1) (c.args.offset + done) (length (rest_of done bytes)) (d.own_cause e below call) (files d y1 ++ b.files_under x1) (files d y2 ++ b.files_under x2) c.in-Err.fault) same
+      (c.in-Err.ensures.refused.cause mid e call (l.began e call begun part.part)
+      (part_within (d.layer y0) (d.layer y1) call c.args.offset (length bytes) (c.args.offset + done) (length (rest_of done bytes)) l.ran.went.fixed l.ran.size (omega arith) (omega (arith, long, l.inside)) (l.uncut i)
+      (uncut_end (d.layer y0).fixed.unit (d.layer y0).size c.args.offset (length bytes) (c.args.offset + done + length (rest_of done bytes)) (omega (arith, long, l.inside))) part) says));
+}
 
-pub returns-in-Err-clause-cause : goal.returns-in-Err-clause-cause
-returns-in-Err-clause-cause g c = λ i e call begun part says. let d = g.D.Seen in let b = g.B.SeenBelow in let l = c.loop-done.invariant in let done = c.loop-done.done in let bytes = c.args.bytes.now in
-    let y0 = c.args.driver.now in let y1 = c.loop-done.driver in let y2 = c.write_run.new.driver in let x0 = c.args.below.now in let x1 = c.loop-done.below in let x2 = c.write_run.new.below in
-    let mid = l.ran.intact tt i in
-    let same : b.under x1 ≡ b.under x0 = (l.ran.looked.stays tt i.is_seen).0 in
-    let long = rest_long done bytes l.inside in
-    part_cause_later (b.under x0) (d.layer y0) (d.layer y1) c.args.offset (length bytes) (c.args.offset + done) (length (rest_of done bytes)) (files d y0 ++ b.files_under x0) (files d y1 ++ b.files_under x1) (files d y2 ++ b.files_under x2)
-    l.ran.went.fixed l.ran.size (g.met.D.FormatDriverInstance.safe_runs y0 i.is_safe) (g.met.D.FormatDriverInstance.safe_runs y1 mid.is_safe) (layer_aligned d.layer g.met.D.FormatDriverInstance.aligned y0).positive (omega arith) (omega (arith, long, l.inside))
-    (pairs_append IsLater (files d y0) (files d y1) (b.files_under x0) (b.files_under x1) l.ran.went.later l.ran.looked.later)
-    (d.own_cause e (b.under x0) call) (d.own_cause e (b.under x0) call) c.in-Err.fault (λ h. h)
-    (subst (λ (below : List Layer). PartCause below (d.layer y1) (c.args.offset + done) (length (rest_of done bytes)) (d.own_cause e below call) (files d y1 ++ b.files_under x1) (files d y2 ++ b.files_under x2) c.in-Err.fault) same
-    (c.in-Err.ensures.cause mid e call (l.began e call begun part.part)
-    (part_within (d.layer y0) (d.layer y1) call c.args.offset (length bytes) (c.args.offset + done) (length (rest_of done bytes)) l.ran.went.fixed l.ran.size (omega arith) (omega (arith, long, l.inside)) (l.uncut i)
-    (uncut_end (d.layer y0).fixed.unit (d.layer y0).size c.args.offset (length bytes) (c.args.offset + done + length (rest_of done bytes)) (omega (arith, long, l.inside))) part) says))
+pub returns-clause-does : goal.returns-clause-does
+returns-clause-does g c = record {
+  ran = c.loop-done.invariant.ran;
+  room = λ i whole. c.loop-done.invariant.room i;
+  began = λ e call begun part. c.loop-done.invariant.began e call begun part;
+}
 
-pub returns-in-Err-clause-room : goal.returns-in-Err-clause-room
-returns-in-Err-clause-room g c = λ i mild. let d = g.D.Seen in let l = c.loop-done.invariant in let done = c.loop-done.done in let bytes = c.args.bytes.now in
-    room_then d (λ _. ⊤) (λ _. ⊤) c.args.offset (length bytes) (c.args.offset + done) (length (rest_of done bytes)) c.args.driver.now c.loop-done.driver c.write_run.new.driver l.ran.went.fixed (omega arith) (omega (arith, rest_long done bytes l.inside, l.inside)) (λ p there. tt) (l.room i) (c.in-Err.ensures.room (l.ran.intact tt i) mild)
+pub returns-clause-refused : goal.returns-clause-refused
+returns-clause-refused g c = record {
+  failed = tt;
+  cause = λ i e call begun part says. tt;
+}

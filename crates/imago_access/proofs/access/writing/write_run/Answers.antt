@@ -16,109 +16,136 @@ use Rattle.imago_access.proofs.Units.{layer_aligned}
 use Rattle.imago_access.proofs.ImageCauses.{failed_alone}
 use Rattle.imago_access.specs.Room.{IsApart}
 use Rattle.imago_access.proofs.Room.{takes_run, apart_loose}
+use Rattle.imago_access.proofs.Works.{takes_none, takes_none_thrice}
 use Rattle.imago_access.proofs.access.writing.write_run.Goals as goal
 
-pub returns-in-Ok-settle-clause-ran : goal.returns-in-Ok-settle-clause-ran
-returns-in-Ok-settle-clause-ran g c = let d = g.D.Seen in let b = g.B.SeenBelow in let m = c.in-Ok.mapping in let n = c.length-n.result in let place = c.offset.result in
-    let a0 = c.args.driver.now in let a1 = c.prepare_data_mapping.new.self in let a2 = c.write_mapped.new.self in let a3 = c.settle.new.driver in let x0 = c.args.below.now in let x1 = c.prepare_data_mapping.new.below in
-    let bytes = c.args.bytes.now in let most : n ≤ length bytes = rw c.length-n.ensures c.in-Ok.ensures.run.0.0 in let wrote = c.in-Ok-write_mapped.ensures.writes in
-    let stateless : m.state ≡ None → IsFree (d.layer a2) = λ none. wrote.like.unspent ∙ c.in-Ok.ensures.mine.1 none in
-    ran_spent d b m.state ⊤ a0 a1 a2 a3 x0 x1 c.args.offset (length bytes) m.storage place n bytes most
-    (g.met.D.FormatDriverInstance.free_loose a0 c.requires.free) c.in-Ok.ensures.size c.in-Ok.ensures.does.went c.in-Ok.ensures.below (rw (c.length-n.ensures, c.offset.ensures) c.in-Ok.ensures.does.ok) c.in-Ok.ensures.does.stops wrote.ok
-    (ran_wrote d b ⊤ a1 a2 x1 c.args.offset place (take n bytes) wrote.like wrote.went (λ w safe. wrote.mapped (g.met.D.FormatDriverInstance.safe_sees a1 safe)) (λ w. wrote.ok) wrote.stops)
-    (ran_settled d b m.state ⊤ a2 a3 x1 g.met.D.FormatDriverInstance.free_loose c.in-Ok-settle.ensures.size c.in-Ok-settle.ensures.went
-    (mine_on d m.state (d.layer a1) (d.layer a2) wrote.like c.in-Ok.ensures.mine.0) stateless (c.in-Ok-settle.ensures.free stateless)
-    (λ w safe. spends_more d m.state (d.layer a2) (d.layer a3) (d.safe a2 → Committed (d.layer a2) (d.layer a3)) (Committed (d.layer a2) (d.layer a3)) (λ h. h safe) c.in-Ok-settle.ensures.ok)
-    c.in-Ok-settle.ensures.stops)
+pub returns-in-Ok-settle-clause-does : goal.returns-in-Ok-settle-clause-does
+returns-in-Ok-settle-clause-does g c = record {
+  ran = let d = g.D.Seen in let b = g.B.SeenBelow in let m = c.in-Ok.mapping in let n = c.length-n.result in let place = c.offset.result in
+      let a0 = c.args.driver.now in let a1 = c.prepare_data_mapping.new.self in let a2 = c.write_mapped.new.self in let a3 = c.settle.new.driver in let x0 = c.args.below.now in let x1 = c.prepare_data_mapping.new.below in
+      let bytes = c.args.bytes.now in let most : n ≤ length bytes = rw c.length-n.ensures c.in-Ok.ensures.run.0.0 in let wrote = c.in-Ok-write_mapped.ensures.writes in
+      let stateless : m.state ≡ None → IsFree (d.layer a2) = λ none. wrote.like.unspent ∙ c.in-Ok.ensures.mine.1 none in
+      ran_spent d b m.state ⊤ a0 a1 a2 a3 x0 x1 c.args.offset (length bytes) m.storage place n bytes most
+      (g.met.D.FormatDriverInstance.free_loose a0 c.requires.free) c.in-Ok.ensures.size c.in-Ok.ensures.does.went c.in-Ok.ensures.below (rw (c.length-n.ensures, c.offset.ensures) c.in-Ok.ensures.does.ok) c.in-Ok.ensures.does.stops wrote.ok
+      (ran_wrote d b ⊤ a1 a2 x1 c.args.offset place (take n bytes) wrote.like wrote.went (λ w safe. wrote.mapped (g.met.D.FormatDriverInstance.safe_sees a1 safe)) (λ w. wrote.ok) wrote.stops)
+      (ran_settled d b m.state ⊤ a2 a3 x1 g.met.D.FormatDriverInstance.free_loose c.in-Ok-settle.ensures.size c.in-Ok-settle.ensures.went
+      (mine_on d m.state (d.layer a1) (d.layer a2) wrote.like c.in-Ok.ensures.mine.0) stateless (c.in-Ok-settle.ensures.free stateless)
+      (λ w safe. spends_more d m.state (d.layer a2) (d.layer a3) (d.safe a2 → Committed (d.layer a2) (d.layer a3)) (Committed (d.layer a2) (d.layer a3)) (λ h. h safe) c.in-Ok-settle.ensures.ok)
+      c.in-Ok-settle.ensures.stops);
+  room = λ i mild. let d = g.D.Seen in let b = g.B.SeenBelow in
+      let a0 = c.args.driver.now in let a1 = c.prepare_data_mapping.new.self in let a2 = c.write_mapped.new.self in let a3 = c.settle.new.driver in let n = c.length-n.result in
+      let bytes = c.args.bytes.now in let most : n ≤ length bytes = rw c.length-n.ensures c.in-Ok.ensures.run.0.0 in
+      let safe1 : d.safe a1 = c.in-Ok.ensures.does.went.safely (tt, i.is_seen) i.is_safe in
+      let wrote = c.in-Ok-write_mapped.ensures.writes in
+      takes_run d (IsApart (d.layer a0).fixed.unit c.args.offset (length bytes)) a0 a1 a2 a3 (c.in-Ok.ensures.does.room i.is_safe i.is_seen tt) (wrote.room safe1 tt)
+      (apart_loose (d.layer a0).fixed.unit c.args.offset n bytes (d.layer a1) (d.layer a2) most (c.in-Ok.ensures.does.near i.is_safe i.is_seen) (wrote.ok safe1))
+      (c.in-Ok-settle.ensures.room (wrote.went.safely tt safe1) tt);
+  began = λ e call begun part. c.in-Ok-settle.ensures.began e call (c.in-Ok-write_mapped.ensures.writes.began e call (c.in-Ok.ensures.does.began e call begun part tt));
+}
 
-pub returns-in-Err-settle-clause-ran : goal.returns-in-Err-settle-clause-ran
-returns-in-Err-settle-clause-ran g c = let d = g.D.Seen in let b = g.B.SeenBelow in let m = c.in-Ok.mapping in let n = c.length-n.result in let place = c.offset.result in
-    let a0 = c.args.driver.now in let a1 = c.prepare_data_mapping.new.self in let a2 = c.write_mapped.new.self in let a3 = c.settle.new.driver in let x0 = c.args.below.now in let x1 = c.prepare_data_mapping.new.below in
-    let bytes = c.args.bytes.now in let most : n ≤ length bytes = rw c.length-n.ensures c.in-Ok.ensures.run.0.0 in let wrote = c.in-Ok-write_mapped.ensures.writes in
-    let stateless : m.state ≡ None → IsFree (d.layer a2) = λ none. wrote.like.unspent ∙ c.in-Ok.ensures.mine.1 none in
-    ran_spent d b m.state (IsMild c.in-Err-settle.fault) a0 a1 a2 a3 x0 x1 c.args.offset (length bytes) m.storage place n bytes most
-    (g.met.D.FormatDriverInstance.free_loose a0 c.requires.free) c.in-Ok.ensures.size c.in-Ok.ensures.does.went c.in-Ok.ensures.below (rw (c.length-n.ensures, c.offset.ensures) c.in-Ok.ensures.does.ok) c.in-Ok.ensures.does.stops wrote.ok
-    (ran_wrote d b ⊤ a1 a2 x1 c.args.offset place (take n bytes) wrote.like wrote.went (λ w safe. wrote.mapped (g.met.D.FormatDriverInstance.safe_sees a1 safe)) (λ w. wrote.ok) wrote.stops)
-    (ran_unsettled d b m.state (IsMild c.in-Err-settle.fault) a2 a3 x1 g.met.D.FormatDriverInstance.free_loose c.in-Err-settle.ensures.size c.in-Err-settle.ensures.went
-    (mine_on d m.state (d.layer a1) (d.layer a2) wrote.like c.in-Ok.ensures.mine.0) (c.in-Err-settle.ensures.free stateless) (λ mild safe. c.in-Err-settle.ensures.err safe mild) c.in-Err-settle.ensures.stops)
+pub returns-in-Ok-settle-clause-refused : goal.returns-in-Ok-settle-clause-refused
+returns-in-Ok-settle-clause-refused g c = record {
+  failed = tt;
+  cause = λ i e call begun part says. tt;
+}
 
-pub returns-in-Err-settle-clause-failed : goal.returns-in-Err-settle-clause-failed
-returns-in-Err-settle-clause-failed g c = let d = g.D.Seen in let b = g.B.SeenBelow in
-    let a0 = c.args.driver.now in let a1 = c.prepare_data_mapping.new.self in let a2 = c.write_mapped.new.self in let a3 = c.settle.new.driver in
-    failed_alone (files d a0) (files d a2) (files d a3) (b.files_under c.args.below.now) (b.files_under c.prepare_data_mapping.new.below) c.in-Err-settle.fault
-    (later_all_both (files d a0) (files d a1) (files d a2) c.in-Ok.ensures.does.went.later c.in-Ok-write_mapped.ensures.writes.went.later) c.in-Ok.ensures.below.later c.in-Err-settle.ensures.failed
+pub returns-in-Err-settle-clause-does : goal.returns-in-Err-settle-clause-does
+returns-in-Err-settle-clause-does g c = record {
+  ran = let d = g.D.Seen in let b = g.B.SeenBelow in let m = c.in-Ok.mapping in let n = c.length-n.result in let place = c.offset.result in
+      let a0 = c.args.driver.now in let a1 = c.prepare_data_mapping.new.self in let a2 = c.write_mapped.new.self in let a3 = c.settle.new.driver in let x0 = c.args.below.now in let x1 = c.prepare_data_mapping.new.below in
+      let bytes = c.args.bytes.now in let most : n ≤ length bytes = rw c.length-n.ensures c.in-Ok.ensures.run.0.0 in let wrote = c.in-Ok-write_mapped.ensures.writes in
+      let stateless : m.state ≡ None → IsFree (d.layer a2) = λ none. wrote.like.unspent ∙ c.in-Ok.ensures.mine.1 none in
+      ran_spent d b m.state (IsMild c.in-Err-settle.fault) a0 a1 a2 a3 x0 x1 c.args.offset (length bytes) m.storage place n bytes most
+      (g.met.D.FormatDriverInstance.free_loose a0 c.requires.free) c.in-Ok.ensures.size c.in-Ok.ensures.does.went c.in-Ok.ensures.below (rw (c.length-n.ensures, c.offset.ensures) c.in-Ok.ensures.does.ok) c.in-Ok.ensures.does.stops wrote.ok
+      (ran_wrote d b ⊤ a1 a2 x1 c.args.offset place (take n bytes) wrote.like wrote.went (λ w safe. wrote.mapped (g.met.D.FormatDriverInstance.safe_sees a1 safe)) (λ w. wrote.ok) wrote.stops)
+      (ran_unsettled d b m.state (IsMild c.in-Err-settle.fault) a2 a3 x1 g.met.D.FormatDriverInstance.free_loose c.in-Err-settle.ensures.size c.in-Err-settle.ensures.went
+      (mine_on d m.state (d.layer a1) (d.layer a2) wrote.like c.in-Ok.ensures.mine.0) (c.in-Err-settle.ensures.free stateless) (λ mild safe. c.in-Err-settle.ensures.err safe mild) c.in-Err-settle.ensures.stops);
+  room = λ i mild. let d = g.D.Seen in let b = g.B.SeenBelow in
+      let a0 = c.args.driver.now in let a1 = c.prepare_data_mapping.new.self in let a2 = c.write_mapped.new.self in let a3 = c.settle.new.driver in let n = c.length-n.result in
+      let bytes = c.args.bytes.now in let most : n ≤ length bytes = rw c.length-n.ensures c.in-Ok.ensures.run.0.0 in
+      let safe1 : d.safe a1 = c.in-Ok.ensures.does.went.safely (tt, i.is_seen) i.is_safe in
+      let wrote = c.in-Ok-write_mapped.ensures.writes in
+      takes_run d (IsApart (d.layer a0).fixed.unit c.args.offset (length bytes)) a0 a1 a2 a3 (c.in-Ok.ensures.does.room i.is_safe i.is_seen tt) (wrote.room safe1 tt)
+      (apart_loose (d.layer a0).fixed.unit c.args.offset n bytes (d.layer a1) (d.layer a2) most (c.in-Ok.ensures.does.near i.is_safe i.is_seen) (wrote.ok safe1))
+      (c.in-Err-settle.ensures.room (wrote.went.safely tt safe1) mild);
+  began = λ e call begun part. tt;
+}
 
-pub returns-in-Err-settle-clause-cause : goal.returns-in-Err-settle-clause-cause
-returns-in-Err-settle-clause-cause g c = λ i e call begun part says. let d = g.D.Seen in let b = g.B.SeenBelow in
-    let a0 = c.args.driver.now in let a1 = c.prepare_data_mapping.new.self in let a2 = c.write_mapped.new.self in let a3 = c.settle.new.driver in let x0 = c.args.below.now in let x1 = c.prepare_data_mapping.new.below in
-    let bytes = c.args.bytes.now in
-    let safe : d.safe a2 = c.in-Ok-write_mapped.ensures.writes.went.safely tt (c.in-Ok.ensures.does.went.safely (tt, i.is_seen) i.is_safe) in
-    part_cause_alone (b.under x0) (d.layer a0) (d.layer a2) c.args.offset (length bytes) c.args.offset (length bytes) (files d a0) (files d a2) (files d a3) (b.files_under x0) (b.files_under x1)
-    (c.in-Ok-write_mapped.ensures.writes.like.fixed ∙ c.in-Ok.ensures.does.went.fixed) (c.in-Ok-write_mapped.ensures.writes.like.size ∙ c.in-Ok.ensures.size) (g.met.D.FormatDriverInstance.safe_runs a0 i.is_safe) (g.met.D.FormatDriverInstance.safe_runs a2 safe)
-    (layer_aligned d.layer g.met.D.FormatDriverInstance.aligned a0).positive (omega arith) (omega arith)
-    (later_all_both (files d a0) (files d a1) (files d a2) c.in-Ok.ensures.does.went.later c.in-Ok-write_mapped.ensures.writes.went.later) c.in-Ok.ensures.below.later
-    (d.own_cause e (b.under x0) call) (λ _. ⊥) c.in-Err-settle.fault (λ none. absurd none) (c.in-Err-settle.ensures.cause safe (b.under x0) c.args.offset (length bytes) c.requires.some)
+pub returns-in-Err-settle-clause-refused : goal.returns-in-Err-settle-clause-refused
+returns-in-Err-settle-clause-refused g c = record {
+  failed = let d = g.D.Seen in let b = g.B.SeenBelow in
+      let a0 = c.args.driver.now in let a1 = c.prepare_data_mapping.new.self in let a2 = c.write_mapped.new.self in let a3 = c.settle.new.driver in
+      failed_alone (files d a0) (files d a2) (files d a3) (b.files_under c.args.below.now) (b.files_under c.prepare_data_mapping.new.below) c.in-Err-settle.fault
+      (later_all_both (files d a0) (files d a1) (files d a2) c.in-Ok.ensures.does.went.later c.in-Ok-write_mapped.ensures.writes.went.later) c.in-Ok.ensures.below.later c.in-Err-settle.ensures.failed;
+  cause = λ i e call begun part says. let d = g.D.Seen in let b = g.B.SeenBelow in
+      let a0 = c.args.driver.now in let a1 = c.prepare_data_mapping.new.self in let a2 = c.write_mapped.new.self in let a3 = c.settle.new.driver in let x0 = c.args.below.now in let x1 = c.prepare_data_mapping.new.below in
+      let bytes = c.args.bytes.now in
+      let safe : d.safe a2 = c.in-Ok-write_mapped.ensures.writes.went.safely tt (c.in-Ok.ensures.does.went.safely (tt, i.is_seen) i.is_safe) in
+      part_cause_alone (b.under x0) (d.layer a0) (d.layer a2) c.args.offset (length bytes) c.args.offset (length bytes) (files d a0) (files d a2) (files d a3) (b.files_under x0) (b.files_under x1)
+      (c.in-Ok-write_mapped.ensures.writes.like.fixed ∙ c.in-Ok.ensures.does.went.fixed) (c.in-Ok-write_mapped.ensures.writes.like.size ∙ c.in-Ok.ensures.size) (g.met.D.FormatDriverInstance.safe_runs a0 i.is_safe) (g.met.D.FormatDriverInstance.safe_runs a2 safe)
+      (layer_aligned d.layer g.met.D.FormatDriverInstance.aligned a0).positive (omega arith) (omega arith)
+      (later_all_both (files d a0) (files d a1) (files d a2) c.in-Ok.ensures.does.went.later c.in-Ok-write_mapped.ensures.writes.went.later) c.in-Ok.ensures.below.later
+      (d.own_cause e (b.under x0) call) (λ _. ⊥) c.in-Err-settle.fault (λ none. absurd none) (c.in-Err-settle.ensures.cause safe (b.under x0) c.args.offset (length bytes) c.requires.some);
+}
 
-pub returns-in-Err-write_mapped-clause-ran : goal.returns-in-Err-write_mapped-clause-ran
-returns-in-Err-write_mapped-clause-ran g c = let d = g.D.Seen in let b = g.B.SeenBelow in let m = c.in-Ok.mapping in let n = c.length-n.result in let place = c.offset.result in
-    let a0 = c.args.driver.now in let a1 = c.prepare_data_mapping.new.self in let a2 = c.write_mapped.new.self in let a3 = c.abandon.new.driver in let x0 = c.args.below.now in let x1 = c.prepare_data_mapping.new.below in
-    let bytes = c.args.bytes.now in let most : n ≤ length bytes = rw c.length-n.ensures c.in-Ok.ensures.run.0.0 in let claim = claim_of d.claim m.state in
-    let made : d.safe a0 → b.sees_under x0 → Prepared (at (b.under x0)) (d.layer a0) (d.layer a1) (asking c.args.offset (length bytes) true) (run_at m.storage place n claim) = rw (c.length-n.ensures, c.offset.ensures) c.in-Ok.ensures.does.ok in
-    let first = ran_mapped d b m.state a0 a1 x0 x1 c.args.offset (length bytes) true m.storage m.offset m.length (g.met.D.FormatDriverInstance.free_loose a0 c.requires.free) c.in-Ok.ensures.size c.in-Ok.ensures.does.went c.in-Ok.ensures.below c.in-Ok.ensures.does.ok c.in-Ok.ensures.does.stops in
-    let like = c.in-Err-write_mapped.ensures.writes.like in
-    let mine = mine_on d m.state (d.layer a1) (d.layer a2) like c.in-Ok.ensures.mine.0 in
-    ran_both d b (IsMild c.in-Err-write_mapped.fault) GivesNone (GivesBytes c.args.offset (take n bytes)) (GivesBytes c.args.offset bytes) a0 a1 a3 x0 x1 x1 (λ p v none. absurd none) (gives_prefix c.args.offset n bytes most) first
-    (ran_given_up d b m.state (IsMild c.in-Err-write_mapped.fault) (GivesBytes c.args.offset (take n bytes)) a1 a2 a3 x1 g.met.D.FormatDriverInstance.free_loose like c.in-Err-write_mapped.ensures.writes.went mine (λ none. like.unspent ∙ c.in-Ok.ensures.mine.1 none)
-    (λ mild safe. c.in-Err-write_mapped.ensures.writes.err safe mild) c.abandon.ensures.ok c.abandon.ensures.safe c.abandon.ensures.lasts c.abandon.ensures.none.0 c.abandon.ensures.none.1 c.in-Err-write_mapped.ensures.writes.stops)
+pub returns-in-Err-write_mapped-clause-does : goal.returns-in-Err-write_mapped-clause-does
+returns-in-Err-write_mapped-clause-does g c = record {
+  ran = let d = g.D.Seen in let b = g.B.SeenBelow in let m = c.in-Ok.mapping in let n = c.length-n.result in let place = c.offset.result in
+      let a0 = c.args.driver.now in let a1 = c.prepare_data_mapping.new.self in let a2 = c.write_mapped.new.self in let a3 = c.abandon.new.driver in let x0 = c.args.below.now in let x1 = c.prepare_data_mapping.new.below in
+      let bytes = c.args.bytes.now in let most : n ≤ length bytes = rw c.length-n.ensures c.in-Ok.ensures.run.0.0 in let claim = claim_of d.claim m.state in
+      let made : d.safe a0 → b.sees_under x0 → Prepared (at (b.under x0)) (d.layer a0) (d.layer a1) (asking c.args.offset (length bytes) true) (run_at m.storage place n claim) = rw (c.length-n.ensures, c.offset.ensures) c.in-Ok.ensures.does.ok in
+      let first = ran_mapped d b m.state a0 a1 x0 x1 c.args.offset (length bytes) true m.storage m.offset m.length (g.met.D.FormatDriverInstance.free_loose a0 c.requires.free) c.in-Ok.ensures.size c.in-Ok.ensures.does.went c.in-Ok.ensures.below c.in-Ok.ensures.does.ok c.in-Ok.ensures.does.stops in
+      let like = c.in-Err-write_mapped.ensures.writes.like in
+      let mine = mine_on d m.state (d.layer a1) (d.layer a2) like c.in-Ok.ensures.mine.0 in
+      ran_both d b (IsMild c.in-Err-write_mapped.fault) GivesNone (GivesBytes c.args.offset (take n bytes)) (GivesBytes c.args.offset bytes) a0 a1 a3 x0 x1 x1 (λ p v none. absurd none) (gives_prefix c.args.offset n bytes most) first
+      (ran_given_up d b m.state (IsMild c.in-Err-write_mapped.fault) (GivesBytes c.args.offset (take n bytes)) a1 a2 a3 x1 g.met.D.FormatDriverInstance.free_loose like c.in-Err-write_mapped.ensures.writes.went mine (λ none. like.unspent ∙ c.in-Ok.ensures.mine.1 none)
+      (λ mild safe. c.in-Err-write_mapped.ensures.writes.err safe mild) c.abandon.ensures.ok c.abandon.ensures.safe c.abandon.ensures.lasts c.abandon.ensures.none.0 c.abandon.ensures.none.1 c.in-Err-write_mapped.ensures.writes.stops);
+  room = λ i mild. let d = g.D.Seen in
+      let a0 = c.args.driver.now in let a1 = c.prepare_data_mapping.new.self in let a2 = c.write_mapped.new.self in let a3 = c.abandon.new.driver in
+      let safe1 : d.safe a1 = c.in-Ok.ensures.does.went.safely (tt, i.is_seen) i.is_safe in
+      let wrote = c.in-Err-write_mapped.ensures.writes in
+      takes_none_thrice d (IsApart (d.layer a0).fixed.unit c.args.offset (length c.args.bytes.now)) a0 a1 a2 a3 (c.in-Ok.ensures.does.room i.is_safe i.is_seen tt) (wrote.room safe1 mild) (c.abandon.ensures.room (wrote.went.safely mild safe1));
+  began = λ e call begun part. tt;
+}
 
-pub returns-in-Err-write_mapped-clause-failed : goal.returns-in-Err-write_mapped-clause-failed
-returns-in-Err-write_mapped-clause-failed g c = let d = g.D.Seen in let b = g.B.SeenBelow in
-    let a0 = c.args.driver.now in let a1 = c.prepare_data_mapping.new.self in let a2 = c.write_mapped.new.self in
-    rw (c.abandon.ensures.none.0, c.abandon.ensures.none.1) (failed_alone (files d a0) (files d a1) (files d a2) (b.files_under c.args.below.now) (b.files_under c.prepare_data_mapping.new.below) c.in-Err-write_mapped.fault c.in-Ok.ensures.does.went.later c.in-Ok.ensures.below.later c.in-Err-write_mapped.ensures.refused.failed)
+pub returns-in-Err-write_mapped-clause-refused : goal.returns-in-Err-write_mapped-clause-refused
+returns-in-Err-write_mapped-clause-refused g c = record {
+  failed = let d = g.D.Seen in let b = g.B.SeenBelow in
+      let a0 = c.args.driver.now in let a1 = c.prepare_data_mapping.new.self in let a2 = c.write_mapped.new.self in
+      rw (c.abandon.ensures.none.0, c.abandon.ensures.none.1) (failed_alone (files d a0) (files d a1) (files d a2) (b.files_under c.args.below.now) (b.files_under c.prepare_data_mapping.new.below) c.in-Err-write_mapped.fault c.in-Ok.ensures.does.went.later c.in-Ok.ensures.below.later c.in-Err-write_mapped.ensures.refused.failed);
+  cause = λ i e call begun part says. let d = g.D.Seen in let b = g.B.SeenBelow in let m = c.in-Ok.mapping in let n = c.length-n.result in let place = c.offset.result in
+      let a0 = c.args.driver.now in let a1 = c.prepare_data_mapping.new.self in let a2 = c.write_mapped.new.self in let a3 = c.abandon.new.driver in let x0 = c.args.below.now in let x1 = c.prepare_data_mapping.new.below in
+      let bytes = c.args.bytes.now in let most : n ≤ length bytes = rw c.length-n.ensures c.in-Ok.ensures.run.0.0 in let claim = claim_of d.claim m.state in
+      let long : length (take n bytes) ≡ n = grind (arith, common_steps) in
+      let made : Prepared (at (b.under x0)) (d.layer a0) (d.layer a1) (asking c.args.offset (length bytes) true) (run_at m.storage place n claim) = rw (c.length-n.ensures, c.offset.ensures) (c.in-Ok.ensures.does.ok i.is_safe i.is_seen) in
+      let safe : d.safe a1 = c.in-Ok.ensures.does.went.safely (tt, i.is_seen) i.is_safe in
+      let met = mapped_cause (b.under x0) (d.layer a1) c.args.offset place (length (take n bytes)) (files d a1) (files d a2) c.in-Err-write_mapped.fault
+      (λ some. prepared_mapped (at (b.under x0)) (d.layer a0) (d.layer a1) c.args.offset (length bytes) true m.storage place n bytes claim most made) (c.in-Err-write_mapped.ensures.refused.cause safe) in
+      rw (c.abandon.ensures.none.0, c.abandon.ensures.none.1)
+      (part_cause_alone (b.under x0) (d.layer a0) (d.layer a1) c.args.offset (length bytes) c.args.offset (length (take n bytes)) (files d a0) (files d a1) (files d a2) (b.files_under x0) (b.files_under x1)
+      c.in-Ok.ensures.does.went.fixed c.in-Ok.ensures.size (g.met.D.FormatDriverInstance.safe_runs a0 i.is_safe) (g.met.D.FormatDriverInstance.safe_runs a1 safe)
+      (layer_aligned d.layer g.met.D.FormatDriverInstance.aligned a0).positive (omega arith) (omega (arith, long, most)) c.in-Ok.ensures.does.went.later c.in-Ok.ensures.below.later
+      (d.own_cause e (b.under x0) call) (λ _. ⊥) c.in-Err-write_mapped.fault (λ none. absurd none) met);
+}
 
-pub returns-in-Err-write_mapped-clause-cause : goal.returns-in-Err-write_mapped-clause-cause
-returns-in-Err-write_mapped-clause-cause g c = λ i e call begun part says. let d = g.D.Seen in let b = g.B.SeenBelow in let m = c.in-Ok.mapping in let n = c.length-n.result in let place = c.offset.result in
-    let a0 = c.args.driver.now in let a1 = c.prepare_data_mapping.new.self in let a2 = c.write_mapped.new.self in let a3 = c.abandon.new.driver in let x0 = c.args.below.now in let x1 = c.prepare_data_mapping.new.below in
-    let bytes = c.args.bytes.now in let most : n ≤ length bytes = rw c.length-n.ensures c.in-Ok.ensures.run.0.0 in let claim = claim_of d.claim m.state in
-    let long : length (take n bytes) ≡ n = grind (arith, common_steps) in
-    let made : Prepared (at (b.under x0)) (d.layer a0) (d.layer a1) (asking c.args.offset (length bytes) true) (run_at m.storage place n claim) = rw (c.length-n.ensures, c.offset.ensures) (c.in-Ok.ensures.does.ok i.is_safe i.is_seen) in
-    let safe : d.safe a1 = c.in-Ok.ensures.does.went.safely (tt, i.is_seen) i.is_safe in
-    let met = mapped_cause (b.under x0) (d.layer a1) c.args.offset place (length (take n bytes)) (files d a1) (files d a2) c.in-Err-write_mapped.fault
-    (λ some. prepared_mapped (at (b.under x0)) (d.layer a0) (d.layer a1) c.args.offset (length bytes) true m.storage place n bytes claim most made) (c.in-Err-write_mapped.ensures.refused.cause safe) in
-    rw (c.abandon.ensures.none.0, c.abandon.ensures.none.1)
-    (part_cause_alone (b.under x0) (d.layer a0) (d.layer a1) c.args.offset (length bytes) c.args.offset (length (take n bytes)) (files d a0) (files d a1) (files d a2) (b.files_under x0) (b.files_under x1)
-    c.in-Ok.ensures.does.went.fixed c.in-Ok.ensures.size (g.met.D.FormatDriverInstance.safe_runs a0 i.is_safe) (g.met.D.FormatDriverInstance.safe_runs a1 safe)
-    (layer_aligned d.layer g.met.D.FormatDriverInstance.aligned a0).positive (omega arith) (omega (arith, long, most)) c.in-Ok.ensures.does.went.later c.in-Ok.ensures.below.later
-    (d.own_cause e (b.under x0) call) (λ _. ⊥) c.in-Err-write_mapped.fault (λ none. absurd none) met)
+pub returns-in-Err-clause-does : goal.returns-in-Err-clause-does
+returns-in-Err-clause-does g c = record {
+  ran = let d = g.D.Seen in let b = g.B.SeenBelow in let e = c.in-Err.ensures in
+      let a0 = c.args.driver.now in let a1 = c.prepare_data_mapping.new.self in let x0 = c.args.below.now in let x1 = c.prepare_data_mapping.new.below in
+      ran_gives d b (IsMild c.in-Err.fault) GivesNone (GivesBytes c.args.offset c.args.bytes.now) a0 a1 x0 x1 (λ p v none. absurd none)
+      (ran_prepared d b (Err c.in-Err.fault) a0 a1 x0 x1 c.args.offset (length c.args.bytes.now) true (g.met.D.FormatDriverInstance.free_loose a0 c.requires.free) e.size e.does.went e.below e.does.ok e.does.err e.does.stops);
+  room = λ i whole. takes_none g.D.Seen (IsApart (g.D.Seen.layer c.args.driver.now).fixed.unit c.args.offset (length c.args.bytes.now)) c.args.driver.now c.prepare_data_mapping.new.self (c.in-Err.ensures.does.room i.is_safe i.is_seen whole);
+  began = λ e call begun part. tt;
+}
 
-pub returns-in-Ok-settle-clause-room : goal.returns-in-Ok-settle-clause-room
-returns-in-Ok-settle-clause-room g c = λ i mild. let d = g.D.Seen in let b = g.B.SeenBelow in
-    let a0 = c.args.driver.now in let a1 = c.prepare_data_mapping.new.self in let a2 = c.write_mapped.new.self in let a3 = c.settle.new.driver in let n = c.length-n.result in
-    let bytes = c.args.bytes.now in let most : n ≤ length bytes = rw c.length-n.ensures c.in-Ok.ensures.run.0.0 in
-    let safe1 : d.safe a1 = c.in-Ok.ensures.does.went.safely (tt, i.is_seen) i.is_safe in
-    let wrote = c.in-Ok-write_mapped.ensures.writes in
-    takes_run d (IsApart (d.layer a0).fixed.unit c.args.offset (length bytes)) a0 a1 a2 a3 (c.in-Ok.ensures.does.room i.is_safe i.is_seen tt) (wrote.room safe1 tt)
-    (apart_loose (d.layer a0).fixed.unit c.args.offset n bytes (d.layer a1) (d.layer a2) most (c.in-Ok.ensures.does.near i.is_safe i.is_seen) (wrote.ok safe1))
-    (c.in-Ok-settle.ensures.room (wrote.went.safely tt safe1) tt)
-
-pub returns-in-Err-settle-clause-room : goal.returns-in-Err-settle-clause-room
-returns-in-Err-settle-clause-room g c = λ i mild. let d = g.D.Seen in let b = g.B.SeenBelow in
-    let a0 = c.args.driver.now in let a1 = c.prepare_data_mapping.new.self in let a2 = c.write_mapped.new.self in let a3 = c.settle.new.driver in let n = c.length-n.result in
-    let bytes = c.args.bytes.now in let most : n ≤ length bytes = rw c.length-n.ensures c.in-Ok.ensures.run.0.0 in
-    let safe1 : d.safe a1 = c.in-Ok.ensures.does.went.safely (tt, i.is_seen) i.is_safe in
-    let wrote = c.in-Ok-write_mapped.ensures.writes in
-    takes_run d (IsApart (d.layer a0).fixed.unit c.args.offset (length bytes)) a0 a1 a2 a3 (c.in-Ok.ensures.does.room i.is_safe i.is_seen tt) (wrote.room safe1 tt)
-    (apart_loose (d.layer a0).fixed.unit c.args.offset n bytes (d.layer a1) (d.layer a2) most (c.in-Ok.ensures.does.near i.is_safe i.is_seen) (wrote.ok safe1))
-    (c.in-Err-settle.ensures.room (wrote.went.safely tt safe1) mild)
+pub returns-in-Err-clause-refused : goal.returns-in-Err-clause-refused
+returns-in-Err-clause-refused g c = record {
+  failed = c.in-Err.ensures.does.refused.failed;
+  cause = λ i e call begun part says. c.in-Err.ensures.does.refused.cause i.is_safe i.is_seen e call begun part says;
+}
 
 pub returns-in-Ok-settle-clause-uncut : goal.returns-in-Ok-settle-clause-uncut
 returns-in-Ok-settle-clause-uncut g c = λ i. rw c.length-n.ensures (c.in-Ok.ensures.does.uncut i.is_safe i.is_seen)
-
-pub returns-in-Err-clause-ran : goal.returns-in-Err-clause-ran
-returns-in-Err-clause-ran g c = let d = g.D.Seen in let b = g.B.SeenBelow in let e = c.in-Err.ensures in
-    let a0 = c.args.driver.now in let a1 = c.prepare_data_mapping.new.self in let x0 = c.args.below.now in let x1 = c.prepare_data_mapping.new.below in
-    ran_gives d b (IsMild c.in-Err.fault) GivesNone (GivesBytes c.args.offset c.args.bytes.now) a0 a1 x0 x1 (λ p v none. absurd none)
-    (ran_prepared d b (Err c.in-Err.fault) a0 a1 x0 x1 c.args.offset (length c.args.bytes.now) true (g.met.D.FormatDriverInstance.free_loose a0 c.requires.free) e.size e.does.went e.below e.does.ok e.does.err e.does.stops)
 
 pub returns-in-Ok-settle-clause-shown : goal.returns-in-Ok-settle-clause-shown
 returns-in-Ok-settle-clause-shown g c = λ i. let d = g.D.Seen in let b = g.B.SeenBelow in let m = c.in-Ok.mapping in let n = c.length-n.result in let place = c.offset.result in

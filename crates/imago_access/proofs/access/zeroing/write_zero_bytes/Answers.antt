@@ -31,15 +31,15 @@ loop-done-preserved g c = let count = c.in-Ok.count in let d = g.D.Seen in let b
     let y0 = c.args.driver.now in let y1 = c.loop-done.driver in let y2 = c.write_zero_run.new.driver in let x0 = c.args.below.now in let x1 = c.loop-done.below in let x2 = c.write_zero_run.new.below in
     let gives = zero_wider c.args.offset c.args.n (c.args.offset + done) rest (omega arith) (omega (arith, l.inside)) in
     let ran = ran_both d b ⊤ (GivesZero c.args.offset c.args.n) (GivesZero (c.args.offset + done) rest) (GivesZero c.args.offset c.args.n) y0 y1 y2 x0 x1 x2 (λ p v gave. gave) gives l.ran
-    (ran_weaker d b ⊤ ⊤ (GivesZero (c.args.offset + done) rest) y1 y2 x1 x2 (λ h. h) c.in-Ok.ensures.ran) in
+    (ran_weaker d b ⊤ ⊤ (GivesZero (c.args.offset + done) rest) y1 y2 x1 x2 (λ h. h) c.in-Ok.ensures.does.ran) in
     record {
       inside = omega (arith, c.in-Ok.ensures.run.1, l.inside);
       free = c.in-Ok.ensures.free;
       shown = λ i.
           let mid = l.ran.intact tt i in
           let same : b.under x1 ≡ b.under x0 = (l.ran.looked.stays tt i.is_seen).0 in
-          let between = subst (λ (below : List Layer). IsBetween (GivesZero (c.args.offset + done) rest) below (d.layer y1) (d.layer y2)) same (c.in-Ok.ensures.ran.values tt mid) in
-          zeroes_more (b.under x0) (d.layer y1) (d.layer y2) c.args.offset done count c.args.offset c.args.n c.in-Ok.ensures.ran.size
+          let between = subst (λ (below : List Layer). IsBetween (GivesZero (c.args.offset + done) rest) below (d.layer y1) (d.layer y2)) same (c.in-Ok.ensures.does.ran.values tt mid) in
+          zeroes_more (b.under x0) (d.layer y1) (d.layer y2) c.args.offset done count c.args.offset c.args.n c.in-Ok.ensures.does.ran.size
           (λ p low. elim (between p low) [ inl was ↦ inl was | inr gave ↦ inr (gives p (at (d.layer y2 ∷ b.under x0) p) gave) ])
           (l.shown i)
           (λ p there.
@@ -53,35 +53,49 @@ loop-done-preserved g c = let count = c.in-Ok.count in let d = g.D.Seen in let b
           subst (IsUncutAt unit size c.args.offset c.args.n) next
           (uncut_later (d.layer y0) (d.layer y1) c.args.offset c.args.n start (start + count) l.ran.went.fixed l.ran.size (omega arith) (l.uncut i)
           (subst (λ (m : ℕ). IsUncutAt (d.layer y1).fixed.unit (d.layer y1).size start m (start + count)) left (c.in-Ok.ensures.uncut (l.ran.intact tt i))));
-      takes = λ i. room_then d (λ _. ⊤) (λ _. ⊤) c.args.offset c.args.n (c.args.offset + done) rest y0 y1 y2 l.ran.went.fixed (omega arith) (omega (arith, l.inside)) (λ p there. tt) (l.takes i) (c.in-Ok.ensures.room (l.ran.intact tt i) tt);
+      takes = λ i. room_then d (λ _. ⊤) (λ _. ⊤) c.args.offset c.args.n (c.args.offset + done) rest y0 y1 y2 l.ran.went.fixed (omega arith) (omega (arith, l.inside)) (λ p there. tt) (l.takes i) (c.in-Ok.ensures.does.room (l.ran.intact tt i) tt);
       ran = ran;
-      began = λ e call begun part. c.in-Ok.ensures.began e call (l.began e call begun part) (record { start = omega (arith, part.start); end = omega (arith, part.end, l.inside) });
+      began = λ e call begun part. c.in-Ok.ensures.does.began e call (l.began e call begun part) (record { start = omega (arith, part.start); end = omega (arith, part.end, l.inside) });
     }
 
-pub returns-in-Err-clause-ran : goal.returns-in-Err-clause-ran
-returns-in-Err-clause-ran g c = let d = g.D.Seen in let b = g.B.SeenBelow in let l = c.loop-done.invariant in
-    let done = c.loop-done.done in let rest = c.args.n - done in
-    let y0 = c.args.driver.now in let y1 = c.loop-done.driver in let y2 = c.write_zero_run.new.driver in let x0 = c.args.below.now in let x1 = c.loop-done.below in let x2 = c.write_zero_run.new.below in
-    let gives = zero_wider c.args.offset c.args.n (c.args.offset + done) rest (omega arith) (omega (arith, l.inside)) in
-    ran_both d b (IsMild c.in-Err.fault) (GivesZero c.args.offset c.args.n) (GivesZero (c.args.offset + done) rest) (GivesZero c.args.offset c.args.n) y0 y1 y2 x0 x1 x2 (λ p v gave. gave) gives l.ran c.in-Err.ensures.ran
+pub returns-in-Err-clause-does : goal.returns-in-Err-clause-does
+returns-in-Err-clause-does g c = record {
+  ran = let d = g.D.Seen in let b = g.B.SeenBelow in let l = c.loop-done.invariant in
+      let done = c.loop-done.done in let rest = c.args.n - done in
+      let y0 = c.args.driver.now in let y1 = c.loop-done.driver in let y2 = c.write_zero_run.new.driver in let x0 = c.args.below.now in let x1 = c.loop-done.below in let x2 = c.write_zero_run.new.below in
+      let gives = zero_wider c.args.offset c.args.n (c.args.offset + done) rest (omega arith) (omega (arith, l.inside)) in
+      ran_both d b (IsMild c.in-Err.fault) (GivesZero c.args.offset c.args.n) (GivesZero (c.args.offset + done) rest) (GivesZero c.args.offset c.args.n) y0 y1 y2 x0 x1 x2 (λ p v gave. gave) gives l.ran c.in-Err.ensures.does.ran;
+  room = λ i mild. let d = g.D.Seen in let b = g.B.SeenBelow in let l = c.loop-done.invariant in
+      let done = c.loop-done.done in let rest = c.args.n - done in
+      let y0 = c.args.driver.now in let y1 = c.loop-done.driver in let y2 = c.write_zero_run.new.driver in let x0 = c.args.below.now in let x1 = c.loop-done.below in let x2 = c.write_zero_run.new.below in
+      room_then d (λ _. ⊤) (λ _. ⊤) c.args.offset c.args.n (c.args.offset + done) rest y0 y1 y2 l.ran.went.fixed (omega arith) (omega (arith, l.inside)) (λ p there. tt) (l.takes i) (c.in-Err.ensures.does.room (l.ran.intact tt i) mild);
+  began = λ e call begun part. tt;
+}
 
-pub returns-in-Err-clause-room : goal.returns-in-Err-clause-room
-returns-in-Err-clause-room g c = λ i mild. let d = g.D.Seen in let b = g.B.SeenBelow in let l = c.loop-done.invariant in
-    let done = c.loop-done.done in let rest = c.args.n - done in
-    let y0 = c.args.driver.now in let y1 = c.loop-done.driver in let y2 = c.write_zero_run.new.driver in let x0 = c.args.below.now in let x1 = c.loop-done.below in let x2 = c.write_zero_run.new.below in
-    room_then d (λ _. ⊤) (λ _. ⊤) c.args.offset c.args.n (c.args.offset + done) rest y0 y1 y2 l.ran.went.fixed (omega arith) (omega (arith, l.inside)) (λ p there. tt) (l.takes i) (c.in-Err.ensures.room (l.ran.intact tt i) mild)
+pub returns-in-Err-clause-refused : goal.returns-in-Err-clause-refused
+returns-in-Err-clause-refused g c = record {
+  failed = let d = g.D.Seen in let b = g.B.SeenBelow in let l = c.loop-done.invariant in
+      let y0 = c.args.driver.now in let y1 = c.loop-done.driver in let y2 = c.write_zero_run.new.driver in
+      failed_then (files d y0) (files d y1) (files d y2) (b.files_under c.args.below.now) (b.files_under c.loop-done.below) (b.files_under c.write_zero_run.new.below) c.in-Err.fault l.ran.went.later l.ran.looked.later c.in-Err.ensures.refused.failed;
+  cause = λ i e call begun part says. let d = g.D.Seen in let b = g.B.SeenBelow in let l = c.loop-done.invariant in
+      let done = c.loop-done.done in let rest = c.args.n - done in
+      let y0 = c.args.driver.now in let y1 = c.loop-done.driver in let y2 = c.write_zero_run.new.driver in let x0 = c.args.below.now in let x1 = c.loop-done.below in let x2 = c.write_zero_run.new.below in
+      cause_behind d b g.met.D.FormatDriverInstance.safe_runs g.met.D.FormatDriverInstance.aligned (GivesZero c.args.offset c.args.n) c.args.offset c.args.n (c.args.offset + done) rest y0 y1 x0 x1 (files d y2 ++ b.files_under x2)
+      (λ below. d.own_cause e below call) c.in-Err.fault (omega arith) (omega (arith, l.inside)) l.ran i
+      (c.in-Err.ensures.refused.cause (l.ran.intact tt i) e call (l.began e call begun part.part)
+      (part_within (d.layer y0) (d.layer y1) call c.args.offset c.args.n (c.args.offset + done) rest l.ran.went.fixed l.ran.size (omega arith) (omega (arith, l.inside)) (l.uncut i)
+      (uncut_end (d.layer y0).fixed.unit (d.layer y0).size c.args.offset c.args.n (c.args.offset + done + rest) (omega (arith, l.inside))) part) says);
+}
 
-pub returns-in-Err-clause-failed : goal.returns-in-Err-clause-failed
-returns-in-Err-clause-failed g c = let d = g.D.Seen in let b = g.B.SeenBelow in let l = c.loop-done.invariant in
-    let y0 = c.args.driver.now in let y1 = c.loop-done.driver in let y2 = c.write_zero_run.new.driver in
-    failed_then (files d y0) (files d y1) (files d y2) (b.files_under c.args.below.now) (b.files_under c.loop-done.below) (b.files_under c.write_zero_run.new.below) c.in-Err.fault l.ran.went.later l.ran.looked.later c.in-Err.ensures.failed
+pub returns-clause-does : goal.returns-clause-does
+returns-clause-does g c = record {
+  ran = c.loop-done.invariant.ran;
+  room = λ i whole. c.loop-done.invariant.takes i;
+  began = λ e call begun part. c.loop-done.invariant.began e call begun part;
+}
 
-pub returns-in-Err-clause-cause : goal.returns-in-Err-clause-cause
-returns-in-Err-clause-cause g c = λ i e call begun part says. let d = g.D.Seen in let b = g.B.SeenBelow in let l = c.loop-done.invariant in
-    let done = c.loop-done.done in let rest = c.args.n - done in
-    let y0 = c.args.driver.now in let y1 = c.loop-done.driver in let y2 = c.write_zero_run.new.driver in let x0 = c.args.below.now in let x1 = c.loop-done.below in let x2 = c.write_zero_run.new.below in
-    cause_behind d b g.met.D.FormatDriverInstance.safe_runs g.met.D.FormatDriverInstance.aligned (GivesZero c.args.offset c.args.n) c.args.offset c.args.n (c.args.offset + done) rest y0 y1 x0 x1 (files d y2 ++ b.files_under x2)
-    (λ below. d.own_cause e below call) c.in-Err.fault (omega arith) (omega (arith, l.inside)) l.ran i
-    (c.in-Err.ensures.cause (l.ran.intact tt i) e call (l.began e call begun part.part)
-    (part_within (d.layer y0) (d.layer y1) call c.args.offset c.args.n (c.args.offset + done) rest l.ran.went.fixed l.ran.size (omega arith) (omega (arith, l.inside)) (l.uncut i)
-    (uncut_end (d.layer y0).fixed.unit (d.layer y0).size c.args.offset c.args.n (c.args.offset + done + rest) (omega (arith, l.inside))) part) says)
+pub returns-clause-refused : goal.returns-clause-refused
+returns-clause-refused g c = record {
+  failed = tt;
+  cause = λ i e call begun part says. tt;
+}

@@ -47,11 +47,11 @@ loop-at-preserved g c = let d = g.D.Seen in let b = g.B.SeenBelow in let l = c.l
           let mid = l.ran.intact tt i in
           let same : b.under x1 ≡ b.under x0 = (l.ran.looked.stays tt i.is_seen).0 in
           elim (cases_lt p at_now) [
-            | inl low ↦ zero_stays (b.under x0) (d.layer y1) (d.layer y2) at_now rest done.ran.size (subst (λ (below : List Layer). IsBetween (GivesZero at_now rest) below (d.layer y1) (d.layer y2)) same (done.ran.values tt mid)) p (l.shown i p from low)
+            | inl low ↦ zero_stays (b.under x0) (d.layer y1) (d.layer y2) at_now rest done.does.ran.size (subst (λ (below : List Layer). IsBetween (GivesZero at_now rest) below (d.layer y1) (d.layer y2)) same (done.does.ran.values tt mid)) p (l.shown i p from low)
             | inr high ↦ subst (λ (below : List Layer). at (d.layer y2 ∷ below) p ≡ byte 0) same (done.shown mid p high to)
           ];
       uncut = λ i. uncut_later (d.layer y0) (d.layer y1) c.args.offset c.args.n at_now c.in-Ok.next l.ran.went.fixed l.ran.size (omega (arith, done.run.0)) (l.uncut i) (done.uncut (l.ran.intact tt i));
-      room = λ i. room_then d (λ p. (c.args.zeroing ≡ zeroing_is.Keep) ⊎ IsOut c.args.offset c.args.n p) (λ p. (c.args.zeroing ≡ zeroing_is.Keep) ⊎ IsOut at_now rest p) c.args.offset c.args.n at_now rest y0 y1 y2 l.ran.went.fixed l.from (omega (arith, l.inside)) (λ p there. elim there [ inl keep ↦ inl keep | inr out ↦ inr (out_wider c.args.offset c.args.n at_now rest p l.from (omega (arith, l.inside)) out) ]) (l.room i) (c.in-Ok.ensures.room (l.ran.intact tt i) tt);
+      room = λ i. room_then d (λ p. (c.args.zeroing ≡ zeroing_is.Keep) ⊎ IsOut c.args.offset c.args.n p) (λ p. (c.args.zeroing ≡ zeroing_is.Keep) ⊎ IsOut at_now rest p) c.args.offset c.args.n at_now rest y0 y1 y2 l.ran.went.fixed l.from (omega (arith, l.inside)) (λ p there. elim there [ inl keep ↦ inl keep | inr out ↦ inr (out_wider c.args.offset c.args.n at_now rest p l.from (omega (arith, l.inside)) out) ]) (l.room i) (c.in-Ok.ensures.does.room (l.ran.intact tt i) tt);
       given = λ i e call begun part none.
           let mid = l.ran.intact tt i in
           let same : b.under x1 ≡ b.under x0 = (l.ran.looked.stays tt i.is_seen).0 in
@@ -60,38 +60,52 @@ loop-at-preserved g c = let d = g.D.Seen in let b = g.B.SeenBelow in let l = c.l
           let more = done.given mid e call (l.began e call begun part) (record { start = omega (arith, part.start, l.from); end = omega (arith, part.end, l.inside) }) still in
           let given : IsGivenUpTo (IsLeft c.args.zeroing (d.vacant y2) (d.zeroed y2)) unit size at_now rest c.in-Ok.next = subst (λ (f : Fixed). IsGivenUpTo (IsLeft c.args.zeroing (d.vacant y2) (d.zeroed y2)) f.unit size at_now rest c.in-Ok.next) l.ran.went.fixed (subst (λ (z : ℕ). IsGivenUpTo (IsLeft c.args.zeroing (d.vacant y2) (d.zeroed y2)) (d.layer y1).fixed.unit z at_now rest c.in-Ok.next) l.ran.size more) in
           let on_disk : at_now < size = omega (arith, c.loop-at-test.true, c.requires.inside) in
-          let left = done.room mid tt in
+          let left = done.does.room mid tt in
           given_both (IsLeft c.args.zeroing (d.vacant y2) (d.zeroed y2)) unit size c.args.offset c.args.n (IsLeft c.args.zeroing (d.vacant y1) (d.zeroed y1)) at_now c.in-Ok.next (omega (arith, done.run.0))
           (λ p u of ended was. left_on d (λ q. (c.args.zeroing ≡ zeroing_is.Keep) ⊎ IsOut at_now rest q) (IsApart (d.layer y1).fixed.unit at_now rest) c.args.zeroing y1 y2 p (λ keep. inl keep) (subst (λ (f : Fixed). IsApart f.unit at_now rest p) (sym l.ran.went.fixed) (ended_apart unit size at_now rest u p on_disk ended of)) left was)
           (l.given i e call begun part none) given;
-      ran = ran_both d b ⊤ (GivesZero c.args.offset c.args.n) (GivesZero at_now rest) (GivesZero c.args.offset c.args.n) y0 y1 y2 x0 x1 x2 (λ p v gave. gave) gives l.ran (ran_weaker d b ⊤ ⊤ (GivesZero at_now rest) y1 y2 x1 x2 (λ h. h) done.ran);
-      began = λ e call begun part. done.began e call (l.began e call begun part) (record { start = omega (arith, part.start, l.from); end = omega (arith, part.end, l.inside) });
+      ran = ran_both d b ⊤ (GivesZero c.args.offset c.args.n) (GivesZero at_now rest) (GivesZero c.args.offset c.args.n) y0 y1 y2 x0 x1 x2 (λ p v gave. gave) gives l.ran (ran_weaker d b ⊤ ⊤ (GivesZero at_now rest) y1 y2 x1 x2 (λ h. h) done.does.ran);
+      began = λ e call begun part. done.does.began e call (l.began e call begun part) (record { start = omega (arith, part.start, l.from); end = omega (arith, part.end, l.inside) });
     }
 
-pub returns-in-Err-clause-ran : goal.returns-in-Err-clause-ran
-returns-in-Err-clause-ran g c = let d = g.D.Seen in let b = g.B.SeenBelow in let l = c.loop-at.invariant in
-    let y0 = c.args.driver.now in let y1 = c.loop-at.driver in let y2 = c.zero_run.new.driver in let x0 = c.args.below.now in let x1 = c.loop-at.below in let x2 = c.zero_run.new.below in
-    let at_now = c.loop-at.at in let rest = c.args.offset + c.args.n - at_now in
-    let gives = zero_wider c.args.offset c.args.n at_now rest l.from (omega (arith, l.inside)) in
-    ran_both d b (IsMild c.in-Err.fault) (GivesZero c.args.offset c.args.n) (GivesZero at_now rest) (GivesZero c.args.offset c.args.n) y0 y1 y2 x0 x1 x2 (λ p v gave. gave) gives l.ran c.in-Err.ensures.ran
+pub returns-in-Err-clause-does : goal.returns-in-Err-clause-does
+returns-in-Err-clause-does g c = record {
+  ran = let d = g.D.Seen in let b = g.B.SeenBelow in let l = c.loop-at.invariant in
+      let y0 = c.args.driver.now in let y1 = c.loop-at.driver in let y2 = c.zero_run.new.driver in let x0 = c.args.below.now in let x1 = c.loop-at.below in let x2 = c.zero_run.new.below in
+      let at_now = c.loop-at.at in let rest = c.args.offset + c.args.n - at_now in
+      let gives = zero_wider c.args.offset c.args.n at_now rest l.from (omega (arith, l.inside)) in
+      ran_both d b (IsMild c.in-Err.fault) (GivesZero c.args.offset c.args.n) (GivesZero at_now rest) (GivesZero c.args.offset c.args.n) y0 y1 y2 x0 x1 x2 (λ p v gave. gave) gives l.ran c.in-Err.ensures.does.ran;
+  room = λ i mild. let d = g.D.Seen in let l = c.loop-at.invariant in
+      let y0 = c.args.driver.now in let y1 = c.loop-at.driver in let y2 = c.zero_run.new.driver in let at_now = c.loop-at.at in let rest = c.args.offset + c.args.n - at_now in
+      room_then d (λ p. (c.args.zeroing ≡ zeroing_is.Keep) ⊎ IsOut c.args.offset c.args.n p) (λ p. (c.args.zeroing ≡ zeroing_is.Keep) ⊎ IsOut at_now rest p) c.args.offset c.args.n at_now rest y0 y1 y2 l.ran.went.fixed l.from (omega (arith, l.inside)) (λ p there. elim there [ inl keep ↦ inl keep | inr out ↦ inr (out_wider c.args.offset c.args.n at_now rest p l.from (omega (arith, l.inside)) out) ]) (l.room i) (c.in-Err.ensures.does.room (l.ran.intact tt i) mild);
+  began = λ e call begun part. tt;
+}
 
-pub returns-in-Err-clause-failed : goal.returns-in-Err-clause-failed
-returns-in-Err-clause-failed g c = let d = g.D.Seen in let b = g.B.SeenBelow in let l = c.loop-at.invariant in
-    let y0 = c.args.driver.now in let y1 = c.loop-at.driver in let y2 = c.zero_run.new.driver in
-    failed_then (files d y0) (files d y1) (files d y2) (b.files_under c.args.below.now) (b.files_under c.loop-at.below) (b.files_under c.zero_run.new.below) c.in-Err.fault l.ran.went.later l.ran.looked.later c.in-Err.ensures.failed
+pub returns-in-Err-clause-refused : goal.returns-in-Err-clause-refused
+returns-in-Err-clause-refused g c = record {
+  failed = let d = g.D.Seen in let b = g.B.SeenBelow in let l = c.loop-at.invariant in
+      let y0 = c.args.driver.now in let y1 = c.loop-at.driver in let y2 = c.zero_run.new.driver in
+      failed_then (files d y0) (files d y1) (files d y2) (b.files_under c.args.below.now) (b.files_under c.loop-at.below) (b.files_under c.zero_run.new.below) c.in-Err.fault l.ran.went.later l.ran.looked.later c.in-Err.ensures.refused.failed;
+  cause = λ i e call begun part says. let d = g.D.Seen in let b = g.B.SeenBelow in let l = c.loop-at.invariant in
+      let y0 = c.args.driver.now in let y1 = c.loop-at.driver in let y2 = c.zero_run.new.driver in let x0 = c.args.below.now in let x1 = c.loop-at.below in let x2 = c.zero_run.new.below in
+      let at_now = c.loop-at.at in let rest = c.args.offset + c.args.n - at_now in
+      let gives = zero_wider c.args.offset c.args.n at_now rest l.from (omega (arith, l.inside)) in
+      cause_behind d b g.met.D.FormatDriverInstance.safe_runs g.met.D.FormatDriverInstance.aligned (GivesZero c.args.offset c.args.n) c.args.offset c.args.n at_now rest y0 y1 x0 x1 (files d y2 ++ b.files_under x2)
+      (λ (below : List Layer). d.own_cause e below call) c.in-Err.fault l.from (omega (arith, l.inside)) l.ran i
+      (c.in-Err.ensures.refused.cause (l.ran.intact tt i) e call (l.began e call begun part.part)
+      (part_within (d.layer y0) (d.layer y1) call c.args.offset c.args.n at_now rest l.ran.went.fixed l.ran.size l.from (omega (arith, l.inside)) (l.uncut i)
+      (uncut_end (d.layer y0).fixed.unit (d.layer y0).size c.args.offset c.args.n (at_now + rest) (omega (arith, l.inside))) part) says);
+}
 
-pub returns-in-Err-clause-cause : goal.returns-in-Err-clause-cause
-returns-in-Err-clause-cause g c = λ i e call begun part says. let d = g.D.Seen in let b = g.B.SeenBelow in let l = c.loop-at.invariant in
-    let y0 = c.args.driver.now in let y1 = c.loop-at.driver in let y2 = c.zero_run.new.driver in let x0 = c.args.below.now in let x1 = c.loop-at.below in let x2 = c.zero_run.new.below in
-    let at_now = c.loop-at.at in let rest = c.args.offset + c.args.n - at_now in
-    let gives = zero_wider c.args.offset c.args.n at_now rest l.from (omega (arith, l.inside)) in
-    cause_behind d b g.met.D.FormatDriverInstance.safe_runs g.met.D.FormatDriverInstance.aligned (GivesZero c.args.offset c.args.n) c.args.offset c.args.n at_now rest y0 y1 x0 x1 (files d y2 ++ b.files_under x2)
-    (λ (below : List Layer). d.own_cause e below call) c.in-Err.fault l.from (omega (arith, l.inside)) l.ran i
-    (c.in-Err.ensures.cause (l.ran.intact tt i) e call (l.began e call begun part.part)
-    (part_within (d.layer y0) (d.layer y1) call c.args.offset c.args.n at_now rest l.ran.went.fixed l.ran.size l.from (omega (arith, l.inside)) (l.uncut i)
-    (uncut_end (d.layer y0).fixed.unit (d.layer y0).size c.args.offset c.args.n (at_now + rest) (omega (arith, l.inside))) part) says)
+pub returns-clause-does : goal.returns-clause-does
+returns-clause-does g c = record {
+  ran = c.loop-at.invariant.ran;
+  room = λ i whole. c.loop-at.invariant.room i;
+  began = λ e call begun part. c.loop-at.invariant.began e call begun part;
+}
 
-pub returns-in-Err-clause-room : goal.returns-in-Err-clause-room
-returns-in-Err-clause-room g c = λ i mild. let d = g.D.Seen in let l = c.loop-at.invariant in
-    let y0 = c.args.driver.now in let y1 = c.loop-at.driver in let y2 = c.zero_run.new.driver in let at_now = c.loop-at.at in let rest = c.args.offset + c.args.n - at_now in
-    room_then d (λ p. (c.args.zeroing ≡ zeroing_is.Keep) ⊎ IsOut c.args.offset c.args.n p) (λ p. (c.args.zeroing ≡ zeroing_is.Keep) ⊎ IsOut at_now rest p) c.args.offset c.args.n at_now rest y0 y1 y2 l.ran.went.fixed l.from (omega (arith, l.inside)) (λ p there. elim there [ inl keep ↦ inl keep | inr out ↦ inr (out_wider c.args.offset c.args.n at_now rest p l.from (omega (arith, l.inside)) out) ]) (l.room i) (c.in-Err.ensures.room (l.ran.intact tt i) mild)
+pub returns-clause-refused : goal.returns-clause-refused
+returns-clause-refused g c = record {
+  failed = tt;
+  cause = λ i e call begun part says. tt;
+}

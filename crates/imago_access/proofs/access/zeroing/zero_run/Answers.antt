@@ -15,21 +15,102 @@ use Rattle.imago_access.proofs.Running.{ran_both}
 use Rattle.imago_access.proofs.Zeroing.{zero_wider, zero_stays, ran_zeroed, cause_behind}
 use Rattle.imago_access.proofs.FilePairs.{later_all_same}
 use Rattle.imago_access.proofs.ImageCauses.{failed_left, failed_then}
+use Rattle.imago_access.proofs.Works.{room_apart}
 use Rattle.imago_access.proofs.access.zeroing.zero_run.Goals as goal
 
-pub returns-in-Err-clause-ran : goal.returns-in-Err-clause-ran
-returns-in-Err-clause-ran g c = let d = g.D.Seen in let b = g.B.SeenBelow in
-    ran_zeroed d b g.met.D.FormatDriverInstance.free_loose (IsMild c.in-Err.fault) c.args.offset c.args.n c.args.driver.now c.zero_by_driver.new.driver c.args.below.now c.requires.free c.in-Err.ensures.like c.in-Err.ensures.went c.in-Err.ensures.values c.in-Err.ensures.stops
+pub returns-in-Err-clause-does : goal.returns-in-Err-clause-does
+returns-in-Err-clause-does g c = record {
+  ran = let d = g.D.Seen in let b = g.B.SeenBelow in
+      ran_zeroed d b g.met.D.FormatDriverInstance.free_loose (IsMild c.in-Err.fault) c.args.offset c.args.n c.args.driver.now c.zero_by_driver.new.driver c.args.below.now c.requires.free c.in-Err.ensures.like c.in-Err.ensures.went c.in-Err.ensures.values c.in-Err.ensures.stops;
+  room = λ i whole. room_apart g.D.Seen (λ (p : ℕ). (c.args.zeroing ≡ zeroing_is.Keep) ⊎ IsOut c.args.offset c.args.n p) c.args.offset c.args.n c.args.driver.now c.zero_by_driver.new.driver (c.in-Err.ensures.room i.is_safe whole);
+  began = λ e call begun part. tt;
+}
 
-pub returns-in-Err-clause-failed : goal.returns-in-Err-clause-failed
-returns-in-Err-clause-failed g c = let d = g.D.Seen in
-    let y0 = c.args.driver.now in let y1 = c.zero_by_driver.new.driver in let others = g.B.SeenBelow.files_under c.args.below.now in
-    failed_left (files d y0) (files d y1) others others c.in-Err.fault c.in-Err.ensures.failed
+pub returns-in-Err-clause-refused : goal.returns-in-Err-clause-refused
+returns-in-Err-clause-refused g c = record {
+  failed = let d = g.D.Seen in
+      let y0 = c.args.driver.now in let y1 = c.zero_by_driver.new.driver in let others = g.B.SeenBelow.files_under c.args.below.now in
+      failed_left (files d y0) (files d y1) others others c.in-Err.fault c.in-Err.ensures.failed;
+  cause = λ i e call begun part says. let d = g.D.Seen in let b = g.B.SeenBelow in
+      let y0 = c.args.driver.now in let y1 = c.zero_by_driver.new.driver in let x0 = c.args.below.now in
+      part_cause_left (b.under x0) (d.layer y0) c.args.offset c.args.n (d.own_cause e (b.under x0) call) (files d y0) (files d y1) (b.files_under x0) (b.files_under x0) c.in-Err.fault (c.in-Err.ensures.cause i.is_safe (b.under x0) e call begun part.part);
+}
 
-pub returns-in-Err-clause-cause : goal.returns-in-Err-clause-cause
-returns-in-Err-clause-cause g c = λ i e call begun part says. let d = g.D.Seen in let b = g.B.SeenBelow in
-    let y0 = c.args.driver.now in let y1 = c.zero_by_driver.new.driver in let x0 = c.args.below.now in
-    part_cause_left (b.under x0) (d.layer y0) c.args.offset c.args.n (d.own_cause e (b.under x0) call) (files d y0) (files d y1) (b.files_under x0) (b.files_under x0) c.in-Err.fault (c.in-Err.ensures.cause i.is_safe (b.under x0) e call begun part.part)
+pub returns-in-Ok-write_zero_bytes-clause-does : goal.returns-in-Ok-write_zero_bytes-clause-does
+returns-in-Ok-write_zero_bytes-clause-does g c = record {
+  ran = let d = g.D.Seen in let b = g.B.SeenBelow in
+      let y0 = c.args.driver.now in let y1 = c.zero_by_driver.new.driver in let y2 = c.write_zero_bytes.new.driver in let x0 = c.args.below.now in let x2 = c.write_zero_bytes.new.below in
+      let start = c.in-Ok.part.0 in let done = c.in-Ok.ensures in
+      let inside : start ≤ c.args.offset + c.args.n = omega (arith, done.part.1, done.part.3) in
+      let gap = start - c.args.offset in
+      let gives = zero_wider c.args.offset c.args.n c.args.offset gap (omega arith) (omega (arith, inside, done.part.0)) in
+      let one = ran_zeroed d b g.met.D.FormatDriverInstance.free_loose ⊤ c.args.offset c.args.n y0 y1 x0 c.requires.free done.like done.went done.values done.stops in
+      ran_both d b ⊤ (GivesZero c.args.offset c.args.n) (GivesZero c.args.offset gap) (GivesZero c.args.offset c.args.n) y0 y1 y2 x0 x0 x2 (λ p v gave. gave) gives one c.in-Ok-write_zero_bytes.ensures.does.ran;
+  room = λ i whole. let d = g.D.Seen in let b = g.B.SeenBelow in
+      let y0 = c.args.driver.now in let y1 = c.zero_by_driver.new.driver in let y2 = c.write_zero_bytes.new.driver in let x0 = c.args.below.now in let x2 = c.write_zero_bytes.new.below in
+      let start = c.in-Ok.part.0 in let done = c.in-Ok.ensures in
+      let inside : start ≤ c.args.offset + c.args.n = omega (arith, done.part.1, done.part.3) in
+      let gap = start - c.args.offset in
+      let one = ran_zeroed d b g.met.D.FormatDriverInstance.free_loose ⊤ c.args.offset c.args.n y0 y1 x0 c.requires.free done.like done.went done.values done.stops in
+      let unit = (d.layer y0).fixed.unit in
+      let left = (λ (p : ℕ). (c.args.zeroing ≡ zeroing_is.Keep) ⊎ IsOut c.args.offset c.args.n p) in
+      room_both d left (λ _. ⊤) left (IsOut c.args.offset c.args.n) (IsApart (d.layer y1).fixed.unit c.args.offset gap) (IsApart unit c.args.offset c.args.n) y0 y1 y2 (λ p there. (there, tt))
+      (λ p apart. (apart_out unit c.args.offset c.args.n p apart, subst (λ (f : Fixed). IsApart f.unit c.args.offset gap p) (sym done.like.fixed) (apart_wider unit c.args.offset c.args.n c.args.offset gap p (omega arith) (omega (arith, inside, done.part.0)) apart)))
+      (done.room i.is_safe tt) (c.in-Ok-write_zero_bytes.ensures.does.room (one.intact tt i) tt);
+  began = λ e call begun part. let done = c.in-Ok.ensures in
+      c.in-Ok-write_zero_bytes.ensures.does.began e call (done.began e call begun part) (record { start = part.start; end = omega (arith, part.end, done.part.0, done.part.1, done.part.3) });
+}
+
+pub returns-in-Ok-write_zero_bytes-clause-refused : goal.returns-in-Ok-write_zero_bytes-clause-refused
+returns-in-Ok-write_zero_bytes-clause-refused g c = record {
+  failed = tt;
+  cause = λ i e call begun part says. tt;
+}
+
+pub returns-in-Err-write_zero_bytes-clause-does : goal.returns-in-Err-write_zero_bytes-clause-does
+returns-in-Err-write_zero_bytes-clause-does g c = record {
+  ran = let d = g.D.Seen in let b = g.B.SeenBelow in
+      let y0 = c.args.driver.now in let y1 = c.zero_by_driver.new.driver in let y2 = c.write_zero_bytes.new.driver in let x0 = c.args.below.now in let x2 = c.write_zero_bytes.new.below in
+      let start = c.in-Ok.part.0 in let done = c.in-Ok.ensures in
+      let inside : start ≤ c.args.offset + c.args.n = omega (arith, done.part.1, done.part.3) in
+      let gap = start - c.args.offset in
+      let gives = zero_wider c.args.offset c.args.n c.args.offset gap (omega arith) (omega (arith, inside, done.part.0)) in
+      let one = ran_zeroed d b g.met.D.FormatDriverInstance.free_loose ⊤ c.args.offset c.args.n y0 y1 x0 c.requires.free done.like done.went done.values done.stops in
+      ran_both d b (IsMild c.in-Err-write_zero_bytes.fault) (GivesZero c.args.offset c.args.n) (GivesZero c.args.offset gap) (GivesZero c.args.offset c.args.n) y0 y1 y2 x0 x0 x2 (λ p v gave. gave) gives one c.in-Err-write_zero_bytes.ensures.does.ran;
+  room = λ i whole. let d = g.D.Seen in let b = g.B.SeenBelow in
+      let y0 = c.args.driver.now in let y1 = c.zero_by_driver.new.driver in let y2 = c.write_zero_bytes.new.driver in let x0 = c.args.below.now in let x2 = c.write_zero_bytes.new.below in
+      let start = c.in-Ok.part.0 in let done = c.in-Ok.ensures in
+      let inside : start ≤ c.args.offset + c.args.n = omega (arith, done.part.1, done.part.3) in
+      let gap = start - c.args.offset in
+      let one = ran_zeroed d b g.met.D.FormatDriverInstance.free_loose ⊤ c.args.offset c.args.n y0 y1 x0 c.requires.free done.like done.went done.values done.stops in
+      let unit = (d.layer y0).fixed.unit in
+      let left = (λ (p : ℕ). (c.args.zeroing ≡ zeroing_is.Keep) ⊎ IsOut c.args.offset c.args.n p) in
+      room_both d left (λ _. ⊤) left (IsOut c.args.offset c.args.n) (IsApart (d.layer y1).fixed.unit c.args.offset gap) (IsApart unit c.args.offset c.args.n) y0 y1 y2 (λ p there. (there, tt))
+      (λ p apart. (apart_out unit c.args.offset c.args.n p apart, subst (λ (f : Fixed). IsApart f.unit c.args.offset gap p) (sym done.like.fixed) (apart_wider unit c.args.offset c.args.n c.args.offset gap p (omega arith) (omega (arith, inside, done.part.0)) apart)))
+      (done.room i.is_safe tt) (c.in-Err-write_zero_bytes.ensures.does.room (one.intact tt i) whole);
+  began = λ e call begun part. tt;
+}
+
+pub returns-in-Err-write_zero_bytes-clause-refused : goal.returns-in-Err-write_zero_bytes-clause-refused
+returns-in-Err-write_zero_bytes-clause-refused g c = record {
+  failed = let d = g.D.Seen in let b = g.B.SeenBelow in
+      let y0 = c.args.driver.now in let y1 = c.zero_by_driver.new.driver in let y2 = c.write_zero_bytes.new.driver in let others = b.files_under c.args.below.now in
+      failed_then (files d y0) (files d y1) (files d y2) others others (b.files_under c.write_zero_bytes.new.below) c.in-Err-write_zero_bytes.fault c.in-Ok.ensures.went.later (later_all_same others) c.in-Err-write_zero_bytes.ensures.refused.failed;
+  cause = λ i e call begun part says. let d = g.D.Seen in let b = g.B.SeenBelow in
+      let y0 = c.args.driver.now in let y1 = c.zero_by_driver.new.driver in let y2 = c.write_zero_bytes.new.driver in let x0 = c.args.below.now in let x2 = c.write_zero_bytes.new.below in
+      let start = c.in-Ok.part.0 in let done = c.in-Ok.ensures in
+      let inside : start ≤ c.args.offset + c.args.n = omega (arith, done.part.1, done.part.3) in
+      let gap = start - c.args.offset in
+      let gives = zero_wider c.args.offset c.args.n c.args.offset gap (omega arith) (omega (arith, inside, done.part.0)) in
+      let one = ran_zeroed d b g.met.D.FormatDriverInstance.free_loose ⊤ c.args.offset c.args.n y0 y1 x0 c.requires.free done.like done.went done.values done.stops in
+      cause_behind d b g.met.D.FormatDriverInstance.safe_runs g.met.D.FormatDriverInstance.aligned (GivesZero c.args.offset c.args.n) c.args.offset c.args.n c.args.offset gap y0 y1 x0 x0 (files d y2 ++ b.files_under x2)
+      (λ (below : List Layer). d.own_cause e below call) c.in-Err-write_zero_bytes.fault (omega arith) (omega (arith, inside, done.part.0)) one i
+      (let back : start ≡ c.args.offset + gap = omega (arith, done.part.0) in
+      c.in-Err-write_zero_bytes.ensures.refused.cause (one.intact tt i) e call (done.began e call begun part.part)
+      (part_within (d.layer y0) (d.layer y1) call c.args.offset c.args.n c.args.offset gap done.like.fixed done.like.size (omega arith) (omega (arith, inside, done.part.0))
+      (uncut_start (d.layer y0).fixed.unit (d.layer y0).size c.args.offset c.args.n)
+      (subst (IsUncutAt (d.layer y0).fixed.unit (d.layer y0).size c.args.offset c.args.n) back (done.uncut i.is_safe).0) part) says);
+}
 
 pub returns-in-Ok-write_zero_bytes-clause-shown : goal.returns-in-Ok-write_zero_bytes-clause-shown
 returns-in-Ok-write_zero_bytes-clause-shown g c = λ i p from to. let d = g.D.Seen in let b = g.B.SeenBelow in
@@ -42,75 +123,8 @@ returns-in-Ok-write_zero_bytes-clause-shown g c = λ i p from to. let d = g.D.Se
     let written = c.in-Ok-write_zero_bytes.ensures in
     elim (cases_lt p start) [
       | inl low ↦ written.shown (one.intact tt i) p (from, omega (arith, low, from))
-      | inr high ↦ zero_stays (b.under x0) (d.layer y1) (d.layer y2) c.args.offset gap written.ran.size (written.ran.values tt (one.intact tt i)) p (done.zeroed i.is_safe (b.under x0) p high to)
+      | inr high ↦ zero_stays (b.under x0) (d.layer y1) (d.layer y2) c.args.offset gap written.does.ran.size (written.does.ran.values tt (one.intact tt i)) p (done.zeroed i.is_safe (b.under x0) p high to)
     ]
-
-pub returns-in-Ok-write_zero_bytes-clause-ran : goal.returns-in-Ok-write_zero_bytes-clause-ran
-returns-in-Ok-write_zero_bytes-clause-ran g c = let d = g.D.Seen in let b = g.B.SeenBelow in
-    let y0 = c.args.driver.now in let y1 = c.zero_by_driver.new.driver in let y2 = c.write_zero_bytes.new.driver in let x0 = c.args.below.now in let x2 = c.write_zero_bytes.new.below in
-    let start = c.in-Ok.part.0 in let done = c.in-Ok.ensures in
-    let inside : start ≤ c.args.offset + c.args.n = omega (arith, done.part.1, done.part.3) in
-    let gap = start - c.args.offset in
-    let gives = zero_wider c.args.offset c.args.n c.args.offset gap (omega arith) (omega (arith, inside, done.part.0)) in
-    let one = ran_zeroed d b g.met.D.FormatDriverInstance.free_loose ⊤ c.args.offset c.args.n y0 y1 x0 c.requires.free done.like done.went done.values done.stops in
-    ran_both d b ⊤ (GivesZero c.args.offset c.args.n) (GivesZero c.args.offset gap) (GivesZero c.args.offset c.args.n) y0 y1 y2 x0 x0 x2 (λ p v gave. gave) gives one c.in-Ok-write_zero_bytes.ensures.ran
-
-pub returns-in-Err-write_zero_bytes-clause-ran : goal.returns-in-Err-write_zero_bytes-clause-ran
-returns-in-Err-write_zero_bytes-clause-ran g c = let d = g.D.Seen in let b = g.B.SeenBelow in
-    let y0 = c.args.driver.now in let y1 = c.zero_by_driver.new.driver in let y2 = c.write_zero_bytes.new.driver in let x0 = c.args.below.now in let x2 = c.write_zero_bytes.new.below in
-    let start = c.in-Ok.part.0 in let done = c.in-Ok.ensures in
-    let inside : start ≤ c.args.offset + c.args.n = omega (arith, done.part.1, done.part.3) in
-    let gap = start - c.args.offset in
-    let gives = zero_wider c.args.offset c.args.n c.args.offset gap (omega arith) (omega (arith, inside, done.part.0)) in
-    let one = ran_zeroed d b g.met.D.FormatDriverInstance.free_loose ⊤ c.args.offset c.args.n y0 y1 x0 c.requires.free done.like done.went done.values done.stops in
-    ran_both d b (IsMild c.in-Err-write_zero_bytes.fault) (GivesZero c.args.offset c.args.n) (GivesZero c.args.offset gap) (GivesZero c.args.offset c.args.n) y0 y1 y2 x0 x0 x2 (λ p v gave. gave) gives one c.in-Err-write_zero_bytes.ensures.ran
-
-pub returns-in-Err-write_zero_bytes-clause-failed : goal.returns-in-Err-write_zero_bytes-clause-failed
-returns-in-Err-write_zero_bytes-clause-failed g c = let d = g.D.Seen in let b = g.B.SeenBelow in
-    let y0 = c.args.driver.now in let y1 = c.zero_by_driver.new.driver in let y2 = c.write_zero_bytes.new.driver in let others = b.files_under c.args.below.now in
-    failed_then (files d y0) (files d y1) (files d y2) others others (b.files_under c.write_zero_bytes.new.below) c.in-Err-write_zero_bytes.fault c.in-Ok.ensures.went.later (later_all_same others) c.in-Err-write_zero_bytes.ensures.failed
-
-pub returns-in-Err-write_zero_bytes-clause-cause : goal.returns-in-Err-write_zero_bytes-clause-cause
-returns-in-Err-write_zero_bytes-clause-cause g c = λ i e call begun part says. let d = g.D.Seen in let b = g.B.SeenBelow in
-    let y0 = c.args.driver.now in let y1 = c.zero_by_driver.new.driver in let y2 = c.write_zero_bytes.new.driver in let x0 = c.args.below.now in let x2 = c.write_zero_bytes.new.below in
-    let start = c.in-Ok.part.0 in let done = c.in-Ok.ensures in
-    let inside : start ≤ c.args.offset + c.args.n = omega (arith, done.part.1, done.part.3) in
-    let gap = start - c.args.offset in
-    let gives = zero_wider c.args.offset c.args.n c.args.offset gap (omega arith) (omega (arith, inside, done.part.0)) in
-    let one = ran_zeroed d b g.met.D.FormatDriverInstance.free_loose ⊤ c.args.offset c.args.n y0 y1 x0 c.requires.free done.like done.went done.values done.stops in
-    cause_behind d b g.met.D.FormatDriverInstance.safe_runs g.met.D.FormatDriverInstance.aligned (GivesZero c.args.offset c.args.n) c.args.offset c.args.n c.args.offset gap y0 y1 x0 x0 (files d y2 ++ b.files_under x2)
-    (λ (below : List Layer). d.own_cause e below call) c.in-Err-write_zero_bytes.fault (omega arith) (omega (arith, inside, done.part.0)) one i
-    (let back : start ≡ c.args.offset + gap = omega (arith, done.part.0) in
-    c.in-Err-write_zero_bytes.ensures.cause (one.intact tt i) e call (done.began e call begun part.part)
-    (part_within (d.layer y0) (d.layer y1) call c.args.offset c.args.n c.args.offset gap done.like.fixed done.like.size (omega arith) (omega (arith, inside, done.part.0))
-    (uncut_start (d.layer y0).fixed.unit (d.layer y0).size c.args.offset c.args.n)
-    (subst (IsUncutAt (d.layer y0).fixed.unit (d.layer y0).size c.args.offset c.args.n) back (done.uncut i.is_safe).0) part) says)
-
-pub returns-in-Ok-write_zero_bytes-clause-room : goal.returns-in-Ok-write_zero_bytes-clause-room
-returns-in-Ok-write_zero_bytes-clause-room g c = λ i whole. let d = g.D.Seen in let b = g.B.SeenBelow in
-    let y0 = c.args.driver.now in let y1 = c.zero_by_driver.new.driver in let y2 = c.write_zero_bytes.new.driver in let x0 = c.args.below.now in let x2 = c.write_zero_bytes.new.below in
-    let start = c.in-Ok.part.0 in let done = c.in-Ok.ensures in
-    let inside : start ≤ c.args.offset + c.args.n = omega (arith, done.part.1, done.part.3) in
-    let gap = start - c.args.offset in
-    let one = ran_zeroed d b g.met.D.FormatDriverInstance.free_loose ⊤ c.args.offset c.args.n y0 y1 x0 c.requires.free done.like done.went done.values done.stops in
-    let unit = (d.layer y0).fixed.unit in
-    let left = (λ (p : ℕ). (c.args.zeroing ≡ zeroing_is.Keep) ⊎ IsOut c.args.offset c.args.n p) in
-    room_both d left (λ _. ⊤) left (IsOut c.args.offset c.args.n) (IsApart (d.layer y1).fixed.unit c.args.offset gap) (IsApart unit c.args.offset c.args.n) y0 y1 y2 (λ p there. (there, tt))
-    (λ p apart. (apart_out unit c.args.offset c.args.n p apart, subst (λ (f : Fixed). IsApart f.unit c.args.offset gap p) (sym done.like.fixed) (apart_wider unit c.args.offset c.args.n c.args.offset gap p (omega arith) (omega (arith, inside, done.part.0)) apart)))
-    (done.room i.is_safe tt) (c.in-Ok-write_zero_bytes.ensures.room (one.intact tt i) tt)
-
-pub returns-in-Err-write_zero_bytes-clause-room : goal.returns-in-Err-write_zero_bytes-clause-room
-returns-in-Err-write_zero_bytes-clause-room g c = λ i whole. let d = g.D.Seen in let b = g.B.SeenBelow in
-    let y0 = c.args.driver.now in let y1 = c.zero_by_driver.new.driver in let y2 = c.write_zero_bytes.new.driver in let x0 = c.args.below.now in let x2 = c.write_zero_bytes.new.below in
-    let start = c.in-Ok.part.0 in let done = c.in-Ok.ensures in
-    let inside : start ≤ c.args.offset + c.args.n = omega (arith, done.part.1, done.part.3) in
-    let gap = start - c.args.offset in
-    let one = ran_zeroed d b g.met.D.FormatDriverInstance.free_loose ⊤ c.args.offset c.args.n y0 y1 x0 c.requires.free done.like done.went done.values done.stops in
-    let unit = (d.layer y0).fixed.unit in
-    let left = (λ (p : ℕ). (c.args.zeroing ≡ zeroing_is.Keep) ⊎ IsOut c.args.offset c.args.n p) in
-    room_both d left (λ _. ⊤) left (IsOut c.args.offset c.args.n) (IsApart (d.layer y1).fixed.unit c.args.offset gap) (IsApart unit c.args.offset c.args.n) y0 y1 y2 (λ p there. (there, tt))
-    (λ p apart. (apart_out unit c.args.offset c.args.n p apart, subst (λ (f : Fixed). IsApart f.unit c.args.offset gap p) (sym done.like.fixed) (apart_wider unit c.args.offset c.args.n c.args.offset gap p (omega arith) (omega (arith, inside, done.part.0)) apart)))
-    (done.room i.is_safe tt) (c.in-Err-write_zero_bytes.ensures.room (one.intact tt i) whole)
 
 pub returns-in-Ok-write_zero_bytes-clause-given : goal.returns-in-Ok-write_zero_bytes-clause-given
 returns-in-Ok-write_zero_bytes-clause-given g c = λ i e call begun part none. let d = g.D.Seen in let b = g.B.SeenBelow in
@@ -121,7 +135,7 @@ returns-in-Ok-write_zero_bytes-clause-given g c = λ i e call begun part none. l
     let one = ran_zeroed d b g.met.D.FormatDriverInstance.free_loose ⊤ c.args.offset c.args.n y0 y1 x0 c.requires.free done.like done.went done.values done.stops in
     let unit = (d.layer y0).fixed.unit in let size = (d.layer y0).size in
     let given = done.given i.is_safe (b.under x0) e call begun part none in
-    let written = c.in-Ok-write_zero_bytes.ensures.room (one.intact tt i) tt in
+    let written = c.in-Ok-write_zero_bytes.ensures.does.room (one.intact tt i) tt in
     given_on (IsLeft c.args.zeroing (d.vacant y1) (d.zeroed y1)) (IsLeft c.args.zeroing (d.vacant y2) (d.zeroed y2)) unit size c.args.offset c.args.n c.in-Ok.part.1
     (λ u p whole of was. left_on d (λ _. ⊤) (IsApart (d.layer y1).fixed.unit c.args.offset gap) c.args.zeroing y1 y2 p (λ keep. tt) (subst (λ (f : Fixed). IsApart f.unit c.args.offset gap p) (sym done.like.fixed) (begun_apart unit size c.args.offset start u p done.part.0 (given.none_before u whole) of)) written was)
     given.given
