@@ -22,6 +22,7 @@ pub mod MappingCalls
 pub mod Ensuring
 pub mod Writing
 pub mod Works
+pub mod Marking
 pub mod Rewriting
 pub mod Discarding
 pub mod Zeroing

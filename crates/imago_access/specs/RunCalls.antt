@@ -1,8 +1,9 @@
 -- What changes of a range do that are carried out run by run, to a driver and to the layers below it.
-use Rattle.std.specs.Prelude.{◌≡◌, ◌⊎◌, ⊤, ℕ, ◌+◌, ◌<◌, ◌≤◌, List, ◌∷◌, ◌++◌, Option, Result, OnOk, IfOk, IfErr, length, true}
+use Rattle.std.specs.Prelude.{◌≡◌, ◌⊎◌, ⊤, ℕ, ◌+◌, ◌<◌, ◌≤◌, List, ◌∷◌, ◌++◌, Option, Result, OnOk, IfOk, IfErr, IsTrue, length, true}
 use Rattle.imago_storage.specs.Disk.{Value, Shows, byte}
 use Rattle.imago_storage.specs.Steps.{Call, IsIn, IsOut}
 use Rattle.imago_storage.specs.declared.fault.Fault.{Fault}
+use Rattle.imago_storage.specs.declared.fault.Fault.TheVariants.{Memory, Storage}
 use Rattle.imago_access.specs.declared.seen.Seen.{Ghosts}
 use Rattle.imago_access.specs.declared.seen.SeenBelow.{Ghosts as GhostsBelow}
 use Rattle.imago_access.specs.declared.access.zeroing.Zeroing.{Zeroing}
@@ -14,7 +15,7 @@ use Rattle.imago_access.specs.ChainLooks.{ShowBytes}
 use Rattle.imago_access.specs.Changes.{Committed, Cancelled}
 use Rattle.imago_access.specs.Discards.{GivesDiscarded}
 use Rattle.imago_access.specs.Failing.{FailsOver}
-use Rattle.imago_access.specs.Files.{WasNotCutOff, files}
+use Rattle.imago_access.specs.Files.{WasNotCutOff, SomeRose, files}
 use Rattle.imago_access.specs.Parts.{IsPartOf, IsUncutPart, announces, PartCause, MappedCause}
 use Rattle.imago_access.specs.Room.{IsApart, IsUncutAt, Reaches, IsUndeclined, IsGivenUp, IsGivenUpTo, IsGivenUpBehind, LeavesRoom}
 use Rattle.imago_access.specs.Running.{IsIntact, IsBetween, Ran, RanAlone}
@@ -61,9 +62,23 @@ pub record DoesWork {D St B T : Type 0} (g : Ghosts D St) (u : GhostsBelow B) (w
       → LeavesRoom g (WorkKeeps work) (IsApart (g.layer old.0).fixed.unit (start_of work) (extent_of work)) old.0 new.0
   pub began : (d : D) (call : Call) → g.began d call old.0 → IsPartOf call (start_of work) (extent_of work) → OnOk result (g.began d call new.0)
 
+-- What a refusal leaves of an image of a format that marks failures, where a change of a driver alone may have been done in part: a storage's
+-- fault has marked it, and want of memory has marked it or left it safe.
+abbrev pub MarksAlone : {D St : Type 0} → Ghosts D St → D → D → Fault → Type 0
+MarksAlone g old new Storage = IsTrue (g.layer old).fixed.marks → IsTrue (g.layer new).failed
+MarksAlone g old new Memory = IsTrue (g.layer old).fixed.marks → IsTrue (g.layer new).failed ⊎ (g.safe old → g.safe new)
+MarksAlone g old new fault = ⊤
+
+-- the same over the layers below: a fault of the top's own storages has marked it, and one that was intact is safe
+abbrev pub MarksTop : {D St B : Type 0} → Ghosts D St → GhostsBelow B → D × B → D × B → Fault → Type 0
+MarksTop g u old new Storage = IsTrue (g.layer old.0).fixed.marks → SomeRose (files g old.0) (files g new.0) → IsTrue (g.layer new.0).failed
+MarksTop g u old new Memory = IsTrue (g.layer old.0).fixed.marks → IsTrue (g.layer new.0).failed ⊎ (IsIntact g u old.0 old.1 → g.safe new.0)
+MarksTop g u old new fault = ⊤
+
 -- why it is refused, as part of a call that was begun and announces that all of its range will be written
 pub record WorkRefused {D St B T : Type 0} (g : Ghosts D St) (u : GhostsBelow B) (work : Work) (result : Result T Fault) (old new : D × B) : Type 0 where
   pub failed : IfErr result (FailsOver g u old new)
+  pub marks : IfErr result (MarksTop g u old new)
   pub cause : IsIntact g u old.0 old.1 → (d : D) (call : Call) → g.began d call old.0
       → IsUncutPart (g.layer old.0) call (start_of work) (extent_of work) → true ≡ announces call
       → IfErr result (PartCause (u.under old.1) (g.layer old.0) (start_of work) (extent_of work) (g.own_cause d (u.under old.1) call)

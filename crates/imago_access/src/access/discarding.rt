@@ -11,7 +11,7 @@ ghost use Rattle.imago_access.specs.Stops.{GivesAny, GivesBelow};
 ghost use Rattle.imago_access.specs.Running.{IsIntactChain, RanChain};
 ghost use Rattle.imago_access.specs.ChainCalls.{chain_refusal, EndsAtOnce, CallRefused, GivesUnitsUp, IsCarriedOut, IsDoneInPart};
 ghost use Rattle.imago_access.specs.Failing.{Fails};
-ghost use Rattle.imago_access.specs.RunCalls.{DiscardStops, DiscardsAlone, GivesUpUnits, RangeRefused, ReachesUnits, StaysBegun};
+ghost use Rattle.imago_access.specs.RunCalls.{DiscardStops, DiscardsAlone, GivesUpUnits, RangeRefused, ReachesUnits, StaysBegun, MarksAlone};
 
 use crate::access::FormatAccess;
 use crate::drivers::FormatDriverInstance;
@@ -79,6 +79,7 @@ fn discard_all<D: FormatDriverInstance>(
     ensures room { D.safe driver.old → WasNotCutOff result → GivesUp D.Seen offset n driver.old driver.new }
     ensures gives_up { GivesUpUnits D.Seen offset n result driver.old driver.new }
     ensures failed { IfErr result (Fails D.Seen driver.old driver.new) }
+    ensures marks { IfErr result (MarksAlone D.Seen driver.old driver.new) }
     ensures cause { RangeRefused D.Seen offset n result driver.old driver.new }
 {
     let end = offset + n;
@@ -115,6 +116,7 @@ impl<D: FormatDriverInstance> FormatAccess<D> {
         ensures room { IsIntactChain D.Seen self.old → WasNotCutOff result → GivesUp D.Seen offset length self.old.0 self.new.0 }
         ensures gives_up { GivesUnitsUp D.Seen (discard_to_any offset length) result self.old self.new }
         ensures failed { IfErr result (Fails D.Seen self.old.0 self.new.0) }
+        ensures marks { IfErr result (MarksAlone D.Seen self.old.0 self.new.0) }
         ensures cause { CallRefused D.Seen (discard_to_any offset length) result self.old self.new }
     {
         self.check_change(offset, length)?;
@@ -143,6 +145,7 @@ impl<D: FormatDriverInstance> FormatAccess<D> {
         ensures room { IsIntactChain D.Seen self.old → WasNotCutOff result → GivesUp D.Seen offset length self.old.0 self.new.0 }
         ensures gives_up { GivesUnitsUp D.Seen (discard_to_backing offset length) result self.old self.new }
         ensures failed { IfErr result (Fails D.Seen self.old.0 self.new.0) }
+        ensures marks { IfErr result (MarksAlone D.Seen self.old.0 self.new.0) }
         ensures cause { CallRefused D.Seen (discard_to_backing offset length) result self.old self.new }
     {
         self.check_change(offset, length)?;

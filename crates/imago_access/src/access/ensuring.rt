@@ -7,9 +7,10 @@ ghost use Rattle.imago_access.specs.Mappings.{IsHomeRun, IsMappedRun, IsTopRun};
 ghost use Rattle.imago_access.specs.Refusals.{barrier};
 ghost use Rattle.imago_access.specs.declared.mapping.Mapping.TheVariants as deep;
 ghost use Rattle.imago_access.specs.Stops.{GivesAnnounced};
-ghost use Rattle.imago_access.specs.Running.{IsIntactChain, RanChain};
+ghost use Rattle.imago_access.specs.Running.{IsIntactChain, RanChain, below_ghosts};
 ghost use Rattle.imago_access.specs.ChainCalls.{ChainStays, ChainFails, chain_refusal, AllUnasked, ChainEnsures, EndsAtOnce, IfMild, CallRefused};
 ghost use Rattle.imago_access.specs.Changes.{asking};
+ghost use Rattle.imago_access.specs.RunCalls.{MarksTop};
 
 use crate::access::FormatAccess;
 use crate::access::writing::settle;
@@ -46,6 +47,7 @@ impl<D: FormatDriverInstance> FormatAccess<D> {
         ensures like { IsLike (D.layer self.old.0) (D.layer self.new.0) }
         ensures ran { RanChain D.Seen (WasNotCutOff result) (GivesAnnounced overwrite offset length) self.old self.new }
         ensures failed { IfErr result (ChainFails D.Seen self.old self.new) }
+        ensures marks { IfErr result (MarksTop D.Seen (below_ghosts D.Seen) self.old self.new) }
         ensures cause { CallRefused D.Seen (ensure offset length overwrite) result self.old self.new }
     {
         self.check_change(offset, length)?;

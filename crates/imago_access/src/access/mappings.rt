@@ -13,6 +13,7 @@ ghost use Rattle.imago_access.specs.ChainCalls.{ChainStays, ChainFails, chain_re
 ghost use Rattle.imago_access.specs.Failing.{Fails};
 ghost use Rattle.imago_access.specs.PreparingCalls.{Cancels, CommitRefused, Commits, nowhere};
 ghost use Rattle.imago_access.specs.Changes.{asking};
+ghost use Rattle.imago_access.specs.Going.{Marks, MarksOver};
 
 use crate::access::FormatAccess;
 use crate::drivers::FormatDriverInstance;
@@ -51,6 +52,7 @@ impl<D: FormatDriverInstance> FormatAccess<D> {
         ensures free { IsErr result → IsFree (D.layer self.new.0) }
         ensures ran { RanChain D.Seen (WasNotCutOff result) GivesNone self.old self.new }
         ensures failed { IfErr result (ChainFails D.Seen self.old self.new) }
+        ensures marks { IfErr result (MarksOver D.Seen self.old.0 self.new.0) }
         ensures cause { CallRefused D.Seen (prepare offset length overwrite) result self.old self.new }
     {
         self.check_change(offset, length)?;
@@ -128,6 +130,7 @@ impl<D: FormatDriverInstance> FormatAccess<D> {
         ensures ran { RanChain D.Seen (WasNotCutOff result) (GivesBytes guest bytes.now) self.old self.new }
         ensures below { self.new.1 ≡ self.old.1 }
         ensures failed { IfErr result (Fails D.Seen self.old.0 self.new.0) }
+        ensures marks { IfErr result (Marks D.Seen self.old.0 self.new.0) }
         ensures cause { IsIntactChain D.Seen self.old → IfErr result (ChainMappedCause D.Seen guest place bytes.now self.old self.new) }
     {
         self.check_change(guest, bytes.len() as u64)?;

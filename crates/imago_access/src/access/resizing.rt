@@ -4,7 +4,7 @@ ghost use Rattle.imago_storage.specs.Steps.{grow, shrink};
 ghost use Rattle.imago_access.specs.Layer.{IsFree};
 ghost use Rattle.imago_access.specs.Chain.{Each};
 ghost use Rattle.imago_access.specs.Files.{WasNotCutOff};
-ghost use Rattle.imago_access.specs.Going.{AtOnce, Went, LookedUnder};
+ghost use Rattle.imago_access.specs.Going.{AtOnce, Went, LookedUnder, Marks, MarksOver};
 ghost use Rattle.imago_access.specs.Refusals.{barrier, IsBarred};
 ghost use Rattle.imago_access.specs.Resizes.{fill_of};
 ghost use Rattle.imago_access.specs.Running.{IsIntactChain, below_ghosts};
@@ -41,6 +41,7 @@ impl<D: FormatDriverInstance> FormatAccess<D> {
         ensures intact { WasNotCutOff result → StaysIntact D.Seen self.old self.new }
         ensures stops { IsIntactChain D.Seen self.old → GrowthStops D.Seen self.old self.new }
         ensures failed { IfErr result (ChainFails D.Seen self.old self.new) }
+        ensures marks { IfErr result (MarksOver D.Seen self.old.0 self.new.0) }
         ensures cause { ChainGrowthRefused D.Seen size mode result self.old self.new }
     {
         self.driver.resize_grow(alloc, &mut self.below, size, mode)
@@ -61,6 +62,7 @@ impl<D: FormatDriverInstance> FormatAccess<D> {
         ensures intact { WasNotCutOff result → StaysIntact D.Seen self.old self.new }
         ensures stops { IsIntactChain D.Seen self.old → ShrinkStops D.Seen size self.old self.new }
         ensures failed { IfErr result (Fails D.Seen self.old.0 self.new.0) }
+        ensures marks { IfErr result (Marks D.Seen self.old.0 self.new.0) }
         ensures cause { ChainShrinkRefused D.Seen size result self.old self.new }
     {
         self.driver.resize_shrink(alloc, size)
@@ -83,6 +85,7 @@ impl<D: FormatDriverInstance> FormatAccess<D> {
         ensures longer { IsIntactChain D.Seen self.old → (D.layer self.old.0).size ≤ size → GrowthStops D.Seen self.old self.new }
         ensures shorter { IsIntactChain D.Seen self.old → size < (D.layer self.old.0).size → ShrinkStops D.Seen size self.old self.new }
         ensures failed { IfErr result (ChainFails D.Seen self.old self.new) }
+        ensures marks { IfErr result (MarksOver D.Seen self.old.0 self.new.0) }
         ensures growth { (D.layer self.old.0).size ≤ size → ChainGrowthRefused D.Seen size mode result self.old self.new }
         ensures shrinking { size < (D.layer self.old.0).size → ChainShrinkRefused D.Seen size result self.old self.new }
     {

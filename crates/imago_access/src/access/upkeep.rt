@@ -6,7 +6,7 @@ ghost use Rattle.imago_access.specs.Layer.{IsFree, IsLike};
 ghost use Rattle.imago_access.specs.Chain.{Each, EndsAt};
 ghost use Rattle.imago_access.specs.Layers.{chain, layers};
 ghost use Rattle.imago_access.specs.Files.{Pairs, IsKept, IsStale, Unasked, files_of, files};
-ghost use Rattle.imago_access.specs.Going.{Went};
+ghost use Rattle.imago_access.specs.Going.{Went, Marks};
 ghost use Rattle.imago_access.specs.Refusals.{barrier, SomeFailed, IsBarred};
 ghost use Rattle.imago_access.specs.Stops.{IsWritten, GivesNone};
 ghost use Rattle.imago_access.specs.Running.{IsIntactChain, RanChain};
@@ -36,6 +36,7 @@ impl<D: FormatDriverInstance> FormatAccess<D> {
         ensures ran { RanChain D.Seen (IsOk result) GivesNone self.old self.new }
         ensures below { self.new.1 ≡ self.old.1 }
         ensures failed { IfErr result (Fails D.Seen self.old.0 self.new.0) }
+        ensures marks { IfErr result (Marks D.Seen self.old.0 self.new.0) }
         ensures cause { D.safe self.old.0 → IfErr result (RefusesFlush D.Seen self.old.0 self.new.0) }
     {
         self.driver.flush(alloc)
@@ -54,6 +55,7 @@ impl<D: FormatDriverInstance> FormatAccess<D> {
         ensures like { IsLike (D.layer self.old.0) (D.layer self.new.0) }
         ensures ran { RanChain D.Seen (IsOk result) GivesNone self.old self.new }
         ensures below { self.new.1 ≡ self.old.1 }
+        ensures marks { IfErr result (Marks D.Seen self.old.0 self.new.0) }
         ensures cause { IfErr result (RefusesFlush D.Seen self.old.0 self.new.0) }
     {
         self.driver.sync()

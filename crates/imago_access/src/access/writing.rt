@@ -9,10 +9,10 @@ ghost use Rattle.imago_access.specs.Going.{Went};
 ghost use Rattle.imago_access.specs.Spending.{IsMine};
 ghost use Rattle.imago_access.specs.Refusals.{barrier};
 ghost use Rattle.imago_access.specs.Stops.{GivesBytes};
-ghost use Rattle.imago_access.specs.Running.{RanChain};
+ghost use Rattle.imago_access.specs.Running.{RanChain, below_ghosts};
 ghost use Rattle.imago_access.specs.ChainCalls.{ChainFails, chain_refusal, EndsAtOnce, IfMild, CallRefused, IsCarriedOut, IsDoneInPart, TakesNear};
 ghost use Rattle.imago_access.specs.Failing.{Fails};
-ghost use Rattle.imago_access.specs.RunCalls.{GivesMappingUp, SettlesMapping, SettlingRefused, SettlingStops, DoesWork, RunIsUncut, ShowsAll, ShowsRun, WorkRefused, writing};
+ghost use Rattle.imago_access.specs.RunCalls.{GivesMappingUp, SettlesMapping, SettlingRefused, SettlingStops, DoesWork, RunIsUncut, ShowsAll, ShowsRun, WorkRefused, writing, MarksAlone, MarksTop};
 
 use crate::access::FormatAccess;
 use crate::below::ReadBelow;
@@ -30,6 +30,7 @@ pub(crate) fn abandon<D: FormatDriverInstance>(
     requires { IsMine D.Seen mapping.state (D.layer driver.old) }
     ensures ok { GivesMappingUp D.Seen mapping.state driver.old driver.new }
     ensures safe { D.safe driver.old → D.safe driver.new }
+    ensures failed { (D.layer driver.new).failed ≡ (D.layer driver.old).failed }
     ensures room { D.safe driver.old → Takes D.Seen (λ _. ⊤) driver.old driver.new }
     ensures lasts { D.lasts driver.old → D.lasts driver.new }
     ensures began { (d : D) (call : Call) → D.began d call driver.old → D.began d call driver.new }
@@ -59,6 +60,7 @@ pub(crate) fn settle<D: FormatDriverInstance>(
     ensures began { (d : D) (call : Call) → D.began d call driver.old → OnOk result (D.began d call driver.new) }
     ensures stops { SettlingStops D.Seen driver.old driver.new }
     ensures failed { IfErr result (Fails D.Seen driver.old driver.new) }
+    ensures marks { IfErr result (MarksAlone D.Seen driver.old driver.new) }
     ensures cause { SettlingRefused D.Seen result driver.old driver.new }
 {
     match driver.commit_data_mapping(alloc, mapping) {
@@ -170,6 +172,7 @@ impl<D: FormatDriverInstance> FormatAccess<D> {
         ensures ran { RanChain D.Seen (WasNotCutOff result) (GivesBytes offset bytes.now) self.old self.new }
         ensures room { TakesNear D.Seen offset (length bytes.now) result self.old self.new }
         ensures failed { IfErr result (ChainFails D.Seen self.old self.new) }
+        ensures marks { IfErr result (MarksTop D.Seen (below_ghosts D.Seen) self.old self.new) }
         ensures cause { CallRefused D.Seen (write offset bytes.now) result self.old self.new }
     {
         self.check_change(offset, bytes.len() as u64)?;

@@ -5,15 +5,15 @@ ghost use Rattle.imago_access.specs.Layer.{Layer, IsFree, IsLike};
 ghost use Rattle.imago_access.specs.Room.{Takes};
 ghost use Rattle.imago_access.specs.Files.{WasNotCutOff};
 ghost use Rattle.imago_access.specs.PartCalls.{IsPart, PartRefused};
-ghost use Rattle.imago_access.specs.Going.{Went};
+ghost use Rattle.imago_access.specs.Going.{Went, Marks};
 ghost use Rattle.imago_access.specs.Changes.{Rewrites, PartRewrites, ToZero, Wrote};
 ghost use Rattle.imago_access.specs.Parts.{IsPartOf};
 ghost use Rattle.imago_access.specs.Refusals.{barrier};
 ghost use Rattle.imago_access.specs.Stops.{KeepsStops, GivesBytes, GivesZero};
-ghost use Rattle.imago_access.specs.Running.{IsIntact, RanChain};
+ghost use Rattle.imago_access.specs.Running.{IsIntact, RanChain, below_ghosts};
 ghost use Rattle.imago_access.specs.ChainCalls.{ChainFails, chain_refusal, EndsAtOnce, IfMild, CallRefused, GivesUnitsUp, GivesUpNear, IsCarriedOut, IsDoneInPart, TakesNear, ZeroesUnits};
 ghost use Rattle.imago_access.specs.Failing.{Fails};
-ghost use Rattle.imago_access.specs.RunCalls.{AreZeroTo, CutsNoUnit, DoesWork, EndsCutNone, IsLeftIn, LeavesUnits, LeavesUnitsBehind, LeavesUnitsTo, MappedRefused, RanAnywhere, RangeRefused, ReachesUnits, RunIsUncut, ShowsZeroRun, ShowsZeroTo, ShowsZeroes, StaysBegun, WorkRefused, ZeroesAlone, ZeroingLeaves, writing_zeroes, zeroing_by};
+ghost use Rattle.imago_access.specs.RunCalls.{AreZeroTo, CutsNoUnit, DoesWork, EndsCutNone, IsLeftIn, LeavesUnits, LeavesUnitsBehind, LeavesUnitsTo, MappedRefused, RanAnywhere, RangeRefused, ReachesUnits, RunIsUncut, ShowsZeroRun, ShowsZeroTo, ShowsZeroes, StaysBegun, WorkRefused, ZeroesAlone, ZeroingLeaves, writing_zeroes, zeroing_by, MarksAlone, MarksTop};
 
 use crate::access::FormatAccess;
 use crate::access::discarding::is_declined;
@@ -89,6 +89,7 @@ fn write_mapped_zeroes<D: FormatDriverInstance>(
     ensures ran { RanAnywhere D.Seen (WasNotCutOff result) (GivesBytes guest (replicate n 0)) driver.old driver.new }
     ensures began { (d : D) (call : Call) → D.began d call driver.old → OnOk result (D.began d call driver.new) }
     ensures failed { IfErr result (Fails D.Seen driver.old driver.new) }
+    ensures marks { IfErr result (MarksAlone D.Seen driver.old driver.new) }
     ensures cause { MappedRefused D.Seen guest place n result driver.old driver.new }
 {
     let mut done = 0;
@@ -188,6 +189,7 @@ fn zero_by_driver<D: FormatDriverInstance>(
     ensures began { (d : D) (call : Call) → D.began d call driver.old → IsPartOf call offset n → OnOk result (D.began d call driver.new) }
     ensures stops { D.safe driver.old → (below : List Layer) → KeepsStops D.Seen below (GivesZero offset n) driver.old driver.new }
     ensures failed { IfErr result (Fails D.Seen driver.old driver.new) }
+    ensures marks { IfErr result (Marks D.Seen driver.old driver.new) }
     ensures cause { RangeRefused D.Seen offset n result driver.old driver.new }
 {
     let end = offset + n;
@@ -283,6 +285,7 @@ impl<D: FormatDriverInstance> FormatAccess<D> {
         ensures room { TakesNear D.Seen offset length result self.old self.new }
         ensures zeroed { ZeroesUnits D.Seen (write_zeroes offset length) result self.old self.new }
         ensures failed { IfErr result (ChainFails D.Seen self.old self.new) }
+        ensures marks { IfErr result (MarksTop D.Seen (below_ghosts D.Seen) self.old self.new) }
         ensures cause { CallRefused D.Seen (write_zeroes offset length) result self.old self.new }
     {
         self.check_change(offset, length)?;
@@ -312,6 +315,7 @@ impl<D: FormatDriverInstance> FormatAccess<D> {
         ensures room { GivesUpNear D.Seen offset length result self.old self.new }
         ensures gives_up { GivesUnitsUp D.Seen (discard_to_zero offset length) result self.old self.new }
         ensures failed { IfErr result (ChainFails D.Seen self.old self.new) }
+        ensures marks { IfErr result (MarksTop D.Seen (below_ghosts D.Seen) self.old self.new) }
         ensures cause { CallRefused D.Seen (discard_to_zero offset length) result self.old self.new }
     {
         self.check_change(offset, length)?;

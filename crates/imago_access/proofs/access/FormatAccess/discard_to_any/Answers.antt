@@ -11,6 +11,8 @@ use Rattle.imago_access.proofs.Discarding.{allowed_fits, chain_ran, chain_done, 
 use Rattle.imago_access.proofs.Refusing.{refusal_cause}
 use Rattle.imago_access.proofs.Running.{ran_same}
 use Rattle.imago_access.proofs.Units.{unit_aligned}
+use Rattle.imago_access.proofs.Marking.{alone_mild}
+use Rattle.imago_access.specs.RunCalls.{MarksAlone}
 use Rattle.imago_access.proofs.access.FormatAccess.discard_to_any.Goals as goal
 use Rattle.imago_access.specs.Running.{below_ghosts}
 
@@ -48,3 +50,7 @@ returns-in_err-check_change-clause-cause g c = λ i. let d = g.D.Seen in let a =
     let others = files_of d (a ∷ ds) in
     passed c.from_residual.result (ChangeCause (map d.layer ds) (d.layer a) call (d.own_cause a (map d.layer ds) call) others others) c.in_err-check_change.field-0.0 c.from_residual.ensures.1
     (refusal_cause (map d.layer ds) (d.layer a) call (d.own_cause a (map d.layer ds) call) others others c.in_err-check_change.field-0.0 (λ some. some) c.in_err-check_change.ensures.err)
+
+pub returns-in_err-check_change-clause-marks : goal.returns-in_err-check_change-clause-marks
+returns-in_err-check_change-clause-marks g c = let d = g.D.Seen in let a = c.args.self.now.0 in let ds = c.args.self.now.1 in
+    passed c.from_residual.result (MarksAlone d a a) c.in_err-check_change.field-0.0 c.from_residual.ensures.1 (alone_mild d a a c.in_err-check_change.field-0.0 c.in_err-check_change.ensures.mild)

@@ -19,6 +19,8 @@ use Rattle.imago_access.proofs.Running.{ran_same, intact_by, ran_seen}
 use Rattle.imago_access.proofs.Units.{overflows_chain, unit_aligned}
 use Rattle.imago_access.proofs.Zeroing.{zero_ok, zero_err}
 use Rattle.imago_access.proofs.Uncut.{own_part}
+use Rattle.imago_access.proofs.Marking.{top_mild, top_by}
+use Rattle.imago_access.specs.RunCalls.{MarksTop}
 use Rattle.imago_access.proofs.access.FormatAccess.discard_to_zero.Goals as goal
 
 pub returns-in_err-check_change-clause-ran : goal.returns-in_err-check_change-clause-ran
@@ -67,3 +69,11 @@ returns-clause-room g c = let d = g.D.Seen in let old = c.self.inside.driver in
 pub returns-clause-gives_up : goal.returns-clause-gives_up
 returns-clause-gives_up g c = let d = g.D.Seen in let old = c.self.inside.driver in let call = discard_to_zero c.args.offset c.args.length in
     rw (← c.self.view_is) (λ i undeclined. c.zero_all.ensures.leaves (intact_by layers d (below_ghosts d) old c.self.inside.below i) old call (g.met.D.FormatDriverInstance.begins old call) (record { start = omega arith; end = omega arith }) undeclined)
+
+pub returns-in_err-check_change-clause-marks : goal.returns-in_err-check_change-clause-marks
+returns-in_err-check_change-clause-marks g c = let d = g.D.Seen in let a = c.args.self.now.0 in let ds = c.args.self.now.1 in
+    passed c.from_residual.result (MarksTop d (below_ghosts d) (a, ds) (a, ds)) c.in_err-check_change.field-0.0 c.from_residual.ensures.1 (top_mild d (below_ghosts d) a a ds ds c.in_err-check_change.field-0.0 c.in_err-check_change.ensures.mild)
+
+pub returns-clause-marks : goal.returns-clause-marks
+returns-clause-marks g c = let d = g.D.Seen in
+    rw (← c.self.view_is) (IfErr-weaker c.zero_all.result _ _ (top_by layers d (below_ghosts d) c.self.inside.driver c.zero_all.new.driver c.self.inside.below c.zero_all.new.below) c.zero_all.ensures.refused.marks)

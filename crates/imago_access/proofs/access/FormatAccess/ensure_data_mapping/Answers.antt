@@ -2,6 +2,7 @@ use Rattle.std.proofs.Common.{◌≡◌, ◌∷◌, ◌++◌, ◌+◌, refl, ari
 use Rattle.std.specs.Prelude.{⊤, Err, is_some}
 use Rattle.std.proofs.lemmas.Bool.{cases_lt}
 use Rattle.imago_storage.specs.Steps.{ensure}
+use Rattle.imago_storage.proofs.Parts.{passed}
 use Rattle.imago_access.specs.Layer.{IsFree, hold_of, Cell, through}
 use Rattle.imago_access.specs.Layers.{chain, layers}
 use Rattle.imago_access.specs.Chain.{at, disk_of, unit_of_chain}
@@ -20,6 +21,8 @@ use Rattle.imago_access.proofs.Running.{ran_same, ran_seen, ran_gives}
 use Rattle.imago_access.proofs.Units.{layer_aligned, overflows_chain}
 use Rattle.imago_access.proofs.ImageCauses.{failed_alone}
 use Rattle.imago_access.proofs.Uncut.{own_part}
+use Rattle.imago_access.proofs.Marking.{top_mild, top_over, top_alone, top_by}
+use Rattle.imago_access.specs.RunCalls.{MarksTop}
 use Rattle.imago_access.proofs.access.FormatAccess.ensure_data_mapping.Goals as goal
 use Rattle.imago_access.specs.Running.{below_ghosts}
 use Rattle.imago_access.proofs.Looking.{seen_by}
@@ -214,3 +217,16 @@ returns-in-Err-settle-clause-err g c = let d = g.D.Seen in
       value = λ p low. at_alike (d.layer a0) (d.layer a2) under p size (ap (λ (cell : ℕ → Cell). through (cell p) (at under p)) (given_up_cell d m.state (d.layer a1) (d.layer a2) c.in-Ok.ensures.mine.0 spends ∙ made.cell));
       hold = λ p low. ap hold_of (laws.free_loose a2 (s.free c.in-Ok.ensures.mine.1) p ∙ sym (laws.free_loose a0 free p));
     }))
+
+pub returns-in_err-check_change-clause-marks : goal.returns-in_err-check_change-clause-marks
+returns-in_err-check_change-clause-marks g c = let d = g.D.Seen in let a = c.args.self.now.0 in let ds = c.args.self.now.1 in
+    passed c.from_residual.result (MarksTop d (below_ghosts d) (a, ds) (a, ds)) c.in_err-check_change.field-0.0 c.from_residual.ensures.1 (top_mild d (below_ghosts d) a a ds ds c.in_err-check_change.field-0.0 c.in_err-check_change.ensures.mild)
+
+pub returns-in-Err-clause-marks : goal.returns-in-Err-clause-marks
+returns-in-Err-clause-marks g c = let d = g.D.Seen in let r = c.prepare_data_mapping in
+    rw (← c.self.view_is) (top_over d (below_ghosts d) c.self.inside.driver r.new.self (layers c.self.inside.below) (layers r.new.below) c.in-Err.fault c.in-Err.ensures.does.refused.marks)
+
+pub returns-in-Err-settle-clause-marks : goal.returns-in-Err-settle-clause-marks
+returns-in-Err-settle-clause-marks g c = let d = g.D.Seen in let r = c.prepare_data_mapping in
+    rw (← c.self.view_is) (top_alone d (below_ghosts d) c.self.inside.driver r.new.self c.settle.new.driver (layers c.self.inside.below) (layers r.new.below) c.in-Err-settle.fault c.in-Ok.ensures.does.went.fixed
+    (λ i. c.in-Ok.ensures.does.went.safely (tt, i.is_seen) i.is_safe) c.in-Err-settle.ensures.marks)

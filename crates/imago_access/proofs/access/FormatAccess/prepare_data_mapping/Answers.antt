@@ -2,6 +2,7 @@ use Rattle.std.proofs.Common.{◌≡◌, ◌∷◌, ◌++◌, refl, map, ap, sym
 use Rattle.std.specs.Prelude.{is_some}
 use Rattle.std.proofs.lemmas.Result.{IfErr-weaker, IfOk-weaker}
 use Rattle.imago_storage.specs.Steps.{Stays, prepare}
+use Rattle.imago_storage.proofs.Parts.{passed}
 use Rattle.imago_access.specs.Layer.{IsFree}
 use Rattle.imago_access.specs.Layers.{layers}
 use Rattle.imago_access.specs.Chain.{disk_of}
@@ -17,6 +18,8 @@ use Rattle.imago_access.proofs.HoldingRuns.{ran_prepared}
 use Rattle.imago_access.proofs.Running.{ran_same, ran_seen}
 use Rattle.imago_access.proofs.MappingCalls.{not_prepared_stays, prepared_step, stateless_is, stateful_claims}
 use Rattle.imago_access.proofs.Uncut.{own_part}
+use Rattle.imago_access.proofs.Marking.{over_mild}
+use Rattle.imago_access.specs.Going.{MarksOver}
 use Rattle.imago_access.proofs.access.FormatAccess.prepare_data_mapping.Goals as goal
 use Rattle.imago_access.specs.Running.{below_ghosts}
 use Rattle.imago_access.proofs.Looking.{seen_by}
@@ -73,3 +76,7 @@ returns-clause-cause g c = let d = g.D.Seen in
     rw (← c.self.view_is) (λ intact. IfErr-weaker r.result _ _
     (λ e cause. change_cause (map d.layer under) (d.layer old) call (d.own_cause old (map d.layer under) call) (d.image old ∷ (d.extras old ++ files_of d under)) (d.image r.new.self ∷ (d.extras r.new.self ++ files_of d (layers r.new.below))) (λ some. some) (overflows_chain d.layer laws.aligned old under c.args.offset c.args.length) e cause)
     (r.ensures.does.refused.cause intact.is_safe intact.is_seen old call (laws.begins old call) (own_part (d.layer old) call) refl))
+
+pub returns-in_err-check_change-clause-marks : goal.returns-in_err-check_change-clause-marks
+returns-in_err-check_change-clause-marks g c = let d = g.D.Seen in let a = c.args.self.now.0 in let ds = c.args.self.now.1 in
+    passed c.from_residual.result (MarksOver d a a) c.in_err-check_change.field-0.0 c.from_residual.ensures.1 (over_mild d a a c.in_err-check_change.field-0.0 c.in_err-check_change.ensures.mild)

@@ -1,6 +1,7 @@
 use Rattle.std.proofs.Common.{◌≡◌, ◌∷◌, length, refl, true, IfErr, map}
 use Rattle.std.proofs.lemmas.Result.{IfErr-weaker}
 use Rattle.imago_storage.specs.Steps.{Call, write}
+use Rattle.imago_storage.proofs.Parts.{passed}
 use Rattle.imago_access.specs.Chain.{unit_of_chain}
 use Rattle.imago_access.specs.Files.{WasNotCutOff, files_of}
 use Rattle.imago_access.specs.Layers.{chain, layers}
@@ -13,6 +14,8 @@ use Rattle.imago_access.proofs.Running.{ran_same, intact_by, ran_seen}
 use Rattle.imago_access.proofs.Units.{overflows_chain}
 use Rattle.imago_access.proofs.Writing.{write_ok, write_err}
 use Rattle.imago_access.proofs.Uncut.{own_part}
+use Rattle.imago_access.proofs.Marking.{top_mild, top_by}
+use Rattle.imago_access.specs.RunCalls.{MarksTop}
 use Rattle.imago_access.proofs.access.FormatAccess.write.Goals as goal
 
 pub returns-in_err-check_change-clause-ran : goal.returns-in_err-check_change-clause-ran
@@ -46,3 +49,11 @@ returns-clause-cause g c = λ i. let d = g.D.Seen in let a = c.args.self.now.0 i
 pub returns-clause-room : goal.returns-clause-room
 returns-clause-room g c = let d = g.D.Seen in
     rw (← c.self.view_is) (λ i whole. c.write_all.ensures.does.room (intact_by layers d (below_ghosts d) c.self.inside.driver c.self.inside.below i) whole)
+
+pub returns-in_err-check_change-clause-marks : goal.returns-in_err-check_change-clause-marks
+returns-in_err-check_change-clause-marks g c = let d = g.D.Seen in let a = c.args.self.now.0 in let ds = c.args.self.now.1 in
+    passed c.from_residual.result (MarksTop d (below_ghosts d) (a, ds) (a, ds)) c.in_err-check_change.field-0.0 c.from_residual.ensures.1 (top_mild d (below_ghosts d) a a ds ds c.in_err-check_change.field-0.0 c.in_err-check_change.ensures.mild)
+
+pub returns-clause-marks : goal.returns-clause-marks
+returns-clause-marks g c = let d = g.D.Seen in
+    rw (← c.self.view_is) (IfErr-weaker c.write_all.result _ _ (top_by layers d (below_ghosts d) c.self.inside.driver c.write_all.new.driver c.self.inside.below c.write_all.new.below) c.write_all.ensures.refused.marks)

@@ -1,9 +1,12 @@
 use Rattle.std.proofs.lemmas.Result.{IfErr-weaker}
+use Rattle.imago_storage.proofs.Parts.{passed}
 use Rattle.imago_access.specs.Layers.{layers}
 use Rattle.imago_access.specs.Files.{WasNotCutOff, files_of, files}
 use Rattle.imago_access.specs.Stops.{GivesBytes}
 use Rattle.imago_access.proofs.Running.{ran_same}
 use Rattle.imago_access.proofs.MappingCalls.{ran_mapped, write_mapped_cause}
+use Rattle.imago_access.proofs.Marking.{plain_mild}
+use Rattle.imago_access.specs.Going.{Marks}
 use Rattle.imago_access.proofs.access.FormatAccess.write_mapped.Goals as goal
 use Rattle.imago_access.specs.Running.{below_ghosts}
 
@@ -26,3 +29,7 @@ returns-clause-cause g c = let d = g.D.Seen in
     rw (← c.self.view_is) (λ intact. IfErr-weaker r.result _ _
     (λ e cause. write_mapped_cause d.layer g.met.D.FormatDriverInstance.aligned old under c.args.guest c.args.place c.args.bytes.now (files d old) (files d r.new.self) others others e cause)
     (r.ensures.refused.cause intact.is_safe))
+
+pub returns-in_err-check_change-clause-marks : goal.returns-in_err-check_change-clause-marks
+returns-in_err-check_change-clause-marks g c = let d = g.D.Seen in let a = c.args.self.now.0 in let ds = c.args.self.now.1 in
+    passed c.from_residual.result (Marks d a a) c.in_err-check_change.field-0.0 c.from_residual.ensures.1 (plain_mild d a a c.in_err-check_change.field-0.0 c.in_err-check_change.ensures.mild)

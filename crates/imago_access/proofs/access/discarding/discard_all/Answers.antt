@@ -12,6 +12,7 @@ use Rattle.imago_access.proofs.Discarding.{declined_mild, undeclined, like_both,
 use Rattle.imago_access.proofs.Running.{went_weaker, ran_same}
 use Rattle.imago_access.proofs.Units.{layer_aligned}
 use Rattle.imago_access.proofs.ImageCauses.{failed_behind}
+use Rattle.imago_access.proofs.Marking.{alone_behind, alone_plain}
 use Rattle.imago_access.proofs.access.discarding.discard_all.Goals as goal
 use Rattle.imago_access.specs.Running.{alone_ghosts}
 
@@ -69,6 +70,7 @@ returns-in-Ok-2 g c = let d = g.D.Seen in
           let reach : Reaches unit size at rest c.in-Ok.start 0 = subst (λ (m : ℕ). Reaches unit size at rest c.in-Ok.start m) none (subst (λ (f : Fixed). Reaches f.unit size at rest c.in-Ok.start c.in-Ok.given_up) l.like.fixed (subst (λ (z : ℕ). Reaches (d.layer mid).fixed.unit z at rest c.in-Ok.start c.in-Ok.given_up) l.like.size (done.reach s))) in
           given_rest (d.vacant last) unit size c.args.offset c.args.n (d.vacant mid) at c.in-Ok.start (λ p is. (done.room s tt).free p tt is) (l.given safe) reach;
       failed = tt;
+      marks = tt;
       cause = λ safe below x call began part. tt;
     }
 
@@ -93,6 +95,7 @@ returns-in-Err g c = let d = g.D.Seen in
       gives_up = λ safe below x call began part none.
           absurd (undeclined below (d.layer mid) at rest (d.own_cause x below call) (files d mid) (files d last) c.in-Err.fault none declined (done.refused.cause (safe_on safe) below x call (l.began x call began part) (record { start = omega (arith, part.start, l.from); end = omega (arith, part.end, l.from) })));
       failed = tt;
+      marks = tt;
       cause = λ safe below x call began part. tt;
     }
 
@@ -114,6 +117,7 @@ returns-in-Err-2 g c = let d = g.D.Seen in
       room = λ safe whole. gives_up_both d c.args.offset c.args.n at rest first mid last l.from (omega (arith, l.from)) (l.room safe) (done.room (safe_on safe) whole);
       gives_up = λ safe below x call began part none. tt;
       failed = failed_behind (files d c.args.driver.now) (files d c.loop-at.driver) (files d c.discard_part.new.driver) c.in-Err.fault (l.ran []).went.later done.refused.failed;
+      marks = alone_behind d first mid last c.in-Err.fault l.like.fixed safe_on (alone_plain d mid last c.in-Err.fault done.refused.marks);
       cause = λ safe below x call began part.
           let within : IsPartOf call c.loop-at.at (c.args.offset + c.args.n - c.loop-at.at) = record { start = omega (arith, part.start, l.from); end = omega (arith, part.end, l.from) } in
           let still = (l.ran []).went.safely (tt, tt) safe in

@@ -1,5 +1,6 @@
 use Rattle.imago_access.specs.Stops.{Left, GivesSettled}
 use Rattle.imago_access.proofs.Stopping.{passes_on}
+use Rattle.imago_access.proofs.Marking.{alone_failed, alone_mild, given_back_mild}
 use Rattle.imago_access.proofs.access.writing.settle.Goals as goal
 
 pub returns-in-Ok-clause-stops : goal.returns-in-Ok-clause-stops
@@ -11,3 +12,12 @@ returns-in-Err-default-None-clause-stops g c = λ safe below. c.in-Err-default-N
 pub returns-in-Err-default-Some-clause-stops : goal.returns-in-Err-default-Some-clause-stops
 returns-in-Err-default-Some-clause-stops g c = λ safe below. let d = g.D.Seen in let l = d.layer c.args.driver.now in
     passes_on (Left below l (d.image c.args.driver.now).bytes d.sound l.size (GivesSettled below l)) (d.image c.args.driver.now) (d.image c.commit_data_mapping.new.self) (d.image c.abandon.new.driver) c.abandon.ensures.none.0 (c.in-Err-default-Some.ensures.commits.stops safe c.requires below)
+
+pub returns-in-Err-default-None-clause-marks : goal.returns-in-Err-default-None-clause-marks
+returns-in-Err-default-None-clause-marks g c = let d = g.D.Seen in
+    alone_failed d c.args.driver.now c.commit_data_mapping.new.self c.in-Err-default-None.fault (c.in-Err-default-None.ensures.refused.spent c.in-Err-default-None.field-0-1-is).1
+
+pub returns-in-Err-default-Some-clause-marks : goal.returns-in-Err-default-Some-clause-marks
+returns-in-Err-default-Some-clause-marks g c = let d = g.D.Seen in
+    let back = rw c.in-Err-default-Some.field-0-1-is at c.in-Err-default-Some.ensures.refused.back in
+    alone_mild d c.args.driver.now c.abandon.new.driver c.in-Err-default-Some.fault (given_back_mild d.tag c.args.mapping.state (d.layer c.args.driver.now) c.in-Err-default-Some.fault back.1)

@@ -16,6 +16,7 @@ use Rattle.imago_access.proofs.Uncut.{uncut_start, uncut_end, uncut_later, part_
 use Rattle.imago_access.proofs.Room.{room_same, room_then}
 use Rattle.imago_access.proofs.Writing.{rest_of, rest_long, gives_rest, part_rest, shown_none, shown_more}
 use Rattle.imago_access.proofs.ImageCauses.{failed_then}
+use Rattle.imago_access.proofs.Marking.{top_behind}
 use Rattle.imago_access.proofs.access.writing.write_all.Goals as goal
 
 pub loop-done-init : goal.loop-done-init
@@ -73,6 +74,8 @@ returns-in-Err-clause-refused g c = record {
   failed = let d = g.D.Seen in let b = g.B.SeenBelow in let l = c.loop-done.invariant in
       let y0 = c.args.driver.now in let y1 = c.loop-done.driver in let y2 = c.write_run.new.driver in
       failed_then (files d y0) (files d y1) (files d y2) (b.files_under c.args.below.now) (b.files_under c.loop-done.below) (b.files_under c.write_run.new.below) c.in-Err.fault l.ran.went.later l.ran.looked.later c.in-Err.ensures.refused.failed;
+  marks = let d = g.D.Seen in let b = g.B.SeenBelow in let l = c.loop-done.invariant in
+      top_behind d b c.args.driver.now c.loop-done.driver c.write_run.new.driver c.args.below.now c.loop-done.below c.write_run.new.below c.in-Err.fault l.ran.went.fixed (l.ran.went.faults tt) (l.ran.intact tt) c.in-Err.ensures.refused.marks;
   cause = λ i e call begun part says. let d = g.D.Seen in let b = g.B.SeenBelow in let l = c.loop-done.invariant in let done = c.loop-done.done in let bytes = c.args.bytes.now in
       let y0 = c.args.driver.now in let y1 = c.loop-done.driver in let y2 = c.write_run.new.driver in let x0 = c.args.below.now in let x1 = c.loop-done.below in let x2 = c.write_run.new.below in
       let mid = l.ran.intact tt i in
@@ -98,5 +101,6 @@ returns-clause-does g c = record {
 pub returns-clause-refused : goal.returns-clause-refused
 returns-clause-refused g c = record {
   failed = tt;
+  marks = tt;
   cause = λ i e call begun part says. tt;
 }

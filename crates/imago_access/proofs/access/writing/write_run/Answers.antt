@@ -17,6 +17,7 @@ use Rattle.imago_access.proofs.ImageCauses.{failed_alone}
 use Rattle.imago_access.specs.Room.{IsApart}
 use Rattle.imago_access.proofs.Room.{takes_run, apart_loose}
 use Rattle.imago_access.proofs.Works.{takes_none, takes_none_thrice}
+use Rattle.imago_access.proofs.Marking.{top_over, top_alone, alone_before, alone_plain}
 use Rattle.imago_access.proofs.access.writing.write_run.Goals as goal
 
 pub returns-in-Ok-settle-clause-does : goal.returns-in-Ok-settle-clause-does
@@ -46,6 +47,7 @@ returns-in-Ok-settle-clause-does g c = record {
 pub returns-in-Ok-settle-clause-refused : goal.returns-in-Ok-settle-clause-refused
 returns-in-Ok-settle-clause-refused g c = record {
   failed = tt;
+  marks = tt;
   cause = λ i e call begun part says. tt;
 }
 
@@ -77,6 +79,10 @@ returns-in-Err-settle-clause-refused g c = record {
       let a0 = c.args.driver.now in let a1 = c.prepare_data_mapping.new.self in let a2 = c.write_mapped.new.self in let a3 = c.settle.new.driver in
       failed_alone (files d a0) (files d a2) (files d a3) (b.files_under c.args.below.now) (b.files_under c.prepare_data_mapping.new.below) c.in-Err-settle.fault
       (later_all_both (files d a0) (files d a1) (files d a2) c.in-Ok.ensures.does.went.later c.in-Ok-write_mapped.ensures.writes.went.later) c.in-Ok.ensures.below.later c.in-Err-settle.ensures.failed;
+  marks = let d = g.D.Seen in let b = g.B.SeenBelow in let a0 = c.args.driver.now in let a1 = c.prepare_data_mapping.new.self in let x0 = c.args.below.now in let x1 = c.prepare_data_mapping.new.below in
+      let a2 = c.write_mapped.new.self in let a3 = c.settle.new.driver in
+      top_alone d b a0 a2 a3 x0 x1 c.in-Err-settle.fault (c.in-Ok-write_mapped.ensures.writes.like.fixed ∙ c.in-Ok.ensures.does.went.fixed)
+      (λ i. c.in-Ok-write_mapped.ensures.writes.went.safely tt (c.in-Ok.ensures.does.went.safely (tt, i.is_seen) i.is_safe)) c.in-Err-settle.ensures.marks;
   cause = λ i e call begun part says. let d = g.D.Seen in let b = g.B.SeenBelow in
       let a0 = c.args.driver.now in let a1 = c.prepare_data_mapping.new.self in let a2 = c.write_mapped.new.self in let a3 = c.settle.new.driver in let x0 = c.args.below.now in let x1 = c.prepare_data_mapping.new.below in
       let bytes = c.args.bytes.now in
@@ -113,6 +119,10 @@ returns-in-Err-write_mapped-clause-refused g c = record {
   failed = let d = g.D.Seen in let b = g.B.SeenBelow in
       let a0 = c.args.driver.now in let a1 = c.prepare_data_mapping.new.self in let a2 = c.write_mapped.new.self in
       rw (c.abandon.ensures.none.0, c.abandon.ensures.none.1) (failed_alone (files d a0) (files d a1) (files d a2) (b.files_under c.args.below.now) (b.files_under c.prepare_data_mapping.new.below) c.in-Err-write_mapped.fault c.in-Ok.ensures.does.went.later c.in-Ok.ensures.below.later c.in-Err-write_mapped.ensures.refused.failed);
+  marks = let d = g.D.Seen in let b = g.B.SeenBelow in let a0 = c.args.driver.now in let a1 = c.prepare_data_mapping.new.self in let x0 = c.args.below.now in let x1 = c.prepare_data_mapping.new.below in
+      let a2 = c.write_mapped.new.self in let a3 = c.abandon.new.driver in
+      top_alone d b a0 a1 a3 x0 x1 c.in-Err-write_mapped.fault c.in-Ok.ensures.does.went.fixed (λ i. c.in-Ok.ensures.does.went.safely (tt, i.is_seen) i.is_safe)
+      (alone_before d a1 a2 a3 c.in-Err-write_mapped.fault c.abandon.ensures.failed c.abandon.ensures.safe (alone_plain d a1 a2 c.in-Err-write_mapped.fault c.in-Err-write_mapped.ensures.refused.marks));
   cause = λ i e call begun part says. let d = g.D.Seen in let b = g.B.SeenBelow in let m = c.in-Ok.mapping in let n = c.length-n.result in let place = c.offset.result in
       let a0 = c.args.driver.now in let a1 = c.prepare_data_mapping.new.self in let a2 = c.write_mapped.new.self in let a3 = c.abandon.new.driver in let x0 = c.args.below.now in let x1 = c.prepare_data_mapping.new.below in
       let bytes = c.args.bytes.now in let most : n ≤ length bytes = rw c.length-n.ensures c.in-Ok.ensures.run.0.0 in let claim = claim_of d.claim m.state in
@@ -141,6 +151,7 @@ returns-in-Err-clause-does g c = record {
 pub returns-in-Err-clause-refused : goal.returns-in-Err-clause-refused
 returns-in-Err-clause-refused g c = record {
   failed = c.in-Err.ensures.does.refused.failed;
+  marks = let d = g.D.Seen in let b = g.B.SeenBelow in top_over d b c.args.driver.now c.prepare_data_mapping.new.self c.args.below.now c.prepare_data_mapping.new.below c.in-Err.fault c.in-Err.ensures.does.refused.marks;
   cause = λ i e call begun part says. c.in-Err.ensures.does.refused.cause i.is_safe i.is_seen e call begun part says;
 }
 

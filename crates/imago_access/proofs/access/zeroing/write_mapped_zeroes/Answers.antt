@@ -13,6 +13,7 @@ use Rattle.imago_access.proofs.Running.{ran_same, ran_both, ran_weaker}
 use Rattle.imago_access.proofs.ImageCauses.{failed_behind}
 use Rattle.imago_access.proofs.Units.{layer_aligned}
 use Rattle.imago_access.proofs.Zeroing.{zeroes_long, wrote_none, wrote_more, zeroes_wider, mapped_later}
+use Rattle.imago_access.proofs.Marking.{alone_behind, alone_plain}
 use Rattle.imago_access.proofs.access.zeroing.write_mapped_zeroes.Goals as goal
 
 pub loop-done-init : goal.loop-done-init
@@ -65,6 +66,7 @@ returns-in-Err g c = let d = g.D.Seen in let l = c.loop-done.invariant in
       room = λ safe mild. takes_both d (λ _. ⊤) (λ _. ⊤) (λ _. ⊤) y0 y1 y2 (λ p there. (tt, tt)) (l.room safe) (e.writes.room (safe_on safe) mild);
       began = λ x call begun. tt;
       failed = failed_behind (files d y0) (files d y1) (files d y2) c.in-Err.fault (l.ran []).went.later e.refused.failed;
+      marks = alone_behind d y0 y1 y2 c.in-Err.fault l.like.fixed safe_on (alone_plain d y1 y2 c.in-Err.fault e.refused.marks);
       cause = λ safe.
           mapped_later (d.layer y0) (d.layer y1) c.args.guest c.args.place c.args.n done count (files d y0) (files d y1) (files d y2) l.like.fixed l.like.size (l.wrote safe).home
           (g.met.D.FormatDriverInstance.safe_runs y0 safe) (g.met.D.FormatDriverInstance.safe_runs y1 (safe_on safe)) (layer_aligned d.layer g.met.D.FormatDriverInstance.aligned y0).positive inside (l.ran []).went.later c.in-Err.fault

@@ -16,6 +16,7 @@ use Rattle.imago_access.specs.Stops.{GivesZero}
 use Rattle.imago_access.proofs.Running.{ran_same, ran_both, ran_weaker}
 use Rattle.imago_access.proofs.Zeroing.{zero_wider, zero_stays, cause_behind}
 use Rattle.imago_access.proofs.ImageCauses.{failed_then}
+use Rattle.imago_access.proofs.Marking.{top_behind}
 use Rattle.imago_access.proofs.access.zeroing.zero_all.Goals as goal
 
 pub loop-at-init : goal.loop-at-init
@@ -86,6 +87,8 @@ returns-in-Err-clause-refused g c = record {
   failed = let d = g.D.Seen in let b = g.B.SeenBelow in let l = c.loop-at.invariant in
       let y0 = c.args.driver.now in let y1 = c.loop-at.driver in let y2 = c.zero_run.new.driver in
       failed_then (files d y0) (files d y1) (files d y2) (b.files_under c.args.below.now) (b.files_under c.loop-at.below) (b.files_under c.zero_run.new.below) c.in-Err.fault l.ran.went.later l.ran.looked.later c.in-Err.ensures.refused.failed;
+  marks = let d = g.D.Seen in let b = g.B.SeenBelow in let l = c.loop-at.invariant in
+      top_behind d b c.args.driver.now c.loop-at.driver c.zero_run.new.driver c.args.below.now c.loop-at.below c.zero_run.new.below c.in-Err.fault l.ran.went.fixed (l.ran.went.faults tt) (l.ran.intact tt) c.in-Err.ensures.refused.marks;
   cause = λ i e call begun part says. let d = g.D.Seen in let b = g.B.SeenBelow in let l = c.loop-at.invariant in
       let y0 = c.args.driver.now in let y1 = c.loop-at.driver in let y2 = c.zero_run.new.driver in let x0 = c.args.below.now in let x1 = c.loop-at.below in let x2 = c.zero_run.new.below in
       let at_now = c.loop-at.at in let rest = c.args.offset + c.args.n - at_now in
@@ -107,5 +110,6 @@ returns-clause-does g c = record {
 pub returns-clause-refused : goal.returns-clause-refused
 returns-clause-refused g c = record {
   failed = tt;
+  marks = tt;
   cause = λ i e call begun part says. tt;
 }

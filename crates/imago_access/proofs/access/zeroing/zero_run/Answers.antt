@@ -1,4 +1,4 @@
-use Rattle.std.proofs.Common.{ℕ, ◌≡◌, ◌⊎◌, ◌-◌, ◌+◌, ◌++◌, List, arith, inl, inr, ◌≤◌, sym, subst}
+use Rattle.std.proofs.Common.{refl, ℕ, ◌≡◌, ◌⊎◌, ◌-◌, ◌+◌, ◌++◌, List, arith, inl, inr, ◌≤◌, sym, subst}
 use Rattle.std.specs.Prelude.{⊤}
 use Rattle.std.proofs.lemmas.Bool.{cases_lt}
 use Rattle.imago_access.specs.Files.{IsMild, files}
@@ -16,6 +16,7 @@ use Rattle.imago_access.proofs.Zeroing.{zero_wider, zero_stays, ran_zeroed, caus
 use Rattle.imago_access.proofs.FilePairs.{later_all_same}
 use Rattle.imago_access.proofs.ImageCauses.{failed_left, failed_then}
 use Rattle.imago_access.proofs.Works.{room_apart}
+use Rattle.imago_access.proofs.Marking.{top_alone, top_behind, alone_plain}
 use Rattle.imago_access.proofs.access.zeroing.zero_run.Goals as goal
 
 pub returns-in-Err-clause-does : goal.returns-in-Err-clause-does
@@ -31,6 +32,8 @@ returns-in-Err-clause-refused g c = record {
   failed = let d = g.D.Seen in
       let y0 = c.args.driver.now in let y1 = c.zero_by_driver.new.driver in let others = g.B.SeenBelow.files_under c.args.below.now in
       failed_left (files d y0) (files d y1) others others c.in-Err.fault c.in-Err.ensures.failed;
+  marks = let d = g.D.Seen in let b = g.B.SeenBelow in let y0 = c.args.driver.now in let y1 = c.zero_by_driver.new.driver in let x0 = c.args.below.now in
+      top_alone d b y0 y0 y1 x0 x0 c.in-Err.fault refl (λ i. i.is_safe) (alone_plain d y0 y1 c.in-Err.fault c.in-Err.ensures.marks);
   cause = λ i e call begun part says. let d = g.D.Seen in let b = g.B.SeenBelow in
       let y0 = c.args.driver.now in let y1 = c.zero_by_driver.new.driver in let x0 = c.args.below.now in
       part_cause_left (b.under x0) (d.layer y0) c.args.offset c.args.n (d.own_cause e (b.under x0) call) (files d y0) (files d y1) (b.files_under x0) (b.files_under x0) c.in-Err.fault (c.in-Err.ensures.cause i.is_safe (b.under x0) e call begun part.part);
@@ -64,6 +67,7 @@ returns-in-Ok-write_zero_bytes-clause-does g c = record {
 pub returns-in-Ok-write_zero_bytes-clause-refused : goal.returns-in-Ok-write_zero_bytes-clause-refused
 returns-in-Ok-write_zero_bytes-clause-refused g c = record {
   failed = tt;
+  marks = tt;
   cause = λ i e call begun part says. tt;
 }
 
@@ -96,6 +100,10 @@ returns-in-Err-write_zero_bytes-clause-refused g c = record {
   failed = let d = g.D.Seen in let b = g.B.SeenBelow in
       let y0 = c.args.driver.now in let y1 = c.zero_by_driver.new.driver in let y2 = c.write_zero_bytes.new.driver in let others = b.files_under c.args.below.now in
       failed_then (files d y0) (files d y1) (files d y2) others others (b.files_under c.write_zero_bytes.new.below) c.in-Err-write_zero_bytes.fault c.in-Ok.ensures.went.later (later_all_same others) c.in-Err-write_zero_bytes.ensures.refused.failed;
+  marks = let d = g.D.Seen in let b = g.B.SeenBelow in let done = c.in-Ok.ensures in
+      let y0 = c.args.driver.now in let y1 = c.zero_by_driver.new.driver in let y2 = c.write_zero_bytes.new.driver in let x0 = c.args.below.now in let x2 = c.write_zero_bytes.new.below in
+      let one = ran_zeroed d b g.met.D.FormatDriverInstance.free_loose ⊤ c.args.offset c.args.n y0 y1 x0 c.requires.free done.like done.went done.values done.stops in
+      top_behind d b y0 y1 y2 x0 x0 x2 c.in-Err-write_zero_bytes.fault done.like.fixed (done.went.faults tt) (one.intact tt) c.in-Err-write_zero_bytes.ensures.refused.marks;
   cause = λ i e call begun part says. let d = g.D.Seen in let b = g.B.SeenBelow in
       let y0 = c.args.driver.now in let y1 = c.zero_by_driver.new.driver in let y2 = c.write_zero_bytes.new.driver in let x0 = c.args.below.now in let x2 = c.write_zero_bytes.new.below in
       let start = c.in-Ok.part.0 in let done = c.in-Ok.ensures in

@@ -1,0 +1,112 @@
+-- What refusals leave of an image of a format that marks failures, from a part of a change to the whole of it.
+use Rattle.std.proofs.Common.{◌≡◌, [], inl, inr, ℕ, List, ◌∷◌, sym, subst, ap}
+use Rattle.std.specs.Prelude.{Option, Some, None, IsTrue, Bool}
+use Rattle.imago_storage.specs.Calls.{IsFaultless}
+use Rattle.imago_storage.specs.State.{StorageState, Rose}
+use Rattle.imago_storage.specs.declared.fault.Fault.{Fault}
+use Rattle.imago_storage.specs.declared.fault.Fault.TheVariants.{Failed, MissingData, Memory, Storage}
+use Rattle.imago_access.specs.declared.seen.Seen.{Ghosts}
+use Rattle.imago_access.specs.declared.seen.SeenBelow.{Ghosts as GhostsBelow}
+use Rattle.imago_access.specs.Layer.{Layer, Fixed}
+use Rattle.imago_access.specs.Files.{Pairs, IsMild, SomeRose, files}
+use Rattle.imago_access.specs.Going.{Marks, MarksOver}
+use Rattle.imago_access.specs.RunCalls.{MarksAlone, MarksTop}
+use Rattle.imago_access.specs.Running.{IsIntact}
+use Rattle.imago_access.specs.Spending.{GivenBack}
+use Rattle.imago_access.proofs.Looking.{seen_by}
+use Rattle.imago_access.proofs.Running.{intact_by}
+
+-- a storage that has failed behind a call in which none did has failed since that call
+some_rose_since : (olds mids news : List StorageState) → Pairs IsFaultless olds mids → SomeRose olds news → SomeRose mids news
+some_rose_since (old ∷ olds) (mid ∷ mids) (new ∷ news) none rose = elim rose [
+  | inl first ↦ inl (subst (λ (n : ℕ). Rose n new.faults) (sym none.0.0) first)
+  | inr more ↦ inr (some_rose_since olds mids news none.1 more)
+]
+some_rose_since (old ∷ olds) (mid ∷ mids) [] none rose = absurd rose
+some_rose_since [] mids news none rose = absurd rose
+some_rose_since (old ∷ olds) [] news none rose = absurd none
+
+-- nothing is given back for want of memory, nor by a storage that failed
+pub given_back_mild : {St : Type 0} (tag : St → ℕ) (state : Option St) (layer : Layer) (e : Fault) → GivenBack tag state layer e → IsMild e
+given_back_mild tag None layer Memory given = absurd given
+given_back_mild tag (Some s) layer Memory given = absurd given
+given_back_mild tag None layer Storage given = absurd given
+given_back_mild tag (Some s) layer Storage given = absurd given
+given_back_mild tag state layer e given = tt
+
+module _ {D St : Type 0} (g : Ghosts D St) where
+  -- what never changes of a driver
+  marks_on : (a b : D) → (g.layer b).fixed ≡ (g.layer a).fixed → IsTrue (g.layer a).fixed.marks → IsTrue (g.layer b).fixed.marks
+  marks_on a b fixed marks = subst (λ (f : Fixed). IsTrue f.marks) (sym fixed) marks
+
+  pub plain_mild : (a b : D) (e : Fault) → IsMild e → Marks g a b e
+  plain_mild a b Memory mild = absurd mild
+  plain_mild a b Storage mild = absurd mild
+  plain_mild a b e mild = tt
+
+  pub over_mild : (a b : D) (e : Fault) → IsMild e → MarksOver g a b e
+  over_mild a b Memory mild = absurd mild
+  over_mild a b Storage mild = absurd mild
+  over_mild a b e mild = tt
+
+  pub over_plain : (a b : D) (e : Fault) → Marks g a b e → MarksOver g a b e
+  over_plain a b Storage marked = λ marks rose. marked marks
+  over_plain a b Memory marked = marked
+  over_plain a b e marked = tt
+
+  pub alone_mild : (a b : D) (e : Fault) → IsMild e → MarksAlone g a b e
+  alone_mild a b Memory mild = absurd mild
+  alone_mild a b Storage mild = absurd mild
+  alone_mild a b e mild = tt
+
+  pub alone_failed : (a b : D) (e : Fault) → IsTrue (g.layer b).failed → MarksAlone g a b e
+  alone_failed a b Memory failed = λ marks. inl failed
+  alone_failed a b Storage failed = λ marks. failed
+  alone_failed a b e failed = tt
+
+  pub alone_plain : (a b : D) (e : Fault) → Marks g a b e → MarksAlone g a b e
+  alone_plain a b Storage marked = marked
+  alone_plain a b Memory marked = λ marks. elim (marked marks) [ inl failed ↦ inl failed | inr spared ↦ inr (λ safe. spared.0.safely safe) ]
+  alone_plain a b e marked = tt
+
+  -- behind a call that left it safe, and before one that leaves it as it is
+  pub alone_behind : (a b c : D) (e : Fault) → (g.layer b).fixed ≡ (g.layer a).fixed → (g.safe a → g.safe b) → MarksAlone g b c e → MarksAlone g a c e
+  alone_behind a b c Storage fixed safely marked = λ marks. marked (marks_on a b fixed marks)
+  alone_behind a b c Memory fixed safely marked = λ marks. elim (marked (marks_on a b fixed marks)) [ inl failed ↦ inl failed | inr on ↦ inr (λ safe. on (safely safe)) ]
+  alone_behind a b c e fixed safely marked = tt
+
+  pub alone_before : (a b c : D) (e : Fault) → (g.layer c).failed ≡ (g.layer b).failed → (g.safe b → g.safe c) → MarksAlone g a b e → MarksAlone g a c e
+  alone_before a b c Storage same safely marked = λ marks. subst (λ (f : Bool). IsTrue f) (sym same) (marked marks)
+  alone_before a b c Memory same safely marked = λ marks. elim (marked marks) [ inl failed ↦ inl (subst (λ (f : Bool). IsTrue f) (sym same) failed) | inr on ↦ inr (λ safe. safely (on safe)) ]
+  alone_before a b c e same safely marked = tt
+
+-- the same over the layers below
+module _ {D St B : Type 0} (g : Ghosts D St) (u : GhostsBelow B) where
+  pub top_mild : (a b : D) (x y : B) (e : Fault) → IsMild e → MarksTop g u (a, x) (b, y) e
+  top_mild a b x y Memory mild = absurd mild
+  top_mild a b x y Storage mild = absurd mild
+  top_mild a b x y e mild = tt
+
+  pub top_over : (a b : D) (x y : B) (e : Fault) → MarksOver g a b e → MarksTop g u (a, x) (b, y) e
+  top_over a b x y Storage marked = marked
+  top_over a b x y Memory marked = λ marks. elim (marked marks) [ inl failed ↦ inl failed | inr spared ↦ inr (λ i. spared.0.safely i.is_safe) ]
+  top_over a b x y e marked = tt
+
+  -- a call of the driver alone, behind one that left an intact image safe
+  pub top_alone : (a b c : D) (x y : B) (e : Fault) → (g.layer b).fixed ≡ (g.layer a).fixed → (IsIntact g u a x → g.safe b) → MarksAlone g b c e → MarksTop g u (a, x) (c, y) e
+  top_alone a b c x y Storage fixed safely marked = λ marks rose. marked (marks_on g a b fixed marks)
+  top_alone a b c x y Memory fixed safely marked = λ marks. elim (marked (marks_on g a b fixed marks)) [ inl failed ↦ inl failed | inr on ↦ inr (λ i. on (safely i)) ]
+  top_alone a b c x y e fixed safely marked = tt
+
+  -- behind a call in which no storage failed
+  pub top_behind : (a b c : D) (x y z : B) (e : Fault) → (g.layer b).fixed ≡ (g.layer a).fixed → Pairs IsFaultless (files g a) (files g b) → (IsIntact g u a x → IsIntact g u b y)
+      → MarksTop g u (b, y) (c, z) e → MarksTop g u (a, x) (c, z) e
+  top_behind a b c x y z Storage fixed none intact marked = λ marks rose. marked (marks_on g a b fixed marks) (some_rose_since (files g a) (files g b) (files g c) none rose)
+  top_behind a b c x y z Memory fixed none intact marked = λ marks. elim (marked (marks_on g a b fixed marks)) [ inl failed ↦ inl failed | inr on ↦ inr (λ i. on (intact i)) ]
+  top_behind a b c x y z e fixed none intact marked = tt
+
+-- as a chain sees the layers below
+pub top_by : {D St B C : Type 0} (f : B → C) (g : Ghosts D St) (u : GhostsBelow C) (a b : D) (x y : B) (e : Fault) → MarksTop g (seen_by f u) (a, x) (b, y) e → MarksTop g u (a, f x) (b, f y) e
+top_by f g u a b x y Storage marked = marked
+top_by f g u a b x y Memory marked = λ marks. elim (marked marks) [ inl failed ↦ inl failed | inr on ↦ inr (λ i. on (intact_by f g u a x i)) ]
+top_by f g u a b x y e marked = tt
