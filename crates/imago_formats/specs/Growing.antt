@@ -1,7 +1,7 @@
 -- How a storage is made longer for a disk that it is no shorter than.
 use Rattle.std.specs.Prelude.{◌≡◌, ◌⊎◌, ◌<◌, ◌≤◌, ℕ, List, length, slice_index, IsTrue}
 use Rattle.imago_storage.specs.State.{StorageState, Rose, InStep}
-use Rattle.imago_storage.specs.Calls.{Cause}
+use Rattle.imago_storage.specs.Calls.{Cause, NotResized, UnlessUnsupported}
 use Rattle.imago_storage.specs.Through.{Stops}
 use Rattle.imago_storage.specs.declared.fault.Fault.{Fault}
 use Rattle.imago_storage.specs.declared.fault.Fault.TheVariants.{Unsupported}
@@ -43,3 +43,7 @@ pub record NotGrown (old new : StorageState) (from : ℕ) (fault : Fault) : Type
   pub kept : IsTrue old.shape.keeps → (k : ℕ) → k < from → slice_index new.bytes k ≡ slice_index old.bytes k
   pub in_step : Rose old.refusals new.refusals ⊎ (InStep old → InStep new)
   pub stops : Stops (HasFirst old.bytes from) old new
+
+-- a storage that isn't cut off: all is as it was where it can't be, and else its bytes are
+abbrev pub NotCut : StorageState → StorageState → Fault → Type 0
+NotCut old new = UnlessUnsupported old new (NotResized old new)

@@ -2,8 +2,15 @@
 use Rattle.std.proofs.Common.{◌≡◌, refl}
 use Rattle.std.proofs.Math.Nat.{le_refl}
 use Rattle.imago_storage.specs.State.{StorageState}
+use Rattle.std.specs.Prelude.{Bool, length}
+use Rattle.imago_access.specs.declared.seen.Seen.{Ghosts}
 use Rattle.imago_access.specs.Files.{IsKept}
+use Rattle.imago_formats.specs.RawLayer.{raw_layer}
 
 -- opening asks nothing of the storage
 pub kept_same : (before image : StorageState) → image ≡ before → IsKept before image
 kept_same before image is = rw is (record { shape = refl; bytes = refl; refusals = refl; stop = refl; past = refl }, le_refl before.faults)
+
+-- a raw image over a storage in this state, opened for writing or not, whose size doesn't pass the storage's length
+abbrev pub IsRaw : {R St : Type 0} → Ghosts R St → StorageState → Bool → R → Type 0
+IsRaw r state writable d = (r.layer d ≡ raw_layer state (length state.bytes) writable) × r.lasts d

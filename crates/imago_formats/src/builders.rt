@@ -1,13 +1,12 @@
 // How raw images are opened and created.
-ghost use Rattle.std.specs.Prelude.{refl, ◌≡◌, length, true, false, Ok, Err, None, IsTrue, IfOk, IfErr};
+ghost use Rattle.std.specs.Prelude.{refl, ◌≡◌, true, false, Ok, Err, None, IsTrue, IfOk, IfErr};
 ghost use Rattle.imago_access.specs.Building.{OpensCreated, NotOpened};
 ghost use Rattle.imago_access.specs.declared.format.Format.TheVariants as format;
 ghost use Rattle.imago_access.specs.declared.format.PreallocateMode.TheVariants as mode;
 ghost use Rattle.std.proofs.Common.{ap};
 ghost use Rattle.imago_access.specs.Layer.{Layer};
 ghost use Rattle.imago_formats.specs.RawHome.{never};
-ghost use Rattle.imago_formats.specs.RawLayer.{raw_layer};
-ghost use Rattle.imago_formats.specs.RawOpening.{kept_same};
+ghost use Rattle.imago_formats.specs.RawOpening.{IsRaw, kept_same};
 ghost use Rattle.imago_formats.specs.Creating.{IsNewRaw, NotCreated};
 
 use crate::raw::{Raw, grow_storage, storage_mode};
@@ -41,21 +40,21 @@ impl<S: Storage> FormatDriverBuilder<S> for RawOpenBuilder<S> {
 
     ghost with_writable = { λ b writable. record b { base = record b.base { writable = writable } } };
 
-    ghost opens = { λ b d. let image = S.state b.base.image in (d.storage ≡ b.base.image) × (⟦<Raw<S> as Seen>⟧.layer d ≡ raw_layer image (length image.bytes) b.base.writable) × ⟦<Raw<S> as Seen>⟧.lasts d };
+    ghost opens = { λ b d. (d.storage ≡ b.base.image) × IsRaw ⟦<Raw<S> as Seen>⟧ (S.state b.base.image) b.base.writable d };
 
     ghost refuses = { λ b fault. ⊥ };
 
     ghost opened = { λ b d opens. record {
       format_is = refl;
-      writable_is = ap (λ (l : Layer). l.fixed.writable) opens.1;
+      writable_is = ap (λ (l : Layer). l.fixed.writable) opens.1.0;
       number_is = refl;
-      meant = λ alone. record { size = opens.2; exactly = never; cell = λ p low. refl };
+      meant = λ alone. record { size = opens.1.1; exactly = never; cell = λ p low. refl };
       kept = kept_same (S.state b.base.image) (S.state d.storage) (ap S.state opens.0);
       free = refl;
       runs = refl;
       sees = tt;
       still = tt;
-      safe = λ keeps sound. (keeps, opens.2);
+      safe = λ keeps sound. (keeps, opens.1.1);
     } };
 
     fn new(image: S) -> Self {
@@ -169,10 +168,12 @@ impl<S: Storage> FormatCreateBuilder<S> for RawCreateBuilder<S> {
         open_builder: F,
     ) -> Result<Raw<S>, Fault>
         requires { let c = ⟦<RawCreateBuilder<S> as FormatCreateBuilder<S>>⟧ in (s : S) → c.hands self s → F.takes open_builder s }
-        ensures ok { let c = ⟦<RawCreateBuilder<S> as FormatCreateBuilder<S>>⟧ in IfOk result (λ d. OpensCreated (c.hands self) (F.makes open_builder) (c.opens_with self) (λ b. ⟦<RawOpenBuilder<S> as FormatDriverBuilder<S>>⟧.opens b d)) }
+        ensures ok { let c = ⟦<RawCreateBuilder<S> as FormatCreateBuilder<S>>⟧ in let o = ⟦<RawOpenBuilder<S> as FormatDriverBuilder<S>>⟧ in
+            IfOk result (λ d. OpensCreated (c.hands self) (F.makes open_builder) (c.opens_with self) (λ b. o.opens b d)) }
         ensures format { IfOk result (λ d. (⟦<Raw<S> as Seen>⟧.layer d).fixed.format ≡ format.Raw) }
         ensures writable { IfOk result (λ d. IsTrue (⟦<Raw<S> as Seen>⟧.layer d).fixed.writable) }
-        ensures err { let c = ⟦<RawCreateBuilder<S> as FormatCreateBuilder<S>>⟧ in IfErr result (NotOpened (c.refuses self) (c.hands self) (F.makes open_builder) (c.opens_with self) ⟦<RawOpenBuilder<S> as FormatDriverBuilder<S>>⟧.refuses) }
+        ensures err { let c = ⟦<RawCreateBuilder<S> as FormatCreateBuilder<S>>⟧ in let o = ⟦<RawOpenBuilder<S> as FormatDriverBuilder<S>>⟧ in
+            IfErr result (NotOpened (c.refuses self) (c.hands self) (F.makes open_builder) (c.opens_with self) o.refuses) }
         // The gate isn't asked.
         ensures gate { gate.new ≡ gate.old }
     {

@@ -2,13 +2,12 @@
 ghost use Rattle.std.specs.Prelude.{◌≡◌, min, ◌-◌, ◌+◌, ◌≤◌, ◌<◌, ◌^◌, [], ⊤, refl, length, replicate, OnOk, IfOk, IfErr, IsTrue, None, Some, true};
 ghost use Rattle.std.proofs.Common.{inr};
 ghost use Rattle.std.proofs.Math.Nat.{le_refl};
-ghost use Rattle.imago_storage.specs.Steps.{Call};
-ghost use Rattle.imago_storage.specs.Calls.{Mixed, Later, Resized, NotResized, UnlessUnsupported};
+ghost use Rattle.imago_storage.specs.Calls.{Mixed, Later, Resized};
 ghost use Rattle.imago_storage.specs.Through.{WrittenThrough, NotWrittenThrough, Stops, StopsAsLong};
 ghost use Rattle.imago_storage.specs.declared.fault.Fault.{Fault};
 ghost use Rattle.imago_storage.specs.declared.fault.Fault.TheVariants.{ReadOnly, Unsupported};
 ghost use Rattle.imago_access.specs.Files.{WasNotCutOff};
-ghost use Rattle.imago_access.specs.Going.{AtOnce, Looked, LookedUnder, Marks};
+ghost use Rattle.imago_access.specs.Going.{AtOnce, RangeAtOnce, Looked, LookedUnder, Marks};
 ghost use Rattle.imago_access.specs.PartCalls.{DoesPart, PartRefused, ensures_zero};
 ghost use Rattle.imago_access.specs.Refusals.{own_refusal, barrier};
 ghost use Rattle.imago_access.specs.declared.mapping.ShallowMapping.TheVariants as shallow;
@@ -22,7 +21,7 @@ ghost use Rattle.std.specs.Borrow.{Lends, sem};
 ghost use Rattle.imago_formats.specs.contracts.raw.Raw.{the_row};
 ghost use Rattle.imago_formats.specs.RawLayer.{raw_layer, raw_text, RawCause};
 ghost use Rattle.imago_formats.specs.RawHome.{one_home, never};
-ghost use Rattle.imago_formats.specs.Growing.{CutTo, GrownTo, NotGrown};
+ghost use Rattle.imago_formats.specs.Growing.{CutTo, GrownTo, NotCut, NotGrown};
 
 use imago_access::{
     Format, FormatDriverInstance, PreallocateMode, PreparedDataMapping, ReadBelow, Seen,
@@ -144,7 +143,7 @@ impl<S: Storage> Raw<S> {
     ) -> Result<(u64, u64), Fault>
         ensures all { IfOk result (λ r. r ≡ (offset, length)) }
         ensures does { DoesPart ensures_zero ⟦<Raw<S> as Seen>⟧ offset length result self.old self.new }
-        ensures at_once { let d = ⟦<Raw<S> as Seen>⟧ in AtOnce d (own_refusal (d.layer self.old) offset length) (length ≡ 0) result self.old self.new }
+        ensures at_once { RangeAtOnce ⟦<Raw<S> as Seen>⟧ offset length result self.old self.new }
         ensures refused { PartRefused ⟦<Raw<S> as Seen>⟧ offset length result self.old self.new }
     {
         if length == 0 {
@@ -165,7 +164,7 @@ impl<S: Storage> Raw<S> {
     // The run from an offset on: all of the range that lies in the disk.
     fn run_from(&self, offset: u64, max_length: u64) -> (ShallowMapping, u64)
         ensures end { self.now.size ≤ offset → result ≡ (shallow.Eof, 0) }
-        ensures whole { offset < self.now.size → result ≡ (shallow.Raw 0 offset self.now.writable, min max_length (self.now.size - offset)) }
+        ensures run { offset < self.now.size → result ≡ (shallow.Raw 0 offset self.now.writable, min max_length (self.now.size - offset)) }
     {
         if offset >= self.size {
             return (ShallowMapping::Eof, 0);
@@ -181,8 +180,10 @@ impl<S: Storage> Raw<S> {
     // Makes the disk longer, and its storage as long. Refused, it leaves the size, and its storage no shorter than the disk.
     fn grow_to(&mut self, size: u64, mode: StorageMode) -> Result<(), Fault>
         requires { self.old.size ≤ size }
-        ensures ok { OnOk result (GrownTo (S.state self.old.storage) (S.state self.new.storage) self.old.size size × (self.new.size ≡ size)) }
-        ensures err { IfErr result (λ e. NotGrown (S.state self.old.storage) (S.state self.new.storage) self.old.size e × (self.new.size ≡ self.old.size)) }
+        ensures ok { OnOk result (GrownTo (S.state self.old.storage) (S.state self.new.storage) self.old.size size) }
+        ensures size { OnOk result (self.new.size ≡ size) }
+        ensures err { IfErr result (NotGrown (S.state self.old.storage) (S.state self.new.storage) self.old.size) }
+        ensures kept { IfErr result (λ e. self.new.size ≡ self.old.size) }
         ensures shape { (S.state self.new.storage).shape ≡ (S.state self.old.storage).shape }
         ensures later { Later (S.state self.old.storage) (S.state self.new.storage) }
         ensures writable { self.new.writable ≡ self.old.writable }
@@ -198,8 +199,10 @@ impl<S: Storage> Raw<S> {
 
     // Makes the disk shorter, and its storage as short. Refused, it leaves the size and each byte.
     fn shrink_to(&mut self, size: u64) -> Result<(), Fault>
-        ensures ok { OnOk result (Resized (S.state self.old.storage) (S.state self.new.storage) size × (self.new.size ≡ size)) }
-        ensures err { IfErr result (λ e. UnlessUnsupported (S.state self.old.storage) (S.state self.new.storage) (NotResized (S.state self.old.storage) (S.state self.new.storage)) e × (self.new.size ≡ self.old.size)) }
+        ensures ok { OnOk result (Resized (S.state self.old.storage) (S.state self.new.storage) size) }
+        ensures size { OnOk result (self.new.size ≡ size) }
+        ensures err { IfErr result (NotCut (S.state self.old.storage) (S.state self.new.storage)) }
+        ensures kept { IfErr result (λ e. self.new.size ≡ self.old.size) }
         ensures shape { (S.state self.new.storage).shape ≡ (S.state self.old.storage).shape }
         ensures later { Later (S.state self.old.storage) (S.state self.new.storage) }
         ensures writable { self.new.writable ≡ self.old.writable }
@@ -369,7 +372,7 @@ impl<S: Storage> FormatDriverInstance for Raw<S> {
         ensures room { let d = ⟦<Raw<S> as Seen>⟧ in d.sees self.old → IfOk result (NamesRoomIn d offset self.old) }
         ensures at_once { let d = ⟦<Raw<S> as Seen>⟧ in AtOnce d (barrier (d.layer self.old)) (max_length ≡ 0) result self.old self.new }
         ensures looked { let d = ⟦<Raw<S> as Seen>⟧ in Looked d (WasNotCutOff result) self.old self.new }
-        ensures began { let d = ⟦<Raw<S> as Seen>⟧ in OnOk result ((e : _) (call : Call) → d.began e call self.old → d.began e call self.new) }
+        ensures began { let d = ⟦<Raw<S> as Seen>⟧ in OnOk result ((e : _) (call : _) → d.began e call self.old → d.began e call self.new) }
         ensures failed { let d = ⟦<Raw<S> as Seen>⟧ in IfErr result (Fails d self.old self.new) }
         ensures marks { let d = ⟦<Raw<S> as Seen>⟧ in IfErr result (Marks d self.old self.new) }
         ensures cause { let d = ⟦<Raw<S> as Seen>⟧ in d.sees self.old → IfErr result (RefusesLookup d offset max_length self.old self.new) }

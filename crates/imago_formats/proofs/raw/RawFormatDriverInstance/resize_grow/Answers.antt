@@ -23,7 +23,7 @@ returns-in-Err-clause-grows g c =
     let r = c.args.self.now in
     let old = g.S.Storage.state r.storage in
     let new = g.S.Storage.state c.grow_to.new.self.storage in
-    let refused = c.in-Err.ensures.err.0 in
+    let refused = c.in-Err.ensures.err in
     record {
       ok = search rules;
       err = search rules;
@@ -33,7 +33,7 @@ returns-in-Err-clause-grows g c =
         failed = λ failed. failed;
         later = ((c.grow_to.ensures.shape, c.grow_to.ensures.later), tt);
         faults = λ mild. (ungrown_faultless old new r.size c.in-Err.fault refused mild, tt);
-        safely = λ mild safe. (keeps_on old new c.grow_to.ensures.shape safe.0, rw c.in-Err.ensures.err.1 (refused.long safe.1));
-        lasting = λ lasts. rw c.in-Err.ensures.err.1 (refused.long lasts);
+        safely = λ mild safe. (keeps_on old new c.grow_to.ensures.shape safe.0, rw c.in-Err.ensures.kept (refused.long safe.1));
+        lasting = λ lasts. rw c.in-Err.ensures.kept (refused.long lasts);
       };
     }

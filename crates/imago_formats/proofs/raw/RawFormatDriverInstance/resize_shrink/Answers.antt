@@ -8,6 +8,6 @@ returns-in-Ok-clause-shrinks g c = let r = c.args.self.now in record {
   ok = search rules;
   err = search rules;
   stops = λ safe below backed. shrunk_stops below (g.S.Storage.state r.storage) (g.S.Storage.state c.shrink_to.new.self.storage) r.size c.args.size r.writable
-      (GivesBelowPast below c.args.size) safe.1 c.in-Ok.ensures.ok.0;
+      (GivesBelowPast below c.args.size) safe.1 c.in-Ok.ensures.ok;
   went = search rules;
 }
