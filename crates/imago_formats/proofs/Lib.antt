@@ -1,2 +1,4 @@
 pub mod RawSteps
 pub mod Growing
+mod WordLemmas
+mod LineLemmas

@@ -1,8 +1,9 @@
-//! Drivers of the simple formats: raw images.
+//! Drivers of the simple formats: raw images, and the descriptors of VMDK images.
 #![tactic(auto)]
 
 mod builders;
 mod raw;
+mod vmdk;
 
 pub use builders::{RawCreateBuilder, RawOpenBuilder};
 pub use raw::{NoState, Raw};

@@ -1,0 +1,12 @@
+use Rattle.std.proofs.Common.{◌∙◌, ap, sym, arith, rules}
+use Rattle.imago_formats.specs.Descriptor.{extents_of}
+use Rattle.imago_formats.specs.DescriptorView.{kept_extents}
+use Rattle.imago_formats.proofs.LineLemmas.{size_kept, accepted}
+use Rattle.imago_formats.proofs.vmdk.reading.read_text.Goals as goal
+
+pub returns-in-Ok-check_size-clause-ok : goal.returns-in-Ok-check_size-clause-ok
+returns-in-Ok-check_size-clause-ok c =
+    let xs = c.in-Ok-read_lines.extents.items in
+    accepted c.args.text.now (kept_extents xs) c.in-Ok.ensures.ok.1 (omega arith) (search rules)
+    (ap extents_of (sym c.split_line.ensures.rest) ∙ c.in-Ok-read_lines.ensures.ok)
+    (rw (size_kept xs, ← c.deref.ensures.value) c.in-Ok-check_size.ensures.ok)

@@ -1,0 +1,43 @@
+-- How the program keeps extents, as contracts see them.
+use Rattle.std.specs.Prelude.{◌≡◌, List, ℕ, map, ◌++◌, Option, Result, Ok}
+use Rattle.imago_storage.specs.declared.fault.Fault.{Fault}
+use Rattle.imago_formats.specs.DescriptorWords.{◌>>=◌}
+use Rattle.std.specs.Option.{option_to_list}
+use Rattle.std.specs.String.{string_bytes}
+use Rattle.std.specs.declared.string.String.{String}
+use Rattle.std.specs.declared.alloc.Global.{Global}
+use denote.Ref.{Bor}
+use Rattle.imago_formats.specs.Descriptor.{said_by}
+use Rattle.imago_formats.specs.declared.vmdk.descriptor.Source.{Source}
+use Rattle.imago_formats.specs.declared.vmdk.descriptor.Source.TheVariants.{Flat, Zero}
+use Rattle.imago_formats.specs.declared.vmdk.descriptor.Extent.{Extent}
+
+-- the same, with its file named otherwise
+abbrev pub source_with : {N M : Type 0} → (N → M) → Source N → Source M
+source_with f (Flat name sector) = Flat (f name) sector
+source_with f Zero = Zero
+
+abbrev pub extent_with : {N M : Type 0} → (N → M) → Extent N → Extent M
+extent_with f x = record { access = x.access; sectors = x.sectors; source = source_with f x.source }
+
+-- as it is read from a line
+abbrev pub seen_source : Source (Bor (List ℕ)) → Source (List ℕ)
+seen_source x = source_with (λ name. name.now) x
+
+abbrev pub seen_extent : Extent (Bor (List ℕ)) → Extent (List ℕ)
+seen_extent x = extent_with (λ name. name.now) x
+
+-- as it is kept
+abbrev pub kept_extent : Extent (String Global) → Extent (List ℕ)
+kept_extent x = extent_with (λ name. string_bytes name) x
+
+abbrev pub kept_extents : List (Extent (String Global)) → List (Extent (List ℕ))
+kept_extents xs = map kept_extent xs
+
+-- new is old with the extent that a line names, if it names one
+abbrev pub AddsLine : List ℕ → List (Extent (List ℕ)) → List (Extent (List ℕ)) → Type 0
+AddsLine line old new = (found : Option (Extent (List ℕ))) × (said_by line ≡ Ok found) × (new ≡ old ++ option_to_list found)
+
+-- what is read, behind the extents that came before
+abbrev pub after_those : List (Extent (List ℕ)) → Result (List (Extent (List ℕ))) Fault → Result (List (Extent (List ℕ))) Fault
+after_those before read = read >>= λ xs. Ok (before ++ xs)

@@ -1,0 +1,5 @@
+// VMDK images, by their descriptors.
+mod descriptor;
+mod lines;
+mod reading;
+mod words;

@@ -1,0 +1,157 @@
+// A whole descriptor.
+ghost use Rattle.std.specs.Prelude.{◌≡◌, ◌⊎◌, ◌<◌, ◌^◌, ◌≤◌, ◌++◌, ◌∷◌, [], ℕ, length, drop, map, slice_index_or, IfOk, IfErr, OnOk, Ok, Err};
+ghost use Rattle.std.specs.Option.{option_to_list};
+ghost use Rattle.std.specs.Str.{bytes_eq};
+ghost use Rattle.std.specs.Str.Lines.{lines, strip_carriage_return};
+ghost use Rattle.imago_storage.specs.declared.fault.Fault.TheVariants.{Memory, DamagedDescriptor};
+ghost use Rattle.imago_formats.specs.Descriptor.{extents_of, read_from, said_by, signature, size_of};
+ghost use Rattle.imago_formats.specs.DescriptorView.{AddsLine, kept_extent, kept_extents, seen_extent};
+
+use crate::vmdk::descriptor::{Extent, Source};
+use crate::vmdk::lines::read_line;
+use crate::vmdk::words::{byte_at, text_of};
+use imago_storage::Fault;
+use std::alloc::Global;
+
+// The most bytes that a descriptor may have.
+const MOST_BYTES: usize = 1 << 20;
+
+// The first line of every descriptor.
+const SIGNATURE: &[u8] = b"# Disk DescriptorFile";
+
+/// The extents that a text names, in order.
+#[tactic(auto, using(crate::proofs::LineLemmas::size_kept))]
+pub(crate) fn read_text(alloc: Global, text: &[u8]) -> Result<Vec<Extent<String>>, Fault>
+    ensures ok { IfOk result (λ xs. read_from text.now ≡ Ok (kept_extents xs.items)) }
+    ensures err { IfErr result (λ e. (e ≡ Memory) ⊎ (read_from text.now ≡ Err e)) }
+{
+    match text_of(text) {
+        Ok(_) => {}
+        Err(fault) => return Err(fault),
+    }
+    let (first, rest) = split_line(text);
+    if text.len() > MOST_BYTES || !is_signature(first) {
+        return Err(Fault::DamagedDescriptor);
+    }
+    let extents = match read_lines(alloc, rest) {
+        Ok(extents) => extents,
+        Err(fault) => return Err(fault),
+    };
+    match check_size(&extents) {
+        Ok(()) => Ok(extents),
+        Err(fault) => Err(fault),
+    }
+}
+
+// Whether a line is the first of a descriptor.
+fn is_signature(line: &[u8]) -> bool
+    ensures { result ≡ bytes_eq line.now signature }
+{
+    line == SIGNATURE
+}
+
+// Whether a disk of these extents has less than 2^63 bytes.
+fn check_size(extents: &[Extent<String>]) -> Result<(), Fault>
+    ensures ok { OnOk result (size_of extents.now < 2 ^ 63) }
+    ensures err { IfErr result (λ e. (e ≡ DamagedDescriptor) × (2 ^ 63 ≤ size_of extents.now)) }
+{
+    let mut total: u64 = 0;
+    for extent in extents {
+        total = total.saturating_add(extent.sectors);
+    }
+    if total > i64::MAX as u64 / 512 {
+        return Err(Fault::DamagedDescriptor);
+    }
+    Ok(())
+}
+
+// The extents that lines name, in order.
+fn read_lines(alloc: Global, text: &[u8]) -> Result<Vec<Extent<String>>, Fault>
+    ensures ok { IfOk result (λ xs. extents_of (lines text.now) ≡ Ok (kept_extents xs.items)) }
+    ensures err { IfErr result (λ e. (e ≡ Memory) ⊎ (extents_of (lines text.now) ≡ Err e)) }
+{
+    let mut extents = Vec::new(alloc);
+    let mut rest = text;
+    while !rest.is_empty() {
+        let (line, more) = split_line(rest);
+        match add_line(alloc, &mut extents, line) {
+            Ok(()) => {}
+            Err(fault) => return Err(fault),
+        }
+        rest = more;
+    }
+    Ok(extents)
+}
+
+// Adds the extent that a line names, if it names one.
+fn add_line(alloc: Global, extents: &mut Vec<Extent<String>>, line: &[u8]) -> Result<(), Fault>
+    ensures ok { OnOk result (AddsLine line.now (kept_extents extents.old.items) (kept_extents extents.new.items)) }
+    ensures err { IfErr result (λ e. (e ≡ Memory) ⊎ (said_by line.now ≡ Err e)) }
+{
+    let found = match read_line(line) {
+        Ok(found) => found,
+        Err(fault) => return Err(fault),
+    };
+    let extent = match found {
+        Some(extent) => extent,
+        None => return Ok(()),
+    };
+    let kept = match keep(alloc, extent) {
+        Ok(kept) => kept,
+        Err(fault) => return Err(fault),
+    };
+    match extents.push(kept) {
+        Ok(()) => Ok(()),
+        Err(_) => Err(Fault::Memory),
+    }
+}
+
+// An extent with its file's name in memory of its own.
+fn keep(alloc: Global, extent: Extent<&str>) -> Result<Extent<String>, Fault>
+    ensures ok { IfOk result (λ x. kept_extent x ≡ seen_extent extent.entry) }
+    ensures err { IfErr result (λ e. e ≡ Memory) }
+{
+    let Extent {
+        access,
+        sectors,
+        source,
+    } = extent;
+    let source = match source {
+        Source::Zero => Source::Zero,
+        Source::Flat { name, sector } => match String::from_str(alloc, name) {
+            Ok(name) => Source::Flat { name, sector },
+            Err(_) => return Err(Fault::Memory),
+        },
+    };
+    Ok(Extent {
+        access,
+        sectors,
+        source,
+    })
+}
+
+/// The first line of a text, without its end, and what follows it.
+pub(crate) fn split_line(text: &[u8]) -> (&[u8], &[u8])
+    ensures first { result.0.now ≡ slice_index_or (lines text.now) 0 [] }
+    ensures rest { lines result.1.now ≡ drop 1 (lines text.now) }
+    ensures whole { 0 < length text.now → lines text.now ≡ result.0.now ∷ lines result.1.now }
+    ensures shorter { 0 < length text.now → length result.1.now < length text.now }
+{
+    let end = byte_at(text, b'\n');
+    if end == text.len() {
+        return text.split_at(end);
+    }
+    let line = text.split_at(end).0;
+    let rest = text.split_at(end + 1).1;
+    (without_return(line), rest)
+}
+
+// A line without the carriage return at its end.
+fn without_return(line: &[u8]) -> &[u8]
+    ensures { result.now ≡ strip_carriage_return line.now }
+{
+    if line.is_empty() || line[line.len() - 1] != b'\r' {
+        return line;
+    }
+    &line[..line.len() - 1]
+}
