@@ -2,3 +2,4 @@ pub mod RawSteps
 pub mod Growing
 mod WordLemmas
 mod LineLemmas
+mod FileLemmas

@@ -1,5 +1,7 @@
 -- How the program keeps extents, as contracts see them.
-use Rattle.std.specs.Prelude.{◌≡◌, List, ℕ, map, ◌++◌, Option, Result, Ok}
+use Rattle.std.specs.Prelude.{◌≡◌, List, ℕ, map, ◌++◌, Option, Result, Ok, Err, ◌⊎◌}
+use Rattle.imago_storage.specs.Calls.{Cause}
+use Rattle.imago_storage.specs.State.{StorageState}
 use Rattle.imago_storage.specs.declared.fault.Fault.{Fault}
 use Rattle.imago_formats.specs.DescriptorWords.{◌>>=◌}
 use Rattle.std.specs.Option.{option_to_list}
@@ -41,3 +43,7 @@ AddsLine line old new = (found : Option (Extent (List ℕ))) × (said_by line �
 -- what is read, behind the extents that came before
 abbrev pub after_those : List (Extent (List ℕ)) → Result (List (Extent (List ℕ))) Fault → Result (List (Extent (List ℕ))) Fault
 after_those before read = read >>= λ xs. Ok (before ++ xs)
+
+-- why a file's descriptor isn't read: the cause that its text gives, want of memory, or a storage that failed
+abbrev pub NotRead : Result (List (Extent (List ℕ))) Fault → StorageState → StorageState → Fault → Type 0
+NotRead said old new fault = Cause old.faults new.faults fault ⊎ ((said ≡ Err fault) × (new.faults ≡ old.faults))

@@ -13,8 +13,8 @@ use crate::vmdk::words::{byte_at, text_of};
 use imago_storage::Fault;
 use std::alloc::Global;
 
-// The most bytes that a descriptor may have.
-const MOST_BYTES: usize = 1 << 20;
+/// The most bytes that a descriptor may have.
+pub(crate) const MOST_BYTES: usize = 1 << 20;
 
 // The first line of every descriptor.
 const SIGNATURE: &[u8] = b"# Disk DescriptorFile";
@@ -43,8 +43,8 @@ pub(crate) fn read_text(alloc: Global, text: &[u8]) -> Result<Vec<Extent<String>
     }
 }
 
-// Whether a line is the first of a descriptor.
-fn is_signature(line: &[u8]) -> bool
+/// Whether a line is the first of a descriptor.
+pub(crate) fn is_signature(line: &[u8]) -> bool
     ensures { result ≡ bytes_eq line.now signature }
 {
     line == SIGNATURE

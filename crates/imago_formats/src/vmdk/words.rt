@@ -3,6 +3,7 @@ ghost use Rattle.std.specs.Str.{is_utf8};
 ghost use Rattle.imago_storage.specs.declared.fault.Fault.TheVariants.{DamagedDescriptor};
 ghost use Rattle.std.specs.Prelude.{IfOk, IfErr, true, false, ◌≡◌, ◌≤◌, ◌<◌, ◌==◌, length, slice_index};
 ghost use Rattle.std.specs.List.{position_or_len};
+ghost use Rattle.imago_formats.specs.Descriptor.{text_of};
 ghost use Rattle.imago_formats.specs.DescriptorWords.{begins_with, decimal, is_blank, is_word, past_blanks, past_word, word};
 
 use imago_storage::Fault;
@@ -13,6 +14,13 @@ pub(crate) fn byte_at(text: &[u8], byte: u8) -> usize
     ensures within { result ≤ length text.now }
 {
     text.iter().position(|b| *b == byte).unwrap_or(text.len())
+}
+
+/// What stands before the first byte that is 0.
+pub(crate) fn before_zero(bytes: &[u8]) -> &[u8]
+    ensures { result.now ≡ text_of bytes.now }
+{
+    bytes.split_at(byte_at(bytes, 0)).0
 }
 
 /// Whether a text begins with a byte, which isn't 0.
