@@ -3,3 +3,4 @@ pub mod Growing
 mod WordLemmas
 mod LineLemmas
 mod FileLemmas
+mod ExtentLemmas

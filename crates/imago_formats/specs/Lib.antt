@@ -6,3 +6,4 @@ pub mod RawOpening
 pub mod DescriptorWords
 pub mod Descriptor
 pub mod DescriptorView
+pub mod VmdkLayer

@@ -1,5 +1,6 @@
 // VMDK images, by their descriptors.
 mod descriptor;
+mod disk;
 mod files;
 mod lines;
 mod reading;

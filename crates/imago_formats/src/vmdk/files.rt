@@ -4,18 +4,18 @@ ghost use Rattle.imago_storage.specs.Calls.{Cause, CountsFaults, Kept, Reads};
 ghost use Rattle.imago_formats.specs.Descriptor.{descriptor_of, is_signed, text_of};
 ghost use Rattle.imago_formats.specs.DescriptorView.{NotRead, kept_extents};
 
-use crate::vmdk::descriptor::Extent;
+use crate::vmdk::disk::Disk;
 use crate::vmdk::reading::{MOST_BYTES, is_signature, read_text, split_line};
 use crate::vmdk::words::before_zero;
 use imago_storage::{Fault, Storage, StorageExt};
 use std::alloc::Global;
 
-/// The extents that the descriptor of a file names, in order. Nothing is written.
+/// The disk of the extents that the descriptor of a file names. Nothing is written.
 pub(crate) fn read_descriptor<S: Storage>(
     alloc: Global,
     image: &mut S,
-) -> Result<Vec<Extent<String>>, Fault>
-    ensures ok { IfOk result (λ xs. descriptor_of (S.state image.old).bytes ≡ Ok (kept_extents xs.items)) }
+) -> Result<Disk, Fault>
+    ensures ok { IfOk result (λ d. descriptor_of (S.state image.old).bytes ≡ Ok (kept_extents d.extents.items)) }
     ensures err { IfErr result (NotRead (descriptor_of (S.state image.old).bytes) (S.state image.old) (S.state image.new)) }
     ensures faults { OnOk result ((S.state image.new).faults ≡ (S.state image.old).faults) }
     ensures kept { Kept (S.state image.old) (S.state image.new) }

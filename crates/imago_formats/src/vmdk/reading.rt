@@ -8,6 +8,7 @@ ghost use Rattle.imago_formats.specs.Descriptor.{extents_of, read_from, said_by,
 ghost use Rattle.imago_formats.specs.DescriptorView.{AddsLine, kept_extent, kept_extents, seen_extent};
 
 use crate::vmdk::descriptor::{Extent, Source};
+use crate::vmdk::disk::Disk;
 use crate::vmdk::lines::read_line;
 use crate::vmdk::words::{byte_at, text_of};
 use imago_storage::Fault;
@@ -19,10 +20,10 @@ pub(crate) const MOST_BYTES: usize = 1 << 20;
 // The first line of every descriptor.
 const SIGNATURE: &[u8] = b"# Disk DescriptorFile";
 
-/// The extents that a text names, in order.
+/// The disk of the extents that a text names.
 #[tactic(auto, using(crate::proofs::LineLemmas::size_kept))]
-pub(crate) fn read_text(alloc: Global, text: &[u8]) -> Result<Vec<Extent<String>>, Fault>
-    ensures ok { IfOk result (λ xs. read_from text.now ≡ Ok (kept_extents xs.items)) }
+pub(crate) fn read_text(alloc: Global, text: &[u8]) -> Result<Disk, Fault>
+    ensures ok { IfOk result (λ d. read_from text.now ≡ Ok (kept_extents d.extents.items)) }
     ensures err { IfErr result (λ e. (e ≡ Memory) ⊎ (read_from text.now ≡ Err e)) }
 {
     match text_of(text) {
@@ -37,8 +38,8 @@ pub(crate) fn read_text(alloc: Global, text: &[u8]) -> Result<Vec<Extent<String>
         Ok(extents) => extents,
         Err(fault) => return Err(fault),
     };
-    match check_size(&extents) {
-        Ok(()) => Ok(extents),
+    match Disk::new(extents) {
+        Ok(disk) => Ok(disk),
         Err(fault) => Err(fault),
     }
 }
@@ -48,21 +49,6 @@ pub(crate) fn is_signature(line: &[u8]) -> bool
     ensures { result ≡ bytes_eq line.now signature }
 {
     line == SIGNATURE
-}
-
-// Whether a disk of these extents has less than 2^63 bytes.
-fn check_size(extents: &[Extent<String>]) -> Result<(), Fault>
-    ensures ok { OnOk result (size_of extents.now < 2 ^ 63) }
-    ensures err { IfErr result (λ e. (e ≡ DamagedDescriptor) × (2 ^ 63 ≤ size_of extents.now)) }
-{
-    let mut total: u64 = 0;
-    for extent in extents {
-        total = total.saturating_add(extent.sectors);
-    }
-    if total > i64::MAX as u64 / 512 {
-        return Err(Fault::DamagedDescriptor);
-    }
-    Ok(())
 }
 
 // The extents that lines name, in order.

@@ -23,7 +23,7 @@ said g c =
 
 pub returns-clause-ok : goal.returns-clause-ok
 returns-clause-ok g c =
-    subst (λ (d : Result (List (Extent (List ℕ))) Fault). IfOk c.read_text.result (λ xs. d ≡ Ok (kept_extents xs.items))) (said g c) c.read_text.ensures.ok
+    subst (λ (d : Result (List (Extent (List ℕ))) Fault). IfOk c.read_text.result (λ x. d ≡ Ok (kept_extents x.extents.items))) (said g c) c.read_text.ensures.ok
 
 pub returns-clause-err : goal.returns-clause-err
 returns-clause-err g c =

@@ -4,9 +4,9 @@ use Rattle.imago_formats.specs.DescriptorView.{kept_extents}
 use Rattle.imago_formats.proofs.LineLemmas.{size_kept, accepted}
 use Rattle.imago_formats.proofs.vmdk.reading.read_text.Goals as goal
 
-pub returns-in-Ok-check_size-clause-ok : goal.returns-in-Ok-check_size-clause-ok
-returns-in-Ok-check_size-clause-ok c =
+pub returns-in-Ok-new-clause-ok : goal.returns-in-Ok-new-clause-ok
+returns-in-Ok-new-clause-ok c =
     let xs = c.in-Ok-read_lines.extents.items in
-    accepted c.args.text.now (kept_extents xs) c.in-Ok.ensures.ok.1 (omega arith) (search rules)
+    rw c.in-Ok-new.ensures.ok.0 (accepted c.args.text.now (kept_extents xs) c.in-Ok.ensures.ok.1 (omega arith) (search rules)
     (ap extents_of (sym c.split_line.ensures.rest) ∙ c.in-Ok-read_lines.ensures.ok)
-    (rw (size_kept xs, ← c.deref.ensures.value) c.in-Ok-check_size.ensures.ok)
+    (rw (size_kept xs) c.in-Ok-new.ensures.ok.1))

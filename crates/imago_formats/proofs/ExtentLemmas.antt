@@ -1,0 +1,89 @@
+-- The extents of a disk, one by one.
+use Rattle.std.proofs.Common.{◌≡◌, ℕ, ◌+◌, ◌-◌, ◌*◌, ◌<◌, ◌≤◌, ◌^◌, cond, Bool, true, false, List, [], ◌∷◌, length, take, drop, get_or, suc, refl, sym, ap, zero-add, add-one, ◌∙◌, arith, rules}
+use Rattle.std.specs.List.{sum_by}
+use Rattle.std.proofs.lemmas.List.Sums.{sum_by_more, sum_by_more_le}
+use Rattle.std.proofs.lemmas.Bool.{lt-ltb, le-ltb}
+use Rattle.imago_formats.specs.Descriptor.{size_of}
+use Rattle.imago_formats.specs.VmdkLayer.{in_extents, in_source, has_file, AreInReach, IsExtentAt}
+use Rattle.imago_formats.specs.declared.vmdk.descriptor.Extent.{Extent}
+use Rattle.std.proofs.Math.Seq.{drop-cons}
+use lib.Dec.{ltb}
+
+module _ {N : Type 0} where
+  -- the size of the extents so far, with one more, and what is left of the whole
+  pub size_more : (xs : List (Extent N)) (i : ℕ) (x : Extent N) → i < length xs → x ≡ get_or xs i x → size_of (take (i + 1) xs) ≡ size_of (take i xs) + 512 * x.sectors
+  size_more xs i x h is =
+      let more = sum_by_more (λ (e : Extent N). e.sectors) xs i x h in
+      let same : (get_or xs i x).sectors ≡ x.sectors = ap (λ (e : Extent N). e.sectors) (sym is) in
+      omega (arith, more, same)
+
+  pub size_within : (xs : List (Extent N)) (i : ℕ) (x : Extent N) → i < length xs → x ≡ get_or xs i x → size_of (take i xs) + 512 * x.sectors ≤ size_of xs
+  size_within xs i x h is =
+      let more = sum_by_more_le (λ (e : Extent N). e.sectors) xs i x h in
+      let same : (get_or xs i x).sectors ≡ x.sectors = ap (λ (e : Extent N). e.sectors) (sym is) in
+      omega (arith, more, same)
+
+  -- a place of the first extent, and one behind it
+  pub in_first : (files : ℕ → ℕ → ℕ) (x : Extent N) (ys : List (Extent N)) (k q : ℕ) → q < 512 * x.sectors →
+      in_extents files (x ∷ ys) k q ≡ in_source x.access x.source (files k) q
+  in_first files x ys k q h = rw (lt-ltb q (512 * x.sectors) h) refl
+
+  pub in_later : (files : ℕ → ℕ → ℕ) (x : Extent N) (ys : List (Extent N)) (k q : ℕ) →
+      in_extents files (x ∷ ys) k (512 * x.sectors + q) ≡ in_extents files ys (cond (has_file x) (k + 1) k) q
+  in_later files x ys k q =
+      let past : ltb (512 * x.sectors + q) (512 * x.sectors) ≡ false = le-ltb _ _ (omega arith) in
+      let rest : 512 * x.sectors + q - 512 * x.sectors ≡ q = omega arith in
+      rw (past, rest) refl
+
+  -- a walk over extents that has come to the extent i, which begins at a place, on the way to p
+  pub record StandsAt (xs : List (Extent N)) (i start k p : ℕ) : Type 0 where
+    pub begins : start ≡ size_of (take i xs)
+    pub low : start ≤ p
+    pub some : 0 < k
+    pub few : k ≤ i + 1
+    pub shows : (files : ℕ → ℕ → ℕ) (q : ℕ) → in_extents files xs 1 (start + q) ≡ in_extents files (drop i xs) k q
+    pub reach : (unit : ℕ) → AreInReach unit xs → AreInReach unit (drop i xs)
+
+  rest_is : (xs : List (Extent N)) (i : ℕ) (x : Extent N) → i < length xs → x ≡ get_or xs i x → drop i xs ≡ x ∷ drop (i + 1) xs
+  rest_is xs i x h is = drop-cons xs i x h ∙ ap (λ y. y ∷ drop (suc i) xs) (sym is) ∙ ap (λ n. x ∷ drop n xs) (sym (add-one i))
+
+  pub stands_first : (xs : List (Extent N)) (p : ℕ) → StandsAt xs 0 0 1 p
+  stands_first xs p = record { begins = refl; low = omega arith; some = omega arith; few = omega arith;
+      shows = λ files q. ap (λ n. in_extents files xs 1 n) (zero-add q); reach = λ unit r. r }
+
+  pub found_here : (xs : List (Extent N)) (i start k p : ℕ) (x : Extent N) → StandsAt xs i start k p → i < length xs → x ≡ get_or xs i x →
+      p - start < x.sectors * 512 → IsExtentAt xs p x start k
+  found_here xs i start k p x at h is inside =
+      let within : size_of (take i xs) + 512 * x.sectors ≤ size_of xs = size_within xs i x h is in
+      let rest = rest_is xs i x h is in record {
+        low = at.low;
+        high = omega (arith, at.low);
+        end = omega (arith, at.begins);
+        some = at.some;
+        shows = λ files q low. at.shows files q ∙ ap (λ ys. in_extents files ys k q) rest ∙ in_first files x (drop (i + 1) xs) k q low;
+        reach = λ unit all. let r : AreInReach unit (x ∷ drop (i + 1) xs) = rw rest at (at.reach unit all) in r.0;
+      }
+
+  pub next_stands : (xs : List (Extent N)) (i start k k' p : ℕ) (x : Extent N) → StandsAt xs i start k p → i < length xs → x ≡ get_or xs i x →
+      x.sectors * 512 ≤ p - start → k' ≡ cond (has_file x) (k + 1) k → StandsAt xs (i + 1) (start + x.sectors * 512) k' p
+  next_stands xs i start k k' p x at h is past next =
+      let more : size_of (take (i + 1) xs) ≡ size_of (take i xs) + 512 * x.sectors = size_more xs i x h is in
+      let rest = rest_is xs i x h is in record {
+        begins = omega (arith, at.begins);
+        low = omega (arith, at.low);
+        some = counted (has_file x) k k' next at.some;
+        few = no_more (has_file x) k k' i next at.few;
+        shows = λ files q. ap (λ n. in_extents files xs 1 n) (regroup start x.sectors q) ∙ at.shows files (512 * x.sectors + q)
+            ∙ ap (λ ys. in_extents files ys k (512 * x.sectors + q)) rest ∙ in_later files x (drop (i + 1) xs) k q
+            ∙ ap (λ n. in_extents files (drop (i + 1) xs) n q) (sym next);
+        reach = λ unit all. let r : AreInReach unit (x ∷ drop (i + 1) xs) = rw rest at (at.reach unit all) in r.1;
+      }
+    where
+      counted : (t : Bool) (a b : ℕ) → b ≡ cond t (a + 1) a → 0 < a → 0 < b
+      counted true a b e h = omega (arith, e)
+      counted false a b e h = omega (arith, e)
+      no_more : (t : Bool) (a b i : ℕ) → b ≡ cond t (a + 1) a → a ≤ i + 1 → b ≤ i + 1 + 1
+      no_more true a b i e h = omega (arith, e)
+      no_more false a b i e h = omega (arith, e)
+      regroup : (s n q : ℕ) → s + n * 512 + q ≡ s + (512 * n + q)
+      regroup s n q = omega arith

@@ -1,6 +1,0 @@
-use Rattle.std.proofs.Common.{◌≡◌, ◌-◌, ◌^◌, min, take}
-use Rattle.std.specs.List.{sum_by}
-use Rattle.imago_formats.proofs.vmdk.reading.check_size.Given as goal
-
-abbrev pub invariant-loop-extent : goal.invariant-loop-extent
-invariant-loop-extent l = l.total ≡ min (sum_by (λ x. x.sectors) (take l.extent-index l.extents)) (2 ^ 64 - 1)

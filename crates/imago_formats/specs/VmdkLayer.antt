@@ -1,0 +1,104 @@
+-- A VMDK image as a layer: its extents, one behind the other, over the files that they name.
+use Rattle.std.specs.Prelude.{⊤, ℕ, ◌+◌, ◌-◌, ◌*◌, ◌<◌, ◌≤◌, ◌^◌, ◌≡◌, Bool, true, false, Option, Some, None, List, [], ◌∷◌, ◌++◌, length, nat_lt, if◌then◌else◌, ltb, codes, Result, Ok, Err}
+use Rattle.std.specs.List.{count_by}
+use Rattle.imago_storage.specs.State.{StorageState}
+use Rattle.imago_storage.specs.Through.{round_up}
+use Rattle.imago_storage.specs.Disk.{byte, barred}
+use Rattle.imago_storage.specs.declared.fault.Fault.{Fault}
+use Rattle.imago_access.specs.Layer.{Layer, Fixed, Meaning, Cell, own, loose}
+use Rattle.imago_access.specs.Files.{byte_in, greatest, keep_all}
+use Rattle.imago_access.specs.declared.format.Format.TheVariants as format
+use Rattle.imago_formats.specs.Descriptor.{descriptor_of, size_of}
+use Rattle.imago_formats.specs.declared.vmdk.descriptor.Access.{Access}
+use Rattle.imago_formats.specs.declared.vmdk.descriptor.Access.TheVariants.{NoAccess}
+use Rattle.imago_formats.specs.declared.vmdk.descriptor.Source.{Source}
+use Rattle.imago_formats.specs.declared.vmdk.descriptor.Source.TheVariants.{Flat, Zero}
+use Rattle.imago_formats.specs.declared.vmdk.descriptor.Extent.{Extent}
+
+-- whether a file is asked for
+abbrev pub asks_file : {N : Type 0} → Access → Source N → Bool
+asks_file NoAccess source = false
+asks_file access (Flat name sector) = true
+asks_file access Zero = false
+
+abbrev pub has_file : {N : Type 0} → Extent N → Bool
+has_file x = asks_file x.access x.source
+
+-- how many files extents ask for
+abbrev pub files_asked : {N : Type 0} → List (Extent N) → ℕ
+files_asked xs = count_by has_file xs
+
+-- what an extent shows at a place of its own, by the bytes of its file: one that has no access can't be read
+abbrev pub in_source : {N : Type 0} → Access → Source N → (ℕ → ℕ) → ℕ → Cell
+in_source NoAccess source file p = own barred
+in_source access (Flat name sector) file p = own (byte (file (512 * sector + p)))
+in_source access Zero file p = own (byte 0)
+
+-- What extents show at a place, one behind the other. Those that ask for a file are numbered from k on, in order.
+abbrev pub in_extents : {N : Type 0} → (ℕ → ℕ → ℕ) → List (Extent N) → ℕ → ℕ → Cell
+in_extents files [] k p = own (byte 0)
+in_extents files (x ∷ xs) k p = let later = in_extents files xs (if has_file x then k + 1 else k) (p - 512 * x.sectors) in
+    if ltb p (512 * x.sectors) then in_source x.access x.source (files k) p else later
+
+-- the end of an extent in its file, in bytes, if it has one
+abbrev pub end_in_file : {N : Type 0} → Access → Source N → ℕ → ℕ
+end_in_file NoAccess source sectors = 0
+end_in_file access (Flat name sector) sectors = 512 * (sector + sectors)
+end_in_file access Zero sectors = 0
+
+-- each extent ends in its file where reads reach
+abbrev pub AreInReach : {N : Type 0} → ℕ → List (Extent N) → Type 0
+AreInReach unit [] = ⊤
+AreInReach unit (x ∷ xs) = (round_up unit (end_in_file x.access x.source x.sectors) < 2 ^ 64) × AreInReach unit xs
+
+-- what a file means as a descriptor over these files
+abbrev pub meaning_of : Result (List (Extent (List ℕ))) Fault → (ℕ → ℕ → ℕ) → Meaning
+meaning_of (Ok xs) files = record { size = size_of xs; cell = in_extents files xs 1 }
+meaning_of (Err e) files = record { size = 0; cell = λ p. own (byte 0) }
+
+-- what never changes of it
+abbrev pub vmdk_fixed : {N : Type 0} → List (Extent N) → StorageState → List StorageState → Fixed
+vmdk_fixed extents image files = record {
+  format = format.Vmdk;
+  writable = false;
+  lets_through = false;
+  keeps = keep_all image files;
+  missing = ltb (length files) (files_asked extents);
+  number = 0;
+  blank = own (byte 0);
+  req_align = greatest (λ s. s.shape.req_align) image files;
+  mem_align = greatest (λ s. s.shape.mem_align) image files;
+  granularity = None;
+  kind = 0;
+  means = λ f. meaning_of (descriptor_of f) (byte_in (image ∷ files));
+  exact = true;
+  marks = false;
+  states_room = false;
+  unit = 1;
+}
+
+-- an image of these extents, over its descriptor's file and the files that they ask for
+abbrev pub vmdk_layer : {N : Type 0} → List (Extent N) → StorageState → List StorageState → Layer
+vmdk_layer extents image files = record {
+  fixed = vmdk_fixed extents image files;
+  size = size_of extents;
+  failed = false;
+  cell = in_extents (byte_in (image ∷ files)) extents 1;
+  home = λ p. None;
+  held = λ p. loose;
+  unspent = None;
+}
+
+-- what it is printed as
+abbrev pub vmdk_text : Option (List ℕ) → List ℕ
+vmdk_text None = codes "vmdk[]"
+vmdk_text (Some name) = codes "vmdk[" ++ name ++ codes "]"
+
+-- the extent at a place of the disk: where it begins, and the number of its file
+pub record IsExtentAt {N : Type 0} (extents : List (Extent N)) (p : ℕ) (x : Extent N) (start k : ℕ) : Type 0 where
+  pub low : start ≤ p
+  pub high : p < start + 512 * x.sectors
+  pub end : start + 512 * x.sectors ≤ size_of extents
+  pub some : 0 < k
+  pub shows : (files : ℕ → ℕ → ℕ) (q : ℕ) → q < 512 * x.sectors → in_extents files extents 1 (start + q) ≡ in_source x.access x.source (files k) q
+  pub reach : (unit : ℕ) → AreInReach unit extents → round_up unit (end_in_file x.access x.source x.sectors) < 2 ^ 64
