@@ -1,6 +1,5 @@
 -- The extents of a disk, one by one.
-use Rattle.std.proofs.Common.{◌≡◌, ℕ, ◌+◌, ◌-◌, ◌*◌, ◌<◌, ◌≤◌, ◌^◌, cond, Bool, true, false, List, [], ◌∷◌, length, take, drop, get_or, suc, refl, sym, ap, zero-add, add-one, ◌∙◌, arith, rules}
-use Rattle.std.specs.List.{sum_by}
+use Rattle.std.proofs.Common.{◌≡◌, ℕ, ◌+◌, ◌-◌, ◌*◌, ◌<◌, ◌≤◌, cond, Bool, true, false, List, ◌∷◌, length, take, drop, get_or, suc, refl, sym, ap, zero-add, add-one, ◌∙◌, arith}
 use Rattle.std.proofs.lemmas.List.Sums.{sum_by_more, sum_by_more_le}
 use Rattle.std.proofs.lemmas.Bool.{lt-ltb, le-ltb}
 use Rattle.imago_formats.specs.Descriptor.{size_of}
@@ -48,8 +47,14 @@ module _ {N : Type 0} where
   rest_is xs i x h is = drop-cons xs i x h ∙ ap (λ y. y ∷ drop (suc i) xs) (sym is) ∙ ap (λ n. x ∷ drop n xs) (sym (add-one i))
 
   pub stands_first : (xs : List (Extent N)) (p : ℕ) → StandsAt xs 0 0 1 p
-  stands_first xs p = record { begins = refl; low = omega arith; some = omega arith; few = omega arith;
-      shows = λ files q. ap (λ n. in_extents files xs 1 n) (zero-add q); reach = λ unit r. r }
+  stands_first xs p = record {
+    begins = refl;
+    low = omega arith;
+    some = omega arith;
+    few = omega arith;
+    shows = λ files q. ap (λ n. in_extents files xs 1 n) (zero-add q);
+    reach = λ unit r. r;
+  }
 
   pub found_here : (xs : List (Extent N)) (i start k p : ℕ) (x : Extent N) → StandsAt xs i start k p → i < length xs → x ≡ get_or xs i x →
       p - start < x.sectors * 512 → IsExtentAt xs p x start k
@@ -82,8 +87,10 @@ module _ {N : Type 0} where
       counted : (t : Bool) (a b : ℕ) → b ≡ cond t (a + 1) a → 0 < a → 0 < b
       counted true a b e h = omega (arith, e)
       counted false a b e h = omega (arith, e)
+
       no_more : (t : Bool) (a b i : ℕ) → b ≡ cond t (a + 1) a → a ≤ i + 1 → b ≤ i + 1 + 1
       no_more true a b i e h = omega (arith, e)
       no_more false a b i e h = omega (arith, e)
+
       regroup : (s n q : ℕ) → s + n * 512 + q ≡ s + (512 * n + q)
       regroup s n q = omega arith

@@ -1,6 +1,6 @@
 -- The text of a file, by the bytes at its start.
-use Rattle.std.proofs.Common.{zero, suc, ◌≡◌, ◌≢◌, ◌⊎◌, inl, inr, ℕ, ◌+◌, ◌-◌, ◌<◌, ◌≤◌, ◌^◌, ◌&&◌, Bool, true, false, not, cond, List, [], ◌∷◌, length, take, drop, get_or, Result, Ok, Err, refl, sym, ap, subst, IfErr, zero-add, min, ◌∙◌, arith, rules}
-use Rattle.std.specs.List.{position_or_len, before_first}
+use Rattle.std.proofs.Common.{suc, ◌≡◌, ◌≢◌, ◌⊎◌, inl, inr, ℕ, ◌+◌, ◌-◌, ◌<◌, ◌≤◌, ◌^◌, ◌&&◌, Bool, true, false, not, cond, List, [], ◌∷◌, length, take, get_or, Result, Ok, Err, refl, sym, ap, subst, IfErr, zero-add, min, ◌∙◌, arith, rules}
+use Rattle.std.specs.List.{position_or_len}
 use Rattle.std.specs.Str.{bytes_eq}
 use Rattle.std.specs.Str.Lines.{lines, strip_carriage_return}
 use Rattle.std.proofs.lemmas.Grind.{common_steps}
@@ -17,7 +17,7 @@ use Rattle.imago_formats.specs.Descriptor.{text_of, read_from, descriptor_of, is
 use Rattle.imago_formats.proofs.LineLemmas.{line_here, first_to_end}
 use Rattle.std.proofs.lemmas.Bool.{lt-leb, cases_lt}
 use Rattle.std.specs.Str.{is_utf8}
-use lib.Dec.{eqb, ltb, leb}
+use lib.Dec.{eqb}
 
 text_cons : (b : ℕ) (bs : List ℕ) → text_of (b ∷ bs) ≡ cond (not (eqb b 0)) (b ∷ text_of bs) []
 text_cons b bs = take_while-cons (λ x. not (eqb x 0)) b bs

@@ -1,6 +1,9 @@
 pub mod RawSteps
 pub mod Growing
 mod WordLemmas
-mod LineLemmas
+pub mod LineLemmas
 mod FileLemmas
 mod ExtentLemmas
+pub mod StorageLemmas
+pub mod Quiet
+pub mod VmdkSteps

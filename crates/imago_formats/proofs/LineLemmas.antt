@@ -1,17 +1,12 @@
 -- The lines of a text, one by one.
-use Rattle.std.proofs.Common.{◌&&◌, ◌^◌, Ok, ◌≡◌, ℕ, ◌+◌, ◌*◌, ◌<◌, ◌≤◌, Bool, true, false, List, [], ◌∷◌, length, take, drop, get_or, refl, sym, ap, ◌∙◌, arith}
+use Rattle.std.proofs.Common.{◌&&◌, ◌^◌, Ok, ◌≡◌, ℕ, ◌+◌, ◌<◌, ◌≤◌, Bool, true, false, List, [], ◌∷◌, length, take, drop, get_or, refl, sym, ap, ◌∙◌, arith}
 use Rattle.std.specs.List.{position_or_len, slice_split, onto_first}
 use Rattle.std.specs.Str.Lines.{lines, lines_of_parts, strip_carriage_return}
 use Rattle.std.proofs.lemmas.List.Splits.{slice_split-cons_no, slice_split_first, length-slice_split}
 use Rattle.std.proofs.lemmas.Grind.{common_steps}
-use Rattle.std.specs.List.{sum_by}
-use Rattle.std.proofs.lemmas.List.Sums.{sum_by-cons}
-use Rattle.std.specs.declared.string.String.{String}
-use Rattle.std.specs.declared.alloc.Global.{Global}
 use Rattle.imago_formats.specs.declared.vmdk.descriptor.Extent.{Extent}
 use Rattle.std.specs.Str.{is_utf8}
 use Rattle.imago_formats.specs.Descriptor.{size_of, extents_of, is_signed, is_descriptor, read_from, sized}
-use Rattle.imago_formats.specs.DescriptorView.{kept_extent, kept_extents}
 use lib.Dec.{eqb}
 use borrow.Author.Tests.{ne_eqb, lt-ltb, le-leb}
 
@@ -59,15 +54,6 @@ first_to_end (b ∷ bs) n e h = let l = line_to_end (b ∷ bs) n e h (omega arit
 pub rest_to_end : (text : List ℕ) (n : ℕ) → n ≡ position_or_len (λ b. eqb b 10) text → n ≡ length text → lines (drop n text) ≡ drop 1 (lines text)
 rest_to_end [] n e h = let none : drop {A = ℕ} n [] ≡ [] = grind (arith, common_steps) in rw none refl
 rest_to_end (b ∷ bs) n e h = let l = line_to_end (b ∷ bs) n e h (omega arith) in sym (ap (λ xs. drop 1 xs) l)
-
--- the size is the same however the files are named
-pub size_kept : (xs : List (Extent (String Global))) → size_of (kept_extents xs) ≡ size_of xs
-size_kept xs = ap (λ n. 512 * n) (sectors_kept xs)
-  where
-    sectors_kept : (ys : List (Extent (String Global))) → sum_by (λ x. x.sectors) (kept_extents ys) ≡ sum_by (λ x. x.sectors) ys
-    sectors_kept [] = refl
-    sectors_kept (y ∷ ys) = sum_by-cons (λ x. x.sectors) (kept_extent y) (kept_extents ys) ∙ ap (λ n. y.sectors + n) (sectors_kept ys)
-        ∙ sym (sum_by-cons (λ x. x.sectors) y ys)
 
 all_three : (a b c : Bool) → a ≡ true → b ≡ true → c ≡ true → (a && (b && c)) ≡ true
 all_three true true true e f g = refl

@@ -7,3 +7,5 @@ pub mod DescriptorWords
 pub mod Descriptor
 pub mod DescriptorView
 pub mod VmdkLayer
+pub mod VmdkFiles
+pub mod VmdkLaws

@@ -1,5 +1,5 @@
 -- A VMDK image as a layer: its extents, one behind the other, over the files that they name.
-use Rattle.std.specs.Prelude.{⊤, ℕ, ◌+◌, ◌-◌, ◌*◌, ◌<◌, ◌≤◌, ◌^◌, ◌≡◌, Bool, true, false, Option, Some, None, List, [], ◌∷◌, ◌++◌, length, nat_lt, if◌then◌else◌, ltb, codes, Result, Ok, Err}
+use Rattle.std.specs.Prelude.{⊤, ℕ, ◌+◌, ◌-◌, ◌*◌, ◌<◌, ◌≤◌, ◌^◌, ◌≡◌, min, Bool, true, false, Option, Some, None, List, [], ◌∷◌, ◌++◌, length, if◌then◌else◌, ltb, codes, Result, Ok, Err}
 use Rattle.std.specs.List.{count_by}
 use Rattle.imago_storage.specs.State.{StorageState}
 use Rattle.imago_storage.specs.Through.{round_up}
@@ -8,6 +8,8 @@ use Rattle.imago_storage.specs.declared.fault.Fault.{Fault}
 use Rattle.imago_access.specs.Layer.{Layer, Fixed, Meaning, Cell, own, loose}
 use Rattle.imago_access.specs.Files.{byte_in, greatest, keep_all}
 use Rattle.imago_access.specs.declared.format.Format.TheVariants as format
+use Rattle.imago_access.specs.declared.mapping.ShallowMapping.{ShallowMapping}
+use Rattle.imago_access.specs.declared.mapping.ShallowMapping.TheVariants as shallow
 use Rattle.imago_formats.specs.Descriptor.{descriptor_of, size_of}
 use Rattle.imago_formats.specs.declared.vmdk.descriptor.Access.{Access}
 use Rattle.imago_formats.specs.declared.vmdk.descriptor.Access.TheVariants.{NoAccess}
@@ -88,6 +90,12 @@ vmdk_layer extents image files = record {
   held = λ p. loose;
   unspent = None;
 }
+
+-- what a lookup answers at an offset that lies so far behind the start of an extent, whose file has this number
+abbrev pub mapping_of : {N : Type 0} → Access → Source N → (k offset within : ℕ) → ShallowMapping
+mapping_of NoAccess source k offset within = shallow.Special offset
+mapping_of access (Flat name sector) k offset within = shallow.Raw k (min (min (512 * sector) (2 ^ 64 - 1) + within) (2 ^ 64 - 1)) false
+mapping_of access Zero k offset within = shallow.Zero true
 
 -- what it is printed as
 abbrev pub vmdk_text : Option (List ℕ) → List ℕ

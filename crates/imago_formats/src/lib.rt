@@ -7,3 +7,4 @@ mod vmdk;
 
 pub use builders::{RawCreateBuilder, RawOpenBuilder};
 pub use raw::{NoState, Raw};
+pub use vmdk::Vmdk;

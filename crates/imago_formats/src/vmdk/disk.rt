@@ -17,6 +17,7 @@ pub(crate) struct Disk {
 }
 
 /// Where an extent stands.
+#[derive(Drop)]
 pub(crate) struct Found<'a> {
     /// The extent.
     pub(crate) extent: &'a Extent<String>,

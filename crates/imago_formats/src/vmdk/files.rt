@@ -11,10 +11,7 @@ use imago_storage::{Fault, Storage, StorageExt};
 use std::alloc::Global;
 
 /// The disk of the extents that the descriptor of a file names. Nothing is written.
-pub(crate) fn read_descriptor<S: Storage>(
-    alloc: Global,
-    image: &mut S,
-) -> Result<Disk, Fault>
+pub(crate) fn read_descriptor<S: Storage>(alloc: Global, image: &mut S) -> Result<Disk, Fault>
     ensures ok { IfOk result (λ d. descriptor_of (S.state image.old).bytes ≡ Ok (kept_extents d.extents.items)) }
     ensures err { IfErr result (NotRead (descriptor_of (S.state image.old).bytes) (S.state image.old) (S.state image.new)) }
     ensures faults { OnOk result ((S.state image.new).faults ≡ (S.state image.old).faults) }

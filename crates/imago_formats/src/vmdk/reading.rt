@@ -21,7 +21,7 @@ pub(crate) const MOST_BYTES: usize = 1 << 20;
 const SIGNATURE: &[u8] = b"# Disk DescriptorFile";
 
 /// The disk of the extents that a text names.
-#[tactic(auto, using(crate::proofs::LineLemmas::size_kept))]
+#[tactic(auto, using(crate::specs::VmdkLaws::size_kept))]
 pub(crate) fn read_text(alloc: Global, text: &[u8]) -> Result<Disk, Fault>
     ensures ok { IfOk result (λ d. read_from text.now ≡ Ok (kept_extents d.extents.items)) }
     ensures err { IfErr result (λ e. (e ≡ Memory) ⊎ (read_from text.now ≡ Err e)) }

@@ -1,4 +1,4 @@
-use Rattle.std.proofs.Common.{◌≡◌, ◌∙◌, sym, ap}
+use Rattle.std.proofs.Common.{◌∙◌, ap}
 use Rattle.std.specs.Str.{bytes_eq}
 use Rattle.imago_formats.specs.Descriptor.{is_signed, signature}
 use Rattle.imago_formats.proofs.FileLemmas.{front_is_signed}

@@ -1,7 +1,8 @@
 use Rattle.std.proofs.Common.{◌∙◌, ap, sym, arith, rules}
 use Rattle.imago_formats.specs.Descriptor.{extents_of}
 use Rattle.imago_formats.specs.DescriptorView.{kept_extents}
-use Rattle.imago_formats.proofs.LineLemmas.{size_kept, accepted}
+use Rattle.imago_formats.proofs.LineLemmas.{accepted}
+use Rattle.imago_formats.specs.VmdkLaws.{size_kept}
 use Rattle.imago_formats.proofs.vmdk.reading.read_text.Goals as goal
 
 pub returns-in-Ok-new-clause-ok : goal.returns-in-Ok-new-clause-ok

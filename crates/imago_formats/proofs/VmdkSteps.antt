@@ -1,0 +1,225 @@
+-- What calls do to a VMDK image that only look at its storages.
+use Rattle.std.proofs.Common.{zero, suc, ◌≡◌, ℕ, ◌+◌, ◌-◌, ◌*◌, ◌<◌, ◌≤◌, ◌^◌, min, List, [], ◌∷◌, Result, Ok, Err, refl, sym, ap, subst, ◌∙◌, ◌++◌, take, drop, max, arith}
+use Rattle.std.specs.Prelude.{IsOk, cond, Bool, false, true, None, length, ltb, ◌&&◌, OnOk, IfErr, IsTrue, map, slice_index}
+use Rattle.imago_storage.specs.State.{StorageState, Shape}
+use Rattle.imago_storage.specs.Disk.{byte, barred}
+use Rattle.imago_storage.specs.Through.{Overflows, round_up}
+use Rattle.imago_storage.proofs.Rounding.{round_up-le, le_round_up}
+use Rattle.imago_access.specs.Mappings.{EachIs, Looks}
+use Rattle.imago_access.specs.declared.mapping.ShallowMapping.TheVariants as shallow
+use Rattle.imago_formats.specs.RawHome.{never}
+use Rattle.imago_storage.specs.declared.fault.Fault.{Fault}
+use Rattle.imago_storage.specs.declared.fault.Fault.TheVariants.{Memory, Storage}
+use Rattle.imago_access.specs.Layer.{Layer, Cell, own, loose, unit_of_layer}
+use Rattle.std.specs.declared.string.String.{String}
+use Rattle.std.specs.declared.alloc.Global.{Global}
+use Rattle.std.proofs.lemmas.Grind.{common_steps}
+use Rattle.imago_access.specs.Files.{Pairs, IsKept, WasNotCutOff, byte_in, greatest, keep_all}
+use Rattle.imago_access.specs.declared.format.Format.TheVariants as format
+use Rattle.imago_formats.specs.Descriptor.{descriptor_of, size_of}
+use Rattle.imago_formats.specs.VmdkFiles.{IsStopped}
+use Rattle.imago_formats.specs.VmdkLaws.{size_kept}
+use Rattle.imago_formats.specs.DescriptorView.{kept_extents, source_with}
+use Rattle.imago_access.specs.Stops.{IsMeant}
+use Rattle.std.specs.String.{string_bytes}
+use Rattle.std.proofs.Math.Nat.{le_refl}
+use Rattle.imago_formats.specs.declared.vmdk.descriptor.Access.{Access}
+use Rattle.imago_formats.specs.declared.vmdk.descriptor.Access.TheVariants.{ReadWrite, ReadOnly, NoAccess}
+use Rattle.imago_formats.specs.declared.vmdk.descriptor.Source.{Source}
+use Rattle.imago_formats.specs.declared.vmdk.descriptor.Source.TheVariants.{Flat, Zero}
+use Rattle.imago_formats.specs.VmdkLayer.{AreInReach, IsExtentAt, end_in_file, mapping_of, asks_file, in_source, in_extents, files_asked, meaning_of, vmdk_layer}
+use Rattle.imago_formats.specs.declared.vmdk.descriptor.Extent.{Extent}
+
+greatest_kept : (part : Shape → ℕ) (s s' : StorageState) (ss ss' : List StorageState) → IsKept s s' → Pairs IsKept ss ss' →
+    greatest (λ t. part t.shape) s' ss' ≡ greatest (λ t. part t.shape) s ss
+greatest_kept part s s' [] [] kept pairs = ap part kept.0.shape
+greatest_kept part s s' [] (y ∷ ys) kept pairs = absurd pairs
+greatest_kept part s s' (x ∷ xs) [] kept pairs = absurd pairs
+greatest_kept part s s' (x ∷ xs) (y ∷ ys) kept pairs =
+    ap (λ n. max n (greatest (λ t. part t.shape) y ys)) (ap part kept.0.shape) ∙ ap (λ n. max (part s.shape) n) (greatest_kept part x y xs ys pairs.0 pairs.1)
+
+keeps_kept : (s s' : StorageState) (ss ss' : List StorageState) → IsKept s s' → Pairs IsKept ss ss' → keep_all s' ss' ≡ keep_all s ss
+keeps_kept s s' [] [] kept pairs = ap (λ (h : Shape). h.keeps) kept.0.shape
+keeps_kept s s' [] (y ∷ ys) kept pairs = absurd pairs
+keeps_kept s s' (x ∷ xs) [] kept pairs = absurd pairs
+keeps_kept s s' (x ∷ xs) (y ∷ ys) kept pairs =
+    ap (λ b. b && keep_all y ys) (ap (λ (h : Shape). h.keeps) kept.0.shape) ∙ ap (λ b. s.shape.keeps && b) (keeps_kept x y xs ys pairs.0 pairs.1)
+
+length_kept : (ss ss' : List StorageState) → Pairs IsKept ss ss' → length ss' ≡ length ss
+length_kept [] [] pairs = refl
+length_kept [] (y ∷ ys) pairs = absurd pairs
+length_kept (x ∷ xs) [] pairs = absurd pairs
+length_kept (x ∷ xs) (y ∷ ys) pairs = ap (λ n. suc n) (length_kept xs ys pairs.1)
+
+bytes_kept : (ss ss' : List StorageState) → Pairs IsKept ss ss' → (k p : ℕ) → byte_in ss' k p ≡ byte_in ss k p
+bytes_kept [] [] pairs k p = refl
+bytes_kept [] (y ∷ ys) pairs k p = absurd pairs
+bytes_kept (x ∷ xs) [] pairs k p = absurd pairs
+bytes_kept (x ∷ xs) (y ∷ ys) pairs zero p = ap (λ (bytes : List ℕ). slice_index bytes p) pairs.0.0.bytes
+bytes_kept (x ∷ xs) (y ∷ ys) pairs (suc k) p = bytes_kept xs ys pairs.1 k p
+
+-- The layer is what it was.
+pub layer_kept : {N : Type 0} (extents : List (Extent N)) (image image' : StorageState) (files files' : List StorageState) →
+    Pairs IsKept (image ∷ files) (image' ∷ files') → vmdk_layer extents image' files' ≡ vmdk_layer extents image files
+layer_kept extents image image' files files' kept =
+    let keeps = keeps_kept image image' files files' kept.0 kept.1 in
+    let few = length_kept files files' kept.1 in
+    let requests = greatest_kept (λ h. h.req_align) image image' files files' kept.0 kept.1 in
+    let memory = greatest_kept (λ h. h.mem_align) image image' files files' kept.0 kept.1 in
+    let bytes = bytes_kept (image ∷ files) (image' ∷ files') kept in
+    λ i. record {
+      fixed = record {
+        format = format.Vmdk;
+        writable = false;
+        lets_through = false;
+        keeps = keeps i;
+        missing = ltb (few i) (files_asked extents);
+        number = 0;
+        blank = own (byte 0);
+        req_align = requests i;
+        mem_align = memory i;
+        granularity = None;
+        kind = 0;
+        means = λ f. meaning_of (descriptor_of f) (λ k p. bytes k p i);
+        exact = true;
+        marks = false;
+        states_room = false;
+        unit = 1;
+      };
+      size = size_of extents;
+      failed = false;
+      cell = in_extents (λ k p. bytes k p i) extents 1;
+      home = λ p. None;
+      held = λ p. loose;
+      unspent = None;
+    }
+
+-- what holds whatever the answer
+pub on_ok : {T : Type 0} (r : Result T Fault) (P : Type 0) → P → OnOk r P
+on_ok (Ok v) P holds = holds
+on_ok (Err e) P holds = tt
+
+-- a call over storages that wasn't cut off
+pub not_stopped : {T : Type 0} (r : Result T Fault) (P : Type 0) (olds news : List StorageState) → OnOk r P → IfErr r (IsStopped olds news) → WasNotCutOff r → P
+not_stopped (Ok v) P olds news holds why whole = holds
+not_stopped (Err Memory) P olds news holds why whole = absurd whole
+not_stopped (Err Storage) P olds news holds why whole = absurd whole
+not_stopped (Err e) P olds news holds why whole = absurd why
+
+-- the items of a list that is written back whole
+pub written_back : {A : Type 0} (n : ℕ) (xs ys : List A) → length xs ≡ n → take n (xs ++ drop (length xs) ys) ≡ xs
+written_back n xs ys h = grind (arith, common_steps)
+
+-- A VMDK image is kept where its storages are.
+module _ {A : Type 0} (state : A → StorageState) (image image' : A) (files files' : List A) (extents : List (Extent (String Global))) where
+  abbrev pub LayerOf : A → List A → Layer
+  LayerOf i fs = vmdk_layer extents (state i) (map state fs)
+
+  pub reach_kept : LayerOf image' files' ≡ LayerOf image files → AreInReach (unit_of_layer (LayerOf image files)) extents → AreInReach (unit_of_layer (LayerOf image' files')) extents
+  reach_kept e reach = subst (λ (l : Layer). AreInReach (unit_of_layer l) extents) (sym e) reach
+
+  pub keep_all_kept : LayerOf image' files' ≡ LayerOf image files → IsTrue (keep_all (state image) (map state files)) → IsTrue (keep_all (state image') (map state files'))
+  keep_all_kept e keeps = subst (λ (b : Bool). IsTrue b) (sym (ap (λ (l : Layer). l.fixed.keeps) e)) keeps
+
+pub ok_whole : {T : Type 0} (r : Result T Fault) → IsOk r → WasNotCutOff r
+ok_whole (Ok v) is = tt
+ok_whole (Err e) is = absurd (cc is)
+
+cells_kept : (files : ℕ → ℕ → ℕ) (xs : List (Extent (String Global))) (k p : ℕ) → in_extents files (kept_extents xs) k p ≡ in_extents files xs k p
+cells_kept files [] k p = refl
+cells_kept files (x ∷ xs) k p = by_access x.access x.source (ltb p (512 * x.sectors)) (λ n. cells_kept files xs n (p - 512 * x.sectors))
+  where
+    by_access : (a : Access) (s : Source (String Global)) (t : Bool) →
+        ((n : ℕ) → in_extents files (kept_extents xs) n (p - 512 * x.sectors) ≡ in_extents files xs n (p - 512 * x.sectors)) →
+        cond t (in_source a (source_with (λ name. string_bytes name) s) (files k) p)
+        (in_extents files (kept_extents xs) (cond (asks_file a (source_with (λ name. string_bytes name) s)) (k + 1) k) (p - 512 * x.sectors))
+        ≡ cond t (in_source a s (files k) p) (in_extents files xs (cond (asks_file a s) (k + 1) k) (p - 512 * x.sectors))
+    by_access NoAccess s true later = refl
+    by_access NoAccess s false later = later k
+    by_access ReadWrite (Flat name sector) true later = refl
+    by_access ReadWrite (Flat name sector) false later = later (k + 1)
+    by_access ReadWrite Zero true later = refl
+    by_access ReadWrite Zero false later = later k
+    by_access ReadOnly (Flat name sector) true later = refl
+    by_access ReadOnly (Flat name sector) false later = later (k + 1)
+    by_access ReadOnly Zero true later = refl
+    by_access ReadOnly Zero false later = later k
+
+-- the descriptor means the disk
+pub written : (extents : List (Extent (String Global))) (image : StorageState) (files : List StorageState) → descriptor_of image.bytes ≡ Ok (kept_extents extents) →
+    IsMeant (vmdk_layer extents image files) image.bytes
+written extents image files said = record {
+  size = rw said (rw (size_kept extents) (le_refl (size_of extents)));
+  exactly = λ exact. rw said (size_kept extents);
+  cell = λ p low. rw said (cells_kept (byte_in (image ∷ files)) extents 1 p);
+}
+
+-- ---- Lookups.
+
+within_reach : (unit end place n : ℕ) → 0 < unit → round_up unit end < 2 ^ 64 → place + n ≤ end → Overflows unit place n → ⊥
+within_reach unit end place n some reach low over = let rounds = round_up-le unit (place + n) end some low in omega (arith, rounds, reach, over.1)
+
+below_end : (unit end : ℕ) → 0 < unit → round_up unit end < 2 ^ 64 → end < 2 ^ 64
+below_end unit end some reach = omega (arith, le_round_up unit end some, reach)
+
+module _ (extents : List (Extent (String Global))) (image : StorageState) (files : List StorageState) (offset asked start k sectors n : ℕ)
+    (low : start ≤ offset) (high : offset < start + 512 * sectors) (short : n ≤ 512 * sectors - (offset - start))
+    (unit_some : 0 < unit_of_layer (vmdk_layer extents image files)) where
+  abbrev here : Layer
+  here = vmdk_layer extents image files
+
+  abbrev within : ℕ
+  within = offset - start
+
+  -- what the places show, by what the extent shows
+  places : (value : ℕ → Cell) → ((q : ℕ) → q < 512 * sectors → in_extents (byte_in (image ∷ files)) extents 1 (start + q) ≡ value q) →
+      EachIs here.cell offset n (λ i. value (offset - start + i))
+  places value shows i below =
+      let q : offset + i ≡ start + (offset - start + i) = omega arith in
+      let inside : offset - start + i < 512 * sectors = omega arith in
+      ap (λ p. in_extents (byte_in (image ∷ files)) extents 1 p) q ∙ shows (offset - start + i) inside
+
+  -- an extent of a file
+  in_flat : (sector : ℕ) → round_up (unit_of_layer here) (512 * (sector + sectors)) < 2 ^ 64 →
+      ((q : ℕ) → q < 512 * sectors → in_extents (byte_in (image ∷ files)) extents 1 (start + q) ≡ own (byte (byte_in (image ∷ files) k (512 * sector + q)))) →
+      Looks here (byte_in (image ∷ files)) offset asked (shallow.Raw k (min (min (512 * sector) (2 ^ 64 - 1) + (offset - start)) (2 ^ 64 - 1)) false) n
+  in_flat sector reach shows =
+      let ends : 512 * (sector + sectors) < 2 ^ 64 = below_end (unit_of_layer here) (512 * (sector + sectors)) unit_some reach in
+      let place : min (min (512 * sector) (2 ^ 64 - 1) + (offset - start)) (2 ^ 64 - 1) ≡ 512 * sector + (offset - start) = omega arith in
+      rw place (record {
+        names = (
+          λ i below. places (λ q. own (byte (byte_in (image ∷ files) k (512 * sector + q)))) shows i below
+              ∙ ap (λ p. own (byte (byte_in (image ∷ files) k p))) (regroup (512 * sector) (offset - start) i),
+          (λ w. never w),
+          λ w. never w,
+        );
+        reach = λ over. absurd (within_reach (unit_of_layer here) (512 * (sector + sectors)) (512 * sector + (offset - start)) n unit_some reach (omega arith) over);
+        home = λ free some storage at is. absurd (cc is);
+      })
+    where
+      regroup : (a b i : ℕ) → a + (b + i) ≡ a + b + i
+      regroup a b i = omega arith
+
+  in_zero : ((q : ℕ) → q < 512 * sectors → in_extents (byte_in (image ∷ files)) extents 1 (start + q) ≡ own (byte 0)) →
+      Looks here (byte_in (image ∷ files)) offset asked (shallow.Zero true) n
+  in_zero shows = record { names = (λ i below. places (λ q. own (byte 0)) shows i below, λ is. absurd (cc is)); reach = tt; home = λ free some storage at is. absurd (cc is) }
+
+  in_barred : ((q : ℕ) → q < 512 * sectors → in_extents (byte_in (image ∷ files)) extents 1 (start + q) ≡ own barred) →
+      Looks here (byte_in (image ∷ files)) offset asked (shallow.Special offset) n
+  in_barred shows = record { names = (λ i below. places (λ q. own barred) shows i below, refl); reach = tt; home = λ free some storage at is. absurd (cc is) }
+
+  -- what a lookup answers
+  looks_in : (a : Access) (s : Source (String Global)) → round_up (unit_of_layer here) (end_in_file a s sectors) < 2 ^ 64 →
+      ((q : ℕ) → q < 512 * sectors → in_extents (byte_in (image ∷ files)) extents 1 (start + q) ≡ in_source a s (byte_in (image ∷ files) k) q) →
+      Looks here (byte_in (image ∷ files)) offset asked (mapping_of a s k offset (offset - start)) n
+  looks_in NoAccess s reach shows = in_barred shows
+  looks_in ReadWrite (Flat name sector) reach shows = in_flat sector reach shows
+  looks_in ReadWrite Zero reach shows = in_zero shows
+  looks_in ReadOnly (Flat name sector) reach shows = in_flat sector reach shows
+  looks_in ReadOnly Zero reach shows = in_zero shows
+
+pub looks_at : (extents : List (Extent (String Global))) (image : StorageState) (files : List StorageState) (offset asked n : ℕ) (x : Extent (String Global)) (start k : ℕ) →
+    IsExtentAt extents offset x start k → 0 < unit_of_layer (vmdk_layer extents image files) → AreInReach (unit_of_layer (vmdk_layer extents image files)) extents →
+    n ≤ 512 * x.sectors - (offset - start) → Looks (vmdk_layer extents image files) (byte_in (image ∷ files)) offset asked (mapping_of x.access x.source k offset (offset - start)) n
+looks_at extents image files offset asked n x start k at some reach short =
+    looks_in extents image files offset asked start k x.sectors n at.low at.high short some x.access x.source (at.reach _ reach) (at.shows (byte_in (image ∷ files)))

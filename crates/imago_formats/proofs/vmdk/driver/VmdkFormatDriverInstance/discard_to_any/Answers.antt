@@ -1,0 +1,5 @@
+use Rattle.imago_access.specs.PartCalls.{discards_to_any}
+use Rattle.imago_formats.proofs.vmdk.driver.VmdkFormatDriverInstance.discard_to_any.Goals as goal
+
+pub returns-clause-does : goal.returns-clause-does
+returns-clause-does g c = c.no_part.ensures.does discards_to_any

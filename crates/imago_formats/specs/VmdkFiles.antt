@@ -1,0 +1,41 @@
+-- What calls do to the storages of an image.
+use Rattle.std.specs.Prelude.{⊤, ◌≡◌, ◌<◌, Some, None, ℕ, max, List, [], ◌∷◌}
+use Rattle.imago_storage.specs.State.{StorageState}
+use Rattle.imago_storage.specs.declared.fault.Fault.{Fault}
+use Rattle.imago_storage.specs.declared.fault.Fault.TheVariants.{Memory, Storage, RangeOverflow, MissingData, ReadOnly}
+use Rattle.imago_access.specs.Layer.{Layer}
+use Rattle.imago_access.specs.Refusals.{barrier}
+use Rattle.imago_access.specs.Files.{IsKept, Pairs, SomeRose, files, greatest}
+use Rattle.imago_access.specs.declared.seen.Seen.{Ghosts}
+use Rattle.imago_storage.specs.Through.{Overflows}
+
+-- why a call stops that goes over storages: want of memory, or one that failed
+abbrev pub IsStopped : List StorageState → List StorageState → Fault → Type 0
+IsStopped olds news Memory = ⊤
+IsStopped olds news Storage = SomeRose olds news
+IsStopped olds news fault = ⊥
+
+-- the unit of requests to all of several storages
+abbrev pub unit_of_all : List StorageState → ℕ
+unit_of_all [] = 0
+unit_of_all (s ∷ ss) = max (greatest (λ t. t.shape.req_align) s ss) (greatest (λ t. t.shape.mem_align) s ss)
+
+-- why the bytes of one of several storages aren't read: also where the padded end of the range passes 64 bits
+abbrev pub IsUnread : List StorageState → List StorageState → ℕ → ℕ → Fault → Type 0
+IsUnread olds news place n RangeOverflow = Overflows (unit_of_all olds) place n
+IsUnread olds news place n fault = IsStopped olds news fault
+
+-- why a change is refused of a layer that is never written: a file is missing, or there is something to change
+abbrev pub Refuses : Layer → ℕ → Fault → Type 0
+Refuses layer n MissingData = barrier layer ≡ Some MissingData
+Refuses layer n ReadOnly = (barrier layer ≡ None) × (0 < n)
+Refuses layer n fault = ⊥
+
+-- what a call keeps of a driver that changes nothing but counts of faults
+pub record Keeps {D St : Type 0} (g : Ghosts D St) (old new : D) : Type 0 where
+  pub layer : g.layer new ≡ g.layer old
+  pub kept : Pairs IsKept (files g old) (files g new)
+  pub sees : g.sees old → g.sees new
+  pub safely : g.safe old → g.safe new
+  pub stilled : g.still old → g.still new
+  pub lasting : g.lasts old → g.lasts new

@@ -1,0 +1,462 @@
+// A VMDK image as a driver.
+ghost use Rattle.std.specs.Prelude.{ℕ, ◌≡◌, ◌⊎◌, ◌∷◌, ◌-◌, ◌+◌, ◌*◌, ◌<◌, [], ⊤, min, map, refl, length, OnOk, IfOk, IfErr, IsOk, IsTrue, Ok, Err, Some, None};
+ghost use Rattle.std.proofs.Common.{inl, inr};
+ghost use Rattle.std.proofs.Math.Nat.{le_refl};
+ghost use Rattle.imago_storage.specs.Calls.{Cause, IsFaultless};
+ghost use Rattle.imago_access.specs.Files.{AreRead, IsKept, Pairs, Unasked, WasNotCutOff, byte_in, files, keep_all};
+ghost use Rattle.imago_access.specs.Layer.{unit_of_layer};
+ghost use Rattle.imago_access.specs.Mappings.{IsRun, Looks};
+ghost use Rattle.imago_access.specs.Going.{RangeAtOnce};
+ghost use Rattle.imago_access.specs.PartCalls.{IsPart, DoesPart, PartCall, PartRefused};
+ghost use Rattle.imago_formats.specs.VmdkFiles.{IsStopped, IsUnread, Keeps, Refuses};
+ghost use Rattle.imago_access.specs.PreparingCalls.{Commits, CommitRefused, Cancels};
+ghost use Rattle.imago_access.specs.Refusals.{barrier};
+ghost use Rattle.imago_formats.specs.Descriptor.{descriptor_of, is_signed, text_of};
+ghost use Rattle.imago_formats.specs.DescriptorView.{kept_extents};
+ghost use Rattle.imago_formats.specs.RawHome.{never};
+ghost use Rattle.imago_formats.specs.VmdkLayer.{AreInReach, vmdk_layer, vmdk_text};
+ghost use Rattle.imago_formats.specs.VmdkLaws.{aligned_files, covered, no_home};
+
+use crate::raw::NoState;
+use crate::vmdk::disk::{Disk, files_asked};
+use crate::vmdk::files::{is_descriptor, read_descriptor};
+use crate::vmdk::looking::mapping_at;
+use crate::vmdk::storages::{
+    Upkeep, greatest_mem_align, greatest_req_align, keep_up, read_storage,
+};
+use imago_access::{
+    Format, FormatDriverInstance, PreallocateMode, PreparedDataMapping, ReadBelow, Seen,
+    ShallowMapping,
+};
+use imago_storage::{Fault, Storage};
+use std::alloc::Global;
+use std::fmt::{self, Display, Formatter, Write};
+
+/// A VMDK image: a text descriptor, which names the extents of the disk, and the files of those that have one.
+///
+/// It is read, and never written. Its descriptor's file has the number 0, and the files of its extents follow, in order.
+#[derive(Drop)]
+pub struct Vmdk<S> {
+    image: S,
+    disk: Disk,
+    files: Vec<S>,
+}
+
+impl<S: Storage> Vmdk<S> {
+    /// Opens a descriptor, without the files that it names: while one is missing, each call but getters is refused with
+    /// `Fault::MissingData`.
+    ///
+    /// It refuses with `Fault::DamagedDescriptor`, `Fault::Unsupported`, `Fault::Memory` and `Fault::Storage`.
+    pub fn open_image(alloc: Global, image: S) -> Result<Self, Fault>
+        ensures said { IfOk result (λ d. descriptor_of (S.state image).bytes ≡ Ok (kept_extents d.disk.extents.items)) }
+        ensures image { IfOk result (λ d. IsKept (S.state image) (S.state d.image)) }
+        ensures files { IfOk result (λ d. d.files.items ≡ []) }
+        ensures err { IfErr result (λ e. (e ≡ Fault.Memory) ⊎ ((e ≡ Fault.Storage) ⊎ (descriptor_of (S.state image).bytes ≡ Err e))) }
+    {
+        let mut image = image;
+        match read_descriptor(alloc, &mut image) {
+            Ok(disk) => Ok(Vmdk {
+                image,
+                disk,
+                files: Vec::new(alloc),
+            }),
+            Err(fault) => Err(fault),
+        }
+    }
+
+    /// Whether a storage is a VMDK descriptor, by its first line.
+    pub fn probe(alloc: Global, image: &mut S) -> Result<bool, Fault>
+        ensures ok { IfOk result (λ yes. yes ≡ is_signed (text_of (S.state image.old).bytes)) }
+        ensures err { IfErr result (Cause (S.state image.old).faults (S.state image.new).faults) }
+        ensures kept { IsKept (S.state image.old) (S.state image.new) }
+    {
+        is_descriptor(alloc, image)
+    }
+
+    // The run from an offset on: all of the range that lies in its extent.
+    fn run_from(&self, offset: u64, max_length: u64) -> (ShallowMapping, u64)
+        ensures run { IsRun (⟦<Vmdk<S> as Seen>⟧.layer self.now) offset max_length result.0 result.1 }
+        ensures looks { let d = ⟦<Vmdk<S> as Seen>⟧ in d.sees self.now → Looks (d.layer self.now) (byte_in (files d self.now)) offset max_length result.0 result.1 }
+    {
+        match self.disk.find(offset) {
+            Some(found) => {
+                let within = offset - found.start;
+                let rest = found.extent.sectors * 512 - within;
+                (
+                    mapping_at(found.extent, found.number, offset, within),
+                    max_length.min(rest),
+                )
+            }
+            None => (ShallowMapping::Eof, 0),
+        }
+    }
+
+    // Why a change is refused before anything is done.
+    fn check_change(&self, length: u64) -> Result<(), Fault>
+        ensures ok { OnOk result ((barrier (⟦<Vmdk<S> as Seen>⟧.layer self.now) ≡ None) × (length ≡ 0)) }
+        ensures err { IfErr result (Refuses (⟦<Vmdk<S> as Seen>⟧.layer self.now) length) }
+    {
+        match self.ready() {
+            Ok(()) => {}
+            Err(_) => return Err(Fault::MissingData),
+        }
+        if length != 0 {
+            return Err(Fault::ReadOnly);
+        }
+        Ok(())
+    }
+
+    // Asks each storage, in order, up to the first that refuses.
+    fn keep(&mut self, upkeep: Upkeep) -> Result<(), Fault>
+        ensures keeps { Keeps ⟦<Vmdk<S> as Seen>⟧ self.old self.new }
+        ensures ok { let d = ⟦<Vmdk<S> as Seen>⟧ in OnOk result (Pairs IsFaultless (files d self.old) (files d self.new)) }
+        ensures err { let d = ⟦<Vmdk<S> as Seen>⟧ in IfErr result (IsStopped (files d self.old) (files d self.new)) }
+    {
+        keep_up(&mut self.image, &mut self.files, upkeep)
+    }
+
+    // Reads a storage from a place on.
+    fn read(
+        &mut self,
+        alloc: Global,
+        storage: usize,
+        place: u64,
+        buf: &mut [u8],
+    ) -> Result<(), Fault>
+        ensures keeps { Keeps ⟦<Vmdk<S> as Seen>⟧ self.old self.new }
+        ensures bytes { OnOk result (AreRead (files ⟦<Vmdk<S> as Seen>⟧ self.old) storage place (length buf.old) buf.new) }
+        ensures whole { let d = ⟦<Vmdk<S> as Seen>⟧ in WasNotCutOff result → Pairs IsFaultless (files d self.old) (files d self.new) }
+        ensures err { let d = ⟦<Vmdk<S> as Seen>⟧ in IfErr result (IsUnread (files d self.old) (files d self.new) place (length buf.old)) }
+        ensures empty { length buf.old ≡ 0 → IsOk result × Unasked ⟦<Vmdk<S> as Seen>⟧ self.old self.new }
+    {
+        read_storage(alloc, &mut self.image, &mut self.files, storage, place, buf)
+    }
+
+    // A call that would zero or discard a part of a range.
+    fn no_part(&mut self, offset: u64, length: u64) -> Result<(u64, u64), Fault>
+        ensures part { IfOk result (IsPart offset length) }
+        ensures does { (call : PartCall) → DoesPart call ⟦<Vmdk<S> as Seen>⟧ offset length result self.old self.new }
+        ensures at_once { RangeAtOnce ⟦<Vmdk<S> as Seen>⟧ offset length result self.old self.new }
+        ensures refused { PartRefused ⟦<Vmdk<S> as Seen>⟧ offset length result self.old self.new }
+    {
+        match self.check_change(length) {
+            Ok(()) => Ok((offset, 0)),
+            Err(fault) => Err(fault),
+        }
+    }
+}
+
+impl<S: Storage> Vmdk<S> {
+    /// The descriptor's file.
+    pub fn image(&self) -> &S
+        ensures { result.now ≡ self.now.image }
+    {
+        &self.image
+    }
+
+    /// The descriptor's file again. The files of extents are dropped.
+    pub fn into_image(self) -> S
+        ensures { result ≡ self.image }
+    {
+        let Vmdk {
+            image,
+            disk: _disk,
+            files: _files,
+        } = self;
+        image
+    }
+}
+
+impl<S: Storage> Display for Vmdk<S> {
+    ghost output = { λ d. Some (vmdk_text (S.state d.image).shape.filename) };
+
+    fn fmt<W: Write>(&self, f: &mut Formatter<W>) -> fmt::Result {
+        match self.image.get_filename() {
+            Some(name) => write!(f, "vmdk[{name}]"),
+            None => write!(f, "vmdk[]"),
+        }
+    }
+}
+
+impl<S: Storage> Seen for Vmdk<S> {
+    type State = NoState;
+
+    ghost layer = { λ d. vmdk_layer d.disk.extents.items (S.state d.image) (map S.state d.files.items) };
+
+    ghost image = { λ d. S.state d.image };
+
+    ghost extras = { λ d. map S.state d.files.items };
+
+    ghost sees = { λ d. AreInReach (unit_of_layer (vmdk_layer d.disk.extents.items (S.state d.image) (map S.state d.files.items))) d.disk.extents.items };
+
+    ghost safe = { λ d. IsTrue (keep_all (S.state d.image) (map S.state d.files.items))
+        × AreInReach (unit_of_layer (vmdk_layer d.disk.extents.items (S.state d.image) (map S.state d.files.items))) d.disk.extents.items
+        × (descriptor_of (S.state d.image).bytes ≡ Ok (kept_extents d.disk.extents.items)) };
+
+    ghost still = { λ _. ⊤ };
+
+    ghost lasts = { λ _. ⊤ };
+
+    ghost vacant = { λ d p. ⊤ };
+
+    ghost has_room = { λ d p. ⊥ };
+
+    ghost zeroed = { λ d p. ⊤ };
+
+    ghost claim = { λ _. 0 };
+
+    ghost tag = { λ _. 0 };
+
+    ghost sound = { λ kind f. ⊤ };
+
+    ghost began = { λ d call now. ⊤ };
+
+    ghost own_cause = { λ d below call fault. ⊥ };
+
+    ghost growth_cause = { λ d below size mode fault. ⊥ };
+}
+
+impl<S: Storage> FormatDriverInstance for Vmdk<S> {
+    type Storage = S;
+
+    ghost safe_sees = { λ d safe. safe.1 };
+
+    ghost safe_runs = { λ d safe. refl };
+
+    ghost safe_keeps = { λ d safe. safe.0 };
+
+    ghost safe_sound = { λ d safe. covered d.disk.extents.items (S.state d.image) (map S.state d.files.items) safe.2 };
+
+    ghost one_home = { λ d p q at safe. no_home p q at };
+
+    ghost blanks = { λ d. inr refl };
+
+    ghost aligned = { λ d. aligned_files S.state S.aligned d.image d.files.items };
+
+    ghost of_storages = { λ d. record { requests = refl; memory = refl; keeps = refl; zeroing = inl refl } };
+
+    ghost marked = { λ d is. absurd (cc is) };
+
+    ghost units = { λ d. le_refl 1 };
+
+    ghost begins = { λ d call. tt };
+
+    ghost free_loose = { λ d free p. refl };
+
+    ghost bare = { λ d p free has. has };
+
+    ghost rooms = { λ d p free states. never states };
+
+    fn image_file(&self) -> &S {
+        &self.image
+    }
+
+    fn format(&self) -> Format {
+        Format::Vmdk
+    }
+
+    fn size(&self) -> u64 {
+        self.disk.size()
+    }
+
+    fn writable(&self) -> bool {
+        false
+    }
+
+    fn zero_granularity(&self) -> Option<u64> {
+        None
+    }
+
+    fn req_align(&self) -> usize {
+        greatest_req_align(&self.image, &self.files)
+    }
+
+    fn mem_align(&self) -> usize {
+        greatest_mem_align(&self.image, &self.files)
+    }
+
+    fn ready(&self) -> Result<(), Fault> {
+        if self.files.len() < files_asked(self.disk.extents()) {
+            return Err(Fault::MissingData);
+        }
+        Ok(())
+    }
+
+    fn prepared(&self) -> bool {
+        false
+    }
+
+    fn get_mapping(
+        &mut self,
+        _alloc: Global,
+        offset: u64,
+        max_length: u64,
+    ) -> Result<(ShallowMapping, u64), Fault> {
+        match self.ready() {
+            Ok(()) => Ok(self.run_from(offset, max_length)),
+            Err(fault) => Err(fault),
+        }
+    }
+
+    fn read_mapped(
+        &mut self,
+        alloc: Global,
+        storage: usize,
+        place: u64,
+        buf: &mut [u8],
+    ) -> Result<(), Fault> {
+        match self.ready() {
+            Ok(()) => self.read(alloc, storage, place, buf),
+            Err(fault) => Err(fault),
+        }
+    }
+
+    fn read_special(&mut self, _buf: &mut [u8], _offset: u64) -> Result<(), Fault> {
+        match self.ready() {
+            Ok(()) => Err(Fault::Barred),
+            Err(fault) => Err(fault),
+        }
+    }
+
+    fn prepare_data_mapping<B: ReadBelow>(
+        &mut self,
+        _alloc: Global,
+        _below: &mut B,
+        _offset: u64,
+        length: u64,
+        _overwrite: bool,
+    ) -> Result<PreparedDataMapping<NoState>, Fault> {
+        match self.check_change(length) {
+            Ok(()) => Ok(PreparedDataMapping::existing(0, 0, 0)),
+            Err(fault) => Err(fault),
+        }
+    }
+
+    fn commit_data_mapping(
+        &mut self,
+        _alloc: Global,
+        mapping: PreparedDataMapping<NoState>,
+    ) -> Result<(), (Fault, Option<PreparedDataMapping<NoState>>)>
+        ensures commits { Commits ⟦<Vmdk<S> as Seen>⟧ mapping.state result self.old self.new }
+        ensures refused { CommitRefused ⟦<Vmdk<S> as Seen>⟧ mapping result self.old self.new }
+    {
+        match self.ready() {
+            Ok(()) => {}
+            Err(fault) => return Err((fault, Some(mapping))),
+        }
+        match mapping.into_state() {
+            None => Ok(()),
+            Some(state) => match state {},
+        }
+    }
+
+    fn cancel_data_mapping(
+        &mut self,
+        mapping: PreparedDataMapping<NoState>,
+    ) -> Result<(), (Fault, PreparedDataMapping<NoState>)>
+        ensures cancels { Cancels ⟦<Vmdk<S> as Seen>⟧ mapping result self.old self.new }
+    {
+        match mapping.into_state() {
+            None => Ok(()),
+            Some(state) => match state {},
+        }
+    }
+
+    fn write_mapped(
+        &mut self,
+        _alloc: Global,
+        _guest: u64,
+        _place: u64,
+        bytes: &[u8],
+    ) -> Result<(), Fault> {
+        match self.check_change(bytes.len() as u64) {
+            Ok(()) => Ok(()),
+            Err(fault) => Err(fault),
+        }
+    }
+
+    fn ensure_zero_mapping(
+        &mut self,
+        _alloc: Global,
+        offset: u64,
+        length: u64,
+    ) -> Result<(u64, u64), Fault> {
+        self.no_part(offset, length)
+    }
+
+    fn discard_to_zero(
+        &mut self,
+        _alloc: Global,
+        offset: u64,
+        length: u64,
+    ) -> Result<(u64, u64), Fault> {
+        self.no_part(offset, length)
+    }
+
+    fn discard_to_any(
+        &mut self,
+        _alloc: Global,
+        offset: u64,
+        length: u64,
+    ) -> Result<(u64, u64), Fault> {
+        self.no_part(offset, length)
+    }
+
+    fn discard_to_backing(
+        &mut self,
+        _alloc: Global,
+        offset: u64,
+        length: u64,
+    ) -> Result<(u64, u64), Fault> {
+        self.no_part(offset, length)
+    }
+
+    fn flush(&mut self, _alloc: Global) -> Result<(), Fault> {
+        match self.ready() {
+            Ok(()) => self.keep(Upkeep::Flush),
+            Err(fault) => Err(fault),
+        }
+    }
+
+    fn sync(&mut self) -> Result<(), Fault> {
+        match self.ready() {
+            Ok(()) => self.keep(Upkeep::Sync),
+            Err(fault) => Err(fault),
+        }
+    }
+
+    fn invalidate_cache(&mut self, _alloc: Global) -> Result<(), Fault> {
+        match self.ready() {
+            Ok(()) => self.keep(Upkeep::Invalidate),
+            Err(fault) => Err(fault),
+        }
+    }
+
+    fn resize_grow<B: ReadBelow>(
+        &mut self,
+        _alloc: Global,
+        _below: &mut B,
+        size: u64,
+        _mode: PreallocateMode,
+    ) -> Result<(), Fault> {
+        match self.ready() {
+            Ok(()) => {}
+            Err(fault) => return Err(fault),
+        }
+        if size <= self.disk.size() {
+            return Ok(());
+        }
+        Err(Fault::ReadOnly)
+    }
+
+    fn resize_shrink(&mut self, _alloc: Global, size: u64) -> Result<(), Fault> {
+        match self.ready() {
+            Ok(()) => {}
+            Err(fault) => return Err(fault),
+        }
+        if size >= self.disk.size() {
+            return Ok(());
+        }
+        Err(Fault::ReadOnly)
+    }
+}

@@ -1,0 +1,28 @@
+// What lookups answer.
+ghost use Rattle.std.specs.Prelude.{◌≡◌};
+ghost use Rattle.imago_formats.specs.VmdkLayer.{mapping_of};
+
+use crate::vmdk::descriptor::{Access, Extent, Source};
+use imago_access::ShallowMapping;
+
+/// Where a place lies: at this offset of the disk, and so far behind the start of its extent, whose file has this number.
+pub(crate) fn mapping_at(
+    extent: &Extent<String>,
+    number: usize,
+    offset: u64,
+    within: u64,
+) -> ShallowMapping
+    ensures { result ≡ mapping_of extent.now.access extent.now.source number offset within }
+{
+    match extent.access {
+        Access::NoAccess => ShallowMapping::Special { offset },
+        Access::ReadWrite | Access::ReadOnly => match extent.source {
+            Source::Flat { sector, .. } => ShallowMapping::Raw {
+                storage: number,
+                offset: sector.saturating_mul(512).saturating_add(within),
+                writable: false,
+            },
+            Source::Zero => ShallowMapping::Zero { explicit: true },
+        },
+    }
+}
