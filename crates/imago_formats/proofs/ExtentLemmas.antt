@@ -1,9 +1,10 @@
 -- The extents of a disk, one by one.
-use Rattle.std.proofs.Common.{◌≡◌, ℕ, ◌+◌, ◌-◌, ◌*◌, ◌<◌, ◌≤◌, cond, Bool, true, false, List, ◌∷◌, length, take, drop, get_or, suc, refl, sym, ap, zero-add, add-one, ◌∙◌, arith}
+use Rattle.std.proofs.Common.{◌^◌, ◌≡◌, ℕ, ◌+◌, ◌-◌, ◌*◌, ◌<◌, ◌≤◌, cond, Bool, true, false, List, ◌∷◌, length, take, drop, get_or, suc, refl, sym, ap, zero-add, add-one, ◌∙◌, arith}
 use Rattle.std.proofs.lemmas.List.Sums.{sum_by_more, sum_by_more_le}
 use Rattle.std.proofs.lemmas.Bool.{lt-ltb, le-ltb}
 use Rattle.imago_formats.specs.Descriptor.{size_of}
-use Rattle.imago_formats.specs.VmdkLayer.{in_extents, in_source, has_file, AreInReach, IsExtentAt}
+use Rattle.imago_storage.specs.Through.{round_up}
+use Rattle.imago_formats.specs.VmdkLayer.{end_in_file, in_extents, in_source, has_file, AreInReach, IsExtentAt}
 use Rattle.imago_formats.specs.declared.vmdk.descriptor.Extent.{Extent}
 use Rattle.std.proofs.Math.Seq.{drop-cons}
 use lib.Dec.{ltb}
@@ -45,6 +46,11 @@ module _ {N : Type 0} where
 
   rest_is : (xs : List (Extent N)) (i : ℕ) (x : Extent N) → i < length xs → x ≡ get_or xs i x → drop i xs ≡ x ∷ drop (i + 1) xs
   rest_is xs i x h is = drop-cons xs i x h ∙ ap (λ y. y ∷ drop (suc i) xs) (sym is) ∙ ap (λ n. x ∷ drop n xs) (sym (add-one i))
+
+  -- what ends in reach from an extent on, ends so from the one before it on
+  pub reach_before : (unit : ℕ) (xs : List (Extent N)) (i : ℕ) (x : Extent N) → i < length xs → x ≡ get_or xs i x →
+      round_up unit (end_in_file x.access x.source x.sectors) < 2 ^ 64 → AreInReach unit (drop (i + 1) xs) → AreInReach unit (drop i xs)
+  reach_before unit xs i x h is here later = rw (rest_is xs i x h is) (here, later)
 
   pub stands_first : (xs : List (Extent N)) (p : ℕ) → StandsAt xs 0 0 1 p
   stands_first xs p = record {

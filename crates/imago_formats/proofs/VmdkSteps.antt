@@ -125,35 +125,6 @@ pub ok_whole : {T : Type 0} (r : Result T Fault) → IsOk r → WasNotCutOff r
 ok_whole (Ok v) is = tt
 ok_whole (Err e) is = absurd (cc is)
 
-cells_kept : (files : ℕ → ℕ → ℕ) (xs : List (Extent (String Global))) (k p : ℕ) → in_extents files (kept_extents xs) k p ≡ in_extents files xs k p
-cells_kept files [] k p = refl
-cells_kept files (x ∷ xs) k p = by_access x.access x.source (ltb p (512 * x.sectors)) (λ n. cells_kept files xs n (p - 512 * x.sectors))
-  where
-    by_access : (a : Access) (s : Source (String Global)) (t : Bool) →
-        ((n : ℕ) → in_extents files (kept_extents xs) n (p - 512 * x.sectors) ≡ in_extents files xs n (p - 512 * x.sectors)) →
-        cond t (in_source a (source_with (λ name. string_bytes name) s) (files k) p)
-        (in_extents files (kept_extents xs) (cond (asks_file a (source_with (λ name. string_bytes name) s)) (k + 1) k) (p - 512 * x.sectors))
-        ≡ cond t (in_source a s (files k) p) (in_extents files xs (cond (asks_file a s) (k + 1) k) (p - 512 * x.sectors))
-    by_access NoAccess s true later = refl
-    by_access NoAccess s false later = later k
-    by_access ReadWrite (Flat name sector) true later = refl
-    by_access ReadWrite (Flat name sector) false later = later (k + 1)
-    by_access ReadWrite Zero true later = refl
-    by_access ReadWrite Zero false later = later k
-    by_access ReadOnly (Flat name sector) true later = refl
-    by_access ReadOnly (Flat name sector) false later = later (k + 1)
-    by_access ReadOnly Zero true later = refl
-    by_access ReadOnly Zero false later = later k
-
--- the descriptor means the disk
-pub written : (extents : List (Extent (String Global))) (image : StorageState) (files : List StorageState) → descriptor_of image.bytes ≡ Ok (kept_extents extents) →
-    IsMeant (vmdk_layer extents image files) image.bytes
-written extents image files said = record {
-  size = rw said (rw (size_kept extents) (le_refl (size_of extents)));
-  exactly = λ exact. rw said (size_kept extents);
-  cell = λ p low. rw said (cells_kept (byte_in (image ∷ files)) extents 1 p);
-}
-
 -- ---- Lookups.
 
 within_reach : (unit end place n : ℕ) → 0 < unit → round_up unit end < 2 ^ 64 → place + n ≤ end → Overflows unit place n → ⊥

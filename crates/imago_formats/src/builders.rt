@@ -1,5 +1,12 @@
 // How raw images are opened and created.
-ghost use Rattle.std.specs.Prelude.{refl, ◌≡◌, true, false, Ok, Err, None, IsTrue, IfOk, IfErr};
+ghost use Rattle.std.specs.Prelude.{refl, map, ◌≡◌, true, false, Ok, Err, None, IsTrue, IfOk, IfErr};
+ghost use Rattle.std.proofs.Common.{sym};
+ghost use Rattle.imago_storage.specs.declared.fault.Fault.TheVariants.{Unsupported};
+ghost use Rattle.imago_access.specs.Files.{IsKept};
+ghost use Rattle.imago_access.specs.Refusals.{barrier};
+ghost use Rattle.imago_formats.specs.Descriptor.{descriptor_of};
+ghost use Rattle.imago_formats.specs.DescriptorView.{kept_extents};
+ghost use Rattle.imago_formats.specs.VmdkLaws.{said_still, written};
 ghost use Rattle.imago_access.specs.Building.{OpensCreated, NotOpened};
 ghost use Rattle.imago_access.specs.declared.format.Format.TheVariants as format;
 ghost use Rattle.imago_access.specs.declared.format.PreallocateMode.TheVariants as mode;
@@ -10,6 +17,7 @@ ghost use Rattle.imago_formats.specs.RawOpening.{IsRaw, kept_same};
 ghost use Rattle.imago_formats.specs.Creating.{IsNewRaw, NotCreated};
 
 use crate::raw::{Raw, grow_storage, storage_mode};
+use crate::vmdk::Vmdk;
 use imago_access::{
     Format, FormatCreateBuilder, FormatCreateBuilderBase, FormatDriverBuilder,
     FormatDriverBuilderBase, ImplicitOpenGate, MakeOpenBuilder, PreallocateMode, Seen,
@@ -90,6 +98,100 @@ impl<S: Storage> FormatDriverBuilder<S> for RawOpenBuilder<S> {
 
     fn get_storage_open_options(&self) -> Option<&StorageOpenOptions> {
         self.base.get_storage_opts()
+    }
+}
+
+/// Opens a VMDK image for reading: its descriptor, and then the files that the gate opens for the names of its extents.
+///
+/// It refuses with `Fault::Unsupported` where it is to be for writing, before anything is done, and else as `Vmdk::open_image` and
+/// `Vmdk::open_implicit_dependencies_gated` do.
+#[derive(Drop)]
+pub struct VmdkOpenBuilder<S> {
+    base: FormatDriverBuilderBase<S>,
+}
+
+impl<S: Storage> FormatDriverBuilder<S> for VmdkOpenBuilder<S> {
+    type Format = Vmdk<S>;
+
+    const FORMAT: Format = Format::Vmdk;
+
+    ghost FORMAT = { format.Vmdk };
+
+    ghost image_of = { λ b. b.base.image };
+
+    ghost writable_of = { λ b. b.base.writable };
+
+    ghost options_of = { λ b. b.base.options };
+
+    ghost number_of = { λ b. 0 };
+
+    ghost with_writable = { λ b writable. record b { base = record b.base { writable = writable } } };
+
+    ghost opens = { λ b d. (b.base.writable ≡ false) × IsKept (S.state b.base.image) (S.state d.image)
+        × (descriptor_of (S.state b.base.image).bytes ≡ Ok (kept_extents d.disk.extents.items))
+        × (barrier (⟦<Vmdk<S> as Seen>⟧.layer d) ≡ None) × ⟦<Vmdk<S> as Seen>⟧.sees d };
+
+    ghost refuses = { λ b fault. IsTrue b.base.writable → fault ≡ Unsupported };
+
+    ghost opened = { λ b d opens. let said = said_still (S.state b.base.image) (S.state d.image) d.disk.extents.items opens.1 opens.2 in record {
+      format_is = refl;
+      writable_is = sym opens.0;
+      number_is = refl;
+      meant = λ alone. written d.disk.extents.items (S.state d.image) (map S.state d.files.items) said;
+      kept = opens.1;
+      free = refl;
+      runs = refl;
+      sees = opens.4;
+      still = tt;
+      safe = λ keeps sound. (keeps, opens.4, said);
+    } };
+
+    fn new(image: S) -> Self {
+        VmdkOpenBuilder {
+            base: FormatDriverBuilderBase::new(image),
+        }
+    }
+
+    fn write(mut self, write: bool) -> Self {
+        self.base.set_write(write);
+        self
+    }
+
+    fn storage_open_options(mut self, options: StorageOpenOptions) -> Self {
+        self.base.set_storage_open_options(options);
+        self
+    }
+
+    fn open<G: ImplicitOpenGate<S>>(self, alloc: Global, gate: &mut G) -> Result<Vmdk<S>, Fault> {
+        if self.base.get_writable() {
+            return Err(Fault::Unsupported);
+        }
+        let image = self.base.open_image(gate)?;
+        let mut vmdk = match Vmdk::open_image(alloc, image) {
+            Ok(vmdk) => vmdk,
+            Err(fault) => return Err(fault),
+        };
+        match vmdk.open_implicit_dependencies_gated(alloc, gate) {
+            Ok(()) => Ok(vmdk),
+            Err(fault) => Err(fault),
+        }
+    }
+
+    fn get_writable(&self) -> bool {
+        self.base.get_writable()
+    }
+
+    fn get_storage_open_options(&self) -> Option<&StorageOpenOptions> {
+        self.base.get_storage_opts()
+    }
+}
+
+impl<S: Storage> Vmdk<S> {
+    /// Opens a VMDK image, option by option.
+    pub fn builder(image: S) -> VmdkOpenBuilder<S>
+        ensures { result ≡ record { base = record { image = image; writable = false; options = None } } }
+    {
+        VmdkOpenBuilder::new(image)
     }
 }
 

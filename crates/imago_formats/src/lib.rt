@@ -5,6 +5,6 @@ mod builders;
 mod raw;
 mod vmdk;
 
-pub use builders::{RawCreateBuilder, RawOpenBuilder};
+pub use builders::{RawCreateBuilder, RawOpenBuilder, VmdkOpenBuilder};
 pub use raw::{NoState, Raw};
 pub use vmdk::Vmdk;

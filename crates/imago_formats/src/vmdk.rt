@@ -5,6 +5,7 @@ mod driver;
 mod files;
 mod lines;
 mod looking;
+mod opening;
 mod reading;
 mod storages;
 mod words;

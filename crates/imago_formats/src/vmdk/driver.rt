@@ -21,14 +21,15 @@ use crate::raw::NoState;
 use crate::vmdk::disk::{Disk, files_asked};
 use crate::vmdk::files::{is_descriptor, read_descriptor};
 use crate::vmdk::looking::mapping_at;
+use crate::vmdk::opening::{check_reach, open_files};
 use crate::vmdk::storages::{
     Upkeep, greatest_mem_align, greatest_req_align, keep_up, read_storage,
 };
 use imago_access::{
-    Format, FormatDriverInstance, PreallocateMode, PreparedDataMapping, ReadBelow, Seen,
+    Format, FormatDriverInstance, ImplicitOpenGate, PreallocateMode, PreparedDataMapping, ReadBelow, Seen,
     ShallowMapping,
 };
-use imago_storage::{Fault, Storage};
+use imago_storage::{Fault, Storage, larger_alignment};
 use std::alloc::Global;
 use std::fmt::{self, Display, Formatter, Write};
 
@@ -71,6 +72,28 @@ impl<S: Storage> Vmdk<S> {
         ensures kept { IsKept (S.state image.old) (S.state image.new) }
     {
         is_descriptor(alloc, image)
+    }
+
+    /// Opens the files that the extents ask for, in order, as the gate allows, but for those that are open.
+    ///
+    /// It refuses as the gate does, with `Fault::Memory`, and with `Fault::DamagedDescriptor` where an extent ends in its file so near the end
+    /// of 64 bits that reads, padded to whole units, don't reach it.
+    pub fn open_implicit_dependencies_gated<G: ImplicitOpenGate<S>>(
+        &mut self,
+        alloc: Global,
+        gate: &mut G,
+    ) -> Result<(), Fault>
+        ensures disk { self.new.disk ≡ self.old.disk }
+        ensures image { self.new.image ≡ self.old.image }
+        ensures ready { OnOk result (barrier (⟦<Vmdk<S> as Seen>⟧.layer self.new) ≡ None) }
+        ensures sees { OnOk result (⟦<Vmdk<S> as Seen>⟧.sees self.new) }
+    {
+        match open_files(alloc, gate, self.disk.extents(), &mut self.files) {
+            Ok(()) => {}
+            Err(fault) => return Err(fault),
+        }
+        let unit = larger_alignment(self.req_align(), self.mem_align());
+        check_reach(self.disk.extents(), unit as u64)
     }
 
     // The run from an offset on: all of the range that lies in its extent.

@@ -2,7 +2,8 @@ use Rattle.std.proofs.Common.{◌∷◌}
 use Rattle.std.specs.Prelude.{map}
 use Rattle.imago_access.specs.Files.{IsMild, WasNotCutOff}
 use Rattle.imago_formats.proofs.Quiet.{like_same, quiet_looked, quiet_went, went_same}
-use Rattle.imago_formats.proofs.VmdkSteps.{on_ok, not_stopped, written}
+use Rattle.imago_formats.proofs.VmdkSteps.{on_ok, not_stopped}
+use Rattle.imago_formats.specs.VmdkLaws.{written}
 use Rattle.imago_formats.proofs.vmdk.driver.VmdkFormatDriverInstance.flush.Goals as goal
 
 pub returns-in-Ok-clause-went : goal.returns-in-Ok-clause-went
