@@ -1,12 +1,18 @@
 -- The extents of a disk, one by one.
-use Rattle.std.proofs.Common.{◌^◌, ◌≡◌, ℕ, ◌+◌, ◌-◌, ◌*◌, ◌<◌, ◌≤◌, cond, Bool, true, false, List, ◌∷◌, length, take, drop, get_or, suc, refl, sym, ap, zero-add, add-one, ◌∙◌, arith}
+use Rattle.std.proofs.Common.{zero, [], ◌^◌, ◌≡◌, ℕ, ◌+◌, ◌-◌, ◌*◌, ◌<◌, ◌≤◌, cond, Bool, true, false, List, ◌∷◌, ◌++◌, length, take, drop, get_or, suc, refl, sym, ap, zero-add, add-one, ◌∙◌, arith}
 use Rattle.std.proofs.lemmas.List.Sums.{sum_by_more, sum_by_more_le}
 use Rattle.std.proofs.lemmas.Bool.{lt-ltb, le-ltb}
 use Rattle.imago_formats.specs.Descriptor.{size_of}
 use Rattle.imago_storage.specs.Through.{round_up}
-use Rattle.imago_formats.specs.VmdkLayer.{end_in_file, in_extents, in_source, has_file, AreInReach, IsExtentAt}
+use Rattle.imago_formats.specs.VmdkLayer.{file_names, name_in, end_in_file, in_extents, in_source, has_file, AreInReach, IsExtentAt}
 use Rattle.imago_formats.specs.declared.vmdk.descriptor.Extent.{Extent}
 use Rattle.std.proofs.Math.Seq.{drop-cons}
+use Rattle.std.proofs.lemmas.List.{map-append}
+use Rattle.std.specs.Prelude.{map, Option}
+use Rattle.std.specs.Option.{option_to_list}
+use Rattle.std.specs.String.{string_bytes}
+use Rattle.std.specs.declared.string.String.{String}
+use Rattle.std.specs.declared.alloc.Global.{Global}
 use lib.Dec.{ltb}
 
 module _ {N : Type 0} where
@@ -100,3 +106,25 @@ module _ {N : Type 0} where
 
       regroup : (s n q : ℕ) → s + n * 512 + q ≡ s + (512 * n + q)
       regroup s n q = omega arith
+
+-- the names of files, from an extent on
+pub names_from : (xs : List (Extent (String Global))) (i : ℕ) (x : Extent (String Global)) (name : Option (List ℕ)) → i < length xs → x ≡ get_or xs i x →
+    option_to_list name ≡ map (λ n. string_bytes n) (name_in x.access x.source) →
+    map (λ n. string_bytes n) (file_names (drop i xs)) ≡ option_to_list name ++ map (λ n. string_bytes n) (file_names (drop (i + 1) xs))
+names_from xs i x name h is e =
+    ap (λ ys. map (λ n. string_bytes n) (file_names ys)) (rest_is xs i x h is) ∙ map-append (λ n. string_bytes n) (name_in x.access x.source) (file_names (drop (i + 1) xs))
+    ∙ ap (λ ns. ns ++ map (λ n. string_bytes n) (file_names (drop (i + 1) xs))) (sym e)
+
+-- a name that is passed over, and one that isn't there
+pub past_name : (all ns rest : List (List ℕ)) (name : List ℕ) (before left : ℕ) → get_or all before [] ≡ get_or ns left [] → ns ≡ (name ∷ []) ++ rest → (left ≡ 0 → ⊥) →
+    get_or all before [] ≡ get_or rest (left - 1) []
+past_name all ns rest name before zero so is some = absurd (some refl)
+past_name all ns rest name before (suc k) so is some =
+    let one : suc k - 1 ≡ k = omega arith in so ∙ ap (λ xs. get_or xs (suc k) []) is ∙ ap (λ i. get_or rest i []) (sym one)
+
+pub no_name : (all ns rest : List (List ℕ)) (before left : ℕ) → get_or all before [] ≡ get_or ns left [] → ns ≡ [] ++ rest → get_or all before [] ≡ get_or rest left []
+no_name all ns rest before left so is = so ∙ ap (λ xs. get_or xs left []) is
+
+pub at_name : (all ns rest : List (List ℕ)) (name : List ℕ) (before left : ℕ) → get_or all before [] ≡ get_or ns left [] → ns ≡ (name ∷ []) ++ rest → left ≡ 0 →
+    name ≡ get_or all before []
+at_name all ns rest name before left so is first = sym (so ∙ ap (λ i. get_or ns i []) first ∙ ap (λ xs. get_or xs 0 []) is)

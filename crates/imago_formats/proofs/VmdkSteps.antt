@@ -1,6 +1,6 @@
 -- What calls do to a VMDK image that only look at its storages.
 use Rattle.std.proofs.Common.{zero, suc, ◌≡◌, ℕ, ◌+◌, ◌-◌, ◌*◌, ◌<◌, ◌≤◌, ◌^◌, min, List, [], ◌∷◌, Result, Ok, Err, refl, sym, ap, subst, ◌∙◌, ◌++◌, take, drop, max, arith}
-use Rattle.std.specs.Prelude.{IsOk, cond, Bool, false, true, None, length, ltb, ◌&&◌, OnOk, IfErr, IsTrue, map, slice_index}
+use Rattle.std.specs.Prelude.{IsOk, Bool, false, true, None, length, ltb, ◌&&◌, OnOk, IfErr, IsTrue, map, slice_index}
 use Rattle.imago_storage.specs.State.{StorageState, Shape}
 use Rattle.imago_storage.specs.Disk.{byte, barred}
 use Rattle.imago_storage.specs.Through.{Overflows, round_up}
@@ -18,16 +18,11 @@ use Rattle.imago_access.specs.Files.{Pairs, IsKept, WasNotCutOff, byte_in, great
 use Rattle.imago_access.specs.declared.format.Format.TheVariants as format
 use Rattle.imago_formats.specs.Descriptor.{descriptor_of, size_of}
 use Rattle.imago_formats.specs.VmdkFiles.{IsStopped}
-use Rattle.imago_formats.specs.VmdkLaws.{size_kept}
-use Rattle.imago_formats.specs.DescriptorView.{kept_extents, source_with}
-use Rattle.imago_access.specs.Stops.{IsMeant}
-use Rattle.std.specs.String.{string_bytes}
-use Rattle.std.proofs.Math.Nat.{le_refl}
 use Rattle.imago_formats.specs.declared.vmdk.descriptor.Access.{Access}
 use Rattle.imago_formats.specs.declared.vmdk.descriptor.Access.TheVariants.{ReadWrite, ReadOnly, NoAccess}
 use Rattle.imago_formats.specs.declared.vmdk.descriptor.Source.{Source}
 use Rattle.imago_formats.specs.declared.vmdk.descriptor.Source.TheVariants.{Flat, Zero}
-use Rattle.imago_formats.specs.VmdkLayer.{AreInReach, IsExtentAt, end_in_file, mapping_of, asks_file, in_source, in_extents, files_asked, meaning_of, vmdk_layer}
+use Rattle.imago_formats.specs.VmdkLayer.{AreInReach, IsExtentAt, end_in_file, mapping_of, in_source, in_extents, files_asked, meaning_of, vmdk_layer}
 use Rattle.imago_formats.specs.declared.vmdk.descriptor.Extent.{Extent}
 
 greatest_kept : (part : Shape → ℕ) (s s' : StorageState) (ss ss' : List StorageState) → IsKept s s' → Pairs IsKept ss ss' →

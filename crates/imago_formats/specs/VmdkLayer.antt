@@ -30,6 +30,16 @@ has_file x = asks_file x.access x.source
 abbrev pub files_asked : {N : Type 0} → List (Extent N) → ℕ
 files_asked xs = count_by has_file xs
 
+-- the names of the files that extents ask for
+abbrev pub name_in : {N : Type 0} → Access → Source N → List N
+name_in NoAccess source = []
+name_in access (Flat name sector) = name ∷ []
+name_in access Zero = []
+
+abbrev pub file_names : {N : Type 0} → List (Extent N) → List N
+file_names [] = []
+file_names (x ∷ xs) = name_in x.access x.source ++ file_names xs
+
 -- what an extent shows at a place of its own, by the bytes of its file: one that has no access can't be read
 abbrev pub in_source : {N : Type 0} → Access → Source N → (ℕ → ℕ) → ℕ → Cell
 in_source NoAccess source file p = own barred

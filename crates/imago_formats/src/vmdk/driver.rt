@@ -1,5 +1,5 @@
 // A VMDK image as a driver.
-ghost use Rattle.std.specs.Prelude.{ℕ, ◌≡◌, ◌⊎◌, ◌∷◌, ◌-◌, ◌+◌, ◌*◌, ◌<◌, [], ⊤, min, map, refl, length, OnOk, IfOk, IfErr, IsOk, IsTrue, Ok, Err, Some, None};
+ghost use Rattle.std.specs.Prelude.{slice_index_or, ◌<◌, ℕ, ◌≡◌, ◌⊎◌, ◌∷◌, ◌-◌, ◌+◌, ◌*◌, ◌<◌, [], ⊤, min, map, refl, length, OnOk, IfOk, IfErr, IsOk, IsTrue, Ok, Err, Some, None};
 ghost use Rattle.std.proofs.Common.{inl, inr};
 ghost use Rattle.std.proofs.Math.Nat.{le_refl};
 ghost use Rattle.imago_storage.specs.Calls.{Cause, IsFaultless};
@@ -14,20 +14,23 @@ ghost use Rattle.imago_access.specs.Refusals.{barrier};
 ghost use Rattle.imago_formats.specs.Descriptor.{descriptor_of, is_signed, text_of};
 ghost use Rattle.imago_formats.specs.DescriptorView.{kept_extents};
 ghost use Rattle.imago_formats.specs.RawHome.{never};
-ghost use Rattle.imago_formats.specs.VmdkLayer.{AreInReach, vmdk_layer, vmdk_text};
+ghost use Rattle.imago_formats.specs.VmdkLayer.{AreInReach, file_names, vmdk_layer, vmdk_text};
+ghost use Rattle.imago_formats.specs.contracts.vmdk.driver.Vmdk.{the_row};
+ghost use Rattle.std.specs.Borrow.{Lends, sem};
+ghost use Rattle.std.specs.String.{string_bytes};
 ghost use Rattle.imago_formats.specs.VmdkLaws.{aligned_files, covered, no_home};
 
 use crate::raw::NoState;
 use crate::vmdk::disk::{Disk, files_asked};
 use crate::vmdk::files::{is_descriptor, read_descriptor};
 use crate::vmdk::looking::mapping_at;
-use crate::vmdk::opening::{check_reach, open_files};
+use crate::vmdk::opening::{check_reach, name_of, open_files};
 use crate::vmdk::storages::{
     Upkeep, greatest_mem_align, greatest_req_align, keep_up, read_storage,
 };
 use imago_access::{
-    Format, FormatDriverInstance, ImplicitOpenGate, PreallocateMode, PreparedDataMapping, ReadBelow, Seen,
-    ShallowMapping,
+    Format, FormatDriverInstance, ImplicitOpenGate, PreallocateMode, PreparedDataMapping,
+    ReadBelow, Seen, ShallowMapping,
 };
 use imago_storage::{Fault, Storage, larger_alignment};
 use std::alloc::Global;
@@ -175,6 +178,29 @@ impl<S: Storage> Vmdk<S> {
         ensures { result.now ≡ self.now.image }
     {
         &self.image
+    }
+
+    /// The descriptor's file, to be changed. The disk stays what was read of it.
+    pub fn image_mut(&mut self) -> &mut S
+        ensures* lends { sem 𝓛 (Lends (the_row S.row) S.row self.entry result (λ w. record self.entry.now { image = w })) }
+        ensures value { result.now ≡ self.old.image }
+    {
+        &mut self.image
+    }
+
+    /// How many files of extents are open.
+    pub fn extras(&self) -> usize
+        ensures { result ≡ length self.now.files.items }
+    {
+        self.files.len()
+    }
+
+    /// The name of one of them, as the descriptor gives it.
+    pub fn extra_name(&self, i: usize) -> &str
+        requires { i < length self.now.files.items }
+        ensures { result.now ≡ slice_index_or (map (λ name. string_bytes name) (file_names self.now.disk.extents.items)) i [] }
+    {
+        name_of(self.disk.extents(), i)
     }
 
     /// The descriptor's file again. The files of extents are dropped.

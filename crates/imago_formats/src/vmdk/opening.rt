@@ -1,8 +1,10 @@
 // The files that extents ask for are opened.
-ghost use Rattle.std.specs.Prelude.{◌≡◌, ◌+◌, ◌<◌, ◌≤◌, ◌^◌, if◌then◌else◌, is_some, length, IfOk, IfErr, IfSome, IsTrue, OnOk};
+ghost use Rattle.std.specs.Prelude.{◌≡◌, ◌+◌, ◌<◌, ◌≤◌, ◌^◌, if◌then◌else◌, is_some, length, map, slice_index_or, [], IfOk, IfErr, IfSome, IsTrue, OnOk};
+ghost use Rattle.std.specs.Option.{option_map, option_to_list};
+ghost use Rattle.std.specs.String.{string_bytes};
 ghost use Rattle.imago_storage.specs.Through.{round_up};
 ghost use Rattle.imago_storage.specs.declared.fault.Fault.TheVariants.{DamagedDescriptor};
-ghost use Rattle.imago_formats.specs.VmdkLayer.{AreInReach, end_in_file, files_asked, has_file};
+ghost use Rattle.imago_formats.specs.VmdkLayer.{AreInReach, end_in_file, file_names, files_asked, has_file, name_in};
 
 use crate::vmdk::descriptor::{Access, Extent, Source};
 use imago_access::ImplicitOpenGate;
@@ -60,7 +62,8 @@ fn open_file<S: Drop, G: ImplicitOpenGate<S>>(
 
 // The name of the file that an extent asks for.
 fn file_name(extent: &Extent<String>) -> Option<&str>
-    ensures { is_some result ≡ has_file extent.now }
+    ensures some { is_some result ≡ has_file extent.now }
+    ensures name { option_to_list (option_map (λ name. name.now) result) ≡ map (λ name. string_bytes name) (name_in extent.now.access extent.now.source) }
 {
     match extent.access {
         Access::NoAccess => None,
@@ -69,6 +72,24 @@ fn file_name(extent: &Extent<String>) -> Option<&str>
             Source::Zero => None,
         },
     }
+}
+
+/// The name of the file that comes behind so many others, or else no text.
+pub(crate) fn name_of(extents: &[Extent<String>], before: usize) -> &str
+    ensures { result.now ≡ slice_index_or (map (λ name. string_bytes name) (file_names extents.now)) before [] }
+{
+    let mut left = before;
+    for extent in extents {
+        let name = match file_name(extent) {
+            Some(name) => name,
+            None => continue,
+        };
+        if left == 0 {
+            return name;
+        }
+        left -= 1;
+    }
+    ""
 }
 
 /// Whether each extent ends in its file where reads reach that are padded to whole units.
