@@ -7,7 +7,7 @@ use Rattle.imago_storage.specs.declared.fault.Fault.TheVariants.{Memory, Storage
 use Rattle.imago_access.specs.declared.seen.Seen.{Ghosts}
 use Rattle.imago_access.specs.Layer.{Layer}
 use Rattle.imago_access.specs.Files.{IsMild, WasNotCutOff, ImageCause, files}
-use Rattle.imago_access.specs.Going.{Marks}
+use Rattle.imago_access.specs.Going.{Marks, MarksOver}
 use Rattle.imago_access.specs.Parts.{IsPartOf, DeclinableCause}
 use Rattle.imago_access.specs.PartCalls.{PartCall, ensures_zero, discards_to_zero, discards_to_any, discards_to_backing, IsDone, LeavesPart, PartGives, DoesPart, PartRefused}
 use Rattle.imago_access.specs.Room.{IsWholeUnit, Reaches}
@@ -19,6 +19,11 @@ pub mild_marks : {D St : Type 0} (g : Ghosts D St) (old new : D) (e : Fault) →
 mild_marks g old new Memory mild = absurd mild
 mild_marks g old new Storage mild = absurd mild
 mild_marks g old new _ mild = tt
+
+pub mild_marks_over : {D St : Type 0} (g : Ghosts D St) (old new : D) (e : Fault) → IsMild e → MarksOver g old new e
+mild_marks_over g old new Memory mild = absurd mild
+mild_marks_over g old new Storage mild = absurd mild
+mild_marks_over g old new _ mild = tt
 
 leaves_same : {D St : Type 0} (call : PartCall) (g : Ghosts D St) (offset n : ℕ) (d : D) → LeavesPart call g offset n d d
 leaves_same ensures_zero g offset n d = record { kept = λ p there is. is; free = λ p there is. is; zeroes = λ p there there' is. is }

@@ -1,3 +1,5 @@
 pub mod PreparedRuns
 pub mod OwnCauses
 pub mod Declining
+pub mod FileWrites
+pub mod SeenAs

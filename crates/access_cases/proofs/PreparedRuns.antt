@@ -1,5 +1,5 @@
 -- What an image of one cluster prepares, and what it makes of a run that is committed.
-use Rattle.std.proofs.Common.{◌≡◌, ℕ, ◌+◌, ◌<◌, ◌≤◌, Bool, true, false, Option, Some, None, List, get_or, replicate, map, refl, ◌∙◌, ap, inl, inr, arith}
+use Rattle.std.proofs.Common.{◌≡◌, ℕ, ◌+◌, ◌<◌, ◌≤◌, Bool, true, false, Option, Some, None, List, get_or, replicate, map, refl, ◌∙◌, ap, inl, inr, ⊎_elim, arith}
 use Rattle.std.proofs.Math.ListN as ListN
 use Rattle.std.proofs.lemmas.Bool.{cases_lt}
 use Rattle.std.proofs.lemmas.Bool.Decides.{nat_tests}
@@ -10,11 +10,15 @@ use Rattle.std.specs.Prelude.{[], ◌∷◌, length, slice_index, ◌&&◌, ◌�
 use Rattle.std.specs.Option.{unwrap_or}
 use Rattle.imago_storage.specs.Disk.{Value, byte}
 use Rattle.imago_access.specs.Layer.{Layer, Cell, own, loose, inside}
-use Rattle.imago_access.specs.Changes.{IsHolding, asking, run_at, Prepared, Settles}
+use Rattle.imago_access.specs.Room.{IsApart}
+use Rattle.imago_access.specs.Changes.{IsHolding, TakesByte, asking, run_at, Prepared, Settles}
 use Rattle.access_cases.specs.Clusters.{cell_of, home_in, held_in, blank_of, IsRunOf}
 
 is_inside : (start n p : ℕ) → start ≤ p → p < start + n → (leb start p && ltb p (start + n)) ≡ true
 is_inside start n p ge lt = grind (arith, nat_tests)
+
+is_outside : (start n p : ℕ) → (p < start) ⊎ (start + n ≤ p) → (leb start p && ltb p (start + n)) ≡ false
+is_outside start n p out = elim out [ inl before ↦ grind (arith, nat_tests) | inr behind ↦ grind (arith, nat_tests) ]
 
 home_inside : (start n i : ℕ) → i < n → home_in start (start + n) (start + i) ≡ Some (0, start + i)
 home_inside start n i lt = rw (is_inside start n (start + i) (omega arith) (omega arith))
@@ -31,6 +35,10 @@ run_holds below layer start n size p overwrite = from (leb start p && ltb p (sta
   from true is = ((grind (arith, nat_tests), grind (arith, nat_tests)), none_written size p, refl)
   from false is = tt
 
+-- a place in a unit that the run doesn't touch is free
+pub apart_loose : (start n p : ℕ) (overwrite : Bool) (written : List (Option ℕ)) → IsApart 1 start n p → held_in start (start + n) overwrite written p ≡ loose
+apart_loose start n p overwrite written apart = rw (is_outside start n p (⊎_elim (λ before. inl (omega (arith, before, apart.2))) (λ behind. inr (omega (arith, behind, apart.1))) apart.3)) refl
+
 -- A run that is prepared: it can be written where it is, and nothing is written to it yet.
 pub run_prepared : (below : ℕ → Value) (old new : Layer) (start n size claim : ℕ) (overwrite : Bool) → 0 < n
     → new.fixed ≡ old.fixed → new.size ≡ old.size → new.cell ≡ old.cell → new.unspent ≡ Some claim
@@ -45,6 +53,33 @@ run_prepared below old new start n size claim overwrite some fixed same cell uns
   holds = λ p. rw held (run_holds below new start n size p overwrite);
   some_held = λ c is. (start, None, (omega arith, omega arith), rw held (rw (is_inside start n start (omega arith) (omega arith)) (ap (λ (w : Option ℕ). inside None w overwrite) (none_written size start))));
 }
+
+-- nothing is written to it yet, and it lies on the disk
+pub run_fits : (size start n : ℕ) (backed : Bool) (written : List (Option ℕ)) → written ≡ replicate size None → start + n ≤ size → backed ≡ false → IsRunOf size backed start (start + n) written
+run_fits size start n backed written unwritten within alone = rw unwritten (record {
+  all = omega (arith, length-replicate {A = Option ℕ});
+  inside = within;
+  alone = alone;
+  others = λ p out. none_written size p;
+})
+
+is_between : (start end p : ℕ) → start ≤ p → p < end → (leb start p && ltb p end) ≡ true
+is_between start end p ge lt = grind (arith, nat_tests)
+
+pub home_between : (start end p : ℕ) → start ≤ p → p < end → home_in start end p ≡ Some (0, p)
+home_between start end p ge lt = rw (is_between start end p ge lt) refl
+
+-- a place that can be written lies in the run
+pub between_home : (start end p : ℕ) (at : ℕ × ℕ) → home_in start end p ≡ Some at → (start ≤ p) × (p < end)
+between_home start end p at is = let parts = cond_some (leb start p && ltb p end) (0, p) at is in let tested = parts.0 in (grind (arith, nat_tests), grind (arith, nat_tests))
+
+-- a place of the run notes a byte, and another stays
+pub takes_byte : (start end p b : ℕ) (announced : Bool) (old new : List (Option ℕ)) (cell : Cell) → start ≤ p → p < end → get_or new p None ≡ Some b
+    → TakesByte b (held_in start end announced old p) cell (held_in start end announced new p) cell
+takes_byte start end p b announced old new cell ge lt noted = rw (is_between start end p ge lt) (refl, ap (λ (w : Option ℕ). inside None w announced) noted)
+
+pub stays_held : (start end p : ℕ) (announced : Bool) (old new : List (Option ℕ)) → get_or new p None ≡ get_or old p None → held_in start end announced new p ≡ held_in start end announced old p
+stays_held start end p announced old new same = rw same refl
 
 outside : (start end p : ℕ) → (leb start p && ltb p end) ≡ false → (p < start) ⊎ (end ≤ p)
 outside start end p out = elim (cases_lt p start) [
@@ -76,6 +111,12 @@ home_kept size start end p writable at within opened is =
     let before : p < size = grind (arith, nat_tests) in
     let there : (leb 0 p && ltb p size) ≡ true = grind (arith, nat_tests) in
     rw opened (rw there (ap (λ (x : ℕ × ℕ). Some x) parts.1))
+
+-- each place of a disk that is mapped can be written
+pub mapped_home : (size p : ℕ) (writable : Bool) → IsTrue writable → p < size → home_in 0 (if writable then size else 0) p ≡ Some (0, p)
+mapped_home size p writable opened lt =
+    let there : (leb 0 p && ltb p size) ≡ true = grind (arith, nat_tests) in
+    rw opened (rw there refl)
 
 -- the bytes of a cluster that is mapped are what its file means
 pub file_means : (blank : Cell) (bytes : List ℕ) (p : ℕ) → p < length bytes → cell_of blank bytes p ≡ own (byte (slice_index bytes p))

@@ -1,59 +1,60 @@
--- An image of one cluster in memory, of which nothing is mapped until its first mapping is committed.
-use Rattle.std.specs.Prelude.{◌≡◌, ◌⊎◌, ⊤, ℕ, ◌<◌, ◌≤◌, length, ◌&&◌, Bool, true, false, Option, Some, None, List, [], ◌∷◌, zero, suc, if◌then◌else◌, ltb, leb, slice_index, slice_index_or}
-use Rattle.std.proofs.Common.{ap}
-use Rattle.imago_storage.specs.State.{StorageState}
+-- An image of one cluster over a file, of which nothing is mapped until its first mapping is committed.
+use Rattle.std.specs.Prelude.{◌≡◌, ◌⊎◌, ⊤, ℕ, ◌<◌, ◌≤◌, length, ◌&&◌, Bool, true, false, Option, Some, None, List, [], ◌∷◌, IsTrue, if◌then◌else◌, ltb, leb, slice_index, slice_index_or}
+use Rattle.imago_storage.specs.State.{Shape, StorageState}
 use Rattle.imago_storage.specs.Disk.{byte, barred}
 use Rattle.imago_storage.specs.declared.fault.Fault.{Fault}
-use Rattle.imago_storage.specs.declared.fault.Fault.TheVariants.{Unsupported, Limit}
-use Rattle.imago_access.specs.Layer.{Cell, own, unmapped, Held, loose, inside, Fixed}
+use Rattle.imago_storage.specs.declared.fault.Fault.TheVariants.{Unsupported, Limit, Memory, Storage}
+use Rattle.imago_access.specs.Layer.{Cell, own, unmapped, Held, loose, inside, Fixed, Layer}
 use Rattle.imago_access.specs.declared.format.Format.TheVariants as format
+use Rattle.access_cases.specs.declared.clusters.Content.{Content}
+use Rattle.access_cases.specs.declared.clusters.Content.TheVariants.{Unmapped, Zeroed, Barred, Prepared, Mapped}
+use Rattle.access_cases.specs.declared.clusters.OneCluster.{OneCluster}
 
 -- what a place says that isn't mapped, with or without layers below
 abbrev pub blank_of : Bool → Cell
 blank_of true = unmapped
 blank_of false = own (byte 0)
 
--- The image as a file: nothing, or the bytes of the cluster.
+-- what a file says of a place: nothing where it is empty, and else its byte
 abbrev pub cell_of : Cell → List ℕ → ℕ → Cell
 cell_of blank [] p = blank
 cell_of blank (first ∷ bytes) p = own (byte (slice_index (first ∷ bytes) p))
 
--- an image that states the same of each place has no bytes
-abbrev pub stated_cell : Option Cell → Cell → List ℕ → ℕ → Cell
-stated_cell None blank bytes p = cell_of blank bytes p
-stated_cell (Some cell) blank bytes p = cell
+-- what each file means, by what the image holds: one that states the same of each place needs no bytes
+abbrev pub meant_by : Content → Cell → List ℕ → ℕ → Cell
+meant_by Zeroed blank f p = own (byte 0)
+meant_by Barred blank f p = own barred
+meant_by Unmapped blank f p = cell_of blank f p
+meant_by (Prepared run) blank f p = cell_of blank f p
+meant_by Mapped blank f p = cell_of blank f p
 
--- what never changes of it: its size in bytes, its number, whether it was opened for writing, whether it lets writes through, whether it
--- shows layers below, whether a file is missing, and what it states of each place, if it does
-abbrev pub cluster_fixed : ℕ → ℕ → Bool → Bool → Bool → Bool → Option Cell → Fixed
-cluster_fixed size number writable through backed missing stated = record {
+-- what the image says of a place, with this file
+abbrev pub says : Content → Cell → List ℕ → ℕ → Cell
+says Zeroed blank f p = own (byte 0)
+says Barred blank f p = own barred
+says Unmapped blank f p = blank
+says (Prepared run) blank f p = blank
+says Mapped blank f p = own (byte (slice_index f p))
+
+-- what never changes of it, over a storage of this shape
+abbrev pub cluster_fixed : {S : Type 0} → Shape → OneCluster S → Fixed
+cluster_fixed shape d = record {
   format = format.Qcow2;
-  writable = writable;
-  lets_through = writable && through;
-  keeps = true;
-  missing = missing;
-  number = number;
-  blank = blank_of backed;
-  req_align = 1;
-  mem_align = 1;
+  writable = d.writable;
+  lets_through = d.writable && d.through;
+  keeps = shape.keeps;
+  missing = d.missing;
+  number = d.number;
+  blank = blank_of d.backed;
+  req_align = shape.req_align;
+  mem_align = shape.mem_align;
   granularity = None;
   kind = 0;
-  means = λ f. record { size = size; cell = stated_cell stated (blank_of backed) f };
+  means = λ f. record { size = d.size; cell = meant_by d.content (blank_of d.backed) f };
   exact = false;
   marks = true;
   states_room = false;
   unit = 1;
-}
-
--- its file, with how often it has failed: memory tells no stops
-abbrev pub cluster_file : List ℕ → ℕ → StorageState
-cluster_file bytes faults = record {
-  shape = record { keeps = true; tells = false; mem_align = 1; req_align = 1; zero_align = 1; discard_align = 1; filename = None };
-  bytes = bytes;
-  faults = faults;
-  refusals = 0;
-  stop = [];
-  past = [];
 }
 
 -- the places from the first up to the second can be written at their own number
@@ -64,6 +65,33 @@ home_in start end p = if leb start p && ltb p end then Some (0, p) else None
 abbrev pub held_in : ℕ → ℕ → Bool → List (Option ℕ) → ℕ → Held
 held_in start end announced written p = if leb start p && ltb p end then inside None (slice_index_or written p None) announced else loose
 
+-- where a place can be written: in a run that is prepared, or below this size where the disk is mapped
+abbrev pub home_of : Content → ℕ → ℕ → Option (ℕ × ℕ)
+home_of (Prepared run) size p = home_in run.start run.end p
+home_of Mapped size p = home_in 0 size p
+home_of content size p = None
+
+-- what a run that is prepared holds of it
+abbrev pub held_of : Content → ℕ → Held
+held_of (Prepared run) p = held_in run.start run.end run.overwrite run.written.items p
+held_of content p = loose
+
+abbrev pub unspent_of : Content → Option ℕ
+unspent_of (Prepared run) = Some run.claim
+unspent_of content = None
+
+-- the image as a layer, with its file in this state
+abbrev pub cluster_layer : {S : Type 0} → StorageState → OneCluster S → Layer
+cluster_layer state d = record {
+  fixed = cluster_fixed state.shape d;
+  size = d.size;
+  failed = d.failed;
+  cell = says d.content (blank_of d.backed) state.bytes;
+  home = home_of d.content (if d.writable then d.size else 0);
+  held = held_of d.content;
+  unspent = unspent_of d.content;
+}
+
 -- a run that is prepared in a cluster without layers below: it lies on the disk, and nothing is written to other places
 pub record IsRunOf (size : ℕ) (backed : Bool) (start end : ℕ) (written : List (Option ℕ)) : Type 0 where
   pub all : length written ≡ size
@@ -71,16 +99,28 @@ pub record IsRunOf (size : ℕ) (backed : Bool) (start end : ℕ) (written : Lis
   pub alone : backed ≡ false
   pub others : (p : ℕ) → (p < start) ⊎ (end ≤ p) → slice_index_or written p None ≡ None
 
+-- what it holds fits its file: an empty one until a mapping is committed, and then one of at least the disk's size
+abbrev pub IsHeldIn : ℕ → Bool → List ℕ → Content → Type 0
+IsHeldIn size backed f Unmapped = f ≡ []
+IsHeldIn size backed f Zeroed = ⊤
+IsHeldIn size backed f Barred = ⊤
+IsHeldIn size backed f (Prepared run) = (f ≡ []) × IsRunOf size backed run.start run.end run.written.items
+IsHeldIn size backed f Mapped = size ≤ length f
+
+-- It has not failed, its file keeps what is written, and what it holds fits that file.
+pub record IsSafe {S : Type 0} (state : StorageState) (d : OneCluster S) : Type 0 where
+  pub runs : d.failed ≡ false
+  pub keeps : IsTrue state.shape.keeps
+  pub fits : IsHeldIn d.size d.backed state.bytes d.content
+
 -- The causes of its own to refuse a change: it can't zero or discard by itself, and maps nothing where it would have to copy.
 abbrev pub cluster_cause : Fault → Type 0
 cluster_cause Unsupported = ⊤
 cluster_cause (Limit bound) = bound ≡ 0
 cluster_cause fault = ⊥
 
--- a place can be written at its own number alone
-pub one_home : (start end p q : ℕ) (at : ℕ × ℕ) → home_in start end p ≡ Some at → home_in start end q ≡ Some at → p ≡ q
-one_home start end p q at first second = from (leb start p && ltb p end) (leb start q && ltb q end) first second where
-  from : (a b : Bool) → (if a then Some (0, p) else None) ≡ Some at → (if b then Some (0, q) else None) ≡ Some at → p ≡ q
-  from true true first second = let is : ◌≡◌ {A = ℕ × ℕ} (0, p) (0, q) = cc in ap (λ (x : ℕ × ℕ). x.1) is
-  from true false first second = absurd (cc second)
-  from false b first second = absurd (cc first)
+-- want of memory or a fault of its file that cuts a call off marks it failed
+abbrev pub failed_by : Fault → Bool → Bool
+failed_by Memory failed = true
+failed_by Storage failed = true
+failed_by fault failed = failed

@@ -1,32 +1,36 @@
-// A driver of words: an image of one cluster, in memory. Nothing of it is mapped until its first mapping is committed, which has state, or
-// it says of all its places that they are 0 or can't be read, and can't be changed then.
-ghost use Rattle.std.specs.Prelude.{◌≡◌, ◌⊎◌, ◌+◌, ◌≤◌, ◌<◌, ◌∷◌, [], ⊤, refl, ℕ, List, Option, length, slice_index, slice_index_or, map, replicate, OnOk, IfOk, IfErr, IfSome, IsSome, IsTrue, IsOk, IsErr, IsErrOf, MatchResult, None, Some, true, false, if◌then◌else◌};
+// A driver of words: an image of one cluster over a storage. Nothing of it is mapped, and its file is empty, until its first mapping is
+// committed, which has state; then each place of the disk lies at the same place of the file. Or it says of all its places that they are
+// 0 or can't be read, and can't be changed then.
+ghost use Rattle.std.specs.Prelude.{◌≡◌, ◌⊎◌, ◌+◌, ◌≤◌, ◌<◌, [], ⊤, refl, ℕ, List, length, slice_index, slice_index_or, map, replicate, OnOk, IfOk, IfErr, IsTrue, IsOk, None, Some, true, false, if◌then◌else◌};
 ghost use Rattle.std.specs.Option.{unwrap_or};
-ghost use Rattle.std.proofs.Common.{inl, inr, arith};
+ghost use Rattle.std.proofs.Common.{inl};
 ghost use Rattle.std.proofs.Math.Nat.{le_refl};
 ghost use Rattle.imago_formats.specs.RawHome.{never};
-ghost use Rattle.imago_storage.specs.State.{StorageState, IsAlignment};
-ghost use Rattle.imago_storage.specs.Disk.{byte, barred};
+ghost use Rattle.imago_storage.specs.State.{StorageState};
 ghost use Rattle.imago_storage.specs.Steps.{Call, IsOut};
 ghost use Rattle.imago_storage.specs.declared.fault.Fault.{Fault};
-ghost use Rattle.imago_storage.specs.declared.fault.Fault.TheVariants.{Foreign, Unsupported};
-ghost use Rattle.imago_access.specs.Layer.{Layer, own, unmapped, Held, loose, IsFree};
-ghost use Rattle.imago_access.specs.Room.{Takes};
-ghost use Rattle.imago_access.specs.Changes.{Committed, Cancelled};
-ghost use Rattle.imago_access.specs.Files.{IsMild, WasNotCutOff, ImageCause, Unasked, files};
-ghost use Rattle.imago_access.specs.Going.{IsUnchanged, Went};
-ghost use Rattle.imago_access.specs.Spending.{commit_refusal, IsMine, Spends, IsSpending, GivenBack, IsForeignTo};
+ghost use Rattle.imago_storage.specs.declared.fault.Fault.TheVariants.{Unsupported};
+ghost use Rattle.imago_storage.specs.declared.fault.Fault.TheVariants as fault;
+ghost use Rattle.imago_access.specs.Layer.{Layer, IsFree};
+ghost use Rattle.imago_access.specs.Changes.{Committed};
+ghost use Rattle.imago_access.specs.Failing.{Fails};
+ghost use Rattle.imago_access.specs.Files.{IsMild, WasNotCutOff, ImageCause};
+ghost use Rattle.imago_access.specs.Going.{AtOnce, Went};
+ghost use Rattle.imago_access.specs.PartCalls.{PartRefused};
+ghost use Rattle.imago_access.specs.PreparingCalls.{Commits, CommitRefused, Cancels, WritesMapped, WritingRefused};
+ghost use Rattle.imago_access.specs.Spending.{commit_refusal, IsSpending, GivenBack};
 ghost use Rattle.imago_access.specs.Stops.{KeepsStops, GivesSettled};
-ghost use Rattle.imago_access.specs.Refusals.{barrier, change_refusal};
-ghost use Rattle.imago_access.specs.Parts.{PartCause, DeclinableCause};
-ghost use Rattle.access_cases.specs.Clusters.{blank_of, cluster_fixed, cluster_file, home_in, held_in, cluster_cause, IsRunOf, one_home};
+ghost use Rattle.imago_access.specs.Refusals.{own_refusal};
+ghost use Rattle.imago_access.specs.Parts.{PartCause};
+ghost use Rattle.access_cases.specs.Clusters.{cluster_layer, cluster_cause, failed_by, IsSafe};
+ghost use Rattle.access_cases.specs.Homes.{one_home, free_loose, blanks};
 ghost use Rattle.access_cases.specs.declared.clusters.Content.TheVariants as content;
 
 use imago_access::{
     Format, FormatDriverInstance, PreallocateMode, PreparedDataMapping, ReadBelow, Seen,
     ShallowMapping, check_commit, check_range,
 };
-use imago_storage::Fault;
+use imago_storage::{Fault, Storage, StorageExt, larger_alignment};
 use std::alloc::{AllocError, Global};
 
 // A mapping that an image has prepared, as the image knows it again.
@@ -50,6 +54,16 @@ pub struct PreparedRun {
     pub written: Vec<Option<u8>>,
 }
 
+impl PreparedRun {
+    // Whether a range of places can be written.
+    fn takes(&self, start: u64, end: u64) -> bool
+        ensures yes { IsTrue result → (self.now.start ≤ start) × (end ≤ self.now.end) × (end ≤ length self.now.written.items) }
+        ensures no { result ≡ false → (start < self.now.start) ⊎ ((self.now.end < end) ⊎ (length self.now.written.items < end)) }
+    {
+        self.start <= start && end <= self.end && end <= self.written.len() as u64
+    }
+}
+
 /// What an image holds.
 #[derive(Drop)]
 pub enum Content {
@@ -59,12 +73,13 @@ pub enum Content {
     // No place can be read.
     Barred,
     Prepared(PreparedRun),
-    // All of the disk's bytes.
-    Mapped(Vec<u8>),
+    // All of the disk's bytes are those of the file.
+    Mapped,
 }
 
 #[derive(Drop)]
-pub struct OneCluster {
+pub struct OneCluster<S> {
+    pub file: S,
     pub size: u64,
     // No other open image has it.
     pub number: u64,
@@ -76,9 +91,7 @@ pub struct OneCluster {
     pub failed: bool,
     // A file that it needs was not handed in.
     pub missing: bool,
-    // Its file can't be written any more: a commit fails, and the image with it.
-    pub broken: bool,
-    // How often its file has failed.
+    // How often a commit has failed by its file.
     pub faults: u64,
     // How many mappings it has prepared.
     pub claims: u64,
@@ -113,35 +126,15 @@ fn settled(alloc: Global, written: &[Option<u8>]) -> Result<Vec<u8>, AllocError>
     written.iter().map(|byte| byte.unwrap_or(0)).collect(alloc)
 }
 
-// Writes over what is there.
-fn copy_in(bytes: &mut Vec<u8>, at: usize, new: &[u8])
-    requires { at + length «new».now ≤ length bytes.old.items }
-    ensures len { length bytes.new.items ≡ length bytes.old.items }
-    ensures inside { (i : ℕ) → i < length «new».now → slice_index bytes.new.items (at + i) ≡ slice_index «new».now i }
-    ensures outside { (p : ℕ) → IsOut at (length «new».now) p → slice_index bytes.new.items p ≡ slice_index bytes.old.items p }
-{
-    bytes[at..at + new.len()].copy_from_slice(new);
-}
-
-// Fills the buffer with the bytes from a place on, and with zeroes past their end.
-fn copy_out(bytes: &[u8], at: u64, buf: &mut [u8])
-    ensures { (i : ℕ) → i < length buf.old → slice_index buf.new i ≡ slice_index bytes.now (at + i) }
-{
-    let start = at as usize;
-    let room = bytes.len().saturating_sub(start);
-    for (i, byte) in buf.iter_mut().enumerate() {
-        *byte = if i < room { bytes[start + i] } else { 0 };
-    }
-}
-
-impl OneCluster {
-    // An image of so many bytes of 0, opened for writing. Nothing of it is mapped.
-    pub fn new(size: u64, number: u64) -> Self
-        ensures free { IsFree (⟦<OneCluster as Seen>⟧.layer result) }
-        ensures safe { ⟦<OneCluster as Seen>⟧.safe result }
-        ensures sees { ⟦<OneCluster as Seen>⟧.sees result }
+impl<S: Storage> OneCluster<S> {
+    // An image of so many bytes of 0 over an empty file, opened for writing. Nothing of it is mapped.
+    pub fn new(file: S, size: u64, number: u64) -> Self
+        ensures free { IsFree (⟦<OneCluster<S> as Seen>⟧.layer result) }
+        ensures safe { (S.state file).bytes ≡ [] → IsTrue (S.state file).shape.keeps → ⟦<OneCluster<S> as Seen>⟧.safe result }
+        ensures sees { ⟦<OneCluster<S> as Seen>⟧.sees result }
     {
         OneCluster {
+            file,
             size,
             number,
             writable: true,
@@ -149,7 +142,6 @@ impl OneCluster {
             through: false,
             failed: false,
             missing: false,
-            broken: false,
             faults: 0,
             claims: 0,
             lookups: 0,
@@ -159,27 +151,26 @@ impl OneCluster {
 
     // Why a change of a range is refused before anything is done.
     fn check(&self, offset: u64, length: u64) -> Result<(), Fault>
-        ensures ok { OnOk result (change_refusal 1 (⟦<OneCluster as Seen>⟧.layer self.now) offset length ≡ None) }
+        ensures ok { let d = ⟦<OneCluster<S> as Seen>⟧ in OnOk result (own_refusal (d.layer self.now) offset length ≡ None) }
         ensures writing { 0 < length → OnOk result (IsTrue self.now.writable) }
         ensures inside { 0 < length → OnOk result (offset + length ≤ self.now.size) }
         ensures runs { OnOk result (self.now.failed ≡ false) }
-        ensures err { IfErr result (λ e. change_refusal 1 (⟦<OneCluster as Seen>⟧.layer self.now) offset length ≡ Some e) }
+        ensures err { let d = ⟦<OneCluster<S> as Seen>⟧ in IfErr result (λ e. own_refusal (d.layer self.now) offset length ≡ Some e) }
         ensures mild { IfErr result IsMild }
         ensures failed { (olds news : List StorageState) → IfErr result (ImageCause olds news) }
-        ensures cause { (below : List Layer) (olds news : List StorageState) → IfErr result (PartCause below (⟦<OneCluster as Seen>⟧.layer self.now) offset length cluster_cause olds news) }
+        ensures cause { let d = ⟦<OneCluster<S> as Seen>⟧ in (below : List Layer) (olds news : List StorageState) → IfErr result (PartCause below (d.layer self.now) offset length cluster_cause olds news) }
     {
         self.ready()?;
-        check_range(self.writable, 1, self.size, offset, length)
+        let unit = larger_alignment(self.file.req_align(), self.file.mem_align());
+        check_range(self.writable, unit as u64, self.size, offset, length)
     }
 
     // The part of a range that it zeroes or discards by itself: none.
     fn change(&self, offset: u64, length: u64) -> Result<(u64, u64), Fault>
         ensures ok { IfOk result (λ r. (r ≡ (offset, 0)) × (length ≡ 0)) }
-        ensures at_once { (f : Fault) → change_refusal 1 (⟦<OneCluster as Seen>⟧.layer self.now) offset length ≡ Some f → IsErrOf result f }
-        ensures idle { length ≡ 0 → barrier (⟦<OneCluster as Seen>⟧.layer self.now) ≡ None → IsOk result }
         ensures mild { IfErr result IsMild }
-        ensures failed { let d = ⟦<OneCluster as Seen>⟧ in IfErr result (ImageCause (d.image self.now ∷ []) (d.image self.now ∷ [])) }
-        ensures cause { let d = ⟦<OneCluster as Seen>⟧ in (below : List Layer) → IfErr result (DeclinableCause below (d.layer self.now) offset length cluster_cause (d.image self.now ∷ []) (d.image self.now ∷ [])) }
+        ensures at_once { let d = ⟦<OneCluster<S> as Seen>⟧ in AtOnce d (own_refusal (d.layer self.now) offset length) (length ≡ 0) result self.now self.now }
+        ensures refused { PartRefused ⟦<OneCluster<S> as Seen>⟧ offset length result self.now self.now }
     {
         match self.check(offset, length) {
             Ok(()) => {}
@@ -193,11 +184,11 @@ impl OneCluster {
 
     // Whether a mapping that is handed in to be committed is taken.
     fn check_commit(&self, mapping: PreparedCluster) -> Result<(), Fault>
-        ensures ok { let d = ⟦<OneCluster as Seen>⟧ in OnOk result (commit_refusal d (Some mapping) (d.layer self.now) ≡ None) }
+        ensures ok { let d = ⟦<OneCluster<S> as Seen>⟧ in OnOk result (commit_refusal d (Some mapping) (d.layer self.now) ≡ None) }
         ensures own { OnOk result (mapping.image ≡ self.now.number) }
         ensures writing { OnOk result (IsTrue self.now.writable) }
-        ensures err { let d = ⟦<OneCluster as Seen>⟧ in IfErr result (λ e. commit_refusal d (Some mapping) (d.layer self.now) ≡ Some e) }
-        ensures back { let d = ⟦<OneCluster as Seen>⟧ in IfErr result (GivenBack d.tag (Some mapping) (d.layer self.now)) }
+        ensures err { let d = ⟦<OneCluster<S> as Seen>⟧ in IfErr result (λ e. commit_refusal d (Some mapping) (d.layer self.now) ≡ Some e) }
+        ensures back { let d = ⟦<OneCluster<S> as Seen>⟧ in IfErr result (GivenBack d.tag (Some mapping) (d.layer self.now)) }
         ensures failed { (olds news : List StorageState) → IfErr result (ImageCause olds news) }
     {
         check_commit(self.ready(), self.writable, self.number, mapping.image)
@@ -206,56 +197,87 @@ impl OneCluster {
     // Makes the run that is prepared part of the disk, if it is the mapping's: all other places are 0.
     fn settle(&mut self, alloc: Global, mapping: PreparedCluster) -> Result<(), Fault>
         requires { IsTrue self.old.writable }
-        ensures ok { let d = ⟦<OneCluster as Seen>⟧ in OnOk result ((d.layer self.old).unspent ≡ Some mapping.claim → IsFree (d.layer self.new) × (d.safe self.old → Committed (d.layer self.old) (d.layer self.new))) }
-        ensures went { let d = ⟦<OneCluster as Seen>⟧ in Went d (WasNotCutOff result) (IsOk result × ((d.layer self.old).unspent ≡ Some mapping.claim)) self.old self.new }
-        ensures failing { let d = ⟦<OneCluster as Seen>⟧ in IfErr result (λ e. IsTrue self.new.failed × IsFree (d.layer self.new) × IsSpending e × (IsMild e → ⊥)) }
+        ensures ok { let d = ⟦<OneCluster<S> as Seen>⟧ in OnOk result ((d.layer self.old).unspent ≡ Some mapping.claim → IsFree (d.layer self.new) × (d.safe self.old → Committed (d.layer self.old) (d.layer self.new))) }
+        ensures went { let d = ⟦<OneCluster<S> as Seen>⟧ in Went d (WasNotCutOff result) (IsOk result × ((d.layer self.old).unspent ≡ Some mapping.claim)) self.old self.new }
+        ensures stops { let d = ⟦<OneCluster<S> as Seen>⟧ in d.safe self.old → (below : List Layer) → KeepsStops d below (GivesSettled below (d.layer self.old)) self.old self.new }
+        ensures failing { let d = ⟦<OneCluster<S> as Seen>⟧ in IfErr result (λ e. IsTrue self.new.failed × IsFree (d.layer self.new) × IsSpending e × (IsMild e → ⊥)) }
         ensures size { self.new.size ≡ self.old.size }
-        ensures failed { let d = ⟦<OneCluster as Seen>⟧ in IfErr result (ImageCause (d.image self.old ∷ []) (d.image self.new ∷ [])) }
+        ensures failed { let d = ⟦<OneCluster<S> as Seen>⟧ in IfErr result (Fails d self.old self.new) }
     {
         let bytes = match &self.content {
             Content::Prepared(run) if run.claim == mapping.claim => { settled(alloc, &run.written) }
             _ => return Ok(()),
         };
-        if self.broken {
-            self.faults = self.faults.saturating_add(1);
-            self.failed = true;
-            self.content = Content::Unmapped;
-            return Err(Fault::Storage);
-        }
-        match bytes {
-            Ok(bytes) => {
-                self.content = Content::Mapped(bytes);
+        let bytes = match bytes {
+            Ok(bytes) => bytes,
+            Err(_) => return Err(self.spend(Fault::Memory)),
+        };
+        match self.file.write(alloc, &bytes, 0) {
+            Ok(()) => {
+                self.content = Content::Mapped;
                 Ok(())
             }
-            Err(_) => {
-                self.failed = true;
-                self.content = Content::Unmapped;
-                Err(Fault::Memory)
+            Err(fault) => Err(self.spend(fault)),
+        }
+    }
+
+    // Writes to the file from a place on.
+    fn write_file(&mut self, alloc: Global, at: u64, bytes: &[u8]) -> Result<(), Fault>
+        requires mapped { self.old.content ≡ content.Mapped }
+        requires some { 0 < length bytes.now }
+        requires inside { at + length bytes.now ≤ self.old.size }
+        requires writing { IsTrue self.old.writable }
+        ensures writes { WritesMapped ⟦<OneCluster<S> as Seen>⟧ at at bytes.now result self.old self.new }
+        ensures refused { WritingRefused ⟦<OneCluster<S> as Seen>⟧ at at (length bytes.now) result self.old self.new }
+    {
+        match self.file.write(alloc, bytes, at) {
+            Ok(()) => Ok(()),
+            Err(fault) => Err(self.cut_off(fault)),
+        }
+    }
+
+    // Marks the image failed by the cause that its file has refused with, where that has cut a call off.
+    fn cut_off(&mut self, cause: Fault) -> Fault
+        ensures same { result ≡ cause }
+        ensures marked { self.new ≡ record self.old { failed = failed_by cause self.old.failed } }
+    {
+        match cause {
+            Fault::Memory | Fault::Storage => self.failed = true,
+            _ => {}
+        }
+        cause
+    }
+
+    // Gives up the run that is prepared and marks the image failed, for this cause, and answers what the commit is refused with.
+    fn spend(&mut self, cause: Fault) -> Fault
+        ensures spent { self.new ≡ record self.old { failed = true; faults = self.new.faults; content = content.Unmapped } }
+        ensures kind { IsSpending result × (IsMild result → ⊥) }
+        ensures storage { result ≡ fault.Storage → cause ≡ fault.Storage }
+    {
+        self.failed = true;
+        self.content = Content::Unmapped;
+        match cause {
+            Fault::Storage => {
+                self.faults = self.faults.saturating_add(1);
+                Fault::Storage
             }
+            _ => Fault::Memory,
         }
     }
 }
 
-impl Seen for OneCluster {
+impl<S: Storage> Seen for OneCluster<S> {
     type State = PreparedCluster;
 
-    ghost layer = { λ d. record {
-      fixed = cluster_fixed d.size d.number d.writable d.through d.backed d.missing (elim d.content [ content.Unmapped ↦ None | content.Zeroed ↦ Some (own (byte 0)) | content.Barred ↦ Some (own barred) | content.Prepared r ↦ None | content.Mapped v ↦ None ]);
-      size = d.size;
-      failed = d.failed;
-      cell = elim d.content [ content.Unmapped ↦ λ p. blank_of d.backed | content.Zeroed ↦ λ p. own (byte 0) | content.Barred ↦ λ p. own barred | content.Prepared r ↦ λ p. blank_of d.backed | content.Mapped v ↦ λ p. own (byte (slice_index v.items p)) ];
-      home = elim d.content [ content.Unmapped ↦ λ p. None | content.Zeroed ↦ λ p. None | content.Barred ↦ λ p. None | content.Prepared r ↦ home_in r.start r.end | content.Mapped v ↦ home_in 0 (if d.writable then d.size else 0) ];
-      held = elim d.content [ content.Unmapped ↦ λ p. loose | content.Zeroed ↦ λ p. loose | content.Barred ↦ λ p. loose | content.Prepared r ↦ held_in r.start r.end r.overwrite r.written.items | content.Mapped v ↦ λ p. loose ];
-      unspent = elim d.content [ content.Unmapped ↦ None | content.Zeroed ↦ None | content.Barred ↦ None | content.Prepared r ↦ Some r.claim | content.Mapped v ↦ None ];
-    } };
+    ghost layer = { λ d. cluster_layer (S.state d.file) d };
 
-    ghost image = { λ d. cluster_file (elim d.content [ content.Unmapped ↦ [] | content.Zeroed ↦ [] | content.Barred ↦ [] | content.Prepared r ↦ [] | content.Mapped v ↦ v.items ]) d.faults };
+    ghost image = { λ d. S.state d.file };
 
     ghost extras = { λ _. [] };
 
     ghost sees = { λ _. ⊤ };
 
-    ghost safe = { λ d. (d.failed ≡ false) × (elim d.content [ content.Unmapped ↦ ⊤ | content.Zeroed ↦ ⊤ | content.Barred ↦ ⊤ | content.Prepared r ↦ IsRunOf d.size d.backed r.start r.end r.written.items | content.Mapped v ↦ length v.items ≡ d.size ]) };
+    ghost safe = { λ d. IsSafe (S.state d.file) d };
 
     ghost still = { λ _. ⊤ };
 
@@ -280,34 +302,40 @@ impl Seen for OneCluster {
     ghost growth_cause = { λ d below size mode fault. fault ≡ Unsupported };
 }
 
-impl FormatDriverInstance for OneCluster {
-    type Storage = ();
+impl<S: Storage> FormatDriverInstance for OneCluster<S> {
+    type Storage = S;
 
     ghost safe_sees = { λ d safe. tt };
 
-    ghost safe_runs = { λ d safe. safe.0 };
+    ghost safe_runs = { λ d safe. safe.runs };
 
-    ghost safe_keeps = { λ d safe. refl };
+    ghost safe_keeps = { λ d safe. safe.keeps };
 
     ghost safe_sound = { λ d safe. record { is_sound = tt; size = le_refl d.size } };
 
-    ghost one_home = { λ d p q at safe. elim d.content as (λ c. ◌≡◌ {A = Option (ℕ × ℕ)} ((elim c as (λ x. ℕ → Option (ℕ × ℕ)) [ content.Unmapped ↦ λ p. None | content.Zeroed ↦ λ p. None | content.Barred ↦ λ p. None | content.Prepared r ↦ home_in r.start r.end | content.Mapped v ↦ home_in 0 (if d.writable then d.size else 0) ]) p) (Some at) → ◌≡◌ {A = Option (ℕ × ℕ)} ((elim c as (λ x. ℕ → Option (ℕ × ℕ)) [ content.Unmapped ↦ λ p. None | content.Zeroed ↦ λ p. None | content.Barred ↦ λ p. None | content.Prepared r ↦ home_in r.start r.end | content.Mapped v ↦ home_in 0 (if d.writable then d.size else 0) ]) q) (Some at) → p ≡ q) [ content.Unmapped ↦ λ first second. absurd (Prim.cc first) | content.Zeroed ↦ λ first second. absurd (Prim.cc first) | content.Barred ↦ λ first second. absurd (Prim.cc first) | content.Prepared r ↦ one_home r.start r.end p q at | content.Mapped v ↦ one_home 0 (if d.writable then d.size else 0) p q at ] };
+    ghost one_home = { λ d p q at safe. one_home d.content (if d.writable then d.size else 0) p q at };
 
-    ghost blanks = { λ d. elim d.backed as (λ b. (blank_of b ≡ unmapped) ⊎ (blank_of b ≡ own (byte 0))) [ true ↦ inl refl | false ↦ inr refl ] };
+    ghost blanks = { λ d. blanks d.backed };
 
-    ghost aligned = { λ d. let one : IsAlignment 1 = record { positive = Prim.omega arith; small = Prim.omega arith; divides = refl } in (one, one) };
+    ghost aligned = { λ d. let shape = S.aligned d.file in (shape.requests, shape.memory) };
 
-    ghost alignments = { λ d. record { requests = refl; memory = refl; zeroing = inl refl } };
+    ghost of_storages = { λ d. record { requests = refl; memory = refl; keeps = refl; zeroing = inl refl } };
+
+    ghost marked = { λ d is. refl };
 
     ghost units = { λ d. le_refl 1 };
 
     ghost begins = { λ d call. tt };
 
-    ghost free_loose = { λ d. elim d.content as (λ c. ◌≡◌ {A = Option ℕ} (elim c as (λ x. Option ℕ) [ content.Unmapped ↦ None | content.Zeroed ↦ None | content.Barred ↦ None | content.Prepared r ↦ Some r.claim | content.Mapped v ↦ None ]) None → (p : ℕ) → ◌≡◌ {A = Held} ((elim c as (λ x. ℕ → Held) [ content.Unmapped ↦ λ p. loose | content.Zeroed ↦ λ p. loose | content.Barred ↦ λ p. loose | content.Prepared r ↦ held_in r.start r.end r.overwrite r.written.items | content.Mapped v ↦ λ p. loose ]) p) loose) [ content.Unmapped ↦ λ free p. refl | content.Zeroed ↦ λ free p. refl | content.Barred ↦ λ free p. refl | content.Prepared r ↦ λ free p. absurd (Prim.cc free) | content.Mapped v ↦ λ free p. refl ] };
+    ghost free_loose = { λ d free p. free_loose d.content p free };
 
     ghost bare = { λ d p free has. has };
 
-    ghost roomless = { λ d p free states given. never states };
+    ghost rooms = { λ d p free states. never states };
+
+    fn image_file(&self) -> &S {
+        &self.file
+    }
 
     fn format(&self) -> Format {
         Format::Qcow2
@@ -326,11 +354,11 @@ impl FormatDriverInstance for OneCluster {
     }
 
     fn req_align(&self) -> usize {
-        1
+        self.file.req_align()
     }
 
     fn mem_align(&self) -> usize {
-        1
+        self.file.mem_align()
     }
 
     fn ready(&self) -> Result<(), Fault> {
@@ -359,7 +387,7 @@ impl FormatDriverInstance for OneCluster {
             return Ok((ShallowMapping::Eof, 0));
         }
         let mapping = match &self.content {
-            Content::Mapped(_) => ShallowMapping::Raw {
+            Content::Mapped => ShallowMapping::Raw {
                 storage: 0,
                 offset,
                 writable: self.writable,
@@ -377,17 +405,20 @@ impl FormatDriverInstance for OneCluster {
 
     fn read_mapped(
         &mut self,
-        _alloc: Global,
+        alloc: Global,
         storage: usize,
         place: u64,
         buf: &mut [u8],
     ) -> Result<(), Fault> {
         self.ready()?;
-        match &self.content {
-            Content::Mapped(bytes) if storage == 0 => copy_out(bytes, place, buf),
-            _ => buf.fill(0),
+        if storage != 0 {
+            buf.fill(0);
+            return Ok(());
         }
-        Ok(())
+        match self.file.read(alloc, buf, place) {
+            Ok(()) => Ok(()),
+            Err(fault) => Err(self.cut_off(fault)),
+        }
     }
 
     fn read_special(&mut self, _buf: &mut [u8], _offset: u64) -> Result<(), Fault> {
@@ -411,7 +442,7 @@ impl FormatDriverInstance for OneCluster {
             return Ok(PreparedDataMapping::existing(0, 0, 0));
         }
         match &self.content {
-            Content::Mapped(_) => return Ok(PreparedDataMapping::existing(0, offset, length)),
+            Content::Mapped => return Ok(PreparedDataMapping::existing(0, offset, length)),
             Content::Prepared(_) => unreachable!(),
             Content::Zeroed => return Err(Fault::Limit(0)),
             Content::Barred => return Err(Fault::Limit(0)),
@@ -445,18 +476,8 @@ impl FormatDriverInstance for OneCluster {
         alloc: Global,
         mapping: PreparedDataMapping<PreparedCluster>,
     ) -> Result<(), (Fault, Option<PreparedDataMapping<PreparedCluster>>)>
-        ensures ok { let d = ⟦<OneCluster as Seen>⟧ in OnOk result (Spends d mapping.state (d.layer self.old) (d.layer self.new) (IsFree (d.layer self.new) × (d.safe self.old → Committed (d.layer self.old) (d.layer self.new)))) }
-        ensures size { let d = ⟦<OneCluster as Seen>⟧ in (d.layer self.new).size ≡ (d.layer self.old).size }
-        ensures room { let d = ⟦<OneCluster as Seen>⟧ in d.safe self.old → IsMine d mapping.state (d.layer self.old) → OnOk result (Takes d (λ p. (d.layer self.old).held p ≡ loose) self.old self.new) }
-        ensures stops { let d = ⟦<OneCluster as Seen>⟧ in d.safe self.old → IsMine d mapping.state (d.layer self.old) → (below : List Layer) → KeepsStops d below (GivesSettled below (d.layer self.old)) self.old self.new }
-        ensures at_once { let d = ⟦<OneCluster as Seen>⟧ in (f : Fault) → commit_refusal d mapping.state (d.layer self.old) ≡ Some f → MatchResult result (λ _. ⊥) (λ e. (e.0 ≡ f) × IsSome e.1) }
-        ensures unasked { let d = ⟦<OneCluster as Seen>⟧ in (mapping.state ≡ None) ⊎ IsSome (commit_refusal d mapping.state (d.layer self.old)) → Unasked d self.old self.new }
-        ensures back { let d = ⟦<OneCluster as Seen>⟧ in IfErr result (λ e. IfSome e.1 (λ m. (m ≡ mapping) × GivenBack d.tag mapping.state (d.layer self.old) e.0 × IsUnchanged d self.old self.new)) }
-        ensures spent { let d = ⟦<OneCluster as Seen>⟧ in IfErr result (λ e. e.1 ≡ None → IsSome mapping.state × IsTrue (d.layer self.new).failed × IsSpending e.0 × Spends d mapping.state (d.layer self.old) (d.layer self.new) (IsFree (d.layer self.new) × (d.safe self.old → IsMild e.0 → ⊥))) }
-        ensures went { let d = ⟦<OneCluster as Seen>⟧ in Went d (MatchResult result (λ _. ⊤) (λ e. IsMild e.0)) (IsOk result × IsMine d mapping.state (d.layer self.old)) self.old self.new }
-        ensures sees { let d = ⟦<OneCluster as Seen>⟧ in mapping.state ≡ None → d.sees self.old → d.sees self.new }
-        ensures began { let d = ⟦<OneCluster as Seen>⟧ in (e : _) (call : Call) → d.began e call self.old → IsMine d mapping.state (d.layer self.old) → OnOk result (d.began e call self.new) }
-        ensures failed { let d = ⟦<OneCluster as Seen>⟧ in IfErr result (λ e. ImageCause (files d self.old) (files d self.new) e.0) }
+        ensures commits { Commits ⟦<OneCluster<S> as Seen>⟧ mapping.state result self.old self.new }
+        ensures refused { CommitRefused ⟦<OneCluster<S> as Seen>⟧ mapping result self.old self.new }
     {
         let (storage, place, length) = (mapping.storage(), mapping.offset(), mapping.length());
         match mapping.into_state() {
@@ -484,15 +505,7 @@ impl FormatDriverInstance for OneCluster {
         &mut self,
         mapping: PreparedDataMapping<PreparedCluster>,
     ) -> Result<(), (Fault, PreparedDataMapping<PreparedCluster>)>
-        ensures ok { let d = ⟦<OneCluster as Seen>⟧ in OnOk result (Spends d mapping.state (d.layer self.old) (d.layer self.new) (Cancelled (d.layer self.old) (d.layer self.new))) }
-        ensures back { let d = ⟦<OneCluster as Seen>⟧ in IfErr result (λ e. (e.1 ≡ mapping) × (e.0 ≡ Foreign) × IsForeignTo d.tag mapping.state (d.layer self.old) × IsUnchanged d self.old self.new) }
-        ensures fixed { let d = ⟦<OneCluster as Seen>⟧ in ((d.layer self.new).fixed ≡ (d.layer self.old).fixed) × ((d.layer self.new).size ≡ (d.layer self.old).size) × ((d.layer self.new).failed ≡ (d.layer self.old).failed) }
-        ensures none { let d = ⟦<OneCluster as Seen>⟧ in Unasked d self.old self.new }
-        ensures lasts { let d = ⟦<OneCluster as Seen>⟧ in d.lasts self.old → d.lasts self.new }
-        ensures sees { let d = ⟦<OneCluster as Seen>⟧ in d.sees self.old → d.sees self.new }
-        ensures safe { let d = ⟦<OneCluster as Seen>⟧ in IsMine d mapping.state (d.layer self.old) → d.safe self.old → d.safe self.new }
-        ensures room { let d = ⟦<OneCluster as Seen>⟧ in d.safe self.old → IsMine d mapping.state (d.layer self.old) → Takes d (λ _. ⊤) self.old self.new }
-        ensures began { let d = ⟦<OneCluster as Seen>⟧ in (e : _) (call : Call) → d.began e call self.old → d.began e call self.new }
+        ensures cancels { Cancels ⟦<OneCluster<S> as Seen>⟧ mapping result self.old self.new }
     {
         let (storage, place, length) = (mapping.storage(), mapping.offset(), mapping.length());
         match mapping.into_state() {
@@ -514,7 +527,7 @@ impl FormatDriverInstance for OneCluster {
 
     fn write_mapped(
         &mut self,
-        _alloc: Global,
+        alloc: Global,
         guest: u64,
         place: u64,
         bytes: &[u8],
@@ -532,16 +545,17 @@ impl FormatDriverInstance for OneCluster {
             return Err(Fault::Outdated);
         }
         match &mut self.content {
-            Content::Prepared(run)
-                if run.start <= guest && end <= run.end && end <= run.written.len() as u64 => {
+            Content::Prepared(run) => {
+                if !run.takes(guest, end) {
+                    return Err(Fault::Outdated);
+                }
                 note(&mut run.written, guest as usize, bytes);
                 Ok(())
             }
-            Content::Mapped(all) if end <= all.len() as u64 => {
-                copy_in(all, guest as usize, bytes);
-                Ok(())
-            }
-            _ => Err(Fault::Outdated),
+            Content::Mapped => self.write_file(alloc, guest, bytes),
+            Content::Unmapped => Err(Fault::Outdated),
+            Content::Zeroed => Err(Fault::Outdated),
+            Content::Barred => Err(Fault::Outdated),
         }
     }
 

@@ -1,25 +1,15 @@
 // The driver of a chain of cases: raw images, and images of words.
-ghost use Rattle.std.specs.Prelude.{◌≡◌, ◌⊎◌, ◌≤◌, [], ⊤, refl, ℕ, List, Option, length, OnOk, IfOk, IfErr, IfSome, IsSome, IsTrue, IsOk, MatchResult, None, Some, true, false, if◌then◌else◌};
-ghost use Rattle.std.proofs.Common.{inl, inr, arith};
-ghost use Rattle.imago_storage.specs.State.{IsAlignment};
+ghost use Rattle.std.specs.Prelude.{◌≡◌, ◌≤◌, [], ⊤, refl, List, length, IsTrue, if◌then◌else◌};
+ghost use Rattle.std.proofs.Common.{inl, inr};
 ghost use Rattle.std.proofs.Math.Nat.{le_refl};
-ghost use Rattle.imago_storage.specs.Disk.{byte};
 ghost use Rattle.imago_storage.specs.Steps.{Call};
 ghost use Rattle.imago_storage.specs.declared.fault.Fault.{Fault};
-ghost use Rattle.imago_storage.specs.declared.fault.Fault.TheVariants.{Foreign, Unsupported};
-ghost use Rattle.imago_access.specs.Layer.{Layer, own, unmapped, Held, loose, IsFree};
-ghost use Rattle.imago_access.specs.Room.{Takes};
-ghost use Rattle.imago_access.specs.Changes.{Committed, Cancelled};
-ghost use Rattle.imago_access.specs.Failing.{Fails};
-ghost use Rattle.imago_access.specs.Files.{IsMild, Unasked};
-ghost use Rattle.imago_access.specs.Going.{IsUnchanged, Went};
-ghost use Rattle.imago_access.specs.Spending.{commit_refusal, IsMine, Spends, IsSpending, GivenBack, IsForeignTo};
-ghost use Rattle.imago_access.specs.Stops.{KeepsStops, GivesSettled};
-ghost use Rattle.imago_formats.specs.RawLayer.{raw_layer};
+ghost use Rattle.imago_storage.specs.declared.fault.Fault.TheVariants.{Unsupported};
+ghost use Rattle.imago_access.specs.Layer.{Layer, unmapped};
+ghost use Rattle.imago_access.specs.PreparingCalls.{Commits, CommitRefused, Cancels};
 ghost use Rattle.imago_formats.specs.RawHome as raw_home;
-ghost use Rattle.access_cases.specs.Drivers.{kind_cause};
-ghost use Rattle.access_cases.specs.Clusters.{blank_of, home_in, held_in, one_home};
-ghost use Rattle.access_cases.specs.declared.clusters.Content.TheVariants as content;
+ghost use Rattle.access_cases.specs.Drivers.{is_words, kind_cause};
+ghost use Rattle.access_cases.specs.Homes as homes;
 ghost use Rattle.access_cases.specs.declared.drivers.Driver.TheVariants as driver;
 
 use crate::clusters::{OneCluster, PreparedCluster};
@@ -36,7 +26,7 @@ use std::fmt::{self, Display, Formatter, Write};
 #[derive(Drop)]
 pub enum Driver<S> {
     Raw(Raw<S>),
-    Words(OneCluster),
+    Words(OneCluster<S>),
 }
 
 // A mapping of a raw image, which has no state, as one of either kind.
@@ -75,15 +65,15 @@ impl<S: Storage> Display for Driver<S> {
 impl<S: Storage> Seen for Driver<S> {
     type State = PreparedCluster;
 
-    ghost layer = { elim [ driver.Raw r ↦ ⟦<Raw<S> as Seen>⟧.layer r | driver.Words w ↦ ⟦<OneCluster as Seen>⟧.layer w ] };
+    ghost layer = { elim [ driver.Raw r ↦ ⟦<Raw<S> as Seen>⟧.layer r | driver.Words w ↦ ⟦<OneCluster<S> as Seen>⟧.layer w ] };
 
-    ghost image = { elim [ driver.Raw r ↦ S.state r.storage | driver.Words w ↦ ⟦<OneCluster as Seen>⟧.image w ] };
+    ghost image = { elim [ driver.Raw r ↦ S.state r.storage | driver.Words w ↦ S.state w.file ] };
 
     ghost extras = { λ _. [] };
 
     ghost sees = { λ _. ⊤ };
 
-    ghost safe = { elim [ driver.Raw r ↦ ⟦<Raw<S> as Seen>⟧.safe r | driver.Words w ↦ ⟦<OneCluster as Seen>⟧.safe w ] };
+    ghost safe = { elim [ driver.Raw r ↦ ⟦<Raw<S> as Seen>⟧.safe r | driver.Words w ↦ ⟦<OneCluster<S> as Seen>⟧.safe w ] };
 
     ghost still = { λ _. ⊤ };
 
@@ -101,9 +91,9 @@ impl<S: Storage> Seen for Driver<S> {
 
     ghost sound = { λ kind f. ⊤ };
 
-    ghost began = { λ d call now. (elim now [ driver.Raw r ↦ false | driver.Words w ↦ true ]) ≡ (elim d [ driver.Raw r ↦ false | driver.Words w ↦ true ]) };
+    ghost began = { λ d call now. is_words now ≡ is_words d };
 
-    ghost own_cause = { λ d below call fault. kind_cause (elim d [ driver.Raw r ↦ false | driver.Words w ↦ true ]) call fault };
+    ghost own_cause = { λ d below call fault. kind_cause (is_words d) call fault };
 
     ghost growth_cause = { λ d below size mode fault. fault ≡ Unsupported };
 }
@@ -113,29 +103,38 @@ impl<S: Storage> FormatDriverInstance for Driver<S> {
 
     ghost safe_sees = { λ d safe. tt };
 
-    ghost safe_runs = { elim [ driver.Raw r ↦ λ safe. refl | driver.Words w ↦ λ safe. safe.0 ] };
+    ghost safe_runs = { elim [ driver.Raw r ↦ λ safe. refl | driver.Words w ↦ λ safe. safe.runs ] };
 
-    ghost safe_keeps = { elim [ driver.Raw r ↦ λ safe. safe.0 | driver.Words w ↦ λ safe. refl ] };
+    ghost safe_keeps = { elim [ driver.Raw r ↦ λ safe. safe.0 | driver.Words w ↦ λ safe. safe.keeps ] };
 
     ghost safe_sound = { elim [ driver.Raw r ↦ λ safe. record { is_sound = tt; size = safe.1 } | driver.Words w ↦ λ safe. record { is_sound = tt; size = le_refl w.size } ] };
 
-    ghost one_home = { elim [ driver.Raw r ↦ λ p q at safe. raw_home.one_home r.size r.writable p q at | driver.Words w ↦ λ p q at safe. elim w.content as (λ c. ◌≡◌ {A = Option (ℕ × ℕ)} ((elim c as (λ x. ℕ → Option (ℕ × ℕ)) [ content.Unmapped ↦ λ p. None | content.Zeroed ↦ λ p. None | content.Barred ↦ λ p. None | content.Prepared r ↦ home_in r.start r.end | content.Mapped v ↦ home_in 0 (if w.writable then w.size else 0) ]) p) (Some at) → ◌≡◌ {A = Option (ℕ × ℕ)} ((elim c as (λ x. ℕ → Option (ℕ × ℕ)) [ content.Unmapped ↦ λ p. None | content.Zeroed ↦ λ p. None | content.Barred ↦ λ p. None | content.Prepared r ↦ home_in r.start r.end | content.Mapped v ↦ home_in 0 (if w.writable then w.size else 0) ]) q) (Some at) → p ≡ q) [ content.Unmapped ↦ λ first second. absurd (Prim.cc first) | content.Zeroed ↦ λ first second. absurd (Prim.cc first) | content.Barred ↦ λ first second. absurd (Prim.cc first) | content.Prepared r ↦ one_home r.start r.end p q at | content.Mapped v ↦ one_home 0 (if w.writable then w.size else 0) p q at ] ] };
+    ghost one_home = { elim [ driver.Raw r ↦ λ p q at safe. raw_home.one_home r.size r.writable p q at | driver.Words w ↦ λ p q at safe. homes.one_home w.content (if w.writable then w.size else 0) p q at ] };
 
-    ghost blanks = { elim [ driver.Raw r ↦ inr refl | driver.Words w ↦ (elim w.backed as (λ b. (blank_of b ≡ unmapped) ⊎ (blank_of b ≡ own (byte 0))) [ true ↦ inl refl | false ↦ inr refl ]) ] };
+    ghost blanks = { elim [ driver.Raw r ↦ inr refl | driver.Words w ↦ homes.blanks w.backed ] };
 
-    ghost aligned = { elim [ driver.Raw r ↦ (let shape = S.aligned r.storage in (shape.requests, shape.memory)) | driver.Words w ↦ (let one : IsAlignment 1 = record { positive = Prim.omega arith; small = Prim.omega arith; divides = refl } in (one, one)) ] };
+    ghost aligned = { elim [ driver.Raw r ↦ (let shape = S.aligned r.storage in (shape.requests, shape.memory)) | driver.Words w ↦ (let shape = S.aligned w.file in (shape.requests, shape.memory)) ] };
 
-    ghost alignments = { elim [ driver.Raw r ↦ record { requests = refl; memory = refl; zeroing = inr (inr refl) } | driver.Words w ↦ record { requests = refl; memory = refl; zeroing = inl refl } ] };
+    ghost of_storages = { elim [ driver.Raw r ↦ record { requests = refl; memory = refl; keeps = refl; zeroing = inr (inr refl) } | driver.Words w ↦ record { requests = refl; memory = refl; keeps = refl; zeroing = inl refl } ] };
+
+    ghost marked = { elim [ driver.Raw r ↦ λ is. absurd (Prim.cc is) | driver.Words w ↦ λ is. refl ] };
 
     ghost units = { elim [ driver.Raw r ↦ le_refl 1 | driver.Words w ↦ le_refl 1 ] };
 
     ghost begins = { λ d call. refl };
 
-    ghost free_loose = { elim [ driver.Raw r ↦ λ free p. refl | driver.Words w ↦ (elim w.content as (λ c. ◌≡◌ {A = Option ℕ} (elim c as (λ x. Option ℕ) [ content.Unmapped ↦ None | content.Zeroed ↦ None | content.Barred ↦ None | content.Prepared r ↦ Some r.claim | content.Mapped v ↦ None ]) None → (p : ℕ) → ◌≡◌ {A = Held} ((elim c as (λ x. ℕ → Held) [ content.Unmapped ↦ λ p. loose | content.Zeroed ↦ λ p. loose | content.Barred ↦ λ p. loose | content.Prepared r ↦ held_in r.start r.end r.overwrite r.written.items | content.Mapped v ↦ λ p. loose ]) p) loose) [ content.Unmapped ↦ λ free p. refl | content.Zeroed ↦ λ free p. refl | content.Barred ↦ λ free p. refl | content.Prepared r ↦ λ free p. absurd (Prim.cc free) | content.Mapped v ↦ λ free p. refl ]) ] };
+    ghost free_loose = { elim [ driver.Raw r ↦ λ free p. refl | driver.Words w ↦ λ free p. homes.free_loose w.content p free ] };
 
     ghost bare = { λ d p free has. has };
 
-    ghost roomless = { elim [ driver.Raw r ↦ λ p free states given. raw_home.never states | driver.Words w ↦ λ p free states given. raw_home.never states ] };
+    ghost rooms = { elim [ driver.Raw r ↦ λ p free states. raw_home.never states | driver.Words w ↦ λ p free states. raw_home.never states ] };
+
+    fn image_file(&self) -> &S {
+        match self {
+            Driver::Raw(raw) => raw.image_file(),
+            Driver::Words(words) => words.image_file(),
+        }
+    }
 
     fn format(&self) -> Format {
         match self {
@@ -251,18 +250,8 @@ impl<S: Storage> FormatDriverInstance for Driver<S> {
         alloc: Global,
         mapping: PreparedDataMapping<PreparedCluster>,
     ) -> Result<(), (Fault, Option<PreparedDataMapping<PreparedCluster>>)>
-        ensures ok { let d = ⟦<Driver<S> as Seen>⟧ in OnOk result (Spends d mapping.state (d.layer self.old) (d.layer self.new) (IsFree (d.layer self.new) × (d.safe self.old → Committed (d.layer self.old) (d.layer self.new)))) }
-        ensures size { let d = ⟦<Driver<S> as Seen>⟧ in (d.layer self.new).size ≡ (d.layer self.old).size }
-        ensures room { let d = ⟦<Driver<S> as Seen>⟧ in d.safe self.old → IsMine d mapping.state (d.layer self.old) → OnOk result (Takes d (λ p. (d.layer self.old).held p ≡ loose) self.old self.new) }
-        ensures stops { let d = ⟦<Driver<S> as Seen>⟧ in d.safe self.old → IsMine d mapping.state (d.layer self.old) → (below : List Layer) → KeepsStops d below (GivesSettled below (d.layer self.old)) self.old self.new }
-        ensures at_once { let d = ⟦<Driver<S> as Seen>⟧ in (f : Fault) → commit_refusal d mapping.state (d.layer self.old) ≡ Some f → MatchResult result (λ _. ⊥) (λ e. (e.0 ≡ f) × IsSome e.1) }
-        ensures unasked { let d = ⟦<Driver<S> as Seen>⟧ in (mapping.state ≡ None) ⊎ IsSome (commit_refusal d mapping.state (d.layer self.old)) → Unasked d self.old self.new }
-        ensures back { let d = ⟦<Driver<S> as Seen>⟧ in IfErr result (λ e. IfSome e.1 (λ m. (m ≡ mapping) × GivenBack d.tag mapping.state (d.layer self.old) e.0 × IsUnchanged d self.old self.new)) }
-        ensures spent { let d = ⟦<Driver<S> as Seen>⟧ in IfErr result (λ e. e.1 ≡ None → IsSome mapping.state × IsTrue (d.layer self.new).failed × IsSpending e.0 × Spends d mapping.state (d.layer self.old) (d.layer self.new) (IsFree (d.layer self.new) × (d.safe self.old → IsMild e.0 → ⊥))) }
-        ensures went { let d = ⟦<Driver<S> as Seen>⟧ in Went d (MatchResult result (λ _. ⊤) (λ e. IsMild e.0)) (IsOk result × IsMine d mapping.state (d.layer self.old)) self.old self.new }
-        ensures sees { let d = ⟦<Driver<S> as Seen>⟧ in mapping.state ≡ None → d.sees self.old → d.sees self.new }
-        ensures began { let d = ⟦<Driver<S> as Seen>⟧ in (e : _) (call : Call) → d.began e call self.old → IsMine d mapping.state (d.layer self.old) → OnOk result (d.began e call self.new) }
-        ensures failed { let d = ⟦<Driver<S> as Seen>⟧ in IfErr result (λ e. Fails d self.old self.new e.0) }
+        ensures commits { Commits ⟦<Driver<S> as Seen>⟧ mapping.state result self.old self.new }
+        ensures refused { CommitRefused ⟦<Driver<S> as Seen>⟧ mapping result self.old self.new }
     {
         let raw = match self {
             Driver::Words(words) => return words.commit_data_mapping(alloc, mapping),
@@ -285,15 +274,7 @@ impl<S: Storage> FormatDriverInstance for Driver<S> {
         &mut self,
         mapping: PreparedDataMapping<PreparedCluster>,
     ) -> Result<(), (Fault, PreparedDataMapping<PreparedCluster>)>
-        ensures ok { let d = ⟦<Driver<S> as Seen>⟧ in OnOk result (Spends d mapping.state (d.layer self.old) (d.layer self.new) (Cancelled (d.layer self.old) (d.layer self.new))) }
-        ensures back { let d = ⟦<Driver<S> as Seen>⟧ in IfErr result (λ e. (e.1 ≡ mapping) × (e.0 ≡ Foreign) × IsForeignTo d.tag mapping.state (d.layer self.old) × IsUnchanged d self.old self.new) }
-        ensures fixed { let d = ⟦<Driver<S> as Seen>⟧ in ((d.layer self.new).fixed ≡ (d.layer self.old).fixed) × ((d.layer self.new).size ≡ (d.layer self.old).size) × ((d.layer self.new).failed ≡ (d.layer self.old).failed) }
-        ensures none { let d = ⟦<Driver<S> as Seen>⟧ in Unasked d self.old self.new }
-        ensures lasts { let d = ⟦<Driver<S> as Seen>⟧ in d.lasts self.old → d.lasts self.new }
-        ensures sees { let d = ⟦<Driver<S> as Seen>⟧ in d.sees self.old → d.sees self.new }
-        ensures safe { let d = ⟦<Driver<S> as Seen>⟧ in IsMine d mapping.state (d.layer self.old) → d.safe self.old → d.safe self.new }
-        ensures room { let d = ⟦<Driver<S> as Seen>⟧ in d.safe self.old → IsMine d mapping.state (d.layer self.old) → Takes d (λ _. ⊤) self.old self.new }
-        ensures began { let d = ⟦<Driver<S> as Seen>⟧ in (e : _) (call : Call) → d.began e call self.old → d.began e call self.new }
+        ensures cancels { Cancels ⟦<Driver<S> as Seen>⟧ mapping result self.old self.new }
     {
         if let Driver::Words(words) = self {
             return words.cancel_data_mapping(mapping);

@@ -3,7 +3,7 @@ use crate::calls::{buffer, is_free};
 use crate::clusters::{Content, OneCluster};
 use crate::drivers::Driver;
 use crate::storages::{Base, Notebook, storage_of};
-use cases::{Trouble, bytes, joined, number, runs};
+use cases::{Trouble, joined, number, runs};
 use imago_access::{FormatAccess, FormatDriverInstance};
 use imago_formats::Raw;
 use imago_storage::{FuseStorage, Storage, StorageExt};
@@ -13,14 +13,15 @@ use std::alloc::{AllocError, Global};
 pub type Disk<'a> = FormatAccess<Driver<Base<'a>>>;
 
 // What a word says of an image.
-fn mark(words: &mut OneCluster, word: &str) -> Result<(), Trouble> {
+fn mark<S>(words: &mut OneCluster<S>, word: &str) -> Result<(), Trouble> {
     match word {
         "read_only" => words.writable = false,
         "backed" => words.backed = true,
         "through" => words.through = true,
         "failed" => words.failed = true,
         "missing" => words.missing = true,
-        "broken" => words.broken = true,
+        // Its file says so.
+        "broken" => {}
         "zeroed" => words.content = Content::Zeroed,
         "barred" => words.content = Content::Barred,
         _ => return Err(Trouble::NoCall),
@@ -28,8 +29,28 @@ fn mark(words: &mut OneCluster, word: &str) -> Result<(), Trouble> {
     Ok(())
 }
 
-fn marked(size: u64, number: u64, marks: &[&str]) -> Result<OneCluster, Trouble> {
-    let mut words = OneCluster::new(size, number);
+// The file of an image of words, which holds these bytes: `n` is the number of its call that fails, if one does.
+fn file_of<'a, 'x>(
+    alloc: Global,
+    n: &'x str,
+    held: &[&'x str],
+    notes: Notebook<'a>,
+) -> Result<Base<'a>, Trouble> {
+    let mut words = vec![in alloc; "fuse", n, "1", "1", "1", "1", "zd"]?;
+    words.extend_from_slice(held)?;
+    storage_of(alloc, &words, notes)
+}
+
+// An image of which nothing is mapped, or what a word says. The file of a broken one fails at the first call.
+fn marked<'a>(
+    alloc: Global,
+    size: u64,
+    number: u64,
+    marks: &[&str],
+    notes: Notebook<'a>,
+) -> Result<OneCluster<Base<'a>>, Trouble> {
+    let n = if marks.contains(&"broken") { "1" } else { "0" };
+    let mut words = OneCluster::new(file_of(alloc, n, &[], notes)?, size, number);
     for word in marks.iter() {
         mark(&mut words, word)?;
     }
@@ -37,10 +58,16 @@ fn marked(size: u64, number: u64, marks: &[&str]) -> Result<OneCluster, Trouble>
 }
 
 // An image that holds these bytes.
-fn holding(alloc: Global, number: u64, words: &[&str]) -> Result<OneCluster, Trouble> {
-    let held = bytes(alloc, words)?;
-    let mut words = OneCluster::new(held.len() as u64, number);
-    words.content = Content::Mapped(held);
+fn holding<'a>(
+    alloc: Global,
+    number: u64,
+    held: &[&str],
+    notes: Notebook<'a>,
+) -> Result<OneCluster<Base<'a>>, Trouble> {
+    let file = file_of(alloc, "0", held, notes)?;
+    let size = file.size();
+    let mut words = OneCluster::new(file, size, number);
+    words.content = Content::Mapped;
     Ok(words)
 }
 
@@ -64,9 +91,12 @@ pub fn driver_of<'a>(
         ["raw", "read_only", rest @ ..] => raw(alloc, false, rest, notes),
         ["raw", rest @ ..] => raw(alloc, true, rest, notes),
         ["words", size, image, marks @ ..] => {
-            Ok(Driver::Words(marked(number(size)?, number(image)?, marks)?))
+            let (size, image) = (number(size)?, number(image)?);
+            Ok(Driver::Words(marked(alloc, size, image, marks, notes)?))
         }
-        ["holding", image, rest @ ..] => Ok(Driver::Words(holding(alloc, number(image)?, rest)?)),
+        ["holding", image, rest @ ..] => {
+            Ok(Driver::Words(holding(alloc, number(image)?, rest, notes)?))
+        }
         _ => Err(Trouble::NoCall),
     }
 }

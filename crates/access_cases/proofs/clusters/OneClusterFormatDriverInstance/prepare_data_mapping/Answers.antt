@@ -1,10 +1,15 @@
-use Rattle.std.proofs.Common.{◌≡◌, true, false, ◌+◌, refl, ap, arith}
+use Rattle.std.proofs.Common.{rules, ◌≡◌, ◌+◌, ◌∷◌, refl, ap, inr, arith}
 use Rattle.std.specs.Prelude.{⊤}
 use Rattle.imago_access.specs.Files.{IsMild}
 use Rattle.imago_access.specs.Chain.{at}
+use Rattle.imago_access.proofs.Stopping.{passes_none}
+use Rattle.access_cases.specs.contracts.clusters.OneClusterSeen.TheImpl.{ghosts}
 use Rattle.access_cases.specs.Clusters.{held_in}
-use Rattle.access_cases.proofs.PreparedRuns.{run_prepared}
+use Rattle.access_cases.proofs.PreparedRuns.{run_prepared, apart_loose, run_fits}
+use Rattle.access_cases.proofs.Declining.{mild_marks_over}
+use Rattle.imago_access.proofs.FilePairs.{is_later_same}
 use Rattle.imago_access.proofs.Looking.{looked_under_same}
+use Rattle.imago_access.proofs.Running.{went_same}
 use Rattle.access_cases.proofs.clusters.OneClusterFormatDriverInstance.prepare_data_mapping.Goals as goal
 
 pub returns-in-Err-clause-below : goal.returns-in-Err-clause-below
@@ -25,12 +30,52 @@ returns-in-Err-unwritten-clause-below g c = looked_under_same g.B.SeenBelow (⊥
 pub returns-clause-below : goal.returns-clause-below
 returns-clause-below g c = looked_under_same g.B.SeenBelow (⊤) c.args._below.now
 
-pub returns-clause-ok : goal.returns-clause-ok
-returns-clause-ok g c = λ safe sees.
+pub returns-in-Err-clause-does : goal.returns-in-Err-clause-does
+returns-in-Err-clause-does g c =
+    let d = c.args.self.now in
+    let refused = c.in-Err.ensures in
+    let files = g.S.Storage.state d.file ∷ g.B.SeenBelow.files_under c.args._below.now in
+    record {
+      ok = λ safe sees. tt;
+      err = λ safe sees mild. record { like = record { fixed = refl; size = refl; unspent = refl; failed = λ f. f }; cell = refl; held = refl };
+      uncut = λ safe sees. tt;
+      near = λ safe sees. tt;
+      room = λ safe sees whole. record { kept = λ p there is. is; free = λ p there is. is; zeroes = λ p there there' is. is };
+      stops = λ safe sees. passes_none _ _ _ refl (refl, refl, refl, refl);
+      went = went_same _ _ _ d;
+      began = λ x call begun part whole. tt;
+      refused = record {
+        failed = refused.failed files files;
+        marks = mild_marks_over (ghosts g.row.S g.S.Storage g.S.Storage-dict g.S.Destruct-dict) d d c.in-Err.fault refused.mild;
+        cause = λ safe sees x call begun part same. refused.cause (g.B.SeenBelow.under c.args._below.now) files files;
+      };
+    }
+
+pub returns-clause-does : goal.returns-clause-does
+returns-clause-does g c =
     let d = c.args.self.now in
     let start = c.args.offset in
     let n = c.args.length in
-    rw c.to_commit.ensures (rw c.in-Unmapped.is (run_prepared (at (g.B.SeenBelow.under c.args._below.now)) _ _ start n d.size _ c.args.overwrite (omega arith) refl refl refl refl refl (ap (held_in start (start + n) c.args.overwrite) c.in-Ok-unwritten.ensures)))
+    let under = at (g.B.SeenBelow.under c.args._below.now) in
+    let written = c.in-Ok-unwritten.ensures in
+    rw c.to_commit.ensures (record {
+      ok = λ safe sees. rw c.in-Unmapped.is (run_prepared under _ _ start n d.size _ c.args.overwrite (omega arith) refl refl refl refl refl (ap (held_in start (start + n) c.args.overwrite) written));
+      err = λ safe sees. tt;
+      uncut = λ safe sees u whole. inr whole.end;
+      near = λ safe sees p apart. apart_loose start n p c.args.overwrite _ apart;
+      room = λ safe sees whole. record { kept = λ p there is. is; free = λ p there is. is; zeroes = λ p there there' is. is };
+      stops = λ safe sees. passes_none _ _ _ refl (refl, refl, refl, refl);
+      went = record {
+        fixed = rw c.in-Unmapped.is refl;
+        failed = λ f. f;
+        later = (is_later_same (g.S.Storage.state d.file), tt);
+        faults = λ whole. ((refl, refl), tt);
+        safely = λ whole safe. record { runs = safe.runs; keeps = safe.keeps; fits = let fits = rw c.in-Unmapped.is at safe.fits in (fits, run_fits d.size start n d.backed _ written (c.in-Ok.ensures.inside (omega arith)) (search rules)) };
+        lasting = λ l. l;
+      };
+      began = λ x call begun part whole. tt;
+      refused = record { failed = tt; marks = tt; cause = λ safe sees x call begun part same. tt };
+    })
 
 pub returns-in-Zeroed-clause-below : goal.returns-in-Zeroed-clause-below
 returns-in-Zeroed-clause-below g c = looked_under_same g.B.SeenBelow (⊤) c.args._below.now

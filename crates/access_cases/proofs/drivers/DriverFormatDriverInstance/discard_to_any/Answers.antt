@@ -1,38 +1,18 @@
-use Rattle.std.proofs.Common.{rules, ◌∷◌, []}
-use Rattle.std.specs.Prelude.{true, false}
-use Rattle.imago_formats.specs.RawLayer.{raw_layer}
-use Rattle.access_cases.specs.contracts.clusters.OneClusterSeen.TheImpl.{ghosts}
-use Rattle.access_cases.proofs.OwnCauses.{declined_of_kind}
+use Rattle.std.proofs.Common.{refl}
+use Rattle.imago_access.specs.PartCalls.{discards_to_any}
+use Rattle.access_cases.specs.declared.drivers.Driver.TheVariants.{Raw, Words}
+use Rattle.access_cases.proofs.SeenAs.{does_as, refused_as}
+use Rattle.access_cases.proofs.OwnCauses.{raw_causes, words_causes}
 use Rattle.access_cases.proofs.drivers.DriverFormatDriverInstance.discard_to_any.Goals as goal
 
 pub returns-in-Raw-clause-does : goal.returns-in-Raw-clause-does
-returns-in-Raw-clause-does g c = let h = c.discard_to_any.ensures.does in rw (c.in-Raw.is) (record {
-  ok = h.ok;
-  err = h.err;
-  reach = h.reach;
-  given = h.given;
-  room = λ safe whole. let left = h.room safe whole in record { kept = left.kept; free = left.free; zeroes = left.zeroes };
-  like = h.like;
-  went = record { fixed = h.went.fixed; failed = h.went.failed; later = h.went.later; faults = h.went.faults; safely = h.went.safely; lasting = h.went.lasting };
-  began = λ d call begun part whole. begun;
-  stops = h.stops;
-})
+returns-in-Raw-clause-does g c = rw (c.in-Raw.is) (does_as Raw _ _ refl _ _ discards_to_any _ _ _ (λ x whole begun. begun) c.discard_to_any.ensures.does)
 
 pub returns-in-Raw-clause-refused : goal.returns-in-Raw-clause-refused
-returns-in-Raw-clause-refused g c = let h = c.discard_to_any.ensures.refused in rw (c.in-Raw.is) (record {
-  failed = h.failed;
-  marks = search (rules);
-  cause = λ safe below d call began part.
-      let r = c.in-Raw.raw in
-      let state = g.S.Storage.state in
-      declined_of_kind c.discard_to_any.result below (raw_layer (state r.storage) r.size r.writable) c.args.offset c.args.length call (state r.storage ∷ []) (state c.discard_to_any.new.self.storage ∷ []) false _ began (h.cause safe below r call tt part);
-})
+returns-in-Raw-clause-refused g c = rw (c.in-Raw.is) (refused_as Raw _ _ refl _ _ _ _ _ (raw_causes c.in-Raw.raw) c.discard_to_any.ensures.refused)
+
+pub returns-in-Words-clause-does : goal.returns-in-Words-clause-does
+returns-in-Words-clause-does g c = rw (c.in-Words.is) (does_as Words _ _ refl _ _ discards_to_any _ _ _ (λ x whole begun. begun) c.discard_to_any-in-Words.ensures.does)
 
 pub returns-in-Words-clause-refused : goal.returns-in-Words-clause-refused
-returns-in-Words-clause-refused g c = let h = c.discard_to_any-in-Words.ensures.refused in rw (c.in-Words.is) (record {
-  failed = h.failed;
-  marks = search (rules);
-  cause = λ safe below d call began part.
-      let w = c.in-Words.words in
-      declined_of_kind c.discard_to_any-in-Words.result below (ghosts.layer w) c.args.offset c.args.length call (ghosts.image w ∷ []) (ghosts.image c.discard_to_any-in-Words.new.self ∷ []) true _ began (h.cause safe below w call tt part);
-})
+returns-in-Words-clause-refused g c = rw (c.in-Words.is) (refused_as Words _ _ refl _ _ _ _ _ (words_causes c.in-Words.words) c.discard_to_any-in-Words.ensures.refused)

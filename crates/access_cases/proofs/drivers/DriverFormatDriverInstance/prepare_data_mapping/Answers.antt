@@ -1,30 +1,47 @@
-use Rattle.std.proofs.Common.{ℕ, true, false, ◌∷◌}
-use Rattle.std.specs.Prelude.{Result, Err}
-use Rattle.imago_storage.specs.declared.fault.Fault.{Fault}
-use Rattle.imago_formats.specs.RawLayer.{raw_layer}
-use Rattle.access_cases.specs.contracts.clusters.OneClusterSeen.TheImpl.{ghosts}
-use Rattle.access_cases.proofs.OwnCauses.{cause_of_kind}
+use Rattle.std.proofs.Common.{refl}
+use Rattle.access_cases.specs.declared.drivers.Driver.TheVariants.{Raw, Words}
+use Rattle.access_cases.proofs.SeenAs.{run_refused_as, run_refused_err}
+use Rattle.access_cases.proofs.OwnCauses.{raw_causes, words_causes}
 use Rattle.access_cases.proofs.drivers.DriverFormatDriverInstance.prepare_data_mapping.Goals as goal
 
-pub returns-in-Words-clause-ok : goal.returns-in-Words-clause-ok
-returns-in-Words-clause-ok g c = rw (c.in-Words.is) c.prepare_data_mapping-in-Words.ensures.ok
+pub returns-in-Words-clause-does : goal.returns-in-Words-clause-does
+returns-in-Words-clause-does g c = let h = c.prepare_data_mapping-in-Words.ensures.does in rw (c.in-Words.is) (record {
+  ok = h.ok;
+  err = h.err;
+  uncut = h.uncut;
+  near = h.near;
+  room = λ safe sees whole. let left = h.room safe sees whole in record { kept = left.kept; free = left.free; zeroes = left.zeroes };
+  stops = h.stops;
+  went = record { fixed = h.went.fixed; failed = h.went.failed; later = h.went.later; faults = h.went.faults; safely = h.went.safely; lasting = h.went.lasting };
+  began = λ x call begun part whole. begun;
+  refused = run_refused_as Words _ _ refl _ _ _ _ _ _ _ (words_causes c.in-Words.words) h.refused;
+})
 
-pub returns-in-Words-clause-empty : goal.returns-in-Words-clause-empty
-returns-in-Words-clause-empty g c = rw (c.in-Words.is) c.prepare_data_mapping-in-Words.ensures.empty
+pub returns-in-Err-clause-does : goal.returns-in-Err-clause-does
+returns-in-Err-clause-does g c = let h = rw c.in-Err.is at c.prepare_data_mapping.ensures.does in rw (c.in-Raw.is) (record {
+  ok = h.ok;
+  err = h.err;
+  uncut = h.uncut;
+  near = h.near;
+  room = λ safe sees whole. let left = h.room safe sees whole in record { kept = left.kept; free = left.free; zeroes = left.zeroes };
+  stops = h.stops;
+  went = record { fixed = h.went.fixed; failed = h.went.failed; later = h.went.later; faults = h.went.faults; safely = h.went.safely; lasting = h.went.lasting };
+  began = λ x call begun part whole. begun;
+  refused = run_refused_err Raw _ _ refl _ _ _ _ _ _ _ (raw_causes c.in-Raw.raw) h.refused;
+})
 
-pub returns-in-Words-clause-err : goal.returns-in-Words-clause-err
-returns-in-Words-clause-err g c = rw (c.in-Words.is) c.prepare_data_mapping-in-Words.ensures.err
-
-pub returns-in-Words-clause-cause : goal.returns-in-Words-clause-cause
-returns-in-Words-clause-cause g c = rw (c.in-Words.is) (λ safe sees d call began part same.
-    let w = c.in-Words.words in
-    let under = g.B.SeenBelow.files_under in
-    cause_of_kind c.prepare_data_mapping-in-Words.result (g.B.SeenBelow.under c.args.below.now) (ghosts.layer w) c.args.offset c.args.length call (ghosts.image w ∷ under c.args.below.now) (ghosts.image c.prepare_data_mapping-in-Words.new.self ∷ under c.prepare_data_mapping-in-Words.new._below) true _ began (c.prepare_data_mapping-in-Words.ensures.cause safe sees w call tt part same))
-
-pub returns-in-Err-clause-cause : goal.returns-in-Err-clause-cause
-returns-in-Err-clause-cause g c = rw (c.in-Raw.is) (λ safe sees d call began part same.
-    let r = c.in-Raw.raw in
-    let state = g.S.Storage.state in
-    let under = g.B.SeenBelow.files_under in
-    let refused : Result ℕ Fault = Err c.in-Err.fault in
-    cause_of_kind refused (g.B.SeenBelow.under c.args.below.now) (raw_layer (state r.storage) r.size r.writable) c.args.offset c.args.length call (state r.storage ∷ under c.args.below.now) (state c.prepare_data_mapping.new.self.storage ∷ under c.prepare_data_mapping.new._below) false _ began (rw c.in-Err.is at (c.prepare_data_mapping.ensures.cause safe sees c.in-Raw.raw call tt part same)))
+pub returns-in-Ok-clause-does : goal.returns-in-Ok-clause-does
+returns-in-Ok-clause-does g c =
+    let h = rw c.in-Ok.is at c.prepare_data_mapping.ensures.does in
+    let mapping = c.stateless.ensures.value in
+    rw (c.in-Raw.is, mapping) (record {
+      ok = λ safe sees. rw c.stateless.ensures.none at (h.ok safe sees);
+      err = λ safe sees. tt;
+      uncut = h.uncut;
+      near = h.near;
+      room = λ safe sees whole. let left = h.room safe sees whole in record { kept = left.kept; free = left.free; zeroes = left.zeroes };
+      stops = h.stops;
+      went = record { fixed = h.went.fixed; failed = h.went.failed; later = h.went.later; faults = h.went.faults; safely = h.went.safely; lasting = h.went.lasting };
+      began = λ x call begun part whole. begun;
+      refused = record { failed = tt; marks = tt; cause = λ safe sees x call begun part same. tt };
+    })

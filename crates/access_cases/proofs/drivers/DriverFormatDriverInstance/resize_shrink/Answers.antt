@@ -1,7 +1,10 @@
+use Rattle.std.proofs.Common.{refl}
+use Rattle.access_cases.specs.declared.drivers.Driver.TheVariants.{Raw, Words}
+use Rattle.access_cases.proofs.SeenAs.{shrink_refused_as}
 use Rattle.access_cases.proofs.drivers.DriverFormatDriverInstance.resize_shrink.Goals as goal
 
-pub returns-in-Raw-clause-cause : goal.returns-in-Raw-clause-cause
-returns-in-Raw-clause-cause g c = rw (c.in-Raw.is) c.resize_shrink.ensures.cause
+pub returns-in-Raw-clause-refused : goal.returns-in-Raw-clause-refused
+returns-in-Raw-clause-refused g c = rw (c.in-Raw.is) (shrink_refused_as Raw _ _ refl _ _ _ _ (λ below call. refl) c.resize_shrink.ensures.refused)
 
-pub returns-in-Words-clause-cause : goal.returns-in-Words-clause-cause
-returns-in-Words-clause-cause g c = rw (c.in-Words.is) c.resize_shrink-in-Words.ensures.cause
+pub returns-in-Words-clause-refused : goal.returns-in-Words-clause-refused
+returns-in-Words-clause-refused g c = rw (c.in-Words.is) (shrink_refused_as Words _ _ refl _ _ _ _ (λ below call. refl) c.resize_shrink-in-Words.ensures.refused)

@@ -1,16 +1,16 @@
+use Rattle.std.proofs.Common.{refl}
+use Rattle.access_cases.specs.declared.drivers.Driver.TheVariants.{Raw, Words}
+use Rattle.access_cases.proofs.SeenAs.{writes_as, write_refused_as}
 use Rattle.access_cases.proofs.drivers.DriverFormatDriverInstance.write_mapped.Goals as goal
 
-pub returns-in-Raw-clause-stops : goal.returns-in-Raw-clause-stops
-returns-in-Raw-clause-stops g c = rw (c.in-Raw.is) c.write_mapped.ensures.stops
+pub returns-in-Raw-clause-writes : goal.returns-in-Raw-clause-writes
+returns-in-Raw-clause-writes g c = rw (c.in-Raw.is) (writes_as Raw _ _ refl _ _ _ _ _ _ (λ x call begun. begun) c.write_mapped.ensures.writes)
 
-pub returns-in-Raw-clause-cause : goal.returns-in-Raw-clause-cause
-returns-in-Raw-clause-cause g c = rw (c.in-Raw.is) c.write_mapped.ensures.cause
+pub returns-in-Raw-clause-refused : goal.returns-in-Raw-clause-refused
+returns-in-Raw-clause-refused g c = rw (c.in-Raw.is) (write_refused_as Raw _ _ refl _ _ _ _ _ _ c.write_mapped.ensures.refused)
 
-pub returns-in-Words-clause-mapped : goal.returns-in-Words-clause-mapped
-returns-in-Words-clause-mapped g c = rw (c.in-Words.is) c.write_mapped-in-Words.ensures.mapped
+pub returns-in-Words-clause-writes : goal.returns-in-Words-clause-writes
+returns-in-Words-clause-writes g c = rw (c.in-Words.is) (writes_as Words _ _ refl _ _ _ _ _ _ (λ x call begun. begun) c.write_mapped-in-Words.ensures.writes)
 
-pub returns-in-Words-clause-err : goal.returns-in-Words-clause-err
-returns-in-Words-clause-err g c = rw (c.in-Words.is) c.write_mapped-in-Words.ensures.err
-
-pub returns-in-Words-clause-cause : goal.returns-in-Words-clause-cause
-returns-in-Words-clause-cause g c = rw (c.in-Words.is) c.write_mapped-in-Words.ensures.cause
+pub returns-in-Words-clause-refused : goal.returns-in-Words-clause-refused
+returns-in-Words-clause-refused g c = rw (c.in-Words.is) (write_refused_as Words _ _ refl _ _ _ _ _ _ c.write_mapped-in-Words.ensures.refused)

@@ -1,0 +1,149 @@
+-- What writes to its file leave of an image of one cluster, at each stop in them.
+use Rattle.std.proofs.Common.{◌≡◌, ◌⊎◌, refl, inl, inr, ⊎_elim, ℕ, ◌+◌, ◌<◌, ◌≤◌, List, [], ◌∷◌, length, map, arith, sym, ◌∙◌, ap}
+use Rattle.std.specs.Prelude.{⊤, IsTrue, Bool, false, Option, None, Result, OnOk, IfErr, slice_index, ltb, if◌then◌else◌}
+use Rattle.std.specs.Option.{unwrap_or}
+use Rattle.std.proofs.lemmas.List.{length-map}
+use Rattle.std.proofs.lemmas.Bool.{cases_lt, lt-ltb}
+use Rattle.imago_storage.specs.State.{Shape, StorageState}
+use Rattle.imago_storage.specs.Passing.{Passes}
+use Rattle.imago_storage.specs.Disk.{Value, byte}
+use Rattle.imago_storage.specs.Calls.{Mixed, Spliced, IsFaultless}
+use Rattle.imago_storage.specs.Through.{Through, Stops, StopsAsLong, WrittenThrough, NotWrittenThrough, NotRead}
+use Rattle.imago_storage.specs.Steps.{IsOut}
+use Rattle.imago_storage.proofs.Rounding.{le_round_up}
+use Rattle.imago_storage.specs.declared.fault.Fault.{Fault}
+use Rattle.imago_storage.specs.declared.fault.Fault.TheVariants.{Memory, Storage, RangeOverflow}
+use Rattle.imago_storage.proofs.Composing.{stops_and, stops_weaker}
+use Rattle.imago_access.specs.Layer.{Layer, Cell, own}
+use Rattle.imago_access.specs.Files.{IsMild, ImageCause}
+use Rattle.imago_access.specs.Stops.{Left, GivesSettled}
+use Rattle.imago_formats.proofs.RawSteps.{same_faultless, written_step, mixed_place}
+use Rattle.access_cases.specs.declared.clusters.Content.{Content}
+use Rattle.access_cases.specs.declared.clusters.Content.TheVariants.{Prepared, Mapped}
+use Rattle.access_cases.specs.declared.clusters.OneCluster.{OneCluster}
+use Rattle.access_cases.specs.declared.clusters.PreparedRun.{PreparedRun}
+use Rattle.access_cases.specs.Clusters.{failed_by, cell_of, meant_by, says, home_of, held_of, unspent_of, blank_of, cluster_fixed, cluster_layer, IsRunOf}
+use Rattle.access_cases.proofs.PreparedRuns.{file_means, settled_cell}
+
+-- an image that a refusal has marked failed, or left as it was
+pub failed_on : (e : Fault) (failed : Bool) → IsTrue failed → IsTrue (failed_by e failed)
+failed_on Memory failed is = refl
+failed_on Storage failed is = refl
+failed_on _ failed is = is
+
+pub mild_failed : (e : Fault) (failed : Bool) → IsMild e → failed_by e failed ≡ failed
+mild_failed Memory failed mild = absurd mild
+mild_failed Storage failed mild = absurd mild
+mild_failed _ failed mild = refl
+
+pub marked_or_same : (e : Fault) (failed : Bool) → IsTrue (failed_by e failed) ⊎ (failed_by e failed ≡ failed)
+marked_or_same Memory failed = inl refl
+marked_or_same Storage failed = inl refl
+marked_or_same _ failed = inr refl
+
+-- with the same bytes in a file of the same shape it is the same layer
+pub same_layer : {S : Type 0} (old new : StorageState) (d : OneCluster S) (failed : Bool) → new.shape ≡ old.shape → new.bytes ≡ old.bytes → failed ≡ d.failed
+    → cluster_layer new (record d { failed = failed }) ≡ cluster_layer old d
+same_layer old new d failed shape bytes marked = λ i. record {
+  fixed = cluster_fixed (shape i) d;
+  size = d.size;
+  failed = marked i;
+  cell = says d.content (blank_of d.backed) (bytes i);
+  home = home_of d.content (if d.writable then d.size else 0);
+  held = held_of d.content;
+  unspent = unspent_of d.content;
+}
+
+-- bytes that are written, and those beside them
+pub spliced_at : (old : List ℕ) (at : ℕ) (bytes new : List ℕ) (i : ℕ) → Spliced old at bytes new → i < length bytes → slice_index new (at + i) ≡ slice_index bytes i
+spliced_at old at bytes new i done lt = done.inside (at + i) (omega arith) (omega (arith, lt)) ∙ ap (λ (k : ℕ). slice_index bytes k) (omega arith)
+
+pub spliced_out : (old : List ℕ) (at : ℕ) (bytes new : List ℕ) (p : ℕ) → Spliced old at bytes new → IsOut at (length bytes) p → slice_index new p ≡ slice_index old p
+spliced_out old at bytes new p done out = ⊎_elim (λ before. done.before p before) (λ after. done.after p after) out
+
+-- a file that was written holds at least the bytes
+pub reaches_end : (unit : ℕ) (old new : StorageState) (bytes : List ℕ) → 0 < unit → Through unit old new 0 bytes → length bytes ≤ length new.bytes
+reaches_end unit old new bytes positive done = elim (cases_lt 0 (length bytes)) [
+  | inl some ↦ omega (arith, done.size some, le_round_up unit (0 + length bytes) positive)
+  | inr none ↦ omega (arith, none)
+]
+
+-- a read that was refused for another cause than want of memory and a fault has asked nothing
+pub unread_faultless : (old new : StorageState) (at n : ℕ) (e : Fault) → NotRead old new at n e → IsMild e → IsFaultless old new
+unread_faultless old new at n RangeOverflow refused mild = same_faultless old new refused.1
+unread_faultless old new at n Memory refused mild = absurd mild
+unread_faultless old new at n Storage refused mild = absurd mild
+unread_faultless old new at n _ refused mild = absurd refused
+
+-- what a commit is refused with is a storage's fault only where one has failed
+pub spent_cause : (old new : StorageState) (at : ℕ) (bytes : List ℕ) (cause e : Fault) → NotWrittenThrough old new at bytes cause → (IsMild e → ⊥) → (e ≡ Storage → cause ≡ Storage) → ImageCause (old ∷ []) (new ∷ []) e
+spent_cause old new at bytes cause Memory refused strong storage = tt
+spent_cause old new at bytes cause Storage refused strong storage = let h = rw (storage refl) at refused in inl h.cause
+spent_cause old new at bytes cause _ refused strong storage = absurd (strong tt)
+
+-- each file that a stop in a write may leave is mixed of old and new bytes, and no shorter
+pub write_passes : {T : Type 0} (result : Result T Fault) (old new : StorageState) (at : ℕ) (bytes : List ℕ) (P : List ℕ → Type 0) → OnOk result (WrittenThrough old new at bytes) → IfErr result (NotWrittenThrough old new at bytes)
+    → Stops (Mixed old.bytes at bytes) old new → StopsAsLong old new → ((f : List ℕ) → Mixed old.bytes at bytes f → length old.bytes ≤ length f → P f) → Passes P old new
+write_passes result old new at bytes P ok err stops long each calm = (
+  written_step result old new at bytes ok err calm,
+  stops_weaker (λ f. Mixed old.bytes at bytes f × (length old.bytes ≤ length f)) P old new (λ keeps f both. each f both.0 both.1)
+      (stops_and (Mixed old.bytes at bytes) (λ f. length old.bytes ≤ length f) old new stops long),
+)
+
+-- what a file means to an image that is mapped
+mapped_means : (content : Content) (blank : Cell) (f : List ℕ) (p : ℕ) → content ≡ Mapped → p < length f → meant_by content blank f p ≡ own (byte (slice_index f p))
+mapped_means content blank f p is lt = rw is (file_means blank f p lt)
+
+-- a file that a write leaves of an image that is mapped: each byte was there or is given
+pub mapped_left : {S : Type 0} (below : List Layer) (state : StorageState) (d : OneCluster S) (gives : ℕ → Value → Type 0) (f : List ℕ) → d.content ≡ Mapped → d.size ≤ length state.bytes → length state.bytes ≤ length f
+    → ((p : ℕ) → (slice_index f p ≡ slice_index state.bytes p) ⊎ gives p (byte (slice_index f p))) → Left below (cluster_layer state d) state.bytes (λ kind file. ⊤) d.size gives f
+mapped_left below state d gives f mapped fits long each = record {
+  is_sound = tt;
+  size = omega arith;
+  shows = λ p inside on_disk.
+      let now = mapped_means d.content (blank_of d.backed) f p mapped (omega (arith, on_disk, fits, long)) in
+      let was = mapped_means d.content (blank_of d.backed) state.bytes p mapped (omega (arith, on_disk, fits)) in
+      ⊎_elim
+      (λ same. inl (rw (lt-ltb p d.size on_disk, now, was) (ap byte same)))
+      (λ gave. inr (inr (rw (lt-ltb p d.size on_disk, now) gave)))
+      (each p);
+}
+
+-- what never changes, where a run that is prepared is committed
+pub settled_fixed : {S : Type 0} (old new : Shape) (d : OneCluster S) (run : PreparedRun) → d.content ≡ Prepared run → new ≡ old → cluster_fixed new (record d { content = Mapped }) ≡ cluster_fixed old d
+settled_fixed old new d run prepared shape = rw (prepared, shape) refl
+
+-- the file is then as long as the disk
+pub settled_fits : (unit size : ℕ) (old new : StorageState) (written : List (Option ℕ)) (bytes : List ℕ) → 0 < unit → length written ≡ size → bytes ≡ map (λ w. unwrap_or w 0) written → Through unit old new 0 bytes
+    → size ≤ length new.bytes
+settled_fits unit size old new written bytes positive all settled done =
+    let as_many : length bytes ≡ length written = rw settled (length-map written (λ (w : Option ℕ). unwrap_or w 0)) in
+    omega (arith, reaches_end unit old new bytes positive done, as_many, all)
+
+-- a file that lacks places has 0 there
+zero_means : (f : List ℕ) (p : ℕ) → cell_of (own (byte 0)) f p ≡ own (byte (slice_index f p))
+zero_means [] p = refl
+zero_means (first ∷ bytes) p = refl
+
+prepared_means : (content : Content) (backed : Bool) (run : PreparedRun) (f : List ℕ) (p : ℕ) → content ≡ Prepared run → backed ≡ false → meant_by content (blank_of backed) f p ≡ own (byte (slice_index f p))
+prepared_means content backed run f p is alone = rw (is, alone) (zero_means f p)
+
+-- a file that a commit leaves: each byte is 0 or what the run gives
+pub settled_left : {S : Type 0} (below : List Layer) (state : StorageState) (d : OneCluster S) (run : PreparedRun) (bytes f : List ℕ) → d.content ≡ Prepared run → state.bytes ≡ []
+    → IsRunOf d.size d.backed run.start run.end run.written.items → bytes ≡ map (λ w. unwrap_or w 0) run.written.items → Mixed state.bytes 0 bytes f
+    → Left below (cluster_layer state d) state.bytes (λ kind file. ⊤) d.size (GivesSettled below (cluster_layer state d)) f
+settled_left below state d run bytes f prepared empty is_run settled mixed = record {
+  is_sound = tt;
+  size = omega arith;
+  shows = λ p inside on_disk.
+      let now = prepared_means d.content d.backed run f p prepared is_run.alone in
+      let was = prepared_means d.content d.backed run state.bytes p prepared is_run.alone in
+      ⊎_elim
+      (λ same. inl (rw (lt-ltb p d.size on_disk, now, was) (ap byte same)))
+      (λ new. inr (inr (
+        own (byte (slice_index bytes p)),
+        rw prepared (settled_cell d.size run.start run.end p d.backed run.overwrite run.written.items bytes is_run settled),
+        rw (lt-ltb p d.size on_disk, now) (ap byte (new.1 ∙ ap (λ (k : ℕ). slice_index bytes k) (omega arith))),
+      )))
+      (mixed_place state.bytes 0 bytes f mixed p);
+}

@@ -1,0 +1,70 @@
+use Rattle.std.proofs.Common.{rules, refl, ◌∙◌, ◌+◌, arith, inl, inr, ⊎_elim}
+use Rattle.imago_access.proofs.Stopping.{passes_none}
+use Rattle.access_cases.proofs.PreparedRuns.{home_between, takes_byte, stays_held}
+use Rattle.access_cases.proofs.clusters.OneClusterFormatDriverInstance.write_mapped.Goals as goal
+
+pub returns-else-not-takes-clause-writes : goal.returns-else-not-takes-clause-writes
+returns-else-not-takes-clause-writes g c =
+    let d = c.args.self.now in
+    let r = c.in-Prepared.run' in
+    let prepared = c.in-Prepared.is in
+    let guest = c.args.guest in
+    let bytes = c.args.bytes.now in
+    let written = c.note.new.written.items in
+    let within = c.takes.ensures.yes (search rules) in
+    record {
+      mapped = λ sees some. (0, λ i lt. rw (prepared, c.if-place-guest.false) (home_between r.start r.end (guest + i) (omega (arith, within.0)) (omega (arith, lt, within.1))));
+      empty = λ none. absurd (omega (arith, none));
+      like = record { fixed = rw prepared refl; size = refl; unspent = rw prepared refl; failed = λ f. f };
+      ok = λ safe. record {
+        like = record { fixed = rw prepared refl; size = refl; unspent = rw prepared refl; failed = λ f. f };
+        home = rw prepared refl;
+        range = λ i lt. rw prepared (takes_byte r.start r.end (guest + i) _ r.overwrite r.written.items written _ (omega (arith, within.0)) (omega (arith, lt, within.1)) (c.note.ensures.inside i lt));
+        others = λ p out. rw prepared (refl, stays_held r.start r.end p r.overwrite r.written.items written (c.note.ensures.outside p out));
+      };
+      err = λ safe. tt;
+      room = λ safe whole. record { kept = λ p there is. is; free = λ p there is. is; zeroes = λ p there there' is. is };
+      stops = λ safe below. passes_none _ _ _ refl (refl, refl, refl, refl);
+      went = record {
+        fixed = rw prepared refl;
+        failed = λ f. f;
+        later = search rules;
+        faults = λ whole. ((refl, refl), tt);
+        safely = λ whole safe. let fits = rw prepared at safe.fits in record {
+          runs = safe.runs;
+          keeps = safe.keeps;
+          fits = (
+            fits.0,
+            record {
+              all = c.note.ensures.len ∙ fits.1.all;
+              inside = fits.1.inside;
+              alone = fits.1.alone;
+              others = λ p out. c.note.ensures.outside p (⊎_elim (λ before. inl (omega (arith, before, within.0))) (λ behind. inr (omega (arith, behind, within.1))) out) ∙ fits.1.others p out;
+            },
+          );
+        };
+        lasting = λ l. l;
+      };
+      began = λ x call begun. tt;
+    }
+
+pub returns-in-Unmapped-clause-refused : goal.returns-in-Unmapped-clause-refused
+returns-in-Unmapped-clause-refused g c = record {
+  failed = tt;
+  marks = tt;
+  cause = λ safe. (omega arith, λ mapped. let at = rw c.in-Unmapped.is at (mapped.1 0 (omega arith)) in absurd (cc at));
+}
+
+pub returns-in-Zeroed-clause-refused : goal.returns-in-Zeroed-clause-refused
+returns-in-Zeroed-clause-refused g c = record {
+  failed = tt;
+  marks = tt;
+  cause = λ safe. (omega arith, λ mapped. let at = rw c.in-Zeroed.is at (mapped.1 0 (omega arith)) in absurd (cc at));
+}
+
+pub returns-in-Barred-clause-refused : goal.returns-in-Barred-clause-refused
+returns-in-Barred-clause-refused g c = record {
+  failed = tt;
+  marks = tt;
+  cause = λ safe. (omega arith, λ mapped. let at = rw c.in-Barred.is at (mapped.1 0 (omega arith)) in absurd (cc at));
+}
