@@ -1,6 +1,61 @@
 //! Calls of the caches of a qcow2 image, of its allocator and of the list of what waits to be freed, and their answers, by scripts.
 //!
-//! The first lines of a case describe an image, `open` opens it, and each further line is a call.
+//! The first lines of a case describe an image, `open` opens it, and each further line is a call. Clusters in a row are `data FIRST+COUNT`
+//! or `metadata FIRST+COUNT`. Words of tables are answered in hexadecimal digits without `0x`, all other numbers in decimal ones.
+//!
+//! # The image
+//!
+//! - `image BITS WIDTH CLUSTERS`: a header for clusters of 2 to this power of bytes (9, 10, 12 or 16) and counters of so many bits, before
+//!   so many clusters of zeroes. `made WIDTH COUNTED`: one of clusters of 512 bytes, so many counted, whose refcount table is cluster 1 and
+//!   names the block in cluster 2.
+//! - `reftable CLUSTER CLUSTERS`, `block INDEX CLUSTER`: where the refcount table stands, and a word of it; `count FIRST COUNT [TIMES]`.
+//! - `l1 CLUSTER WORDS SIZE`, `table INDEX CLUSTER`, `mapped TABLE INDEX CLUSTER`: the L1 table of a disk of SIZE bytes, a word of it, and
+//!   a word of an L2 table.
+//! - `word OFFSET VALUE`, `put OFFSET BYTES`.
+//! - `open TABLES BLOCKS [MARK]`: caches for so many tables and blocks; the search for free clusters begins at MARK, or at 0. `fuse N`: the
+//!   Nth call of the storage fails from the opening on. `fuse BEFORE N MOST`: the Nth behind so many, where N is at most the last number.
+//! - `asked`: what the storage was asked since this was last told.
+//!
+//! # The allocator
+//!
+//! - `take COUNT KIND`, `take_at CLUSTER`, which are pending then; `free`; `grow INDEX`, `grow_by MORE`: the refcount table; `mark
+//!   CLUSTER`: the search begins there, over the table loaded anew; `drop_counts`: drops the cached blocks.
+//! - `reftable_in_memory`: its offset and clusters, and its words in memory.
+//!
+//! # The caches
+//!
+//! - `find_table`, `find_block`, `touch_table`, `touch_block CLUSTER`: a touched one is modified. `words`, `counts CLUSTER FIRST COUNT`;
+//!   `mapping TABLE INDEX`; `entries CLUSTER` of a block.
+//! - `name TABLE INDEX`: a word names what became pending last; `unname TABLE INDEX`. Both answer what waits then, or `nothing`.
+//! - `blocks_first`, `tables_first`, `flush`, `flush_blocks`, `drop_tables`, `drop_blocks`.
+//! - `put_table`, `put_block FROM TO`: what the file has in one cluster is put at another; `back_table`, `back_block FIRST COUNT`: where
+//!   that stands which came back, whether it is modified, and what it holds; `put_again table | block`.
+//!
+//! # The file
+//!
+//! - `written`: the changes since they were last told, `5` for one of that cluster, `5+2` for one of two, `OFFSET:LENGTH` for any other;
+//!   `stops`: `sound`, or the checker's fault in the file that a stop leaves; `leaks`, `leaked`: which clusters leak where the last stop
+//!   leaves the file, and how many; `leaks_are_kept`: whether as many leak as were kept.
+//! - `counted FIRST COUNT`, `word_in_file OFFSET` (decimal), `bytes_in_file OFFSET COUNT`.
+//!
+//! # The list
+//!
+//! - `wait KIND FIRST COUNT`; `guard KIND FIRST COUNT`: pending clusters with room held for them; `keep`, `return`: what became pending
+//!   last is named, or comes back, `none` where there is nothing; `hold`, `give_back KIND FIRST COUNT`; `shorten INDEX COUNT`; `remove
+//!   INDEX`; `take_list`, and `taken`, what that took.
+//! - `list`, `held`, `length`, `first_metadata`.
+//!
+//! # A cache of numbers
+//!
+//! - `cache of ROOM sound | odd_flushes_fail | load_fails KEY`: it loads each key as its value.
+//! - `cache fill FIRST COUNT`; `cache find KEY HOW`, `cache insert KEY VALUE HOW`, with `flushing` where another may be flushed for it, or
+//!   `unflushed`; `cache write KEY VALUE`; `cache flush`, `drop`; `cache forget`, `pin`, `unpin KEY`.
+//! - `cache at KEY`, `cache pins KEY`; `cache flushed`, `dropped` since they were last told, the first 64; `cache loads`.
+//!
+//! # Any call
+//!
+//! - `steady CALL`: leaves all as it was where memory is refused before anything was done, and is made once more then. `any CALL`: `ok`,
+//!   whatever it answers but a refusal.
 #![tactic(auto)]
 
 mod allocating;

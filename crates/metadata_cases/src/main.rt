@@ -1,4 +1,61 @@
 //! The metadata of qcow2 images by scripts: the bytes of a file in, a header, table or block out, and what its calls answer.
+//!
+//! A case has a file, the storage that it was put into, a header, and one L1, L2 and refcount table and refcount block. Words of tables are
+//! answered in hexadecimal digits behind `0x`, all other numbers in decimal ones.
+//!
+//! # The file and its storage
+//!
+//! - `put OFFSET BYTES`; `word OFFSET NUMBER`, eight bytes, the highest first; `text OFFSET WORDS`; `cut LENGTH`.
+//! - `on UNIT [fuse N]`: puts the file into a storage with this for each alignment, whose Nth call fails. `read OFFSET N`, `size`; `calls`,
+//!   how many there were; `asked`, which, since this was last told.
+//!
+//! # A header
+//!
+//! - `header load reading | writing`; `header new CLUSTER_BITS REFCOUNT_ORDER BACKING_FILE BACKING_FORMAT DATA_FILE`, `-` for none and
+//!   `n*3` for `nnn`.
+//! - `header set_size N`; `header set_l1`, `header set_reftable`: it names the case's table; `header require VERSION`.
+//! - `header write`, `header write size | l1 | reftable`; `header update reading | writing`: takes over what the file's header says.
+//! - `header version`, `size`, `cluster_bits`, `cluster_size`, `l2_entries`, `refcount_order`, `rb_bits`, `rb_entries`, `l1_offset`,
+//!   `l1_entries`, `reftable_offset`, `reftable_clusters`, `reftable_entries`, `snapshots`, `backing_file`, `backing_format`, `data_file`,
+//!   `external_data`; `header feature KIND BIT`, its name.
+//! - `laws` calls each law of the crate.
+//!
+//! # Tables and blocks
+//!
+//! - `l1` and `reftable`: `load CLUSTER ENTRIES`, `make` an empty one, `grow INDEX` to a copy that has the index, `enter INDEX` the case's
+//!   L2 table or block, `in_bounds INDEX`.
+//! - `l2`: `load CLUSTER`, `new`, `copy`, `write_if_modified`; `[guard] mapping CLUSTER`, `[guard] packed CLUSTER`, of a guest cluster;
+//!   `map INDEX CLUSTER [pending]`, `zero INDEX keep | free`, `discard INDEX`, which answer what is handed back, `from FIRST count N`.
+//! - Each of the three: `name`, `most`, `entries`, `word INDEX`, `kept INDEX` (or `none`), `cluster`, `offset`, `bytes`, `clusters`,
+//!   `cluster_bits`, `modified`, `set_cluster CLUSTER`, `unset_cluster`, `set_modified`, `clear_modified`, `write`, `write INDEX`.
+//! - `block`: `load CLUSTER`, `new`, `write`, `write_if_modified`; `entries`, `cluster_bits`, `cluster`, `offset`, `modified`, `set_cluster
+//!   CLUSTER`, `set_modified`, `clear_modified`; `get INDEX`, `[guard] is_zero INDEX`, `increment INDEX`, `decrement INDEX`.
+//!
+//! # Words and mappings
+//!
+//! - `entry l1 word | table | copied | reserved HOW NUMBER`, with `plain`, `naming` or `empty` as HOW; `entry reftable word | block |
+//!   reserved HOW NUMBER`; `entry l2 word | cluster | external_cluster | compressed | copied | zero | reserved | descriptor | range HOW
+//!   NUMBER`, with also `plain_unmarked`, `unmarked`, `zero`, `zero_copied` and `zero_shared`. `plain` is a word of an image with the
+//!   case's header.
+//! - `follows BITS MAPPING after MAPPING`. A MAPPING is `data CLUSTER MARK`, `zeroes CLUSTER MARK` with `-` for no cluster, `below PLACE -`
+//!   or `packed PLACE LENGTH`; a MARK `copied` or `shared`.
+//! - `word_at OFFSET` of the file; `offset_in NUMBER`, `block_offset_in NUMBER`: the place in a word.
+//!
+//! # Places and counts
+//!
+//! - `guest offset in_cluster | cluster | begins | l1_index | l2_index | rest_of_cluster | rest_of_table OFFSET BITS`; `guest cluster
+//!   offset | next_table | l1_index | l2_index | next NUMBER BITS`; `guest of L1_INDEX L2_INDEX BITS`.
+//! - `host offset in_cluster | cluster | begins OFFSET BITS`; `host begin - CLUSTER BITS`; `host beside OFFSET CLUSTER BITS`; `host counter
+//!   rt_index | rb_index | rt_of_both | rb_of_both CLUSTER BLOCK_BITS`; `host of RT_INDEX RB_INDEX BLOCK_BITS`.
+//! - `clusters of_bytes | of_whole | bytes N BITS`.
+//! - `sum KIND A + | - | += | -= | from | before B`, with `guest_offset`, `host_offset`, `guest_cluster`, `host_cluster` or `count` as
+//!   KIND; `shown KIND N`.
+//!
+//! # Parts
+//!
+//! - `feature NAME`; `feature_type NUMBER`; `to_free data | metadata FIRST COUNT`; `pending named | unnamed data | metadata FIRST COUNT`.
+//! - `part older | newer length`; of the bytes of the file, `part older FIELD`, `part older bytes AT COUNT`, `part newer FIELD | bytes`;
+//!   `part default FIELD | bytes`.
 #![tactic(auto)]
 
 mod answer;
