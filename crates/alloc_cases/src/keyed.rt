@@ -8,7 +8,7 @@ use std::alloc::{AllocError, Global};
 use std::cell::Cell;
 
 /// How many values are noted.
-const ROOM: usize = 16;
+const ROOM: usize = 64;
 
 /// How often a script can hold on to a value.
 const PINS: u64 = 8;

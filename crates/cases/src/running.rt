@@ -1,6 +1,6 @@
 // Runs scripts, and prints each answer that differs.
 use crate::layer::{Layer, Trouble};
-use crate::script::{Case, Line, cases_of};
+use crate::script::{Case, Each, Line, cases_of};
 use std::alloc::{AllocError, AllocFailed, Global};
 use std::env::Env;
 use std::fs::Files;
@@ -68,6 +68,8 @@ enum Outcome {
 #[derive(Clone, Copy)]
 struct Round<'a> {
     file: &'a str,
+    /// What the case says of itself.
+    name: &'a str,
     /// The word that stands for a number in this run of a case, and the number.
     each: Option<(&'a str, &'a str)>,
     /// Whether the case is run once more, since an allocation was refused.
@@ -146,19 +148,19 @@ fn judge(
 
 // Prints a wrong answer.
 fn tell(rt: &impl Print, round: Round<'_>, line: Line<'_>, got: &str) -> Result<(), Ended> {
-    let file = round.file;
+    let Round { file, name, .. } = round;
     let Line {
         number,
         call,
         wanted,
     } = line;
     match round.each {
-        Some((name, value)) => {
+        Some((word, value)) => {
             println!(rt;
-                "{file}:{number}: {call} = {got}, and not {wanted}, with {name} = {value}"
+                "{file}:{number}: {call} = {got}, and not {wanted}, with {word} = {value}; case {name}"
             )?
         }
-        None => println!(rt; "{file}:{number}: {call} = {got}, and not {wanted}")?,
+        None => println!(rt; "{file}:{number}: {call} = {got}, and not {wanted}; case {name}")?,
     }
     Ok(())
 }
@@ -225,46 +227,88 @@ fn run_twice<L: Layer>(
     }
 }
 
-// A case with each number from 1 on, until no call is refused by a storage.
-fn run_each<'x, L: Layer>(
+// Prints what is wrong with a case as a whole, and counts it.
+fn tell_case(
     rt: &impl Print,
-    alloc: Global,
-    layer: &mut L,
+    file: &str,
     case: &Case<'_>,
-    names: (&'x str, &'x str),
+    wrong: &str,
     counts: &mut Counts,
 ) -> Result<(), Ended> {
-    let (file, name) = names;
-    for n in 1..=MOST_RUNS {
-        let number = n.to_string(alloc)?;
-        let round = Round {
-            file,
-            each: Some((name, number.as_str())),
-            is_again: false,
-        };
-        if !run_twice(rt, alloc, layer, case, round, counts)? {
-            return Ok(());
-        }
-    }
-    println!(rt; "{file}: a case has a fault at each number up to {MOST_RUNS}")?;
+    let Case { number, name, .. } = case;
+    println!(rt; "{file}:{number}: {wrong}; case {name}")?;
     counts.wrong = counts.wrong.saturating_add(1);
     Ok(())
 }
 
-fn run_case<L: Layer>(
+// A case with the number `n`, in which a call is to be refused by a storage or none is, where the script says so. Returns whether the
+// case goes on with the next number.
+fn run_number<'x, L: Layer>(
     rt: &impl Print,
     alloc: Global,
     layer: &mut L,
-    case: &Case<'_>,
-    file: &str,
+    case: &Case<'x>,
+    (file, each, n): (&'x str, Each<'x>, u64),
+    counts: &mut Counts,
+) -> Result<bool, Ended> {
+    let number = n.to_string(alloc)?;
+    let round = Round {
+        file,
+        name: case.name,
+        each: Some((each.word, number.as_str())),
+        is_again: false,
+    };
+    let is_faulted = run_twice(rt, alloc, layer, case, round, counts)?;
+    let Some(faults) = each.faults else {
+        return Ok(is_faulted);
+    };
+    let word = each.word;
+    if n <= faults && !is_faulted {
+        let wrong = format!(in alloc; "no call is refused with {word} = {n}")?;
+        tell_case(rt, file, case, wrong.as_str(), counts)?;
+    } else if n > faults && is_faulted {
+        let wrong = format!(in alloc; "a call is refused with {word} = {n}")?;
+        tell_case(rt, file, case, wrong.as_str(), counts)?;
+    }
+    Ok(n <= faults)
+}
+
+// A case with each number from 1 on, up to the first one with which no call is to be refused by a storage.
+fn run_each<'x, L: Layer>(
+    rt: &impl Print,
+    alloc: Global,
+    layer: &mut L,
+    case: &Case<'x>,
+    (file, each): (&'x str, Each<'x>),
+    counts: &mut Counts,
+) -> Result<(), Ended> {
+    for n in 1..=MOST_RUNS {
+        if !run_number(rt, alloc, layer, case, (file, each, n), counts)? {
+            return Ok(());
+        }
+    }
+    let wrong = format!(in alloc; "no end of faults up to {MOST_RUNS}")?;
+    tell_case(rt, file, case, wrong.as_str(), counts)
+}
+
+fn run_case<'x, L: Layer>(
+    rt: &impl Print,
+    alloc: Global,
+    layer: &mut L,
+    case: &Case<'x>,
+    file: &'x str,
     counts: &mut Counts,
 ) -> Result<(), Ended> {
     counts.cases = counts.cases.saturating_add(1);
-    if let Some(name) = case.each {
-        return run_each(rt, alloc, layer, case, (file, name), counts);
+    if case.lines.is_empty() {
+        return tell_case(rt, file, case, "no line", counts);
+    }
+    if let Some(each) = case.each {
+        return run_each(rt, alloc, layer, case, (file, each), counts);
     }
     let round = Round {
         file,
+        name: case.name,
         each: None,
         is_again: false,
     };
@@ -272,15 +316,19 @@ fn run_case<L: Layer>(
     Ok(())
 }
 
-fn run_script<L: Layer>(
+fn run_script<'x, L: Layer>(
     rt: &impl Print,
     alloc: Global,
     layer: &mut L,
-    file: &str,
-    script: &str,
+    file: &'x str,
+    script: &'x str,
     counts: &mut Counts,
 ) -> Result<(), Ended> {
     let cases = cases_of(alloc, script)?;
+    if cases.is_empty() {
+        println!(rt; "{file}: no case")?;
+        counts.wrong = counts.wrong.saturating_add(1);
+    }
     for case in cases.iter() {
         run_case(rt, alloc, layer, case, file, counts)?;
     }
@@ -325,8 +373,9 @@ fn run_files<R: Files + Env + Input + Print + AllocGlobal, L: Layer>(
 
 /// Runs the scripts that the program's arguments name, or that on standard input where there are none.
 ///
-/// Each wrong answer is printed, with file, line, call, what came and what was wanted. The last line counts scripts, cases, answers and
-/// wrong ones. A case in which a call answers `error 20` where it should not is run once more.
+/// Each wrong answer is printed, with file, line, call, what came, what was wanted and its case. A file without a case and a case
+/// without a line are wrong, too. The last line counts scripts, cases, answers and wrong ones. A case in which a call answers `error 20`
+/// where it should not is run once more.
 ///
 /// The status is 0 where no answer is wrong, 1 where one is, and 2 where the run ended early, for want of memory or since a script
 /// can't be read.

@@ -1,4 +1,5 @@
 // The cases of a script.
+use crate::words::number;
 use std::alloc::{AllocError, AllocFailed, Global};
 
 /// A line: a call and the answer that it must have.
@@ -11,17 +12,49 @@ pub struct Line<'a> {
     pub wanted: &'a str,
 }
 
+/// The numbers that a case is run with.
+#[derive(Clone, Copy)]
+pub struct Each<'a> {
+    /// The word that stands for them.
+    pub word: &'a str,
+    /// How many there are, from 1 on, of which each has a storage refuse a call; the next one has none refused. Where the script doesn't
+    /// say it, the first one with which none is refused is the last.
+    pub faults: Option<u64>,
+}
+
 /// A case: lines over values that begin anew.
 #[derive(Drop)]
 pub struct Case<'a> {
+    /// The number of its first line in the file.
+    pub number: u64,
+    /// What it says of itself; nothing where it begins the file without.
+    pub name: &'a str,
     pub lines: Vec<Line<'a>>,
-    /// The word that stands for 1, 2, 3 and so on, where the case is run until no call is refused by a storage.
-    pub each: Option<&'a str>,
+    pub each: Option<Each<'a>>,
+}
+
+// What the words behind `each` say: `N`, or `N to 5`.
+fn each_of(words: &str) -> Option<Each<'_>> {
+    let Some((word, faults)) = words.split_once(" to ") else {
+        return Some(Each {
+            word: words,
+            faults: None,
+        });
+    };
+    match number(faults) {
+        Ok(faults) => Some(Each {
+            word,
+            faults: Some(faults),
+        }),
+        Err(_) => None,
+    }
 }
 
 impl<'a> Case<'a> {
-    fn new(alloc: Global) -> Self {
+    fn new(alloc: Global, number: u64, name: &'a str) -> Self {
         Case {
+            number,
+            name,
             lines: Vec::new(alloc),
             each: None,
         }
@@ -29,8 +62,8 @@ impl<'a> Case<'a> {
 
     // Takes a line of the script that begins no case.
     fn take(&mut self, number: u64, text: &'a str) -> Result<(), AllocFailed<Line<'a>>> {
-        if let Some(word) = text.strip_prefix("each ") {
-            self.each = Some(word);
+        if let Some(each) = text.strip_prefix("each ").and_then(each_of) {
+            self.each = Some(each);
             return Ok(());
         }
         let (call, wanted) = text.split_once(" = ").unwrap_or((text, "ok"));
@@ -56,11 +89,12 @@ pub fn cases_of<'a>(alloc: Global, script: &'a str) -> Result<Vec<Case<'a>>, All
         if text.is_empty() || text.starts_with("#") {
             continue;
         }
-        if text.starts_with("case ") || cases.is_empty() {
-            cases.push(Case::new(alloc))?;
-        }
-        if text.starts_with("case ") {
+        if let Some(name) = text.strip_prefix("case ") {
+            cases.push(Case::new(alloc, number, name))?;
             continue;
+        }
+        if cases.is_empty() {
+            cases.push(Case::new(alloc, number, "none"))?;
         }
         if let Some(case) = cases.last_mut() {
             case.take(number, text)?;

@@ -4,8 +4,9 @@ ghost use Rattle.std.specs.Prelude.{◌≡◌, IsTrue};
 ghost use Rattle.imago_storage.specs.State.{IsAlignment};
 ghost use Rattle.imago_storage.specs.MemStorage.{mem_shape, mem_state};
 
+use crate::layer::Trouble;
 use crate::texts::joined;
-use crate::words::mode_word;
+use crate::words::{bytes, mode_word, size};
 use imago_storage::{Fault, MemStorage, PreallocateMode, Storage};
 use std::alloc::{AllocError, Global};
 use std::cell::Cell;
@@ -146,6 +147,40 @@ impl<'a> Shaped<'a> {
     pub fn resolving(mut self) -> Self {
         self.resolves = true;
         self
+    }
+
+    /// The storage of these words: four for its alignments, one for what it has (`z` zeroes, `d` discards, `zd` both, `-` neither), and
+    /// its bytes.
+    ///
+    /// # Errors
+    ///
+    /// [`Trouble::NoCall`] where they are no such words; [`Trouble::Refused`] for want of memory.
+    pub fn of_words(
+        alloc: Global,
+        words: &[&str],
+        notes: &'a Cell<Notes>,
+    ) -> Result<Self, Trouble> {
+        let [mem, req, zero, discard, has, rest @ ..] = words else {
+            return Err(Trouble::NoCall);
+        };
+        let given = Alignments::new(size(mem)?, size(req)?, size(zero)?, size(discard)?);
+        let Some(alignments) = given else {
+            return Err(Trouble::NoCall);
+        };
+        let (has_zeroes, has_discards) = match *has {
+            "z" => (true, false),
+            "d" => (false, true),
+            "zd" => (true, true),
+            "-" => (false, false),
+            _ => return Err(Trouble::NoCall),
+        };
+        Ok(Shaped::new(
+            bytes(alloc, rest)?,
+            alignments,
+            has_zeroes,
+            has_discards,
+            notes,
+        )?)
     }
 
     fn note(&self, asked: Asked) {

@@ -34,6 +34,9 @@ pub fn size(word: &str) -> Result<usize, Trouble> {
 ///
 /// [`Trouble::NoCall`] where the word is anything else.
 pub fn hex(word: &str) -> Result<u8, Trouble> {
+    if word.len() != 2 || word.starts_with("+") {
+        return Err(Trouble::NoCall);
+    }
     u8::from_str_radix(word, 16).map_err(|_| Trouble::NoCall)
 }
 

@@ -1,48 +1,19 @@
 // The storage of a script's words: which storages stand on which.
 use crate::stack::Stack;
-use cases::{Alignments, Notes, Shaped, Trouble, bytes, is_alignment, number, size};
+use cases::{Notes, Shaped, Trouble, bytes, is_alignment, number, size};
 use imago_storage::{FuseStorage, LogStorage, MemStorage, Null};
 use std::alloc::Global;
 use std::cell::Cell;
 
-fn alignments(words: &[&str; 4]) -> Result<Alignments, Trouble> {
-    let [mem, req, zero, discard] = words;
-    match Alignments::new(size(mem)?, size(req)?, size(zero)?, size(discard)?) {
-        Some(alignments) => Ok(alignments),
-        None => Err(Trouble::NoCall),
-    }
-}
-
-// Four words for alignments, and one that says what it has: `z` zeroes, `d` discards, `zd` both, `-` neither.
-fn shaped<'a>(
-    alloc: Global,
-    words: &[&str],
-    notes: &'a Cell<Notes>,
-) -> Result<Shaped<'a>, Trouble> {
-    let [mem, req, zero, discard, has, rest @ ..] = words else {
-        return Err(Trouble::NoCall);
-    };
-    let alignments = alignments(&[*mem, *req, *zero, *discard])?;
-    let has_zeroes = has.starts_with("z");
-    let has_discards = has.ends_with("d");
-    Ok(Shaped::new(
-        bytes(alloc, rest)?,
-        alignments,
-        has_zeroes,
-        has_discards,
-        notes,
-    )?)
-}
-
-// Such a storage, which resolves names where the first word is `resolving`.
+// A storage of four alignments, which resolves names where the first word is `resolving`.
 fn lowest<'a>(
     alloc: Global,
     words: &[&str],
     notes: &'a Cell<Notes>,
 ) -> Result<Shaped<'a>, Trouble> {
     match words {
-        ["resolving", rest @ ..] => Ok(shaped(alloc, rest, notes)?.resolving()),
-        _ => shaped(alloc, words, notes),
+        ["resolving", rest @ ..] => Ok(Shaped::of_words(alloc, rest, notes)?.resolving()),
+        _ => Shaped::of_words(alloc, words, notes),
     }
 }
 
