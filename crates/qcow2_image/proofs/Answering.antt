@@ -1,0 +1,220 @@
+-- From a look at words to what a lookup of the driver answers.
+use Rattle.std.proofs.Common.{◌≡◌, ℕ, ◌+◌, ◌-◌, ◌*◌, ◌/◌, ◌%◌, ◌^◌, ◌<◌, ◌≤◌, refl, arith, ap, sym, subst, ◌∙◌, List, ◌∷◌, Bool, true, false, Some, None, Option, inl, inr}
+use Rattle.std.specs.Prelude.{⊤, ◌⊎◌, slice_index, max, zero, suc}
+use Rattle.std.proofs.lemmas.Bool.{lt-ltb}
+use Rattle.std.proofs.lemmas.Nat.{pow_pos, mod_below}
+use Rattle.imago_storage.specs.State.{StorageState, IsAlignment}
+use Rattle.imago_storage.specs.Disk.{byte, barred, damaged_place}
+use Rattle.imago_storage.specs.declared.fault.Fault.{Fault}
+use Rattle.imago_storage.specs.declared.fault.Fault.TheVariants.{DamagedTable, Memory, Storage}
+use Rattle.imago_access.specs.Files.{byte_in}
+use Rattle.imago_access.specs.Layer.{Layer, Cell, own}
+use Rattle.imago_access.specs.Mappings.{IsRun, IsInReach, Looks, Names, NamesRoom}
+use Rattle.imago_access.specs.Refusals.{LookCause}
+use Rattle.imago_access.proofs.Units.{overflows_late, alignment_max}
+use Rattle.qcow2_types.specs.Bytes.{Bytes, bytes_of}
+use Rattle.qcow2_types.specs.Header.{Fields, cluster_size}
+use Rattle.qcow2_types.specs.Words.{Mapping, data_at, zeroes, packed, damaged, max_offset}
+use Rattle.qcow2_types.specs.Words as words
+use Rattle.qcow2_types.specs.Entries.{entry}
+use Rattle.qcow2_metadata.specs.MappingView.{mapping_seen, IsNamed}
+use Rattle.qcow2_metadata.specs.declared.mapping.L2Mapping.{L2Mapping}
+use Rattle.qcow2_metadata.specs.declared.mapping.L2Mapping.TheVariants.{DataFile, Backing, Zero, Compressed}
+use Rattle.qcow2_image.specs.ImageLayer.{blank_of, cell_by, cells, qcow2_layer, shallow_of}
+use Rattle.qcow2_image.specs.Looking.{Follows, IsRunOf, WhyNotLooked}
+use Rattle.qcow2_image.specs.Rooms.{TakesNone, ReadsNone, IsVacant, IsZeroed}
+use Rattle.qcow2_image.proofs.Ranges.{cluster-of, in-run, byte-place}
+
+-- The mapping of the guest cluster so many behind another of its run.
+abbrev IsOn : Mapping → ℕ → Mapping → Type 0
+IsOn (data_at c mark) k (data_at c' mark') = c' ≡ c + k
+IsOn (zeroes c mark) k (zeroes c' mark') = ⊤
+IsOn words.unmapped k words.unmapped = ⊤
+IsOn (packed o n) k (packed o' n') = ⊤
+IsOn m k m' = ⊥
+
+on-first : (m : L2Mapping) → IsOn (mapping_seen m) 0 (mapping_seen m)
+on-first (DataFile c mark) = omega arith
+on-first (Backing o) = tt
+on-first (Zero c mark) = tt
+on-first (Compressed o n) = tt
+
+on-data : (m b : Mapping) (d : ℕ) (y : Bool) (k : ℕ) → IsOn m k (data_at d y) → Follows (data_at d y) b → IsOn m (k + 1) b
+on-data (data_at c x) (data_at e z) d y k on next = omega (arith, on, next.0)
+on-data (data_at c x) b d y k on next = absurd next
+on-data m b d y k on next = absurd on
+
+on-zeroes : (m b : Mapping) (d : Option ℕ) (y : Bool) (k : ℕ) → IsOn m k (zeroes d y) → Follows (zeroes d y) b → IsOn m (k + 1) b
+on-zeroes (zeroes c x) (zeroes e z) d y k on next = tt
+on-zeroes (zeroes c x) b None y k on next = absurd next
+on-zeroes (zeroes c x) b (Some d) y k on next = absurd next
+on-zeroes m b d y k on next = absurd on
+
+on-unmapped : (m b : Mapping) (k : ℕ) → IsOn m k words.unmapped → Follows words.unmapped b → IsOn m (k + 1) b
+on-unmapped words.unmapped words.unmapped k on next = tt
+on-unmapped words.unmapped b k on next = absurd next
+on-unmapped m b k on next = absurd on
+
+on-next : (m a b : Mapping) (k : ℕ) → IsOn m k a → Follows a b → IsOn m (k + 1) b
+on-next m (data_at d y) b k on next = on-data m b d y k on next
+on-next m (zeroes d y) b k on next = on-zeroes m b d y k on next
+on-next m words.unmapped b k on next = on-unmapped m b k on next
+on-next m (packed o n) b k on next = absurd next
+on-next m damaged b k on next = absurd next
+
+-- Each mapping of a run goes on from the first.
+pub on-run : (guest most : ℕ) (mapped : ℕ → Mapping) (run : L2Mapping × ℕ) → IsRunOf guest most mapped run → (k : ℕ) → k < run.1 → IsOn (mapping_seen run.0) k (mapped (guest + k))
+on-run guest most mapped run is zero lt = subst (IsOn (mapping_seen run.0) 0) (is.first ∙ ap mapped here) (on-first run.0) where
+  here : guest ≡ guest + 0
+  here = omega arith
+on-run guest most mapped run is (suc k) lt =
+    let before = on-run guest most mapped run is k (omega (arith, lt)) in
+    let next = is.each k (omega (arith, lt)) in
+    let on = on-next (mapping_seen run.0) (mapped (guest + k)) (mapped (guest + k + 1)) k before next in
+    let one : k + 1 ≡ suc k = omega arith in
+    let two : guest + k + 1 ≡ guest + suc k = omega arith in
+    subst (λ x. IsOn (mapping_seen run.0) (suc k) (mapped x)) two (subst (λ x. IsOn (mapping_seen run.0) x (mapped (guest + k + 1))) one on)
+
+-- What a place says whose mapping goes on from another.
+abbrev cell_on : Cell → Bytes → Fields → ℕ → ℕ → Mapping → Cell
+cell_on blank f h k p (data_at c mark) = own (byte (f ((c + k) * cluster_size h + p % cluster_size h)))
+cell_on blank f h k p (zeroes c mark) = own (byte 0)
+cell_on blank f h k p (packed o n) = own barred
+cell_on blank f h k p words.unmapped = blank
+cell_on blank f h k p damaged = own damaged_place
+
+says-on : (blank : Cell) (f : Bytes) (h : Fields) (k p : ℕ) (m m' : Mapping) → IsOn m k m' → cell_by blank f h p m' ≡ cell_on blank f h k p m
+says-on blank f h k p (data_at c x) (data_at d y) on = ap (λ x. own (byte (f (x * cluster_size h + p % cluster_size h)))) on
+says-on blank f h k p (zeroes c x) (zeroes d y) on = refl
+says-on blank f h k p (packed o n) (packed o' n') on = refl
+says-on blank f h k p words.unmapped words.unmapped on = refl
+says-on blank f h k p (data_at c x) m' on = absurd on
+says-on blank f h k p (zeroes c x) m' on = absurd on
+says-on blank f h k p (packed o n) m' on = absurd on
+says-on blank f h k p words.unmapped m' on = absurd on
+says-on blank f h k p damaged m' on = absurd on
+
+-- Data isn't vacant, nor zeroed.
+data-taken : (c k : ℕ) (mark : Bool) (m : Mapping) → IsOn (data_at c mark) k m → (TakesNone m ⊎ ReadsNone m) → ⊥
+data-taken c k mark (data_at d y) on (inl none) = none
+data-taken c k mark (data_at d y) on (inr none) = none
+data-taken c k mark m on which = absurd on
+
+-- Nor is what can't be read.
+packed-taken : (o n k : ℕ) (m : Mapping) → IsOn (packed o n) k m → (TakesNone m ⊎ ReadsNone m) → ⊥
+packed-taken o n k (packed p q) on (inl none) = none
+packed-taken o n k (packed p q) on (inr none) = none
+packed-taken o n k m on which = absurd on
+
+-- What a lookup answers is a run.
+pub is-run : (layer : Layer) (backed : Bool) (bits offset within n asked : ℕ) (m : L2Mapping) → offset < layer.size → n ≤ asked → offset + n ≤ layer.size → (0 < asked → 0 < n) → IsRun layer offset asked (shallow_of backed bits offset within (mapping_seen m)) n
+is-run layer backed bits offset within n asked (DataFile c mark) lt few inside one = (lt, few, inside, one)
+is-run layer backed bits offset within n asked (Zero c mark) lt few inside one = (lt, few, inside, one)
+is-run layer backed bits offset within n asked (Compressed o l) lt few inside one = (lt, few, inside, one)
+is-run layer true bits offset within n asked (Backing o) lt few inside one = (lt, few, inside, one)
+is-run layer false bits offset within n asked (Backing o) lt few inside one = (lt, few, inside, one)
+
+-- The answer of a lookup, over the places from an offset on in some clusters of a run.
+module _ (s : StorageState) (words-there : Bytes) (h : Fields) (backed : Bool) (number : ℕ) (failed : Bool) (offset n most : ℕ) (run : L2Mapping × ℕ)
+    (clean : words-there ≡ bytes_of s.bytes) (inside : offset + n ≤ h.size) (short : n ≤ run.1 * cluster_size h - offset % cluster_size h)
+    (is : IsRunOf (offset / cluster_size h) most (entry (bytes_of s.bytes) h) run) where
+  abbrev f : Bytes
+  f = bytes_of s.bytes
+
+  abbrev layer : Layer
+  layer = qcow2_layer s words-there h backed number failed
+
+  abbrev within : ℕ
+  within = offset % cluster_size h
+
+  some : 0 < cluster_size h
+  some = pow_pos h.cluster_bits
+
+  -- The mapping at each place is on the run.
+  on-place : (i : ℕ) → i < n → IsOn (mapping_seen run.0) ((within + i) / cluster_size h) (entry f h ((offset + i) / cluster_size h))
+  on-place i lt = subst (λ x. IsOn (mapping_seen run.0) ((within + i) / cluster_size h) (entry f h x)) (sym (cluster-of (cluster_size h) offset i some))
+      (on-run (offset / cluster_size h) most (entry f h) run is ((within + i) / cluster_size h) (in-run (cluster_size h) offset i some run.1 n short lt))
+
+  cell-at : (i : ℕ) → i < n → layer.cell (offset + i) ≡ cell_on (blank_of backed) f h ((within + i) / cluster_size h) (offset + i) (mapping_seen run.0)
+  cell-at i lt =
+      let there = lt-ltb (offset + i) h.size (omega (arith, inside, lt)) in
+      rw there (rw clean (says-on (blank_of backed) f h ((within + i) / cluster_size h) (offset + i) (mapping_seen run.0) (entry f h ((offset + i) / cluster_size h)) (on-place i lt)))
+
+  -- it names what each place says,
+  pub names-run : (ss : List StorageState) (s' : StorageState) → s'.bytes ≡ s.bytes → Names layer (byte_in (s' ∷ ss)) offset n (shallow_of backed h.cluster_bits offset within (mapping_seen run.0))
+  names-run ss s' bytes = from run.0 cell-at where
+    backing : (b : Bool) → ((i : ℕ) → i < n → layer.cell (offset + i) ≡ blank_of b) → blank_of b ≡ layer.fixed.blank → Names layer (byte_in (s' ∷ ss)) offset n (shallow_of b h.cluster_bits offset within words.unmapped)
+    backing true each blank = (each, refl, refl, (λ no. absurd (cc no)))
+    backing false each blank = (each, (λ e. sym blank))
+
+    from : (m : L2Mapping) → ((i : ℕ) → i < n → layer.cell (offset + i) ≡ cell_on (blank_of backed) f h ((within + i) / cluster_size h) (offset + i) (mapping_seen m)) → Names layer (byte_in (s' ∷ ss)) offset n (shallow_of backed h.cluster_bits offset within (mapping_seen m))
+    from (DataFile c mark) each = (
+      λ i lt. each i lt ∙ ap (λ x. own (byte (slice_index s.bytes x))) (byte-place (cluster_size h) offset i some c) ∙ ap (λ (l : List ℕ). own (byte (slice_index l (c * cluster_size h + within + i)))) (sym bytes),
+      λ no. absurd (cc no),
+      λ no. absurd (cc no),
+    )
+    from (Zero c mark) each = (each, (λ no. absurd (cc no)))
+    from (Compressed o l) each = (each, refl)
+    from (Backing o) each = backing backed each refl
+
+  -- and no vacant or zeroed place as one of the file, or as one that can't be read.
+  pub room-run : NamesRoom layer (IsVacant words-there h) (IsZeroed words-there h) offset n (shallow_of backed h.cluster_bits offset within (mapping_seen run.0))
+  room-run = from run.0 on-place where
+    backing : (b : Bool) → NamesRoom layer (IsVacant words-there h) (IsZeroed words-there h) offset n (shallow_of b h.cluster_bits offset within words.unmapped)
+    backing true = tt
+    backing false = tt
+
+    taken : (i : ℕ) → i < n → (TakesNone (entry f h ((offset + i) / cluster_size h)) ⊎ ReadsNone (entry f h ((offset + i) / cluster_size h)) → ⊥)
+        → IsVacant words-there h (offset + i) ⊎ IsZeroed words-there h (offset + i) → ⊥
+    taken i lt never which = elim which [
+      | inl vacant ↦ elim vacant [
+        | inl behind ↦ absurd (omega (arith, behind, inside, lt))
+        | inr none ↦ never (inl (rw (sym clean) none))
+      ]
+      | inr zeroed ↦ elim zeroed [
+        | inl behind ↦ absurd (omega (arith, behind, inside, lt))
+        | inr none ↦ never (inr (rw (sym clean) none))
+      ]
+    ]
+
+    from : (m : L2Mapping) → ((i : ℕ) → i < n → IsOn (mapping_seen m) ((within + i) / cluster_size h) (entry f h ((offset + i) / cluster_size h))) → NamesRoom layer (IsVacant words-there h) (IsZeroed words-there h) offset n (shallow_of backed h.cluster_bits offset within (mapping_seen m))
+    from (DataFile c mark) each = λ states i lt. taken i lt (data-taken c ((within + i) / cluster_size h) mark (entry f h ((offset + i) / cluster_size h)) (each i lt))
+    from (Zero c mark) each = tt
+    from (Compressed o l) each = λ states i lt. taken i lt (packed-taken o l ((within + i) / cluster_size h) (entry f h ((offset + i) / cluster_size h)) (each i lt))
+    from (Backing o) each = backing backed
+
+  -- Places that words can name are in reach of requests.
+  pub reach-run : IsAlignment s.shape.req_align → IsAlignment s.shape.mem_align → IsNamed h.cluster_bits run.0 → n ≤ 2 ^ 42 → cluster_size h ≤ 2 ^ 21 → IsInReach layer offset (shallow_of backed h.cluster_bits offset within (mapping_seen run.0)) n
+  reach-run requests memory named few small = from run.0 named where
+    backing : (b : Bool) → IsInReach layer offset (shallow_of b h.cluster_bits offset within words.unmapped) n
+    backing true = tt
+    backing false = tt
+
+    from : (m : L2Mapping) → IsNamed h.cluster_bits m → IsInReach layer offset (shallow_of backed h.cluster_bits offset within (mapping_seen m)) n
+    from (DataFile c mark) near = λ over.
+        let below : within < cluster_size h = mod_below offset (cluster_size h) some in
+        absurd (overflows_late (max s.shape.req_align s.shape.mem_align) (c * cluster_size h + within) n (alignment_max s.shape.req_align s.shape.mem_align requests memory) (omega (arith, near, below, few, small)) over)
+    from (Zero c mark) near = tt
+    from (Compressed o l) near = tt
+    from (Backing o) near = backing backed
+
+  -- So it is what a lookup answers.
+  pub looks-run : (asked : ℕ) (ss : List StorageState) (s' : StorageState) → s'.bytes ≡ s.bytes → IsAlignment s.shape.req_align → IsAlignment s.shape.mem_align → IsNamed h.cluster_bits run.0 → n ≤ 2 ^ 42 → cluster_size h ≤ 2 ^ 21
+      → Looks layer (byte_in (s' ∷ ss)) offset asked (shallow_of backed h.cluster_bits offset within (mapping_seen run.0)) n
+  looks-run asked ss s' bytes requests memory named few small = record {
+    names = names-run ss s' bytes;
+    reach = reach-run requests memory named few small;
+    home = λ free some storage place no. absurd (cc no);
+  }
+
+-- Why a lookup is refused.
+pub look-cause : (s s' : StorageState) (ss ss' : List StorageState) (words-there : Bytes) (h : Fields) (backed : Bool) (number : ℕ) (failed : Bool) (offset asked : ℕ) (fault : Fault) → words-there ≡ bytes_of s.bytes → offset < h.size → 0 < asked
+    → WhyNotLooked (entry (bytes_of s.bytes) h (offset / cluster_size h) ≡ damaged) s.faults s'.faults fault → LookCause (qcow2_layer s words-there h backed number failed) offset asked (s ∷ ss) (s' ∷ ss') fault
+look-cause s s' ss ss' words-there h backed number failed offset asked DamagedTable clean lt some why =
+    let there = lt-ltb offset h.size lt in
+    let here : cells (blank_of backed) words-there (bytes_of s.bytes) h offset ≡ own damaged_place = rw there (rw clean (ap (cell_by (blank_of backed) (bytes_of s.bytes) h offset) why)) in
+    let place : offset + 0 ≡ offset = omega arith in
+    (0, some, omega (arith, lt), subst (λ x. cells (blank_of backed) words-there (bytes_of s.bytes) h x ≡ own damaged_place) (sym place) here)
+look-cause s s' ss ss' words-there h backed number failed offset asked Memory clean lt some why = tt
+look-cause s s' ss ss' words-there h backed number failed offset asked Storage clean lt some why = inl why
+look-cause s s' ss ss' words-there h backed number failed offset asked fault clean lt some why = absurd why

@@ -1,0 +1,104 @@
+-- What a search of a table, and its use, leave of what is true of each cached table.
+use Rattle.std.proofs.Common.{◌≡◌, ℕ, ◌*◌, refl, ap, sym, subst, ◌∙◌, List, [], ◌∷◌, ◌++◌, length, Some, None, Result, Ok, Err, inl, inr}
+use Rattle.std.specs.Prelude.{◌⊎◌, IsOk, IfOk, OnOk, OnErr, IsSome, Bool, Option, map, nat_eq, nat_lt}
+use Rattle.std.specs.List.{AllByRecursion}
+use Rattle.std.specs.Option.{option_map, option_map_or}
+use Rattle.std.specs.Map.{lookup, remove_entry}
+use Rattle.std.specs.Borrow.{MutBor}
+use Rattle.std.proofs.lemmas.Bool.{cases_Bool}
+use Rattle.imago_storage.specs.State.{StorageState}
+use Rattle.imago_storage.specs.declared.fault.Fault.{Fault}
+use Rattle.qcow2_types.specs.Bytes.{Bytes}
+use Rattle.qcow2_types.specs.Header.{Fields, words_of_cluster, cluster_size}
+use Rattle.qcow2_metadata.specs.Tables.{TableValue, table_in, words_in}
+use Rattle.qcow2_alloc.specs.Cache.{hit, victim}
+use Rattle.qcow2_alloc.specs.Caches.{cached_in}
+use Rattle.qcow2_alloc.specs.CachesLending.{with_tables}
+use Rattle.qcow2_alloc.specs.Finding.{TableFound, Sought, with_room}
+use Rattle.qcow2_alloc.specs.Memory.{written_table}
+use Rattle.qcow2_alloc.specs.declared.async_lru_cache.Slot.{Slot}
+use Rattle.qcow2_alloc.specs.declared.cache.MetadataCaches.{MetadataCaches}
+use Rattle.qcow2_alloc.specs.declared.file.ImageFile.{ImageFile}
+use Rattle.qcow2_alloc.proofs.Places.{Place, place-of-key, place-hit, slot-of}
+use Rattle.qcow2_image.specs.Seen.{IsOfFile}
+use Rattle.qcow2_image.specs.Looking.{UsesTable}
+
+-- The contract of a search that lends its table says how the table is used.
+pub table-used : {S T : Type 0} (state : S → StorageState) (cluster : ℕ) (does : TableValue → Result T Fault → TableValue → Type 0) (old : MetadataCaches S) (before : ImageFile S) (new : MetadataCaches S) (after : ImageFile S) (lent : Result (MutBor TableValue) Fault) (table : MutBor TableValue) (result : Result T Fault) (table' : TableValue)
+    → lent ≡ Ok table
+    → (IsOk lent → (mid : MetadataCaches S) × TableFound state cluster old before (Ok tt) mid after × IfOk lent (λ v. option_map (λ s. s.value) (lookup (nat_eq cluster) (cached_in mid).tables) ≡ Some v.now) × (new ≡ with_tables mid (hit (nat_eq cluster) (cached_in mid).tables table')))
+    → does table.now result table' → UsesTable state cluster does old before result new after
+table-used state cluster does old before new after lent table result table' is holds used =
+    let h = subst (λ r. IsOk r → (mid : MetadataCaches _) × TableFound state cluster old before (Ok tt) mid after × IfOk r (λ v. option_map (λ s. s.value) (lookup (nat_eq cluster) (cached_in mid).tables) ≡ Some v.now) × (new ≡ with_tables mid (hit (nat_eq cluster) (cached_in mid).tables table'))) is holds refl in
+    inr (record { mid = h.0; found = h.1; table = table.now; table' = table'; there = h.2; used = used; left = h.3 })
+
+-- An entry that is used goes first: each is as it was.
+all-move : {X : Type 0} (P : X → Type 0) (front : List X) (x : X) (back : List X) → AllByRecursion P (front ++ x ∷ back) → AllByRecursion P (x ∷ front ++ back)
+all-move P [] x back all = all
+all-move P (y ∷ front) x back all = let rest = all-move P front x back all.1 in (rest.0, (all.0, rest.1))
+
+module _ {V : Type 0} (P : ℕ × Slot V → Type 0) (key : ℕ) (es : List (ℕ × Slot V)) (v : V) (there : option_map (λ s. s.value) (lookup (nat_eq key) es) ≡ Some v) (all : AllByRecursion P es) where
+  found : (s : Slot V) × (lookup (nat_eq key) es ≡ Some s) × (s.value ≡ v)
+  found = slot-of (lookup (nat_eq key) es) v there
+
+  place : Place key es found.0
+  place = place-of-key key es found.0 found.1
+
+  moved : AllByRecursion P ((key, found.0) ∷ place.front ++ place.back)
+  moved = all-move P place.front (key, found.0) place.back (subst (AllByRecursion P) place.is all)
+
+  pub all-hit : AllByRecursion P (hit (nat_eq key) es v)
+  all-hit = subst (AllByRecursion P) (sym (ap (λ w. hit (nat_eq key) es w) (sym found.2) ∙ place-hit key es found.0 place found.0.value)) moved
+
+  pub one-hit : (s : Slot V) × P (key, s) × (s.value ≡ v)
+  one-hit = (found.0, moved.0, found.2)
+
+-- Entries that stay when some go,
+all-removed : {K X : Type 0} (P : K × X → Type 0) (test : K → Bool) (es : List (K × X)) → AllByRecursion P es → AllByRecursion P (remove_entry test es)
+all-removed P test [] all = tt
+all-removed P test (e ∷ es) all = elim (cases_Bool (test e.0)) [
+  | inl t ↦ rw t all.1
+  | inr t ↦ rw t (all.0, all-removed P test es all.1)
+]
+
+all-but-victim : {V : Type 0} (P : ℕ × Slot V → Type 0) (found : Option ℕ) (es : List (ℕ × Slot V)) → AllByRecursion P es → AllByRecursion P (option_map_or (λ key. remove_entry (nat_eq key) es) found es)
+all-but-victim P None es all = all
+all-but-victim P (Some key) es all = all-removed P (nat_eq key) es all
+
+all-with-room : {V : Type 0} (P : ℕ × Slot V → Type 0) (cap : ℕ) (es : List (ℕ × Slot V)) → AllByRecursion P es → AllByRecursion P (with_room cap es)
+all-with-room P cap es all = elim (cases_Bool (nat_lt (length es) cap)) [
+  | inl t ↦ rw t all
+  | inr t ↦ rw t (all-but-victim P (victim es) es all)
+]
+
+-- and that are the same once they are written.
+of-written : (f : Bytes) (h : Fields) (xs ys : List (ℕ × Slot TableValue)) → map written_table xs ≡ map written_table ys → AllByRecursion (IsOfFile f h) ys → AllByRecursion (IsOfFile f h) xs
+of-written f h [] ys same all = tt
+of-written f h (x ∷ xs) [] same all = absurd (cc same)
+of-written f h (x ∷ xs) (y ∷ ys) same all =
+    let head : written_table x ≡ written_table y = cc same in
+    let tail : map written_table xs ≡ map written_table ys = cc same in
+    let key : x.0 ≡ y.0 = ap (λ e. e.0) head in (
+      record {
+        layout = ap (λ e. e.1.value.layout) head ∙ all.0.layout;
+        words = ap (λ e. e.1.value.words) head ∙ all.0.words ∙ ap (λ k. words_in f (k * cluster_size h) (words_of_cluster h)) (sym key);
+      },
+      of-written f h xs ys tail all.1,
+    )
+
+pub of-search : (f : Bytes) (h : Fields) (cap key : ℕ) (es es' : List (ℕ × Slot TableValue)) (answer : Result Unit Fault) → Sought written_table cap key (table_in f h key (words_of_cluster h)) es answer es' → AllByRecursion (IsOfFile f h) es → AllByRecursion (IsOfFile f h) es'
+of-search f h cap key es es' answer sought all = elim (found-or-not (lookup (nat_eq key) es)) [
+  | inl is ↦ subst (AllByRecursion (IsOfFile f h)) (sym (sought.there is)) all
+  | inr none ↦ by-answer answer sought.loaded sought.refused none
+] where
+  found-or-not : (x : Option (Slot TableValue)) → (IsSome x) ⊎ (x ≡ None)
+  found-or-not None = inr refl
+  found-or-not (Some s) = inl refl
+
+  by-answer : (a : Result Unit Fault) → (lookup (nat_eq key) es ≡ None → OnOk a (es' ≡ (key, record { value = table_in f h key (words_of_cluster h); pins = 0 }) ∷ with_room cap es))
+      → OnErr a ((map written_table es' ≡ map written_table es) ⊎ (es' ≡ with_room cap es)) → lookup (nat_eq key) es ≡ None → AllByRecursion (IsOfFile f h) es'
+  by-answer (Ok done) loaded refused none = subst (AllByRecursion (IsOfFile f h)) (sym (loaded none)) (record { layout = refl; words = refl }, all-with-room (IsOfFile f h) cap es all)
+  by-answer (Err fault) loaded refused none = elim refused [
+    | inl written ↦ of-written f h es' es written all
+    | inr room ↦ subst (AllByRecursion (IsOfFile f h)) (sym room) (all-with-room (IsOfFile f h) cap es all)
+  ]

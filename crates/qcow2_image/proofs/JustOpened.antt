@@ -1,0 +1,93 @@
+-- What is in memory of an image right after it was opened for reading.
+use Rattle.std.proofs.Common.{◌≡◌, ℕ, ◌<◌, ◌≤◌, refl, arith, sym, subst, ap, [], false, Ok}
+use Rattle.std.specs.Prelude.{IsTrue}
+use Rattle.std.specs.List.{AllByRecursion}
+use Rattle.std.proofs.Math.Nat.{le_refl}
+use Rattle.imago_storage.specs.State.{StorageState}
+use Rattle.imago_storage.specs.declared.storage.Storage.{Ghosts}
+use Rattle.imago_access.specs.Files.{IsKept}
+use Rattle.imago_access.specs.Stops.{IsMeant}
+use Rattle.qcow2_types.specs.Bytes.{Bytes, bytes_of}
+use Rattle.qcow2_types.specs.Header.{Fields, Header, header_of, has_external_data}
+use Rattle.qcow2_types.specs.Consistency.{Consistent, leaks}
+use Rattle.qcow2_types.specs.Over.{over}
+use Rattle.qcow2_alloc.specs.Caches.{cached_in, order_of}
+use Rattle.qcow2_alloc.specs.Finding.{pinned_in}
+use Rattle.qcow2_alloc.specs.Memory.{Cached, memory}
+use Rattle.qcow2_alloc.specs.Safety.{AreTablesClean, AreBlocksClean}
+use Rattle.qcow2_alloc.proofs.LoadingTable.{verdict-consistent}
+use Rattle.qcow2_alloc.specs.declared.cache.CacheDependency.TheVariants.{Unset}
+use Rattle.qcow2_image.specs.Seen.{IsL1Of, IsOfFile, file_of, memory_of}
+use Rattle.qcow2_image.specs.ImageLayer.{qcow2_layer, meaning_of, blank_of}
+use Rattle.qcow2_image.specs.Rooms.{IsSafe}
+use Rattle.qcow2_image.specs.Opening.{IsJustOpened, is_qcow2}
+use Rattle.qcow2_image.specs.declared.qcow2.Qcow2.{Qcow2}
+use Rattle.qcow2_image.specs.declared.tables.Tables.{Tables}
+use Rattle.qcow2_image.proofs.OpeningRules.{none-refused}
+use Rattle.qcow2_image.proofs.Probing.{header-begins}
+
+module _ {S : Type 0} (g : Ghosts S) (before : StorageState) (l2_tables refcount_blocks : ℕ) (t : Tables S g) (same : g.state t.file.image ≡ before)
+    (loads : header_of false (bytes_of before.bytes) ≡ Ok t.file.header) (inside : has_external_data t.file.header.fields ≡ false) (l1 : IsL1Of (bytes_of before.bytes) t.file.header.fields t.l1)
+    (empty : cached_in t.caches ≡ record { tables = []; blocks = [] }) (unordered : order_of t.caches ≡ Unset)
+    (tables : t.caches.l2.slots.cap ≡ l2_tables) (blocks : t.caches.rb.slots.cap ≡ refcount_blocks) (some : 0 < l2_tables) where
+  -- The metadata, by what was loaded of the file.
+  pub just-opened : IsJustOpened g before l2_tables refcount_blocks t
+  just-opened = record {
+    same = same;
+    allowed = none-refused (bytes_of before.bytes) t.file.header loads inside l1.sound;
+    seen = record {
+      loads = subst (λ (s : StorageState). header_of false (bytes_of s.bytes) ≡ Ok t.file.header) (sym same) loads;
+      inside = inside;
+      l1 = subst (λ (s : StorageState). IsL1Of (bytes_of s.bytes) t.file.header.fields t.l1) (sym same) l1;
+      tables = subst (λ (c : Cached). AllByRecursion (IsOfFile (file_of g t) t.file.header.fields) c.tables) (sym empty) tt;
+      loose = ap (λ (c : Cached). pinned_in c.tables) empty;
+      room = omega (arith, tables, some);
+    };
+    empty = empty;
+    unordered = unordered;
+    tables = tables;
+    blocks = blocks;
+  }
+
+-- Nothing of an empty cache stands over the file.
+memory-empty : (f : Bytes) (h : Fields) (cached : Cached) → cached ≡ record { tables = []; blocks = [] } → memory f h cached ≡ f
+unfolding over
+memory-empty f h cached empty = ap (λ (c : Cached). memory f h c) empty
+
+module _ {S : Type 0} (g : Ghosts S) (before : StorageState) (l2_tables refcount_blocks : ℕ) (d : Qcow2 S g)
+    (now : IsJustOpened g before l2_tables refcount_blocks d.tables) where
+  abbrev state : StorageState
+  state = g.state d.tables.file.image
+
+  abbrev H : Header
+  H = d.tables.file.header
+
+  -- Nothing was asked of the file but reads.
+  pub opened-kept : IsKept before state
+  opened-kept = subst (λ (s : StorageState). IsKept before s) (sym now.same) (record { shape = refl; bytes = refl; refusals = refl; stop = refl; past = refl }, le_refl before.faults)
+
+  -- It means the disk,
+  pub opened-meant : IsMeant (qcow2_layer state (memory_of g d.tables) H.fields d.backing d.number d.failed) state.bytes
+  opened-meant = subst (λ (m : Bytes). IsMeant (qcow2_layer state m H.fields d.backing d.number d.failed) state.bytes) (sym (memory-empty (bytes_of state.bytes) H.fields (cached_in d.tables.caches) now.empty))
+      record {
+        size = subst (λ r. H.fields.size ≤ (meaning_of (blank_of d.backing) (bytes_of state.bytes) r).size) (sym now.seen.loads) (le_refl H.fields.size);
+        exactly = λ exact. ap (λ r. (meaning_of (blank_of d.backing) (bytes_of state.bytes) r).size) now.seen.loads;
+        cell = λ p low. ap (λ r. (meaning_of (blank_of d.backing) (bytes_of state.bytes) r).cell p) now.seen.loads;
+      }
+
+  -- of which nothing waits to be written,
+  pub opened-still : AreTablesClean (cached_in d.tables.caches) × AreBlocksClean (cached_in d.tables.caches)
+  opened-still = subst (λ (c : Cached). AreTablesClean c × AreBlocksClean c) (sym now.empty) (tt, tt)
+
+  -- and which is safe where the file is consistent, by whatever header.
+  pub opened-safe : d.failed ≡ false → IsTrue state.shape.keeps → Consistent (bytes_of state.bytes) → IsSafe g d.tables d.failed
+  opened-safe runs keeps sound = record {
+    runs = runs;
+    keeps = keeps;
+    consistent = verdict-consistent (bytes_of state.bytes) (leaks (bytes_of state.bytes) sound.0.fields) false H (sound.0, sound.1, refl) now.seen.loads;
+    seen = now.seen;
+  }
+
+  -- Its file begins as an image does.
+  pub opened-begins : IsTrue (is_qcow2 (bytes_of before.bytes))
+  opened-begins = header-begins (bytes_of before.bytes) H (subst (λ (s : StorageState). header_of false (bytes_of s.bytes) ≡ Ok H) now.same now.seen.loads)

@@ -1,0 +1,17 @@
+-- An image whose file is lent.
+use Rattle.std.proofs.Common.{◌≡◌, ap}
+use Rattle.std.proofs.Props.{props}
+use Rattle.imago_storage.specs.declared.storage.Storage.{Ghosts}
+use Rattle.qcow2_alloc.specs.Caches.{cached_in}
+use Rattle.qcow2_alloc.specs.Memory.{Cached}
+use Rattle.qcow2_alloc.specs.Safety.{AreTablesClean, AreBlocksClean}
+use Rattle.qcow2_image.specs.declared.qcow2.Qcow2.{Qcow2}
+use Rattle.qcow2_image.specs.Lent.{with_image}
+
+clean-prop : (c : Cached) → IsProp (AreTablesClean c × AreBlocksClean c)
+clean-prop c = Prim.hlevel props
+
+-- Whatever it is left as, nothing waits to be written.
+pub image-lent : {S : Type 0} {g : Ghosts S} (d : Qcow2 S g) (w : S) (k : AreTablesClean (cached_in d.tables.caches) × AreBlocksClean (cached_in d.tables.caches))
+    → record d { tables = record d.tables { file = record d.tables.file { image = w }; clean = k } } ≡ with_image d w
+image-lent d w k = ap (λ x. record d { tables = record d.tables { file = record d.tables.file { image = w }; clean = x } }) (clean-prop (cached_in d.tables.caches) k d.tables.clean)

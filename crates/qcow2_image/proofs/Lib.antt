@@ -1,0 +1,14 @@
+pub mod Runs
+pub mod FileWords
+pub mod CachedTables
+pub mod Found
+pub mod Steps
+pub mod Ranges
+pub mod Answering
+pub mod Ends
+pub mod Anew
+pub mod Settling
+pub mod Lending
+pub mod OpeningRules
+pub mod JustOpened
+pub mod Probing

@@ -1,0 +1,99 @@
+-- What requests that change nothing do to an image.
+use Rattle.std.proofs.Common.{◌≡◌, ℕ, ◌≤◌, refl, arith, ap, sym, subst, ◌∙◌, Bool, Result, Ok, Err, inr}
+use Rattle.std.specs.Prelude.{IsTrue, OnOk, IfErr}
+use Rattle.std.specs.Borrow.{RattleType}
+use Rattle.imago_storage.specs.State.{Shape}
+use Rattle.imago_storage.specs.Calls.{Kept, Later}
+use Rattle.imago_storage.specs.declared.fault.Fault.{Fault}
+use Rattle.imago_storage.specs.declared.fault.Fault.TheVariants.{Memory, Storage}
+use Rattle.imago_storage.specs.declared.storage.Storage.{Ghosts}
+use Rattle.imago_access.specs.Going.{Marks}
+use Rattle.imago_access.specs.Layer.{Layer, Meaning}
+use Rattle.imago_access.specs.Stops.{IsMeant}
+use Rattle.imago_access.specs.declared.seen.Seen.{Ghosts as SeenGhosts}
+use Rattle.qcow2_types.specs.Bytes.{bytes_of}
+use Rattle.qcow2_types.specs.Header.{Header}
+use Rattle.qcow2_image.specs.contracts.qcow2.Qcow2Seen.TheImpl.{ghosts}
+use Rattle.qcow2_image.specs.declared.qcow2.Qcow2.{Qcow2}
+use Rattle.qcow2_image.specs.declared.qcow2.PreparedMappingState.{PreparedMappingState}
+use Rattle.qcow2_image.specs.declared.tables.Tables.{Tables}
+use Rattle.qcow2_image.specs.ImageLayer.{blank_of, cells, qcow2_layer, meaning_of}
+use Rattle.qcow2_image.specs.Rooms.{IsSafe}
+use Rattle.qcow2_image.specs.Seen.{IsSeen, file_of, memory_of}
+use Rattle.qcow2_image.specs.Steps.{failed_anew, failed_behind, Reloads}
+use Rattle.qcow2_image.proofs.Steps.{layer-by, memory-is}
+
+pub on-ok : {T : Type 0} (r : Result T Fault) (P : Type 0) → P → OnOk r P
+on-ok (Ok v) P p = p
+on-ok (Err e) P p = tt
+
+-- A request that only reads leaves all seen.
+module _ {S : Type 0} (g : Ghosts S) (old new : Tables S g) (kept : Kept (g.state old.file.image) (g.state new.file.image)) (later : Later (g.state old.file.image) (g.state new.file.image))
+    (header : new.file.header ≡ old.file.header) (l1 : new.l1 ≡ old.l1) (caches : new.caches ≡ old.caches) where
+  pub seen-same : IsSeen g old → IsSeen g new
+  seen-same seen =
+      let bytes : file_of g new ≡ file_of g old = ap bytes_of kept.bytes in
+      record {
+        loads = rw (bytes, header) seen.loads;
+        inside = rw header seen.inside;
+        l1 = rw (bytes, header, l1) seen.l1;
+        tables = rw (bytes, header, caches) seen.tables;
+        loose = rw caches seen.loose;
+        room = rw caches seen.room;
+      }
+
+-- Where nothing waits, the file by itself means the disk.
+pub meant : {S : Type 0} (g : Ghosts S) (t : Tables S g) (backed failed : Bool) (number : ℕ) → IsSeen g t → IsMeant (qcow2_layer (g.state t.file.image) (memory_of g t) t.file.header.fields backed number failed) (g.state t.file.image).bytes
+meant g t backed failed number seen =
+    let is = ap (meaning_of (blank_of backed) (file_of g t)) seen.loads in record {
+      size = subst (λ (x : Meaning). t.file.header.fields.size ≤ x.size) (sym is) (omega arith);
+      exactly = λ yes. ap (λ (x : Meaning). x.size) is;
+      cell = λ p lt. ap (λ (x : Meaning). x.cell p) is ∙ ap (λ b. cells (blank_of backed) b (file_of g t) t.file.header.fields p) (sym (memory-is g t));
+    }
+
+-- What a call answered that read all anew, once that has marked the image.
+pub reloads-settled : {S : Type 0} (g : Ghosts S) (old new : Qcow2 S g) (mid : Tables S g) (answer result : Result Unit Fault) → Reloads g old.tables answer mid → result ≡ answer → new ≡ record old { tables = mid; failed = failed_behind failed_anew answer old.failed }
+    → Reloads g old.tables result new.tables × (new.backing ≡ old.backing) × (new.number ≡ old.number) × (new.failed ≡ failed_behind failed_anew result old.failed)
+reloads-settled g old new mid answer result all same is = (
+  subst (λ t. Reloads g old.tables result t) (sym (ap (λ (x : Qcow2 _ g). x.tables) is)) (subst (λ r. Reloads g old.tables r mid) (sym same) all),
+  ap (λ (x : Qcow2 _ g). x.backing) is,
+  ap (λ (x : Qcow2 _ g). x.number) is,
+  ap (λ (x : Qcow2 _ g). x.failed) is ∙ ap (λ r. failed_behind failed_anew r old.failed) (sym same),
+)
+
+-- All is read anew.
+module _ (R : RattleType) (st : Ghosts R.Denot) (sd : mir.Syntax.Dict) (dd : mir.Syntax.Dict) (old new : Qcow2 R.Denot st) (result : Result Unit Fault) (all : Reloads st old.tables result new.tables)
+    (backing : new.backing ≡ old.backing) (number : new.number ≡ old.number) (failed : new.failed ≡ failed_behind failed_anew result old.failed) where
+  abbrev sees : SeenGhosts (Qcow2 R.Denot st) PreparedMappingState
+  sees = ghosts R st sd dd
+
+  abbrev layer_of : Qcow2 R.Denot st → Layer
+  layer_of d = qcow2_layer (st.state d.tables.file.image) (memory_of st d.tables) d.tables.file.header.fields d.backing d.number d.failed
+
+  layer-same : new.failed ≡ old.failed → new.tables.file.header ≡ old.tables.file.header → layer_of new ≡ layer_of old
+  layer-same failed header = layer-by (st.state old.tables.file.image) (st.state new.tables.file.image) (memory_of st old.tables) (memory_of st new.tables) old.tables.file.header.fields new.tables.file.header.fields old.backing new.backing old.number new.number old.failed new.failed all.kept.shape all.kept.bytes
+      (memory-is st new.tables ∙ ap bytes_of all.kept.bytes ∙ sym (memory-is st old.tables)) (ap (λ (H : Header). H.fields) header) backing number failed
+
+  safe-same : new.failed ≡ old.failed → new.tables.file.header ≡ old.tables.file.header → IsSeen st new.tables → IsSafe st old.tables old.failed → IsSafe st new.tables new.failed
+  safe-same failed header seen safe = record {
+    runs = failed ∙ safe.runs;
+    keeps = subst (λ (x : Shape). IsTrue x.keeps) (sym all.kept.shape) safe.keeps;
+    consistent = rw (ap bytes_of all.kept.bytes, header) safe.consistent;
+    seen = seen;
+  }
+
+  pub anew-same : IsSeen st old.tables → OnOk result ((layer_of new ≡ layer_of old) × IsSeen st new.tables)
+  anew-same seen = from result failed (all.seen seen) where
+    from : (r : Result Unit Fault) → new.failed ≡ failed_behind failed_anew r old.failed → OnOk r ((new.tables.file.header ≡ old.tables.file.header) × IsSeen st new.tables) → OnOk r ((layer_of new ≡ layer_of old) × IsSeen st new.tables)
+    from (Ok v) same is = (layer-same same is.0, is.1)
+    from (Err fault) same is = tt
+
+  pub anew-marks : IfErr result (Marks sees old new)
+  anew-marks = from result failed all.memory where
+    from : (r : Result Unit Fault) → new.failed ≡ failed_behind failed_anew r old.failed → IfErr r (λ e. e ≡ Memory → (new.tables.file.header ≡ old.tables.file.header) × (IsSeen st old.tables → IsSeen st new.tables)) → IfErr r (Marks sees old new)
+    from (Ok v) is memory = tt
+    from (Err Memory) is memory = λ marks.
+        let left = memory refl in
+        inr (record { seen = λ seen. (layer-same is left.0, left.1 seen); safely = λ safe. safe-same is left.0 (left.1 safe.seen) safe }, ((all.kept, all.later.faults), tt))
+    from (Err Storage) is memory = λ marks. is
+    from (Err fault) is memory = tt

@@ -1,0 +1,12 @@
+use Rattle.qcow2_image.proofs.Settling.{anew-same, anew-marks, reloads-settled}
+use Rattle.qcow2_image.proofs.drivers.Qcow2FormatDriverInstance.invalidate_cache.Goals as goal
+
+pub returns-clause-same : goal.returns-clause-same
+returns-clause-same g c = λ keeps seen still.
+    let all = reloads-settled g.S.Storage c.args.self.now c.settle_anew.new.self c.reload-answer.new.tables c.reload-answer.result c.settle_anew.result c.reload-answer.ensures c.settle_anew.ensures.same c.settle_anew.ensures.marks in
+    anew-same g.row.S g.S.Storage g.S.Storage-dict g.S.Destruct-dict c.args.self.now c.settle_anew.new.self c.settle_anew.result all.0 all.1 all.2 all.3 seen
+
+pub returns-clause-marks : goal.returns-clause-marks
+returns-clause-marks g c =
+    let all = reloads-settled g.S.Storage c.args.self.now c.settle_anew.new.self c.reload-answer.new.tables c.reload-answer.result c.settle_anew.result c.reload-answer.ensures c.settle_anew.ensures.same c.settle_anew.ensures.marks in
+    anew-marks g.row.S g.S.Storage g.S.Storage-dict g.S.Destruct-dict c.args.self.now c.settle_anew.new.self c.settle_anew.result all.0 all.1 all.2 all.3

@@ -1,0 +1,193 @@
+use Rattle.std.proofs.Common.{◌≡◌, ℕ, ◌+◌, ◌-◌, ◌*◌, ◌/◌, ◌%◌, ◌^◌, ◌<◌, ◌≤◌, refl, arith, ap, sym, subst, ◌∙◌, Ok, Err, [], ◌∷◌}
+use Rattle.std.specs.Prelude.{min, ◌⊎◌}
+use Rattle.std.proofs.lemmas.Nat.{pow_pos}
+use Rattle.std.proofs.Math.Nat.{pow-le-pow_right}
+use Rattle.qcow2_types.specs.Places.{l2_entries}
+use Rattle.qcow2_types.specs.Header.{cluster_size}
+use Rattle.qcow2_types.specs.Entries.{entry}
+use Rattle.qcow2_types.specs.Words.{damaged}
+use Rattle.qcow2_metadata.specs.MappingView.{mapping_seen}
+use Rattle.qcow2_metadata.specs.declared.mapping.L2Mapping.{L2Mapping}
+use Rattle.imago_access.specs.Mappings.{IsRun, Looks, NamesRoom}
+use Rattle.imago_access.specs.Files.{byte_in}
+use Rattle.imago_access.specs.Refusals.{LookCause}
+use Rattle.qcow2_image.specs.declared.qcow2.Qcow2.{Qcow2}
+use Rattle.imago_access.specs.declared.mapping.ShallowMapping.{ShallowMapping}
+use Rattle.qcow2_image.specs.ImageLayer.{qcow2_layer, shallow_of}
+use Rattle.qcow2_image.specs.Rooms.{IsVacant, IsZeroed}
+use Rattle.qcow2_image.specs.Looking.{WhyNotLooked, IsRunOf}
+use Rattle.qcow2_image.specs.Seen.{file_of, memory_of}
+use Rattle.qcow2_image.proofs.Ranges.{low-bits, high-bits, range-some, range-near, range-few, range-small, range-one-table, range-fits, range-within, range-word, range-ends}
+use Rattle.qcow2_image.proofs.Ends.{long-run}
+use Rattle.qcow2_image.proofs.Steps.{keeps-marked, looked-kept, marks-kept, memory-is}
+use Rattle.qcow2_image.proofs.Answering.{is-run, looks-run, room-run, look-cause}
+use Rattle.qcow2_image.proofs.qcow2.Qcow2.run_from.Goals as goal
+
+pub clusters_met-most-requires-clause-some : goal.clusters_met-most-requires-clause-some
+clusters_met-most-requires-clause-some g c = range-some c.cluster_bits-cluster_bits.result c.args.offset c.size-size.result c.args.max_length c.remaining_in_l2_table.result c.min-rest.result c.min-length.result c.in_cluster_offset-within.result ((c.in_cluster_offset-within.result + c.min-length.result - 1) / 2 ^ c.cluster_bits-cluster_bits.result + 1)
+    (low-bits c.cluster_bits-cluster_bits.result _ c.cluster_bits-cluster_bits.ensures.value c.cluster_bits-cluster_bits.ensures.shaped) (high-bits c.cluster_bits-cluster_bits.result _ c.cluster_bits-cluster_bits.ensures.value c.cluster_bits-cluster_bits.ensures.shaped)
+    c.remaining_in_l2_table.ensures c.min-rest.ensures c.min-length.ensures c.in_cluster_offset-within.ensures refl (omega (arith, c.size-size.ensures, c.requires.inside)) c.requires.some
+
+pub look_up-requires-clause-fits : goal.look_up-requires-clause-fits
+look_up-requires-clause-fits g c = subst (λ (x : ℕ). (c.cluster.result + c.clusters_met-most.result) * 2 ^ x < 2 ^ 64 + 2 ^ x) c.cluster_bits-cluster_bits.ensures.value
+    (range-fits c.cluster_bits-cluster_bits.result c.args.offset c.size-size.result c.args.max_length c.remaining_in_l2_table.result c.min-rest.result c.min-length.result c.in_cluster_offset-within.result c.clusters_met-most.result
+    (low-bits c.cluster_bits-cluster_bits.result _ c.cluster_bits-cluster_bits.ensures.value c.cluster_bits-cluster_bits.ensures.shaped) (high-bits c.cluster_bits-cluster_bits.result _ c.cluster_bits-cluster_bits.ensures.value c.cluster_bits-cluster_bits.ensures.shaped)
+    c.remaining_in_l2_table.ensures c.min-rest.ensures c.min-length.ensures c.in_cluster_offset-within.ensures c.clusters_met-most.ensures (omega (arith, c.size-size.ensures, c.requires.inside)) c.requires.some c.cluster.result c.cluster.ensures (omega (arith, c.size-size.type_inv)))
+
+pub look_up-requires-clause-one_table : goal.look_up-requires-clause-one_table
+look_up-requires-clause-one_table g c = subst (λ (x : ℕ). c.cluster.result % l2_entries x + c.clusters_met-most.result ≤ l2_entries x) c.cluster_bits-cluster_bits.ensures.value
+    (range-one-table c.cluster_bits-cluster_bits.result c.args.offset c.size-size.result c.args.max_length c.remaining_in_l2_table.result c.min-rest.result c.min-length.result c.in_cluster_offset-within.result c.clusters_met-most.result
+    (low-bits c.cluster_bits-cluster_bits.result _ c.cluster_bits-cluster_bits.ensures.value c.cluster_bits-cluster_bits.ensures.shaped) (high-bits c.cluster_bits-cluster_bits.result _ c.cluster_bits-cluster_bits.ensures.value c.cluster_bits-cluster_bits.ensures.shaped)
+    c.remaining_in_l2_table.ensures c.min-rest.ensures c.min-length.ensures c.in_cluster_offset-within.ensures c.clusters_met-most.ensures (omega (arith, c.size-size.ensures, c.requires.inside)) c.requires.some c.cluster.result c.cluster.ensures)
+
+pub bytes_met-length-requires-clause-within : goal.bytes_met-length-requires-clause-within
+bytes_met-length-requires-clause-within g c =
+    let named = c.in-Ok.ensures.named in
+    let lt = range-within c.cluster_bits-cluster_bits.result c.args.offset c.size-size.result c.args.max_length c.remaining_in_l2_table.result c.min-rest.result c.min-length.result c.in_cluster_offset-within.result c.clusters_met-most.result
+    (low-bits c.cluster_bits-cluster_bits.result _ c.cluster_bits-cluster_bits.ensures.value c.cluster_bits-cluster_bits.ensures.shaped) (high-bits c.cluster_bits-cluster_bits.result _ c.cluster_bits-cluster_bits.ensures.value c.cluster_bits-cluster_bits.ensures.shaped)
+    c.remaining_in_l2_table.ensures c.min-rest.ensures c.min-length.ensures c.in_cluster_offset-within.ensures c.clusters_met-most.ensures (omega (arith, c.size-size.ensures, c.requires.inside)) c.requires.some c.in-Ok.count named.1 in
+    omega (arith, lt)
+
+pub bytes_met-length-requires-clause-fits : goal.bytes_met-length-requires-clause-fits
+bytes_met-length-requires-clause-fits g c =
+    let named = c.in-Ok.ensures.named in
+    range-word c.cluster_bits-cluster_bits.result c.args.offset c.size-size.result c.args.max_length c.remaining_in_l2_table.result c.min-rest.result c.min-length.result c.in_cluster_offset-within.result c.clusters_met-most.result
+    (low-bits c.cluster_bits-cluster_bits.result _ c.cluster_bits-cluster_bits.ensures.value c.cluster_bits-cluster_bits.ensures.shaped) (high-bits c.cluster_bits-cluster_bits.result _ c.cluster_bits-cluster_bits.ensures.value c.cluster_bits-cluster_bits.ensures.shaped)
+    c.remaining_in_l2_table.ensures c.min-rest.ensures c.min-length.ensures c.in_cluster_offset-within.ensures c.clusters_met-most.ensures (omega (arith, c.size-size.ensures, c.requires.inside)) c.requires.some c.in-Ok.count named.2
+
+pub returns-in-Ok-clause-run : goal.returns-in-Ok-clause-run
+returns-in-Ok-clause-run g c =
+    let q = c.args.self.now in
+    let t = q.tables in
+    let h = t.file.header.fields in
+    let s = g.S.Storage.state t.file.image in
+    let b = c.cluster_bits-cluster_bits.ensures.value in
+    let n = c.bytes_met-length.result in
+    let run : L2Mapping × ℕ = (c.in-Ok.mapping, c.in-Ok.count) in
+    let named = c.in-Ok.ensures.named in
+    let near = range-near c.cluster_bits-cluster_bits.result c.args.offset c.size-size.result c.args.max_length c.remaining_in_l2_table.result c.min-rest.result c.min-length.result c.in_cluster_offset-within.result c.clusters_met-most.result
+    (low-bits c.cluster_bits-cluster_bits.result _ c.cluster_bits-cluster_bits.ensures.value c.cluster_bits-cluster_bits.ensures.shaped) (high-bits c.cluster_bits-cluster_bits.result _ c.cluster_bits-cluster_bits.ensures.value c.cluster_bits-cluster_bits.ensures.shaped)
+    c.remaining_in_l2_table.ensures c.min-rest.ensures c.min-length.ensures c.in_cluster_offset-within.ensures c.clusters_met-most.ensures (omega (arith, c.size-size.ensures, c.requires.inside)) c.requires.some in
+    let few = range-few c.cluster_bits-cluster_bits.result c.args.offset c.size-size.result c.args.max_length c.remaining_in_l2_table.result c.min-rest.result c.min-length.result c.in_cluster_offset-within.result c.clusters_met-most.result
+    (low-bits c.cluster_bits-cluster_bits.result _ c.cluster_bits-cluster_bits.ensures.value c.cluster_bits-cluster_bits.ensures.shaped) (high-bits c.cluster_bits-cluster_bits.result _ c.cluster_bits-cluster_bits.ensures.value c.cluster_bits-cluster_bits.ensures.shaped)
+    c.remaining_in_l2_table.ensures c.min-rest.ensures c.min-length.ensures c.in_cluster_offset-within.ensures c.clusters_met-most.ensures (omega (arith, c.size-size.ensures, c.requires.inside)) c.requires.some in
+    let positive = range-some c.cluster_bits-cluster_bits.result c.args.offset c.size-size.result c.args.max_length c.remaining_in_l2_table.result c.min-rest.result c.min-length.result c.in_cluster_offset-within.result c.clusters_met-most.result
+    (low-bits c.cluster_bits-cluster_bits.result _ c.cluster_bits-cluster_bits.ensures.value c.cluster_bits-cluster_bits.ensures.shaped) (high-bits c.cluster_bits-cluster_bits.result _ c.cluster_bits-cluster_bits.ensures.value c.cluster_bits-cluster_bits.ensures.shaped)
+    c.remaining_in_l2_table.ensures c.min-rest.ensures c.min-length.ensures c.in_cluster_offset-within.ensures c.clusters_met-most.ensures (omega (arith, c.size-size.ensures, c.requires.inside)) c.requires.some in
+    let first = range-within c.cluster_bits-cluster_bits.result c.args.offset c.size-size.result c.args.max_length c.remaining_in_l2_table.result c.min-rest.result c.min-length.result c.in_cluster_offset-within.result c.clusters_met-most.result
+    (low-bits c.cluster_bits-cluster_bits.result _ c.cluster_bits-cluster_bits.ensures.value c.cluster_bits-cluster_bits.ensures.shaped) (high-bits c.cluster_bits-cluster_bits.result _ c.cluster_bits-cluster_bits.ensures.value c.cluster_bits-cluster_bits.ensures.shaped)
+    c.remaining_in_l2_table.ensures c.min-rest.ensures c.min-length.ensures c.in_cluster_offset-within.ensures c.clusters_met-most.ensures (omega (arith, c.size-size.ensures, c.requires.inside)) c.requires.some c.in-Ok.count named.1 in
+    let layer = qcow2_layer s (memory_of g.S.Storage t) h q.backing q.number q.failed in
+    subst (λ x. IsRun layer c.args.offset c.args.max_length x n) (sym c.shallow.ensures)
+    (is-run layer q.backing c.cluster_bits-cluster_bits.result c.args.offset c.in_cluster_offset-within.result n c.args.max_length c.in-Ok.mapping c.requires.inside (omega (arith, c.bytes_met-length.ensures, few)) (omega (arith, c.bytes_met-length.ensures, near, c.size-size.ensures)) (λ asked. omega (arith, c.bytes_met-length.ensures, positive, first)))
+
+pub returns-in-Ok-clause-looks : goal.returns-in-Ok-clause-looks
+returns-in-Ok-clause-looks g c = λ seen.
+    let q = c.args.self.now in
+    let t = q.tables in
+    let h = t.file.header.fields in
+    let s = g.S.Storage.state t.file.image in
+    let b = c.cluster_bits-cluster_bits.ensures.value in
+    let n = c.bytes_met-length.result in
+    let run : L2Mapping × ℕ = (c.in-Ok.mapping, c.in-Ok.count) in
+    let named = c.in-Ok.ensures.named in
+    let near = range-near c.cluster_bits-cluster_bits.result c.args.offset c.size-size.result c.args.max_length c.remaining_in_l2_table.result c.min-rest.result c.min-length.result c.in_cluster_offset-within.result c.clusters_met-most.result
+    (low-bits c.cluster_bits-cluster_bits.result _ c.cluster_bits-cluster_bits.ensures.value c.cluster_bits-cluster_bits.ensures.shaped) (high-bits c.cluster_bits-cluster_bits.result _ c.cluster_bits-cluster_bits.ensures.value c.cluster_bits-cluster_bits.ensures.shaped)
+    c.remaining_in_l2_table.ensures c.min-rest.ensures c.min-length.ensures c.in_cluster_offset-within.ensures c.clusters_met-most.ensures (omega (arith, c.size-size.ensures, c.requires.inside)) c.requires.some in
+    let few = range-few c.cluster_bits-cluster_bits.result c.args.offset c.size-size.result c.args.max_length c.remaining_in_l2_table.result c.min-rest.result c.min-length.result c.in_cluster_offset-within.result c.clusters_met-most.result
+    (low-bits c.cluster_bits-cluster_bits.result _ c.cluster_bits-cluster_bits.ensures.value c.cluster_bits-cluster_bits.ensures.shaped) (high-bits c.cluster_bits-cluster_bits.result _ c.cluster_bits-cluster_bits.ensures.value c.cluster_bits-cluster_bits.ensures.shaped)
+    c.remaining_in_l2_table.ensures c.min-rest.ensures c.min-length.ensures c.in_cluster_offset-within.ensures c.clusters_met-most.ensures (omega (arith, c.size-size.ensures, c.requires.inside)) c.requires.some in
+    let positive = range-some c.cluster_bits-cluster_bits.result c.args.offset c.size-size.result c.args.max_length c.remaining_in_l2_table.result c.min-rest.result c.min-length.result c.in_cluster_offset-within.result c.clusters_met-most.result
+    (low-bits c.cluster_bits-cluster_bits.result _ c.cluster_bits-cluster_bits.ensures.value c.cluster_bits-cluster_bits.ensures.shaped) (high-bits c.cluster_bits-cluster_bits.result _ c.cluster_bits-cluster_bits.ensures.value c.cluster_bits-cluster_bits.ensures.shaped)
+    c.remaining_in_l2_table.ensures c.min-rest.ensures c.min-length.ensures c.in_cluster_offset-within.ensures c.clusters_met-most.ensures (omega (arith, c.size-size.ensures, c.requires.inside)) c.requires.some in
+    let first = range-within c.cluster_bits-cluster_bits.result c.args.offset c.size-size.result c.args.max_length c.remaining_in_l2_table.result c.min-rest.result c.min-length.result c.in_cluster_offset-within.result c.clusters_met-most.result
+    (low-bits c.cluster_bits-cluster_bits.result _ c.cluster_bits-cluster_bits.ensures.value c.cluster_bits-cluster_bits.ensures.shaped) (high-bits c.cluster_bits-cluster_bits.result _ c.cluster_bits-cluster_bits.ensures.value c.cluster_bits-cluster_bits.ensures.shaped)
+    c.remaining_in_l2_table.ensures c.min-rest.ensures c.min-length.ensures c.in_cluster_offset-within.ensures c.clusters_met-most.ensures (omega (arith, c.size-size.ensures, c.requires.inside)) c.requires.some c.in-Ok.count named.1 in
+    let small = range-small c.cluster_bits-cluster_bits.result c.args.offset c.size-size.result c.args.max_length c.remaining_in_l2_table.result c.min-rest.result c.min-length.result c.in_cluster_offset-within.result c.clusters_met-most.result
+    (low-bits c.cluster_bits-cluster_bits.result _ c.cluster_bits-cluster_bits.ensures.value c.cluster_bits-cluster_bits.ensures.shaped) (high-bits c.cluster_bits-cluster_bits.result _ c.cluster_bits-cluster_bits.ensures.value c.cluster_bits-cluster_bits.ensures.shaped)
+    c.remaining_in_l2_table.ensures c.min-rest.ensures c.min-length.ensures c.in_cluster_offset-within.ensures c.clusters_met-most.ensures (omega (arith, c.size-size.ensures, c.requires.inside)) c.requires.some in
+    let power : 2 ^ c.cluster_bits-cluster_bits.result ≡ 2 ^ h.cluster_bits = ap (λ x. 2 ^ x) b in
+    let within : c.in_cluster_offset-within.result ≡ c.args.offset % cluster_size h = c.in_cluster_offset-within.ensures ∙ ap (λ x. c.args.offset % x) power in
+    let guest : c.cluster.result ≡ c.args.offset / cluster_size h = c.cluster.ensures ∙ ap (λ x. c.args.offset / x) power in
+    let end : c.in-Ok.count * 2 ^ c.cluster_bits-cluster_bits.result ≡ c.in-Ok.count * cluster_size h = ap (λ x. c.in-Ok.count * x) power in
+    let layer = qcow2_layer s (memory_of g.S.Storage t) h q.backing q.number q.failed in
+    let is = subst (λ x. IsRunOf x c.clusters_met-most.result (entry (file_of g.S.Storage t) h) run) guest (c.in-Ok.ensures.says seen) in
+    let aligned = g.met.S.Storage.aligned t.file.image in
+    let stored = byte_in (g.S.Storage.state c.look_up.new.tables.file.image ∷ []) in
+    let answer : c.shallow.result ≡ shallow_of q.backing h.cluster_bits c.args.offset (c.args.offset % cluster_size h) (mapping_seen c.in-Ok.mapping) =
+    c.shallow.ensures ∙ ap (λ x. shallow_of q.backing x c.args.offset c.in_cluster_offset-within.result (mapping_seen c.in-Ok.mapping)) b ∙ ap (λ x. shallow_of q.backing h.cluster_bits c.args.offset x (mapping_seen c.in-Ok.mapping)) within in
+    subst (λ x. Looks layer stored c.args.offset c.args.max_length x n) (sym answer)
+    (looks-run s (memory_of g.S.Storage t) h q.backing q.number q.failed c.args.offset n c.clusters_met-most.result run (memory-is g.S.Storage t) (omega (arith, c.bytes_met-length.ensures, near, c.size-size.ensures)) (omega (arith, c.bytes_met-length.ensures, within, end)) is
+    c.args.max_length [] (g.S.Storage.state c.look_up.new.tables.file.image) c.look_up.ensures.kept.bytes aligned.requests aligned.memory named.0 (omega (arith, c.bytes_met-length.ensures, small)) (pow-le-pow_right (omega arith) c.cluster_bits-cluster_bits.ensures.shaped.high))
+
+pub returns-in-Ok-clause-room : goal.returns-in-Ok-clause-room
+returns-in-Ok-clause-room g c = λ seen.
+    let q = c.args.self.now in
+    let t = q.tables in
+    let h = t.file.header.fields in
+    let s = g.S.Storage.state t.file.image in
+    let b = c.cluster_bits-cluster_bits.ensures.value in
+    let n = c.bytes_met-length.result in
+    let run : L2Mapping × ℕ = (c.in-Ok.mapping, c.in-Ok.count) in
+    let named = c.in-Ok.ensures.named in
+    let near = range-near c.cluster_bits-cluster_bits.result c.args.offset c.size-size.result c.args.max_length c.remaining_in_l2_table.result c.min-rest.result c.min-length.result c.in_cluster_offset-within.result c.clusters_met-most.result
+    (low-bits c.cluster_bits-cluster_bits.result _ c.cluster_bits-cluster_bits.ensures.value c.cluster_bits-cluster_bits.ensures.shaped) (high-bits c.cluster_bits-cluster_bits.result _ c.cluster_bits-cluster_bits.ensures.value c.cluster_bits-cluster_bits.ensures.shaped)
+    c.remaining_in_l2_table.ensures c.min-rest.ensures c.min-length.ensures c.in_cluster_offset-within.ensures c.clusters_met-most.ensures (omega (arith, c.size-size.ensures, c.requires.inside)) c.requires.some in
+    let power : 2 ^ c.cluster_bits-cluster_bits.result ≡ 2 ^ h.cluster_bits = ap (λ x. 2 ^ x) b in
+    let within : c.in_cluster_offset-within.result ≡ c.args.offset % cluster_size h = c.in_cluster_offset-within.ensures ∙ ap (λ x. c.args.offset % x) power in
+    let guest : c.cluster.result ≡ c.args.offset / cluster_size h = c.cluster.ensures ∙ ap (λ x. c.args.offset / x) power in
+    let end : c.in-Ok.count * 2 ^ c.cluster_bits-cluster_bits.result ≡ c.in-Ok.count * cluster_size h = ap (λ x. c.in-Ok.count * x) power in
+    let layer = qcow2_layer s (memory_of g.S.Storage t) h q.backing q.number q.failed in
+    let is = subst (λ x. IsRunOf x c.clusters_met-most.result (entry (file_of g.S.Storage t) h) run) guest (c.in-Ok.ensures.says seen) in
+    let answer : c.shallow.result ≡ shallow_of q.backing h.cluster_bits c.args.offset (c.args.offset % cluster_size h) (mapping_seen c.in-Ok.mapping) =
+    c.shallow.ensures ∙ ap (λ x. shallow_of q.backing x c.args.offset c.in_cluster_offset-within.result (mapping_seen c.in-Ok.mapping)) b ∙ ap (λ x. shallow_of q.backing h.cluster_bits c.args.offset x (mapping_seen c.in-Ok.mapping)) within in
+    subst (λ x. NamesRoom layer (IsVacant (memory_of g.S.Storage t) h) (IsZeroed (memory_of g.S.Storage t) h) c.args.offset n x) (sym answer)
+    (room-run s (memory_of g.S.Storage t) h q.backing q.number q.failed c.args.offset n c.clusters_met-most.result run (memory-is g.S.Storage t) (omega (arith, c.bytes_met-length.ensures, near, c.size-size.ensures)) (omega (arith, c.bytes_met-length.ensures, within, end)) is)
+
+pub returns-in-Ok-clause-long : goal.returns-in-Ok-clause-long
+returns-in-Ok-clause-long g c = λ seen.
+    let t = c.args.self.now.tables in
+    let h = t.file.header.fields in
+    let run : L2Mapping × ℕ = (c.in-Ok.mapping, c.in-Ok.count) in
+    let n = c.bytes_met-length.result in
+    let b = c.cluster_bits-cluster_bits.ensures.value in
+    let named = c.in-Ok.ensures.named in
+    let guest : c.cluster.result ≡ c.args.offset / cluster_size h = c.cluster.ensures ∙ ap (λ x. c.args.offset / 2 ^ x) b in
+    let is = subst (λ x. IsRunOf x c.clusters_met-most.result (entry (file_of g.S.Storage t) h) run) guest (c.in-Ok.ensures.says seen) in
+    let ends = range-ends c.cluster_bits-cluster_bits.result c.args.offset c.size-size.result c.args.max_length c.remaining_in_l2_table.result c.min-rest.result c.min-length.result c.in_cluster_offset-within.result c.clusters_met-most.result
+    (low-bits c.cluster_bits-cluster_bits.result _ c.cluster_bits-cluster_bits.ensures.value c.cluster_bits-cluster_bits.ensures.shaped) (high-bits c.cluster_bits-cluster_bits.result _ c.cluster_bits-cluster_bits.ensures.value c.cluster_bits-cluster_bits.ensures.shaped)
+    c.remaining_in_l2_table.ensures c.min-rest.ensures c.min-length.ensures c.in_cluster_offset-within.ensures c.clusters_met-most.ensures (omega (arith, c.size-size.ensures, c.requires.inside)) c.requires.some c.in-Ok.count n named.1 named.2 c.bytes_met-length.ensures in
+    let at-size = subst (λ x. (n ≡ min c.args.max_length (x - c.args.offset)) ⊎ ((c.args.offset % (l2_entries c.cluster_bits-cluster_bits.result * 2 ^ c.cluster_bits-cluster_bits.result) + n ≡ l2_entries c.cluster_bits-cluster_bits.result * 2 ^ c.cluster_bits-cluster_bits.result) ⊎ ((c.in-Ok.count < c.clusters_met-most.result) × (c.args.offset + n ≡ (c.args.offset / 2 ^ c.cluster_bits-cluster_bits.result + c.in-Ok.count) * 2 ^ c.cluster_bits-cluster_bits.result)))) c.size-size.ensures ends in
+    let at-bits = subst (λ x. (n ≡ min c.args.max_length (h.size - c.args.offset)) ⊎ ((c.args.offset % (l2_entries x * 2 ^ x) + n ≡ l2_entries x * 2 ^ x) ⊎ ((c.in-Ok.count < c.clusters_met-most.result) × (c.args.offset + n ≡ (c.args.offset / 2 ^ x + c.in-Ok.count) * 2 ^ x)))) b at-size in
+    long-run h (entry (file_of g.S.Storage t) h) c.args.offset c.args.max_length n c.clusters_met-most.result run (pow_pos h.cluster_bits) is at-bits
+
+pub returns-in-Ok-clause-looked : goal.returns-in-Ok-clause-looked
+returns-in-Ok-clause-looked g c =
+    let la = c.look_up.ensures in
+    looked-kept g.row.S g.S.Storage g.S.Storage-dict g.S.Destruct-dict {T = ShallowMapping × ℕ} c.args.self.now _ (Ok (c.shallow.result, c.bytes_met-length.result))
+    (record { tables = record { kept = la.kept; later = la.later; faults = λ ok. c.in-Ok.ensures.faults tt; header = la.header; seen = la.seen }; backing = refl; number = refl; failed = refl })
+
+pub returns-in-Err-clause-looked : goal.returns-in-Err-clause-looked
+returns-in-Err-clause-looked g c =
+    let la = c.look_up.ensures in
+    looked-kept g.row.S g.S.Storage g.S.Storage-dict g.S.Destruct-dict {T = ShallowMapping × ℕ} c.args.self.now c.mark.new.self (Err c.in-Err.fault)
+    (keeps-marked g.S.Storage c.args.self.now c.mark.new.self c.look_up.new.tables (Err c.in-Err.fault) (record { kept = la.kept; later = la.later; faults = c.in-Err.ensures.faults; header = la.header; seen = la.seen }) c.mark.ensures)
+
+pub returns-in-Err-clause-marks : goal.returns-in-Err-clause-marks
+returns-in-Err-clause-marks g c =
+    let la = c.look_up.ensures in
+    marks-kept g.row.S g.S.Storage g.S.Storage-dict g.S.Destruct-dict {T = ShallowMapping × ℕ} c.args.self.now c.mark.new.self (Err c.in-Err.fault)
+    (keeps-marked g.S.Storage c.args.self.now c.mark.new.self c.look_up.new.tables (Err c.in-Err.fault) (record { kept = la.kept; later = la.later; faults = c.in-Err.ensures.faults; header = la.header; seen = la.seen }) c.mark.ensures)
+
+pub returns-in-Err-clause-cause : goal.returns-in-Err-clause-cause
+returns-in-Err-clause-cause g c = λ seen.
+    let q = c.args.self.now in
+    let t = q.tables in
+    let h = t.file.header.fields in
+    let s = g.S.Storage.state t.file.image in
+    let s' = g.S.Storage.state c.look_up.new.tables.file.image in
+    let guest : c.cluster.result ≡ c.args.offset / cluster_size h = c.cluster.ensures ∙ ap (λ x. c.args.offset / 2 ^ x) c.cluster_bits-cluster_bits.ensures.value in
+    let why = subst (λ x. WhyNotLooked (entry (file_of g.S.Storage t) h x ≡ damaged) s.faults s'.faults c.in-Err.fault) guest (c.in-Err.ensures.cause seen) in
+    let after : g.S.Storage.state c.mark.new.self.tables.file.image ≡ s' = ap (λ (x : Qcow2 g.row.S.Denot g.S.Storage). g.S.Storage.state x.tables.file.image) c.mark.ensures in
+    subst (λ x. LookCause (qcow2_layer s (memory_of g.S.Storage t) h q.backing q.number q.failed) c.args.offset c.args.max_length (s ∷ []) (x ∷ []) c.in-Err.fault) (sym after)
+    (look-cause s s' [] [] (memory_of g.S.Storage t) h q.backing q.number q.failed c.args.offset c.args.max_length c.in-Err.fault (memory-is g.S.Storage t) c.requires.inside c.requires.some why)

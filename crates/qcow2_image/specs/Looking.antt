@@ -1,0 +1,105 @@
+-- What a look at the words of guest clusters in a row does.
+use Rattle.std.specs.Prelude.{◌≡◌, ◌≢◌, ◌⊎◌, ⊤, ℕ, min, ◌+◌, ◌-◌, ◌/◌, ◌%◌, ◌<◌, ◌≤◌, ◌^◌, ◌==◌, if◌then◌else◌, List, slice_index, Result, Ok, Err, IfOk, IfErr, Option, Some, None, nat_eq}
+use Rattle.std.specs.Option.{option_map}
+use Rattle.std.specs.Map.{lookup}
+use Rattle.imago_storage.specs.State.{StorageState, Rose}
+use Rattle.imago_storage.specs.Calls.{Kept, Later, IsFaultless}
+use Rattle.imago_storage.specs.declared.fault.Fault.{Fault}
+use Rattle.imago_storage.specs.declared.fault.Fault.TheVariants.{DamagedTable, Memory, Storage}
+use Rattle.imago_access.specs.Files.{WasNotCutOff}
+use Rattle.qcow2_types.specs.Entries.{entry}
+use Rattle.qcow2_types.specs.Header.{Fields, cluster_size, words_of_cluster}
+use Rattle.qcow2_types.specs.Places.{l2_entries}
+use Rattle.qcow2_types.specs.Words.{Mapping, data_at, zeroes, packed, damaged, table_offset}
+use Rattle.qcow2_types.specs.Words as words
+use Rattle.qcow2_metadata.specs.Tables.{TableValue, IsTable, l2_words, mapping_in}
+use Rattle.qcow2_metadata.specs.MappingView.{mapping_seen, IsNamed}
+use Rattle.qcow2_metadata.specs.declared.mapping.L2Mapping.{L2Mapping}
+use Rattle.qcow2_alloc.specs.Cache.{hit}
+use Rattle.qcow2_alloc.specs.Caches.{cached_in}
+use Rattle.qcow2_alloc.specs.CachesLending.{with_tables}
+use Rattle.qcow2_alloc.specs.Finding.{TableFound}
+use Rattle.qcow2_alloc.specs.declared.cache.MetadataCaches.{MetadataCaches}
+use Rattle.qcow2_alloc.specs.declared.file.ImageFile.{ImageFile}
+use Rattle.imago_storage.specs.declared.storage.Storage.{Ghosts}
+use Rattle.qcow2_image.specs.declared.tables.Tables.{Tables}
+use Rattle.qcow2_image.specs.Seen.{IsSeen, file_of}
+
+-- the cluster of the L2 table over a guest cluster, as these words of the L1 table name it
+abbrev pub place_of_table : List ℕ → ℕ → ℕ → Option ℕ
+place_of_table words cluster_bits guest =
+    if table_offset (slice_index words (guest / l2_entries cluster_bits)) == 0 then None
+    else Some (table_offset (slice_index words (guest / l2_entries cluster_bits)) / 2 ^ cluster_bits)
+
+-- The mapping of the next guest cluster goes on from that of one: both are of one kind, and its cluster, if it has one, is the next, with
+-- the same mark. What is compressed or damaged never does.
+abbrev pub Follows : Mapping → Mapping → Type 0
+Follows (data_at cluster mark) (data_at cluster' mark') = (cluster' ≡ cluster + 1) × (mark' ≡ mark)
+Follows (zeroes (Some cluster) mark) (zeroes (Some cluster') mark') = (cluster' ≡ cluster + 1) × (mark' ≡ mark)
+Follows (zeroes None mark) (zeroes None mark') = ⊤
+Follows words.unmapped words.unmapped = ⊤
+Follows mapping mapping' = ⊥
+
+-- The run from a guest cluster on, of at most so many, by what is mapped at each: how the first is mapped, and how many clusters it has.
+-- Each goes on from the one before, and what comes behind the run doesn't.
+pub record IsRunOf (guest most : ℕ) (mapped : ℕ → Mapping) (run : L2Mapping × ℕ) : Type 0 where
+  pub first : mapping_seen run.0 ≡ mapped guest
+  pub some : 0 < run.1
+  pub few : run.1 ≤ most
+  pub each : (k : ℕ) → k + 1 < run.1 → Follows (mapped (guest + k)) (mapped (guest + k + 1))
+  pub ends : run.1 < most → Follows (mapped (guest + run.1 - 1)) (mapped (guest + run.1)) → ⊥
+
+-- A run of places is cut at a cluster's begin, where another L2 table begins or the mapping of that cluster doesn't go on from the last.
+pub record IsCutAt (h : Fields) (mapped : ℕ → Mapping) (at : ℕ) : Type 0 where
+  pub cluster : at % cluster_size h ≡ 0
+  pub last : (at / cluster_size h % words_of_cluster h ≡ 0) ⊎ (Follows (mapped (at / cluster_size h - 1)) (mapped (at / cluster_size h)) → ⊥)
+
+-- It has all of the range that lies in the disk, or else is cut at its end.
+abbrev pub IsLong : Fields → (ℕ → Mapping) → ℕ → ℕ → ℕ → Type 0
+IsLong h mapped offset asked n = (n ≡ min asked (h.size - offset)) ⊎ IsCutAt h mapped (offset + n)
+
+-- by the entries of the guest clusters of an image
+abbrev pub IsLongIn : {S : Type 0} (g : Ghosts S) → Tables S g → ℕ → ℕ → ℕ → Type 0
+IsLongIn g t = IsLong t.file.header.fields (entry (file_of g t) t.file.header.fields)
+
+-- The run is read of a table, which stays; one for clusters of another size is damaged.
+pub record ReadsRun (cluster_bits guest most : ℕ) (table : TableValue) (result : Result (L2Mapping × ℕ) Fault) (table' : TableValue) : Type 0 where
+  pub same : table' ≡ table
+  pub fits : IsTable l2_words table
+  pub ok : IfOk result (λ run. IsRunOf guest most (λ g. mapping_in table (g % l2_entries cluster_bits)) run × IsNamed cluster_bits run.0)
+  pub err : IfErr result (λ e. (e ≡ DamagedTable) × (table.layout.cluster_bits ≢ cluster_bits))
+
+-- The L2 table in a cluster is found and used so,
+pub record TableUsed {S T : Type 0} (state : S → StorageState) (cluster : ℕ) (does : TableValue → Result T Fault → TableValue → Type 0) (old : MetadataCaches S) (before : ImageFile S) (result : Result T Fault) (new : MetadataCaches S) (after : ImageFile S) : Type 0 where
+  pub mid : MetadataCaches S
+  pub found : TableFound state cluster old before (Ok tt) mid after
+  pub table : TableValue
+  pub table' : TableValue
+  pub there : option_map (λ s. s.value) (lookup (nat_eq cluster) (cached_in mid).tables) ≡ Some table
+  pub used : does table result table'
+  pub left : new ≡ with_tables mid (hit (nat_eq cluster) (cached_in mid).tables table')
+
+-- or the search is refused.
+abbrev pub UsesTable : {S T : Type 0} → (S → StorageState) → ℕ → (TableValue → Result T Fault → TableValue → Type 0) → MetadataCaches S → ImageFile S → Result T Fault → MetadataCaches S → ImageFile S → Type 0
+UsesTable state cluster does old before result new after =
+    ((fault : Fault) × (result ≡ Err fault) × TableFound state cluster old before (Err fault) new after) ⊎ TableUsed state cluster does old before result new after
+
+-- Why a look at a guest cluster's word is refused.
+abbrev pub WhyNotLooked : Type 0 → ℕ → ℕ → Fault → Type 0
+WhyNotLooked damage before after DamagedTable = damage
+WhyNotLooked damage before after Memory = ⊤
+WhyNotLooked damage before after Storage = Rose before after
+WhyNotLooked damage before after fault = ⊥
+
+-- A look at the run from a guest cluster on, of at most so many. What is cached of it makes no difference, and nothing is written.
+pub record LooksAt {S : Type 0} (g : Ghosts S) (guest most : ℕ) (old : Tables S g) (result : Result (L2Mapping × ℕ) Fault) (new : Tables S g) : Type 0 where
+  pub kept : Kept (g.state old.file.image) (g.state new.file.image)
+  pub later : Later (g.state old.file.image) (g.state new.file.image)
+  pub faults : WasNotCutOff result → IsFaultless (g.state old.file.image) (g.state new.file.image)
+  pub header : new.file.header ≡ old.file.header
+  pub l1 : new.l1 ≡ old.l1
+  pub seen : IsSeen g old → IsSeen g new
+  pub says : IsSeen g old → IfOk result (IsRunOf guest most (entry (file_of g old) old.file.header.fields))
+  pub named : IfOk result (λ run. IsNamed old.file.header.fields.cluster_bits run.0 × (0 < run.1) × (run.1 ≤ most))
+  pub failed : IfErr result (WhyNotLooked ⊤ (g.state old.file.image).faults (g.state new.file.image).faults)
+  pub cause : IsSeen g old → IfErr result (WhyNotLooked (entry (file_of g old) old.file.header.fields guest ≡ damaged) (g.state old.file.image).faults (g.state new.file.image).faults)

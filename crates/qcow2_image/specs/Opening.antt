@@ -1,0 +1,64 @@
+-- What an image is right after it was opened for reading, and why it isn't opened.
+use Rattle.std.specs.Prelude.{◌≡◌, ⊤, ℕ, Bool, true, false, not, ◌&&◌, ◌||◌, ◌==◌, List, [], ◌∷◌, Option, Some, None, Ok, Err, Result, is_some}
+use Rattle.imago_storage.specs.State.{StorageState}
+use Rattle.imago_storage.specs.declared.fault.Fault.{Fault}
+use Rattle.imago_storage.specs.declared.fault.Fault.TheVariants.{DamagedTable, Memory, Storage, Unsupported}
+use Rattle.imago_storage.specs.declared.storage.Storage.{Ghosts}
+use Rattle.qcow2_types.specs.Bytes.{Bytes, be, bytes_of}
+use Rattle.qcow2_types.specs.Header.{Fields, Header, Rule, first_fault, has_external_data, header_of, ◌and-then◌, ◌>>=◌}
+use Rattle.qcow2_types.specs.Entries.{l1_table_sound}
+use Rattle.qcow2_alloc.specs.Caches.{cached_in, order_of}
+use Rattle.qcow2_alloc.specs.declared.cache.CacheDependency.TheVariants.{Unset}
+use Rattle.qcow2_image.specs.Seen.{IsSeen}
+use Rattle.qcow2_image.specs.declared.qcow2.Qcow2.{Qcow2}
+use Rattle.qcow2_image.specs.declared.tables.Tables.{Tables}
+
+-- the file begins as an image does: with the magic number, and version 2 or 3
+abbrev pub is_qcow2 : Bytes → Bool
+is_qcow2 f = (be f 0 4 == 0x5146_49fb) && ((be f 4 4 == 2) || (be f 4 4 == 3))
+
+-- The rules behind those on the header: an image whose data is in another file isn't carried yet, and each word of the L1 table has a
+-- meaning.
+abbrev pub rules_of_opening : Bytes → Fields → List Rule
+rules_of_opening f h =
+    (has_external_data h, Unsupported)
+    ∷ (not (l1_table_sound f h), DamagedTable)
+    ∷ []
+
+-- The header by which a file is opened for reading, or the first rule that it breaks.
+unfoldable pub header_for_reading : Bytes → Result Header Fault
+header_for_reading f = header_of false f >>= λ H. first_fault (rules_of_opening f H.fields) and-then Ok H
+
+-- Why it isn't opened: by that rule, unless memory was wanting or the storage has failed.
+abbrev pub WhyNotOpened : Bytes → Fault → Type 0
+WhyNotOpened f Memory = ⊤
+WhyNotOpened f Storage = ⊤
+WhyNotOpened f fault = header_for_reading f ≡ Err fault
+
+-- Why it isn't opened for writing, or for reading alone: the former isn't carried yet.
+abbrev pub WhyNotOpenedFor : Bool → Bytes → Fault → Type 0
+WhyNotOpenedFor true f fault = fault ≡ Unsupported
+WhyNotOpenedFor false f fault = WhyNotOpened f fault
+
+-- The storage is as it was, what is in memory is what its file says, and nothing is cached, with room for so many tables and blocks.
+pub record IsJustOpened {S : Type 0} (g : Ghosts S) (before : StorageState) (l2_tables refcount_blocks : ℕ) (t : Tables S g) : Type 0 where
+  pub same : g.state t.file.image ≡ before
+  pub allowed : header_for_reading (bytes_of before.bytes) ≡ Ok t.file.header
+  pub seen : IsSeen g t
+  pub empty : cached_in t.caches ≡ record { tables = []; blocks = [] }
+  pub unordered : order_of t.caches ≡ Unset
+  pub tables : t.caches.l2.slots.cap ≡ l2_tables
+  pub blocks : t.caches.rb.slots.cap ≡ refcount_blocks
+
+-- whether layers are below, as it was said, or else by whether the header names a backing file
+abbrev pub is_backed : Option Bool → Header → Bool
+is_backed (Some backed) H = backed
+is_backed None H = is_some H.backing_name
+
+-- Its metadata was just opened, over layers or not, and it has this number and has not failed.
+pub record IsOpenedAs {S : Type 0} (g : Ghosts S) (before : StorageState) (backing : Option Bool) (number l2_tables refcount_blocks : ℕ)
+    (d : Qcow2 S g) : Type 0 where
+  pub tables : IsJustOpened g before l2_tables refcount_blocks d.tables
+  pub backing_is : d.backing ≡ is_backed backing d.tables.file.header
+  pub number_is : d.number ≡ number
+  pub runs : d.failed ≡ false

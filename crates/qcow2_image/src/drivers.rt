@@ -1,0 +1,324 @@
+// A qcow2 image as the driver of a chain.
+ghost use Rattle.std.specs.Prelude.{◌≡◌, refl, OnOk, IfOk, IfErr, None, Some};
+ghost use Rattle.std.proofs.lemmas.Nat.{pow_pos};
+ghost use Rattle.imago_storage.specs.Steps.{Call};
+ghost use Rattle.imago_storage.specs.declared.fault.Fault.{Fault};
+ghost use Rattle.imago_storage.specs.declared.fault.Fault.TheVariants.{Foreign};
+ghost use Rattle.imago_access.specs.Files.{IsKept, Pairs, WasNotCutOff, byte_in, files};
+ghost use Rattle.imago_access.specs.Failing.{Fails};
+ghost use Rattle.imago_access.specs.Going.{AtOnce, Looked, Marks};
+ghost use Rattle.imago_access.specs.Mappings.{IsRun, Looks, NamesRoom};
+ghost use Rattle.imago_access.specs.Refusals.{barrier, LookCause};
+ghost use Rattle.qcow2_image.specs.ImageLayer.{blanks};
+ghost use Rattle.imago_access.specs.PreparingCalls.{Commits, CommitRefused, Cancels};
+ghost use Rattle.qcow2_image.specs.Rooms.{not_both, covered, of_storages};
+ghost use Rattle.qcow2_image.specs.Looking.{IsLongIn};
+
+use crate::qcow2::{PreparedMappingState, Qcow2};
+use crate::reloading::reload;
+use imago_access::{
+    Format, FormatDriverInstance, PreallocateMode, PreparedDataMapping, ReadBelow, Seen,
+    ShallowMapping,
+};
+use imago_storage::{Fault, Storage, StorageExt};
+use std::alloc::Global;
+
+impl<S: Storage> FormatDriverInstance for Qcow2<S> {
+    type Storage = S;
+
+    ghost safe_sees = { λ d safe. safe.seen };
+
+    ghost safe_runs = { λ d safe. safe.runs };
+
+    ghost safe_keeps = { λ d safe. safe.keeps };
+
+    ghost safe_sound = { λ d safe. covered S.Storage.own d.tables d.backing d.failed d.number safe };
+
+    ghost one_home = { λ d p q at safe first second. absurd (Prim.cc first) };
+
+    ghost blanks = { λ d. blanks d.backing };
+
+    ghost aligned = { λ d. let shape = S.aligned d.tables.file.image in (shape.requests, shape.memory) };
+
+    ghost of_storages = { λ d. of_storages S.Storage.own d.tables d.backing d.failed d.number };
+
+    ghost marked = { λ d is. refl };
+
+    ghost units = { λ d. pow_pos d.tables.file.header.fields.cluster_bits };
+
+    ghost begins = { λ d call. tt };
+
+    ghost free_loose = { λ d free p. refl };
+
+    ghost bare = { λ d p free has. not_both _ _ p free has };
+
+    ghost rooms = { λ d p free states. record { homeless = λ given. refl; housed = λ some. absurd (Prim.cc some) } };
+
+    fn image_file(&self) -> &S {
+        &self.tables.file.image
+    }
+
+    fn format(&self) -> Format {
+        Format::Qcow2
+    }
+
+    fn size(&self) -> u64 {
+        self.tables.file.header.size()
+    }
+
+    fn writable(&self) -> bool {
+        false
+    }
+
+    fn zero_granularity(&self) -> Option<u64> {
+        if self.tables.file.header.version() > 2 {
+            Some(self.tables.file.header.cluster_size() as u64)
+        } else {
+            None
+        }
+    }
+
+    fn req_align(&self) -> usize {
+        self.tables.file.image.req_align()
+    }
+
+    fn mem_align(&self) -> usize {
+        self.tables.file.image.mem_align()
+    }
+
+    fn ready(&self) -> Result<(), Fault> {
+        if self.failed {
+            return Err(Fault::Failed);
+        }
+        Ok(())
+    }
+
+    fn prepared(&self) -> bool {
+        false
+    }
+
+    fn get_mapping(
+        &mut self,
+        _alloc: Global,
+        offset: u64,
+        max_length: u64,
+    ) -> Result<(ShallowMapping, u64), Fault>
+        ensures run { let d = ⟦<Qcow2<S> as Seen>⟧ in IfOk result (λ r. IsRun (d.layer self.old) offset max_length r.0 r.1) }
+        ensures looks { let d = ⟦<Qcow2<S> as Seen>⟧ in d.sees self.old → IfOk result (λ r. Looks (d.layer self.old) (byte_in (files d self.new)) offset max_length r.0 r.1) }
+        ensures room { let d = ⟦<Qcow2<S> as Seen>⟧ in d.sees self.old → IfOk result (λ r. NamesRoom (d.layer self.old) (d.vacant self.old) (d.zeroed self.old) offset r.1 r.0) }
+        ensures at_once { let d = ⟦<Qcow2<S> as Seen>⟧ in AtOnce d (barrier (d.layer self.old)) (max_length ≡ 0) result self.old self.new }
+        ensures looked { Looked ⟦<Qcow2<S> as Seen>⟧ (WasNotCutOff result) self.old self.new }
+        ensures began { let d = ⟦<Qcow2<S> as Seen>⟧ in OnOk result ((e : _) (call : Call) → d.began e call self.old → d.began e call self.new) }
+        ensures failed { IfErr result (Fails ⟦<Qcow2<S> as Seen>⟧ self.old self.new) }
+        ensures marks { IfErr result (Marks ⟦<Qcow2<S> as Seen>⟧ self.old self.new) }
+        ensures cause { let d = ⟦<Qcow2<S> as Seen>⟧ in d.sees self.old → IfErr result (LookCause (d.layer self.old) offset max_length (files d self.old) (files d self.new)) }
+        // It makes no request but reads.
+        ensures reads { let d = ⟦<Qcow2<S> as Seen>⟧ in Pairs IsKept (files d self.old) (files d self.new) }
+        // A run ends with the range or the disk, or where clusters don't go on from one another under one L2 table.
+        ensures long { ⟦<Qcow2<S> as Seen>⟧.sees self.old → IfOk result (λ r. IsLongIn S.Storage self.old.tables offset max_length r.1) }
+    {
+        if self.failed {
+            return Err(Fault::Failed);
+        }
+        let size = self.tables.file.header.size();
+        if offset >= size {
+            return Ok((ShallowMapping::Eof, 0));
+        }
+        if max_length == 0 {
+            return Ok((ShallowMapping::Zero { explicit: true }, 0));
+        }
+        self.run_from(offset, max_length)
+    }
+
+    fn read_mapped(
+        &mut self,
+        alloc: Global,
+        storage: usize,
+        place: u64,
+        buf: &mut [u8],
+    ) -> Result<(), Fault> {
+        if self.failed {
+            return Err(Fault::Failed);
+        }
+        if storage != 0 {
+            buf.fill(0);
+            return Ok(());
+        }
+        let answer = self.tables.file.image.read(alloc, buf, place);
+        self.settle(answer)
+    }
+
+    fn read_special(&mut self, _buf: &mut [u8], _offset: u64) -> Result<(), Fault> {
+        if self.failed {
+            return Err(Fault::Failed);
+        }
+        Err(Fault::Barred)
+    }
+
+    fn prepare_data_mapping<B: ReadBelow>(
+        &mut self,
+        _alloc: Global,
+        _below: &mut B,
+        offset: u64,
+        length: u64,
+        _overwrite: bool,
+    ) -> Result<PreparedDataMapping<PreparedMappingState>, Fault> {
+        match self.refuse(offset, length) {
+            Ok(_) => Ok(PreparedDataMapping::existing(0, 0, 0)),
+            Err(fault) => Err(fault),
+        }
+    }
+
+    fn commit_data_mapping(
+        &mut self,
+        _alloc: Global,
+        mapping: PreparedDataMapping<PreparedMappingState>,
+    ) -> Result<(), (Fault, Option<PreparedDataMapping<PreparedMappingState>>)>
+        ensures commits { Commits ⟦<Qcow2<S> as Seen>⟧ mapping.state result self.old self.new }
+        ensures refused { CommitRefused ⟦<Qcow2<S> as Seen>⟧ mapping result self.old self.new }
+    {
+        let storage = mapping.storage();
+        let offset = mapping.offset();
+        let length = mapping.length();
+        match mapping.into_state() {
+            None => {
+                if self.failed {
+                    let mapping = PreparedDataMapping::existing(storage, offset, length);
+                    return Err((Fault::Failed, Some(mapping)));
+                }
+                Ok(())
+            }
+            Some(state) => {
+                let mapping = PreparedDataMapping::to_commit(storage, offset, length, state);
+                if self.failed {
+                    return Err((Fault::Failed, Some(mapping)));
+                }
+                Err((Fault::ReadOnly, Some(mapping)))
+            }
+        }
+    }
+
+    fn cancel_data_mapping(
+        &mut self,
+        mapping: PreparedDataMapping<PreparedMappingState>,
+    ) -> Result<(), (Fault, PreparedDataMapping<PreparedMappingState>)>
+        ensures cancels { Cancels ⟦<Qcow2<S> as Seen>⟧ mapping result self.old self.new }
+    {
+        let storage = mapping.storage();
+        let offset = mapping.offset();
+        let length = mapping.length();
+        match mapping.into_state() {
+            None => Ok(()),
+            Some(state) => {
+                if state.number != self.number {
+                    let mapping = PreparedDataMapping::to_commit(storage, offset, length, state);
+                    return Err((Fault::Foreign, mapping));
+                }
+                let PreparedMappingState {
+                    number: _number,
+                    claim: _claim,
+                } = state;
+                Ok(())
+            }
+        }
+    }
+
+    fn write_mapped(
+        &mut self,
+        _alloc: Global,
+        guest: u64,
+        _place: u64,
+        bytes: &[u8],
+    ) -> Result<(), Fault> {
+        match self.refuse(guest, bytes.len() as u64) {
+            Ok(_) => Ok(()),
+            Err(fault) => Err(fault),
+        }
+    }
+
+    fn ensure_zero_mapping(
+        &mut self,
+        _alloc: Global,
+        offset: u64,
+        length: u64,
+    ) -> Result<(u64, u64), Fault> {
+        self.refuse(offset, length)
+    }
+
+    fn discard_to_zero(
+        &mut self,
+        _alloc: Global,
+        offset: u64,
+        length: u64,
+    ) -> Result<(u64, u64), Fault> {
+        self.refuse(offset, length)
+    }
+
+    fn discard_to_any(
+        &mut self,
+        _alloc: Global,
+        offset: u64,
+        length: u64,
+    ) -> Result<(u64, u64), Fault> {
+        self.refuse(offset, length)
+    }
+
+    fn discard_to_backing(
+        &mut self,
+        _alloc: Global,
+        offset: u64,
+        length: u64,
+    ) -> Result<(u64, u64), Fault> {
+        self.refuse(offset, length)
+    }
+
+    fn flush(&mut self, _alloc: Global) -> Result<(), Fault> {
+        if self.failed {
+            return Err(Fault::Failed);
+        }
+        let answer = self.tables.file.image.flush();
+        self.settle(answer)
+    }
+
+    fn sync(&mut self) -> Result<(), Fault> {
+        if self.failed {
+            return Err(Fault::Failed);
+        }
+        let answer = self.tables.file.image.sync();
+        self.settle(answer)
+    }
+
+    fn invalidate_cache(&mut self, alloc: Global) -> Result<(), Fault> {
+        if self.failed {
+            return Err(Fault::Failed);
+        }
+        let answer = reload(&mut self.tables, alloc);
+        self.settle_anew(answer)
+    }
+
+    fn resize_grow<B: ReadBelow>(
+        &mut self,
+        _alloc: Global,
+        _below: &mut B,
+        size: u64,
+        _mode: PreallocateMode,
+    ) -> Result<(), Fault> {
+        if self.failed {
+            return Err(Fault::Failed);
+        }
+        if size <= self.tables.file.header.size() {
+            return Ok(());
+        }
+        Err(Fault::ReadOnly)
+    }
+
+    fn resize_shrink(&mut self, _alloc: Global, size: u64) -> Result<(), Fault> {
+        if self.failed {
+            return Err(Fault::Failed);
+        }
+        if size >= self.tables.file.header.size() {
+            return Ok(());
+        }
+        Err(Fault::ReadOnly)
+    }
+}

@@ -1,0 +1,17 @@
+//! The qcow2 driver: an image file, with its metadata cached, as a layer of a chain.
+#![tactic(auto)]
+
+mod builder;
+mod cache_entries;
+mod drivers;
+mod lookup;
+mod opening;
+mod qcow2;
+mod reading;
+mod refusing;
+mod reloading;
+mod tables;
+
+pub use builder::Qcow2OpenBuilder;
+pub use qcow2::{PreparedMappingState, Qcow2};
+pub use tables::Tables;

@@ -1,0 +1,118 @@
+// Where the bytes of guest clusters are: through the L1 table and the cached L2 tables.
+ghost use Rattle.std.specs.Prelude.{◌≡◌, ◌+◌, ◌*◌, ◌%◌, ◌^◌, ◌<◌, ◌≤◌};
+ghost use Rattle.imago_storage.specs.declared.fault.Fault.TheVariants.{DamagedTable, CacheFull};
+ghost use Rattle.qcow2_types.specs.Places.{l2_entries};
+ghost use Rattle.qcow2_metadata.specs.Tables.{mapping_in};
+ghost use Rattle.qcow2_metadata.specs.MappingView.{IsNamed};
+ghost use Rattle.qcow2_image.specs.Looking.{place_of_table, IsRunOf, ReadsRun, UsesTable, LooksAt};
+
+use crate::tables::Tables;
+use imago_storage::{Fault, Storage};
+use qcow2_alloc::{ImageFile, MetadataCaches};
+use qcow2_metadata::{L1Table, L2Mapping, L2Table, Table};
+use qcow2_types::{GuestCluster, HostCluster};
+
+// The cluster of the L2 table over a guest cluster, if the L1 table names one.
+fn l2_cluster(l1: &L1Table, guest: GuestCluster, cluster_bits: u32) -> Option<HostCluster>
+    requires { (9 ≤ cluster_bits) × (cluster_bits ≤ 21) }
+    ensures { result ≡ place_of_table l1.now.words cluster_bits guest }
+{
+    match l1.get(guest.l1_index(cluster_bits)).l2_offset() {
+        Some(offset) => Some(offset.cluster(cluster_bits)),
+        None => None,
+    }
+}
+
+// How a guest cluster is mapped in a table, and how many from it on, of at most so many, go on from one another.
+fn run_in(table: &L2Table, guest: GuestCluster, most: u64) -> (L2Mapping, u64)
+    requires some { 0 < most }
+    requires fits { (guest + most) * 2 ^ table.now.layout.cluster_bits < 2 ^ 64 + 2 ^ table.now.layout.cluster_bits }
+    ensures run { IsRunOf guest most (λ g. mapping_in table.now (g % l2_entries table.now.layout.cluster_bits)) result }
+    ensures named { IsNamed table.now.layout.cluster_bits result.0 }
+{
+    let cluster_bits = table.cluster_bits();
+    let first = table.get_mapping(guest);
+    let mut last = first;
+    for next in 1..most {
+        let mapping = table.get_mapping(GuestCluster(guest.0 + next));
+        if !mapping.is_consecutive(&last, cluster_bits) {
+            return (first, next);
+        }
+        last = mapping;
+    }
+    (first, most)
+}
+
+// The same in an image of such clusters. A table for clusters of another size is damaged.
+fn run_of(
+    table: &mut L2Table,
+    guest: GuestCluster,
+    most: u64,
+    cluster_bits: u32,
+) -> Result<(L2Mapping, u64), Fault>
+    requires some { 0 < most }
+    requires fits { (guest + most) * 2 ^ cluster_bits < 2 ^ 64 + 2 ^ cluster_bits }
+    ensures { ReadsRun cluster_bits guest most table.old result table.new }
+{
+    if table.cluster_bits() == cluster_bits {
+        Ok(run_in(table, guest, most))
+    } else {
+        Err(Fault::DamagedTable)
+    }
+}
+
+// The same in the L2 table in a cluster, for which the cache is searched once.
+fn in_table<S: Storage>(
+    file: &mut ImageFile<S>,
+    caches: &mut MetadataCaches<S>,
+    table: HostCluster,
+    guest: GuestCluster,
+    most: u64,
+) -> Result<(L2Mapping, u64), Fault>
+    requires some { 0 < most }
+    requires fits { let bits = file.old.header.fields.cluster_bits in (guest + most) * 2 ^ bits < 2 ^ 64 + 2 ^ bits }
+    ensures { UsesTable S.state table (ReadsRun file.old.header.fields.cluster_bits guest most) caches.old file.old result caches.new file.new }
+{
+    let cluster_bits = file.header.cluster_bits();
+    match caches.l2_get_or_insert(file, table) {
+        Ok(table) => run_of(table, guest, most, cluster_bits),
+        Err(fault) => Err(fault),
+    }
+}
+
+// A full cache, of which nothing is pinned, is none of an image that is as it was opened.
+fn unfilled(fault: Fault) -> Fault
+    ensures full { fault ≡ CacheFull → result ≡ DamagedTable }
+    ensures others { (fault ≡ CacheFull → ⊥) → result ≡ fault }
+{
+    match fault {
+        Fault::CacheFull => Fault::DamagedTable,
+        fault => fault,
+    }
+}
+
+// How a guest cluster is mapped, and how many from it on, of at most so many under one L2 table, go on from one another.
+pub(crate) fn look_up<S: Storage>(
+    tables: &mut Tables<S>,
+    guest: GuestCluster,
+    most: u64,
+) -> Result<(L2Mapping, u64), Fault>
+    requires some { 0 < most }
+    requires fits { let bits = tables.old.file.header.fields.cluster_bits in (guest + most) * 2 ^ bits < 2 ^ 64 + 2 ^ bits }
+    requires one_table { let words = l2_entries tables.old.file.header.fields.cluster_bits in guest % words + most ≤ words }
+    ensures { LooksAt S.Storage guest most tables.old result tables.new }
+{
+    let cluster_bits = tables.file.header.cluster_bits();
+    match l2_cluster(&tables.l1, guest, cluster_bits) {
+        Some(table) => {
+            match in_table(&mut tables.file, &mut tables.caches, table, guest, most) {
+                Ok(run) => Ok(run),
+                Err(fault) => Err(unfilled(fault)),
+            }
+        }
+        None => {
+            let backing_offset = guest.offset(cluster_bits).0;
+            Ok((L2Mapping::Backing { backing_offset }, most))
+        }
+    }
+}

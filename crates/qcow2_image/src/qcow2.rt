@@ -1,0 +1,188 @@
+// A qcow2 image as a driver.
+ghost use Rattle.std.specs.Prelude.{◌≡◌, ⊤, List, [], Some, None};
+ghost use Rattle.std.specs.Option.{option_copied};
+ghost use Rattle.imago_storage.specs.Steps.{Call};
+ghost use Rattle.imago_storage.specs.declared.fault.Fault.{Fault};
+ghost use Rattle.std.specs.Borrow.{Lends, sem};
+ghost use Rattle.qcow2_types.specs.Header.{has_external_data};
+ghost use Rattle.qcow2_image.specs.contracts.qcow2.Qcow2.{the_row};
+ghost use Rattle.qcow2_image.specs.Lent.{with_image};
+ghost use Rattle.qcow2_alloc.specs.Caches.{cached_in};
+ghost use Rattle.qcow2_alloc.specs.Safety.{AreTablesClean, AreBlocksClean};
+ghost use Rattle.qcow2_image.specs.ImageLayer.{qcow2_text};
+ghost use Rattle.qcow2_image.specs.Seen.{IsSeen, layer_in, memory_of};
+ghost use Rattle.qcow2_image.specs.Rooms.{IsVacant, HasRoom, IsZeroed, IsSafe, is_sound};
+
+use crate::tables::Tables;
+use imago_access::Seen;
+use imago_storage::Storage;
+use qcow2_alloc::ImageFile;
+use std::fmt::{self, Debug, Display, Formatter, Write};
+
+/// What an image keeps of a mapping that it has prepared.
+pub struct PreparedMappingState {
+    pub(crate) number: u64,
+    pub(crate) claim: u64,
+}
+
+/// A qcow2 image that was opened for reading: each place of the disk is what the tables of its file say of it.
+///
+/// Its one storage, the image file, has the number 0. A fault of that storage marks it as failed.
+#[derive(Drop)]
+pub struct Qcow2<S: Storage> {
+    pub(crate) tables: Tables<S>,
+    pub(crate) backing: bool,
+    pub(crate) number: u64,
+    pub(crate) failed: bool,
+}
+
+impl<S: Storage> Seen for Qcow2<S> {
+    type State = PreparedMappingState;
+
+    ghost layer = { λ d. layer_in S.Storage d.tables d.backing d.number d.failed };
+
+    ghost image = { λ d. S.state d.tables.file.image };
+
+    ghost extras = { λ _. [] };
+
+    ghost sees = { λ d. IsSeen S.Storage d.tables };
+
+    ghost safe = { λ d. IsSafe S.Storage d.tables d.failed };
+
+    ghost still = { λ d. AreTablesClean (cached_in d.tables.caches) × AreBlocksClean (cached_in d.tables.caches) };
+
+    ghost lasts = { λ _. ⊤ };
+
+    ghost vacant = { λ d p. IsVacant (memory_of S.Storage d.tables) d.tables.file.header.fields p };
+
+    ghost has_room = { λ d p. HasRoom (memory_of S.Storage d.tables) d.tables.file.header.fields p };
+
+    ghost zeroed = { λ d p. IsZeroed (memory_of S.Storage d.tables) d.tables.file.header.fields p };
+
+    ghost claim = { λ s. s.claim };
+
+    ghost tag = { λ s. s.number };
+
+    ghost sound = { λ kind f. is_sound kind f };
+
+    ghost began = { λ d call now. ⊤ };
+
+    ghost own_cause = { λ d below call fault. ⊥ };
+
+    ghost growth_cause = { λ d below size mode fault. ⊥ };
+}
+
+impl<S: Storage> Qcow2<S> {
+    /// Whether it has failed: after a storage's fault it has to be opened again.
+    pub fn failed(&self) -> bool
+        ensures { result ≡ (⟦<Qcow2<S> as Seen>⟧.layer self.now).failed }
+    {
+        self.failed
+    }
+
+    /// The image file.
+    pub fn image(&self) -> &S
+        ensures { S.state result.now ≡ ⟦<Qcow2<S> as Seen>⟧.image self.now }
+    {
+        &self.tables.file.image
+    }
+
+    /// The image file, to be changed. What is in memory of its tables stays as it was read.
+    pub fn image_mut(&mut self) -> &mut S
+        ensures* lends { sem 𝓛 (Lends (the_row S.row S.Storage) S.row self.entry result (λ w. with_image self.entry.now w)) }
+        ensures value { result.now ≡ self.old.tables.file.image }
+    {
+        let tables = &mut self.tables;
+        let file = &mut tables.file;
+        &mut file.image
+    }
+
+    /// The image file again. Nothing waits to be written to it.
+    pub fn into_image(self) -> S
+        ensures { S.state result ≡ ⟦<Qcow2<S> as Seen>⟧.image self }
+    {
+        let Qcow2 {
+            tables,
+            backing: _backing,
+            number: _number,
+            failed: _failed,
+        } = self;
+        into_file(tables)
+    }
+
+    /// Whether the data is in an external file.
+    pub fn requires_external_data_file(&self) -> bool
+        ensures { result ≡ has_external_data self.now.tables.file.header.fields }
+    {
+        self.tables.file.header.external_data_file()
+    }
+
+    /// The name of the external data file, where the header gives one.
+    pub fn implicit_external_data_file(&self) -> Option<&str>
+        ensures { option_copied result ≡ self.now.tables.file.header.data_file_name }
+    {
+        self.tables.file.header.external_data_filename()
+    }
+
+    /// The name of the backing file, where the header gives one.
+    pub fn implicit_backing_file(&self) -> Option<&str>
+        ensures { option_copied result ≡ self.now.tables.file.header.backing_name }
+    {
+        self.tables.file.header.backing_filename()
+    }
+
+    /// The format of the backing file, where the header names one.
+    pub fn implicit_backing_format(&self) -> Option<&str>
+        ensures { option_copied result ≡ self.now.tables.file.header.backing_format }
+    {
+        self.tables.file.header.backing_format()
+    }
+
+    /// Says whether layers are below it: places that no table maps are what these show, and else they are 0.
+    pub fn set_backing(&mut self, backing: bool)
+        ensures tables { self.new.tables ≡ self.old.tables }
+        ensures layer { ⟦<Qcow2<S> as Seen>⟧.layer self.new ≡ layer_in S.Storage self.old.tables backing self.old.number self.old.failed }
+        ensures sees { ⟦<Qcow2<S> as Seen>⟧.sees self.old → ⟦<Qcow2<S> as Seen>⟧.sees self.new }
+        ensures safe { ⟦<Qcow2<S> as Seen>⟧.safe self.old → ⟦<Qcow2<S> as Seen>⟧.safe self.new }
+    {
+        self.backing = backing;
+    }
+}
+
+// The image file of these tables.
+fn into_file<S: Storage>(tables: Tables<S>) -> S
+    ensures { result ≡ tables.file.image }
+{
+    let Tables {
+        file,
+        l1: _l1,
+        caches: _caches,
+    } = tables;
+    let ImageFile {
+        image,
+        header: _header,
+    } = file;
+    image
+}
+
+impl<S: Storage> Display for Qcow2<S> {
+    ghost output = { λ d. Some (qcow2_text (S.state d.tables.file.image).shape.filename) };
+
+    fn fmt<W: Write>(&self, f: &mut Formatter<W>) -> fmt::Result {
+        match self.tables.file.image.get_filename() {
+            Some(name) => write!(f, "qcow2[{name}]"),
+            None => write!(f, "qcow2[]"),
+        }
+    }
+}
+
+impl<S: Storage> Debug for Qcow2<S> {
+    ghost debug_output = { λ d. Some (qcow2_text (S.state d.tables.file.image).shape.filename) };
+
+    fn fmt<W: Write>(&self, f: &mut Formatter<W>) -> fmt::Result {
+        match self.tables.file.image.get_filename() {
+            Some(name) => write!(f, "qcow2[{name}]"),
+            None => write!(f, "qcow2[]"),
+        }
+    }
+}

@@ -1,0 +1,153 @@
+// What a qcow2 image reads of its tables: where places lie, and all of it anew.
+ghost use Rattle.std.specs.Prelude.{◌≡◌, ◌<◌, ◌≤◌, ◌+◌, ◌*◌, ◌^◌, ◌/◌, ◌%◌, ◌-◌, IfOk, IfErr, min, false};
+ghost use Rattle.imago_access.specs.Files.{WasNotCutOff, byte_in, files};
+ghost use Rattle.imago_access.specs.Failing.{Fails};
+ghost use Rattle.imago_access.specs.Going.{Looked, Marks};
+ghost use Rattle.imago_access.specs.Mappings.{IsRun, Looks, NamesRoom};
+ghost use Rattle.imago_access.specs.Refusals.{LookCause};
+ghost use Rattle.qcow2_metadata.specs.MappingView.{mapping_seen, IsNamed};
+ghost use Rattle.qcow2_image.specs.ImageLayer.{shallow_of};
+ghost use Rattle.qcow2_image.specs.Looking.{IsLongIn};
+ghost use Rattle.qcow2_image.specs.Steps.{failed_by, failed_anew, failed_behind};
+
+use crate::lookup::look_up;
+use crate::qcow2::Qcow2;
+use imago_access::{Seen, ShallowMapping};
+use imago_storage::{Fault, Storage};
+use qcow2_metadata::L2Mapping;
+use qcow2_types::GuestOffset;
+
+// How a lookup of an image that isn't writable answers a mapping, at an offset that lies so far within its cluster.
+fn shallow(
+    mapping: L2Mapping,
+    backing: bool,
+    cluster_bits: u32,
+    offset: u64,
+    within: u64,
+) -> ShallowMapping
+    requires bits { (9 ≤ cluster_bits) × (cluster_bits ≤ 21) }
+    requires named { IsNamed cluster_bits mapping }
+    requires within { within < 2 ^ cluster_bits }
+    ensures { result ≡ shallow_of backing cluster_bits offset within (mapping_seen mapping) }
+{
+    match mapping {
+        L2Mapping::DataFile { host_cluster, .. } => ShallowMapping::Raw {
+            storage: 0,
+            offset: host_cluster.offset(cluster_bits).0 + within,
+            writable: false,
+        },
+        L2Mapping::Backing { .. } => {
+            if backing {
+                ShallowMapping::Indirect {
+                    offset,
+                    writable: false,
+                }
+            } else {
+                ShallowMapping::Zero { explicit: false }
+            }
+        }
+        L2Mapping::Zero { .. } => ShallowMapping::Zero { explicit: true },
+        L2Mapping::Compressed { .. } => ShallowMapping::Special { offset },
+    }
+}
+
+// How many clusters a range meets that begins so far within its first cluster.
+fn clusters_met(within: u64, length: u64, cluster_bits: u32) -> u64
+    requires bits { (9 ≤ cluster_bits) × (cluster_bits ≤ 21) }
+    requires some { 0 < length }
+    requires fits { within + length < 2 ^ 64 }
+    ensures { result ≡ (within + length - 1) / 2 ^ cluster_bits + 1 }
+{
+    (within + (length - 1) >> cluster_bits) + 1
+}
+
+// How much of a range that begins so far within its first cluster lies in so many clusters.
+fn bytes_met(count: u64, within: u64, length: u64, cluster_bits: u32) -> u64
+    requires bits { (9 ≤ cluster_bits) × (cluster_bits ≤ 21) }
+    requires within { within ≤ count * 2 ^ cluster_bits }
+    requires fits { count * 2 ^ cluster_bits < 2 ^ 64 }
+    ensures { result ≡ min length (count * 2 ^ cluster_bits - within) }
+{
+    length.min((count << cluster_bits) - within)
+}
+
+impl<S: Storage> Qcow2<S> {
+    // Marks it as failed behind a storage's fault.
+    fn mark(&mut self, fault: Fault)
+        ensures { self.new ≡ record self.old { failed = failed_by fault self.old.failed } }
+    {
+        if matches!(fault, Fault::Storage) {
+            self.failed = true;
+        }
+    }
+
+    // Answers what a storage did, and marks it as failed behind its fault.
+    pub(crate) fn settle(&mut self, answer: Result<(), Fault>) -> Result<(), Fault>
+        ensures same { result ≡ answer }
+        ensures marks { self.new ≡ record self.old { failed = failed_behind failed_by answer self.old.failed } }
+    {
+        match answer {
+            Ok(()) => Ok(()),
+            Err(fault) => {
+                self.mark(fault);
+                Err(fault)
+            }
+        }
+    }
+
+    // The same of what reading all anew did: all but want of memory marks it.
+    pub(crate) fn settle_anew(&mut self, answer: Result<(), Fault>) -> Result<(), Fault>
+        ensures same { result ≡ answer }
+        ensures marks { self.new ≡ record self.old { failed = failed_behind failed_anew answer self.old.failed } }
+    {
+        match answer {
+            Ok(()) => Ok(()),
+            Err(fault) => {
+                if !matches!(fault, Fault::Memory) {
+                    self.failed = true;
+                }
+                Err(fault)
+            }
+        }
+    }
+
+    // The run from an offset on, within one L2 table.
+    pub(crate) fn run_from(
+        &mut self,
+        offset: u64,
+        max_length: u64,
+    ) -> Result<(ShallowMapping, u64), Fault>
+        requires inside { offset < self.old.tables.file.header.fields.size }
+        requires some { 0 < max_length }
+        requires runs { self.old.failed ≡ false }
+        ensures run { let d = ⟦<Qcow2<S> as Seen>⟧ in IfOk result (λ r. IsRun (d.layer self.old) offset max_length r.0 r.1) }
+        ensures looks { let d = ⟦<Qcow2<S> as Seen>⟧ in d.sees self.old → IfOk result (λ r. Looks (d.layer self.old) (byte_in (files d self.new)) offset max_length r.0 r.1) }
+        ensures room { let d = ⟦<Qcow2<S> as Seen>⟧ in d.sees self.old → IfOk result (λ r. NamesRoom (d.layer self.old) (d.vacant self.old) (d.zeroed self.old) offset r.1 r.0) }
+        ensures long { ⟦<Qcow2<S> as Seen>⟧.sees self.old → IfOk result (λ r. IsLongIn S.Storage self.old.tables offset max_length r.1) }
+        ensures looked { Looked ⟦<Qcow2<S> as Seen>⟧ (WasNotCutOff result) self.old self.new }
+        ensures failed { IfErr result (Fails ⟦<Qcow2<S> as Seen>⟧ self.old self.new) }
+        ensures marks { IfErr result (Marks ⟦<Qcow2<S> as Seen>⟧ self.old self.new) }
+        ensures cause { let d = ⟦<Qcow2<S> as Seen>⟧ in d.sees self.old → IfErr result (LookCause (d.layer self.old) offset max_length (files d self.old) (files d self.new)) }
+    {
+        let size = self.tables.file.header.size();
+        let cluster_bits = self.tables.file.header.cluster_bits();
+        let place = GuestOffset(offset);
+        let within = place.in_cluster_offset(cluster_bits) as u64;
+        let rest = place.remaining_in_l2_table(cluster_bits).min(size - offset);
+        let length = max_length.min(rest);
+        let most = clusters_met(within, length, cluster_bits);
+        match look_up(&mut self.tables, place.cluster(cluster_bits), most) {
+            Ok((mapping, count)) => {
+                let length = bytes_met(count, within, length, cluster_bits);
+                Ok((
+                    shallow(mapping, self.backing, cluster_bits, offset, within),
+                    length,
+                ))
+            }
+            Err(fault) => {
+                self.mark(fault);
+                Err(fault)
+            }
+        }
+    }
+}

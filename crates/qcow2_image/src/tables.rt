@@ -1,0 +1,17 @@
+// The metadata of an open image, as one value.
+ghost use Rattle.std.proofs.Props.{props};
+ghost use Rattle.qcow2_alloc.specs.Caches.{cached_in};
+ghost use Rattle.qcow2_alloc.specs.Safety.{AreTablesClean, AreBlocksClean};
+
+use imago_storage::Storage;
+use qcow2_alloc::{ImageFile, MetadataCaches};
+use qcow2_metadata::L1Table;
+
+/// An image file with its header, its L1 table and what is cached of its other tables. Nothing of it waits to be written.
+#[derive(Drop)]
+pub struct Tables<S: Storage> {
+    pub(crate) file: ImageFile<S>,
+    pub(crate) l1: L1Table,
+    pub(crate) caches: MetadataCaches<S>,
+    ghost clean: { AreTablesClean (cached_in caches) × AreBlocksClean (cached_in caches) } by { Prim.hlevel props },
+}
