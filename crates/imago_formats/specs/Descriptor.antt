@@ -58,8 +58,10 @@ extent_of access text = decimal (word text) >>= λ sectors. source_of sectors (p
 
 -- The version is 1, 2 or 3, and there is no parent. Other keys don't matter.
 abbrev pub is_carried : List ℕ → List ℕ → Bool
-is_carried key value = if is_word (codes "version") key then is_word (codes "1") value || (is_word (codes "2") value || is_word (codes "3") value)
-    else (if is_word (codes "parentCID") key then str_eq_ignore_ascii_case (word value) (codes "ffffffff") && is_empty (past_word value) else true)
+is_carried key value = if is_word (codes "version") key
+    then is_word (codes "1") value || (is_word (codes "2") value || is_word (codes "3") value)
+    else (if is_word (codes "parentCID") key
+    then str_eq_ignore_ascii_case (word value) (codes "ffffffff") && is_empty (past_word value) else true)
 
 -- The key ends at the first equals sign.
 abbrev pub setting_of : List ℕ → Result (Option (Extent (List ℕ))) Fault

@@ -3,6 +3,7 @@ use Rattle.std.specs.Prelude.{◌≡◌, List, ℕ, map, ◌++◌, Option, Resul
 use Rattle.imago_storage.specs.Calls.{Cause}
 use Rattle.imago_storage.specs.State.{StorageState}
 use Rattle.imago_storage.specs.declared.fault.Fault.{Fault}
+use Rattle.imago_storage.specs.declared.fault.Fault.TheVariants.{Memory, Storage}
 use Rattle.imago_formats.specs.DescriptorWords.{◌>>=◌}
 use Rattle.std.specs.Option.{option_to_list}
 use Rattle.std.specs.String.{string_bytes}
@@ -47,3 +48,7 @@ after_those before read = read >>= λ xs. Ok (before ++ xs)
 -- why a file's descriptor isn't read: the cause that its text gives, want of memory, or a storage that failed
 abbrev pub NotRead : Result (List (Extent (List ℕ))) Fault → StorageState → StorageState → Fault → Type 0
 NotRead said old new fault = Cause old.faults new.faults fault ⊎ ((said ≡ Err fault) × (new.faults ≡ old.faults))
+
+-- why a descriptor isn't opened, whose file is gone then
+abbrev pub RefusesOpening : Result (List (Extent (List ℕ))) Fault → Fault → Type 0
+RefusesOpening said fault = (fault ≡ Memory) ⊎ ((fault ≡ Storage) ⊎ (said ≡ Err fault))

@@ -96,6 +96,20 @@ impl<S> Raw<S> {
         &mut self.storage
     }
 
+    /// How many further files it has: none.
+    pub fn extras(&self) -> usize
+        ensures { result ≡ 0 }
+    {
+        0
+    }
+
+    /// The name of one of them: no text, as there is none.
+    pub fn extra_name(&self, _i: usize) -> &str
+        ensures { result.now ≡ [] }
+    {
+        ""
+    }
+
     /// The storage again. Nothing waits to be written to it.
     pub fn into_image(self) -> S
         ensures { result ≡ self.storage }

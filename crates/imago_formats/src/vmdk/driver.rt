@@ -5,19 +5,20 @@ ghost use Rattle.std.proofs.Math.Nat.{le_refl};
 ghost use Rattle.imago_storage.specs.Calls.{Cause, IsFaultless};
 ghost use Rattle.imago_access.specs.Files.{AreRead, IsKept, Pairs, Unasked, WasNotCutOff, byte_in, files, keep_all};
 ghost use Rattle.imago_access.specs.Layer.{unit_of_layer};
-ghost use Rattle.imago_access.specs.Mappings.{IsRun, Looks};
+ghost use Rattle.imago_access.specs.Mappings.{IsRun, LooksIn};
 ghost use Rattle.imago_access.specs.Going.{RangeAtOnce};
 ghost use Rattle.imago_access.specs.PartCalls.{IsPart, DoesPart, PartCall, PartRefused};
 ghost use Rattle.imago_formats.specs.VmdkFiles.{IsStopped, IsUnread, Keeps, Refuses};
 ghost use Rattle.imago_access.specs.PreparingCalls.{Commits, CommitRefused, Cancels};
 ghost use Rattle.imago_access.specs.Refusals.{barrier};
 ghost use Rattle.imago_formats.specs.Descriptor.{descriptor_of, is_signed, text_of};
-ghost use Rattle.imago_formats.specs.DescriptorView.{kept_extents};
+ghost use Rattle.imago_formats.specs.DescriptorView.{RefusesOpening, kept_extents};
 ghost use Rattle.imago_formats.specs.RawHome.{never};
 ghost use Rattle.imago_formats.specs.VmdkLayer.{AreInReach, file_names, vmdk_layer, vmdk_text};
 ghost use Rattle.imago_formats.specs.contracts.vmdk.driver.Vmdk.{the_row};
 ghost use Rattle.std.specs.Borrow.{Lends, sem};
 ghost use Rattle.std.specs.String.{string_bytes};
+ghost use Rattle.std.specs.Vec.{with_item};
 ghost use Rattle.imago_formats.specs.VmdkLaws.{aligned_files, covered, no_home};
 
 use crate::raw::NoState;
@@ -55,7 +56,7 @@ impl<S: Storage> Vmdk<S> {
         ensures said { IfOk result (λ d. descriptor_of (S.state image).bytes ≡ Ok (kept_extents d.disk.extents.items)) }
         ensures image { IfOk result (λ d. IsKept (S.state image) (S.state d.image)) }
         ensures files { IfOk result (λ d. d.files.items ≡ []) }
-        ensures err { IfErr result (λ e. (e ≡ Fault.Memory) ⊎ ((e ≡ Fault.Storage) ⊎ (descriptor_of (S.state image).bytes ≡ Err e))) }
+        ensures err { IfErr result (RefusesOpening (descriptor_of (S.state image).bytes)) }
     {
         let mut image = image;
         match read_descriptor(alloc, &mut image) {
@@ -102,7 +103,7 @@ impl<S: Storage> Vmdk<S> {
     // The run from an offset on: all of the range that lies in its extent.
     fn run_from(&self, offset: u64, max_length: u64) -> (ShallowMapping, u64)
         ensures run { IsRun (⟦<Vmdk<S> as Seen>⟧.layer self.now) offset max_length result.0 result.1 }
-        ensures looks { let d = ⟦<Vmdk<S> as Seen>⟧ in d.sees self.now → Looks (d.layer self.now) (byte_in (files d self.now)) offset max_length result.0 result.1 }
+        ensures looks { let d = ⟦<Vmdk<S> as Seen>⟧ in d.sees self.now → LooksIn d offset max_length self.now self.now result }
     {
         match self.disk.find(offset) {
             Some(found) => {
@@ -201,6 +202,15 @@ impl<S: Storage> Vmdk<S> {
         ensures { result.now ≡ slice_index_or (map (λ name. string_bytes name) (file_names self.now.disk.extents.items)) i [] }
     {
         name_of(self.disk.extents(), i)
+    }
+
+    /// One of them, to be changed. The disk then shows what its bytes are.
+    pub fn extra_mut(&mut self, i: usize) -> &mut S
+        requires { i < length self.old.files.items }
+        ensures* lends { sem 𝓛 (Lends (the_row S.row) S.row self.entry result (λ w. record self.entry.now { files = with_item self.entry.now.files i w })) }
+        ensures value { result.now ≡ slice_index_or self.old.files.items i result.now }
+    {
+        &mut self.files[i]
     }
 
     /// The descriptor's file again. The files of extents are dropped.
