@@ -66,7 +66,8 @@ is_carried key value = if is_word (codes "version") key
 -- The key ends at the first equals sign.
 abbrev pub setting_of : List ℕ → Result (Option (Extent (List ℕ))) Fault
 setting_of text = if nat_lt (position_or_len (λ b. b == 61) text) (length text)
-    then (if is_carried (before_first (λ b. b == 61) text) (past_blanks (after_first (λ b. b == 61) text)) then Ok None else Err Unsupported)
+    then (if is_carried (before_first (λ b. b == 61) text) (past_blanks (after_first (λ b. b == 61) text))
+    then Ok None else Err Unsupported)
     else Err DamagedDescriptor
 
 -- ---- A line, from its first byte on that is no blank.

@@ -1,5 +1,5 @@
 -- What calls do to the storages of an image.
-use Rattle.std.specs.Prelude.{⊤, ◌≡◌, ◌<◌, Some, None, ℕ, max, List, [], ◌∷◌}
+use Rattle.std.specs.Prelude.{map, ⊤, ◌≡◌, ◌<◌, Some, None, ℕ, max, List, [], ◌∷◌}
 use Rattle.imago_storage.specs.State.{StorageState}
 use Rattle.imago_storage.specs.declared.fault.Fault.{Fault}
 use Rattle.imago_storage.specs.declared.fault.Fault.TheVariants.{Memory, Storage, RangeOverflow, MissingData, ReadOnly}
@@ -8,6 +8,10 @@ use Rattle.imago_access.specs.Refusals.{barrier}
 use Rattle.imago_access.specs.Files.{IsKept, Pairs, SomeRose, files, greatest}
 use Rattle.imago_access.specs.declared.seen.Seen.{Ghosts}
 use Rattle.imago_storage.specs.Through.{Overflows}
+
+-- the states of an image file and of others
+abbrev pub states : {A : Type 0} → (A → StorageState) → A → List A → List StorageState
+states state image files = state image ∷ map state files
 
 -- why a call stops that goes over storages: want of memory, or one that failed
 abbrev pub IsStopped : List StorageState → List StorageState → Fault → Type 0

@@ -1,7 +1,7 @@
 // The storages of an image: the file of its descriptor, and those that its extents ask for.
 ghost use Rattle.std.specs.Prelude.{◌≡◌, ◌∷◌, map, length, OnOk, IfErr, IsOk};
 ghost use Rattle.imago_storage.specs.Calls.{Cause, IsFaultless};
-ghost use Rattle.imago_formats.specs.VmdkFiles.{IsStopped, IsUnread};
+ghost use Rattle.imago_formats.specs.VmdkFiles.{IsStopped, IsUnread, states};
 ghost use Rattle.imago_storage.specs.State.{IsAlignment};
 ghost use Rattle.imago_access.specs.Files.{AreRead, IsKept, Pairs, WasNotCutOff, greatest};
 
@@ -49,9 +49,9 @@ pub(crate) fn keep_up<S: Storage>(
     files: &mut [S],
     upkeep: Upkeep,
 ) -> Result<(), Fault>
-    ensures kept { Pairs IsKept (S.state image.old ∷ map S.state files.old) (S.state image.new ∷ map S.state files.new) }
-    ensures ok { OnOk result (Pairs IsFaultless (S.state image.old ∷ map S.state files.old) (S.state image.new ∷ map S.state files.new)) }
-    ensures err { IfErr result (IsStopped (S.state image.old ∷ map S.state files.old) (S.state image.new ∷ map S.state files.new)) }
+    ensures kept { Pairs IsKept (states S.state image.old files.old) (states S.state image.new files.new) }
+    ensures ok { OnOk result (Pairs IsFaultless (states S.state image.old files.old) (states S.state image.new files.new)) }
+    ensures err { IfErr result (IsStopped (states S.state image.old files.old) (states S.state image.new files.new)) }
 {
     match keep_one(image, upkeep) {
         Ok(()) => keep_files(files, upkeep),
@@ -97,10 +97,10 @@ pub(crate) fn read_storage<S: Storage>(
     place: u64,
     buf: &mut [u8],
 ) -> Result<(), Fault>
-    ensures bytes { OnOk result (AreRead (S.state image.old ∷ map S.state files.old) storage place (length buf.old) buf.new) }
-    ensures kept { Pairs IsKept (S.state image.old ∷ map S.state files.old) (S.state image.new ∷ map S.state files.new) }
-    ensures whole { WasNotCutOff result → (Pairs IsFaultless (S.state image.old ∷ map S.state files.old) (S.state image.new ∷ map S.state files.new)) }
-    ensures err { IfErr result (IsUnread (S.state image.old ∷ map S.state files.old) (S.state image.new ∷ map S.state files.new) place (length buf.old)) }
+    ensures bytes { OnOk result (AreRead (states S.state image.old files.old) storage place (length buf.old) buf.new) }
+    ensures kept { Pairs IsKept (states S.state image.old files.old) (states S.state image.new files.new) }
+    ensures whole { WasNotCutOff result → Pairs IsFaultless (states S.state image.old files.old) (states S.state image.new files.new) }
+    ensures err { IfErr result (IsUnread (states S.state image.old files.old) (states S.state image.new files.new) place (length buf.old)) }
     ensures empty { length buf.old ≡ 0 → IsOk result × (S.state image.new ≡ S.state image.old) × (map S.state files.new ≡ map S.state files.old) }
 {
     if storage == 0 {
