@@ -8,11 +8,8 @@ use crate::headers::{
     header_call, header_in_file, load_header, name_l1, name_reftable, new_header,
 };
 use crate::l2::{copy_of, l2_call, load_l2, new_l2, write_if_modified};
-use crate::tables::{table_alone, table_call, table_in_file};
-use crate::upper::{
-    empty_l1, empty_reftable, enter_block, enter_l2, grown_l1, grown_reftable, load_l1,
-    load_reftable,
-};
+use crate::tables::table_words;
+use crate::upper::upper_words;
 use cases::{Notes, Trouble, number, ok, size};
 use qcow2_metadata::{Header, L1Table, L2Table, RefBlock, RefTable, Table};
 use qcow2_types::HostCluster;
@@ -148,136 +145,16 @@ impl<'a> Metadata<'a> {
         }
     }
 
-    fn load_l1(
-        &mut self,
-        alloc: Global,
-        cluster: HostCluster,
-        entries: usize,
-    ) -> Result<Answer, Trouble> {
-        let (Some(header), Some(image)) = (&self.header, &mut self.image) else {
-            return Err(Trouble::NoCall);
-        };
-        let table = load_l1(alloc, image, header, cluster, entries)?;
-        self.l1 = Some(table);
-        Ok(Answer::Done)
-    }
-
-    fn grow_l1(&mut self, alloc: Global, at: usize) -> Result<Answer, Trouble> {
-        let (Some(header), Some(table)) = (&self.header, &self.l1) else {
-            return Err(Trouble::NoCall);
-        };
-        let table = grown_l1(alloc, table, header, at)?;
-        self.l1 = Some(table);
-        Ok(Answer::Done)
-    }
-
-    fn empty_l1(&mut self, alloc: Global) -> Result<Answer, Trouble> {
-        let table = empty_l1(alloc, self.header()?);
-        self.l1 = Some(table);
-        Ok(Answer::Done)
-    }
-
-    fn enter_l2(&mut self, index: usize) -> Result<Answer, Trouble> {
-        let (Some(table), Some(l2_table)) = (&mut self.l1, &self.l2) else {
-            return Err(Trouble::NoCall);
-        };
-        enter_l2(table, l2_table, index)
-    }
-
-    fn l1_has(&self, index: usize) -> Result<Answer, Trouble> {
-        match &self.l1 {
-            Some(table) => Ok(Answer::Flag(table.in_bounds(index))),
-            None => Err(Trouble::NoCall),
-        }
-    }
-
-    fn l1_table(&mut self, alloc: Global, words: &[&str]) -> Result<Answer, Trouble> {
-        let call = table_call(words)?;
-        match (&mut self.l1, &mut self.image) {
-            (Some(table), Some(image)) if call.is_write() => {
-                table_in_file(alloc, table, image, call)
-            }
-            (Some(table), _) => table_alone(table, call),
-            _ => Err(Trouble::NoCall),
-        }
-    }
-
     /// A call of the L1 table.
     pub fn l1_words(&mut self, alloc: Global, words: &[&str]) -> Result<Answer, Trouble> {
-        match words {
-            ["load", word, entries] => self.load_l1(alloc, cluster(word)?, size(entries)?),
-            ["grow", at] => self.grow_l1(alloc, size(at)?),
-            ["make"] => self.empty_l1(alloc),
-            ["enter", index] => self.enter_l2(size(index)?),
-            ["in_bounds", index] => self.l1_has(size(index)?),
-            _ => self.l1_table(alloc, words),
-        }
-    }
-
-    fn load_reftable(
-        &mut self,
-        alloc: Global,
-        cluster: HostCluster,
-        entries: usize,
-    ) -> Result<Answer, Trouble> {
-        let (Some(header), Some(image)) = (&self.header, &mut self.image) else {
-            return Err(Trouble::NoCall);
-        };
-        let table = load_reftable(alloc, image, header, cluster, entries)?;
-        self.reftable = Some(table);
-        Ok(Answer::Done)
-    }
-
-    fn grow_reftable(&mut self, alloc: Global, at: usize) -> Result<Answer, Trouble> {
-        let (Some(header), Some(table)) = (&self.header, &self.reftable) else {
-            return Err(Trouble::NoCall);
-        };
-        let table = grown_reftable(alloc, table, header, at)?;
-        self.reftable = Some(table);
-        Ok(Answer::Done)
-    }
-
-    fn empty_reftable(&mut self, alloc: Global) -> Result<Answer, Trouble> {
-        let table = empty_reftable(alloc, self.header()?);
-        self.reftable = Some(table);
-        Ok(Answer::Done)
-    }
-
-    fn enter_block(&mut self, index: usize) -> Result<Answer, Trouble> {
-        let (Some(table), Some(block)) = (&mut self.reftable, &self.block) else {
-            return Err(Trouble::NoCall);
-        };
-        enter_block(table, block, index)
-    }
-
-    fn reftable_has(&self, index: usize) -> Result<Answer, Trouble> {
-        match &self.reftable {
-            Some(table) => Ok(Answer::Flag(table.in_bounds(index))),
-            None => Err(Trouble::NoCall),
-        }
-    }
-
-    fn reftable_table(&mut self, alloc: Global, words: &[&str]) -> Result<Answer, Trouble> {
-        let call = table_call(words)?;
-        match (&mut self.reftable, &mut self.image) {
-            (Some(table), Some(image)) if call.is_write() => {
-                table_in_file(alloc, table, image, call)
-            }
-            (Some(table), _) => table_alone(table, call),
-            _ => Err(Trouble::NoCall),
-        }
+        let tables = (&mut self.l1, &self.l2);
+        upper_words(alloc, tables, &self.header, &mut self.image, words)
     }
 
     /// A call of the refcount table.
     pub fn reftable_words(&mut self, alloc: Global, words: &[&str]) -> Result<Answer, Trouble> {
-        match words {
-            ["load", word, entries] => self.load_reftable(alloc, cluster(word)?, size(entries)?),
-            ["grow", at] => self.grow_reftable(alloc, size(at)?),
-            ["make"] => self.empty_reftable(alloc),
-            ["enter", index] => self.enter_block(size(index)?),
-            ["in_bounds", index] => self.reftable_has(size(index)?),
-            _ => self.reftable_table(alloc, words),
-        }
+        let tables = (&mut self.reftable, &self.block);
+        upper_words(alloc, tables, &self.header, &mut self.image, words)
     }
 
     fn load_l2(&mut self, alloc: Global, cluster: HostCluster) -> Result<Answer, Trouble> {
@@ -311,17 +188,6 @@ impl<'a> Metadata<'a> {
         write_if_modified(alloc, table, image)
     }
 
-    fn l2_table(&mut self, alloc: Global, words: &[&str]) -> Result<Answer, Trouble> {
-        let call = table_call(words)?;
-        match (&mut self.l2, &mut self.image) {
-            (Some(table), Some(image)) if call.is_write() => {
-                table_in_file(alloc, table, image, call)
-            }
-            (Some(table), _) => table_alone(table, call),
-            _ => Err(Trouble::NoCall),
-        }
-    }
-
     // What an L2 table alone is asked for.
     fn l2_alone(&mut self, alloc: Global, words: &[&str]) -> Result<String, Trouble> {
         match &mut self.l2 {
@@ -338,7 +204,10 @@ impl<'a> Metadata<'a> {
             ["copy"] => answered(alloc, self.copy_l2(alloc)),
             ["write_if_modified"] => answered(alloc, self.write_l2_if_modified(alloc)),
             [word, ..] if is_alone(word) => self.l2_alone(alloc, words),
-            _ => answered(alloc, self.l2_table(alloc, words)),
+            _ => answered(
+                alloc,
+                table_words(alloc, &mut self.l2, &mut self.image, words),
+            ),
         }
     }
 

@@ -62,8 +62,8 @@ fn short_call(word: &str) -> Result<TableCall, Trouble> {
     }
 }
 
-/// The call of these words.
-pub fn table_call(words: &[&str]) -> Result<TableCall, Trouble> {
+// The call of these words.
+fn table_call(words: &[&str]) -> Result<TableCall, Trouble> {
     match words {
         [word] => short_call(word),
         ["word", index] => Ok(TableCall::Word(size(index)?)),
@@ -129,8 +129,8 @@ fn ask<T: Table>(table: &T, call: TableCall) -> Result<Answer, Trouble> {
     }
 }
 
-/// A call of the table that needs no storage.
-pub fn table_alone<T: Table>(table: &mut T, call: TableCall) -> Result<Answer, Trouble> {
+// A call of the table that needs no storage.
+fn table_alone<T: Table>(table: &mut T, call: TableCall) -> Result<Answer, Trouble> {
     match call {
         TableCall::SetCluster(cluster) => table.set_cluster(cluster),
         TableCall::UnsetCluster => table.unset_cluster(),
@@ -162,8 +162,8 @@ fn write_word<T: Table>(
     Ok(Answer::Done)
 }
 
-/// A call of the table over the storage.
-pub fn table_in_file<T: Table>(
+// A call of the table over the storage.
+fn table_in_file<T: Table>(
     alloc: Global,
     table: &mut T,
     image: &mut Image<'_>,
@@ -172,6 +172,21 @@ pub fn table_in_file<T: Table>(
     match call {
         TableCall::Write => write(alloc, table, image),
         TableCall::WriteWord(index) => write_word(alloc, table, image, index),
+        _ => Err(Trouble::NoCall),
+    }
+}
+
+/// A call of the table of a case, where it has one.
+pub fn table_words<T: Table>(
+    alloc: Global,
+    table: &mut Option<T>,
+    image: &mut Option<Image<'_>>,
+    words: &[&str],
+) -> Result<Answer, Trouble> {
+    let call = table_call(words)?;
+    match (table, image) {
+        (Some(table), Some(image)) if call.is_write() => table_in_file(alloc, table, image, call),
+        (Some(table), _) => table_alone(table, call),
         _ => Err(Trouble::NoCall),
     }
 }

@@ -5,73 +5,37 @@ ghost use Rattle.qcow2_metadata.specs.Tables.{IsNamable};
 use crate::answer::Answer;
 use crate::file::Image;
 use crate::limits::is_in_reach;
-use cases::Trouble;
+use crate::tables::table_words;
+use cases::{Trouble, number, size};
 use qcow2_metadata::{Header, L1Table, L2Table, RefBlock, RefTable, Table};
 use qcow2_types::{ClusterCount, ClustersToFreeEntry, HostCluster, PendingClusters};
 use std::alloc::Global;
 
-/// Loads the L1 table of so many words that begins with a cluster.
-pub fn load_l1(
-    alloc: Global,
-    image: &mut Image<'_>,
-    header: &Header,
-    cluster: HostCluster,
-    entries: usize,
-) -> Result<L1Table, Trouble> {
-    if !is_in_reach(cluster, header.cluster_bits()) {
-        return Err(Trouble::NoCall);
-    }
-    Ok(L1Table::load(alloc, image, header, cluster, entries)?)
-}
+/// What differs between the two tables whose words name other metadata.
+pub trait Upper: Table + Drop {
+    /// What its words name.
+    type Named;
 
-/// Loads the refcount table of so many words that begins with a cluster.
-pub fn load_reftable(
-    alloc: Global,
-    image: &mut Image<'_>,
-    header: &Header,
-    cluster: HostCluster,
-    entries: usize,
-) -> Result<RefTable, Trouble> {
-    if !is_in_reach(cluster, header.cluster_bits()) {
-        return Err(Trouble::NoCall);
-    }
-    Ok(RefTable::load(alloc, image, header, cluster, entries)?)
-}
+    /// Loads the table of so many words that begins with a cluster.
+    fn loaded(
+        alloc: Global,
+        image: &mut Image<'_>,
+        header: &Header,
+        cluster: HostCluster,
+        entries: usize,
+    ) -> Result<Self, Trouble>;
 
-/// An L1 table without words.
-pub fn empty_l1(alloc: Global, header: &Header) -> L1Table {
-    L1Table::from_data(Vec::new(alloc), header)
-}
+    /// A table without words.
+    fn without_words(alloc: Global, header: &Header) -> Self;
 
-/// A refcount table without words.
-pub fn empty_reftable(alloc: Global, header: &Header) -> RefTable {
-    RefTable::from_data(Vec::new(alloc), header)
-}
+    /// A copy that has a word at an index.
+    fn grown(&self, alloc: Global, header: &Header, at: usize) -> Result<Self, Trouble>;
 
-/// A copy of the L1 table that has a word at an index.
-pub fn grown_l1(
-    alloc: Global,
-    table: &L1Table,
-    header: &Header,
-    at: usize,
-) -> Result<L1Table, Trouble> {
-    if table.cluster_bits() != header.cluster_bits() {
-        return Err(Trouble::NoCall);
-    }
-    Ok(table.clone_and_grow(alloc, at, header)?)
-}
+    /// Names something at an index.
+    fn enter(&mut self, named: &Self::Named, index: usize) -> Result<Answer, Trouble>;
 
-/// A copy of the refcount table that has a word at an index past its end.
-pub fn grown_reftable(
-    alloc: Global,
-    table: &RefTable,
-    header: &Header,
-    at: usize,
-) -> Result<RefTable, Trouble> {
-    if table.cluster_bits() != header.cluster_bits() || table.entries() > at {
-        return Err(Trouble::NoCall);
-    }
-    Ok(table.clone_and_grow(alloc, header, at)?)
+    /// Whether it has a word at an index.
+    fn has(&self, index: usize) -> bool;
 }
 
 // Metadata in a cluster that nothing names yet.
@@ -88,32 +52,135 @@ fn is_namable(cluster: HostCluster, bits: u32) -> bool
     is_in_reach(cluster, bits) && cluster.0 > 0
 }
 
-/// Names an L2 table at an index.
-pub fn enter_l2(table: &mut L1Table, l2_table: &L2Table, index: usize) -> Result<Answer, Trouble> {
-    let Some(cluster) = l2_table.get_cluster() else {
-        return Err(Trouble::NoCall);
-    };
-    let bits = table.cluster_bits();
-    if l2_table.cluster_bits() != bits || !is_namable(cluster, bits) || !table.in_bounds(index) {
-        return Err(Trouble::NoCall);
+impl Upper for L1Table {
+    type Named = L2Table;
+
+    fn loaded(
+        alloc: Global,
+        image: &mut Image<'_>,
+        header: &Header,
+        cluster: HostCluster,
+        entries: usize,
+    ) -> Result<Self, Trouble> {
+        if !is_in_reach(cluster, header.cluster_bits()) {
+            return Err(Trouble::NoCall);
+        }
+        Ok(L1Table::load(alloc, image, header, cluster, entries)?)
     }
-    table.enter_l2_table(index, l2_table, pending(cluster));
+
+    fn without_words(alloc: Global, header: &Header) -> Self {
+        L1Table::from_data(Vec::new(alloc), header)
+    }
+
+    fn grown(&self, alloc: Global, header: &Header, at: usize) -> Result<Self, Trouble> {
+        if self.cluster_bits() != header.cluster_bits() {
+            return Err(Trouble::NoCall);
+        }
+        Ok(self.clone_and_grow(alloc, at, header)?)
+    }
+
+    fn enter(&mut self, named: &L2Table, index: usize) -> Result<Answer, Trouble> {
+        let Some(cluster) = named.get_cluster() else {
+            return Err(Trouble::NoCall);
+        };
+        let bits = self.cluster_bits();
+        if named.cluster_bits() != bits || !is_namable(cluster, bits) || !self.in_bounds(index) {
+            return Err(Trouble::NoCall);
+        }
+        self.enter_l2_table(index, named, pending(cluster));
+        Ok(Answer::Done)
+    }
+
+    fn has(&self, index: usize) -> bool {
+        self.in_bounds(index)
+    }
+}
+
+impl Upper for RefTable {
+    type Named = RefBlock;
+
+    fn loaded(
+        alloc: Global,
+        image: &mut Image<'_>,
+        header: &Header,
+        cluster: HostCluster,
+        entries: usize,
+    ) -> Result<Self, Trouble> {
+        if !is_in_reach(cluster, header.cluster_bits()) {
+            return Err(Trouble::NoCall);
+        }
+        Ok(RefTable::load(alloc, image, header, cluster, entries)?)
+    }
+
+    fn without_words(alloc: Global, header: &Header) -> Self {
+        RefTable::from_data(Vec::new(alloc), header)
+    }
+
+    // The index lies past its end.
+    fn grown(&self, alloc: Global, header: &Header, at: usize) -> Result<Self, Trouble> {
+        if self.cluster_bits() != header.cluster_bits() || self.entries() > at {
+            return Err(Trouble::NoCall);
+        }
+        Ok(self.clone_and_grow(alloc, header, at)?)
+    }
+
+    fn enter(&mut self, named: &RefBlock, index: usize) -> Result<Answer, Trouble> {
+        let Some(cluster) = named.get_cluster() else {
+            return Err(Trouble::NoCall);
+        };
+        let bits = self.cluster_bits();
+        if named.cluster_bits() != bits || !is_namable(cluster, bits) || !self.in_bounds(index) {
+            return Err(Trouble::NoCall);
+        }
+        self.enter_refblock(index, named, pending(cluster));
+        Ok(Answer::Done)
+    }
+
+    fn has(&self, index: usize) -> bool {
+        self.in_bounds(index)
+    }
+}
+
+// Puts a table in the place of the one of a case: loaded, without words, or grown.
+fn make<T: Upper>(
+    alloc: Global,
+    table: &mut Option<T>,
+    header: &Header,
+    image: &mut Option<Image<'_>>,
+    words: &[&str],
+) -> Result<Answer, Trouble> {
+    let made = match (words, &*table, image) {
+        (["load", word, entries], _, Some(image)) => {
+            T::loaded(
+                alloc,
+                image,
+                header,
+                HostCluster(number(word)?),
+                size(entries)?,
+            )?
+        }
+        (["make"], _, _) => T::without_words(alloc, header),
+        (["grow", at], Some(table), _) => table.grown(alloc, header, size(at)?)?,
+        _ => return Err(Trouble::NoCall),
+    };
+    *table = Some(made);
     Ok(Answer::Done)
 }
 
-/// Names a refcount block at an index.
-pub fn enter_block(
-    table: &mut RefTable,
-    block: &RefBlock,
-    index: usize,
+/// A call of such a table.
+pub fn upper_words<T: Upper>(
+    alloc: Global,
+    (table, named): (&mut Option<T>, &Option<T::Named>),
+    header: &Option<Header>,
+    image: &mut Option<Image<'_>>,
+    words: &[&str],
 ) -> Result<Answer, Trouble> {
-    let Some(cluster) = block.get_cluster() else {
-        return Err(Trouble::NoCall);
-    };
-    let bits = table.cluster_bits();
-    if block.cluster_bits() != bits || !is_namable(cluster, bits) || !table.in_bounds(index) {
-        return Err(Trouble::NoCall);
+    match (words, &mut *table, named, header) {
+        (["load" | "make" | "grow", ..], _, _, Some(header)) => make(
+            alloc, table, header, image, words,
+        ),
+        (["enter", index], Some(table), Some(named), _) => table.enter(named, size(index)?),
+        (["in_bounds", index], Some(table), _, _) => Ok(Answer::Flag(table.has(size(index)?))),
+        _ => table_words(alloc, table, image, words),
     }
-    table.enter_refblock(index, block, pending(cluster));
-    Ok(Answer::Done)
 }
