@@ -1,5 +1,5 @@
 // The storages of raw images: `cases::Shaped` behind one that may be of one size, behind a fuse.
-use cases::{Alignments, Notes, Shaped, Trouble, bytes, number, size};
+use cases::{Notes, Shaped, Trouble, number};
 use imago_storage::{Fault, FuseStorage, PreallocateMode, Storage};
 use std::alloc::Global;
 use std::cell::Cell;
@@ -95,36 +95,7 @@ pub struct Notebook<'a> {
     pub mode: &'a Cell<Mode>,
 }
 
-fn alignments(words: &[&str; 4]) -> Result<Alignments, Trouble> {
-    let [mem, req, zero, discard] = words;
-    match Alignments::new(size(mem)?, size(req)?, size(zero)?, size(discard)?) {
-        Some(alignments) => Ok(alignments),
-        None => Err(Trouble::NoCall),
-    }
-}
-
-// Four words for alignments, one for what it has (`z` zeroes, `d` discards, `zd` both, `-` neither), and its bytes.
-fn shaped<'a>(
-    alloc: Global,
-    words: &[&str],
-    notes: &'a Cell<Notes>,
-) -> Result<Shaped<'a>, Trouble> {
-    let [mem, req, zero, discard, has, rest @ ..] = words else {
-        return Err(Trouble::NoCall);
-    };
-    let alignments = alignments(&[*mem, *req, *zero, *discard])?;
-    let has_zeroes = has.starts_with("z");
-    let has_discards = has.ends_with("d");
-    Ok(Shaped::new(
-        bytes(alloc, rest)?,
-        alignments,
-        has_zeroes,
-        has_discards,
-        notes,
-    )?)
-}
-
-// The same behind a fuse.
+// A storage by its words, behind a fuse.
 fn fused<'a>(
     alloc: Global,
     n: u64,
@@ -133,7 +104,7 @@ fn fused<'a>(
     notes: Notebook<'a>,
 ) -> Result<Base<'a>, Trouble> {
     let resizing = Resizing {
-        inner: shaped(alloc, words, notes.asked)?,
+        inner: Shaped::of_words(alloc, words, notes.asked)?,
         is_fixed,
         mode: notes.mode,
     };
