@@ -20,8 +20,8 @@ use Rattle.imago_formats.specs.declared.vmdk.descriptor.Extent.{Extent}
 -- whether a file is asked for
 abbrev pub asks_file : {N : Type 0} → Access → Source N → Bool
 asks_file NoAccess source = false
-asks_file access (Flat name sector) = true
-asks_file access Zero = false
+asks_file _ (Flat name sector) = true
+asks_file _ Zero = false
 
 abbrev pub has_file : {N : Type 0} → Extent N → Bool
 has_file x = asks_file x.access x.source
@@ -33,8 +33,8 @@ files_asked xs = count_by has_file xs
 -- the names of the files that extents ask for
 abbrev pub name_in : {N : Type 0} → Access → Source N → List N
 name_in NoAccess source = []
-name_in access (Flat name sector) = name ∷ []
-name_in access Zero = []
+name_in _ (Flat name sector) = name ∷ []
+name_in _ Zero = []
 
 abbrev pub file_names : {N : Type 0} → List (Extent N) → List N
 file_names [] = []
@@ -43,8 +43,8 @@ file_names (x ∷ xs) = name_in x.access x.source ++ file_names xs
 -- what an extent shows at a place of its own, by the bytes of its file: one that has no access can't be read
 abbrev pub in_source : {N : Type 0} → Access → Source N → (ℕ → ℕ) → ℕ → Cell
 in_source NoAccess source file p = own barred
-in_source access (Flat name sector) file p = own (byte (file (512 * sector + p)))
-in_source access Zero file p = own (byte 0)
+in_source _ (Flat name sector) file p = own (byte (file (512 * sector + p)))
+in_source _ Zero file p = own (byte 0)
 
 -- What extents show at a place, one behind the other. Those that ask for a file are numbered from k on, in order.
 abbrev pub in_extents : {N : Type 0} → (ℕ → ℕ → ℕ) → List (Extent N) → ℕ → ℕ → Cell
@@ -55,8 +55,8 @@ in_extents files (x ∷ xs) k p = let later = in_extents files xs (if has_file x
 -- the end of an extent in its file, in bytes, if it has one
 abbrev pub end_in_file : {N : Type 0} → Access → Source N → ℕ → ℕ
 end_in_file NoAccess source sectors = 0
-end_in_file access (Flat name sector) sectors = 512 * (sector + sectors)
-end_in_file access Zero sectors = 0
+end_in_file _ (Flat name sector) sectors = 512 * (sector + sectors)
+end_in_file _ Zero sectors = 0
 
 -- each extent ends in its file where reads reach
 abbrev pub AreInReach : {N : Type 0} → ℕ → List (Extent N) → Type 0
@@ -104,8 +104,8 @@ vmdk_layer extents image files = record {
 -- what a lookup answers at an offset that lies so far behind the start of an extent, whose file has this number
 abbrev pub mapping_of : {N : Type 0} → Access → Source N → (k offset within : ℕ) → ShallowMapping
 mapping_of NoAccess source k offset within = shallow.Special offset
-mapping_of access (Flat name sector) k offset within = shallow.Raw k (min (min (512 * sector) (2 ^ 64 - 1) + within) (2 ^ 64 - 1)) false
-mapping_of access Zero k offset within = shallow.Zero true
+mapping_of _ (Flat name sector) k offset within = shallow.Raw k (min (min (512 * sector) (2 ^ 64 - 1) + within) (2 ^ 64 - 1)) false
+mapping_of _ Zero k offset within = shallow.Zero true
 
 -- what it is printed as
 abbrev pub vmdk_text : Option (List ℕ) → List ℕ
