@@ -50,7 +50,7 @@ module _ {D St : Type 0} (g : Ghosts D St) where
   over_mild a b e mild = tt
 
   pub over_plain : (a b : D) (e : Fault) → Marks g a b e → MarksOver g a b e
-  over_plain a b Storage marked = λ marks rose. marked marks
+  over_plain a b Storage marked = λ marks. ((λ rose. marked marks), inl (marked marks))
   over_plain a b Memory marked = marked
   over_plain a b e marked = tt
 
@@ -88,25 +88,26 @@ module _ {D St B : Type 0} (g : Ghosts D St) (u : GhostsBelow B) where
   top_mild a b x y e mild = tt
 
   pub top_over : (a b : D) (x y : B) (e : Fault) → MarksOver g a b e → MarksTop g u (a, x) (b, y) e
-  top_over a b x y Storage marked = marked
+  top_over a b x y Storage marked = λ marks. ((marked marks).0, elim (marked marks).1 [ inl failed ↦ inl failed | inr spared ↦ inr (λ i. spared.0.safely i.is_safe) ])
   top_over a b x y Memory marked = λ marks. elim (marked marks) [ inl failed ↦ inl failed | inr spared ↦ inr (λ i. spared.0.safely i.is_safe) ]
   top_over a b x y e marked = tt
 
   -- a call of the driver alone, behind one that left an intact image safe
   pub top_alone : (a b c : D) (x y : B) (e : Fault) → (g.layer b).fixed ≡ (g.layer a).fixed → (IsIntact g u a x → g.safe b) → MarksAlone g b c e → MarksTop g u (a, x) (c, y) e
-  top_alone a b c x y Storage fixed safely marked = λ marks rose. marked (marks_on g a b fixed marks)
+  top_alone a b c x y Storage fixed safely marked = λ marks. let failed = marked (marks_on g a b fixed marks) in ((λ rose. failed), inl failed)
   top_alone a b c x y Memory fixed safely marked = λ marks. elim (marked (marks_on g a b fixed marks)) [ inl failed ↦ inl failed | inr on ↦ inr (λ i. on (safely i)) ]
   top_alone a b c x y e fixed safely marked = tt
 
   -- behind a call in which no storage failed
   pub top_behind : (a b c : D) (x y z : B) (e : Fault) → (g.layer b).fixed ≡ (g.layer a).fixed → Pairs IsFaultless (files g a) (files g b) → (IsIntact g u a x → IsIntact g u b y)
       → MarksTop g u (b, y) (c, z) e → MarksTop g u (a, x) (c, z) e
-  top_behind a b c x y z Storage fixed none intact marked = λ marks rose. marked (marks_on g a b fixed marks) (some_rose_since (files g a) (files g b) (files g c) none rose)
+  top_behind a b c x y z Storage fixed none intact marked = λ marks. let told = marked (marks_on g a b fixed marks) in
+      ((λ rose. told.0 (some_rose_since (files g a) (files g b) (files g c) none rose)), elim told.1 [ inl failed ↦ inl failed | inr on ↦ inr (λ i. on (intact i)) ])
   top_behind a b c x y z Memory fixed none intact marked = λ marks. elim (marked (marks_on g a b fixed marks)) [ inl failed ↦ inl failed | inr on ↦ inr (λ i. on (intact i)) ]
   top_behind a b c x y z e fixed none intact marked = tt
 
 -- as a chain sees the layers below
 pub top_by : {D St B C : Type 0} (f : B → C) (g : Ghosts D St) (u : GhostsBelow C) (a b : D) (x y : B) (e : Fault) → MarksTop g (seen_by f u) (a, x) (b, y) e → MarksTop g u (a, f x) (b, f y) e
-top_by f g u a b x y Storage marked = marked
+top_by f g u a b x y Storage marked = λ marks. ((marked marks).0, elim (marked marks).1 [ inl failed ↦ inl failed | inr on ↦ inr (λ i. on (intact_by f g u a x i)) ])
 top_by f g u a b x y Memory marked = λ marks. elim (marked marks) [ inl failed ↦ inl failed | inr on ↦ inr (λ i. on (intact_by f g u a x i)) ]
 top_by f g u a b x y e marked = tt

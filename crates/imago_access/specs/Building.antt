@@ -15,18 +15,19 @@ options_with None writable = record { filename = None; writable = writable; dire
 options_with (Some options) writable = record options { writable = writable }
 
 -- A driver just opened, of this format, for writing or not, and with this number, over an image file that was so before. It shows what the file
--- means, where that is its only one, and opening has only read that; nothing is prepared, nothing waits in memory, and it has not failed. Where
+-- means, and opening has only read that; nothing is prepared, nothing waits in memory, and it has not failed. Where
 -- the file is sound and its storage keeps what is written, it is as an image that was found sound has to be.
 pub record IsOpened {D St : Type 0} (g : Ghosts D St) (format : Format) (writable : Bool) (number : ℕ) (before : StorageState) (d : D) : Type 0 where
   pub format_is : (g.layer d).fixed.format ≡ format
   pub writable_is : (g.layer d).fixed.writable ≡ writable
   pub number_is : (g.layer d).fixed.number ≡ number
-  pub meant : g.extras d ≡ [] → IsWritten g d
+  pub meant : IsWritten g d
   pub kept : IsKept before (g.image d)
   pub free : IsFree (g.layer d)
   pub runs : (g.layer d).failed ≡ false
   pub sees : g.sees d
   pub still : g.still d
+  pub lasting : g.lasts d
   pub safe : IsTrue (g.layer d).fixed.keeps → g.sound (g.layer d).fixed.kind (g.image d).bytes → g.safe d
 
 -- Each driver that may be opened is one just opened.

@@ -12,7 +12,8 @@ use Rattle.imago_access.specs.Layer.{Layer}
 use Rattle.imago_access.specs.Chain.{unit_of_chain}
 use Rattle.imago_access.specs.Layers.{chain}
 use Rattle.imago_access.specs.Changes.{Asked}
-use Rattle.imago_access.specs.Files.{ImageCause, IsMild, WasNotCutOff, Unasked, files_of}
+use Rattle.imago_access.specs.Files.{ImageCause, IsMild, WasNotCutOff, files_of}
+use Rattle.imago_access.specs.Going.{IsUnchanged}
 use Rattle.imago_access.specs.Parts.{IsMappedAt, GrowthCause, ShrinkCause}
 use Rattle.imago_access.specs.Refusals.{barrier, change_refusal, look_refusal, ChangeCause}
 use Rattle.imago_access.specs.Resizes.{fill_of, resizing}
@@ -62,9 +63,9 @@ EndsAtOnce g c offset n = (n ≡ 0) ⊎ IsSome (chain_refusal g c offset n)
 abbrev pub LookEndsAtOnce : {D St : Type 0} → Ghosts D St → D × List D → ℕ → ℕ → Type 0
 LookEndsAtOnce g c offset n = (n ≡ 0) ⊎ IsSome (chain_look_refusal g c offset n)
 
--- nothing was asked of the files of the top driver, and the drivers below are what they were
-abbrev pub AllUnasked : {D St : Type 0} → Ghosts D St → D × List D → D × List D → Type 0
-AllUnasked g old new = Unasked g old.0 new.0 × (new.1 ≡ old.1)
+-- all is as it was in the top driver, and the drivers below are what they were
+abbrev pub AllUnchanged : {D St : Type 0} → Ghosts D St → D × List D → D × List D → Type 0
+AllUnchanged g old new = IsUnchanged g old.0 new.0 × (new.1 ≡ old.1)
 
 -- what promises on values rest on still holds
 abbrev pub StaysIntact : {D St : Type 0} → Ghosts D St → D × List D → D × List D → Type 0
@@ -153,7 +154,8 @@ ChainMappedCause g guest place bytes old new = ChainCause g (write_mapped guest 
 
 -- A resize of a chain that has something to do is refused by a top driver that wasn't opened for writing.
 abbrev pub NeedsWritable : {D St : Type 0} → Ghosts D St → Type 0 → Result Unit Fault → D × List D → D × List D → Type 0
-NeedsWritable g Alters result old new = barrier (g.layer old.0) ≡ None → Alters → IsFalse (g.layer old.0).fixed.writable → IsErrOf result ReadOnly × AllUnasked g old new
+NeedsWritable g Alters result old new = barrier (g.layer old.0) ≡ None → Alters → IsFalse (g.layer old.0).fixed.writable
+    → IsErrOf result ReadOnly × AllUnchanged g old new
 
 -- the disk has this size then
 abbrev pub ChainResizes : {D St : Type 0} → Ghosts D St → ℕ → PreallocateMode → D × List D → D × List D → Type 0

@@ -10,9 +10,9 @@ use Rattle.imago_access.specs.Layer.{Layer}
 use Rattle.imago_access.specs.Chain.{at, Each, unit_of_chain}
 use Rattle.imago_access.specs.Files.{files_of}
 use Rattle.imago_access.specs.Kinds.{kind_of, deep_kind_of}
-use Rattle.imago_access.specs.Mappings.{DeepNames, DeepNamesWritable, IsDeepBelow, stored_at}
+use Rattle.imago_access.specs.Mappings.{DeepNames, DeepNamesWritable, IsDeepBelow, IsThere, stored_at}
 use Rattle.imago_access.specs.Refusals.{IsBarred, ReadCause, DeepLookCause, InvalidateCause}
-use Rattle.imago_access.specs.ChainCalls.{ChainSteps, AllUnasked}
+use Rattle.imago_access.specs.ChainCalls.{ChainSteps, AllUnchanged}
 
 -- a read of this many bytes fills the buffer with those of the chain's disk
 abbrev pub ChainReads : {D St : Type 0} → Ghosts D St → ℕ → ℕ → List ℕ → D × List D → D × List D → Type 0
@@ -44,6 +44,10 @@ NamesWritable g offset asked result olds = WhereAllSee g olds (IfOk result (λ r
 abbrev pub NamesLayer : {D : Type 0} → Result (Mapping × ℕ) Fault → List D → Type 0
 NamesLayer result ds = length ds < 2 ^ 64 → IfOk result (λ r. IsDeepBelow (length ds) r.0)
 
+-- it names a storage that there is
+abbrev pub NamesStorage : {D St : Type 0} → Ghosts D St → Result (Mapping × ℕ) Fault → List D → Type 0
+NamesStorage g result ds = length ds < 2 ^ 64 → IfOk result (λ r. IsThere g ds r.0)
+
 -- a read of a run has filled the buffer's begin with what these layers show
 abbrev pub ReadsRun : {D St : Type 0} → Ghosts D St → ℕ → Result ℕ Fault → List ℕ → List D → Type 0
 ReadsRun g offset result buf ds = Each g.sees ds → IfOk result (ShowBytes (map g.layer ds) offset buf)
@@ -52,9 +56,9 @@ ReadsRun g offset result buf ds = Each g.sees ds → IfOk result (ShowBytes (map
 abbrev pub NeedsNoLook : Layer → ℕ → Type 0
 NeedsNoLook layer asked = (asked ≡ 0) ⊎ IsBarred layer
 
--- then it asks nothing of the files
-abbrev pub UnaskedIfIdle : {D St : Type 0} → Ghosts D St → ℕ → D × List D → D × List D → Type 0
-UnaskedIfIdle g asked old new = NeedsNoLook (g.layer old.0) asked → AllUnasked g old new
+-- then all is as it was
+abbrev pub UnchangedIfIdle : {D St : Type 0} → Ghosts D St → ℕ → D × List D → D × List D → Type 0
+UnchangedIfIdle g asked old new = NeedsNoLook (g.layer old.0) asked → AllUnchanged g old new
 
 -- why a lookup through these layers is refused, and a read
 abbrev pub LookRefused : {D St T : Type 0} → Ghosts D St → ℕ → ℕ → Result T Fault → List D → List D → Type 0

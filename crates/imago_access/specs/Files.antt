@@ -71,6 +71,12 @@ abbrev pub files_of : {D St : Type 0} → Ghosts D St → List D → List Storag
 files_of g [] = []
 files_of g (d ∷ ds) = files g d ++ files_of g ds
 
+-- the storage with this index is this one
+abbrev pub IsStorageAt : List StorageState → ℕ → StorageState → Type 0
+IsStorageAt [] index s = ⊥
+IsStorageAt (t ∷ ts) zero s = s ≡ t
+IsStorageAt (t ∷ ts) (suc index) s = IsStorageAt ts index s
+
 -- the byte at a place of the storage with this number: 0 past its end, and where there is none
 abbrev pub byte_in : List StorageState → ℕ → ℕ → ℕ
 byte_in [] storage place = 0

@@ -1,5 +1,5 @@
 -- What lookups answer.
-use Rattle.std.specs.Prelude.{◌≡◌, ◌⊎◌, ⊤, ℕ, ◌+◌, ◌<◌, ◌≤◌, ◌^◌, List, [], ◌∷◌, Bool, true, false, suc, zero, ◌&&◌, Some, IsSome, IsTrue}
+use Rattle.std.specs.Prelude.{◌≡◌, ◌⊎◌, ⊤, ℕ, ◌+◌, ◌<◌, ◌≤◌, ◌^◌, List, [], ◌∷◌, length, Bool, true, false, suc, zero, ◌&&◌, Some, IsSome, IsTrue}
 use Rattle.imago_storage.specs.Through.{Overflows}
 use Rattle.imago_storage.specs.Disk.{Value, byte, barred}
 use Rattle.imago_access.specs.Layer.{Layer, Cell, own, unmapped, unit_of_layer, IsFree}
@@ -57,6 +57,11 @@ pub record Looks (layer : Layer) (stored : ℕ → ℕ → ℕ) (offset asked : 
   pub names : Names layer stored offset n mapping
   pub reach : IsInReach layer offset mapping n
   pub home : NamesHome layer offset asked mapping
+
+-- the answer names one of so many storages
+abbrev pub IsOneOf : ℕ → ShallowMapping → Type 0
+IsOneOf count (shallow.Raw storage place writable) = storage < count
+IsOneOf count mapping = ⊤
 
 -- what a lookup in a driver answers, by the bytes of its files, and of the room that the places have
 abbrev pub LooksIn : {D St : Type 0} → Ghosts D St → ℕ → ℕ → D → D → ShallowMapping × ℕ → Type 0
@@ -146,6 +151,17 @@ abbrev pub IsDeepBelow : ℕ → Mapping → Type 0
 IsDeepBelow n (deep.Raw depth storage place writable) = depth < n
 IsDeepBelow n (deep.Special depth place) = depth < n
 IsDeepBelow n mapping = ⊤
+
+-- there is a driver at the depth, with a storage of this number
+abbrev pub HasStorage : {D St : Type 0} → Ghosts D St → List D → ℕ → ℕ → Type 0
+HasStorage g [] depth storage = ⊥
+HasStorage g (d ∷ ds) zero storage = storage < length (files g d)
+HasStorage g (d ∷ ds) (suc depth) storage = HasStorage g ds depth storage
+
+-- the storage that the answer names is one of the driver at its depth
+abbrev pub IsThere : {D St : Type 0} → Ghosts D St → List D → Mapping → Type 0
+IsThere g ds (deep.Raw depth storage place writable) = HasStorage g ds depth storage
+IsThere g ds mapping = ⊤
 
 abbrev pub is_deep_end : Mapping → Bool
 is_deep_end deep.Eof = true

@@ -61,7 +61,7 @@ pub record Commits {D St : Type 0} (g : Ghosts D St) (state : Option St) (result
 -- Why it is refused: at once it gives the mapping back, and changes nothing; else it has spent it, and the image has failed.
 pub record CommitRefused {D St : Type 0} (g : Ghosts D St) (mapping : PreparedDataMapping St) (result : Result Unit (Fault × Option (PreparedDataMapping St))) (old new : D) : Type 0 where
   pub at_once : (f : Fault) → commit_refusal g mapping.state (g.layer old) ≡ Some f → MatchResult result (λ _. ⊥) (λ e. (e.0 ≡ f) × IsSome e.1)
-  pub unasked : (mapping.state ≡ None) ⊎ IsSome (commit_refusal g mapping.state (g.layer old)) → Unasked g old new
+  pub unchanged : (mapping.state ≡ None) ⊎ IsSome (commit_refusal g mapping.state (g.layer old)) → IsUnchanged g old new
   pub back : IfErr result (λ e. IfSome e.1 (λ m. (m ≡ mapping) × GivenBack g.tag mapping.state (g.layer old) e.0 × IsUnchanged g old new))
   pub spent : IfErr result (λ e. e.1 ≡ None → IsSome mapping.state × IsTrue (g.layer new).failed × IsSpending e.0
       × Spends g mapping.state (g.layer old) (g.layer new) (IsFree (g.layer new) × (g.safe old → IsMild e.0 → ⊥)))

@@ -8,9 +8,9 @@ use Rattle.imago_access.specs.declared.seen.SeenBelow.{Ghosts as GhostsBelow}
 use Rattle.imago_access.specs.declared.format.PreallocateMode.{PreallocateMode}
 use Rattle.imago_access.specs.Layer.{Layer, IsFree}
 use Rattle.imago_access.specs.Chain.{at, IsBacked}
-use Rattle.imago_access.specs.Files.{ImageCause, IsMild, WasNotCutOff, Unasked, files}
+use Rattle.imago_access.specs.Files.{ImageCause, IsMild, WasNotCutOff, files}
 use Rattle.imago_access.specs.Failing.{FailsOver}
-use Rattle.imago_access.specs.Going.{AtOnce, Marks, MarksOver, Went}
+use Rattle.imago_access.specs.Going.{AtOnce, IsUnchanged, Marks, MarksOver, Went}
 use Rattle.imago_access.specs.Parts.{GrowthCause, ShrinkCause}
 use Rattle.imago_access.specs.Refusals.{barrier}
 use Rattle.imago_access.specs.Resizes.{fill_of, Grown, NotGrown, Shrunk, NotShrunk}
@@ -22,7 +22,8 @@ pub record Resizes {D St : Type 0} (g : Ghosts D St) (first second : ℕ) (resul
   pub nothing : first ≤ second → OnOk result (g.layer new ≡ g.layer old)
   pub free : IsFree (g.layer new)
   pub at_once : AtOnce g (barrier (g.layer old)) (first ≤ second) result old new
-  pub read_only : barrier (g.layer old) ≡ None → second < first → IsFalse (g.layer old).fixed.writable → IsErrOf result ReadOnly × Unasked g old new
+  pub read_only : barrier (g.layer old) ≡ None → second < first → IsFalse (g.layer old).fixed.writable
+      → IsErrOf result ReadOnly × IsUnchanged g old new
 
 -- a growth to this size reads nothing of the layers below: it has nothing to do, or is refused at once
 abbrev pub IsUngrown : Layer → ℕ → Type 0

@@ -69,9 +69,10 @@ MarksAlone g old new Storage = IsTrue (g.layer old).fixed.marks → IsTrue (g.la
 MarksAlone g old new Memory = IsTrue (g.layer old).fixed.marks → IsTrue (g.layer new).failed ⊎ (g.safe old → g.safe new)
 MarksAlone g old new fault = ⊤
 
--- the same over the layers below: a fault of the top's own storages has marked it, and one that was intact is safe
+-- the same over the layers below: a fault of the top's own storages has marked it, and one of theirs has, or left one that was intact safe
 abbrev pub MarksTop : {D St B : Type 0} → Ghosts D St → GhostsBelow B → D × B → D × B → Fault → Type 0
-MarksTop g u old new Storage = IsTrue (g.layer old.0).fixed.marks → SomeRose (files g old.0) (files g new.0) → IsTrue (g.layer new.0).failed
+MarksTop g u old new Storage = IsTrue (g.layer old.0).fixed.marks
+    → (SomeRose (files g old.0) (files g new.0) → IsTrue (g.layer new.0).failed) × (IsTrue (g.layer new.0).failed ⊎ (IsIntact g u old.0 old.1 → g.safe new.0))
 MarksTop g u old new Memory = IsTrue (g.layer old.0).fixed.marks → IsTrue (g.layer new.0).failed ⊎ (IsIntact g u old.0 old.1 → g.safe new.0)
 MarksTop g u old new fault = ⊤
 
@@ -177,8 +178,8 @@ abbrev pub UnlessDeclined : {D St : Type 0} → Ghosts D St → List Layer → �
 UnlessDeclined {D} g below offset n old P = (d : D) (call : Call) → g.began d call old → IsPartOf call offset n → IsUndeclined (g.own_cause d below call) → P
 
 -- Then each whole unit of the range is given up by a discard,
-abbrev pub GivesUpUnits : {D St : Type 0} → Ghosts D St → ℕ → ℕ → Result Unit Fault → D → D → Type 0
-GivesUpUnits g offset n result old new = g.safe old → (below : List Layer)
+abbrev pub GivesUnitsUpAlone : {D St : Type 0} → Ghosts D St → ℕ → ℕ → Result Unit Fault → D → D → Type 0
+GivesUnitsUpAlone g offset n result old new = g.safe old → (below : List Layer)
     → UnlessDeclined g below offset n old (OnOk result (IsGivenUp (g.vacant new) (g.layer old).fixed.unit (g.layer old).size offset n))
 
 -- and left by a zeroing as its way says: by a driver alone between two places, so far up to a place, and in the whole range.

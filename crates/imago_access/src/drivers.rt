@@ -1,15 +1,15 @@
 // What a driver of a format promises to the chain above it.
-ghost use Rattle.std.specs.Prelude.{false, ◌≡◌, ◌<◌, ◌+◌, ◌^◌, ◌⊎◌, ℕ, Some, None, List, is_some, IsSome, IsTrue, IsOk, IfOk, IfErr, OnOk, IsErr, IsErrOf, length};
+ghost use Rattle.std.specs.Prelude.{false, ◌≡◌, ◌<◌, ◌≤◌, ◌+◌, ◌^◌, ◌⊎◌, ℕ, Some, None, List, MatchOption, is_some, IsSome, IsTrue, IsOk, IfOk, IfErr, OnOk, IsErr, IsErrOf, length};
 ghost use Rattle.imago_storage.specs.State.{IsAlignment};
 ghost use Rattle.imago_storage.specs.Steps.{Call};
 ghost use Rattle.imago_storage.specs.Disk.{byte};
 ghost use Rattle.imago_access.specs.Layer.{Layer, IsOneAt, own, unmapped, loose, IsFree, IsLike};
 ghost use Rattle.imago_access.specs.Chain.{at};
 ghost use Rattle.imago_access.specs.Room.{SaysRoom};
-ghost use Rattle.imago_access.specs.Files.{AreRead, Pairs, IsKept, WasNotCutOff, IsStale, files};
+ghost use Rattle.imago_access.specs.Files.{AreRead, Pairs, IsKept, IsStorageAt, WasNotCutOff, IsStale, files};
 ghost use Rattle.imago_access.specs.PartCalls.{IsPart, DoesPart, PartRefused, ensures_zero, discards_to_zero, discards_to_any, discards_to_backing};
 ghost use Rattle.imago_access.specs.Going.{AtOnce, RangeAtOnce, KeepsWhatIsFlushed, IsUnchanged, Marks, Looked, LookedUnder, Went};
-ghost use Rattle.imago_access.specs.Mappings.{IsRun, IsMappedRun, LooksIn, NamesRoomIn};
+ghost use Rattle.imago_access.specs.Mappings.{IsRun, IsOneOf, IsMappedRun, LooksIn, NamesRoomIn};
 ghost use Rattle.imago_access.specs.Refusals.{barrier, own_refusal, IsOfStorages};
 ghost use Rattle.imago_access.specs.Changes.{asking};
 ghost use Rattle.imago_access.specs.Stops.{IsWritten, IsCovered, KeepsStops, MakesNone, GivesNone};
@@ -44,6 +44,10 @@ pub trait FormatDriverInstance: Seen {
     /// Its image file.
     fn image_file(&self) -> &Self::Storage
         ensures { Self.Storage.state result.now ≡ Self.image self.now };
+
+    /// One of its further files, by their order: that with this index has the number `index + 1` where a lookup names it.
+    fn extra_file(&self, index: usize) -> Option<&Self::Storage>
+        ensures { MatchOption result (length (Self.extras self.now) ≤ index) (λ s. IsStorageAt (Self.extras self.now) index (Self.Storage.state s.now)) };
 
     /// The format.
     fn format(&self) -> Format
@@ -97,6 +101,7 @@ pub trait FormatDriverInstance: Seen {
         ensures run { IfOk result (λ r. IsRun (Self.layer self.old) offset max_length r.0 r.1) }
         ensures looks { Self.sees self.old → IfOk result (LooksIn Self.Seen offset max_length self.old self.new) }
         ensures room { Self.sees self.old → IfOk result (NamesRoomIn Self.Seen offset self.old) }
+        ensures there { IfOk result (λ r. IsOneOf (length (files Self.Seen self.old)) r.0) }
 
         ensures at_once { AtOnce Self.Seen (barrier (Self.layer self.old)) (max_length ≡ 0) result self.old self.new }
         ensures looked { Looked Self.Seen (WasNotCutOff result) self.old self.new }
@@ -283,7 +288,7 @@ pub trait FormatDriverInstance: Seen {
     /// It refuses with `Fault::Memory` and `Fault::Storage`.
     fn flush(&mut self, alloc: Global) -> Result<(), Fault>
         ensures same { Self.safe self.old → OnOk result (Self.layer self.new ≡ Self.layer self.old) }
-        ensures sees { Self.sees self.old → OnOk result (Self.sees self.new) }
+        ensures sees { Self.sees self.old → OnOk result ((Self.layer self.new ≡ Self.layer self.old) × Self.sees self.new) }
         ensures still { OnOk result (Self.still self.new) }
         ensures written { Self.safe self.old → IsFree (Self.layer self.old) → OnOk result (IsWritten Self.Seen self.new) }
         ensures stops { Self.safe self.old → (below : List Layer) → KeepsStops Self.Seen below GivesNone self.old self.new }
@@ -386,6 +391,9 @@ pub trait FormatDriverInstance: Seen {
 
     /// A qcow2 image marks failures.
     ghost marked: { (d : Self) → (Self.layer d).fixed.format ≡ Qcow2 → IsTrue (Self.layer d).fixed.marks };
+
+    /// It says of each place what room it has.
+    ghost says_room: { (d : Self) → (Self.layer d).fixed.format ≡ Qcow2 → IsTrue (Self.layer d).fixed.states_room };
 
     /// It allocates and gives up by at least a byte.
     ghost units: { (d : Self) → 0 < (Self.layer d).fixed.unit };

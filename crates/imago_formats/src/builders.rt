@@ -56,7 +56,7 @@ impl<S: Storage> FormatDriverBuilder<S> for RawOpenBuilder<S> {
       format_is = refl;
       writable_is = ap (λ (l : Layer). l.fixed.writable) opens.1.0;
       number_is = refl;
-      meant = λ alone. record { size = opens.1.1; exactly = never; cell = λ p low. refl };
+      meant = record { size = opens.1.1; exactly = never; cell = λ p low. refl };
       kept = kept_same (S.state b.base.image) (S.state d.storage) (ap S.state opens.0);
       free = refl;
       runs = refl;
@@ -137,7 +137,7 @@ impl<S: Storage> FormatDriverBuilder<S> for VmdkOpenBuilder<S> {
       format_is = refl;
       writable_is = sym opens.0;
       number_is = refl;
-      meant = λ alone. written d.disk.extents.items (S.state d.image) (map S.state d.files.items) said;
+      meant = written d.disk.extents.items (S.state d.image) (map S.state d.files.items) said;
       kept = opens.1;
       free = refl;
       runs = refl;

@@ -11,7 +11,7 @@ ghost use Rattle.imago_access.specs.Stops.{GivesAny, GivesBelow};
 ghost use Rattle.imago_access.specs.Running.{IsIntactChain, RanChain};
 ghost use Rattle.imago_access.specs.ChainCalls.{chain_refusal, EndsAtOnce, CallRefused, GivesUnitsUp, IsCarriedOut, IsDoneInPart};
 ghost use Rattle.imago_access.specs.Failing.{Fails};
-ghost use Rattle.imago_access.specs.RunCalls.{DiscardStops, DiscardsAlone, GivesUpUnits, RangeRefused, ReachesUnits, StaysBegun, MarksAlone};
+ghost use Rattle.imago_access.specs.RunCalls.{DiscardStops, DiscardsAlone, GivesUnitsUpAlone, RangeRefused, ReachesUnits, StaysBegun, MarksAlone};
 
 use crate::access::FormatAccess;
 use crate::drivers::FormatDriverInstance;
@@ -77,7 +77,7 @@ fn discard_all<D: FormatDriverInstance>(
     ensures went { Went D.Seen (WasNotCutOff result) (WasNotCutOff result) driver.old driver.new }
     ensures stops { DiscardStops D.Seen discarding offset n driver.old driver.new }
     ensures room { D.safe driver.old → WasNotCutOff result → GivesUp D.Seen offset n driver.old driver.new }
-    ensures gives_up { GivesUpUnits D.Seen offset n result driver.old driver.new }
+    ensures gives_up { GivesUnitsUpAlone D.Seen offset n result driver.old driver.new }
     ensures failed { IfErr result (Fails D.Seen driver.old driver.new) }
     ensures marks { IfErr result (MarksAlone D.Seen driver.old driver.new) }
     ensures cause { RangeRefused D.Seen offset n result driver.old driver.new }

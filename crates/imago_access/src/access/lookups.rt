@@ -1,14 +1,14 @@
 // Lookups, from the top layer downward.
-ghost use Rattle.std.specs.Prelude.{◌≡◌, ◌∷◌, IsOk, IfOk, IfErr, IsErrOf, Some, None};
+ghost use Rattle.std.specs.Prelude.{◌≡◌, ◌∷◌, length, IsOk, IfOk, IfErr, IsErrOf, Some, None};
 ghost use Rattle.imago_storage.specs.declared.fault.Fault.{Fault};
 ghost use Rattle.imago_access.specs.Layers.{chain, layers};
-ghost use Rattle.imago_access.specs.Files.{Pairs, WasNotCutOff, ImageCause, Unasked, files_of};
-ghost use Rattle.imago_access.specs.Going.{Looked};
-ghost use Rattle.imago_access.specs.Mappings.{IsRun, IsDeepRun, IsRunBelow, DeepNamesHome, LooksIn, NamesRoomIn};
+ghost use Rattle.imago_access.specs.Files.{Pairs, WasNotCutOff, ImageCause, files, files_of};
+ghost use Rattle.imago_access.specs.Going.{IsUnchanged, Looked, Marks, MarksSome};
+ghost use Rattle.imago_access.specs.Mappings.{IsRun, IsDeepRun, IsOneOf, IsRunBelow, DeepNamesHome, LooksIn, NamesRoomIn};
 ghost use Rattle.imago_access.specs.Refusals.{barrier};
 ghost use Rattle.imago_access.specs.ChainCalls.{ChainFails};
 ghost use Rattle.imago_access.specs.Failing.{Fails, RefusesLookup};
-ghost use Rattle.imago_access.specs.ChainLooks.{ChainFinds, LookRefused, NamesLayer, NamesTruly, NamesWritable, NeedsNoLook, TopFinds, UnaskedIfIdle, WhereAllSee};
+ghost use Rattle.imago_access.specs.ChainLooks.{ChainFinds, LookRefused, NamesLayer, NamesStorage, NamesTruly, NamesWritable, NeedsNoLook, TopFinds, UnchangedIfIdle, WhereAllSee};
 
 use crate::access::FormatAccess;
 use crate::drivers::FormatDriverInstance;
@@ -32,12 +32,14 @@ impl<D: FormatDriverInstance> FormatAccess<D> {
         ensures run { IfOk result (λ r. IsRun (D.layer self.old.0) offset max_length r.0 r.1) }
         ensures looks { D.sees self.old.0 → IfOk result (LooksIn D.Seen offset max_length self.old.0 self.new.0) }
         ensures room { D.sees self.old.0 → IfOk result (NamesRoomIn D.Seen offset self.old.0) }
+        ensures there { IfOk result (λ r. IsOneOf (length (files D.Seen self.old.0)) r.0) }
         ensures idle { max_length ≡ 0 → barrier (D.layer self.old.0) ≡ None → IsOk result }
         ensures barred { (f : Fault) → barrier (D.layer self.old.0) ≡ Some f → IsErrOf result f }
-        ensures unasked { NeedsNoLook (D.layer self.old.0) max_length → Unasked D.Seen self.old.0 self.new.0 }
+        ensures unchanged { NeedsNoLook (D.layer self.old.0) max_length → IsUnchanged D.Seen self.old.0 self.new.0 }
         ensures looked { Pairs (Looked D.Seen (WasNotCutOff result)) (chain self.old) (chain self.new) }
         ensures below { self.new.1 ≡ self.old.1 }
         ensures failed { IfErr result (Fails D.Seen self.old.0 self.new.0) }
+        ensures marks { IfErr result (Marks D.Seen self.old.0 self.new.0) }
         ensures cause { D.sees self.old.0 → IfErr result (RefusesLookup D.Seen offset max_length self.old.0 self.new.0) }
     {
         self.driver.get_mapping(alloc, offset, max_length)
@@ -62,13 +64,15 @@ impl<D: FormatDriverInstance> FormatAccess<D> {
         ensures run { IfOk result (λ r. IsDeepRun (D.layer self.old.0).size offset max_length r.0 r.1) }
         ensures names { NamesTruly D.Seen offset result (chain self.old) (chain self.new) }
         ensures deep { NamesLayer result (chain self.old) }
+        ensures there { NamesStorage D.Seen result (chain self.old) }
         ensures home { D.sees self.old.0 → IfOk result (λ r. DeepNamesHome (D.layer self.old.0) offset max_length r.0) }
         ensures writable { NamesWritable D.Seen offset max_length result (chain self.old) }
         ensures idle { max_length ≡ 0 → barrier (D.layer self.old.0) ≡ None → IsOk result }
         ensures barred { (f : Fault) → barrier (D.layer self.old.0) ≡ Some f → IsErrOf result f }
-        ensures unasked { UnaskedIfIdle D.Seen max_length self.old self.new }
+        ensures unchanged { UnchangedIfIdle D.Seen max_length self.old self.new }
         ensures looked { Pairs (Looked D.Seen (WasNotCutOff result)) (chain self.old) (chain self.new) }
         ensures failed { IfErr result (ChainFails D.Seen self.old self.new) }
+        ensures marks { IfErr result (MarksSome D.Seen (chain self.old) (chain self.new)) }
         ensures cause { LookRefused D.Seen offset max_length result (chain self.old) (chain self.new) }
     {
         Self::map_part(alloc, &mut self.driver, &mut self.below, offset, max_length)
@@ -86,13 +90,15 @@ impl<D: FormatDriverInstance> FormatAccess<D> {
         ensures run { IfOk result (λ r. IsDeepRun (D.layer driver.old).size offset max_length r.0 r.1) }
         ensures names { NamesTruly D.Seen offset result (driver.old ∷ layers below.old) (driver.new ∷ layers below.new) }
         ensures deep { NamesLayer result (driver.old ∷ layers below.old) }
+        ensures there { NamesStorage D.Seen result (driver.old ∷ layers below.old) }
         ensures home { D.sees driver.old → IfOk result (λ r. DeepNamesHome (D.layer driver.old) offset max_length r.0) }
         ensures writable { NamesWritable D.Seen offset max_length result (driver.old ∷ layers below.old) }
         ensures idle { max_length ≡ 0 → barrier (D.layer driver.old) ≡ None → IsOk result }
         ensures barred { (f : Fault) → barrier (D.layer driver.old) ≡ Some f → IsErrOf result f }
-        ensures unasked { UnaskedIfIdle D.Seen max_length (driver.old, layers below.old) (driver.new, layers below.new) }
+        ensures unchanged { UnchangedIfIdle D.Seen max_length (driver.old, layers below.old) (driver.new, layers below.new) }
         ensures looked { Pairs (Looked D.Seen (WasNotCutOff result)) (driver.old ∷ layers below.old) (driver.new ∷ layers below.new) }
         ensures failed { IfErr result (ChainFails D.Seen (driver.old, layers below.old) (driver.new, layers below.new)) }
+        ensures marks { IfErr result (MarksSome D.Seen (driver.old ∷ layers below.old) (driver.new ∷ layers below.new)) }
         ensures cause { LookRefused D.Seen offset max_length result (driver.old ∷ layers below.old) (driver.new ∷ layers below.new) }
     {
         let (mapping, length) = match driver.get_mapping(alloc, offset, max_length) {
@@ -145,9 +151,11 @@ impl<D: FormatDriverInstance> FormatAccess<D> {
         ensures run { IfOk result (λ r. IsRunBelow max_length r.0 r.1) }
         ensures names { NamesTruly D.Seen offset result (layers below.old) (layers below.new) }
         ensures deep { NamesLayer result (layers below.old) }
+        ensures there { NamesStorage D.Seen result (layers below.old) }
         ensures writable { NamesWritable D.Seen offset max_length result (layers below.old) }
         ensures looked { Pairs (Looked D.Seen (WasNotCutOff result)) (layers below.old) (layers below.new) }
         ensures failed { IfErr result (ImageCause (files_of D.Seen (layers below.old)) (files_of D.Seen (layers below.new))) }
+        ensures marks { IfErr result (MarksSome D.Seen (layers below.old) (layers below.new)) }
         ensures cause { LookRefused D.Seen offset max_length result (layers below.old) (layers below.new) }
     {
         match below {

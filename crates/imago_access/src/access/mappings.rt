@@ -3,17 +3,17 @@ ghost use Rattle.std.specs.Prelude.{◌≡◌, ◌<◌, ◌+◌, ◌^◌, length
 ghost use Rattle.imago_storage.specs.Steps.{prepare, write_mapped};
 ghost use Rattle.imago_storage.specs.declared.fault.Fault.{Fault};
 ghost use Rattle.imago_access.specs.Layer.{IsFree, IsLike};
-ghost use Rattle.imago_access.specs.Files.{WasNotCutOff, Unasked};
+ghost use Rattle.imago_access.specs.Files.{WasNotCutOff};
 ghost use Rattle.imago_access.specs.Mappings.{IsMappedRun};
 ghost use Rattle.imago_access.specs.Spending.{IsMine, IsForeignTo};
 ghost use Rattle.imago_access.specs.Refusals.{barrier};
 ghost use Rattle.imago_access.specs.Stops.{GivesNone, GivesBytes};
 ghost use Rattle.imago_access.specs.Running.{IsIntactChain, RanChain};
-ghost use Rattle.imago_access.specs.ChainCalls.{ChainStays, ChainFails, chain_refusal, AllUnasked, CanWriteRun, ChainCancels, ChainCommitRefused, ChainCommits, ChainMappedCause, ChainPrepares, CommitStops, EndsAtOnce, IfMild, IsMappedFor, KeepsHomes, StaysIntact, WhereMine, CallRefused, IsCarriedOut};
+ghost use Rattle.imago_access.specs.ChainCalls.{ChainStays, ChainFails, chain_refusal, AllUnchanged, CanWriteRun, ChainCancels, ChainCommitRefused, ChainCommits, ChainMappedCause, ChainPrepares, CommitStops, EndsAtOnce, IfMild, IsMappedFor, KeepsHomes, StaysIntact, WhereMine, CallRefused, IsCarriedOut};
 ghost use Rattle.imago_access.specs.Failing.{Fails};
 ghost use Rattle.imago_access.specs.PreparingCalls.{Cancels, CommitRefused, Commits, nowhere};
 ghost use Rattle.imago_access.specs.Changes.{asking};
-ghost use Rattle.imago_access.specs.Going.{Marks, MarksOver};
+ghost use Rattle.imago_access.specs.Going.{IsUnchanged, Marks, MarksOver};
 
 use crate::access::FormatAccess;
 use crate::drivers::FormatDriverInstance;
@@ -48,7 +48,7 @@ impl<D: FormatDriverInstance> FormatAccess<D> {
         ensures err { IsIntactChain D.Seen self.old → IfMild result (ChainStays D.Seen self.old self.new) }
         ensures at_once { (f : Fault) → chain_refusal D.Seen self.old offset length ≡ Some f → IsErrOf result f }
         ensures idle { length ≡ 0 → barrier (D.layer self.old.0) ≡ None → IsOk result }
-        ensures unasked { EndsAtOnce D.Seen self.old offset length → AllUnasked D.Seen self.old self.new }
+        ensures unchanged { EndsAtOnce D.Seen self.old offset length → AllUnchanged D.Seen self.old self.new }
         ensures free { IsErr result → IsFree (D.layer self.new.0) }
         ensures ran { RanChain D.Seen (WasNotCutOff result) GivesNone self.old self.new }
         ensures failed { IfErr result (ChainFails D.Seen self.old self.new) }
@@ -123,7 +123,7 @@ impl<D: FormatDriverInstance> FormatAccess<D> {
         ensures err { IsIntactChain D.Seen self.old → IfMild result (D.layer self.new.0 ≡ D.layer self.old.0) }
         ensures at_once { (f : Fault) → chain_refusal D.Seen self.old guest (length bytes.now) ≡ Some f → IsErrOf result f }
         ensures idle { length bytes.now ≡ 0 → barrier (D.layer self.old.0) ≡ None → IsOk result }
-        ensures unasked { EndsAtOnce D.Seen self.old guest (length bytes.now) → Unasked D.Seen self.old.0 self.new.0 }
+        ensures unchanged { EndsAtOnce D.Seen self.old guest (length bytes.now) → IsUnchanged D.Seen self.old.0 self.new.0 }
         ensures untouched { IsSome (chain_refusal D.Seen self.old guest (length bytes.now)) → self.new ≡ self.old }
         ensures empty { length bytes.now ≡ 0 → D.layer self.new.0 ≡ D.layer self.old.0 }
         ensures like { IsLike (D.layer self.old.0) (D.layer self.new.0) }

@@ -6,7 +6,7 @@ ghost use Rattle.imago_storage.specs.declared.fault.Fault.{Fault};
 ghost use Rattle.imago_access.specs.Chain.{at, Each, unit_of_chain};
 ghost use Rattle.imago_access.specs.Layers.{chain, layers};
 ghost use Rattle.imago_access.specs.Files.{Pairs, WasNotCutOff, ImageCause, files_of};
-ghost use Rattle.imago_access.specs.Going.{Looked};
+ghost use Rattle.imago_access.specs.Going.{Looked, MarksSome};
 ghost use Rattle.imago_access.specs.Refusals.{barrier};
 ghost use Rattle.imago_access.specs.ChainCalls.{ChainFails, chain_look_refusal, LookEndsAtOnce};
 ghost use Rattle.imago_access.specs.ChainLooks.{ChainReads, ReadRefused, ReadsRun};
@@ -25,6 +25,7 @@ impl<D: FormatDriverInstance> FormatAccess<D> {
     /// It refuses with `Fault::RangeOverflow` where the end of the range, rounded up to the chain's alignment, passes `u64`, with
     /// `Fault::Barred` and `Fault::DamagedTable` where a place of the range has no byte, with `Fault::Memory` and `Fault::Storage`, and
     /// where a layer can't be used. A refusal leaves the buffer open, and for another cause than `Memory` and `Storage` the disk as it was.
+    /// With `Fault::Storage` the layer whose storage it was has failed, if it is a qcow2 image.
     pub fn read(&mut self, alloc: Global, buf: &mut [u8], offset: u64) -> Result<(), Fault>
         ensures ok { Each D.sees (chain self.old) → OnOk result (ChainReads D.Seen offset (length buf.old) buf.new self.old self.new) }
         ensures at_once { (f : Fault) → chain_look_refusal D.Seen self.old offset (length buf.old) ≡ Some f → IsErrOf result f }
@@ -32,6 +33,7 @@ impl<D: FormatDriverInstance> FormatAccess<D> {
         ensures untouched { LookEndsAtOnce D.Seen self.old offset (length buf.old) → self.new ≡ self.old }
         ensures looked { Pairs (Looked D.Seen (WasNotCutOff result)) (chain self.old) (chain self.new) }
         ensures failed { IfErr result (ChainFails D.Seen self.old self.new) }
+        ensures marks { IfErr result (MarksSome D.Seen (chain self.old) (chain self.new)) }
         ensures cause { ReadRefused D.Seen offset (length buf.old) result (chain self.old) (chain self.new) }
     {
         self.driver.ready()?;
@@ -51,6 +53,7 @@ impl<D: FormatDriverInstance> FormatAccess<D> {
         ensures shown { Each D.sees (chain self.old) → OnOk result (Shows (at (map D.layer (chain self.old))) offset buf.new) }
         ensures looked { Pairs (Looked D.Seen (WasNotCutOff result)) (chain self.old) (chain self.new) }
         ensures failed { IfErr result (ChainFails D.Seen self.old self.new) }
+        ensures marks { IfErr result (MarksSome D.Seen (chain self.old) (chain self.new)) }
         ensures cause { ReadRefused D.Seen offset (length buf.old) result (chain self.old) (chain self.new) }
     {
         let mut done = 0;
@@ -73,6 +76,7 @@ impl<D: FormatDriverInstance> FormatAccess<D> {
         ensures shown { ReadsRun D.Seen offset result buf.new (chain self.old) }
         ensures looked { Pairs (Looked D.Seen (WasNotCutOff result)) (chain self.old) (chain self.new) }
         ensures failed { IfErr result (ChainFails D.Seen self.old self.new) }
+        ensures marks { IfErr result (MarksSome D.Seen (chain self.old) (chain self.new)) }
         ensures cause { ReadRefused D.Seen offset (length buf.old) result (chain self.old) (chain self.new) }
     {
         Self::read_part(alloc, &mut self.driver, &mut self.below, buf, offset)
@@ -93,6 +97,7 @@ impl<D: FormatDriverInstance> FormatAccess<D> {
         ensures shown { ReadsRun D.Seen offset result buf.new (driver.old ∷ layers below.old) }
         ensures looked { Pairs (Looked D.Seen (WasNotCutOff result)) (driver.old ∷ layers below.old) (driver.new ∷ layers below.new) }
         ensures failed { IfErr result (ChainFails D.Seen (driver.old, layers below.old) (driver.new, layers below.new)) }
+        ensures marks { IfErr result (MarksSome D.Seen (driver.old ∷ layers below.old) (driver.new ∷ layers below.new)) }
         ensures cause { ReadRefused D.Seen offset (length buf.old) result (driver.old ∷ layers below.old) (driver.new ∷ layers below.new) }
     {
         let most = buf.len();
@@ -142,6 +147,7 @@ impl<D: FormatDriverInstance> FormatAccess<D> {
         ensures shown { Each D.sees (layers below.old) → OnOk result (Shows (at (map D.layer (layers below.old))) offset buf.new) }
         ensures looked { Pairs (Looked D.Seen (WasNotCutOff result)) (layers below.old) (layers below.new) }
         ensures failed { IfErr result (ImageCause (files_of D.Seen (layers below.old)) (files_of D.Seen (layers below.new))) }
+        ensures marks { IfErr result (MarksSome D.Seen (layers below.old) (layers below.new)) }
         ensures cause { ReadRefused D.Seen offset (length buf.old) result (layers below.old) (layers below.new) }
     {
         match below {

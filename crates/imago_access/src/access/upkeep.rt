@@ -5,12 +5,12 @@ ghost use Rattle.imago_storage.specs.declared.fault.Fault.{Fault};
 ghost use Rattle.imago_access.specs.Layer.{IsFree, IsLike};
 ghost use Rattle.imago_access.specs.Chain.{Each, EndsAt};
 ghost use Rattle.imago_access.specs.Layers.{chain, layers};
-ghost use Rattle.imago_access.specs.Files.{Pairs, IsKept, IsStale, Unasked, files_of, files};
-ghost use Rattle.imago_access.specs.Going.{Went, Marks};
+ghost use Rattle.imago_access.specs.Files.{Pairs, IsKept, IsStale, files_of, files};
+ghost use Rattle.imago_access.specs.Going.{IsUnchanged, Went, Marks, MarksSome};
 ghost use Rattle.imago_access.specs.Refusals.{barrier, SomeFailed, IsBarred};
 ghost use Rattle.imago_access.specs.Stops.{IsWritten, GivesNone};
 ghost use Rattle.imago_access.specs.Running.{IsIntactChain, RanChain};
-ghost use Rattle.imago_access.specs.ChainCalls.{ChainSteps, AllUnasked, IsCarriedOut};
+ghost use Rattle.imago_access.specs.ChainCalls.{ChainSteps, AllUnchanged, IsCarriedOut};
 ghost use Rattle.imago_access.specs.Failing.{Fails, RefusesFlush};
 ghost use Rattle.imago_access.specs.ChainLooks.{KeepsLayers, KeepsSight, RefusesReloads};
 
@@ -27,11 +27,11 @@ impl<D: FormatDriverInstance> FormatAccess<D> {
     pub fn flush(&mut self, alloc: Global) -> Result<(), Fault>
         ensures ok { IsCarriedOut D.Seen flush result self.old self.new }
         ensures same { IsIntactChain D.Seen self.old → OnOk result (D.layer self.new.0 ≡ D.layer self.old.0) }
-        ensures sees { D.sees self.old.0 → OnOk result (D.sees self.new.0) }
+        ensures sees { D.sees self.old.0 → OnOk result ((D.layer self.new.0 ≡ D.layer self.old.0) × D.sees self.new.0) }
         ensures still { OnOk result (D.still self.new.0) }
         ensures written { IsIntactChain D.Seen self.old → IsFree (D.layer self.old.0) → OnOk result (IsWritten D.Seen self.new.0) }
         ensures barred { (f : Fault) → barrier (D.layer self.old.0) ≡ Some f → IsErrOf result f }
-        ensures unasked { IsBarred (D.layer self.old.0) → Unasked D.Seen self.old.0 self.new.0 }
+        ensures unchanged { IsBarred (D.layer self.old.0) → IsUnchanged D.Seen self.old.0 self.new.0 }
         ensures like { IsLike (D.layer self.old.0) (D.layer self.new.0) }
         ensures ran { RanChain D.Seen (IsOk result) GivesNone self.old self.new }
         ensures below { self.new.1 ≡ self.old.1 }
@@ -51,7 +51,7 @@ impl<D: FormatDriverInstance> FormatAccess<D> {
         ensures kept { Pairs IsKept (files D.Seen self.old.0) (files D.Seen self.new.0) }
         ensures still { D.still self.old.0 → D.still self.new.0 }
         ensures barred { (f : Fault) → barrier (D.layer self.old.0) ≡ Some f → IsErrOf result f }
-        ensures unasked { IsBarred (D.layer self.old.0) → Unasked D.Seen self.old.0 self.new.0 }
+        ensures unchanged { IsBarred (D.layer self.old.0) → IsUnchanged D.Seen self.old.0 self.new.0 }
         ensures like { IsLike (D.layer self.old.0) (D.layer self.new.0) }
         ensures ran { RanChain D.Seen (IsOk result) GivesNone self.old self.new }
         ensures below { self.new.1 ≡ self.old.1 }
@@ -75,11 +75,12 @@ impl<D: FormatDriverInstance> FormatAccess<D> {
         ensures kept { Pairs IsKept (files_of D.Seen (chain self.old)) (files_of D.Seen (chain self.new)) }
         ensures still { OnOk result (Each D.still (chain self.new)) }
         ensures barred { (f : Fault) → barrier (D.layer self.old.0) ≡ Some f → IsErrOf result f }
-        ensures unasked { IsBarred (D.layer self.old.0) → AllUnasked D.Seen self.old self.new }
+        ensures unchanged { IsBarred (D.layer self.old.0) → AllUnchanged D.Seen self.old self.new }
         ensures went { Pairs (Went D.Seen (IsOk result) (IsOk result)) (chain self.old) (chain self.new) }
         ensures free { Each (λ d. IsFree (D.layer d)) (chain self.new) }
         ensures downward { IfErr result (λ _. EndsAt D.still (chain self.old) (chain self.new)) }
         ensures failed { IfErr result (λ e. IsStale e → SomeFailed (map D.layer (chain self.new))) }
+        ensures marks { IfErr result (MarksSome D.Seen (chain self.old) (chain self.new)) }
         ensures cause { IfErr result (RefusesReloads D.Seen (chain self.old) (chain self.new)) }
     {
         Self::invalidate_part(alloc, &mut self.driver, &mut self.below)
@@ -98,11 +99,12 @@ impl<D: FormatDriverInstance> FormatAccess<D> {
         ensures kept { Pairs IsKept (files_of D.Seen (driver.old ∷ layers below.old)) (files_of D.Seen (driver.new ∷ layers below.new)) }
         ensures still { OnOk result (Each D.still (driver.new ∷ layers below.new)) }
         ensures barred { (f : Fault) → barrier (D.layer driver.old) ≡ Some f → IsErrOf result f }
-        ensures unasked { IsBarred (D.layer driver.old) → AllUnasked D.Seen (driver.old, layers below.old) (driver.new, layers below.new) }
+        ensures unchanged { IsBarred (D.layer driver.old) → AllUnchanged D.Seen (driver.old, layers below.old) (driver.new, layers below.new) }
         ensures went { Pairs (Went D.Seen (IsOk result) (IsOk result)) (driver.old ∷ layers below.old) (driver.new ∷ layers below.new) }
         ensures free { Each (λ d. IsFree (D.layer d)) (driver.new ∷ layers below.new) }
         ensures downward { IfErr result (λ _. EndsAt D.still (driver.old ∷ layers below.old) (driver.new ∷ layers below.new)) }
         ensures failed { IfErr result (λ e. IsStale e → SomeFailed (map D.layer (driver.new ∷ layers below.new))) }
+        ensures marks { IfErr result (MarksSome D.Seen (driver.old ∷ layers below.old) (driver.new ∷ layers below.new)) }
         ensures cause { IfErr result (RefusesReloads D.Seen (driver.old ∷ layers below.old) (driver.new ∷ layers below.new)) }
     {
         match driver.invalidate_cache(alloc) {
@@ -126,6 +128,7 @@ impl<D: FormatDriverInstance> FormatAccess<D> {
         ensures free { Each (λ d. IsFree (D.layer d)) (layers below.new) }
         ensures downward { IfErr result (λ _. EndsAt D.still (layers below.old) (layers below.new)) }
         ensures failed { IfErr result (λ e. IsStale e → SomeFailed (map D.layer (layers below.new))) }
+        ensures marks { IfErr result (MarksSome D.Seen (layers below.old) (layers below.new)) }
         ensures cause { IfErr result (RefusesReloads D.Seen (layers below.old) (layers below.new)) }
     {
         match below {

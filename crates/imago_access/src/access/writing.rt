@@ -4,8 +4,8 @@ ghost use Rattle.imago_storage.specs.State.{StorageState};
 ghost use Rattle.imago_storage.specs.Steps.{Call, write};
 ghost use Rattle.imago_access.specs.Layer.{loose, IsFree, IsLike};
 ghost use Rattle.imago_access.specs.Room.{Takes};
-ghost use Rattle.imago_access.specs.Files.{WasNotCutOff, IsMild, ImageCause, Unasked};
-ghost use Rattle.imago_access.specs.Going.{Went};
+ghost use Rattle.imago_access.specs.Files.{WasNotCutOff, IsMild, ImageCause};
+ghost use Rattle.imago_access.specs.Going.{IsUnchanged, Went};
 ghost use Rattle.imago_access.specs.Spending.{IsMine};
 ghost use Rattle.imago_access.specs.Refusals.{barrier};
 ghost use Rattle.imago_access.specs.Stops.{GivesBytes};
@@ -53,7 +53,7 @@ pub(crate) fn settle<D: FormatDriverInstance>(
     ensures err { D.safe driver.old → IfMild result (GivesMappingUp D.Seen mapping.state driver.old driver.new) }
     ensures free { (mapping.state ≡ None → IsFree (D.layer driver.old)) → IsFree (D.layer driver.new) }
     ensures idle { mapping.state ≡ None → barrier (D.layer driver.old) ≡ None → IsOk result }
-    ensures unasked { mapping.state ≡ None → Unasked D.Seen driver.old driver.new }
+    ensures unchanged { mapping.state ≡ None → IsUnchanged D.Seen driver.old driver.new }
     ensures size { (D.layer driver.new).size ≡ (D.layer driver.old).size }
     ensures room { D.safe driver.old → WasNotCutOff result → Takes D.Seen (λ p. (D.layer driver.old).held p ≡ loose) driver.old driver.new }
     ensures went { Went D.Seen (WasNotCutOff result) (WasNotCutOff result) driver.old driver.new }

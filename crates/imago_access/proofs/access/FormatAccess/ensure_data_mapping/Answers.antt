@@ -189,7 +189,7 @@ pub returns-clause-unasked : goal.returns-clause-unasked
 returns-clause-unasked g c = λ how.
     let calm = c.in_ok-check_change.ensures.ok in
     let empty : c.args.length ≡ 0 = elim how [ inl none ↦ none | inr some ↦ absurd (grind (arith, some, calm)) ] in
-    let first = c.in-Ok.ensures.at_once.unasked (inl empty) in
+    let first = (c.in-Ok.ensures.at_once.unchanged (inl empty)).unasked in
     let state : c.in-Ok.prepared.state ≡ None = ap (λ m. m.state) (c.in-Ok.ensures.empty empty).0 in
     let second = c.in_default.ensures.unasked state in
     rw (← c.self.view_is) ((second.0 ∙ first.0, second.1 ∙ first.1), ap layers (c.in-Ok.ensures.unread (inl empty)))
