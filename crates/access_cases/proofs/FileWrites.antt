@@ -96,10 +96,11 @@ mapped_means content blank f p is lt = rw is (file_means blank f p lt)
 
 -- a file that a write leaves of an image that is mapped: each byte was there or is given
 pub mapped_left : {S : Type 0} (below : List Layer) (state : StorageState) (d : OneCluster S) (gives : ℕ → Value → Type 0) (f : List ℕ) → d.content ≡ Mapped → d.size ≤ length state.bytes → length state.bytes ≤ length f
-    → ((p : ℕ) → (slice_index f p ≡ slice_index state.bytes p) ⊎ gives p (byte (slice_index f p))) → Left below (cluster_layer state d) state.bytes (λ kind file. ⊤) d.size gives f
+    → ((p : ℕ) → (slice_index f p ≡ slice_index state.bytes p) ⊎ gives p (byte (slice_index f p))) → Left below (cluster_layer state d) state.bytes (λ kind file. ⊤) d.size d.size gives f
 mapped_left below state d gives f mapped fits long each = record {
   is_sound = tt;
   size = omega arith;
+  no_longer = λ exact. absurd (cc exact);
   shows = λ p inside on_disk.
       let now = mapped_means d.content (blank_of d.backed) f p mapped (omega (arith, on_disk, fits, long)) in
       let was = mapped_means d.content (blank_of d.backed) state.bytes p mapped (omega (arith, on_disk, fits)) in
@@ -131,10 +132,11 @@ prepared_means content backed run f p is alone = rw (is, alone) (zero_means f p)
 -- a file that a commit leaves: each byte is 0 or what the run gives
 pub settled_left : {S : Type 0} (below : List Layer) (state : StorageState) (d : OneCluster S) (run : PreparedRun) (bytes f : List ℕ) → d.content ≡ Prepared run → state.bytes ≡ []
     → IsRunOf d.size d.backed run.start run.end run.written.items → bytes ≡ map (λ w. unwrap_or w 0) run.written.items → Mixed state.bytes 0 bytes f
-    → Left below (cluster_layer state d) state.bytes (λ kind file. ⊤) d.size (GivesSettled below (cluster_layer state d)) f
+    → Left below (cluster_layer state d) state.bytes (λ kind file. ⊤) d.size d.size (GivesSettled below (cluster_layer state d)) f
 settled_left below state d run bytes f prepared empty is_run settled mixed = record {
   is_sound = tt;
   size = omega arith;
+  no_longer = λ exact. absurd (cc exact);
   shows = λ p inside on_disk.
       let now = prepared_means d.content d.backed run f p prepared is_run.alone in
       let was = prepared_means d.content d.backed run state.bytes p prepared is_run.alone in

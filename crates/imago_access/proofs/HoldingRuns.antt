@@ -70,8 +70,8 @@ pub held_stops : {D St : Type 0} (g : Ghosts D St) (below : List Layer) (old new
 held_stops g below old new holds =
     let layer = g.layer old in
     let file = (g.image old).bytes in
-    passes_weaker (Left below layer file g.sound layer.size (GivesSettled below layer)) (Left below layer file g.sound layer.size (GivesHeld layer)) (g.image old) (g.image new)
-    (left_weaker below g.sound layer file layer.size (GivesSettled below layer) (GivesHeld layer)
+    passes_weaker (Left below layer file g.sound layer.size layer.size (GivesSettled below layer)) (Left below layer file g.sound layer.size layer.size (GivesHeld layer)) (g.image old) (g.image new)
+    (left_weaker below g.sound layer file layer.size layer.size (GivesSettled below layer) (GivesHeld layer)
     (λ p v lt gives. elim (settled_given below layer holds p v lt gives) [ inl same ↦ inr (inl same) | inr gave ↦ inr (inr gave) ]))
 
 module _ {D St B : Type 0} (g : Ghosts D St) (u : GhostsBelow B) where
@@ -163,7 +163,7 @@ module _ {D St B : Type 0} (g : Ghosts D St) (u : GhostsBelow B) where
       (λ w i. holds_loose (at (u.under x)) (g.layer c) (free_loose c (given_up_free g state (g.layer b) (g.layer c) mine stateless spends)))
       (λ w i p lt. inl (at_alike (g.layer a) (g.layer c) (u.under x) p size
       (ap (λ (f : ℕ → Cell). through (f p) (at (u.under x) p)) (given_up_cell g state (g.layer b) (g.layer c) mine spends ∙ ap (λ (l : Layer). l.cell) (stayed w i.is_safe)))))
-      (λ i. passes_on (Left (u.under x) (g.layer a) (g.image a).bytes g.sound (g.layer a).size gives) (g.image a) (g.image b) (g.image c) same (stops i.is_safe (u.under x)))
+      (λ i. passes_on (Left (u.under x) (g.layer a) (g.image a).bytes g.sound (g.layer a).size (g.layer a).size gives) (g.image a) (g.image b) (g.image c) same (stops i.is_safe (u.under x)))
 
   -- writes to a mapping that is given up then
   pub ran_abandoned : (state : Option St) (whole : Type 0) (gives : ℕ → Value → Type 0) (a b c : D) (x : B) → (free_loose : (d : D) → IsFree (g.layer d) → (p : ℕ) → (g.layer d).held p ≡ loose)
@@ -177,7 +177,7 @@ module _ {D St B : Type 0} (g : Ghosts D St) (u : GhostsBelow B) where
       (went_then g whole (whole × u.sees_under x) a b c (given_up_fixed g state (g.layer b) (g.layer c) mine spends) (given_up_failed g state (g.layer b) (g.layer c) mine spends) same same' safely lasting ran.went) ran.looked
       (λ w i. holds_loose (at (u.under x)) (g.layer c) (free_loose c (given_up_free g state (g.layer b) (g.layer c) mine stateless spends)))
       (λ w i p lt. elim (ran.values w i p lt) [ inl was ↦ inl (alike p ∙ was) | inr gave ↦ inr (subst (gives p) (sym (alike p)) gave) ])
-      (λ i. passes_on (Left (u.under x) (g.layer a) (g.image a).bytes g.sound (g.layer a).size gives) (g.image a) (g.image b) (g.image c) same (ran.stops i))
+      (λ i. passes_on (Left (u.under x) (g.layer a) (g.image a).bytes g.sound (g.layer a).size (g.layer a).size gives) (g.image a) (g.image b) (g.image c) same (ran.stops i))
 
   -- what a call does to a driver alone, seen over the layers below
   pub ran_seen_over : (whole : Type 0) (gives : ℕ → Value → Type 0) (a b : D) (x : B) → RanAlone g whole gives (u.under x) a b

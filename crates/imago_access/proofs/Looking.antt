@@ -26,7 +26,7 @@ module _ {D St : Type 0} (g : Ghosts D St) where
     cut = inr (record { seen = λ see. (refl, see); safely = λ s. s });
     lasting = λ l. l;
     kept = λ s. (kept_all_same (files g d), s);
-    stops = λ s below. passes_none (Left below (g.layer d) (g.image d).bytes g.sound (g.layer d).size GivesNone) (g.image d) (g.image d) refl (refl, refl, refl, refl);
+    stops = λ s below. passes_none (Left below (g.layer d) (g.image d).bytes g.sound (g.layer d).size (g.layer d).size GivesNone) (g.image d) (g.image d) refl (refl, refl, refl, refl);
   }
 
   pub looked_weaker : (whole whole' : Type 0) (a b : D) → (whole' → whole) → Looked g whole a b → Looked g whole' a b
@@ -75,11 +75,11 @@ module _ {D St : Type 0} (g : Ghosts D St) where
           (kept_all_both (files g a) (files g b) (files g c) one.0 two.0, two.1);
       stops = λ s below.
           let same : g.layer b ≡ g.layer a = (first.stays tt (safe_sees a s)).0 in
-          then_left below g.sound (g.layer a) (g.layer b) (g.layer a).size GivesNone GivesNone (g.image a) (g.image b) (g.image c) first.later.0 second.later.0 first.like.fixed first.like.size (omega arith)
+          then_left below g.sound (g.layer a) (g.layer b) (g.layer a).size (g.layer a).size GivesNone GivesNone (g.image a) (g.image b) (g.image c) first.later.0 second.later.0 first.like.fixed first.like.size (omega arith) (omega arith)
           (λ p inside. inr (inl (ap (λ (l : Layer). at (l ∷ below) p) same)))
           (λ p v inside none. absurd none)
           (first.stops s below)
-          (subst (λ (n : ℕ). KeepsStopsTo g below n GivesNone b c) first.like.size (second.stops (first.safely tt s) below));
+          (subst (λ (n : ℕ). KeepsStopsTo g below n n GivesNone b c) first.like.size (second.stops (first.safely tt s) below));
     }
 
   -- the same of every layer of a chain

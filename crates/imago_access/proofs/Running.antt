@@ -79,7 +79,7 @@ module _ {D St B : Type 0} (g : Ghosts D St) (u : GhostsBelow B) where
     looked = looked_under_same u whole b;
     intact = λ w i. i;
     values = λ w i p inside. inl refl;
-    stops = λ i. passes_none (Left (u.under b) (g.layer d) (g.image d).bytes g.sound (g.layer d).size gives) (g.image d) (g.image d) refl (refl, refl, refl, refl);
+    stops = λ i. passes_none (Left (u.under b) (g.layer d) (g.image d).bytes g.sound (g.layer d).size (g.layer d).size gives) (g.image d) (g.image d) refl (refl, refl, refl, refl);
   }
 
   pub ran_weaker : (whole whole' : Type 0) (gives : ℕ → Value → Type 0) (a b : D) (x y : B) → (whole' → whole)
@@ -102,8 +102,8 @@ module _ {D St B : Type 0} (g : Ghosts D St) (u : GhostsBelow B) where
     looked = h.looked;
     intact = h.intact;
     values = λ w i p inside. elim (h.values w i p inside) [ inl same ↦ inl same | inr gave ↦ inr (from i p (at (g.layer b ∷ u.under x) p) gave) ];
-    stops = λ i. passes_weaker (Left (u.under x) (g.layer a) (g.image a).bytes g.sound (g.layer a).size gives) (Left (u.under x) (g.layer a) (g.image a).bytes g.sound (g.layer a).size more) (g.image a) (g.image b)
-        (left_weaker (u.under x) g.sound (g.layer a) (g.image a).bytes (g.layer a).size gives more (λ p v inside gave. inr (inr (from i p v gave)))) (h.stops i);
+    stops = λ i. passes_weaker (Left (u.under x) (g.layer a) (g.image a).bytes g.sound (g.layer a).size (g.layer a).size gives) (Left (u.under x) (g.layer a) (g.image a).bytes g.sound (g.layer a).size (g.layer a).size more) (g.image a) (g.image b)
+        (left_weaker (u.under x) g.sound (g.layer a) (g.image a).bytes (g.layer a).size (g.layer a).size gives more (λ p v inside gave. inr (inr (from i p v gave)))) (h.stops i);
   }
 
   pub ran_gives : (whole : Type 0) (gives more : ℕ → Value → Type 0) (a b : D) (x y : B) → ((p : ℕ) (v : Value) → gives p v → more p v)
@@ -132,12 +132,12 @@ module _ {D St B : Type 0} (g : Ghosts D St) (u : GhostsBelow B) where
     stops = λ i.
         let same : u.under y ≡ u.under x = (first.looked.stays tt i.is_seen).0 in
         let later : KeepsStops g (u.under x) gives' b c = subst (λ (below : List Layer). KeepsStops g below gives' b c) same (second.stops (first.intact tt i)) in
-        then_left (u.under x) g.sound (g.layer a) (g.layer b) (g.layer a).size more gives' (g.image a) (g.image b) (g.image c) first.went.later.0 second.went.later.0 first.went.fixed first.size (omega arith)
+        then_left (u.under x) g.sound (g.layer a) (g.layer b) (g.layer a).size (g.layer a).size more gives' (g.image a) (g.image b) (g.image c) first.went.later.0 second.went.later.0 first.went.fixed first.size (omega arith) (omega arith)
         (λ p inside. elim (first.values tt i p inside) [ inl was ↦ inr (inl was) | inr gave ↦ inr (inr (from p (at (g.layer b ∷ u.under x) p) gave)) ])
         (λ p v inside gave. inr (inr (from' p v gave)))
-        (passes_weaker (Left (u.under x) (g.layer a) (g.image a).bytes g.sound (g.layer a).size gives) (Left (u.under x) (g.layer a) (g.image a).bytes g.sound (g.layer a).size more) (g.image a) (g.image b)
-        (left_weaker (u.under x) g.sound (g.layer a) (g.image a).bytes (g.layer a).size gives more (λ p v inside gave. inr (inr (from p v gave)))) (first.stops i))
-        (subst (λ (n : ℕ). KeepsStopsTo g (u.under x) n gives' b c) first.size later);
+        (passes_weaker (Left (u.under x) (g.layer a) (g.image a).bytes g.sound (g.layer a).size (g.layer a).size gives) (Left (u.under x) (g.layer a) (g.image a).bytes g.sound (g.layer a).size (g.layer a).size more) (g.image a) (g.image b)
+        (left_weaker (u.under x) g.sound (g.layer a) (g.image a).bytes (g.layer a).size (g.layer a).size gives more (λ p v inside gave. inr (inr (from p v gave)))) (first.stops i))
+        (subst (λ (n : ℕ). KeepsStopsTo g (u.under x) n n gives' b c) first.size later);
   }
 
   -- a call that reads the layers below

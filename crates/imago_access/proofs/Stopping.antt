@@ -49,15 +49,16 @@ passes_on P a b c same passes = subst (Passes P a) (sym same) passes
 
 -- A file left by a later call, seen from the entry of the first: the later one begins with a file that the first may show, and each
 -- value that its own entry's disk has or that it gives is one that the whole may show.
-module _ (below : List Layer) (sound : ℕ → List ℕ → Type 0) (entry mid : Layer) (file mid_file : List ℕ) (least : ℕ) (gives later_gives : ℕ → Value → Type 0)
+module _ (below : List Layer) (sound : ℕ → List ℕ → Type 0) (entry mid : Layer) (file mid_file : List ℕ) (least most : ℕ) (gives later_gives : ℕ → Value → Type 0)
     (fixed : mid.fixed ≡ entry.fixed) (size : mid.size ≡ entry.size)
     (between : (p : ℕ) → p < entry.size → May below entry file gives p (shown below entry.fixed.means mid_file p))
     (disk : (p : ℕ) → p < entry.size → May below entry file gives p (at (mid ∷ below) p))
     (given : (p : ℕ) (v : Value) → p < entry.size → later_gives p v → May below entry file gives p v) where
-  pub left_from : (f : List ℕ) → Left below mid mid_file sound least later_gives f → Left below entry file sound least gives f
+  pub left_from : (f : List ℕ) → Left below mid mid_file sound least most later_gives f → Left below entry file sound least most gives f
   left_from f later = record {
     is_sound = subst (λ (x : Fixed). sound x.kind f) fixed later.is_sound;
     size = subst (λ (x : Fixed). least ≤ (x.means f).size) fixed later.size;
+    no_longer = subst (λ (x : Fixed). IsTrue x.exact → (x.means f).size ≤ most) fixed later.no_longer;
     shows = λ p inside in_disk.
         let same : shown below mid.fixed.means f p ≡ shown below entry.fixed.means f p = ap (λ (x : Fixed). shown below x.means f p) fixed in
         let was : shown below mid.fixed.means mid_file p ≡ shown below entry.fixed.means mid_file p = ap (λ (x : Fixed). shown below x.means mid_file p) fixed in
@@ -72,29 +73,31 @@ module _ (below : List Layer) (sound : ℕ → List ℕ → Type 0) (entry mid :
   }
 
 -- A call behind another, both seen from the entry of the first; the first keeps the size of the disk.
-pub then_left : (below : List Layer) (sound : ℕ → List ℕ → Type 0) (entry mid : Layer) (least : ℕ) (gives later_gives : ℕ → Value → Type 0) (a b c : StorageState)
-    → IsLater a b → IsLater b c → mid.fixed ≡ entry.fixed → mid.size ≡ entry.size → least ≤ entry.size
+pub then_left : (below : List Layer) (sound : ℕ → List ℕ → Type 0) (entry mid : Layer) (least most : ℕ) (gives later_gives : ℕ → Value → Type 0) (a b c : StorageState)
+    → IsLater a b → IsLater b c → mid.fixed ≡ entry.fixed → mid.size ≡ entry.size → least ≤ entry.size → entry.size ≤ most
     → ((p : ℕ) → p < entry.size → May below entry a.bytes gives p (at (mid ∷ below) p))
     → ((p : ℕ) (v : Value) → p < entry.size → later_gives p v → May below entry a.bytes gives p v)
-    → Passes (Left below entry a.bytes sound entry.size gives) a b → Passes (Left below mid b.bytes sound least later_gives) b c
-    → Passes (Left below entry a.bytes sound least gives) a c
-then_left below sound entry mid least gives later_gives a b c ab bc fixed size low disk given first second =
-    let between : ((b.bytes ≡ a.bytes) ⊎ Left below entry a.bytes sound entry.size gives b.bytes) → (p : ℕ) → p < entry.size → May below entry a.bytes gives p (shown below entry.fixed.means b.bytes p) = λ how p inside.
+    → Passes (Left below entry a.bytes sound entry.size entry.size gives) a b → Passes (Left below mid b.bytes sound least most later_gives) b c
+    → Passes (Left below entry a.bytes sound least most gives) a c
+then_left below sound entry mid least most gives later_gives a b c ab bc fixed size low high disk given first second =
+    let between : ((b.bytes ≡ a.bytes) ⊎ Left below entry a.bytes sound entry.size entry.size gives b.bytes) → (p : ℕ) → p < entry.size → May below entry a.bytes gives p (shown below entry.fixed.means b.bytes p) = λ how p inside.
     elim how [
       | inl same ↦ inl (ap (λ (f : List ℕ). shown below entry.fixed.means f p) same)
       | inr left ↦ left.shows p (omega (arith, left.size)) inside
     ] in
-    passes_both (Left below entry a.bytes sound entry.size gives) (Left below mid b.bytes sound least later_gives) (Left below entry a.bytes sound least gives) a b c ab bc
-    (λ f left. record { is_sound = left.is_sound; size = omega (arith, left.size); shows = left.shows })
-    (λ how. left_from below sound entry mid a.bytes b.bytes least gives later_gives fixed size (between how) disk given)
+    passes_both (Left below entry a.bytes sound entry.size entry.size gives) (Left below mid b.bytes sound least most later_gives)
+    (Left below entry a.bytes sound least most gives) a b c ab bc
+    (λ f left. record { is_sound = left.is_sound; size = omega (arith, left.size); no_longer = λ exact. omega (arith, left.no_longer exact, high); shows = left.shows })
+    (λ how. left_from below sound entry mid a.bytes b.bytes least most gives later_gives fixed size (between how) disk given)
     first second
 
 -- what a call gives may be weakened
-pub left_weaker : (below : List Layer) (sound : ℕ → List ℕ → Type 0) (entry : Layer) (file : List ℕ) (least : ℕ) (gives more : ℕ → Value → Type 0)
-    → ((p : ℕ) (v : Value) → p < entry.size → gives p v → May below entry file more p v) → (f : List ℕ) → Left below entry file sound least gives f → Left below entry file sound least more f
-left_weaker below sound entry file least gives more weaker f left = record {
+pub left_weaker : (below : List Layer) (sound : ℕ → List ℕ → Type 0) (entry : Layer) (file : List ℕ) (least most : ℕ) (gives more : ℕ → Value → Type 0)
+    → ((p : ℕ) (v : Value) → p < entry.size → gives p v → May below entry file more p v) → (f : List ℕ) → Left below entry file sound least most gives f → Left below entry file sound least most more f
+left_weaker below sound entry file least most gives more weaker f left = record {
   is_sound = left.is_sound;
   size = left.size;
+  no_longer = left.no_longer;
   shows = λ p inside in_disk. elim (left.shows p inside in_disk) [
     | inl was ↦ inl was
     | inr rest ↦ elim rest [ inl value ↦ inr (inl value) | inr gave ↦ weaker p (shown below entry.fixed.means f p) in_disk gave ]

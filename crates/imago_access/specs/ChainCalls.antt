@@ -1,5 +1,5 @@
 -- What calls of a chain are, are refused with and leave, by its drivers before and after.
-use Rattle.std.specs.Prelude.{◌≡◌, ◌⊎◌, ℕ, ◌+◌, ◌<◌, List, Option, Some, None, Result, OnOk, IfErr, IsErrOf, IsSome, IsFalse, length, is_some, map}
+use Rattle.std.specs.Prelude.{◌≡◌, ◌⊎◌, ℕ, ◌+◌, ◌<◌, max, List, Option, Some, None, Result, OnOk, IfErr, IsErrOf, IsSome, IsFalse, length, is_some, map}
 use Rattle.imago_storage.specs.Steps.{Call, Answer, Step, Stays, ensure, run, prepare, prepared, commit, cancel, write_mapped, shrink, done, IsOut}
 use Rattle.imago_storage.specs.Causes.{PartlyDone, offset_of, length_of}
 use Rattle.imago_storage.specs.declared.fault.Fault.{Fault}
@@ -161,12 +161,14 @@ NeedsWritable g Alters result old new = barrier (g.layer old.0) ≡ None → Alt
 abbrev pub ChainResizes : {D St : Type 0} → Ghosts D St → ℕ → PreallocateMode → D × List D → D × List D → Type 0
 ChainResizes g size mode old new = ChainSteps g (resizing (g.layer old.0).size size (fill_of mode)) done old new
 
--- a stop in a growth shows anything behind the old size, and one in a shrink to this size the layers below behind that
-abbrev pub GrowthStops : {D St : Type 0} → Ghosts D St → D × List D → D × List D → Type 0
-GrowthStops g old new = KeepsStopsTo g (map g.layer old.1) (g.layer old.0).size (GivesPast (g.layer old.0).size) old.0 new.0
+-- a stop in a growth to this size shows anything behind the old one, and one in a shrink to it the layers below behind it
+abbrev pub GrowthStops : {D St : Type 0} → Ghosts D St → ℕ → D × List D → D × List D → Type 0
+GrowthStops g size old new =
+    KeepsStopsTo g (map g.layer old.1) (g.layer old.0).size (max (g.layer old.0).size size) (GivesPast (g.layer old.0).size) old.0 new.0
 
 abbrev pub ShrinkStops : {D St : Type 0} → Ghosts D St → ℕ → D × List D → D × List D → Type 0
-ShrinkStops g size old new = KeepsStopsTo g (map g.layer old.1) size (GivesBelowPast (map g.layer old.1) size) old.0 new.0
+ShrinkStops g size old new =
+    KeepsStopsTo g (map g.layer old.1) size (g.layer old.0).size (GivesBelowPast (map g.layer old.1) size) old.0 new.0
 
 -- why a growth or a shrink to this size is refused
 abbrev pub ChainGrowthRefused : {D St : Type 0} → Ghosts D St → ℕ → PreallocateMode → Result Unit Fault → D × List D → D × List D → Type 0

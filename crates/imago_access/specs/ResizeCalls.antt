@@ -1,5 +1,5 @@
 -- What a driver does that makes the disk longer or shorter.
-use Rattle.std.specs.Prelude.{◌≡◌, ◌++◌, ◌⊎◌, ℕ, ◌<◌, ◌≤◌, List, None, IsFalse, Result, OnOk, IfErr, IsErrOf, IsSome}
+use Rattle.std.specs.Prelude.{◌≡◌, ◌++◌, ◌⊎◌, ℕ, ◌<◌, ◌≤◌, max, List, None, IsFalse, Result, OnOk, IfErr, IsErrOf, IsSome}
 use Rattle.imago_storage.specs.Steps.{shrink}
 use Rattle.imago_storage.specs.declared.fault.Fault.{Fault}
 use Rattle.imago_storage.specs.declared.fault.Fault.TheVariants.{ReadOnly}
@@ -34,7 +34,8 @@ pub record Grows {D St B : Type 0} (g : Ghosts D St) (u : GhostsBelow B) (size :
   pub ok : g.safe old.0 → u.sees_under old.1 → (g.layer old.0).size < size
       → OnOk result (Grown (at (u.under old.1)) (g.layer old.0) (g.layer new.0) size (fill_of mode))
   pub err : g.safe old.0 → u.sees_under old.1 → IfErr result (λ e. IsMild e → NotGrown (at (u.under old.1)) (g.layer old.0) (g.layer new.0))
-  pub stops : g.safe old.0 → u.sees_under old.1 → KeepsStopsTo g (u.under old.1) (g.layer old.0).size (GivesPast (g.layer old.0).size) old.0 new.0
+  pub stops : g.safe old.0 → u.sees_under old.1 → KeepsStopsTo g (u.under old.1) (g.layer old.0).size (max (g.layer old.0).size size)
+      (GivesPast (g.layer old.0).size) old.0 new.0
   pub went : Went g (WasNotCutOff result) (WasNotCutOff result × u.sees_under old.1) old.0 new.0
 
 -- why it is refused
@@ -48,7 +49,8 @@ pub record GrowthRefused {D St B : Type 0} (g : Ghosts D St) (u : GhostsBelow B)
 pub record Shrinks {D St : Type 0} (g : Ghosts D St) (size : ℕ) (result : Result Unit Fault) (old new : D) : Type 0 where
   pub ok : g.safe old → size < (g.layer old).size → OnOk result (Shrunk (g.layer old) (g.layer new) size)
   pub err : g.safe old → IfErr result (λ e. IsMild e → NotShrunk (g.layer old) (g.layer new))
-  pub stops : g.safe old → (below : List Layer) → IsBacked below (g.layer old) → KeepsStopsTo g below size (GivesBelowPast below size) old new
+  pub stops : g.safe old → (below : List Layer) → IsBacked below (g.layer old)
+      → KeepsStopsTo g below size (g.layer old).size (GivesBelowPast below size) old new
   pub went : Went g (WasNotCutOff result) (WasNotCutOff result) old new
 
 -- why it is refused

@@ -17,20 +17,23 @@ shown below means f p = if ltb p (means f).size then through ((means f).cell p) 
 abbrev pub May : List Layer → Layer → List ℕ → (ℕ → Value → Type 0) → ℕ → Value → Type 0
 May below entry entry_file gives p v = (v ≡ shown below entry.fixed.means entry_file p) ⊎ ((v ≡ at (entry ∷ below) p) ⊎ gives p v)
 
--- A file left during a call: it is sound, of at least this size, and shows what the call may show, at the places below its size and below
--- the disk's at entry.
-pub record Left (below : List Layer) (entry : Layer) (entry_file : List ℕ) (sound : ℕ → List ℕ → Type 0) (least : ℕ) (gives : ℕ → Value → Type 0) (f : List ℕ) : Type 0 where
+-- A file left during a call: it is sound, of at least this size, and where it states the size of the disk of at most that, and shows what
+-- the call may show, at the places below its size and below the disk's at entry.
+pub record Left (below : List Layer) (entry : Layer) (entry_file : List ℕ) (sound : ℕ → List ℕ → Type 0) (least most : ℕ)
+    (gives : ℕ → Value → Type 0) (f : List ℕ) : Type 0 where
   pub is_sound : sound entry.fixed.kind f
   pub size : least ≤ (entry.fixed.means f).size
+  pub no_longer : IsTrue entry.fixed.exact → (entry.fixed.means f).size ≤ most
   pub shows : (p : ℕ) → p < (entry.fixed.means f).size → p < entry.size → May below entry entry_file gives p (shown below entry.fixed.means f p)
 
--- what a call keeps at each stop, seen from its own entry, with the least size that it passes through
-abbrev pub KeepsStopsTo : {D St : Type 0} → Ghosts D St → List Layer → ℕ → (ℕ → Value → Type 0) → D → D → Type 0
-KeepsStopsTo g below least gives old new = Passes (Left below (g.layer old) (g.image old).bytes g.sound least gives) (g.image old) (g.image new)
+-- what a call keeps at each stop, seen from its own entry, with the least and the greatest size that it passes through
+abbrev pub KeepsStopsTo : {D St : Type 0} → Ghosts D St → List Layer → (least most : ℕ) → (ℕ → Value → Type 0) → D → D → Type 0
+KeepsStopsTo g below least most gives old new =
+    Passes (Left below (g.layer old) (g.image old).bytes g.sound least most gives) (g.image old) (g.image new)
 
--- the same of a call that isn't a resize: no file is shorter than the disk
+-- the same of a call that isn't a resize: the size of the disk stays
 abbrev pub KeepsStops : {D St : Type 0} → Ghosts D St → List Layer → (ℕ → Value → Type 0) → D → D → Type 0
-KeepsStops g below gives old new = KeepsStopsTo g below (g.layer old).size gives old new
+KeepsStops g below gives old new = KeepsStopsTo g below (g.layer old).size (g.layer old).size gives old new
 
 -- no request, and nothing else has changed in the file
 abbrev pub MakesNone : StorageState → StorageState → Type 0

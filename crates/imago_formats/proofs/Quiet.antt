@@ -1,6 +1,6 @@
 -- Calls of a driver that leave all as it was, but for counts of faults.
 use Rattle.std.proofs.Common.{◌≡◌, ℕ, ◌<◌, ◌≤◌, Bool, true, false, List, [], ◌∷◌, Result, Ok, Err, refl, sym, ap, ◌∙◌, subst, inl, inr, arith}
-use Rattle.std.specs.Prelude.{⊤, length, MatchResult, IsOk, Option, Some, None, IsTrue, IsFalse, OnOk, if◌then◌else◌, eqb}
+use Rattle.std.specs.Prelude.{⊤, max, length, MatchResult, IsOk, Option, Some, None, IsTrue, IsFalse, OnOk, if◌then◌else◌, eqb}
 use Rattle.imago_storage.specs.State.{StorageState}
 use Rattle.imago_storage.specs.Calls.{IsFaultless}
 use Rattle.imago_storage.specs.Steps.{IsIn}
@@ -55,7 +55,7 @@ module _ {D St : Type 0} (g : Ghosts D St) where
     lasting = keeps.lasting;
     kept = λ s. (keeps.kept, keeps.stilled s);
     stops = λ s below. let k = keeps.kept.0.0 in
-        passes_none (Left below (g.layer old) (g.image old).bytes g.sound (g.layer old).size GivesNone) (g.image old) (g.image new) k.shape (k.stop, k.past, k.bytes, k.refusals);
+        passes_none (Left below (g.layer old) (g.image old).bytes g.sound (g.layer old).size (g.layer old).size GivesNone) (g.image old) (g.image new) k.shape (k.stop, k.past, k.bytes, k.refusals);
   }
 
   pub quiet_went : (ok whole : Type 0) (old new : D) → Keeps g old new → (ok → Pairs IsFaultless (files g old) (files g new)) → Went g ok whole old new
@@ -68,8 +68,8 @@ module _ {D St : Type 0} (g : Ghosts D St) where
     lasting = keeps.lasting;
   }
 
-  stops_to : (below : List Layer) (least : ℕ) (gives : ℕ → Value → Type 0) (d : D) → KeepsStopsTo g below least gives d d
-  stops_to below least gives d = passes_none (Left below (g.layer d) (g.image d).bytes g.sound least gives) (g.image d) (g.image d) refl (refl, refl, refl, refl)
+  stops_to : (below : List Layer) (least most : ℕ) (gives : ℕ → Value → Type 0) (d : D) → KeepsStopsTo g below least most gives d d
+  stops_to below least most gives d = passes_none (Left below (g.layer d) (g.image d).bytes g.sound least most gives) (g.image d) (g.image d) refl (refl, refl, refl, refl)
 
   pub went_same : (ok whole : Type 0) (d : D) → Went g ok whole d d
   went_same ok whole d = record { fixed = refl; failed = λ f. f; later = later_all_same (files g d); faults = λ h. faultless_all_same (files g d); safely = λ h s. s; lasting = λ l. l }
@@ -82,7 +82,7 @@ module _ {D St : Type 0} (g : Ghosts D St) where
   leaves_same call offset n d = record { kept = λ p l h. h; free = λ p s h. h; zeroes = λ p l s h. h }
 
   stops_same : (below : List Layer) (gives : ℕ → Value → Type 0) (d : D) → KeepsStops g below gives d d
-  stops_same below gives d = passes_none (Left below (g.layer d) (g.image d).bytes g.sound (g.layer d).size gives) (g.image d) (g.image d) refl (refl, refl, refl, refl)
+  stops_same below gives d = passes_none (Left below (g.layer d) (g.image d).bytes g.sound (g.layer d).size (g.layer d).size gives) (g.image d) (g.image d) refl (refl, refl, refl, refl)
 
   none_in : (offset p : ℕ) → IsIn offset 0 p → ⊥
   none_in offset p inside = omega (arith, inside.0, inside.1)
@@ -226,7 +226,7 @@ module _ {D St B : Type 0} (g : Ghosts D St) (u : GhostsBelow B) where
   grows_none size mode d b low = record {
     ok = λ safe see high. absurd (omega (arith, low, high));
     err = λ safe see. tt;
-    stops = λ safe see. stops_to g (u.under b) (g.layer d).size (GivesPast (g.layer d).size) d;
+    stops = λ safe see. stops_to g (u.under b) (g.layer d).size (max (g.layer d).size size) (GivesPast (g.layer d).size) d;
     went = went_same g ⊤ (⊤ × u.sees_under b) d;
   }
 
@@ -234,7 +234,7 @@ module _ {D St B : Type 0} (g : Ghosts D St) (u : GhostsBelow B) where
   grows_refused size mode e d b = record {
     ok = λ safe see high. tt;
     err = λ safe see mild. record { like = like_same (g.layer d) (g.layer d) refl; kept = λ p low. refl };
-    stops = λ safe see. stops_to g (u.under b) (g.layer d).size (GivesPast (g.layer d).size) d;
+    stops = λ safe see. stops_to g (u.under b) (g.layer d).size (max (g.layer d).size size) (GivesPast (g.layer d).size) d;
     went = went_same g (IsMild e) (IsMild e × u.sees_under b) d;
   }
 
@@ -243,7 +243,7 @@ module _ {D St : Type 0} (g : Ghosts D St) where
   shrinks_none size d high = record {
     ok = λ safe low. absurd (omega (arith, low, high));
     err = λ safe. tt;
-    stops = λ safe below backed. stops_to g below size (GivesBelowPast below size) d;
+    stops = λ safe below backed. stops_to g below size (g.layer d).size (GivesBelowPast below size) d;
     went = went_same g ⊤ ⊤ d;
   }
 
@@ -251,7 +251,7 @@ module _ {D St : Type 0} (g : Ghosts D St) where
   shrinks_refused size e d = record {
     ok = λ safe low. tt;
     err = λ safe mild. record { like = like_same (g.layer d) (g.layer d) refl; kept = λ p low. refl };
-    stops = λ safe below backed. stops_to g below size (GivesBelowPast below size) d;
+    stops = λ safe below backed. stops_to g below size (g.layer d).size (GivesBelowPast below size) d;
     went = went_same g (IsMild e) (IsMild e) d;
   }
 

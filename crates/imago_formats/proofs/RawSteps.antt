@@ -23,21 +23,23 @@ use Rattle.imago_access.specs.Stops.{Left, GivesZero, GivesAny, GivesBelow, Give
 use Rattle.imago_access.proofs.Stopping.{left_weaker, passes_weaker}
 use Rattle.imago_formats.specs.RawLayer.{raw_fixed, raw_layer}
 use Rattle.imago_formats.specs.Growing.{HasFirst, NotGrown}
+use Rattle.imago_formats.specs.RawHome.{never}
 
 -- a storage of the same shape
 pub raw_like : (old new : StorageState) (size : ℕ) (w : Bool) → new.shape ≡ old.shape → IsLike (raw_layer old size w) (raw_layer new size w)
 raw_like old new size w shape = record { fixed = ap (λ (s : Shape). raw_fixed s w) shape; size = refl; unspent = refl; failed = λ f. f }
 
--- what a call keeps at each stop of the storage of a raw image, with the least size that it passes through
-abbrev pub RawStops : List Layer → ℕ → Bool → ℕ → (ℕ → Value → Type 0) → StorageState → StorageState → Type 0
-RawStops below size w least gives old new = Passes (Left below (raw_layer old size w) old.bytes (λ kind file. ⊤) least gives) old new
+-- what a call keeps at each stop of the storage of a raw image, with the least and the greatest size that it passes through
+abbrev pub RawStops : List Layer → ℕ → Bool → (least most : ℕ) → (ℕ → Value → Type 0) → StorageState → StorageState → Type 0
+RawStops below size w least most gives old new = Passes (Left below (raw_layer old size w) old.bytes (λ kind file. ⊤) least most gives) old new
 
 -- a file that a stop leaves: no shorter than asked, and below the disk's size each byte was there or is given
-pub raw_left : (below : List Layer) (old : StorageState) (size : ℕ) (w : Bool) (least : ℕ) (gives : ℕ → Value → Type 0) (f : List ℕ) → size ≤ length old.bytes → least ≤ length f
-    → ((p : ℕ) → p < size → p < length f → (slice_index f p ≡ slice_index old.bytes p) ⊎ gives p (byte (slice_index f p))) → Left below (raw_layer old size w) old.bytes (λ kind file. ⊤) least gives f
-raw_left below old size w least gives f fits long each = record {
+pub raw_left : (below : List Layer) (old : StorageState) (size : ℕ) (w : Bool) (least most : ℕ) (gives : ℕ → Value → Type 0) (f : List ℕ) → size ≤ length old.bytes → least ≤ length f
+    → ((p : ℕ) → p < size → p < length f → (slice_index f p ≡ slice_index old.bytes p) ⊎ gives p (byte (slice_index f p))) → Left below (raw_layer old size w) old.bytes (λ kind file. ⊤) least most gives f
+raw_left below old size w least most gives f fits long each = record {
   is_sound = tt;
   size = long;
+  no_longer = never;
   shows = λ p inside in_disk.
       let old_inside : p < length old.bytes = omega (arith, in_disk, fits) in
       ⊎_elim
@@ -69,11 +71,11 @@ backed_zero [] s size w backed p = refl
 backed_zero (next ∷ below) s size w backed p = let is : own (byte 0) ≡ unmapped = backed in absurd (cc is)
 
 pub backed_stops : (below : List Layer) (old new : StorageState) (size : ℕ) (w : Bool) (at n : ℕ) → IsBacked below (raw_layer old size w)
-    → RawStops below size w size (GivesZero at n) old new → RawStops below size w size (GivesBelow below at n) old new
+    → RawStops below size w size size (GivesZero at n) old new → RawStops below size w size size (GivesBelow below at n) old new
 backed_stops below old new size w at n backed =
     let l = raw_layer old size w in
-    passes_weaker (Left below l old.bytes (λ kind file. ⊤) size (GivesZero at n)) (Left below l old.bytes (λ kind file. ⊤) size (GivesBelow below at n)) old new
-    (left_weaker below (λ kind file. ⊤) l old.bytes size (GivesZero at n) (GivesBelow below at n) (λ p v inside gave. inr (inr (gave.0, gave.1 ∙ sym (backed_zero below old size w backed p)))))
+    passes_weaker (Left below l old.bytes (λ kind file. ⊤) size size (GivesZero at n)) (Left below l old.bytes (λ kind file. ⊤) size size (GivesBelow below at n)) old new
+    (left_weaker below (λ kind file. ⊤) l old.bytes size size (GivesZero at n) (GivesBelow below at n) (λ p v inside gave. inr (inr (gave.0, gave.1 ∙ sym (backed_zero below old size w backed p)))))
 
 -- A refused call for another cause than want of memory and a storage's fault has changed nothing.
 pub unwritten_same : (old new : StorageState) (at : ℕ) (bytes : List ℕ) (fault : Fault) → NotWrittenThrough old new at bytes fault → IsMild fault → new ≡ old
@@ -136,11 +138,11 @@ module _ {T : Type 0} (result : Result T Fault) (old new : StorageState) (at : �
 
   pub written_stops : (below : List Layer) (size : ℕ) (w : Bool) (gives : ℕ → Value → Type 0) → size ≤ length old.bytes → Stops (Mixed old.bytes at bytes) old new → StopsAsLong old new
       → ((f : List ℕ) → Mixed old.bytes at bytes f → (p : ℕ) → p < size → (slice_index f p ≡ slice_index old.bytes p) ⊎ gives p (byte (slice_index f p)))
-      → RawStops below size w size gives old new
+      → RawStops below size w size size gives old new
   written_stops below size w gives fits stops long each calm = (
     written_step calm,
-    stops_weaker (λ f. Mixed old.bytes at bytes f × (length old.bytes ≤ length f)) (Left below (raw_layer old size w) old.bytes (λ kind file. ⊤) size gives) old new
-        (λ keeps f both. raw_left below old size w size gives f fits (omega (arith, fits, both.1)) (λ p lt inside. each f both.0 p lt))
+    stops_weaker (λ f. Mixed old.bytes at bytes f × (length old.bytes ≤ length f)) (Left below (raw_layer old size w) old.bytes (λ kind file. ⊤) size size gives) old new
+        (λ keeps f both. raw_left below old size w size size gives f fits (omega (arith, fits, both.1)) (λ p lt inside. each f both.0 p lt))
         (stops_and (Mixed old.bytes at bytes) (λ f. length old.bytes ≤ length f) old new stops long),
   )
 
@@ -180,22 +182,22 @@ mixed_zeroes old at n f mixed p =
 -- Resizes.
 
 -- a file with the first bytes of the disk
-first_left : (below : List Layer) (old : StorageState) (size from : ℕ) (w : Bool) (gives : ℕ → Value → Type 0) (f : List ℕ) → size ≤ length old.bytes → HasFirst old.bytes from f
-    → ((p : ℕ) → from ≤ p → p < size → p < length f → gives p (byte (slice_index f p))) → Left below (raw_layer old size w) old.bytes (λ kind file. ⊤) from gives f
-first_left below old size from w gives f fits first past =
-    raw_left below old size w from gives f fits first.long
+first_left : (below : List Layer) (old : StorageState) (size from most : ℕ) (w : Bool) (gives : ℕ → Value → Type 0) (f : List ℕ) → size ≤ length old.bytes → HasFirst old.bytes from f
+    → ((p : ℕ) → from ≤ p → p < size → p < length f → gives p (byte (slice_index f p))) → Left below (raw_layer old size w) old.bytes (λ kind file. ⊤) from most gives f
+first_left below old size from most w gives f fits first past =
+    raw_left below old size w from most gives f fits first.long
     (λ p lt inside. elim (cases_lt p from) [ inl below_it ↦ inl (first.same p below_it) | inr behind ↦ inr (past p behind lt inside) ])
 
 -- one that shrinks has no place past its new size
 pub shrunk_stops : (below : List Layer) (old new : StorageState) (size to : ℕ) (w : Bool) (gives : ℕ → Value → Type 0) → size ≤ length old.bytes → Resized old new to
-    → RawStops below size w to gives old new
+    → RawStops below size w to size gives old new
 shrunk_stops below old new size to w gives fits resized calm = (
   resized.changed.in_step,
-  one_stop (Left below (raw_layer old size w) old.bytes (λ kind file. ⊤) to gives) old new resized.changed.mark
+  one_stop (Left below (raw_layer old size w) old.bytes (λ kind file. ⊤) to size gives) old new resized.changed.mark
       (λ step tells keeps.
-      subst (Left below (raw_layer old size w) old.bytes (λ kind file. ⊤) to gives)
+      subst (Left below (raw_layer old size w) old.bytes (λ kind file. ⊤) to size gives)
       (sym (resized.changed.in_step step (tells_on old new resized.changed.shape tells) (keeps_on old new resized.changed.shape keeps)))
-      (first_left below old size to w gives new.bytes fits (record { long = omega (arith, resized.size); same = resized.content keeps }) (λ p from lt inside. absurd (omega (arith, from, inside, resized.size))))),
+      (first_left below old size to size w gives new.bytes fits (record { long = omega (arith, resized.size); same = resized.content keeps }) (λ p from lt inside. absurd (omega (arith, from, inside, resized.size))))),
 )
 
 -- Discards.
@@ -226,9 +228,9 @@ module _ (old new : StorageState) (size : ℕ) (w : Bool) (at n : ℕ) (positive
     others = λ p out. ap (λ (b : ℕ). own (byte b)) (given_outside keeps given p out);
   }
 
-  pub given_stops : (below : List Layer) → size ≤ length old.bytes → GivenUp old new at n → RawStops below size w size (GivesAny at n) old new
+  pub given_stops : (below : List Layer) → size ≤ length old.bytes → GivenUp old new at n → RawStops below size w size size (GivesAny at n) old new
   given_stops below fits given calm =
-      let P : List ℕ → Type 0 = Left below (raw_layer old size w) old.bytes (λ kind file. ⊤) size (GivesAny at n) in
+      let P : List ℕ → Type 0 = Left below (raw_layer old size w) old.bytes (λ kind file. ⊤) size size (GivesAny at n) in
       ⊎_elim
       (λ same. (subst (λ (s : StorageState). InStep old → InStep s) (sym same) (λ step. step), no_stops P old new (ap (λ (s : StorageState). s.stop) same) (ap (λ (s : StorageState). s.past) same)))
       (λ done. (
@@ -236,7 +238,7 @@ module _ (old new : StorageState) (size : ℕ) (w : Bool) (at n : ℕ) (positive
         one_stop P old new done.1.changed.mark
             (λ step tells keeps.
             subst P (sym (done.1.changed.in_step step (tells_on old new done.1.changed.shape tells) (keeps_on old new done.1.changed.shape keeps)))
-            (raw_left below old size w size (GivesAny at n) new.bytes fits (omega (arith, fits, done.1.size))
+            (raw_left below old size w size size (GivesAny at n) new.bytes fits (omega (arith, fits, done.1.size))
             (λ p lt inside. ⊎_elim
             (λ out. inl (given_outside keeps given p out))
             (λ within. inr (within, (slice_index new.bytes p, bytes p inside, refl)))

@@ -137,7 +137,7 @@ module _ (R : RattleType) (st : Ghosts R.Denot) (sd : mir.Syntax.Dict) (dd : mir
     ];
     lasting = λ l. l;
     kept = λ still. (((k.tables.kept, k.tables.later.faults), tt), new.tables.clean);
-    stops = λ safe below. passes_none (Left below (layer_of old) s.bytes is_sound (layer_of old).size GivesNone) s s' k.tables.kept.shape (k.tables.kept.stop, k.tables.kept.past, k.tables.kept.bytes, k.tables.kept.refusals);
+    stops = λ safe below. passes_none (Left below (layer_of old) s.bytes is_sound (layer_of old).size (layer_of old).size GivesNone) s s' k.tables.kept.shape (k.tables.kept.stop, k.tables.kept.past, k.tables.kept.bytes, k.tables.kept.refusals);
   }
 
   pub marks-kept : IfErr result (Marks sees old new)

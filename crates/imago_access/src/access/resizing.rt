@@ -39,7 +39,7 @@ impl<D: FormatDriverInstance> FormatAccess<D> {
         ensures went { Went D.Seen (WasNotCutOff result) (WasNotCutOff result × Each D.sees self.old.1) self.old.0 self.new.0 }
         ensures below { LookedUnder (below_ghosts D.Seen) (WasNotCutOff result) self.old.1 self.new.1 }
         ensures intact { WasNotCutOff result → StaysIntact D.Seen self.old self.new }
-        ensures stops { IsIntactChain D.Seen self.old → GrowthStops D.Seen self.old self.new }
+        ensures stops { IsIntactChain D.Seen self.old → GrowthStops D.Seen size self.old self.new }
         ensures failed { IfErr result (ChainFails D.Seen self.old self.new) }
         ensures marks { IfErr result (MarksOver D.Seen self.old.0 self.new.0) }
         ensures cause { ChainGrowthRefused D.Seen size mode result self.old self.new }
@@ -82,7 +82,7 @@ impl<D: FormatDriverInstance> FormatAccess<D> {
         ensures went { Went D.Seen (WasNotCutOff result) (WasNotCutOff result × Each D.sees self.old.1) self.old.0 self.new.0 }
         ensures below { LookedUnder (below_ghosts D.Seen) (WasNotCutOff result) self.old.1 self.new.1 }
         ensures intact { WasNotCutOff result → StaysIntact D.Seen self.old self.new }
-        ensures longer { IsIntactChain D.Seen self.old → (D.layer self.old.0).size ≤ size → GrowthStops D.Seen self.old self.new }
+        ensures longer { IsIntactChain D.Seen self.old → (D.layer self.old.0).size ≤ size → GrowthStops D.Seen size self.old self.new }
         ensures shorter { IsIntactChain D.Seen self.old → size < (D.layer self.old.0).size → ShrinkStops D.Seen size self.old self.new }
         ensures failed { IfErr result (ChainFails D.Seen self.old self.new) }
         ensures marks { IfErr result (MarksOver D.Seen self.old.0 self.new.0) }
