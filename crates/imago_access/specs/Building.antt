@@ -14,10 +14,11 @@ abbrev pub options_with : Option OpenOptions → Bool → OpenOptions
 options_with None writable = record { filename = None; writable = writable; direct = false }
 options_with (Some options) writable = record options { writable = writable }
 
--- A driver just opened, of this format, for writing or not, and with this number, over an image file that was so before. It shows what the file
--- means, and opening has only read that; nothing is prepared, nothing waits in memory, and it has not failed. Where
--- the file is sound and its storage keeps what is written, it is as an image that was found sound has to be.
-pub record IsOpened {D St : Type 0} (g : Ghosts D St) (format : Format) (writable : Bool) (number : ℕ) (before : StorageState) (d : D) : Type 0 where
+-- A driver just opened, of this format, for writing or not, and with this number, over an image file that was so before. It shows what the
+-- file means, and opening has only read that; nothing is prepared, nothing waits in memory, and it has not failed. What lasts over each call
+-- holds from here on. Where the file is sound and its storage keeps what is written, it is as an image that was found sound has to be.
+pub record IsOpened {D St : Type 0} (g : Ghosts D St) (format : Format) (writable : Bool)
+    (number : ℕ) (before : StorageState) (d : D) : Type 0 where
   pub format_is : (g.layer d).fixed.format ≡ format
   pub writable_is : (g.layer d).fixed.writable ≡ writable
   pub number_is : (g.layer d).fixed.number ≡ number
@@ -34,7 +35,8 @@ pub record IsOpened {D St : Type 0} (g : Ghosts D St) (format : Format) (writabl
 abbrev pub OpensOnly : {D St : Type 0} → Ghosts D St → (D → Type 0) → Format → Bool → ℕ → StorageState → Type 0
 OpensOnly {D} g opens format writable number before = (d : D) → opens d → IsOpened g format writable number before d
 
--- What was created is handed to the closure that makes the builder for it, and opened by that builder, or by another that was made for that.
+-- What was created is handed to the closure that makes the builder for it, and opened by that builder, or by another that was made for
+-- that.
 abbrev pub OpensCreated : {S B : Type 0} → (S → Type 0) → (S → Result B Fault → Type 0) → (B → B → Type 0) → (B → Type 0) → Type 0
 OpensCreated {S} {B} hands makes opens_with Opens = (s : S) × (b b' : B) × hands s × makes s (Ok b) × opens_with b b' × Opens b'
 
@@ -43,9 +45,11 @@ abbrev pub IsOpenedThen : {S B D : Type 0} → (S → Type 0) → (S → Result 
 IsOpenedThen hands makes opens_with opens d = OpensCreated hands makes opens_with (λ b. opens b d)
 
 -- Why it isn't created and opened: by a cause of creation, of the closure, or of the builder.
-abbrev pub NotOpened : {S B : Type 0} → (Fault → Type 0) → (S → Type 0) → (S → Result B Fault → Type 0) → (B → B → Type 0) → (B → Fault → Type 0) → Fault → Type 0
+abbrev pub NotOpened : {S B : Type 0} → (Fault → Type 0) → (S → Type 0) → (S → Result B Fault → Type 0)
+    → (B → B → Type 0) → (B → Fault → Type 0) → Fault → Type 0
 NotOpened {S} {B} refuses hands makes opens_with refused e =
     refuses e ⊎ (((s : S) × hands s × makes s (Err e)) ⊎ OpensCreated hands makes opens_with (λ b. refused b e))
 
-abbrev pub IsUnopened : {T S B : Type 0} → Result T Fault → (Fault → Type 0) → (S → Type 0) → (S → Result B Fault → Type 0) → (B → B → Type 0) → (B → Fault → Type 0) → Type 0
+abbrev pub IsUnopened : {T S B : Type 0} → Result T Fault → (Fault → Type 0) → (S → Type 0)
+    → (S → Result B Fault → Type 0) → (B → B → Type 0) → (B → Fault → Type 0) → Type 0
 IsUnopened result refuses hands makes opens_with refused = IfErr result (NotOpened refuses hands makes opens_with refused)

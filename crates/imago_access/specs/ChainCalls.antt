@@ -47,7 +47,8 @@ ChainFails g old new = ImageCause (files_of g (chain old)) (files_of g (chain ne
 
 -- why a call that changes is refused, with these causes of its own, and with those of its top driver
 abbrev pub ChainCause : {D St : Type 0} → Ghosts D St → Call → (Fault → Type 0) → D × List D → D × List D → Fault → Type 0
-ChainCause g call causes old new = ChangeCause (map g.layer old.1) (g.layer old.0) call causes (files_of g (chain old)) (files_of g (chain new))
+ChainCause g call causes old new =
+    ChangeCause (map g.layer old.1) (g.layer old.0) call causes (files_of g (chain old)) (files_of g (chain new))
 
 abbrev pub OwnCause : {D St : Type 0} → Ghosts D St → Call → D × List D → D × List D → Fault → Type 0
 OwnCause g call old new = ChainCause g call (g.own_cause old.0 (map g.layer old.1) call) old new
@@ -96,7 +97,8 @@ ZeroesUnits g call result old new = IsIntactChain g old → WontDecline g call o
 
 -- A call that gives no room up, or none out of the range, and takes none but in units that the range touches.
 abbrev pub TakesNear : {D St T : Type 0} → Ghosts D St → ℕ → ℕ → Result T Fault → D × List D → D × List D → Type 0
-TakesNear g offset n result old new = IsIntactChain g old → WasNotCutOff result → Takes g (IsApart (g.layer old.0).fixed.unit offset n) old.0 new.0
+TakesNear g offset n result old new = IsIntactChain g old → WasNotCutOff result
+    → Takes g (IsApart (g.layer old.0).fixed.unit offset n) old.0 new.0
 
 abbrev pub GivesUpNear : {D St T : Type 0} → Ghosts D St → ℕ → ℕ → Result T Fault → D × List D → D × List D → Type 0
 GivesUpNear g offset n result old new = IsIntactChain g old → WasNotCutOff result
@@ -107,7 +109,8 @@ abbrev pub ChainEnsures : {D St : Type 0} → Ghosts D St → Asked → D × Lis
 ChainEnsures g asked old new answer = ChainSteps g (ensure asked.offset asked.length asked.overwrite) (run answer.1) old new
 
 abbrev pub ChainPrepares : {D St : Type 0} → Ghosts D St → Asked → D × List D → D × List D → PreparedDataMapping St → Type 0
-ChainPrepares g asked old new m = ChainSteps g (prepare asked.offset asked.length asked.overwrite) (prepared m.length (is_some m.state)) old new
+ChainPrepares g asked old new m =
+    ChainSteps g (prepare asked.offset asked.length asked.overwrite) (prepared m.length (is_some m.state)) old new
 
 -- each place of the run of a prepared mapping, from an offset on, can be written where the mapping says
 abbrev pub CanWriteRun : {St : Type 0} → Layer → ℕ → PreparedDataMapping St → Type 0
@@ -150,7 +153,8 @@ abbrev pub IsUnmapped : Layer → ℕ → ℕ → ℕ → Fault → Type 0
 IsUnmapped layer guest place n f = (f ≡ Outdated) × (0 < n) × (IsMappedAt layer guest place n → ⊥)
 
 abbrev pub ChainMappedCause : {D St : Type 0} → Ghosts D St → ℕ → ℕ → List ℕ → D × List D → D × List D → Fault → Type 0
-ChainMappedCause g guest place bytes old new = ChainCause g (write_mapped guest bytes) (IsUnmapped (g.layer old.0) guest place (length bytes)) old new
+ChainMappedCause g guest place bytes old new =
+    ChainCause g (write_mapped guest bytes) (IsUnmapped (g.layer old.0) guest place (length bytes)) old new
 
 -- A resize of a chain that has something to do is refused by a top driver that wasn't opened for writing.
 abbrev pub NeedsWritable : {D St : Type 0} → Ghosts D St → Type 0 → Result Unit Fault → D × List D → D × List D → Type 0

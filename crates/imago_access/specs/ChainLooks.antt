@@ -36,7 +36,8 @@ WhereAllSee g ds P = length ds < 2 ^ 64 → Each g.sees ds → P
 -- The answer says what the places of its run are, by the bytes that the files hold then, and which places can be written; it names a depth
 -- that there is.
 abbrev pub NamesTruly : {D St : Type 0} → Ghosts D St → ℕ → Result (Mapping × ℕ) Fault → List D → List D → Type 0
-NamesTruly g offset result olds news = WhereAllSee g olds (IfOk result (λ r. DeepNames (map g.layer olds) (at (map g.layer olds)) (stored_at g news) offset r.1 r.0))
+NamesTruly g offset result olds news = WhereAllSee g olds
+    (IfOk result (λ r. DeepNames (map g.layer olds) (at (map g.layer olds)) (stored_at g news) offset r.1 r.0))
 
 abbrev pub NamesWritable : {D St : Type 0} → Ghosts D St → ℕ → ℕ → Result (Mapping × ℕ) Fault → List D → Type 0
 NamesWritable g offset asked result olds = WhereAllSee g olds (IfOk result (λ r. DeepNamesWritable (map g.layer olds) offset asked r.0))
@@ -67,10 +68,11 @@ LookRefused g offset asked result olds news = Each g.sees olds
 
 abbrev pub ReadRefused : {D St T : Type 0} → Ghosts D St → ℕ → ℕ → Result T Fault → List D → List D → Type 0
 ReadRefused g offset n result olds news = Each g.sees olds
-    → IfErr result (ReadCause (map g.layer olds) (at (map g.layer olds)) (unit_of_chain (map g.layer olds)) offset n (files_of g olds) (files_of g news))
+    → IfErr result (ReadCause (map g.layer olds) (at (map g.layer olds)) (unit_of_chain (map g.layer olds)) offset n
+    (files_of g olds) (files_of g news))
 
--- Right after a flush of each layer nothing is lost by a call that drops what they hold in memory: they are what they were, and lookups stay
--- true.
+-- Right after a flush of each layer nothing is lost by a call that drops what they hold in memory: they are what they were, and lookups
+-- stay true.
 abbrev pub WhereFlushed : {D St : Type 0} → Ghosts D St → List D → Type 0 → Type 0
 WhereFlushed g ds P = Each (λ d. IsTrue (g.layer d).fixed.keeps) ds → Each g.sees ds → Each g.still ds → P
 

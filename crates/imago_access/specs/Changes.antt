@@ -69,7 +69,8 @@ pub record Prepared (below : ℕ → Value) (old new : Layer) (asked : Asked) (r
   pub home : (i : ℕ) → i < run.length → new.home (asked.offset + i) ≡ Some (run.storage, run.place + i)
   pub unspent : new.unspent ≡ run.claim
   pub holds : (p : ℕ) → IsHolding below new asked.offset run.length asked.overwrite p (new.held p)
-  pub some_held : (c : ℕ) → run.claim ≡ Some c → (p : ℕ) × (copied : Option ℕ) × IsIn asked.offset run.length p × (new.held p ≡ inside copied None asked.overwrite)
+  pub some_held : (c : ℕ) → run.claim ≡ Some c
+      → (p : ℕ) × (copied : Option ℕ) × IsIn asked.offset run.length p × (new.held p ≡ inside copied None asked.overwrite)
 
 -- A refused mapping: values and what is held stay. A table that was made for it may have replaced one, and then fewer places can be
 -- written where they are.
@@ -86,7 +87,8 @@ TakesByte b was_held was held is = (is ≡ own (byte b)) × (held ≡ was_held)
 pub record Wrote (old new : Layer) (guest : ℕ) (bytes : List ℕ) : Type 0 where
   pub like : IsLike old new
   pub home : new.home ≡ old.home
-  pub range : (i : ℕ) → i < length bytes → TakesByte (slice_index bytes i) (old.held (guest + i)) (old.cell (guest + i)) (new.held (guest + i)) (new.cell (guest + i))
+  pub range : (i : ℕ) → i < length bytes
+      → TakesByte (slice_index bytes i) (old.held (guest + i)) (old.cell (guest + i)) (new.held (guest + i)) (new.cell (guest + i))
   pub others : (p : ℕ) → IsOut guest (length bytes) p → (new.cell p ≡ old.cell p) × (new.held p ≡ old.held p)
 
 -- what becomes of a place when the mapping that holds it is committed

@@ -16,8 +16,8 @@ Fails g old new = ImageCause (files g old) (files g new)
 abbrev pub FailsOver : {D St B : Type 0} → Ghosts D St → GhostsBelow B → D × B → D × B → Fault → Type 0
 FailsOver g u old new = ImageCause (files g old.0 ++ u.files_under old.1) (files g new.0 ++ u.files_under new.1)
 
--- What refuses a call of a driver: a lookup of a range, a read of places of a storage or of the layers below, a flush or a sync, and reading
--- its files again.
+-- What refuses a call of a driver: a lookup of a range, a read of places of a storage or of the layers below, a flush or a sync, and
+-- reading its files again.
 abbrev pub RefusesLookup : {D St : Type 0} → Ghosts D St → ℕ → ℕ → D → D → Fault → Type 0
 RefusesLookup g offset n old new = LookCause (g.layer old) offset n (files g old) (files g new)
 

@@ -1,6 +1,6 @@
 -- What every call of a driver does to what contracts see of it. It was not cut off by want of memory or by a storage that failed where
 -- `whole` holds.
-use Rattle.std.specs.Prelude.{◌≡◌, ◌∷◌, ◌⊎◌, ⊤, ⊥, ℕ, List, Option, Some, None, Result, IsTrue, IsOk, OnOk, IsErrOf, IsSome}
+use Rattle.std.specs.Prelude.{◌≡◌, ◌∷◌, ◌⊎◌, ⊤, ℕ, List, Option, Some, None, Result, IsTrue, IsOk, OnOk, IsErrOf, IsSome}
 use Rattle.imago_storage.specs.Calls.{IsFaultless}
 use Rattle.imago_storage.specs.Steps.{Call}
 use Rattle.imago_storage.specs.declared.fault.Fault.{Fault}
@@ -32,7 +32,8 @@ pub record IsUnchanged {D St : Type 0} (g : Ghosts D St) (old new : D) : Type 0 
 
 -- A call is refused by this at once, if by anything, and else succeeds where it has nothing to do and the image can be used. In both cases
 -- all is as it was.
-pub record AtOnce {D St T : Type 0} (g : Ghosts D St) (refusal : Option Fault) (nothing : Type 0) (result : Result T Fault) (old new : D) : Type 0 where
+pub record AtOnce {D St T : Type 0} (g : Ghosts D St) (refusal : Option Fault) (nothing : Type 0)
+    (result : Result T Fault) (old new : D) : Type 0 where
   pub refused : (f : Fault) → refusal ≡ Some f → IsErrOf result f
   pub idle : nothing → barrier (g.layer old) ≡ None → IsOk result
   pub unchanged : nothing ⊎ IsSome refusal → IsUnchanged g old new
@@ -43,7 +44,8 @@ RangeAtOnce g offset n result old new = AtOnce g (own_refusal (g.layer old) offs
 
 -- Right after a flush nothing is lost by a driver that drops what it holds in memory.
 abbrev pub KeepsWhatIsFlushed : {D St : Type 0} → Ghosts D St → Result Unit Fault → D → D → Type 0
-KeepsWhatIsFlushed g result old new = IsTrue (g.layer old).fixed.keeps → g.sees old → g.still old → OnOk result ((g.layer new ≡ g.layer old) × g.sees new)
+KeepsWhatIsFlushed g result old new = IsTrue (g.layer old).fixed.keeps → g.sees old → g.still old
+    → OnOk result ((g.layer new ≡ g.layer old) × g.sees new)
 
 -- All but counts of faults is as it was: what reads and changes rest on, the files, what waits to be written, and what is allocated.
 pub record IsSpared {D St : Type 0} (g : Ghosts D St) (old new : D) : Type 0 where
@@ -60,7 +62,8 @@ Marks g old new Storage = IsTrue (g.layer old).fixed.marks → IsTrue (g.layer n
 Marks g old new Memory = IsTrue (g.layer old).fixed.marks → IsTrue (g.layer new).failed ⊎ IsSpared g old new
 Marks g old new fault = ⊤
 
--- The same of a call that reads the layers below too: a fault of its own storages has marked it, and one of theirs has, or left all as it was.
+-- The same of a call that reads the layers below too: a fault of its own storages has marked it, and one of theirs has, or left all as it
+-- was.
 abbrev pub MarksOver : {D St : Type 0} → Ghosts D St → D → D → Fault → Type 0
 MarksOver g old new Storage = IsTrue (g.layer old).fixed.marks
     → (SomeRose (files g old) (files g new) → IsTrue (g.layer new).failed) × (IsTrue (g.layer new).failed ⊎ IsSpared g old new)

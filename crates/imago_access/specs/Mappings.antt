@@ -23,8 +23,10 @@ Names layer stored offset n (shallow.Raw storage place writable) =
     × (IsTrue writable → IsTrue layer.fixed.writable)
     × (IsTrue writable → (i : ℕ) → i < n → layer.home (offset + i) ≡ Some (storage, place + i))
 Names layer stored offset n (shallow.Indirect place writable) =
-    EachIs layer.cell offset n (λ i. unmapped) × (place ≡ offset) × (writable ≡ layer.fixed.lets_through) × (IsTrue writable → IsTrue layer.fixed.writable)
-Names layer stored offset n (shallow.Zero explicit) = EachIs layer.cell offset n (λ i. own (byte 0)) × (explicit ≡ false → layer.fixed.blank ≡ own (byte 0))
+    EachIs layer.cell offset n (λ i. unmapped) × (place ≡ offset)
+    × (writable ≡ layer.fixed.lets_through) × (IsTrue writable → IsTrue layer.fixed.writable)
+Names layer stored offset n (shallow.Zero explicit) =
+    EachIs layer.cell offset n (λ i. own (byte 0)) × (explicit ≡ false → layer.fixed.blank ≡ own (byte 0))
 Names layer stored offset n (shallow.Special place) = EachIs layer.cell offset n (λ i. own barred) × (place ≡ offset)
 Names layer stored offset n shallow.Eof = ⊤
 
@@ -35,12 +37,14 @@ IsRun layer offset asked mapping n = (offset < layer.size) × (n ≤ asked) × (
 
 -- the places of a storage have a padded end that fits 64 bits, where those of the disk have
 abbrev pub IsInReach : Layer → ℕ → ShallowMapping → ℕ → Type 0
-IsInReach layer offset (shallow.Raw storage place writable) n = Overflows (unit_of_layer layer) place n → Overflows (unit_of_layer layer) offset n
+IsInReach layer offset (shallow.Raw storage place writable) n =
+    Overflows (unit_of_layer layer) place n → Overflows (unit_of_layer layer) offset n
 IsInReach layer offset mapping n = ⊤
 
 -- while nothing is prepared, a place that can be written is answered as such
 abbrev pub NamesHome : Layer → ℕ → ℕ → ShallowMapping → Type 0
-NamesHome layer offset asked mapping = IsFree layer → 0 < asked → (storage place : ℕ) → layer.home offset ≡ Some (storage, place) → mapping ≡ shallow.Raw storage place true
+NamesHome layer offset asked mapping = IsFree layer → 0 < asked
+    → (storage place : ℕ) → layer.home offset ≡ Some (storage, place) → mapping ≡ shallow.Raw storage place true
 
 -- where a layer says of places what room they have, one that is vacant or zeroed isn't answered as a place of a storage, nor as one that
 -- can't be read
@@ -80,8 +84,10 @@ stored_at g (d ∷ ds) (suc depth) storage place = stored_at g ds depth storage 
 -- each place of the run can be written in this storage, from this place on.
 abbrev pub AreWritable : ℕ → List Layer → ℕ → ℕ → ℕ → ℕ → Type 0
 AreWritable depth [] storage place offset n = ⊥
-AreWritable zero (layer ∷ below) storage place offset n = IsTrue layer.fixed.writable × ((i : ℕ) → i < n → layer.home (offset + i) ≡ Some (storage, place + i))
-AreWritable (suc depth) (layer ∷ below) storage place offset n = IsTrue layer.fixed.writable × IsTrue layer.fixed.lets_through × AreWritable depth below storage place offset n
+AreWritable zero (layer ∷ below) storage place offset n =
+    IsTrue layer.fixed.writable × ((i : ℕ) → i < n → layer.home (offset + i) ≡ Some (storage, place + i))
+AreWritable (suc depth) (layer ∷ below) storage place offset n =
+    IsTrue layer.fixed.writable × IsTrue layer.fixed.lets_through × AreWritable depth below storage place offset n
 
 -- the top layer itself says that the places are 0
 abbrev pub SaysZero : List Layer → ℕ → ℕ → Type 0
@@ -91,7 +97,8 @@ SaysZero (layer ∷ below) offset n = EachIs layer.cell offset n (λ i. own (byt
 -- The top layer doesn't state the places itself: it leaves them to the layers below, it ends before them, or it shows no layer below.
 abbrev pub LeavesZero : List Layer → ℕ → ℕ → Type 0
 LeavesZero [] offset n = ⊤
-LeavesZero (layer ∷ below) offset n = EachIs layer.cell offset n (λ i. unmapped) ⊎ ((layer.size ≤ offset) ⊎ (layer.fixed.blank ≡ own (byte 0)))
+LeavesZero (layer ∷ below) offset n =
+    EachIs layer.cell offset n (λ i. unmapped) ⊎ ((layer.size ≤ offset) ⊎ (layer.fixed.blank ≡ own (byte 0)))
 
 -- the layer at this depth itself says that the places can't be read
 abbrev pub SaysBarred : ℕ → List Layer → ℕ → ℕ → Type 0
@@ -103,15 +110,19 @@ SaysBarred (suc depth) (layer ∷ below) offset n = SaysBarred depth below offse
 -- layer on the way says so. A zero is explicit where the top layer says so, and any other isn't stated by that layer.
 abbrev pub DeepNames : List Layer → (ℕ → Value) → (ℕ → ℕ → ℕ → ℕ) → ℕ → ℕ → Mapping → Type 0
 DeepNames chain value stored offset n (deep.Raw depth storage place writable) =
-    ((i : ℕ) → i < n → value (offset + i) ≡ byte (stored depth storage (place + i))) × (IsTrue writable → AreWritable depth chain storage place offset n)
+    ((i : ℕ) → i < n → value (offset + i) ≡ byte (stored depth storage (place + i)))
+    × (IsTrue writable → AreWritable depth chain storage place offset n)
 DeepNames chain value stored offset n (deep.Zero explicit) =
-    ((i : ℕ) → i < n → value (offset + i) ≡ byte 0) × (IsTrue explicit → SaysZero chain offset n) × (explicit ≡ false → LeavesZero chain offset n)
-DeepNames chain value stored offset n (deep.Special depth place) = ((i : ℕ) → i < n → value (offset + i) ≡ barred) × (place ≡ offset) × SaysBarred depth chain offset n
+    ((i : ℕ) → i < n → value (offset + i) ≡ byte 0) × (IsTrue explicit → SaysZero chain offset n)
+    × (explicit ≡ false → LeavesZero chain offset n)
+DeepNames chain value stored offset n (deep.Special depth place) =
+    ((i : ℕ) → i < n → value (offset + i) ≡ barred) × (place ≡ offset) × SaysBarred depth chain offset n
 DeepNames chain value stored offset n deep.Eof = ⊤
 
 -- while nothing is prepared, a place of the top layer that can be written is answered as such
 abbrev pub DeepNamesHome : Layer → ℕ → ℕ → Mapping → Type 0
-DeepNamesHome layer offset asked mapping = IsFree layer → 0 < asked → (storage place : ℕ) → layer.home offset ≡ Some (storage, place) → mapping ≡ deep.Raw 0 storage place true
+DeepNamesHome layer offset asked mapping = IsFree layer → 0 < asked
+    → (storage place : ℕ) → layer.home offset ≡ Some (storage, place) → mapping ≡ deep.Raw 0 storage place true
 
 -- Nothing is prepared in the layer at this depth, which can be written at the place, and each layer above it lets that through.
 abbrev pub CanWrite : ℕ → List Layer → ℕ → Type 0
@@ -143,7 +154,8 @@ IsTopRun mapping n = (storage : ℕ) × (place : ℕ) × (mapping ≡ deep.Raw 0
 
 -- the run lies in the top layer, and each of its places can be written where the answer says
 abbrev pub IsHomeRun : Layer → ℕ → Mapping → ℕ → Type 0
-IsHomeRun layer offset (deep.Raw depth storage place writable) n = (depth ≡ 0) × IsTrue writable × ((i : ℕ) → i < n → layer.home (offset + i) ≡ Some (storage, place + i))
+IsHomeRun layer offset (deep.Raw depth storage place writable) n =
+    (depth ≡ 0) × IsTrue writable × ((i : ℕ) → i < n → layer.home (offset + i) ≡ Some (storage, place + i))
 IsHomeRun layer offset mapping n = ⊥
 
 -- the depth names one of so many layers

@@ -59,7 +59,8 @@ pub record IsPart (offset n : ℕ) (part : ℕ × ℕ) : Type 0 where
   pub empty : n ≡ 0 → part ≡ (offset, 0)
 
 -- What the call does to an image that is safe, and what it leaves of every image.
-pub record DoesPart {D St : Type 0} (call : PartCall) (g : Ghosts D St) (offset n : ℕ) (result : Result (ℕ × ℕ) Fault) (old new : D) : Type 0 where
+pub record DoesPart {D St : Type 0} (call : PartCall) (g : Ghosts D St) (offset n : ℕ)
+    (result : Result (ℕ × ℕ) Fault) (old new : D) : Type 0 where
   pub ok : g.safe old → IfOk result (λ r. Rewrites (Becomes call (g.layer old)) (g.layer old) (g.layer new) r.0 r.1)
   pub err : g.safe old → IfErr result (λ e. IsMild e → PartRewrites (Becomes call (g.layer old)) (g.layer old) (g.layer new) offset n)
   pub reach : g.safe old → IfOk result (λ r. Reaches (g.layer old).fixed.unit (g.layer old).size offset n r.0 r.1)
@@ -68,7 +69,8 @@ pub record DoesPart {D St : Type 0} (call : PartCall) (g : Ghosts D St) (offset 
   pub like : IsLike (g.layer old) (g.layer new)
   pub went : Went g (WasNotCutOff result) (WasNotCutOff result) old new
   pub began : (d : D) (whole : Call) → g.began d whole old → IsPartOf whole offset n → WasNotCutOff result → g.began d whole new
-  pub stops : g.safe old → (below : List Layer) → IsToldOver call below (g.layer old) → KeepsStops g below (PartGives call below offset n) old new
+  pub stops : g.safe old → (below : List Layer) → IsToldOver call below (g.layer old)
+      → KeepsStops g below (PartGives call below offset n) old new
 
 -- why it is refused
 pub record PartRefused {D St : Type 0} (g : Ghosts D St) (offset n : ℕ) (result : Result (ℕ × ℕ) Fault) (old new : D) : Type 0 where

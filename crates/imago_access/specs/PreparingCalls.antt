@@ -26,7 +26,8 @@ abbrev pub IsHeldBy : {D St : Type 0} → Ghosts D St → Option St → Layer �
 IsHeldBy g state layer = IsMine g state layer × (state ≡ None → IsFree layer)
 
 -- Why a call is refused that changes a range over the layers below, as part of a call that was begun.
-pub record RunRefused {D St B T : Type 0} (g : Ghosts D St) (u : GhostsBelow B) (asked : Asked) (result : Result T Fault) (old new : D × B) : Type 0 where
+pub record RunRefused {D St B T : Type 0} (g : Ghosts D St) (u : GhostsBelow B) (asked : Asked)
+    (result : Result T Fault) (old new : D × B) : Type 0 where
   pub failed : IfErr result (FailsOver g u old new)
   pub marks : IfErr result (MarksOver g old.0 new.0)
   pub cause : g.safe old.0 → u.sees_under old.1 → (d : D) (call : Call) → g.began d call old.0
@@ -35,8 +36,10 @@ pub record RunRefused {D St B T : Type 0} (g : Ghosts D St) (u : GhostsBelow B) 
       (files g old.0 ++ u.files_under old.1) (files g new.0 ++ u.files_under new.1))
 
 -- What a preparation does over the layers below, where the image is safe and reads of these are true, and what it leaves of a begun call.
-pub record Prepares {D St B : Type 0} (g : Ghosts D St) (u : GhostsBelow B) (asked : Asked) (result : Result (PreparedDataMapping St) Fault) (old new : D × B) : Type 0 where
-  pub ok : g.safe old.0 → u.sees_under old.1 → IfOk result (λ m. Prepared (at (u.under old.1)) (g.layer old.0) (g.layer new.0) asked (run_of g m))
+pub record Prepares {D St B : Type 0} (g : Ghosts D St) (u : GhostsBelow B) (asked : Asked)
+    (result : Result (PreparedDataMapping St) Fault) (old new : D × B) : Type 0 where
+  pub ok : g.safe old.0 → u.sees_under old.1
+      → IfOk result (λ m. Prepared (at (u.under old.1)) (g.layer old.0) (g.layer new.0) asked (run_of g m))
   pub err : g.safe old.0 → u.sees_under old.1 → IfErr result (λ e. IsMild e → NotPrepared (g.layer old.0) (g.layer new.0))
   pub uncut : g.safe old.0 → u.sees_under old.1
       → IfOk result (λ m. IsUncutAt (g.layer old.0).fixed.unit (g.layer old.0).size asked.offset asked.length (asked.offset + m.length))
@@ -45,22 +48,28 @@ pub record Prepares {D St B : Type 0} (g : Ghosts D St) (u : GhostsBelow B) (ask
   pub room : g.safe old.0 → u.sees_under old.1 → WasNotCutOff result → Takes g (λ _. ⊤) old.0 new.0
   pub stops : g.safe old.0 → u.sees_under old.1 → KeepsStops g (u.under old.1) GivesNone old.0 new.0
   pub went : Went g (WasNotCutOff result) (WasNotCutOff result × u.sees_under old.1) old.0 new.0
-  pub began : (d : D) (call : Call) → g.began d call old.0 → IsPartOf call asked.offset asked.length → WasNotCutOff result → g.began d call new.0
+  pub began : (d : D) (call : Call) → g.began d call old.0 → IsPartOf call asked.offset asked.length
+      → WasNotCutOff result → g.began d call new.0
   pub refused : RunRefused g u asked result old new
 
 -- What a commit does. One without state changes nothing, and succeeds where the image can be used.
-pub record Commits {D St : Type 0} (g : Ghosts D St) (state : Option St) (result : Result Unit (Fault × Option (PreparedDataMapping St))) (old new : D) : Type 0 where
-  pub ok : OnOk result (Spends g state (g.layer old) (g.layer new) (IsFree (g.layer new) × (g.safe old → Committed (g.layer old) (g.layer new))))
+pub record Commits {D St : Type 0} (g : Ghosts D St) (state : Option St)
+    (result : Result Unit (Fault × Option (PreparedDataMapping St))) (old new : D) : Type 0 where
+  pub ok : OnOk result (Spends g state (g.layer old) (g.layer new)
+      (IsFree (g.layer new) × (g.safe old → Committed (g.layer old) (g.layer new))))
   pub size : (g.layer new).size ≡ (g.layer old).size
   pub room : g.safe old → IsMine g state (g.layer old) → OnOk result (Takes g (λ p. (g.layer old).held p ≡ loose) old new)
-  pub stops : g.safe old → IsMine g state (g.layer old) → (below : List Layer) → KeepsStops g below (GivesSettled below (g.layer old)) old new
+  pub stops : g.safe old → IsMine g state (g.layer old) → (below : List Layer)
+      → KeepsStops g below (GivesSettled below (g.layer old)) old new
   pub went : Went g (MatchResult result (λ _. ⊤) (λ e. IsMild e.0)) (IsOk result × IsMine g state (g.layer old)) old new
   pub sees : state ≡ None → g.sees old → g.sees new
   pub began : (d : D) (call : Call) → g.began d call old → IsMine g state (g.layer old) → OnOk result (g.began d call new)
 
 -- Why it is refused: at once it gives the mapping back, and changes nothing; else it has spent it, and the image has failed.
-pub record CommitRefused {D St : Type 0} (g : Ghosts D St) (mapping : PreparedDataMapping St) (result : Result Unit (Fault × Option (PreparedDataMapping St))) (old new : D) : Type 0 where
-  pub at_once : (f : Fault) → commit_refusal g mapping.state (g.layer old) ≡ Some f → MatchResult result (λ _. ⊥) (λ e. (e.0 ≡ f) × IsSome e.1)
+pub record CommitRefused {D St : Type 0} (g : Ghosts D St) (mapping : PreparedDataMapping St)
+    (result : Result Unit (Fault × Option (PreparedDataMapping St))) (old new : D) : Type 0 where
+  pub at_once : (f : Fault) → commit_refusal g mapping.state (g.layer old) ≡ Some f
+      → MatchResult result (λ _. ⊥) (λ e. (e.0 ≡ f) × IsSome e.1)
   pub unchanged : (mapping.state ≡ None) ⊎ IsSome (commit_refusal g mapping.state (g.layer old)) → IsUnchanged g old new
   pub back : IfErr result (λ e. IfSome e.1 (λ m. (m ≡ mapping) × GivenBack g.tag mapping.state (g.layer old) e.0 × IsUnchanged g old new))
   pub spent : IfErr result (λ e. e.1 ≡ None → IsSome mapping.state × IsTrue (g.layer new).failed × IsSpending e.0
@@ -68,7 +77,8 @@ pub record CommitRefused {D St : Type 0} (g : Ghosts D St) (mapping : PreparedDa
   pub failed : IfErr result (λ e. ImageCause (files g old) (files g new) e.0)
 
 -- What becomes of a driver whose mapping is given up: the disk is as it was, and nothing is asked of a file.
-pub record Cancels {D St : Type 0} (g : Ghosts D St) (mapping : PreparedDataMapping St) (result : Result Unit (Fault × PreparedDataMapping St)) (old new : D) : Type 0 where
+pub record Cancels {D St : Type 0} (g : Ghosts D St) (mapping : PreparedDataMapping St)
+    (result : Result Unit (Fault × PreparedDataMapping St)) (old new : D) : Type 0 where
   pub ok : OnOk result (Spends g mapping.state (g.layer old) (g.layer new) (Cancelled (g.layer old) (g.layer new)))
   pub back : IfErr result (λ e. (e.1 ≡ mapping) × (e.0 ≡ Foreign) × IsForeignTo g.tag mapping.state (g.layer old) × IsUnchanged g old new)
   pub fixed : (g.layer new).fixed ≡ (g.layer old).fixed
@@ -82,7 +92,8 @@ pub record Cancels {D St : Type 0} (g : Ghosts D St) (mapping : PreparedDataMapp
   pub began : (d : D) (call : Call) → g.began d call old → g.began d call new
 
 -- What a write does from a place of a storage on, where the range is mapped.
-pub record WritesMapped {D St : Type 0} (g : Ghosts D St) (guest place : ℕ) (bytes : List ℕ) (result : Result Unit Fault) (old new : D) : Type 0 where
+pub record WritesMapped {D St : Type 0} (g : Ghosts D St) (guest place : ℕ) (bytes : List ℕ)
+    (result : Result Unit Fault) (old new : D) : Type 0 where
   pub mapped : g.sees old → OnOk result (0 < length bytes → IsMappedAt (g.layer old) guest place (length bytes))
   pub empty : length bytes ≡ 0 → g.layer new ≡ g.layer old
   pub like : IsLike (g.layer old) (g.layer new)

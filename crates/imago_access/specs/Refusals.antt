@@ -18,7 +18,8 @@ barrier layer = if layer.failed then Some Failed else if layer.fixed.missing the
 abbrev pub IsBarred : Layer → Type 0
 IsBarred layer = IsSome (barrier layer)
 
--- The first cause why a change of a range, in bytes, is refused, by whether the image was opened for writing, its unit of requests and its size.
+-- The first cause why a change of a range, in bytes, is refused, by whether the image was opened for writing, its unit of requests and its
+-- size.
 abbrev pub range_refusal : Bool → (unit size offset n : ℕ) → Option Fault
 range_refusal writable unit size offset n =
     if eqb n 0 then None
@@ -75,7 +76,8 @@ SomeIs value offset n v = (i : ℕ) × (i < n) × (value (offset + i) ≡ v)
 abbrev pub LookCause : Layer → ℕ → ℕ → List StorageState → List StorageState → Fault → Type 0
 LookCause layer offset n olds news Failed = barrier layer ≡ Some Failed
 LookCause layer offset n olds news MissingData = barrier layer ≡ Some MissingData
-LookCause layer offset n olds news DamagedTable = (i : ℕ) × (i < n) × (offset + i < layer.size) × (layer.cell (offset + i) ≡ own damaged_place)
+LookCause layer offset n olds news DamagedTable =
+    (i : ℕ) × (i < n) × (offset + i < layer.size) × (layer.cell (offset + i) ≡ own damaged_place)
 LookCause layer offset n olds news Memory = ⊤
 LookCause layer offset n olds news Storage = SomeRose olds news
 LookCause layer offset n olds news fault = ⊥

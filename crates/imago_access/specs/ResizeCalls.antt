@@ -30,7 +30,8 @@ abbrev pub IsUngrown : Layer → ℕ → Type 0
 IsUngrown layer size = (size ≤ layer.size) ⊎ (IsSome (barrier layer) ⊎ IsFalse layer.fixed.writable)
 
 -- a growth to a size, in bytes, over the layers below
-pub record Grows {D St B : Type 0} (g : Ghosts D St) (u : GhostsBelow B) (size : ℕ) (mode : PreallocateMode) (result : Result Unit Fault) (old new : D × B) : Type 0 where
+pub record Grows {D St B : Type 0} (g : Ghosts D St) (u : GhostsBelow B) (size : ℕ) (mode : PreallocateMode)
+    (result : Result Unit Fault) (old new : D × B) : Type 0 where
   pub ok : g.safe old.0 → u.sees_under old.1 → (g.layer old.0).size < size
       → OnOk result (Grown (at (u.under old.1)) (g.layer old.0) (g.layer new.0) size (fill_of mode))
   pub err : g.safe old.0 → u.sees_under old.1 → IfErr result (λ e. IsMild e → NotGrown (at (u.under old.1)) (g.layer old.0) (g.layer new.0))
@@ -39,7 +40,8 @@ pub record Grows {D St B : Type 0} (g : Ghosts D St) (u : GhostsBelow B) (size :
   pub went : Went g (WasNotCutOff result) (WasNotCutOff result × u.sees_under old.1) old.0 new.0
 
 -- why it is refused
-pub record GrowthRefused {D St B : Type 0} (g : Ghosts D St) (u : GhostsBelow B) (size : ℕ) (mode : PreallocateMode) (result : Result Unit Fault) (old new : D × B) : Type 0 where
+pub record GrowthRefused {D St B : Type 0} (g : Ghosts D St) (u : GhostsBelow B) (size : ℕ) (mode : PreallocateMode)
+    (result : Result Unit Fault) (old new : D × B) : Type 0 where
   pub failed : IfErr result (FailsOver g u old new)
   pub marks : IfErr result (MarksOver g old.0 new.0)
   pub cause : g.safe old.0 → u.sees_under old.1 → IfErr result (GrowthCause (u.under old.1) (g.layer old.0) size

@@ -56,14 +56,16 @@ WorkKeeps (writing_zeroes offset n) p = ⊤
 WorkKeeps (zeroing_by how offset n) p = (how ≡ zeroing_is.Keep) ⊎ IsOut offset n p
 
 -- What it does: it gives its values at places of its range, and takes room only in units that the range touches.
-pub record DoesWork {D St B T : Type 0} (g : Ghosts D St) (u : GhostsBelow B) (work : Work) (result : Result T Fault) (old new : D × B) : Type 0 where
+pub record DoesWork {D St B T : Type 0} (g : Ghosts D St) (u : GhostsBelow B) (work : Work)
+    (result : Result T Fault) (old new : D × B) : Type 0 where
   pub ran : Ran g u (WasNotCutOff result) (WorkGives work) old new
   pub room : IsIntact g u old.0 old.1 → WasNotCutOff result
       → LeavesRoom g (WorkKeeps work) (IsApart (g.layer old.0).fixed.unit (start_of work) (extent_of work)) old.0 new.0
-  pub began : (d : D) (call : Call) → g.began d call old.0 → IsPartOf call (start_of work) (extent_of work) → OnOk result (g.began d call new.0)
+  pub began : (d : D) (call : Call) → g.began d call old.0 → IsPartOf call (start_of work) (extent_of work)
+      → OnOk result (g.began d call new.0)
 
--- What a refusal leaves of an image of a format that marks failures, where a change of a driver alone may have been done in part: a storage's
--- fault has marked it, and want of memory has marked it or left it safe.
+-- What a refusal leaves of an image of a format that marks failures, where a change of a driver alone may have been done in part: a
+-- storage's fault has marked it, and want of memory has marked it or left it safe.
 abbrev pub MarksAlone : {D St : Type 0} → Ghosts D St → D → D → Fault → Type 0
 MarksAlone g old new Storage = IsTrue (g.layer old).fixed.marks → IsTrue (g.layer new).failed
 MarksAlone g old new Memory = IsTrue (g.layer old).fixed.marks → IsTrue (g.layer new).failed ⊎ (g.safe old → g.safe new)
@@ -72,12 +74,14 @@ MarksAlone g old new fault = ⊤
 -- the same over the layers below: a fault of the top's own storages has marked it, and one of theirs has, or left one that was intact safe
 abbrev pub MarksTop : {D St B : Type 0} → Ghosts D St → GhostsBelow B → D × B → D × B → Fault → Type 0
 MarksTop g u old new Storage = IsTrue (g.layer old.0).fixed.marks
-    → (SomeRose (files g old.0) (files g new.0) → IsTrue (g.layer new.0).failed) × (IsTrue (g.layer new.0).failed ⊎ (IsIntact g u old.0 old.1 → g.safe new.0))
+    → (SomeRose (files g old.0) (files g new.0) → IsTrue (g.layer new.0).failed)
+    × (IsTrue (g.layer new.0).failed ⊎ (IsIntact g u old.0 old.1 → g.safe new.0))
 MarksTop g u old new Memory = IsTrue (g.layer old.0).fixed.marks → IsTrue (g.layer new.0).failed ⊎ (IsIntact g u old.0 old.1 → g.safe new.0)
 MarksTop g u old new fault = ⊤
 
 -- why it is refused, as part of a call that was begun and announces that all of its range will be written
-pub record WorkRefused {D St B T : Type 0} (g : Ghosts D St) (u : GhostsBelow B) (work : Work) (result : Result T Fault) (old new : D × B) : Type 0 where
+pub record WorkRefused {D St B T : Type 0} (g : Ghosts D St) (u : GhostsBelow B) (work : Work)
+    (result : Result T Fault) (old new : D × B) : Type 0 where
   pub failed : IfErr result (FailsOver g u old new)
   pub marks : IfErr result (MarksTop g u old new)
   pub cause : IsIntact g u old.0 old.1 → (d : D) (call : Call) → g.began d call old.0
@@ -143,27 +147,32 @@ RanAnywhere g whole gives old new = (below : List Layer) → RanAlone g whole gi
 
 -- why zeroes aren't written to a range that is mapped from a place of a storage on
 abbrev pub MappedRefused : {D St : Type 0} → Ghosts D St → ℕ → ℕ → ℕ → Result Unit Fault → D → D → Type 0
-MappedRefused g guest place n result old new = g.safe old → IfErr result (MappedCause (g.layer old) guest place n (files g old) (files g new))
+MappedRefused g guest place n result old new = g.safe old
+    → IfErr result (MappedCause (g.layer old) guest place n (files g old) (files g new))
 
 -- why a driver refuses a range, as part of a call that was begun, over whatever layers below
 abbrev pub RangeRefused : {D St T : Type 0} → Ghosts D St → ℕ → ℕ → Result T Fault → D → D → Type 0
-RangeRefused {D} g offset n result old new = g.safe old → (below : List Layer) (d : D) (call : Call) → g.began d call old → IsPartOf call offset n
+RangeRefused {D} g offset n result old new = g.safe old → (below : List Layer) (d : D) (call : Call)
+    → g.began d call old → IsPartOf call offset n
     → IfErr result (PartCause below (g.layer old) offset n (g.own_cause d below call) (files g old) (files g new))
 
 -- What a driver alone zeroes, and what it discards, over layers below that it shows, and at a stop: places of the range take what is given.
 abbrev pub ZeroesAlone : {D St T : Type 0} → Ghosts D St → ℕ → ℕ → Result T Fault → D → D → Type 0
-ZeroesAlone g offset n result old new = g.safe old → (below : List Layer) → WasNotCutOff result → IsBetween (GivesZero offset n) below (g.layer old) (g.layer new)
+ZeroesAlone g offset n result old new = g.safe old → (below : List Layer) → WasNotCutOff result
+    → IsBetween (GivesZero offset n) below (g.layer old) (g.layer new)
 
 abbrev pub DiscardsAlone : {D St T : Type 0} → Ghosts D St → Discarding → ℕ → ℕ → Result T Fault → D → D → Type 0
 DiscardsAlone g how offset n result old new = g.safe old → (below : List Layer) → IsBacked below (g.layer old) → WasNotCutOff result
     → IsBetween (GivesDiscarded how below offset n) below (g.layer old) (g.layer new)
 
 abbrev pub DiscardStops : {D St : Type 0} → Ghosts D St → Discarding → ℕ → ℕ → D → D → Type 0
-DiscardStops g how offset n old new = g.safe old → (below : List Layer) → IsBacked below (g.layer old) → KeepsStops g below (GivesDiscarded how below offset n) old new
+DiscardStops g how offset n old new = g.safe old → (below : List Layer) → IsBacked below (g.layer old)
+    → KeepsStops g below (GivesDiscarded how below offset n) old new
 
 -- what room a driver's zeroing leaves: it takes none outside its range, and gives up none there, nor where what is allocated is kept
 abbrev pub ZeroingLeaves : {D St T : Type 0} → Ghosts D St → Zeroing → ℕ → ℕ → Result T Fault → D → D → Type 0
-ZeroingLeaves g how offset n result old new = g.safe old → WasNotCutOff result → LeavesRoom g (WorkKeeps (zeroing_by how offset n)) (IsOut offset n) old new
+ZeroingLeaves g how offset n result old new = g.safe old → WasNotCutOff result
+    → LeavesRoom g (WorkKeeps (zeroing_by how offset n)) (IsOut offset n) old new
 
 -- the part that was done of a range leaves out no whole unit of the layer before it, cuts none, and isn't empty where the range has one
 abbrev pub ReachesUnits : Layer → ℕ → ℕ → ℕ × ℕ → Type 0
@@ -175,7 +184,8 @@ IsLeftIn g how new part = (p : ℕ) → IsIn part.0 part.1 p → IsLeft how (g.v
 
 -- P, where this range is part of a call that was begun and that the driver has no cause of its own to decline
 abbrev pub UnlessDeclined : {D St : Type 0} → Ghosts D St → List Layer → ℕ → ℕ → D → Type 0 → Type 0
-UnlessDeclined {D} g below offset n old P = (d : D) (call : Call) → g.began d call old → IsPartOf call offset n → IsUndeclined (g.own_cause d below call) → P
+UnlessDeclined {D} g below offset n old P = (d : D) (call : Call) → g.began d call old → IsPartOf call offset n
+    → IsUndeclined (g.own_cause d below call) → P
 
 -- Then each whole unit of the range is given up by a discard,
 abbrev pub GivesUnitsUpAlone : {D St : Type 0} → Ghosts D St → ℕ → ℕ → Result Unit Fault → D → D → Type 0
@@ -185,7 +195,8 @@ GivesUnitsUpAlone g offset n result old new = g.safe old → (below : List Layer
 -- and left by a zeroing as its way says: by a driver alone between two places, so far up to a place, and in the whole range.
 abbrev pub LeavesUnitsBehind : {D St : Type 0} → Ghosts D St → Zeroing → ℕ → ℕ → Result (ℕ × ℕ) Fault → D → D → Type 0
 LeavesUnitsBehind g how offset n result old new = g.safe old → (below : List Layer) → UnlessDeclined g below offset n old
-    (IfOk result (λ r. IsGivenUpBehind (IsLeft how (g.vacant new) (g.zeroed new)) (g.layer old).fixed.unit (g.layer old).size offset n r.0 r.1))
+    (IfOk result (λ r. IsGivenUpBehind (IsLeft how (g.vacant new) (g.zeroed new)) (g.layer old).fixed.unit (g.layer old).size
+    offset n r.0 r.1))
 
 abbrev pub LeavesUnitsTo : {D St B : Type 0} → Ghosts D St → GhostsBelow B → Zeroing → ℕ → ℕ → Result ℕ Fault → D × B → D × B → Type 0
 LeavesUnitsTo g u how offset n result old new = IsIntact g u old.0 old.1 → UnlessDeclined g (u.under old.1) offset n old.0

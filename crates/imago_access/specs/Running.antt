@@ -56,7 +56,8 @@ IsBetween gives below old new = (p : ℕ) → p < old.size → (at (new ∷ belo
 
 -- What a call that changes a range does to a driver and to the layers below it. It was not cut off by want of memory or by a storage that
 -- failed where `whole` holds.
-pub record Ran {D St B : Type 0} (g : Ghosts D St) (u : GhostsBelow B) (whole : Type 0) (gives : ℕ → Value → Type 0) (old new : D × B) : Type 0 where
+pub record Ran {D St B : Type 0} (g : Ghosts D St) (u : GhostsBelow B) (whole : Type 0) (gives : ℕ → Value → Type 0)
+    (old new : D × B) : Type 0 where
   pub size : (g.layer new.0).size ≡ (g.layer old.0).size
   pub went : Went g whole (whole × u.sees_under old.1) old.0 new.0
   pub looked : LookedUnder u whole old.1 new.1

@@ -24,7 +24,8 @@ pub record Left (below : List Layer) (entry : Layer) (entry_file : List ℕ) (so
   pub is_sound : sound entry.fixed.kind f
   pub size : least ≤ (entry.fixed.means f).size
   pub no_longer : IsTrue entry.fixed.exact → (entry.fixed.means f).size ≤ most
-  pub shows : (p : ℕ) → p < (entry.fixed.means f).size → p < entry.size → May below entry entry_file gives p (shown below entry.fixed.means f p)
+  pub shows : (p : ℕ) → p < (entry.fixed.means f).size → p < entry.size
+      → May below entry entry_file gives p (shown below entry.fixed.means f p)
 
 -- what a call keeps at each stop, seen from its own entry, with the least and the greatest size that it passes through
 abbrev pub KeepsStopsTo : {D St : Type 0} → Ghosts D St → List Layer → (least most : ℕ) → (ℕ → Value → Type 0) → D → D → Type 0

@@ -42,8 +42,8 @@ pub trait Seen {
     /// neither.
     ghost has_room: { Self → ℕ → Type 0 };
 
-    /// Neither bytes of a storage nor what can't be read stand for a place, where the format can say of a place that it is 0. Places past the
-    /// disk's end may count as zeroed.
+    /// Neither bytes of a storage nor what can't be read stand for a place, where the format can say of a place that it is 0. Places past
+    /// the disk's end may count as zeroed.
     ghost zeroed: { Self → ℕ → Type 0 };
 
     /// Which mapping a state belongs to, and the number of the image that prepared it.
