@@ -76,11 +76,13 @@ pub record CommitRefused {D St : Type 0} (g : Ghosts D St) (mapping : PreparedDa
       × Spends g mapping.state (g.layer old) (g.layer new) (IsFree (g.layer new) × (g.safe old → IsMild e.0 → ⊥)))
   pub failed : IfErr result (λ e. ImageCause (files g old) (files g new) e.0)
 
--- What becomes of a driver whose mapping is given up: the disk is as it was, and nothing is asked of a file.
+-- What becomes of a driver whose mapping is given up: the disk is as it was, and nothing is asked of a file. One without state changes
+-- nothing.
 pub record Cancels {D St : Type 0} (g : Ghosts D St) (mapping : PreparedDataMapping St)
     (result : Result Unit (Fault × PreparedDataMapping St)) (old new : D) : Type 0 where
   pub ok : OnOk result (Spends g mapping.state (g.layer old) (g.layer new) (Cancelled (g.layer old) (g.layer new)))
   pub back : IfErr result (λ e. (e.1 ≡ mapping) × (e.0 ≡ Foreign) × IsForeignTo g.tag mapping.state (g.layer old) × IsUnchanged g old new)
+  pub unchanged : mapping.state ≡ None → IsUnchanged g old new
   pub fixed : (g.layer new).fixed ≡ (g.layer old).fixed
   pub size : (g.layer new).size ≡ (g.layer old).size
   pub failed : (g.layer new).failed ≡ (g.layer old).failed

@@ -36,7 +36,11 @@ use std::alloc::Global;
 ///
 /// Each call but the getters and a cancel refuses with `Fault::Failed` after an earlier fault, and with `Fault::MissingData` where a
 /// file that is needed wasn't handed in; then, where its range is empty, it succeeds and does nothing, but for `read_special`, which never
-/// succeeds.
+/// succeeds. A call that is refused so, or has nothing to do, leaves all as it was.
+///
+/// An image of a format that marks failures, as qcow2 does, has failed after a call that a storage of its own refused with
+/// `Fault::Storage`. After one that a storage of the layers below refused, or that was refused with `Fault::Memory`, it has failed, or all
+/// of it but counts of faults is as it was.
 pub trait FormatDriverInstance: Seen {
     /// What its files are.
     type Storage: Storage;
@@ -47,7 +51,11 @@ pub trait FormatDriverInstance: Seen {
 
     /// One of its further files, by their order: that with this index has the number `index + 1` where a lookup names it.
     fn extra_file(&self, index: usize) -> Option<&Self::Storage>
-        ensures { MatchOption result (length (Self.extras self.now) ≤ index) (λ s. IsStorageAt (Self.extras self.now) index (Self.Storage.state s.now)) };
+        ensures {
+            MatchOption result
+                (length (Self.extras self.now) ≤ index)
+                (λ s. IsStorageAt (Self.extras self.now) index (Self.Storage.state s.now))
+        };
 
     /// The format.
     fn format(&self) -> Format
@@ -138,6 +146,7 @@ pub trait FormatDriverInstance: Seen {
         ensures refused { IsErr result }
         ensures err { IfErr result (λ e. (barrier (Self.layer self.old) ≡ Some e) ⊎ (e ≡ Barred)) }
         ensures barred { (f : Fault) → barrier (Self.layer self.old) ≡ Some f → IsErrOf result f }
+
         ensures unchanged { IsUnchanged Self.Seen self.old self.new };
 
     /// Maps a run from the offset on so that it can be written: at least one byte, and not more than asked. What the run shows is copied
@@ -183,6 +192,7 @@ pub trait FormatDriverInstance: Seen {
         ensures refused { CommitRefused Self.Seen mapping result self.old self.new };
 
     /// Gives a prepared mapping up: the disk is as it was before. It makes no request and takes no memory, also where the image has failed.
+    /// One without state changes nothing.
     ///
     /// It gives the mapping back with `Fault::Foreign` for one of another number.
     fn cancel_data_mapping(
@@ -204,6 +214,7 @@ pub trait FormatDriverInstance: Seen {
         bytes: &[u8],
     ) -> Result<(), Fault>
         ensures writes { WritesMapped Self.Seen guest place bytes.now result self.old self.new }
+
         ensures at_once { RangeAtOnce Self.Seen guest (length bytes.now) result self.old self.new }
         ensures refused { WritingRefused Self.Seen guest place (length bytes.now) result self.old self.new };
 
@@ -211,9 +222,9 @@ pub trait FormatDriverInstance: Seen {
     ///
     /// It answers the part that it has done: from where on, and how many bytes. That part leaves out no whole unit of the range before it,
     /// cuts none, and isn't empty where the range has one. The rest of the range is left as it was. It refuses with
-    /// `Fault::ReadOnly`, `Fault::RangeOverflow` and `Fault::PastEnd`, with `Fault::VersionLimit` where the format can't, with causes of the driver's own,
-    /// with `Fault::Memory` and `Fault::Storage`. A refusal for another cause than the last two leaves each byte of the range old or as
-    /// the call gives it, and one with `Fault::Unsupported` or `Fault::VersionLimit` has met no storage that failed.
+    /// `Fault::ReadOnly`, `Fault::RangeOverflow` and `Fault::PastEnd`, with `Fault::VersionLimit` where the format can't, with causes of the
+    /// driver's own, with `Fault::Memory` and `Fault::Storage`. A refusal for another cause than the last two leaves each byte of the range
+    /// old or as the call gives it, and one with `Fault::Unsupported` or `Fault::VersionLimit` has met no storage that failed.
     fn ensure_zero_mapping(
         &mut self,
         alloc: Global,
@@ -221,8 +232,10 @@ pub trait FormatDriverInstance: Seen {
         length: u64,
     ) -> Result<(u64, u64), Fault>
         requires free { IsFree (Self.layer self.old) }
+
         ensures part { IfOk result (IsPart offset length) }
         ensures does { DoesPart ensures_zero Self.Seen offset length result self.old self.new }
+
         ensures at_once { RangeAtOnce Self.Seen offset length result self.old self.new }
         ensures refused { PartRefused Self.Seen offset length result self.old self.new };
 
@@ -230,9 +243,9 @@ pub trait FormatDriverInstance: Seen {
     ///
     /// It answers the part that it has done: from where on, and how many bytes. That part leaves out no whole unit of the range before it,
     /// cuts none, and isn't empty where the range has one. The rest of the range is left as it was. It refuses with
-    /// `Fault::ReadOnly`, `Fault::RangeOverflow` and `Fault::PastEnd`, with `Fault::VersionLimit` where the format can't, with causes of the driver's own,
-    /// with `Fault::Memory` and `Fault::Storage`. A refusal for another cause than the last two leaves each byte of the range old or as
-    /// the call gives it, and one with `Fault::Unsupported` or `Fault::VersionLimit` has met no storage that failed.
+    /// `Fault::ReadOnly`, `Fault::RangeOverflow` and `Fault::PastEnd`, with `Fault::VersionLimit` where the format can't, with causes of the
+    /// driver's own, with `Fault::Memory` and `Fault::Storage`. A refusal for another cause than the last two leaves each byte of the range
+    /// old or as the call gives it, and one with `Fault::Unsupported` or `Fault::VersionLimit` has met no storage that failed.
     fn discard_to_zero(
         &mut self,
         alloc: Global,
@@ -240,8 +253,10 @@ pub trait FormatDriverInstance: Seen {
         length: u64,
     ) -> Result<(u64, u64), Fault>
         requires free { IsFree (Self.layer self.old) }
+
         ensures part { IfOk result (IsPart offset length) }
         ensures does { DoesPart discards_to_zero Self.Seen offset length result self.old self.new }
+
         ensures at_once { RangeAtOnce Self.Seen offset length result self.old self.new }
         ensures refused { PartRefused Self.Seen offset length result self.old self.new };
 
@@ -249,9 +264,9 @@ pub trait FormatDriverInstance: Seen {
     ///
     /// It answers the part that it has done: from where on, and how many bytes. That part leaves out no whole unit of the range before it,
     /// cuts none, and isn't empty where the range has one. The rest of the range is left as it was. It refuses with
-    /// `Fault::ReadOnly`, `Fault::RangeOverflow` and `Fault::PastEnd`, with `Fault::VersionLimit` where the format can't, with causes of the driver's own,
-    /// with `Fault::Memory` and `Fault::Storage`. A refusal for another cause than the last two leaves each byte of the range old or as
-    /// the call gives it, and one with `Fault::Unsupported` or `Fault::VersionLimit` has met no storage that failed.
+    /// `Fault::ReadOnly`, `Fault::RangeOverflow` and `Fault::PastEnd`, with `Fault::VersionLimit` where the format can't, with causes of the
+    /// driver's own, with `Fault::Memory` and `Fault::Storage`. A refusal for another cause than the last two leaves each byte of the range
+    /// old or as the call gives it, and one with `Fault::Unsupported` or `Fault::VersionLimit` has met no storage that failed.
     fn discard_to_any(
         &mut self,
         alloc: Global,
@@ -259,8 +274,10 @@ pub trait FormatDriverInstance: Seen {
         length: u64,
     ) -> Result<(u64, u64), Fault>
         requires free { IsFree (Self.layer self.old) }
+
         ensures part { IfOk result (IsPart offset length) }
         ensures does { DoesPart discards_to_any Self.Seen offset length result self.old self.new }
+
         ensures at_once { RangeAtOnce Self.Seen offset length result self.old self.new }
         ensures refused { PartRefused Self.Seen offset length result self.old self.new };
 
@@ -278,8 +295,10 @@ pub trait FormatDriverInstance: Seen {
         length: u64,
     ) -> Result<(u64, u64), Fault>
         requires free { IsFree (Self.layer self.old) }
+
         ensures part { IfOk result (IsPart offset length) }
         ensures does { DoesPart discards_to_backing Self.Seen offset length result self.old self.new }
+
         ensures at_once { RangeAtOnce Self.Seen offset length result self.old self.new }
         ensures refused { PartRefused Self.Seen offset length result self.old self.new };
 
@@ -324,6 +343,7 @@ pub trait FormatDriverInstance: Seen {
     /// which the image has failed, and with `Fault::Memory` and `Fault::Storage`.
     fn invalidate_cache(&mut self, alloc: Global) -> Result<(), Fault>
         requires free { IsFree (Self.layer self.old) }
+
         ensures same { KeepsWhatIsFlushed Self.Seen result self.old self.new }
         ensures kept { Pairs IsKept (files Self.Seen self.old) (files Self.Seen self.new) }
         ensures still { OnOk result (Self.still self.new) }
@@ -348,10 +368,13 @@ pub trait FormatDriverInstance: Seen {
         mode: PreallocateMode,
     ) -> Result<(), Fault>
         requires free { IsFree (Self.layer self.old) }
+
         ensures resizes { Resizes Self.Seen size (Self.layer self.old).size result self.old self.new }
         ensures grows { Grows Self.Seen B.SeenBelow size mode result (self.old, below.old) (self.new, below.new) }
+
         ensures unread { IsUngrown (Self.layer self.old) size → below.new ≡ below.old }
         ensures below { LookedUnder B.SeenBelow (WasNotCutOff result) below.old below.new }
+
         ensures refused { GrowthRefused Self.Seen B.SeenBelow size mode result (self.old, below.old) (self.new, below.new) };
 
     /// Makes the disk shorter, to a size in bytes. Nothing may be prepared. To a size that isn't below it does nothing.
@@ -360,8 +383,10 @@ pub trait FormatDriverInstance: Seen {
     /// another cause than the last two leaves the disk as it was.
     fn resize_shrink(&mut self, alloc: Global, size: u64) -> Result<(), Fault>
         requires free { IsFree (Self.layer self.old) }
+
         ensures resizes { Resizes Self.Seen (Self.layer self.old).size size result self.old self.new }
         ensures shrinks { Shrinks Self.Seen size result self.old self.new }
+
         ensures refused { ShrinkRefused Self.Seen size result self.old self.new };
 
     /// A driver that is safe sees.
@@ -385,8 +410,8 @@ pub trait FormatDriverInstance: Seen {
     /// Its alignments are powers of two.
     ghost aligned: { (d : Self) → IsAlignment (Self.layer d).fixed.req_align × IsAlignment (Self.layer d).fixed.mem_align };
 
-    /// They are the greatest of its storages, whose shapes say whether it keeps what is written, and it zeroes by itself by its units or as its
-    /// image file does.
+    /// They are the greatest of its storages, whose shapes say whether it keeps what is written, and it zeroes by itself by its units or as
+    /// its image file does.
     ghost of_storages: { (d : Self) → IsOfStorages (Self.layer d) (Self.image d) (Self.extras d) };
 
     /// A qcow2 image marks failures.
@@ -407,13 +432,13 @@ pub trait FormatDriverInstance: Seen {
     /// A place that has room isn't vacant.
     ghost bare: { (d : Self) (p : ℕ) → Self.vacant d p → Self.has_room d p → ⊥ };
 
-    /// While nothing is prepared, a vacant or zeroed place can't be written where it is, and one that can has room, if the format says of places
-    /// what room they have.
+    /// While nothing is prepared, a vacant or zeroed place can't be written where it is, and one that can has room, if the format says of
+    /// places what room they have.
     ghost rooms: { (d : Self) (p : ℕ) → IsFree (Self.layer d) → IsTrue (Self.layer d).fixed.states_room → SaysRoom Self.Seen d p };
 }
 
-/// Why a mapping with state that is to be committed is given back, if it is: what `ready` says of the driver, else `Fault::ReadOnly` where it
-/// wasn't opened for writing, else `Fault::Foreign` where the number of the image that prepared the mapping isn't its own.
+/// Why a mapping with state that is to be committed is given back, if it is: what `ready` says of the driver, else `Fault::ReadOnly` where
+/// it wasn't opened for writing, else `Fault::Foreign` where the number of the image that prepared the mapping isn't its own.
 ///
 /// This is the order of refusals that `FormatDriverInstance::commit_data_mapping` asks for.
 pub fn check_commit(

@@ -21,7 +21,8 @@ impl<D: FormatDriverInstance> FormatAccess<D> {
     /// at or past the size the end, of no length, and else at least one byte where one is asked for.
     ///
     /// It refuses with `Fault::DamagedTable` where the layer's tables say nothing of a place of the range, with `Fault::Memory` and
-    /// `Fault::Storage`, and where the layer can't be used.
+    /// `Fault::Storage`, and where the layer can't be used. With `Fault::Storage` a qcow2 image has failed, and with `Fault::Memory` it has
+    /// or is as it was.
     pub fn get_shallow_mapping(
         &mut self,
         alloc: Global,
@@ -52,7 +53,8 @@ impl<D: FormatDriverInstance> FormatAccess<D> {
     /// prepared in the last of them. A zero is explicit only where the top layer says so, and always there if it shows a layer below.
     ///
     /// It refuses with `Fault::DamagedTable` where a layer's tables say nothing of a place of the range, with `Fault::Memory` and
-    /// `Fault::Storage`, and where a layer that it asks can't be used.
+    /// `Fault::Storage`, and where a layer that it asks can't be used. With `Fault::Storage` the layer whose storage it was has failed, if
+    /// it is a qcow2 image.
     #[cycle(map)]
     pub fn get_mapping(
         &mut self,

@@ -29,7 +29,8 @@ impl<D: FormatDriverInstance> FormatAccess<D> {
     /// range, which has no length and begins at the start of the storage 0. It refuses with
     /// `Fault::ReadOnly`, with `Fault::RangeOverflow` where the end of the range, rounded up to the chain's alignment, passes `u64`, with
     /// `Fault::PastEnd`, with causes of the driver's own, with `Fault::Memory` and `Fault::Storage`, and where a layer can't be used. A
-    /// refusal for another cause than `Memory` and `Storage` leaves the disk as it was.
+    /// refusal for another cause than `Memory` and `Storage` leaves the disk as it was. After these two a qcow2 image has failed, or is as
+    /// it was; where the storage was its own, it has failed.
     pub fn prepare_data_mapping(
         &mut self,
         alloc: Global,
@@ -64,8 +65,8 @@ impl<D: FormatDriverInstance> FormatAccess<D> {
     /// any where it was announced that all would be written. A mapping without state takes no memory.
     ///
     /// It gives the mapping back, and changes nothing, where the image can't be used, and one with state with `Fault::ReadOnly`, else with
-    /// `Fault::Foreign` where it was prepared under another number. Refused otherwise, with causes of the driver's own, with `Fault::Memory` or
-    /// `Fault::Storage`, it has spent the mapping and the image has failed.
+    /// `Fault::Foreign` where it was prepared under another number. Refused otherwise, with causes of the driver's own, with
+    /// `Fault::Memory` or `Fault::Storage`, it has spent the mapping and the image has failed.
     pub fn commit_data_mapping(
         &mut self,
         alloc: Global,
@@ -87,6 +88,7 @@ impl<D: FormatDriverInstance> FormatAccess<D> {
     }
 
     /// Gives a prepared mapping up: the disk is as it was before. It makes no request and takes no memory, also where the image has failed.
+    /// One without state changes nothing.
     ///
     /// It gives the mapping back with `Fault::Foreign` for one that was prepared under another number.
     pub fn cancel(
@@ -109,7 +111,8 @@ impl<D: FormatDriverInstance> FormatAccess<D> {
     ///
     /// It refuses with `Fault::Outdated` where the range isn't mapped there, with `Fault::ReadOnly`, `Fault::RangeOverflow`,
     /// `Fault::PastEnd`, `Fault::Memory` and `Fault::Storage`, and where the image can't be used. A refusal for another cause than
-    /// `Memory` and `Storage` leaves the disk as it was.
+    /// `Memory` and `Storage` leaves the disk as it was. With `Fault::Storage` a qcow2 image has failed, and with `Fault::Memory` it has or
+    /// is as it was.
     pub fn write_mapped(
         &mut self,
         alloc: Global,

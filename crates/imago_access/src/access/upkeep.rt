@@ -65,8 +65,8 @@ impl<D: FormatDriverInstance> FormatAccess<D> {
     /// Nothing may be prepared in any. Right after a flush it changes no byte of the disk.
     ///
     /// It refuses with `Fault::DamagedHeader`, `Fault::DamagedTable`, `Fault::Unsupported`, `Fault::Limit` and `Fault::CacheFull`, with
-    /// which the layer has failed, with `Fault::Memory` and `Fault::Storage`, and where a layer can't be used. The layers below one that
-    /// refused are as they were.
+    /// which the layer has failed, with `Fault::Memory` and `Fault::Storage`, and where a layer can't be used. With `Fault::Storage` the
+    /// layer whose storage it was has failed, if it is a qcow2 image. The layers below one that refused are as they were.
     #[cycle(invalidate)]
     pub fn invalidate_cache(&mut self, alloc: Global) -> Result<(), Fault>
         requires free { Each (λ d. IsFree (D.layer d)) (chain self.old) }
@@ -99,7 +99,9 @@ impl<D: FormatDriverInstance> FormatAccess<D> {
         ensures kept { Pairs IsKept (files_of D.Seen (driver.old ∷ layers below.old)) (files_of D.Seen (driver.new ∷ layers below.new)) }
         ensures still { OnOk result (Each D.still (driver.new ∷ layers below.new)) }
         ensures barred { (f : Fault) → barrier (D.layer driver.old) ≡ Some f → IsErrOf result f }
-        ensures unchanged { IsBarred (D.layer driver.old) → AllUnchanged D.Seen (driver.old, layers below.old) (driver.new, layers below.new) }
+        ensures unchanged {
+            IsBarred (D.layer driver.old) → AllUnchanged D.Seen (driver.old, layers below.old) (driver.new, layers below.new)
+        }
         ensures went { Pairs (Went D.Seen (IsOk result) (IsOk result)) (driver.old ∷ layers below.old) (driver.new ∷ layers below.new) }
         ensures free { Each (λ d. IsFree (D.layer d)) (driver.new ∷ layers below.new) }
         ensures downward { IfErr result (λ _. EndsAt D.still (driver.old ∷ layers below.old) (driver.new ∷ layers below.new)) }

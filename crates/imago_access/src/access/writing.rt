@@ -35,6 +35,7 @@ pub(crate) fn abandon<D: FormatDriverInstance>(
     ensures lasts { D.lasts driver.old → D.lasts driver.new }
     ensures began { (d : D) (call : Call) → D.began d call driver.old → D.began d call driver.new }
     ensures none { (D.image driver.new ≡ D.image driver.old) × (D.extras driver.new ≡ D.extras driver.old) }
+    ensures unchanged { mapping.state ≡ None → IsUnchanged D.Seen driver.old driver.new }
 {
     match driver.cancel_data_mapping(mapping) {
         Ok(()) => (),
