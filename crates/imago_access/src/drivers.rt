@@ -222,9 +222,9 @@ pub trait FormatDriverInstance: Seen {
     ///
     /// It answers the part that it has done: from where on, and how many bytes. That part leaves out no whole unit of the range before it,
     /// cuts none, and isn't empty where the range has one. The rest of the range is left as it was. It refuses with
-    /// `Fault::ReadOnly`, `Fault::RangeOverflow` and `Fault::PastEnd`, with `Fault::VersionLimit` where the format can't, with causes of the
-    /// driver's own, with `Fault::Memory` and `Fault::Storage`. A refusal for another cause than the last two leaves each byte of the range
-    /// old or as the call gives it, and one with `Fault::Unsupported` or `Fault::VersionLimit` has met no storage that failed.
+    /// `Fault::ReadOnly`, `Fault::RangeOverflow` and `Fault::PastEnd`, with `Fault::VersionLimit` where the format can't, with causes of
+    /// the driver's own, with `Fault::Memory` and `Fault::Storage`. A refusal for another cause than the last two leaves each byte of the
+    /// range old or as the call gives it, and one with `Fault::Unsupported` or `Fault::VersionLimit` has met no storage that failed.
     fn ensure_zero_mapping(
         &mut self,
         alloc: Global,
@@ -243,9 +243,9 @@ pub trait FormatDriverInstance: Seen {
     ///
     /// It answers the part that it has done: from where on, and how many bytes. That part leaves out no whole unit of the range before it,
     /// cuts none, and isn't empty where the range has one. The rest of the range is left as it was. It refuses with
-    /// `Fault::ReadOnly`, `Fault::RangeOverflow` and `Fault::PastEnd`, with `Fault::VersionLimit` where the format can't, with causes of the
-    /// driver's own, with `Fault::Memory` and `Fault::Storage`. A refusal for another cause than the last two leaves each byte of the range
-    /// old or as the call gives it, and one with `Fault::Unsupported` or `Fault::VersionLimit` has met no storage that failed.
+    /// `Fault::ReadOnly`, `Fault::RangeOverflow` and `Fault::PastEnd`, with `Fault::VersionLimit` where the format can't, with causes of
+    /// the driver's own, with `Fault::Memory` and `Fault::Storage`. A refusal for another cause than the last two leaves each byte of the
+    /// range old or as the call gives it, and one with `Fault::Unsupported` or `Fault::VersionLimit` has met no storage that failed.
     fn discard_to_zero(
         &mut self,
         alloc: Global,
@@ -264,9 +264,9 @@ pub trait FormatDriverInstance: Seen {
     ///
     /// It answers the part that it has done: from where on, and how many bytes. That part leaves out no whole unit of the range before it,
     /// cuts none, and isn't empty where the range has one. The rest of the range is left as it was. It refuses with
-    /// `Fault::ReadOnly`, `Fault::RangeOverflow` and `Fault::PastEnd`, with `Fault::VersionLimit` where the format can't, with causes of the
-    /// driver's own, with `Fault::Memory` and `Fault::Storage`. A refusal for another cause than the last two leaves each byte of the range
-    /// old or as the call gives it, and one with `Fault::Unsupported` or `Fault::VersionLimit` has met no storage that failed.
+    /// `Fault::ReadOnly`, `Fault::RangeOverflow` and `Fault::PastEnd`, with `Fault::VersionLimit` where the format can't, with causes of
+    /// the driver's own, with `Fault::Memory` and `Fault::Storage`. A refusal for another cause than the last two leaves each byte of the
+    /// range old or as the call gives it, and one with `Fault::Unsupported` or `Fault::VersionLimit` has met no storage that failed.
     fn discard_to_any(
         &mut self,
         alloc: Global,
