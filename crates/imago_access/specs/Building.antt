@@ -1,5 +1,5 @@
 -- How the files that an image names are opened.
-use Rattle.std.specs.Prelude.{◌≡◌, ◌⊎◌, [], ℕ, Bool, Option, Some, None, Result, Ok, Err, IfErr, false, IsTrue}
+use Rattle.std.specs.Prelude.{◌≡◌, ◌⊎◌, ℕ, Bool, Option, Some, None, Result, Ok, Err, IfErr, false, IsTrue}
 use Rattle.imago_storage.specs.Options.{OpenOptions}
 use Rattle.imago_storage.specs.State.{StorageState}
 use Rattle.imago_storage.specs.declared.fault.Fault.{Fault}

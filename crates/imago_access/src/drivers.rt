@@ -51,11 +51,9 @@ pub trait FormatDriverInstance: Seen {
 
     /// One of its further files, by their order: that with this index has the number `index + 1` where a lookup names it.
     fn extra_file(&self, index: usize) -> Option<&Self::Storage>
-        ensures {
-            MatchOption result
-                (length (Self.extras self.now) ≤ index)
-                (λ s. IsStorageAt (Self.extras self.now) index (Self.Storage.state s.now))
-        };
+        ensures { MatchOption result
+            (length (Self.extras self.now) ≤ index)
+            (λ s. IsStorageAt (Self.extras self.now) index (Self.Storage.state s.now)) };
 
     /// The format.
     fn format(&self) -> Format
@@ -106,15 +104,18 @@ pub trait FormatDriverInstance: Seen {
         offset: u64,
         max_length: u64,
     ) -> Result<(ShallowMapping, u64), Fault>
+        // What it answers.
         ensures run { IfOk result (λ r. IsRun (Self.layer self.old) offset max_length r.0 r.1) }
         ensures looks { Self.sees self.old → IfOk result (LooksIn Self.Seen offset max_length self.old self.new) }
         ensures room { Self.sees self.old → IfOk result (NamesRoomIn Self.Seen offset self.old) }
         ensures there { IfOk result (λ r. IsOneOf (length (files Self.Seen self.old)) r.0) }
 
+        // When it ends at once, and what it keeps.
         ensures at_once { AtOnce Self.Seen (barrier (Self.layer self.old)) (max_length ≡ 0) result self.old self.new }
         ensures looked { Looked Self.Seen (WasNotCutOff result) self.old self.new }
         ensures began { OnOk result ((d : Self) (call : Call) → Self.began d call self.old → Self.began d call self.new) }
 
+        // Why it is refused, and what that marks.
         ensures failed { IfErr result (Fails Self.Seen self.old self.new) }
         ensures marks { IfErr result (Marks Self.Seen self.old self.new) }
         ensures cause { Self.sees self.old → IfErr result (RefusesLookup Self.Seen offset max_length self.old self.new) };
@@ -130,23 +131,28 @@ pub trait FormatDriverInstance: Seen {
         place: u64,
         buf: &mut [u8],
     ) -> Result<(), Fault>
+        // What it answers.
         ensures bytes { OnOk result (AreRead (files Self.Seen self.old) storage place (length buf.old) buf.new) }
 
+        // When it ends at once, and what it keeps.
         ensures at_once { AtOnce Self.Seen (barrier (Self.layer self.old)) (length buf.old ≡ 0) result self.old self.new }
         ensures looked { Looked Self.Seen (WasNotCutOff result) self.old self.new }
         ensures began { OnOk result ((d : Self) (call : Call) → Self.began d call self.old → Self.began d call self.new) }
         ensures none { MakesNone (Self.image self.old) (Self.image self.new) }
 
+        // Why it is refused, and what that marks.
         ensures marks { IfErr result (Marks Self.Seen self.old self.new) }
         ensures cause { IfErr result (RefusesRead Self.Seen place (length buf.old) self.old self.new) };
 
     /// A read of places that can't be read as bytes of a storage: `Fault::Barred`, where the image can be used. It leaves all as it was,
     /// and the buffer too.
     fn read_special(&mut self, buf: &mut [u8], offset: u64) -> Result<(), Fault>
+        // Why it is refused.
         ensures refused { IsErr result }
         ensures err { IfErr result (λ e. (barrier (Self.layer self.old) ≡ Some e) ⊎ (e ≡ Barred)) }
         ensures barred { (f : Fault) → barrier (Self.layer self.old) ≡ Some f → IsErrOf result f }
 
+        // What it keeps.
         ensures unchanged { IsUnchanged Self.Seen self.old self.new };
 
     /// Maps a run from the offset on so that it can be written: at least one byte, and not more than asked. What the run shows is copied
@@ -167,15 +173,18 @@ pub trait FormatDriverInstance: Seen {
     ) -> Result<PreparedDataMapping<Self::State>, Fault>
         requires free { IsFree (Self.layer self.old) }
 
+        // What it answers.
         ensures run { IfOk result (λ m. IsMappedRun (Self.layer self.old) offset length m.length × (m.offset + m.length < 2 ^ 64)) }
         ensures mine { IfOk result (λ m. IsHeldBy Self.Seen m.state (Self.layer self.new)) }
         ensures empty { length ≡ 0 → IfOk result (λ m. (m ≡ nowhere) × (Self.layer self.new ≡ Self.layer self.old)) }
         ensures size { (Self.layer self.new).size ≡ (Self.layer self.old).size }
         ensures free { IsErr result → IsFree (Self.layer self.new) }
 
+        // What it does.
         ensures does { Prepares Self.Seen B.SeenBelow (asking offset length overwrite) result (self.old, below.old) (self.new, below.new) }
         ensures below { LookedUnder B.SeenBelow (WasNotCutOff result) below.old below.new }
 
+        // When it ends at once.
         ensures at_once { RangeAtOnce Self.Seen offset length result self.old self.new }
         ensures unread { (length ≡ 0) ⊎ IsSome (own_refusal (Self.layer self.old) offset length) → below.new ≡ below.old };
 
@@ -213,8 +222,10 @@ pub trait FormatDriverInstance: Seen {
         place: u64,
         bytes: &[u8],
     ) -> Result<(), Fault>
+        // What it does.
         ensures writes { WritesMapped Self.Seen guest place bytes.now result self.old self.new }
 
+        // When it ends at once, and why it is refused.
         ensures at_once { RangeAtOnce Self.Seen guest (length bytes.now) result self.old self.new }
         ensures refused { WritingRefused Self.Seen guest place (length bytes.now) result self.old self.new };
 
@@ -233,9 +244,11 @@ pub trait FormatDriverInstance: Seen {
     ) -> Result<(u64, u64), Fault>
         requires free { IsFree (Self.layer self.old) }
 
+        // What it does.
         ensures part { IfOk result (IsPart offset length) }
         ensures does { DoesPart ensures_zero Self.Seen offset length result self.old self.new }
 
+        // When it ends at once, and why it is refused.
         ensures at_once { RangeAtOnce Self.Seen offset length result self.old self.new }
         ensures refused { PartRefused Self.Seen offset length result self.old self.new };
 
@@ -254,9 +267,11 @@ pub trait FormatDriverInstance: Seen {
     ) -> Result<(u64, u64), Fault>
         requires free { IsFree (Self.layer self.old) }
 
+        // What it does.
         ensures part { IfOk result (IsPart offset length) }
         ensures does { DoesPart discards_to_zero Self.Seen offset length result self.old self.new }
 
+        // When it ends at once, and why it is refused.
         ensures at_once { RangeAtOnce Self.Seen offset length result self.old self.new }
         ensures refused { PartRefused Self.Seen offset length result self.old self.new };
 
@@ -275,9 +290,11 @@ pub trait FormatDriverInstance: Seen {
     ) -> Result<(u64, u64), Fault>
         requires free { IsFree (Self.layer self.old) }
 
+        // What it does.
         ensures part { IfOk result (IsPart offset length) }
         ensures does { DoesPart discards_to_any Self.Seen offset length result self.old self.new }
 
+        // When it ends at once, and why it is refused.
         ensures at_once { RangeAtOnce Self.Seen offset length result self.old self.new }
         ensures refused { PartRefused Self.Seen offset length result self.old self.new };
 
@@ -296,9 +313,11 @@ pub trait FormatDriverInstance: Seen {
     ) -> Result<(u64, u64), Fault>
         requires free { IsFree (Self.layer self.old) }
 
+        // What it does.
         ensures part { IfOk result (IsPart offset length) }
         ensures does { DoesPart discards_to_backing Self.Seen offset length result self.old self.new }
 
+        // When it ends at once, and why it is refused.
         ensures at_once { RangeAtOnce Self.Seen offset length result self.old self.new }
         ensures refused { PartRefused Self.Seen offset length result self.old self.new };
 
@@ -306,16 +325,19 @@ pub trait FormatDriverInstance: Seen {
     ///
     /// It refuses with `Fault::Memory` and `Fault::Storage`.
     fn flush(&mut self, alloc: Global) -> Result<(), Fault>
+        // What it does.
         ensures same { Self.safe self.old → OnOk result (Self.layer self.new ≡ Self.layer self.old) }
         ensures sees { Self.sees self.old → OnOk result ((Self.layer self.new ≡ Self.layer self.old) × Self.sees self.new) }
         ensures still { OnOk result (Self.still self.new) }
         ensures written { Self.safe self.old → IsFree (Self.layer self.old) → OnOk result (IsWritten Self.Seen self.new) }
         ensures stops { Self.safe self.old → (below : List Layer) → KeepsStops Self.Seen below GivesNone self.old self.new }
 
+        // When it ends at once, and what it keeps.
         ensures at_once { AtOnce Self.Seen (barrier (Self.layer self.old)) ⊥ result self.old self.new }
         ensures like { IsLike (Self.layer self.old) (Self.layer self.new) }
         ensures went { Went Self.Seen (WasNotCutOff result) (WasNotCutOff result) self.old self.new }
 
+        // Why it is refused, and what that marks.
         ensures failed { IfErr result (Fails Self.Seen self.old self.new) }
         ensures marks { IfErr result (Marks Self.Seen self.old self.new) }
         ensures cause { Self.safe self.old → IfErr result (RefusesFlush Self.Seen self.old self.new) };
@@ -324,15 +346,18 @@ pub trait FormatDriverInstance: Seen {
     ///
     /// It refuses with `Fault::Memory` and `Fault::Storage`.
     fn sync(&mut self) -> Result<(), Fault>
+        // What it does.
         ensures same { OnOk result (Self.layer self.new ≡ Self.layer self.old) }
         ensures kept { Pairs IsKept (files Self.Seen self.old) (files Self.Seen self.new) }
         ensures sees { Self.sees self.old → Self.sees self.new }
         ensures still { Self.still self.old → Self.still self.new }
 
+        // When it ends at once, and what it keeps.
         ensures at_once { AtOnce Self.Seen (barrier (Self.layer self.old)) ⊥ result self.old self.new }
         ensures like { IsLike (Self.layer self.old) (Self.layer self.new) }
         ensures went { Went Self.Seen (WasNotCutOff result) (WasNotCutOff result) self.old self.new }
 
+        // Why it is refused, and what that marks.
         ensures marks { IfErr result (Marks Self.Seen self.old self.new) }
         ensures cause { IfErr result (RefusesFlush Self.Seen self.old self.new) };
 
@@ -344,14 +369,17 @@ pub trait FormatDriverInstance: Seen {
     fn invalidate_cache(&mut self, alloc: Global) -> Result<(), Fault>
         requires free { IsFree (Self.layer self.old) }
 
+        // What it does.
         ensures same { KeepsWhatIsFlushed Self.Seen result self.old self.new }
         ensures kept { Pairs IsKept (files Self.Seen self.old) (files Self.Seen self.new) }
         ensures still { OnOk result (Self.still self.new) }
         ensures free { IsFree (Self.layer self.new) }
 
+        // When it ends at once, and what it keeps.
         ensures at_once { AtOnce Self.Seen (barrier (Self.layer self.old)) ⊥ result self.old self.new }
         ensures went { Went Self.Seen (IsOk result) (IsOk result) self.old self.new }
 
+        // Why it is refused, and what that marks.
         ensures failed { IfErr result (λ e. IsStale e → IsTrue (Self.layer self.new).failed) }
         ensures marks { IfErr result (Marks Self.Seen self.old self.new) }
         ensures cause { IfErr result (RefusesReload Self.Seen self.old self.new) };
@@ -369,12 +397,15 @@ pub trait FormatDriverInstance: Seen {
     ) -> Result<(), Fault>
         requires free { IsFree (Self.layer self.old) }
 
+        // What it does.
         ensures resizes { Resizes Self.Seen size (Self.layer self.old).size result self.old self.new }
         ensures grows { Grows Self.Seen B.SeenBelow size mode result (self.old, below.old) (self.new, below.new) }
 
+        // What it does to the layers below.
         ensures unread { IsUngrown (Self.layer self.old) size → below.new ≡ below.old }
         ensures below { LookedUnder B.SeenBelow (WasNotCutOff result) below.old below.new }
 
+        // Why it is refused.
         ensures refused { GrowthRefused Self.Seen B.SeenBelow size mode result (self.old, below.old) (self.new, below.new) };
 
     /// Makes the disk shorter, to a size in bytes. Nothing may be prepared. To a size that isn't below it does nothing.
@@ -384,9 +415,11 @@ pub trait FormatDriverInstance: Seen {
     fn resize_shrink(&mut self, alloc: Global, size: u64) -> Result<(), Fault>
         requires free { IsFree (Self.layer self.old) }
 
+        // What it does.
         ensures resizes { Resizes Self.Seen (Self.layer self.old).size size result self.old self.new }
         ensures shrinks { Shrinks Self.Seen size result self.old self.new }
 
+        // Why it is refused.
         ensures refused { ShrinkRefused Self.Seen size result self.old self.new };
 
     /// A driver that is safe sees.
@@ -417,7 +450,7 @@ pub trait FormatDriverInstance: Seen {
     /// A qcow2 image marks failures.
     ghost marked: { (d : Self) → (Self.layer d).fixed.format ≡ Qcow2 → IsTrue (Self.layer d).fixed.marks };
 
-    /// It says of each place what room it has.
+    /// A qcow2 image says of each place what room it has.
     ghost says_room: { (d : Self) → (Self.layer d).fixed.format ≡ Qcow2 → IsTrue (Self.layer d).fixed.states_room };
 
     /// It allocates and gives up by at least a byte.

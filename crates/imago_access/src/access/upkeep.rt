@@ -99,9 +99,8 @@ impl<D: FormatDriverInstance> FormatAccess<D> {
         ensures kept { Pairs IsKept (files_of D.Seen (driver.old ∷ layers below.old)) (files_of D.Seen (driver.new ∷ layers below.new)) }
         ensures still { OnOk result (Each D.still (driver.new ∷ layers below.new)) }
         ensures barred { (f : Fault) → barrier (D.layer driver.old) ≡ Some f → IsErrOf result f }
-        ensures unchanged {
-            IsBarred (D.layer driver.old) → AllUnchanged D.Seen (driver.old, layers below.old) (driver.new, layers below.new)
-        }
+        ensures unchanged { IsBarred (D.layer driver.old)
+            → AllUnchanged D.Seen (driver.old, layers below.old) (driver.new, layers below.new) }
         ensures went { Pairs (Went D.Seen (IsOk result) (IsOk result)) (driver.old ∷ layers below.old) (driver.new ∷ layers below.new) }
         ensures free { Each (λ d. IsFree (D.layer d)) (driver.new ∷ layers below.new) }
         ensures downward { IfErr result (λ _. EndsAt D.still (driver.old ∷ layers below.old) (driver.new ∷ layers below.new)) }
