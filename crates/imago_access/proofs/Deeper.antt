@@ -9,7 +9,7 @@ use Rattle.imago_storage.specs.declared.fault.Fault.TheVariants.{Failed, Missing
 use Rattle.imago_access.specs.Layer.{Layer, unmapped, through}
 use Rattle.imago_access.specs.Chain.{at}
 use Rattle.imago_access.specs.Files.{Pairs, IsLater}
-use Rattle.imago_access.specs.Mappings.{EachIs, Names, IsRun, IsDeepRun, NamesHome, stored_at, DeepNames, DeepNamesWritable, AreWritable, SaysBarred, IsRunBelow, IsDeepBelow, lower, is_deep_end}
+use Rattle.imago_access.specs.Mappings.{EachIs, Names, IsRun, IsDeepRun, NamesHome, stored_at, DeepNames, DeepNamesWritable, AreWritable, SaysBarred, IsRunBelow, IsDeepBelow, HasStorage, IsThere, lower, is_deep_end}
 use Rattle.imago_access.specs.Refusals.{LookCause, DeepLookCause}
 use Rattle.imago_access.specs.declared.mapping.Mapping.{Mapping}
 use Rattle.imago_access.specs.declared.mapping.Mapping.TheVariants.{Raw, Zero, Eof, Special}
@@ -51,6 +51,12 @@ deep_lower k above (Raw depth storage place writable) h = omega (arith, h)
 deep_lower k above (Special depth place) h = omega (arith, h)
 deep_lower k above (Zero explicit) h = tt
 deep_lower k above Eof h = tt
+
+pub there_lower : {D St : Type 0} (g : Ghosts D St) (d : D) (ds : List D) (above : Bool) (m : Mapping) → IsThere g ds m → IsThere g (d ∷ ds) (lower above m)
+there_lower g d ds above (Raw depth storage place writable) h = subst (λ (k : ℕ). HasStorage g (d ∷ ds) k storage) (sym (add-one depth)) h
+there_lower g d ds above (Special depth place) h = tt
+there_lower g d ds above (Zero explicit) h = tt
+there_lower g d ds above Eof h = tt
 
 -- a run of a layer below that isn't its end is as long as that layer's
 pub run_below : (size offset asked n : ℕ) (m : Mapping) → (m ≡ Eof → ⊥) → IsDeepRun size offset asked m n → IsRunBelow asked m n

@@ -1,6 +1,6 @@
 -- What refusals leave of an image of a format that marks failures, from a part of a change to the whole of it.
-use Rattle.std.proofs.Common.{◌≡◌, [], inl, inr, ℕ, List, ◌∷◌, sym, subst, ap}
-use Rattle.std.specs.Prelude.{Option, Some, None, IsTrue, Bool}
+use Rattle.std.proofs.Common.{◌≡◌, [], inl, inr, ℕ, List, ◌∷◌, sym, subst}
+use Rattle.std.specs.Prelude.{Option, Some, None, IsTrue, Bool, true, false, if◌then◌else◌}
 use Rattle.imago_storage.specs.Calls.{IsFaultless}
 use Rattle.imago_storage.specs.State.{StorageState, Rose}
 use Rattle.imago_storage.specs.declared.fault.Fault.{Fault}
@@ -9,10 +9,12 @@ use Rattle.imago_access.specs.declared.seen.Seen.{Ghosts}
 use Rattle.imago_access.specs.declared.seen.SeenBelow.{Ghosts as GhostsBelow}
 use Rattle.imago_access.specs.Layer.{Layer, Fixed}
 use Rattle.imago_access.specs.Files.{Pairs, IsMild, SomeRose, files}
-use Rattle.imago_access.specs.Going.{Marks, MarksOver}
+use Rattle.imago_access.specs.Going.{Looked, Marks, MarksOver, MarksSome, SomeMarked}
+use Rattle.imago_access.specs.Refusals.{barrier}
 use Rattle.imago_access.specs.RunCalls.{MarksAlone, MarksTop}
 use Rattle.imago_access.specs.Running.{IsIntact}
 use Rattle.imago_access.specs.Spending.{GivenBack}
+use Rattle.imago_access.proofs.FilePairs.{some_rose_behind}
 use Rattle.imago_access.proofs.Looking.{seen_by}
 use Rattle.imago_access.proofs.Running.{intact_by}
 
@@ -33,6 +35,15 @@ given_back_mild tag (Some s) layer Memory given = absurd given
 given_back_mild tag None layer Storage given = absurd given
 given_back_mild tag (Some s) layer Storage given = absurd given
 given_back_mild tag state layer e given = tt
+
+-- no storage that failed bars a layer
+no_storage : (failed missing : Bool) → (if failed then Some Failed else if missing then Some MissingData else None) ≡ Some Storage → ⊥
+no_storage true missing is = cc is
+no_storage false true is = cc is
+no_storage false false is = cc is
+
+pub barred_by_none : (layer : Layer) (e : Fault) → barrier layer ≡ Some e → e ≡ Storage → ⊥
+barred_by_none layer e barred is = no_storage layer.failed layer.fixed.missing (subst (λ (f : Fault). barrier layer ≡ Some f) is barred)
 
 module _ {D St : Type 0} (g : Ghosts D St) where
   -- what never changes of a driver
@@ -66,7 +77,7 @@ module _ {D St : Type 0} (g : Ghosts D St) where
 
   pub alone_plain : (a b : D) (e : Fault) → Marks g a b e → MarksAlone g a b e
   alone_plain a b Storage marked = marked
-  alone_plain a b Memory marked = λ marks. elim (marked marks) [ inl failed ↦ inl failed | inr spared ↦ inr (λ safe. spared.0.safely safe) ]
+  alone_plain a b Memory marked = λ marks. elim (marked marks) [ inl failed ↦ inl failed | inr spared ↦ inr (λ safe. spared.known.safely safe) ]
   alone_plain a b e marked = tt
 
   -- behind a call that left it safe, and before one that leaves it as it is
@@ -80,6 +91,20 @@ module _ {D St : Type 0} (g : Ghosts D St) where
   alone_before a b c Memory same safely marked = λ marks. elim (marked marks) [ inl failed ↦ inl (subst (λ (f : Bool). IsTrue f) (sym same) failed) | inr on ↦ inr (λ safe. safely (on safe)) ]
   alone_before a b c e same safely marked = tt
 
+  -- of the layers that a call looks at: a storage of the top one failed, and one of any did behind looks
+  pub marked_top : (a b : D) (olds news : List D) (e : Fault) → (e ≡ Storage → SomeRose (files g a) (files g b)) → Marks g a b e → MarksSome g (a ∷ olds) (b ∷ news) e
+  marked_top a b olds news e rose marked = λ is. inl (rose is, subst (Marks g a b) is marked)
+
+  pub marked_behind : (whole : Type 0) (xs ys zs : List D) → Pairs (Looked g whole) xs ys → SomeMarked g ys zs → SomeMarked g xs zs
+  marked_behind whole (x ∷ xs) (y ∷ ys) (z ∷ zs) looked marked = elim marked [
+    | inl top ↦ inl (some_rose_behind (files g x) (files g y) (files g z) looked.0.later top.0, λ marks. top.1 (marks_on x y looked.0.like.fixed marks))
+    | inr rest ↦ inr (marked_behind whole xs ys zs looked.1 rest)
+  ]
+  marked_behind whole (x ∷ xs) (y ∷ ys) [] looked marked = absurd marked
+  marked_behind whole [] [] zs looked marked = absurd marked
+  marked_behind whole [] (y ∷ ys) zs looked marked = absurd looked
+  marked_behind whole (x ∷ xs) [] zs looked marked = absurd looked
+
 -- the same over the layers below
 module _ {D St B : Type 0} (g : Ghosts D St) (u : GhostsBelow B) where
   pub top_mild : (a b : D) (x y : B) (e : Fault) → IsMild e → MarksTop g u (a, x) (b, y) e
@@ -88,8 +113,8 @@ module _ {D St B : Type 0} (g : Ghosts D St) (u : GhostsBelow B) where
   top_mild a b x y e mild = tt
 
   pub top_over : (a b : D) (x y : B) (e : Fault) → MarksOver g a b e → MarksTop g u (a, x) (b, y) e
-  top_over a b x y Storage marked = λ marks. ((marked marks).0, elim (marked marks).1 [ inl failed ↦ inl failed | inr spared ↦ inr (λ i. spared.0.safely i.is_safe) ])
-  top_over a b x y Memory marked = λ marks. elim (marked marks) [ inl failed ↦ inl failed | inr spared ↦ inr (λ i. spared.0.safely i.is_safe) ]
+  top_over a b x y Storage marked = λ marks. ((marked marks).0, elim (marked marks).1 [ inl failed ↦ inl failed | inr spared ↦ inr (λ i. spared.known.safely i.is_safe) ])
+  top_over a b x y Memory marked = λ marks. elim (marked marks) [ inl failed ↦ inl failed | inr spared ↦ inr (λ i. spared.known.safely i.is_safe) ]
   top_over a b x y e marked = tt
 
   -- a call of the driver alone, behind one that left an intact image safe

@@ -1,15 +1,42 @@
 -- Layers that a call doesn't touch.
-use Rattle.std.proofs.Common.{◌≡◌, sym, ap, subst, inl, ℕ, List, [], ◌∷◌}
+use Rattle.std.proofs.Common.{◌≡◌, refl, sym, ap, subst, inl, ℕ, List, [], ◌∷◌, ◌∙◌}
+use Rattle.std.specs.Prelude.{⊤}
 use Rattle.imago_storage.specs.Disk.{Value}
 use Rattle.imago_access.specs.Layer.{Layer}
 use Rattle.imago_access.specs.Chain.{at}
 use Rattle.imago_access.specs.Files.{Pairs}
-use Rattle.imago_access.specs.Going.{Went}
+use Rattle.imago_access.specs.Going.{IsUnchanged, Went}
 use Rattle.imago_access.specs.Running.{HoldsTrue, IsIntact, Ran}
 use Rattle.imago_access.specs.Stops.{KeepsStops}
+use Rattle.imago_access.proofs.Room.{room_same, takes_both}
 use Rattle.imago_access.proofs.Running.{went_same, ran_driver}
 use Rattle.imago_access.specs.declared.seen.Seen.{Ghosts}
 use Rattle.imago_access.specs.declared.seen.SeenBelow.{Ghosts as GhostsBelow}
+
+-- all is as it was: where nothing is done, and in two calls
+pub unchanged_same : {D St : Type 0} (g : Ghosts D St) (d : D) → IsUnchanged g d d
+unchanged_same g d = record {
+  layer = refl;
+  unasked = (refl, refl);
+  seen = λ s. s;
+  safely = λ s. s;
+  stilled = λ s. s;
+  lasting = λ l. l;
+  room = λ s. room_same g (λ _. ⊤) (λ _. ⊤) d;
+  began = λ x call begun. begun;
+}
+
+pub unchanged_both : {D St : Type 0} (g : Ghosts D St) (a b c : D) → IsUnchanged g a b → IsUnchanged g b c → IsUnchanged g a c
+unchanged_both g a b c first second = record {
+  layer = second.layer ∙ first.layer;
+  unasked = (second.unasked.0 ∙ first.unasked.0, second.unasked.1 ∙ first.unasked.1);
+  seen = λ s. second.seen (first.seen s);
+  safely = λ s. second.safely (first.safely s);
+  stilled = λ s. second.stilled (first.stilled s);
+  lasting = λ l. second.lasting (first.lasting l);
+  room = λ s. takes_both g (λ _. ⊤) (λ _. ⊤) (λ _. ⊤) a b c (λ p there. (tt, tt)) (first.room s) (second.room (first.safely s));
+  began = λ x call begun. second.began x call (first.began x call begun);
+}
 
 pub all_went_same : {D St : Type 0} (g : Ghosts D St) (whole : Type 0) (ds : List D) → Pairs (Went g whole whole) ds ds
 all_went_same g whole [] = tt

@@ -1,15 +1,16 @@
-use Rattle.std.proofs.Common.{rules, arith, sym, subst, ◌≡◌, ◌∷◌, map}
+use Rattle.std.proofs.Common.{rules, arith, inr, length, sym, subst, ◌≡◌, ◌∷◌, map}
 use Rattle.std.specs.Prelude.{⊤}
 use Rattle.imago_access.specs.Chain.{at}
 use Rattle.imago_access.specs.Layers.{layers}
-use Rattle.imago_access.specs.Files.{IsMild, WasNotCutOff, files_of, files, byte_in}
-use Rattle.imago_access.specs.Mappings.{NamesHome, DeepNames, stored_at, lower}
+use Rattle.imago_access.specs.Files.{ImageCause, IsMild, WasNotCutOff, files_of, files, byte_in}
+use Rattle.imago_access.specs.Mappings.{NamesHome, DeepNames, IsOneOf, IsThere, stored_at, lower}
 use Rattle.imago_access.specs.declared.mapping.Mapping.{Mapping}
 use Rattle.imago_access.proofs.Looking.{all_looked_same, chain_same}
 use Rattle.imago_access.proofs.ReadCauses.{indirect_free}
 use Rattle.imago_access.proofs.LookedUp.{deep_step}
-use Rattle.imago_access.proofs.Deeper.{names_lower, writable_here, run_inside, indirect_run, indirect_writable, deep_look_top, deep_look_below}
+use Rattle.imago_access.proofs.Deeper.{names_lower, there_lower, writable_here, run_inside, indirect_run, indirect_writable, deep_look_top, deep_look_below}
 use Rattle.imago_access.proofs.ImageCauses.{failed_left, failed_right}
+use Rattle.imago_access.proofs.Marking.{marked_top}
 use Rattle.imago_access.proofs.access.FormatAccess.+map.Goals as goal
 
 pub get_mapping-returns-clause-home : goal.get_mapping-returns-clause-home
@@ -22,6 +23,11 @@ pub map_part-returns-in-Err-clause-failed : goal.map_part-returns-in-Err-clause-
 map_part-returns-in-Err-clause-failed g t c = let d = g.D.Seen in
     let a0 = c.args.driver.now in let a1 = c.get_mapping.new.self in let others = files_of d (layers c.args.below.now) in
     failed_left (files d a0) (files d a1) others others c.in-Err.fault c.in-Err.ensures.failed
+
+pub map_part-returns-in-Err-clause-marks : goal.map_part-returns-in-Err-clause-marks
+map_part-returns-in-Err-clause-marks g t c = let d = g.D.Seen in
+    let a0 = c.args.driver.now in let a1 = c.get_mapping.new.self in let ds = layers c.args.below.now in
+    marked_top d a0 a1 ds ds c.in-Err.fault (λ is. subst (ImageCause (files d a0) (files d a1)) is c.in-Err.ensures.failed) c.in-Err.ensures.marks
 
 pub map_part-returns-in-Err-clause-cause : goal.map_part-returns-in-Err-clause-cause
 map_part-returns-in-Err-clause-cause g t c = λ see. let d = g.D.Seen in deep_look_top (d.layer c.args.driver.now) (map d.layer (layers c.args.below.now)) c.args.offset c.args.max_length (files d c.args.driver.now) (files d c.get_mapping.new.self) (files_of d (layers c.args.below.now)) (files_of d (layers c.args.below.now)) c.in-Err.fault (c.in-Err.ensures.cause see.0)
@@ -56,6 +62,16 @@ map_part-returns-in-Ok-map_under-clause-names g t c = λ few see. let d = g.D.Se
     (names_lower d c.get_mapping.new.self (layers c.map_under.new.below) (d.layer c.args.driver.now) (map d.layer (layers c.args.below.now)) c.args.offset c.in-Ok-map_under.length n c.in-Indirect.writable free run.2
     (indirect_writable (d.layer c.args.driver.now) (byte_in (files d c.get_mapping.new.self)) c.args.offset n c.in-Indirect.offset c.in-Indirect.writable (c.in-Ok.run').0 c.in-Indirect.is looks.names) m c.in-Ok-map_under.ensures.run (c.in-Ok-map_under.ensures.names (omega (arith, few)) see.1))
 
+pub map_part-returns-in-Ok-map_under-clause-there : goal.map_part-returns-in-Ok-map_under-clause-there
+map_part-returns-in-Ok-map_under-clause-there g t c = λ few. let d = g.D.Seen in
+    let m = c.in-Ok-map_under.mapping in
+    let lowered : c.lowered.result ≡ lower c.in-Indirect.writable m = c.lowered.ensures.value (search (rules)) in
+    subst (IsThere d (c.args.driver.now ∷ layers c.args.below.now)) (sym lowered)
+    (there_lower d c.args.driver.now (layers c.args.below.now) c.in-Indirect.writable m (c.in-Ok-map_under.ensures.there (omega (arith, few))))
+
+pub map_part-returns-in-Raw-clause-there : goal.map_part-returns-in-Raw-clause-there
+map_part-returns-in-Raw-clause-there g t c = λ few. let d = g.D.Seen in subst (IsOneOf (length (files d c.args.driver.now))) c.in-Raw.is c.in-Ok.ensures.there
+
 pub map_part-returns-in-Raw-clause-writable : goal.map_part-returns-in-Raw-clause-writable
 map_part-returns-in-Raw-clause-writable g t c = λ few see. let d = g.D.Seen in
     writable_here (d.layer c.args.driver.now) (map d.layer (layers c.args.below.now)) c.args.offset c.args.max_length c.in-Raw.storage c.in-Raw.place c.in-Raw.writable
@@ -65,6 +81,9 @@ pub map_part-returns-in-Err-map_under-clause-failed : goal.map_part-returns-in-E
 map_part-returns-in-Err-map_under-clause-failed g t c = let d = g.D.Seen in
     let a0 = c.args.driver.now in let a1 = c.get_mapping.new.self in
     failed_right (files d a0) (files d a1) (files_of d (layers c.args.below.now)) (files_of d (layers c.map_under.new.below)) c.in-Err-map_under.fault c.in-Ok.ensures.looked.later c.in-Err-map_under.ensures.failed
+
+pub map_part-returns-in-Err-map_under-clause-marks : goal.map_part-returns-in-Err-map_under-clause-marks
+map_part-returns-in-Err-map_under-clause-marks g t c = λ is. inr (c.in-Err-map_under.ensures.marks is)
 
 pub map_part-returns-in-Err-map_under-clause-cause : goal.map_part-returns-in-Err-map_under-clause-cause
 map_part-returns-in-Err-map_under-clause-cause g t c = λ see. let d = g.D.Seen in let looks = c.in-Ok.ensures.looks see.0 in

@@ -1,16 +1,17 @@
-use Rattle.std.proofs.Common.{rules, refl, arith, ◌∙◌, ◌∷◌, List, length, map}
+use Rattle.std.proofs.Common.{rules, refl, arith, inr, subst, ◌∙◌, ◌∷◌, List, length, map}
 use Rattle.std.proofs.lemmas.Grind.{common_steps}
 use Rattle.std.specs.Prelude.{⊤}
 use Rattle.imago_storage.specs.Through.{Overflows}
 use Rattle.imago_access.specs.Chain.{at, unit_of_chain}
 use Rattle.imago_access.specs.Layers.{chain, layers}
-use Rattle.imago_access.specs.Files.{IsMild, files_of, files, byte_in}
+use Rattle.imago_access.specs.Files.{ImageCause, IsMild, files_of, files, byte_in}
 use Rattle.imago_access.specs.Going.{Looked}
 use Rattle.imago_access.proofs.Looking.{chain_later, looked_both, looked_weaker, all_looked_same, all_looked_both}
 use Rattle.imago_access.proofs.Reading.{ends_below, pairs_length, rest_calm, rest_cause, run_shown, longer_overflows, named_calm}
 use Rattle.imago_access.proofs.ReadCauses.{look_cause, read_cause_below, read_mapped_cause, indirect_free, indirect_inside, raw_reach, barred_there}
 use Rattle.imago_access.proofs.Units.{unit_aligned, layer_aligned, calm_below, calm_top}
 use Rattle.imago_access.proofs.ImageCauses.{failed_behind, failed_left, failed_right, read_mapped_failed}
+use Rattle.imago_access.proofs.Marking.{marked_top, marked_behind}
 use Rattle.imago_access.proofs.access.FormatAccess.+read.Goals as goal
 
 pub read_all-loop-done-init : goal.read_all-loop-done-init
@@ -50,6 +51,10 @@ read_all-returns-in-Err-clause-failed g t c = let d = g.D.Seen in
     let others = λ (ds : List g.row.D.Denot). files_of d ds in
     failed_behind (others (chain c.args.self.now)) (others (chain c.loop-done.self)) (others (chain c.read_run.new.self)) c.in-Err.fault (chain_later d ⊤ (chain c.args.self.now) (chain c.loop-done.self) c.loop-done.invariant.looked) c.in-Err.ensures.failed
 
+pub read_all-returns-in-Err-clause-marks : goal.read_all-returns-in-Err-clause-marks
+read_all-returns-in-Err-clause-marks g t c = λ is. let d = g.D.Seen in
+    marked_behind d ⊤ (chain c.args.self.now) (chain c.loop-done.self) (chain c.read_run.new.self) c.loop-done.invariant.looked (c.in-Err.ensures.marks is)
+
 pub read_all-returns-in-Err-clause-cause : goal.read_all-returns-in-Err-clause-cause
 read_all-returns-in-Err-clause-cause g t c = λ see. let d = g.D.Seen in rest_cause d g.met.D.FormatDriverInstance.aligned (chain c.args.self.now) (chain c.loop-done.self) (chain c.read_run.new.self) c.args.offset (length c.args.buf.now) c.loop-done.done c.in-Err.fault c.loop-done.invariant.looked see (omega (arith, c.loop-done-test.true, c.loop-done.auto.buf)) (λ now. grind (arith, common_steps))
 
@@ -64,6 +69,11 @@ read_part-returns-in-Err-clause-failed g t c = let d = g.D.Seen in
     let a0 = c.args.driver.now in let a1 = c.get_mapping.new.self in let others = files_of d (layers c.args.below.now) in
     failed_left (files d a0) (files d a1) others others c.in-Err.fault c.in-Err.ensures.failed
 
+pub read_part-returns-in-Err-clause-marks : goal.read_part-returns-in-Err-clause-marks
+read_part-returns-in-Err-clause-marks g t c = let d = g.D.Seen in
+    let a0 = c.args.driver.now in let a1 = c.get_mapping.new.self in let ds = layers c.args.below.now in
+    marked_top d a0 a1 ds ds c.in-Err.fault (λ is. subst (ImageCause (files d a0) (files d a1)) is c.in-Err.ensures.failed) c.in-Err.ensures.marks
+
 pub read_part-returns-in-Err-clause-cause : goal.read_part-returns-in-Err-clause-cause
 read_part-returns-in-Err-clause-cause g t c = λ see. let d = g.D.Seen in look_cause (d.layer c.args.driver.now) (map d.layer (layers c.args.below.now)) (unit_of_chain (map d.layer (c.args.driver.now ∷ layers c.args.below.now))) c.args.offset (length c.args.buf.now) (files d c.args.driver.now) (files d c.get_mapping.new.self) (files_of d (layers c.args.below.now)) (files_of d (layers c.args.below.now)) c.in-Err.fault (c.in-Err.ensures.cause see.0)
 
@@ -77,6 +87,13 @@ read_part-returns-in-Err-read_mapped-clause-failed g t c = let d = g.D.Seen in
     let news = files d c.read_mapped.new.self in
     let others = files_of d (layers c.args.below.now) in
     failed_left olds news others others c.in-Err-read_mapped.fault (failed_behind olds mids news c.in-Err-read_mapped.fault c.in-Ok.ensures.looked.later (read_mapped_failed (d.layer c.get_mapping.new.self) c.in-Raw.place _ mids news c.in-Err-read_mapped.fault c.in-Err-read_mapped.ensures.cause))
+
+pub read_part-returns-in-Err-read_mapped-clause-marks : goal.read_part-returns-in-Err-read_mapped-clause-marks
+read_part-returns-in-Err-read_mapped-clause-marks g t c = λ is. let d = g.D.Seen in
+    let a0 = c.args.driver.now in let a1 = c.get_mapping.new.self in let a2 = c.read_mapped.new.self in let ds = layers c.args.below.now in
+    let fault = c.in-Err-read_mapped.fault in
+    marked_behind d ⊤ (a0 ∷ ds) (a1 ∷ ds) (a2 ∷ ds) (c.in-Ok.ensures.looked, all_looked_same d ⊤ ds)
+    (marked_top d a1 a2 ds ds fault (λ same. subst (ImageCause (files d a1) (files d a2)) same (read_mapped_failed (d.layer a1) c.in-Raw.place _ (files d a1) (files d a2) fault c.in-Err-read_mapped.ensures.cause)) c.in-Err-read_mapped.ensures.marks is)
 
 pub read_part-returns-in-Err-read_mapped-clause-cause : goal.read_part-returns-in-Err-read_mapped-clause-cause
 read_part-returns-in-Err-read_mapped-clause-cause g t c = λ see. let d = g.D.Seen in let looks = c.in-Ok.ensures.looks see.0 in
@@ -94,6 +111,9 @@ pub read_part-returns-in-Err-read_under-clause-failed : goal.read_part-returns-i
 read_part-returns-in-Err-read_under-clause-failed g t c = let d = g.D.Seen in
     let a0 = c.args.driver.now in let a1 = c.get_mapping.new.self in
     failed_right (files d a0) (files d a1) (files_of d (layers c.args.below.now)) (files_of d (layers c.read_under.new.below)) c.in-Err-read_under.fault c.in-Ok.ensures.looked.later c.in-Err-read_under.ensures.failed
+
+pub read_part-returns-in-Err-read_under-clause-marks : goal.read_part-returns-in-Err-read_under-clause-marks
+read_part-returns-in-Err-read_under-clause-marks g t c = λ is. inr (c.in-Err-read_under.ensures.marks is)
 
 pub read_part-returns-in-Err-read_under-clause-cause : goal.read_part-returns-in-Err-read_under-clause-cause
 read_part-returns-in-Err-read_under-clause-cause g t c = λ see. let d = g.D.Seen in let looks = c.in-Ok.ensures.looks see.0 in

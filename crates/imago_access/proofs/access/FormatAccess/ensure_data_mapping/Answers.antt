@@ -21,7 +21,8 @@ use Rattle.imago_access.proofs.Running.{ran_same, ran_seen, ran_gives}
 use Rattle.imago_access.proofs.Units.{layer_aligned, overflows_chain}
 use Rattle.imago_access.proofs.ImageCauses.{failed_alone}
 use Rattle.imago_access.proofs.Uncut.{own_part}
-use Rattle.imago_access.proofs.Marking.{top_mild, top_over, top_alone, top_by}
+use Rattle.imago_access.proofs.Marking.{top_mild, top_over, top_alone}
+use Rattle.imago_access.proofs.Untouched.{unchanged_both}
 use Rattle.imago_access.specs.RunCalls.{MarksTop}
 use Rattle.imago_access.proofs.access.FormatAccess.ensure_data_mapping.Goals as goal
 use Rattle.imago_access.specs.Running.{below_ghosts}
@@ -185,14 +186,13 @@ returns-clause-ran g c = let d = g.D.Seen in
     (ran_mapped d (seen_by layers (below_ghosts d)) m.state a0 a1 x0 x1 c.args.offset c.args.length c.args.overwrite m.storage m.offset m.length (laws.free_loose a0 free) c.in-Ok.ensures.size c.in-Ok.ensures.does.went c.in-Ok.ensures.below c.in-Ok.ensures.does.ok c.in-Ok.ensures.does.stops)
     (ran_settled d (seen_by layers (below_ghosts d)) m.state ⊤ a1 a2 x1 laws.free_loose s.size s.went c.in-Ok.ensures.mine.0 c.in-Ok.ensures.mine.1 (s.free c.in-Ok.ensures.mine.1) (λ w safe. spends_more d m.state (d.layer a1) (d.layer a2) (d.safe a1 → Committed (d.layer a1) (d.layer a2)) (Committed (d.layer a1) (d.layer a2)) (λ h. h safe) s.ok) s.stops)))
 
-pub returns-clause-unasked : goal.returns-clause-unasked
-returns-clause-unasked g c = λ how.
+pub returns-clause-unchanged : goal.returns-clause-unchanged
+returns-clause-unchanged g c = λ how. let d = g.D.Seen in
     let calm = c.in_ok-check_change.ensures.ok in
     let empty : c.args.length ≡ 0 = elim how [ inl none ↦ none | inr some ↦ absurd (grind (arith, some, calm)) ] in
-    let first = (c.in-Ok.ensures.at_once.unchanged (inl empty)).unasked in
     let state : c.in-Ok.prepared.state ≡ None = ap (λ m. m.state) (c.in-Ok.ensures.empty empty).0 in
-    let second = c.in_default.ensures.unasked state in
-    rw (← c.self.view_is) ((second.0 ∙ first.0, second.1 ∙ first.1), ap layers (c.in-Ok.ensures.unread (inl empty)))
+    let both = unchanged_both d c.self.inside.driver c.prepare_data_mapping.new.self c.settle.new.driver (c.in-Ok.ensures.at_once.unchanged (inl empty)) (c.in_default.ensures.unchanged state) in
+    rw (← c.self.view_is) (both, ap layers (c.in-Ok.ensures.unread (inl empty)))
 
 pub returns-in-Err-settle-clause-err : goal.returns-in-Err-settle-clause-err
 returns-in-Err-settle-clause-err g c = let d = g.D.Seen in

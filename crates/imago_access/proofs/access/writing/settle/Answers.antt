@@ -1,6 +1,9 @@
+use Rattle.std.proofs.Common.{ap, inl, ◌∙◌}
 use Rattle.imago_access.specs.Stops.{Left, GivesSettled}
+use Rattle.imago_access.specs.declared.mapping.PreparedDataMapping.{PreparedDataMapping}
 use Rattle.imago_access.proofs.Stopping.{passes_on}
 use Rattle.imago_access.proofs.Marking.{alone_failed, alone_mild, given_back_mild}
+use Rattle.imago_access.proofs.Untouched.{unchanged_both}
 use Rattle.imago_access.proofs.access.writing.settle.Goals as goal
 
 pub returns-in-Ok-clause-stops : goal.returns-in-Ok-clause-stops
@@ -21,3 +24,9 @@ pub returns-in-Err-default-Some-clause-marks : goal.returns-in-Err-default-Some-
 returns-in-Err-default-Some-clause-marks g c = let d = g.D.Seen in
     let back = rw c.in-Err-default-Some.field-0-1-is at c.in-Err-default-Some.ensures.refused.back in
     alone_mild d c.args.driver.now c.abandon.new.driver c.in-Err-default-Some.fault (given_back_mild d.tag c.args.mapping.state (d.layer c.args.driver.now) c.in-Err-default-Some.fault back.1)
+
+pub returns-in-Err-default-Some-clause-unchanged : goal.returns-in-Err-default-Some-clause-unchanged
+returns-in-Err-default-Some-clause-unchanged g c = λ none. let d = g.D.Seen in
+    let back = rw c.in-Err-default-Some.field-0-1-is at c.in-Err-default-Some.ensures.refused.back in
+    let state = ap (λ (m : PreparedDataMapping g.row.D-State.Denot). m.state) back.0 ∙ none in
+    unchanged_both d c.args.driver.now c.commit_data_mapping.new.self c.abandon.new.driver (c.in-Err-default-Some.ensures.refused.unchanged (inl none)) (c.abandon.ensures.unchanged state)
