@@ -2,6 +2,9 @@ pub mod RawSteps
 pub mod Growing
 mod WordLemmas
 pub mod LineLemmas
+mod LineOrder
+mod ExtentLines
+mod WorkedDescriptors
 mod FileLemmas
 mod ExtentLemmas
 pub mod StorageLemmas

@@ -30,7 +30,7 @@ own = numerals_by_value _ (search rules)
 pub decimal_no : (ds : List ℕ) → list_all is_ascii_digit ds ≡ false → Err DamagedDescriptor ≡ decimal ds
 decimal_no ds e = rw e refl
 
-both : (a b : Bool) → (a && b) ≡ true → (a ≡ true) × (b ≡ true)
+pub both : (a b : Bool) → (a && b) ≡ true → (a ≡ true) × (b ≡ true)
 both true b e = (refl, e)
 both false b e = absurd cc
 

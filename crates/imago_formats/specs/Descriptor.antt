@@ -1,4 +1,5 @@
--- The text of a descriptor: what each line says, and what all of them say.
+-- The text of a descriptor: what each line says, and what all of them say. Of what a line is made that names an extent is said apart, by
+-- its words, in `DescriptorLines`, with which this agrees.
 use Rattle.std.specs.Prelude.{ℕ, ◌+◌, ◌*◌, ◌^◌, ◌||◌, ◌&&◌, ◌==◌, nat_lt, nat_le, Bool, true, if◌then◌else◌, List, [], ◌∷◌, ◌++◌, length, drop, slice_index, slice_index_or, Option, Some, None, Result, Ok, Err, codes}
 use Rattle.std.specs.List.{position_or_len, before_first, after_first, sum_by}
 use Rattle.std.specs.Option.{option_to_list}

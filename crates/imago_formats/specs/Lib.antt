@@ -5,7 +5,9 @@ pub mod Creating
 pub mod RawOpening
 pub mod DescriptorWords
 pub mod Descriptor
+pub mod DescriptorLines
 pub mod DescriptorView
+pub mod WorkedDescriptor
 pub mod VmdkLayer
 pub mod VmdkFiles
 pub mod VmdkLaws

@@ -2,6 +2,7 @@
 #![tactic(auto)]
 
 mod builders;
+pub mod descriptor_rules;
 mod raw;
 mod vmdk;
 

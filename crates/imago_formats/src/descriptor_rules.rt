@@ -1,0 +1,58 @@
+//! What the rules of descriptors say, by worked texts, and of what lines are made that name an extent.
+//! Each function does nothing, and its contract is what was computed or proved of the rules.
+
+ghost use Rattle.std.specs.Prelude.{◌≡◌, ◌++◌, ◌∷◌, [], ℕ, List, Option, Some, Ok, Err, codes, map};
+ghost use Rattle.std.specs.List.{filter_map};
+ghost use Rattle.imago_storage.specs.declared.fault.Fault.{Fault};
+ghost use Rattle.imago_storage.specs.declared.fault.Fault.TheVariants.{DamagedDescriptor, Unsupported};
+ghost use Rattle.imago_formats.specs.Descriptor.{descriptor_of, extents_of, said_by, size_of};
+ghost use Rattle.imago_formats.specs.DescriptorLines.{IsExtentLine};
+ghost use Rattle.imago_formats.specs.WorkedDescriptor.{descriptor_with, extent, other_extents, other_text, quoted, two_extents, two_sectors};
+ghost use Rattle.imago_formats.specs.declared.vmdk.descriptor.Access.TheVariants.{ReadWrite};
+ghost use Rattle.imago_formats.specs.declared.vmdk.descriptor.Source.TheVariants.{Zero};
+ghost use Rattle.imago_formats.specs.declared.vmdk.descriptor.Extent.{Extent};
+
+/// Descriptors that are read: one of two extents, and one that has all that may stand otherwise.
+pub fn worked_descriptors()
+    ensures two { descriptor_of two_sectors ≡ Ok two_extents }
+    ensures size { size_of two_extents ≡ 1024 }
+    ensures other { descriptor_of other_text ≡ Ok other_extents }
+    ensures none { descriptor_of (descriptor_with []) ≡ Ok [] }
+{}
+
+/// Descriptors that are refused, by their first lines and their settings.
+pub fn refused_settings()
+    ensures first_line { descriptor_of (codes "# Disk DescriptorFile " ++ 10 ∷ []) ≡ Err DamagedDescriptor }
+    ensures version { descriptor_of (descriptor_with (codes "version=4" ∷ [])) ≡ Err Unsupported }
+    ensures in_quotes { descriptor_of (descriptor_with ((codes "version=" ++ quoted (codes "1")) ∷ [])) ≡ Err Unsupported }
+    ensures parent { descriptor_of (descriptor_with (codes "parentCID=fffffffe" ∷ [])) ≡ Err Unsupported }
+    ensures neither { descriptor_of (descriptor_with (codes "what" ∷ [])) ≡ Err DamagedDescriptor }
+{}
+
+/// Descriptors that are refused, by an extent: each line is judged from left to right, the first with a fault decides, and the size of the
+/// disk comes last.
+pub fn refused_extents()
+    ensures other_type { descriptor_of (descriptor_with (codes "RW 1 SPARSE" ∷ codes "what" ∷ [])) ≡ Err Unsupported }
+    ensures count { descriptor_of (descriptor_with (codes "RW x SPARSE" ∷ [])) ≡ Err DamagedDescriptor }
+    ensures more { descriptor_of (descriptor_with (codes "RW 1 ZERO 0" ∷ [])) ≡ Err DamagedDescriptor }
+    ensures unquoted { descriptor_of (descriptor_with (codes "RW 1 FLAT a" ∷ [])) ≡ Err DamagedDescriptor }
+    ensures largest { descriptor_of (descriptor_with (codes "RW 18014398509481983 ZERO" ∷ []))
+        ≡ Ok (extent ReadWrite 18014398509481983 Zero ∷ []) }
+    ensures too_large { descriptor_of (descriptor_with (codes "RW 18014398509481983 ZERO" ∷ codes "RW 1 ZERO" ∷ []))
+        ≡ Err DamagedDescriptor }
+{}
+
+/// The lines behind the first: where each says something, what names an extent is taken in order, and else the first line that is refused
+/// decides.
+pub fn lines_in_order()
+    ensures all { (found : List (Option (Extent (List ℕ)))) (lines : List (List ℕ)) → map said_by lines ≡ map (λ o. Ok o) found
+        → extents_of lines ≡ Ok (filter_map (λ o. o) found) }
+    ensures first { (found : List (Option (Extent (List ℕ)))) (before rest : List (List ℕ)) (line : List ℕ) (fault : Fault)
+        → map said_by before ≡ map (λ o. Ok o) found → said_by line ≡ Err fault → extents_of (before ++ line ∷ rest) ≡ Err fault }
+{}
+
+/// A line names an extent exactly where it is made as such a line is.
+pub fn extent_lines()
+    ensures read { (x : Extent (List ℕ)) (line : List ℕ) → said_by line ≡ Ok (Some x) → IsExtentLine x line }
+    ensures made { (x : Extent (List ℕ)) (line : List ℕ) → IsExtentLine x line → said_by line ≡ Ok (Some x) }
+{}
