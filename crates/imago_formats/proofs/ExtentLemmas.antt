@@ -1,10 +1,10 @@
 -- The extents of a disk, one by one.
-use Rattle.std.proofs.Common.{zero, [], ◌^◌, ◌≡◌, ℕ, ◌+◌, ◌-◌, ◌*◌, ◌<◌, ◌≤◌, cond, Bool, true, false, List, ◌∷◌, ◌++◌, length, take, drop, get_or, suc, refl, sym, ap, zero-add, add-one, ◌∙◌, arith}
+use Rattle.std.proofs.Common.{zero, [], ◌^◌, ◌≡◌, ℕ, ◌+◌, ◌-◌, ◌*◌, ◌<◌, ◌≤◌, cond, Bool, true, false, List, ◌∷◌, ◌++◌, length, take, drop, get_or, suc, refl, sym, ap, subst, zero-add, add-one, ◌∙◌, arith}
 use Rattle.std.proofs.lemmas.List.Sums.{sum_by_more, sum_by_more_le}
 use Rattle.std.proofs.lemmas.Bool.{lt-ltb, le-ltb}
 use Rattle.imago_formats.specs.Descriptor.{size_of}
 use Rattle.imago_storage.specs.Through.{round_up}
-use Rattle.imago_formats.specs.VmdkLayer.{file_names, name_in, end_in_file, in_extents, in_source, has_file, AreInReach, IsExtentAt}
+use Rattle.imago_formats.specs.VmdkLayer.{file_names, files_asked, name_in, asks_file, end_in_file, in_extents, in_source, has_file, AreInReach, IsExtentAt}
 use Rattle.imago_formats.specs.declared.vmdk.descriptor.Extent.{Extent}
 use Rattle.std.proofs.Math.Seq.{drop-cons}
 use Rattle.std.proofs.lemmas.List.{map-append}
@@ -29,6 +29,19 @@ module _ {N : Type 0} where
       let same : (get_or xs i x).sectors ≡ x.sectors = ap (λ (e : Extent N). e.sectors) (sym is) in
       omega (arith, more, same)
 
+  -- the same of the files that are asked for
+  pub asked_more : (xs : List (Extent N)) (i : ℕ) (x : Extent N) → i < length xs → x ≡ get_or xs i x →
+      files_asked (take (i + 1) xs) ≡ files_asked (take i xs) + cond (has_file x) 1 0
+  asked_more xs i x h is =
+      sum_by_more (λ (e : Extent N). cond (has_file e) 1 0) xs i x h
+      ∙ ap (λ (e : Extent N). files_asked (take i xs) + cond (has_file e) 1 0) (sym is)
+
+  asked_within : (xs : List (Extent N)) (i : ℕ) (x : Extent N) → i < length xs → x ≡ get_or xs i x →
+      files_asked (take i xs) + cond (has_file x) 1 0 ≤ files_asked xs
+  asked_within xs i x h is =
+      subst (λ (e : Extent N). files_asked (take i xs) + cond (has_file e) 1 0 ≤ files_asked xs) (sym is)
+      (sum_by_more_le (λ (e : Extent N). cond (has_file e) 1 0) xs i x h)
+
   -- a place of the first extent, and one behind it
   pub in_first : (files : ℕ → ℕ → ℕ) (x : Extent N) (ys : List (Extent N)) (k q : ℕ) → q < 512 * x.sectors →
       in_extents files (x ∷ ys) k q ≡ in_source x.access x.source (files k) q
@@ -47,6 +60,7 @@ module _ {N : Type 0} where
     pub low : start ≤ p
     pub some : 0 < k
     pub few : k ≤ i + 1
+    pub count : k ≡ files_asked (take i xs) + 1
     pub shows : (files : ℕ → ℕ → ℕ) (q : ℕ) → in_extents files xs 1 (start + q) ≡ in_extents files (drop i xs) k q
     pub reach : (unit : ℕ) → AreInReach unit xs → AreInReach unit (drop i xs)
 
@@ -58,12 +72,20 @@ module _ {N : Type 0} where
       round_up unit (end_in_file x.access x.source x.sectors) < 2 ^ 64 → AreInReach unit (drop (i + 1) xs) → AreInReach unit (drop i xs)
   reach_before unit xs i x h is here later = rw (rest_is xs i x h is) (here, later)
 
+  -- what ends in reach from an extent on: the extent, and those behind it
+  pub reach_at : (unit : ℕ) (xs : List (Extent N)) (i : ℕ) (x : Extent N) → i < length xs → x ≡ get_or xs i x → AreInReach unit (drop i xs) →
+      (round_up unit (end_in_file x.access x.source x.sectors) < 2 ^ 64) × AreInReach unit (drop (i + 1) xs)
+  reach_at unit xs i x h is all =
+      let rest = rest_is xs i x h is in
+      let both : AreInReach unit (x ∷ drop (i + 1) xs) = rw rest at all in both
+
   pub stands_first : (xs : List (Extent N)) (p : ℕ) → StandsAt xs 0 0 1 p
   stands_first xs p = record {
     begins = refl;
     low = omega arith;
     some = omega arith;
     few = omega arith;
+    count = refl;
     shows = λ files q. ap (λ n. in_extents files xs 1 n) (zero-add q);
     reach = λ unit r. r;
   }
@@ -77,6 +99,7 @@ module _ {N : Type 0} where
         high = omega (arith, at.low);
         end = omega (arith, at.begins);
         some = at.some;
+        there = λ asks. let one : ◌≡◌ {A = ℕ} (cond (has_file x) 1 0) 1 = ap (λ t. cond t 1 0) asks in omega (arith, at.count, asked_within xs i x h is, one);
         shows = λ files q low. at.shows files q ∙ ap (λ ys. in_extents files ys k q) rest ∙ in_first files x (drop (i + 1) xs) k q low;
         reach = λ unit all. let r : AreInReach unit (x ∷ drop (i + 1) xs) = rw rest at (at.reach unit all) in r.0;
       }
@@ -90,6 +113,7 @@ module _ {N : Type 0} where
         low = omega (arith, at.low);
         some = counted (has_file x) k k' next at.some;
         few = no_more (has_file x) k k' i next at.few;
+        count = one_more (has_file x) k k' (files_asked (take i xs)) (files_asked (take (i + 1) xs)) next at.count (asked_more xs i x h is);
         shows = λ files q. ap (λ n. in_extents files xs 1 n) (regroup start x.sectors q) ∙ at.shows files (512 * x.sectors + q)
             ∙ ap (λ ys. in_extents files ys k (512 * x.sectors + q)) rest ∙ in_later files x (drop (i + 1) xs) k q
             ∙ ap (λ n. in_extents files (drop (i + 1) xs) n q) (sym next);
@@ -103,6 +127,10 @@ module _ {N : Type 0} where
       no_more : (t : Bool) (a b i : ℕ) → b ≡ cond t (a + 1) a → a ≤ i + 1 → b ≤ i + 1 + 1
       no_more true a b i e h = omega (arith, e)
       no_more false a b i e h = omega (arith, e)
+
+      one_more : (t : Bool) (a b n m : ℕ) → b ≡ cond t (a + 1) a → a ≡ n + 1 → m ≡ n + cond t 1 0 → b ≡ m + 1
+      one_more true a b n m e count more = omega (arith, e, count, more)
+      one_more false a b n m e count more = omega (arith, e, count, more)
 
       regroup : (s n q : ℕ) → s + n * 512 + q ≡ s + (512 * n + q)
       regroup s n q = omega arith

@@ -1,16 +1,17 @@
 -- Calls of a driver that leave all as it was, but for counts of faults.
 use Rattle.std.proofs.Common.{◌≡◌, ℕ, ◌<◌, ◌≤◌, Bool, true, false, List, [], ◌∷◌, Result, Ok, Err, refl, sym, ap, ◌∙◌, subst, inl, inr, arith}
-use Rattle.std.specs.Prelude.{⊤, max, length, MatchResult, IsOk, Option, Some, None, IsTrue, IsFalse, OnOk, if◌then◌else◌, eqb}
+use Rattle.std.specs.Prelude.{⊤, max, ◌⊎◌, ◌-◌, length, MatchResult, IsOk, IsErrOf, IsSome, Option, Some, None, IsTrue, IsFalse, IfErr, OnOk, if◌then◌else◌, eqb}
 use Rattle.imago_storage.specs.State.{StorageState}
 use Rattle.imago_storage.specs.Calls.{IsFaultless}
 use Rattle.imago_storage.specs.Steps.{IsIn}
 use Rattle.imago_storage.specs.declared.fault.Fault.{Fault}
-use Rattle.imago_storage.specs.declared.fault.Fault.TheVariants.{ReadOnly, MissingData, Failed}
+use Rattle.imago_storage.specs.declared.fault.Fault.TheVariants.{ReadOnly, MissingData, Failed, Memory, Storage}
 use Rattle.imago_access.specs.declared.seen.Seen.{Ghosts}
 use Rattle.imago_access.specs.Layer.{Layer, Held, IsFree, IsLike, loose, unit_of_layer}
-use Rattle.imago_access.specs.Files.{Pairs, IsKept, IsLater, IsMild, files}
-use Rattle.imago_access.specs.Going.{Looked, Went, AtOnce}
-use Rattle.imago_access.specs.Refusals.{barrier, own_refusal, range_refusal}
+use Rattle.imago_access.specs.Files.{ImageCause, Pairs, IsKept, IsLater, IsMild, IsStale, files}
+use Rattle.imago_access.specs.Going.{AtOnce, IsUnchanged, Looked, Marks, Went}
+use Rattle.imago_access.specs.Parts.{PlainCause}
+use Rattle.imago_access.specs.Refusals.{InvalidateCause, barrier, own_refusal, range_refusal}
 use Rattle.imago_access.specs.Room.{IsWholeUnit, Takes}
 use Rattle.imago_access.specs.Stops.{Left, KeepsStops, KeepsStopsTo, GivesNone, GivesBytes, GivesPast, GivesBelowPast, GivesSettled}
 use Rattle.imago_storage.specs.Disk.{Value}
@@ -20,12 +21,12 @@ use Rattle.imago_access.specs.declared.mapping.PreparedDataMapping.{PreparedData
 use Rattle.imago_access.specs.Chain.{at}
 use Rattle.imago_access.specs.Changes.{Asked, IsHolding, Committed}
 use Rattle.imago_access.specs.PreparingCalls.{Prepares, RunRefused, WritesMapped, WritingRefused, Commits}
-use Rattle.imago_access.specs.ResizeCalls.{Grows, Shrinks}
+use Rattle.imago_access.specs.ResizeCalls.{Grows, GrowthRefused, Resizes, ShrinkRefused, Shrinks}
 use Rattle.imago_access.specs.Spending.{Spends, IsMine, claim_of}
 use Rattle.imago_access.specs.PartCalls.{PartCall, ensures_zero, LeavesPart, DoesPart, PartRefused, PartGives}
-use Rattle.imago_access.proofs.FilePairs.{later_all_same, faultless_all_same}
+use Rattle.imago_access.proofs.FilePairs.{kept_all_same, later_all_same, faultless_all_same}
 use Rattle.imago_access.proofs.Stopping.{passes_none}
-use Rattle.imago_formats.specs.VmdkFiles.{Keeps, Refuses}
+use Rattle.imago_formats.specs.VmdkFiles.{IsStopped, Keeps, Refuses}
 use borrow.Author.Tests.{ne_eqb}
 
 kept_later : (xs ys : List StorageState) → Pairs IsKept xs ys → Pairs IsLater xs ys
@@ -76,6 +77,29 @@ module _ {D St : Type 0} (g : Ghosts D St) where
 
   takes_same : (d : D) → Takes g (λ _. ⊤) d d
   takes_same d = record { kept = λ p l h. h; free = λ p s h. h; zeroes = λ p l s h. h }
+
+  -- all is as it was
+  pub unchanged_same : (d : D) → IsUnchanged g d d
+  unchanged_same d = record {
+    layer = refl;
+    unasked = (refl, refl);
+    seen = λ s. s;
+    safely = λ s. s;
+    stilled = λ s. s;
+    lasting = λ l. l;
+    room = λ safe. takes_same d;
+    began = λ x call b. b;
+  }
+
+  pub keeps_same : (d : D) → Keeps g d d
+  keeps_same d = record {
+    layer = refl;
+    kept = kept_all_same (files g d);
+    sees = λ s. s;
+    safely = λ s. s;
+    stilled = λ s. s;
+    lasting = λ l. l;
+  }
 
   leaves_same : (call : PartCall) (offset n : ℕ) (d : D) → LeavesPart call g offset n d d
   leaves_same ensures_zero offset n d = record { kept = λ p l h. h; free = λ p s h. h; zeroes = λ p l s h. h }
@@ -132,6 +156,35 @@ module _ {D St : Type 0} (g : Ghosts D St) where
   part_refused offset n ReadOnly d closed why = record { failed = tt; marks = tt; cause = λ safe below x whole b part. (why.1, closed) }
   part_refused offset n e d closed why = absurd why
 
+-- ---- Calls without a range.
+
+module _ (layer : Layer) (olds news : List StorageState) where
+  pub stopped_plain : (e : Fault) → IsStopped olds news e → PlainCause layer olds news e
+  stopped_plain Memory cause = tt
+  stopped_plain Storage cause = cause
+  stopped_plain e cause = absurd cause
+
+  pub plain_fails : (e : Fault) → PlainCause layer olds news e → ImageCause olds news e
+  plain_fails Failed cause = tt
+  plain_fails MissingData cause = tt
+  plain_fails Memory cause = tt
+  plain_fails Storage cause = cause
+  plain_fails e cause = absurd cause
+
+  pub plain_reload : (e : Fault) → PlainCause layer olds news e → InvalidateCause (layer ∷ []) olds news e
+  plain_reload Failed cause = inl cause
+  plain_reload MissingData cause = inl cause
+  plain_reload Memory cause = tt
+  plain_reload Storage cause = cause
+  plain_reload e cause = absurd cause
+
+  pub plain_fresh : (e : Fault) → PlainCause layer olds news e → IsStale e → ⊥
+  plain_fresh Failed cause stale = stale
+  plain_fresh MissingData cause stale = stale
+  plain_fresh Memory cause stale = stale
+  plain_fresh Storage cause stale = stale
+  plain_fresh e cause stale = absurd cause
+
 -- ---- Refusals at once.
 
 -- a barrier stands before every cause of a range
@@ -161,11 +214,35 @@ refuses_some layer offset n ReadOnly closed why =
 refuses_some layer offset n e closed why = absurd why
 
 module _ {D St T : Type 0} (g : Ghosts D St) where
+  -- a format that marks no failures
+  pub unmarked : (r : Result T Fault) (old new : D) → IsFalse (g.layer old).fixed.marks → IfErr r (Marks g old new)
+  unmarked (Ok v) old new never_marks = tt
+  unmarked (Err Storage) old new never_marks = λ marks. absurd (cc (marks, never_marks))
+  unmarked (Err Memory) old new never_marks = λ marks. absurd (cc (marks, never_marks))
+  unmarked (Err e) old new never_marks = tt
+
+  -- a call of an image that can be used, and one of another
+  pub at_once_runs : (nothing : Type 0) (r : Result T Fault) (old new : D) → barrier (g.layer old) ≡ None →
+      (nothing → IsOk r × IsUnchanged g old new) → AtOnce g (barrier (g.layer old)) nothing r old new
+  at_once_runs nothing r old new runs idle = record {
+    refused = λ f is. absurd (cc (runs, is));
+    idle = λ none b. (idle none).0;
+    unchanged = λ h. elim h [ inl none ↦ (idle none).1 | inr is ↦ absurd (cc (runs, is)) ];
+  }
+
+  pub at_once_barred : (nothing : Type 0) (e : Fault) (d : D) → barrier (g.layer d) ≡ Some e →
+      AtOnce {T = T} g (barrier (g.layer d)) nothing (Err e) d d
+  at_once_barred nothing e d barred = record {
+    refused = λ f is. let same : Some e ≡ Some f = sym barred ∙ is in cc same;
+    idle = λ none runs. absurd (cc (runs, barred));
+    unchanged = λ h. unchanged_same g d;
+  }
+
   pub at_once_none : (offset n : ℕ) (v : T) (d : D) → barrier (g.layer d) ≡ None → n ≡ 0 → AtOnce g (own_refusal (g.layer d) offset n) (n ≡ 0) (Ok v) d d
   at_once_none offset n v d runs none = record {
     refused = λ f is. let no = refuses_none (g.layer d) offset n runs none in absurd (cc (is, no));
     idle = λ z b. refl;
-    unasked = λ h. (refl, refl);
+    unchanged = λ h. unchanged_same g d;
   }
 
   pub at_once_some : (offset n : ℕ) (e : Fault) (d : D) → (g.layer d).fixed.writable ≡ false → Refuses (g.layer d) n e →
@@ -173,8 +250,14 @@ module _ {D St T : Type 0} (g : Ghosts D St) where
   at_once_some offset n e d closed why = let some = refuses_some (g.layer d) offset n e closed why in record {
     refused = λ f is. let same : Some e ≡ Some f = sym some ∙ is in cc same;
     idle = λ z b. let none = refuses_none (g.layer d) offset n b z in absurd (cc (some, none));
-    unasked = λ h. (refl, refl);
+    unchanged = λ h. unchanged_same g d;
   }
+
+  pub at_once_same : (offset n : ℕ) (r : Result T Fault) (d : D) → (g.layer d).fixed.writable ≡ false →
+      OnOk r ((barrier (g.layer d) ≡ None) × (n ≡ 0)) → IfErr r (Refuses (g.layer d) n) →
+      AtOnce g (own_refusal (g.layer d) offset n) (n ≡ 0) r d d
+  at_once_same offset n (Ok v) d closed done why = at_once_none offset n v d done.0 done.1
+  at_once_same offset n (Err e) d closed done why = at_once_some offset n e d closed why
 
 -- ---- Mappings of a layer that is never written, and its resizes.
 
@@ -238,6 +321,20 @@ module _ {D St B : Type 0} (g : Ghosts D St) (u : GhostsBelow B) where
     went = went_same g (IsMild e) (IsMild e × u.sees_under b) d;
   }
 
+  -- a growth by n bytes, which is refused but where n is 0
+  pub grows_same : (size n : ℕ) (mode : PreallocateMode) (r : Result Unit Fault) (d : D) (b : B) → n ≡ size - (g.layer d).size →
+      OnOk r ((barrier (g.layer d) ≡ None) × (n ≡ 0)) → Grows g u size mode r (d, b) (d, b)
+  grows_same size n mode (Ok v) d b more done = grows_none size mode d b (omega (arith, more, done.1))
+  grows_same size n mode (Err e) d b more done = grows_refused size mode e d b
+
+  pub growth_refused : (size n : ℕ) (mode : PreallocateMode) (r : Result Unit Fault) (d : D) (b : B) → n ≡ size - (g.layer d).size →
+      IsFalse (g.layer d).fixed.writable → IfErr r (Refuses (g.layer d) n) → GrowthRefused g u size mode r (d, b) (d, b)
+  growth_refused size n mode (Ok v) d b more closed why = record { failed = tt; marks = tt; cause = λ safe see. tt }
+  growth_refused size n mode (Err MissingData) d b more closed why = record { failed = tt; marks = tt; cause = λ safe see. inl why }
+  growth_refused size n mode (Err ReadOnly) d b more closed why =
+      record { failed = tt; marks = tt; cause = λ safe see. (omega (arith, more, why.1), closed) }
+  growth_refused size n mode (Err e) d b more closed why = absurd why
+
 module _ {D St : Type 0} (g : Ghosts D St) where
   pub shrinks_none : (size : ℕ) (d : D) → (g.layer d).size ≤ size → Shrinks g size (Ok tt) d d
   shrinks_none size d high = record {
@@ -254,6 +351,47 @@ module _ {D St : Type 0} (g : Ghosts D St) where
     stops = λ safe below backed. stops_to g below size (g.layer d).size (GivesBelowPast below size) d;
     went = went_same g (IsMild e) (IsMild e) d;
   }
+
+  -- a shrink by n bytes, which is refused but where n is 0
+  pub shrinks_same : (size n : ℕ) (r : Result Unit Fault) (d : D) → n ≡ (g.layer d).size - size →
+      OnOk r ((barrier (g.layer d) ≡ None) × (n ≡ 0)) → Shrinks g size r d d
+  shrinks_same size n (Ok v) d less done = shrinks_none size d (omega (arith, less, done.1))
+  shrinks_same size n (Err e) d less done = shrinks_refused size e d
+
+  pub shrink_refused : (size n : ℕ) (r : Result Unit Fault) (d : D) → n ≡ (g.layer d).size - size → IsFalse (g.layer d).fixed.writable →
+      IfErr r (Refuses (g.layer d) n) → ShrinkRefused g size r d d
+  shrink_refused size n (Ok v) d less closed why = record { failed = tt; marks = tt; cause = λ safe below. tt }
+  shrink_refused size n (Err MissingData) d less closed why = record { failed = tt; marks = tt; cause = λ safe below. inl why }
+  shrink_refused size n (Err ReadOnly) d less closed why =
+      record { failed = tt; marks = tt; cause = λ safe below. (omega (arith, less, why.1), closed) }
+  shrink_refused size n (Err e) d less closed why = absurd why
+
+  -- what either does at once
+  pub resizes_same : (first second n : ℕ) (r : Result Unit Fault) (d : D) → n ≡ first - second → IsFree (g.layer d) →
+      OnOk r ((barrier (g.layer d) ≡ None) × (n ≡ 0)) → IfErr r (Refuses (g.layer d) n) → Resizes g first second r d d
+  resizes_same first second n (Ok v) d apart free done why = record {
+    nothing = λ le. refl;
+    free = free;
+    at_once = record { refused = λ f is. absurd (cc (done.0, is)); idle = λ le runs. refl; unchanged = λ h. unchanged_same g d };
+    read_only = λ runs lt closed. absurd (omega (arith, apart, done.1, lt));
+  }
+  resizes_same first second n (Err MissingData) d apart free done why = record {
+    nothing = λ le. tt;
+    free = free;
+    at_once = at_once_barred g (first ≤ second) MissingData d why;
+    read_only = λ runs lt closed. absurd (cc (runs, why));
+  }
+  resizes_same first second n (Err ReadOnly) d apart free done why = record {
+    nothing = λ le. tt;
+    free = free;
+    at_once = record {
+      refused = λ f is. absurd (cc (why.0, is));
+      idle = λ le runs. absurd (omega (arith, apart, why.1, le));
+      unchanged = λ h. unchanged_same g d;
+    };
+    read_only = λ runs lt closed. (refl, unchanged_same g d);
+  }
+  resizes_same first second n (Err e) d apart free done why = absurd why
 
   pub writes_none : (guest place : ℕ) (bytes : List ℕ) (d : D) → length bytes ≡ 0 → WritesMapped g guest place bytes (Ok tt) d d
   writes_none guest place bytes d none = record {
@@ -290,6 +428,16 @@ module _ {D St : Type 0} (g : Ghosts D St) where
   writing_refused guest place n MissingData d closed why = record { failed = tt; marks = tt; cause = λ safe. inl why }
   writing_refused guest place n ReadOnly d closed why = record { failed = tt; marks = tt; cause = λ safe. (why.1, closed) }
   writing_refused guest place n e d closed why = absurd why
+
+  pub writes_same : (guest place : ℕ) (bytes : List ℕ) (r : Result Unit Fault) (d : D) →
+      OnOk r ((barrier (g.layer d) ≡ None) × (length bytes ≡ 0)) → WritesMapped g guest place bytes r d d
+  writes_same guest place bytes (Ok v) d done = writes_none guest place bytes d done.1
+  writes_same guest place bytes (Err e) d done = writes_refused guest place bytes e d
+
+  pub writing_same : (guest place n : ℕ) (r : Result Unit Fault) (d : D) → IsFalse (g.layer d).fixed.writable →
+      IfErr r (Refuses (g.layer d) n) → WritingRefused g guest place n r d d
+  writing_same guest place n (Ok v) d closed why = record { failed = tt; marks = tt; cause = λ safe. tt }
+  writing_same guest place n (Err e) d closed why = writing_refused guest place n e d closed why
 
   -- a commit that is given back, or has nothing to do
   pub commits_same : (state : Option St) (result : Result Unit (Fault × Option (PreparedDataMapping St))) (d : D) →

@@ -1,7 +1,9 @@
 -- The storages of an image, one by one.
 use Rattle.std.proofs.Common.{zero, suc, subst, set, inl, inr, ◌≡◌, ℕ, ◌+◌, ◌-◌, ◌<◌, ◌≤◌, max, List, [], ◌∷◌, ◌++◌, length, take, get_or, refl, sym, ap, ◌∙◌, arith}
-use Rattle.std.specs.Prelude.{map, replicate, Result, Ok, Err, OnOk, IfErr}
-use Rattle.std.proofs.lemmas.List.{take_more}
+use Rattle.std.specs.Prelude.{map, replicate, MatchOption, Option, Some, None, Result, Ok, Err, OnOk, IfErr}
+use Rattle.std.specs.Slice.{IsItemAt}
+use denote.Ref.{Bor}
+use Rattle.std.proofs.lemmas.List.{length-map, take_more}
 use Rattle.imago_storage.specs.State.{StorageState, IsAlignment, IsAligned, Rose, unit_of}
 use Rattle.imago_storage.specs.Calls.{Cause, Kept, IsFaultless}
 use Rattle.imago_storage.specs.declared.fault.Fault.{Fault}
@@ -11,7 +13,7 @@ use Rattle.imago_formats.specs.VmdkLaws.{aligned_files}
 use Rattle.imago_storage.specs.Through.{NotRead}
 use Rattle.std.proofs.Math.Nat.{le_refl}
 use Rattle.imago_access.proofs.FilePairs.{is_kept_same, is_kept_both, kept_all_same, faultless_all_same}
-use Rattle.imago_access.specs.Files.{IsKept, Pairs, SomeRose, WasNotCutOff, byte_in, greatest}
+use Rattle.imago_access.specs.Files.{IsKept, IsStorageAt, Pairs, SomeRose, WasNotCutOff, byte_in, greatest}
 use Rattle.imago_access.proofs.Units.{alignment_max, overflows_more}
 
 module _ {A : Type 0} (state : A → StorageState) (measure : StorageState → ℕ) where
@@ -78,7 +80,7 @@ greatest_first : (measure : StorageState → ℕ) (s : StorageState) (ss : List 
 greatest_first measure s [] = le_refl (measure s)
 greatest_first measure s (t ∷ ts) = omega arith
 
-unit_first : (s : StorageState) (ss : List StorageState) → unit_of s.shape ≤ unit_of_all (s ∷ ss)
+pub unit_first : (s : StorageState) (ss : List StorageState) → unit_of s.shape ≤ unit_of_all (s ∷ ss)
 unit_first s ss = omega (arith, greatest_first (λ t. t.shape.req_align) s ss, greatest_first (λ t. t.shape.mem_align) s ss)
 
 module _ {A : Type 0} (state : A → StorageState) where
@@ -156,6 +158,17 @@ byte_within state s xs zero d p some h = absurd (omega arith)
 byte_within state s xs (suc k) d p some h =
     let same : suc k - 1 ≡ k = omega arith in
     byte_at state s xs k d p (omega (arith, h)) ∙ ap (λ i. get_or (state (get_or xs i d)).bytes p 0) (sym same)
+
+-- the storage that is found by its index
+storage_at : {A : Type 0} (state : A → StorageState) (xs : List A) (i : ℕ) (x : A) → i < length xs → x ≡ get_or xs i x → IsStorageAt (map state xs) i (state x)
+storage_at state [] i x h is = absurd (omega (arith, h))
+storage_at state (y ∷ ys) zero x h is = ap state is
+storage_at state (y ∷ ys) (suc i) x h is = storage_at state ys i x (omega (arith, h)) is
+
+pub found_file : {A : Type 0} (state : A → StorageState) (xs : List A) (i : ℕ) (r : Option (Bor A)) → IsItemAt xs i r →
+    MatchOption r (length (map state xs) ≤ i) (λ s. IsStorageAt (map state xs) i (state s.now))
+found_file state xs i None item = omega (arith, item.3, length-map xs state)
+found_file state xs i (Some x) item = storage_at state xs i x.now item.3.0 item.1
 
 pub zero_at : (n : ℕ) (xs : List ℕ) (i : ℕ) → xs ≡ replicate n 0 → get_or xs i 0 ≡ 0
 zero_at n xs i e = ap (λ ys. get_or ys i 0) e ∙ zeroes n i

@@ -1,15 +1,16 @@
 -- What calls do to a VMDK image that only look at its storages.
 use Rattle.std.proofs.Common.{zero, suc, ◌≡◌, ℕ, ◌+◌, ◌-◌, ◌*◌, ◌<◌, ◌≤◌, ◌^◌, min, List, [], ◌∷◌, Result, Ok, Err, refl, sym, ap, subst, ◌∙◌, ◌++◌, take, drop, max, arith}
-use Rattle.std.specs.Prelude.{IsOk, Bool, false, true, None, length, ltb, ◌&&◌, OnOk, IfErr, IsTrue, map, slice_index}
+use Rattle.std.specs.Prelude.{IsOk, Bool, false, true, None, Some, if◌then◌else◌, length, ltb, ◌&&◌, OnOk, IfErr, IsTrue, map, slice_index}
 use Rattle.imago_storage.specs.State.{StorageState, Shape}
 use Rattle.imago_storage.specs.Disk.{byte, barred}
 use Rattle.imago_storage.specs.Through.{Overflows, round_up}
 use Rattle.imago_storage.proofs.Rounding.{round_up-le, le_round_up}
-use Rattle.imago_access.specs.Mappings.{EachIs, Looks}
+use Rattle.imago_access.specs.Mappings.{EachIs, IsOneOf, Looks}
 use Rattle.imago_access.specs.declared.mapping.ShallowMapping.TheVariants as shallow
 use Rattle.imago_formats.specs.RawHome.{never}
 use Rattle.imago_storage.specs.declared.fault.Fault.{Fault}
-use Rattle.imago_storage.specs.declared.fault.Fault.TheVariants.{Memory, Storage}
+use Rattle.imago_storage.specs.declared.fault.Fault.TheVariants.{Memory, MissingData, Storage}
+use borrow.Author.Tests.{ltb-false}
 use Rattle.imago_access.specs.Layer.{Layer, Cell, own, loose, unit_of_layer}
 use Rattle.std.specs.declared.string.String.{String}
 use Rattle.std.specs.declared.alloc.Global.{Global}
@@ -17,12 +18,13 @@ use Rattle.std.proofs.lemmas.Grind.{common_steps}
 use Rattle.imago_access.specs.Files.{Pairs, IsKept, WasNotCutOff, byte_in, greatest, keep_all}
 use Rattle.imago_access.specs.declared.format.Format.TheVariants as format
 use Rattle.imago_formats.specs.Descriptor.{descriptor_of, size_of}
+use Rattle.imago_formats.specs.DescriptorView.{kept_extents}
 use Rattle.imago_formats.specs.VmdkFiles.{IsStopped}
 use Rattle.imago_formats.specs.declared.vmdk.descriptor.Access.{Access}
 use Rattle.imago_formats.specs.declared.vmdk.descriptor.Access.TheVariants.{ReadWrite, ReadOnly, NoAccess}
 use Rattle.imago_formats.specs.declared.vmdk.descriptor.Source.{Source}
 use Rattle.imago_formats.specs.declared.vmdk.descriptor.Source.TheVariants.{Flat, Zero}
-use Rattle.imago_formats.specs.VmdkLayer.{AreInReach, IsExtentAt, end_in_file, mapping_of, in_source, in_extents, files_asked, meaning_of, vmdk_layer}
+use Rattle.imago_formats.specs.VmdkLayer.{AreInReach, IsExtentAt, ReadsReach, asks_file, end_in_file, mapping_of, in_source, in_extents, files_asked, meaning_of, vmdk_layer}
 use Rattle.imago_formats.specs.declared.vmdk.descriptor.Extent.{Extent}
 
 greatest_kept : (part : Shape → ℕ) (s s' : StorageState) (ss ss' : List StorageState) → IsKept s s' → Pairs IsKept ss ss' →
@@ -105,16 +107,32 @@ not_stopped (Err e) P olds news holds why whole = absurd why
 pub written_back : {A : Type 0} (n : ℕ) (xs ys : List A) → length xs ≡ n → take n (xs ++ drop (length xs) ys) ≡ xs
 written_back n xs ys h = grind (arith, common_steps)
 
--- A VMDK image is kept where its storages are.
-module _ {A : Type 0} (state : A → StorageState) (image image' : A) (files files' : List A) (extents : List (Extent (String Global))) where
-  abbrev pub LayerOf : A → List A → Layer
-  LayerOf i fs = vmdk_layer extents (state i) (map state fs)
+-- A VMDK image whose storages are kept: what its layer is, and what reads and changes rest on.
+pub record IsKeptImage {A : Type 0} (state : A → StorageState) (extents : List (Extent (String Global))) (old new : A × List A) : Type 0 where
+  pub layer : vmdk_layer extents (state new.0) (map state new.1) ≡ vmdk_layer extents (state old.0) (map state old.1)
+  pub kept : Pairs IsKept (state old.0 ∷ map state old.1) (state new.0 ∷ map state new.1)
+  pub sees : ReadsReach extents (state old.0) (map state old.1) → ReadsReach extents (state new.0) (map state new.1)
+  pub keeps : IsTrue (keep_all (state old.0) (map state old.1)) → IsTrue (keep_all (state new.0) (map state new.1))
+  pub said : descriptor_of (state old.0).bytes ≡ Ok (kept_extents extents) → descriptor_of (state new.0).bytes ≡ Ok (kept_extents extents)
 
-  pub reach_kept : LayerOf image' files' ≡ LayerOf image files → AreInReach (unit_of_layer (LayerOf image files)) extents → AreInReach (unit_of_layer (LayerOf image' files')) extents
-  reach_kept e reach = subst (λ (l : Layer). AreInReach (unit_of_layer l) extents) (sym e) reach
+module _ {A : Type 0} (state : A → StorageState) (extents : List (Extent (String Global))) where
+  pub kept_image : (image image' : A) (files files' : List A) → Pairs IsKept (state image ∷ map state files) (state image' ∷ map state files') →
+      IsKeptImage state extents (image, files) (image', files')
+  kept_image image image' files files' kept =
+      let same = layer_kept extents (state image) (state image') (map state files) (map state files') kept in record {
+        layer = same;
+        kept = kept;
+        sees = λ reach. subst (λ (l : Layer). AreInReach (unit_of_layer l) extents) (sym same) reach;
+        keeps = λ keeps. subst (λ (b : Bool). IsTrue b) (sym (ap (λ (l : Layer). l.fixed.keeps) same)) keeps;
+        said = λ says. ap descriptor_of kept.0.0.bytes ∙ says;
+      }
 
-  pub keep_all_kept : LayerOf image' files' ≡ LayerOf image files → IsTrue (keep_all (state image) (map state files)) → IsTrue (keep_all (state image') (map state files'))
-  keep_all_kept e keeps = subst (λ (b : Bool). IsTrue b) (sym (ap (λ (l : Layer). l.fixed.keeps) e)) keeps
+  -- the same of files that a call has written back, as many as there were
+  pub kept_back : (image image' : A) (files now : List A) (n : ℕ) → length now ≡ n → Pairs IsKept (state image ∷ map state files) (state image' ∷ map state now) →
+      IsKeptImage state extents (image, files) (image', take n (now ++ drop (length now) files))
+  kept_back image image' files now n many kept =
+      let back : take n (now ++ drop (length now) files) ≡ now = written_back n now files many in
+      subst (λ (fs : List A). IsKeptImage state extents (image, files) (image', fs)) (sym back) (kept_image image image' files now kept)
 
 pub ok_whole : {T : Type 0} (r : Result T Fault) → IsOk r → WasNotCutOff r
 ok_whole (Ok v) is = tt
@@ -183,6 +201,23 @@ module _ (extents : List (Extent (String Global))) (image : StorageState) (files
   looks_in ReadWrite Zero reach shows = in_zero shows
   looks_in ReadOnly (Flat name sector) reach shows = in_flat sector reach shows
   looks_in ReadOnly Zero reach shows = in_zero shows
+
+-- a lookup names one of so many storages
+pub names_one : (a : Access) (s : Source (String Global)) (k offset far count : ℕ) → (IsTrue (asks_file a s) → k < count) →
+    IsOneOf count (mapping_of a s k offset far)
+names_one NoAccess s k offset far count low = tt
+names_one ReadWrite (Flat name sector) k offset far count low = low refl
+names_one ReadWrite Zero k offset far count low = tt
+names_one ReadOnly (Flat name sector) k offset far count low = low refl
+names_one ReadOnly Zero k offset far count low = tt
+
+-- no file is missing
+pub all_open : (n asked : ℕ) → (if ltb n asked then Some MissingData else None) ≡ None → asked ≤ n
+all_open n asked runs = by_test (ltb n asked) refl runs
+  where
+    by_test : (t : Bool) → ltb n asked ≡ t → (if t then Some MissingData else None) ≡ None → asked ≤ n
+    by_test true e is = absurd (cc is)
+    by_test false e is = ltb-false n asked e
 
 pub looks_at : (extents : List (Extent (String Global))) (image : StorageState) (files : List StorageState) (offset asked n : ℕ) (x : Extent (String Global)) (start k : ℕ) →
     IsExtentAt extents offset x start k → 0 < unit_of_layer (vmdk_layer extents image files) → AreInReach (unit_of_layer (vmdk_layer extents image files)) extents →

@@ -11,6 +11,7 @@ use Rattle.std.specs.declared.string.String.{String}
 use Rattle.std.specs.declared.alloc.Global.{Global}
 use denote.Ref.{Bor}
 use Rattle.imago_formats.specs.Descriptor.{said_by}
+use Rattle.imago_formats.specs.VmdkLayer.{file_names}
 use Rattle.imago_formats.specs.declared.vmdk.descriptor.Source.{Source}
 use Rattle.imago_formats.specs.declared.vmdk.descriptor.Source.TheVariants.{Flat, Zero}
 use Rattle.imago_formats.specs.declared.vmdk.descriptor.Extent.{Extent}
@@ -36,6 +37,10 @@ kept_extent x = extent_with (λ name. string_bytes name) x
 
 abbrev pub kept_extents : List (Extent (String Global)) → List (Extent (List ℕ))
 kept_extents xs = map kept_extent xs
+
+-- the names of the files that they ask for
+abbrev pub kept_names : List (Extent (String Global)) → List (List ℕ)
+kept_names xs = map (λ name. string_bytes name) (file_names xs)
 
 -- new is old with the extent that a line names, if it names one
 abbrev pub AddsLine : List ℕ → List (Extent (List ℕ)) → List (Extent (List ℕ)) → Type 0

@@ -10,4 +10,5 @@ pub mod DescriptorView
 pub mod WorkedDescriptor
 pub mod VmdkLayer
 pub mod VmdkFiles
+pub mod VmdkOpening
 pub mod VmdkLaws

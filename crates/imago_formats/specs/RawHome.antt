@@ -4,7 +4,8 @@ use Rattle.std.specs.Prelude.{Bool, true, false, ◌&&◌, Some, None, if◌then
 
 -- a place can be written at its own number alone
 pub one_home : (size : ℕ) (writable : Bool) (p q : ℕ) (at : ℕ × ℕ)
-    → (if ltb p size && writable then Some (0, p) else None) ≡ Some at → (if ltb q size && writable then Some (0, q) else None) ≡ Some at → p ≡ q
+    → (if ltb p size && writable then Some (0, p) else None) ≡ Some at
+    → (if ltb q size && writable then Some (0, q) else None) ≡ Some at → p ≡ q
 one_home size writable p q at first second = from (ltb p size && writable) (ltb q size && writable) first second where
   from : (a b : Bool) → (if a then Some (0, p) else None) ≡ Some at → (if b then Some (0, q) else None) ≡ Some at → p ≡ q
   from true true first second = let is : ◌≡◌ {A = ℕ × ℕ} (0, p) (0, q) = cc in ap (λ (x : ℕ × ℕ). x.1) is

@@ -33,30 +33,37 @@ size_kept xs = ap (λ n. 512 * n) (sectors_kept xs)
 pub no_home : (p q : ℕ) (at : ℕ × ℕ) → ◌≡◌ {A = Option (ℕ × ℕ)} None (Some at) → ◌≡◌ {A = Option (ℕ × ℕ)} None (Some at) → p ≡ q
 no_home p q at first second = absurd (cc first)
 
-aligned_of : {A : Type 0} (state : A → StorageState) (measure : StorageState → ℕ) → ((x : A) → IsAlignment (measure (state x))) → (s : A) (xs : List A) →
-    IsAlignment (greatest measure (state s) (map state xs))
+aligned_of : {A : Type 0} (state : A → StorageState) (measure : StorageState → ℕ) → ((x : A) → IsAlignment (measure (state x))) →
+    (s : A) (xs : List A) → IsAlignment (greatest measure (state s) (map state xs))
 aligned_of state measure each s [] = each s
-aligned_of state measure each s (x ∷ xs) = alignment_max (measure (state s)) (greatest measure (state x) (map state xs)) (each s) (aligned_of state measure each x xs)
+aligned_of state measure each s (x ∷ xs) =
+    alignment_max (measure (state s)) (greatest measure (state x) (map state xs)) (each s) (aligned_of state measure each x xs)
 
 -- the greatest alignments are alignments
 pub aligned_files : {A : Type 0} (state : A → StorageState) → ((x : A) → IsAligned (state x).shape) → (s : A) (xs : List A) →
-    IsAlignment (greatest (λ t. t.shape.req_align) (state s) (map state xs)) × IsAlignment (greatest (λ t. t.shape.mem_align) (state s) (map state xs))
-aligned_files state aligned s xs = (aligned_of state (λ t. t.shape.req_align) (λ x. (aligned x).requests) s xs, aligned_of state (λ t. t.shape.mem_align) (λ x. (aligned x).memory) s xs)
+    IsAlignment (greatest (λ t. t.shape.req_align) (state s) (map state xs))
+    × IsAlignment (greatest (λ t. t.shape.mem_align) (state s) (map state xs))
+aligned_files state aligned s xs = (
+  aligned_of state (λ t. t.shape.req_align) (λ x. (aligned x).requests) s xs,
+  aligned_of state (λ t. t.shape.mem_align) (λ x. (aligned x).memory) s xs,
+)
 
 -- the descriptor states the size of the disk
-pub covered : (extents : List (Extent (String Global))) (image : StorageState) (files : List StorageState) → descriptor_of image.bytes ≡ Ok (kept_extents extents) →
-    IsCovered (vmdk_layer extents image files) (λ kind f. ⊤) image.bytes
+pub covered : (extents : List (Extent (String Global))) (image : StorageState) (files : List StorageState) →
+    descriptor_of image.bytes ≡ Ok (kept_extents extents) → IsCovered (vmdk_layer extents image files) (λ kind f. ⊤) image.bytes
 covered extents image files said = record { is_sound = tt; size = rw said (rw (size_kept extents) (le_refl (size_of extents))) }
 
 -- extents with names in memory show the same
-cells_kept : (files : ℕ → ℕ → ℕ) (xs : List (Extent (String Global))) (k p : ℕ) → in_extents files (kept_extents xs) k p ≡ in_extents files xs k p
+cells_kept : (files : ℕ → ℕ → ℕ) (xs : List (Extent (String Global))) (k p : ℕ) →
+    in_extents files (kept_extents xs) k p ≡ in_extents files xs k p
 cells_kept files [] k p = refl
 cells_kept files (x ∷ xs) k p = by_access x.access x.source (ltb p (512 * x.sectors)) (λ n. cells_kept files xs n (p - 512 * x.sectors))
   where
     by_access : (a : Access) (s : Source (String Global)) (t : Bool) →
         ((n : ℕ) → in_extents files (kept_extents xs) n (p - 512 * x.sectors) ≡ in_extents files xs n (p - 512 * x.sectors)) →
         cond t (in_source a (source_with (λ name. string_bytes name) s) (files k) p)
-        (in_extents files (kept_extents xs) (cond (asks_file a (source_with (λ name. string_bytes name) s)) (k + 1) k) (p - 512 * x.sectors))
+        (in_extents files (kept_extents xs) (cond (asks_file a (source_with (λ name. string_bytes name) s)) (k + 1) k)
+        (p - 512 * x.sectors))
         ≡ cond t (in_source a s (files k) p) (in_extents files xs (cond (asks_file a s) (k + 1) k) (p - 512 * x.sectors))
     by_access NoAccess s true later = refl
     by_access NoAccess s false later = later k
@@ -70,8 +77,8 @@ cells_kept files (x ∷ xs) k p = by_access x.access x.source (ltb p (512 * x.se
     by_access ReadOnly Zero false later = later k
 
 -- what stands in a file as a descriptor means the disk
-pub written : (extents : List (Extent (String Global))) (image : StorageState) (files : List StorageState) → descriptor_of image.bytes ≡ Ok (kept_extents extents) →
-    IsMeant (vmdk_layer extents image files) image.bytes
+pub written : (extents : List (Extent (String Global))) (image : StorageState) (files : List StorageState) →
+    descriptor_of image.bytes ≡ Ok (kept_extents extents) → IsMeant (vmdk_layer extents image files) image.bytes
 written extents image files said = record {
   size = rw said (rw (size_kept extents) (le_refl (size_of extents)));
   exactly = λ exact. rw said (size_kept extents);
@@ -79,6 +86,6 @@ written extents image files said = record {
 }
 
 -- An image that was just opened is safe where its storages keep what is written.
-pub said_still : (before image : StorageState) (extents : List (Extent (String Global))) → IsKept before image → descriptor_of before.bytes ≡ Ok (kept_extents extents) →
-    descriptor_of image.bytes ≡ Ok (kept_extents extents)
+pub said_still : (before image : StorageState) (extents : List (Extent (String Global))) → IsKept before image →
+    descriptor_of before.bytes ≡ Ok (kept_extents extents) → descriptor_of image.bytes ≡ Ok (kept_extents extents)
 said_still before image extents kept said = ap descriptor_of kept.0.bytes ∙ said

@@ -1,11 +1,11 @@
 -- A VMDK image as a layer: its extents, one behind the other, over the files that they name.
-use Rattle.std.specs.Prelude.{⊤, ℕ, ◌+◌, ◌-◌, ◌*◌, ◌<◌, ◌≤◌, ◌^◌, ◌≡◌, min, Bool, true, false, Option, Some, None, List, [], ◌∷◌, ◌++◌, length, if◌then◌else◌, ltb, codes, Result, Ok, Err}
+use Rattle.std.specs.Prelude.{⊤, ℕ, ◌+◌, ◌-◌, ◌*◌, ◌<◌, ◌≤◌, ◌^◌, ◌≡◌, min, Bool, true, false, Option, Some, None, List, [], ◌∷◌, ◌++◌, length, if◌then◌else◌, ltb, codes, Result, Ok, Err, IsTrue}
 use Rattle.std.specs.List.{count_by}
 use Rattle.imago_storage.specs.State.{StorageState}
 use Rattle.imago_storage.specs.Through.{round_up}
 use Rattle.imago_storage.specs.Disk.{byte, barred}
 use Rattle.imago_storage.specs.declared.fault.Fault.{Fault}
-use Rattle.imago_access.specs.Layer.{Layer, Fixed, Meaning, Cell, own, loose}
+use Rattle.imago_access.specs.Layer.{Layer, Fixed, Meaning, Cell, own, loose, unit_of_layer}
 use Rattle.imago_access.specs.Files.{byte_in, greatest, keep_all}
 use Rattle.imago_access.specs.declared.format.Format.TheVariants as format
 use Rattle.imago_access.specs.declared.mapping.ShallowMapping.{ShallowMapping}
@@ -101,6 +101,10 @@ vmdk_layer extents image files = record {
   unspent = None;
 }
 
+-- reads over these files reach the end of each extent
+abbrev pub ReadsReach : {N : Type 0} → List (Extent N) → StorageState → List StorageState → Type 0
+ReadsReach extents image files = AreInReach (unit_of_layer (vmdk_layer extents image files)) extents
+
 -- what a lookup answers at an offset that lies so far behind the start of an extent, whose file has this number
 abbrev pub mapping_of : {N : Type 0} → Access → Source N → (k offset within : ℕ) → ShallowMapping
 mapping_of NoAccess source k offset within = shallow.Special offset
@@ -118,5 +122,7 @@ pub record IsExtentAt {N : Type 0} (extents : List (Extent N)) (p : ℕ) (x : Ex
   pub high : p < start + 512 * x.sectors
   pub end : start + 512 * x.sectors ≤ size_of extents
   pub some : 0 < k
-  pub shows : (files : ℕ → ℕ → ℕ) (q : ℕ) → q < 512 * x.sectors → in_extents files extents 1 (start + q) ≡ in_source x.access x.source (files k) q
+  pub there : IsTrue (has_file x) → k ≤ files_asked extents
+  pub shows : (files : ℕ → ℕ → ℕ) (q : ℕ) → q < 512 * x.sectors
+      → in_extents files extents 1 (start + q) ≡ in_source x.access x.source (files k) q
   pub reach : (unit : ℕ) → AreInReach unit extents → round_up unit (end_in_file x.access x.source x.sectors) < 2 ^ 64

@@ -1,11 +1,12 @@
 // How raw images are opened and created.
-ghost use Rattle.std.specs.Prelude.{refl, map, ◌≡◌, true, false, Ok, Err, None, IsTrue, IfOk, IfErr};
+ghost use Rattle.std.specs.Prelude.{refl, map, ◌≡◌, [], true, false, Ok, Err, None, IsTrue, IfOk, IfErr};
 ghost use Rattle.std.proofs.Common.{sym};
 ghost use Rattle.imago_storage.specs.declared.fault.Fault.TheVariants.{Unsupported};
 ghost use Rattle.imago_access.specs.Files.{IsKept};
 ghost use Rattle.imago_access.specs.Refusals.{barrier};
 ghost use Rattle.imago_formats.specs.Descriptor.{descriptor_of};
-ghost use Rattle.imago_formats.specs.DescriptorView.{kept_extents};
+ghost use Rattle.imago_formats.specs.DescriptorView.{kept_extents, kept_names};
+ghost use Rattle.imago_formats.specs.VmdkOpening.{MayRefuse, NotBuilt, OpensNext};
 ghost use Rattle.imago_formats.specs.VmdkLaws.{said_still, written};
 ghost use Rattle.imago_access.specs.Building.{OpensCreated, NotOpened};
 ghost use Rattle.imago_access.specs.declared.format.Format.TheVariants as format;
@@ -62,6 +63,7 @@ impl<S: Storage> FormatDriverBuilder<S> for RawOpenBuilder<S> {
       runs = refl;
       sees = tt;
       still = tt;
+      lasting = opens.1.1;
       safe = λ keeps sound. (keeps, opens.1.1);
     } };
 
@@ -104,7 +106,8 @@ impl<S: Storage> FormatDriverBuilder<S> for RawOpenBuilder<S> {
 /// Opens a VMDK image for reading: its descriptor, and then the files that the gate opens for the names of its extents.
 ///
 /// It refuses with `Fault::Unsupported` where it is to be for writing, before anything is done, and else as `Vmdk::open_image` and
-/// `Vmdk::open_implicit_dependencies_gated` do.
+/// `Vmdk::open_implicit_dependencies_gated` do: where no extent asks for a file, with what the descriptor says, `Fault::Memory` and
+/// `Fault::Storage` alone.
 #[derive(Drop)]
 pub struct VmdkOpenBuilder<S> {
     base: FormatDriverBuilderBase<S>,
@@ -131,20 +134,22 @@ impl<S: Storage> FormatDriverBuilder<S> for VmdkOpenBuilder<S> {
         × (descriptor_of (S.state b.base.image).bytes ≡ Ok (kept_extents d.disk.extents.items))
         × (barrier (⟦<Vmdk<S> as Seen>⟧.layer d) ≡ None) × ⟦<Vmdk<S> as Seen>⟧.sees d };
 
-    ghost refuses = { λ b fault. IsTrue b.base.writable → fault ≡ Unsupported };
+    ghost refuses = { λ b fault. MayRefuse b.base.writable (descriptor_of (S.state b.base.image).bytes) fault };
 
-    ghost opened = { λ b d opens. let said = said_still (S.state b.base.image) (S.state d.image) d.disk.extents.items opens.1 opens.2 in record {
-      format_is = refl;
-      writable_is = sym opens.0;
-      number_is = refl;
-      meant = written d.disk.extents.items (S.state d.image) (map S.state d.files.items) said;
-      kept = opens.1;
-      free = refl;
-      runs = refl;
-      sees = opens.4;
-      still = tt;
-      safe = λ keeps sound. (keeps, opens.4, said);
-    } };
+    ghost opened = { λ b d opens.
+        let said = said_still (S.state b.base.image) (S.state d.image) d.disk.extents.items opens.1 opens.2 in record {
+          format_is = refl;
+          writable_is = sym opens.0;
+          number_is = refl;
+          meant = written d.disk.extents.items (S.state d.image) (map S.state d.files.items) said;
+          kept = opens.1;
+          free = refl;
+          runs = refl;
+          sees = opens.4;
+          still = tt;
+          lasting = tt;
+          safe = λ keeps sound. (keeps, opens.4, said);
+        } };
 
     fn new(image: S) -> Self {
         VmdkOpenBuilder {
@@ -162,7 +167,14 @@ impl<S: Storage> FormatDriverBuilder<S> for VmdkOpenBuilder<S> {
         self
     }
 
-    fn open<G: ImplicitOpenGate<S>>(self, alloc: Global, gate: &mut G) -> Result<Vmdk<S>, Fault> {
+    fn open<G: ImplicitOpenGate<S>>(self, alloc: Global, gate: &mut G) -> Result<Vmdk<S>, Fault>
+        ensures ok { IfOk result (⟦<VmdkOpenBuilder<S> as FormatDriverBuilder<S>>⟧.opens self) }
+        ensures err { IfErr result (⟦<VmdkOpenBuilder<S> as FormatDriverBuilder<S>>⟧.refuses self) }
+        // Its files are those that the gate opened for the names of its extents, in order.
+        ensures files { IfOk result (λ d. OpensNext G.answers (kept_names d.disk.extents.items) ([], gate.old) (d.files.items, gate.new)) }
+        // It is refused before the gate is asked, or as the opening of the files is that its extents ask for.
+        ensures cause { IfErr result (NotBuilt S.state G.answers self.base.writable (S.state self.base.image) gate.old gate.new) }
+    {
         if self.base.get_writable() {
             return Err(Fault::Unsupported);
         }
@@ -274,7 +286,8 @@ impl<S: Storage> FormatCreateBuilder<S> for RawCreateBuilder<S> {
             IfOk result (λ d. OpensCreated (c.hands self) (F.makes open_builder) (c.opens_with self) (λ b. o.opens b d)) }
         ensures format { IfOk result (λ d. (⟦<Raw<S> as Seen>⟧.layer d).fixed.format ≡ format.Raw) }
         ensures writable { IfOk result (λ d. IsTrue (⟦<Raw<S> as Seen>⟧.layer d).fixed.writable) }
-        ensures err { let c = ⟦<RawCreateBuilder<S> as FormatCreateBuilder<S>>⟧ in let o = ⟦<RawOpenBuilder<S> as FormatDriverBuilder<S>>⟧ in
+        ensures err { let c = ⟦<RawCreateBuilder<S> as FormatCreateBuilder<S>>⟧ in
+            let o = ⟦<RawOpenBuilder<S> as FormatDriverBuilder<S>>⟧ in
             IfErr result (NotOpened (c.refuses self) (c.hands self) (F.makes open_builder) (c.opens_with self) o.refuses) }
         // The gate isn't asked.
         ensures gate { gate.new ≡ gate.old }

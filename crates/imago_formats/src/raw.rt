@@ -6,12 +6,12 @@ ghost use Rattle.imago_storage.specs.Calls.{Mixed, Later, Resized};
 ghost use Rattle.imago_storage.specs.Through.{WrittenThrough, NotWrittenThrough, Stops, StopsAsLong};
 ghost use Rattle.imago_storage.specs.declared.fault.Fault.{Fault};
 ghost use Rattle.imago_storage.specs.declared.fault.Fault.TheVariants.{ReadOnly, Unsupported};
-ghost use Rattle.imago_access.specs.Files.{WasNotCutOff};
+ghost use Rattle.imago_access.specs.Files.{WasNotCutOff, files};
 ghost use Rattle.imago_access.specs.Going.{AtOnce, RangeAtOnce, Looked, LookedUnder, Marks};
 ghost use Rattle.imago_access.specs.PartCalls.{DoesPart, PartRefused, ensures_zero};
 ghost use Rattle.imago_access.specs.Refusals.{own_refusal, barrier};
 ghost use Rattle.imago_access.specs.declared.mapping.ShallowMapping.TheVariants as shallow;
-ghost use Rattle.imago_access.specs.Mappings.{IsRun, LooksIn, NamesRoomIn};
+ghost use Rattle.imago_access.specs.Mappings.{IsOneOf, IsRun, LooksIn, NamesRoomIn};
 ghost use Rattle.imago_access.specs.Failing.{Fails, RefusesLookup};
 ghost use Rattle.imago_access.specs.PreparingCalls.{Commits, CommitRefused, Cancels};
 ghost use Rattle.imago_access.specs.ResizeCalls.{Resizes, Grows, GrowthRefused, IsUngrown, Shrinks, ShrinkRefused};
@@ -324,6 +324,8 @@ impl<S: Storage> FormatDriverInstance for Raw<S> {
 
     ghost marked = { λ d is. absurd (cc is) };
 
+    ghost says_room = { λ d is. absurd (cc is) };
+
     ghost units = { λ d. le_refl 1 };
 
     ghost begins = { λ d call. tt };
@@ -336,6 +338,10 @@ impl<S: Storage> FormatDriverInstance for Raw<S> {
 
     fn image_file(&self) -> &S {
         &self.storage
+    }
+
+    fn extra_file(&self, _index: usize) -> Option<&S> {
+        None
     }
 
     fn format(&self) -> Format {
@@ -386,6 +392,7 @@ impl<S: Storage> FormatDriverInstance for Raw<S> {
         ensures room { let d = ⟦<Raw<S> as Seen>⟧ in d.sees self.old → IfOk result (NamesRoomIn d offset self.old) }
         ensures at_once { let d = ⟦<Raw<S> as Seen>⟧ in AtOnce d (barrier (d.layer self.old)) (max_length ≡ 0) result self.old self.new }
         ensures looked { let d = ⟦<Raw<S> as Seen>⟧ in Looked d (WasNotCutOff result) self.old self.new }
+        ensures there { let d = ⟦<Raw<S> as Seen>⟧ in IfOk result (λ r. IsOneOf (length (files d self.old)) r.0) }
         ensures began { let d = ⟦<Raw<S> as Seen>⟧ in OnOk result ((e : _) (call : _) → d.began e call self.old → d.began e call self.new) }
         ensures failed { let d = ⟦<Raw<S> as Seen>⟧ in IfErr result (Fails d self.old self.new) }
         ensures marks { let d = ⟦<Raw<S> as Seen>⟧ in IfErr result (Marks d self.old self.new) }

@@ -3,21 +3,21 @@ ghost use Rattle.std.specs.Prelude.{slice_index_or, ◌<◌, ℕ, ◌≡◌, ◌
 ghost use Rattle.std.proofs.Common.{inl, inr};
 ghost use Rattle.std.proofs.Math.Nat.{le_refl};
 ghost use Rattle.imago_storage.specs.Calls.{Cause, IsFaultless};
-ghost use Rattle.imago_access.specs.Files.{AreRead, IsKept, Pairs, Unasked, WasNotCutOff, byte_in, files, keep_all};
-ghost use Rattle.imago_access.specs.Layer.{unit_of_layer};
-ghost use Rattle.imago_access.specs.Mappings.{IsRun, LooksIn};
-ghost use Rattle.imago_access.specs.Going.{RangeAtOnce};
+ghost use Rattle.imago_access.specs.Failing.{RefusesFlush};
+ghost use Rattle.imago_access.specs.Files.{AreRead, IsKept, Pairs, WasNotCutOff, byte_in, files, keep_all};
+ghost use Rattle.imago_access.specs.Mappings.{IsOneOf, IsRun, LooksIn};
+ghost use Rattle.imago_access.specs.Going.{AtOnce, IsUnchanged, RangeAtOnce};
 ghost use Rattle.imago_access.specs.PartCalls.{IsPart, DoesPart, PartCall, PartRefused};
-ghost use Rattle.imago_formats.specs.VmdkFiles.{IsStopped, IsUnread, Keeps, Refuses};
+ghost use Rattle.imago_formats.specs.VmdkFiles.{IsUnread, Keeps, Refuses};
 ghost use Rattle.imago_access.specs.PreparingCalls.{Commits, CommitRefused, Cancels};
 ghost use Rattle.imago_access.specs.Refusals.{barrier};
 ghost use Rattle.imago_formats.specs.Descriptor.{descriptor_of, is_signed, text_of};
-ghost use Rattle.imago_formats.specs.DescriptorView.{RefusesOpening, kept_extents};
+ghost use Rattle.imago_formats.specs.DescriptorView.{RefusesOpening, kept_extents, kept_names};
 ghost use Rattle.imago_formats.specs.RawHome.{never};
-ghost use Rattle.imago_formats.specs.VmdkLayer.{AreInReach, file_names, vmdk_layer, vmdk_text};
+ghost use Rattle.imago_formats.specs.VmdkLayer.{ReadsReach, vmdk_layer, vmdk_text};
+ghost use Rattle.imago_formats.specs.VmdkOpening.{NotAllOpened, OpensNext};
 ghost use Rattle.imago_formats.specs.contracts.vmdk.driver.Vmdk.{the_row};
 ghost use Rattle.std.specs.Borrow.{Lends, sem};
-ghost use Rattle.std.specs.String.{string_bytes};
 ghost use Rattle.std.specs.Vec.{with_item};
 ghost use Rattle.imago_formats.specs.VmdkLaws.{aligned_files, covered, no_home};
 
@@ -80,8 +80,12 @@ impl<S: Storage> Vmdk<S> {
 
     /// Opens the files that the extents ask for, in order, as the gate allows, but for those that are open.
     ///
-    /// It refuses as the gate does, with `Fault::Memory`, and with `Fault::DamagedDescriptor` where an extent ends in its file so near the end
-    /// of 64 bits that reads, padded to whole units, don't reach it.
+    /// It refuses as the gate does, and with `Fault::Memory` before it asks the gate for a file that it has no room for. What it has
+    /// opened stays then, and a later call goes on behind it.
+    ///
+    /// It refuses with `Fault::DamagedDescriptor` where all files are open and an extent ends in its file so near the end of 64 bits that
+    /// reads, padded to whole units, don't reach it. They stay open then too, so that calls of the image aren't refused for a missing file
+    /// any more, but a lookup may name a place that can't be read.
     pub fn open_implicit_dependencies_gated<G: ImplicitOpenGate<S>>(
         &mut self,
         alloc: Global,
@@ -91,6 +95,11 @@ impl<S: Storage> Vmdk<S> {
         ensures image { self.new.image ≡ self.old.image }
         ensures ready { OnOk result (barrier (⟦<Vmdk<S> as Seen>⟧.layer self.new) ≡ None) }
         ensures sees { OnOk result (⟦<Vmdk<S> as Seen>⟧.sees self.new) }
+        // Behind the files that were open stand those that the gate opened for the names that come next, in order.
+        ensures opens { let names = kept_names self.old.disk.extents.items in
+            OnOk result (OpensNext G.answers names (self.old.files.items, gate.old) (self.new.files.items, gate.new)) }
+        ensures err { let names = kept_names self.old.disk.extents.items in let Reach = ⟦<Vmdk<S> as Seen>⟧.sees self.new in
+            IfErr result (NotAllOpened G.answers names Reach (self.old.files.items, gate.old) (self.new.files.items, gate.new)) }
     {
         match open_files(alloc, gate, self.disk.extents(), &mut self.files) {
             Ok(()) => {}
@@ -104,6 +113,7 @@ impl<S: Storage> Vmdk<S> {
     fn run_from(&self, offset: u64, max_length: u64) -> (ShallowMapping, u64)
         ensures run { IsRun (⟦<Vmdk<S> as Seen>⟧.layer self.now) offset max_length result.0 result.1 }
         ensures looks { let d = ⟦<Vmdk<S> as Seen>⟧ in d.sees self.now → LooksIn d offset max_length self.now self.now result }
+        ensures there { let d = ⟦<Vmdk<S> as Seen>⟧ in barrier (d.layer self.now) ≡ None → IsOneOf (length (files d self.now)) result.0 }
     {
         match self.disk.find(offset) {
             Some(found) => {
@@ -118,7 +128,7 @@ impl<S: Storage> Vmdk<S> {
         }
     }
 
-    // Why a change is refused before anything is done.
+    // Why a change of so many bytes is refused before anything is done.
     fn check_change(&self, length: u64) -> Result<(), Fault>
         ensures ok { OnOk result ((barrier (⟦<Vmdk<S> as Seen>⟧.layer self.now) ≡ None) × (length ≡ 0)) }
         ensures err { IfErr result (Refuses (⟦<Vmdk<S> as Seen>⟧.layer self.now) length) }
@@ -133,13 +143,17 @@ impl<S: Storage> Vmdk<S> {
         Ok(())
     }
 
-    // Asks each storage, in order, up to the first that refuses.
+    // Asks each storage, in order, up to the first that refuses, if no file is missing.
     fn keep(&mut self, upkeep: Upkeep) -> Result<(), Fault>
         ensures keeps { Keeps ⟦<Vmdk<S> as Seen>⟧ self.old self.new }
-        ensures ok { let d = ⟦<Vmdk<S> as Seen>⟧ in OnOk result (Pairs IsFaultless (files d self.old) (files d self.new)) }
-        ensures err { let d = ⟦<Vmdk<S> as Seen>⟧ in IfErr result (IsStopped (files d self.old) (files d self.new)) }
+        ensures at_once { let d = ⟦<Vmdk<S> as Seen>⟧ in AtOnce d (barrier (d.layer self.old)) ⊥ result self.old self.new }
+        ensures whole { let d = ⟦<Vmdk<S> as Seen>⟧ in WasNotCutOff result → Pairs IsFaultless (files d self.old) (files d self.new) }
+        ensures err { IfErr result (RefusesFlush ⟦<Vmdk<S> as Seen>⟧ self.old self.new) }
     {
-        keep_up(&mut self.image, &mut self.files, upkeep)
+        match self.ready() {
+            Ok(()) => keep_up(&mut self.image, &mut self.files, upkeep),
+            Err(fault) => Err(fault),
+        }
     }
 
     // Reads a storage from a place on.
@@ -153,8 +167,9 @@ impl<S: Storage> Vmdk<S> {
         ensures keeps { Keeps ⟦<Vmdk<S> as Seen>⟧ self.old self.new }
         ensures bytes { OnOk result (AreRead (files ⟦<Vmdk<S> as Seen>⟧ self.old) storage place (length buf.old) buf.new) }
         ensures whole { let d = ⟦<Vmdk<S> as Seen>⟧ in WasNotCutOff result → Pairs IsFaultless (files d self.old) (files d self.new) }
-        ensures err { let d = ⟦<Vmdk<S> as Seen>⟧ in IfErr result (IsUnread (files d self.old) (files d self.new) place (length buf.old)) }
-        ensures empty { length buf.old ≡ 0 → IsOk result × Unasked ⟦<Vmdk<S> as Seen>⟧ self.old self.new }
+        ensures err { let d = ⟦<Vmdk<S> as Seen>⟧ in
+            IfErr result (IsUnread (files d self.old) (files d self.new) place (length buf.old)) }
+        ensures empty { length buf.old ≡ 0 → IsOk result × IsUnchanged ⟦<Vmdk<S> as Seen>⟧ self.old self.new }
     {
         read_storage(alloc, &mut self.image, &mut self.files, storage, place, buf)
     }
@@ -199,7 +214,7 @@ impl<S: Storage> Vmdk<S> {
     /// The name of one of them, as the descriptor gives it.
     pub fn extra_name(&self, i: usize) -> &str
         requires { i < length self.now.files.items }
-        ensures { result.now ≡ slice_index_or (map (λ name. string_bytes name) (file_names self.now.disk.extents.items)) i [] }
+        ensures { result.now ≡ slice_index_or (kept_names self.now.disk.extents.items) i [] }
     {
         name_of(self.disk.extents(), i)
     }
@@ -207,7 +222,8 @@ impl<S: Storage> Vmdk<S> {
     /// One of them, to be changed. The disk then shows what its bytes are.
     pub fn extra_mut(&mut self, i: usize) -> &mut S
         requires { i < length self.old.files.items }
-        ensures* lends { sem 𝓛 (Lends (the_row S.row) S.row self.entry result (λ w. record self.entry.now { files = with_item self.entry.now.files i w })) }
+        ensures* lends { sem 𝓛 (Lends (the_row S.row) S.row self.entry result
+            (λ w. record self.entry.now { files = with_item self.entry.now.files i w })) }
         ensures value { result.now ≡ slice_index_or self.old.files.items i result.now }
     {
         &mut self.files[i]
@@ -246,10 +262,10 @@ impl<S: Storage> Seen for Vmdk<S> {
 
     ghost extras = { λ d. map S.state d.files.items };
 
-    ghost sees = { λ d. AreInReach (unit_of_layer (vmdk_layer d.disk.extents.items (S.state d.image) (map S.state d.files.items))) d.disk.extents.items };
+    ghost sees = { λ d. ReadsReach d.disk.extents.items (S.state d.image) (map S.state d.files.items) };
 
     ghost safe = { λ d. IsTrue (keep_all (S.state d.image) (map S.state d.files.items))
-        × AreInReach (unit_of_layer (vmdk_layer d.disk.extents.items (S.state d.image) (map S.state d.files.items))) d.disk.extents.items
+        × ReadsReach d.disk.extents.items (S.state d.image) (map S.state d.files.items)
         × (descriptor_of (S.state d.image).bytes ≡ Ok (kept_extents d.disk.extents.items)) };
 
     ghost still = { λ _. ⊤ };
@@ -296,6 +312,8 @@ impl<S: Storage> FormatDriverInstance for Vmdk<S> {
 
     ghost marked = { λ d is. absurd (cc is) };
 
+    ghost says_room = { λ d is. absurd (cc is) };
+
     ghost units = { λ d. le_refl 1 };
 
     ghost begins = { λ d call. tt };
@@ -308,6 +326,10 @@ impl<S: Storage> FormatDriverInstance for Vmdk<S> {
 
     fn image_file(&self) -> &S {
         &self.image
+    }
+
+    fn extra_file(&self, index: usize) -> Option<&S> {
+        self.files.get(index)
     }
 
     fn format(&self) -> Format {
@@ -428,10 +450,7 @@ impl<S: Storage> FormatDriverInstance for Vmdk<S> {
         _place: u64,
         bytes: &[u8],
     ) -> Result<(), Fault> {
-        match self.check_change(bytes.len() as u64) {
-            Ok(()) => Ok(()),
-            Err(fault) => Err(fault),
-        }
+        self.check_change(bytes.len() as u64)
     }
 
     fn ensure_zero_mapping(
@@ -471,24 +490,15 @@ impl<S: Storage> FormatDriverInstance for Vmdk<S> {
     }
 
     fn flush(&mut self, _alloc: Global) -> Result<(), Fault> {
-        match self.ready() {
-            Ok(()) => self.keep(Upkeep::Flush),
-            Err(fault) => Err(fault),
-        }
+        self.keep(Upkeep::Flush)
     }
 
     fn sync(&mut self) -> Result<(), Fault> {
-        match self.ready() {
-            Ok(()) => self.keep(Upkeep::Sync),
-            Err(fault) => Err(fault),
-        }
+        self.keep(Upkeep::Sync)
     }
 
     fn invalidate_cache(&mut self, _alloc: Global) -> Result<(), Fault> {
-        match self.ready() {
-            Ok(()) => self.keep(Upkeep::Invalidate),
-            Err(fault) => Err(fault),
-        }
+        self.keep(Upkeep::Invalidate)
     }
 
     fn resize_grow<B: ReadBelow>(
@@ -498,24 +508,10 @@ impl<S: Storage> FormatDriverInstance for Vmdk<S> {
         size: u64,
         _mode: PreallocateMode,
     ) -> Result<(), Fault> {
-        match self.ready() {
-            Ok(()) => {}
-            Err(fault) => return Err(fault),
-        }
-        if size <= self.disk.size() {
-            return Ok(());
-        }
-        Err(Fault::ReadOnly)
+        self.check_change(size.saturating_sub(self.disk.size()))
     }
 
     fn resize_shrink(&mut self, _alloc: Global, size: u64) -> Result<(), Fault> {
-        match self.ready() {
-            Ok(()) => {}
-            Err(fault) => return Err(fault),
-        }
-        if size >= self.disk.size() {
-            return Ok(());
-        }
-        Err(Fault::ReadOnly)
+        self.check_change(self.disk.size().saturating_sub(size))
     }
 }

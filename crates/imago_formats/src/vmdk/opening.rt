@@ -1,10 +1,12 @@
 // The files that extents ask for are opened.
-ghost use Rattle.std.specs.Prelude.{◌≡◌, ◌+◌, ◌<◌, ◌≤◌, ◌^◌, if◌then◌else◌, is_some, length, map, slice_index_or, [], IfOk, IfErr, IfSome, IsTrue, OnOk};
+ghost use Rattle.std.specs.Prelude.{◌≡◌, ◌⊎◌, ◌<◌, ◌≤◌, ◌^◌, ◌++◌, ◌∷◌, [], is_some, length, map, slice_index_or, Ok, Err, IfErr, IfNone, IfSome, IsErr, IsFalse, IsTrue, OnOk};
 ghost use Rattle.std.specs.Option.{option_map, option_to_list};
 ghost use Rattle.std.specs.String.{string_bytes};
 ghost use Rattle.imago_storage.specs.Through.{round_up};
-ghost use Rattle.imago_storage.specs.declared.fault.Fault.TheVariants.{DamagedDescriptor};
-ghost use Rattle.imago_formats.specs.VmdkLayer.{AreInReach, end_in_file, file_names, files_asked, has_file, name_in};
+ghost use Rattle.imago_storage.specs.declared.fault.Fault.TheVariants.{DamagedDescriptor, Memory};
+ghost use Rattle.imago_formats.specs.DescriptorView.{kept_names};
+ghost use Rattle.imago_formats.specs.VmdkLayer.{AreInReach, end_in_file, files_asked, has_file, name_in};
+ghost use Rattle.imago_formats.specs.VmdkOpening.{OpensNext, StopsOpening};
 
 use crate::vmdk::descriptor::{Access, Extent, Source};
 use imago_access::ImplicitOpenGate;
@@ -12,58 +14,68 @@ use imago_storage::{Fault, padded_end};
 use std::alloc::Global;
 
 /// Opens the files that extents ask for, in order, by their names, but for those that are open.
+///
+/// It refuses as the gate does, and with `Fault::Memory`, before it asks the gate for a file that it has no room for. What it has opened
+/// stays then.
 pub(crate) fn open_files<S: Drop, G: ImplicitOpenGate<S>>(
     alloc: Global,
     gate: &mut G,
     extents: &[Extent<String>],
     files: &mut Vec<S>,
 ) -> Result<(), Fault>
-    ensures { OnOk result (files_asked extents.now ≤ length files.new.items) }
+    ensures all { OnOk result (files_asked extents.now ≤ length files.new.items) }
+    ensures opens { let names = kept_names extents.now in
+        OnOk result (OpensNext G.answers names (files.old.items, gate.old) (files.new.items, gate.new)) }
+    ensures err { let names = kept_names extents.now in
+        IfErr result (StopsOpening G.answers names (files.old.items, gate.old) (files.new.items, gate.new)) }
 {
     let mut number = 0;
     for extent in extents {
-        number = match open_file(alloc, gate, extent, files, number) {
-            Ok(next) => next,
-            Err(fault) => return Err(fault),
+        let name = match file_name(extent) {
+            Some(name) => name,
+            None => continue,
         };
+        number += 1;
+        if number <= files.len() {
+            continue;
+        }
+        match open_file(alloc, gate, name, files) {
+            Ok(()) => {}
+            Err(fault) => return Err(fault),
+        }
     }
     Ok(())
 }
 
-// Opens the file that an extent asks for, if it asks for one and isn't open: so many come before it. It answers how many come before the
-// next.
+// Opens one more file. Room for it comes first, so that none is opened in vain.
 fn open_file<S: Drop, G: ImplicitOpenGate<S>>(
     alloc: Global,
     gate: &mut G,
-    extent: &Extent<String>,
+    name: &str,
     files: &mut Vec<S>,
-    number: usize,
-) -> Result<usize, Fault>
-    requires { number ≤ length files.old.items }
-    ensures next { IfOk result (λ n. n ≡ (if has_file extent.now then number + 1 else number)) }
-    ensures there { IfOk result (λ n. n ≤ length files.new.items) }
+) -> Result<(), Fault>
+    ensures ok { OnOk result
+        ((file : S) × (files.new.items ≡ files.old.items ++ file ∷ []) × G.answers gate.old name.now (Ok file) gate.new) }
+    ensures err { IfErr result (λ e. ((e ≡ Memory) × (gate.new ≡ gate.old)) ⊎ G.answers gate.old name.now (Err e) gate.new) }
+    ensures kept { IsErr result → files.new.items ≡ files.old.items }
 {
-    let name = match file_name(extent) {
-        Some(name) => name,
-        None => return Ok(number),
-    };
-    if number == files.len() {
-        let file = match gate.open_storage(alloc, name) {
-            Ok(file) => file,
-            Err(fault) => return Err(fault),
-        };
-        match files.push(file) {
-            Ok(()) => {}
-            Err(_) => return Err(Fault::Memory),
-        }
+    match files.reserve(1) {
+        Ok(()) => {}
+        Err(_) => return Err(Fault::Memory),
     }
-    Ok(number + 1)
+    let file = match gate.open_storage(alloc, name) {
+        Ok(file) => file,
+        Err(fault) => return Err(fault),
+    };
+    files.push_reserved(file);
+    Ok(())
 }
 
 // The name of the file that an extent asks for.
 fn file_name(extent: &Extent<String>) -> Option<&str>
     ensures some { is_some result ≡ has_file extent.now }
-    ensures name { option_to_list (option_map (λ name. name.now) result) ≡ map (λ name. string_bytes name) (name_in extent.now.access extent.now.source) }
+    ensures name { option_to_list (option_map (λ name. name.now) result)
+        ≡ map (λ name. string_bytes name) (name_in extent.now.access extent.now.source) }
 {
     match extent.access {
         Access::NoAccess => None,
@@ -76,7 +88,7 @@ fn file_name(extent: &Extent<String>) -> Option<&str>
 
 /// The name of the file that comes behind so many others, or else no text.
 pub(crate) fn name_of(extents: &[Extent<String>], before: usize) -> &str
-    ensures { result.now ≡ slice_index_or (map (λ name. string_bytes name) (file_names extents.now)) before [] }
+    ensures { result.now ≡ slice_index_or (kept_names extents.now) before [] }
 {
     let mut left = before;
     for extent in extents {
@@ -96,7 +108,7 @@ pub(crate) fn name_of(extents: &[Extent<String>], before: usize) -> &str
 pub(crate) fn check_reach(extents: &[Extent<String>], unit: u64) -> Result<(), Fault>
     requires { 0 < unit }
     ensures ok { OnOk result (AreInReach unit extents.now) }
-    ensures err { IfErr result (λ e. e ≡ DamagedDescriptor) }
+    ensures err { IfErr result (λ e. (e ≡ DamagedDescriptor) × (AreInReach unit extents.now → ⊥)) }
 {
     for extent in extents {
         if !is_in_reach(extent, unit) {
@@ -109,7 +121,8 @@ pub(crate) fn check_reach(extents: &[Extent<String>], unit: u64) -> Result<(), F
 // The same of one extent.
 fn is_in_reach(extent: &Extent<String>, unit: u64) -> bool
     requires { 0 < unit }
-    ensures { IsTrue result → round_up unit (end_in_file extent.now.access extent.now.source extent.now.sectors) < 2 ^ 64 }
+    ensures yes { IsTrue result → round_up unit (end_in_file extent.now.access extent.now.source extent.now.sectors) < 2 ^ 64 }
+    ensures no { IsFalse result → 2 ^ 64 ≤ round_up unit (end_in_file extent.now.access extent.now.source extent.now.sectors) }
 {
     match end_of(extent) {
         Some(end) => padded_end(end, 0, unit).is_some(),
@@ -117,9 +130,10 @@ fn is_in_reach(extent: &Extent<String>, unit: u64) -> bool
     }
 }
 
-// The end of an extent in its file, in bytes: 0 where it has none.
+// The end of an extent in its file, in bytes, if it is below 2^64: 0 where it has none.
 fn end_of(extent: &Extent<String>) -> Option<u64>
-    ensures { IfSome result (λ n. n ≡ end_in_file extent.now.access extent.now.source extent.now.sectors) }
+    ensures some { IfSome result (λ n. n ≡ end_in_file extent.now.access extent.now.source extent.now.sectors) }
+    ensures none { IfNone result (2 ^ 64 ≤ end_in_file extent.now.access extent.now.source extent.now.sectors) }
 {
     match extent.access {
         Access::NoAccess => Some(0),

@@ -101,7 +101,8 @@ pub(crate) fn read_storage<S: Storage>(
     ensures kept { Pairs IsKept (states S.state image.old files.old) (states S.state image.new files.new) }
     ensures whole { WasNotCutOff result → Pairs IsFaultless (states S.state image.old files.old) (states S.state image.new files.new) }
     ensures err { IfErr result (IsUnread (states S.state image.old files.old) (states S.state image.new files.new) place (length buf.old)) }
-    ensures empty { length buf.old ≡ 0 → IsOk result × (S.state image.new ≡ S.state image.old) × (map S.state files.new ≡ map S.state files.old) }
+    ensures empty { length buf.old ≡ 0
+        → IsOk result × (S.state image.new ≡ S.state image.old) × (map S.state files.new ≡ map S.state files.old) }
 {
     if storage == 0 {
         return image.read(alloc, buf, place);

@@ -1,29 +1,31 @@
-use Rattle.std.proofs.Common.{◌≡◌, ◌∙◌, ◌++◌, ◌∷◌, List, sym, subst, ap, take, drop, length, arith}
+use Rattle.std.proofs.Common.{◌∷◌, arith}
 use Rattle.std.specs.Prelude.{map}
-use Rattle.imago_access.specs.Files.{IsKept, Pairs}
-use Rattle.imago_formats.specs.Descriptor.{descriptor_of}
-use Rattle.imago_formats.proofs.VmdkSteps.{layer_kept, written_back, reach_kept, keep_all_kept}
+use Rattle.imago_access.proofs.FilePairs.{faultless_all_same}
+use Rattle.imago_formats.proofs.Quiet.{at_once_barred, at_once_runs, keeps_same}
+use Rattle.imago_formats.proofs.VmdkSteps.{kept_back}
 use Rattle.imago_formats.proofs.vmdk.driver.Vmdk.keep.Goals as goal
 
-pub returns-clause-keeps : goal.returns-clause-keeps
-returns-clause-keeps g c =
-    let state = g.S.Storage.state in
+pub returns-in-Ok-clause-keeps : goal.returns-in-Ok-clause-keeps
+returns-in-Ok-clause-keeps g c =
     let r = c.args.self.now in
-    let now = c.keep_up.new.files in
-    let back = take r.files.len (now ++ drop (length now) r.files.items) in
-    let items : take r.files.len (now ++ drop (length now) r.files.items) ≡ now = written_back r.files.len now r.files.items (omega (arith, c.keep_up.auto.files, c.deref_mut.ensures.len)) in
-    let kept = subst (λ (xs : List _). Pairs IsKept (state r.image ∷ map state r.files.items) (state c.keep_up.new.image ∷ map state xs)) (sym items)
-    (rw c.deref_mut.ensures.value at c.keep_up.ensures.kept) in
-    let same = layer_kept r.disk.extents.items (state r.image) (state c.keep_up.new.image) (map state r.files.items) (map state back) kept in
-    record {
-      layer = same;
-      kept = kept;
-      sees = reach_kept state r.image c.keep_up.new.image r.files.items back r.disk.extents.items same;
-      safely = λ s. (
-        keep_all_kept state r.image c.keep_up.new.image r.files.items back r.disk.extents.items same s.0,
-        reach_kept state r.image c.keep_up.new.image r.files.items back r.disk.extents.items same s.1,
-        ap descriptor_of kept.0.0.bytes ∙ s.2,
-      );
+    let kept = kept_back g.S.Storage.state r.disk.extents.items r.image c.keep_up.new.image r.files.items c.keep_up.new.files r.files.len
+    (omega (arith, c.keep_up.auto.files, c.deref_mut.ensures.len)) (rw c.deref_mut.ensures.value at c.keep_up.ensures.kept) in record {
+      layer = kept.layer;
+      kept = kept.kept;
+      sees = kept.sees;
+      safely = λ safe. (kept.keeps safe.0, kept.sees safe.1, kept.said safe.2);
       stilled = λ s. s;
       lasting = λ l. l;
     }
+
+pub returns-in-Err-clause-keeps : goal.returns-in-Err-clause-keeps
+returns-in-Err-clause-keeps g c = keeps_same _ c.args.self.now
+
+pub returns-in-Ok-clause-at_once : goal.returns-in-Ok-clause-at_once
+returns-in-Ok-clause-at_once g c = at_once_runs _ ⊥ c.keep_up.result c.args.self.now _ c.in-Ok.ensures.ok (λ none. absurd none)
+
+pub returns-in-Err-clause-at_once : goal.returns-in-Err-clause-at_once
+returns-in-Err-clause-at_once g c = at_once_barred _ ⊥ c.in-Err.fault c.args.self.now c.in-Err.ensures.err
+
+pub returns-in-Err-clause-whole : goal.returns-in-Err-clause-whole
+returns-in-Err-clause-whole g c = λ whole. faultless_all_same (g.S.Storage.state c.args.self.now.image ∷ map g.S.Storage.state c.args.self.now.files.items)

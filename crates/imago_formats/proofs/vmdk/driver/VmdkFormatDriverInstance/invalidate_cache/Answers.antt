@@ -1,25 +1,34 @@
-use Rattle.std.proofs.Common.{◌∷◌}
-use Rattle.std.specs.Prelude.{map, IsOk}
-use Rattle.imago_access.proofs.FilePairs.{kept_all_same}
-use Rattle.imago_formats.proofs.Quiet.{quiet_went, went_same}
-use Rattle.imago_formats.proofs.VmdkSteps.{ok_whole, on_ok, not_stopped}
+use Rattle.std.proofs.Common.{rules, ◌∷◌}
+use Rattle.std.specs.Prelude.{map}
+use Rattle.std.proofs.lemmas.Result.{IfErr-weaker}
+use Rattle.imago_formats.proofs.Quiet.{plain_fresh, plain_reload, quiet_went, unmarked}
+use Rattle.imago_formats.proofs.VmdkSteps.{ok_whole, on_ok}
+use Rattle.imago_formats.specs.VmdkLayer.{vmdk_layer}
 use Rattle.imago_formats.proofs.vmdk.driver.VmdkFormatDriverInstance.invalidate_cache.Goals as goal
 
-pub returns-in-Ok-clause-went : goal.returns-in-Ok-clause-went
-returns-in-Ok-clause-went g c =
+pub returns-clause-same : goal.returns-clause-same
+returns-clause-same g c = λ keeps see still. on_ok c.keep.result _ (c.keep.ensures.keeps.layer, c.keep.ensures.keeps.sees see)
+
+pub returns-clause-kept : goal.returns-clause-kept
+returns-clause-kept g c = c.keep.ensures.keeps.kept
+
+pub returns-clause-went : goal.returns-clause-went
+returns-clause-went g c =
+    quiet_went _ _ _ c.args.self.now c.keep.new.self c.keep.ensures.keeps (λ ok. c.keep.ensures.whole (ok_whole c.keep.result ok))
+
+pub returns-clause-failed : goal.returns-clause-failed
+returns-clause-failed g c =
     let state = g.S.Storage.state in
-    quiet_went _ (IsOk c.keep.result) (IsOk c.keep.result) c.args.self.now c.keep.new.self c.keep.ensures.keeps
-    (λ whole. not_stopped c.keep.result _ (state c.args.self.now.image ∷ map state c.args.self.now.files.items)
-    (state c.keep.new.self.image ∷ map state c.keep.new.self.files.items) c.keep.ensures.ok c.keep.ensures.err (ok_whole c.keep.result whole))
+    let r = c.args.self.now in
+    IfErr-weaker c.keep.result _ _ (λ e cause stale. absurd (plain_fresh (vmdk_layer r.disk.extents.items (state r.image) (map state r.files.items))
+    (state r.image ∷ map state r.files.items) (state c.keep.new.self.image ∷ map state c.keep.new.self.files.items) e cause stale)) c.keep.ensures.err
 
-pub returns-in-Err-clause-went : goal.returns-in-Err-clause-went
-returns-in-Err-clause-went g c = went_same _ _ _ c.args.self.now
+pub returns-clause-marks : goal.returns-clause-marks
+returns-clause-marks g c = unmarked _ c.keep.result c.args.self.now c.keep.new.self (search rules)
 
-pub returns-in-Ok-clause-same : goal.returns-in-Ok-clause-same
-returns-in-Ok-clause-same g c = λ keeps see still. on_ok c.keep.result _ (c.keep.ensures.keeps.layer, c.keep.ensures.keeps.sees see)
-
-pub returns-in-Err-clause-kept : goal.returns-in-Err-clause-kept
-returns-in-Err-clause-kept g c = kept_all_same (g.S.Storage.state c.args.self.now.image ∷ map g.S.Storage.state c.args.self.now.files.items)
-
-pub returns-in-Ok-clause-kept : goal.returns-in-Ok-clause-kept
-returns-in-Ok-clause-kept g c = c.keep.ensures.keeps.kept
+pub returns-clause-cause : goal.returns-clause-cause
+returns-clause-cause g c =
+    let state = g.S.Storage.state in
+    let r = c.args.self.now in
+    IfErr-weaker c.keep.result _ _ (plain_reload (vmdk_layer r.disk.extents.items (state r.image) (map state r.files.items))
+    (state r.image ∷ map state r.files.items) (state c.keep.new.self.image ∷ map state c.keep.new.self.files.items)) c.keep.ensures.err

@@ -1,32 +1,22 @@
-use Rattle.std.proofs.Common.{◌∷◌}
-use Rattle.std.specs.Prelude.{map}
-use Rattle.imago_access.specs.Files.{IsMild, WasNotCutOff}
-use Rattle.imago_access.proofs.FilePairs.{kept_all_same}
-use Rattle.imago_formats.proofs.Quiet.{like_same, quiet_went, went_same}
-use Rattle.imago_formats.proofs.VmdkSteps.{on_ok, not_stopped}
+use Rattle.std.proofs.Common.{rules}
+use Rattle.imago_formats.proofs.Quiet.{like_same, quiet_went, unmarked}
+use Rattle.imago_formats.proofs.VmdkSteps.{on_ok}
 use Rattle.imago_formats.proofs.vmdk.driver.VmdkFormatDriverInstance.sync.Goals as goal
 
-pub returns-in-Ok-clause-went : goal.returns-in-Ok-clause-went
-returns-in-Ok-clause-went g c =
-    let state = g.S.Storage.state in
-    quiet_went _ (WasNotCutOff c.keep.result) (WasNotCutOff c.keep.result) c.args.self.now c.keep.new.self c.keep.ensures.keeps
-    (λ whole. not_stopped c.keep.result _ (state c.args.self.now.image ∷ map state c.args.self.now.files.items)
-    (state c.keep.new.self.image ∷ map state c.keep.new.self.files.items) c.keep.ensures.ok c.keep.ensures.err whole)
+pub returns-clause-same : goal.returns-clause-same
+returns-clause-same g c = on_ok c.keep.result _ c.keep.ensures.keeps.layer
 
-pub returns-in-Err-clause-went : goal.returns-in-Err-clause-went
-returns-in-Err-clause-went g c = went_same _ (IsMild c.in-Err.fault) (IsMild c.in-Err.fault) c.args.self.now
+pub returns-clause-kept : goal.returns-clause-kept
+returns-clause-kept g c = c.keep.ensures.keeps.kept
 
-pub returns-in-Ok-clause-like : goal.returns-in-Ok-clause-like
-returns-in-Ok-clause-like g c = like_same _ _ c.keep.ensures.keeps.layer
+pub returns-clause-sees : goal.returns-clause-sees
+returns-clause-sees g c = c.keep.ensures.keeps.sees
 
-pub returns-in-Ok-clause-same : goal.returns-in-Ok-clause-same
-returns-in-Ok-clause-same g c = on_ok c.keep.result _ c.keep.ensures.keeps.layer
+pub returns-clause-like : goal.returns-clause-like
+returns-clause-like g c = like_same _ _ c.keep.ensures.keeps.layer
 
-pub returns-in-Ok-clause-sees : goal.returns-in-Ok-clause-sees
-returns-in-Ok-clause-sees g c = c.keep.ensures.keeps.sees
+pub returns-clause-went : goal.returns-clause-went
+returns-clause-went g c = quiet_went _ _ _ c.args.self.now c.keep.new.self c.keep.ensures.keeps c.keep.ensures.whole
 
-pub returns-in-Err-clause-kept : goal.returns-in-Err-clause-kept
-returns-in-Err-clause-kept g c = kept_all_same (g.S.Storage.state c.args.self.now.image ∷ map g.S.Storage.state c.args.self.now.files.items)
-
-pub returns-in-Ok-clause-kept : goal.returns-in-Ok-clause-kept
-returns-in-Ok-clause-kept g c = c.keep.ensures.keeps.kept
+pub returns-clause-marks : goal.returns-clause-marks
+returns-clause-marks g c = unmarked _ c.keep.result c.args.self.now c.keep.new.self (search rules)
