@@ -1,16 +1,18 @@
 -- From a look at words to what a lookup of the driver answers.
-use Rattle.std.proofs.Common.{◌≡◌, ℕ, ◌+◌, ◌-◌, ◌*◌, ◌/◌, ◌%◌, ◌^◌, ◌<◌, ◌≤◌, refl, arith, ap, sym, subst, ◌∙◌, List, ◌∷◌, Bool, true, false, Some, None, Option, inl, inr}
-use Rattle.std.specs.Prelude.{⊤, ◌⊎◌, slice_index, max, zero, suc}
+use Rattle.std.proofs.Common.{◌≡◌, ℕ, ◌+◌, ◌-◌, ◌*◌, ◌/◌, ◌%◌, ◌^◌, ◌<◌, ◌≤◌, refl, arith, ap, sym, subst, ◌∙◌, List, [], ◌∷◌, Bool, true, false, Some, None, Option, inl, inr}
+use Rattle.std.specs.Prelude.{⊤, ◌⊎◌, IsTrue, IfOk, slice_index, max, min, zero, suc}
 use Rattle.std.proofs.lemmas.Bool.{lt-ltb}
 use Rattle.std.proofs.lemmas.Nat.{pow_pos, mod_below}
-use Rattle.imago_storage.specs.State.{StorageState, IsAlignment}
-use Rattle.imago_storage.specs.Disk.{byte, barred, damaged_place}
+use Rattle.imago_storage.specs.State.{StorageState, Rose, IsAlignment}
+use Rattle.imago_storage.specs.Disk.{Value, byte, barred, damaged_place}
 use Rattle.imago_storage.specs.declared.fault.Fault.{Fault}
 use Rattle.imago_storage.specs.declared.fault.Fault.TheVariants.{DamagedTable, Memory, Storage}
 use Rattle.imago_access.specs.Files.{byte_in}
-use Rattle.imago_access.specs.Layer.{Layer, Cell, own}
-use Rattle.imago_access.specs.Mappings.{IsRun, IsInReach, Looks, Names, NamesRoom}
+use Rattle.imago_access.specs.Layer.{Layer, Cell, own, unmapped, unit_of_layer}
+use Rattle.imago_access.specs.Mappings.{IsRun, IsInReach, IsRoomy, Looks, Names, NamesRoom}
 use Rattle.imago_access.specs.Refusals.{LookCause}
+use Rattle.imago_access.specs.declared.mapping.ShallowMapping.{ShallowMapping}
+use Rattle.imago_access.specs.declared.mapping.ShallowMapping.TheVariants as shallow
 use Rattle.imago_access.proofs.Units.{overflows_late, alignment_max}
 use Rattle.qcow2_types.specs.Bytes.{Bytes, bytes_of}
 use Rattle.qcow2_types.specs.Header.{Fields, cluster_size}
@@ -23,7 +25,7 @@ use Rattle.qcow2_metadata.specs.declared.mapping.L2Mapping.TheVariants.{DataFile
 use Rattle.qcow2_image.specs.ImageLayer.{blank_of, cell_by, cells, qcow2_layer, shallow_of}
 use Rattle.qcow2_image.specs.Looking.{Follows, IsRunOf, WhyNotLooked}
 use Rattle.qcow2_image.specs.Rooms.{TakesNone, ReadsNone, IsVacant, IsZeroed}
-use Rattle.qcow2_image.proofs.Ranges.{cluster-of, in-run, byte-place}
+use Rattle.qcow2_image.proofs.Ranges.{cluster-of, place-of, in-run, byte-place}
 
 -- The mapping of the guest cluster so many behind another of its run.
 abbrev IsOn : Mapping → ℕ → Mapping → Type 0
@@ -100,11 +102,11 @@ data-taken c k mark (data_at d y) on (inl none) = none
 data-taken c k mark (data_at d y) on (inr none) = none
 data-taken c k mark m on which = absurd on
 
--- Nor is what can't be read.
-packed-taken : (o n k : ℕ) (m : Mapping) → IsOn (packed o n) k m → (TakesNone m ⊎ ReadsNone m) → ⊥
-packed-taken o n k (packed p q) on (inl none) = none
-packed-taken o n k (packed p q) on (inr none) = none
-packed-taken o n k m on which = absurd on
+-- Nor is what is compressed.
+packed-taken : (o l k : ℕ) (m : Mapping) → IsOn (packed o l) k m → (TakesNone m ⊎ ReadsNone m) → ⊥
+packed-taken o l k (packed o' l') on (inl none) = none
+packed-taken o l k (packed o' l') on (inr none) = none
+packed-taken o l k m on which = absurd on
 
 -- What a lookup answers is a run.
 pub is-run : (layer : Layer) (backed : Bool) (bits offset within n asked : ℕ) (m : L2Mapping) → offset < layer.size → n ≤ asked → offset + n ≤ layer.size → (0 < asked → 0 < n) → IsRun layer offset asked (shallow_of backed bits offset within (mapping_seen m)) n
@@ -157,30 +159,23 @@ module _ (s : StorageState) (words-there : Bytes) (h : Fields) (backed : Bool) (
     from (Compressed o l) each = (each, refl)
     from (Backing o) each = backing backed each refl
 
-  -- and no vacant or zeroed place as one of the file, or as one that can't be read.
+  -- and no vacant or zeroed place as one of the file or as compressed.
   pub room-run : NamesRoom layer (IsVacant words-there h) (IsZeroed words-there h) offset n (shallow_of backed h.cluster_bits offset within (mapping_seen run.0))
   room-run = from run.0 on-place where
     backing : (b : Bool) → NamesRoom layer (IsVacant words-there h) (IsZeroed words-there h) offset n (shallow_of b h.cluster_bits offset within words.unmapped)
     backing true = tt
     backing false = tt
 
-    taken : (i : ℕ) → i < n → (TakesNone (entry f h ((offset + i) / cluster_size h)) ⊎ ReadsNone (entry f h ((offset + i) / cluster_size h)) → ⊥)
-        → IsVacant words-there h (offset + i) ⊎ IsZeroed words-there h (offset + i) → ⊥
-    taken i lt never which = elim which [
-      | inl vacant ↦ elim vacant [
-        | inl behind ↦ absurd (omega (arith, behind, inside, lt))
-        | inr none ↦ never (inl (rw (sym clean) none))
-      ]
-      | inr zeroed ↦ elim zeroed [
-        | inl behind ↦ absurd (omega (arith, behind, inside, lt))
-        | inr none ↦ never (inr (rw (sym clean) none))
-      ]
+    roomy : ((i : ℕ) → i < n → (TakesNone (entry f h ((offset + i) / cluster_size h)) ⊎ ReadsNone (entry f h ((offset + i) / cluster_size h))) → ⊥) → IsRoomy layer (IsVacant words-there h) (IsZeroed words-there h) offset n
+    roomy taken states i lt which = elim which [
+      | inl vacant ↦ elim vacant [ inl behind ↦ absurd (omega (arith, behind, inside, lt)) | inr none ↦ taken i lt (inl (rw (sym clean) none)) ]
+      | inr zeroed ↦ elim zeroed [ inl behind ↦ absurd (omega (arith, behind, inside, lt)) | inr none ↦ taken i lt (inr (rw (sym clean) none)) ]
     ]
 
     from : (m : L2Mapping) → ((i : ℕ) → i < n → IsOn (mapping_seen m) ((within + i) / cluster_size h) (entry f h ((offset + i) / cluster_size h))) → NamesRoom layer (IsVacant words-there h) (IsZeroed words-there h) offset n (shallow_of backed h.cluster_bits offset within (mapping_seen m))
-    from (DataFile c mark) each = λ states i lt. taken i lt (data-taken c ((within + i) / cluster_size h) mark (entry f h ((offset + i) / cluster_size h)) (each i lt))
+    from (DataFile c mark) each = roomy (λ i lt. data-taken c ((within + i) / cluster_size h) mark (entry f h ((offset + i) / cluster_size h)) (each i lt))
     from (Zero c mark) each = tt
-    from (Compressed o l) each = λ states i lt. taken i lt (packed-taken o l ((within + i) / cluster_size h) (entry f h ((offset + i) / cluster_size h)) (each i lt))
+    from (Compressed o l) each = roomy (λ i lt. packed-taken o l ((within + i) / cluster_size h) (entry f h ((offset + i) / cluster_size h)) (each i lt))
     from (Backing o) each = backing backed
 
   -- Places that words can name are in reach of requests.

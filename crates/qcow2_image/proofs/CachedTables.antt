@@ -1,6 +1,6 @@
 -- What a search of a table, and its use, leave of what is true of each cached table.
-use Rattle.std.proofs.Common.{◌≡◌, ℕ, ◌*◌, refl, ap, sym, subst, ◌∙◌, List, [], ◌∷◌, ◌++◌, length, Some, None, Result, Ok, Err, inl, inr}
-use Rattle.std.specs.Prelude.{◌⊎◌, IsOk, IfOk, OnOk, OnErr, IsSome, Bool, Option, map, nat_eq, nat_lt}
+use Rattle.std.proofs.Common.{◌≡◌, ℕ, ◌*◌, refl, ap, sym, subst, ◌∙◌, List, [], ◌∷◌, ◌++◌, length, true, false, Some, None, Result, Ok, Err, inl, inr}
+use Rattle.std.specs.Prelude.{◌⊎◌, IsOk, IfOk, OnOk, OnErr, IsSome, Bool, Option, map, nat_eq, nat_lt, cond}
 use Rattle.std.specs.List.{AllByRecursion}
 use Rattle.std.specs.Option.{option_map, option_map_or}
 use Rattle.std.specs.Map.{lookup, remove_entry}
@@ -21,7 +21,7 @@ use Rattle.qcow2_alloc.specs.declared.cache.MetadataCaches.{MetadataCaches}
 use Rattle.qcow2_alloc.specs.declared.file.ImageFile.{ImageFile}
 use Rattle.qcow2_alloc.proofs.Places.{Place, place-of-key, place-hit, slot-of}
 use Rattle.qcow2_image.specs.Seen.{IsOfFile}
-use Rattle.qcow2_image.specs.Looking.{UsesTable}
+use Rattle.qcow2_image.specs.Looking.{UsesTable, TableUsed}
 
 -- The contract of a search that lends its table says how the table is used.
 pub table-used : {S T : Type 0} (state : S → StorageState) (cluster : ℕ) (does : TableValue → Result T Fault → TableValue → Type 0) (old : MetadataCaches S) (before : ImageFile S) (new : MetadataCaches S) (after : ImageFile S) (lent : Result (MutBor TableValue) Fault) (table : MutBor TableValue) (result : Result T Fault) (table' : TableValue)

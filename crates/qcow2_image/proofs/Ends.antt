@@ -6,7 +6,7 @@ use Rattle.std.proofs.Math.Nat.{mul-mod_left}
 use Rattle.qcow2_types.specs.Header.{Fields, cluster_size, words_of_cluster}
 use Rattle.qcow2_types.specs.Words.{Mapping}
 use Rattle.qcow2_metadata.specs.declared.mapping.L2Mapping.{L2Mapping}
-use Rattle.qcow2_image.specs.Looking.{Follows, IsRunOf, IsLong}
+use Rattle.qcow2_image.specs.Looking.{Follows, IsRunOf, IsCutAt, IsLong}
 
 -- A multiple of the cluster size is the begin of a cluster.
 at-cluster : (at k c : ℕ) → 0 < c → at ≡ k * c → (at % c ≡ 0) × (at / c ≡ k)

@@ -1,7 +1,9 @@
 -- What a look at words leaves, behind a search of their table.
-use Rattle.std.proofs.Common.{◌≡◌, ℕ, ◌+◌, ◌*◌, ◌/◌, ◌%◌, ◌^◌, ◌<◌, ◌≤◌, refl, arith, ap, sym, subst, ◌∙◌, List, [], ◌∷◌, true, false, Some, None, Result, Ok, Err, inl, inr}
+use Rattle.std.proofs.Common.{◌≡◌, ◌≢◌, ℕ, ◌+◌, ◌*◌, ◌/◌, ◌%◌, ◌^◌, ◌<◌, ◌≤◌, refl, arith, ap, sym, subst, ◌∙◌, List, [], ◌∷◌, true, false, Some, None, Result, Ok, Err, inl, inr}
 use Rattle.std.specs.Prelude.{⊤, nat_eq, slice_index, Option, ◌==◌, if◌then◌else◌}
 use Rattle.std.specs.List.{AllByRecursion}
+use Rattle.std.specs.Option.{option_map}
+use Rattle.std.specs.Map.{lookup}
 use Rattle.std.proofs.lemmas.Nat.{div-mul-add, div-add-mod', mod_below}
 use Rattle.imago_storage.specs.State.{StorageState}
 use Rattle.imago_storage.specs.Calls.{Kept}
@@ -10,12 +12,14 @@ use Rattle.imago_storage.specs.declared.fault.Fault.TheVariants.{DamagedTable, C
 use Rattle.imago_storage.specs.declared.storage.Storage.{Ghosts}
 use Rattle.imago_access.specs.Files.{IsMild}
 use Rattle.qcow2_types.specs.Bytes.{bytes_of}
-use Rattle.qcow2_types.specs.Header.{Header, words_of_cluster, cluster_size, layout_of}
-use Rattle.qcow2_types.specs.Words.{Layout, damaged, unmapped, table_offset}
+use Rattle.qcow2_types.specs.Header.{Fields, Header, words_of_cluster, cluster_size, layout_of}
+use Rattle.qcow2_types.specs.Words.{Mapping, Layout, damaged, unmapped, table_offset}
 use Rattle.qcow2_types.specs.Entries.{entry}
+use Rattle.qcow2_types.specs.Places.{l2_entries}
 use Rattle.qcow2_metadata.specs.Tables.{TableValue, IsTable, HasUnsound, l2_words, table_in, words_in, mapping_in}
 use Rattle.qcow2_metadata.specs.Blocks.{Block}
 use Rattle.qcow2_metadata.specs.Places.{IsInReach}
+use Rattle.qcow2_metadata.specs.MappingView.{IsNamed}
 use Rattle.qcow2_metadata.specs.declared.mapping.L2Mapping.{L2Mapping}
 use Rattle.qcow2_metadata.specs.declared.mapping.L2Mapping.TheVariants.{Backing}
 use Rattle.qcow2_alloc.specs.Cache.{hit}
@@ -31,8 +35,8 @@ use Rattle.qcow2_alloc.specs.declared.cache.MetadataCaches.{MetadataCaches}
 use Rattle.qcow2_alloc.specs.declared.file.ImageFile.{ImageFile}
 use Rattle.qcow2_alloc.proofs.Pins.{pins-hit, full-pinned}
 use Rattle.qcow2_image.specs.declared.tables.Tables.{Tables}
-use Rattle.qcow2_image.specs.Seen.{IsOfFile, IsSeen, file_of}
-use Rattle.qcow2_image.specs.Looking.{place_of_table, ReadsRun, UsesTable, TableUsed, LooksAt, WhyNotLooked}
+use Rattle.qcow2_image.specs.Seen.{IsL1Of, IsOfFile, IsSeen, file_of}
+use Rattle.qcow2_image.specs.Looking.{cluster_named, place_of_table, Follows, IsRunOf, ReadsRun, UsesTable, TableUsed, LooksAt, WhyNotLooked}
 use Rattle.qcow2_image.proofs.Runs.{run-same}
 use Rattle.qcow2_image.proofs.FileWords.{entry-of-file, entry-of-unsound, entry-of-none, named-in-reach}
 use Rattle.qcow2_image.proofs.CachedTables.{all-hit, one-hit, of-search}
@@ -124,11 +128,8 @@ module _ {S : Type 0} (g : Ghosts S) (guest most table : ℕ) (old new : Tables 
     words-used fits whole seen k lt =
         let is = of-file seen in
         let row = one-row guest most (words_of_cluster H.fields) k whole lt in
-        let there : place_of_table old.l1.words H.fields.cluster_bits (guest + k) ≡ Some table = ap (place_in old.l1.words H.fields.cluster_bits) row ∙ named in
+        let there : place_of_table old.l1.words H.fields.cluster_bits (guest + k) ≡ Some table = ap (λ x. cluster_named H.fields.cluster_bits (slice_index old.l1.words x)) row ∙ named in
         entry-of-file (file_of g old) H.fields old.l1 u.table (guest + k) table seen.l1 there fits is.0 is.1 (in-row guest most (words_of_cluster H.fields) k whole lt)
-      where
-        place_in : List ℕ → ℕ → ℕ → Option ℕ
-        place_in words bits i = if table_offset (slice_index words i) == 0 then None else Some (table_offset (slice_index words i) / 2 ^ bits)
 
   pub looks-found : (run : L2Mapping × ℕ) → guest % words_of_cluster H.fields + most ≤ words_of_cluster H.fields → UsesTable g.state table (ReadsRun H.fields.cluster_bits guest most) old.caches old.file (Ok run) new.caches new.file → LooksAt g guest most old (Ok run) new
   looks-found run whole (inl refused) = absurd (cc refused.1)
@@ -216,12 +217,9 @@ looks-none g guest most offset old at some whole none =
       l1 = refl;
       seen = λ seen. seen;
       says = λ seen.
-          let each : (k : ℕ) → k < most → entry (file_of g old) h (guest + k) ≡ unmapped = λ k lt. entry-of-none (file_of g old) h old.l1 seen.l1 (guest + k) (ap (place_in old.l1.words h.cluster_bits) (one-row guest most (words_of_cluster h) k whole lt) ∙ none) in
+          let each : (k : ℕ) → k < most → entry (file_of g old) h (guest + k) ≡ unmapped = λ k lt. entry-of-none (file_of g old) h old.l1 seen.l1 (guest + k) (ap (λ x. cluster_named h.cluster_bits (slice_index old.l1.words x)) (one-row guest most (words_of_cluster h) k whole lt) ∙ none) in
           run-same guest most (λ _. unmapped) (entry (file_of g old) h) (Backing offset, most) (λ k lt. sym (each k lt)) (record { first = refl; some = some; few = omega arith; each = λ k lt. tt; ends = λ lt. absurd (omega (arith, lt)) });
       named = (tt, some, omega arith);
       failed = tt;
       cause = λ seen. tt;
     }
-  where
-    place_in : List ℕ → ℕ → ℕ → Option ℕ
-    place_in words bits i = if table_offset (slice_index words i) == 0 then None else Some (table_offset (slice_index words i) / 2 ^ bits)

@@ -1,13 +1,13 @@
 -- Which rule keeps a file from being opened for reading, and what is loaded where none does.
-use Rattle.std.proofs.Common.{◌≡◌, ℕ, ◌*◌, ◌/◌, ◌<◌, ◌≤◌, refl, arith, ap, sym, subst, ◌∙◌, true, false, Ok, Err, List, length, inl, inr}
-use Rattle.std.specs.Prelude.{slice_index}
+use Rattle.std.proofs.Common.{◌≡◌, ℕ, ◌*◌, ◌/◌, ◌<◌, ◌≤◌, refl, arith, ap, sym, subst, ◌∙◌, Bool, true, false, Result, Ok, Err, List, [], ◌∷◌, length, inl, inr}
+use Rattle.std.specs.Prelude.{⊤, not, slice_index}
 use Rattle.std.proofs.lemmas.Bool.{cases_Bool}
 use Rattle.imago_storage.specs.State.{StorageState}
 use Rattle.imago_storage.specs.declared.fault.Fault.{Fault}
 use Rattle.imago_storage.specs.declared.fault.Fault.TheVariants.{Memory, Storage, Unsupported, DamagedTable, Limit}
 use Rattle.qcow2_types.specs.Bytes.{Bytes, word}
 use Rattle.qcow2_types.specs.Words.{l1_word_sound, max_offset}
-use Rattle.qcow2_types.specs.Header.{Header, Limited, header_of, has_external_data, cluster_size, layout_of}
+use Rattle.qcow2_types.specs.Header.{Header, Limited, first_fault, header_of, has_external_data, cluster_size, layout_of, ◌and-then◌, ◌>>=◌}
 use Rattle.qcow2_types.specs.Entries.{l1_table_sound}
 use Rattle.qcow2_types.proofs.Bounded.{all-below}
 use Rattle.qcow2_types.proofs.HeaderLimits.{header-limited}
@@ -16,9 +16,36 @@ use Rattle.qcow2_types.proofs.WriteBack.{place-near, place-whole}
 use Rattle.qcow2_metadata.specs.Loading.{NotLoaded}
 use Rattle.qcow2_metadata.specs.Places.{IsInReach}
 use Rattle.qcow2_metadata.specs.Tables.{TableValue, AreSound, HasUnsound, WhyNotLoaded, l1_words, table_in, words_in}
+use Rattle.qcow2_metadata.proofs.Refusals.{IsRefusal, header-refusal}
 use Rattle.qcow2_metadata.proofs.TableFacts.{words_long, words_at}
 use Rattle.qcow2_image.specs.Seen.{IsL1Of}
-use Rattle.qcow2_image.specs.Opening.{WhyNotOpened, header_for_reading}
+use Rattle.qcow2_image.specs.Opening.{WhyNotOpened, header_for_reading, rules_of_opening}
+
+-- the refusals of a header by its bytes, and of an L1 table
+abbrev pub IsReadingRefusal : Fault → Type 0
+IsReadingRefusal DamagedTable = ⊤
+IsReadingRefusal fault = IsRefusal fault
+
+abbrev OnlyReading : Result Header Fault → Type 0
+OnlyReading (Ok H) = ⊤
+OnlyReading (Err fault) = IsReadingRefusal fault
+
+one-of : (fault : Fault) → IsRefusal fault → IsReadingRefusal fault
+one-of DamagedTable is = tt
+one-of fault is = is
+
+only-reading : (f : Bytes) (r : Result Header Fault) → ((fault : Fault) → r ≡ Err fault → IsRefusal fault) → OnlyReading (r >>= λ H. first_fault (rules_of_opening f H.fields) and-then Ok H)
+only-reading f (Err fault) only = one-of fault (only fault refl)
+only-reading f (Ok H) only = from (has_external_data H.fields) (l1_table_sound f H.fields) where
+  from : (external sound : Bool) → OnlyReading (first_fault ((external, Unsupported) ∷ (not sound, DamagedTable) ∷ []) and-then Ok H)
+  from true sound = tt
+  from false false = tt
+  from false true = tt
+
+-- By its bytes a file isn't opened for reading for nothing else.
+pub reading-refusal : (f : Bytes) (fault : Fault) → header_for_reading f ≡ Err fault → IsReadingRefusal fault
+unfolding header_for_reading
+reading-refusal f fault is = subst OnlyReading is (only-reading f (header_of false f) (λ why same. header-refusal false f why same))
 
 module _ (f : Bytes) where
   -- Where the file says why, that is why; else memory was wanting, or the storage failed.

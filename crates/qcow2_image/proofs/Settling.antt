@@ -1,23 +1,30 @@
 -- What requests that change nothing do to an image.
-use Rattle.std.proofs.Common.{◌≡◌, ℕ, ◌≤◌, refl, arith, ap, sym, subst, ◌∙◌, Bool, Result, Ok, Err, inr}
-use Rattle.std.specs.Prelude.{IsTrue, OnOk, IfErr}
+use Rattle.std.proofs.Common.{◌≡◌, ℕ, ◌≤◌, refl, arith, ap, sym, subst, ◌∙◌, Bool, true, false, List, [], ◌∷◌, Some, None, Result, Ok, Err, inl, inr}
+use Rattle.std.specs.Prelude.{⊤, ◌⊎◌, IsTrue, IsOk, OnOk, IfErr, MatchResult, ltb, if◌then◌else◌}
 use Rattle.std.specs.Borrow.{RattleType}
-use Rattle.imago_storage.specs.State.{Shape}
-use Rattle.imago_storage.specs.Calls.{Kept, Later}
+use Rattle.imago_storage.specs.State.{Shape, StorageState, Rose}
+use Rattle.imago_storage.specs.Calls.{Kept, Later, IsFaultless, Cause, CountsFaults}
+use Rattle.imago_storage.specs.Through.{Overflows, NotRead}
+use Rattle.imago_storage.specs.State.{unit_of}
 use Rattle.imago_storage.specs.declared.fault.Fault.{Fault}
-use Rattle.imago_storage.specs.declared.fault.Fault.TheVariants.{Memory, Storage}
+use Rattle.imago_storage.specs.declared.fault.Fault.TheVariants.{DamagedHeader, DamagedTable, Unsupported, Limit, CacheFull, RangeOverflow, Memory, Storage}
 use Rattle.imago_storage.specs.declared.storage.Storage.{Ghosts}
-use Rattle.imago_access.specs.Going.{Marks}
-use Rattle.imago_access.specs.Layer.{Layer, Meaning}
+use Rattle.imago_access.specs.Files.{WasNotCutOff, IsMild, IsStale, ImageCause}
+use Rattle.imago_access.specs.Going.{IsKnown, Went, Marks}
+use Rattle.imago_access.specs.Layer.{Layer, Meaning, unit_of_layer}
+use Rattle.imago_access.specs.Parts.{PlainCause}
+use Rattle.imago_access.specs.Refusals.{ReadMappedCause, InvalidateCause}
 use Rattle.imago_access.specs.Stops.{IsMeant}
 use Rattle.imago_access.specs.declared.seen.Seen.{Ghosts as SeenGhosts}
 use Rattle.qcow2_types.specs.Bytes.{bytes_of}
-use Rattle.qcow2_types.specs.Header.{Header}
+use Rattle.qcow2_types.specs.Header.{Fields, Header, header_of}
+use Rattle.qcow2_metadata.specs.Updates.{with_places_of}
+use Rattle.qcow2_alloc.specs.Caches.{cached_in}
 use Rattle.qcow2_image.specs.contracts.qcow2.Qcow2Seen.TheImpl.{ghosts}
 use Rattle.qcow2_image.specs.declared.qcow2.Qcow2.{Qcow2}
 use Rattle.qcow2_image.specs.declared.qcow2.PreparedMappingState.{PreparedMappingState}
 use Rattle.qcow2_image.specs.declared.tables.Tables.{Tables}
-use Rattle.qcow2_image.specs.ImageLayer.{blank_of, cells, qcow2_layer, meaning_of}
+use Rattle.qcow2_image.specs.ImageLayer.{blank_of, cells, qcow2_fixed, qcow2_layer, meaning_of}
 use Rattle.qcow2_image.specs.Rooms.{IsSafe}
 use Rattle.qcow2_image.specs.Seen.{IsSeen, file_of, memory_of}
 use Rattle.qcow2_image.specs.Steps.{failed_anew, failed_behind, Reloads}
@@ -83,10 +90,10 @@ module _ (R : RattleType) (st : Ghosts R.Denot) (sd : mir.Syntax.Dict) (dd : mir
   }
 
   pub anew-same : IsSeen st old.tables → OnOk result ((layer_of new ≡ layer_of old) × IsSeen st new.tables)
-  anew-same seen = from result failed (all.seen seen) where
-    from : (r : Result Unit Fault) → new.failed ≡ failed_behind failed_anew r old.failed → OnOk r ((new.tables.file.header ≡ old.tables.file.header) × IsSeen st new.tables) → OnOk r ((layer_of new ≡ layer_of old) × IsSeen st new.tables)
-    from (Ok v) same is = (layer-same same is.0, is.1)
-    from (Err fault) same is = tt
+  anew-same seen = from result failed (all.same seen) (all.anew seen.room) where
+    from : (r : Result Unit Fault) → new.failed ≡ failed_behind failed_anew r old.failed → OnOk r (new.tables.file.header ≡ old.tables.file.header) → OnOk r (IsSeen st new.tables) → OnOk r ((layer_of new ≡ layer_of old) × IsSeen st new.tables)
+    from (Ok v) same header anew = (layer-same same header, anew)
+    from (Err fault) same header anew = tt
 
   pub anew-marks : IfErr result (Marks sees old new)
   anew-marks = from result failed all.memory where

@@ -1,15 +1,15 @@
 -- What calls that write nothing leave of an image, in the words of the driver.
-use Rattle.std.proofs.Common.{◌≡◌, ℕ, refl, ap, sym, subst, ◌∙◌, Bool, false, None, Result, Ok, Err, inl, inr}
-use Rattle.std.specs.Prelude.{◌⊎◌, IsTrue, IfErr}
+use Rattle.std.proofs.Common.{◌≡◌, ℕ, refl, ap, sym, subst, ◌∙◌, Bool, true, false, Some, None, Result, Ok, Err, inl, inr}
+use Rattle.std.specs.Prelude.{⊤, ◌⊎◌, IsTrue, IfErr, OnOk}
 use Rattle.std.specs.Borrow.{RattleType}
 use Rattle.imago_storage.specs.State.{Shape, StorageState}
 use Rattle.imago_storage.specs.Calls.{Kept, Later, IsFaultless}
 use Rattle.imago_storage.specs.declared.fault.Fault.{Fault}
 use Rattle.imago_storage.specs.declared.fault.Fault.TheVariants.{Memory, Storage}
 use Rattle.imago_storage.specs.declared.storage.Storage.{Ghosts}
-use Rattle.imago_access.specs.Files.{WasNotCutOff}
-use Rattle.imago_access.specs.Going.{IsKnown, Looked, Marks}
-use Rattle.imago_access.specs.Layer.{Layer, loose}
+use Rattle.imago_access.specs.Files.{WasNotCutOff, IsMild}
+use Rattle.imago_access.specs.Going.{IsKnown, Looked, Marks, Went}
+use Rattle.imago_access.specs.Layer.{Layer, Fixed, loose}
 use Rattle.imago_access.specs.Stops.{GivesNone, Left}
 use Rattle.imago_access.proofs.Stopping.{passes_none}
 use Rattle.qcow2_types.specs.Bytes.{Bytes, bytes_of}

@@ -1,5 +1,5 @@
 -- What a look at the words of guest clusters in a row does.
-use Rattle.std.specs.Prelude.{◌≡◌, ◌≢◌, ◌⊎◌, ⊤, ℕ, min, ◌+◌, ◌-◌, ◌/◌, ◌%◌, ◌<◌, ◌≤◌, ◌^◌, ◌==◌, if◌then◌else◌, List, slice_index, Result, Ok, Err, IfOk, IfErr, Option, Some, None, nat_eq}
+use Rattle.std.specs.Prelude.{◌≡◌, ◌≢◌, ◌⊎◌, ⊤, ℕ, min, ◌+◌, ◌-◌, ◌*◌, ◌/◌, ◌%◌, ◌<◌, ◌≤◌, ◌^◌, ◌==◌, if◌then◌else◌, List, slice_index, Result, Ok, Err, IfOk, IfErr, Option, Some, None, nat_eq}
 use Rattle.std.specs.Option.{option_map}
 use Rattle.std.specs.Map.{lookup}
 use Rattle.imago_storage.specs.State.{StorageState, Rose}
@@ -25,11 +25,13 @@ use Rattle.imago_storage.specs.declared.storage.Storage.{Ghosts}
 use Rattle.qcow2_image.specs.declared.tables.Tables.{Tables}
 use Rattle.qcow2_image.specs.Seen.{IsSeen, file_of}
 
--- the cluster of the L2 table over a guest cluster, as these words of the L1 table name it
+-- the cluster that a word of the L1 table names, if it names one
+abbrev pub cluster_named : ℕ → ℕ → Option ℕ
+cluster_named cluster_bits word = if table_offset word == 0 then None else Some (table_offset word / 2 ^ cluster_bits)
+
+-- the cluster of the L2 table over a guest cluster, by these words of the L1 table
 abbrev pub place_of_table : List ℕ → ℕ → ℕ → Option ℕ
-place_of_table words cluster_bits guest =
-    if table_offset (slice_index words (guest / l2_entries cluster_bits)) == 0 then None
-    else Some (table_offset (slice_index words (guest / l2_entries cluster_bits)) / 2 ^ cluster_bits)
+place_of_table words cluster_bits guest = cluster_named cluster_bits (slice_index words (guest / l2_entries cluster_bits))
 
 -- The mapping of the next guest cluster goes on from that of one: both are of one kind, and its cluster, if it has one, is the next, with
 -- the same mark. What is compressed or damaged never does.

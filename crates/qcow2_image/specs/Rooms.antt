@@ -1,11 +1,12 @@
 -- What is allocated for the places of an image, and which files are sound; laws of a driver that was opened for reading alone.
 use Rattle.std.proofs.Common.{inl, inr, sym, subst, refl, arith}
-use Rattle.std.specs.Prelude.{◌≡◌, ◌⊎◌, ⊤, ℕ, zero, suc, ◌/◌, ◌<◌, ◌≤◌, ltb, Bool, false, List, [], IsTrue, Some, None}
+use Rattle.std.specs.Prelude.{◌≡◌, ◌⊎◌, ⊤, ℕ, zero, suc, ◌/◌, ◌<◌, ◌≤◌, ltb, Bool, true, false, List, [], IsTrue, Some, None}
 use Rattle.std.proofs.lemmas.Bool.{cases_Bool}
+use Rattle.imago_storage.specs.State.{StorageState}
 use Rattle.imago_access.specs.Refusals.{IsOfStorages}
 use Rattle.imago_access.specs.Stops.{IsCovered}
 use Rattle.qcow2_types.specs.Bytes.{Bytes, bytes_of}
-use Rattle.qcow2_types.specs.Header.{Fields, cluster_size}
+use Rattle.qcow2_types.specs.Header.{Fields, Header, cluster_size}
 use Rattle.qcow2_types.specs.Words.{Mapping, data_at, zeroes, packed, damaged}
 use Rattle.qcow2_types.specs.Words as words
 use Rattle.qcow2_types.specs.Entries.{entry}
@@ -75,7 +76,7 @@ covered g t backed failed number safe = record {
   size = subst (λ r. t.file.header.fields.size ≤ (meaning_of (blank_of backed) (file_of g t) r).size) (sym safe.seen.loads) (Prim.omega arith);
 }
 
--- Its alignments are its file's, it keeps what is written where its file does, and it zeroes by itself by its clusters, if it can.
+-- Its alignments are its file's, as is whether it keeps what is written, and it zeroes by itself by its clusters, if it can.
 pub of_storages : {S : Type 0} (g : Ghosts S) (t : Tables S g) (backed failed : Bool) (number : ℕ) → IsOfStorages (layer_in g t backed number failed) (g.state t.file.image) []
 of_storages g t backed failed number = record {
   requests = refl;

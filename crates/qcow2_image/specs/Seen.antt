@@ -1,6 +1,7 @@
 -- When what is in memory of an image is what its file says.
-use Rattle.std.specs.Prelude.{◌≡◌, ℕ, Bool, ◌*◌, ◌<◌, IsTrue, false, length, slice_index, Ok}
+use Rattle.std.specs.Prelude.{◌≡◌, ℕ, Bool, ◌*◌, ◌<◌, List, IsTrue, false, length, slice_index, Ok}
 use Rattle.std.specs.List.{AllByRecursion}
+use Rattle.imago_storage.specs.State.{StorageState}
 use Rattle.qcow2_types.specs.Bytes.{Bytes, bytes_of, word}
 use Rattle.qcow2_types.specs.Header.{Fields, header_of, has_external_data, words_of_cluster, layout_of, cluster_size}
 use Rattle.qcow2_types.specs.Entries.{l1_table_sound}
@@ -9,6 +10,7 @@ use Rattle.qcow2_alloc.specs.declared.async_lru_cache.Slot.{Slot}
 use Rattle.qcow2_alloc.specs.Memory.{Cached, memory}
 use Rattle.qcow2_alloc.specs.Caches.{cached_in}
 use Rattle.qcow2_alloc.specs.Finding.{pinned_in}
+use Rattle.qcow2_alloc.specs.Safety.{AreTablesClean, AreBlocksClean}
 use Rattle.imago_storage.specs.declared.storage.Storage.{Ghosts}
 use Rattle.imago_access.specs.Layer.{Layer}
 use Rattle.qcow2_image.specs.ImageLayer.{qcow2_layer}
@@ -25,6 +27,10 @@ memory_of g t = memory (file_of g t) t.file.header.fields (cached_in t.caches)
 -- the layer that an open image shows
 abbrev pub layer_in : {S : Type 0} (g : Ghosts S) → Tables S g → Bool → ℕ → Bool → Layer
 layer_in g t backed number failed = qcow2_layer (g.state t.file.image) (memory_of g t) t.file.header.fields backed number failed
+
+-- nothing that is cached waits to be written
+abbrev pub IsClean : Cached → Type 0
+IsClean cached = AreTablesClean cached × AreBlocksClean cached
 
 -- The L1 table in memory is that of the file.
 pub record IsL1Of (f : Bytes) (h : Fields) (l1 : TableValue) : Type 0 where

@@ -1,5 +1,5 @@
 -- When an image has failed behind a call, and what reading its tables anew does.
-use Rattle.std.specs.Prelude.{◌≡◌, ⊤, ℕ, Bool, true, Result, Ok, Err, OnOk, IfErr}
+use Rattle.std.specs.Prelude.{◌≡◌, ⊤, ℕ, ◌<◌, Bool, true, Result, Ok, Err, OnOk, IfErr}
 use Rattle.imago_storage.specs.State.{Rose}
 use Rattle.imago_storage.specs.Calls.{Kept, Later, IsFaultless}
 use Rattle.imago_storage.specs.declared.fault.Fault.{Fault}
@@ -35,13 +35,14 @@ WhyNotReloaded before after Memory = ⊤
 WhyNotReloaded before after Storage = Rose before after
 WhyNotReloaded before after fault = ⊥
 
--- They are read anew. The header stays but for the size and the places of tables, and where it was what the file says it stays whole.
--- Want of memory leaves what was there.
+-- They are read anew: what is in memory is then what the file says, whatever it was. The header stays but for the size and the places of
+-- tables, and where it was what the file says it stays whole. Want of memory leaves what was there.
 pub record Reloads {S : Type 0} (g : Ghosts S) (old : Tables S g) (result : Result Unit Fault) (new : Tables S g) : Type 0 where
   pub kept : Kept (g.state old.file.image) (g.state new.file.image)
   pub later : Later (g.state old.file.image) (g.state new.file.image)
   pub faults : OnOk result (IsFaultless (g.state old.file.image) (g.state new.file.image))
   pub places : with_places_of new.file.header old.file.header ≡ new.file.header
-  pub seen : IsSeen g old → OnOk result ((new.file.header ≡ old.file.header) × IsSeen g new)
+  pub anew : 0 < old.caches.l2.slots.cap → OnOk result (IsSeen g new)
+  pub same : IsSeen g old → OnOk result (new.file.header ≡ old.file.header)
   pub memory : IfErr result (λ e. e ≡ Memory → (new.file.header ≡ old.file.header) × (IsSeen g old → IsSeen g new))
   pub cause : IfErr result (WhyNotReloaded (g.state old.file.image).faults (g.state new.file.image).faults)

@@ -1,18 +1,15 @@
 // A qcow2 image as the driver of a chain.
-ghost use Rattle.std.specs.Prelude.{◌≡◌, refl, OnOk, IfOk, IfErr, None, Some};
+ghost use Rattle.std.specs.Prelude.{◌≡◌, ⊤, refl, OnOk, IfOk, IfErr};
 ghost use Rattle.std.proofs.lemmas.Nat.{pow_pos};
-ghost use Rattle.imago_storage.specs.Steps.{Call};
-ghost use Rattle.imago_storage.specs.declared.fault.Fault.{Fault};
-ghost use Rattle.imago_storage.specs.declared.fault.Fault.TheVariants.{Foreign};
-ghost use Rattle.imago_access.specs.Files.{IsKept, Pairs, WasNotCutOff, byte_in, files};
-ghost use Rattle.imago_access.specs.Failing.{Fails};
+ghost use Rattle.imago_access.specs.Failing.{Fails, RefusesLookup};
+ghost use Rattle.imago_access.specs.Files.{IsKept, Pairs, WasNotCutOff, files};
 ghost use Rattle.imago_access.specs.Going.{AtOnce, Looked, Marks};
-ghost use Rattle.imago_access.specs.Mappings.{IsRun, Looks, NamesRoom};
-ghost use Rattle.imago_access.specs.Refusals.{barrier, LookCause};
-ghost use Rattle.qcow2_image.specs.ImageLayer.{blanks};
+ghost use Rattle.imago_access.specs.Mappings.{IsRun, LooksIn, NamesRoomIn};
 ghost use Rattle.imago_access.specs.PreparingCalls.{Commits, CommitRefused, Cancels};
-ghost use Rattle.qcow2_image.specs.Rooms.{not_both, covered, of_storages};
+ghost use Rattle.imago_access.specs.Refusals.{barrier};
+ghost use Rattle.qcow2_image.specs.ImageLayer.{blanks};
 ghost use Rattle.qcow2_image.specs.Looking.{IsLongIn};
+ghost use Rattle.qcow2_image.specs.Rooms.{not_both, covered, of_storages};
 
 use crate::qcow2::{PreparedMappingState, Qcow2};
 use crate::reloading::reload;
@@ -104,14 +101,16 @@ impl<S: Storage> FormatDriverInstance for Qcow2<S> {
         max_length: u64,
     ) -> Result<(ShallowMapping, u64), Fault>
         ensures run { let d = ⟦<Qcow2<S> as Seen>⟧ in IfOk result (λ r. IsRun (d.layer self.old) offset max_length r.0 r.1) }
-        ensures looks { let d = ⟦<Qcow2<S> as Seen>⟧ in d.sees self.old → IfOk result (λ r. Looks (d.layer self.old) (byte_in (files d self.new)) offset max_length r.0 r.1) }
-        ensures room { let d = ⟦<Qcow2<S> as Seen>⟧ in d.sees self.old → IfOk result (λ r. NamesRoom (d.layer self.old) (d.vacant self.old) (d.zeroed self.old) offset r.1 r.0) }
+        ensures looks { let d = ⟦<Qcow2<S> as Seen>⟧ in d.sees self.old → IfOk result (LooksIn d offset max_length self.old self.new) }
+        ensures room { let d = ⟦<Qcow2<S> as Seen>⟧ in d.sees self.old → IfOk result (NamesRoomIn d offset self.old) }
         ensures at_once { let d = ⟦<Qcow2<S> as Seen>⟧ in AtOnce d (barrier (d.layer self.old)) (max_length ≡ 0) result self.old self.new }
         ensures looked { Looked ⟦<Qcow2<S> as Seen>⟧ (WasNotCutOff result) self.old self.new }
-        ensures began { let d = ⟦<Qcow2<S> as Seen>⟧ in OnOk result ((e : _) (call : Call) → d.began e call self.old → d.began e call self.new) }
+        ensures began { let d = ⟦<Qcow2<S> as Seen>⟧ in
+            OnOk result ((e : _) (call : _) → d.began e call self.old → d.began e call self.new) }
         ensures failed { IfErr result (Fails ⟦<Qcow2<S> as Seen>⟧ self.old self.new) }
         ensures marks { IfErr result (Marks ⟦<Qcow2<S> as Seen>⟧ self.old self.new) }
-        ensures cause { let d = ⟦<Qcow2<S> as Seen>⟧ in d.sees self.old → IfErr result (LookCause (d.layer self.old) offset max_length (files d self.old) (files d self.new)) }
+        ensures cause { let d = ⟦<Qcow2<S> as Seen>⟧ in
+            d.sees self.old → IfErr result (RefusesLookup d offset max_length self.old self.new) }
         // It makes no request but reads.
         ensures reads { let d = ⟦<Qcow2<S> as Seen>⟧ in Pairs IsKept (files d self.old) (files d self.new) }
         // A run ends with the range or the disk, or where clusters don't go on from one another under one L2 table.

@@ -14,4 +14,3 @@ mod tables;
 
 pub use builder::Qcow2OpenBuilder;
 pub use qcow2::{PreparedMappingState, Qcow2};
-pub use tables::Tables;

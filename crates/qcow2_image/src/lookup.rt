@@ -71,7 +71,8 @@ fn in_table<S: Storage>(
 ) -> Result<(L2Mapping, u64), Fault>
     requires some { 0 < most }
     requires fits { let bits = file.old.header.fields.cluster_bits in (guest + most) * 2 ^ bits < 2 ^ 64 + 2 ^ bits }
-    ensures { UsesTable S.state table (ReadsRun file.old.header.fields.cluster_bits guest most) caches.old file.old result caches.new file.new }
+    ensures { let bits = file.old.header.fields.cluster_bits in
+        UsesTable S.state table (ReadsRun bits guest most) caches.old file.old result caches.new file.new }
 {
     let cluster_bits = file.header.cluster_bits();
     match caches.l2_get_or_insert(file, table) {

@@ -1,10 +1,9 @@
 // What a qcow2 image reads of its tables: where places lie, and all of it anew.
 ghost use Rattle.std.specs.Prelude.{◌≡◌, ◌<◌, ◌≤◌, ◌+◌, ◌*◌, ◌^◌, ◌/◌, ◌%◌, ◌-◌, IfOk, IfErr, min, false};
-ghost use Rattle.imago_access.specs.Files.{WasNotCutOff, byte_in, files};
-ghost use Rattle.imago_access.specs.Failing.{Fails};
+ghost use Rattle.imago_access.specs.Files.{WasNotCutOff};
+ghost use Rattle.imago_access.specs.Failing.{Fails, RefusesLookup};
 ghost use Rattle.imago_access.specs.Going.{Looked, Marks};
-ghost use Rattle.imago_access.specs.Mappings.{IsRun, Looks, NamesRoom};
-ghost use Rattle.imago_access.specs.Refusals.{LookCause};
+ghost use Rattle.imago_access.specs.Mappings.{IsRun, LooksIn, NamesRoomIn};
 ghost use Rattle.qcow2_metadata.specs.MappingView.{mapping_seen, IsNamed};
 ghost use Rattle.qcow2_image.specs.ImageLayer.{shallow_of};
 ghost use Rattle.qcow2_image.specs.Looking.{IsLongIn};
@@ -121,13 +120,14 @@ impl<S: Storage> Qcow2<S> {
         requires some { 0 < max_length }
         requires runs { self.old.failed ≡ false }
         ensures run { let d = ⟦<Qcow2<S> as Seen>⟧ in IfOk result (λ r. IsRun (d.layer self.old) offset max_length r.0 r.1) }
-        ensures looks { let d = ⟦<Qcow2<S> as Seen>⟧ in d.sees self.old → IfOk result (λ r. Looks (d.layer self.old) (byte_in (files d self.new)) offset max_length r.0 r.1) }
-        ensures room { let d = ⟦<Qcow2<S> as Seen>⟧ in d.sees self.old → IfOk result (λ r. NamesRoom (d.layer self.old) (d.vacant self.old) (d.zeroed self.old) offset r.1 r.0) }
+        ensures looks { let d = ⟦<Qcow2<S> as Seen>⟧ in d.sees self.old → IfOk result (LooksIn d offset max_length self.old self.new) }
+        ensures room { let d = ⟦<Qcow2<S> as Seen>⟧ in d.sees self.old → IfOk result (NamesRoomIn d offset self.old) }
         ensures long { ⟦<Qcow2<S> as Seen>⟧.sees self.old → IfOk result (λ r. IsLongIn S.Storage self.old.tables offset max_length r.1) }
         ensures looked { Looked ⟦<Qcow2<S> as Seen>⟧ (WasNotCutOff result) self.old self.new }
         ensures failed { IfErr result (Fails ⟦<Qcow2<S> as Seen>⟧ self.old self.new) }
         ensures marks { IfErr result (Marks ⟦<Qcow2<S> as Seen>⟧ self.old self.new) }
-        ensures cause { let d = ⟦<Qcow2<S> as Seen>⟧ in d.sees self.old → IfErr result (LookCause (d.layer self.old) offset max_length (files d self.old) (files d self.new)) }
+        ensures cause { let d = ⟦<Qcow2<S> as Seen>⟧ in
+            d.sees self.old → IfErr result (RefusesLookup d offset max_length self.old self.new) }
     {
         let size = self.tables.file.header.size();
         let cluster_bits = self.tables.file.header.cluster_bits();

@@ -1,9 +1,7 @@
 // Why calls that change a qcow2 image are refused: it was opened for reading.
 ghost use Rattle.std.specs.Prelude.{◌≡◌, Some, None, List, IfOk, IfErr, IsOk, IsErrOf};
 ghost use Rattle.imago_storage.specs.State.{StorageState};
-ghost use Rattle.imago_storage.specs.declared.fault.Fault.{Fault};
 ghost use Rattle.imago_access.specs.Files.{IsMild, ImageCause};
-ghost use Rattle.imago_access.specs.Layer.{Layer};
 ghost use Rattle.imago_access.specs.Parts.{DeclinableCause};
 ghost use Rattle.imago_access.specs.Refusals.{own_refusal, barrier};
 
@@ -15,11 +13,12 @@ impl<S: Storage> Qcow2<S> {
     // Why a change of a range is refused. One of no bytes isn't: it is done then.
     pub(crate) fn refuse(&self, offset: u64, length: u64) -> Result<(u64, u64), Fault>
         ensures ok { IfOk result (λ r. (r ≡ (offset, 0)) × (length ≡ 0)) }
-        ensures at_once { let d = ⟦<Qcow2<S> as Seen>⟧ in (f : Fault) → own_refusal (d.layer self.now) offset length ≡ Some f → IsErrOf result f }
+        ensures at_once { (f : _) → own_refusal (⟦<Qcow2<S> as Seen>⟧.layer self.now) offset length ≡ Some f → IsErrOf result f }
         ensures idle { let d = ⟦<Qcow2<S> as Seen>⟧ in length ≡ 0 → barrier (d.layer self.now) ≡ None → IsOk result }
         ensures mild { IfErr result IsMild }
         ensures failed { (olds news : List StorageState) → IfErr result (ImageCause olds news) }
-        ensures cause { let d = ⟦<Qcow2<S> as Seen>⟧ in (below : List Layer) (olds news : List StorageState) → IfErr result (DeclinableCause below (d.layer self.now) offset length (λ _. ⊥) olds news) }
+        ensures cause { let d = ⟦<Qcow2<S> as Seen>⟧ in (below : _) (olds news : _) →
+            IfErr result (DeclinableCause below (d.layer self.now) offset length (λ _. ⊥) olds news) }
     {
         if self.failed {
             return Err(Fault::Failed);

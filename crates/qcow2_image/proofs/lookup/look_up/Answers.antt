@@ -1,5 +1,6 @@
-use Rattle.std.proofs.Common.{refl, ◌*◌, ◌^◌, ap, sym, ◌∙◌}
-use Rattle.qcow2_image.specs.Looking.{place_of_table, ReadsRun}
+use Rattle.std.proofs.Common.{◌≡◌, refl, ◌*◌, ◌^◌, Ok, Err, Some, None, ap, sym, subst, ◌∙◌}
+use Rattle.qcow2_image.specs.Looking.{place_of_table, ReadsRun, LooksAt}
+use Rattle.qcow2_metadata.specs.declared.mapping.L2Mapping.TheVariants.{Backing}
 use Rattle.qcow2_image.proofs.Found.{looks-found, looks-refused, looks-none, clean-used}
 use Rattle.qcow2_image.proofs.lookup.look_up.Goals as goal
 

@@ -1,3 +1,6 @@
+use Rattle.std.proofs.Common.{◌≡◌, ap, sym, subst}
+use Rattle.qcow2_image.specs.declared.qcow2.Qcow2.{Qcow2}
+use Rattle.qcow2_image.specs.Steps.{Reloads, failed_behind, failed_anew}
 use Rattle.qcow2_image.proofs.Settling.{anew-same, anew-marks, reloads-settled}
 use Rattle.qcow2_image.proofs.drivers.Qcow2FormatDriverInstance.invalidate_cache.Goals as goal
 

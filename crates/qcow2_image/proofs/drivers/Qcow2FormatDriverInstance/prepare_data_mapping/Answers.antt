@@ -1,4 +1,3 @@
-use Rattle.std.proofs.Common.{rules, ◌∷◌}
 use Rattle.std.specs.Prelude.{⊤}
 use Rattle.imago_access.specs.Files.{IsMild}
 use Rattle.imago_access.proofs.Looking.{looked_under_same}
@@ -9,17 +8,3 @@ returns-in-Ok-clause-below g c = looked_under_same g.B.SeenBelow ⊤ c.args._bel
 
 pub returns-in-Err-clause-below : goal.returns-in-Err-clause-below
 returns-in-Err-clause-below g c = looked_under_same g.B.SeenBelow (IsMild c.in-Err.fault) c.args._below.now
-
-pub returns-in-Err-clause-does : goal.returns-in-Err-clause-does
-returns-in-Err-clause-does g c =
-    let all = g.S.Storage.state c.args.self.now.tables.file.image ∷ g.B.SeenBelow.files_under c.args._below.now in record {
-      ok = search rules;
-      err = search rules;
-      uncut = search rules;
-      near = search rules;
-      room = search rules;
-      stops = search rules;
-      went = search rules;
-      began = search rules;
-      refused = record { failed = c.in-Err.ensures.failed all all; marks = search rules; cause = search rules };
-    }
