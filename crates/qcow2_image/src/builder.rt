@@ -101,7 +101,15 @@ impl<S: Storage> FormatDriverBuilder<S> for Qcow2OpenBuilder<S> {
 
     ghost opened = { λ b d opens. opens.1 };
 
-    fn new(image: S) -> Self {
+    fn new(image: S) -> Self
+        ensures image { ⟦<Qcow2OpenBuilder<S> as FormatDriverBuilder<S>>⟧.image_of result ≡ image }
+        ensures writable { ⟦<Qcow2OpenBuilder<S> as FormatDriverBuilder<S>>⟧.writable_of result ≡ false }
+        ensures options { ⟦<Qcow2OpenBuilder<S> as FormatDriverBuilder<S>>⟧.options_of result ≡ None }
+        ensures number { ⟦<Qcow2OpenBuilder<S> as FormatDriverBuilder<S>>⟧.number_of result ≡ 0 }
+        // Nothing is said of layers below, and the caches have their usual sizes.
+        ensures backing { result.backing ≡ None }
+        ensures entries { (result.entries.l2_tables ≡ 128) × (result.entries.refcount_blocks ≡ 32) }
+    {
         builder_for(image)
     }
 
@@ -110,7 +118,14 @@ impl<S: Storage> FormatDriverBuilder<S> for Qcow2OpenBuilder<S> {
         self
     }
 
-    fn storage_open_options(mut self, options: StorageOpenOptions) -> Self {
+    fn storage_open_options(mut self, options: StorageOpenOptions) -> Self
+        ensures image { let b = ⟦<Qcow2OpenBuilder<S> as FormatDriverBuilder<S>>⟧ in b.image_of result ≡ b.image_of self }
+        ensures writable { let b = ⟦<Qcow2OpenBuilder<S> as FormatDriverBuilder<S>>⟧ in b.writable_of result ≡ b.writable_of self }
+        ensures options { ⟦<Qcow2OpenBuilder<S> as FormatDriverBuilder<S>>⟧.options_of result ≡ Some options }
+        ensures number { let b = ⟦<Qcow2OpenBuilder<S> as FormatDriverBuilder<S>>⟧ in b.number_of result ≡ b.number_of self }
+        // Nothing else changes.
+        ensures others { result ≡ record self { base = record self.base { options = Some options } } }
+    {
         self.base.set_storage_open_options(options);
         self
     }
