@@ -188,11 +188,9 @@ impl<S: Storage> FormatDriverInstance for Qcow2<S> {
                 Ok(())
             }
             Some(state) => {
+                let fault = self.refuse_commit(&state);
                 let mapping = PreparedDataMapping::to_commit(storage, offset, length, state);
-                if self.failed {
-                    return Err((Fault::Failed, Some(mapping)));
-                }
-                Err((Fault::ReadOnly, Some(mapping)))
+                Err((fault, Some(mapping)))
             }
         }
     }

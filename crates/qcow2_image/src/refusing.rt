@@ -4,9 +4,10 @@ ghost use Rattle.imago_storage.specs.State.{StorageState};
 ghost use Rattle.imago_access.specs.Files.{IsMild, ImageCause};
 ghost use Rattle.imago_access.specs.Parts.{DeclinableCause};
 ghost use Rattle.imago_access.specs.Refusals.{own_refusal, barrier};
+ghost use Rattle.imago_access.specs.Spending.{commit_refusal, GivenBack};
 
-use crate::qcow2::Qcow2;
-use imago_access::{Seen, check_range};
+use crate::qcow2::{PreparedMappingState, Qcow2};
+use imago_access::{FormatDriverInstance, Seen, check_commit, check_range};
 use imago_storage::{Fault, Storage, larger_alignment};
 
 impl<S: Storage> Qcow2<S> {
@@ -34,6 +35,18 @@ impl<S: Storage> Qcow2<S> {
         ) {
             Ok(()) => Ok((offset, 0)),
             Err(fault) => Err(fault),
+        }
+    }
+
+    // Why a mapping with state that is to be committed is given back, as each is.
+    pub(crate) fn refuse_commit(&self, state: &PreparedMappingState) -> Fault
+        ensures at_once { let d = ⟦<Qcow2<S> as Seen>⟧ in commit_refusal d (Some state.now) (d.layer self.now) ≡ Some result }
+        ensures back { let d = ⟦<Qcow2<S> as Seen>⟧ in GivenBack d.tag (Some state.now) (d.layer self.now) result }
+        ensures failed { (olds news : List StorageState) → ImageCause olds news result }
+    {
+        match check_commit(self.ready(), self.writable(), self.number, state.number) {
+            Ok(()) => unreachable!(),
+            Err(fault) => fault,
         }
     }
 }
