@@ -97,6 +97,20 @@ impl<S: Storage> Qcow2<S> {
         &mut file.image
     }
 
+    /// How many further files it has: none.
+    pub fn extras(&self) -> usize
+        ensures { result ≡ 0 }
+    {
+        0
+    }
+
+    /// The name of one of them: no text, as there is none.
+    pub fn extra_name(&self, _i: usize) -> &str
+        ensures { result.now ≡ [] }
+    {
+        ""
+    }
+
     /// The image file again. Nothing waits to be written to it.
     pub fn into_image(self) -> S
         ensures { S.state result ≡ ⟦<Qcow2<S> as Seen>⟧.image self }
