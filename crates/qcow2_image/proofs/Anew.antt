@@ -1,29 +1,52 @@
 -- What reading the tables of an image anew leaves, and why it is refused.
-use Rattle.std.proofs.Common.{◌≤◌, arith, Bool, List, [], ◌∷◌, inl, inr}
-use Rattle.std.specs.Prelude.{filter}
-use Rattle.std.specs.List.{AllByRecursion}
+use Rattle.std.proofs.Common.{◌≡◌, ◌≢◌, ◌≤◌, ℕ, ◌+◌, refl, arith, ap, subst, sym, ◌∙◌, Bool, true, false, cond, List, [], ◌∷◌, Result, Ok, Err, inl, inr}
+use Rattle.std.specs.Prelude.{IfErr, IsOk, nat_lt}
 use Rattle.std.proofs.lemmas.Bool.{cases_Bool}
+use Rattle.std.proofs.lemmas.List.Sums.{sum_by-cons}
 use Rattle.imago_storage.specs.State.{StorageState}
-use Rattle.imago_storage.specs.Calls.{Kept, Later}
+use Rattle.imago_storage.specs.Calls.{Cause, Kept, Later}
 use Rattle.imago_storage.specs.declared.fault.Fault.{Fault}
-use Rattle.imago_storage.specs.declared.fault.Fault.TheVariants.{DamagedHeader, DamagedTable, Unsupported, Limit, Memory, Storage}
+use Rattle.imago_storage.specs.declared.fault.Fault.TheVariants.{DamagedHeader, DamagedTable, Unsupported, Limit, CacheFull, Memory, Storage}
 use Rattle.qcow2_types.specs.Bytes.{Bytes}
+use Rattle.qcow2_types.specs.Header.{Header, header_of}
 use Rattle.qcow2_metadata.specs.Loading.{NotLoaded}
+use Rattle.qcow2_metadata.specs.Updates.{with_places_of}
+use Rattle.qcow2_alloc.specs.Cache.{kept_pinned}
+use Rattle.qcow2_alloc.specs.Dropping.{Dropped}
+use Rattle.qcow2_alloc.specs.Finding.{pinned_in}
+use Rattle.qcow2_alloc.specs.declared.async_lru_cache.Slot.{Slot}
 use Rattle.qcow2_image.specs.Opening.{header_for_reading}
-use Rattle.qcow2_image.specs.Steps.{WhyNotReloaded}
+use Rattle.qcow2_image.specs.Steps.{DiffersElsewhere, WhyNotReloaded}
 use Rattle.qcow2_image.proofs.OpeningRules.{reading-refusal}
 
--- Why the header and the L1 table aren't loaded,
-pub loading-why : (f : Bytes) (s s' : StorageState) (fault : Fault) → NotLoaded (header_for_reading f) s s' fault → WhyNotReloaded s.faults s'.faults fault
-loading-why f s s' DamagedHeader why = tt
-loading-why f s s' DamagedTable why = tt
-loading-why f s s' Unsupported why = tt
-loading-why f s s' (Limit n) why = tt
-loading-why f s s' Memory why = tt
-loading-why f s s' Storage why = why
-loading-why f s s' fault why = absurd (reading-refusal f fault why.0)
+-- A storage that dropped what it has cached is the same.
+pub same-state : (s s' : StorageState) → Kept s s' → s'.faults ≡ s.faults → s' ≡ s
+same-state s s' kept faults = λ i. record {
+  shape = kept.shape i;
+  bytes = kept.bytes i;
+  faults = faults i;
+  refusals = kept.refusals i;
+  stop = kept.stop i;
+  past = kept.past i;
+}
 
--- which takes no count back.
+-- Where it refuses, nothing is loaded for that.
+pub refused-why : (r : Result Header Fault) (s s' : StorageState) (fault : Fault) → Cause s.faults s'.faults fault → NotLoaded r s s' fault
+refused-why r s s' Memory why = why
+refused-why r s s' Storage why = why
+refused-why r s s' fault why = absurd why
+
+-- Why the header and the L1 table aren't loaded,
+pub loading-why : (f : Bytes) (H : Header) (s s' : StorageState) (fault : Fault) → NotLoaded (header_for_reading f) s s' fault → WhyNotReloaded f H s.faults s'.faults fault
+loading-why f H s s' DamagedHeader why = why.0
+loading-why f H s s' DamagedTable why = why.0
+loading-why f H s s' Unsupported why = inl why.0
+loading-why f H s s' (Limit n) why = why.0
+loading-why f H s s' Memory why = tt
+loading-why f H s s' Storage why = why
+loading-why f H s s' fault why = absurd (reading-refusal f fault why.0)
+
+-- which takes no count back,
 pub loading-later : (f : Bytes) (s s' : StorageState) (fault : Fault) → NotLoaded (header_for_reading f) s s' fault → Kept s s' → Later s s'
 loading-later f s s' fault why kept = record { faults = from fault why; refusals = omega (arith, kept.refusals) } where
   from : (fault : Fault) → NotLoaded (header_for_reading f) s s' fault → s.faults ≤ s'.faults
@@ -31,10 +54,41 @@ loading-later f s s' fault why kept = record { faults = from fault why; refusals
   from Storage why = why.kept
   from fault why = omega (arith, why.1)
 
--- What is true of each entry is of those that stay.
-pub all-kept : {X : Type 0} (P : X → Type 0) (test : X → Bool) (xs : List X) → AllByRecursion P xs → AllByRecursion P (filter test xs)
-all-kept P test [] all = tt
-all-kept P test (x ∷ xs) all = elim (cases_Bool (test x)) [
-  | inl stays ↦ rw stays (all.0, all-kept P test xs all.1)
-  | inr goes ↦ rw goes (all-kept P test xs all.1)
-]
+-- in memory or in the storage where the file breaks no rule,
+pub known-why : (f : Bytes) (H : Header) (s s' : StorageState) (fault : Fault) → header_for_reading f ≡ Ok H → NotLoaded (header_for_reading f) s s' fault → Cause s.faults s'.faults fault
+known-why f H s s' Memory loads why = why
+known-why f H s s' Storage loads why = why
+known-why f H s s' fault loads why = absurd (cc (sym loads ∙ why.0))
+
+-- and why a header that was loaded isn't taken over.
+pub updating-why : (f : Bytes) (H H' : Header) (a b : ℕ) (fault : Fault) → header_for_reading f ≡ Ok H' → with_places_of H' H ≢ H' → fault ≡ Unsupported → WhyNotReloaded f H a b fault
+updating-why f H H' a b fault loads differs is =
+    subst (WhyNotReloaded f H a b) (sym is) (inr (subst (λ r. DiffersElsewhere r H) (sym loads) differs))
+
+-- What is in memory already is taken over.
+pub never-differs : (f : Bytes) (H H' : Header) → header_of false f ≡ Ok H → header_of false f ≡ Ok H' → with_places_of H' H ≢ H' → ⊥
+never-differs f H H' was loads differs =
+    let same : H' ≡ H = cc (sym loads ∙ was) in
+    differs (subst (λ x. with_places_of x H ≡ x) (sym same) refl)
+
+module _ {V : Type 0} where
+  -- Where nothing is pinned nothing is kept,
+  none-kept : (es : List (ℕ × Slot V)) → pinned_in es ≡ 0 → kept_pinned es ≡ []
+  none-kept [] none = refl
+  none-kept (e ∷ es) none =
+      let own : pinned_in (e ∷ es) ≡ cond (nat_lt 0 e.1.pins) 1 0 + pinned_in es = sum_by-cons (λ x. cond (nat_lt 0 x.1.pins) 1 0) e es in
+      elim (cases_Bool (nat_lt 0 e.1.pins)) [
+        | inl held ↦ let one = own ∙ ap (λ b. cond b 1 0 + pinned_in es) held in absurd (omega (arith, one, none))
+        | inr free ↦ let rest = own ∙ ap (λ b. cond b 1 0 + pinned_in es) free in rw free (none-kept es (omega (arith, rest, none)))
+      ]
+
+  -- so that all is dropped,
+  pub drops-all : (es es' : List (ℕ × Slot V)) (result : Result Unit Fault) → Dropped es result es' → pinned_in es ≡ 0 → es' ≡ []
+  drops-all es es' result dropped none = dropped.kept ∙ none-kept es none
+
+  -- and nothing refuses that.
+  pub drops-ok : (es es' : List (ℕ × Slot V)) (result : Result Unit Fault) → Dropped es result es' → pinned_in es ≡ 0 → IsOk result
+  drops-ok es es' result dropped none = from result dropped.err where
+    from : (r : Result Unit Fault) → IfErr r (λ fault. (fault ≡ CacheFull) × (kept_pinned es ≡ [] → ⊥)) → IsOk r
+    from (Ok done) stays = refl
+    from (Err fault) stays = absurd (stays.1 (none-kept es none))

@@ -4,33 +4,17 @@ use Rattle.std.specs.Prelude.{◌⊎◌, IsOk, IfOk, OnOk, OnErr, IsSome, Bool, 
 use Rattle.std.specs.List.{AllByRecursion}
 use Rattle.std.specs.Option.{option_map, option_map_or}
 use Rattle.std.specs.Map.{lookup, remove_entry}
-use Rattle.std.specs.Borrow.{MutBor}
 use Rattle.std.proofs.lemmas.Bool.{cases_Bool}
-use Rattle.imago_storage.specs.State.{StorageState}
 use Rattle.imago_storage.specs.declared.fault.Fault.{Fault}
 use Rattle.qcow2_types.specs.Bytes.{Bytes}
 use Rattle.qcow2_types.specs.Header.{Fields, words_of_cluster, cluster_size}
 use Rattle.qcow2_metadata.specs.Tables.{TableValue, table_in, words_in}
 use Rattle.qcow2_alloc.specs.Cache.{hit, victim}
-use Rattle.qcow2_alloc.specs.Caches.{cached_in}
-use Rattle.qcow2_alloc.specs.CachesLending.{with_tables}
-use Rattle.qcow2_alloc.specs.Finding.{TableFound, Sought, with_room}
+use Rattle.qcow2_alloc.specs.Finding.{Sought, with_room}
 use Rattle.qcow2_alloc.specs.Memory.{written_table}
 use Rattle.qcow2_alloc.specs.declared.async_lru_cache.Slot.{Slot}
-use Rattle.qcow2_alloc.specs.declared.cache.MetadataCaches.{MetadataCaches}
-use Rattle.qcow2_alloc.specs.declared.file.ImageFile.{ImageFile}
 use Rattle.qcow2_alloc.proofs.Places.{Place, place-of-key, place-hit, slot-of}
 use Rattle.qcow2_image.specs.Seen.{IsOfFile}
-use Rattle.qcow2_image.specs.Looking.{UsesTable, TableUsed}
-
--- The contract of a search that lends its table says how the table is used.
-pub table-used : {S T : Type 0} (state : S → StorageState) (cluster : ℕ) (does : TableValue → Result T Fault → TableValue → Type 0) (old : MetadataCaches S) (before : ImageFile S) (new : MetadataCaches S) (after : ImageFile S) (lent : Result (MutBor TableValue) Fault) (table : MutBor TableValue) (result : Result T Fault) (table' : TableValue)
-    → lent ≡ Ok table
-    → (IsOk lent → (mid : MetadataCaches S) × TableFound state cluster old before (Ok tt) mid after × IfOk lent (λ v. option_map (λ s. s.value) (lookup (nat_eq cluster) (cached_in mid).tables) ≡ Some v.now) × (new ≡ with_tables mid (hit (nat_eq cluster) (cached_in mid).tables table')))
-    → does table.now result table' → UsesTable state cluster does old before result new after
-table-used state cluster does old before new after lent table result table' is holds used =
-    let h = subst (λ r. IsOk r → (mid : MetadataCaches _) × TableFound state cluster old before (Ok tt) mid after × IfOk r (λ v. option_map (λ s. s.value) (lookup (nat_eq cluster) (cached_in mid).tables) ≡ Some v.now) × (new ≡ with_tables mid (hit (nat_eq cluster) (cached_in mid).tables table'))) is holds refl in
-    inr (record { mid = h.0; found = h.1; table = table.now; table' = table'; there = h.2; used = used; left = h.3 })
 
 -- An entry that is used goes first: each is as it was.
 all-move : {X : Type 0} (P : X → Type 0) (front : List X) (x : X) (back : List X) → AllByRecursion P (front ++ x ∷ back) → AllByRecursion P (x ∷ front ++ back)

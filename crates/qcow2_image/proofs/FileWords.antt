@@ -14,16 +14,22 @@ use Rattle.qcow2_types.proofs.WriteBack.{place-whole, place-near}
 use Rattle.qcow2_metadata.specs.Tables.{TableValue, IsTable, HasUnsound, word_sound, l2_words, words_in, mapping_in}
 use Rattle.qcow2_metadata.specs.Places.{IsInReach}
 use Rattle.qcow2_metadata.proofs.TableFacts.{words_long, words_at}
-use Rattle.qcow2_image.specs.Seen.{IsL1Of}
+use Rattle.qcow2_alloc.specs.Opening.{IsL1Of}
 use Rattle.qcow2_image.specs.Looking.{place_of_table}
 
 -- The words of a file.
 module _ (f : Bytes) (h : Fields) (top : TableValue) (of : IsL1Of f h top) where
+  top-long : length top.words ≡ h.l1_entries
+  top-long = ap length of.words ∙ words_long f h.l1_offset h.l1_entries
+
+  top-word : (i : ℕ) → i < h.l1_entries → slice_index top.words i ≡ word f h.l1_offset i
+  top-word i inside = ap (λ (ws : List ℕ). slice_index ws i) of.words ∙ words_at f h.l1_offset h.l1_entries i inside
+
   -- The L1 table in memory says where the L2 tables are.
   place-in-file : (i : ℕ) → l2_table f h i ≡ table_offset (slice_index top.words i)
   place-in-file i = elim (cases_lt i h.l1_entries) [
-    | inl inside ↦ rw (lt-ltb i h.l1_entries inside) (ap table_offset (sym (of.words i inside)))
-    | inr behind ↦ rw (le-ltb i h.l1_entries behind) (ap table_offset (sym (get_or_past top.words i 0 (omega (arith, of.long, behind)))))
+    | inl inside ↦ rw (lt-ltb i h.l1_entries inside) (ap table_offset (sym (top-word i inside)))
+    | inr behind ↦ rw (le-ltb i h.l1_entries behind) (ap table_offset (sym (get_or_past top.words i 0 (omega (arith, top-long, behind)))))
   ]
 
   -- So a guest cluster is what its word says.
@@ -39,8 +45,8 @@ module _ (f : Bytes) (h : Fields) (top : TableValue) (of : IsL1Of f h top) where
         let w = word f h.l1_offset i in
         let here : l1_word_sound h.cluster_bits w ≡ true = all-below h.l1_entries (λ k. l1_word_sound h.cluster_bits (word f h.l1_offset k)) of.sound i inside in
         let parts = and_parts ((bits_at w 0 9 == 0) && (bits_at w 56 7 == 0)) (is_place h.cluster_bits (table_offset w)) here in
-        subst (λ (x : ℕ). IsTrue (is_place h.cluster_bits (table_offset x))) (sym (of.words i inside)) parts.1
-    | inr behind ↦ subst (λ (x : ℕ). IsTrue (is_place h.cluster_bits (table_offset x))) (sym (get_or_past top.words i 0 (omega (arith, of.long, behind)))) (zero-place h.cluster_bits)
+        subst (λ (x : ℕ). IsTrue (is_place h.cluster_bits (table_offset x))) (sym (top-word i inside)) parts.1
+    | inr behind ↦ subst (λ (x : ℕ). IsTrue (is_place h.cluster_bits (table_offset x))) (sym (get_or_past top.words i 0 (omega (arith, top-long, behind)))) (zero-place h.cluster_bits)
   ]
 
   module _ (guest : ℕ) where

@@ -25,35 +25,38 @@ use Rattle.qcow2_metadata.specs.declared.mapping.L2Mapping.TheVariants.{Backing}
 use Rattle.qcow2_alloc.specs.Cache.{hit}
 use Rattle.qcow2_alloc.specs.Caches.{cached_in}
 use Rattle.qcow2_alloc.specs.CachesLending.{with_tables}
-use Rattle.qcow2_alloc.specs.Finding.{TableFound, WhyNotFound, IsPinnedFull, IsTableFine, Sought, pinned_in}
+use Rattle.qcow2_alloc.specs.Finding.{TableFound, WhyNotFound, IsPinnedFull, IsTableFine, Sought}
 use Rattle.qcow2_alloc.specs.Going as Going
 use Rattle.qcow2_alloc.specs.Going.{AreTablesInReach, AreBlocksInReach}
-use Rattle.qcow2_alloc.specs.Memory.{Cached, written_table}
+use Rattle.qcow2_alloc.specs.Allocators.{UsesTable, TableUsed}
+use Rattle.qcow2_alloc.specs.Memory.{Cached, written_table, written_block}
+use Rattle.qcow2_alloc.specs.Opening.{IsL1Of}
 use Rattle.qcow2_alloc.specs.Safety.{AreTablesClean, AreBlocksClean}
 use Rattle.qcow2_alloc.specs.declared.async_lru_cache.Slot.{Slot}
 use Rattle.qcow2_alloc.specs.declared.cache.MetadataCaches.{MetadataCaches}
 use Rattle.qcow2_alloc.specs.declared.file.ImageFile.{ImageFile}
-use Rattle.qcow2_alloc.proofs.Pins.{pins-hit, full-pinned}
+use Rattle.qcow2_alloc.proofs.Pins.{pins-hit, pins-written, full-pinned}
 use Rattle.qcow2_image.specs.declared.tables.Tables.{Tables}
-use Rattle.qcow2_image.specs.Seen.{IsL1Of, IsOfFile, IsSeen, file_of}
-use Rattle.qcow2_image.specs.Looking.{cluster_named, place_of_table, Follows, IsRunOf, ReadsRun, UsesTable, TableUsed, LooksAt, WhyNotLooked}
+use Rattle.qcow2_image.specs.Caching.{IsLoose}
+use Rattle.qcow2_image.specs.Seen.{IsOfFile, IsSeen, file_of}
+use Rattle.qcow2_image.specs.Looking.{cluster_named, place_of_table, Follows, IsRunOf, ReadsRun, LooksAt, WhyNotLooked}
 use Rattle.qcow2_image.proofs.Runs.{run-same}
 use Rattle.qcow2_image.proofs.FileWords.{entry-of-file, entry-of-unsound, entry-of-none, named-in-reach}
 use Rattle.qcow2_image.proofs.CachedTables.{all-hit, one-hit, of-search}
 
--- Why it was refused, once a full cache is said to be a damaged table.
-why-cause : (fine full damage : Type 0) (a b : ℕ) (fault fault' : Fault) → (fault ≡ CacheFull → fault' ≡ DamagedTable) → ((fault ≡ CacheFull → ⊥) → fault' ≡ fault) → ((fine → ⊥) → damage) → (full → damage) → WhyNotFound fine full a b fault → WhyNotLooked damage a b fault'
-why-cause fine full damage a b Memory fault' f o d n why = subst (WhyNotLooked damage a b) (sym (o (λ e. absurd (cc e)))) tt
-why-cause fine full damage a b Storage fault' f o d n why = subst (WhyNotLooked damage a b) (sym (o (λ e. absurd (cc e)))) why
-why-cause fine full damage a b DamagedTable fault' f o d n why = subst (WhyNotLooked damage a b) (sym (o (λ e. absurd (cc e)))) (d why)
-why-cause fine full damage a b CacheFull fault' f o d n why = subst (WhyNotLooked damage a b) (sym (f refl)) (n why)
-why-cause fine full damage a b fault fault' f o d n why = absurd why
+-- Why it was refused: no cache is ever full.
+why-cause : (fine full damage : Type 0) (a b : ℕ) (fault : Fault) → ((fine → ⊥) → damage) → (full → ⊥) → WhyNotFound fine full a b fault → WhyNotLooked damage a b fault
+why-cause fine full damage a b Memory broken never why = tt
+why-cause fine full damage a b Storage broken never why = why
+why-cause fine full damage a b DamagedTable broken never why = broken why
+why-cause fine full damage a b CacheFull broken never why = absurd (never why)
+why-cause fine full damage a b fault broken never why = absurd why
 
--- It was cut off then by what cut off the search.
-cut-off : (fault fault' : Fault) → ((fault ≡ CacheFull → ⊥) → fault' ≡ fault) → IsMild fault' → Going.IsMild fault
-cut-off Memory fault' o mild = subst IsMild (o (λ e. absurd (cc e))) mild
-cut-off Storage fault' o mild = subst IsMild (o (λ e. absurd (cc e))) mild
-cut-off fault fault' o mild = tt
+-- It was cut off by what cut off the search.
+cut-off : (fault : Fault) → IsMild fault → Going.IsMild fault
+cut-off Memory mild = mild
+cut-off Storage mild = mild
+cut-off fault mild = tt
 
 -- What is clean is in reach.
 tables-in-reach : (cached : Cached) → AreTablesClean cached → AreTablesInReach cached
@@ -90,18 +93,15 @@ module _ {S : Type 0} (g : Ghosts S) (guest most table : ℕ) (old new : Tables 
         (subst (λ (b : List ℕ). Sought written_table old.caches.l2.slots.cap table (table_in (bytes_of b) H.fields table (words_of_cluster H.fields)) (cached_in old.caches).tables answer (cached_in mid).tables) still.0.bytes found.sought) seen.tables
 
     -- What is cached was cached or is the file's, so that all is seen still.
-    seen-then : AllByRecursion (IsOfFile (file_of g old) H.fields) (cached_in new.caches).tables → pinned_in (cached_in new.caches).tables ≤ pinned_in (cached_in mid).tables → new.caches.l2.slots.cap ≡ mid.l2.slots.cap → IsSeen g old → IsSeen g new
-    seen-then tables pins cap seen =
+    seen-then : AllByRecursion (IsOfFile (file_of g old) H.fields) (cached_in new.caches).tables → IsSeen g old → IsSeen g new
+    seen-then tables seen =
         let bytes : file_of g new ≡ file_of g old = ap bytes_of still.0.bytes in
         let header : new.file.header ≡ old.file.header = found.others.1 in
-        let loose : pinned_in (cached_in mid).tables ≤ pinned_in (cached_in old.caches).tables = found.sought.pinned.among (λ _. true) in
         record {
           loads = rw (bytes, header) seen.loads;
           inside = rw header seen.inside;
           l1 = rw (bytes, header, l1) seen.l1;
           tables = rw (bytes, header) tables;
-          loose = omega (arith, pins, loose, seen.loose);
-          room = rw (cap, found.room.tables) seen.room;
         }
 
   -- A table that is found and stays.
@@ -110,12 +110,8 @@ module _ {S : Type 0} (g : Ghosts S) (guest most table : ℕ) (old new : Tables 
     left = u.left ∙ ap (λ x. with_tables u.mid (hit (nat_eq table) (cached_in u.mid).tables x)) same
 
     seen-used : IsSeen g old → IsSeen g new
-    seen-used seen =
-        let pins : pinned_in (hit (nat_eq table) (cached_in u.mid).tables u.table) ≤ pinned_in (cached_in u.mid).tables = (pins-hit table (cached_in u.mid).tables u.table).among (λ _. true) in
-        seen-then u.mid (Ok tt) u.found
+    seen-used seen = seen-then u.mid (Ok tt) u.found
         (rw left (all-hit (IsOfFile (file_of g old) H.fields) table (cached_in u.mid).tables u.table u.there (tables-found u.mid (Ok tt) u.found seen)))
-        (rw left pins)
-        (ap (λ (c : MetadataCaches S). c.l2.slots.cap) left)
         seen
 
     of-file : IsSeen g old → (u.table.layout ≡ layout_of H.fields) × (u.table.words ≡ words_in (file_of g old) (table * cluster_size H.fields) (words_of_cluster H.fields))
@@ -131,7 +127,7 @@ module _ {S : Type 0} (g : Ghosts S) (guest most table : ℕ) (old new : Tables 
         let there : place_of_table old.l1.words H.fields.cluster_bits (guest + k) ≡ Some table = ap (λ x. cluster_named H.fields.cluster_bits (slice_index old.l1.words x)) row ∙ named in
         entry-of-file (file_of g old) H.fields old.l1 u.table (guest + k) table seen.l1 there fits is.0 is.1 (in-row guest most (words_of_cluster H.fields) k whole lt)
 
-  pub looks-found : (run : L2Mapping × ℕ) → guest % words_of_cluster H.fields + most ≤ words_of_cluster H.fields → UsesTable g.state table (ReadsRun H.fields.cluster_bits guest most) old.caches old.file (Ok run) new.caches new.file → LooksAt g guest most old (Ok run) new
+  looks-found : (run : L2Mapping × ℕ) → guest % words_of_cluster H.fields + most ≤ words_of_cluster H.fields → UsesTable g.state table (ReadsRun H.fields.cluster_bits guest most) old.caches old.file (Ok run) new.caches new.file → LooksAt g guest most old (Ok run) new
   looks-found run whole (inl refused) = absurd (cc refused.1)
   looks-found run whole (inr u) =
       let used = u.used.ok in record {
@@ -159,31 +155,26 @@ module _ {S : Type 0} (g : Ghosts S) (guest most table : ℕ) (old new : Tables 
         blocks-in-reach (cached_in old.caches) old.clean.1,
       ))
 
-  not-full : IsSeen g old → IsPinnedFull old.caches.l2.slots.cap (cached_in old.caches).tables → ⊥
-  not-full seen full = omega (arith, full-pinned (cached_in old.caches).tables full, seen.loose, seen.room)
+  never-full : IsPinnedFull old.caches.l2.slots.cap (cached_in old.caches).tables → ⊥
+  never-full full = omega (arith, full-pinned (cached_in old.caches).tables full, old.loose.0, old.loose.2)
 
-  pub looks-refused : (fault fault' : Fault) → (fault ≡ CacheFull → fault' ≡ DamagedTable) → ((fault ≡ CacheFull → ⊥) → fault' ≡ fault)
-      → UsesTable g.state table (ReadsRun H.fields.cluster_bits guest most) old.caches old.file (Err fault) new.caches new.file → LooksAt g guest most old (Err fault') new
-  looks-refused fault fault' full others (inl r) =
-      let is : fault ≡ r.0 = cc r.1 in
-      let found = r.2 in
-      let f = subst (λ x. x ≡ CacheFull → fault' ≡ DamagedTable) is full in
-      let o = subst (λ x. (x ≡ CacheFull → ⊥) → fault' ≡ x) is others in
-      let kept = (still new.caches (Err r.0) found).0 in record {
+  looks-refused : (fault : Fault) → UsesTable g.state table (ReadsRun H.fields.cluster_bits guest most) old.caches old.file (Err fault) new.caches new.file → LooksAt g guest most old (Err fault) new
+  looks-refused fault (inl r) =
+      let found : TableFound g.state table old.caches old.file (Err fault) new.caches new.file = subst (λ x. TableFound g.state table old.caches old.file (Err x) new.caches new.file) (sym (cc r.1)) r.2 in
+      let kept = (still new.caches (Err fault) found).0 in record {
         kept = kept;
         later = found.going.later;
-        faults = λ mild. found.going.faults (cut-off r.0 fault' o mild);
+        faults = λ mild. found.going.faults (cut-off fault mild);
         header = found.others.1;
         l1 = l1;
-        seen = λ seen. seen-then new.caches (Err r.0) found (tables-found new.caches (Err r.0) found seen) (omega arith) refl seen;
+        seen = λ seen. seen-then new.caches (Err fault) found (tables-found new.caches (Err fault) found seen) seen;
         says = λ seen. tt;
         named = tt;
-        failed = why-cause _ _ ⊤ (g.state old.file.image).faults (g.state new.file.image).faults r.0 fault' f o (λ x. tt) (λ x. tt) found.cause;
-        cause = λ seen. why-cause _ _ _ (g.state old.file.image).faults (g.state new.file.image).faults r.0 fault' f o (not-fine kept seen) (λ x. absurd (not-full seen x)) found.cause;
+        failed = why-cause _ _ ⊤ (g.state old.file.image).faults (g.state new.file.image).faults fault (λ x. tt) never-full found.cause;
+        cause = λ seen. why-cause _ _ _ (g.state old.file.image).faults (g.state new.file.image).faults fault (not-fine kept seen) never-full found.cause;
       }
-  looks-refused fault fault' full others (inr u) =
-      let err = u.used.err in
-      let is : fault' ≡ DamagedTable = others (λ e. absurd (cc (sym err.0 ∙ e))) ∙ err.0 in record {
+  looks-refused fault (inr u) =
+      let err = u.used.err in record {
         kept = (still u.mid (Ok tt) u.found).0;
         later = u.found.going.later;
         faults = λ mild. u.found.going.faults tt;
@@ -192,11 +183,15 @@ module _ {S : Type 0} (g : Ghosts S) (guest most table : ℕ) (old new : Tables 
         seen = seen-used (ReadsRun H.fields.cluster_bits guest most) (Err fault) u u.used.same;
         says = λ seen. tt;
         named = tt;
-        failed = subst (WhyNotLooked ⊤ (g.state old.file.image).faults (g.state new.file.image).faults) (sym is) tt;
+        failed = subst (WhyNotLooked ⊤ (g.state old.file.image).faults (g.state new.file.image).faults) (sym err.0) tt;
         cause = λ seen. absurd (err.1 (ap (λ (l : Layout). l.cluster_bits) (of-file (ReadsRun H.fields.cluster_bits guest most) (Err fault) u u.used.same seen).0));
       }
 
--- What a look at a table leaves clean.
+  pub looks-used : (result : Result (L2Mapping × ℕ) Fault) → guest % words_of_cluster H.fields + most ≤ words_of_cluster H.fields → UsesTable g.state table (ReadsRun H.fields.cluster_bits guest most) old.caches old.file result new.caches new.file → LooksAt g guest most old result new
+  looks-used (Ok run) whole used = looks-found run whole used
+  looks-used (Err fault) whole used = looks-refused fault used
+
+-- What a look at a table leaves clean,
 pub clean-used : {S T : Type 0} (state : S → StorageState) (table : ℕ) (does : TableValue → Result T Fault → TableValue → Type 0) (old : MetadataCaches S) (before : ImageFile S) (result : Result T Fault) (new : MetadataCaches S) (after : ImageFile S)
     → ((t t' : TableValue) (r : Result T Fault) → does t r t' → t' ≡ t) → AreTablesClean (cached_in old) × AreBlocksClean (cached_in old) → UsesTable state table does old before result new after → AreTablesClean (cached_in new) × AreBlocksClean (cached_in new)
 clean-used state table does old before result new after stays clean (inl r) = let still = r.2.still clean.0 clean.1 in (still.1, still.2)
@@ -204,6 +199,22 @@ clean-used state table does old before result new after stays clean (inr u) =
     let still = u.found.still clean.0 clean.1 in
     let left : new ≡ with_tables u.mid (hit (nat_eq table) (cached_in u.mid).tables u.table) = u.left ∙ ap (λ x. with_tables u.mid (hit (nat_eq table) (cached_in u.mid).tables x)) (stays u.table u.table' result u.used) in
     rw left (all-hit (λ e. e.1.value.modified ≡ false) table (cached_in u.mid).tables u.table u.there still.1, still.2)
+
+-- and loose.
+module _ {S : Type 0} (state : S → StorageState) (table : ℕ) (old : MetadataCaches S) (before : ImageFile S) where
+  loose-found : (answer : Result Unit Fault) (new : MetadataCaches S) (after : ImageFile S) → TableFound state table old before answer new after → IsLoose old → IsLoose new
+  loose-found answer new after found loose = (
+    (let less = found.sought.pinned.among (λ _. true) in omega (arith, less, loose.0)),
+    (let less = (pins-written written_block (λ e. e.0) (λ e. e.1.pins) (λ e. (refl, refl)) (cached_in old).blocks (cached_in new).blocks found.blocks).among (λ _. true) in omega (arith, less, loose.1)),
+    omega (arith, found.room.tables, loose.2),
+  )
+
+  pub loose-used : {T : Type 0} (does : TableValue → Result T Fault → TableValue → Type 0) (result : Result T Fault) (new : MetadataCaches S) (after : ImageFile S) → IsLoose old → UsesTable state table does old before result new after → IsLoose new
+  loose-used does result new after loose (inl r) = loose-found (Err r.0) new after r.2 loose
+  loose-used does result new after loose (inr u) =
+      let mid = loose-found (Ok tt) u.mid after u.found loose in
+      let less = (pins-hit table (cached_in u.mid).tables u.table').among (λ _. true) in
+      rw u.left (omega (arith, less, mid.0), mid.1, mid.2)
 
 -- Where the L1 table names none, all that it would map is unmapped.
 pub looks-none : {S : Type 0} (g : Ghosts S) (guest most offset : ℕ) (old : Tables S g) → offset ≡ guest * 2 ^ old.file.header.fields.cluster_bits → 0 < most → guest % words_of_cluster old.file.header.fields + most ≤ words_of_cluster old.file.header.fields

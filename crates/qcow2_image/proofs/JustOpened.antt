@@ -12,12 +12,12 @@ use Rattle.qcow2_types.specs.Header.{Fields, Header, header_of, has_external_dat
 use Rattle.qcow2_types.specs.Consistency.{Consistent, leaks}
 use Rattle.qcow2_types.specs.Over.{over}
 use Rattle.qcow2_alloc.specs.Caches.{cached_in, order_of}
-use Rattle.qcow2_alloc.specs.Finding.{pinned_in}
 use Rattle.qcow2_alloc.specs.Memory.{Cached, memory}
+use Rattle.qcow2_alloc.specs.Opening.{IsL1Of}
 use Rattle.qcow2_alloc.specs.Safety.{AreTablesClean, AreBlocksClean}
 use Rattle.qcow2_alloc.proofs.LoadingTable.{verdict-consistent}
 use Rattle.qcow2_alloc.specs.declared.cache.CacheDependency.TheVariants.{Unset}
-use Rattle.qcow2_image.specs.Seen.{IsL1Of, IsOfFile, file_of, memory_of}
+use Rattle.qcow2_image.specs.Seen.{IsOfFile, file_of, memory_of}
 use Rattle.qcow2_image.specs.ImageLayer.{qcow2_layer, meaning_of, blank_of}
 use Rattle.qcow2_image.specs.Rooms.{IsSafe}
 use Rattle.qcow2_image.specs.Opening.{IsJustOpened, is_qcow2}
@@ -29,7 +29,7 @@ use Rattle.qcow2_image.proofs.Probing.{header-begins}
 module _ {S : Type 0} (g : Ghosts S) (before : StorageState) (l2_tables refcount_blocks : ℕ) (t : Tables S g) (same : g.state t.file.image ≡ before)
     (loads : header_of false (bytes_of before.bytes) ≡ Ok t.file.header) (inside : has_external_data t.file.header.fields ≡ false) (l1 : IsL1Of (bytes_of before.bytes) t.file.header.fields t.l1)
     (empty : cached_in t.caches ≡ record { tables = []; blocks = [] }) (unordered : order_of t.caches ≡ Unset)
-    (tables : t.caches.l2.slots.cap ≡ l2_tables) (blocks : t.caches.rb.slots.cap ≡ refcount_blocks) (some : 0 < l2_tables) where
+    (tables : t.caches.l2.slots.cap ≡ l2_tables) (blocks : t.caches.rb.slots.cap ≡ refcount_blocks) where
   -- The metadata, by what was loaded of the file.
   pub just-opened : IsJustOpened g before l2_tables refcount_blocks t
   just-opened = record {
@@ -40,8 +40,6 @@ module _ {S : Type 0} (g : Ghosts S) (before : StorageState) (l2_tables refcount
       inside = inside;
       l1 = subst (λ (s : StorageState). IsL1Of (bytes_of s.bytes) t.file.header.fields t.l1) (sym same) l1;
       tables = subst (λ (c : Cached). AllByRecursion (IsOfFile (file_of g t) t.file.header.fields) c.tables) (sym empty) tt;
-      loose = ap (λ (c : Cached). pinned_in c.tables) empty;
-      room = omega (arith, tables, some);
     };
     empty = empty;
     unordered = unordered;

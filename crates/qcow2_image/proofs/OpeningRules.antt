@@ -18,7 +18,7 @@ use Rattle.qcow2_metadata.specs.Places.{IsInReach}
 use Rattle.qcow2_metadata.specs.Tables.{TableValue, AreSound, HasUnsound, WhyNotLoaded, l1_words, table_in, words_in}
 use Rattle.qcow2_metadata.proofs.Refusals.{IsRefusal, header-refusal}
 use Rattle.qcow2_metadata.proofs.TableFacts.{words_long, words_at}
-use Rattle.qcow2_image.specs.Seen.{IsL1Of}
+use Rattle.qcow2_alloc.specs.Opening.{IsL1Of}
 use Rattle.qcow2_image.specs.Opening.{WhyNotOpened, header_for_reading, rules_of_opening}
 
 -- the refusals of a header by its bytes, and of an L1 table
@@ -104,8 +104,8 @@ module _ (f : Bytes) where
         pub table-loaded : (table : TableValue) → table ≡ table_in f H.fields cluster H.fields.l1_entries → AreSound l1_words (layout_of H.fields) words → IsL1Of f H.fields table
         unfolding l1_table_sound
         table-loaded table is sound = record {
-          long = ap (λ (t : TableValue). length t.words) is ∙ long;
-          words = λ i inside. ap (λ (t : TableValue). slice_index t.words i) is ∙ word-of i inside;
+          layout = ap (λ (t : TableValue). t.layout) is;
+          words = ap (λ (t : TableValue). t.words) is ∙ ap (λ p. words_in f p H.fields.l1_entries) place;
           sound = all-below-holds H.fields.l1_entries (λ i. l1_word_sound H.fields.cluster_bits (word f H.fields.l1_offset i))
               (λ i inside. subst (λ w. l1_word_sound H.fields.cluster_bits w ≡ true) (word-of i inside) (sound i (omega (arith, long, inside))));
         }

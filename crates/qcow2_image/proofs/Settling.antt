@@ -1,6 +1,6 @@
 -- What requests that change nothing do to an image.
 use Rattle.std.proofs.Common.{◌≡◌, ℕ, ◌≤◌, refl, arith, ap, sym, subst, ◌∙◌, Bool, true, false, List, [], ◌∷◌, Some, None, Result, Ok, Err, inl, inr}
-use Rattle.std.specs.Prelude.{⊤, ◌⊎◌, IsTrue, IsOk, OnOk, IfErr, MatchResult, ltb, if◌then◌else◌}
+use Rattle.std.specs.Prelude.{⊤, ◌⊎◌, IsTrue, IsOk, OnOk, OnErr, IfErr, MatchResult, ltb, if◌then◌else◌}
 use Rattle.std.specs.Borrow.{RattleType}
 use Rattle.imago_storage.specs.State.{Shape, StorageState, Rose}
 use Rattle.imago_storage.specs.Calls.{Kept, Later, IsFaultless, Cause, CountsFaults}
@@ -45,8 +45,6 @@ module _ {S : Type 0} (g : Ghosts S) (old new : Tables S g) (kept : Kept (g.stat
         inside = rw header seen.inside;
         l1 = rw (bytes, header, l1) seen.l1;
         tables = rw (bytes, header, caches) seen.tables;
-        loose = rw caches seen.loose;
-        room = rw caches seen.room;
       }
 
 -- Where nothing waits, the file by itself means the disk.
@@ -90,17 +88,18 @@ module _ (R : RattleType) (st : Ghosts R.Denot) (sd : mir.Syntax.Dict) (dd : mir
   }
 
   pub anew-same : IsSeen st old.tables → OnOk result ((layer_of new ≡ layer_of old) × IsSeen st new.tables)
-  anew-same seen = from result failed (all.same seen) (all.anew seen.room) where
+  anew-same seen = from result failed (all.same seen) all.anew where
     from : (r : Result Unit Fault) → new.failed ≡ failed_behind failed_anew r old.failed → OnOk r (new.tables.file.header ≡ old.tables.file.header) → OnOk r (IsSeen st new.tables) → OnOk r ((layer_of new ≡ layer_of old) × IsSeen st new.tables)
     from (Ok v) same header anew = (layer-same same header, anew)
     from (Err fault) same header anew = tt
 
   pub anew-marks : IfErr result (Marks sees old new)
-  anew-marks = from result failed all.memory where
-    from : (r : Result Unit Fault) → new.failed ≡ failed_behind failed_anew r old.failed → IfErr r (λ e. e ≡ Memory → (new.tables.file.header ≡ old.tables.file.header) × (IsSeen st old.tables → IsSeen st new.tables)) → IfErr r (Marks sees old new)
-    from (Ok v) is memory = tt
-    from (Err Memory) is memory = λ marks.
-        let left = memory refl in
-        inr (record { seen = λ seen. (layer-same is left.0, left.1 seen); safely = λ safe. safe-same is left.0 (left.1 safe.seen) safe }, ((all.kept, all.later.faults), tt))
-    from (Err Storage) is memory = λ marks. is
-    from (Err fault) is memory = tt
+  anew-marks = from result failed all.left where
+    from : (r : Result Unit Fault) → new.failed ≡ failed_behind failed_anew r old.failed
+        → OnErr r ((new.tables.file.header ≡ old.tables.file.header) × (new.tables.l1 ≡ old.tables.l1) × (new.tables.caches ≡ old.tables.caches)) → IfErr r (Marks sees old new)
+    from (Ok v) is left = tt
+    from (Err Memory) is left = λ marks.
+        let still = seen-same st old.tables new.tables all.kept all.later left.0 left.1 left.2 in
+        inr (record { seen = λ seen. (layer-same is left.0, still seen); safely = λ safe. safe-same is left.0 (still safe.seen) safe }, ((all.kept, all.later.faults), tt))
+    from (Err Storage) is left = λ marks. is
+    from (Err fault) is left = tt

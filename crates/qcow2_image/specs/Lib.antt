@@ -4,5 +4,5 @@ pub mod Looking
 pub mod Rooms
 pub mod Steps
 pub mod Lent
-pub mod CacheSizes
+pub mod Caching
 pub mod Opening

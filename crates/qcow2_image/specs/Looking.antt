@@ -1,8 +1,6 @@
 -- What a look at the words of guest clusters in a row does.
-use Rattle.std.specs.Prelude.{◌≡◌, ◌≢◌, ◌⊎◌, ⊤, ℕ, min, ◌+◌, ◌-◌, ◌*◌, ◌/◌, ◌%◌, ◌<◌, ◌≤◌, ◌^◌, ◌==◌, if◌then◌else◌, List, slice_index, Result, Ok, Err, IfOk, IfErr, Option, Some, None, nat_eq}
-use Rattle.std.specs.Option.{option_map}
-use Rattle.std.specs.Map.{lookup}
-use Rattle.imago_storage.specs.State.{StorageState, Rose}
+use Rattle.std.specs.Prelude.{◌≡◌, ◌≢◌, ◌⊎◌, ⊤, ℕ, min, ◌+◌, ◌-◌, ◌/◌, ◌%◌, ◌<◌, ◌≤◌, ◌^◌, ◌==◌, if◌then◌else◌, List, slice_index, Result, IfOk, IfErr, Option, Some, None}
+use Rattle.imago_storage.specs.State.{Rose}
 use Rattle.imago_storage.specs.Calls.{Kept, Later, IsFaultless}
 use Rattle.imago_storage.specs.declared.fault.Fault.{Fault}
 use Rattle.imago_storage.specs.declared.fault.Fault.TheVariants.{DamagedTable, Memory, Storage}
@@ -15,12 +13,6 @@ use Rattle.qcow2_types.specs.Words as words
 use Rattle.qcow2_metadata.specs.Tables.{TableValue, IsTable, l2_words, mapping_in}
 use Rattle.qcow2_metadata.specs.MappingView.{mapping_seen, IsNamed}
 use Rattle.qcow2_metadata.specs.declared.mapping.L2Mapping.{L2Mapping}
-use Rattle.qcow2_alloc.specs.Cache.{hit}
-use Rattle.qcow2_alloc.specs.Caches.{cached_in}
-use Rattle.qcow2_alloc.specs.CachesLending.{with_tables}
-use Rattle.qcow2_alloc.specs.Finding.{TableFound}
-use Rattle.qcow2_alloc.specs.declared.cache.MetadataCaches.{MetadataCaches}
-use Rattle.qcow2_alloc.specs.declared.file.ImageFile.{ImageFile}
 use Rattle.imago_storage.specs.declared.storage.Storage.{Ghosts}
 use Rattle.qcow2_image.specs.declared.tables.Tables.{Tables}
 use Rattle.qcow2_image.specs.Seen.{IsSeen, file_of}
@@ -54,7 +46,8 @@ pub record IsRunOf (guest most : ℕ) (mapped : ℕ → Mapping) (run : L2Mappin
 -- A run of places is cut at a cluster's begin, where another L2 table begins or the mapping of that cluster doesn't go on from the last.
 pub record IsCutAt (h : Fields) (mapped : ℕ → Mapping) (at : ℕ) : Type 0 where
   pub cluster : at % cluster_size h ≡ 0
-  pub last : (at / cluster_size h % words_of_cluster h ≡ 0) ⊎ (Follows (mapped (at / cluster_size h - 1)) (mapped (at / cluster_size h)) → ⊥)
+  pub last : (at / cluster_size h % words_of_cluster h ≡ 0)
+      ⊎ (Follows (mapped (at / cluster_size h - 1)) (mapped (at / cluster_size h)) → ⊥)
 
 -- It has all of the range that lies in the disk, or else is cut at its end.
 abbrev pub IsLong : Fields → (ℕ → Mapping) → ℕ → ℕ → ℕ → Type 0
@@ -65,26 +58,12 @@ abbrev pub IsLongIn : {S : Type 0} (g : Ghosts S) → Tables S g → ℕ → ℕ
 IsLongIn g t = IsLong t.file.header.fields (entry (file_of g t) t.file.header.fields)
 
 -- The run is read of a table, which stays; one for clusters of another size is damaged.
-pub record ReadsRun (cluster_bits guest most : ℕ) (table : TableValue) (result : Result (L2Mapping × ℕ) Fault) (table' : TableValue) : Type 0 where
+pub record ReadsRun (cluster_bits guest most : ℕ) (table : TableValue) (result : Result (L2Mapping × ℕ) Fault)
+    (table' : TableValue) : Type 0 where
   pub same : table' ≡ table
   pub fits : IsTable l2_words table
   pub ok : IfOk result (λ run. IsRunOf guest most (λ g. mapping_in table (g % l2_entries cluster_bits)) run × IsNamed cluster_bits run.0)
   pub err : IfErr result (λ e. (e ≡ DamagedTable) × (table.layout.cluster_bits ≢ cluster_bits))
-
--- The L2 table in a cluster is found and used so,
-pub record TableUsed {S T : Type 0} (state : S → StorageState) (cluster : ℕ) (does : TableValue → Result T Fault → TableValue → Type 0) (old : MetadataCaches S) (before : ImageFile S) (result : Result T Fault) (new : MetadataCaches S) (after : ImageFile S) : Type 0 where
-  pub mid : MetadataCaches S
-  pub found : TableFound state cluster old before (Ok tt) mid after
-  pub table : TableValue
-  pub table' : TableValue
-  pub there : option_map (λ s. s.value) (lookup (nat_eq cluster) (cached_in mid).tables) ≡ Some table
-  pub used : does table result table'
-  pub left : new ≡ with_tables mid (hit (nat_eq cluster) (cached_in mid).tables table')
-
--- or the search is refused.
-abbrev pub UsesTable : {S T : Type 0} → (S → StorageState) → ℕ → (TableValue → Result T Fault → TableValue → Type 0) → MetadataCaches S → ImageFile S → Result T Fault → MetadataCaches S → ImageFile S → Type 0
-UsesTable state cluster does old before result new after =
-    ((fault : Fault) × (result ≡ Err fault) × TableFound state cluster old before (Err fault) new after) ⊎ TableUsed state cluster does old before result new after
 
 -- Why a look at a guest cluster's word is refused.
 abbrev pub WhyNotLooked : Type 0 → ℕ → ℕ → Fault → Type 0
@@ -94,7 +73,8 @@ WhyNotLooked damage before after Storage = Rose before after
 WhyNotLooked damage before after fault = ⊥
 
 -- A look at the run from a guest cluster on, of at most so many. What is cached of it makes no difference, and nothing is written.
-pub record LooksAt {S : Type 0} (g : Ghosts S) (guest most : ℕ) (old : Tables S g) (result : Result (L2Mapping × ℕ) Fault) (new : Tables S g) : Type 0 where
+pub record LooksAt {S : Type 0} (g : Ghosts S) (guest most : ℕ) (old : Tables S g) (result : Result (L2Mapping × ℕ) Fault)
+    (new : Tables S g) : Type 0 where
   pub kept : Kept (g.state old.file.image) (g.state new.file.image)
   pub later : Later (g.state old.file.image) (g.state new.file.image)
   pub faults : WasNotCutOff result → IsFaultless (g.state old.file.image) (g.state new.file.image)
@@ -104,4 +84,5 @@ pub record LooksAt {S : Type 0} (g : Ghosts S) (guest most : ℕ) (old : Tables 
   pub says : IsSeen g old → IfOk result (IsRunOf guest most (entry (file_of g old) old.file.header.fields))
   pub named : IfOk result (λ run. IsNamed old.file.header.fields.cluster_bits run.0 × (0 < run.1) × (run.1 ≤ most))
   pub failed : IfErr result (WhyNotLooked ⊤ (g.state old.file.image).faults (g.state new.file.image).faults)
-  pub cause : IsSeen g old → IfErr result (WhyNotLooked (entry (file_of g old) old.file.header.fields guest ≡ damaged) (g.state old.file.image).faults (g.state new.file.image).faults)
+  pub cause : IsSeen g old → IfErr result (WhyNotLooked (entry (file_of g old) old.file.header.fields guest ≡ damaged)
+      (g.state old.file.image).faults (g.state new.file.image).faults)

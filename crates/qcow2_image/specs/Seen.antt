@@ -1,16 +1,13 @@
 -- When what is in memory of an image is what its file says.
-use Rattle.std.specs.Prelude.{◌≡◌, ℕ, Bool, ◌*◌, ◌<◌, List, IsTrue, false, length, slice_index, Ok}
+use Rattle.std.specs.Prelude.{◌≡◌, ℕ, Bool, ◌*◌, false, Ok}
 use Rattle.std.specs.List.{AllByRecursion}
-use Rattle.imago_storage.specs.State.{StorageState}
-use Rattle.qcow2_types.specs.Bytes.{Bytes, bytes_of, word}
+use Rattle.qcow2_types.specs.Bytes.{Bytes, bytes_of}
 use Rattle.qcow2_types.specs.Header.{Fields, header_of, has_external_data, words_of_cluster, layout_of, cluster_size}
-use Rattle.qcow2_types.specs.Entries.{l1_table_sound}
 use Rattle.qcow2_metadata.specs.Tables.{TableValue, words_in}
 use Rattle.qcow2_alloc.specs.declared.async_lru_cache.Slot.{Slot}
 use Rattle.qcow2_alloc.specs.Memory.{Cached, memory}
 use Rattle.qcow2_alloc.specs.Caches.{cached_in}
-use Rattle.qcow2_alloc.specs.Finding.{pinned_in}
-use Rattle.qcow2_alloc.specs.Safety.{AreTablesClean, AreBlocksClean}
+use Rattle.qcow2_alloc.specs.Opening.{IsL1Of}
 use Rattle.imago_storage.specs.declared.storage.Storage.{Ghosts}
 use Rattle.imago_access.specs.Layer.{Layer}
 use Rattle.qcow2_image.specs.ImageLayer.{qcow2_layer}
@@ -28,16 +25,6 @@ memory_of g t = memory (file_of g t) t.file.header.fields (cached_in t.caches)
 abbrev pub layer_in : {S : Type 0} (g : Ghosts S) → Tables S g → Bool → ℕ → Bool → Layer
 layer_in g t backed number failed = qcow2_layer (g.state t.file.image) (memory_of g t) t.file.header.fields backed number failed
 
--- nothing that is cached waits to be written
-abbrev pub IsClean : Cached → Type 0
-IsClean cached = AreTablesClean cached × AreBlocksClean cached
-
--- The L1 table in memory is that of the file.
-pub record IsL1Of (f : Bytes) (h : Fields) (l1 : TableValue) : Type 0 where
-  pub long : length l1.words ≡ h.l1_entries
-  pub words : (i : ℕ) → i < h.l1_entries → slice_index l1.words i ≡ word f h.l1_offset i
-  pub sound : IsTrue (l1_table_sound f h)
-
 -- A cached table has the words that the file has in its cluster.
 pub record IsOfFile (f : Bytes) (h : Fields) (e : ℕ × Slot TableValue) : Type 0 where
   pub layout : e.1.value.layout ≡ layout_of h
@@ -47,11 +34,9 @@ pub record IsOfFile (f : Bytes) (h : Fields) (e : ℕ × Slot TableValue) : Type
 abbrev pub AreOfFile : Bytes → Fields → Cached → Type 0
 AreOfFile f h cached = AllByRecursion (IsOfFile f h) cached.tables
 
--- What is in memory is the file's, the data is in this file, and there is room for at least one table of which none is lent.
+-- What is in memory is the file's, and the data is in this file.
 pub record IsSeen {S : Type 0} (g : Ghosts S) (t : Tables S g) : Type 0 where
   pub loads : header_of false (file_of g t) ≡ Ok t.file.header
   pub inside : has_external_data t.file.header.fields ≡ false
   pub l1 : IsL1Of (file_of g t) t.file.header.fields t.l1
   pub tables : AreOfFile (file_of g t) t.file.header.fields (cached_in t.caches)
-  pub loose : pinned_in (cached_in t.caches).tables ≡ 0
-  pub room : 0 < t.caches.l2.slots.cap

@@ -1,13 +1,17 @@
 -- When an image has failed behind a call, and what reading its tables anew does.
-use Rattle.std.specs.Prelude.{◌≡◌, ⊤, ℕ, ◌<◌, Bool, true, Result, Ok, Err, OnOk, IfErr}
+use Rattle.std.specs.Prelude.{◌≡◌, ◌≢◌, ◌⊎◌, ⊤, [], ℕ, Bool, true, Result, Ok, Err, OnOk, OnErr, IfErr}
 use Rattle.imago_storage.specs.State.{Rose}
-use Rattle.imago_storage.specs.Calls.{Kept, Later, IsFaultless}
+use Rattle.imago_storage.specs.Calls.{Kept, Later, IsFaultless, Cause}
 use Rattle.imago_storage.specs.declared.fault.Fault.{Fault}
-use Rattle.imago_storage.specs.declared.fault.Fault.TheVariants.{DamagedHeader, DamagedTable, Unsupported, Limit, CacheFull, Memory, Storage}
+use Rattle.imago_storage.specs.declared.fault.Fault.TheVariants.{DamagedHeader, DamagedTable, Unsupported, Limit, Memory, Storage}
 use Rattle.imago_storage.specs.declared.storage.Storage.{Ghosts}
+use Rattle.qcow2_types.specs.Bytes.{Bytes}
+use Rattle.qcow2_types.specs.Header.{Header}
 use Rattle.qcow2_metadata.specs.Updates.{with_places_of}
+use Rattle.qcow2_alloc.specs.Caches.{cached_in}
 use Rattle.qcow2_image.specs.declared.tables.Tables.{Tables}
-use Rattle.qcow2_image.specs.Seen.{IsSeen}
+use Rattle.qcow2_image.specs.Opening.{header_for_reading}
+use Rattle.qcow2_image.specs.Seen.{IsSeen, file_of}
 
 -- whether an image has failed behind a refusal: a storage's fault marks it
 abbrev pub failed_by : Fault → Bool → Bool
@@ -24,25 +28,33 @@ abbrev pub failed_behind : {T : Type 0} → (Fault → Bool → Bool) → Result
 failed_behind marked (Ok answer) failed = failed
 failed_behind marked (Err fault) failed = marked fault failed
 
--- Why the tables of an image can't be read anew.
-abbrev pub WhyNotReloaded : ℕ → ℕ → Fault → Type 0
-WhyNotReloaded before after DamagedHeader = ⊤
-WhyNotReloaded before after DamagedTable = ⊤
-WhyNotReloaded before after Unsupported = ⊤
-WhyNotReloaded before after (Limit bound) = ⊤
-WhyNotReloaded before after CacheFull = ⊤
-WhyNotReloaded before after Memory = ⊤
-WhyNotReloaded before after Storage = Rose before after
-WhyNotReloaded before after fault = ⊥
+-- the file has another header than this in more than the size and the places of tables
+abbrev pub DiffersElsewhere : Result Header Fault → Header → Type 0
+DiffersElsewhere (Ok H') H = with_places_of H' H ≢ H'
+DiffersElsewhere (Err fault) H = ⊥
 
--- They are read anew: what is in memory is then what the file says, whatever it was. The header stays but for the size and the places of
--- tables, and where it was what the file says it stays whole. Want of memory leaves what was there.
+-- Why the tables of an image with this header can't be read anew: by what keeps its file from being opened, by what can't change in an open
+-- image, for want of memory, or by a storage that failed.
+abbrev pub WhyNotReloaded : Bytes → Header → ℕ → ℕ → Fault → Type 0
+WhyNotReloaded f H before after DamagedHeader = header_for_reading f ≡ Err DamagedHeader
+WhyNotReloaded f H before after DamagedTable = header_for_reading f ≡ Err DamagedTable
+WhyNotReloaded f H before after Unsupported = (header_for_reading f ≡ Err Unsupported) ⊎ DiffersElsewhere (header_for_reading f) H
+WhyNotReloaded f H before after (Limit bound) = header_for_reading f ≡ Err (Limit bound)
+WhyNotReloaded f H before after Memory = ⊤
+WhyNotReloaded f H before after Storage = Rose before after
+WhyNotReloaded f H before after fault = ⊥
+
+-- They are read anew: what is in memory is then what the file says, whatever it was, and nothing else is cached. The header stays but for the
+-- size and the places of tables. A refusal leaves what was in memory. Where that was what the file says, the header stays whole, and only
+-- want of memory and a storage that failed refuse.
 pub record Reloads {S : Type 0} (g : Ghosts S) (old : Tables S g) (result : Result Unit Fault) (new : Tables S g) : Type 0 where
   pub kept : Kept (g.state old.file.image) (g.state new.file.image)
   pub later : Later (g.state old.file.image) (g.state new.file.image)
   pub faults : OnOk result (IsFaultless (g.state old.file.image) (g.state new.file.image))
   pub places : with_places_of new.file.header old.file.header ≡ new.file.header
-  pub anew : 0 < old.caches.l2.slots.cap → OnOk result (IsSeen g new)
+  pub anew : OnOk result (IsSeen g new)
+  pub empty : OnOk result (cached_in new.caches ≡ record { tables = []; blocks = [] })
   pub same : IsSeen g old → OnOk result (new.file.header ≡ old.file.header)
-  pub memory : IfErr result (λ e. e ≡ Memory → (new.file.header ≡ old.file.header) × (IsSeen g old → IsSeen g new))
-  pub cause : IfErr result (WhyNotReloaded (g.state old.file.image).faults (g.state new.file.image).faults)
+  pub left : OnErr result ((new.file.header ≡ old.file.header) × (new.l1 ≡ old.l1) × (new.caches ≡ old.caches))
+  pub cause : IfErr result (WhyNotReloaded (file_of g old) old.file.header (g.state old.file.image).faults (g.state new.file.image).faults)
+  pub known : IsSeen g old → IfErr result (Cause (g.state old.file.image).faults (g.state new.file.image).faults)

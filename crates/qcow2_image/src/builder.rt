@@ -4,7 +4,7 @@ ghost use Rattle.imago_storage.specs.declared.fault.Fault.{Fault};
 ghost use Rattle.imago_access.specs.Building.{IsOpened};
 ghost use Rattle.imago_access.specs.declared.format.Format.TheVariants as format;
 ghost use Rattle.qcow2_types.specs.Bytes.{bytes_of};
-ghost use Rattle.qcow2_image.specs.CacheSizes.{AreCacheSizes};
+ghost use Rattle.qcow2_image.specs.Caching.{AreCacheSizes};
 ghost use Rattle.qcow2_image.specs.Opening.{IsOpenedAs, WhyNotOpenedFor};
 
 use crate::cache_entries::CacheEntries;

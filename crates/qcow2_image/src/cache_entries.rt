@@ -2,7 +2,7 @@
 ghost use Rattle.std.specs.Prelude.{◌≡◌, ◌≤◌, ◌↔◌, IsOk, IfOk, IsOkUnless};
 ghost use Rattle.std.proofs.Props.{props};
 ghost use Rattle.imago_storage.specs.declared.fault.Fault.{Fault};
-ghost use Rattle.qcow2_image.specs.CacheSizes.{AreCacheSizes};
+ghost use Rattle.qcow2_image.specs.Caching.{AreCacheSizes};
 
 use imago_storage::Fault;
 

@@ -1,15 +1,17 @@
 // A qcow2 image as the driver of a chain.
-ghost use Rattle.std.specs.Prelude.{◌≡◌, ⊤, refl, OnOk, IfOk, IfErr};
+ghost use Rattle.std.specs.Prelude.{◌≡◌, ⊤, false, refl, IsTrue, IsOk, OnOk, IfOk, IfErr};
 ghost use Rattle.std.proofs.lemmas.Nat.{pow_pos};
-ghost use Rattle.imago_access.specs.Failing.{Fails, RefusesLookup};
-ghost use Rattle.imago_access.specs.Files.{IsKept, Pairs, WasNotCutOff, files};
-ghost use Rattle.imago_access.specs.Going.{AtOnce, Looked, Marks};
+ghost use Rattle.imago_access.specs.Failing.{Fails, RefusesLookup, RefusesReload};
+ghost use Rattle.imago_access.specs.Files.{IsKept, IsStale, Pairs, WasNotCutOff, files};
+ghost use Rattle.imago_access.specs.Going.{AtOnce, KeepsWhatIsFlushed, Looked, Marks, Went};
+ghost use Rattle.imago_access.specs.Layer.{IsFree};
 ghost use Rattle.imago_access.specs.Mappings.{IsRun, LooksIn, NamesRoomIn};
 ghost use Rattle.imago_access.specs.PreparingCalls.{Commits, CommitRefused, Cancels};
 ghost use Rattle.imago_access.specs.Refusals.{barrier};
 ghost use Rattle.qcow2_image.specs.ImageLayer.{blanks};
 ghost use Rattle.qcow2_image.specs.Looking.{IsLongIn};
 ghost use Rattle.qcow2_image.specs.Rooms.{not_both, covered, of_storages};
+ghost use Rattle.qcow2_image.specs.Steps.{Reloads};
 
 use crate::qcow2::{PreparedMappingState, Qcow2};
 use crate::reloading::reload;
@@ -285,7 +287,19 @@ impl<S: Storage> FormatDriverInstance for Qcow2<S> {
         self.settle(answer)
     }
 
-    fn invalidate_cache(&mut self, alloc: Global) -> Result<(), Fault> {
+    fn invalidate_cache(&mut self, alloc: Global) -> Result<(), Fault>
+        ensures same { KeepsWhatIsFlushed ⟦<Qcow2<S> as Seen>⟧ result self.old self.new }
+        ensures kept { let d = ⟦<Qcow2<S> as Seen>⟧ in Pairs IsKept (files d self.old) (files d self.new) }
+        ensures still { OnOk result (⟦<Qcow2<S> as Seen>⟧.still self.new) }
+        ensures free { IsFree (⟦<Qcow2<S> as Seen>⟧.layer self.new) }
+        ensures at_once { let d = ⟦<Qcow2<S> as Seen>⟧ in AtOnce d (barrier (d.layer self.old)) ⊥ result self.old self.new }
+        ensures went { Went ⟦<Qcow2<S> as Seen>⟧ (IsOk result) (IsOk result) self.old self.new }
+        ensures failed { IfErr result (λ e. IsStale e → IsTrue (⟦<Qcow2<S> as Seen>⟧.layer self.new).failed) }
+        ensures marks { IfErr result (Marks ⟦<Qcow2<S> as Seen>⟧ self.old self.new) }
+        ensures cause { IfErr result (RefusesReload ⟦<Qcow2<S> as Seen>⟧ self.old self.new) }
+        // What is in memory is then what the file says, whatever it was before, and nothing else is cached; a refusal leaves what it was.
+        ensures reloads { self.old.failed ≡ false → Reloads S.Storage self.old.tables result self.new.tables }
+    {
         if self.failed {
             return Err(Fault::Failed);
         }

@@ -1,10 +1,10 @@
 // Where the bytes of guest clusters are: through the L1 table and the cached L2 tables.
 ghost use Rattle.std.specs.Prelude.{◌≡◌, ◌+◌, ◌*◌, ◌%◌, ◌^◌, ◌<◌, ◌≤◌};
-ghost use Rattle.imago_storage.specs.declared.fault.Fault.TheVariants.{DamagedTable, CacheFull};
 ghost use Rattle.qcow2_types.specs.Places.{l2_entries};
 ghost use Rattle.qcow2_metadata.specs.Tables.{mapping_in};
 ghost use Rattle.qcow2_metadata.specs.MappingView.{IsNamed};
-ghost use Rattle.qcow2_image.specs.Looking.{place_of_table, IsRunOf, ReadsRun, UsesTable, LooksAt};
+ghost use Rattle.qcow2_alloc.specs.Allocators.{UsesTable};
+ghost use Rattle.qcow2_image.specs.Looking.{place_of_table, IsRunOf, ReadsRun, LooksAt};
 
 use crate::tables::Tables;
 use imago_storage::{Fault, Storage};
@@ -81,17 +81,6 @@ fn in_table<S: Storage>(
     }
 }
 
-// A full cache, of which nothing is pinned, is none of an image that is as it was opened.
-fn unfilled(fault: Fault) -> Fault
-    ensures full { fault ≡ CacheFull → result ≡ DamagedTable }
-    ensures others { (fault ≡ CacheFull → ⊥) → result ≡ fault }
-{
-    match fault {
-        Fault::CacheFull => Fault::DamagedTable,
-        fault => fault,
-    }
-}
-
 // How a guest cluster is mapped, and how many from it on, of at most so many under one L2 table, go on from one another.
 pub(crate) fn look_up<S: Storage>(
     tables: &mut Tables<S>,
@@ -105,12 +94,7 @@ pub(crate) fn look_up<S: Storage>(
 {
     let cluster_bits = tables.file.header.cluster_bits();
     match l2_cluster(&tables.l1, guest, cluster_bits) {
-        Some(table) => {
-            match in_table(&mut tables.file, &mut tables.caches, table, guest, most) {
-                Ok(run) => Ok(run),
-                Err(fault) => Err(unfilled(fault)),
-            }
-        }
+        Some(table) => in_table(&mut tables.file, &mut tables.caches, table, guest, most),
         None => {
             let backing_offset = guest.offset(cluster_bits).0;
             Ok((L2Mapping::Backing { backing_offset }, most))

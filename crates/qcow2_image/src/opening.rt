@@ -6,7 +6,7 @@ ghost use Rattle.imago_access.specs.declared.format.Format.TheVariants as format
 ghost use Rattle.qcow2_types.specs.Bytes.{bytes_of};
 ghost use Rattle.qcow2_types.specs.Header.{header_of, has_external_data};
 ghost use Rattle.qcow2_metadata.specs.Loading.{file, NotLoaded};
-ghost use Rattle.qcow2_image.specs.Seen.{IsL1Of};
+ghost use Rattle.qcow2_alloc.specs.Opening.{IsL1Of};
 ghost use Rattle.qcow2_image.specs.Opening.{header_for_reading, WhyNotOpened, WhyNotOpenedFor, IsJustOpened, IsOpenedAs, is_qcow2};
 
 use crate::cache_entries::CacheEntries;

@@ -1,17 +1,19 @@
 // The metadata of an open image, as one value.
 ghost use Rattle.std.proofs.Props.{props};
 ghost use Rattle.qcow2_alloc.specs.Caches.{cached_in};
-ghost use Rattle.qcow2_alloc.specs.Safety.{AreTablesClean, AreBlocksClean};
+ghost use Rattle.qcow2_image.specs.Caching.{IsClean, IsLoose};
 
 use imago_storage::Storage;
 use qcow2_alloc::{ImageFile, MetadataCaches};
 use qcow2_metadata::L1Table;
 
-/// An image file with its header, its L1 table and what is cached of its other tables. Nothing of it waits to be written.
+/// An image file with its header, its L1 table and what is cached of its other tables. Nothing of it waits to be written, and nothing of it is
+/// pinned.
 #[derive(Drop)]
 pub struct Tables<S: Storage> {
     pub(crate) file: ImageFile<S>,
     pub(crate) l1: L1Table,
     pub(crate) caches: MetadataCaches<S>,
-    ghost clean: { AreTablesClean (cached_in caches) × AreBlocksClean (cached_in caches) } by { Prim.hlevel props },
+    ghost clean: { IsClean (cached_in caches) } by { Prim.hlevel props },
+    ghost loose: { IsLoose caches } by { Prim.hlevel props },
 }

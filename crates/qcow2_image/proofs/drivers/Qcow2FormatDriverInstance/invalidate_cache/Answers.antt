@@ -13,3 +13,7 @@ pub returns-clause-marks : goal.returns-clause-marks
 returns-clause-marks g c =
     let all = reloads-settled g.S.Storage c.args.self.now c.settle_anew.new.self c.reload-answer.new.tables c.reload-answer.result c.settle_anew.result c.reload-answer.ensures c.settle_anew.ensures.same c.settle_anew.ensures.marks in
     anew-marks g.row.S g.S.Storage g.S.Storage-dict g.S.Destruct-dict c.args.self.now c.settle_anew.new.self c.settle_anew.result all.0 all.1 all.2 all.3
+
+pub returns-clause-reloads : goal.returns-clause-reloads
+returns-clause-reloads g c = λ runs.
+    (reloads-settled g.S.Storage c.args.self.now c.settle_anew.new.self c.reload-answer.new.tables c.reload-answer.result c.settle_anew.result c.reload-answer.ensures c.settle_anew.ensures.same c.settle_anew.ensures.marks).0
