@@ -9,7 +9,7 @@ use Rattle.imago_storage.specs.declared.fault.Fault.{Fault}
 use Rattle.imago_storage.specs.declared.fault.Fault.TheVariants.{DamagedTable, Memory, Storage}
 use Rattle.imago_access.specs.Files.{byte_in}
 use Rattle.imago_access.specs.Layer.{Layer, Cell, own, unmapped, unit_of_layer}
-use Rattle.imago_access.specs.Mappings.{IsRun, IsInReach, IsRoomy, Looks, Names, NamesRoom}
+use Rattle.imago_access.specs.Mappings.{IsOneOf, IsRun, IsInReach, IsRoomy, Looks, Names, NamesRoom}
 use Rattle.imago_access.specs.Refusals.{LookCause}
 use Rattle.imago_access.specs.declared.mapping.ShallowMapping.{ShallowMapping}
 use Rattle.imago_access.specs.declared.mapping.ShallowMapping.TheVariants as shallow
@@ -115,6 +115,14 @@ is-run layer backed bits offset within n asked (Zero c mark) lt few inside one =
 is-run layer backed bits offset within n asked (Compressed o l) lt few inside one = (lt, few, inside, one)
 is-run layer true bits offset within n asked (Backing o) lt few inside one = (lt, few, inside, one)
 is-run layer false bits offset within n asked (Backing o) lt few inside one = (lt, few, inside, one)
+
+-- It names the one storage that there is.
+pub names-one : (backed : Bool) (bits offset within : ℕ) (m : L2Mapping) → IsOneOf 1 (shallow_of backed bits offset within (mapping_seen m))
+names-one backed bits offset within (DataFile c mark) = omega arith
+names-one backed bits offset within (Zero c mark) = tt
+names-one backed bits offset within (Compressed o l) = tt
+names-one true bits offset within (Backing o) = tt
+names-one false bits offset within (Backing o) = tt
 
 -- The answer of a lookup, over the places from an offset on in some clusters of a run.
 module _ (s : StorageState) (words-there : Bytes) (h : Fields) (backed : Bool) (number : ℕ) (failed : Bool) (offset n most : ℕ) (run : L2Mapping × ℕ)

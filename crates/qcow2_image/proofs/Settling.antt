@@ -28,7 +28,7 @@ use Rattle.qcow2_image.specs.ImageLayer.{blank_of, cells, qcow2_fixed, qcow2_lay
 use Rattle.qcow2_image.specs.Rooms.{IsSafe}
 use Rattle.qcow2_image.specs.Seen.{IsSeen, file_of, memory_of}
 use Rattle.qcow2_image.specs.Steps.{failed_anew, failed_behind, Reloads}
-use Rattle.qcow2_image.proofs.Steps.{layer-by, memory-is}
+use Rattle.qcow2_image.proofs.Steps.{layer-by, marks-kept, memory-is}
 
 pub on-ok : {T : Type 0} (r : Result T Fault) (P : Type 0) → P → OnOk r P
 on-ok (Ok v) P p = p
@@ -98,8 +98,17 @@ module _ (R : RattleType) (st : Ghosts R.Denot) (sd : mir.Syntax.Dict) (dd : mir
     from : (r : Result Unit Fault) → new.failed ≡ failed_behind failed_anew r old.failed
         → OnErr r ((new.tables.file.header ≡ old.tables.file.header) × (new.tables.l1 ≡ old.tables.l1) × (new.tables.caches ≡ old.tables.caches)) → IfErr r (Marks sees old new)
     from (Ok v) is left = tt
-    from (Err Memory) is left = λ marks.
-        let still = seen-same st old.tables new.tables all.kept all.later left.0 left.1 left.2 in
-        inr (record { seen = λ seen. (layer-same is left.0, still seen); safely = λ safe. safe-same is left.0 (still safe.seen) safe }, ((all.kept, all.later.faults), tt))
+    from (Err Memory) is left = marks-kept R st sd dd {T = Unit} old new (Err Memory) (record {
+      tables = record {
+        kept = all.kept;
+        later = all.later;
+        faults = λ none. absurd none;
+        header = left.0;
+        seen = seen-same st old.tables new.tables all.kept all.later left.0 left.1 left.2;
+      };
+      backing = backing;
+      number = number;
+      failed = is;
+    })
     from (Err Storage) is left = λ marks. is
     from (Err fault) is left = tt

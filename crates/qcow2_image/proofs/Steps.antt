@@ -8,7 +8,7 @@ use Rattle.imago_storage.specs.declared.fault.Fault.{Fault}
 use Rattle.imago_storage.specs.declared.fault.Fault.TheVariants.{Memory, Storage}
 use Rattle.imago_storage.specs.declared.storage.Storage.{Ghosts}
 use Rattle.imago_access.specs.Files.{WasNotCutOff, IsMild}
-use Rattle.imago_access.specs.Going.{IsKnown, Looked, Marks, Went}
+use Rattle.imago_access.specs.Going.{IsKnown, IsSpared, Looked, Marks, Went}
 use Rattle.imago_access.specs.Layer.{Layer, Fixed, loose}
 use Rattle.imago_access.specs.Stops.{GivesNone, Left}
 use Rattle.imago_access.proofs.Stopping.{passes_none}
@@ -22,7 +22,7 @@ use Rattle.qcow2_image.specs.declared.qcow2.Qcow2.{Qcow2}
 use Rattle.qcow2_image.specs.declared.qcow2.PreparedMappingState.{PreparedMappingState}
 use Rattle.qcow2_image.specs.declared.tables.Tables.{Tables}
 use Rattle.qcow2_image.specs.ImageLayer.{blank_of, cells, qcow2_fixed, qcow2_layer}
-use Rattle.qcow2_image.specs.Rooms.{IsSafe, is_sound}
+use Rattle.qcow2_image.specs.Rooms.{HasRoom, IsVacant, IsZeroed, IsSafe, is_sound}
 use Rattle.qcow2_image.specs.Seen.{IsSeen, file_of, memory_of}
 use Rattle.qcow2_image.specs.Steps.{failed_by, failed_behind}
 
@@ -118,6 +118,23 @@ module _ (R : RattleType) (st : Ghosts R.Denot) (sd : mir.Syntax.Dict) (dd : mir
   known : new.failed ≡ old.failed → IsKnown sees old new
   known failed = record { seen = λ seen. (layer-same failed, k.tables.seen seen); safely = safe-same failed }
 
+  -- What is allocated is what was.
+  as-was : (P : Bytes → Fields → Type 0) → P (memory_of st old.tables) old.tables.file.header.fields → P (memory_of st new.tables) new.tables.file.header.fields
+  as-was P was = subst (λ m. P m new.tables.file.header.fields) (sym memory-same) (subst (λ (H : Header). P (memory_of st old.tables) H.fields) (sym k.tables.header) was)
+
+  spared : new.failed ≡ old.failed → IsSpared sees old new
+  spared failed = record {
+    known = known failed;
+    kept = ((k.tables.kept, k.tables.later.faults), tt);
+    stilled = λ still. new.tables.clean;
+    room = λ safe. record {
+      kept = λ p left. as-was (λ m h. HasRoom m h p);
+      free = λ p left. as-was (λ m h. IsVacant m h p);
+      zeroes = λ p left free. as-was (λ m h. IsZeroed m h p);
+    };
+    began = λ d call begun. tt;
+  }
+
   whole-same : WasNotCutOff result → new.failed ≡ old.failed
   whole-same whole = k.failed ∙ unmarked result old.failed whole
 
@@ -141,9 +158,9 @@ module _ (R : RattleType) (st : Ghosts R.Denot) (sd : mir.Syntax.Dict) (dd : mir
   }
 
   pub marks-kept : IfErr result (Marks sees old new)
-  marks-kept = from result k.failed known where
-    from : (r : Result T Fault) → new.failed ≡ failed_behind failed_by r old.failed → (new.failed ≡ old.failed → IsKnown sees old new) → IfErr r (Marks sees old new)
-    from (Ok v) failed known = tt
-    from (Err Storage) failed known = λ marks. failed
-    from (Err Memory) failed known = λ marks. inr (known failed, ((k.tables.kept, k.tables.later.faults), tt))
-    from (Err fault) failed known = tt
+  marks-kept = from result k.failed where
+    from : (r : Result T Fault) → new.failed ≡ failed_behind failed_by r old.failed → IfErr r (Marks sees old new)
+    from (Ok v) failed = tt
+    from (Err Storage) failed = λ marks. failed
+    from (Err Memory) failed = λ marks. inr (spared failed)
+    from (Err fault) failed = tt

@@ -1,11 +1,11 @@
 // A qcow2 image as the driver of a chain.
-ghost use Rattle.std.specs.Prelude.{◌≡◌, ⊤, false, refl, IsTrue, IsOk, OnOk, IfOk, IfErr};
+ghost use Rattle.std.specs.Prelude.{◌≡◌, ⊤, false, refl, length, IsTrue, IsOk, OnOk, IfOk, IfErr};
 ghost use Rattle.std.proofs.lemmas.Nat.{pow_pos};
 ghost use Rattle.imago_access.specs.Failing.{Fails, RefusesLookup, RefusesReload};
 ghost use Rattle.imago_access.specs.Files.{IsKept, IsStale, Pairs, WasNotCutOff, files};
 ghost use Rattle.imago_access.specs.Going.{AtOnce, KeepsWhatIsFlushed, Looked, Marks, Went};
 ghost use Rattle.imago_access.specs.Layer.{IsFree};
-ghost use Rattle.imago_access.specs.Mappings.{IsRun, LooksIn, NamesRoomIn};
+ghost use Rattle.imago_access.specs.Mappings.{IsOneOf, IsRun, LooksIn, NamesRoomIn};
 ghost use Rattle.imago_access.specs.PreparingCalls.{Commits, CommitRefused, Cancels};
 ghost use Rattle.imago_access.specs.Refusals.{barrier};
 ghost use Rattle.qcow2_image.specs.ImageLayer.{blanks};
@@ -43,6 +43,8 @@ impl<S: Storage> FormatDriverInstance for Qcow2<S> {
 
     ghost marked = { λ d is. refl };
 
+    ghost says_room = { λ d is. refl };
+
     ghost units = { λ d. pow_pos d.tables.file.header.fields.cluster_bits };
 
     ghost begins = { λ d call. tt };
@@ -55,6 +57,10 @@ impl<S: Storage> FormatDriverInstance for Qcow2<S> {
 
     fn image_file(&self) -> &S {
         &self.tables.file.image
+    }
+
+    fn extra_file(&self, _index: usize) -> Option<&S> {
+        None
     }
 
     fn format(&self) -> Format {
@@ -105,6 +111,7 @@ impl<S: Storage> FormatDriverInstance for Qcow2<S> {
         ensures run { let d = ⟦<Qcow2<S> as Seen>⟧ in IfOk result (λ r. IsRun (d.layer self.old) offset max_length r.0 r.1) }
         ensures looks { let d = ⟦<Qcow2<S> as Seen>⟧ in d.sees self.old → IfOk result (LooksIn d offset max_length self.old self.new) }
         ensures room { let d = ⟦<Qcow2<S> as Seen>⟧ in d.sees self.old → IfOk result (NamesRoomIn d offset self.old) }
+        ensures there { let d = ⟦<Qcow2<S> as Seen>⟧ in IfOk result (λ r. IsOneOf (length (files d self.old)) r.0) }
         ensures at_once { let d = ⟦<Qcow2<S> as Seen>⟧ in AtOnce d (barrier (d.layer self.old)) (max_length ≡ 0) result self.old self.new }
         ensures looked { Looked ⟦<Qcow2<S> as Seen>⟧ (WasNotCutOff result) self.old self.new }
         ensures began { let d = ⟦<Qcow2<S> as Seen>⟧ in
@@ -143,6 +150,9 @@ impl<S: Storage> FormatDriverInstance for Qcow2<S> {
         }
         if storage != 0 {
             buf.fill(0);
+            return Ok(());
+        }
+        if buf.is_empty() {
             return Ok(());
         }
         let answer = self.tables.file.image.read(alloc, buf, place);

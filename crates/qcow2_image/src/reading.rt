@@ -3,7 +3,7 @@ ghost use Rattle.std.specs.Prelude.{◌≡◌, ◌<◌, ◌≤◌, ◌+◌, ◌*
 ghost use Rattle.imago_access.specs.Files.{WasNotCutOff};
 ghost use Rattle.imago_access.specs.Failing.{Fails, RefusesLookup};
 ghost use Rattle.imago_access.specs.Going.{Looked, Marks};
-ghost use Rattle.imago_access.specs.Mappings.{IsRun, LooksIn, NamesRoomIn};
+ghost use Rattle.imago_access.specs.Mappings.{IsOneOf, IsRun, LooksIn, NamesRoomIn};
 ghost use Rattle.qcow2_metadata.specs.MappingView.{mapping_seen, IsNamed};
 ghost use Rattle.qcow2_image.specs.ImageLayer.{shallow_of};
 ghost use Rattle.qcow2_image.specs.Looking.{IsLongIn};
@@ -122,6 +122,7 @@ impl<S: Storage> Qcow2<S> {
         ensures run { let d = ⟦<Qcow2<S> as Seen>⟧ in IfOk result (λ r. IsRun (d.layer self.old) offset max_length r.0 r.1) }
         ensures looks { let d = ⟦<Qcow2<S> as Seen>⟧ in d.sees self.old → IfOk result (LooksIn d offset max_length self.old self.new) }
         ensures room { let d = ⟦<Qcow2<S> as Seen>⟧ in d.sees self.old → IfOk result (NamesRoomIn d offset self.old) }
+        ensures there { IfOk result (λ r. IsOneOf 1 r.0) }
         ensures long { ⟦<Qcow2<S> as Seen>⟧.sees self.old → IfOk result (λ r. IsLongIn S.Storage self.old.tables offset max_length r.1) }
         ensures looked { Looked ⟦<Qcow2<S> as Seen>⟧ (WasNotCutOff result) self.old self.new }
         ensures failed { IfErr result (Fails ⟦<Qcow2<S> as Seen>⟧ self.old self.new) }

@@ -14,11 +14,12 @@ returns-clause-seen g c =
       format_is = refl;
       writable_is = refl;
       number_is = refl;
-      meant = λ alone. opened-meant g.S.Storage before l2 rb d c.in-Ok.ensures.ok;
+      meant = opened-meant g.S.Storage before l2 rb d c.in-Ok.ensures.ok;
       kept = opened-kept g.S.Storage before l2 rb d c.in-Ok.ensures.ok;
       free = refl;
       runs = refl;
       sees = c.in-Ok.ensures.ok.seen;
       still = opened-still g.S.Storage before l2 rb d c.in-Ok.ensures.ok;
+      lasting = tt;
       safe = λ keeps sound. opened-safe g.S.Storage before l2 rb d c.in-Ok.ensures.ok refl keeps sound;
     }

@@ -8,7 +8,7 @@ use Rattle.qcow2_types.specs.Entries.{entry}
 use Rattle.qcow2_types.specs.Words.{damaged}
 use Rattle.qcow2_metadata.specs.MappingView.{mapping_seen}
 use Rattle.qcow2_metadata.specs.declared.mapping.L2Mapping.{L2Mapping}
-use Rattle.imago_access.specs.Mappings.{IsRun, Looks, NamesRoom}
+use Rattle.imago_access.specs.Mappings.{IsOneOf, IsRun, Looks, NamesRoom}
 use Rattle.imago_access.specs.Files.{byte_in}
 use Rattle.imago_access.specs.Refusals.{LookCause}
 use Rattle.qcow2_image.specs.declared.qcow2.Qcow2.{Qcow2}
@@ -20,7 +20,7 @@ use Rattle.qcow2_image.specs.Seen.{file_of, memory_of}
 use Rattle.qcow2_image.proofs.Ranges.{low-bits, high-bits, range-some, range-near, range-few, range-small, range-one-table, range-fits, range-within, range-word, range-ends}
 use Rattle.qcow2_image.proofs.Ends.{long-run}
 use Rattle.qcow2_image.proofs.Steps.{keeps-marked, looked-kept, marks-kept, memory-is}
-use Rattle.qcow2_image.proofs.Answering.{is-run, looks-run, room-run, look-cause}
+use Rattle.qcow2_image.proofs.Answering.{is-run, names-one, looks-run, room-run, look-cause}
 use Rattle.qcow2_image.proofs.qcow2.Qcow2.run_from.Goals as goal
 
 pub clusters_met-most-requires-clause-some : goal.clusters_met-most-requires-clause-some
@@ -80,6 +80,10 @@ returns-in-Ok-clause-run g c =
     let layer = qcow2_layer s (memory_of g.S.Storage t) h q.backing q.number q.failed in
     subst (λ x. IsRun layer c.args.offset c.args.max_length x n) (sym c.shallow.ensures)
     (is-run layer q.backing c.cluster_bits-cluster_bits.result c.args.offset c.in_cluster_offset-within.result n c.args.max_length c.in-Ok.mapping c.requires.inside (omega (arith, c.bytes_met-length.ensures, few)) (omega (arith, c.bytes_met-length.ensures, near, c.size-size.ensures)) (λ asked. omega (arith, c.bytes_met-length.ensures, positive, first)))
+
+pub returns-in-Ok-clause-there : goal.returns-in-Ok-clause-there
+returns-in-Ok-clause-there g c =
+    subst (IsOneOf 1) (sym c.shallow.ensures) (names-one c.args.self.now.backing c.cluster_bits-cluster_bits.result c.args.offset c.in_cluster_offset-within.result c.in-Ok.mapping)
 
 pub returns-in-Ok-clause-looks : goal.returns-in-Ok-clause-looks
 returns-in-Ok-clause-looks g c = λ seen.
