@@ -44,9 +44,9 @@ WhyNotReloaded f H before after Memory = ⊤
 WhyNotReloaded f H before after Storage = Rose before after
 WhyNotReloaded f H before after fault = ⊥
 
--- They are read anew: what is in memory is then what the file says, whatever it was, and nothing else is cached. The header stays but for the
--- size and the places of tables. A refusal leaves what was in memory. Where that was what the file says, the header stays whole, and only
--- want of memory and a storage that failed refuse.
+-- They are read anew: what is in memory is then what the file says, whatever it was, and nothing else is cached. The header stays but for
+-- the size and the places of tables. A refusal leaves what was in memory. Where that was what the file says, the header stays whole, and
+-- only want of memory and a storage that failed refuse.
 pub record Reloads {S : Type 0} (g : Ghosts S) (old : Tables S g) (result : Result Unit Fault) (new : Tables S g) : Type 0 where
   pub kept : Kept (g.state old.file.image) (g.state new.file.image)
   pub later : Later (g.state old.file.image) (g.state new.file.image)

@@ -7,8 +7,8 @@ use imago_storage::Storage;
 use qcow2_alloc::{ImageFile, MetadataCaches};
 use qcow2_metadata::L1Table;
 
-/// An image file with its header, its L1 table and what is cached of its other tables. Nothing of it waits to be written, and nothing of it is
-/// pinned.
+/// An image file with its header, its L1 table and what is cached of its other tables. Nothing of it waits to be written, and nothing of it
+/// is pinned.
 #[derive(Drop)]
 pub struct Tables<S: Storage> {
     pub(crate) file: ImageFile<S>,
