@@ -25,6 +25,23 @@ pub struct PreparedMappingState {
     pub(crate) claim: u64,
 }
 
+impl PreparedMappingState {
+    /// The number of the image that has prepared the mapping.
+    pub fn number(&self) -> u64
+        ensures { result ≡ self.now.number }
+    {
+        self.number
+    }
+
+    /// Lets go of it. That is for an image which has not prepared the mapping, and so has nothing to undo.
+    pub fn give_up(self) {
+        let PreparedMappingState {
+            number: _number,
+            claim: _claim,
+        } = self;
+    }
+}
+
 /// A qcow2 image that was opened for reading: each place of the disk is what the tables of its file say of it.
 ///
 /// Its one storage, the image file, has the number 0. A fault of that storage marks it as failed.
@@ -78,6 +95,13 @@ impl<S: Storage> Qcow2<S> {
         ensures { result ≡ (⟦<Qcow2<S> as Seen>⟧.layer self.now).failed }
     {
         self.failed
+    }
+
+    /// Whether layers are below it: places that no table maps are what these show, and else they are 0.
+    pub fn backing(&self) -> bool
+        ensures { result ≡ self.now.backing }
+    {
+        self.backing
     }
 
     /// The image file.
