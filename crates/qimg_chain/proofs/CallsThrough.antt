@@ -1,0 +1,191 @@
+-- Calls of a driver of one kind, as calls of one of several kinds.
+use Rattle.std.proofs.Common.{◌≡◌, ◌+◌, ◌++◌, ◌∙◌, ℕ, List, refl, ap, subst}
+use Rattle.std.specs.Prelude.{Result, Ok, Err, None, OnOk, IfOk, IfErr, max}
+use Rattle.imago_storage.specs.Steps.{IsIn}
+use Rattle.imago_storage.specs.declared.fault.Fault.{Fault}
+use Rattle.imago_access.specs.declared.seen.Seen.{Ghosts}
+use Rattle.imago_access.specs.declared.seen.SeenBelow.{Ghosts as GhostsBelow}
+use Rattle.imago_access.specs.declared.format.PreallocateMode.{PreallocateMode}
+use Rattle.imago_access.specs.declared.mapping.PreparedDataMapping.{PreparedDataMapping}
+use Rattle.imago_access.specs.Chain.{at}
+use Rattle.imago_access.specs.Changes.{Asked, Prepared, Run}
+use Rattle.imago_access.specs.Files.{WasNotCutOff, files}
+use Rattle.imago_access.specs.Parts.{IsPartOf, IsUncutPart, announces, PartCause, DeclinableCause}
+use Rattle.imago_access.specs.PartCalls.{PartCall, ensures_zero, discards_to_zero, discards_to_any, discards_to_backing, LeavesPart, IsDone, DoesPart, PartGives, PartRefused}
+use Rattle.imago_access.specs.PreparingCalls.{Prepares, RunRefused, nowhere, WritesMapped, WritingRefused}
+use Rattle.imago_access.specs.ResizeCalls.{Resizes, Grows, GrowthRefused, Shrinks, ShrinkRefused}
+use Rattle.imago_access.specs.Room.{IsUncutAt}
+use Rattle.imago_access.specs.Refusals.{barrier}
+use Rattle.imago_access.specs.Spending.{run_of}
+use Rattle.imago_access.specs.Stops.{GivesNone, GivesBytes, GivesPast, GivesBelowPast}
+use Rattle.qimg_chain.proofs.SeenThrough.{through, IsKind, began_on_ok, begun, stops, leaves, unchanged, at_once, marks, marks_over, went}
+
+pub on_ok_weaker : {T F : Type 0} (result : Result T F) (P Q : Type 0) → (P → Q) → OnOk result P → OnOk result Q
+on_ok_weaker (Ok x) P Q more holds = more holds
+on_ok_weaker (Err e) P Q more holds = tt
+
+-- a run without state is the same run for each
+pub stateless_run : {D E St Su : Type 0} {f : D → E} {h : Ghosts E Su} {g : Ghosts D St} → IsKind f h g → (m : PreparedDataMapping St) (n : PreparedDataMapping Su)
+    → n ≡ record { storage = m.storage; offset = m.offset; length = m.length; state = None } → m.state ≡ None → run_of g m ≡ run_of h n
+stateless_run kind m n is none = rw is (rw none refl)
+
+pub stateless_nowhere : {St Su : Type 0} (m : PreparedDataMapping St) (n : PreparedDataMapping Su)
+    → n ≡ record { storage = m.storage; offset = m.offset; length = m.length; state = None } → m ≡ nowhere → n ≡ nowhere
+stateless_nowhere {St} {Su} m n is none =
+    let without : PreparedDataMapping St → PreparedDataMapping Su = λ x. record { storage = x.storage; offset = x.offset; length = x.length; state = None } in
+    is ∙ ap without none
+
+-- two preparations answer the same run, or are refused by the same
+abbrev pub SameRuns : {D E St Su : Type 0} → Ghosts D St → Ghosts E Su → Result (PreparedDataMapping St) Fault → Result (PreparedDataMapping Su) Fault → Type 0
+SameRuns g h (Ok m) (Ok n) = run_of g m ≡ run_of h n
+SameRuns g h (Err e) (Err e') = e ≡ e'
+SameRuns g h result answer = ⊥
+
+pub same_runs : {D E St : Type 0} {f : D → E} {h : Ghosts E St} {g : Ghosts D St} → IsKind f h g → ((m : PreparedDataMapping St) → run_of g m ≡ run_of h m)
+    → (result : Result (PreparedDataMapping St) Fault) → SameRuns g h result result
+same_runs kind same (Ok m) = same m
+same_runs kind same (Err e) = refl
+
+module _ {D E St Su : Type 0} {f : D → E} {h : Ghosts E Su} {g : Ghosts D St} (kind : IsKind f h g) (a b : D) where
+  -- ---- Zeroing and discarding.
+
+  leaves_part : (call : PartCall) (offset n : ℕ) → LeavesPart call (through f h g) offset n a b → LeavesPart call h offset n (f a) (f b)
+  leaves_part ensures_zero offset n l = leaves kind a b _ _ l
+  leaves_part discards_to_zero offset n l = leaves kind a b _ _ l
+  leaves_part discards_to_any offset n l = leaves kind a b _ _ l
+  leaves_part discards_to_backing offset n l = leaves kind a b _ _ l
+
+  is_done : (call : PartCall) (p : ℕ) → IsDone call (through f h g) b p → IsDone call h (f b) p
+  is_done ensures_zero p done = done
+  is_done discards_to_zero p done = done
+  is_done discards_to_any p done = done
+  is_done discards_to_backing p done = done
+
+  given : (call : PartCall) (result : Result (ℕ × ℕ) Fault) → IfOk result (λ r. (p : ℕ) → IsIn r.0 r.1 p → IsDone call (through f h g) b p)
+      → IfOk result (λ r. (p : ℕ) → IsIn r.0 r.1 p → IsDone call h (f b) p)
+  given call (Ok r) each = λ p there. is_done call p (each p there)
+  given call (Err e) each = tt
+
+  pub does : (call : PartCall) (offset n : ℕ) (result : Result (ℕ × ℕ) Fault) → DoesPart call (through f h g) offset n result a b → DoesPart call h offset n result (f a) (f b)
+  does call offset n result d = record {
+    ok = d.ok;
+    err = d.err;
+    reach = d.reach;
+    given = λ safe. given call result (d.given safe);
+    room = λ safe whole. leaves_part call offset n (d.room safe whole);
+    like = d.like;
+    went = went kind a b (WasNotCutOff result) (WasNotCutOff result) d.went;
+    began = λ e call now part whole.
+        begun kind a b (λ x c. IsPartOf c offset n → h.began x c (f b)) (λ x c is inside. d.began x c is inside whole) e call now part;
+    stops = λ safe below told. stops kind a b below _ _ (PartGives call below offset n) (d.stops safe below told);
+  }
+
+  pub part_refused : (offset n : ℕ) (result : Result (ℕ × ℕ) Fault) → PartRefused (through f h g) offset n result a b → PartRefused h offset n result (f a) (f b)
+  part_refused offset n result r = record {
+    failed = r.failed;
+    marks = marks kind a b result r.marks;
+    cause = λ safe below.
+        begun kind a b (λ x call. IsPartOf call offset n → IfErr result (DeclinableCause below (h.layer (f a)) offset n (h.own_cause x below call) (files h (f a)) (files h (f b))))
+        (λ d call now part. r.cause safe below d call now part);
+  }
+
+  -- ---- Mappings.
+
+  pub run_refused : {B T : Type 0} (u : GhostsBelow B) (x y : B) (asked : Asked) (result : Result T Fault) → RunRefused (through f h g) u asked result (a, x) (b, y)
+      → RunRefused h u asked result (f a, x) (f b, y)
+  run_refused u x y asked result r = record {
+    failed = r.failed;
+    marks = marks_over kind a b result r.marks;
+    cause = λ safe sees.
+        begun kind a b (λ e call. IsUncutPart (h.layer (f a)) call asked.offset asked.length → asked.overwrite ≡ announces call
+        → IfErr result (PartCause (u.under x) (h.layer (f a)) asked.offset asked.length (h.own_cause e (u.under x) call) (files h (f a) ++ u.files_under x) (files h (f b) ++ u.files_under y)))
+        (λ d call now part same. r.cause safe sees d call now part same);
+  }
+
+  -- a refused preparation
+  pub prepares_err : {B : Type 0} (u : GhostsBelow B) (x y : B) (asked : Asked) (e : Fault) → Prepares (through f h g) u asked (Err e) (a, x) (b, y) → Prepares h u asked (Err e) (f a, x) (f b, y)
+  prepares_err u x y asked e p = let r = run_refused u x y asked (Err e) p.refused in record {
+    ok = λ safe sees. tt;
+    err = p.err;
+    uncut = λ safe sees. tt;
+    near = λ safe sees. tt;
+    room = λ safe sees whole. leaves kind a b _ _ (p.room safe sees whole);
+    stops = λ safe sees. stops kind a b (u.under x) _ _ GivesNone (p.stops safe sees);
+    went = went kind a b _ _ p.went;
+    began = λ e call now part whole.
+        begun kind a b (λ z c. IsPartOf c asked.offset asked.length → h.began z c (f b)) (λ z c is inside. p.began z c is inside whole) e call now part;
+    refused = record { failed = r.failed; marks = r.marks; cause = r.cause };
+  }
+
+  -- one that answers the same run
+  pub prepares_ok : {B : Type 0} (u : GhostsBelow B) (x y : B) (asked : Asked) (m : PreparedDataMapping St) (n : PreparedDataMapping Su) → run_of g m ≡ run_of h n
+      → Prepares (through f h g) u asked (Ok m) (a, x) (b, y) → Prepares h u asked (Ok n) (f a, x) (f b, y)
+  prepares_ok u x y asked m n same p = record {
+    ok = λ safe sees. subst (λ (r : Run). Prepared (at (u.under x)) (h.layer (f a)) (h.layer (f b)) asked r) same (p.ok safe sees);
+    err = λ safe sees. tt;
+    uncut = λ safe sees. subst (λ (r : Run). IsUncutAt (h.layer (f a)).fixed.unit (h.layer (f a)).size asked.offset asked.length (asked.offset + r.length)) same (p.uncut safe sees);
+    near = p.near;
+    room = λ safe sees whole. leaves kind a b _ _ (p.room safe sees whole);
+    stops = λ safe sees. stops kind a b (u.under x) _ _ GivesNone (p.stops safe sees);
+    went = went kind a b _ _ p.went;
+    began = λ e call now part whole.
+        begun kind a b (λ z c. IsPartOf c asked.offset asked.length → h.began z c (f b)) (λ z c is inside. p.began z c is inside whole) e call now part;
+    refused = record { failed = tt; marks = tt; cause = λ safe sees e call now part over. tt };
+  }
+
+  pub prepares : {B : Type 0} (u : GhostsBelow B) (x y : B) (asked : Asked) (result : Result (PreparedDataMapping St) Fault) (answer : Result (PreparedDataMapping Su) Fault)
+      → SameRuns g h result answer → Prepares (through f h g) u asked result (a, x) (b, y) → Prepares h u asked answer (f a, x) (f b, y)
+  prepares u x y asked (Ok m) (Ok n) same p = prepares_ok u x y asked m n same p
+  prepares u x y asked (Err e) (Err e') same p = subst (λ (k : Fault). Prepares h u asked (Err k) (f a, x) (f b, y)) same (prepares_err u x y asked e p)
+  prepares u x y asked (Ok m) (Err e) same p = absurd same
+  prepares u x y asked (Err e) (Ok n) same p = absurd same
+
+  pub writes_mapped : (guest place : ℕ) (bytes : List ℕ) (result : Result Unit Fault) → WritesMapped (through f h g) guest place bytes result a b → WritesMapped h guest place bytes result (f a) (f b)
+  writes_mapped guest place bytes result w = record {
+    mapped = w.mapped;
+    empty = w.empty;
+    like = w.like;
+    ok = w.ok;
+    err = w.err;
+    room = λ safe whole. leaves kind a b _ _ (w.room safe whole);
+    stops = λ safe below. stops kind a b below _ _ (GivesBytes guest bytes) (w.stops safe below);
+    went = went kind a b _ _ w.went;
+    began = began_on_ok kind a b result w.began;
+  }
+
+  pub writing_refused : (guest place n : ℕ) (result : Result Unit Fault) → WritingRefused (through f h g) guest place n result a b → WritingRefused h guest place n result (f a) (f b)
+  writing_refused guest place n result r = record { failed = r.failed; marks = marks kind a b result r.marks; cause = r.cause }
+
+  -- ---- Resizes.
+
+  pub resizes : (first second : ℕ) (result : Result Unit Fault) → Resizes (through f h g) first second result a b → Resizes h first second result (f a) (f b)
+  resizes first second result r = record {
+    nothing = r.nothing;
+    free = r.free;
+    at_once = at_once kind a b (barrier (h.layer (f a))) _ result r.at_once;
+    read_only = λ can less closed. let is = r.read_only can less closed in (is.0, unchanged kind a b is.1);
+  }
+
+  pub grows : {B : Type 0} (u : GhostsBelow B) (x y : B) (size : ℕ) (mode : PreallocateMode) (result : Result Unit Fault) → Grows (through f h g) u size mode result (a, x) (b, y)
+      → Grows h u size mode result (f a, x) (f b, y)
+  grows u x y size mode result r = record {
+    ok = r.ok;
+    err = r.err;
+    stops = λ safe sees. stops kind a b (u.under x) _ (max (h.layer (f a)).size size) (GivesPast (h.layer (f a)).size) (r.stops safe sees);
+    went = went kind a b _ _ r.went;
+  }
+
+  pub growth_refused : {B : Type 0} (u : GhostsBelow B) (x y : B) (size : ℕ) (mode : PreallocateMode) (result : Result Unit Fault) → GrowthRefused (through f h g) u size mode result (a, x) (b, y)
+      → GrowthRefused h u size mode result (f a, x) (f b, y)
+  growth_refused u x y size mode result r = record { failed = r.failed; marks = marks_over kind a b result r.marks; cause = r.cause }
+
+  pub shrinks : (size : ℕ) (result : Result Unit Fault) → Shrinks (through f h g) size result a b → Shrinks h size result (f a) (f b)
+  shrinks size result r = record {
+    ok = r.ok;
+    err = r.err;
+    stops = λ safe below backed. stops kind a b below size _ (GivesBelowPast below size) (r.stops safe below backed);
+    went = went kind a b _ _ r.went;
+  }
+
+  pub shrink_refused : (size : ℕ) (result : Result Unit Fault) → ShrinkRefused (through f h g) size result a b → ShrinkRefused h size result (f a) (f b)
+  shrink_refused size result r = record { failed = r.failed; marks = marks kind a b result r.marks; cause = r.cause }

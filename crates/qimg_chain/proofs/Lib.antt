@@ -1,0 +1,9 @@
+-- Lemmas.
+mod CallsThrough
+mod ImageKinds
+mod ScriptNumbers
+mod ScriptParting
+mod ScriptReading
+mod ScriptSpelling
+mod SeenThrough
+mod StatelessDrivers

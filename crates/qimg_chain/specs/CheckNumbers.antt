@@ -1,0 +1,16 @@
+-- The numbers of the checker's findings.
+use Rattle.std.specs.Prelude.{ℕ}
+use Rattle.qimg_core.specs.declared.check.CheckFault.{CheckFault}
+use Rattle.qimg_core.specs.declared.check.CheckFault.TheVariants.{Header, Snapshots, External, Table, SharedTable, FalseCopied, UnderCounted, Memory, Storage}
+
+-- the number of a finding, which its text names: that of a fault where one says as much
+abbrev pub check_number : CheckFault → ℕ
+check_number Header = 4
+check_number Snapshots = 23
+check_number External = 24
+check_number Table = 5
+check_number (SharedTable cluster) = 25
+check_number (FalseCopied cluster) = 26
+check_number (UnderCounted cluster) = 27
+check_number Memory = 20
+check_number Storage = 21

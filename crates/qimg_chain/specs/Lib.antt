@@ -1,0 +1,8 @@
+-- The definitions that contracts cite.
+pub mod CheckNumbers
+pub mod ImageDrivers
+pub mod Script
+pub mod ScriptAnswers
+pub mod ScriptParts
+pub mod ScriptWords
+pub mod Stateless

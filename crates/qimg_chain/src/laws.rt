@@ -1,0 +1,9 @@
+//! Laws of scripts and arguments.
+ghost use Rattle.std.specs.Prelude.{◌≡◌, ℕ, List};
+ghost use Rattle.qimg_chain.specs.Script.{IsLine};
+ghost use Rattle.qimg_chain.specs.declared.script.line.Line.{Line};
+
+/// A text is one line of a script at most: whatever spelling a line has, no other line has it too.
+pub fn a_text_is_one_line_at_most()
+    ensures { (text : List ℕ) (one other : Line) → IsLine text one → IsLine text other → one ≡ other }
+{}

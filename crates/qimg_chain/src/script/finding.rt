@@ -1,0 +1,22 @@
+// The numbers of the checker's findings.
+ghost use Rattle.std.specs.Prelude.{◌≡◌};
+ghost use Rattle.qimg_chain.specs.CheckNumbers.{check_number};
+
+use qimg_core::check::CheckFault;
+
+/// The number of a finding, which its text names: that of a fault where one says as much, or one from 23 to 27.
+pub(super) fn finding_number(finding: &CheckFault) -> u8
+    ensures { result ≡ check_number finding.now }
+{
+    match finding {
+        CheckFault::Header => 4,
+        CheckFault::Snapshots => 23,
+        CheckFault::External => 24,
+        CheckFault::Table => 5,
+        CheckFault::SharedTable(_) => 25,
+        CheckFault::FalseCopied(_) => 26,
+        CheckFault::UnderCounted(_) => 27,
+        CheckFault::Memory => 20,
+        CheckFault::Storage => 21,
+    }
+}

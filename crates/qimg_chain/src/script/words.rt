@@ -1,0 +1,70 @@
+// The words of a line of a script.
+ghost use Rattle.std.specs.Prelude.{◌≡◌, Some, IfOk, IfErr};
+ghost use Rattle.qimg_chain.specs.ScriptWords.{NoBytes, bytes_of, mode_of, number_of};
+
+use super::bytes::Bytes;
+use hex::FromHexError;
+use imago_access::PreallocateMode;
+use imago_storage::Fault;
+use std::alloc::Global;
+
+/// The most digits of a number.
+const MOST_DIGITS: usize = 20;
+
+/// The number that a word writes in decimal, if it writes one.
+pub(super) fn number(word: &[u8]) -> Option<u64>
+    ensures { result ≡ number_of word.now }
+{
+    if word.len() > MOST_DIGITS {
+        return None;
+    }
+    if !word.iter().all(|b| b.is_ascii_digit()) {
+        return None;
+    }
+    match str::from_utf8(word) {
+        Ok(digits) => match digits.parse::<u64>() {
+            Ok(number) => Some(number),
+            Err(_) => None,
+        },
+        Err(_) => None,
+    }
+}
+
+/// The bytes that a word writes by pairs of digits. `Fault::BadCommand` where it writes none, `Fault::Memory` for want of memory.
+#[tactic(auto, unfolding(crate::specs::ScriptWords::bytes_of))]
+pub(super) fn bytes(alloc: Global, word: &[u8]) -> Result<Bytes, Fault>
+    ensures ok { IfOk result (λ bytes. bytes_of word.now ≡ Some bytes) }
+    ensures err { IfErr result (NoBytes word.now) }
+{
+    if word.is_empty() {
+        return Err(Fault::BadCommand);
+    }
+    match hex::decode(alloc, word) {
+        Ok(bytes) => Ok(Bytes::from(bytes)),
+        Err(FromHexError::OutOfMemory) => Err(Fault::Memory),
+        Err(_) => Err(Fault::BadCommand),
+    }
+}
+
+/// The mode of growth that a word names, if it names one.
+#[tactic(auto, unfolding(crate::specs::ScriptWords::mode_of))]
+pub(super) fn mode(word: &[u8]) -> Option<PreallocateMode>
+    ensures { result ≡ mode_of word.now }
+{
+    if word == b"none".as_slice() {
+        return Some(PreallocateMode::None);
+    }
+    if word == b"zero".as_slice() {
+        return Some(PreallocateMode::Zero);
+    }
+    if word == b"format".as_slice() {
+        return Some(PreallocateMode::FormatAllocate);
+    }
+    if word == b"full".as_slice() {
+        return Some(PreallocateMode::FullAllocate);
+    }
+    if word == b"data".as_slice() {
+        return Some(PreallocateMode::WriteData);
+    }
+    None
+}
