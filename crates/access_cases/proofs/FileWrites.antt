@@ -50,7 +50,7 @@ same_layer old new d failed shape bytes marked = λ i. record {
   failed = marked i;
   cell = says d.content (blank_of d.backed) (bytes i);
   home = home_of d.content (if d.writable then d.size else 0);
-  held = held_of d.content;
+  held = held_of d.content d.size;
   unspent = unspent_of d.content;
 }
 

@@ -1,18 +1,21 @@
 -- What an image of one cluster prepares, and what it makes of a run that is committed.
-use Rattle.std.proofs.Common.{◌≡◌, ℕ, ◌+◌, ◌<◌, ◌≤◌, Bool, true, false, Option, Some, None, List, get_or, replicate, map, refl, ◌∙◌, ap, inl, inr, ⊎_elim, arith}
+use Rattle.std.proofs.Common.{◌≡◌, ℕ, zero, suc, ◌+◌, ◌*◌, ◌<◌, ◌≤◌, Bool, true, false, Option, Some, None, List, get_or, replicate, map, refl, sym, ◌∙◌, ap, subst, inl, inr, ⊎_elim, arith}
 use Rattle.std.proofs.Math.ListN as ListN
-use Rattle.std.proofs.lemmas.Bool.{cases_lt}
+use Rattle.std.proofs.lemmas.Bool.{cases_lt, ltb-false, le-ltb}
 use Rattle.std.proofs.lemmas.Bool.Decides.{nat_tests}
 use Rattle.std.proofs.lemmas.List.{get_or-replicate, get_or_past}
 use Rattle.std.proofs.lemmas.Option.{cond_some}
 use Rattle.std.proofs.Math.ListN.{length-replicate}
-use Rattle.std.specs.Prelude.{[], ◌∷◌, length, slice_index, ◌&&◌, ◌⊎◌, if◌then◌else◌, ltb, leb, IsTrue}
+use Rattle.std.specs.Prelude.{[], ◌∷◌, length, max, slice_index, ◌&&◌, ◌⊎◌, if◌then◌else◌, ltb, leb, IsTrue}
 use Rattle.std.specs.Option.{unwrap_or}
 use Rattle.imago_storage.specs.Disk.{Value, byte}
-use Rattle.imago_access.specs.Layer.{Layer, Cell, own, loose, inside}
+use Rattle.imago_access.specs.Layer.{Layer, Cell, own, through, loose, beside, inside}
 use Rattle.imago_access.specs.Room.{IsApart}
 use Rattle.imago_access.specs.Changes.{IsHolding, TakesByte, asking, run_at, Prepared, Settles}
-use Rattle.access_cases.specs.Clusters.{cell_of, home_in, held_in, blank_of, IsRunOf}
+use Rattle.access_cases.specs.declared.clusters.Content.{Content}
+use Rattle.access_cases.specs.declared.clusters.Content.TheVariants as variant
+use Rattle.access_cases.specs.declared.clusters.PreparedRun.{PreparedRun}
+use Rattle.access_cases.specs.Clusters.{cell_of, home_in, beside_in, held_in, held_of, blank_of, IsBare, HasRoom, IsRunOf}
 
 is_inside : (start n p : ℕ) → start ≤ p → p < start + n → (leb start p && ltb p (start + n)) ≡ true
 is_inside start n p ge lt = grind (arith, nat_tests)
@@ -29,28 +32,52 @@ none_written n p = elim (cases_lt p n) [
   | inr past ↦ get_or_past (replicate {A = Option ℕ} n None) p None (omega (arith, length-replicate {A = Option ℕ}))
 ]
 
-run_holds : (below : ℕ → Value) (layer : Layer) (start n size p : ℕ) (overwrite : Bool) → IsHolding below layer start n overwrite p (held_in start (start + n) overwrite (replicate size None) p)
-run_holds below layer start n size p overwrite = from (leb start p && ltb p (start + n)) refl where
-  from : (b : Bool) → (leb start p && ltb p (start + n)) ≡ b → IsHolding below layer start n overwrite p (if b then inside None (get_or (replicate size None) p None) overwrite else loose)
-  from true is = ((grind (arith, nat_tests), grind (arith, nat_tests)), none_written size p, refl)
-  from false is = tt
+home_outside : (start end p : ℕ) → (leb start p && ltb p end) ≡ false → home_in start end p ≡ None
+home_outside start end p out = rw out refl
 
--- a place in a unit that the run doesn't touch is free
-pub apart_loose : (start n p : ℕ) (overwrite : Bool) (written : List (Option ℕ)) → IsApart 1 start n p → held_in start (start + n) overwrite written p ≡ loose
-apart_loose start n p overwrite written apart = rw (is_outside start n p (⊎_elim (λ before. inl (omega (arith, before, apart.2))) (λ behind. inr (omega (arith, behind, apart.1))) apart.3)) refl
+-- a place beside the run holds the 0 that it has
+beside_holds : (below : ℕ → Value) (layer : Layer) (start n size p : ℕ) (overwrite : Bool) → (leb start p && ltb p (start + n)) ≡ false
+    → layer.cell p ≡ own (byte 0) → layer.home p ≡ None → IsHolding below layer start n overwrite p (beside_in size p)
+beside_holds below layer start n size p overwrite out blank home = from (ltb p size) where
+  from : (b : Bool) → IsHolding below layer start n overwrite p (if b then beside 0 else loose)
+  from true = ((λ there. absurd (cc (sym (is_inside start n p there.0 there.1) ∙ out))), ap (λ (c : Cell). through c (below p)) blank, home)
+  from false = tt
+
+run_holds : (below : ℕ → Value) (layer : Layer) (start n size p : ℕ) (overwrite : Bool) → layer.cell p ≡ own (byte 0) → layer.home ≡ home_in start (start + n)
+    → IsHolding below layer start n overwrite p (held_in size start (start + n) overwrite (replicate size None) p)
+run_holds below layer start n size p overwrite blank home = from (leb start p && ltb p (start + n)) refl where
+  from : (b : Bool) → (leb start p && ltb p (start + n)) ≡ b
+      → IsHolding below layer start n overwrite p (if b then inside None (get_or (replicate size None) p None) overwrite else beside_in size p)
+  from true is = ((grind (arith, nat_tests), grind (arith, nat_tests)), none_written size p, refl)
+  from false is = beside_holds below layer start n size p overwrite is blank (ap (λ (h : ℕ → Option (ℕ × ℕ)). h p) home ∙ home_outside start (start + n) p is)
+
+loose_past : (size p : ℕ) → size ≤ p → beside_in size p ≡ loose
+loose_past size p past = rw (le-ltb p size past) refl
+
+-- a place in a cluster that a run of the disk doesn't touch is no place of the disk
+behind_disk : (cluster size start n p u : ℕ) → size ≤ cluster → 0 < n → start + n ≤ size → u * cluster ≤ p → (u * cluster + cluster ≤ start) ⊎ (start + n ≤ u * cluster) → size ≤ p
+behind_disk cluster size start n p zero long some within from out = absurd (⊎_elim (λ before. omega (arith, before, long, some, within)) (λ behind. omega (arith, behind, some)) out)
+behind_disk cluster size start n p (suc u) long some within from out = omega (arith, from, long)
+
+-- and it is free
+pub apart_loose : (size start n p : ℕ) (overwrite : Bool) (written : List (Option ℕ)) → 0 < n → start + n ≤ size → IsApart (max size 1) start n p
+    → held_in size start (start + n) overwrite written p ≡ loose
+apart_loose size start n p overwrite written some within apart =
+    let past = behind_disk (max size 1) size start n p apart.0 (omega arith) some within apart.1 apart.3 in
+    rw (is_outside start n p (inr (omega (arith, past, within)))) (loose_past size p past)
 
 -- A run that is prepared: it can be written where it is, and nothing is written to it yet.
 pub run_prepared : (below : ℕ → Value) (old new : Layer) (start n size claim : ℕ) (overwrite : Bool) → 0 < n
     → new.fixed ≡ old.fixed → new.size ≡ old.size → new.cell ≡ old.cell → new.unspent ≡ Some claim
-    → new.home ≡ home_in start (start + n) → new.held ≡ held_in start (start + n) overwrite (replicate size None)
+    → ((p : ℕ) → new.cell p ≡ own (byte 0)) → new.home ≡ home_in start (start + n) → new.held ≡ held_in size start (start + n) overwrite (replicate size None)
     → Prepared below old new (asking start n overwrite) (run_at 0 start n (Some claim))
-run_prepared below old new start n size claim overwrite some fixed same cell unspent home held = record {
+run_prepared below old new start n size claim overwrite some fixed same cell unspent blank home held = record {
   fixed = fixed;
   size = same;
   cell = cell;
   home = λ i lt. rw home (home_inside start n i lt);
   unspent = unspent;
-  holds = λ p. rw held (run_holds below new start n size p overwrite);
+  holds = λ p. rw held (run_holds below new start n size p overwrite (blank p) home);
   some_held = λ c is. (start, None, (omega arith, omega arith), rw held (rw (is_inside start n start (omega arith) (omega arith)) (ap (λ (w : Option ℕ). inside None w overwrite) (none_written size start))));
 }
 
@@ -74,12 +101,13 @@ pub between_home : (start end p : ℕ) (at : ℕ × ℕ) → home_in start end p
 between_home start end p at is = let parts = cond_some (leb start p && ltb p end) (0, p) at is in let tested = parts.0 in (grind (arith, nat_tests), grind (arith, nat_tests))
 
 -- a place of the run notes a byte, and another stays
-pub takes_byte : (start end p b : ℕ) (announced : Bool) (old new : List (Option ℕ)) (cell : Cell) → start ≤ p → p < end → get_or new p None ≡ Some b
-    → TakesByte b (held_in start end announced old p) cell (held_in start end announced new p) cell
-takes_byte start end p b announced old new cell ge lt noted = rw (is_between start end p ge lt) (refl, ap (λ (w : Option ℕ). inside None w announced) noted)
+pub takes_byte : (size start end p b : ℕ) (announced : Bool) (old new : List (Option ℕ)) (cell : Cell) → start ≤ p → p < end → get_or new p None ≡ Some b
+    → TakesByte b (held_in size start end announced old p) cell (held_in size start end announced new p) cell
+takes_byte size start end p b announced old new cell ge lt noted = rw (is_between start end p ge lt) (refl, ap (λ (w : Option ℕ). inside None w announced) noted)
 
-pub stays_held : (start end p : ℕ) (announced : Bool) (old new : List (Option ℕ)) → get_or new p None ≡ get_or old p None → held_in start end announced new p ≡ held_in start end announced old p
-stays_held start end p announced old new same = rw same refl
+pub stays_held : (size start end p : ℕ) (announced : Bool) (old new : List (Option ℕ)) → get_or new p None ≡ get_or old p None
+    → held_in size start end announced new p ≡ held_in size start end announced old p
+stays_held size start end p announced old new same = rw same refl
 
 outside : (start end p : ℕ) → (leb start p && ltb p end) ≡ false → (p < start) ⊎ (end ≤ p)
 outside start end p out = elim (cases_lt p start) [
@@ -92,16 +120,24 @@ settled_to (Some b) announced v is = ap (λ x. own (byte x)) is
 settled_to None true v is = inl (ap (λ x. own (byte x)) is)
 settled_to None false v is = ap (λ x. own (byte x)) is
 
+-- a place beside it has the 0 that it had
+beside_settles : (size p : ℕ) (c : Cell) → c ≡ own (byte 0) → Settles (beside_in size p) (own (byte 0)) c
+beside_settles size p c is = from (ltb p size) where
+  from : (b : Bool) → Settles (if b then beside 0 else loose) (own (byte 0)) c
+  from true = is
+  from false = is
+
 -- A place of a run that is committed has what was written to it, and else what it had.
 pub settled_cell : (size start end p : ℕ) (backed announced : Bool) (written : List (Option ℕ)) (bytes : List ℕ) → IsRunOf size backed start end written
-    → bytes ≡ map (λ w. unwrap_or w 0) written → Settles (held_in start end announced written p) (blank_of backed) (own (byte (get_or bytes p 0)))
+    → bytes ≡ map (λ w. unwrap_or w 0) written → Settles (held_in size start end announced written p) (blank_of backed) (own (byte (get_or bytes p 0)))
 settled_cell size start end p backed announced written bytes run is = rw run.alone (from (leb start p && ltb p end) refl) where
   place : get_or bytes p 0 ≡ unwrap_or (get_or written p None) 0
   place = rw is (ListN.get_or-map (λ (w : Option ℕ). unwrap_or w 0) written p None)
 
-  from : (b : Bool) → (leb start p && ltb p end) ≡ b → Settles (if b then inside None (get_or written p None) announced else loose) (own (byte 0)) (own (byte (get_or bytes p 0)))
+  from : (b : Bool) → (leb start p && ltb p end) ≡ b → Settles (if b then inside None (get_or written p None) announced else beside_in size p) (own (byte 0)) (own (byte (get_or bytes p 0)))
   from true in_run = settled_to (get_or written p None) announced (get_or bytes p 0) place
-  from false out = ap (λ x. own (byte x)) (place ∙ ap (λ (w : Option ℕ). unwrap_or w 0) (run.others p (outside start end p out)))
+  from false out = beside_settles size p (own (byte (get_or bytes p 0)))
+      (ap (λ x. own (byte x)) (place ∙ ap (λ (w : Option ℕ). unwrap_or w 0) (run.others p (outside start end p out))))
 
 -- It can be written in the same place.
 pub home_kept : (size start end p : ℕ) (writable : Bool) (at : ℕ × ℕ) → end ≤ size → IsTrue writable → home_in start end p ≡ Some at → home_in 0 (if writable then size else 0) p ≡ Some at
@@ -122,3 +158,30 @@ mapped_home size p writable opened lt =
 pub file_means : (blank : Cell) (bytes : List ℕ) (p : ℕ) → p < length bytes → cell_of blank bytes p ≡ own (byte (slice_index bytes p))
 file_means blank [] p lt = absurd (omega (arith, lt))
 file_means blank (first ∷ bytes) p lt = refl
+
+beside_past : (size p : ℕ) → beside_in size p ≡ loose → size ≤ p
+beside_past size p is = from (ltb p size) refl is where
+  from : (b : Bool) → ltb p size ≡ b → (if b then beside 0 else loose) ≡ loose → size ≤ p
+  from true before is = absurd (cc is)
+  from false past is = ltb-false p size past
+
+taken_past : (size start end p : ℕ) (announced : Bool) (written : List (Option ℕ)) → held_in size start end announced written p ≡ loose → size ≤ p
+taken_past size start end p announced written is = from (leb start p && ltb p end) is where
+  from : (b : Bool) → (if b then inside None (get_or written p None) announced else beside_in size p) ≡ loose → size ≤ p
+  from true is = absurd (cc is)
+  from false is = beside_past size p is
+
+-- A run that is prepared holds each place of the disk.
+pub free_past : (content : Content) (run : PreparedRun) (size p : ℕ) → content ≡ variant.Prepared run → held_of content size p ≡ loose → size ≤ p
+free_past content run size p is free = taken_past size run.start run.end p run.overwrite run.written.items (subst (λ (c : Content). held_of c size p ≡ loose) is free)
+
+-- what room there is, by what the image holds
+pub room_by : (content other : Content) (size p : ℕ) → content ≡ other → HasRoom content size p → HasRoom other size p
+room_by content other size p is room = subst (λ (c : Content). HasRoom c size p) is room
+
+-- no place of a disk that is mapped is bare, nor one that can't be read
+pub mapped_bare : (content : Content) (size p : ℕ) → content ≡ variant.Mapped → p < size → IsBare content size p → ⊥
+mapped_bare content size p is before bare = ⊎_elim (λ past. absurd (omega (arith, past, before))) (λ none. none) (subst (λ (c : Content). IsBare c size p) is bare)
+
+pub barred_bare : (content : Content) (size p : ℕ) → content ≡ variant.Barred → p < size → IsBare content size p → ⊥
+barred_bare content size p is before bare = ⊎_elim (λ past. absurd (omega (arith, past, before))) (λ none. none) (subst (λ (c : Content). IsBare c size p) is bare)

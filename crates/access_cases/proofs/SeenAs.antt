@@ -1,6 +1,6 @@
 -- A driver of one kind, seen as a driver of several.
 use Rattle.std.proofs.Common.{◌≡◌, ℕ, List, ◌++◌, subst, sym, inl, inr}
-use Rattle.std.specs.Prelude.{⊤, IsTrue, Result, Ok, Err, OnOk, IfErr, IfOk}
+use Rattle.std.specs.Prelude.{⊤, IsTrue, Result, Ok, Err, Option, OnOk, IfErr, IfOk}
 use Rattle.imago_storage.specs.Steps.{Call, IsIn, shrink}
 use Rattle.imago_storage.specs.declared.fault.Fault.{Fault}
 use Rattle.imago_storage.specs.declared.fault.Fault.TheVariants.{Memory, Storage}
@@ -9,9 +9,11 @@ use Rattle.imago_access.specs.declared.seen.SeenBelow.{Ghosts as GhostsBelow}
 use Rattle.imago_access.specs.Changes.{Asked}
 use Rattle.imago_access.specs.Layer.{Layer}
 use Rattle.imago_access.specs.Files.{WasNotCutOff, files}
-use Rattle.imago_access.specs.Going.{Marks, MarksOver, Went}
-use Rattle.imago_access.specs.Parts.{PartCause, DeclinableCause, ShrinkCause}
-use Rattle.imago_access.specs.ResizeCalls.{ShrinkRefused}
+use Rattle.imago_access.specs.Going.{IsUnchanged, AtOnce, IsSpared, Marks, MarksOver, Went}
+use Rattle.imago_access.specs.Parts.{PartCause, DeclinableCause, GrowthCause, ShrinkCause}
+use Rattle.imago_access.specs.ResizeCalls.{Resizes, GrowthRefused, ShrinkRefused}
+use Rattle.imago_access.specs.declared.format.PreallocateMode.{PreallocateMode}
+use Rattle.imago_access.specs.Room.{Takes}
 use Rattle.imago_access.specs.PreparingCalls.{RunRefused, WritesMapped, WritingRefused}
 use Rattle.imago_formats.proofs.RawSteps.{on_ok_always}
 use Rattle.imago_access.specs.PartCalls.{PartCall, ensures_zero, discards_to_zero, discards_to_any, discards_to_backing, LeavesPart, IsDone, DoesPart, PartRefused}
@@ -41,7 +43,55 @@ pub on_ok_weaker : {T F : Type 0} (result : Result T F) (P Q : Type 0) → (P �
 on_ok_weaker (Ok x) P Q more holds = more holds
 on_ok_weaker (Err e) P Q more holds = tt
 
-module _ {D E St Su : Type 0} (f : D → E) (h : Ghosts E Su) (g : Ghosts D St) (same : as_kind f h g ≡ g) (a b : D) where
+-- A driver of one kind before and after a call, where what had begun as one of several has begun still.
+module _ {D E St Su : Type 0} (f : D → E) (h : Ghosts E Su) (g : Ghosts D St) (same : as_kind f h g ≡ g) (a b : D)
+    (on : (x : E) (call : Call) → h.began x call (f a) → h.began x call (f b)) where
+  takes_in : (spared : ℕ → Type 0) → Takes (as_kind f h g) spared a b → Takes h spared (f a) (f b)
+  takes_in spared left = record { kept = left.kept; free = left.free; zeroes = left.zeroes }
+
+  unchanged_in : IsUnchanged (as_kind f h g) a b → IsUnchanged h (f a) (f b)
+  unchanged_in u = record {
+    layer = u.layer;
+    unasked = u.unasked;
+    seen = u.seen;
+    safely = u.safely;
+    stilled = u.stilled;
+    lasting = u.lasting;
+    room = λ safe. takes_in (λ _. ⊤) (u.room safe);
+    began = on;
+  }
+
+  spared_in : IsSpared (as_kind f h g) a b → IsSpared h (f a) (f b)
+  spared_in s = record {
+    known = record { seen = s.known.seen; safely = s.known.safely };
+    kept = s.kept;
+    stilled = s.stilled;
+    room = λ safe. takes_in (λ _. ⊤) (s.room safe);
+    began = on;
+  }
+
+  at_once_in : {T : Type 0} (refusal : Option Fault) (nothing : Type 0) (result : Result T Fault) → AtOnce (as_kind f h g) refusal nothing result a b
+      → AtOnce h refusal nothing result (f a) (f b)
+  at_once_in refusal nothing result k = record { refused = k.refused; idle = k.idle; unchanged = λ none. unchanged_in (k.unchanged none) }
+
+  -- all is as it was
+  pub unchanged_as : IsUnchanged g a b → IsUnchanged h (f a) (f b)
+  unchanged_as unchanged = unchanged_in (subst (λ k. IsUnchanged k a b) (sym same) unchanged)
+
+  -- what a call does at once
+  pub at_once_as : {T : Type 0} (refusal : Option Fault) (nothing : Type 0) (result : Result T Fault) → AtOnce g refusal nothing result a b
+      → AtOnce h refusal nothing result (f a) (f b)
+  at_once_as refusal nothing result once = at_once_in refusal nothing result (subst (λ k. AtOnce k refusal nothing result a b) (sym same) once)
+
+  -- what a resize does at once
+  pub resizes_as : (first second : ℕ) (result : Result Unit Fault) → Resizes g first second result a b → Resizes h first second result (f a) (f b)
+  resizes_as first second result resizes = let k = subst (λ x. Resizes x first second result a b) (sym same) resizes in record {
+    nothing = k.nothing;
+    free = k.free;
+    at_once = at_once_in _ _ result k.at_once;
+    read_only = λ runs alters closed. let r = k.read_only runs alters closed in (r.0, unchanged_in r.1);
+  }
+
   went_as : (ok whole : Type 0) → Went g ok whole a b → Went h ok whole (f a) (f b)
   went_as ok whole went = let w = subst (λ k. Went k ok whole a b) (sym same) went in record {
     fixed = w.fixed;
@@ -69,9 +119,8 @@ module _ {D E St Su : Type 0} (f : D → E) (h : Ghosts E Su) (g : Ghosts D St) 
   given_as call (Err e) given = tt
 
   -- a call that zeroes or discards a part, which leaves what had begun
-  pub does_as : (call : PartCall) (offset n : ℕ) (result : Result (ℕ × ℕ) Fault) → ((x : E) (whole : Call) → h.began x whole (f a) → h.began x whole (f b))
-      → DoesPart call g offset n result a b → DoesPart call h offset n result (f a) (f b)
-  does_as call offset n result on does = let k = subst (λ x. DoesPart call x offset n result a b) (sym same) does in record {
+  pub does_as : (call : PartCall) (offset n : ℕ) (result : Result (ℕ × ℕ) Fault) → DoesPart call g offset n result a b → DoesPart call h offset n result (f a) (f b)
+  does_as call offset n result does = let k = subst (λ x. DoesPart call x offset n result a b) (sym same) does in record {
     ok = k.ok;
     err = k.err;
     reach = k.reach;
@@ -84,10 +133,7 @@ module _ {D E St Su : Type 0} (f : D → E) (h : Ghosts E Su) (g : Ghosts D St) 
   }
 
   marks_one : (e : Fault) → Marks (as_kind f h g) a b e → Marks h (f a) (f b) e
-  marks_one Memory marks = λ marked. elim (marks marked) [
-    | inl failed ↦ inl failed
-    | inr spared ↦ inr (record { seen = spared.0.seen; safely = spared.0.safely }, spared.1)
-  ]
+  marks_one Memory marks = λ marked. elim (marks marked) [ inl failed ↦ inl failed | inr spared ↦ inr (spared_in spared) ]
   marks_one Storage marks = marks
   marks_one _ marks = tt
 
@@ -108,9 +154,8 @@ module _ {D E St Su : Type 0} (f : D → E) (h : Ghosts E Su) (g : Ghosts D St) 
   }
 
   -- a write to a mapping
-  pub writes_as : (guest place : ℕ) (bytes : List ℕ) (result : Result Unit Fault) → ((x : E) (call : Call) → h.began x call (f a) → h.began x call (f b))
-      → WritesMapped g guest place bytes result a b → WritesMapped h guest place bytes result (f a) (f b)
-  writes_as guest place bytes result on writes = let k = subst (λ x. WritesMapped x guest place bytes result a b) (sym same) writes in record {
+  pub writes_as : (guest place : ℕ) (bytes : List ℕ) (result : Result Unit Fault) → WritesMapped g guest place bytes result a b → WritesMapped h guest place bytes result (f a) (f b)
+  writes_as guest place bytes result writes = let k = subst (λ x. WritesMapped x guest place bytes result a b) (sym same) writes in record {
     mapped = k.mapped;
     empty = k.empty;
     like = k.like;
@@ -131,7 +176,7 @@ module _ {D E St Su : Type 0} (f : D → E) (h : Ghosts E Su) (g : Ghosts D St) 
 
   marks_over_one : (e : Fault) → MarksOver (as_kind f h g) a b e → MarksOver h (f a) (f b) e
   marks_over_one Memory marks = marks_one Memory marks
-  marks_over_one Storage marks = marks
+  marks_over_one Storage marks = λ marked. let told = marks marked in (told.0, elim told.1 [ inl failed ↦ inl failed | inr spared ↦ inr (spared_in spared) ])
   marks_over_one _ marks = tt
 
   marks_over_as : {T : Type 0} (result : Result T Fault) → IfErr result (MarksOver g a b) → IfErr result (MarksOver h (f a) (f b))
@@ -168,4 +213,15 @@ module _ {D E St Su : Type 0} (f : D → E) (h : Ghosts E Su) (g : Ghosts D St) 
     failed = k.failed;
     marks = marks_as result refused.marks;
     cause = λ safe below. subst (λ c. IfErr result (ShrinkCause below (h.layer (f a)) size c (files h (f a)) (files h (f b)))) (causes below (shrink size)) (k.cause safe below);
+  }
+
+  -- what refuses a growth
+  pub growth_refused_as : {B : Type 0} (u : GhostsBelow B) (x y : B) (size : ℕ) (mode : PreallocateMode) (result : Result Unit Fault)
+      → ((below : List Layer) → g.growth_cause a below size mode ≡ h.growth_cause (f a) below size mode)
+      → GrowthRefused g u size mode result (a, x) (b, y) → GrowthRefused h u size mode result (f a, x) (f b, y)
+  growth_refused_as u x y size mode result causes refused = let k = subst (λ z. GrowthRefused z u size mode result (a, x) (b, y)) (sym same) refused in record {
+    failed = k.failed;
+    marks = marks_over_as result refused.marks;
+    cause = λ safe sees. subst (λ c. IfErr result (GrowthCause (u.under x) (h.layer (f a)) size c (files h (f a) ++ u.files_under x) (files h (f b) ++ u.files_under y))) (causes (u.under x))
+        (k.cause safe sees);
   }

@@ -1,10 +1,10 @@
 -- An image of one cluster over a file, of which nothing is mapped until its first mapping is committed.
-use Rattle.std.specs.Prelude.{◌≡◌, ◌⊎◌, ⊤, ℕ, ◌<◌, ◌≤◌, length, ◌&&◌, Bool, true, false, Option, Some, None, List, [], ◌∷◌, IsTrue, if◌then◌else◌, ltb, leb, slice_index, slice_index_or}
+use Rattle.std.specs.Prelude.{◌≡◌, ◌⊎◌, ⊤, ℕ, ◌<◌, ◌≤◌, max, length, ◌&&◌, Bool, true, false, Option, Some, None, List, [], ◌∷◌, IsTrue, if◌then◌else◌, ltb, leb, slice_index, slice_index_or}
 use Rattle.imago_storage.specs.State.{Shape, StorageState}
 use Rattle.imago_storage.specs.Disk.{byte, barred}
 use Rattle.imago_storage.specs.declared.fault.Fault.{Fault}
 use Rattle.imago_storage.specs.declared.fault.Fault.TheVariants.{Unsupported, Limit, Memory, Storage}
-use Rattle.imago_access.specs.Layer.{Cell, own, unmapped, Held, loose, inside, Fixed, Layer}
+use Rattle.imago_access.specs.Layer.{Cell, own, unmapped, Held, loose, beside, inside, Fixed, Layer}
 use Rattle.imago_access.specs.declared.format.Format.TheVariants as format
 use Rattle.access_cases.specs.declared.clusters.Content.{Content}
 use Rattle.access_cases.specs.declared.clusters.Content.TheVariants.{Unmapped, Zeroed, Barred, Prepared, Mapped}
@@ -36,7 +36,7 @@ says Unmapped blank f p = blank
 says (Prepared run) blank f p = blank
 says Mapped blank f p = own (byte (slice_index f p))
 
--- what never changes of it, over a storage of this shape
+-- what never changes of it, over a storage of this shape: its one cluster is as long as the disk
 abbrev pub cluster_fixed : {S : Type 0} → Shape → OneCluster S → Fixed
 cluster_fixed shape d = record {
   format = format.Qcow2;
@@ -53,17 +53,22 @@ cluster_fixed shape d = record {
   means = λ f. record { size = d.size; cell = meant_by d.content (blank_of d.backed) f };
   exact = false;
   marks = true;
-  states_room = false;
-  unit = 1;
+  states_room = true;
+  unit = max d.size 1;
 }
 
 -- the places from the first up to the second can be written at their own number
 abbrev pub home_in : ℕ → ℕ → ℕ → Option (ℕ × ℕ)
 home_in start end p = if leb start p && ltb p end then Some (0, p) else None
 
--- they are held, with what was written to them
-abbrev pub held_in : ℕ → ℕ → Bool → List (Option ℕ) → ℕ → Held
-held_in start end announced written p = if leb start p && ltb p end then inside None (slice_index_or written p None) announced else loose
+-- what of a disk of this size isn't in the run: it lies beside it in the cluster, where its bytes, which are 0, were copied
+abbrev pub beside_in : ℕ → ℕ → Held
+beside_in size p = if ltb p size then beside 0 else loose
+
+-- the places of the run are held, with what was written to them
+abbrev pub held_in : ℕ → ℕ → ℕ → Bool → List (Option ℕ) → ℕ → Held
+held_in size start end announced written p =
+    if leb start p && ltb p end then inside None (slice_index_or written p None) announced else beside_in size p
 
 -- where a place can be written: in a run that is prepared, or below this size where the disk is mapped
 abbrev pub home_of : Content → ℕ → ℕ → Option (ℕ × ℕ)
@@ -71,10 +76,10 @@ home_of (Prepared run) size p = home_in run.start run.end p
 home_of Mapped size p = home_in 0 size p
 home_of content size p = None
 
--- what a run that is prepared holds of it
-abbrev pub held_of : Content → ℕ → Held
-held_of (Prepared run) p = held_in run.start run.end run.overwrite run.written.items p
-held_of content p = loose
+-- what a run that is prepared holds of it, on a disk of this size
+abbrev pub held_of : Content → ℕ → ℕ → Held
+held_of (Prepared run) size p = held_in size run.start run.end run.overwrite run.written.items p
+held_of content size p = loose
 
 abbrev pub unspent_of : Content → Option ℕ
 unspent_of (Prepared run) = Some run.claim
@@ -88,9 +93,27 @@ cluster_layer state d = record {
   failed = d.failed;
   cell = says d.content (blank_of d.backed) state.bytes;
   home = home_of d.content (if d.writable then d.size else 0);
-  held = held_of d.content;
+  held = held_of d.content d.size;
   unspent = unspent_of d.content;
 }
+
+-- Nothing is allocated for the cluster, and it isn't read. One that is said to be 0 is not kept, and one that is prepared is allocated by
+-- its commit. One that can't be read is allocated, and isn't the image's own.
+abbrev pub TakesNone : Content → Type 0
+TakesNone Unmapped = ⊤
+TakesNone Zeroed = ⊤
+TakesNone Barred = ⊥
+TakesNone (Prepared run) = ⊤
+TakesNone Mapped = ⊥
+
+-- the same of a place of a disk of this size, or the place lies past its end
+abbrev pub IsBare : Content → ℕ → ℕ → Type 0
+IsBare content size p = (size ≤ p) ⊎ TakesNone content
+
+-- the place has room of its own
+abbrev pub HasRoom : Content → ℕ → ℕ → Type 0
+HasRoom Mapped size p = p < size
+HasRoom content size p = ⊥
 
 -- a run that is prepared in a cluster without layers below: it lies on the disk, and nothing is written to other places
 pub record IsRunOf (size : ℕ) (backed : Bool) (start end : ℕ) (written : List (Option ℕ)) : Type 0 where

@@ -3,27 +3,27 @@
 // 0 or can't be read, and can't be changed then.
 ghost use Rattle.std.specs.Prelude.{◌≡◌, ◌⊎◌, ◌+◌, ◌≤◌, ◌<◌, [], ⊤, refl, ℕ, List, length, slice_index, slice_index_or, map, replicate, OnOk, IfOk, IfErr, IsTrue, IsOk, None, Some, true, false, if◌then◌else◌};
 ghost use Rattle.std.specs.Option.{unwrap_or};
-ghost use Rattle.std.proofs.Common.{inl};
+ghost use Rattle.std.proofs.Common.{inl, inr};
 ghost use Rattle.std.proofs.Math.Nat.{le_refl};
-ghost use Rattle.imago_formats.specs.RawHome.{never};
 ghost use Rattle.imago_storage.specs.State.{StorageState};
 ghost use Rattle.imago_storage.specs.Steps.{Call, IsOut};
 ghost use Rattle.imago_storage.specs.declared.fault.Fault.{Fault};
 ghost use Rattle.imago_storage.specs.declared.fault.Fault.TheVariants.{Unsupported};
 ghost use Rattle.imago_storage.specs.declared.fault.Fault.TheVariants as fault;
-ghost use Rattle.imago_access.specs.Layer.{Layer, IsFree};
+ghost use Rattle.imago_access.specs.Layer.{Layer, IsFree, loose};
 ghost use Rattle.imago_access.specs.Changes.{Committed};
 ghost use Rattle.imago_access.specs.Failing.{Fails};
 ghost use Rattle.imago_access.specs.Files.{IsMild, WasNotCutOff, ImageCause};
 ghost use Rattle.imago_access.specs.Going.{AtOnce, Went};
-ghost use Rattle.imago_access.specs.PartCalls.{PartRefused};
+ghost use Rattle.imago_access.specs.PartCalls.{PartCall, DoesPart, PartRefused};
+ghost use Rattle.imago_access.specs.Room.{Takes};
 ghost use Rattle.imago_access.specs.PreparingCalls.{Commits, CommitRefused, Cancels, WritesMapped, WritingRefused};
 ghost use Rattle.imago_access.specs.Spending.{commit_refusal, IsSpending, GivenBack};
 ghost use Rattle.imago_access.specs.Stops.{KeepsStops, GivesSettled};
 ghost use Rattle.imago_access.specs.Refusals.{own_refusal};
 ghost use Rattle.imago_access.specs.Parts.{PartCause};
-ghost use Rattle.access_cases.specs.Clusters.{cluster_layer, cluster_cause, failed_by, IsSafe};
-ghost use Rattle.access_cases.specs.Homes.{one_home, free_loose, blanks};
+ghost use Rattle.access_cases.specs.Clusters.{cluster_layer, cluster_cause, failed_by, IsBare, HasRoom, IsSafe};
+ghost use Rattle.access_cases.specs.Homes.{one_home, free_loose, blanks, not_both, bare_homeless, housed_room, some_cluster};
 ghost use Rattle.access_cases.specs.declared.clusters.Content.TheVariants as content;
 
 use imago_access::{
@@ -169,6 +169,7 @@ impl<S: Storage> OneCluster<S> {
     fn change(&self, offset: u64, length: u64) -> Result<(u64, u64), Fault>
         ensures ok { IfOk result (λ r. (r ≡ (offset, 0)) × (length ≡ 0)) }
         ensures mild { IfErr result IsMild }
+        ensures does { (call : PartCall) → DoesPart call ⟦<OneCluster<S> as Seen>⟧ offset length result self.now self.now }
         ensures at_once { let d = ⟦<OneCluster<S> as Seen>⟧ in AtOnce d (own_refusal (d.layer self.now) offset length) (length ≡ 0) result self.now self.now }
         ensures refused { PartRefused ⟦<OneCluster<S> as Seen>⟧ offset length result self.now self.now }
     {
@@ -198,6 +199,8 @@ impl<S: Storage> OneCluster<S> {
     fn settle(&mut self, alloc: Global, mapping: PreparedCluster) -> Result<(), Fault>
         requires { IsTrue self.old.writable }
         ensures ok { let d = ⟦<OneCluster<S> as Seen>⟧ in OnOk result ((d.layer self.old).unspent ≡ Some mapping.claim → IsFree (d.layer self.new) × (d.safe self.old → Committed (d.layer self.old) (d.layer self.new))) }
+        ensures room { let d = ⟦<OneCluster<S> as Seen>⟧ in
+            OnOk result (Takes d (λ p. (d.layer self.old).held p ≡ loose) self.old self.new) }
         ensures went { let d = ⟦<OneCluster<S> as Seen>⟧ in Went d (WasNotCutOff result) (IsOk result × ((d.layer self.old).unspent ≡ Some mapping.claim)) self.old self.new }
         ensures stops { let d = ⟦<OneCluster<S> as Seen>⟧ in d.safe self.old → (below : List Layer) → KeepsStops d below (GivesSettled below (d.layer self.old)) self.old self.new }
         ensures failing { let d = ⟦<OneCluster<S> as Seen>⟧ in IfErr result (λ e. IsTrue self.new.failed × IsFree (d.layer self.new) × IsSpending e × (IsMild e → ⊥)) }
@@ -283,11 +286,11 @@ impl<S: Storage> Seen for OneCluster<S> {
 
     ghost lasts = { λ _. ⊤ };
 
-    ghost vacant = { λ d p. ⊤ };
+    ghost vacant = { λ d. IsBare d.content d.size };
 
-    ghost has_room = { λ d p. ⊥ };
+    ghost has_room = { λ d. HasRoom d.content d.size };
 
-    ghost zeroed = { λ d p. ⊤ };
+    ghost zeroed = { λ d. IsBare d.content d.size };
 
     ghost claim = { λ s. s.claim };
 
@@ -323,18 +326,30 @@ impl<S: Storage> FormatDriverInstance for OneCluster<S> {
 
     ghost marked = { λ d is. refl };
 
-    ghost units = { λ d. le_refl 1 };
+    ghost says_room = { λ d is. refl };
+
+    ghost units = { λ d. some_cluster d.size };
 
     ghost begins = { λ d call. tt };
 
-    ghost free_loose = { λ d free p. free_loose d.content p free };
+    ghost free_loose = { λ d free p. free_loose d.content d.size p free };
 
-    ghost bare = { λ d p free has. has };
+    ghost bare = { λ d p bare room. not_both d.content d.size p bare room };
 
-    ghost rooms = { λ d p free states. never states };
+    ghost rooms = { λ d p free states. record {
+      homeless = elim [
+        | inl bare ↦ bare_homeless d.content d.writable d.size p free bare
+        | inr bare ↦ bare_homeless d.content d.writable d.size p free bare
+      ];
+      housed = λ some. housed_room d.content d.writable d.size p free some;
+    } };
 
     fn image_file(&self) -> &S {
         &self.file
+    }
+
+    fn extra_file(&self, _index: usize) -> Option<&S> {
+        None
     }
 
     fn format(&self) -> Format {

@@ -79,11 +79,11 @@ impl<S: Storage> Seen for Driver<S> {
 
     ghost lasts = { elim [ driver.Raw r ↦ r.size ≤ length (S.state r.storage).bytes | driver.Words w ↦ ⊤ ] };
 
-    ghost vacant = { λ d p. ⊤ };
+    ghost vacant = { elim [ driver.Raw r ↦ ⟦<Raw<S> as Seen>⟧.vacant r | driver.Words w ↦ ⟦<OneCluster<S> as Seen>⟧.vacant w ] };
 
-    ghost has_room = { λ d p. ⊥ };
+    ghost has_room = { elim [ driver.Raw r ↦ ⟦<Raw<S> as Seen>⟧.has_room r | driver.Words w ↦ ⟦<OneCluster<S> as Seen>⟧.has_room w ] };
 
-    ghost zeroed = { λ d p. ⊤ };
+    ghost zeroed = { elim [ driver.Raw r ↦ ⟦<Raw<S> as Seen>⟧.zeroed r | driver.Words w ↦ ⟦<OneCluster<S> as Seen>⟧.zeroed w ] };
 
     ghost claim = { λ s. s.claim };
 
@@ -119,20 +119,41 @@ impl<S: Storage> FormatDriverInstance for Driver<S> {
 
     ghost marked = { elim [ driver.Raw r ↦ λ is. absurd (Prim.cc is) | driver.Words w ↦ λ is. refl ] };
 
-    ghost units = { elim [ driver.Raw r ↦ le_refl 1 | driver.Words w ↦ le_refl 1 ] };
+    ghost says_room = { elim [ driver.Raw r ↦ λ is. absurd (Prim.cc is) | driver.Words w ↦ λ is. refl ] };
+
+    ghost units = { elim [ driver.Raw r ↦ le_refl 1 | driver.Words w ↦ homes.some_cluster w.size ] };
 
     ghost begins = { λ d call. refl };
 
-    ghost free_loose = { elim [ driver.Raw r ↦ λ free p. refl | driver.Words w ↦ λ free p. homes.free_loose w.content p free ] };
+    ghost free_loose = { elim [ driver.Raw r ↦ λ free p. refl | driver.Words w ↦ λ free p. homes.free_loose w.content w.size p free ] };
 
-    ghost bare = { λ d p free has. has };
+    ghost bare = { elim [
+      | driver.Raw r ↦ λ p bare room. room
+      | driver.Words w ↦ λ p bare room. homes.not_both w.content w.size p bare room
+    ] };
 
-    ghost rooms = { elim [ driver.Raw r ↦ λ p free states. raw_home.never states | driver.Words w ↦ λ p free states. raw_home.never states ] };
+    ghost rooms = { elim [
+      | driver.Raw r ↦ λ p free states. raw_home.never states
+      | driver.Words w ↦ λ p free states. record {
+        homeless = elim [
+          | inl bare ↦ homes.bare_homeless w.content w.writable w.size p free bare
+          | inr bare ↦ homes.bare_homeless w.content w.writable w.size p free bare
+        ];
+        housed = λ some. homes.housed_room w.content w.writable w.size p free some;
+      }
+    ] };
 
     fn image_file(&self) -> &S {
         match self {
             Driver::Raw(raw) => raw.image_file(),
             Driver::Words(words) => words.image_file(),
+        }
+    }
+
+    fn extra_file(&self, index: usize) -> Option<&S> {
+        match self {
+            Driver::Raw(raw) => raw.extra_file(index),
+            Driver::Words(words) => words.extra_file(index),
         }
     }
 

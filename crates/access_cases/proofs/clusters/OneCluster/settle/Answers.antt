@@ -1,6 +1,7 @@
-use Rattle.std.proofs.Common.{◌∙◌, List, ℕ}
+use Rattle.std.proofs.Common.{◌∙◌, inl, List, ℕ}
 use Rattle.imago_storage.proofs.Composing.{keeps_on}
 use Rattle.access_cases.proofs.FileWrites.{write_passes, settled_left, settled_fixed, settled_fits}
+use Rattle.access_cases.proofs.PreparedRuns.{free_past, room_by}
 use Rattle.access_cases.proofs.clusters.OneCluster.settle.Goals as goal
 
 pub returns-in-Ok-write-clause-went : goal.returns-in-Ok-write-clause-went
@@ -23,6 +24,16 @@ returns-in-Ok-write-clause-went g c =
             settled_fits _ d.size old new r.written.items _ c.write.ensures.unit.positive fits.1.all (c.deref-2.ensures.value ∙ (rw c.deref.ensures.value at c.in-Ok.ensures)) done;
       };
       lasting = λ l. l;
+    }
+
+pub returns-in-Ok-write-clause-room : goal.returns-in-Ok-write-clause-room
+returns-in-Ok-write-clause-room g c =
+    let d = c.args.self.now in
+    let r = c.in-Prepared.run' in
+    record {
+      kept = λ p there room. absurd (room_by d.content _ d.size p c.in-Prepared.is room);
+      free = λ p free bare. inl (free_past d.content r d.size p c.in-Prepared.is free);
+      zeroes = λ p there free bare. inl (free_past d.content r d.size p c.in-Prepared.is free);
     }
 
 pub returns-in-Ok-write-clause-stops : goal.returns-in-Ok-write-clause-stops

@@ -1,14 +1,17 @@
-use Rattle.std.proofs.Common.{refl, sym, ◌∙◌}
+use Rattle.std.proofs.Common.{refl, sym, ◌∙◌, inr}
+use Rattle.access_cases.proofs.PreparedRuns.{room_by}
 use Rattle.access_cases.proofs.clusters.OneClusterFormatDriverInstance.cancel_data_mapping.Goals as goal
 
 pub returns-then-run-state : goal.returns-then-run-state
 returns-then-run-state g c =
+    let d = c.args.self.now in
     let prepared = c.in-Prepared.is in
     let state = sym c.into_state.ensures ∙ c.in-Some.is in
     record {
       cancels = record {
         ok = rw state (c.if-state-self.false, λ mine. record { fixed = rw prepared refl; size = refl; failed = refl; is_free = refl; cell = rw prepared refl });
         back = tt;
+        unchanged = λ none. absurd (cc none);
         fixed = rw prepared refl;
         size = refl;
         failed = refl;
@@ -16,7 +19,7 @@ returns-then-run-state g c =
         lasts = λ l. l;
         sees = λ s. s;
         safe = λ mine safe. record { runs = safe.runs; keeps = safe.keeps; fits = let fits = rw prepared at safe.fits in fits.0 };
-        room = λ safe mine. record { kept = λ p there is. is; free = λ p there is. is; zeroes = λ p there there' is. is };
+        room = λ safe mine. record { kept = λ p there room. absurd (room_by d.content _ d.size p prepared room); free = λ p there bare. inr tt; zeroes = λ p there there' bare. inr tt };
         began = λ x call begun. tt;
       };
     }

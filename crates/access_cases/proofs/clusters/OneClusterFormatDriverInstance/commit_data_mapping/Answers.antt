@@ -8,7 +8,7 @@ returns-in-Ok-settle-clause-commits g c =
     rw state (record {
       ok = (c.in-Ok-check_commit.ensures.own, done.ok);
       size = done.size;
-      room = λ safe mine. record { kept = λ p there is. is; free = λ p there is. is; zeroes = λ p there there' is. is };
+      room = λ safe mine. done.room;
       stops = λ safe mine. done.stops safe;
       went = record {
         fixed = done.went.fixed;

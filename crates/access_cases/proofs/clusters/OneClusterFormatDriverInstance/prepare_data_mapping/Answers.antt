@@ -1,11 +1,11 @@
-use Rattle.std.proofs.Common.{rules, ◌≡◌, ◌+◌, ◌∷◌, refl, ap, inr, arith}
+use Rattle.std.proofs.Common.{rules, ◌≡◌, ◌+◌, ◌∷◌, false, refl, ap, inr, arith}
 use Rattle.std.specs.Prelude.{⊤}
 use Rattle.imago_access.specs.Files.{IsMild}
 use Rattle.imago_access.specs.Chain.{at}
 use Rattle.imago_access.proofs.Stopping.{passes_none}
 use Rattle.access_cases.specs.contracts.clusters.OneClusterSeen.TheImpl.{ghosts}
-use Rattle.access_cases.specs.Clusters.{held_in}
-use Rattle.access_cases.proofs.PreparedRuns.{run_prepared, apart_loose, run_fits}
+use Rattle.access_cases.specs.Clusters.{blank_of, held_in}
+use Rattle.access_cases.proofs.PreparedRuns.{run_prepared, apart_loose, run_fits, room_by}
 use Rattle.access_cases.proofs.Declining.{mild_marks_over}
 use Rattle.imago_access.proofs.FilePairs.{is_later_same}
 use Rattle.imago_access.proofs.Looking.{looked_under_same}
@@ -58,19 +58,21 @@ returns-clause-does g c =
     let n = c.args.length in
     let under = at (g.B.SeenBelow.under c.args._below.now) in
     let written = c.in-Ok-unwritten.ensures in
+    let alone : d.backed ≡ false = search rules in
+    let inside = c.in-Ok.ensures.inside (omega arith) in
     rw c.to_commit.ensures (record {
-      ok = λ safe sees. rw c.in-Unmapped.is (run_prepared under _ _ start n d.size _ c.args.overwrite (omega arith) refl refl refl refl refl (ap (held_in start (start + n) c.args.overwrite) written));
+      ok = λ safe sees. rw c.in-Unmapped.is (run_prepared under _ _ start n d.size _ c.args.overwrite (omega arith) refl refl refl refl (λ p. ap blank_of alone) refl (ap (held_in d.size start (start + n) c.args.overwrite) written));
       err = λ safe sees. tt;
       uncut = λ safe sees u whole. inr whole.end;
-      near = λ safe sees p apart. apart_loose start n p c.args.overwrite _ apart;
-      room = λ safe sees whole. record { kept = λ p there is. is; free = λ p there is. is; zeroes = λ p there there' is. is };
+      near = λ safe sees p apart. apart_loose d.size start n p c.args.overwrite _ (omega arith) inside apart;
+      room = λ safe sees whole. record { kept = λ p there room. absurd (room_by d.content _ d.size p c.in-Unmapped.is room); free = λ p there bare. inr tt; zeroes = λ p there there' bare. inr tt };
       stops = λ safe sees. passes_none _ _ _ refl (refl, refl, refl, refl);
       went = record {
         fixed = rw c.in-Unmapped.is refl;
         failed = λ f. f;
         later = (is_later_same (g.S.Storage.state d.file), tt);
         faults = λ whole. ((refl, refl), tt);
-        safely = λ whole safe. record { runs = safe.runs; keeps = safe.keeps; fits = let fits = rw c.in-Unmapped.is at safe.fits in (fits, run_fits d.size start n d.backed _ written (c.in-Ok.ensures.inside (omega arith)) (search rules)) };
+        safely = λ whole safe. record { runs = safe.runs; keeps = safe.keeps; fits = let fits = rw c.in-Unmapped.is at safe.fits in (fits, run_fits d.size start n d.backed _ written inside alone) };
         lasting = λ l. l;
       };
       began = λ x call begun part whole. tt;

@@ -1,6 +1,6 @@
 use Rattle.std.proofs.Common.{rules, refl, ◌∙◌, ◌+◌, arith, inl, inr, ⊎_elim}
 use Rattle.imago_access.proofs.Stopping.{passes_none}
-use Rattle.access_cases.proofs.PreparedRuns.{home_between, takes_byte, stays_held}
+use Rattle.access_cases.proofs.PreparedRuns.{home_between, takes_byte, stays_held, room_by}
 use Rattle.access_cases.proofs.clusters.OneClusterFormatDriverInstance.write_mapped.Goals as goal
 
 pub returns-else-not-takes-clause-writes : goal.returns-else-not-takes-clause-writes
@@ -19,11 +19,11 @@ returns-else-not-takes-clause-writes g c =
       ok = λ safe. record {
         like = record { fixed = rw prepared refl; size = refl; unspent = rw prepared refl; failed = λ f. f };
         home = rw prepared refl;
-        range = λ i lt. rw prepared (takes_byte r.start r.end (guest + i) _ r.overwrite r.written.items written _ (omega (arith, within.0)) (omega (arith, lt, within.1)) (c.note.ensures.inside i lt));
-        others = λ p out. rw prepared (refl, stays_held r.start r.end p r.overwrite r.written.items written (c.note.ensures.outside p out));
+        range = λ i lt. rw prepared (takes_byte d.size r.start r.end (guest + i) _ r.overwrite r.written.items written _ (omega (arith, within.0)) (omega (arith, lt, within.1)) (c.note.ensures.inside i lt));
+        others = λ p out. rw prepared (refl, stays_held d.size r.start r.end p r.overwrite r.written.items written (c.note.ensures.outside p out));
       };
       err = λ safe. tt;
-      room = λ safe whole. record { kept = λ p there is. is; free = λ p there is. is; zeroes = λ p there there' is. is };
+      room = λ safe whole. record { kept = λ p there room. absurd (room_by d.content _ d.size p prepared room); free = λ p there bare. inr tt; zeroes = λ p there there' bare. inr tt };
       stops = λ safe below. passes_none _ _ _ refl (refl, refl, refl, refl);
       went = record {
         fixed = rw prepared refl;

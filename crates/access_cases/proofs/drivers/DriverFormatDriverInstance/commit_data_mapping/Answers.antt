@@ -1,7 +1,9 @@
+use Rattle.std.proofs.Common.{refl}
 use Rattle.std.proofs.lemmas.Result.{IfErr-weaker}
 use Rattle.std.proofs.lemmas.Option.{IfSome_then}
 use Rattle.imago_formats.proofs.RawSteps.{on_ok_always}
-use Rattle.access_cases.proofs.SeenAs.{on_ok_weaker}
+use Rattle.access_cases.specs.declared.drivers.Driver.TheVariants.{Words}
+use Rattle.access_cases.proofs.SeenAs.{on_ok_weaker, unchanged_as}
 use Rattle.access_cases.proofs.drivers.DriverFormatDriverInstance.commit_data_mapping.Goals as goal
 
 pub returns-in-Words-clause-commits : goal.returns-in-Words-clause-commits
@@ -18,21 +20,8 @@ returns-in-Words-clause-commits g c = let h = c.commit_data_mapping.ensures.comm
 pub returns-in-Words-clause-refused : goal.returns-in-Words-clause-refused
 returns-in-Words-clause-refused g c = let h = c.commit_data_mapping.ensures.refused in rw (c.in-Words.is) (record {
   at_once = h.at_once;
-  unasked = h.unasked;
-  back = IfErr-weaker c.commit_data_mapping.result _ _ (λ e k. IfSome_then e.1 k (λ m back. let u = back.2 in (
-    back.0,
-    back.1,
-    record {
-      layer = u.layer;
-      unasked = u.unasked;
-      seen = u.seen;
-      safely = u.safely;
-      stilled = u.stilled;
-      lasting = u.lasting;
-      room = λ safe. let left = u.room safe in record { kept = left.kept; free = left.free; zeroes = left.zeroes };
-      began = λ d call begun. begun;
-    },
-  ))) h.back;
+  unchanged = λ none. unchanged_as Words _ _ refl _ _ (λ x call begun. begun) (h.unchanged none);
+  back = IfErr-weaker c.commit_data_mapping.result _ _ (λ e k. IfSome_then e.1 k (λ m back. (back.0, back.1, unchanged_as Words _ _ refl _ _ (λ x call begun. begun) back.2))) h.back;
   spent = h.spent;
   failed = h.failed;
 })

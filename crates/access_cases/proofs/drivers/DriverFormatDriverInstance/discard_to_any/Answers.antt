@@ -1,18 +1,21 @@
 use Rattle.std.proofs.Common.{refl}
 use Rattle.imago_access.specs.PartCalls.{discards_to_any}
 use Rattle.access_cases.specs.declared.drivers.Driver.TheVariants.{Raw, Words}
-use Rattle.access_cases.proofs.SeenAs.{does_as, refused_as}
+use Rattle.access_cases.proofs.SeenAs.{does_as, refused_as, at_once_as}
 use Rattle.access_cases.proofs.OwnCauses.{raw_causes, words_causes}
 use Rattle.access_cases.proofs.drivers.DriverFormatDriverInstance.discard_to_any.Goals as goal
 
 pub returns-in-Raw-clause-does : goal.returns-in-Raw-clause-does
-returns-in-Raw-clause-does g c = rw (c.in-Raw.is) (does_as Raw _ _ refl _ _ discards_to_any _ _ _ (λ x whole begun. begun) c.discard_to_any.ensures.does)
+returns-in-Raw-clause-does g c = rw (c.in-Raw.is) (does_as Raw _ _ refl _ _ (λ x call begun. begun) discards_to_any _ _ _ c.discard_to_any.ensures.does)
 
 pub returns-in-Raw-clause-refused : goal.returns-in-Raw-clause-refused
-returns-in-Raw-clause-refused g c = rw (c.in-Raw.is) (refused_as Raw _ _ refl _ _ _ _ _ (raw_causes c.in-Raw.raw) c.discard_to_any.ensures.refused)
+returns-in-Raw-clause-refused g c = rw (c.in-Raw.is) (refused_as Raw _ _ refl _ _ (λ x call begun. begun) _ _ _ (raw_causes c.in-Raw.raw) c.discard_to_any.ensures.refused)
 
 pub returns-in-Words-clause-does : goal.returns-in-Words-clause-does
-returns-in-Words-clause-does g c = rw (c.in-Words.is) (does_as Words _ _ refl _ _ discards_to_any _ _ _ (λ x whole begun. begun) c.discard_to_any-in-Words.ensures.does)
+returns-in-Words-clause-does g c = rw (c.in-Words.is) (does_as Words _ _ refl _ _ (λ x call begun. begun) discards_to_any _ _ _ c.discard_to_any-in-Words.ensures.does)
 
 pub returns-in-Words-clause-refused : goal.returns-in-Words-clause-refused
-returns-in-Words-clause-refused g c = rw (c.in-Words.is) (refused_as Words _ _ refl _ _ _ _ _ (words_causes c.in-Words.words) c.discard_to_any-in-Words.ensures.refused)
+returns-in-Words-clause-refused g c = rw (c.in-Words.is) (refused_as Words _ _ refl _ _ (λ x call begun. begun) _ _ _ (words_causes c.in-Words.words) c.discard_to_any-in-Words.ensures.refused)
+
+pub returns-in-Words-clause-at_once : goal.returns-in-Words-clause-at_once
+returns-in-Words-clause-at_once g c = rw (c.in-Words.is) (at_once_as Words _ _ refl _ _ (λ x call begun. begun) _ _ _ c.discard_to_any-in-Words.ensures.at_once)

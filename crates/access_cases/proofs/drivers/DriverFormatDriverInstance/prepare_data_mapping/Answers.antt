@@ -1,6 +1,6 @@
 use Rattle.std.proofs.Common.{refl}
 use Rattle.access_cases.specs.declared.drivers.Driver.TheVariants.{Raw, Words}
-use Rattle.access_cases.proofs.SeenAs.{run_refused_as, run_refused_err}
+use Rattle.access_cases.proofs.SeenAs.{run_refused_as, run_refused_err, at_once_as}
 use Rattle.access_cases.proofs.OwnCauses.{raw_causes, words_causes}
 use Rattle.access_cases.proofs.drivers.DriverFormatDriverInstance.prepare_data_mapping.Goals as goal
 
@@ -14,7 +14,7 @@ returns-in-Words-clause-does g c = let h = c.prepare_data_mapping-in-Words.ensur
   stops = h.stops;
   went = record { fixed = h.went.fixed; failed = h.went.failed; later = h.went.later; faults = h.went.faults; safely = h.went.safely; lasting = h.went.lasting };
   began = λ x call begun part whole. begun;
-  refused = run_refused_as Words _ _ refl _ _ _ _ _ _ _ (words_causes c.in-Words.words) h.refused;
+  refused = run_refused_as Words _ _ refl _ _ (λ x call begun. begun) _ _ _ _ _ (words_causes c.in-Words.words) h.refused;
 })
 
 pub returns-in-Err-clause-does : goal.returns-in-Err-clause-does
@@ -27,7 +27,7 @@ returns-in-Err-clause-does g c = let h = rw c.in-Err.is at c.prepare_data_mappin
   stops = h.stops;
   went = record { fixed = h.went.fixed; failed = h.went.failed; later = h.went.later; faults = h.went.faults; safely = h.went.safely; lasting = h.went.lasting };
   began = λ x call begun part whole. begun;
-  refused = run_refused_err Raw _ _ refl _ _ _ _ _ _ _ (raw_causes c.in-Raw.raw) h.refused;
+  refused = run_refused_err Raw _ _ refl _ _ (λ x call begun. begun) _ _ _ _ _ (raw_causes c.in-Raw.raw) h.refused;
 })
 
 pub returns-in-Ok-clause-does : goal.returns-in-Ok-clause-does
@@ -45,3 +45,6 @@ returns-in-Ok-clause-does g c =
       began = λ x call begun part whole. begun;
       refused = record { failed = tt; marks = tt; cause = λ safe sees x call begun part same. tt };
     })
+
+pub returns-in-Words-clause-at_once : goal.returns-in-Words-clause-at_once
+returns-in-Words-clause-at_once g c = rw (c.in-Words.is) (at_once_as Words _ _ refl _ _ (λ x call begun. begun) _ _ _ c.prepare_data_mapping-in-Words.ensures.at_once)
