@@ -249,7 +249,40 @@ pub fn sizes<D: FormatDriverInstance>(
     Ok(text)
 }
 
-/// The most layers whose sizes are told.
+// Puts at the end of a text whether a layer can be used.
+fn push_ready<D: FormatDriverInstance>(
+    alloc: Global,
+    driver: &D,
+    text: &mut String,
+) -> Result<(), Trouble> {
+    match driver.ready() {
+        Ok(()) => Ok(joined(text, "ok")?),
+        Err(fault) => {
+            let refused = fault.to_string(alloc)?;
+            Ok(joined(text, refused.as_str())?)
+        }
+    }
+}
+
+/// Whether each layer can be used, the highest first: `ok`, or what refuses its calls.
+pub fn ready<D: FormatDriverInstance>(
+    alloc: Global,
+    access: &FormatAccess<D>,
+) -> Result<String, Trouble> {
+    let mut text = String::new(alloc);
+    let mut layer = Some(access);
+    for _ in 0..MOST_LAYERS {
+        let Some(one) = layer else {
+            return Ok(text);
+        };
+        push_ready(alloc, one.inner(), &mut text)?;
+        layer = one.below();
+    }
+    joined(&mut text, "more")?;
+    Ok(text)
+}
+
+/// The most layers of which it is told.
 const MOST_LAYERS: u8 = 16;
 
 /// The answer of a call that succeeds and gives nothing.

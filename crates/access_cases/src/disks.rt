@@ -2,7 +2,7 @@
 use crate::building::{Creation, Told, create, create_builder, creating, gate, open, opening};
 use crate::calls::{
     Change, aligns, cancel, change_range, commit, done, ensure, flush, grow, invalidate, is_free,
-    map, map_shallow, prepare, read, resize, shrink, sizes, sync, write, write_mapped,
+    map, map_shallow, prepare, read, ready, resize, shrink, sizes, sync, write, write_mapped,
 };
 use crate::clusters::PreparedCluster;
 use crate::drivers::Driver;
@@ -152,6 +152,7 @@ fn said<D: FormatDriverInstance>(
     match word {
         "sizes" => sizes(alloc, disk),
         "aligns" => aligns(alloc, disk),
+        "ready" => ready(alloc, disk),
         "prepared" => Ok((!is_free(disk)).to_string(alloc)?),
         _ => done(alloc, kept(alloc, disk, word)),
     }

@@ -6,6 +6,7 @@ use crate::calls::buffer;
 use crate::texts::{format as format_word, shallow};
 use cases::{Trouble, bytes, number, runs, size};
 use imago_access::{FormatDriverInstance, NoBelow, ReadBelow};
+use imago_storage::Storage;
 use std::alloc::Global;
 
 /// Changes of a range by the driver itself, which answers the part that it has done.
@@ -112,6 +113,23 @@ fn ready<D: FormatDriverInstance>(alloc: Global, driver: &D) -> Result<String, T
     Ok("ok".to_string(alloc)?)
 }
 
+// The length of its image file, in bytes.
+fn file<D: FormatDriverInstance>(alloc: Global, driver: &D) -> Result<String, Trouble> {
+    Ok(driver.image_file().size().to_string(alloc)?)
+}
+
+// The length of one of its further files, in bytes, if there is one.
+fn extra<D: FormatDriverInstance>(
+    alloc: Global,
+    driver: &D,
+    index: usize,
+) -> Result<String, Trouble> {
+    match driver.extra_file(index) {
+        None => Ok("none".to_string(alloc)?),
+        Some(file) => Ok(file.size().to_string(alloc)?),
+    }
+}
+
 /// What no layer below is, and shows.
 pub fn nothing_below(alloc: Global, offset: u64, n: u64) -> Result<String, Trouble> {
     let mut below = NoBelow;
@@ -137,6 +155,7 @@ fn told<D: FormatDriverInstance>(alloc: Global, driver: &D, word: &str) -> Resul
         "is" => described(alloc, driver),
         "granularity" => granularity(alloc, driver),
         "ready" => ready(alloc, driver),
+        "file" => file(alloc, driver),
         _ => Err(Trouble::NoCall),
     }
 }
@@ -165,6 +184,7 @@ pub fn drive<D: FormatDriverInstance>(
 ) -> Result<String, Trouble> {
     match words {
         [word] => told(alloc, driver, word),
+        ["extra", index] => extra(alloc, driver, size(index)?),
         [word, offset, n] => ranged(alloc, driver, word, number(offset)?, number(n)?),
         ["read", storage, place, n] => {
             read_mapped(alloc, driver, size(storage)?, number(place)?, number(n)?)

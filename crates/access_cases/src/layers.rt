@@ -20,13 +20,19 @@ fn mark<S>(words: &mut OneCluster<S>, word: &str) -> Result<(), Trouble> {
         "through" => words.through = true,
         "failed" => words.failed = true,
         "missing" => words.missing = true,
-        // Its file says so.
-        "broken" => {}
         "zeroed" => words.content = Content::Zeroed,
         "barred" => words.content = Content::Barred,
         _ => return Err(Trouble::NoCall),
     }
     Ok(())
+}
+
+// Which call of an image's file fails, 0 for none, by the words `fuse N` where they stand first; and the words behind them.
+fn fuse_of<'x, 'y>(words: &'y [&'x str]) -> (&'x str, &'y [&'x str]) {
+    match words {
+        ["fuse", n, rest @ ..] => (*n, rest),
+        _ => ("0", words),
+    }
 }
 
 // The file of an image of words, which holds these bytes: `n` is the number of its call that fails, if one does.
@@ -41,15 +47,15 @@ fn file_of<'a, 'x>(
     storage_of(alloc, &words, notes)
 }
 
-// An image of which nothing is mapped, or what a word says. The file of a broken one fails at the first call.
+// An image of which nothing is mapped, or what a word says.
 fn marked<'a>(
     alloc: Global,
     size: u64,
     number: u64,
-    marks: &[&str],
+    said: &[&str],
     notes: Notebook<'a>,
 ) -> Result<OneCluster<Base<'a>>, Trouble> {
-    let n = if marks.contains(&"broken") { "1" } else { "0" };
+    let (n, marks) = fuse_of(said);
     let mut words = OneCluster::new(file_of(alloc, n, &[], notes)?, size, number);
     for word in marks.iter() {
         mark(&mut words, word)?;
@@ -57,16 +63,22 @@ fn marked<'a>(
     Ok(words)
 }
 
-// An image that holds these bytes.
+// An image that holds the bytes that stand last.
 fn holding<'a>(
     alloc: Global,
     number: u64,
-    held: &[&str],
+    said: &[&str],
     notes: Notebook<'a>,
 ) -> Result<OneCluster<Base<'a>>, Trouble> {
-    let file = file_of(alloc, "0", held, notes)?;
+    let (n, rest) = fuse_of(said);
+    let (backed, held) = match rest {
+        ["backed", held @ ..] => (true, held),
+        _ => (false, rest),
+    };
+    let file = file_of(alloc, n, held, notes)?;
     let size = file.size();
     let mut words = OneCluster::new(file, size, number);
+    words.backed = backed;
     words.content = Content::Mapped;
     Ok(words)
 }
@@ -177,6 +189,7 @@ pub fn kept_by<S: Storage>(
     match (driver, word) {
         (Driver::Raw(raw), "count") => Ok(raw.image().count().to_string(alloc)?),
         (Driver::Raw(raw), "storage") => storage(alloc, raw.image_mut()),
+        (Driver::Words(words), "count") => Ok(words.file.count().to_string(alloc)?),
         (Driver::Words(words), "faults") => Ok(words.faults.to_string(alloc)?),
         _ => Err(Trouble::NoCall),
     }
