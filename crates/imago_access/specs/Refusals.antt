@@ -8,6 +8,8 @@ use Rattle.imago_storage.specs.Causes.{offset_of, length_of, Alters, IsForeign}
 use Rattle.imago_storage.specs.declared.fault.Fault.{Fault}
 use Rattle.imago_storage.specs.declared.fault.Fault.TheVariants.{ReadOnly, PastEnd, RangeOverflow, DamagedTable, Unsupported, Barred, VersionLimit, Foreign, MissingData, Failed, Memory, Storage}
 use Rattle.imago_access.specs.Layer.{Layer, own, unit_of_layer}
+use Rattle.imago_access.specs.declared.format.Format.{Format}
+use Rattle.imago_access.specs.declared.format.Format.TheVariants as format
 use Rattle.imago_access.specs.Chain.{disk_of, unit_of_chain}
 use Rattle.imago_access.specs.Files.{SomeRose, IsStale, greatest, keep_all}
 
@@ -48,14 +50,19 @@ change_refusal unit layer offset n =
 abbrev pub own_refusal : Layer → ℕ → ℕ → Option Fault
 own_refusal layer offset n = change_refusal (unit_of_layer layer) layer offset n
 
--- What the storages of a layer make of it: its alignments are the greatest of theirs, and it keeps what is written where each does. What it
--- can zero by itself is none, its units, or what its image file can zero.
+-- What a layer can zero by itself, by its format: what its image file can, its units, if it can at all, or nothing.
+abbrev pub ZeroesBy : Format → Layer → StorageState → Type 0
+ZeroesBy format.Raw layer image = layer.fixed.granularity ≡ Some (max (unit_of image.shape) image.shape.zero_align)
+ZeroesBy format.Qcow2 layer image = (layer.fixed.granularity ≡ None) ⊎ (layer.fixed.granularity ≡ Some layer.fixed.unit)
+ZeroesBy format.Vmdk layer image = layer.fixed.granularity ≡ None
+
+-- What the storages of a layer make of it: its alignments are the greatest of theirs, it keeps what is written where each does, and it
+-- zeroes by itself what its format can.
 pub record IsOfStorages (layer : Layer) (image : StorageState) (extras : List StorageState) : Type 0 where
   pub requests : layer.fixed.req_align ≡ greatest (λ s. s.shape.req_align) image extras
   pub memory : layer.fixed.mem_align ≡ greatest (λ s. s.shape.mem_align) image extras
   pub keeps : layer.fixed.keeps ≡ keep_all image extras
-  pub zeroing : (layer.fixed.granularity ≡ None) ⊎ ((layer.fixed.granularity ≡ Some layer.fixed.unit)
-      ⊎ (layer.fixed.granularity ≡ Some (max (unit_of image.shape) image.shape.zero_align)))
+  pub zeroing : ZeroesBy layer.fixed.format layer image
 
 -- a layer of the chain is barred by this
 abbrev pub SomeBarred : List Layer → Fault → Type 0
