@@ -153,7 +153,8 @@ pub trait FormatDriverInstance: Seen {
         ensures barred { (f : Fault) → barrier (Self.layer self.old) ≡ Some f → IsErrOf result f }
 
         // What it keeps.
-        ensures unchanged { IsUnchanged Self.Seen self.old self.new };
+        ensures unchanged { IsUnchanged Self.Seen self.old self.new }
+        ensures buffer { buf.new ≡ buf.old };
 
     /// Maps a run from the offset on so that it can be written: at least one byte, and not more than asked. What the run shows is copied
     /// to its new place first, and what is written there is part of the disk once the mapping is committed. With `overwrite` all of the
