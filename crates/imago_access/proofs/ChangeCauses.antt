@@ -6,7 +6,7 @@ use Rattle.imago_storage.specs.Through.{Overflows}
 use Rattle.imago_storage.specs.Steps.{Call}
 use Rattle.imago_storage.specs.Causes.{offset_of, length_of, Alters}
 use Rattle.imago_storage.specs.declared.fault.Fault.{Fault}
-use Rattle.imago_storage.specs.declared.fault.Fault.TheVariants.{ReadOnly, PastEnd, RangeOverflow, Unsupported, VersionLimit, Foreign, MissingData, Failed, Outdated, Memory, Storage}
+use Rattle.imago_storage.specs.declared.fault.Fault.TheVariants.{ReadOnly, PastEnd, RangeOverflow, Unsupported, VersionLimit, Foreign, MissingData, Failed, Outdated, Counter, Memory, Storage}
 use Rattle.imago_access.specs.Layer.{Layer, Fixed, unit_of_layer}
 use Rattle.imago_access.specs.Files.{Pairs, IsLater, IsDeclined}
 use Rattle.imago_access.specs.Parts.{PartCause, DeclinableCause, IsMappedAt, MappedCause}
@@ -33,6 +33,8 @@ module _ (below : List Layer) (entry mid : Layer) (offset n offset' n' : ℕ) (o
       let at_done : offset' ≡ offset + done = omega (arith, start) in
       let unit : unit_of_layer mid ≡ unit_of_layer entry = ap (λ (x : Fixed). unit_of_layer (record entry { fixed = x })) fixed in
       part_overflows (unit_of_layer entry) offset n done n' positive (omega (arith, start, end)) (subst (λ (u : ℕ). Overflows u (offset + done) n') unit (subst (λ (o : ℕ). Overflows (unit_of_layer mid) o n') at_done h))
+  part_cause_later Outdated more h = absurd h
+  part_cause_later Counter more h = absurd h
   part_cause_later Foreign more h = absurd h
   part_cause_later Unsupported more h = absurd h
   part_cause_later VersionLimit more h = absurd h
@@ -90,6 +92,7 @@ pub change_cause : (below : List Layer) (layer : Layer) (call : Call) (causes : 
 change_cause below layer call causes olds news alters reach ReadOnly h = (alters h.0, h.1)
 change_cause below layer call causes olds news alters reach PastEnd h = (alters h.0, h.1)
 change_cause below layer call causes olds news alters reach RangeOverflow h = reach h
+change_cause below layer call causes olds news alters reach Outdated h = absurd h
 change_cause below layer call causes olds news alters reach Foreign h = absurd h
 change_cause below layer call causes olds news alters reach Unsupported h = absurd h
 change_cause below layer call causes olds news alters reach VersionLimit h = absurd h

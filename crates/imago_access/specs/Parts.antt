@@ -5,7 +5,7 @@ use Rattle.imago_storage.specs.Through.{Overflows}
 use Rattle.imago_storage.specs.Steps.{Call, write, write_zeroes, discard_to_zero, prepare, ensure}
 use Rattle.imago_storage.specs.Causes.{offset_of, length_of}
 use Rattle.imago_storage.specs.declared.fault.Fault.{Fault}
-use Rattle.imago_storage.specs.declared.fault.Fault.TheVariants.{ReadOnly, PastEnd, RangeOverflow, Unsupported, VersionLimit, Foreign, MissingData, Failed, Outdated, Memory, Storage}
+use Rattle.imago_storage.specs.declared.fault.Fault.TheVariants.{ReadOnly, PastEnd, RangeOverflow, Unsupported, VersionLimit, Foreign, MissingData, Failed, Outdated, Counter, Memory, Storage}
 use Rattle.imago_access.specs.Layer.{Layer, unit_of_layer}
 use Rattle.imago_access.specs.Files.{SomeRose}
 use Rattle.imago_access.specs.Room.{IsUncutAt}
@@ -37,7 +37,9 @@ abbrev pub PartCause : List Layer → Layer → ℕ → ℕ → (Fault → Type 
 PartCause below layer offset n causes olds news ReadOnly = (0 < n) × IsFalse layer.fixed.writable
 PartCause below layer offset n causes olds news PastEnd = (0 < n) × (layer.size < offset + n)
 PartCause below layer offset n causes olds news RangeOverflow = Overflows (unit_of_layer layer) offset n
+PartCause below layer offset n causes olds news Outdated = ⊥
 PartCause below layer offset n causes olds news Foreign = ⊥
+PartCause below layer offset n causes olds news Counter = ⊥
 PartCause below layer offset n causes olds news Unsupported = ⊥
 PartCause below layer offset n causes olds news VersionLimit = ⊥
 PartCause below layer offset n causes olds news Failed = SomeBarred (layer ∷ below) Failed
@@ -73,6 +75,9 @@ MappedCause layer guest place n olds news fault = PartCause [] layer guest n (λ
 abbrev pub ResizeCause : Type 0 → List Layer → Layer → (Fault → Type 0) → List StorageState → List StorageState → Fault → Type 0
 ResizeCause Alters below layer causes olds news ReadOnly = Alters × IsFalse layer.fixed.writable
 ResizeCause Alters below layer causes olds news PastEnd = ⊥
+ResizeCause Alters below layer causes olds news RangeOverflow = ⊥
+ResizeCause Alters below layer causes olds news Outdated = ⊥
+ResizeCause Alters below layer causes olds news Counter = ⊥
 ResizeCause Alters below layer causes olds news Foreign = ⊥
 ResizeCause Alters below layer causes olds news Failed = SomeBarred (layer ∷ below) Failed
 ResizeCause Alters below layer causes olds news MissingData = SomeBarred (layer ∷ below) MissingData

@@ -6,7 +6,7 @@ use Rattle.imago_storage.specs.Disk.{Value, barred, damaged_place}
 use Rattle.imago_storage.specs.Steps.{Call}
 use Rattle.imago_storage.specs.Causes.{offset_of, length_of, Alters, IsForeign}
 use Rattle.imago_storage.specs.declared.fault.Fault.{Fault}
-use Rattle.imago_storage.specs.declared.fault.Fault.TheVariants.{ReadOnly, PastEnd, RangeOverflow, DamagedTable, Unsupported, Barred, VersionLimit, Foreign, MissingData, Failed, Memory, Storage}
+use Rattle.imago_storage.specs.declared.fault.Fault.TheVariants.{ReadOnly, PastEnd, RangeOverflow, DamagedTable, Unsupported, Barred, VersionLimit, Foreign, MissingData, Counter, Failed, Memory, Storage}
 use Rattle.imago_access.specs.Layer.{Layer, own, unit_of_layer}
 use Rattle.imago_access.specs.declared.format.Format.{Format}
 use Rattle.imago_access.specs.declared.format.Format.TheVariants as format
@@ -107,6 +107,7 @@ abbrev pub ChangeCause : List Layer → Layer → Call → (Fault → Type 0) �
 ChangeCause below layer call causes olds news ReadOnly = Alters (disk_of below layer) call × IsFalse layer.fixed.writable
 ChangeCause below layer call causes olds news PastEnd = Alters (disk_of below layer) call × (layer.size < offset_of call + length_of call)
 ChangeCause below layer call causes olds news RangeOverflow = Overflows (unit_of_chain (layer ∷ below)) (offset_of call) (length_of call)
+ChangeCause below layer call causes olds news Counter = ⊥
 ChangeCause below layer call causes olds news Foreign = IsForeign call
 ChangeCause below layer call causes olds news Unsupported = ⊥
 ChangeCause below layer call causes olds news VersionLimit = ⊥
