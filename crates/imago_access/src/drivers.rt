@@ -327,7 +327,6 @@ pub trait FormatDriverInstance: Seen {
     /// It refuses with `Fault::Memory` and `Fault::Storage`.
     fn flush(&mut self, alloc: Global) -> Result<(), Fault>
         // What it does.
-        ensures same { Self.safe self.old → OnOk result (Self.layer self.new ≡ Self.layer self.old) }
         ensures sees { Self.sees self.old → OnOk result ((Self.layer self.new ≡ Self.layer self.old) × Self.sees self.new) }
         ensures still { OnOk result (Self.still self.new) }
         ensures written { Self.safe self.old → IsFree (Self.layer self.old) → OnOk result (IsWritten Self.Seen self.new) }

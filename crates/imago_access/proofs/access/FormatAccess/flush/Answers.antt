@@ -15,5 +15,5 @@ returns-clause-ran g c = let d = g.D.Seen in
     let new = c.flush.new.self in
     let under = layers c.self.inside.below in
     rw (← c.self.view_is) (ran_kept d (below_ghosts d) (IsOk c.flush.result) GivesNone old new under c.flush.ensures.like.size (went_weaker d (WasNotCutOff c.flush.result) (WasNotCutOff c.flush.result) (IsOk c.flush.result) (IsOk c.flush.result) old new (ok_whole c.flush.result) (ok_whole c.flush.result) c.flush.ensures.went)
-    (λ ok intact. ok_holds c.flush.result (d.layer new ≡ d.layer old) ok (c.flush.ensures.same intact.is_safe))
+    (λ ok intact. (ok_holds c.flush.result _ ok (c.flush.ensures.sees (g.met.D.FormatDriverInstance.safe_sees old intact.is_safe))).0)
     (λ intact. c.flush.ensures.stops intact.is_safe (map d.layer under)))
