@@ -13,11 +13,12 @@ use Rattle.imago_storage.specs.Passing.{Passes}
 use Rattle.imago_access.specs.Stops.{shown, May, Left, MakesNone}
 
 -- The file now is what the newest stop left, or there was none.
-newest : (P : List ℕ → Type 0) (a b : StorageState) (files : List (List ℕ)) → b.stop ∷ b.past ≡ files ++ (a.stop ∷ a.past) → All P files → (b.stop ≡ a.stop) ⊎ P b.stop
+pub newest : (P : List ℕ → Type 0) (a b : StorageState) (files : List (List ℕ)) → b.stop ∷ b.past ≡ files ++ (a.stop ∷ a.past) → All P files → (b.stop ≡ a.stop) ⊎ P b.stop
 newest P a b [] told each = inl (cc told)
 newest P a b (f ∷ fs) told each = let is : b.stop ≡ f = cc told in inr (subst P (sym is) (All-head P f fs each))
 
-here : (P : List ℕ → Type 0) (a b : StorageState) → IsLater a b → InStep a → InStep b → IsTrue a.shape.tells → IsTrue a.shape.keeps → StopsIn P a b → (b.bytes ≡ a.bytes) ⊎ P b.bytes
+-- The file now is as it was, or what a stop between left.
+pub here : (P : List ℕ → Type 0) (a b : StorageState) → IsLater a b → InStep a → InStep b → IsTrue a.shape.tells → IsTrue a.shape.keeps → StopsIn P a b → (b.bytes ≡ a.bytes) ⊎ P b.bytes
 here P a b later was is tells keeps stops =
     let now : b.stop ≡ b.bytes = is (tells_on a b later.0 tells) (keeps_on a b later.0 keeps) in
     let before : a.stop ≡ a.bytes = was tells keeps in
