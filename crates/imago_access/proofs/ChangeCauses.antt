@@ -11,7 +11,7 @@ use Rattle.imago_access.specs.Layer.{Layer, Fixed, unit_of_layer}
 use Rattle.imago_access.specs.Files.{Pairs, IsLater, IsDeclined}
 use Rattle.imago_access.specs.Parts.{PartCause, DeclinableCause, IsMappedAt, MappedCause}
 use Rattle.imago_access.specs.Chain.{disk_of, unit_of_chain}
-use Rattle.imago_access.specs.Refusals.{ChangeCause, barrier, SomeBarred}
+use Rattle.imago_access.specs.Refusals.{ChangeCause, barrier, SomeUnusable}
 use Rattle.imago_access.proofs.FilePairs.{pairs_append, some_rose_behind, some_rose_left}
 use Rattle.imago_access.proofs.ReadCauses.{part_overflows}
 
@@ -19,8 +19,8 @@ use Rattle.imago_access.proofs.ReadCauses.{part_overflows}
 pub barrier_on : (entry mid : Layer) → mid.fixed ≡ entry.fixed → entry.failed ≡ false → mid.failed ≡ false → barrier mid ≡ barrier entry
 barrier_on entry mid fixed ran runs = rw (runs, ran, fixed) refl
 
-barred_on : (entry mid : Layer) (below : List Layer) (fault : Fault) → barrier mid ≡ barrier entry → SomeBarred (mid ∷ below) fault → SomeBarred (entry ∷ below) fault
-barred_on entry mid below fault same h = elim h [ inl here ↦ inl (sym same ∙ here) | inr rest ↦ inr rest ]
+unusable_on : (entry mid : Layer) (below : List Layer) (fault : Fault) → barrier mid ≡ barrier entry → SomeUnusable (mid ∷ below) fault → SomeUnusable (entry ∷ below) fault
+unusable_on entry mid below fault same h = elim h [ inl here ↦ inl (sym same ∙ here) | inr rest ↦ inr rest ]
 
 -- A part's cause at a later moment, seen from the entry: the image has not failed by then, and the layers below are the same.
 module _ (below : List Layer) (entry mid : Layer) (offset n offset' n' : ℕ) (olds mids news : List StorageState) (fixed : mid.fixed ≡ entry.fixed) (size : mid.size ≡ entry.size) (ran : entry.failed ≡ false) (runs : mid.failed ≡ false)
@@ -38,8 +38,8 @@ module _ (below : List Layer) (entry mid : Layer) (offset n offset' n' : ℕ) (o
   part_cause_later Foreign more h = absurd h
   part_cause_later Unsupported more h = absurd h
   part_cause_later VersionLimit more h = absurd h
-  part_cause_later Failed more h = barred_on entry mid below Failed (barrier_on entry mid fixed ran runs) h
-  part_cause_later MissingData more h = barred_on entry mid below MissingData (barrier_on entry mid fixed ran runs) h
+  part_cause_later Failed more h = unusable_on entry mid below Failed (barrier_on entry mid fixed ran runs) h
+  part_cause_later MissingData more h = unusable_on entry mid below MissingData (barrier_on entry mid fixed ran runs) h
   part_cause_later Memory more h = h
   part_cause_later Storage more h = some_rose_behind olds mids news later h
   part_cause_later _ more h = more h

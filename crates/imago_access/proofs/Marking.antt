@@ -42,8 +42,8 @@ no_storage true missing is = cc is
 no_storage false true is = cc is
 no_storage false false is = cc is
 
-pub barred_by_none : (layer : Layer) (e : Fault) → barrier layer ≡ Some e → e ≡ Storage → ⊥
-barred_by_none layer e barred is = no_storage layer.failed layer.fixed.missing (subst (λ (f : Fault). barrier layer ≡ Some f) is barred)
+pub unusable_by_none : (layer : Layer) (e : Fault) → barrier layer ≡ Some e → e ≡ Storage → ⊥
+unusable_by_none layer e barred is = no_storage layer.failed layer.fixed.missing (subst (λ (f : Fault). barrier layer ≡ Some f) is barred)
 
 module _ {D St : Type 0} (g : Ghosts D St) where
   -- what never changes of a driver

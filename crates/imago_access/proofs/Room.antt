@@ -6,7 +6,7 @@ use Rattle.std.proofs.lemmas.Bool.{cases_lt}
 use Rattle.imago_storage.specs.Steps.{IsIn, IsOut}
 use Rattle.imago_access.specs.Layer.{Layer, Fixed, loose}
 use Rattle.imago_access.specs.Changes.{Wrote}
-use Rattle.imago_access.specs.Zeroings.{IsLeft}
+use Rattle.imago_access.specs.Zeroings.{IsZeroedBy}
 use Rattle.imago_access.specs.declared.access.zeroing.Zeroing.{Zeroing}
 use Rattle.imago_access.specs.declared.access.zeroing.Zeroing.TheVariants.{Keep, GiveUp}
 use Rattle.imago_access.specs.Room.{IsWholeUnit, IsOfUnit, IsApart, Reaches, IsGivenUp, IsGivenUpTo, LeavesRoom, Takes, GivesUp}
@@ -116,7 +116,7 @@ room_fewer g left left' spared a b from h = record { kept = λ p there. h.kept p
 
 -- what a zeroing leaves stays in a call that leaves these places
 pub left_on : {D St : Type 0} (g : Ghosts D St) (left spared : ℕ → Type 0) (zeroing : Zeroing) (a b : D) (p : ℕ) → (zeroing ≡ Keep → left p) → spared p
-    → LeavesRoom g left spared a b → IsLeft zeroing (g.vacant a) (g.zeroed a) p → IsLeft zeroing (g.vacant b) (g.zeroed b) p
+    → LeavesRoom g left spared a b → IsZeroedBy zeroing (g.vacant a) (g.zeroed a) p → IsZeroedBy zeroing (g.vacant b) (g.zeroed b) p
 left_on g left spared Keep a b p there apart room is = room.zeroes p (there refl) apart is
 left_on g left spared GiveUp a b p there apart room is = room.free p apart is
 

@@ -11,7 +11,7 @@ use Rattle.imago_access.specs.Chain.{at, Each, unit_of_chain}
 use Rattle.imago_access.specs.Files.{files_of}
 use Rattle.imago_access.specs.Kinds.{kind_of, deep_kind_of}
 use Rattle.imago_access.specs.Mappings.{DeepNames, DeepNamesWritable, IsDeepBelow, IsThere, stored_at}
-use Rattle.imago_access.specs.Refusals.{IsBarred, ReadCause, DeepLookCause, InvalidateCause}
+use Rattle.imago_access.specs.Refusals.{IsUnusable, ReadCause, DeepLookCause, InvalidateCause}
 use Rattle.imago_access.specs.ChainCalls.{ChainSteps, AllUnchanged}
 
 -- a read of this many bytes fills the buffer with those of the chain's disk
@@ -55,7 +55,7 @@ ReadsRun g offset result buf ds = Each g.sees ds → IfOk result (ShowBytes (map
 
 -- a lookup of so many bytes in a layer has nothing to do, or is refused at once
 abbrev pub NeedsNoLook : Layer → ℕ → Type 0
-NeedsNoLook layer asked = (asked ≡ 0) ⊎ IsBarred layer
+NeedsNoLook layer asked = (asked ≡ 0) ⊎ IsUnusable layer
 
 -- then all is as it was
 abbrev pub UnchangedIfIdle : {D St : Type 0} → Ghosts D St → ℕ → D × List D → D × List D → Type 0

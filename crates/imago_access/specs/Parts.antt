@@ -9,7 +9,7 @@ use Rattle.imago_storage.specs.declared.fault.Fault.TheVariants.{ReadOnly, PastE
 use Rattle.imago_access.specs.Layer.{Layer, unit_of_layer}
 use Rattle.imago_access.specs.Files.{SomeRose}
 use Rattle.imago_access.specs.Room.{IsUncutAt}
-use Rattle.imago_access.specs.Refusals.{barrier, SomeBarred}
+use Rattle.imago_access.specs.Refusals.{barrier, SomeUnusable}
 
 -- the range lies in that of the call
 pub record IsPartOf (call : Call) (offset n : ℕ) : Type 0 where
@@ -42,8 +42,8 @@ PartCause below layer offset n causes olds news Foreign = ⊥
 PartCause below layer offset n causes olds news Counter = ⊥
 PartCause below layer offset n causes olds news Unsupported = ⊥
 PartCause below layer offset n causes olds news VersionLimit = ⊥
-PartCause below layer offset n causes olds news Failed = SomeBarred (layer ∷ below) Failed
-PartCause below layer offset n causes olds news MissingData = SomeBarred (layer ∷ below) MissingData
+PartCause below layer offset n causes olds news Failed = SomeUnusable (layer ∷ below) Failed
+PartCause below layer offset n causes olds news MissingData = SomeUnusable (layer ∷ below) MissingData
 PartCause below layer offset n causes olds news Memory = ⊤
 PartCause below layer offset n causes olds news Storage = SomeRose olds news
 PartCause below layer offset n causes olds news fault = causes fault
@@ -79,8 +79,8 @@ ResizeCause Alters below layer causes olds news RangeOverflow = ⊥
 ResizeCause Alters below layer causes olds news Outdated = ⊥
 ResizeCause Alters below layer causes olds news Counter = ⊥
 ResizeCause Alters below layer causes olds news Foreign = ⊥
-ResizeCause Alters below layer causes olds news Failed = SomeBarred (layer ∷ below) Failed
-ResizeCause Alters below layer causes olds news MissingData = SomeBarred (layer ∷ below) MissingData
+ResizeCause Alters below layer causes olds news Failed = SomeUnusable (layer ∷ below) Failed
+ResizeCause Alters below layer causes olds news MissingData = SomeUnusable (layer ∷ below) MissingData
 ResizeCause Alters below layer causes olds news Memory = ⊤
 ResizeCause Alters below layer causes olds news Storage = SomeRose olds news
 ResizeCause Alters below layer causes olds news fault = causes fault

@@ -17,8 +17,8 @@ use Rattle.imago_access.specs.Files.{SomeRose, IsStale, greatest, keep_all}
 abbrev pub barrier : Layer → Option Fault
 barrier layer = if layer.failed then Some Failed else if layer.fixed.missing then Some MissingData else None
 
-abbrev pub IsBarred : Layer → Type 0
-IsBarred layer = IsSome (barrier layer)
+abbrev pub IsUnusable : Layer → Type 0
+IsUnusable layer = IsSome (barrier layer)
 
 -- The first cause why a change of a range, in bytes, is refused, by whether the image was opened for writing, its unit of requests and its
 -- size.
@@ -64,10 +64,10 @@ pub record IsOfStorages (layer : Layer) (image : StorageState) (extras : List St
   pub keeps : layer.fixed.keeps ≡ keep_all image extras
   pub zeroing : ZeroesBy layer.fixed.format layer image
 
--- a layer of the chain is barred by this
-abbrev pub SomeBarred : List Layer → Fault → Type 0
-SomeBarred [] fault = ⊥
-SomeBarred (layer ∷ below) fault = (barrier layer ≡ Some fault) ⊎ SomeBarred below fault
+-- a layer of the chain can't be used, for this
+abbrev pub SomeUnusable : List Layer → Fault → Type 0
+SomeUnusable [] fault = ⊥
+SomeUnusable (layer ∷ below) fault = (barrier layer ≡ Some fault) ⊎ SomeUnusable below fault
 
 -- a layer of the chain has failed
 abbrev pub SomeFailed : List Layer → Type 0
@@ -92,8 +92,8 @@ LookCause layer offset n olds news fault = ⊥
 -- Why a read of a chain or a lookup through it is refused: also for a range whose padded end passes 64 bits, and for a place that can't
 -- be read.
 abbrev pub ReadCause : List Layer → (ℕ → Value) → ℕ → ℕ → ℕ → List StorageState → List StorageState → Fault → Type 0
-ReadCause layers value unit offset n olds news Failed = SomeBarred layers Failed
-ReadCause layers value unit offset n olds news MissingData = SomeBarred layers MissingData
+ReadCause layers value unit offset n olds news Failed = SomeUnusable layers Failed
+ReadCause layers value unit offset n olds news MissingData = SomeUnusable layers MissingData
 ReadCause layers value unit offset n olds news RangeOverflow = Overflows unit offset n
 ReadCause layers value unit offset n olds news DamagedTable = SomeIs value offset n damaged_place
 ReadCause layers value unit offset n olds news Barred = SomeIs value offset n barred
@@ -111,8 +111,8 @@ ChangeCause below layer call causes olds news Counter = ⊥
 ChangeCause below layer call causes olds news Foreign = IsForeign call
 ChangeCause below layer call causes olds news Unsupported = ⊥
 ChangeCause below layer call causes olds news VersionLimit = ⊥
-ChangeCause below layer call causes olds news Failed = SomeBarred (layer ∷ below) Failed
-ChangeCause below layer call causes olds news MissingData = SomeBarred (layer ∷ below) MissingData
+ChangeCause below layer call causes olds news Failed = SomeUnusable (layer ∷ below) Failed
+ChangeCause below layer call causes olds news MissingData = SomeUnusable (layer ∷ below) MissingData
 ChangeCause below layer call causes olds news Memory = ⊤
 ChangeCause below layer call causes olds news Storage = SomeRose olds news
 ChangeCause below layer call causes olds news fault = causes fault
@@ -128,8 +128,8 @@ ReadMappedCause layer place n olds news fault = ⊥
 
 -- Why a lookup through a chain is refused.
 abbrev pub DeepLookCause : List Layer → (ℕ → Value) → ℕ → ℕ → List StorageState → List StorageState → Fault → Type 0
-DeepLookCause layers value offset n olds news Failed = SomeBarred layers Failed
-DeepLookCause layers value offset n olds news MissingData = SomeBarred layers MissingData
+DeepLookCause layers value offset n olds news Failed = SomeUnusable layers Failed
+DeepLookCause layers value offset n olds news MissingData = SomeUnusable layers MissingData
 DeepLookCause layers value offset n olds news DamagedTable = SomeIs value offset n damaged_place
 DeepLookCause layers value offset n olds news Memory = ⊤
 DeepLookCause layers value offset n olds news Storage = SomeRose olds news
@@ -137,8 +137,8 @@ DeepLookCause layers value offset n olds news fault = ⊥
 
 -- Why what the layers hold in memory can't be dropped and read again.
 abbrev pub InvalidateCause : List Layer → List StorageState → List StorageState → Fault → Type 0
-InvalidateCause layers olds news Failed = SomeBarred layers Failed
-InvalidateCause layers olds news MissingData = SomeBarred layers MissingData
+InvalidateCause layers olds news Failed = SomeUnusable layers Failed
+InvalidateCause layers olds news MissingData = SomeUnusable layers MissingData
 InvalidateCause layers olds news Memory = ⊤
 InvalidateCause layers olds news Storage = SomeRose olds news
 InvalidateCause layers olds news fault = IsStale fault

@@ -21,7 +21,7 @@ use Rattle.imago_access.specs.Room.{IsApart, IsUncutAt, Reaches, IsUndeclined, I
 use Rattle.imago_access.specs.Running.{IsIntact, IsBetween, Ran, RanAlone}
 use Rattle.imago_access.specs.Spending.{Spends}
 use Rattle.imago_access.specs.Stops.{KeepsStops, GivesBytes, GivesZero, GivesSettled}
-use Rattle.imago_access.specs.Zeroings.{IsLeft}
+use Rattle.imago_access.specs.Zeroings.{IsZeroedBy}
 
 -- a change of a range, in bytes
 pub data Work : Type 0 where
@@ -180,7 +180,7 @@ ReachesUnits layer offset n part = Reaches layer.fixed.unit layer.size offset n 
 
 -- each place of the part is left as this way of zeroing says
 abbrev pub IsLeftIn : {D St : Type 0} → Ghosts D St → Zeroing → D → ℕ × ℕ → Type 0
-IsLeftIn g how new part = (p : ℕ) → IsIn part.0 part.1 p → IsLeft how (g.vacant new) (g.zeroed new) p
+IsLeftIn g how new part = (p : ℕ) → IsIn part.0 part.1 p → IsZeroedBy how (g.vacant new) (g.zeroed new) p
 
 -- P, where this range is part of a call that was begun and that the driver has no cause of its own to decline
 abbrev pub UnlessDeclined : {D St : Type 0} → Ghosts D St → List Layer → ℕ → ℕ → D → Type 0 → Type 0
@@ -195,13 +195,13 @@ GivesUnitsUpAlone g offset n result old new = g.safe old → (below : List Layer
 -- and left by a zeroing as its way says: by a driver alone between two places, so far up to a place, and in the whole range.
 abbrev pub LeavesUnitsBehind : {D St : Type 0} → Ghosts D St → Zeroing → ℕ → ℕ → Result (ℕ × ℕ) Fault → D → D → Type 0
 LeavesUnitsBehind g how offset n result old new = g.safe old → (below : List Layer) → UnlessDeclined g below offset n old
-    (IfOk result (λ r. IsGivenUpBehind (IsLeft how (g.vacant new) (g.zeroed new)) (g.layer old).fixed.unit (g.layer old).size
+    (IfOk result (λ r. IsGivenUpBehind (IsZeroedBy how (g.vacant new) (g.zeroed new)) (g.layer old).fixed.unit (g.layer old).size
     offset n r.0 r.1))
 
 abbrev pub LeavesUnitsTo : {D St B : Type 0} → Ghosts D St → GhostsBelow B → Zeroing → ℕ → ℕ → Result ℕ Fault → D × B → D × B → Type 0
 LeavesUnitsTo g u how offset n result old new = IsIntact g u old.0 old.1 → UnlessDeclined g (u.under old.1) offset n old.0
-    (IfOk result (IsGivenUpTo (IsLeft how (g.vacant new.0) (g.zeroed new.0)) (g.layer old.0).fixed.unit (g.layer old.0).size offset n))
+    (IfOk result (IsGivenUpTo (IsZeroedBy how (g.vacant new.0) (g.zeroed new.0)) (g.layer old.0).fixed.unit (g.layer old.0).size offset n))
 
 abbrev pub LeavesUnits : {D St B : Type 0} → Ghosts D St → GhostsBelow B → Zeroing → ℕ → ℕ → Result Unit Fault → D × B → D × B → Type 0
 LeavesUnits g u how offset n result old new = IsIntact g u old.0 old.1 → UnlessDeclined g (u.under old.1) offset n old.0
-    (OnOk result (IsGivenUp (IsLeft how (g.vacant new.0) (g.zeroed new.0)) (g.layer old.0).fixed.unit (g.layer old.0).size offset n))
+    (OnOk result (IsGivenUp (IsZeroedBy how (g.vacant new.0) (g.zeroed new.0)) (g.layer old.0).fixed.unit (g.layer old.0).size offset n))

@@ -4,6 +4,6 @@ use Rattle.imago_access.specs.declared.access.zeroing.Zeroing.{Zeroing}
 use Rattle.imago_access.specs.declared.access.zeroing.Zeroing.TheVariants.{Keep, GiveUp}
 
 -- it is zeroed or, where room is given up, vacant
-abbrev pub IsLeft : Zeroing → (ℕ → Type 0) → (ℕ → Type 0) → ℕ → Type 0
-IsLeft Keep vacant zeroed = zeroed
-IsLeft GiveUp vacant zeroed = vacant
+abbrev pub IsZeroedBy : Zeroing → (ℕ → Type 0) → (ℕ → Type 0) → ℕ → Type 0
+IsZeroedBy Keep vacant zeroed = zeroed
+IsZeroedBy GiveUp vacant zeroed = vacant

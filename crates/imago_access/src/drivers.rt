@@ -150,7 +150,7 @@ pub trait FormatDriverInstance: Seen {
         // Why it is refused.
         ensures refused { IsErr result }
         ensures err { IfErr result (λ e. (barrier (Self.layer self.old) ≡ Some e) ⊎ (e ≡ Barred)) }
-        ensures barred { (f : Fault) → barrier (Self.layer self.old) ≡ Some f → IsErrOf result f }
+        ensures unusable { (f : Fault) → barrier (Self.layer self.old) ≡ Some f → IsErrOf result f }
 
         // What it keeps.
         ensures unchanged { IsUnchanged Self.Seen self.old self.new }

@@ -35,7 +35,7 @@ impl<D: FormatDriverInstance> FormatAccess<D> {
         ensures room { D.sees self.old.0 → IfOk result (NamesRoomIn D.Seen offset self.old.0) }
         ensures there { IfOk result (λ r. IsOneOf (length (files D.Seen self.old.0)) r.0) }
         ensures idle { max_length ≡ 0 → barrier (D.layer self.old.0) ≡ None → IsOk result }
-        ensures barred { (f : Fault) → barrier (D.layer self.old.0) ≡ Some f → IsErrOf result f }
+        ensures unusable { (f : Fault) → barrier (D.layer self.old.0) ≡ Some f → IsErrOf result f }
         ensures unchanged { NeedsNoLook (D.layer self.old.0) max_length → IsUnchanged D.Seen self.old.0 self.new.0 }
         ensures looked { Pairs (Looked D.Seen (WasNotCutOff result)) (chain self.old) (chain self.new) }
         ensures below { self.new.1 ≡ self.old.1 }
@@ -70,7 +70,7 @@ impl<D: FormatDriverInstance> FormatAccess<D> {
         ensures home { D.sees self.old.0 → IfOk result (λ r. DeepNamesHome (D.layer self.old.0) offset max_length r.0) }
         ensures writable { NamesWritable D.Seen offset max_length result (chain self.old) }
         ensures idle { max_length ≡ 0 → barrier (D.layer self.old.0) ≡ None → IsOk result }
-        ensures barred { (f : Fault) → barrier (D.layer self.old.0) ≡ Some f → IsErrOf result f }
+        ensures unusable { (f : Fault) → barrier (D.layer self.old.0) ≡ Some f → IsErrOf result f }
         ensures unchanged { UnchangedIfIdle D.Seen max_length self.old self.new }
         ensures looked { Pairs (Looked D.Seen (WasNotCutOff result)) (chain self.old) (chain self.new) }
         ensures failed { IfErr result (ChainFails D.Seen self.old self.new) }
@@ -96,7 +96,7 @@ impl<D: FormatDriverInstance> FormatAccess<D> {
         ensures home { D.sees driver.old → IfOk result (λ r. DeepNamesHome (D.layer driver.old) offset max_length r.0) }
         ensures writable { NamesWritable D.Seen offset max_length result (driver.old ∷ layers below.old) }
         ensures idle { max_length ≡ 0 → barrier (D.layer driver.old) ≡ None → IsOk result }
-        ensures barred { (f : Fault) → barrier (D.layer driver.old) ≡ Some f → IsErrOf result f }
+        ensures unusable { (f : Fault) → barrier (D.layer driver.old) ≡ Some f → IsErrOf result f }
         ensures unchanged { UnchangedIfIdle D.Seen max_length (driver.old, layers below.old) (driver.new, layers below.new) }
         ensures looked { Pairs (Looked D.Seen (WasNotCutOff result)) (driver.old ∷ layers below.old) (driver.new ∷ layers below.new) }
         ensures failed { IfErr result (ChainFails D.Seen (driver.old, layers below.old) (driver.new, layers below.new)) }

@@ -5,7 +5,7 @@ ghost use Rattle.imago_access.specs.Layer.{IsFree};
 ghost use Rattle.imago_access.specs.Chain.{Each};
 ghost use Rattle.imago_access.specs.Files.{WasNotCutOff};
 ghost use Rattle.imago_access.specs.Going.{AtOnce, Went, LookedUnder, Marks, MarksOver};
-ghost use Rattle.imago_access.specs.Refusals.{barrier, IsBarred};
+ghost use Rattle.imago_access.specs.Refusals.{barrier, IsUnusable};
 ghost use Rattle.imago_access.specs.Resizes.{fill_of};
 ghost use Rattle.imago_access.specs.Running.{IsIntactChain, below_ghosts};
 ghost use Rattle.imago_access.specs.ChainCalls.{ChainStays, ChainFails, ChainGrowthRefused, ChainResizes, ChainShrinkRefused, GrowthStops, IfMild, NeedsWritable, ShrinkStops, StaysIntact, IsCarriedOut};
@@ -77,7 +77,7 @@ impl<D: FormatDriverInstance> FormatAccess<D> {
         ensures err { IsIntactChain D.Seen self.old → IfMild result (ChainStays D.Seen self.old self.new) }
         ensures at_once { AtOnce D.Seen (barrier (D.layer self.old.0)) (size ≡ (D.layer self.old.0).size) result self.old.0 self.new.0 }
         ensures read_only { NeedsWritable D.Seen (size ≢ (D.layer self.old.0).size) result self.old self.new }
-        ensures unread { (size ≡ (D.layer self.old.0).size) ⊎ IsBarred (D.layer self.old.0) → self.new.1 ≡ self.old.1 }
+        ensures unread { (size ≡ (D.layer self.old.0).size) ⊎ IsUnusable (D.layer self.old.0) → self.new.1 ≡ self.old.1 }
         ensures free { IsFree (D.layer self.new.0) }
         ensures went { Went D.Seen (WasNotCutOff result) (WasNotCutOff result × Each D.sees self.old.1) self.old.0 self.new.0 }
         ensures below { LookedUnder (below_ghosts D.Seen) (WasNotCutOff result) self.old.1 self.new.1 }

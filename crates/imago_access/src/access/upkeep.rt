@@ -7,7 +7,7 @@ ghost use Rattle.imago_access.specs.Chain.{Each, EndsAt};
 ghost use Rattle.imago_access.specs.Layers.{chain, layers};
 ghost use Rattle.imago_access.specs.Files.{Pairs, IsKept, IsStale, files_of, files};
 ghost use Rattle.imago_access.specs.Going.{IsUnchanged, Went, Marks, MarksSome};
-ghost use Rattle.imago_access.specs.Refusals.{barrier, SomeFailed, IsBarred};
+ghost use Rattle.imago_access.specs.Refusals.{barrier, SomeFailed, IsUnusable};
 ghost use Rattle.imago_access.specs.Stops.{IsWritten, GivesNone};
 ghost use Rattle.imago_access.specs.Running.{IsIntactChain, RanChain};
 ghost use Rattle.imago_access.specs.ChainCalls.{ChainSteps, AllUnchanged, IsCarriedOut};
@@ -30,8 +30,8 @@ impl<D: FormatDriverInstance> FormatAccess<D> {
         ensures sees { D.sees self.old.0 → OnOk result ((D.layer self.new.0 ≡ D.layer self.old.0) × D.sees self.new.0) }
         ensures still { OnOk result (D.still self.new.0) }
         ensures written { IsIntactChain D.Seen self.old → IsFree (D.layer self.old.0) → OnOk result (IsWritten D.Seen self.new.0) }
-        ensures barred { (f : Fault) → barrier (D.layer self.old.0) ≡ Some f → IsErrOf result f }
-        ensures unchanged { IsBarred (D.layer self.old.0) → IsUnchanged D.Seen self.old.0 self.new.0 }
+        ensures unusable { (f : Fault) → barrier (D.layer self.old.0) ≡ Some f → IsErrOf result f }
+        ensures unchanged { IsUnusable (D.layer self.old.0) → IsUnchanged D.Seen self.old.0 self.new.0 }
         ensures like { IsLike (D.layer self.old.0) (D.layer self.new.0) }
         ensures ran { RanChain D.Seen (IsOk result) GivesNone self.old self.new }
         ensures below { self.new.1 ≡ self.old.1 }
@@ -50,8 +50,8 @@ impl<D: FormatDriverInstance> FormatAccess<D> {
         ensures same { OnOk result (D.layer self.new.0 ≡ D.layer self.old.0) }
         ensures kept { Pairs IsKept (files D.Seen self.old.0) (files D.Seen self.new.0) }
         ensures still { D.still self.old.0 → D.still self.new.0 }
-        ensures barred { (f : Fault) → barrier (D.layer self.old.0) ≡ Some f → IsErrOf result f }
-        ensures unchanged { IsBarred (D.layer self.old.0) → IsUnchanged D.Seen self.old.0 self.new.0 }
+        ensures unusable { (f : Fault) → barrier (D.layer self.old.0) ≡ Some f → IsErrOf result f }
+        ensures unchanged { IsUnusable (D.layer self.old.0) → IsUnchanged D.Seen self.old.0 self.new.0 }
         ensures like { IsLike (D.layer self.old.0) (D.layer self.new.0) }
         ensures ran { RanChain D.Seen (IsOk result) GivesNone self.old self.new }
         ensures below { self.new.1 ≡ self.old.1 }
@@ -74,8 +74,8 @@ impl<D: FormatDriverInstance> FormatAccess<D> {
         ensures sees { KeepsSight D.Seen result (chain self.old) (chain self.new) }
         ensures kept { Pairs IsKept (files_of D.Seen (chain self.old)) (files_of D.Seen (chain self.new)) }
         ensures still { OnOk result (Each D.still (chain self.new)) }
-        ensures barred { (f : Fault) → barrier (D.layer self.old.0) ≡ Some f → IsErrOf result f }
-        ensures unchanged { IsBarred (D.layer self.old.0) → AllUnchanged D.Seen self.old self.new }
+        ensures unusable { (f : Fault) → barrier (D.layer self.old.0) ≡ Some f → IsErrOf result f }
+        ensures unchanged { IsUnusable (D.layer self.old.0) → AllUnchanged D.Seen self.old self.new }
         ensures went { Pairs (Went D.Seen (IsOk result) (IsOk result)) (chain self.old) (chain self.new) }
         ensures free { Each (λ d. IsFree (D.layer d)) (chain self.new) }
         ensures downward { IfErr result (λ _. EndsAt D.still (chain self.old) (chain self.new)) }
@@ -98,8 +98,8 @@ impl<D: FormatDriverInstance> FormatAccess<D> {
         ensures sees { KeepsSight D.Seen result (driver.old ∷ layers below.old) (driver.new ∷ layers below.new) }
         ensures kept { Pairs IsKept (files_of D.Seen (driver.old ∷ layers below.old)) (files_of D.Seen (driver.new ∷ layers below.new)) }
         ensures still { OnOk result (Each D.still (driver.new ∷ layers below.new)) }
-        ensures barred { (f : Fault) → barrier (D.layer driver.old) ≡ Some f → IsErrOf result f }
-        ensures unchanged { IsBarred (D.layer driver.old)
+        ensures unusable { (f : Fault) → barrier (D.layer driver.old) ≡ Some f → IsErrOf result f }
+        ensures unchanged { IsUnusable (D.layer driver.old)
             → AllUnchanged D.Seen (driver.old, layers below.old) (driver.new, layers below.new) }
         ensures went { Pairs (Went D.Seen (IsOk result) (IsOk result)) (driver.old ∷ layers below.old) (driver.new ∷ layers below.new) }
         ensures free { Each (λ d. IsFree (D.layer d)) (driver.new ∷ layers below.new) }

@@ -4,7 +4,7 @@ use Rattle.imago_access.specs.Layers.{chain}
 use Rattle.imago_access.specs.Files.{WasNotCutOff}
 use Rattle.imago_access.proofs.Looking.{all_looked_same}
 use Rattle.imago_access.proofs.Reading.{read_ok}
-use Rattle.imago_access.proofs.Marking.{barred_by_none}
+use Rattle.imago_access.proofs.Marking.{unusable_by_none}
 use Rattle.imago_access.specs.Going.{MarksSome}
 use Rattle.imago_storage.proofs.Parts.{passed}
 use Rattle.imago_access.proofs.access.FormatAccess.read.Goals as goal
@@ -23,4 +23,4 @@ returns-clause-ok g c = let d = g.D.Seen in read_ok d c.args.self.now c.read_all
 
 pub returns-in_err-ready-clause-marks : goal.returns-in_err-ready-clause-marks
 returns-in_err-ready-clause-marks g c = let d = g.D.Seen in let ds = chain c.args.self.now in let fault = c.in_err-ready.field-0.0 in
-    passed c.from_residual.result (MarksSome d ds ds) fault c.from_residual.ensures.1 (λ is. absurd (barred_by_none (d.layer c.self.inside.driver) fault c.in_err-ready.ensures.err is))
+    passed c.from_residual.result (MarksSome d ds ds) fault c.from_residual.ensures.1 (λ is. absurd (unusable_by_none (d.layer c.self.inside.driver) fault c.in_err-ready.ensures.err is))

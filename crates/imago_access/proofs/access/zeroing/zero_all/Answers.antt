@@ -10,7 +10,7 @@ use Rattle.imago_access.specs.Room.{IsApart, IsGivenUpTo, IsUndeclined}
 use Rattle.imago_access.proofs.Uncut.{uncut_start, uncut_end, uncut_later, part_within}
 use Rattle.imago_access.specs.declared.access.zeroing.Zeroing.TheVariants as zeroing_is
 use Rattle.imago_access.proofs.Room.{room_same, room_then, out_wider, given_none, given_both, ended_apart, left_on}
-use Rattle.imago_access.specs.Zeroings.{IsLeft}
+use Rattle.imago_access.specs.Zeroings.{IsZeroedBy}
 use Rattle.imago_access.specs.Running.{IsBetween}
 use Rattle.imago_access.specs.Stops.{GivesZero}
 use Rattle.imago_access.proofs.Running.{ran_same, ran_both, ran_weaker}
@@ -28,7 +28,7 @@ loop-at-init g c = let d = g.D.Seen in let b = g.B.SeenBelow in record {
   shown = λ i p from to. absurd (omega (arith, from, to));
   uncut = λ i. uncut_start (d.layer c.args.driver.now).fixed.unit (d.layer c.args.driver.now).size c.args.offset c.args.n;
   room = λ i. room_same d (λ p. (c.args.zeroing ≡ zeroing_is.Keep) ⊎ IsOut c.args.offset c.args.n p) (IsApart (d.layer c.args.driver.now).fixed.unit c.args.offset c.args.n) c.args.driver.now;
-  given = λ i e call begun part none. given_none (IsLeft c.args.zeroing (d.vacant c.args.driver.now) (d.zeroed c.args.driver.now)) (d.layer c.args.driver.now).fixed.unit (d.layer c.args.driver.now).size c.args.offset c.args.n;
+  given = λ i e call begun part none. given_none (IsZeroedBy c.args.zeroing (d.vacant c.args.driver.now) (d.zeroed c.args.driver.now)) (d.layer c.args.driver.now).fixed.unit (d.layer c.args.driver.now).size c.args.offset c.args.n;
   ran = ran_same d b ⊤ (GivesZero c.args.offset c.args.n) c.args.driver.now c.args.below.now;
   began = λ e call begun part. begun;
 }
@@ -59,10 +59,10 @@ loop-at-preserved g c = let d = g.D.Seen in let b = g.B.SeenBelow in let l = c.l
           let unit = (d.layer y0).fixed.unit in let size = (d.layer y0).size in
           let still : IsUndeclined (d.own_cause e (b.under x1) call) = subst (λ (below : List Layer). IsUndeclined (d.own_cause e below call)) (sym same) none in
           let more = done.given mid e call (l.began e call begun part) (record { start = omega (arith, part.start, l.from); end = omega (arith, part.end, l.inside) }) still in
-          let given : IsGivenUpTo (IsLeft c.args.zeroing (d.vacant y2) (d.zeroed y2)) unit size at_now rest c.in-Ok.next = subst (λ (f : Fixed). IsGivenUpTo (IsLeft c.args.zeroing (d.vacant y2) (d.zeroed y2)) f.unit size at_now rest c.in-Ok.next) l.ran.went.fixed (subst (λ (z : ℕ). IsGivenUpTo (IsLeft c.args.zeroing (d.vacant y2) (d.zeroed y2)) (d.layer y1).fixed.unit z at_now rest c.in-Ok.next) l.ran.size more) in
+          let given : IsGivenUpTo (IsZeroedBy c.args.zeroing (d.vacant y2) (d.zeroed y2)) unit size at_now rest c.in-Ok.next = subst (λ (f : Fixed). IsGivenUpTo (IsZeroedBy c.args.zeroing (d.vacant y2) (d.zeroed y2)) f.unit size at_now rest c.in-Ok.next) l.ran.went.fixed (subst (λ (z : ℕ). IsGivenUpTo (IsZeroedBy c.args.zeroing (d.vacant y2) (d.zeroed y2)) (d.layer y1).fixed.unit z at_now rest c.in-Ok.next) l.ran.size more) in
           let on_disk : at_now < size = omega (arith, c.loop-at-test.true, c.requires.inside) in
           let left = done.does.room mid tt in
-          given_both (IsLeft c.args.zeroing (d.vacant y2) (d.zeroed y2)) unit size c.args.offset c.args.n (IsLeft c.args.zeroing (d.vacant y1) (d.zeroed y1)) at_now c.in-Ok.next (omega (arith, done.run.0))
+          given_both (IsZeroedBy c.args.zeroing (d.vacant y2) (d.zeroed y2)) unit size c.args.offset c.args.n (IsZeroedBy c.args.zeroing (d.vacant y1) (d.zeroed y1)) at_now c.in-Ok.next (omega (arith, done.run.0))
           (λ p u of ended was. left_on d (λ q. (c.args.zeroing ≡ zeroing_is.Keep) ⊎ IsOut at_now rest q) (IsApart (d.layer y1).fixed.unit at_now rest) c.args.zeroing y1 y2 p (λ keep. inl keep) (subst (λ (f : Fixed). IsApart f.unit at_now rest p) (sym l.ran.went.fixed) (ended_apart unit size at_now rest u p on_disk ended of)) left was)
           (l.given i e call begun part none) given;
       ran = ran_both d b ⊤ (GivesZero c.args.offset c.args.n) (GivesZero at_now rest) (GivesZero c.args.offset c.args.n) y0 y1 y2 x0 x1 x2 (λ p v gave. gave) gives l.ran (ran_weaker d b ⊤ ⊤ (GivesZero at_now rest) y1 y2 x1 x2 (λ h. h) done.does.ran);

@@ -8,7 +8,7 @@ use Rattle.imago_access.specs.Room.{IsApart, IsUncutAt}
 use Rattle.imago_access.proofs.Uncut.{uncut_start, part_within}
 use Rattle.imago_access.specs.declared.access.zeroing.Zeroing.TheVariants as zeroing_is
 use Rattle.imago_access.proofs.Room.{room_both, apart_out, apart_wider, given_on, begun_apart, left_on}
-use Rattle.imago_access.specs.Zeroings.{IsLeft}
+use Rattle.imago_access.specs.Zeroings.{IsZeroedBy}
 use Rattle.imago_access.specs.Stops.{GivesZero}
 use Rattle.imago_access.proofs.ChangeCauses.{part_cause_left}
 use Rattle.imago_access.proofs.Running.{ran_both}
@@ -144,7 +144,7 @@ returns-in-Ok-write_zero_bytes-clause-given g c = λ i e call begun part none. l
     let unit = (d.layer y0).fixed.unit in let size = (d.layer y0).size in
     let given = done.given i.is_safe (b.under x0) e call begun part none in
     let written = c.in-Ok-write_zero_bytes.ensures.does.room (one.intact tt i) tt in
-    given_on (IsLeft c.args.zeroing (d.vacant y1) (d.zeroed y1)) (IsLeft c.args.zeroing (d.vacant y2) (d.zeroed y2)) unit size c.args.offset c.args.n c.in-Ok.part.1
+    given_on (IsZeroedBy c.args.zeroing (d.vacant y1) (d.zeroed y1)) (IsZeroedBy c.args.zeroing (d.vacant y2) (d.zeroed y2)) unit size c.args.offset c.args.n c.in-Ok.part.1
     (λ u p whole of was. left_on d (λ _. ⊤) (IsApart (d.layer y1).fixed.unit c.args.offset gap) c.args.zeroing y1 y2 p (λ keep. tt) (subst (λ (f : Fixed). IsApart f.unit c.args.offset gap p) (sym done.like.fixed) (begun_apart unit size c.args.offset start u p done.part.0 (given.none_before u whole) of)) written was)
     given.given
 
