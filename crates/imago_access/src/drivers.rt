@@ -192,7 +192,8 @@ pub trait FormatDriverInstance: Seen {
     /// Makes a prepared mapping part of the disk. One without state takes no memory and succeeds.
     ///
     /// It gives the mapping back, and changes nothing, where the image can't be used, and one with state with `Fault::ReadOnly`, else with
-    /// `Fault::Foreign` for a mapping of another number. Refused otherwise it has spent the mapping and the image has failed.
+    /// `Fault::Foreign` for a mapping of another number. Refused with `Fault::DamagedTable`, `Fault::Counter`, `Fault::Memory` or
+    /// `Fault::Storage` it has spent the mapping, and the image has failed.
     fn commit_data_mapping(
         &mut self,
         alloc: Global,
@@ -215,7 +216,7 @@ pub trait FormatDriverInstance: Seen {
     /// mapping, to which they are noted.
     ///
     /// It refuses with `Fault::Outdated` where the range isn't mapped there, with `Fault::ReadOnly`, `Fault::RangeOverflow`,
-    /// `Fault::PastEnd`, `Fault::Memory` and `Fault::Storage`. A refusal for another cause than the last two changes nothing.
+    /// `Fault::PastEnd`, `Fault::Memory` and `Fault::Storage`. A refusal for another cause than the last two leaves the layer as it was.
     fn write_mapped(
         &mut self,
         alloc: Global,

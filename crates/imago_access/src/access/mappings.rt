@@ -65,8 +65,8 @@ impl<D: FormatDriverInstance> FormatAccess<D> {
     /// any where it was announced that all would be written. A mapping without state takes no memory.
     ///
     /// It gives the mapping back, and changes nothing, where the image can't be used, and one with state with `Fault::ReadOnly`, else with
-    /// `Fault::Foreign` where it was prepared under another number. Refused otherwise, with causes of the driver's own, with
-    /// `Fault::Memory` or `Fault::Storage`, it has spent the mapping and the image has failed.
+    /// `Fault::Foreign` where it was prepared under another number. Refused with `Fault::DamagedTable`, `Fault::Counter`, `Fault::Memory`
+    /// or `Fault::Storage` it has spent the mapping, and the image has failed.
     pub fn commit_data_mapping(
         &mut self,
         alloc: Global,
