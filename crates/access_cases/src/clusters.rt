@@ -158,7 +158,8 @@ impl<S: Storage> OneCluster<S> {
         ensures err { let d = ⟦<OneCluster<S> as Seen>⟧ in IfErr result (λ e. own_refusal (d.layer self.now) offset length ≡ Some e) }
         ensures mild { IfErr result IsMild }
         ensures failed { (olds news : List StorageState) → IfErr result (ImageCause olds news) }
-        ensures cause { let d = ⟦<OneCluster<S> as Seen>⟧ in (below : List Layer) (olds news : List StorageState) → IfErr result (PartCause below (d.layer self.now) offset length cluster_cause olds news) }
+        ensures cause { let d = ⟦<OneCluster<S> as Seen>⟧ in (below : List Layer) (olds news : List StorageState) →
+            IfErr result (PartCause below (d.layer self.now) offset length cluster_cause olds news) }
     {
         self.ready()?;
         let unit = larger_alignment(self.file.req_align(), self.file.mem_align());
@@ -170,7 +171,8 @@ impl<S: Storage> OneCluster<S> {
         ensures ok { IfOk result (λ r. (r ≡ (offset, 0)) × (length ≡ 0)) }
         ensures mild { IfErr result IsMild }
         ensures does { (call : PartCall) → DoesPart call ⟦<OneCluster<S> as Seen>⟧ offset length result self.now self.now }
-        ensures at_once { let d = ⟦<OneCluster<S> as Seen>⟧ in AtOnce d (own_refusal (d.layer self.now) offset length) (length ≡ 0) result self.now self.now }
+        ensures at_once { let d = ⟦<OneCluster<S> as Seen>⟧ in
+            AtOnce d (own_refusal (d.layer self.now) offset length) (length ≡ 0) result self.now self.now }
         ensures refused { PartRefused ⟦<OneCluster<S> as Seen>⟧ offset length result self.now self.now }
     {
         match self.check(offset, length) {
@@ -198,12 +200,16 @@ impl<S: Storage> OneCluster<S> {
     // Makes the run that is prepared part of the disk, if it is the mapping's: all other places are 0.
     fn settle(&mut self, alloc: Global, mapping: PreparedCluster) -> Result<(), Fault>
         requires { IsTrue self.old.writable }
-        ensures ok { let d = ⟦<OneCluster<S> as Seen>⟧ in OnOk result ((d.layer self.old).unspent ≡ Some mapping.claim → IsFree (d.layer self.new) × (d.safe self.old → Committed (d.layer self.old) (d.layer self.new))) }
+        ensures ok { let d = ⟦<OneCluster<S> as Seen>⟧ in OnOk result ((d.layer self.old).unspent ≡ Some mapping.claim
+            → IsFree (d.layer self.new) × (d.safe self.old → Committed (d.layer self.old) (d.layer self.new))) }
         ensures room { let d = ⟦<OneCluster<S> as Seen>⟧ in
             OnOk result (Takes d (λ p. (d.layer self.old).held p ≡ loose) self.old self.new) }
-        ensures went { let d = ⟦<OneCluster<S> as Seen>⟧ in Went d (WasNotCutOff result) (IsOk result × ((d.layer self.old).unspent ≡ Some mapping.claim)) self.old self.new }
-        ensures stops { let d = ⟦<OneCluster<S> as Seen>⟧ in d.safe self.old → (below : List Layer) → KeepsStops d below (GivesSettled below (d.layer self.old)) self.old self.new }
-        ensures failing { let d = ⟦<OneCluster<S> as Seen>⟧ in IfErr result (λ e. IsTrue self.new.failed × IsFree (d.layer self.new) × IsSpending e × (IsMild e → ⊥)) }
+        ensures went { let d = ⟦<OneCluster<S> as Seen>⟧ in
+            Went d (WasNotCutOff result) (IsOk result × ((d.layer self.old).unspent ≡ Some mapping.claim)) self.old self.new }
+        ensures stops { let d = ⟦<OneCluster<S> as Seen>⟧ in d.safe self.old → (below : List Layer) →
+            KeepsStops d below (GivesSettled below (d.layer self.old)) self.old self.new }
+        ensures failing { let d = ⟦<OneCluster<S> as Seen>⟧ in
+            IfErr result (λ e. IsTrue self.new.failed × IsFree (d.layer self.new) × IsSpending e × (IsMild e → ⊥)) }
         ensures size { self.new.size ≡ self.old.size }
         ensures failed { let d = ⟦<OneCluster<S> as Seen>⟧ in IfErr result (Fails d self.old self.new) }
     {

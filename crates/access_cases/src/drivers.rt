@@ -107,15 +107,27 @@ impl<S: Storage> FormatDriverInstance for Driver<S> {
 
     ghost safe_keeps = { elim [ driver.Raw r ↦ λ safe. safe.0 | driver.Words w ↦ λ safe. safe.keeps ] };
 
-    ghost safe_sound = { elim [ driver.Raw r ↦ λ safe. record { is_sound = tt; size = safe.1 } | driver.Words w ↦ λ safe. record { is_sound = tt; size = le_refl w.size } ] };
+    ghost safe_sound = { elim [
+      | driver.Raw r ↦ λ safe. record { is_sound = tt; size = safe.1 }
+      | driver.Words w ↦ λ safe. record { is_sound = tt; size = le_refl w.size }
+    ] };
 
-    ghost one_home = { elim [ driver.Raw r ↦ λ p q at safe. raw_home.one_home r.size r.writable p q at | driver.Words w ↦ λ p q at safe. homes.one_home w.content (if w.writable then w.size else 0) p q at ] };
+    ghost one_home = { elim [
+      | driver.Raw r ↦ λ p q at safe. raw_home.one_home r.size r.writable p q at
+      | driver.Words w ↦ λ p q at safe. homes.one_home w.content (if w.writable then w.size else 0) p q at
+    ] };
 
     ghost blanks = { elim [ driver.Raw r ↦ inr refl | driver.Words w ↦ homes.blanks w.backed ] };
 
-    ghost aligned = { elim [ driver.Raw r ↦ (let shape = S.aligned r.storage in (shape.requests, shape.memory)) | driver.Words w ↦ (let shape = S.aligned w.file in (shape.requests, shape.memory)) ] };
+    ghost aligned = { elim [
+      | driver.Raw r ↦ (let shape = S.aligned r.storage in (shape.requests, shape.memory))
+      | driver.Words w ↦ (let shape = S.aligned w.file in (shape.requests, shape.memory))
+    ] };
 
-    ghost of_storages = { elim [ driver.Raw r ↦ record { requests = refl; memory = refl; keeps = refl; zeroing = inr (inr refl) } | driver.Words w ↦ record { requests = refl; memory = refl; keeps = refl; zeroing = inl refl } ] };
+    ghost of_storages = { elim [
+      | driver.Raw r ↦ record { requests = refl; memory = refl; keeps = refl; zeroing = refl }
+      | driver.Words w ↦ record { requests = refl; memory = refl; keeps = refl; zeroing = inl refl }
+    ] };
 
     ghost marked = { elim [ driver.Raw r ↦ λ is. absurd (Prim.cc is) | driver.Words w ↦ λ is. refl ] };
 

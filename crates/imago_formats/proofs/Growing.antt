@@ -8,7 +8,7 @@ use Rattle.imago_storage.specs.Through.{Stops}
 use Rattle.imago_storage.specs.declared.fault.Fault.{Fault}
 use Rattle.imago_storage.specs.declared.fault.Fault.TheVariants.{Unsupported, Memory, Storage}
 use Rattle.imago_storage.proofs.Composing.{tells_on, keeps_on, no_stops, one_stop, stops_both}
-use Rattle.imago_formats.specs.Growing.{HasFirst, CutTo, GrownTo, NotGrown, ResizeCause}
+use Rattle.imago_formats.specs.Growing.{HasFirst, CutTo, GrownTo, NotLengthened, StorageResizeCause}
 
 -- the file after a resize
 resized_stop : (old new : StorageState) (from to : ℕ) → from ≤ to → Resized old new to → Stops (HasFirst old.bytes from) old new
@@ -59,7 +59,7 @@ grown_behind old mid new from to longer cut resized = record {
   stops = both_stops old mid new from cut (resized_stop mid new from to longer resized);
 }
 
-refused_resize : (old new : StorageState) (from : ℕ) → (fault : Fault) → ResizeCause old new fault → NotResized old new fault → NotGrown old new from fault
+refused_resize : (old new : StorageState) (from : ℕ) → (fault : Fault) → StorageResizeCause old new fault → NotResized old new fault → NotLengthened old new from fault
 refused_resize old new from fault cause refused = record {
   cause = cause;
   long = λ fits. omega (arith, ap (length {A = ℕ}) refused.bytes, fits);
@@ -69,7 +69,7 @@ refused_resize old new from fault cause refused = record {
 }
 
 -- a storage that isn't resized
-pub not_cut : (old new : StorageState) (from : ℕ) → (fault : Fault) → UnlessUnsupported old new (NotResized old new) fault → NotGrown old new from fault
+pub not_cut : (old new : StorageState) (from : ℕ) → (fault : Fault) → UnlessUnsupported old new (NotResized old new) fault → NotLengthened old new from fault
 not_cut old new from Unsupported same = record {
   cause = (ap (λ (s : StorageState). s.faults) same, ap (λ (s : StorageState). s.refusals) same);
   long = λ fits. omega (arith, ap (λ (s : StorageState). length s.bytes) same, fits);
@@ -82,13 +82,13 @@ not_cut old new from Storage refused = refused_resize old new from Storage refus
 not_cut old new from _ refused = absurd refused.refused.cause
 
 -- why a storage isn't made longer that was cut before
-cause_behind : (old mid new : StorageState) (from : ℕ) → CutTo old mid from → (fault : Fault) → ResizeCause mid new fault → ResizeCause old new fault
+cause_behind : (old mid new : StorageState) (from : ℕ) → CutTo old mid from → (fault : Fault) → StorageResizeCause mid new fault → StorageResizeCause old new fault
 cause_behind old mid new from cut Unsupported cause = (cause.0 ∙ cut.faults, cause.1 ∙ cut.refusals)
 cause_behind old mid new from cut Memory cause = cause ∙ cut.faults
 cause_behind old mid new from cut Storage cause = subst (λ (n : ℕ). Rose n new.faults) cut.faults cause
 cause_behind old mid new from cut _ cause = absurd cause
 
-pub not_grown_behind : (old mid new : StorageState) (from : ℕ) → CutTo old mid from → (fault : Fault) → UnlessUnsupported mid new (NotResized mid new) fault → NotGrown old new from fault
+pub not_grown_behind : (old mid new : StorageState) (from : ℕ) → CutTo old mid from → (fault : Fault) → UnlessUnsupported mid new (NotResized mid new) fault → NotLengthened old new from fault
 not_grown_behind old mid new from cut fault refused =
     let later = not_cut mid new from fault refused in
     record {

@@ -230,9 +230,9 @@ module _ {D St T : Type 0} (g : Ghosts D St) where
     unchanged = λ h. elim h [ inl none ↦ (idle none).1 | inr is ↦ absurd (cc (runs, is)) ];
   }
 
-  pub at_once_barred : (nothing : Type 0) (e : Fault) (d : D) → barrier (g.layer d) ≡ Some e →
+  pub at_once_unusable : (nothing : Type 0) (e : Fault) (d : D) → barrier (g.layer d) ≡ Some e →
       AtOnce {T = T} g (barrier (g.layer d)) nothing (Err e) d d
-  at_once_barred nothing e d barred = record {
+  at_once_unusable nothing e d barred = record {
     refused = λ f is. let same : Some e ≡ Some f = sym barred ∙ is in cc same;
     idle = λ none runs. absurd (cc (runs, barred));
     unchanged = λ h. unchanged_same g d;
@@ -378,7 +378,7 @@ module _ {D St : Type 0} (g : Ghosts D St) where
   resizes_same first second n (Err MissingData) d apart free done why = record {
     nothing = λ le. tt;
     free = free;
-    at_once = at_once_barred g (first ≤ second) MissingData d why;
+    at_once = at_once_unusable g (first ≤ second) MissingData d why;
     read_only = λ runs lt closed. absurd (cc (runs, why));
   }
   resizes_same first second n (Err ReadOnly) d apart free done why = record {

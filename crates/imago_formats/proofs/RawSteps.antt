@@ -22,7 +22,7 @@ use Rattle.imago_access.specs.Changes.{Rewrites, PartRewrites, ToZero, ToAny, To
 use Rattle.imago_access.specs.Stops.{Left, GivesZero, GivesAny, GivesBelow, GivesBytes}
 use Rattle.imago_access.proofs.Stopping.{left_weaker, passes_weaker}
 use Rattle.imago_formats.specs.RawLayer.{raw_fixed, raw_layer}
-use Rattle.imago_formats.specs.Growing.{HasFirst, NotGrown}
+use Rattle.imago_formats.specs.Growing.{HasFirst, NotLengthened}
 use Rattle.imago_formats.specs.RawHome.{never}
 
 -- a storage of the same shape
@@ -90,7 +90,7 @@ ungiven_same old new at n Memory h mild = absurd mild
 ungiven_same old new at n Storage h mild = absurd mild
 ungiven_same old new at n _ h mild = absurd h.1.refused.cause
 
-pub ungrown_faultless : (old new : StorageState) (from : ℕ) (fault : Fault) → NotGrown old new from fault → IsMild fault → IsFaultless old new
+pub ungrown_faultless : (old new : StorageState) (from : ℕ) (fault : Fault) → NotLengthened old new from fault → IsMild fault → IsFaultless old new
 ungrown_faultless old new from Unsupported h mild = h.cause
 ungrown_faultless old new from Memory h mild = absurd mild
 ungrown_faultless old new from Storage h mild = absurd mild

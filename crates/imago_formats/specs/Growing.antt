@@ -32,13 +32,13 @@ pub record GrownTo (old new : StorageState) (from to : ℕ) : Type 0 where
   pub stops : Stops (HasFirst old.bytes from) old new
 
 -- why a storage isn't resized
-abbrev pub ResizeCause : StorageState → StorageState → Fault → Type 0
-ResizeCause old new Unsupported = (new.faults ≡ old.faults) × (new.refusals ≡ old.refusals)
-ResizeCause old new fault = Cause old.faults new.faults fault
+abbrev pub StorageResizeCause : StorageState → StorageState → Fault → Type 0
+StorageResizeCause old new Unsupported = (new.faults ≡ old.faults) × (new.refusals ≡ old.refusals)
+StorageResizeCause old new fault = Cause old.faults new.faults fault
 
 -- the first bytes are left
-pub record NotGrown (old new : StorageState) (from : ℕ) (fault : Fault) : Type 0 where
-  pub cause : ResizeCause old new fault
+pub record NotLengthened (old new : StorageState) (from : ℕ) (fault : Fault) : Type 0 where
+  pub cause : StorageResizeCause old new fault
   pub long : from ≤ length old.bytes → from ≤ length new.bytes
   pub kept : IsTrue old.shape.keeps → (k : ℕ) → k < from → slice_index new.bytes k ≡ slice_index old.bytes k
   pub in_step : Rose old.refusals new.refusals ⊎ (InStep old → InStep new)

@@ -85,6 +85,12 @@ written extents image files said = record {
   cell = λ p low. rw said (cells_kept (byte_in (image ∷ files)) extents 1 p);
 }
 
+-- it is as long as that
+pub as_stated : (extents : List (Extent (String Global))) (image : StorageState) (files : List StorageState) →
+    descriptor_of image.bytes ≡ Ok (kept_extents extents) →
+    (vmdk_layer extents image files).size ≡ ((vmdk_layer extents image files).fixed.means image.bytes).size
+as_stated extents image files said = sym ((written extents image files said).exactly refl)
+
 -- An image that was just opened is safe where its storages keep what is written.
 pub said_still : (before image : StorageState) (extents : List (Extent (String Global))) → IsKept before image →
     descriptor_of before.bytes ≡ Ok (kept_extents extents) → descriptor_of image.bytes ≡ Ok (kept_extents extents)

@@ -21,7 +21,7 @@ ghost use Rattle.std.specs.Borrow.{Lends, sem};
 ghost use Rattle.imago_formats.specs.contracts.raw.Raw.{the_row};
 ghost use Rattle.imago_formats.specs.RawLayer.{raw_layer, raw_text, RawCause};
 ghost use Rattle.imago_formats.specs.RawHome.{one_home, never};
-ghost use Rattle.imago_formats.specs.Growing.{CutTo, GrownTo, NotCut, NotGrown};
+ghost use Rattle.imago_formats.specs.Growing.{CutTo, GrownTo, NotCut, NotLengthened};
 
 use imago_access::{
     Format, FormatDriverInstance, PreallocateMode, PreparedDataMapping, ReadBelow, Seen,
@@ -196,7 +196,7 @@ impl<S: Storage> Raw<S> {
         requires { self.old.size ≤ size }
         ensures ok { OnOk result (GrownTo (S.state self.old.storage) (S.state self.new.storage) self.old.size size) }
         ensures size { OnOk result (self.new.size ≡ size) }
-        ensures err { IfErr result (NotGrown (S.state self.old.storage) (S.state self.new.storage) self.old.size) }
+        ensures err { IfErr result (NotLengthened (S.state self.old.storage) (S.state self.new.storage) self.old.size) }
         ensures kept { IfErr result (λ e. self.new.size ≡ self.old.size) }
         ensures shape { (S.state self.new.storage).shape ≡ (S.state self.old.storage).shape }
         ensures later { Later (S.state self.old.storage) (S.state self.new.storage) }
@@ -320,7 +320,7 @@ impl<S: Storage> FormatDriverInstance for Raw<S> {
 
     ghost aligned = { λ d. let shape = S.aligned d.storage in (shape.requests, shape.memory) };
 
-    ghost of_storages = { λ d. record { requests = refl; memory = refl; keeps = refl; zeroing = inr (inr refl) } };
+    ghost of_storages = { λ d. record { requests = refl; memory = refl; keeps = refl; zeroing = refl } };
 
     ghost marked = { λ d is. absurd (cc is) };
 
@@ -604,7 +604,7 @@ impl<S: Storage> FormatDriverInstance for Raw<S> {
 // Cuts off what a storage has behind a length.
 fn cut_storage<S: Storage>(storage: &mut S, from: u64) -> Result<(), Fault>
     ensures ok { OnOk result (CutTo (S.state storage.old) (S.state storage.new) from) }
-    ensures err { IfErr result (NotGrown (S.state storage.old) (S.state storage.new) from) }
+    ensures err { IfErr result (NotLengthened (S.state storage.old) (S.state storage.new) from) }
     ensures shape { (S.state storage.new).shape ≡ (S.state storage.old).shape }
     ensures later { Later (S.state storage.old) (S.state storage.new) }
 {
@@ -627,7 +627,7 @@ pub(crate) fn grow_storage<S: Storage>(
 ) -> Result<(), Fault>
     requires { from ≤ to }
     ensures ok { OnOk result (GrownTo (S.state storage.old) (S.state storage.new) from to) }
-    ensures err { IfErr result (NotGrown (S.state storage.old) (S.state storage.new) from) }
+    ensures err { IfErr result (NotLengthened (S.state storage.old) (S.state storage.new) from) }
     ensures shape { (S.state storage.new).shape ≡ (S.state storage.old).shape }
     ensures later { Later (S.state storage.old) (S.state storage.new) }
 {

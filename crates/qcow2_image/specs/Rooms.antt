@@ -86,7 +86,7 @@ of_storages g t backed failed number = record {
   memory = refl;
   keeps = refl;
   zeroing = elim (cases_Bool (ltb 2 t.file.header.fields.version)) [
-    | inl newer ↦ inr (inl (rw newer refl))
+    | inl newer ↦ inr (rw newer refl)
     | inr older ↦ inl (rw older refl)
   ];
 }

@@ -151,10 +151,11 @@ opened kind format writable number before d o = record {
   format_is = o.format_is;
   writable_is = o.writable_is;
   number_is = o.number_is;
+  size_is = o.size_is;
   meant = record { size = o.meant.size; exactly = o.meant.exactly; cell = o.meant.cell };
   kept = o.kept;
   free = o.free;
-  runs = o.runs;
+  usable = o.usable;
   sees = o.sees;
   still = o.still;
   lasting = o.lasting;

@@ -1,6 +1,6 @@
 // A VMDK image as a driver.
 ghost use Rattle.std.specs.Prelude.{slice_index_or, ◌<◌, ℕ, ◌≡◌, ◌⊎◌, ◌∷◌, ◌-◌, ◌+◌, ◌*◌, ◌<◌, [], ⊤, min, map, refl, length, OnOk, IfOk, IfErr, IsOk, IsTrue, Ok, Err, Some, None};
-ghost use Rattle.std.proofs.Common.{inl, inr};
+ghost use Rattle.std.proofs.Common.{inr};
 ghost use Rattle.std.proofs.Math.Nat.{le_refl};
 ghost use Rattle.imago_storage.specs.Calls.{Cause, IsFaultless};
 ghost use Rattle.imago_access.specs.Failing.{RefusesFlush};
@@ -308,7 +308,7 @@ impl<S: Storage> FormatDriverInstance for Vmdk<S> {
 
     ghost aligned = { λ d. aligned_files S.state S.aligned d.image d.files.items };
 
-    ghost of_storages = { λ d. record { requests = refl; memory = refl; keeps = refl; zeroing = inl refl } };
+    ghost of_storages = { λ d. record { requests = refl; memory = refl; keeps = refl; zeroing = refl } };
 
     ghost marked = { λ d is. absurd (cc is) };
 

@@ -1,6 +1,6 @@
 // An image of one of the formats, as the driver of a layer.
 ghost use Rattle.std.specs.Prelude.{map, refl};
-ghost use Rattle.std.proofs.Common.{inl, inr};
+ghost use Rattle.std.proofs.Common.{inr};
 ghost use Rattle.std.proofs.Math.Nat.{le_refl};
 ghost use Rattle.std.proofs.lemmas.Nat.{pow_pos};
 ghost use Rattle.imago_access.specs.PreparingCalls.{Commits, CommitRefused, Cancels};
@@ -68,8 +68,8 @@ impl<S: Storage> FormatDriverInstance for ImageDriver<S> {
     ] };
 
     ghost of_storages = { elim [
-      | variant.Raw d ↦ record { requests = refl; memory = refl; keeps = refl; zeroing = inr (inr refl) }
-      | variant.Vmdk d ↦ record { requests = refl; memory = refl; keeps = refl; zeroing = inl refl }
+      | variant.Raw d ↦ record { requests = refl; memory = refl; keeps = refl; zeroing = refl }
+      | variant.Vmdk d ↦ record { requests = refl; memory = refl; keeps = refl; zeroing = refl }
       | variant.Qcow2 d ↦ qcow2_rooms.of_storages S.Storage.own d.tables d.backing d.failed d.number
     ] };
 

@@ -1,4 +1,4 @@
-use Rattle.std.proofs.Common.{refl}
+use Rattle.std.proofs.Common.{refl, sym}
 use Rattle.std.specs.Prelude.{false}
 use Rattle.qcow2_image.specs.declared.qcow2.Qcow2.{Qcow2}
 use Rattle.qcow2_image.proofs.JustOpened.{opened-kept, opened-meant, opened-still, opened-safe}
@@ -14,10 +14,11 @@ returns-clause-seen g c =
       format_is = refl;
       writable_is = refl;
       number_is = refl;
+      size_is = let meant = opened-meant g.S.Storage before l2 rb d c.in-Ok.ensures.ok in sym (meant.exactly refl);
       meant = opened-meant g.S.Storage before l2 rb d c.in-Ok.ensures.ok;
       kept = opened-kept g.S.Storage before l2 rb d c.in-Ok.ensures.ok;
       free = refl;
-      runs = refl;
+      usable = refl;
       sees = c.in-Ok.ensures.ok.seen;
       still = opened-still g.S.Storage before l2 rb d c.in-Ok.ensures.ok;
       lasting = tt;

@@ -1,7 +1,7 @@
 use Rattle.std.proofs.Common.{◌∷◌, arith}
 use Rattle.std.specs.Prelude.{map}
 use Rattle.imago_access.proofs.FilePairs.{faultless_all_same}
-use Rattle.imago_formats.proofs.Quiet.{at_once_barred, at_once_runs, keeps_same}
+use Rattle.imago_formats.proofs.Quiet.{at_once_unusable, at_once_runs, keeps_same}
 use Rattle.imago_formats.proofs.VmdkSteps.{kept_back}
 use Rattle.imago_formats.proofs.vmdk.driver.Vmdk.keep.Goals as goal
 
@@ -25,7 +25,7 @@ pub returns-in-Ok-clause-at_once : goal.returns-in-Ok-clause-at_once
 returns-in-Ok-clause-at_once g c = at_once_runs _ ⊥ c.keep_up.result c.args.self.now _ c.in-Ok.ensures.ok (λ none. absurd none)
 
 pub returns-in-Err-clause-at_once : goal.returns-in-Err-clause-at_once
-returns-in-Err-clause-at_once g c = at_once_barred _ ⊥ c.in-Err.fault c.args.self.now c.in-Err.ensures.err
+returns-in-Err-clause-at_once g c = at_once_unusable _ ⊥ c.in-Err.fault c.args.self.now c.in-Err.ensures.err
 
 pub returns-in-Err-clause-whole : goal.returns-in-Err-clause-whole
 returns-in-Err-clause-whole g c = λ whole. faultless_all_same (g.S.Storage.state c.args.self.now.image ∷ map g.S.Storage.state c.args.self.now.files.items)

@@ -8,9 +8,6 @@ use Rattle.imago_formats.specs.VmdkLaws.{written}
 use Rattle.imago_formats.specs.VmdkLayer.{vmdk_layer}
 use Rattle.imago_formats.proofs.vmdk.driver.VmdkFormatDriverInstance.flush.Goals as goal
 
-pub returns-clause-same : goal.returns-clause-same
-returns-clause-same g c = λ safe. on_ok c.keep.result _ c.keep.ensures.keeps.layer
-
 pub returns-clause-sees : goal.returns-clause-sees
 returns-clause-sees g c = λ see. on_ok c.keep.result _ (c.keep.ensures.keeps.layer, c.keep.ensures.keeps.sees see)
 
