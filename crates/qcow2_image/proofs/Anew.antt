@@ -16,7 +16,7 @@ use Rattle.qcow2_alloc.specs.Dropping.{Dropped}
 use Rattle.qcow2_alloc.specs.Finding.{pinned_in}
 use Rattle.qcow2_alloc.specs.declared.async_lru_cache.Slot.{Slot}
 use Rattle.qcow2_image.specs.Opening.{header_for_reading}
-use Rattle.qcow2_image.specs.Steps.{DiffersElsewhere, WhyNotReloaded}
+use Rattle.qcow2_image.specs.Steps.{DiffersElsewhere, IsFirstFault, WhyNotReloaded}
 use Rattle.qcow2_image.proofs.OpeningRules.{reading-refusal}
 
 -- A storage that dropped what it has cached is the same.
@@ -36,32 +36,34 @@ refused-why r s s' Memory why = why
 refused-why r s s' Storage why = why
 refused-why r s s' fault why = absurd why
 
--- Why the header and the L1 table aren't loaded,
-pub loading-why : (f : Bytes) (H : Header) (s s' : StorageState) (fault : Fault) → NotLoaded (header_for_reading f) s s' fault → WhyNotReloaded f H s.faults s'.faults fault
-loading-why f H s s' DamagedHeader why = why.0
-loading-why f H s s' DamagedTable why = why.0
-loading-why f H s s' Unsupported why = inl why.0
-loading-why f H s s' (Limit n) why = why.0
-loading-why f H s s' Memory why = tt
-loading-why f H s s' Storage why = why
-loading-why f H s s' fault why = absurd (reading-refusal f fault why.0)
+-- Why the header isn't loaded,
+pub header-why : (f : Bytes) (H : Header) (s s' : StorageState) (fault : Fault) → NotLoaded (header_for_reading f) s s' fault → fault ≢ DamagedTable
+    → WhyNotReloaded f H s.faults s'.faults fault
+header-why f H s s' DamagedHeader why before = why.0
+header-why f H s s' DamagedTable why before = absurd (before refl)
+header-why f H s s' Unsupported why before = inl why.0
+header-why f H s s' (Limit n) why before = why.0
+header-why f H s s' Memory why before = tt
+header-why f H s s' Storage why before = why
+header-why f H s s' fault why before = absurd (reading-refusal f fault why.0)
 
--- which takes no count back,
-pub loading-later : (f : Bytes) (s s' : StorageState) (fault : Fault) → NotLoaded (header_for_reading f) s s' fault → Kept s s' → Later s s'
-loading-later f s s' fault why kept = record { faults = from fault why; refusals = omega (arith, kept.refusals) } where
-  from : (fault : Fault) → NotLoaded (header_for_reading f) s s' fault → s.faults ≤ s'.faults
-  from Memory why = omega (arith, why)
-  from Storage why = why.kept
-  from fault why = omega (arith, why.1)
-
--- in memory or in the storage where the file breaks no rule,
-pub known-why : (f : Bytes) (H : Header) (s s' : StorageState) (fault : Fault) → header_for_reading f ≡ Ok H → NotLoaded (header_for_reading f) s s' fault → Cause s.faults s'.faults fault
-known-why f H s s' Memory loads why = why
-known-why f H s s' Storage loads why = why
-known-why f H s s' fault loads why = absurd (cc (sym loads ∙ why.0))
+-- why one isn't taken over whose L1 table isn't loaded: first because it can't change so,
+pub first-why : (f : Bytes) (H H' : Header) (s s' : StorageState) (fault first : Fault) → header_of false f ≡ Ok H' → IsFirstFault H' H fault first
+    → NotLoaded (header_for_reading f) s s' fault → WhyNotReloaded f H s.faults s'.faults first
+first-why f H H' s s' fault first loads (inl same) why = subst (WhyNotReloaded f H s.faults s'.faults) (sym same.1) (from fault why) where
+  from : (fault : Fault) → NotLoaded (header_for_reading f) s s' fault → WhyNotReloaded f H s.faults s'.faults fault
+  from DamagedTable why = (why.0, λ differs. subst (λ r. DiffersElsewhere r H) loads differs same.0)
+  from DamagedHeader why = why.0
+  from Unsupported why = inl why.0
+  from (Limit n) why = why.0
+  from Memory why = tt
+  from Storage why = why
+  from fault why = absurd (reading-refusal f fault why.0)
+first-why f H H' s s' fault first loads (inr other) why =
+    subst (WhyNotReloaded f H s.faults s'.faults) (sym other.1) (inr (subst (λ r. DiffersElsewhere r H) (sym loads) other.0))
 
 -- and why a header that was loaded isn't taken over.
-pub updating-why : (f : Bytes) (H H' : Header) (a b : ℕ) (fault : Fault) → header_for_reading f ≡ Ok H' → with_places_of H' H ≢ H' → fault ≡ Unsupported → WhyNotReloaded f H a b fault
+pub updating-why : (f : Bytes) (H H' : Header) (a b : ℕ) (fault : Fault) → header_of false f ≡ Ok H' → with_places_of H' H ≢ H' → fault ≡ Unsupported → WhyNotReloaded f H a b fault
 updating-why f H H' a b fault loads differs is =
     subst (WhyNotReloaded f H a b) (sym is) (inr (subst (λ r. DiffersElsewhere r H) (sym loads) differs))
 

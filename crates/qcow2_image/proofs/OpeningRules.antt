@@ -1,5 +1,5 @@
 -- Which rule keeps a file from being opened for reading, and what is loaded where none does.
-use Rattle.std.proofs.Common.{◌≡◌, ℕ, ◌*◌, ◌/◌, ◌<◌, ◌≤◌, refl, arith, ap, sym, subst, ◌∙◌, Bool, true, false, Result, Ok, Err, List, [], ◌∷◌, length, inl, inr}
+use Rattle.std.proofs.Common.{◌≡◌, ◌≢◌, ℕ, ◌*◌, ◌/◌, ◌<◌, ◌≤◌, refl, arith, ap, sym, subst, ◌∙◌, Bool, true, false, Result, Ok, Err, List, [], ◌∷◌, length, inl, inr}
 use Rattle.std.specs.Prelude.{⊤, not, slice_index}
 use Rattle.std.proofs.lemmas.Bool.{cases_Bool}
 use Rattle.imago_storage.specs.State.{StorageState}
@@ -60,6 +60,10 @@ module _ (f : Bytes) where
   header-refused old new Memory why = why
   header-refused old new Storage why = why
   header-refused old new fault why = (rw why.0 refl, why.1)
+
+  -- and know no L1 table,
+  pub before-table : (old new : StorageState) (fault : Fault) → NotLoaded (header_of false f) old new fault → fault ≢ DamagedTable
+  before-table old new fault why is = absurd (header-refusal false f DamagedTable (subst (NotLoaded (header_of false f) old new) is why).0)
 
   module _ (H : Header) (loads : header_of false f ≡ Ok H) where
     -- then that on the data's place,

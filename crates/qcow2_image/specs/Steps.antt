@@ -1,12 +1,12 @@
 -- When an image has failed behind a call, and what reading its tables anew does.
-use Rattle.std.specs.Prelude.{◌≡◌, ◌≢◌, ◌⊎◌, ⊤, [], ℕ, Bool, true, Result, Ok, Err, OnOk, OnErr, IfErr}
+use Rattle.std.specs.Prelude.{◌≡◌, ◌≢◌, ◌⊎◌, ⊤, [], ℕ, Bool, true, false, Result, Ok, Err, OnOk, OnErr, IfErr}
 use Rattle.imago_storage.specs.State.{Rose}
 use Rattle.imago_storage.specs.Calls.{Kept, Later, IsFaultless, Cause}
 use Rattle.imago_storage.specs.declared.fault.Fault.{Fault}
 use Rattle.imago_storage.specs.declared.fault.Fault.TheVariants.{DamagedHeader, DamagedTable, Unsupported, Limit, Memory, Storage}
 use Rattle.imago_storage.specs.declared.storage.Storage.{Ghosts}
 use Rattle.qcow2_types.specs.Bytes.{Bytes}
-use Rattle.qcow2_types.specs.Header.{Header}
+use Rattle.qcow2_types.specs.Header.{Header, header_of}
 use Rattle.qcow2_metadata.specs.Updates.{with_places_of}
 use Rattle.qcow2_alloc.specs.Caches.{cached_in}
 use Rattle.qcow2_image.specs.declared.tables.Tables.{Tables}
@@ -33,12 +33,18 @@ abbrev pub DiffersElsewhere : Result Header Fault → Header → Type 0
 DiffersElsewhere (Ok H') H = with_places_of H' H ≢ H'
 DiffersElsewhere (Err fault) H = ⊥
 
+-- the first reason why an image with this header open isn't read anew, where another was loaded and a fault came behind that: the header
+-- can't change so, or else that fault
+abbrev pub IsFirstFault : Header → Header → Fault → Fault → Type 0
+IsFirstFault loaded H fault first =
+    ((with_places_of loaded H ≡ loaded) × (first ≡ fault)) ⊎ ((with_places_of loaded H ≢ loaded) × (first ≡ Unsupported))
+
 -- Why the tables of an image with this header can't be read anew: by what keeps its file from being opened, by what can't change in an open
--- image, for want of memory, or by a storage that failed.
+-- image, which comes before the L1 table, for want of memory, or by a storage that failed.
 abbrev pub WhyNotReloaded : Bytes → Header → ℕ → ℕ → Fault → Type 0
 WhyNotReloaded f H before after DamagedHeader = header_for_reading f ≡ Err DamagedHeader
-WhyNotReloaded f H before after DamagedTable = header_for_reading f ≡ Err DamagedTable
-WhyNotReloaded f H before after Unsupported = (header_for_reading f ≡ Err Unsupported) ⊎ DiffersElsewhere (header_for_reading f) H
+WhyNotReloaded f H before after DamagedTable = (header_for_reading f ≡ Err DamagedTable) × (DiffersElsewhere (header_of false f) H → ⊥)
+WhyNotReloaded f H before after Unsupported = (header_for_reading f ≡ Err Unsupported) ⊎ DiffersElsewhere (header_of false f) H
 WhyNotReloaded f H before after (Limit bound) = header_for_reading f ≡ Err (Limit bound)
 WhyNotReloaded f H before after Memory = ⊤
 WhyNotReloaded f H before after Storage = Rose before after

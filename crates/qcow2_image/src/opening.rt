@@ -1,6 +1,7 @@
 // How the metadata of an image is opened for reading: its header, its L1 table, and caches of which nothing is filled.
-ghost use Rattle.std.specs.Prelude.{◌≡◌, false, None, Ok, OnOk, IfOk, IfErr, IsTrue, length};
+ghost use Rattle.std.specs.Prelude.{◌≡◌, ◌≢◌, false, None, Ok, OnOk, IfOk, IfErr, IsTrue, length};
 ghost use Rattle.imago_storage.specs.Calls.{CountsFaults, Kept};
+ghost use Rattle.imago_storage.specs.declared.fault.Fault.TheVariants.{DamagedTable};
 ghost use Rattle.imago_access.specs.Building.{IsOpened};
 ghost use Rattle.imago_access.specs.declared.format.Format.TheVariants as format;
 ghost use Rattle.qcow2_types.specs.Bytes.{bytes_of};
@@ -20,10 +21,11 @@ use qcow2_types::{MAGIC, OnDiskStruct, V2Header};
 use std::alloc::Global;
 
 // The header of an image that is to be read, with its data in this file.
-fn load_header<S: Storage>(alloc: Global, image: &mut S) -> Result<Header, Fault>
+pub(crate) fn load_header<S: Storage>(alloc: Global, image: &mut S) -> Result<Header, Fault>
     ensures loads { IfOk result (λ header. header_of false (file (S.state image.old)) ≡ Ok header) }
     ensures inside { IfOk result (λ header. has_external_data header.fields ≡ false) }
     ensures err { IfErr result (NotLoaded (header_for_reading (file (S.state image.old))) (S.state image.old) (S.state image.new)) }
+    ensures first { IfErr result (λ fault. fault ≢ DamagedTable) }
     ensures same { OnOk result (S.state image.new ≡ S.state image.old) }
     ensures kept { Kept (S.state image.old) (S.state image.new) }
 {
@@ -38,7 +40,11 @@ fn load_header<S: Storage>(alloc: Global, image: &mut S) -> Result<Header, Fault
 }
 
 // The L1 table of an image with this header.
-fn load_l1<S: Storage>(alloc: Global, image: &mut S, header: &Header) -> Result<L1Table, Fault>
+pub(crate) fn load_l1<S: Storage>(
+    alloc: Global,
+    image: &mut S,
+    header: &Header,
+) -> Result<L1Table, Fault>
     requires loads { header_of false (file (S.state image.old)) ≡ Ok header.now }
     requires inside { has_external_data header.now.fields ≡ false }
     ensures ok { IfOk result (IsL1Of (file (S.state image.old)) header.now.fields) }
@@ -54,10 +60,7 @@ fn load_l1<S: Storage>(alloc: Global, image: &mut S, header: &Header) -> Result<
 }
 
 // Both of them. Nothing but reads is asked of the storage.
-pub(crate) fn load_metadata<S: Storage>(
-    alloc: Global,
-    image: &mut S,
-) -> Result<(Header, L1Table), Fault>
+fn load_metadata<S: Storage>(alloc: Global, image: &mut S) -> Result<(Header, L1Table), Fault>
     ensures loads { IfOk result (λ r. header_of false (file (S.state image.old)) ≡ Ok r.0) }
     ensures inside { IfOk result (λ r. has_external_data r.0.fields ≡ false) }
     ensures l1 { IfOk result (λ r. IsL1Of (file (S.state image.old)) r.0.fields r.1) }

@@ -1,33 +1,71 @@
 // Reading the tables of an open image anew.
-ghost use Rattle.std.specs.Prelude.{◌≡◌, [], false, Ok, IsOk, OnOk, IfOk, IfErr};
-ghost use Rattle.imago_storage.specs.Calls.{Kept};
+ghost use Rattle.std.specs.Prelude.{◌≡◌, ◌≢◌, [], false, Ok, IsOk, OnOk, IfOk, IfErr};
+ghost use Rattle.imago_storage.specs.Calls.{Cause, Kept, Later};
+ghost use Rattle.imago_storage.specs.declared.fault.Fault.TheVariants.{DamagedTable};
 ghost use Rattle.qcow2_types.specs.Header.{header_of, has_external_data};
 ghost use Rattle.qcow2_metadata.specs.Loading.{file, NotLoaded};
 ghost use Rattle.qcow2_alloc.specs.Caches.{cached_in, HasRoomOf};
 ghost use Rattle.qcow2_alloc.specs.Opening.{IsL1Of};
 ghost use Rattle.qcow2_image.specs.Caching.{IsLoose};
 ghost use Rattle.qcow2_image.specs.Opening.{header_for_reading};
-ghost use Rattle.qcow2_image.specs.Steps.{Reloads};
+ghost use Rattle.qcow2_image.specs.Steps.{IsFirstFault, Reloads, WhyNotReloaded};
 
-use crate::opening::load_metadata;
+use crate::opening::{load_header, load_l1};
 use crate::tables::Tables;
 use imago_storage::{Fault, Storage};
 use qcow2_alloc::MetadataCaches;
 use qcow2_metadata::{Header, L1Table};
 use std::alloc::Global;
 
-// The header and the L1 table again. The storage drops what it has cached first, so that they are what is below it now.
-fn load_anew<S: Storage>(alloc: Global, image: &mut S) -> Result<(Header, L1Table), Fault>
-    ensures loads { IfOk result (λ r. header_of false (file (S.state image.old)) ≡ Ok r.0) }
-    ensures inside { IfOk result (λ r. has_external_data r.0.fields ≡ false) }
-    ensures l1 { IfOk result (λ r. IsL1Of (file (S.state image.old)) r.0.fields r.1) }
+// The header again. The storage drops what it has cached first, so that it is what is below it now.
+fn load_header_anew<S: Storage>(alloc: Global, image: &mut S) -> Result<Header, Fault>
+    ensures loads { IfOk result (λ header. header_of false (file (S.state image.old)) ≡ Ok header) }
+    ensures inside { IfOk result (λ header. has_external_data header.fields ≡ false) }
     ensures err { IfErr result (NotLoaded (header_for_reading (file (S.state image.old))) (S.state image.old) (S.state image.new)) }
+    ensures first { IfErr result (λ fault. fault ≢ DamagedTable) }
     ensures same { OnOk result (S.state image.new ≡ S.state image.old) }
     ensures kept { Kept (S.state image.old) (S.state image.new) }
 {
     match image.invalidate_cache() {
-        Ok(()) => load_metadata(alloc, image),
+        Ok(()) => load_header(alloc, image),
         Err(fault) => Err(fault),
+    }
+}
+
+// Why an image with this header open isn't read anew, where the L1 table of the file's header isn't loaded: first because the header can't
+// change so. Whether it can is the same turned round.
+fn first_fault(mut header: Header, opened: &Header, fault: Fault) -> Fault
+    ensures { IsFirstFault header opened.now fault result }
+{
+    match header.update(opened) {
+        Ok(()) => fault,
+        Err(differs) => differs,
+    }
+}
+
+// Both of them, in place of an open header.
+fn load_anew<S: Storage>(
+    alloc: Global,
+    image: &mut S,
+    opened: &Header,
+) -> Result<(Header, L1Table), Fault>
+    ensures loads { IfOk result (λ r. header_of false (file (S.state image.old)) ≡ Ok r.0) }
+    ensures inside { IfOk result (λ r. has_external_data r.0.fields ≡ false) }
+    ensures l1 { IfOk result (λ r. IsL1Of (file (S.state image.old)) r.0.fields r.1) }
+    ensures err { IfErr result (WhyNotReloaded (file (S.state image.old)) opened.now (S.state image.old).faults (S.state image.new).faults) }
+    ensures known { header_of false (file (S.state image.old)) ≡ Ok opened.now → header_for_reading (file (S.state image.old)) ≡ Ok opened.now
+        → IfErr result (Cause (S.state image.old).faults (S.state image.new).faults) }
+    ensures same { OnOk result (S.state image.new ≡ S.state image.old) }
+    ensures kept { Kept (S.state image.old) (S.state image.new) }
+    ensures later { Later (S.state image.old) (S.state image.new) }
+{
+    let header = match load_header_anew(alloc, image) {
+        Ok(header) => header,
+        Err(fault) => return Err(fault),
+    };
+    match load_l1(alloc, image, &header) {
+        Ok(l1) => Ok((header, l1)),
+        Err(fault) => Err(first_fault(header, opened, fault)),
     }
 }
 
@@ -44,12 +82,12 @@ fn drop_cached<S: Storage>(caches: &mut MetadataCaches<S>) -> Result<(), Fault>
     }
 }
 
-// Reads the header and the L1 table anew, and drops what is cached. It refuses what opening does, and a header that differs in more than
-// the size and the places of tables. What is in memory changes only once nothing can refuse any more.
+// Reads the header and the L1 table anew, and drops what is cached. It refuses what opening does, and before the L1 table a header that
+// differs in more than the size and the places of tables. What is in memory changes only once nothing can refuse any more.
 pub(crate) fn reload<S: Storage>(tables: &mut Tables<S>, alloc: Global) -> Result<(), Fault>
     ensures { Reloads S.Storage tables.old result tables.new }
 {
-    let (header, l1) = match load_anew(alloc, &mut tables.file.image) {
+    let (header, l1) = match load_anew(alloc, &mut tables.file.image, &tables.file.header) {
         Ok(loaded) => loaded,
         Err(fault) => return Err(fault),
     };

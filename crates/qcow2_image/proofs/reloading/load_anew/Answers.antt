@@ -1,45 +1,18 @@
-use Rattle.std.proofs.Common.{◌≡◌, ◌∙◌, subst, Ok}
-use Rattle.std.specs.Prelude.{false, IfOk, IfErr, OnOk}
+use Rattle.std.proofs.Common.{subst}
 use Rattle.imago_storage.specs.State.{StorageState}
-use Rattle.imago_storage.specs.Calls.{Kept}
-use Rattle.qcow2_types.specs.Header.{header_of, has_external_data}
 use Rattle.qcow2_metadata.specs.Loading.{file, NotLoaded}
-use Rattle.qcow2_alloc.specs.Opening.{IsL1Of}
 use Rattle.qcow2_image.specs.Opening.{header_for_reading}
-use Rattle.qcow2_image.proofs.Anew.{same-state, refused-why}
+use Rattle.qcow2_image.proofs.Anew.{header-why, first-why}
 use Rattle.qcow2_image.proofs.reloading.load_anew.Goals as goal
-
-pub returns-in-Ok-clause-loads : goal.returns-in-Ok-clause-loads
-returns-in-Ok-clause-loads g c =
-    let old = g.S.Storage.state c.args.image.now in
-    let same = same-state old _ c.invalidate_cache.ensures.kept c.in-Ok.ensures.faults in
-    subst (λ s. IfOk c.load_metadata.result (λ r. header_of false (file s) ≡ Ok r.0)) same c.load_metadata.ensures.loads
-
-pub returns-in-Ok-clause-l1 : goal.returns-in-Ok-clause-l1
-returns-in-Ok-clause-l1 g c =
-    let old = g.S.Storage.state c.args.image.now in
-    let same = same-state old _ c.invalidate_cache.ensures.kept c.in-Ok.ensures.faults in
-    subst (λ s. IfOk c.load_metadata.result (λ r. IsL1Of (file s) r.0.fields r.1)) same c.load_metadata.ensures.l1
-
-pub returns-in-Ok-clause-err : goal.returns-in-Ok-clause-err
-returns-in-Ok-clause-err g c =
-    let old = g.S.Storage.state c.args.image.now in
-    let same = same-state old _ c.invalidate_cache.ensures.kept c.in-Ok.ensures.faults in
-    subst (λ s. IfErr c.load_metadata.result (NotLoaded (header_for_reading (file s)) s (g.S.Storage.state c.load_metadata.new.image))) same c.load_metadata.ensures.err
-
-pub returns-in-Ok-clause-same : goal.returns-in-Ok-clause-same
-returns-in-Ok-clause-same g c =
-    let old = g.S.Storage.state c.args.image.now in
-    let same = same-state old _ c.invalidate_cache.ensures.kept c.in-Ok.ensures.faults in
-    subst (λ s. OnOk c.load_metadata.result (g.S.Storage.state c.load_metadata.new.image ≡ s)) same c.load_metadata.ensures.same
-
-pub returns-in-Ok-clause-kept : goal.returns-in-Ok-clause-kept
-returns-in-Ok-clause-kept g c =
-    let old = g.S.Storage.state c.args.image.now in
-    let same = same-state old _ c.invalidate_cache.ensures.kept c.in-Ok.ensures.faults in
-    subst (λ s. Kept s (g.S.Storage.state c.load_metadata.new.image)) same c.load_metadata.ensures.kept
 
 pub returns-in-Err-clause-err : goal.returns-in-Err-clause-err
 returns-in-Err-clause-err g c =
     let old = g.S.Storage.state c.args.image.now in
-    refused-why (header_for_reading (file old)) old (g.S.Storage.state c.invalidate_cache.new.self) c.in-Err.fault c.in-Err.ensures.faults
+    header-why (file old) c.args.opened.now old (g.S.Storage.state c.load_header_anew.new.image) c.in-Err.fault c.in-Err.ensures.err c.in-Err.ensures.first
+
+pub returns-in-Err-load_l1-clause-err : goal.returns-in-Err-load_l1-clause-err
+returns-in-Err-load_l1-clause-err g c =
+    let old = g.S.Storage.state c.args.image.now in
+    let new = g.S.Storage.state c.load_l1.new.image in
+    let why = subst (λ (s : StorageState). NotLoaded (header_for_reading (file s)) s new c.in-Err-load_l1.fault) c.in-Ok.ensures.same c.in-Err-load_l1.ensures.err in
+    first-why (file old) c.args.opened.now c.in-Ok.header old new c.in-Err-load_l1.fault c.first_fault.result c.in-Ok.ensures.loads c.first_fault.ensures why
