@@ -1,5 +1,5 @@
 -- What a look at the words of guest clusters in a row does.
-use Rattle.std.specs.Prelude.{◌≡◌, ◌≢◌, ◌⊎◌, ⊤, ℕ, min, ◌+◌, ◌-◌, ◌/◌, ◌%◌, ◌<◌, ◌≤◌, ◌^◌, ◌==◌, if◌then◌else◌, List, slice_index, Result, IfOk, IfErr, Option, Some, None}
+use Rattle.std.specs.Prelude.{◌≡◌, ◌≢◌, ◌⊎◌, ⊤, ℕ, min, ◌+◌, ◌-◌, ◌/◌, ◌%◌, ◌<◌, ◌≤◌, ◌^◌, ◌==◌, if◌then◌else◌, Bool, ◌*◌, List, slice_index, Result, IfOk, IfErr, Option, Some, None}
 use Rattle.imago_storage.specs.State.{Rose}
 use Rattle.imago_storage.specs.Calls.{Kept, Later, IsFaultless}
 use Rattle.imago_storage.specs.declared.fault.Fault.{Fault}
@@ -16,6 +16,8 @@ use Rattle.qcow2_metadata.specs.declared.mapping.L2Mapping.{L2Mapping}
 use Rattle.imago_storage.specs.declared.storage.Storage.{Ghosts}
 use Rattle.qcow2_image.specs.declared.tables.Tables.{Tables}
 use Rattle.qcow2_image.specs.Seen.{IsSeen, file_of}
+use Rattle.qcow2_image.specs.ImageLayer.{shallow_of}
+use Rattle.imago_access.specs.declared.mapping.ShallowMapping.{ShallowMapping}
 
 -- the cluster that a word of the L1 table names, if it names one
 abbrev pub cluster_named : ℕ → ℕ → Option ℕ
@@ -49,13 +51,21 @@ pub record IsCutAt (h : Fields) (mapped : ℕ → Mapping) (at : ℕ) : Type 0 w
   pub last : (at / cluster_size h % words_of_cluster h ≡ 0)
       ⊎ (Follows (mapped (at / cluster_size h - 1)) (mapped (at / cluster_size h)) → ⊥)
 
--- It has all of the range that lies in the disk, or else is cut at its end.
-abbrev pub IsLong : Fields → (ℕ → Mapping) → ℕ → ℕ → ℕ → Type 0
-IsLong h mapped offset asked n = (n ≡ min asked (h.size - offset)) ⊎ IsCutAt h mapped (offset + n)
+-- A run of so many places from an offset on: each of its clusters but the first goes on from the one before, under the same L2 table; and
+-- it has all of the range that lies in the disk, or else is cut at its end.
+pub record IsWholeRun (h : Fields) (mapped : ℕ → Mapping) (offset asked n : ℕ) : Type 0 where
+  pub each : (g : ℕ) → offset / cluster_size h < g → g * cluster_size h < offset + n
+      → (0 < g % words_of_cluster h) × Follows (mapped (g - 1)) (mapped g)
+  pub ends : (n ≡ min asked (h.size - offset)) ⊎ IsCutAt h mapped (offset + n)
 
 -- by the entries of the guest clusters of an image
-abbrev pub IsLongIn : {S : Type 0} (g : Ghosts S) → Tables S g → ℕ → ℕ → ℕ → Type 0
-IsLongIn g t = IsLong t.file.header.fields (entry (file_of g t) t.file.header.fields)
+abbrev pub IsWholeRunIn : {S : Type 0} (g : Ghosts S) → Tables S g → ℕ → ℕ → ℕ → Type 0
+IsWholeRunIn g t = IsWholeRun t.file.header.fields (entry (file_of g t) t.file.header.fields)
+
+-- how a lookup answers the entry of the guest cluster at an offset, of an image over layers or not
+abbrev pub answer_at : {S : Type 0} (g : Ghosts S) → Tables S g → Bool → ℕ → ShallowMapping
+answer_at g t backed offset = let h = t.file.header.fields in
+    shallow_of backed h.cluster_bits offset (offset % cluster_size h) (entry (file_of g t) h (offset / cluster_size h))
 
 -- The run is read of a table, which stays; one for clusters of another size is damaged.
 pub record ReadsRun (cluster_bits guest most : ℕ) (table : TableValue) (result : Result (L2Mapping × ℕ) Fault)

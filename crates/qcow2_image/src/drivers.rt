@@ -1,5 +1,5 @@
 // A qcow2 image as the driver of a chain.
-ghost use Rattle.std.specs.Prelude.{◌≡◌, ⊤, false, refl, length, IsTrue, IsOk, OnOk, IfOk, IfErr};
+ghost use Rattle.std.specs.Prelude.{◌≡◌, ◌<◌, ⊤, false, refl, length, IsTrue, IsOk, OnOk, IfOk, IfErr};
 ghost use Rattle.std.proofs.lemmas.Nat.{pow_pos};
 ghost use Rattle.imago_access.specs.Failing.{Fails, RefusesLookup, RefusesReload};
 ghost use Rattle.imago_access.specs.Files.{IsKept, IsStale, Pairs, WasNotCutOff, files};
@@ -9,7 +9,7 @@ ghost use Rattle.imago_access.specs.Mappings.{IsOneOf, IsRun, LooksIn, NamesRoom
 ghost use Rattle.imago_access.specs.PreparingCalls.{Commits, CommitRefused, Cancels};
 ghost use Rattle.imago_access.specs.Refusals.{barrier};
 ghost use Rattle.qcow2_image.specs.ImageLayer.{blanks};
-ghost use Rattle.qcow2_image.specs.Looking.{IsLongIn};
+ghost use Rattle.qcow2_image.specs.Looking.{IsWholeRunIn, answer_at};
 ghost use Rattle.qcow2_image.specs.Rooms.{not_both, covered, of_storages};
 ghost use Rattle.qcow2_image.specs.Steps.{Reloads};
 
@@ -122,8 +122,11 @@ impl<S: Storage> FormatDriverInstance for Qcow2<S> {
             d.sees self.old → IfErr result (RefusesLookup d offset max_length self.old self.new) }
         // It makes no request but reads.
         ensures reads { let d = ⟦<Qcow2<S> as Seen>⟧ in Pairs IsKept (files d self.old) (files d self.new) }
-        // A run ends with the range or the disk, or where clusters don't go on from one another under one L2 table.
-        ensures long { ⟦<Qcow2<S> as Seen>⟧.sees self.old → IfOk result (λ r. IsLongIn S.Storage self.old.tables offset max_length r.1) }
+        // It answers the entry of the guest cluster, for as long a run as goes on under one L2 table.
+        ensures entry { let t = self.old.tables in 0 < max_length → offset < t.file.header.fields.size
+            → ⟦<Qcow2<S> as Seen>⟧.sees self.old → IfOk result (λ r. r.0 ≡ answer_at S.Storage t self.old.backing offset) }
+        ensures whole { let t = self.old.tables in
+            ⟦<Qcow2<S> as Seen>⟧.sees self.old → IfOk result (λ r. IsWholeRunIn S.Storage t offset max_length r.1) }
     {
         if self.failed {
             return Err(Fault::Failed);

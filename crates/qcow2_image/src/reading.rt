@@ -6,7 +6,7 @@ ghost use Rattle.imago_access.specs.Going.{Looked, Marks};
 ghost use Rattle.imago_access.specs.Mappings.{IsOneOf, IsRun, LooksIn, NamesRoomIn};
 ghost use Rattle.qcow2_metadata.specs.MappingView.{mapping_seen, IsNamed};
 ghost use Rattle.qcow2_image.specs.ImageLayer.{shallow_of};
-ghost use Rattle.qcow2_image.specs.Looking.{IsLongIn};
+ghost use Rattle.qcow2_image.specs.Looking.{IsWholeRunIn, answer_at};
 ghost use Rattle.qcow2_image.specs.Steps.{failed_by, failed_anew, failed_behind};
 
 use crate::lookup::look_up;
@@ -123,7 +123,10 @@ impl<S: Storage> Qcow2<S> {
         ensures looks { let d = ⟦<Qcow2<S> as Seen>⟧ in d.sees self.old → IfOk result (LooksIn d offset max_length self.old self.new) }
         ensures room { let d = ⟦<Qcow2<S> as Seen>⟧ in d.sees self.old → IfOk result (NamesRoomIn d offset self.old) }
         ensures there { IfOk result (λ r. IsOneOf 1 r.0) }
-        ensures long { ⟦<Qcow2<S> as Seen>⟧.sees self.old → IfOk result (λ r. IsLongIn S.Storage self.old.tables offset max_length r.1) }
+        ensures entry { let t = self.old.tables in
+            ⟦<Qcow2<S> as Seen>⟧.sees self.old → IfOk result (λ r. r.0 ≡ answer_at S.Storage t self.old.backing offset) }
+        ensures whole { let t = self.old.tables in
+            ⟦<Qcow2<S> as Seen>⟧.sees self.old → IfOk result (λ r. IsWholeRunIn S.Storage t offset max_length r.1) }
         ensures looked { Looked ⟦<Qcow2<S> as Seen>⟧ (WasNotCutOff result) self.old self.new }
         ensures failed { IfErr result (Fails ⟦<Qcow2<S> as Seen>⟧ self.old self.new) }
         ensures marks { IfErr result (Marks ⟦<Qcow2<S> as Seen>⟧ self.old self.new) }

@@ -1,6 +1,6 @@
 use Rattle.std.proofs.Common.{◌≡◌, ℕ, ◌+◌, ◌-◌, ◌*◌, ◌/◌, ◌%◌, ◌^◌, ◌<◌, ◌≤◌, refl, arith, ap, sym, subst, ◌∙◌, Ok, Err, [], ◌∷◌}
 use Rattle.std.specs.Prelude.{min, ◌⊎◌}
-use Rattle.std.proofs.lemmas.Nat.{pow_pos}
+use Rattle.std.proofs.lemmas.Nat.{pow_pos, div-add-mod'}
 use Rattle.std.proofs.Math.Nat.{pow-le-pow_right}
 use Rattle.qcow2_types.specs.Places.{l2_entries}
 use Rattle.qcow2_types.specs.Header.{cluster_size}
@@ -17,8 +17,8 @@ use Rattle.qcow2_image.specs.ImageLayer.{qcow2_layer, shallow_of}
 use Rattle.qcow2_image.specs.Rooms.{IsVacant, IsZeroed}
 use Rattle.qcow2_image.specs.Looking.{WhyNotLooked, IsRunOf}
 use Rattle.qcow2_image.specs.Seen.{file_of, memory_of}
-use Rattle.qcow2_image.proofs.Ranges.{low-bits, high-bits, range-some, range-near, range-few, range-small, range-one-table, range-fits, range-within, range-word, range-ends}
-use Rattle.qcow2_image.proofs.Ends.{long-run}
+use Rattle.qcow2_image.proofs.Ranges.{low-bits, high-bits, some-words, range-some, range-near, range-few, range-small, range-one-table, range-fits, range-within, range-word, range-ends}
+use Rattle.qcow2_image.proofs.Ends.{long-run, run-goes-on}
 use Rattle.qcow2_image.proofs.Steps.{keeps-marked, looked-kept, marks-kept, memory-is}
 use Rattle.qcow2_image.proofs.Answering.{is-run, names-one, looks-run, room-run, look-cause}
 use Rattle.qcow2_image.proofs.qcow2.Qcow2.run_from.Goals as goal
@@ -148,8 +148,8 @@ returns-in-Ok-clause-room g c = λ seen.
     subst (λ x. NamesRoom layer (IsVacant (memory_of g.S.Storage t) h) (IsZeroed (memory_of g.S.Storage t) h) c.args.offset n x) (sym answer)
     (room-run s (memory_of g.S.Storage t) h q.backing q.number q.failed c.args.offset n c.clusters_met-most.result run (memory-is g.S.Storage t) (omega (arith, c.bytes_met-length.ensures, near, c.size-size.ensures)) (omega (arith, c.bytes_met-length.ensures, within, end)) is)
 
-pub returns-in-Ok-clause-long : goal.returns-in-Ok-clause-long
-returns-in-Ok-clause-long g c = λ seen.
+pub returns-in-Ok-clause-whole : goal.returns-in-Ok-clause-whole
+returns-in-Ok-clause-whole g c = λ seen.
     let t = c.args.self.now.tables in
     let h = t.file.header.fields in
     let run : L2Mapping × ℕ = (c.in-Ok.mapping, c.in-Ok.count) in
@@ -163,7 +163,38 @@ returns-in-Ok-clause-long g c = λ seen.
     c.remaining_in_l2_table.ensures c.min-rest.ensures c.min-length.ensures c.in_cluster_offset-within.ensures c.clusters_met-most.ensures (omega (arith, c.size-size.ensures, c.requires.inside)) c.requires.some c.in-Ok.count n named.1 named.2 c.bytes_met-length.ensures in
     let at-size = subst (λ x. (n ≡ min c.args.max_length (x - c.args.offset)) ⊎ ((c.args.offset % (l2_entries c.cluster_bits-cluster_bits.result * 2 ^ c.cluster_bits-cluster_bits.result) + n ≡ l2_entries c.cluster_bits-cluster_bits.result * 2 ^ c.cluster_bits-cluster_bits.result) ⊎ ((c.in-Ok.count < c.clusters_met-most.result) × (c.args.offset + n ≡ (c.args.offset / 2 ^ c.cluster_bits-cluster_bits.result + c.in-Ok.count) * 2 ^ c.cluster_bits-cluster_bits.result)))) c.size-size.ensures ends in
     let at-bits = subst (λ x. (n ≡ min c.args.max_length (h.size - c.args.offset)) ⊎ ((c.args.offset % (l2_entries x * 2 ^ x) + n ≡ l2_entries x * 2 ^ x) ⊎ ((c.in-Ok.count < c.clusters_met-most.result) × (c.args.offset + n ≡ (c.args.offset / 2 ^ x + c.in-Ok.count) * 2 ^ x)))) b at-size in
-    long-run h (entry (file_of g.S.Storage t) h) c.args.offset c.args.max_length n c.clusters_met-most.result run (pow_pos h.cluster_bits) is at-bits
+    let power : 2 ^ c.cluster_bits-cluster_bits.result ≡ 2 ^ h.cluster_bits = ap (λ x. 2 ^ x) b in
+    let within : c.in_cluster_offset-within.result ≡ c.args.offset % cluster_size h = c.in_cluster_offset-within.ensures ∙ ap (λ x. c.args.offset % x) power in
+    let end : c.in-Ok.count * 2 ^ c.cluster_bits-cluster_bits.result ≡ c.in-Ok.count * cluster_size h = ap (λ x. c.in-Ok.count * x) power in
+    let first = range-within c.cluster_bits-cluster_bits.result c.args.offset c.size-size.result c.args.max_length c.remaining_in_l2_table.result c.min-rest.result c.min-length.result c.in_cluster_offset-within.result c.clusters_met-most.result
+    (low-bits c.cluster_bits-cluster_bits.result _ c.cluster_bits-cluster_bits.ensures.value c.cluster_bits-cluster_bits.ensures.shaped) (high-bits c.cluster_bits-cluster_bits.result _ c.cluster_bits-cluster_bits.ensures.value c.cluster_bits-cluster_bits.ensures.shaped)
+    c.remaining_in_l2_table.ensures c.min-rest.ensures c.min-length.ensures c.in_cluster_offset-within.ensures c.clusters_met-most.ensures (omega (arith, c.size-size.ensures, c.requires.inside)) c.requires.some c.in-Ok.count named.1 in
+    let place = div-add-mod' c.args.offset (cluster_size h) in
+    let product : (c.args.offset / cluster_size h + c.in-Ok.count) * cluster_size h ≡ c.args.offset / cluster_size h * cluster_size h + c.in-Ok.count * cluster_size h = omega arith in
+    let one = subst (λ x. c.args.offset / cluster_size h % l2_entries x + c.clusters_met-most.result ≤ l2_entries x) b (subst (λ x. x % l2_entries c.cluster_bits-cluster_bits.result + c.clusters_met-most.result ≤ l2_entries c.cluster_bits-cluster_bits.result) guest
+    (range-one-table c.cluster_bits-cluster_bits.result c.args.offset c.size-size.result c.args.max_length c.remaining_in_l2_table.result c.min-rest.result c.min-length.result c.in_cluster_offset-within.result c.clusters_met-most.result
+    (low-bits c.cluster_bits-cluster_bits.result _ c.cluster_bits-cluster_bits.ensures.value c.cluster_bits-cluster_bits.ensures.shaped) (high-bits c.cluster_bits-cluster_bits.result _ c.cluster_bits-cluster_bits.ensures.value c.cluster_bits-cluster_bits.ensures.shaped)
+    c.remaining_in_l2_table.ensures c.min-rest.ensures c.min-length.ensures c.in_cluster_offset-within.ensures c.clusters_met-most.ensures (omega (arith, c.size-size.ensures, c.requires.inside)) c.requires.some c.cluster.result c.cluster.ensures)) in
+    let rows = subst (λ x. 0 < l2_entries x) b (some-words c.cluster_bits-cluster_bits.result (low-bits c.cluster_bits-cluster_bits.result _ b c.cluster_bits-cluster_bits.ensures.shaped) (high-bits c.cluster_bits-cluster_bits.result _ b c.cluster_bits-cluster_bits.ensures.shaped)) in
+    record {
+      each = run-goes-on h (entry (file_of g.S.Storage t) h) c.args.offset n c.clusters_met-most.result run (pow_pos h.cluster_bits) rows is one (omega (arith, c.bytes_met-length.ensures, within, end, first, place, product));
+      ends = long-run h (entry (file_of g.S.Storage t) h) c.args.offset c.args.max_length n c.clusters_met-most.result run (pow_pos h.cluster_bits) is at-bits;
+    }
+
+pub returns-in-Ok-clause-entry : goal.returns-in-Ok-clause-entry
+returns-in-Ok-clause-entry g c = λ seen.
+    let q = c.args.self.now in
+    let t = q.tables in
+    let h = t.file.header.fields in
+    let b = c.cluster_bits-cluster_bits.ensures.value in
+    let run : L2Mapping × ℕ = (c.in-Ok.mapping, c.in-Ok.count) in
+    let power : 2 ^ c.cluster_bits-cluster_bits.result ≡ 2 ^ h.cluster_bits = ap (λ x. 2 ^ x) b in
+    let within : c.in_cluster_offset-within.result ≡ c.args.offset % cluster_size h = c.in_cluster_offset-within.ensures ∙ ap (λ x. c.args.offset % x) power in
+    let guest : c.cluster.result ≡ c.args.offset / cluster_size h = c.cluster.ensures ∙ ap (λ x. c.args.offset / x) power in
+    let is = subst (λ x. IsRunOf x c.clusters_met-most.result (entry (file_of g.S.Storage t) h) run) guest (c.in-Ok.ensures.says seen) in
+    c.shallow.ensures ∙ ap (λ x. shallow_of q.backing x c.args.offset c.in_cluster_offset-within.result (mapping_seen c.in-Ok.mapping)) b
+    ∙ ap (λ x. shallow_of q.backing h.cluster_bits c.args.offset x (mapping_seen c.in-Ok.mapping)) within
+    ∙ ap (shallow_of q.backing h.cluster_bits c.args.offset (c.args.offset % cluster_size h)) is.first
 
 pub returns-in-Ok-clause-looked : goal.returns-in-Ok-clause-looked
 returns-in-Ok-clause-looked g c =
