@@ -6,6 +6,7 @@ pub mod Steps
 pub mod Ranges
 pub mod Answering
 pub mod Ends
+pub mod Shown
 pub mod Anew
 pub mod Settling
 pub mod Lending

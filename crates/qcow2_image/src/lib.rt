@@ -4,6 +4,7 @@
 mod builder;
 mod cache_entries;
 mod drivers;
+pub mod laws;
 mod lookup;
 mod opening;
 mod qcow2;
