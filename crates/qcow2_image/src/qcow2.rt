@@ -106,7 +106,7 @@ impl<S: Storage> Qcow2<S> {
 
     /// The image file.
     pub fn image(&self) -> &S
-        ensures { S.state result.now ≡ ⟦<Qcow2<S> as Seen>⟧.image self.now }
+        ensures { result.now ≡ self.now.tables.file.image }
     {
         &self.tables.file.image
     }
@@ -137,7 +137,7 @@ impl<S: Storage> Qcow2<S> {
 
     /// The image file again. Nothing waits to be written to it.
     pub fn into_image(self) -> S
-        ensures { S.state result ≡ ⟦<Qcow2<S> as Seen>⟧.image self }
+        ensures { result ≡ self.tables.file.image }
     {
         let Qcow2 {
             tables,
@@ -178,10 +178,7 @@ impl<S: Storage> Qcow2<S> {
 
     /// Says whether layers are below it: places that no table maps are what these show, and else they are 0.
     pub fn set_backing(&mut self, backing: bool)
-        ensures tables { self.new.tables ≡ self.old.tables }
-        ensures layer { ⟦<Qcow2<S> as Seen>⟧.layer self.new ≡ layer_in S.Storage self.old.tables backing self.old.number self.old.failed }
-        ensures sees { ⟦<Qcow2<S> as Seen>⟧.sees self.old → ⟦<Qcow2<S> as Seen>⟧.sees self.new }
-        ensures safe { ⟦<Qcow2<S> as Seen>⟧.safe self.old → ⟦<Qcow2<S> as Seen>⟧.safe self.new }
+        ensures { self.new ≡ record self.old { backing = backing } }
     {
         self.backing = backing;
     }
