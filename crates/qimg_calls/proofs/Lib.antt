@@ -1,0 +1,9 @@
+-- Lemmas.
+mod Leading
+mod Moving
+mod Resizing
+mod Spending
+mod Committing
+mod Lists
+mod Driven
+mod Stops

@@ -1,0 +1,281 @@
+-- Calls one behind the other: from what each makes by itself to what the list does.
+use Rattle.std.proofs.lemmas.Bool.{cases_lt}
+use Rattle.std.proofs.lemmas.List.Elements.{All-weaker}
+use Rattle.std.proofs.Common.{◌≡◌, ◌⊎◌, inl, inr, ℕ, ◌+◌, ◌<◌, ◌≤◌, ◌^◌, ◌∷◌, ◌++◌, [], List, length, arith, refl, sym, subst, ap, ◌∙◌, true, false, suc, zero}
+use Rattle.std.specs.Prelude.{Bool, Option, Some, None, is_some, is_none, IsTrue, map, take, drop, ⊤, if◌then◌else◌}
+use Rattle.imago_storage.specs.State.{StorageState, InStep, Rose}
+use Rattle.imago_storage.specs.Passing.{Passes}
+use Rattle.imago_storage.specs.Through.{StopsIn}
+use Rattle.imago_storage.specs.Calls.{IsFaultless}
+use Rattle.imago_storage.specs.declared.fault.Fault.{Fault}
+use Rattle.imago_storage.specs.declared.fault.Fault.TheVariants.{Memory, Storage, BadArgument}
+use Rattle.imago_access.specs.declared.seen.Seen.{Ghosts}
+use Rattle.imago_access.specs.Layer.{IsFree}
+use Rattle.imago_access.specs.Chain.{Each}
+use Rattle.imago_access.specs.Files.{Pairs, IsMild, IsLater, IsKept as IsKeptFile, files_of}
+use Rattle.imago_access.specs.Running.{chain_disk}
+use Rattle.imago_access.specs.Stops.{IsCovered, IsWritten, Left}
+use Rattle.imago_access.proofs.FilePairs.{is_later_same, is_later_both, kept_all_same, kept_all_both}
+use Rattle.imago_access.proofs.Stopping.{here, passes_both, passes_none, passes_weaker}
+use Rattle.qimg_calls.specs.declared.call.Call.{Call}
+use Rattle.qimg_calls.specs.declared.call.Call.TheVariants as calls
+use Rattle.qimg_calls.specs.declared.call.Answer.{Answer}
+use Rattle.qimg_calls.specs.declared.call.Answer.TheVariants as told
+use Rattle.qimg_calls.specs.Calls.{Either, GoesOn, is_out_of_place}
+use Rattle.qimg_calls.specs.Since.{Since, Begun, most_size, begun, flushed, LeftSince, IsSince}
+use Rattle.qimg_calls.specs.Held.{Holding, IsKept, IsReady, disk_call}
+use Rattle.qimg_calls.specs.Leading.{Leads}
+use Rattle.qimg_calls.specs.Making.{Makes, Answers, AnswersAll}
+use Rattle.qimg_calls.specs.Moves.{Moves}
+use Rattle.qimg_calls.specs.Runs.{Moment, moment, since_behind, IsLeftBy, StatesSize, StandsSince, Made, Goes, Run, IsCalm, AllGoOn, IsLeftIn}
+use Rattle.qimg_calls.proofs.Stops.{left-since, since-on, since-flushed}
+
+-- an answer goes on, or it doesn't
+goes-on-or : (answer : Answer) → GoesOn answer ⊎ (GoesOn answer → ⊥)
+goes-on-or (told.Refused Memory) = inr (λ on. on)
+goes-on-or (told.Refused Storage) = inr (λ on. on)
+goes-on-or (told.Refused fault) = inl tt
+goes-on-or answer = inl tt
+
+-- a count that has not risen isn't at its greatest value
+not-risen : (a b : ℕ) → a ≤ b → (Rose a b → ⊥) → b + 1 < 2 ^ 64
+not-risen a b later calm = elim (cases_lt (b + 1) (2 ^ 64)) [
+  | inl fits ↦ fits
+  | inr full ↦ absurd (calm (record { kept = later; rose = λ fits. omega (arith, fits, full) }))
+]
+
+-- a count that is the same, and not at its greatest value, has not risen
+calm-then : (a b : ℕ) → b ≡ a → b + 1 < 2 ^ 64 → Rose a b → ⊥
+calm-then a b same room rose = omega (arith, same, rose.rose room)
+
+stops-in : (P Q : List ℕ → Type 0) (a b : StorageState) → ((f : List ℕ) → P f → Q f) → StopsIn P a b → StopsIn Q a b
+stops-in P Q a b weaker stops = record { files = stops.files; told = stops.told; each = All-weaker P Q weaker stops.files stops.each }
+
+either-cases : (b : Bool) (P Q : Type 0) → Either b P Q → ((b ≡ true) × P) ⊎ ((b ≡ false) × Q)
+either-cases true P Q p = inl (refl, p)
+either-cases false P Q q = inr (refl, q)
+
+either-true : (b : Bool) (P Q : Type 0) → b ≡ true → P → Either b P Q
+either-true true P Q is p = p
+either-true false P Q is p = absurd (cc is)
+
+either-false : (b : Bool) (P Q : Type 0) → b ≡ false → Q → Either b P Q
+either-false true P Q is q = absurd (cc is)
+either-false false P Q is q = q
+
+none-or : (u : Option ℕ) → (u ≡ None) ⊎ (is_none u ≡ false)
+none-or None = inl refl
+none-or (Some n) = inr refl
+
+calm-tail : (answer : Answer) (answers : List Answer) → IsCalm (answer ∷ answers) → IsCalm answers
+calm-tail answer [] calm = tt
+calm-tail answer (b ∷ bs) calm = calm.1
+
+module _ {D St : Type 0} (g : Ghosts D St) where
+  -- which of the two stands behind a call
+  behind-or : (call : Call) (answer : Answer) (m : Moment D St) (new : Holding D St)
+      → (since_behind g call answer m new ≡ begun m.since (chain_disk g.layer m.now.drivers) (disk_call g m.now call))
+      ⊎ ((call ≡ calls.Flush) × (answer ≡ told.Done) × ((g.layer m.now.drivers.0).unspent ≡ None) × (since_behind g call answer m new ≡ flushed (chain_disk g.layer new.drivers)))
+  behind-or calls.Flush told.Done m new = elim (none-or (g.layer m.now.drivers.0).unspent) [
+    | inl none ↦ inr (refl, refl, none, rw (none) refl)
+    | inr some ↦ inl (rw (some) refl)
+  ]
+  behind-or call answer m new = inl refl
+
+  -- a flush with nothing prepared that is done leaves a file that means the disk
+  moved-flush : (call : Call) (answer : Answer) (old new : Holding D St) → Moves g call answer old new → call ≡ calls.Flush → answer ≡ told.Done → IsFree (g.layer old.drivers.0) → IsWritten g new.drivers.0
+  moved-flush call answer old new moves is_flush is_done none = (rw (is_flush, is_done) at moves).0.3 none
+
+  -- what all calls keep, whatever they are answered
+  pub record Going (old new : Holding D St) : Type 0 where
+    pub fixed : (g.layer new.drivers.0).fixed ≡ (g.layer old.drivers.0).fixed
+    pub later : IsLater (g.image old.drivers.0) (g.image new.drivers.0)
+    pub under : Each g.still old.drivers.1 → Pairs IsKeptFile (files_of g old.drivers.1) (files_of g new.drivers.1) × Each g.still new.drivers.1
+    pub kept : IsKept g old → IsKept g new
+
+  pub going-same : (old : Holding D St) → Going old old
+  going-same old = record { fixed = refl; later = is_later_same (g.image old.drivers.0); under = λ still. (kept_all_same (files_of g old.drivers.1), still); kept = λ k. k }
+
+  pub going-both : (a b c : Holding D St) → Going a b → Going b c → Going a c
+  going-both a b c first second = record {
+    fixed = second.fixed ∙ first.fixed;
+    later = is_later_both (g.image a.drivers.0) (g.image b.drivers.0) (g.image c.drivers.0) first.later second.later;
+    under = λ still. let one = first.under still in let two = second.under one.1 in (kept_all_both (files_of g a.drivers.1) (files_of g b.drivers.1) (files_of g c.drivers.1) one.0 two.0, two.1);
+    kept = λ k. second.kept (first.kept k);
+  }
+
+  pub going-made : (call : Call) (answer : Answer) (old new : Holding D St) → Makes g call answer old new → Going old new
+  going-made call answer old new makes = record { fixed = makes.leads.fixed; later = makes.leads.later; under = makes.leads.under; kept = makes.kept }
+
+  pub going-one : (call : Call) (answer : Answer) (old new : Holding D St) → Answers g call answer old new → Going old new
+  going-one call answer old new answers = elim (either-cases (is_out_of_place (is_some old.kept) call) ((answer ≡ told.Refused BadArgument) × (new ≡ old)) (Makes g call answer old new) answers) [
+    | inl out ↦ subst (Going old) (sym out.1.1) (going-same old)
+    | inr made ↦ going-made call answer old new made.1
+  ]
+
+  pub going-all : (list : List Call) (answers : List Answer) (old new : Holding D St) → AnswersAll g list answers old new → Going old new
+  going-all [] [] old new same = subst (Going old) (sym same) (going-same old)
+  going-all (call ∷ list) (answer ∷ answers) old new all = going-both old all.0 new (going-one call answer old all.0 all.1) (going-all list answers all.0 new all.2)
+  going-all [] (answer ∷ answers) old new all = absurd all
+  going-all (call ∷ list) [] old new all = absurd all
+
+  pub as-many : (list : List Call) (answers : List Answer) (old new : Holding D St) → AnswersAll g list answers old new → length answers ≡ length list
+  as-many [] [] old new all = refl
+  as-many (call ∷ list) (answer ∷ answers) old new all = ap suc (as-many list answers all.0 new all.2)
+  as-many [] (answer ∷ answers) old new all = absurd all
+  as-many (call ∷ list) [] old new all = absurd all
+
+  -- one more call
+  pub all-then : (list : List Call) (answers : List Answer) (call : Call) (answer : Answer) (old mid new : Holding D St) → AnswersAll g list answers old mid → Answers g call answer mid new
+      → AnswersAll g (list ++ (call ∷ [])) (answers ++ (answer ∷ [])) old new
+  all-then [] [] call answer old mid new same one = (new, subst (λ h. Answers g call answer h new) same one, refl)
+  all-then (c ∷ cs) (a ∷ rest) call answer old mid new all one = (all.0, all.1, all-then cs rest call answer all.0 mid new all.2 one)
+  all-then [] (a ∷ rest) call answer old mid new all one = absurd all
+  all-then (c ∷ cs) [] call answer old mid new all one = absurd all
+
+  -- a stop in the first call of a list, and in a later one
+  first-left : (call : Call) (answer : Answer) (list : List Call) (answers : List Answer) (m : Moment D St) (f : List ℕ) → IsLeftBy g call m f → IsLeftIn g (call ∷ list) (answer ∷ answers) m f
+  first-left call answer list answers m f left = record { before = zero; inside = omega arith; mid = m; run = refl; calm = tt; call = call; is_call = refl; left = left }
+
+  later-left : (call : Call) (answer : Answer) (list : List Call) (answers : List Answer) (m mid : Moment D St) (f : List ℕ) → GoesOn answer → Goes g call answer m mid
+      → IsLeftIn g list answers mid f → IsLeftIn g (call ∷ list) (answer ∷ answers) m f
+  later-left call answer list answers m mid f on goes left = record {
+    before = suc left.before;
+    inside = omega (arith, left.inside);
+    mid = left.mid;
+    run = (mid, goes, λ _. left.run);
+    calm = (on, left.calm);
+    call = left.call;
+    is_call = left.is_call;
+    left = left.left;
+  }
+
+  module _ (safe_sound : (d : D) → g.safe d → IsCovered (g.layer d) g.sound (g.image d).bytes) where
+    -- what a stop in a call shows
+    stops-of : (call : Call) (answer : Answer) (old new : Holding D St) (since : Since) → Makes g call answer old new → IsReady g old.drivers → StatesSize g old.drivers → StandsSince g since old.drivers
+        → Passes (IsLeftBy g call (moment old since)) (g.image old.drivers.0) (g.image new.drivers.0)
+    stops-of call answer old new since makes ready exact stands calm =
+        let one = makes.leads.stops ready calm in
+        let below = map g.layer old.drivers.1 in
+        let entry = g.layer old.drivers.0 in
+        let file = (g.image old.drivers.0).bytes in
+        let does = disk_call g old call in
+        let room : (g.image old.drivers.0).refusals + 1 < 2 ^ 64 = omega (arith, makes.leads.later.1.refusals, not-risen (g.image old.drivers.0).refusals (g.image new.drivers.0).refusals makes.leads.later.1.refusals calm) in (
+          one.0,
+          λ step tells keeps. stops-in (Left below entry file g.sound 0 (most_size (chain_disk g.layer old.drivers) does) (Begun below (chain_disk g.layer old.drivers) does)) (IsLeftBy g call (moment old since))
+              (g.image old.drivers.0) (g.image new.drivers.0)
+              (λ f left. left-since below g.sound entry file since does (stands exact tells keeps room).1 (safe_sound old.drivers.0 ready.intact.is_safe).size exact f left)
+              (one.1 step tells keeps),
+        )
+
+    -- what stands behind it
+    pub stands-next : (call : Call) (answer : Answer) (old new : Holding D St) (since : Since) → Makes g call answer old new → IsReady g old.drivers → GoesOn answer → StandsSince g since old.drivers
+        → StandsSince g (since_behind g call answer (moment old since) new) new.drivers
+    stands-next call answer old new since makes ready on stands exact_then tells keeps room =
+        let exact : StatesSize g old.drivers = rw (sym makes.leads.fixed) exact_then in
+        let a = g.image old.drivers.0 in
+        let b = g.image new.drivers.0 in
+        let below = map g.layer old.drivers.1 in
+        let entry = g.layer old.drivers.0 in
+        let does = disk_call g old call in
+        let told_before : IsTrue a.shape.tells = rw (sym makes.leads.later.0) tells in
+        let kept_before : IsTrue a.shape.keeps = rw (sym makes.leads.later.0) keeps in
+        let same : b.refusals ≡ a.refusals = (makes.leads.calm on ready).1 in
+        let calm : Rose a.refusals b.refusals → ⊥ = calm-then a.refusals b.refusals same room in
+        let stood = stands exact told_before kept_before (omega (arith, same, room)) in
+        let step : InStep a = λ _ _. stood.0 in
+        let passes = stops-of call answer old new since makes ready exact stands calm in
+        let now : InStep b = passes.0 step in
+        let how = here (IsLeftBy g call (moment old since)) a b makes.leads.later step now told_before kept_before (passes.1 step told_before kept_before) in
+        let shows : IsSince (map g.layer new.drivers.1) (g.layer new.drivers.0) b.bytes (begun since (chain_disk g.layer old.drivers) does) =
+        subst (λ ls. IsSince ls (g.layer new.drivers.0) b.bytes (begun since (chain_disk g.layer old.drivers) does)) (sym (makes.leads.below on ready))
+        (since-on below g.sound entry a.bytes since does stood.1 (safe_sound old.drivers.0 ready.intact.is_safe).size (g.layer new.drivers.0) b.bytes makes.leads.fixed (makes.leads.shows on ready) how) in (
+          now tells keeps,
+          elim (behind-or call answer (moment old since) new) [
+            | inl is ↦ subst (IsSince (map g.layer new.drivers.1) (g.layer new.drivers.0) b.bytes) (sym is) shows
+            | inr is ↦ subst (IsSince (map g.layer new.drivers.1) (g.layer new.drivers.0) b.bytes) (sym is.3)
+                (since-flushed (map g.layer new.drivers.1) (g.layer new.drivers.0) b.bytes (moved-flush call answer old new (makes.moves ready on) is.0 is.1 is.2))
+          ],
+        )
+
+    made-of : (call : Call) (answer : Answer) (old new : Holding D St) (since : Since) → Makes g call answer old new → IsReady g old.drivers → StandsSince g since old.drivers
+        → Made g call answer (moment old since) (moment new (since_behind g call answer (moment old since) new))
+    made-of call answer old new since makes ready stands = record {
+      moves = λ on. makes.moves ready on;
+      stops = λ exact. stops-of call answer old new since makes ready exact stands;
+      files = (makes.leads.under ready.still).0;
+      below = λ on. makes.leads.below on ready;
+      since = refl;
+    }
+
+    -- what a list of calls does, from the drivers before to those behind
+    pub record Ran (list : List Call) (answers : List Answer) (old new : Holding D St) (since : Since) : Type 0 where
+      pub last : Moment D St
+      pub run : Run g list answers (moment old since) last
+      pub ends : AllGoOn answers → (last.now ≡ new) × IsReady g new.drivers × StandsSince g last.since new.drivers
+      pub stops : StatesSize g old.drivers → IsCalm answers → Passes (IsLeftIn g list answers (moment old since)) (g.image old.drivers.0) (g.image new.drivers.0)
+
+    ran-none : (old : Holding D St) (since : Since) → IsReady g old.drivers → StandsSince g since old.drivers → Ran [] [] old old since
+    ran-none old since ready stands = record {
+      last = moment old since;
+      run = refl;
+      ends = λ _. (refl, ready, stands);
+      stops = λ _ _. passes_none (IsLeftIn g [] [] (moment old since)) (g.image old.drivers.0) (g.image old.drivers.0) refl (refl, refl, refl, refl);
+    }
+
+    -- a call that is cut off is the last that anything is said of
+    cut-stops : (call : Call) (answer : Answer) (list : List Call) (answers : List Answer) (old mid new : Holding D St) (since : Since) → (GoesOn answer → ⊥) → IsCalm (answer ∷ answers) → AnswersAll g list answers mid new
+        → Passes (IsLeftBy g call (moment old since)) (g.image old.drivers.0) (g.image mid.drivers.0)
+        → Passes (IsLeftIn g (call ∷ list) (answer ∷ answers) (moment old since)) (g.image old.drivers.0) (g.image new.drivers.0)
+    cut-stops call answer [] [] old mid new since off calm same passes =
+        subst (λ (h : Holding D St). Passes (IsLeftIn g (call ∷ []) (answer ∷ []) (moment old since)) (g.image old.drivers.0) (g.image h.drivers.0)) (sym same)
+        (passes_weaker (IsLeftBy g call (moment old since)) (IsLeftIn g (call ∷ []) (answer ∷ []) (moment old since)) (g.image old.drivers.0) (g.image mid.drivers.0) (first-left call answer [] [] (moment old since)) passes)
+    cut-stops call answer (c ∷ cs) [] old mid new since off calm all passes = absurd all
+    cut-stops call answer list (b ∷ bs) old mid new since off calm all passes = absurd (off calm.0)
+
+    pub ran-all : (list : List Call) (answers : List Answer) (old new : Holding D St) (since : Since) → AnswersAll g list answers old new → IsReady g old.drivers → StandsSince g since old.drivers
+        → Ran list answers old new since
+    ran-all [] [] old new since same ready stands = subst (λ (h : Holding D St). Ran [] [] old h since) (sym same) (ran-none old since ready stands)
+    ran-all [] (answer ∷ answers) old new since all ready stands = absurd all
+    ran-all (call ∷ list) [] old new since all ready stands = absurd all
+    ran-all (call ∷ list) (answer ∷ answers) old new since all ready stands =
+        let mid = all.0 in
+        let out = is_out_of_place (is_some old.kept) call in
+        elim (either-cases out ((answer ≡ told.Refused BadArgument) × (mid ≡ old)) (Makes g call answer old mid) all.1) [
+          | inl is ↦
+              let rest = ran-all list answers mid new since all.2 (subst (λ (h : Holding D St). IsReady g h.drivers) (sym is.1.1) ready) (subst (λ (h : Holding D St). StandsSince g since h.drivers) (sym is.1.1) stands) in
+              let goes : Goes g call answer (moment old since) (moment mid since) = either-true out ((answer ≡ told.Refused BadArgument) × (moment mid since ≡ moment old since)) (Made g call answer (moment old since) (moment mid since)) is.0 (is.1.0, ap (λ h. moment h since) is.1.1) in
+              let on : GoesOn answer = rw (is.1.0) tt in
+              record {
+                last = rest.last;
+                run = (moment mid since, goes, λ _. rest.run);
+                ends = λ every. rest.ends every.1;
+                stops = λ exact calm. subst (λ (h : Holding D St). Passes (IsLeftIn g (call ∷ list) (answer ∷ answers) (moment old since)) (g.image h.drivers.0) (g.image new.drivers.0)) (is.1.1)
+                    (passes_weaker (IsLeftIn g list answers (moment mid since)) (IsLeftIn g (call ∷ list) (answer ∷ answers) (moment old since)) (g.image mid.drivers.0) (g.image new.drivers.0)
+                    (λ f left. later-left call answer list answers (moment old since) (moment mid since) f on goes left)
+                    (rest.stops (subst (λ (h : Holding D St). StatesSize g h.drivers) (sym is.1.1) exact) (calm-tail answer answers calm)));
+              }
+          | inr is ↦
+              let makes = is.1 in
+              let next = since_behind g call answer (moment old since) mid in
+              let goes : Goes g call answer (moment old since) (moment mid next) = either-false out ((answer ≡ told.Refused BadArgument) × (moment mid next ≡ moment old since)) (Made g call answer (moment old since) (moment mid next)) is.0 (made-of call answer old mid since makes ready stands) in
+              elim (goes-on-or answer) [
+                | inl on ↦
+                    let rest = ran-all list answers mid new next all.2 (makes.leads.ready on ready) (stands-next call answer old mid since makes ready on stands) in
+                    record {
+                      last = rest.last;
+                      run = (moment mid next, goes, λ _. rest.run);
+                      ends = λ every. rest.ends every.1;
+                      stops = λ exact calm. passes_both (IsLeftBy g call (moment old since)) (IsLeftIn g list answers (moment mid next)) (IsLeftIn g (call ∷ list) (answer ∷ answers) (moment old since))
+                          (g.image old.drivers.0) (g.image mid.drivers.0) (g.image new.drivers.0) makes.leads.later (going-all list answers mid new all.2).later
+                          (first-left call answer list answers (moment old since)) (λ how f left. later-left call answer list answers (moment old since) (moment mid next) f on goes left)
+                          (stops-of call answer old mid since makes ready exact stands) (rest.stops (rw (makes.leads.fixed) exact) (calm-tail answer answers calm));
+                    }
+                | inr off ↦ record {
+                  last = moment mid next;
+                  run = (moment mid next, goes, λ on. absurd (off on));
+                  ends = λ every. absurd (off every.0);
+                  stops = λ exact calm. cut-stops call answer list answers old mid new since off calm all.2 (stops-of call answer old mid since makes ready exact stands);
+                }
+              ]
+        ]

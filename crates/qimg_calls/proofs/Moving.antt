@@ -1,0 +1,57 @@
+-- What calls do that answer nothing but that they were done.
+use Rattle.std.proofs.Common.{◌≡◌, refl}
+use Rattle.std.specs.Prelude.{Result, Ok, Err, OnOk, IfErr, IsOk, List, ⊤}
+use Rattle.imago_storage.specs.Steps.{done}
+use Rattle.imago_storage.specs.declared.fault.Fault.{Fault}
+use Rattle.imago_storage.specs.declared.fault.Fault.TheVariants.{Memory, Storage}
+use Rattle.imago_access.specs.declared.seen.Seen.{Ghosts}
+use Rattle.imago_access.specs.ChainCalls.{ChainSteps, ChainStays, IfMild}
+use Rattle.imago_access.specs.Layer.{IsFree}
+use Rattle.imago_access.specs.Stops.{IsWritten}
+use Rattle.imago_access.specs.Files.{WasNotCutOff}
+use Rattle.qimg_calls.specs.declared.call.Call.{Call}
+use Rattle.qimg_calls.specs.declared.call.Answer.TheVariants as told
+use Rattle.qimg_calls.specs.Calls.{GoesOn}
+use Rattle.qimg_calls.specs.Held.{Holding, disk_call}
+use Rattle.qimg_calls.specs.Making.{told_of}
+use Rattle.qimg_calls.specs.Moves.{Moves, Does, Keeps, Names, Refuses, Leaves}
+
+-- an answer that goes on is that of a call that was not cut off
+pub not-cut : (result : Result Unit Fault) → GoesOn (told_of result) → WasNotCutOff result
+not-cut (Ok unit) on = tt
+not-cut (Err fault) on = on
+
+pub nothing-named : (result : Result Unit Fault) → OnOk result ⊤
+nothing-named (Ok unit) = tt
+nothing-named (Err fault) = tt
+
+pub told-moves : {D St : Type 0} (g : Ghosts D St) (call : Call) (result : Result Unit Fault) (old new : Holding D St)
+    → Keeps g call (told_of result) old new
+    → OnOk result (ChainSteps g (disk_call g old call) done old.drivers new.drivers) → OnOk result (Names g call told.Done old.drivers new.drivers)
+    → IfErr result (λ fault. Refuses g call fault old new) → IfMild result (Leaves g call old new)
+    → GoesOn (told_of result) → Moves g call (told_of result) old new
+told-moves g call (Ok unit) old new keeps steps names refuses leaves on = ((done, refl, steps, names), keeps)
+told-moves g call (Err fault) old new keeps steps names refuses leaves on = (refuses, leaves on, keeps)
+
+-- what a refusal leaves of a call that isn't refused
+pub ok-stays : {D St : Type 0} (g : Ghosts D St) (old new : D × List D) (result : Result Unit Fault) → IsOk result → IfMild result (ChainStays g old new)
+ok-stays g old new (Ok unit) ok = tt
+ok-stays g old new (Err fault) ok = absurd (cc ok)
+
+pub flush-names : {D St : Type 0} (g : Ghosts D St) (old new : D × List D) (result : Result Unit Fault) → (IsFree (g.layer old.0) → OnOk result (IsWritten g new.0))
+    → OnOk result (IsFree (g.layer old.0) → IsWritten g new.0)
+flush-names g old new (Ok unit) written = written
+flush-names g old new (Err fault) written = tt
+
+-- what two clauses say of a success
+pub both-named : (P Q : Type 0) (result : Result Unit Fault) → OnOk result P → OnOk result Q → OnOk result (P × Q)
+both-named P Q (Ok unit) p q = (p, q)
+both-named P Q (Err fault) p q = tt
+
+pub layer-stays : {D St : Type 0} (g : Ghosts D St) (old new : D × List D) → new.1 ≡ old.1 → g.layer new.0 ≡ g.layer old.0 → ChainStays g old new
+layer-stays g old new below same = rw (below, same) (record { size = refl; value = λ p inside. refl; hold = λ p inside. refl })
+
+-- a refusal that leaves the layer leaves the disk
+pub same-stays : {D St : Type 0} (g : Ghosts D St) (old new : D × List D) (result : Result Unit Fault) → new.1 ≡ old.1 → IfMild result (g.layer new.0 ≡ g.layer old.0) → IfMild result (ChainStays g old new)
+same-stays g old new (Ok unit) below same = tt
+same-stays g old new (Err fault) below same = λ mild. layer-stays g old new below (same mild)

@@ -1,0 +1,65 @@
+-- What becomes of the mapping that is kept, and of the disk, where it is spent.
+use Rattle.std.proofs.Common.{◌≡◌, ◌⊎◌, inl, inr, ℕ, ◌<◌, List, ◌∷◌, arith, refl, sym, subst, ap}
+use Rattle.std.specs.Prelude.{Bool, true, false, not, Option, Some, None, is_some, is_none, IsSome, map}
+use Rattle.imago_storage.specs.Disk.{Value, Disk, Hold, free, held}
+use Rattle.imago_storage.specs.Steps.{Step, Settles, commit, cancel, done}
+use Rattle.imago_storage.specs.declared.fault.Fault.{Fault}
+use Rattle.imago_access.specs.declared.seen.Seen.{Ghosts}
+use Rattle.imago_access.specs.Files.{IsMild}
+use Rattle.imago_access.specs.Spending.{IsMine, IsForeignTo, Spends}
+use Rattle.imago_access.specs.Layer.{Layer, Held, loose, beside, inside, hold_of, IsFree}
+use Rattle.imago_access.specs.Running.{IsIntactChain, chain_disk, below_of}
+use Rattle.imago_access.specs.Stops.{MayTake as MayTakeHeld}
+use Rattle.qimg_calls.specs.Since.{Begun, MayTake}
+use Rattle.qimg_calls.proofs.Leading.{ValuesBetween}
+
+pub some-or-none : {A : Type 0} (x : Option A) → is_some x ≡ not (is_none x)
+some-or-none None = refl
+some-or-none (Some a) = refl
+
+-- what a held place may take, as the disk sees it
+pub held-gives : (h : Held) (v : Value) → MayTakeHeld h v → MayTake (hold_of h) v
+held-gives (inside copied (Some b) announced) v gave = gave
+held-gives (inside copied None true) v gave = gave
+held-gives (inside copied None false) v gave = absurd gave
+held-gives (beside b) v gave = absurd gave
+held-gives loose v gave = absurd gave
+
+settled : (h : Hold) (was is : Value) → Settles h was is → (is ≡ was) ⊎ MayTake h is
+settled free was is same = inl same
+settled (held (Some b) announced) was is byte = inr byte
+settled (held None true) was is (inl same) = inl same
+settled (held None true) was is (inr byte) = inr byte
+settled (held None false) was is same = inl same
+
+-- a commit shows at a held place what was written to it, and else what was there
+pub committed-between : (below : List Layer) (under : ℕ → Value) (state own : Bool) (old new : Disk) → Step under old (commit state own) done new
+    → ValuesBetween (Begun below old (commit state own)) old new
+committed-between below under false own old new step p below_end = let was : p < old.size = omega (arith, below_end, step.size) in inl (was, step.value p was)
+committed-between below under true own old new step p below_end =
+    let was : p < old.size = omega (arith, below_end, step.1.size) in
+    elim (settled (old.hold p) (old.value p) (new.value p) (step.1.value p was)) [ inl same ↦ inl (was, same) | inr taken ↦ inr taken ]
+
+pub cancelled-between : (gives : ℕ → Value → Type 0) (under : ℕ → Value) (state own : Bool) (old new : Disk) → Step under old (cancel state own) done new → ValuesBetween gives old new
+cancelled-between gives under false own old new step p below_end = let was : p < old.size = omega (arith, below_end, step.size) in inl (was, step.value p was)
+cancelled-between gives under true own old new step p below_end = let was : p < old.size = omega (arith, below_end, step.1.values.size) in inl (was, step.1.values.value p was)
+
+-- behind a mapping that is spent nothing is prepared
+pub free-then : {D St : Type 0} (g : Ghosts D St) (state : Option St) (old new : Layer) → (IsSome state → IsFree new) → (state ≡ None → new ≡ old) → (state ≡ None → IsFree old) → IsFree new
+free-then g None old new some none was = rw (none refl) (was refl)
+free-then g (Some s) old new some none was = some refl
+
+-- a commit that has spent its mapping isn't refused mildly, where the image is safe
+pub not-spent : {D St : Type 0} (g : Ghosts D St) (state : Option St) (old new : Layer) (safe : Type 0) (fault : Fault) → IsMine g state old → safe → IsMild fault
+    → IsSome state → Spends g state old new (IsFree new × (safe → IsMild fault → ⊥)) → ⊥
+not-spent g None old new safe fault mine is mild some spends = absurd (cc some)
+not-spent g (Some s) old new safe fault mine is mild some spends = (spends.1 mine.1).1 is mild
+
+pub spent-free : {D St : Type 0} (g : Ghosts D St) (state : Option St) (old new : Layer) (P : Type 0) → IsMine g state old → IsSome state → Spends g state old new (IsFree new × P) → IsFree new
+spent-free g None old new P mine some spends = absurd (cc some)
+spent-free g (Some s) old new P mine some spends = (spends.1 mine.1).0
+
+-- a mapping that is the layer's own isn't another's
+pub not-foreign : {D St : Type 0} (g : Ghosts D St) (state : Option St) (layer : Layer) → IsMine g state layer → IsForeignTo g.tag state layer → ⊥
+not-foreign g None layer mine foreign = foreign
+not-foreign g (Some s) layer mine foreign = foreign mine.0

@@ -1,0 +1,48 @@
+use Rattle.std.specs.Prelude.{None, map, Bool, true, false}
+use Rattle.std.proofs.Common.{ℕ, List, ◌∷◌, arith, refl}
+use Rattle.imago_storage.specs.Disk.{Value, Disk}
+use Rattle.imago_storage.specs.Steps.{ensure, run}
+use Rattle.imago_access.specs.Files.{WasNotCutOff}
+use Rattle.imago_access.specs.Layer.{Layer}
+use Rattle.imago_access.specs.Running.{chain_disk}
+use Rattle.imago_access.specs.Stops.{GivesAnnounced}
+use Rattle.qimg_calls.specs.Calls.{GoesOn}
+use Rattle.qimg_calls.specs.Since.{Begun}
+use Rattle.qimg_calls.specs.Held.{holding}
+use Rattle.qimg_calls.specs.declared.call.Answer.TheVariants as told
+use Rattle.qimg_calls.proofs.Leading.{ran-leads}
+use Rattle.qimg_calls.proofs.making.changing.ensure_data_mapping.Goals as goal
+
+-- what an ensured mapping may give is what the call may show
+announced : (below : List Layer) (disk : Disk) (offset n : ℕ) (overwrite : Bool) (p : ℕ) (v : Value) → GivesAnnounced overwrite offset n p v → Begun below disk (ensure offset n overwrite) p v
+announced below disk offset n true p v gave = gave
+announced below disk offset n false p v gave = gave
+
+pub returns-in-Ok : goal.returns-in-Ok
+returns-in-Ok g c =
+    let d = g.D.Seen in
+    let old = c.args.chain.now in
+    let new = c.ensure_data_mapping.new.self in
+    let r = c.ensure_data_mapping.result in
+    let e = c.in-Ok.ensures in
+    record {
+      moves = λ ready on. ((run c.in-Ok.count, refl, e.ok ready.intact, e.home ready.intact), refl);
+      leads = ran-leads d old new (GoesOn (told.Mapped c.in-Ok.mapping c.in-Ok.count)) _ (ensure c.args.offset c.args.length c.args.overwrite) g.met.D.FormatDriverInstance.safe_runs
+          (GivesAnnounced c.args.overwrite c.args.offset c.args.length) e.ran (λ on ready. tt)
+          (announced (map d.layer old.1) (chain_disk d.layer old) c.args.offset c.args.length c.args.overwrite) (omega arith);
+      kept = λ kept. record { mine = tt; free = λ none. rw (e.like.unspent) (kept.free refl) };
+    }
+
+pub returns-in-Err : goal.returns-in-Err
+returns-in-Err g c =
+    let d = g.D.Seen in
+    let old = c.args.chain.now in
+    let new = c.ensure_data_mapping.new.self in
+    let e = c.in-Err.ensures in
+    record {
+      moves = λ ready on. (e.cause ready.intact, e.err ready.intact on, refl);
+      leads = ran-leads d old new (GoesOn (told.Refused c.in-Err.fault)) _ (ensure c.args.offset c.args.length c.args.overwrite) g.met.D.FormatDriverInstance.safe_runs
+          (GivesAnnounced c.args.overwrite c.args.offset c.args.length) e.ran (λ on ready. on)
+          (announced (map d.layer old.1) (chain_disk d.layer old) c.args.offset c.args.length c.args.overwrite) (omega arith);
+      kept = λ kept. record { mine = tt; free = λ none. rw (e.like.unspent) (kept.free refl) };
+    }

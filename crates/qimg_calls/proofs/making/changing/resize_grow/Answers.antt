@@ -1,0 +1,34 @@
+use Rattle.std.specs.Prelude.{None, map, max}
+use Rattle.std.proofs.Common.{arith, refl}
+use Rattle.imago_storage.specs.Steps.{grow}
+use Rattle.imago_access.specs.Files.{WasNotCutOff}
+use Rattle.imago_access.specs.Resizes.{fill_of}
+use Rattle.imago_access.specs.Running.{chain_disk, below_of}
+use Rattle.imago_access.specs.Stops.{GivesPast}
+use Rattle.qimg_calls.specs.Calls.{GoesOn}
+use Rattle.qimg_calls.specs.Held.{holding}
+use Rattle.qimg_calls.specs.Making.{told_of}
+use Rattle.qimg_calls.specs.declared.call.Call.TheVariants as calls
+use Rattle.qimg_calls.proofs.Leading.{fewer-stops, step-leads}
+use Rattle.qimg_calls.proofs.Moving.{not-cut, nothing-named, told-moves}
+use Rattle.qimg_calls.proofs.Resizing.{grown-between}
+use Rattle.qimg_calls.proofs.making.changing.resize_grow.Goals as goal
+
+pub returns : goal.returns
+returns g c =
+    let d = g.D.Seen in
+    let old = c.args.chain.now in
+    let new = c.resize_grow.new.self in
+    let r = c.resize_grow.result in
+    let e = c.resize_grow.ensures in
+    let call = grow c.args.size (fill_of c.args.mode) in
+    rw (c.told.ensures) (record {
+      moves = λ ready on. told-moves d (calls.ResizeGrow c.args.size c.args.mode) r (holding old None) (holding new None) refl
+          (e.ok ready.intact) (nothing-named r) (e.cause ready.intact) (e.err ready.intact) on;
+      leads = step-leads d old new (GoesOn (told_of r)) (WasNotCutOff r) call g.met.D.FormatDriverInstance.safe_runs e.went e.below
+          (λ on ready. not-cut r on) (λ on ready. e.intact (not-cut r on) ready.intact)
+          (λ on ready. grown-between (below_of d.layer old) (map d.layer old.1) (chain_disk d.layer old) (chain_disk d.layer new) c.args.size (fill_of c.args.mode) r on (e.ok ready.intact) (e.err ready.intact))
+          (λ ready. fewer-stops d (map d.layer old.1) (d.layer old.0).size (max (d.layer old.0).size c.args.size) (max (d.layer old.0).size c.args.size) (GivesPast (d.layer old.0).size) (GivesPast (d.layer old.0).size) old.0 new.0
+          (omega arith) (λ p v gave. gave) (e.stops ready.intact));
+      kept = λ kept. record { mine = tt; free = λ none. e.free };
+    })

@@ -1,0 +1,35 @@
+use Rattle.std.specs.Prelude.{None, map}
+use Rattle.std.proofs.Common.{arith, refl, subst, sym}
+use Rattle.imago_storage.specs.Steps.{shrink}
+use Rattle.imago_access.specs.Files.{WasNotCutOff}
+use Rattle.imago_access.specs.Going.{LookedUnder}
+use Rattle.imago_access.specs.Running.{below_ghosts, below_of, chain_disk}
+use Rattle.imago_access.specs.Stops.{GivesBelowPast}
+use Rattle.imago_access.proofs.Looking.{looked_under_same}
+use Rattle.qimg_calls.specs.Calls.{GoesOn}
+use Rattle.qimg_calls.specs.Held.{holding}
+use Rattle.qimg_calls.specs.Making.{told_of}
+use Rattle.qimg_calls.specs.declared.call.Call.TheVariants as calls
+use Rattle.qimg_calls.proofs.Leading.{fewer-stops, step-leads}
+use Rattle.qimg_calls.proofs.Moving.{not-cut, nothing-named, told-moves}
+use Rattle.qimg_calls.proofs.Resizing.{shrunk-between}
+use Rattle.qimg_calls.proofs.making.changing.resize_shrink.Goals as goal
+
+pub returns : goal.returns
+returns g c =
+    let d = g.D.Seen in
+    let old = c.args.chain.now in
+    let new = c.resize_shrink.new.self in
+    let r = c.resize_shrink.result in
+    let e = c.resize_shrink.ensures in
+    rw (c.told.ensures) (record {
+      moves = λ ready on. told-moves d (calls.ResizeShrink c.args.size) r (holding old None) (holding new None) refl
+          (e.ok ready.intact) (nothing-named r) (e.cause ready.intact) (e.err ready.intact) on;
+      leads = step-leads d old new (GoesOn (told_of r)) (WasNotCutOff r) (shrink c.args.size) g.met.D.FormatDriverInstance.safe_runs e.went
+          (subst (LookedUnder (below_ghosts d) (WasNotCutOff r) old.1) (sym e.below) (looked_under_same (below_ghosts d) (WasNotCutOff r) old.1))
+          (λ on ready. not-cut r on) (λ on ready. e.intact (not-cut r on) ready.intact)
+          (λ on ready. shrunk-between (below_of d.layer old) (map d.layer old.1) (chain_disk d.layer old) (chain_disk d.layer new) c.args.size r on (e.ok ready.intact) (e.err ready.intact))
+          (λ ready. fewer-stops d (map d.layer old.1) c.args.size (d.layer old.0).size (d.layer old.0).size (GivesBelowPast (map d.layer old.1) c.args.size) (GivesBelowPast (map d.layer old.1) c.args.size) old.0 new.0
+          (omega arith) (λ p v gave. gave) (e.stops ready.intact));
+      kept = λ kept. record { mine = tt; free = λ none. e.free };
+    })

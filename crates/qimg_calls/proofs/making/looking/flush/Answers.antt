@@ -1,0 +1,28 @@
+use Rattle.std.proofs.Common.{arith, refl}
+use Rattle.std.specs.Prelude.{IsOk}
+use Rattle.imago_storage.specs.Steps.{flush}
+use Rattle.imago_access.specs.Files.{files}
+use Rattle.imago_access.specs.Stops.{GivesNone}
+use Rattle.qimg_calls.specs.Calls.{GoesOn}
+use Rattle.qimg_calls.specs.Held.{holding}
+use Rattle.qimg_calls.specs.Making.{told_of}
+use Rattle.qimg_calls.specs.declared.call.Call.TheVariants as calls
+use Rattle.qimg_calls.proofs.Leading.{ran-leads, whole-ok, like-kept}
+use Rattle.qimg_calls.proofs.Moving.{not-cut, told-moves, ok-stays, flush-names}
+use Rattle.qimg_calls.proofs.making.looking.flush.Goals as goal
+
+pub returns : goal.returns
+returns g c kept is =
+    let d = g.D.Seen in
+    let m = g.met.D.FormatDriverInstance in
+    let old = c.args.chain.now in
+    let new = c.flush.new.self in
+    let r = c.flush.result in
+    let e = c.flush.ensures in
+    rw (c.told.ensures) (record {
+      moves = λ ready on. told-moves d calls.Flush r (holding old kept) (holding new kept) refl (e.ok ready.intact) (flush-names d old new r (e.written ready.intact)) (e.cause ready.intact.is_safe)
+          (ok-stays d old new r (whole-ok (d.layer old.0) (files d old.0) (files d new.0) r (not-cut r on) ready.usable.0 (e.cause ready.intact.is_safe))) on;
+      leads = ran-leads d old new (GoesOn (told_of r)) (IsOk r) flush m.safe_runs GivesNone e.ran
+          (λ on ready. whole-ok (d.layer old.0) (files d old.0) (files d new.0) r (not-cut r on) ready.usable.0 (e.cause ready.intact.is_safe)) (λ p v none. absurd none) (omega arith);
+      kept = like-kept d old new kept e.like;
+    })

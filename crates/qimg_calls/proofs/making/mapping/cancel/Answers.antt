@@ -1,0 +1,29 @@
+use Rattle.std.specs.Prelude.{None, Some, map}
+use Rattle.std.proofs.Common.{refl, arith}
+use Rattle.imago_storage.specs.Steps.{cancel, done}
+use Rattle.imago_access.specs.Running.{below_of, chain_disk}
+use Rattle.qimg_calls.specs.Since.{Begun}
+use Rattle.qimg_calls.specs.Held.{holding, disk_call}
+use Rattle.qimg_calls.specs.declared.call.Call.TheVariants as calls
+use Rattle.qimg_calls.proofs.Committing.{cancel-leads}
+use Rattle.qimg_calls.proofs.Spending.{cancelled-between, free-then}
+use Rattle.qimg_calls.proofs.making.mapping.cancel.Goals as goal
+
+pub returns : goal.returns
+returns g c =
+    let d = g.D.Seen in
+    let old = c.args.chain.now in
+    let new = c.cancel.new.self in
+    let e = c.in-Ok.ensures in
+    let m = c.args.mapping in
+    let kept = c.requires.kept in
+    let call = disk_call d (holding old (Some m)) calls.Cancel in
+    record {
+      made = record {
+        moves = λ ready on. ((done, refl, e.ok kept.mine, tt), refl);
+        leads = cancel-leads d g.met.D.FormatDriverInstance.safe_runs old new m e.below kept call _ e.cancels (omega arith) (λ ready. e.intact kept.mine ready.intact)
+            (λ ready. cancelled-between (Begun (map d.layer old.1) (chain_disk d.layer old) call) (below_of d.layer old) _ _ (chain_disk d.layer old) (chain_disk d.layer new) (e.ok kept.mine));
+        kept = λ k. record { mine = tt; free = λ none. free-then d m.state (d.layer old.0) (d.layer new.0) (λ some. e.free kept.mine some) (λ none. e.stateless none) kept.free };
+      };
+      unasked = e.cancels.none.0;
+    }

@@ -1,0 +1,29 @@
+use Rattle.std.specs.Prelude.{None, Some}
+use Rattle.std.proofs.Common.{inl, refl}
+use Rattle.imago_storage.specs.Steps.{done}
+use Rattle.qimg_calls.proofs.Committing.{commit-leads, refused-makes}
+use Rattle.qimg_calls.proofs.Spending.{free-then}
+use Rattle.qimg_calls.proofs.making.mapping.commit.Goals as goal
+
+pub returns-in-Ok : goal.returns-in-Ok
+returns-in-Ok g c =
+    let d = g.D.Seen in
+    let old = c.args.chain.now in
+    let new = c.commit_data_mapping.new.self in
+    let e = c.in-Ok.ensures in
+    let m = c.args.mapping in
+    let kept = c.requires.kept in
+    record {
+      moves = λ ready on. ((done, refl, e.ok ready.intact kept.mine, e.home ready.intact kept.mine), refl);
+      leads = commit-leads d g.met.D.FormatDriverInstance.safe_runs old new m e.below kept (λ ready. e.stops ready.intact kept.mine) e.commits (λ ready. e.intact kept.mine ready.intact) (λ ready. e.ok ready.intact kept.mine);
+      kept = λ k. record { mine = tt; free = λ none. free-then d m.state (d.layer old.0) (d.layer new.0) (λ some. e.free kept.mine some) (λ none. e.stateless none) kept.free };
+    }
+
+pub returns-in-Err : goal.returns-in-Err
+returns-in-Err g c =
+    let d = g.D.Seen in
+    let old = c.args.chain.now in
+    let new = c.commit_data_mapping.new.self in
+    let e = c.in-Err.ensures in
+    let kept = c.requires.kept in
+    refused-makes d g.met.D.FormatDriverInstance.safe_runs old new c.args.mapping e.below kept (λ ready. e.stops ready.intact kept.mine) c.in-Err.fault c.in-Err.back e.commits e.refused (λ ready. e.cause ready.intact (inl kept.mine))

@@ -1,0 +1,31 @@
+use Rattle.std.proofs.Common.{◌≡◌, length, arith, refl}
+use Rattle.imago_storage.specs.Steps.{write_mapped}
+use Rattle.imago_access.specs.ChainCalls.{IsMappedFor}
+use Rattle.imago_access.specs.Files.{WasNotCutOff}
+use Rattle.imago_access.specs.Stops.{GivesBytes}
+use Rattle.qimg_calls.specs.Calls.{GoesOn}
+use Rattle.qimg_calls.specs.Held.{holding}
+use Rattle.qimg_calls.specs.Making.{told_of}
+use Rattle.qimg_calls.specs.declared.call.Call.TheVariants as calls
+use Rattle.qimg_calls.proofs.Leading.{ran-leads, like-kept}
+use Rattle.qimg_calls.proofs.Moving.{both-named, not-cut, same-stays, told-moves}
+use Rattle.qimg_calls.proofs.making.mapping.write_mapped.Goals as goal
+
+pub returns : goal.returns
+returns g c kept is =
+    let d = g.D.Seen in
+    let m = g.met.D.FormatDriverInstance in
+    let old = c.args.chain.now in
+    let new = c.write_mapped.new.self in
+    let r = c.write_mapped.result in
+    let e = c.write_mapped.ensures in
+    let call = calls.WriteMapped c.args.guest c.args.place c.args.bytes.now in
+    rw (c.told.ensures) (record {
+      moves = λ ready on. told-moves d call r (holding old kept) (holding new kept) refl
+          (rw (c.deref.ensures.value) at e.ok ready.intact)
+          (both-named (IsMappedFor (d.layer old.0) c.args.guest c.args.place (length c.args.bytes.now.items)) ((d.layer new.0).home ≡ (d.layer old.0).home) r (rw (c.deref.ensures.value) at e.mapped (m.safe_sees old.0 ready.intact.is_safe)) (e.home ready.intact))
+          (rw (c.deref.ensures.value) at e.cause ready.intact) (same-stays d old new r e.below (e.err ready.intact)) on;
+      leads = ran-leads d old new (GoesOn (told_of r)) (WasNotCutOff r) (write_mapped c.args.guest c.args.bytes.now.items) m.safe_runs (GivesBytes c.args.guest c.args.bytes.now.items) (rw (c.deref.ensures.value) at e.ran)
+          (λ on ready. not-cut r on) (λ p v gave. gave) (omega arith);
+      kept = like-kept d old new kept e.like;
+    })

@@ -1,0 +1,51 @@
+-- The calls of a list, as calls of a disk.
+use Rattle.std.specs.Prelude.{◌≡◌, ⊤, Bool, false, true, not, ◌&&◌, Option, Some, None, List}
+use Rattle.imago_storage.specs.declared.fault.Fault.{Fault}
+use Rattle.imago_storage.specs.Steps.{Answer as DiskAnswer, done, bytes_read, run, found, prepared}
+use Rattle.imago_access.specs.Files.{IsMild}
+use Rattle.imago_access.specs.Kinds.{kind_of, deep_kind_of}
+use Rattle.qimg_calls.specs.declared.call.Call.{Call}
+use Rattle.qimg_calls.specs.declared.call.Call.TheVariants as calls
+use Rattle.qimg_calls.specs.declared.call.Answer.{Answer}
+use Rattle.qimg_calls.specs.declared.call.Answer.TheVariants as told
+
+-- it only looks, or writes what is held in memory
+abbrev pub is_look : Call → Bool
+is_look (calls.Read offset n) = true
+is_look (calls.GetMapping offset n) = true
+is_look (calls.GetShallowMapping offset n) = true
+is_look calls.Flush = true
+is_look calls.Sync = true
+is_look call = false
+
+-- the call is for a mapping where none is kept, or changes the disk where one is
+abbrev pub is_out_of_place : Bool → Call → Bool
+is_out_of_place kept calls.CommitDataMapping = not kept
+is_out_of_place kept calls.Cancel = not kept
+is_out_of_place kept (calls.WriteMapped guest place bytes) = not kept
+is_out_of_place kept call = kept && not (is_look call)
+
+-- it changes the disk, and neither prepares a mapping nor needs one
+abbrev pub is_lone_change : Call → Bool
+is_lone_change (calls.PrepareDataMapping offset n overwrite) = false
+is_lone_change call = not (is_look call) && not (is_out_of_place false call)
+
+-- what an answer says of the disk, if it is one to this call and no refusal
+abbrev pub said : Call → Answer → Option DiskAnswer
+said call told.Done = Some done
+said call (told.Bytes bytes) = Some (bytes_read bytes.items)
+said (calls.EnsureDataMapping offset asked overwrite) (told.Mapped mapping n) = Some (run n)
+said (calls.GetMapping offset asked) (told.Mapped mapping n) = Some (found (deep_kind_of mapping) n)
+said (calls.GetShallowMapping offset asked) (told.Shallow mapping n) = Some (found (kind_of mapping) n)
+said (calls.PrepareDataMapping offset asked overwrite) (told.Prepared storage place n state) = Some (prepared n state)
+said call answer = None
+
+-- neither want of memory nor a storage that failed cut it off
+abbrev pub GoesOn : Answer → Type 0
+GoesOn (told.Refused fault) = IsMild fault
+GoesOn answer = ⊤
+
+-- P where it holds, and else Q
+abbrev pub Either : Bool → Type 0 → Type 0 → Type 0
+Either true P Q = P
+Either false P Q = Q

@@ -1,0 +1,32 @@
+-- What a call leaves to the next one, and to a stop.
+use Rattle.std.specs.Prelude.{◌≡◌, ◌⊎◌, ℕ, ◌<◌, List, ◌∷◌, map}
+use Rattle.imago_storage.specs.Calls.{IsFaultless}
+use Rattle.imago_storage.specs.Disk.{Value}
+use Rattle.imago_storage.specs.Steps.{Call}
+use Rattle.imago_access.specs.declared.seen.Seen.{Ghosts}
+use Rattle.imago_access.specs.Layer.{Layer}
+use Rattle.imago_access.specs.Chain.{at, Each}
+use Rattle.imago_access.specs.Files.{Pairs, IsKept as IsKeptFile, IsLater, files_of}
+use Rattle.imago_access.specs.Running.{chain_disk}
+use Rattle.imago_access.specs.Stops.{KeepsStopsTo}
+use Rattle.qimg_calls.specs.Since.{Begun, most_size}
+use Rattle.qimg_calls.specs.Held.{IsReady}
+
+-- each place shows what it did, or what the call gives there
+abbrev pub ShowsBetween : (ℕ → Value → Type 0) → List Layer → Layer → Layer → Type 0
+ShowsBetween gives below old new = (p : ℕ) → p < new.size
+    → ((p < old.size) × (at (new ∷ below) p ≡ at (old ∷ below) p)) ⊎ gives p (at (new ∷ below) p)
+
+-- What a call of a chain leaves, where `whole` says that it was not cut off by want of memory or by a storage that failed.
+pub record Leads {D St : Type 0} (g : Ghosts D St) (whole : Type 0) (call : Call) (old new : D × List D) : Type 0 where
+  pub fixed : (g.layer new.0).fixed ≡ (g.layer old.0).fixed
+  pub later : IsLater (g.image old.0) (g.image new.0)
+  pub calm : whole → IsReady g old → IsFaultless (g.image old.0) (g.image new.0)
+  -- no file below changes
+  pub under : Each g.still old.1 → Pairs IsKeptFile (files_of g old.1) (files_of g new.1) × Each g.still new.1
+  pub below : whole → IsReady g old → map g.layer new.1 ≡ map g.layer old.1
+  pub ready : whole → IsReady g old → IsReady g new
+  pub shows : whole → IsReady g old
+      → ShowsBetween (Begun (map g.layer old.1) (chain_disk g.layer old) call) (map g.layer old.1) (g.layer old.0) (g.layer new.0)
+  pub stops : IsReady g old → KeepsStopsTo g (map g.layer old.1) 0 (most_size (chain_disk g.layer old) call)
+      (Begun (map g.layer old.1) (chain_disk g.layer old) call) old.0 new.0

@@ -1,0 +1,8 @@
+-- The definitions that contracts cite.
+pub mod Since
+pub mod Calls
+pub mod Held
+pub mod Leading
+pub mod Moves
+pub mod Making
+pub mod Runs

@@ -1,0 +1,49 @@
+-- What each call of a list is proved to do by itself, whatever was flushed before.
+use Rattle.std.specs.Prelude.{◌≡◌, List, [], ◌∷◌, is_some, Option, None, MatchOption, Result, Ok, Err}
+use Rattle.imago_storage.specs.declared.fault.Fault.{Fault}
+use Rattle.imago_storage.specs.declared.fault.Fault.TheVariants.{BadArgument}
+use Rattle.imago_access.specs.declared.seen.Seen.{Ghosts}
+use Rattle.imago_access.specs.declared.mapping.PreparedDataMapping.{PreparedDataMapping}
+use Rattle.qimg_calls.specs.declared.call.Call.{Call}
+use Rattle.qimg_calls.specs.declared.call.Call.TheVariants as calls
+use Rattle.qimg_calls.specs.declared.call.Answer.{Answer}
+use Rattle.qimg_calls.specs.declared.call.Answer.TheVariants as told
+use Rattle.qimg_calls.specs.Calls.{Either, GoesOn, is_out_of_place}
+use Rattle.qimg_calls.specs.Held.{Holding, holding, IsKept, IsReady, disk_call}
+use Rattle.qimg_calls.specs.Leading.{Leads}
+use Rattle.qimg_calls.specs.Moves.{Moves}
+
+-- The call moves the disk, leaves what the next one rests on, and what is kept is still the mapping that is prepared.
+pub record Makes {D St : Type 0} (g : Ghosts D St) (call : Call) (answer : Answer) (old new : Holding D St) : Type 0 where
+  pub moves : IsReady g old.drivers → GoesOn answer → Moves g call answer old new
+  pub leads : Leads g (GoesOn answer) (disk_call g old call) old.drivers new.drivers
+  pub kept : IsKept g old → IsKept g new
+
+-- what a call is answered with that answers nothing else
+abbrev pub told_of : Result Unit Fault → Answer
+told_of (Ok unit) = told.Done
+told_of (Err fault) = told.Refused fault
+
+-- a call that may be made whatever is kept
+abbrev pub MakesBeside : {D St : Type 0} → Ghosts D St → Call → Answer → D × List D → D × List D → Type 0
+MakesBeside {D} {St} g call answer old new =
+    (kept : Option (PreparedDataMapping St)) → IsKept g (holding old kept) → Makes g call answer (holding old kept) (holding new kept)
+
+-- a call that is made where nothing is kept
+abbrev pub MakesAlone : {D St : Type 0} → Ghosts D St → Call → Answer → D × List D → D × List D → Type 0
+MakesAlone g call answer old new = Makes g call answer (holding old None) (holding new None)
+
+-- one call of a list: out of place it isn't made, and all is as it was
+abbrev pub Answers : {D St : Type 0} → Ghosts D St → Call → Answer → Holding D St → Holding D St → Type 0
+Answers g call answer old new =
+    Either (is_out_of_place (is_some old.kept) call) ((answer ≡ told.Refused BadArgument) × (new ≡ old)) (Makes g call answer old new)
+
+abbrev pub AnswersAll : {D St : Type 0} → Ghosts D St → List Call → List Answer → Holding D St → Holding D St → Type 0
+AnswersAll g [] [] old new = new ≡ old
+AnswersAll {D} {St} g (call ∷ calls) (answer ∷ answers) old new =
+    (mid : Holding D St) × Answers g call answer old mid × AnswersAll g calls answers mid new
+AnswersAll g _ _ old new = ⊥
+
+-- The mapping that is kept is cancelled, and nothing is asked of the top's file.
+abbrev pub GivesUp : {D St : Type 0} → Ghosts D St → Holding D St → D × List D → Type 0
+GivesUp g h new = MatchOption h.kept (new ≡ h.drivers) (λ m. Makes g calls.Cancel told.Done h (holding new None) × (g.image new.0 ≡ g.image h.drivers.0))

@@ -1,0 +1,94 @@
+-- What a call of a list does to the disk, what it names, why it is refused, and what it makes of the mapping that is kept.
+use Rattle.std.specs.Prelude.{◌≡◌, ⊤, ℕ, Bool, List, Some, None, is_some, length, map}
+use Rattle.imago_storage.specs.Steps.{Answer as DiskAnswer, shrink}
+use Rattle.imago_storage.specs.declared.fault.Fault.{Fault}
+use Rattle.imago_access.specs.declared.seen.Seen.{Ghosts}
+use Rattle.imago_access.specs.declared.mapping.PreparedDataMapping.{PreparedDataMapping}
+use Rattle.imago_access.specs.Layer.{IsFree}
+use Rattle.imago_access.specs.Layers.{chain}
+use Rattle.imago_access.specs.Chain.{at, unit_of_chain}
+use Rattle.imago_access.specs.ChainCalls.{ChainSteps, ChainPartly, ChainStays, ChainCause, OwnCause, ChainMappedCause, CanWriteRun, KeepsHomes, IsMappedFor}
+use Rattle.imago_access.specs.Failing.{RefusesLookup, RefusesFlush}
+use Rattle.imago_access.specs.Files.{files_of}
+use Rattle.imago_access.specs.Mappings.{DeepNames, DeepNamesHome, IsHomeRun, LooksIn, stored_at}
+use Rattle.imago_access.specs.Parts.{GrowthCause, ShrinkCause}
+use Rattle.imago_access.specs.Refusals.{ReadCause, DeepLookCause}
+use Rattle.imago_access.specs.Stops.{IsWritten}
+use Rattle.qimg_calls.specs.declared.call.Call.{Call}
+use Rattle.qimg_calls.specs.declared.call.Call.TheVariants as calls
+use Rattle.qimg_calls.specs.declared.call.Answer.{Answer}
+use Rattle.qimg_calls.specs.declared.call.Answer.TheVariants as told
+use Rattle.qimg_calls.specs.Calls.{said}
+use Rattle.qimg_calls.specs.Held.{Holding, disk_call}
+
+-- Which places an answer names: of storages, what their bytes are and where the run can be written. A flush with nothing prepared is done
+-- where the top's file by itself means the disk.
+abbrev pub Names : {D St : Type 0} → Ghosts D St → Call → Answer → D × List D → D × List D → Type 0
+Names g (calls.GetMapping offset asked) (told.Mapped mapping n) old new =
+    DeepNames (map g.layer (chain old)) (at (map g.layer (chain old))) (stored_at g (chain new)) offset n mapping
+    × DeepNamesHome (g.layer old.0) offset asked mapping
+Names g (calls.GetShallowMapping offset asked) (told.Shallow mapping n) old new = LooksIn g offset asked old.0 new.0 (mapping, n)
+Names g (calls.EnsureDataMapping offset asked overwrite) (told.Mapped mapping n) old new = IsHomeRun (g.layer new.0) offset mapping n
+Names g (calls.WriteMapped guest place bytes) told.Done old new =
+    IsMappedFor (g.layer old.0) guest place (length bytes.items) × ((g.layer new.0).home ≡ (g.layer old.0).home)
+Names g calls.CommitDataMapping told.Done old new = KeepsHomes (g.layer old.0) (g.layer new.0)
+Names g calls.Flush told.Done old new = IsFree (g.layer old.0) → IsWritten g new.0
+Names g call answer old new = ⊤
+
+-- the mapping that an answer tells of
+pub record IsTold {St : Type 0} (m : PreparedDataMapping St) (storage place n : ℕ) (state : Bool) : Type 0 where
+  pub storage_is : m.storage ≡ storage
+  pub place_is : m.offset ≡ place
+  pub length_is : m.length ≡ n
+  pub state_is : is_some m.state ≡ state
+
+-- What becomes of the mapping that is kept: one that is prepared is kept, with its places writable where it says, one that is committed or
+-- cancelled is spent, and else it stays.
+abbrev pub Keeps : {D St : Type 0} → Ghosts D St → Call → Answer → Holding D St → Holding D St → Type 0
+Keeps {D} {St} g (calls.PrepareDataMapping offset asked overwrite) (told.Prepared storage place n state) old new =
+    (m : PreparedDataMapping St) × (new.kept ≡ Some m) × IsTold m storage place n state × CanWriteRun (g.layer new.drivers.0) offset m
+Keeps g calls.CommitDataMapping told.Done old new = new.kept ≡ None
+Keeps g calls.Cancel told.Done old new = new.kept ≡ None
+Keeps g call answer old new = new.kept ≡ old.kept
+
+-- a call that was done is a step of the disk
+abbrev pub Does : {D St : Type 0} → Ghosts D St → Call → Answer → Holding D St → Holding D St → Type 0
+Does g call answer old new = (says : DiskAnswer) × (said call answer ≡ Some says)
+    × ChainSteps g (disk_call g old call) says old.drivers new.drivers × Names g call answer old.drivers new.drivers
+
+-- why it is refused
+abbrev pub Refuses : {D St : Type 0} → Ghosts D St → Call → Fault → Holding D St → Holding D St → Type 0
+Refuses g (calls.Read offset n) fault old new = let layers = map g.layer (chain old.drivers) in
+    ReadCause layers (at layers) (unit_of_chain layers) offset n (files_of g (chain old.drivers)) (files_of g (chain new.drivers)) fault
+Refuses g (calls.GetMapping offset n) fault old new = let layers = map g.layer (chain old.drivers) in
+    DeepLookCause layers (at layers) offset n (files_of g (chain old.drivers)) (files_of g (chain new.drivers)) fault
+Refuses g (calls.GetShallowMapping offset n) fault old new = RefusesLookup g offset n old.drivers.0 new.drivers.0 fault
+Refuses g calls.Flush fault old new = RefusesFlush g old.drivers.0 new.drivers.0 fault
+Refuses g calls.Sync fault old new = RefusesFlush g old.drivers.0 new.drivers.0 fault
+Refuses g calls.CommitDataMapping fault old new =
+    ChainCause g (disk_call g old calls.CommitDataMapping) (λ _. ⊥) old.drivers new.drivers fault
+Refuses g calls.Cancel fault old new = ⊥
+Refuses g (calls.WriteMapped guest place bytes) fault old new = ChainMappedCause g guest place bytes.items old.drivers new.drivers fault
+Refuses g (calls.ResizeGrow size mode) fault old new = let below = map g.layer old.drivers.1 in
+    GrowthCause below (g.layer old.drivers.0) size (g.growth_cause old.drivers.0 below size mode)
+    (files_of g (chain old.drivers)) (files_of g (chain new.drivers)) fault
+Refuses g (calls.ResizeShrink size) fault old new = let below = map g.layer old.drivers.1 in
+    ShrinkCause below (g.layer old.drivers.0) size (g.own_cause old.drivers.0 below (shrink size))
+    (files_of g (chain old.drivers)) (files_of g (chain new.drivers)) fault
+Refuses g call fault old new = OwnCause g (disk_call g old call) old.drivers new.drivers fault
+
+-- What a refusal leaves that isn't for want of memory or a storage's fault: a write, a zeroing or a discard may be done in part, and any
+-- other call leaves the disk as it was.
+abbrev pub Leaves : {D St : Type 0} → Ghosts D St → Call → Holding D St → Holding D St → Type 0
+Leaves g (calls.Write offset bytes) old new = ChainPartly g (disk_call g old (calls.Write offset bytes)) old.drivers new.drivers
+Leaves g (calls.WriteZeroes offset n) old new = ChainPartly g (disk_call g old (calls.WriteZeroes offset n)) old.drivers new.drivers
+Leaves g (calls.DiscardToZero offset n) old new = ChainPartly g (disk_call g old (calls.DiscardToZero offset n)) old.drivers new.drivers
+Leaves g (calls.DiscardToAny offset n) old new = ChainPartly g (disk_call g old (calls.DiscardToAny offset n)) old.drivers new.drivers
+Leaves g (calls.DiscardToBacking offset n) old new =
+    ChainPartly g (disk_call g old (calls.DiscardToBacking offset n)) old.drivers new.drivers
+Leaves g call old new = ChainStays g old.drivers new.drivers
+
+-- What a call does that was not cut off: it is a step of the disk, or is refused for a cause and leaves what is said.
+abbrev pub Moves : {D St : Type 0} → Ghosts D St → Call → Answer → Holding D St → Holding D St → Type 0
+Moves g call (told.Refused fault) old new = Refuses g call fault old new × Leaves g call old new × Keeps g call (told.Refused fault) old new
+Moves g call answer old new = Does g call answer old new × Keeps g call answer old new

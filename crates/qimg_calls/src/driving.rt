@@ -1,0 +1,114 @@
+// A list of calls over a chain.
+ghost use Rattle.std.specs.Prelude.{◌≡◌, ◌≤◌, ℕ, List, [], None, length, IfOk, IfErr, OnOk, IsOkUnless, take, vec_capacity};
+ghost use Rattle.imago_access.specs.Layer.{IsFree};
+ghost use Rattle.imago_access.specs.Chain.{Each};
+ghost use Rattle.imago_access.specs.Files.{Pairs, IsKept as IsKeptFile, files_of};
+ghost use Rattle.qimg_calls.specs.Since.{Since};
+ghost use Rattle.qimg_calls.specs.Held.{holding, IsKept, IsReady};
+ghost use Rattle.qimg_calls.specs.Making.{Answers, AnswersAll, GivesUp};
+ghost use Rattle.qimg_calls.specs.Runs.{Driven, StandsSince};
+ghost use Rattle.qimg_calls.specs.declared.call.Answer.{Answer};
+
+use crate::call::{Answer, Call};
+use crate::making::{Kept, cancel, make};
+use imago_access::{FormatAccess, FormatDriverInstance};
+use imago_storage::Fault;
+use std::alloc::{AllocError, Global};
+
+/// Makes calls of a chain, one behind the other, and answers what each was answered with. Nothing may be prepared in the chain.
+///
+/// A mapping that is prepared is kept until it is committed or cancelled; what is kept at the end is cancelled. A call that is out of place
+/// isn't made, and answered with `Fault::BadArgument`: a commit, a cancel or a `WriteMapped` where no mapping is kept, and while one is, with
+/// something to commit or not, any other call that changes the disk.
+///
+/// It refuses with `Fault::Memory` alone, where room for an answer is refused: before the call is made, and no later call is.
+///
+/// Where the chain is ready (its top is as an image that was found sound has to be, lookups in the layers below are true, none has failed)
+/// the calls read and change one flat disk: each is a step of it, or is refused for a cause that is stated. No file below changes. At each
+/// stop the top's file, where it states the size of its disk, is sound, and shows at each place what it did at the last flush or what a call
+/// begun since gives. The first answer of `Fault::Memory` or `Fault::Storage` ends what is promised, but that no file below changes.
+pub fn drive<D: FormatDriverInstance>(
+    alloc: Global,
+    chain: &mut FormatAccess<D>,
+    calls: &[Call],
+) -> Result<Vec<Answer>, Fault>
+    requires free { IsFree (D.layer chain.old.0) }
+    ensures headline { (since : Since) → IsReady D.Seen chain.old → StandsSince D.Seen since chain.old
+        → IfOk result (λ answers. Driven D.Seen since calls.now answers.items chain.old chain.new) }
+    ensures cut_short { (since : Since) → IsReady D.Seen chain.old → StandsSince D.Seen since chain.old
+        → IfErr result (λ _. (n : ℕ) × (answers : List Answer) × Driven D.Seen since (take n calls.now) answers chain.old chain.new) }
+    ensures each { IfOk result (λ answers. length answers.items ≡ length calls.now) }
+    ensures refused { IsOkUnless result Fault.Memory }
+    ensures free { IsFree (D.layer chain.new.0) }
+    ensures fixed { (D.layer chain.new.0).fixed ≡ (D.layer chain.old.0).fixed }
+    ensures below { Each D.still chain.old.1
+        → Pairs IsKeptFile (files_of D.Seen chain.old.1) (files_of D.Seen chain.new.1) × Each D.still chain.new.1 }
+{
+    let mut answers = match Vec::with_capacity(alloc, calls.len()) {
+        Ok(answers) => answers,
+        Err(_) => return Err(Fault::Memory),
+    };
+    let (outcome, kept) = make_all(alloc, chain, calls, &mut answers);
+    give_up(chain, kept);
+    match outcome {
+        Ok(()) => Ok(answers),
+        Err(fault) => Err(fault),
+    }
+}
+
+/// Gives up the mapping that is kept, if one is.
+fn give_up<D: FormatDriverInstance>(chain: &mut FormatAccess<D>, kept: Kept<D::State>)
+    requires kept { IsKept D.Seen (holding chain.old kept) }
+    ensures { GivesUp D.Seen (holding chain.old kept) chain.new }
+{
+    if let Some(mapping) = kept {
+        cancel(chain, mapping);
+    }
+}
+
+/// Makes one call, or answers that it is out of place.
+fn answer<D: FormatDriverInstance>(
+    alloc: Global,
+    chain: &mut FormatAccess<D>,
+    kept: Kept<D::State>,
+    call: &Call,
+) -> (Result<Answer, AllocError>, Kept<D::State>)
+    requires kept { IsKept D.Seen (holding chain.old kept) }
+    ensures answered { IfOk result.0 (λ answer. Answers D.Seen call.now answer (holding chain.old kept) (holding chain.new result.1)) }
+    ensures none { IfErr result.0 (λ _. holding chain.new result.1 ≡ holding chain.old kept) }
+{
+    if call.is_out_of_place(kept.is_some()) {
+        return (Ok(Answer::Refused(Fault::BadArgument)), kept);
+    }
+    make(alloc, chain, kept, call)
+}
+
+/// Makes calls, and adds the answer to each, up to one that room is refused for. There is room for the answers.
+fn make_all<D: FormatDriverInstance>(
+    alloc: Global,
+    chain: &mut FormatAccess<D>,
+    calls: &[Call],
+    answers: &mut Vec<Answer>,
+) -> (Result<(), Fault>, Kept<D::State>)
+    requires free { IsFree (D.layer chain.old.0) }
+    requires empty { answers.old.items ≡ [] }
+    requires room { length calls.now ≤ vec_capacity answers.old }
+    ensures kept { IsKept D.Seen (holding chain.new result.1) }
+    ensures ok { OnOk result.0 (AnswersAll D.Seen calls.now answers.new.items (holding chain.old None) (holding chain.new result.1)) }
+    ensures err { IfErr result.0 (λ e. (e ≡ Fault.Memory)
+        × AnswersAll D.Seen (take (length answers.new.items) calls.now) answers.new.items (holding chain.old None) (holding chain.new result.1)) }
+{
+    let mut kept = None;
+    for call in calls {
+        let (outcome, now) = answer(alloc, chain, kept, call);
+        kept = now;
+        match outcome {
+            Ok(told) => match answers.push(told) {
+                Ok(()) => (),
+                Err(_) => unreachable!(),
+            },
+            Err(_) => return (Err(Fault::Memory), kept),
+        }
+    }
+    (Ok(()), kept)
+}

@@ -1,0 +1,9 @@
+//! Lists of calls over a chain of image layers: each reads and changes one flat disk.
+#![tactic(auto)]
+
+mod call;
+mod driving;
+mod making;
+
+pub use call::{Answer, Call};
+pub use driving::drive;

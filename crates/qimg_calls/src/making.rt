@@ -1,0 +1,6 @@
+// The calls of a list, each made by one function: a call is proved with all that is stated of a chain.
+mod changing;
+mod looking;
+mod mapping;
+
+pub(crate) use mapping::{Kept, cancel, make};

@@ -1,0 +1,147 @@
+// Calls that change the disk where nothing is kept.
+ghost use Rattle.std.specs.Prelude.{IsTrue};
+ghost use Rattle.imago_access.specs.Layer.{IsFree};
+ghost use Rattle.qimg_calls.specs.Calls.{is_lone_change};
+ghost use Rattle.qimg_calls.specs.declared.call.Call.TheVariants as calls;
+ghost use Rattle.qimg_calls.specs.Making.{MakesAlone};
+
+use super::looking::told;
+use crate::call::{Answer, Call};
+use imago_access::{FormatAccess, FormatDriverInstance, PreallocateMode};
+use std::alloc::Global;
+
+/// Writes bytes.
+pub fn write<D: FormatDriverInstance>(
+    alloc: Global,
+    chain: &mut FormatAccess<D>,
+    offset: u64,
+    bytes: &Vec<u8>,
+) -> Answer
+    requires free { IsFree (D.layer chain.old.0) }
+    ensures { MakesAlone D.Seen (calls.Write offset bytes.now) result chain.old chain.new }
+{
+    told(chain.write(alloc, bytes, offset))
+}
+
+/// Makes a range 0.
+pub fn write_zeroes<D: FormatDriverInstance>(
+    alloc: Global,
+    chain: &mut FormatAccess<D>,
+    offset: u64,
+    length: u64,
+) -> Answer
+    requires free { IsFree (D.layer chain.old.0) }
+    ensures { MakesAlone D.Seen (calls.WriteZeroes offset length) result chain.old chain.new }
+{
+    told(chain.write_zeroes(alloc, offset, length))
+}
+
+/// Makes a range 0, and gives up what is allocated for it.
+pub fn discard_to_zero<D: FormatDriverInstance>(
+    alloc: Global,
+    chain: &mut FormatAccess<D>,
+    offset: u64,
+    length: u64,
+) -> Answer
+    requires free { IsFree (D.layer chain.old.0) }
+    ensures { MakesAlone D.Seen (calls.DiscardToZero offset length) result chain.old chain.new }
+{
+    told(chain.discard_to_zero(alloc, offset, length))
+}
+
+/// Gives a range up, which may show anything then.
+pub fn discard_to_any<D: FormatDriverInstance>(
+    alloc: Global,
+    chain: &mut FormatAccess<D>,
+    offset: u64,
+    length: u64,
+) -> Answer
+    requires free { IsFree (D.layer chain.old.0) }
+    ensures { MakesAlone D.Seen (calls.DiscardToAny offset length) result chain.old chain.new }
+{
+    told(chain.discard_to_any(alloc, offset, length))
+}
+
+/// Gives a range up, which may show the layer below then.
+pub fn discard_to_backing<D: FormatDriverInstance>(
+    alloc: Global,
+    chain: &mut FormatAccess<D>,
+    offset: u64,
+    length: u64,
+) -> Answer
+    requires free { IsFree (D.layer chain.old.0) }
+    ensures { MakesAlone D.Seen (calls.DiscardToBacking offset length) result chain.old chain.new }
+{
+    told(chain.discard_to_backing(alloc, offset, length))
+}
+
+/// Maps a run of a range as part of the disk.
+pub fn ensure_data_mapping<D: FormatDriverInstance>(
+    alloc: Global,
+    chain: &mut FormatAccess<D>,
+    offset: u64,
+    length: u64,
+    overwrite: bool,
+) -> Answer
+    requires free { IsFree (D.layer chain.old.0) }
+    ensures { MakesAlone D.Seen (calls.EnsureDataMapping offset length overwrite) result chain.old chain.new }
+{
+    match chain.ensure_data_mapping(alloc, offset, length, overwrite) {
+        Ok((mapping, count)) => Answer::Mapped(mapping, count),
+        Err(fault) => Answer::Refused(fault),
+    }
+}
+
+/// Makes the disk longer.
+pub fn resize_grow<D: FormatDriverInstance>(
+    alloc: Global,
+    chain: &mut FormatAccess<D>,
+    size: u64,
+    mode: PreallocateMode,
+) -> Answer
+    requires free { IsFree (D.layer chain.old.0) }
+    ensures { MakesAlone D.Seen (calls.ResizeGrow size mode) result chain.old chain.new }
+{
+    told(chain.resize_grow(alloc, size, mode))
+}
+
+/// Makes the disk shorter.
+pub fn resize_shrink<D: FormatDriverInstance>(
+    alloc: Global,
+    chain: &mut FormatAccess<D>,
+    size: u64,
+) -> Answer
+    requires free { IsFree (D.layer chain.old.0) }
+    ensures { MakesAlone D.Seen (calls.ResizeShrink size) result chain.old chain.new }
+{
+    told(chain.resize_shrink(alloc, size))
+}
+
+/// Makes a call that changes the disk, and keeps no mapping.
+pub fn change<D: FormatDriverInstance>(
+    alloc: Global,
+    chain: &mut FormatAccess<D>,
+    call: &Call,
+) -> Answer
+    requires free { IsFree (D.layer chain.old.0) }
+    requires changes { IsTrue (is_lone_change call.now) }
+    ensures { MakesAlone D.Seen call.now result chain.old chain.new }
+{
+    match call {
+        Call::Write { offset, bytes } => write(alloc, chain, *offset, bytes),
+        Call::WriteZeroes { offset, length } => write_zeroes(alloc, chain, *offset, *length),
+        Call::DiscardToZero { offset, length } => discard_to_zero(alloc, chain, *offset, *length),
+        Call::DiscardToAny { offset, length } => discard_to_any(alloc, chain, *offset, *length),
+        Call::DiscardToBacking { offset, length } => {
+            discard_to_backing(alloc, chain, *offset, *length)
+        }
+        Call::EnsureDataMapping {
+            offset,
+            length,
+            overwrite,
+        } => ensure_data_mapping(alloc, chain, *offset, *length, *overwrite),
+        Call::ResizeGrow { size, mode } => resize_grow(alloc, chain, *size, *mode),
+        Call::ResizeShrink { size } => resize_shrink(alloc, chain, *size),
+        _ => unreachable!(),
+    }
+}

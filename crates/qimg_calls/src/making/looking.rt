@@ -1,0 +1,81 @@
+// Calls that only look, and those that write what is held in memory: they may be made whatever is kept.
+ghost use Rattle.std.specs.Prelude.{◌≡◌, IfOk, IfErr};
+ghost use Rattle.qimg_calls.specs.declared.call.Call.TheVariants as calls;
+ghost use Rattle.qimg_calls.specs.declared.call.Answer.TheVariants as told;
+ghost use Rattle.qimg_calls.specs.Making.{MakesBeside, told_of};
+
+use crate::call::Answer;
+use imago_access::{FormatAccess, FormatDriverInstance};
+use imago_storage::Fault;
+use std::alloc::{AllocError, Global};
+
+/// What a call is answered with that answers nothing else.
+pub fn told(outcome: Result<(), Fault>) -> Answer
+    ensures { result ≡ told_of outcome }
+{
+    match outcome {
+        Ok(()) => Answer::Done,
+        Err(fault) => Answer::Refused(fault),
+    }
+}
+
+/// Reads the disk's bytes. It is refused for want of room for them, before the call is made.
+pub fn read<D: FormatDriverInstance>(
+    alloc: Global,
+    chain: &mut FormatAccess<D>,
+    offset: u64,
+    length: usize,
+) -> Result<Answer, AllocError>
+    ensures made { IfOk result (λ answer. MakesBeside D.Seen (calls.Read offset length) answer chain.old chain.new) }
+    ensures none { IfErr result (λ _. chain.new ≡ chain.old) }
+{
+    let mut buf = vec![in alloc; 0u8; length]?;
+    match chain.read(alloc, &mut buf, offset) {
+        Ok(()) => Ok(Answer::Bytes(buf)),
+        Err(fault) => Ok(Answer::Refused(fault)),
+    }
+}
+
+/// Looks up where places of the chain lie.
+pub fn get_mapping<D: FormatDriverInstance>(
+    alloc: Global,
+    chain: &mut FormatAccess<D>,
+    offset: u64,
+    length: u64,
+) -> Answer
+    ensures { MakesBeside D.Seen (calls.GetMapping offset length) result chain.old chain.new }
+{
+    match chain.get_mapping(alloc, offset, length) {
+        Ok((mapping, count)) => Answer::Mapped(mapping, count),
+        Err(fault) => Answer::Refused(fault),
+    }
+}
+
+/// Looks up what the top layer alone says of places.
+pub fn get_shallow_mapping<D: FormatDriverInstance>(
+    alloc: Global,
+    chain: &mut FormatAccess<D>,
+    offset: u64,
+    length: u64,
+) -> Answer
+    ensures { MakesBeside D.Seen (calls.GetShallowMapping offset length) result chain.old chain.new }
+{
+    match chain.get_shallow_mapping(alloc, offset, length) {
+        Ok((mapping, count)) => Answer::Shallow(mapping, count),
+        Err(fault) => Answer::Refused(fault),
+    }
+}
+
+/// Writes what is held in memory.
+pub fn flush<D: FormatDriverInstance>(alloc: Global, chain: &mut FormatAccess<D>) -> Answer
+    ensures { MakesBeside D.Seen calls.Flush result chain.old chain.new }
+{
+    told(chain.flush(alloc))
+}
+
+/// Asks the storages to make lasting what they were given.
+pub fn sync<D: FormatDriverInstance>(chain: &mut FormatAccess<D>) -> Answer
+    ensures { MakesBeside D.Seen calls.Sync result chain.old chain.new }
+{
+    told(chain.sync())
+}
