@@ -7,3 +7,4 @@ mod ScriptReading
 mod ScriptSpelling
 mod SeenThrough
 mod StatelessDrivers
+mod TakingFiles

@@ -1,5 +1,7 @@
 -- The definitions that contracts cite.
+pub mod Chains
 pub mod CheckNumbers
+pub mod Extras
 pub mod ImageDrivers
 pub mod Script
 pub mod ScriptAnswers

@@ -1,0 +1,26 @@
+-- The files that were handed in for those that images name.
+use Rattle.std.specs.Prelude.{◌≡◌, ◌++◌, ◌∷◌, ℕ, List, Result, Ok, Err, All}
+use Rattle.std.specs.String.{string_bytes}
+use Rattle.std.specs.declared.string.String.{String}
+use Rattle.std.specs.declared.alloc.Global.{Global}
+use Rattle.imago_storage.specs.declared.fault.Fault.{Fault}
+use Rattle.imago_storage.specs.declared.fault.Fault.TheVariants.{MissingData}
+
+-- the file has another name
+abbrev pub IsOther : {S : Type 0} → List ℕ → String Global × S → Type 0
+IsOther name file = string_bytes file.0 ≡ name → ⊥
+
+-- The first of these files with a name is taken; the others stay, in their order.
+pub record TakesFirst {S : Type 0} (files : List (String Global × S)) (name : List ℕ) (taken : S) (left : List (String Global × S)) : Type 0 where
+  pub before : List (String Global × S)
+  pub behind : List (String Global × S)
+  pub given : String Global
+  pub where_is : files ≡ before ++ ((given, taken) ∷ behind)
+  pub named : string_bytes given ≡ name
+  pub first : All (IsOther name) before
+  pub rest : left ≡ before ++ behind
+
+-- What is answered for a name, and which files are left then: where none has the name, nothing is taken.
+abbrev pub IsTaken : {S : Type 0} → List (String Global × S) → List ℕ → Result S Fault → List (String Global × S) → Type 0
+IsTaken files name (Ok file) left = TakesFirst files name file left
+IsTaken files name (Err fault) left = (fault ≡ MissingData) × All (IsOther name) files × (left ≡ files)
