@@ -1,4 +1,5 @@
 -- Lemmas.
+mod ArgumentLemmas
 mod CallsThrough
 mod ImageKinds
 mod ScriptNumbers

@@ -1,4 +1,5 @@
 -- The definitions that contracts cite.
+pub mod Arguments
 pub mod Chains
 pub mod CheckNumbers
 pub mod Extras

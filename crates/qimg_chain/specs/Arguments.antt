@@ -1,0 +1,91 @@
+-- What the arguments of the program ask for, and the words that say it. Texts are their bytes.
+use Rattle.std.specs.Prelude.{◌≡◌, ◌≢◌, ⊤, ℕ, List, [], ◌∷◌, ◌++◌, map, drop, flat_map, Bool, if◌then◌else◌, Option, Some, None, String, string_bytes, codes}
+use Rattle.std.specs.Borrow.{Bor}
+use Rattle.std.specs.Global.{Global}
+use Rattle.imago_access.specs.declared.format.Format.{Format}
+use Rattle.imago_access.specs.declared.format.Format.TheVariants.{Raw, Qcow2, Vmdk}
+use Rattle.imago_storage.specs.declared.fault.Fault.{Fault}
+use Rattle.imago_storage.specs.declared.fault.Fault.TheVariants.{BadArgument, Memory}
+use Rattle.qimg_chain.specs.declared.arguments.LayerArgument.{LayerArgument}
+use Rattle.qimg_chain.specs.declared.arguments.Arguments.{Arguments}
+
+-- the words of a list from a place on
+abbrev pub words_from : ℕ → List (Bor (List ℕ)) → List (List ℕ)
+words_from at words = map (λ w. w.now) (drop at words)
+
+-- A layer that is asked for: what its file is read as, the path of its file, and the names and paths of the files that it is given.
+pub record AskedLayer : Type 0 where
+  pub format : Format
+  pub path : List ℕ
+  pub extras : List (List ℕ × List ℕ)
+
+-- What is asked for: whether the top is opened for reading alone, and the layers, the top first.
+pub record Asked : Type 0 where
+  pub read_only : Bool
+  pub layers : List AskedLayer
+
+abbrev pub extra_of : String Global × String Global → List ℕ × List ℕ
+extra_of extra = (string_bytes extra.0, string_bytes extra.1)
+
+abbrev pub layer_of : LayerArgument → AskedLayer
+layer_of layer = record { format = layer.format; path = string_bytes layer.path; extras = map extra_of layer.extras.items }
+
+abbrev pub asked_of : Arguments → Asked
+asked_of arguments = record { read_only = arguments.read_only; layers = map layer_of arguments.layers.items }
+
+-- the words of a file that a layer is given, of a layer, and of all that is asked for
+abbrev pub extra_words : List ℕ × List ℕ → List (List ℕ)
+extra_words extra = codes "file" ∷ extra.0 ∷ extra.1 ∷ []
+
+abbrev pub format_word : Format → List ℕ
+format_word Raw = codes "raw"
+format_word Qcow2 = codes "qcow2"
+format_word Vmdk = codes "vmdk"
+
+abbrev pub layer_words : AskedLayer → List (List ℕ)
+layer_words layer = format_word layer.format ∷ layer.path ∷ flat_map extra_words layer.extras
+
+abbrev pub asked_words : Asked → List (List ℕ)
+asked_words asked = (if asked.read_only then codes "-r" ∷ [] else []) ++ flat_map layer_words asked.layers
+
+-- The words ask for this: for at least one layer.
+abbrev pub AskFor : List (List ℕ) → Asked → Type 0
+AskFor words asked = (words ≡ asked_words asked) × (asked.layers ≢ [])
+
+-- There are no words, or they ask for this.
+abbrev pub Says : List (List ℕ) → Option Arguments → Type 0
+Says words None = words ≡ []
+Says words (Some arguments) = AskFor words (asked_of arguments)
+
+-- Why they aren't read: there are words, and they ask for nothing; or there was want of memory.
+abbrev pub WhyNotRead : List (List ℕ) → Fault → Type 0
+WhyNotRead words BadArgument = (words ≢ []) × ((asked : Asked) → AskFor words asked → ⊥)
+WhyNotRead words Memory = ⊤
+WhyNotRead words fault = ⊥
+
+-- Why they aren't read as layers, of which there may be none.
+abbrev pub SayNoLayers : List (List ℕ) → Fault → Type 0
+SayNoLayers words BadArgument = (layers : List AskedLayer) → words ≡ flat_map layer_words layers → ⊥
+SayNoLayers words Memory = ⊤
+SayNoLayers words fault = ⊥
+
+-- The same of at least one layer.
+abbrev pub AskForNone : List (List ℕ) → Fault → Type 0
+AskForNone words BadArgument = (layers : List AskedLayer) → layers ≢ [] → words ≡ flat_map layer_words layers → ⊥
+AskForNone words Memory = ⊤
+AskForNone words fault = ⊥
+
+-- The words are these files and the rest: where they are files and then layers, the rest is these layers.
+pub record IsExtras (words : List (List ℕ)) (extras : List (List ℕ × List ℕ)) (rest : List (List ℕ)) : Type 0 where
+  pub words_are : words ≡ flat_map extra_words extras ++ rest
+  pub leaves : (others : List (List ℕ × List ℕ)) (layers : List AskedLayer) → words ≡ flat_map extra_words others ++ flat_map layer_words layers → rest ≡ flat_map layer_words layers
+
+-- The words don't begin with a file that a layer is given.
+abbrev pub AreNoFile : List (List ℕ) → Type 0
+AreNoFile words = (name path : List ℕ) (behind : List (List ℕ)) → words ≡ codes "file" ∷ name ∷ path ∷ behind → ⊥
+
+-- The words are a layer and the rest: where they are layers, the rest is the others.
+pub record IsLayer (words : List (List ℕ)) (layer : AskedLayer) (rest : List (List ℕ)) : Type 0 where
+  pub behind : List (List ℕ)
+  pub words_are : words ≡ format_word layer.format ∷ layer.path ∷ behind
+  pub extras_are : IsExtras behind layer.extras rest
