@@ -2,6 +2,7 @@
 mod ArgumentLemmas
 mod CallsThrough
 mod ImageKinds
+mod RunAnswerLemmas
 mod ScriptNumbers
 mod ScriptParting
 mod ScriptReading

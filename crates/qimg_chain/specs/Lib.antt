@@ -4,6 +4,7 @@ pub mod Chains
 pub mod CheckNumbers
 pub mod Extras
 pub mod ImageDrivers
+pub mod RunAnswers
 pub mod Script
 pub mod ScriptAnswers
 pub mod ScriptParts

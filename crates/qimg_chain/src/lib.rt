@@ -4,4 +4,5 @@
 pub mod arguments;
 pub mod chain;
 pub mod laws;
+pub mod run;
 pub mod script;

@@ -1,0 +1,50 @@
+-- Why lines of a script are refused, and what is found in the file that one checks.
+use Rattle.std.proofs.Common.{◌≡◌, refl, arith, subst, ℕ, ◌+◌, ◌<◌, ◌^◌, List}
+use Rattle.std.specs.Prelude.{Err}
+use Rattle.imago_storage.specs.declared.fault.Fault.{Fault}
+use Rattle.imago_storage.specs.declared.fault.Fault.TheVariants.{BadArgument, Memory}
+use Rattle.imago_storage.specs.State.{StorageState}
+use Rattle.imago_access.specs.declared.seen.Seen.{Ghosts}
+use Rattle.qcow2_types.specs.Bytes.{Bytes}
+use Rattle.qcow2_types.specs.Consistency.{Finding, header, snapshots, external, table, shared_table, false_copied, under_counted}
+use Rattle.qimg_core.specs.Check.{Found, IsFinding}
+use Rattle.qimg_core.specs.Files.{file}
+use Rattle.qimg_core.specs.declared.check.CheckFault.{CheckFault}
+use Rattle.qimg_core.specs.declared.check.CheckFault.TheVariants as found
+use Rattle.qimg_chain.specs.RunAnswers.{IsUnsoundBy, Reads, WhyNoBuffer}
+
+-- for want of a buffer nothing is read
+pub no-buffer : {D St : Type 0} (g : Ghosts D St) (offset n : ℕ) (fault : Fault) (c : D × List D) → WhyNoBuffer n fault → Reads g offset n (Err fault) c c
+no-buffer g offset n BadArgument c many = record {
+  few = tt;
+  bytes = λ sees. tt;
+  long = λ more. (refl, refl);
+  refused = λ few. absurd (omega (arith, many, few));
+}
+no-buffer g offset n Memory c few = record {
+  few = tt;
+  bytes = λ sees. tt;
+  long = λ more. absurd (omega (arith, few, more));
+  refused = λ le sees. tt;
+}
+no-buffer g offset n fault c none = absurd none
+
+-- what is found in these bytes is found in those that are the same
+same-finding : (f e : Bytes) (finding : Finding) → f ≡ e → IsFinding f finding → IsFinding e finding
+same-finding f e finding same is = subst (λ bytes. IsFinding bytes finding) same is
+
+-- what is found in a copy that can't fail is found in the file
+pub unsound : (copy after image : StorageState) (finding : CheckFault) → file copy ≡ file image → copy.faults ≡ 0 → after.faults ≡ 0
+    → Found copy after (IsFinding (file copy)) finding → IsUnsoundBy (file image) finding
+unsound copy after image found.Header same none still is = same-finding _ _ header same is.0
+unsound copy after image found.Snapshots same none still is = same-finding _ _ snapshots same is.0
+unsound copy after image found.External same none still is = same-finding _ _ external same is.0
+unsound copy after image found.Table same none still is = same-finding _ _ table same is.0
+unsound copy after image (found.SharedTable c) same none still is = same-finding _ _ (shared_table c) same is.0
+unsound copy after image (found.FalseCopied c) same none still is = same-finding _ _ (false_copied c) same is.0
+unsound copy after image (found.UnderCounted c) same none still is = same-finding _ _ (under_counted c) same is.0
+unsound copy after image found.Memory same none still is = tt
+unsound copy after image found.Storage same none still is =
+    let more : after.faults + 1 < 2 ^ 64 = omega (arith, still) in
+    let rose : copy.faults < after.faults = is.rose more in
+    absurd (omega (arith, none, still, rose))

@@ -1,0 +1,87 @@
+//! A script is run over a chain of layers: line by line, with an answer to each.
+ghost use Rattle.imago_access.specs.Layer.{IsFree};
+
+mod answers;
+mod calls;
+
+use crate::script::{Answer, parse_line, split_line};
+pub use answers::answer_line;
+use imago_access::{FormatAccess, FormatDriverInstance};
+use imago_storage::MemStorage;
+use qimg_core::first::RunFault;
+use std::alloc::Global;
+use std::io::{BufRead, ErrorKind, Take, Write};
+
+/// The most lines of a script.
+const MOST_LINES: u32 = 1_048_576;
+
+/// The most bytes of a script.
+const MOST_BYTES: u64 = 137_438_953_472;
+
+/// Reads the next line with its end. Nothing is read behind the last one.
+fn next_line<R: BufRead>(input: &mut Take<R>, line: &mut Vec<u8>) -> Result<(), RunFault> {
+    line.clear();
+    match input.read_until(b'\n', line) {
+        Ok(_) if input.limit() > 0 => Ok(()),
+        Err(error) if error.kind() == ErrorKind::OutOfMemory => Err(RunFault::Memory),
+        _ => Err(RunFault::Read),
+    }
+}
+
+/// The answer to a line, which comes without its end.
+fn answer_to<D: FormatDriverInstance<Storage = MemStorage>>(
+    alloc: Global,
+    chain: &mut FormatAccess<D>,
+    text: &[u8],
+    saved: &mut Option<Vec<u8>>,
+) -> Answer
+    requires free { IsFree (D.layer chain.old.0) }
+    ensures free { IsFree (D.layer chain.new.0) }
+{
+    match parse_line(alloc, text) {
+        Ok(line) => answer_line(alloc, chain, &line, saved),
+        Err(fault) => Answer::Refused(fault),
+    }
+}
+
+/// Writes the line of an answer.
+fn tell<W: Write>(alloc: Global, writer: &mut W, answer: &Answer) -> Result<(), RunFault> {
+    let line = answer.to_line(alloc)?;
+    match writer.write_all(line.as_bytes()) {
+        Ok(()) => Ok(()),
+        Err(_) => Err(RunFault::Write),
+    }
+}
+
+/// Runs a script over a chain: each of its lines, as the module `script` has them, is answered by one line. It answers the bytes of the
+/// top file at the last `save` that was done, if one was. Nothing may be prepared in the chain.
+///
+/// `RunFault::Read` where the reader fails, and for a script of more than 2^37 bytes; `RunFault::Lines` for one of more than 2^20 lines;
+/// `RunFault::Write` where the writer fails; and `RunFault::Memory` for want of memory. The lines before it are answered.
+pub fn run<R: BufRead + Drop, W: Write, D: FormatDriverInstance<Storage = MemStorage>>(
+    alloc: Global,
+    reader: R,
+    writer: &mut W,
+    chain: &mut FormatAccess<D>,
+) -> Result<Option<Vec<u8>>, RunFault>
+    requires free { IsFree (D.layer chain.old.0) }
+    ensures free { IsFree (D.layer chain.new.0) }
+{
+    let mut input = reader.take(MOST_BYTES + 1);
+    let mut line = Vec::new(alloc);
+    let mut saved = None;
+    for _ in 0..MOST_LINES {
+        next_line(&mut input, &mut line)?;
+        let Some((text, _)) = split_line(&line) else {
+            return Ok(saved);
+        };
+        let answer = answer_to(alloc, chain, text, &mut saved);
+        tell(alloc, writer, &answer)?;
+    }
+    next_line(&mut input, &mut line)?;
+    if line.is_empty() {
+        Ok(saved)
+    } else {
+        Err(RunFault::Lines)
+    }
+}
