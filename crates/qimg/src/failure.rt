@@ -1,0 +1,67 @@
+// Why the program fails, and the status that says so.
+ghost use Rattle.std.specs.Prelude.{◌≡◌, Result, Ok, Err};
+
+use imago_storage::Fault;
+use qimg_core::first::RunFault;
+use std::alloc::{AllocError, AllocFailed};
+use std::{fmt, io};
+
+/// Why the program fails.
+#[derive(Clone, Copy, Debug, Drop)]
+pub enum Failure {
+    /// The chain doesn't open.
+    Opening(Fault),
+    /// The arguments aren't those that it takes.
+    Arguments,
+    /// A file or a stream failed, memory was wanting, or the script is too long.
+    InputOutput,
+}
+
+impl fmt::Display for Failure {
+    fn fmt<W: fmt::Write>(&self, f: &mut fmt::Formatter<W>) -> fmt::Result {
+        match self {
+            Failure::Opening(fault) => write!(f, "{fault}"),
+            Failure::Arguments => write!(f, "bad arguments"),
+            Failure::InputOutput => write!(f, "input or output failed"),
+        }
+    }
+}
+
+impl From<io::Error> for Failure {
+    fn from(_: io::Error) -> Self {
+        Failure::InputOutput
+    }
+}
+
+impl From<AllocError> for Failure {
+    fn from(_: AllocError) -> Self {
+        Failure::InputOutput
+    }
+}
+
+impl<T: Drop> From<AllocFailed<T>> for Failure {
+    fn from(_: AllocFailed<T>) -> Self {
+        Failure::InputOutput
+    }
+}
+
+impl From<RunFault> for Failure {
+    fn from(_: RunFault) -> Self {
+        Failure::InputOutput
+    }
+}
+
+/// The status with which a run of the program ends that ended so.
+pub fn status(outcome: &Result<(), Failure>) -> u8
+    ensures done { outcome.now ≡ Ok tt → result ≡ 0 }
+    ensures opening { (fault : Fault) → outcome.now ≡ Err (Failure.Opening fault) → result ≡ 1 }
+    ensures arguments { outcome.now ≡ Err Failure.Arguments → result ≡ 2 }
+    ensures io { outcome.now ≡ Err Failure.InputOutput → result ≡ 3 }
+{
+    match outcome {
+        Ok(()) => 0,
+        Err(Failure::Opening(_)) => 1,
+        Err(Failure::Arguments) => 2,
+        Err(Failure::InputOutput) => 3,
+    }
+}

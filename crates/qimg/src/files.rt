@@ -1,0 +1,58 @@
+// The files of a chain, which are read whole, and the one that takes the top's place.
+use crate::failure::Failure;
+use imago_storage::MemStorage;
+use qimg_chain::arguments::LayerArgument;
+use qimg_core::plain::ChainFile;
+use std::fs::{self, File, Files, OpenFile};
+use std::io::Write;
+
+/// A file's bytes, as a storage.
+fn read_storage<R: Files + AllocGlobal>(rt: &R, path: &str) -> Result<MemStorage, Failure> {
+    let bytes = fs::read(rt, path)?;
+    match MemStorage::from_bytes(bytes) {
+        Ok(storage) => Ok(storage),
+        Err(_) => Err(Failure::InputOutput),
+    }
+}
+
+/// The files of a layer.
+fn read_layer<R: Files + AllocGlobal>(
+    rt: &R,
+    layer: &LayerArgument,
+) -> Result<ChainFile<MemStorage>, Failure> {
+    let image = read_storage(rt, &layer.path)?;
+    let mut extras = Vec::new(rt.alloc());
+    for (name, path) in &layer.extras {
+        extras.push((name.clone()?, read_storage(rt, path)?))?;
+    }
+    Ok(ChainFile {
+        format: layer.format,
+        image,
+        extras,
+    })
+}
+
+/// The files of a chain, read in the order in which they are named.
+pub fn read_files<R: Files + AllocGlobal>(
+    rt: &R,
+    layers: &[LayerArgument],
+) -> Result<Vec<ChainFile<MemStorage>>, Failure> {
+    let mut files = Vec::new(rt.alloc());
+    for layer in layers {
+        files.push(read_layer(rt, layer)?)?;
+    }
+    Ok(files)
+}
+
+/// Puts bytes in the place of a file: they are written to a new file beside it, of the same permissions, which takes its name then. So the
+/// path names the old bytes or the new ones all the time.
+pub fn replace<R: Files + AllocGlobal>(rt: &R, path: &str, bytes: &[u8]) -> Result<(), Failure> {
+    let beside = format!(in rt.alloc(); "{path}.qimg-new")?;
+    let mut file = File::create_new(rt, beside.as_str())?;
+    let old = File::open(rt, path)?;
+    file.set_permissions(old.metadata()?.permissions())?;
+    file.write_all(bytes)?;
+    file.sync_all()?;
+    fs::rename(rt, beside.as_str(), path)?;
+    Ok(())
+}
