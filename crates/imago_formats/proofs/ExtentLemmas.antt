@@ -1,14 +1,14 @@
 -- The extents of a disk, one by one.
-use Rattle.std.proofs.Common.{zero, [], ◌^◌, ◌≡◌, ℕ, ◌+◌, ◌-◌, ◌*◌, ◌<◌, ◌≤◌, cond, Bool, true, false, List, ◌∷◌, ◌++◌, length, take, drop, get_or, suc, refl, sym, ap, subst, zero-add, add-one, ◌∙◌, arith}
+use Rattle.std.proofs.Common.{zero, [], ◌^◌, ◌≡◌, ℕ, ◌+◌, ◌-◌, ◌*◌, ◌<◌, ◌≤◌, cond, Bool, true, false, List, ◌∷◌, ◌++◌, length, take, drop, get_or, suc, inl, inr, refl, sym, ap, subst, zero-add, add-one, ◌∙◌, arith}
 use Rattle.std.proofs.lemmas.List.Sums.{sum_by_more, sum_by_more_le}
-use Rattle.std.proofs.lemmas.Bool.{lt-ltb, le-ltb}
+use Rattle.std.proofs.lemmas.Bool.{cases_lt, lt-ltb, le-ltb}
 use Rattle.imago_formats.specs.Descriptor.{size_of}
 use Rattle.imago_storage.specs.Through.{round_up}
-use Rattle.imago_formats.specs.VmdkLayer.{file_names, files_asked, name_in, asks_file, end_in_file, in_extents, in_source, has_file, AreInReach, IsExtentAt}
+use Rattle.imago_formats.specs.VmdkLayer.{file_names, files_asked, name_in, asks_file, end_in_file, in_extents, in_source, has_file, AreInReach, IsExtentAt, IsWholeRun}
 use Rattle.imago_formats.specs.declared.vmdk.descriptor.Extent.{Extent}
 use Rattle.std.proofs.Math.Seq.{drop-cons}
 use Rattle.std.proofs.lemmas.List.{map-append}
-use Rattle.std.specs.Prelude.{map, Option}
+use Rattle.std.specs.Prelude.{map, min, Option}
 use Rattle.std.specs.Option.{option_to_list}
 use Rattle.std.specs.String.{string_bytes}
 use Rattle.std.specs.declared.string.String.{String}
@@ -98,11 +98,20 @@ module _ {N : Type 0} where
         low = at.low;
         high = omega (arith, at.low);
         end = omega (arith, at.begins);
+        last = (i + 1, let more = size_more xs i x h is in omega (arith, at.begins, more));
         some = at.some;
         there = λ asks. let one : ◌≡◌ {A = ℕ} (cond (has_file x) 1 0) 1 = ap (λ t. cond t 1 0) asks in omega (arith, at.count, asked_within xs i x h is, one);
         shows = λ files q low. at.shows files q ∙ ap (λ ys. in_extents files ys k q) rest ∙ in_first files x (drop (i + 1) xs) k q low;
         reach = λ unit all. let r : AreInReach unit (x ∷ drop (i + 1) xs) = rw rest at (at.reach unit all) in r.0;
       }
+
+  -- the run of a place's extent
+  pub whole_run : (xs : List (Extent N)) (p asked n start k : ℕ) (x : Extent N) → IsExtentAt xs p x start k → n ≡ min asked (x.sectors * 512 - (p - start)) →
+      IsWholeRun xs p asked n
+  whole_run xs p asked n start k x at is = elim (cases_lt asked (x.sectors * 512 - (p - start))) [
+    | inl less ↦ inl (omega (arith, is, less, at.low, at.end))
+    | inr more ↦ let ends = at.last.1 in inr (at.last.0, omega (arith, is, more, at.low, at.high, ends))
+  ]
 
   pub next_stands : (xs : List (Extent N)) (i start k k' p : ℕ) (x : Extent N) → StandsAt xs i start k p → i < length xs → x ≡ get_or xs i x →
       x.sectors * 512 ≤ p - start → k' ≡ cond (has_file x) (k + 1) k → StandsAt xs (i + 1) (start + x.sectors * 512) k' p

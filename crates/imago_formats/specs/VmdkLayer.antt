@@ -1,5 +1,5 @@
 -- A VMDK image as a layer: its extents, one behind the other, over the files that they name.
-use Rattle.std.specs.Prelude.{⊤, ℕ, ◌+◌, ◌-◌, ◌*◌, ◌<◌, ◌≤◌, ◌^◌, ◌≡◌, min, Bool, true, false, Option, Some, None, List, [], ◌∷◌, ◌++◌, length, if◌then◌else◌, ltb, codes, Result, Ok, Err, IsTrue}
+use Rattle.std.specs.Prelude.{⊤, ◌⊎◌, ℕ, ◌+◌, ◌-◌, ◌*◌, ◌<◌, ◌≤◌, ◌^◌, ◌≡◌, min, Bool, true, false, Option, Some, None, List, [], ◌∷◌, ◌++◌, length, take, if◌then◌else◌, ltb, codes, Result, Ok, Err, IsTrue}
 use Rattle.std.specs.List.{count_by}
 use Rattle.imago_storage.specs.State.{StorageState}
 use Rattle.imago_storage.specs.Through.{round_up}
@@ -116,11 +116,17 @@ abbrev pub vmdk_text : Option (List ℕ) → List ℕ
 vmdk_text None = codes "vmdk[]"
 vmdk_text (Some name) = codes "vmdk[" ++ name ++ codes "]"
 
+-- A run of so many places has all of the range that lies in the disk, or ends where an extent does.
+abbrev pub IsWholeRun : {N : Type 0} → List (Extent N) → (offset asked n : ℕ) → Type 0
+IsWholeRun extents offset asked n =
+    (n ≡ min asked (size_of extents - offset)) ⊎ ((i : ℕ) × (offset + n ≡ size_of (take i extents)))
+
 -- the extent at a place of the disk: where it begins, and the number of its file
 pub record IsExtentAt {N : Type 0} (extents : List (Extent N)) (p : ℕ) (x : Extent N) (start k : ℕ) : Type 0 where
   pub low : start ≤ p
   pub high : p < start + 512 * x.sectors
   pub end : start + 512 * x.sectors ≤ size_of extents
+  pub last : (i : ℕ) × (start + 512 * x.sectors ≡ size_of (take i extents))
   pub some : 0 < k
   pub there : IsTrue (has_file x) → k ≤ files_asked extents
   pub shows : (files : ℕ → ℕ → ℕ) (q : ℕ) → q < 512 * x.sectors

@@ -12,8 +12,11 @@ use imago_storage::Fault;
 pub(crate) struct Disk {
     extents: Vec<Extent<String>>,
     size: u64,
+    // How many files they ask for, as each call of the image compares it.
+    asked: usize,
     ghost exact: { size ≡ size_of extents.items },
     ghost small: { size < 2 ^ 63 },
+    ghost counted: { asked ≡ files_asked extents.items },
 }
 
 /// Where an extent stands.
@@ -34,7 +37,14 @@ impl Disk {
         ensures err { IfErr result (λ e. (e ≡ DamagedDescriptor) × (2 ^ 63 ≤ size_of extents.items)) }
     {
         match total_size(&extents) {
-            Ok(size) => Ok(Disk { extents, size }),
+            Ok(size) => {
+                let asked = files_asked(&extents);
+                Ok(Disk {
+                    extents,
+                    size,
+                    asked,
+                })
+            }
             Err(fault) => Err(fault),
         }
     }
@@ -51,6 +61,13 @@ impl Disk {
         ensures { result.now ≡ self.now.extents.items }
     {
         &self.extents
+    }
+
+    /// How many files they ask for.
+    pub(crate) fn asked(&self) -> usize
+        ensures { result ≡ files_asked self.now.extents.items }
+    {
+        self.asked
     }
 
     /// The extent at a place.
@@ -97,8 +114,8 @@ fn number_after(number: usize, extent: &Extent<String>) -> usize
     if has_file(extent) { number + 1 } else { number }
 }
 
-/// How many files extents ask for.
-pub(crate) fn files_asked(extents: &[Extent<String>]) -> usize
+// How many files extents ask for.
+fn files_asked(extents: &[Extent<String>]) -> usize
     ensures { result ≡ files_asked extents.now }
 {
     let mut count = 0;

@@ -3,10 +3,10 @@ ghost use Rattle.std.specs.Prelude.{slice_index_or, ◌<◌, ℕ, ◌≡◌, ◌
 ghost use Rattle.std.proofs.Common.{inr};
 ghost use Rattle.std.proofs.Math.Nat.{le_refl};
 ghost use Rattle.imago_storage.specs.Calls.{Cause, IsFaultless};
-ghost use Rattle.imago_access.specs.Failing.{RefusesFlush};
+ghost use Rattle.imago_access.specs.Failing.{Fails, RefusesFlush, RefusesLookup};
 ghost use Rattle.imago_access.specs.Files.{AreRead, IsKept, Pairs, WasNotCutOff, byte_in, files, keep_all};
-ghost use Rattle.imago_access.specs.Mappings.{IsOneOf, IsRun, LooksIn};
-ghost use Rattle.imago_access.specs.Going.{AtOnce, IsUnchanged, RangeAtOnce};
+ghost use Rattle.imago_access.specs.Mappings.{IsOneOf, IsRun, LooksIn, NamesRoomIn};
+ghost use Rattle.imago_access.specs.Going.{AtOnce, IsUnchanged, Looked, Marks, RangeAtOnce};
 ghost use Rattle.imago_access.specs.PartCalls.{IsPart, DoesPart, PartCall, PartRefused};
 ghost use Rattle.imago_formats.specs.VmdkFiles.{IsUnread, Keeps, Refuses};
 ghost use Rattle.imago_access.specs.PreparingCalls.{Commits, CommitRefused, Cancels};
@@ -14,7 +14,7 @@ ghost use Rattle.imago_access.specs.Refusals.{barrier};
 ghost use Rattle.imago_formats.specs.Descriptor.{descriptor_of, is_signed, text_of};
 ghost use Rattle.imago_formats.specs.DescriptorView.{RefusesOpening, kept_extents, kept_names};
 ghost use Rattle.imago_formats.specs.RawHome.{never};
-ghost use Rattle.imago_formats.specs.VmdkLayer.{ReadsReach, vmdk_layer, vmdk_text};
+ghost use Rattle.imago_formats.specs.VmdkLayer.{IsWholeRun, ReadsReach, vmdk_layer, vmdk_text};
 ghost use Rattle.imago_formats.specs.VmdkOpening.{NotAllOpened, OpensNext};
 ghost use Rattle.imago_formats.specs.contracts.vmdk.driver.Vmdk.{the_row};
 ghost use Rattle.std.specs.Borrow.{Lends, sem};
@@ -22,7 +22,7 @@ ghost use Rattle.std.specs.Vec.{with_item};
 ghost use Rattle.imago_formats.specs.VmdkLaws.{aligned_files, covered, no_home};
 
 use crate::raw::NoState;
-use crate::vmdk::disk::{Disk, files_asked};
+use crate::vmdk::disk::Disk;
 use crate::vmdk::files::{is_descriptor, read_descriptor};
 use crate::vmdk::looking::mapping_at;
 use crate::vmdk::opening::{check_reach, name_of, open_files};
@@ -114,6 +114,7 @@ impl<S: Storage> Vmdk<S> {
         ensures run { IsRun (⟦<Vmdk<S> as Seen>⟧.layer self.now) offset max_length result.0 result.1 }
         ensures looks { let d = ⟦<Vmdk<S> as Seen>⟧ in d.sees self.now → LooksIn d offset max_length self.now self.now result }
         ensures there { let d = ⟦<Vmdk<S> as Seen>⟧ in barrier (d.layer self.now) ≡ None → IsOneOf (length (files d self.now)) result.0 }
+        ensures whole { IsWholeRun self.now.disk.extents.items offset max_length result.1 }
     {
         match self.disk.find(offset) {
             Some(found) => {
@@ -357,7 +358,7 @@ impl<S: Storage> FormatDriverInstance for Vmdk<S> {
     }
 
     fn ready(&self) -> Result<(), Fault> {
-        if self.files.len() < files_asked(self.disk.extents()) {
+        if self.files.len() < self.disk.asked() {
             return Err(Fault::MissingData);
         }
         Ok(())
@@ -372,7 +373,22 @@ impl<S: Storage> FormatDriverInstance for Vmdk<S> {
         _alloc: Global,
         offset: u64,
         max_length: u64,
-    ) -> Result<(ShallowMapping, u64), Fault> {
+    ) -> Result<(ShallowMapping, u64), Fault>
+        ensures run { let d = ⟦<Vmdk<S> as Seen>⟧ in IfOk result (λ r. IsRun (d.layer self.old) offset max_length r.0 r.1) }
+        ensures looks { let d = ⟦<Vmdk<S> as Seen>⟧ in d.sees self.old → IfOk result (LooksIn d offset max_length self.old self.new) }
+        ensures room { let d = ⟦<Vmdk<S> as Seen>⟧ in d.sees self.old → IfOk result (NamesRoomIn d offset self.old) }
+        ensures there { let d = ⟦<Vmdk<S> as Seen>⟧ in IfOk result (λ r. IsOneOf (length (files d self.old)) r.0) }
+        ensures at_once { let d = ⟦<Vmdk<S> as Seen>⟧ in AtOnce d (barrier (d.layer self.old)) (max_length ≡ 0) result self.old self.new }
+        ensures looked { Looked ⟦<Vmdk<S> as Seen>⟧ (WasNotCutOff result) self.old self.new }
+        ensures began { let d = ⟦<Vmdk<S> as Seen>⟧ in
+            OnOk result ((e : _) (call : _) → d.began e call self.old → d.began e call self.new) }
+        ensures failed { IfErr result (Fails ⟦<Vmdk<S> as Seen>⟧ self.old self.new) }
+        ensures marks { IfErr result (Marks ⟦<Vmdk<S> as Seen>⟧ self.old self.new) }
+        ensures cause { let d = ⟦<Vmdk<S> as Seen>⟧ in
+            d.sees self.old → IfErr result (RefusesLookup d offset max_length self.old self.new) }
+        // A run ends with the range or the disk, or with its extent.
+        ensures whole { IfOk result (λ r. IsWholeRun self.old.disk.extents.items offset max_length r.1) }
+    {
         match self.ready() {
             Ok(()) => Ok(self.run_from(offset, max_length)),
             Err(fault) => Err(fault),
