@@ -2,7 +2,6 @@
 ghost use Rattle.std.specs.Prelude.{refl, map, ◌≡◌, [], true, false, Ok, Err, None, IsTrue, IfOk, IfErr};
 ghost use Rattle.std.proofs.Common.{sym};
 ghost use Rattle.imago_storage.specs.declared.fault.Fault.TheVariants.{Unsupported};
-ghost use Rattle.imago_access.specs.Files.{IsKept};
 ghost use Rattle.imago_access.specs.Refusals.{barrier};
 ghost use Rattle.imago_formats.specs.Descriptor.{descriptor_of};
 ghost use Rattle.imago_formats.specs.DescriptorView.{kept_extents, kept_names};
@@ -131,20 +130,21 @@ impl<S: Storage> FormatDriverBuilder<S> for VmdkOpenBuilder<S> {
 
     ghost with_writable = { λ b writable. record b { base = record b.base { writable = writable } } };
 
-    ghost opens = { λ b d. (b.base.writable ≡ false) × IsKept (S.state b.base.image) (S.state d.image)
+    ghost opens = { λ b d. (b.base.writable ≡ false) × (S.state d.image ≡ S.state b.base.image)
         × (descriptor_of (S.state b.base.image).bytes ≡ Ok (kept_extents d.disk.extents.items))
         × (barrier (⟦<Vmdk<S> as Seen>⟧.layer d) ≡ None) × ⟦<Vmdk<S> as Seen>⟧.sees d };
 
     ghost refuses = { λ b fault. MayRefuse b.base.writable (descriptor_of (S.state b.base.image).bytes) fault };
 
     ghost opened = { λ b d opens.
-        let said = said_still (S.state b.base.image) (S.state d.image) d.disk.extents.items opens.1 opens.2 in record {
+        let kept = kept_same (S.state b.base.image) (S.state d.image) opens.1 in
+        let said = said_still (S.state b.base.image) (S.state d.image) d.disk.extents.items kept opens.2 in record {
           format_is = refl;
           writable_is = sym opens.0;
           number_is = refl;
           size_is = as_stated d.disk.extents.items (S.state d.image) (map S.state d.files.items) said;
           meant = written d.disk.extents.items (S.state d.image) (map S.state d.files.items) said;
-          kept = opens.1;
+          kept = kept;
           free = refl;
           usable = opens.3;
           sees = opens.4;

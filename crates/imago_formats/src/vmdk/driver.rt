@@ -2,9 +2,9 @@
 ghost use Rattle.std.specs.Prelude.{slice_index_or, ◌<◌, ℕ, ◌≡◌, ◌⊎◌, ◌∷◌, ◌-◌, ◌+◌, ◌*◌, ◌<◌, [], ⊤, min, map, refl, length, OnOk, IfOk, IfErr, IsOk, IsTrue, Ok, Err, Some, None};
 ghost use Rattle.std.proofs.Common.{inr};
 ghost use Rattle.std.proofs.Math.Nat.{le_refl};
-ghost use Rattle.imago_storage.specs.Calls.{Cause, IsFaultless};
+ghost use Rattle.imago_storage.specs.Calls.{CountsFaults, IsFaultless, Kept};
 ghost use Rattle.imago_access.specs.Failing.{Fails, RefusesFlush, RefusesLookup};
-ghost use Rattle.imago_access.specs.Files.{AreRead, IsKept, Pairs, WasNotCutOff, byte_in, files, keep_all};
+ghost use Rattle.imago_access.specs.Files.{AreRead, Pairs, WasNotCutOff, byte_in, files, keep_all};
 ghost use Rattle.imago_access.specs.Mappings.{IsOneOf, IsRun, LooksIn, NamesRoomIn};
 ghost use Rattle.imago_access.specs.Going.{AtOnce, IsUnchanged, Looked, Marks, RangeAtOnce};
 ghost use Rattle.imago_access.specs.PartCalls.{IsPart, DoesPart, PartCall, PartRefused};
@@ -54,7 +54,7 @@ impl<S: Storage> Vmdk<S> {
     /// It refuses with `Fault::DamagedDescriptor`, `Fault::Unsupported`, `Fault::Memory` and `Fault::Storage`.
     pub fn open_image(alloc: Global, image: S) -> Result<Self, Fault>
         ensures said { IfOk result (λ d. descriptor_of (S.state image).bytes ≡ Ok (kept_extents d.disk.extents.items)) }
-        ensures image { IfOk result (λ d. IsKept (S.state image) (S.state d.image)) }
+        ensures image { IfOk result (λ d. S.state d.image ≡ S.state image) }
         ensures files { IfOk result (λ d. d.files.items ≡ []) }
         ensures err { IfErr result (RefusesOpening (descriptor_of (S.state image).bytes)) }
     {
@@ -72,8 +72,8 @@ impl<S: Storage> Vmdk<S> {
     /// Whether a storage is a VMDK descriptor, by its first line.
     pub fn probe(alloc: Global, image: &mut S) -> Result<bool, Fault>
         ensures ok { IfOk result (λ yes. yes ≡ is_signed (text_of (S.state image.old).bytes)) }
-        ensures err { IfErr result (Cause (S.state image.old).faults (S.state image.new).faults) }
-        ensures kept { IsKept (S.state image.old) (S.state image.new) }
+        ensures kept { Kept (S.state image.old) (S.state image.new) }
+        ensures faults { CountsFaults (S.state image.old).faults (S.state image.new).faults result }
     {
         is_descriptor(alloc, image)
     }

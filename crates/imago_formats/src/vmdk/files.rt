@@ -1,6 +1,6 @@
 // The descriptor of a file.
 ghost use Rattle.std.specs.Prelude.{◌≡◌, ◌≤◌, ◌^◌, length, IfOk, IfErr, OnOk, Ok};
-ghost use Rattle.imago_storage.specs.Calls.{Cause, CountsFaults, Kept, Reads};
+ghost use Rattle.imago_storage.specs.Calls.{CountsFaults, Kept, Reads};
 ghost use Rattle.imago_formats.specs.Descriptor.{descriptor_of, is_signed, text_of};
 ghost use Rattle.imago_formats.specs.DescriptorView.{NotRead, kept_extents};
 
@@ -26,9 +26,8 @@ pub(crate) fn read_descriptor<S: Storage>(alloc: Global, image: &mut S) -> Resul
 /// Whether the first line of a file is that of a descriptor. Nothing is written.
 pub(crate) fn is_descriptor<S: Storage>(alloc: Global, image: &mut S) -> Result<bool, Fault>
     ensures ok { IfOk result (λ yes. yes ≡ is_signed (text_of (S.state image.old).bytes)) }
-    ensures err { IfErr result (Cause (S.state image.old).faults (S.state image.new).faults) }
-    ensures faults { OnOk result ((S.state image.new).faults ≡ (S.state image.old).faults) }
     ensures kept { Kept (S.state image.old) (S.state image.new) }
+    ensures faults { CountsFaults (S.state image.old).faults (S.state image.new).faults result }
 {
     // The line takes 21 bytes, and its end two at most.
     let mut start = [0u8; 23];

@@ -3,6 +3,7 @@ use Rattle.std.specs.Prelude.{map}
 use Rattle.imago_access.specs.Files.{IsKept}
 use Rattle.imago_access.proofs.FilePairs.{kept_all_same}
 use Rattle.imago_formats.specs.DescriptorView.{kept_names}
+use Rattle.imago_formats.specs.RawOpening.{kept_same}
 use Rattle.imago_formats.specs.VmdkOpening.{FilesRefused}
 use Rattle.imago_formats.proofs.OpeningLemmas.{not_all_weaker, refused_files}
 use Rattle.imago_formats.proofs.StorageLemmas.{unit_first}
@@ -20,7 +21,7 @@ refused g c =
     let now = c.open_implicit_dependencies_gated.new.self in
     let xs = d.disk.extents.items in
     let same : c.in_ok-image.image ≡ c.args.self.base.image = cc c.in_ok-image.ensures.image in
-    let kept : IsKept (state c.args.self.base.image) (state d.image) = rw same at c.in-Ok.ensures.image in
+    let kept : IsKept (state c.args.self.base.image) (state d.image) = kept_same (state c.args.self.base.image) (state d.image) (rw same at c.in-Ok.ensures.image) in
     let sees = (kept_image state xs c.args.self.base.image d.image now.files.items now.files.items (kept, kept_all_same (map state now.files.items))).sees in
     let why = rw (
       c.in-Ok.ensures.files,
