@@ -1,19 +1,15 @@
 // The disks of a case, its prepared mappings, and the calls of its lines.
 use crate::building::{Creation, Told, create, create_builder, creating, gate, open, opening};
-use crate::calls::{
-    Change, aligns, cancel, change_range, commit, done, ensure, flush, grow, invalidate, is_free,
-    map, map_shallow, prepare, read, ready, resize, shrink, sizes, sync, write, write_mapped,
-};
 use crate::clusters::PreparedCluster;
 use crate::drivers::Driver;
-use crate::driving::{drive, nothing_below};
-use crate::layers::{Disk, add, driver_of, kept_by, lookups, probe, top, write_storage};
+use crate::layers::{Disk, add, driver_of, kept_by, lookups, probe, write_storage};
 use crate::storages::{Base, Notebook, storage_of};
 use crate::texts;
-use cases::{Layer, Notes, Trouble, bytes, number, ok, size, told};
-use imago_access::{
-    FormatAccess, FormatDriverInstance, PreallocateMode, PreparedDataMapping, check_range,
+use access_calls::{
+    called, cancel, commit, done, mode_of, nothing_below, prepare, prepared, run_of, top,
 };
+use cases::{Layer, Notes, Trouble, bytes, number, ok, size, told};
+use imago_access::{FormatAccess, PreparedDataMapping, check_range};
 use imago_formats::Raw;
 use std::alloc::Global;
 use std::mem;
@@ -36,148 +32,6 @@ fn let_go(mapping: Option<Prepared>) {
     }
 }
 
-fn mode_of(word: &str) -> Result<PreallocateMode, Trouble> {
-    match word {
-        "none" => Ok(PreallocateMode::None),
-        "zero" => Ok(PreallocateMode::Zero),
-        "format" => Ok(PreallocateMode::FormatAllocate),
-        "full" => Ok(PreallocateMode::FullAllocate),
-        "data" => Ok(PreallocateMode::WriteData),
-        _ => Err(Trouble::NoCall),
-    }
-}
-
-fn change_of(word: &str) -> Result<Change, Trouble> {
-    match word {
-        "zeroes" => Ok(Change::Zeroes),
-        "to_zero" => Ok(Change::ToZero),
-        "to_any" => Ok(Change::ToAny),
-        "to_backing" => Ok(Change::ToBacking),
-        _ => Err(Trouble::NoCall),
-    }
-}
-
-fn written<D: FormatDriverInstance>(
-    alloc: Global,
-    disk: &mut FormatAccess<D>,
-    offset: u64,
-    words: &[&str],
-) -> Result<(), Trouble> {
-    let given = bytes(alloc, words)?;
-    write(alloc, disk, &given, offset)
-}
-
-fn written_mapped<D: FormatDriverInstance>(
-    alloc: Global,
-    disk: &mut FormatAccess<D>,
-    guest: u64,
-    words: &[&str],
-) -> Result<(), Trouble> {
-    let [place, rest @ ..] = words else {
-        return Err(Trouble::NoCall);
-    };
-    let place = number(place)?;
-    let given = bytes(alloc, rest)?;
-    write_mapped(alloc, disk, guest, place, &given)
-}
-
-// A call that keeps a disk and its files in step.
-fn kept<D: FormatDriverInstance>(
-    alloc: Global,
-    disk: &mut FormatAccess<D>,
-    word: &str,
-) -> Result<(), Trouble> {
-    match word {
-        "flush" => flush(alloc, disk),
-        "sync" => sync(disk),
-        "invalidate" => invalidate(alloc, disk),
-        _ => Err(Trouble::NoCall),
-    }
-}
-
-// The one word that there is.
-fn only<'x>(words: &[&'x str]) -> Result<&'x str, Trouble> {
-    match words {
-        [word] => Ok(*word),
-        _ => Err(Trouble::NoCall),
-    }
-}
-
-// A length, and whether all of the run is going to be written.
-fn run_of(words: &[&str]) -> Result<(u64, bool), Trouble> {
-    match words {
-        [n] => Ok((number(n)?, false)),
-        [n, "overwrite"] => Ok((number(n)?, true)),
-        _ => Err(Trouble::NoCall),
-    }
-}
-
-// A growth or a resize, or a change of a range.
-fn changed<D: FormatDriverInstance>(
-    alloc: Global,
-    disk: &mut FormatAccess<D>,
-    word: &str,
-    first: u64,
-    last: &str,
-) -> Result<(), Trouble> {
-    match word {
-        "grow" => grow(alloc, disk, first, mode_of(last)?),
-        "resize" => resize(alloc, disk, first, mode_of(last)?),
-        _ => change_range(alloc, disk, change_of(word)?, first, number(last)?),
-    }
-}
-
-// A call of a disk that begins with a number and answers nothing.
-fn done_at<D: FormatDriverInstance>(
-    alloc: Global,
-    disk: &mut FormatAccess<D>,
-    word: &str,
-    first: u64,
-    words: &[&str],
-) -> Result<(), Trouble> {
-    match word {
-        "write" => written(alloc, disk, first, words),
-        "write_mapped" => written_mapped(alloc, disk, first, words),
-        "shrink" if words.is_empty() => shrink(alloc, disk, first),
-        _ => changed(alloc, disk, word, first, only(words)?),
-    }
-}
-
-// What a disk says of itself, or a call that keeps it and its files in step.
-fn said<D: FormatDriverInstance>(
-    alloc: Global,
-    disk: &mut FormatAccess<D>,
-    word: &str,
-) -> Result<String, Trouble> {
-    match word {
-        "sizes" => sizes(alloc, disk),
-        "aligns" => aligns(alloc, disk),
-        "ready" => ready(alloc, disk),
-        "prepared" => Ok((!is_free(disk)).to_string(alloc)?),
-        _ => done(alloc, kept(alloc, disk, word)),
-    }
-}
-
-// A call of a disk that begins with a number.
-fn called_at<D: FormatDriverInstance>(
-    alloc: Global,
-    disk: &mut FormatAccess<D>,
-    word: &str,
-    first: u64,
-    words: &[&str],
-) -> Result<String, Trouble> {
-    match word {
-        "read" => read(alloc, disk, first, number(only(words)?)?),
-        "map" => map(alloc, disk, first, number(only(words)?)?),
-        "shallow" => map_shallow(alloc, disk, first, number(only(words)?)?),
-        "ensure" => {
-            let (n, overwrite) = run_of(words)?;
-            ensure(alloc, disk, first, n, overwrite)
-        }
-        _ => done(alloc, done_at(alloc, disk, word, first, words)),
-    }
-}
-
 fn written_to_storage<'a>(
     alloc: Global,
     disk: &mut Disk<'a>,
@@ -188,26 +42,17 @@ fn written_to_storage<'a>(
     write_storage(alloc, top(disk)?, &given, offset)
 }
 
-// A call of a disk with one word.
-fn called_by_word<'a>(alloc: Global, disk: &mut Disk<'a>, word: &str) -> Result<String, Trouble> {
-    match word {
-        "named" => Ok(format!(in alloc; "{disk}")?),
-        "lookups" => lookups(alloc, disk),
-        "count" | "storage" | "faults" => kept_by(alloc, top(disk)?, word),
-        _ => said(alloc, disk, word),
-    }
-}
-
 // A call of a disk.
-fn called<'a>(alloc: Global, disk: &mut Disk<'a>, words: &[&str]) -> Result<String, Trouble> {
+fn call<'a>(alloc: Global, disk: &mut Disk<'a>, words: &[&str]) -> Result<String, Trouble> {
     match words {
-        [word] => called_by_word(alloc, disk, word),
-        ["driver", rest @ ..] => drive(alloc, top(disk)?, rest),
+        ["lookups"] => lookups(alloc, disk),
+        [word] if matches!(*word, "count" | "storage" | "faults") => {
+            kept_by(alloc, top(disk)?, word)
+        }
         ["write_storage", first, rest @ ..] => {
             done(alloc, written_to_storage(alloc, disk, number(first)?, rest))
         }
-        [word, first, rest @ ..] => called_at(alloc, disk, word, number(first)?, rest),
-        _ => Err(Trouble::NoCall),
+        _ => called(alloc, disk, words),
     }
 }
 
@@ -360,7 +205,7 @@ impl<'a> Disks<'a> {
     fn told_mapping(&self, alloc: Global) -> Result<String, Trouble> {
         match &self.mapping {
             None => Ok("none".to_string(alloc)?),
-            Some(mapping) => Ok(texts::prepared(alloc, mapping)?),
+            Some(mapping) => Ok(prepared(alloc, mapping)?),
         }
     }
 
@@ -421,7 +266,7 @@ impl<'a> Disks<'a> {
     fn call(&mut self, alloc: Global, words: &[&str]) -> Result<String, Trouble> {
         match &mut self.disk {
             None => alone(alloc, words),
-            Some(disk) => called(alloc, disk, words),
+            Some(disk) => call(alloc, disk, words),
         }
     }
 

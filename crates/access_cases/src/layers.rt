@@ -1,10 +1,10 @@
 // The layers of a disk, by words.
-use crate::calls::{buffer, is_free};
 use crate::clusters::{Content, OneCluster};
 use crate::drivers::Driver;
 use crate::storages::{Base, Notebook, storage_of};
+use access_calls::{buffer, stacked};
 use cases::{Trouble, joined, number, runs};
-use imago_access::{FormatAccess, FormatDriverInstance};
+use imago_access::FormatAccess;
 use imago_formats::Raw;
 use imago_storage::{FuseStorage, Storage, StorageExt};
 use std::alloc::{AllocError, Global};
@@ -122,10 +122,7 @@ fn over<S: Storage + Drop>(
     if !driver.shows_below() {
         return Err(Trouble::NoCall);
     }
-    match FormatAccess::with_below(alloc, driver, below) {
-        Ok(disk) => Ok(disk),
-        Err((fault, _back)) => Err(Trouble::Refused(fault)),
-    }
+    stacked(alloc, driver, below)
 }
 
 /// A layer over a disk, if there is one.
@@ -170,14 +167,6 @@ pub fn lookups<S: Storage>(
     }
     joined(&mut text, "more")?;
     Ok(text)
-}
-
-/// The driver of the top layer, where nothing is prepared.
-pub fn top<D: FormatDriverInstance>(disk: &mut FormatAccess<D>) -> Result<&mut D, Trouble> {
-    if !is_free(disk) {
-        return Err(Trouble::NoCall);
-    }
-    Ok(disk.inner_mut())
 }
 
 /// What the top layer's driver tells of its storage, or of its file.

@@ -16,27 +16,19 @@
 //!
 //! # Calls
 //!
-//! - `read`, `map`, `shallow`, `zeroes`, `to_zero`, `to_any`, `to_backing OFFSET N`; `write OFFSET BYTES`; `ensure OFFSET N [overwrite]`.
-//! - `prepare OFFSET N [overwrite]`, `write_mapped GUEST PLACE BYTES`, `commit`, `cancel`; `mapping` tells the one that is kept;
-//!   `mapping STORAGE OFFSET N [IMAGE CLAIM]` makes one; `other_mapping` exchanges it for the other one.
-//! - `grow` and `resize SIZE MODE`, `shrink SIZE`, with `none`, `zero`, `format`, `full` or `data` as a mode; `flush`, `sync`, `invalidate`.
-//! - `sizes` of the layers, the highest first, and `ready`, whether each can be used; `aligns` of requests and of memory; `named`,
-//!   `prepared`.
+//! - Those of a disk and of the driver of its top layer that `access_calls::called` has.
+//! - `prepare OFFSET N [overwrite]`, `commit`, `cancel`; `mapping` tells the one that is kept; `mapping STORAGE OFFSET N [IMAGE CLAIM]` makes
+//!   one; `other_mapping` exchanges it for the other one.
 //! - Of the top layer's storage: `storage` (its bytes), `write_storage OFFSET BYTES`, `count` (by its fuse), `asked` (what all storages were
 //!   asked for), `resized` (the mode of the last resize). Of images of words: `lookups` of each, `faults`.
-//! - `driver CALL` of the top layer's driver: `is`, `granularity`, `ready`; `file` and `extra INDEX`, how long its files are; `map`,
-//!   `read_special`, `zero`, `to_zero`, `to_any` and `to_backing OFFSET N`, which tell the part that is done; `read STORAGE PLACE N`; `write
-//!   GUEST PLACE BYTES`.
 //! - With no disk: `opening [WRITING DIRECT FILE]`, `creating` and `create_builder SIZE MODE`, `gate NAME`, `nothing_below OFFSET N`,
 //!   `check_range ACCESS UNIT SIZE OFFSET N`; at any time `probe STORAGE`.
 #![tactic(auto)]
 
 mod building;
-mod calls;
 mod clusters;
 mod disks;
 mod drivers;
-mod driving;
 mod layers;
 mod storages;
 mod texts;

@@ -1,77 +1,5 @@
 // The texts of what calls answer.
-use crate::clusters::PreparedCluster;
-use imago_access::{Format, Mapping, PreparedDataMapping, ShallowMapping};
 use imago_storage::PreallocateMode;
-use std::alloc::{AllocError, Global};
-
-fn access(writable: bool) -> &'static str {
-    if writable { "writable" } else { "read_only" }
-}
-
-fn zero(explicit: bool) -> &'static str {
-    if explicit { "explicit zero" } else { "zero" }
-}
-
-/// Where a run of a chain lies.
-pub fn deep(alloc: Global, mapping: Mapping, length: u64) -> Result<String, AllocError> {
-    match mapping {
-        Mapping::Raw {
-            depth,
-            storage,
-            offset,
-            writable,
-        } => {
-            let access = access(writable);
-            format!(in alloc; "raw {depth} {storage} {offset} {access} for {length}")
-        }
-        Mapping::Zero { explicit } => {
-            let zero = zero(explicit);
-            format!(in alloc; "{zero} for {length}")
-        }
-        Mapping::Eof => format!(in alloc; "end for {length}"),
-        Mapping::Special { depth, offset } => {
-            format!(in alloc; "barred {depth} {offset} for {length}")
-        }
-    }
-}
-
-/// What a layer says of a run.
-pub fn shallow(alloc: Global, mapping: ShallowMapping, length: u64) -> Result<String, AllocError> {
-    match mapping {
-        ShallowMapping::Raw {
-            storage,
-            offset,
-            writable,
-        } => {
-            let access = access(writable);
-            format!(in alloc; "raw {storage} {offset} {access} for {length}")
-        }
-        ShallowMapping::Indirect { offset, writable } => {
-            let access = access(writable);
-            format!(in alloc; "below {offset} {access} for {length}")
-        }
-        ShallowMapping::Zero { explicit } => {
-            let zero = zero(explicit);
-            format!(in alloc; "{zero} for {length}")
-        }
-        ShallowMapping::Eof => format!(in alloc; "end for {length}"),
-        ShallowMapping::Special { offset } => format!(in alloc; "barred {offset} for {length}"),
-    }
-}
-
-/// A prepared mapping: its storage, offset and length, and whether there is something to commit.
-pub fn prepared(
-    alloc: Global,
-    mapping: &PreparedDataMapping<PreparedCluster>,
-) -> Result<String, AllocError> {
-    let (storage, offset, length) = (mapping.storage(), mapping.offset(), mapping.length());
-    let state = if mapping.is_nonblocking() {
-        "done"
-    } else {
-        "to commit"
-    };
-    format!(in alloc; "{storage} {offset} {length} {state}")
-}
 
 /// The mode in which a storage was resized.
 pub fn mode(mode: Option<PreallocateMode>) -> &'static str {
@@ -81,13 +9,5 @@ pub fn mode(mode: Option<PreallocateMode>) -> &'static str {
         Some(PreallocateMode::Zero) => "zero",
         Some(PreallocateMode::Allocate) => "allocate",
         Some(PreallocateMode::WriteData) => "data",
-    }
-}
-
-pub fn format(format: Format) -> &'static str {
-    match format {
-        Format::Raw => "raw",
-        Format::Qcow2 => "qcow2",
-        Format::Vmdk => "vmdk",
     }
 }

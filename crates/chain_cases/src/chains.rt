@@ -1,0 +1,247 @@
+// The files and the disk of a case, and the calls of its lines.
+use crate::files::{NamedFiles, making_of};
+use crate::layers::{Disk, add, counts, image_of};
+use crate::prefixes::{Looked, prefixes};
+use access_calls::{called, cancel, commit, done, prepare, prepared, run_of};
+use cases::{Layer, Notes, Trouble, bytes, joined, number, ok, size, told};
+use imago_access::PreparedDataMapping;
+use qcow2_image::PreparedMappingState;
+use std::alloc::Global;
+use std::cell::Cell;
+use std::mem;
+
+type Prepared = PreparedDataMapping<PreparedMappingState>;
+
+/// The files of a case, the disk over them, and a prepared mapping beside it.
+pub struct Chains<'a> {
+    files: NamedFiles<'a>,
+    disk: Option<Disk<'a>>,
+    mapping: Option<Prepared>,
+    notes: &'a Cell<Notes>,
+}
+
+// Puts a value, or none, in the place of what was there.
+fn put<T: Drop>(place: &mut Option<T>, value: Option<T>) {
+    *place = value;
+}
+
+// A mapping is forgotten.
+fn let_go(mapping: Option<Prepared>) {
+    if let Some(mapping) = mapping {
+        if let Some(state) = mapping.into_state() {
+            state.give_up();
+        }
+    }
+}
+
+// A line of these words, with a blank between each and the next.
+fn line_of(alloc: Global, words: &[&str]) -> Result<String, Trouble> {
+    let mut line = String::new(alloc);
+    for word in words.iter() {
+        joined(&mut line, word)?;
+    }
+    line.push_str("\n")?;
+    Ok(line)
+}
+
+// Adds a file, or changes one.
+fn change_file<'a>(
+    alloc: Global,
+    files: &mut NamedFiles<'a>,
+    word: &str,
+    name: &str,
+    words: &[&str],
+) -> Result<(), Trouble> {
+    match (word, words) {
+        ("file", words) => {
+            let (making, given) = making_of(words)?;
+            files.add(alloc, name, making, bytes(alloc, given)?)
+        }
+        ("put", [offset, given @ ..]) => {
+            let given = bytes(alloc, given)?;
+            files.put(alloc, name, number(offset)?, &given)
+        }
+        ("more", given) => {
+            let given = bytes(alloc, given)?;
+            files.append(alloc, name, &given)
+        }
+        ("line", words) => {
+            let line = line_of(alloc, words)?;
+            files.append(alloc, name, line.as_bytes())
+        }
+        ("cut", [length]) => files.cut(name, number(length)?),
+        _ => Err(Trouble::NoCall),
+    }
+}
+
+// A call of a disk.
+fn call<'a>(alloc: Global, disk: &mut Disk<'a>, words: &[&str]) -> Result<String, Trouble> {
+    match words {
+        ["counts"] => counts(alloc, disk),
+        _ => called(alloc, disk, words),
+    }
+}
+
+impl<'a> Chains<'a> {
+    /// Nothing yet; storages note what they are asked.
+    pub fn new(alloc: Global, notes: &'a Cell<Notes>) -> Self {
+        Chains {
+            files: NamedFiles::new(alloc, notes),
+            disk: None,
+            mapping: None,
+            notes,
+        }
+    }
+
+    /// Lets go of all.
+    pub fn close(self) {
+        let Chains {
+            files: _files,
+            disk,
+            mapping,
+            notes: _notes,
+        } = self;
+        drop(disk);
+        let_go(mapping);
+    }
+
+    fn keep(&mut self, mapping: Option<Prepared>) {
+        let_go(mem::replace(&mut self.mapping, mapping));
+    }
+
+    fn add(&mut self, alloc: Global, words: &[&str]) -> Result<String, Trouble> {
+        let image = image_of(alloc, words, &mut self.files)?;
+        let disk = add(alloc, image, self.disk.take())?;
+        put(&mut self.disk, Some(disk));
+        Ok(ok(alloc)?)
+    }
+
+    // The disk that there has to be.
+    fn open(&mut self) -> Result<&mut Disk<'a>, Trouble> {
+        self.disk.as_mut().ok_or(Trouble::NoCall)
+    }
+
+    fn prepare(&mut self, alloc: Global, offset: &str, words: &[&str]) -> Result<String, Trouble> {
+        let (n, overwrite) = run_of(words)?;
+        let offset = number(offset)?;
+        if self.mapping.is_some() {
+            return Err(Trouble::NoCall);
+        }
+        let mapping = prepare(alloc, self.open()?, offset, n, overwrite)?;
+        self.keep(Some(mapping));
+        self.told_mapping(alloc)
+    }
+
+    fn told_mapping(&self, alloc: Global) -> Result<String, Trouble> {
+        match &self.mapping {
+            None => Ok("none".to_string(alloc)?),
+            Some(mapping) => Ok(prepared(alloc, mapping)?),
+        }
+    }
+
+    // Commits the mapping; one that is given back stays.
+    fn commit(&mut self, alloc: Global) -> Result<String, Trouble> {
+        let Some(disk) = &mut self.disk else {
+            return Err(Trouble::NoCall);
+        };
+        let Some(mapping) = self.mapping.take() else {
+            return Err(Trouble::NoCall);
+        };
+        match commit(alloc, disk, mapping) {
+            Ok(()) => Ok(ok(alloc)?),
+            Err((fault, back)) => {
+                self.keep(back);
+                Err(Trouble::Refused(fault))
+            }
+        }
+    }
+
+    // Gives the mapping up; one that is given back stays.
+    fn cancel(&mut self, alloc: Global) -> Result<String, Trouble> {
+        let Some(disk) = &mut self.disk else {
+            return Err(Trouble::NoCall);
+        };
+        let Some(mapping) = self.mapping.take() else {
+            return Err(Trouble::NoCall);
+        };
+        match cancel(disk, mapping) {
+            Ok(()) => Ok(ok(alloc)?),
+            Err((fault, back)) => {
+                self.keep(Some(back));
+                Err(Trouble::Refused(fault))
+            }
+        }
+    }
+
+    // A mapping of these words, without state.
+    fn make_mapping(&mut self, alloc: Global, words: [&str; 3]) -> Result<String, Trouble> {
+        let [storage, offset, n] = words;
+        let (storage, offset, n) = (size(storage)?, number(offset)?, number(n)?);
+        self.keep(Some(PreparedDataMapping::existing(storage, offset, n)));
+        self.told_mapping(alloc)
+    }
+
+    // What openings of a file's first bytes answer.
+    fn prefixes(
+        &mut self,
+        alloc: Global,
+        file: (&str, &str),
+        lengths: [&str; 2],
+        words: &[&str],
+    ) -> Result<String, Trouble> {
+        let [first, last] = lengths;
+        let lengths = (size(first)?, size(last)?);
+        prefixes(alloc, &mut self.files, file, lengths, Looked::new(words)?)
+    }
+
+    // The mapping of a case, or a call of its disk.
+    fn called(&mut self, alloc: Global, words: &[&str]) -> Result<String, Trouble> {
+        match words {
+            ["prepare", offset, rest @ ..] => self.prepare(alloc, offset, rest),
+            ["commit"] => self.commit(alloc),
+            ["cancel"] => self.cancel(alloc),
+            ["mapping"] => self.told_mapping(alloc),
+            ["mapping", storage, offset, n] => self.make_mapping(alloc, [*storage, *offset, *n]),
+            _ => call(alloc, self.open()?, words),
+        }
+    }
+
+    // What the storages of a case were asked for, or a call of its disk.
+    fn noted(&mut self, alloc: Global, words: &[&str]) -> Result<String, Trouble> {
+        match words {
+            ["asked"] => Ok(told(alloc, self.notes)?),
+            ["forget"] => {
+                self.notes.set(Notes::none());
+                Ok(ok(alloc)?)
+            }
+            ["if_open", ..] if self.disk.is_none() => Ok("closed".to_string(alloc)?),
+            ["if_open", rest @ ..] => self.called(alloc, rest),
+            _ => self.called(alloc, words),
+        }
+    }
+}
+
+impl<'a> Layer for Chains<'a> {
+    fn begin(&mut self) {
+        self.files.clear();
+        put(&mut self.disk, None);
+        self.keep(None);
+        self.notes.set(Notes::none());
+    }
+
+    fn answer(&mut self, alloc: Global, words: &[&str]) -> Result<String, Trouble> {
+        match words {
+            [word, name, rest @ ..] if matches!(*word, "file" | "put" | "more" | "line" | "cut") =>
+                { done(alloc, change_file(alloc, &mut self.files, word, name, rest)) }
+            ["prefixes", format, name, first, last, rest @ ..] => {
+                self.prefixes(alloc, (*format, *name), [*first, *last], rest)
+            }
+            ["layer", rest @ ..] => self.add(alloc, rest),
+            ["close"] => {
+                put(&mut self.disk, None);
+                Ok(ok(alloc)?)
+            }
+            _ => self.noted(alloc, words),
+        }
+    }
+}

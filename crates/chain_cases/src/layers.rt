@@ -1,0 +1,72 @@
+// The layers of a disk, by words.
+use crate::files::{Base, NamedFiles};
+use crate::images::{qcow2, raw, vmdk};
+use access_calls::stacked;
+use cases::{Trouble, joined};
+use imago_access::{FormatAccess, FormatDriverInstance};
+use imago_storage::{FuseStorage, Storage};
+use qimg_chain::chain::ImageDriver;
+use std::alloc::Global;
+
+/// A disk of a script.
+pub type Disk<'a> = FormatAccess<ImageDriver<Base<'a>>>;
+
+/// The image of these words, over a file of the case.
+pub fn image_of<'a>(
+    alloc: Global,
+    words: &[&str],
+    files: &mut NamedFiles<'a>,
+) -> Result<ImageDriver<Base<'a>>, Trouble> {
+    match words {
+        ["raw", rest @ ..] => Ok(ImageDriver::Raw(raw(files, rest)?)),
+        ["qcow2", rest @ ..] => Ok(ImageDriver::Qcow2(qcow2(alloc, files, rest)?)),
+        ["vmdk", rest @ ..] => Ok(ImageDriver::Vmdk(vmdk(alloc, files, rest)?)),
+        _ => Err(Trouble::NoCall),
+    }
+}
+
+// An image over others.
+fn over<S: Storage + Drop>(
+    alloc: Global,
+    driver: ImageDriver<S>,
+    below: FormatAccess<ImageDriver<S>>,
+) -> Result<FormatAccess<ImageDriver<S>>, Trouble> {
+    if !driver.shows_below() {
+        return Err(Trouble::NoCall);
+    }
+    stacked(alloc, driver, below)
+}
+
+/// An image over a disk, if there is one.
+pub fn add<S: Storage + Drop>(
+    alloc: Global,
+    driver: ImageDriver<S>,
+    below: Option<FormatAccess<ImageDriver<S>>>,
+) -> Result<FormatAccess<ImageDriver<S>>, Trouble> {
+    match below {
+        None => Ok(FormatAccess::new(driver)),
+        Some(below) => over(alloc, driver, below),
+    }
+}
+
+/// The most layers of which it is told.
+const MOST_LAYERS: u8 = 16;
+
+/// How many calls the image file of each layer was asked for, the highest layer first.
+pub fn counts<S: Storage>(
+    alloc: Global,
+    disk: &FormatAccess<ImageDriver<FuseStorage<S>>>,
+) -> Result<String, Trouble> {
+    let mut text = String::new(alloc);
+    let mut layer = Some(disk);
+    for _ in 0..MOST_LAYERS {
+        let Some(one) = layer else {
+            return Ok(text);
+        };
+        let count = one.inner().image_file().count().to_string(alloc)?;
+        joined(&mut text, count.as_str())?;
+        layer = one.below();
+    }
+    joined(&mut text, "more")?;
+    Ok(text)
+}
