@@ -59,24 +59,30 @@ module _ {D St : Type 0} (g : Ghosts D St) (safe_runs : (d : D) → g.safe d →
 
     -- refused: given back, or spent
     pub refused-makes : (fault : Fault) (back : Option (PreparedDataMapping St)) → Commits g mapping.state (Err (fault, back)) old.0 new.0 → CommitRefused g mapping (Err (fault, back)) old.0 new.0
-        → (IsReady g old → ChainCause g call (λ _. ⊥) old new fault)
+        → (IsIntactChain g old → ChainCause g call (λ _. ⊥) old new fault)
         → Makes g calls.CommitDataMapping (told.Refused fault) (holding old (Some mapping)) (holding new back)
     refused-makes fault None does refused cause =
         let spent = refused.spent refl in
-        let never : IsReady g old → IsMild fault → ⊥ = λ ready mild. not-spent g mapping.state (g.layer old.0) (g.layer new.0) (g.safe old.0) fault kept.mine ready.intact.is_safe mild spent.0 spent.3 in
+        let never : IsIntactChain g old → IsMild fault → ⊥ = λ intact mild. not-spent g mapping.state (g.layer old.0) (g.layer new.0) (g.safe old.0) fault kept.mine intact.is_safe mild spent.0 spent.3 in
         record {
-          moves = λ ready mild. absurd (never ready mild);
-          leads = step-leads g old new (IsMild fault) (IsMild fault) call safe_runs does.went (looked (IsMild fault)) (λ mild ready. mild) (λ mild ready. absurd (never ready mild)) (λ mild ready. absurd (never ready mild)) commit-stops;
+          fits = tt;
+          at_once = λ f is. absurd (cc is);
+          moves = λ intact. (cause intact, λ mild. absurd (never intact mild));
+          leads = step-leads g old new (IsMild fault) (IsMild fault) call safe_runs does.went (looked (IsMild fault)) (λ mild ready. mild) (λ mild ready. absurd (never ready.intact mild)) (λ mild ready. absurd (never ready.intact mild)) commit-stops;
           kept = λ k. record { mine = tt; free = λ none. spent-free g mapping.state (g.layer old.0) (g.layer new.0) (g.safe old.0 → IsMild fault → ⊥) kept.mine spent.0 spent.3 };
+          same = λ no. absurd (cc no);
         }
     refused-makes fault (Some b) does refused cause =
         let back = refused.back in
         let stays = layer-stays g old new below back.2.layer in
         record {
-          moves = λ ready mild. (cause ready, stays, ap Some back.0);
+          fits = tt;
+          at_once = λ f is. absurd (cc is);
+          moves = λ intact. (cause intact, λ mild. (stays, ap Some back.0));
           leads = step-leads g old new (IsMild fault) (IsMild fault) call safe_runs does.went (looked (IsMild fault)) (λ mild ready. mild) (λ mild ready. unchanged-intact back.2 ready.intact)
               (λ mild ready. stays-between (Begun (map g.layer old.1) (chain_disk g.layer old) call) (chain_disk g.layer old) (chain_disk g.layer new) stays) commit-stops;
           kept = λ k. record { mine = rw (back.0, back.2.layer) kept.mine; free = λ none. rw (back.2.layer) (kept.free (rw (back.0) at none)) };
+          same = λ no. absurd (cc no);
         }
 
   -- a mapping that is given up changes nothing of the disk

@@ -25,6 +25,9 @@ use Rattle.imago_access.proofs.Stopping.{passes_weaker}
 use Rattle.qimg_calls.specs.Since.{Begun, most_size}
 use Rattle.qimg_calls.specs.Held.{IsKept, IsReady, holding, state_of}
 use Rattle.qimg_calls.specs.Leading.{Leads, ShowsBetween}
+use Rattle.qimg_calls.specs.Moves.{RestsOn}
+use Rattle.qimg_calls.specs.declared.call.Call.{Call as CallMade}
+use Rattle.qimg_calls.specs.declared.call.Call.TheVariants as calls
 
 -- the same of disks
 abbrev pub ValuesBetween : (ℕ → Value → Type 0) → Disk → Disk → Type 0
@@ -170,9 +173,16 @@ module _ {D St : Type 0} (g : Ghosts D St) where
       mine-on None mine = tt
       mine-on (Some s) mine = (rw (like.fixed) mine.0, rw (like.unspent) mine.1)
 
+  -- what each call rests on
+  pub ready-rests : (safe_sees : (d : D) → g.safe d → g.sees d) (call : CallMade) (c : D × List D) → IsReady g c → RestsOn g call c
+  ready-rests safe_sees (calls.Read offset n) c ready = all-see safe_sees c ready
+  ready-rests safe_sees (calls.GetMapping offset n) c ready = (all-see safe_sees c ready, fewer c ready)
+  ready-rests safe_sees (calls.GetShallowMapping offset n) c ready = all-see safe_sees c ready
+  ready-rests safe_sees call c ready = ready.intact
+
   -- a look leaves the disk as it was
-  pub looked-stays : (safe_sees : (d : D) → g.safe d → g.sees d) (old new : D × List D) (whole : Type 0) → whole → Pairs (Looked g whole) (chain old) (chain new) → IsReady g old → ChainStays g old new
-  looked-stays safe_sees old new whole w looked ready =
-      let top = (looked.0.stays w (safe_sees old.0 ready.intact.is_safe)).0 in
-      let same = chain_same g whole old.1 new.1 w ready.intact.is_seen looked.1 in
+  pub looked-stays : (old new : D × List D) (whole : Type 0) → whole → Pairs (Looked g whole) (chain old) (chain new) → Each g.sees (chain old) → ChainStays g old new
+  looked-stays old new whole w looked sees =
+      let top = (looked.0.stays w sees.0).0 in
+      let same = chain_same g whole old.1 new.1 w sees.1 looked.1 in
       rw (top, same) (record { size = refl; value = λ p inside. refl; hold = λ p inside. refl })

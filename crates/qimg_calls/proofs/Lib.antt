@@ -4,6 +4,7 @@ mod Moving
 mod Resizing
 mod Spending
 mod Committing
+pub mod Alone
 mod Lists
 mod Driven
-mod Stops
+pub mod Stops

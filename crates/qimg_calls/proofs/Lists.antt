@@ -13,21 +13,21 @@ use Rattle.imago_access.specs.declared.seen.Seen.{Ghosts}
 use Rattle.imago_access.specs.Layer.{IsFree}
 use Rattle.imago_access.specs.Chain.{Each}
 use Rattle.imago_access.specs.Files.{Pairs, IsMild, IsLater, IsKept as IsKeptFile, files_of}
-use Rattle.imago_access.specs.Running.{chain_disk}
+use Rattle.imago_access.specs.Running.{chain_disk, IsIntactChain}
 use Rattle.imago_access.specs.Stops.{IsCovered, IsWritten, Left}
 use Rattle.imago_access.proofs.FilePairs.{is_later_same, is_later_both, kept_all_same, kept_all_both}
-use Rattle.imago_access.proofs.Stopping.{here, passes_both, passes_none, passes_weaker}
+use Rattle.imago_access.proofs.Stopping.{here}
 use Rattle.qimg_calls.specs.declared.call.Call.{Call}
 use Rattle.qimg_calls.specs.declared.call.Call.TheVariants as calls
 use Rattle.qimg_calls.specs.declared.call.Answer.{Answer}
 use Rattle.qimg_calls.specs.declared.call.Answer.TheVariants as told
 use Rattle.qimg_calls.specs.Calls.{Either, GoesOn, is_out_of_place}
 use Rattle.qimg_calls.specs.Since.{Since, Begun, most_size, begun, flushed, LeftSince, IsSince}
-use Rattle.qimg_calls.specs.Held.{Holding, IsKept, IsReady, disk_call}
+use Rattle.qimg_calls.specs.Held.{Holding, IsKept, IsReady, disk_call, state_of}
 use Rattle.qimg_calls.specs.Leading.{Leads}
 use Rattle.qimg_calls.specs.Making.{Makes, Answers, AnswersAll}
-use Rattle.qimg_calls.specs.Moves.{Moves}
-use Rattle.qimg_calls.specs.Runs.{Moment, moment, since_behind, IsLeftBy, StatesSize, StandsSince, Made, Goes, Run, IsCalm, AllGoOn, IsLeftIn}
+use Rattle.qimg_calls.specs.Runs.{Moment, moment, since_behind, IsLeftBy, StatesSize, StandsSince, Made, Goes, Run, AllGoOn}
+use Rattle.qimg_calls.proofs.Leading.{ready-rests}
 use Rattle.qimg_calls.proofs.Stops.{left-since, since-on, since-flushed}
 
 -- an answer goes on, or it doesn't
@@ -51,7 +51,7 @@ calm-then a b same room rose = omega (arith, same, rose.rose room)
 stops-in : (P Q : List ℕ → Type 0) (a b : StorageState) → ((f : List ℕ) → P f → Q f) → StopsIn P a b → StopsIn Q a b
 stops-in P Q a b weaker stops = record { files = stops.files; told = stops.told; each = All-weaker P Q weaker stops.files stops.each }
 
-either-cases : (b : Bool) (P Q : Type 0) → Either b P Q → ((b ≡ true) × P) ⊎ ((b ≡ false) × Q)
+pub either-cases : (b : Bool) (P Q : Type 0) → Either b P Q → ((b ≡ true) × P) ⊎ ((b ≡ false) × Q)
 either-cases true P Q p = inl (refl, p)
 either-cases false P Q q = inr (refl, q)
 
@@ -63,28 +63,29 @@ either-false : (b : Bool) (P Q : Type 0) → b ≡ false → Q → Either b P Q
 either-false true P Q is q = absurd (cc is)
 either-false false P Q is q = q
 
-none-or : (u : Option ℕ) → (u ≡ None) ⊎ (is_none u ≡ false)
+none-or : {A : Type 0} (u : Option A) → (u ≡ None) ⊎ (is_none u ≡ false)
 none-or None = inl refl
 none-or (Some n) = inr refl
 
-calm-tail : (answer : Answer) (answers : List Answer) → IsCalm (answer ∷ answers) → IsCalm answers
-calm-tail answer [] calm = tt
-calm-tail answer (b ∷ bs) calm = calm.1
+-- nothing has gone wrong in two calls where it hasn't in each
+calm-both : (a b c : StorageState) → IsFaultless a b → IsFaultless b c → IsFaultless a c
+calm-both a b c first second = (second.0 ∙ first.0, second.1 ∙ first.1)
 
 module _ {D St : Type 0} (g : Ghosts D St) where
   -- which of the two stands behind a call
   behind-or : (call : Call) (answer : Answer) (m : Moment D St) (new : Holding D St)
       → (since_behind g call answer m new ≡ begun m.since (chain_disk g.layer m.now.drivers) (disk_call g m.now call))
-      ⊎ ((call ≡ calls.Flush) × (answer ≡ told.Done) × ((g.layer m.now.drivers.0).unspent ≡ None) × (since_behind g call answer m new ≡ flushed (chain_disk g.layer new.drivers)))
-  behind-or calls.Flush told.Done m new = elim (none-or (g.layer m.now.drivers.0).unspent) [
+      ⊎ ((call ≡ calls.Flush) × (answer ≡ told.Done) × (state_of m.now.kept ≡ None) × (since_behind g call answer m new ≡ flushed (chain_disk g.layer new.drivers)))
+  behind-or calls.Flush told.Done m new = elim (none-or (state_of m.now.kept)) [
     | inl none ↦ inr (refl, refl, none, rw (none) refl)
     | inr some ↦ inl (rw (some) refl)
   ]
   behind-or call answer m new = inl refl
 
   -- a flush with nothing prepared that is done leaves a file that means the disk
-  moved-flush : (call : Call) (answer : Answer) (old new : Holding D St) → Moves g call answer old new → call ≡ calls.Flush → answer ≡ told.Done → IsFree (g.layer old.drivers.0) → IsWritten g new.drivers.0
-  moved-flush call answer old new moves is_flush is_done none = (rw (is_flush, is_done) at moves).0.3 none
+  made-flush : (call : Call) (answer : Answer) (old new : Holding D St) → Makes g call answer old new → IsIntactChain g old.drivers → call ≡ calls.Flush → answer ≡ told.Done → IsFree (g.layer old.drivers.0)
+      → IsWritten g new.drivers.0
+  made-flush call answer old new makes intact is_flush is_done none = ((rw (is_flush, is_done) at makes).moves intact).0.3 none
 
   -- what all calls keep, whatever they are answered
   pub record Going (old new : Holding D St) : Type 0 where
@@ -133,24 +134,7 @@ module _ {D St : Type 0} (g : Ghosts D St) where
   all-then [] (a ∷ rest) call answer old mid new all one = absurd all
   all-then (c ∷ cs) [] call answer old mid new all one = absurd all
 
-  -- a stop in the first call of a list, and in a later one
-  first-left : (call : Call) (answer : Answer) (list : List Call) (answers : List Answer) (m : Moment D St) (f : List ℕ) → IsLeftBy g call m f → IsLeftIn g (call ∷ list) (answer ∷ answers) m f
-  first-left call answer list answers m f left = record { before = zero; inside = omega arith; mid = m; run = refl; calm = tt; call = call; is_call = refl; left = left }
-
-  later-left : (call : Call) (answer : Answer) (list : List Call) (answers : List Answer) (m mid : Moment D St) (f : List ℕ) → GoesOn answer → Goes g call answer m mid
-      → IsLeftIn g list answers mid f → IsLeftIn g (call ∷ list) (answer ∷ answers) m f
-  later-left call answer list answers m mid f on goes left = record {
-    before = suc left.before;
-    inside = omega (arith, left.inside);
-    mid = left.mid;
-    run = (mid, goes, λ _. left.run);
-    calm = (on, left.calm);
-    call = left.call;
-    is_call = left.is_call;
-    left = left.left;
-  }
-
-  module _ (safe_sound : (d : D) → g.safe d → IsCovered (g.layer d) g.sound (g.image d).bytes) where
+  module _ (safe_sees : (d : D) → g.safe d → g.sees d) (safe_sound : (d : D) → g.safe d → IsCovered (g.layer d) g.sound (g.image d).bytes) where
     -- what a stop in a call shows
     stops-of : (call : Call) (answer : Answer) (old new : Holding D St) (since : Since) → Makes g call answer old new → IsReady g old.drivers → StatesSize g old.drivers → StandsSince g since old.drivers
         → Passes (IsLeftBy g call (moment old since)) (g.image old.drivers.0) (g.image new.drivers.0)
@@ -169,9 +153,9 @@ module _ {D St : Type 0} (g : Ghosts D St) where
         )
 
     -- what stands behind it
-    pub stands-next : (call : Call) (answer : Answer) (old new : Holding D St) (since : Since) → Makes g call answer old new → IsReady g old.drivers → GoesOn answer → StandsSince g since old.drivers
+    pub stands-next : (call : Call) (answer : Answer) (old new : Holding D St) (since : Since) → Makes g call answer old new → IsKept g old → IsReady g old.drivers → GoesOn answer → StandsSince g since old.drivers
         → StandsSince g (since_behind g call answer (moment old since) new) new.drivers
-    stands-next call answer old new since makes ready on stands exact_then tells keeps room =
+    stands-next call answer old new since makes is_kept ready on stands exact_then tells keeps room =
         let exact : StatesSize g old.drivers = rw (sym makes.leads.fixed) exact_then in
         let a = g.image old.drivers.0 in
         let b = g.image new.drivers.0 in
@@ -194,88 +178,88 @@ module _ {D St : Type 0} (g : Ghosts D St) where
           elim (behind-or call answer (moment old since) new) [
             | inl is ↦ subst (IsSince (map g.layer new.drivers.1) (g.layer new.drivers.0) b.bytes) (sym is) shows
             | inr is ↦ subst (IsSince (map g.layer new.drivers.1) (g.layer new.drivers.0) b.bytes) (sym is.3)
-                (since-flushed (map g.layer new.drivers.1) (g.layer new.drivers.0) b.bytes (moved-flush call answer old new (makes.moves ready on) is.0 is.1 is.2))
+                (since-flushed (map g.layer new.drivers.1) (g.layer new.drivers.0) b.bytes (made-flush call answer old new makes ready.intact is.0 is.1 (is_kept.free is.2)))
           ],
         )
 
-    made-of : (call : Call) (answer : Answer) (old new : Holding D St) (since : Since) → Makes g call answer old new → IsReady g old.drivers → StandsSince g since old.drivers
+    made-of : (call : Call) (answer : Answer) (old new : Holding D St) (since : Since) → Makes g call answer old new → IsKept g old → IsReady g old.drivers → StandsSince g since old.drivers
         → Made g call answer (moment old since) (moment new (since_behind g call answer (moment old since) new))
-    made-of call answer old new since makes ready stands = record {
-      moves = λ on. makes.moves ready on;
+    made-of call answer old new since makes is_kept ready stands = record {
+      fits = makes.fits;
+      at_once = makes.at_once;
+      moves = makes.moves (ready-rests g safe_sees call old.drivers ready);
       stops = λ exact. stops-of call answer old new since makes ready exact stands;
+      later = makes.leads.later;
+      since = refl;
       files = (makes.leads.under ready.still).0;
       below = λ on. makes.leads.below on ready;
-      since = refl;
+      fixed = makes.leads.fixed;
+      kept = makes.kept is_kept;
+      calm = λ on. makes.leads.calm on ready;
+      ready = λ on. makes.leads.ready on ready;
     }
 
     -- what a list of calls does, from the drivers before to those behind
     pub record Ran (list : List Call) (answers : List Answer) (old new : Holding D St) (since : Since) : Type 0 where
       pub last : Moment D St
       pub run : Run g list answers (moment old since) last
+      pub from : IsLater (g.image old.drivers.0) (g.image last.now.drivers.0)
+      pub later : IsLater (g.image last.now.drivers.0) (g.image new.drivers.0)
+      pub calm : AllGoOn answers → IsFaultless (g.image old.drivers.0) (g.image new.drivers.0)
       pub ends : AllGoOn answers → (last.now ≡ new) × IsReady g new.drivers × StandsSince g last.since new.drivers
-      pub stops : StatesSize g old.drivers → IsCalm answers → Passes (IsLeftIn g list answers (moment old since)) (g.image old.drivers.0) (g.image new.drivers.0)
 
     ran-none : (old : Holding D St) (since : Since) → IsReady g old.drivers → StandsSince g since old.drivers → Ran [] [] old old since
     ran-none old since ready stands = record {
       last = moment old since;
       run = refl;
+      from = is_later_same (g.image old.drivers.0);
+      later = is_later_same (g.image old.drivers.0);
+      calm = λ _. (refl, refl);
       ends = λ _. (refl, ready, stands);
-      stops = λ _ _. passes_none (IsLeftIn g [] [] (moment old since)) (g.image old.drivers.0) (g.image old.drivers.0) refl (refl, refl, refl, refl);
     }
 
-    -- a call that is cut off is the last that anything is said of
-    cut-stops : (call : Call) (answer : Answer) (list : List Call) (answers : List Answer) (old mid new : Holding D St) (since : Since) → (GoesOn answer → ⊥) → IsCalm (answer ∷ answers) → AnswersAll g list answers mid new
-        → Passes (IsLeftBy g call (moment old since)) (g.image old.drivers.0) (g.image mid.drivers.0)
-        → Passes (IsLeftIn g (call ∷ list) (answer ∷ answers) (moment old since)) (g.image old.drivers.0) (g.image new.drivers.0)
-    cut-stops call answer [] [] old mid new since off calm same passes =
-        subst (λ (h : Holding D St). Passes (IsLeftIn g (call ∷ []) (answer ∷ []) (moment old since)) (g.image old.drivers.0) (g.image h.drivers.0)) (sym same)
-        (passes_weaker (IsLeftBy g call (moment old since)) (IsLeftIn g (call ∷ []) (answer ∷ []) (moment old since)) (g.image old.drivers.0) (g.image mid.drivers.0) (first-left call answer [] [] (moment old since)) passes)
-    cut-stops call answer (c ∷ cs) [] old mid new since off calm all passes = absurd all
-    cut-stops call answer list (b ∷ bs) old mid new since off calm all passes = absurd (off calm.0)
-
-    pub ran-all : (list : List Call) (answers : List Answer) (old new : Holding D St) (since : Since) → AnswersAll g list answers old new → IsReady g old.drivers → StandsSince g since old.drivers
+    pub ran-all : (list : List Call) (answers : List Answer) (old new : Holding D St) (since : Since) → AnswersAll g list answers old new → IsKept g old → IsReady g old.drivers → StandsSince g since old.drivers
         → Ran list answers old new since
-    ran-all [] [] old new since same ready stands = subst (λ (h : Holding D St). Ran [] [] old h since) (sym same) (ran-none old since ready stands)
-    ran-all [] (answer ∷ answers) old new since all ready stands = absurd all
-    ran-all (call ∷ list) [] old new since all ready stands = absurd all
-    ran-all (call ∷ list) (answer ∷ answers) old new since all ready stands =
+    ran-all [] [] old new since same is_kept ready stands = subst (λ (h : Holding D St). Ran [] [] old h since) (sym same) (ran-none old since ready stands)
+    ran-all [] (answer ∷ answers) old new since all is_kept ready stands = absurd all
+    ran-all (call ∷ list) [] old new since all is_kept ready stands = absurd all
+    ran-all (call ∷ list) (answer ∷ answers) old new since all is_kept ready stands =
         let mid = all.0 in
         let out = is_out_of_place (is_some old.kept) call in
         elim (either-cases out ((answer ≡ told.Refused BadArgument) × (mid ≡ old)) (Makes g call answer old mid) all.1) [
           | inl is ↦
-              let rest = ran-all list answers mid new since all.2 (subst (λ (h : Holding D St). IsReady g h.drivers) (sym is.1.1) ready) (subst (λ (h : Holding D St). StandsSince g since h.drivers) (sym is.1.1) stands) in
+              let rest = ran-all list answers mid new since all.2 (subst (IsKept g) (sym is.1.1) is_kept) (subst (λ (h : Holding D St). IsReady g h.drivers) (sym is.1.1) ready) (subst (λ (h : Holding D St). StandsSince g since h.drivers) (sym is.1.1) stands) in
               let goes : Goes g call answer (moment old since) (moment mid since) = either-true out ((answer ≡ told.Refused BadArgument) × (moment mid since ≡ moment old since)) (Made g call answer (moment old since) (moment mid since)) is.0 (is.1.0, ap (λ h. moment h since) is.1.1) in
-              let on : GoesOn answer = rw (is.1.0) tt in
               record {
                 last = rest.last;
-                run = (moment mid since, goes, λ _. rest.run);
+                run = (moment mid since, goes, (λ _. rest.run), rest.from);
+                from = subst (λ (h : Holding D St). IsLater (g.image h.drivers.0) (g.image rest.last.now.drivers.0)) (is.1.1) rest.from;
+                later = rest.later;
+                calm = λ every. subst (λ (h : Holding D St). IsFaultless (g.image h.drivers.0) (g.image new.drivers.0)) (is.1.1) (rest.calm every.1);
                 ends = λ every. rest.ends every.1;
-                stops = λ exact calm. subst (λ (h : Holding D St). Passes (IsLeftIn g (call ∷ list) (answer ∷ answers) (moment old since)) (g.image h.drivers.0) (g.image new.drivers.0)) (is.1.1)
-                    (passes_weaker (IsLeftIn g list answers (moment mid since)) (IsLeftIn g (call ∷ list) (answer ∷ answers) (moment old since)) (g.image mid.drivers.0) (g.image new.drivers.0)
-                    (λ f left. later-left call answer list answers (moment old since) (moment mid since) f on goes left)
-                    (rest.stops (subst (λ (h : Holding D St). StatesSize g h.drivers) (sym is.1.1) exact) (calm-tail answer answers calm)));
               }
           | inr is ↦
               let makes = is.1 in
               let next = since_behind g call answer (moment old since) mid in
-              let goes : Goes g call answer (moment old since) (moment mid next) = either-false out ((answer ≡ told.Refused BadArgument) × (moment mid next ≡ moment old since)) (Made g call answer (moment old since) (moment mid next)) is.0 (made-of call answer old mid since makes ready stands) in
+              let goes : Goes g call answer (moment old since) (moment mid next) = either-false out ((answer ≡ told.Refused BadArgument) × (moment mid next ≡ moment old since)) (Made g call answer (moment old since) (moment mid next)) is.0 (made-of call answer old mid since makes is_kept ready stands) in
               elim (goes-on-or answer) [
                 | inl on ↦
-                    let rest = ran-all list answers mid new next all.2 (makes.leads.ready on ready) (stands-next call answer old mid since makes ready on stands) in
+                    let rest = ran-all list answers mid new next all.2 (makes.kept is_kept) (makes.leads.ready on ready) (stands-next call answer old mid since makes is_kept ready on stands) in
                     record {
                       last = rest.last;
-                      run = (moment mid next, goes, λ _. rest.run);
+                      run = (moment mid next, goes, (λ _. rest.run), rest.from);
+                      from = is_later_both (g.image old.drivers.0) (g.image mid.drivers.0) (g.image rest.last.now.drivers.0) makes.leads.later rest.from;
+                      later = rest.later;
+                      calm = λ every. calm-both (g.image old.drivers.0) (g.image mid.drivers.0) (g.image new.drivers.0) (makes.leads.calm every.0 ready) (rest.calm every.1);
                       ends = λ every. rest.ends every.1;
-                      stops = λ exact calm. passes_both (IsLeftBy g call (moment old since)) (IsLeftIn g list answers (moment mid next)) (IsLeftIn g (call ∷ list) (answer ∷ answers) (moment old since))
-                          (g.image old.drivers.0) (g.image mid.drivers.0) (g.image new.drivers.0) makes.leads.later (going-all list answers mid new all.2).later
-                          (first-left call answer list answers (moment old since)) (λ how f left. later-left call answer list answers (moment old since) (moment mid next) f on goes left)
-                          (stops-of call answer old mid since makes ready exact stands) (rest.stops (rw (makes.leads.fixed) exact) (calm-tail answer answers calm));
                     }
                 | inr off ↦ record {
                   last = moment mid next;
-                  run = (moment mid next, goes, λ on. absurd (off on));
+                  run = (moment mid next, goes, (λ on. absurd (off on)), is_later_same (g.image mid.drivers.0));
+                  from = makes.leads.later;
+                  later = (going-all list answers mid new all.2).later;
+                  calm = λ every. absurd (off every.0);
                   ends = λ every. absurd (off every.0);
-                  stops = λ exact calm. cut-stops call answer list answers old mid new since off calm all.2 (stops-of call answer old mid since makes ready exact stands);
                 }
               ]
         ]

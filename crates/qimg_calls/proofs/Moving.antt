@@ -1,20 +1,24 @@
 -- What calls do that answer nothing but that they were done.
-use Rattle.std.proofs.Common.{◌≡◌, refl}
-use Rattle.std.specs.Prelude.{Result, Ok, Err, OnOk, IfErr, IsOk, List, ⊤}
+use Rattle.std.proofs.Common.{◌≡◌, ap, refl}
+use Rattle.std.specs.Prelude.{Result, Ok, Err, OnOk, IfErr, IsErrOf, IsFalse, List, ⊤, None}
+use Rattle.imago_storage.specs.State.{StorageState}
 use Rattle.imago_storage.specs.Steps.{done}
 use Rattle.imago_storage.specs.declared.fault.Fault.{Fault}
 use Rattle.imago_storage.specs.declared.fault.Fault.TheVariants.{Memory, Storage}
 use Rattle.imago_access.specs.declared.seen.Seen.{Ghosts}
 use Rattle.imago_access.specs.ChainCalls.{ChainSteps, ChainStays, IfMild}
 use Rattle.imago_access.specs.Layer.{IsFree}
+use Rattle.imago_access.specs.Parts.{PlainCause}
+use Rattle.imago_access.specs.Refusals.{barrier}
 use Rattle.imago_access.specs.Stops.{IsWritten}
 use Rattle.imago_access.specs.Files.{WasNotCutOff}
 use Rattle.qimg_calls.specs.declared.call.Call.{Call}
 use Rattle.qimg_calls.specs.declared.call.Answer.TheVariants as told
-use Rattle.qimg_calls.specs.Calls.{GoesOn}
+use Rattle.qimg_calls.specs.Calls.{Fits, GoesOn, tells_something}
 use Rattle.qimg_calls.specs.Held.{Holding, disk_call}
 use Rattle.qimg_calls.specs.Making.{told_of}
-use Rattle.qimg_calls.specs.Moves.{Moves, Does, Keeps, Names, Refuses, Leaves}
+use Rattle.qimg_calls.specs.Moves.{Moves, Does, Keeps, Names, Refuses, Leaves, TopStays}
+use Rattle.qimg_calls.proofs.Leading.{whole-ok}
 
 -- an answer that goes on is that of a call that was not cut off
 pub not-cut : (result : Result Unit Fault) → GoesOn (told_of result) → WasNotCutOff result
@@ -29,14 +33,25 @@ pub told-moves : {D St : Type 0} (g : Ghosts D St) (call : Call) (result : Resul
     → Keeps g call (told_of result) old new
     → OnOk result (ChainSteps g (disk_call g old call) done old.drivers new.drivers) → OnOk result (Names g call told.Done old.drivers new.drivers)
     → IfErr result (λ fault. Refuses g call fault old new) → IfMild result (Leaves g call old new)
-    → GoesOn (told_of result) → Moves g call (told_of result) old new
-told-moves g call (Ok unit) old new keeps steps names refuses leaves on = ((done, refl, steps, names), keeps)
-told-moves g call (Err fault) old new keeps steps names refuses leaves on = (refuses, leaves on, keeps)
+    → Moves g call (told_of result) old new
+told-moves g call (Ok unit) old new keeps steps names refuses leaves = ((done, refl, steps, names), keeps)
+told-moves g call (Err fault) old new keeps steps names refuses leaves = (refuses, λ mild. (leaves mild, keeps))
 
--- what a refusal leaves of a call that isn't refused
-pub ok-stays : {D St : Type 0} (g : Ghosts D St) (old new : D × List D) (result : Result Unit Fault) → IsOk result → IfMild result (ChainStays g old new)
-ok-stays g old new (Ok unit) ok = tt
-ok-stays g old new (Err fault) ok = absurd (cc ok)
+-- the answer of a call that tells nothing fits it
+pub told-fits : (call : Call) (result : Result Unit Fault) → IsFalse (tells_something call) → Fits call (told_of result)
+told-fits call (Ok unit) nothing = nothing
+told-fits call (Err fault) nothing = tt
+
+-- a refusal that comes at once is the answer
+pub told-refused : (result : Result Unit Fault) (f : Fault) → IsErrOf result f → told_of result ≡ told.Refused f
+told-refused (Ok unit) f is = absurd (cc is)
+told-refused (Err fault) f is = ap told.Refused (cc is)
+
+-- where the top can be used, a flush is refused for want of memory and for a fault of a storage alone
+pub refused-stays : {D St : Type 0} (g : Ghosts D St) (old new : D × List D) (olds news : List StorageState) (result : Result Unit Fault) → IfErr result (PlainCause (g.layer old.0) olds news)
+    → IfMild result (barrier (g.layer old.0) ≡ None → ChainStays g old new)
+refused-stays g old new olds news (Ok unit) why = tt
+refused-stays g old new olds news (Err fault) why = λ mild usable. absurd (cc (whole-ok {T = Unit} (g.layer old.0) olds news (Err fault) mild usable why))
 
 pub flush-names : {D St : Type 0} (g : Ghosts D St) (old new : D × List D) (result : Result Unit Fault) → (IsFree (g.layer old.0) → OnOk result (IsWritten g new.0))
     → OnOk result (IsFree (g.layer old.0) → IsWritten g new.0)
@@ -52,6 +67,7 @@ pub layer-stays : {D St : Type 0} (g : Ghosts D St) (old new : D × List D) → 
 layer-stays g old new below same = rw (below, same) (record { size = refl; value = λ p inside. refl; hold = λ p inside. refl })
 
 -- a refusal that leaves the layer leaves the disk
-pub same-stays : {D St : Type 0} (g : Ghosts D St) (old new : D × List D) (result : Result Unit Fault) → new.1 ≡ old.1 → IfMild result (g.layer new.0 ≡ g.layer old.0) → IfMild result (ChainStays g old new)
+pub same-stays : {D St : Type 0} (g : Ghosts D St) (old new : D × List D) (result : Result Unit Fault) → new.1 ≡ old.1 → IfMild result (TopStays g old new)
+    → IfMild result (TopStays g old new × ChainStays g old new)
 same-stays g old new (Ok unit) below same = tt
-same-stays g old new (Err fault) below same = λ mild. layer-stays g old new below (same mild)
+same-stays g old new (Err fault) below same = λ mild. (same mild, layer-stays g old new below (same mild))

@@ -1,5 +1,5 @@
 -- The calls of a list, as calls of a disk.
-use Rattle.std.specs.Prelude.{◌≡◌, ⊤, Bool, false, true, not, ◌&&◌, Option, Some, None, List}
+use Rattle.std.specs.Prelude.{◌≡◌, ⊤, Bool, false, true, not, ◌&&◌, IsFalse, Option, Some, None, List}
 use Rattle.imago_storage.specs.declared.fault.Fault.{Fault}
 use Rattle.imago_storage.specs.Steps.{Answer as DiskAnswer, done, bytes_read, run, found, prepared}
 use Rattle.imago_access.specs.Files.{IsMild}
@@ -29,6 +29,33 @@ is_out_of_place kept call = kept && not (is_look call)
 abbrev pub is_lone_change : Call → Bool
 is_lone_change (calls.PrepareDataMapping offset n overwrite) = false
 is_lone_change call = not (is_look call) && not (is_out_of_place false call)
+
+-- it prepares a mapping, or spends the one that is kept
+abbrev pub is_of_mapping : Call → Bool
+is_of_mapping (calls.PrepareDataMapping offset n overwrite) = true
+is_of_mapping calls.CommitDataMapping = true
+is_of_mapping calls.Cancel = true
+is_of_mapping call = false
+
+-- it is answered with what it finds or maps, where it isn't refused
+abbrev pub tells_something : Call → Bool
+tells_something (calls.Read offset n) = true
+tells_something (calls.PrepareDataMapping offset n overwrite) = true
+tells_something (calls.EnsureDataMapping offset n overwrite) = true
+tells_something (calls.GetMapping offset n) = true
+tells_something (calls.GetShallowMapping offset n) = true
+tells_something call = false
+
+-- the answer is of a kind that the call has
+abbrev pub Fits : Call → Answer → Type 0
+Fits call (told.Refused fault) = ⊤
+Fits call told.Done = IsFalse (tells_something call)
+Fits (calls.Read offset n) (told.Bytes bytes) = ⊤
+Fits (calls.PrepareDataMapping offset n overwrite) (told.Prepared storage place count state) = ⊤
+Fits (calls.EnsureDataMapping offset n overwrite) (told.Mapped mapping count) = ⊤
+Fits (calls.GetMapping offset n) (told.Mapped mapping count) = ⊤
+Fits (calls.GetShallowMapping offset n) (told.Shallow mapping count) = ⊤
+Fits call answer = ⊥
 
 -- what an answer says of the disk, if it is one to this call and no refusal
 abbrev pub said : Call → Answer → Option DiskAnswer

@@ -1,5 +1,5 @@
 -- What each call of a list is proved to do by itself, whatever was flushed before.
-use Rattle.std.specs.Prelude.{◌≡◌, List, [], ◌∷◌, is_some, Option, None, MatchOption, Result, Ok, Err}
+use Rattle.std.specs.Prelude.{◌≡◌, List, [], ◌∷◌, is_some, IsFalse, Option, Some, None, MatchOption, Result, Ok, Err}
 use Rattle.imago_storage.specs.declared.fault.Fault.{Fault}
 use Rattle.imago_storage.specs.declared.fault.Fault.TheVariants.{BadArgument}
 use Rattle.imago_access.specs.declared.seen.Seen.{Ghosts}
@@ -8,16 +8,20 @@ use Rattle.qimg_calls.specs.declared.call.Call.{Call}
 use Rattle.qimg_calls.specs.declared.call.Call.TheVariants as calls
 use Rattle.qimg_calls.specs.declared.call.Answer.{Answer}
 use Rattle.qimg_calls.specs.declared.call.Answer.TheVariants as told
-use Rattle.qimg_calls.specs.Calls.{Either, GoesOn, is_out_of_place}
-use Rattle.qimg_calls.specs.Held.{Holding, holding, IsKept, IsReady, disk_call}
+use Rattle.qimg_calls.specs.Calls.{Either, Fits, GoesOn, is_of_mapping, is_out_of_place}
+use Rattle.qimg_calls.specs.Held.{Holding, holding, IsKept, disk_call}
 use Rattle.qimg_calls.specs.Leading.{Leads}
-use Rattle.qimg_calls.specs.Moves.{Moves}
+use Rattle.qimg_calls.specs.Moves.{Moves, RestsOn, refusal_at_once}
 
--- The call moves the disk, leaves what the next one rests on, and what is kept is still the mapping that is prepared.
+-- The answer fits the call, which is refused at once where it has to be, moves the disk, and leaves what the next one rests on; and what is
+-- kept is still the mapping that is prepared.
 pub record Makes {D St : Type 0} (g : Ghosts D St) (call : Call) (answer : Answer) (old new : Holding D St) : Type 0 where
-  pub moves : IsReady g old.drivers → GoesOn answer → Moves g call answer old new
+  pub fits : Fits call answer
+  pub at_once : (f : Fault) → refusal_at_once g call old.drivers ≡ Some f → answer ≡ told.Refused f
+  pub moves : RestsOn g call old.drivers → Moves g call answer old new
   pub leads : Leads g (GoesOn answer) (disk_call g old call) old.drivers new.drivers
   pub kept : IsKept g old → IsKept g new
+  pub same : IsFalse (is_of_mapping call) → new.kept ≡ old.kept
 
 -- what a call is answered with that answers nothing else
 abbrev pub told_of : Result Unit Fault → Answer
@@ -46,4 +50,14 @@ AnswersAll g _ _ old new = ⊥
 
 -- The mapping that is kept is cancelled, and nothing is asked of the top's file.
 abbrev pub GivesUp : {D St : Type 0} → Ghosts D St → Holding D St → D × List D → Type 0
-GivesUp g h new = MatchOption h.kept (new ≡ h.drivers) (λ m. Makes g calls.Cancel told.Done h (holding new None) × (g.image new.0 ≡ g.image h.drivers.0))
+GivesUp g h new = MatchOption h.kept (new ≡ h.drivers)
+    (λ m. Makes g calls.Cancel told.Done h (holding new None) × (g.image new.0 ≡ g.image h.drivers.0))
+
+-- A list of calls is made with nothing kept at first, and what is kept at its end is given up.
+abbrev pub MadeAll : {D St : Type 0} → Ghosts D St → List Call → List Answer → D × List D → D × List D → Type 0
+MadeAll {D} {St} g list answers old new =
+    (last : Holding D St) × AnswersAll g list answers (holding old None) last × GivesUp g last new
+
+-- a list of calls that is made with nothing kept before it and behind it
+abbrev pub AnswersAlone : {D St : Type 0} → Ghosts D St → List Call → List Answer → D × List D → D × List D → Type 0
+AnswersAlone g list answers old new = AnswersAll g list answers (holding old None) (holding new None)

@@ -1,18 +1,19 @@
 -- What a call of a list does to the disk, what it names, why it is refused, and what it makes of the mapping that is kept.
-use Rattle.std.specs.Prelude.{◌≡◌, ⊤, ℕ, Bool, List, Some, None, is_some, length, map}
+use Rattle.std.specs.Prelude.{◌≡◌, ◌<◌, ◌^◌, ⊤, ℕ, Bool, List, Some, None, is_some, length, map, Option}
 use Rattle.imago_storage.specs.Steps.{Answer as DiskAnswer, shrink}
 use Rattle.imago_storage.specs.declared.fault.Fault.{Fault}
 use Rattle.imago_access.specs.declared.seen.Seen.{Ghosts}
 use Rattle.imago_access.specs.declared.mapping.PreparedDataMapping.{PreparedDataMapping}
 use Rattle.imago_access.specs.Layer.{IsFree}
 use Rattle.imago_access.specs.Layers.{chain}
-use Rattle.imago_access.specs.Chain.{at, unit_of_chain}
-use Rattle.imago_access.specs.ChainCalls.{ChainSteps, ChainPartly, ChainStays, ChainCause, OwnCause, ChainMappedCause, CanWriteRun, KeepsHomes, IsMappedFor}
+use Rattle.imago_access.specs.Chain.{at, unit_of_chain, Each}
+use Rattle.imago_access.specs.ChainCalls.{ChainSteps, ChainPartly, ChainStays, chain_refusal, chain_look_refusal, ChainCause, OwnCause, ChainMappedCause, CanWriteRun, KeepsHomes, IsMappedFor}
 use Rattle.imago_access.specs.Failing.{RefusesLookup, RefusesFlush}
-use Rattle.imago_access.specs.Files.{files_of}
+use Rattle.imago_access.specs.Files.{files_of, IsMild}
 use Rattle.imago_access.specs.Mappings.{DeepNames, DeepNamesHome, IsHomeRun, LooksIn, stored_at}
 use Rattle.imago_access.specs.Parts.{GrowthCause, ShrinkCause}
-use Rattle.imago_access.specs.Refusals.{ReadCause, DeepLookCause}
+use Rattle.imago_access.specs.Refusals.{ReadCause, DeepLookCause, barrier}
+use Rattle.imago_access.specs.Running.{IsIntactChain}
 use Rattle.imago_access.specs.Stops.{IsWritten}
 use Rattle.qimg_calls.specs.declared.call.Call.{Call}
 use Rattle.qimg_calls.specs.declared.call.Call.TheVariants as calls
@@ -21,13 +22,20 @@ use Rattle.qimg_calls.specs.declared.call.Answer.TheVariants as told
 use Rattle.qimg_calls.specs.Calls.{said}
 use Rattle.qimg_calls.specs.Held.{Holding, disk_call}
 
--- Which places an answer names: of storages, what their bytes are and where the run can be written. A flush with nothing prepared is done
--- where the top's file by itself means the disk.
+-- the top shows, holds and maps what it did
+abbrev pub TopStays : {D St : Type 0} → Ghosts D St → D × List D → D × List D → Type 0
+TopStays g old new = g.layer new.0 ≡ g.layer old.0
+
+-- Which places an answer names: of storages, what their bytes are and where the run can be written. A look leaves the top as it was. A
+-- flush with nothing prepared is done where the top's file by itself means the disk.
 abbrev pub Names : {D St : Type 0} → Ghosts D St → Call → Answer → D × List D → D × List D → Type 0
+Names g (calls.Read offset n) answer old new = TopStays g old new
 Names g (calls.GetMapping offset asked) (told.Mapped mapping n) old new =
     DeepNames (map g.layer (chain old)) (at (map g.layer (chain old))) (stored_at g (chain new)) offset n mapping
     × DeepNamesHome (g.layer old.0) offset asked mapping
-Names g (calls.GetShallowMapping offset asked) (told.Shallow mapping n) old new = LooksIn g offset asked old.0 new.0 (mapping, n)
+    × TopStays g old new
+Names g (calls.GetShallowMapping offset asked) (told.Shallow mapping n) old new =
+    LooksIn g offset asked old.0 new.0 (mapping, n) × TopStays g old new
 Names g (calls.EnsureDataMapping offset asked overwrite) (told.Mapped mapping n) old new = IsHomeRun (g.layer new.0) offset mapping n
 Names g (calls.WriteMapped guest place bytes) told.Done old new =
     IsMappedFor (g.layer old.0) guest place (length bytes.items) × ((g.layer new.0).home ≡ (g.layer old.0).home)
@@ -78,7 +86,7 @@ Refuses g (calls.ResizeShrink size) fault old new = let below = map g.layer old.
 Refuses g call fault old new = OwnCause g (disk_call g old call) old.drivers new.drivers fault
 
 -- What a refusal leaves that isn't for want of memory or a storage's fault: a write, a zeroing or a discard may be done in part, and any
--- other call leaves the disk as it was.
+-- other call leaves the disk as it was, a flush and a sync where the top can be used. A look and a `WriteMapped` leave the top as it was.
 abbrev pub Leaves : {D St : Type 0} → Ghosts D St → Call → Holding D St → Holding D St → Type 0
 Leaves g (calls.Write offset bytes) old new = ChainPartly g (disk_call g old (calls.Write offset bytes)) old.drivers new.drivers
 Leaves g (calls.WriteZeroes offset n) old new = ChainPartly g (disk_call g old (calls.WriteZeroes offset n)) old.drivers new.drivers
@@ -86,9 +94,40 @@ Leaves g (calls.DiscardToZero offset n) old new = ChainPartly g (disk_call g old
 Leaves g (calls.DiscardToAny offset n) old new = ChainPartly g (disk_call g old (calls.DiscardToAny offset n)) old.drivers new.drivers
 Leaves g (calls.DiscardToBacking offset n) old new =
     ChainPartly g (disk_call g old (calls.DiscardToBacking offset n)) old.drivers new.drivers
+Leaves g (calls.Read offset n) old new = TopStays g old.drivers new.drivers × ChainStays g old.drivers new.drivers
+Leaves g (calls.GetMapping offset n) old new = TopStays g old.drivers new.drivers × ChainStays g old.drivers new.drivers
+Leaves g (calls.GetShallowMapping offset n) old new = TopStays g old.drivers new.drivers × ChainStays g old.drivers new.drivers
+Leaves g (calls.WriteMapped guest place bytes) old new = TopStays g old.drivers new.drivers × ChainStays g old.drivers new.drivers
+Leaves g calls.Flush old new = barrier (g.layer old.drivers.0) ≡ None → ChainStays g old.drivers new.drivers
+Leaves g calls.Sync old new = barrier (g.layer old.drivers.0) ≡ None → ChainStays g old.drivers new.drivers
 Leaves g call old new = ChainStays g old.drivers new.drivers
 
--- What a call does that was not cut off: it is a step of the disk, or is refused for a cause and leaves what is said.
+-- What a call does: it is a step of the disk, or is refused for a cause and leaves what is said where it wasn't cut off, by want of memory
+-- or a storage's fault.
 abbrev pub Moves : {D St : Type 0} → Ghosts D St → Call → Answer → Holding D St → Holding D St → Type 0
-Moves g call (told.Refused fault) old new = Refuses g call fault old new × Leaves g call old new × Keeps g call (told.Refused fault) old new
+Moves g call (told.Refused fault) old new =
+    Refuses g call fault old new × (IsMild fault → Leaves g call old new × Keeps g call (told.Refused fault) old new)
 Moves g call answer old new = Does g call answer old new × Keeps g call answer old new
+
+-- What it rests on that a call moves the disk so: for one that only looks, that lookups are true, and for any other, that the chain is
+-- intact.
+abbrev pub RestsOn : {D St : Type 0} → Ghosts D St → Call → D × List D → Type 0
+RestsOn g (calls.Read offset n) c = Each g.sees (chain c)
+RestsOn g (calls.GetMapping offset n) c = Each g.sees (chain c) × (length (chain c) < 2 ^ 64)
+RestsOn g (calls.GetShallowMapping offset n) c = Each g.sees (chain c)
+RestsOn g call c = IsIntactChain g c
+
+-- the first cause why a call is refused before anything is done, by the order of causes
+abbrev pub refusal_at_once : {D St : Type 0} → Ghosts D St → Call → D × List D → Option Fault
+refusal_at_once g (calls.Read offset n) c = chain_look_refusal g c offset n
+refusal_at_once g (calls.Write offset bytes) c = chain_refusal g c offset (length bytes.items)
+refusal_at_once g (calls.WriteZeroes offset n) c = chain_refusal g c offset n
+refusal_at_once g (calls.DiscardToZero offset n) c = chain_refusal g c offset n
+refusal_at_once g (calls.DiscardToAny offset n) c = chain_refusal g c offset n
+refusal_at_once g (calls.DiscardToBacking offset n) c = chain_refusal g c offset n
+refusal_at_once g (calls.PrepareDataMapping offset n overwrite) c = chain_refusal g c offset n
+refusal_at_once g (calls.EnsureDataMapping offset n overwrite) c = chain_refusal g c offset n
+refusal_at_once g (calls.WriteMapped guest place bytes) c = chain_refusal g c guest (length bytes.items)
+refusal_at_once g calls.CommitDataMapping c = None
+refusal_at_once g calls.Cancel c = None
+refusal_at_once g call c = barrier (g.layer c.0)

@@ -1,19 +1,22 @@
 -- What a list of calls does to a chain: each reads and changes one flat disk, and a stop shows what was flushed or what was begun since.
-use Rattle.std.specs.Prelude.{◌≡◌, ⊤, ℕ, ◌+◌, ◌<◌, ◌^◌, List, [], ◌∷◌, length, map, take, drop, Option, Some, None, MatchOption, is_some, is_none, IsTrue, if◌then◌else◌}
+use Rattle.std.specs.Prelude.{◌≡◌, ⊤, ℕ, ◌+◌, ◌<◌, ◌^◌, List, [], ◌∷◌, length, map, take, Option, Some, None, MatchOption, is_some, is_none, IsTrue, if◌then◌else◌}
+use Rattle.imago_storage.specs.Calls.{IsFaultless}
 use Rattle.imago_storage.specs.Passing.{Passes}
+use Rattle.imago_storage.specs.declared.fault.Fault.{Fault}
 use Rattle.imago_storage.specs.declared.fault.Fault.TheVariants.{BadArgument}
 use Rattle.imago_access.specs.declared.seen.Seen.{Ghosts}
-use Rattle.imago_access.specs.Files.{Pairs, IsKept as IsKeptFile, files_of}
+use Rattle.imago_access.specs.Files.{Pairs, IsKept as IsKeptFile, IsLater, files_of}
 use Rattle.imago_access.specs.ChainCalls.{ChainCancels}
 use Rattle.imago_access.specs.Running.{chain_disk}
 use Rattle.qimg_calls.specs.declared.call.Call.{Call}
 use Rattle.qimg_calls.specs.declared.call.Call.TheVariants as calls
 use Rattle.qimg_calls.specs.declared.call.Answer.{Answer}
 use Rattle.qimg_calls.specs.declared.call.Answer.TheVariants as told
-use Rattle.qimg_calls.specs.Calls.{Either, is_out_of_place, GoesOn}
+use Rattle.qimg_calls.specs.Calls.{Either, Fits, is_out_of_place, GoesOn}
 use Rattle.qimg_calls.specs.Since.{Since, flushed, begun, LeftSince, IsSince}
-use Rattle.qimg_calls.specs.Held.{Holding, holding, IsReady, disk_call}
-use Rattle.qimg_calls.specs.Moves.{Moves}
+use Rattle.qimg_calls.specs.Held.{Holding, holding, IsKept, IsReady, disk_call, state_of}
+use Rattle.qimg_calls.specs.Making.{MadeAll}
+use Rattle.qimg_calls.specs.Moves.{Moves, refusal_at_once}
 
 -- where a list of calls stands: the chain with what is kept, and what may show since the last flush
 pub record Moment (D St : Type 0) : Type 0 where
@@ -26,7 +29,7 @@ moment now since = record { now = now; since = since }
 -- what may show since the last flush with nothing prepared that was done, behind one more call
 abbrev pub since_behind : {D St : Type 0} → Ghosts D St → Call → Answer → Moment D St → Holding D St → Since
 since_behind g calls.Flush told.Done old new =
-    if is_none (g.layer old.now.drivers.0).unspent then flushed (chain_disk g.layer new.drivers)
+    if is_none (state_of old.now.kept) then flushed (chain_disk g.layer new.drivers)
     else begun old.since (chain_disk g.layer old.now.drivers) (disk_call g old.now calls.Flush)
 since_behind g call answer old new = begun old.since (chain_disk g.layer old.now.drivers) (disk_call g old.now call)
 
@@ -39,65 +42,72 @@ IsLeftBy g call old = LeftSince (map g.layer old.now.drivers.1) (g.layer old.now
 abbrev pub StatesSize : {D St : Type 0} → Ghosts D St → D × List D → Type 0
 StatesSize g c = IsTrue (g.layer c.0).fixed.exact
 
--- One call that is made: what it does to the disk, and what a stop in it leaves. No file below changes, and what the layers below show
--- stays.
+-- One call that is made, from one moment to the next.
 pub record Made {D St : Type 0} (g : Ghosts D St) (call : Call) (answer : Answer) (old new : Moment D St) : Type 0 where
-  pub moves : GoesOn answer → Moves g call answer old.now new.now
+  -- what it does to the disk, or why it is refused
+  pub fits : Fits call answer
+  pub at_once : (f : Fault) → refusal_at_once g call old.now.drivers ≡ Some f → answer ≡ told.Refused f
+  pub moves : Moves g call answer old.now new.now
+  -- what a stop in it leaves, and what one behind it may show
   pub stops : StatesSize g old.now.drivers → Passes (IsLeftBy g call old) (g.image old.now.drivers.0) (g.image new.now.drivers.0)
+  pub later : IsLater (g.image old.now.drivers.0) (g.image new.now.drivers.0)
+  pub since : new.since ≡ since_behind g call answer old new.now
+  -- no file below changes, and what the layers below show stays
   pub files : Pairs IsKeptFile (files_of g old.now.drivers.1) (files_of g new.now.drivers.1)
   pub below : GoesOn answer → map g.layer new.now.drivers.1 ≡ map g.layer old.now.drivers.1
-  pub since : new.since ≡ since_behind g call answer old new.now
+  -- what the next call rests on
+  pub fixed : (g.layer new.now.drivers.0).fixed ≡ (g.layer old.now.drivers.0).fixed
+  pub kept : IsKept g new.now
+  pub calm : GoesOn answer → IsFaultless (g.image old.now.drivers.0) (g.image new.now.drivers.0)
+  pub ready : GoesOn answer → IsReady g new.now.drivers
 
 -- One call of a list: out of place it isn't made, and all is as it was.
 abbrev pub Goes : {D St : Type 0} → Ghosts D St → Call → Answer → Moment D St → Moment D St → Type 0
 Goes g call answer old new =
     Either (is_out_of_place (is_some old.now.kept) call) ((answer ≡ told.Refused BadArgument) × (new ≡ old)) (Made g call answer old new)
 
--- A list of calls, with the answer to each. The first want of memory or fault of a storage ends what is said.
+-- A list of calls, with the answer to each, from moment to moment. The first want of memory or fault of a storage ends what is said, but
+-- that the top's file goes on from there.
 abbrev pub Run : {D St : Type 0} → Ghosts D St → List Call → List Answer → Moment D St → Moment D St → Type 0
 Run g [] [] old new = new ≡ old
-Run {D} {St} g (call ∷ calls) (answer ∷ answers) old new =
-    (mid : Moment D St) × Goes g call answer old mid × (GoesOn answer → Run g calls answers mid new)
+Run {D} {St} g (call ∷ calls) (answer ∷ answers) old new = (mid : Moment D St) × Goes g call answer old mid
+    × (GoesOn answer → Run g calls answers mid new) × IsLater (g.image mid.now.drivers.0) (g.image new.now.drivers.0)
 Run g _ _ old new = ⊥
 
--- each call but perhaps the last goes on
-abbrev pub IsCalm : List Answer → Type 0
-IsCalm [] = ⊤
-IsCalm (answer ∷ []) = ⊤
-IsCalm (answer ∷ answers) = GoesOn answer × IsCalm answers
-
--- so does each
+-- no call is cut off, by want of memory or by a storage that failed
 abbrev pub AllGoOn : List Answer → Type 0
 AllGoOn [] = ⊤
 AllGoOn (answer ∷ answers) = GoesOn answer × AllGoOn answers
 
--- A stop in the run leaves the file: in one of the calls, which begins where those before it have led.
-pub record IsLeftIn {D St : Type 0} (g : Ghosts D St) (list : List Call) (answers : List Answer) (from : Moment D St) (f : List ℕ) : Type 0 where
-  pub before : ℕ
-  pub inside : before < length list
-  pub mid : Moment D St
-  pub run : Run g (take before list) (take before answers) from mid
-  pub calm : AllGoOn (take before answers)
-  pub call : Call
-  pub is_call : call ∷ [] ≡ take 1 (drop before list)
-  pub left : IsLeftBy g call mid f
-
--- what is kept at the end is cancelled: the disk stays
+-- what is kept at the end is cancelled: the disk stays, and nothing is asked of the top's file
 abbrev pub Ends : {D St : Type 0} → Ghosts D St → Moment D St → D × List D → Type 0
-Ends g last new = MatchOption last.now.kept (new ≡ last.now.drivers) (λ m. ChainCancels g m.state last.now.drivers new)
+Ends g last new = MatchOption last.now.kept (new ≡ last.now.drivers)
+    (λ m. ChainCancels g m.state last.now.drivers new × (g.image new.0 ≡ g.image last.now.drivers.0))
 
 -- The file and the disk show what they may since the last flush, and a stop now leaves the file: where the top's file states the size of its
 -- disk, and its storage tells its stops, keeps what is written, and has a count of refused changes that isn't at its greatest value.
 abbrev pub StandsSince : {D St : Type 0} → Ghosts D St → Since → D × List D → Type 0
-StandsSince g since c = StatesSize g c → IsTrue (g.image c.0).shape.tells → IsTrue (g.image c.0).shape.keeps → (g.image c.0).refusals + 1 < 2 ^ 64
+StandsSince g since c = StatesSize g c
+    → IsTrue (g.image c.0).shape.tells → IsTrue (g.image c.0).shape.keeps → (g.image c.0).refusals + 1 < 2 ^ 64
     → ((g.image c.0).stop ≡ (g.image c.0).bytes) × IsSince (map g.layer c.1) (g.layer c.0) (g.image c.0).bytes since
 
--- What a list of calls does to a chain, from a disk that was flushed and calls begun since.
-pub record Driven {D St : Type 0} (g : Ghosts D St) (since : Since) (list : List Call) (answers : List Answer) (old new : D × List D) : Type 0 where
+-- What a list of calls does to a chain, from a disk that was flushed and calls begun since: each call as `Run` has it, and so each stop, in
+-- their order.
+pub record Driven {D St : Type 0} (g : Ghosts D St) (since : Since) (list : List Call) (answers : List Answer)
+    (old new : D × List D) : Type 0 where
   pub last : Moment D St
   pub run : Run g list answers (moment (holding old None) since) last
   pub ends : AllGoOn answers → Ends g last new
-  pub stops : StatesSize g old → IsCalm answers
-      → Passes (IsLeftIn g list answers (moment (holding old None) since)) (g.image old.0) (g.image new.0)
+  pub later : IsLater (g.image last.now.drivers.0) (g.image new.0)
+  -- what the next list rests on
+  pub calm : AllGoOn answers → IsFaultless (g.image old.0) (g.image new.0)
   pub ready : AllGoOn answers → IsReady g new
   pub stands : AllGoOn answers → StandsSince g last.since new
+
+-- A list of calls that was cut short for want of room for an answer: these are the calls before, and no later one was made.
+pub record CutShort {D St : Type 0} (g : Ghosts D St) (list : List Call) (old new : D × List D) : Type 0 where
+  pub count : ℕ
+  pub fewer : count < length list
+  pub answers : List Answer
+  pub made : MadeAll g (take count list) answers old new
+  pub driven : (since : Since) → IsReady g old → StandsSince g since old → Driven g since (take count list) answers old new

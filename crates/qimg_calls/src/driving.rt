@@ -1,13 +1,12 @@
 // A list of calls over a chain.
-ghost use Rattle.std.specs.Prelude.{◌≡◌, ◌≤◌, ℕ, List, [], None, length, IfOk, IfErr, OnOk, IsOkUnless, take, vec_capacity};
+ghost use Rattle.std.specs.Prelude.{◌≡◌, ◌≤◌, ◌<◌, [], None, length, IfOk, IfErr, OnOk, OnErr, IsOkUnless, take, vec_capacity};
 ghost use Rattle.imago_access.specs.Layer.{IsFree};
 ghost use Rattle.imago_access.specs.Chain.{Each};
 ghost use Rattle.imago_access.specs.Files.{Pairs, IsKept as IsKeptFile, files_of};
 ghost use Rattle.qimg_calls.specs.Since.{Since};
 ghost use Rattle.qimg_calls.specs.Held.{holding, IsKept, IsReady};
-ghost use Rattle.qimg_calls.specs.Making.{Answers, AnswersAll, GivesUp};
-ghost use Rattle.qimg_calls.specs.Runs.{Driven, StandsSince};
-ghost use Rattle.qimg_calls.specs.declared.call.Answer.{Answer};
+ghost use Rattle.qimg_calls.specs.Making.{Answers, AnswersAll, GivesUp, MadeAll};
+ghost use Rattle.qimg_calls.specs.Runs.{CutShort, Driven, StandsSince};
 
 use crate::call::{Answer, Call};
 use crate::making::{Kept, cancel, make};
@@ -24,9 +23,12 @@ use std::alloc::{AllocError, Global};
 /// It refuses with `Fault::Memory` alone, where room for an answer is refused: before the call is made, and no later call is.
 ///
 /// Where the chain is ready (its top is as an image that was found sound has to be, lookups in the layers below are true, none has failed)
-/// the calls read and change one flat disk: each is a step of it, or is refused for a cause that is stated. No file below changes. At each
-/// stop the top's file, where it states the size of its disk, is sound, and shows at each place what it did at the last flush or what a call
-/// begun since gives. The first answer of `Fault::Memory` or `Fault::Storage` ends what is promised, but that no file below changes.
+/// the calls read and change one flat disk, moment by moment: each is a step of it, or is refused for a cause that is stated, and first for
+/// one that bars it at once. No file below changes. A stop in a call leaves the top's file, where it states the size of its disk, sound, and
+/// showing at each place what it did at the last flush before that or what a call begun since gives. The first answer of `Fault::Memory` or
+/// `Fault::Storage` ends what is promised, but that no file below changes.
+///
+/// Of any chain, ready or not, each answer fits its call, and is one that the call may have for what lookups tell of the disk.
 pub fn drive<D: FormatDriverInstance>(
     alloc: Global,
     chain: &mut FormatAccess<D>,
@@ -35,8 +37,8 @@ pub fn drive<D: FormatDriverInstance>(
     requires free { IsFree (D.layer chain.old.0) }
     ensures headline { (since : Since) → IsReady D.Seen chain.old → StandsSince D.Seen since chain.old
         → IfOk result (λ answers. Driven D.Seen since calls.now answers.items chain.old chain.new) }
-    ensures cut_short { (since : Since) → IsReady D.Seen chain.old → StandsSince D.Seen since chain.old
-        → IfErr result (λ _. (n : ℕ) × (answers : List Answer) × Driven D.Seen since (take n calls.now) answers chain.old chain.new) }
+    ensures made { IfOk result (λ answers. MadeAll D.Seen calls.now answers.items chain.old chain.new) }
+    ensures cut_short { IfErr result (λ _. CutShort D.Seen calls.now chain.old chain.new) }
     ensures each { IfOk result (λ answers. length answers.items ≡ length calls.now) }
     ensures refused { IsOkUnless result Fault.Memory }
     ensures free { IsFree (D.layer chain.new.0) }
@@ -95,8 +97,10 @@ fn make_all<D: FormatDriverInstance>(
     requires room { length calls.now ≤ vec_capacity answers.old }
     ensures kept { IsKept D.Seen (holding chain.new result.1) }
     ensures ok { OnOk result.0 (AnswersAll D.Seen calls.now answers.new.items (holding chain.old None) (holding chain.new result.1)) }
-    ensures err { IfErr result.0 (λ e. (e ≡ Fault.Memory)
-        × AnswersAll D.Seen (take (length answers.new.items) calls.now) answers.new.items (holding chain.old None) (holding chain.new result.1)) }
+    ensures fewer { IfErr result.0 (λ _. length answers.new.items < length calls.now) }
+    ensures memory { IsOkUnless result.0 Fault.Memory }
+    ensures err { OnErr result.0 (AnswersAll D.Seen (take (length answers.new.items) calls.now) answers.new.items
+        (holding chain.old None) (holding chain.new result.1)) }
 {
     let mut kept = None;
     for call in calls {

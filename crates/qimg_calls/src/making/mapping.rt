@@ -26,7 +26,8 @@ fn prepare<D: FormatDriverInstance>(
     overwrite: bool,
 ) -> (Answer, Kept<D::State>)
     requires free { IsFree (D.layer chain.old.0) }
-    ensures { Makes D.Seen (calls.PrepareDataMapping offset length overwrite) result.0 (holding chain.old None) (holding chain.new result.1) }
+    ensures { Makes D.Seen (calls.PrepareDataMapping offset length overwrite) result.0
+        (holding chain.old None) (holding chain.new result.1) }
 {
     match chain.prepare_data_mapping(alloc, offset, length, overwrite) {
         Ok(mapping) => {

@@ -8,7 +8,7 @@ use Rattle.qimg_calls.specs.Held.{holding}
 use Rattle.qimg_calls.specs.Making.{told_of}
 use Rattle.qimg_calls.specs.declared.call.Call.TheVariants as calls
 use Rattle.qimg_calls.proofs.Leading.{ran-leads}
-use Rattle.qimg_calls.proofs.Moving.{not-cut, nothing-named, told-moves}
+use Rattle.qimg_calls.proofs.Moving.{not-cut, nothing-named, told-fits, told-moves, told-refused}
 use Rattle.qimg_calls.proofs.making.changing.discard_to_backing.Goals as goal
 
 pub returns : goal.returns
@@ -19,9 +19,12 @@ returns g c =
     let r = c.discard_to_backing.result in
     let e = c.discard_to_backing.ensures in
     rw (c.told.ensures) (record {
-      moves = λ ready on. told-moves d (calls.DiscardToBacking c.args.offset c.args.length) r (holding old None) (holding new None) refl
-          (e.ok ready.intact) (nothing-named r) (e.cause ready.intact) (e.err ready.intact) on;
+      fits = told-fits (calls.DiscardToBacking c.args.offset c.args.length) r refl;
+      at_once = λ f is. told-refused r f (e.at_once f is);
+      moves = λ intact. told-moves d (calls.DiscardToBacking c.args.offset c.args.length) r (holding old None) (holding new None) refl
+          (e.ok intact) (nothing-named r) (e.cause intact) (e.err intact);
       leads = ran-leads d old new (GoesOn (told_of r)) (WasNotCutOff r) (discard_to_backing c.args.offset c.args.length) g.met.D.FormatDriverInstance.safe_runs
           (GivesBelow (map g.D.Seen.layer c.args.chain.now.1) c.args.offset c.args.length) e.ran (λ on ready. not-cut r on) (λ p v gave. gave) (omega arith);
       kept = λ kept. record { mine = tt; free = λ none. rw (e.like.unspent) (kept.free refl) };
+      same = λ _. refl;
     })

@@ -1,5 +1,5 @@
 use Rattle.std.specs.Prelude.{None, map, Bool, true, false}
-use Rattle.std.proofs.Common.{ℕ, List, ◌∷◌, arith, refl}
+use Rattle.std.proofs.Common.{ℕ, List, ◌∷◌, ap, arith, refl}
 use Rattle.imago_storage.specs.Disk.{Value, Disk}
 use Rattle.imago_storage.specs.Steps.{ensure, run}
 use Rattle.imago_access.specs.Files.{WasNotCutOff}
@@ -26,11 +26,14 @@ returns-in-Ok g c =
     let r = c.ensure_data_mapping.result in
     let e = c.in-Ok.ensures in
     record {
-      moves = λ ready on. ((run c.in-Ok.count, refl, e.ok ready.intact, e.home ready.intact), refl);
+      fits = tt;
+      at_once = λ f is. absurd (cc (e.at_once f is));
+      moves = λ intact. ((run c.in-Ok.count, refl, e.ok intact, e.home intact), refl);
       leads = ran-leads d old new (GoesOn (told.Mapped c.in-Ok.mapping c.in-Ok.count)) _ (ensure c.args.offset c.args.length c.args.overwrite) g.met.D.FormatDriverInstance.safe_runs
           (GivesAnnounced c.args.overwrite c.args.offset c.args.length) e.ran (λ on ready. tt)
           (announced (map d.layer old.1) (chain_disk d.layer old) c.args.offset c.args.length c.args.overwrite) (omega arith);
       kept = λ kept. record { mine = tt; free = λ none. rw (e.like.unspent) (kept.free refl) };
+      same = λ _. refl;
     }
 
 pub returns-in-Err : goal.returns-in-Err
@@ -40,9 +43,12 @@ returns-in-Err g c =
     let new = c.ensure_data_mapping.new.self in
     let e = c.in-Err.ensures in
     record {
-      moves = λ ready on. (e.cause ready.intact, e.err ready.intact on, refl);
+      fits = tt;
+      at_once = λ f is. ap told.Refused (cc (e.at_once f is));
+      moves = λ intact. (e.cause intact, λ mild. (e.err intact mild, refl));
       leads = ran-leads d old new (GoesOn (told.Refused c.in-Err.fault)) _ (ensure c.args.offset c.args.length c.args.overwrite) g.met.D.FormatDriverInstance.safe_runs
           (GivesAnnounced c.args.overwrite c.args.offset c.args.length) e.ran (λ on ready. on)
           (announced (map d.layer old.1) (chain_disk d.layer old) c.args.offset c.args.length c.args.overwrite) (omega arith);
       kept = λ kept. record { mine = tt; free = λ none. rw (e.like.unspent) (kept.free refl) };
+      same = λ _. refl;
     }

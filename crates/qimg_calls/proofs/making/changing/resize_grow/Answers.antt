@@ -10,7 +10,7 @@ use Rattle.qimg_calls.specs.Held.{holding}
 use Rattle.qimg_calls.specs.Making.{told_of}
 use Rattle.qimg_calls.specs.declared.call.Call.TheVariants as calls
 use Rattle.qimg_calls.proofs.Leading.{fewer-stops, step-leads}
-use Rattle.qimg_calls.proofs.Moving.{not-cut, nothing-named, told-moves}
+use Rattle.qimg_calls.proofs.Moving.{not-cut, nothing-named, told-fits, told-moves, told-refused}
 use Rattle.qimg_calls.proofs.Resizing.{grown-between}
 use Rattle.qimg_calls.proofs.making.changing.resize_grow.Goals as goal
 
@@ -23,12 +23,15 @@ returns g c =
     let e = c.resize_grow.ensures in
     let call = grow c.args.size (fill_of c.args.mode) in
     rw (c.told.ensures) (record {
-      moves = λ ready on. told-moves d (calls.ResizeGrow c.args.size c.args.mode) r (holding old None) (holding new None) refl
-          (e.ok ready.intact) (nothing-named r) (e.cause ready.intact) (e.err ready.intact) on;
+      fits = told-fits (calls.ResizeGrow c.args.size c.args.mode) r refl;
+      at_once = λ f is. told-refused r f (e.resizes.at_once.refused f is);
+      moves = λ intact. told-moves d (calls.ResizeGrow c.args.size c.args.mode) r (holding old None) (holding new None) refl
+          (e.ok intact) (nothing-named r) (e.cause intact) (e.err intact);
       leads = step-leads d old new (GoesOn (told_of r)) (WasNotCutOff r) call g.met.D.FormatDriverInstance.safe_runs e.went e.below
           (λ on ready. not-cut r on) (λ on ready. e.intact (not-cut r on) ready.intact)
           (λ on ready. grown-between (below_of d.layer old) (map d.layer old.1) (chain_disk d.layer old) (chain_disk d.layer new) c.args.size (fill_of c.args.mode) r on (e.ok ready.intact) (e.err ready.intact))
           (λ ready. fewer-stops d (map d.layer old.1) (d.layer old.0).size (max (d.layer old.0).size c.args.size) (max (d.layer old.0).size c.args.size) (GivesPast (d.layer old.0).size) (GivesPast (d.layer old.0).size) old.0 new.0
           (omega arith) (λ p v gave. gave) (e.stops ready.intact));
       kept = λ kept. record { mine = tt; free = λ none. e.free };
+      same = λ _. refl;
     })

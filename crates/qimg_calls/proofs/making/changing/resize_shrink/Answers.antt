@@ -11,7 +11,7 @@ use Rattle.qimg_calls.specs.Held.{holding}
 use Rattle.qimg_calls.specs.Making.{told_of}
 use Rattle.qimg_calls.specs.declared.call.Call.TheVariants as calls
 use Rattle.qimg_calls.proofs.Leading.{fewer-stops, step-leads}
-use Rattle.qimg_calls.proofs.Moving.{not-cut, nothing-named, told-moves}
+use Rattle.qimg_calls.proofs.Moving.{not-cut, nothing-named, told-fits, told-moves, told-refused}
 use Rattle.qimg_calls.proofs.Resizing.{shrunk-between}
 use Rattle.qimg_calls.proofs.making.changing.resize_shrink.Goals as goal
 
@@ -23,8 +23,10 @@ returns g c =
     let r = c.resize_shrink.result in
     let e = c.resize_shrink.ensures in
     rw (c.told.ensures) (record {
-      moves = λ ready on. told-moves d (calls.ResizeShrink c.args.size) r (holding old None) (holding new None) refl
-          (e.ok ready.intact) (nothing-named r) (e.cause ready.intact) (e.err ready.intact) on;
+      fits = told-fits (calls.ResizeShrink c.args.size) r refl;
+      at_once = λ f is. told-refused r f (e.resizes.at_once.refused f is);
+      moves = λ intact. told-moves d (calls.ResizeShrink c.args.size) r (holding old None) (holding new None) refl
+          (e.ok intact) (nothing-named r) (e.cause intact) (e.err intact);
       leads = step-leads d old new (GoesOn (told_of r)) (WasNotCutOff r) (shrink c.args.size) g.met.D.FormatDriverInstance.safe_runs e.went
           (subst (LookedUnder (below_ghosts d) (WasNotCutOff r) old.1) (sym e.below) (looked_under_same (below_ghosts d) (WasNotCutOff r) old.1))
           (λ on ready. not-cut r on) (λ on ready. e.intact (not-cut r on) ready.intact)
@@ -32,4 +34,5 @@ returns g c =
           (λ ready. fewer-stops d (map d.layer old.1) c.args.size (d.layer old.0).size (d.layer old.0).size (GivesBelowPast (map d.layer old.1) c.args.size) (GivesBelowPast (map d.layer old.1) c.args.size) old.0 new.0
           (omega arith) (λ p v gave. gave) (e.stops ready.intact));
       kept = λ kept. record { mine = tt; free = λ none. e.free };
+      same = λ _. refl;
     })

@@ -8,7 +8,7 @@ use Rattle.qimg_calls.specs.Held.{holding}
 use Rattle.qimg_calls.specs.Making.{told_of}
 use Rattle.qimg_calls.specs.declared.call.Call.TheVariants as calls
 use Rattle.qimg_calls.proofs.Leading.{ran-leads}
-use Rattle.qimg_calls.proofs.Moving.{not-cut, nothing-named, told-moves}
+use Rattle.qimg_calls.proofs.Moving.{not-cut, nothing-named, told-fits, told-moves, told-refused}
 use Rattle.qimg_calls.proofs.making.changing.write.Goals as goal
 
 pub returns : goal.returns
@@ -20,8 +20,11 @@ returns g c =
     let e = c.write.ensures in
     let call = calls.Write c.args.offset c.args.bytes.now in
     rw (c.told.ensures) (record {
-      moves = λ ready on. told-moves d call r (holding old None) (holding new None) refl (rw (c.deref.ensures.value) at e.ok ready.intact) (nothing-named r) (rw (c.deref.ensures.value) at e.cause ready.intact) (rw (c.deref.ensures.value) at e.err ready.intact) on;
+      fits = told-fits call r refl;
+      at_once = λ f is. told-refused r f ((rw (c.deref.ensures.value) at e.at_once) f is);
+      moves = λ intact. told-moves d call r (holding old None) (holding new None) refl (rw (c.deref.ensures.value) at e.ok intact) (nothing-named r) (rw (c.deref.ensures.value) at e.cause intact) (rw (c.deref.ensures.value) at e.err intact);
       leads = ran-leads d old new (GoesOn (told_of r)) (WasNotCutOff r) (write c.args.offset c.args.bytes.now.items) g.met.D.FormatDriverInstance.safe_runs (GivesBytes c.args.offset c.args.bytes.now.items) (rw (c.deref.ensures.value) at e.ran)
           (λ on ready. not-cut r on) (λ p v gave. gave) (omega arith);
       kept = λ kept. record { mine = tt; free = λ none. rw (e.like.unspent) (kept.free refl) };
+      same = λ _. refl;
     })

@@ -8,7 +8,7 @@ use Rattle.qimg_calls.specs.Held.{holding}
 use Rattle.qimg_calls.specs.Making.{told_of}
 use Rattle.qimg_calls.specs.declared.call.Call.TheVariants as calls
 use Rattle.qimg_calls.proofs.Leading.{ran-leads, whole-ok, like-kept}
-use Rattle.qimg_calls.proofs.Moving.{not-cut, told-moves, ok-stays, flush-names}
+use Rattle.qimg_calls.proofs.Moving.{not-cut, told-fits, told-moves, told-refused, refused-stays, flush-names}
 use Rattle.qimg_calls.proofs.making.looking.flush.Goals as goal
 
 pub returns : goal.returns
@@ -20,9 +20,12 @@ returns g c kept is =
     let r = c.flush.result in
     let e = c.flush.ensures in
     rw (c.told.ensures) (record {
-      moves = λ ready on. told-moves d calls.Flush r (holding old kept) (holding new kept) refl (e.ok ready.intact) (flush-names d old new r (e.written ready.intact)) (e.cause ready.intact.is_safe)
-          (ok-stays d old new r (whole-ok (d.layer old.0) (files d old.0) (files d new.0) r (not-cut r on) ready.usable.0 (e.cause ready.intact.is_safe))) on;
+      fits = told-fits calls.Flush r refl;
+      at_once = λ f is. told-refused r f (e.unusable f is);
+      moves = λ intact. told-moves d calls.Flush r (holding old kept) (holding new kept) refl (e.ok intact) (flush-names d old new r (e.written intact)) (e.cause intact.is_safe)
+          (refused-stays d old new (files d old.0) (files d new.0) r (e.cause intact.is_safe));
       leads = ran-leads d old new (GoesOn (told_of r)) (IsOk r) flush m.safe_runs GivesNone e.ran
           (λ on ready. whole-ok (d.layer old.0) (files d old.0) (files d new.0) r (not-cut r on) ready.usable.0 (e.cause ready.intact.is_safe)) (λ p v none. absurd none) (omega arith);
       kept = like-kept d old new kept e.like;
+      same = λ _. refl;
     })

@@ -1,4 +1,4 @@
-use Rattle.std.proofs.Common.{arith, refl}
+use Rattle.std.proofs.Common.{ap, arith, refl}
 use Rattle.imago_storage.specs.Steps.{lookup, found}
 use Rattle.imago_access.specs.Kinds.{kind_of}
 use Rattle.qimg_calls.specs.Calls.{GoesOn}
@@ -14,10 +14,12 @@ returns-in-Ok g c kept is =
     let new = c.get_shallow_mapping.new.self in
     let e = c.in-Ok.ensures in
     record {
-      moves = λ ready on. let see = m.safe_sees old.0 ready.intact.is_safe in
-          ((found (kind_of c.in-Ok.mapping) c.in-Ok.count, refl, e.ok see, e.looks see), refl);
+      fits = tt;
+      at_once = λ f is. absurd (cc (e.unusable f is));
+      moves = λ sees. ((found (kind_of c.in-Ok.mapping) c.in-Ok.count, refl, e.ok sees.0, (e.looks sees.0, (e.looked.0.stays tt sees.0).0)), refl);
       leads = look-leads d old new (GoesOn (told.Shallow c.in-Ok.mapping c.in-Ok.count)) _ (lookup c.args.offset c.args.length) m.safe_sees e.looked (λ on. tt) (omega arith);
       kept = like-kept d old new kept e.looked.0.like;
+      same = λ _. refl;
     }
 
 pub returns-in-Err : goal.returns-in-Err
@@ -28,7 +30,10 @@ returns-in-Err g c kept is =
     let new = c.get_shallow_mapping.new.self in
     let e = c.in-Err.ensures in
     record {
-      moves = λ ready on. (e.cause (m.safe_sees old.0 ready.intact.is_safe), looked-stays d m.safe_sees old new _ on e.looked ready, refl);
+      fits = tt;
+      at_once = λ f is. ap told.Refused (cc (e.unusable f is));
+      moves = λ sees. (e.cause sees.0, λ mild. (((e.looked.0.stays mild sees.0).0, looked-stays d old new _ mild e.looked sees), refl));
       leads = look-leads d old new (GoesOn (told.Refused c.in-Err.fault)) _ (lookup c.args.offset c.args.length) m.safe_sees e.looked (λ on. on) (omega arith);
       kept = like-kept d old new kept e.looked.0.like;
+      same = λ _. refl;
     }

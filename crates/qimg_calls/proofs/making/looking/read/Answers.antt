@@ -1,12 +1,12 @@
 use Rattle.std.specs.Prelude.{take, drop}
-use Rattle.std.proofs.Common.{◌≡◌, ◌++◌, ℕ, List, length, ◌∙◌, arith, refl, subst, sym}
+use Rattle.std.proofs.Common.{◌≡◌, ◌++◌, ℕ, List, length, ◌∙◌, ap, arith, refl, subst, sym}
 use Rattle.std.proofs.Math.Seq.{take-append_seam}
 use Rattle.imago_storage.specs.Steps.{read, bytes_read}
 use Rattle.imago_access.specs.ChainLooks.{ChainReads}
 use Rattle.qimg_calls.specs.Calls.{GoesOn}
 use Rattle.qimg_calls.specs.Held.{holding}
 use Rattle.qimg_calls.specs.declared.call.Answer.TheVariants as told
-use Rattle.qimg_calls.proofs.Leading.{all-see, like-kept, look-leads, looked-stays}
+use Rattle.qimg_calls.proofs.Leading.{like-kept, look-leads, looked-stays}
 use Rattle.qimg_calls.proofs.making.looking.read.Goals as goal
 
 -- a buffer that is filled is what fills it
@@ -21,20 +21,23 @@ returns-in-Ok-clause-made g c kept is =
     let new = c.read.new.self in
     let e = c.in-Ok.ensures in
     record {
-      moves = λ ready on. (
-        let ok = e.ok (all-see d m.safe_sees old ready) in
+      fits = tt;
+      at_once = λ f is. absurd (cc ((rw (c.deref_mut.ensures.len ∙ c.in_ok-buf.ensures.len) at e.at_once) f is));
+      moves = λ sees. (
+        let ok = e.ok sees in
             let size : length c.deref_mut.result.now ≡ c.args.length = c.deref_mut.ensures.len ∙ c.in_ok-buf.ensures.len in (
               bytes_read _,
               refl,
               subst (λ (bytes : List ℕ). ChainReads d c.args.offset c.args.length bytes old new)
                   (sym (filled c.read.new.buf (drop (length c.read.new.buf) c.in_ok-buf.buf.items) c.in_ok-buf.buf.len (ok.0 ∙ size) c.in_ok-buf.ensures.len))
                   (ok.0 ∙ size, ok.1, ok.2),
-              tt,
+              (e.looked.0.stays tt sees.0).0,
             ),
         refl,
       );
       leads = look-leads d old new _ _ (read c.args.offset c.args.length) m.safe_sees e.looked (λ on. tt) (omega arith);
       kept = like-kept d old new kept e.looked.0.like;
+      same = λ _. refl;
     }
 
 pub returns-in-Err-clause-made : goal.returns-in-Err-clause-made
@@ -45,7 +48,10 @@ returns-in-Err-clause-made g c kept is =
     let new = c.read.new.self in
     let e = c.in-Err.ensures in
     record {
-      moves = λ ready on. (rw (c.deref_mut.ensures.len ∙ c.in_ok-buf.ensures.len) at e.cause (all-see d m.safe_sees old ready), looked-stays d m.safe_sees old new _ on e.looked ready, refl);
+      fits = tt;
+      at_once = λ f is. ap told.Refused (cc ((rw (c.deref_mut.ensures.len ∙ c.in_ok-buf.ensures.len) at e.at_once) f is));
+      moves = λ sees. (rw (c.deref_mut.ensures.len ∙ c.in_ok-buf.ensures.len) at e.cause sees, λ mild. (((e.looked.0.stays mild sees.0).0, looked-stays d old new _ mild e.looked sees), refl));
       leads = look-leads d old new _ _ (read c.args.offset c.args.length) m.safe_sees e.looked (λ on. on) (omega arith);
       kept = like-kept d old new kept e.looked.0.like;
+      same = λ _. refl;
     }

@@ -8,7 +8,7 @@ use Rattle.qimg_calls.specs.Held.{holding}
 use Rattle.qimg_calls.specs.Making.{told_of}
 use Rattle.qimg_calls.specs.declared.call.Call.TheVariants as calls
 use Rattle.qimg_calls.proofs.Leading.{ran-leads, whole-ok, like-kept}
-use Rattle.qimg_calls.proofs.Moving.{not-cut, nothing-named, told-moves, ok-stays}
+use Rattle.qimg_calls.proofs.Moving.{not-cut, nothing-named, told-fits, told-moves, told-refused, refused-stays}
 use Rattle.qimg_calls.proofs.making.looking.sync.Goals as goal
 
 pub returns : goal.returns
@@ -20,9 +20,12 @@ returns g c kept is =
     let r = c.sync.result in
     let e = c.sync.ensures in
     rw (c.told.ensures) (record {
-      moves = λ ready on. told-moves d calls.Sync r (holding old kept) (holding new kept) refl e.ok (nothing-named r) e.cause
-          (ok-stays d old new r (whole-ok (d.layer old.0) (files d old.0) (files d new.0) r (not-cut r on) ready.usable.0 e.cause)) on;
+      fits = told-fits calls.Sync r refl;
+      at_once = λ f is. told-refused r f (e.unusable f is);
+      moves = λ intact. told-moves d calls.Sync r (holding old kept) (holding new kept) refl e.ok (nothing-named r) e.cause
+          (refused-stays d old new (files d old.0) (files d new.0) r e.cause);
       leads = ran-leads d old new (GoesOn (told_of r)) (IsOk r) sync m.safe_runs GivesNone e.ran
           (λ on ready. whole-ok (d.layer old.0) (files d old.0) (files d new.0) r (not-cut r on) ready.usable.0 e.cause) (λ p v none. absurd none) (omega arith);
       kept = like-kept d old new kept e.like;
+      same = λ _. refl;
     })

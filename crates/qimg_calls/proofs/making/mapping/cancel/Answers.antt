@@ -20,10 +20,13 @@ returns g c =
     let call = disk_call d (holding old (Some m)) calls.Cancel in
     record {
       made = record {
-        moves = λ ready on. ((done, refl, e.ok kept.mine, tt), refl);
+        fits = refl;
+        at_once = λ f is. absurd (cc is);
+        moves = λ intact. ((done, refl, e.ok kept.mine, tt), refl);
         leads = cancel-leads d g.met.D.FormatDriverInstance.safe_runs old new m e.below kept call _ e.cancels (omega arith) (λ ready. e.intact kept.mine ready.intact)
             (λ ready. cancelled-between (Begun (map d.layer old.1) (chain_disk d.layer old) call) (below_of d.layer old) _ _ (chain_disk d.layer old) (chain_disk d.layer new) (e.ok kept.mine));
         kept = λ k. record { mine = tt; free = λ none. free-then d m.state (d.layer old.0) (d.layer new.0) (λ some. e.free kept.mine some) (λ none. e.stateless none) kept.free };
+        same = λ no. absurd (cc no);
       };
       unasked = e.cancels.none.0;
     }

@@ -14,9 +14,12 @@ returns-in-Ok g c =
     let m = c.args.mapping in
     let kept = c.requires.kept in
     record {
-      moves = λ ready on. ((done, refl, e.ok ready.intact kept.mine, e.home ready.intact kept.mine), refl);
+      fits = refl;
+      at_once = λ f is. absurd (cc is);
+      moves = λ intact. ((done, refl, e.ok intact kept.mine, e.home intact kept.mine), refl);
       leads = commit-leads d g.met.D.FormatDriverInstance.safe_runs old new m e.below kept (λ ready. e.stops ready.intact kept.mine) e.commits (λ ready. e.intact kept.mine ready.intact) (λ ready. e.ok ready.intact kept.mine);
       kept = λ k. record { mine = tt; free = λ none. free-then d m.state (d.layer old.0) (d.layer new.0) (λ some. e.free kept.mine some) (λ none. e.stateless none) kept.free };
+      same = λ no. absurd (cc no);
     }
 
 pub returns-in-Err : goal.returns-in-Err
@@ -26,4 +29,4 @@ returns-in-Err g c =
     let new = c.commit_data_mapping.new.self in
     let e = c.in-Err.ensures in
     let kept = c.requires.kept in
-    refused-makes d g.met.D.FormatDriverInstance.safe_runs old new c.args.mapping e.below kept (λ ready. e.stops ready.intact kept.mine) c.in-Err.fault c.in-Err.back e.commits e.refused (λ ready. e.cause ready.intact (inl kept.mine))
+    refused-makes d g.met.D.FormatDriverInstance.safe_runs old new c.args.mapping e.below kept (λ ready. e.stops ready.intact kept.mine) c.in-Err.fault c.in-Err.back e.commits e.refused (λ intact. e.cause intact (inl kept.mine))

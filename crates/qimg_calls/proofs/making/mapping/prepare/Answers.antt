@@ -3,6 +3,7 @@ use Rattle.std.proofs.Common.{◌≡◌, ◌∙◌, ap, arith, refl, sym}
 use Rattle.imago_storage.specs.Steps.{prepare, prepared}
 use Rattle.imago_access.specs.Stops.{GivesNone}
 use Rattle.qimg_calls.specs.Moves.{IsTold}
+use Rattle.qimg_calls.specs.declared.call.Answer.TheVariants as told
 use Rattle.qimg_calls.proofs.Leading.{ran-leads}
 use Rattle.qimg_calls.proofs.Spending.{some-or-none}
 use Rattle.qimg_calls.proofs.making.mapping.prepare.Goals as goal
@@ -16,12 +17,15 @@ returns-in-Ok g c =
     let m = c.in-Ok.mapping in
     let state : is_some m.state ≡ _ = some-or-none m.state ∙ ap not (sym c.is_nonblocking.ensures) in
     record {
-      moves = λ ready on. (
-        (prepared _ _, refl, rw (c.length.ensures, sym state) (e.ok ready.intact), tt),
-        (m, refl, record { storage_is = sym c.storage.ensures; place_is = sym c.offset.ensures; length_is = sym c.length.ensures; state_is = state }, e.home ready.intact),
+      fits = tt;
+      at_once = λ f is. absurd (cc (e.at_once f is));
+      moves = λ intact. (
+        (prepared _ _, refl, rw (c.length.ensures, sym state) (e.ok intact), tt),
+        (m, refl, record { storage_is = sym c.storage.ensures; place_is = sym c.offset.ensures; length_is = sym c.length.ensures; state_is = state }, e.home intact),
       );
       leads = ran-leads d old new _ _ (prepare c.args.offset c.args.length c.args.overwrite) g.met.D.FormatDriverInstance.safe_runs GivesNone e.ran (λ on ready. tt) (λ p v none. absurd none) (omega arith);
       kept = λ kept. record { mine = e.mine; free = λ none. e.stateless none };
+      same = λ no. absurd (cc no);
     }
 
 pub returns-in-Err : goal.returns-in-Err
@@ -31,7 +35,10 @@ returns-in-Err g c =
     let new = c.prepare_data_mapping.new.self in
     let e = c.in-Err.ensures in
     record {
-      moves = λ ready on. (e.cause ready.intact, e.err ready.intact on, refl);
+      fits = tt;
+      at_once = λ f is. ap told.Refused (cc (e.at_once f is));
+      moves = λ intact. (e.cause intact, λ mild. (e.err intact mild, refl));
       leads = ran-leads d old new _ _ (prepare c.args.offset c.args.length c.args.overwrite) g.met.D.FormatDriverInstance.safe_runs GivesNone e.ran (λ on ready. on) (λ p v none. absurd none) (omega arith);
       kept = λ kept. record { mine = tt; free = λ none. e.free refl };
+      same = λ no. absurd (cc no);
     }

@@ -8,7 +8,7 @@ use Rattle.qimg_calls.specs.Held.{holding}
 use Rattle.qimg_calls.specs.Making.{told_of}
 use Rattle.qimg_calls.specs.declared.call.Call.TheVariants as calls
 use Rattle.qimg_calls.proofs.Leading.{ran-leads, like-kept}
-use Rattle.qimg_calls.proofs.Moving.{both-named, not-cut, same-stays, told-moves}
+use Rattle.qimg_calls.proofs.Moving.{both-named, not-cut, same-stays, told-fits, told-moves, told-refused}
 use Rattle.qimg_calls.proofs.making.mapping.write_mapped.Goals as goal
 
 pub returns : goal.returns
@@ -21,11 +21,14 @@ returns g c kept is =
     let e = c.write_mapped.ensures in
     let call = calls.WriteMapped c.args.guest c.args.place c.args.bytes.now in
     rw (c.told.ensures) (record {
-      moves = λ ready on. told-moves d call r (holding old kept) (holding new kept) refl
-          (rw (c.deref.ensures.value) at e.ok ready.intact)
-          (both-named (IsMappedFor (d.layer old.0) c.args.guest c.args.place (length c.args.bytes.now.items)) ((d.layer new.0).home ≡ (d.layer old.0).home) r (rw (c.deref.ensures.value) at e.mapped (m.safe_sees old.0 ready.intact.is_safe)) (e.home ready.intact))
-          (rw (c.deref.ensures.value) at e.cause ready.intact) (same-stays d old new r e.below (e.err ready.intact)) on;
+      fits = told-fits call r refl;
+      at_once = λ f is. told-refused r f ((rw (c.deref.ensures.value) at e.at_once) f is);
+      moves = λ intact. told-moves d call r (holding old kept) (holding new kept) refl
+          (rw (c.deref.ensures.value) at e.ok intact)
+          (both-named (IsMappedFor (d.layer old.0) c.args.guest c.args.place (length c.args.bytes.now.items)) ((d.layer new.0).home ≡ (d.layer old.0).home) r (rw (c.deref.ensures.value) at e.mapped (m.safe_sees old.0 intact.is_safe)) (e.home intact))
+          (rw (c.deref.ensures.value) at e.cause intact) (same-stays d old new r e.below (e.err intact));
       leads = ran-leads d old new (GoesOn (told_of r)) (WasNotCutOff r) (write_mapped c.args.guest c.args.bytes.now.items) m.safe_runs (GivesBytes c.args.guest c.args.bytes.now.items) (rw (c.deref.ensures.value) at e.ran)
           (λ on ready. not-cut r on) (λ p v gave. gave) (omega arith);
       kept = like-kept d old new kept e.like;
+      same = λ _. refl;
     })
