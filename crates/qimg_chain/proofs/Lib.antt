@@ -3,9 +3,12 @@ mod ArgumentLemmas
 mod CallsThrough
 mod ImageKinds
 mod RunAnswerLemmas
+mod RunCallLemmas
+mod ScriptLines
 mod ScriptNumbers
 mod ScriptParting
 mod ScriptReading
+mod ScriptRunLemmas
 mod ScriptSpelling
 mod SeenThrough
 mod StatelessDrivers

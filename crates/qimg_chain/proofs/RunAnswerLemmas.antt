@@ -11,23 +11,7 @@ use Rattle.qimg_core.specs.Check.{Found, IsFinding}
 use Rattle.qimg_core.specs.Files.{file}
 use Rattle.qimg_core.specs.declared.check.CheckFault.{CheckFault}
 use Rattle.qimg_core.specs.declared.check.CheckFault.TheVariants as found
-use Rattle.qimg_chain.specs.RunAnswers.{IsUnsoundBy, Reads, WhyNoBuffer}
-
--- for want of a buffer nothing is read
-pub no-buffer : {D St : Type 0} (g : Ghosts D St) (offset n : ℕ) (fault : Fault) (c : D × List D) → WhyNoBuffer n fault → Reads g offset n (Err fault) c c
-no-buffer g offset n BadArgument c many = record {
-  few = tt;
-  bytes = λ sees. tt;
-  long = λ more. (refl, refl);
-  refused = λ few. absurd (omega (arith, many, few));
-}
-no-buffer g offset n Memory c few = record {
-  few = tt;
-  bytes = λ sees. tt;
-  long = λ more. absurd (omega (arith, few, more));
-  refused = λ le sees. tt;
-}
-no-buffer g offset n fault c none = absurd none
+use Rattle.qimg_chain.specs.RunAnswers.{IsUnsoundBy}
 
 -- what is found in these bytes is found in those that are the same
 same-finding : (f e : Bytes) (finding : Finding) → f ≡ e → IsFinding f finding → IsFinding e finding

@@ -50,7 +50,7 @@ one_part p (b ∷ bs) e = at_first (p b) refl (one_part p bs)
 pub uncut : (p : ℕ → Bool) (xs : List ℕ) → None ≡ found p xs → slice_split p xs ≡ xs ∷ []
 uncut p xs e = one_part p xs (found_none p xs e)
 
-lines_go_on : (x : List ℕ) (ys : List (List ℕ)) → 0 < length ys → lines_of_parts (x ∷ ys) ≡ strip_carriage_return x ∷ lines_of_parts ys
+pub lines_go_on : (x : List ℕ) (ys : List (List ℕ)) → 0 < length ys → lines_of_parts (x ∷ ys) ≡ strip_carriage_return x ∷ lines_of_parts ys
 lines_go_on x [] h = absurd (omega arith)
 lines_go_on x (y ∷ ys) h = refl
 

@@ -5,8 +5,10 @@ pub mod CheckNumbers
 pub mod Extras
 pub mod ImageDrivers
 pub mod RunAnswers
+pub mod RunCalls
 pub mod Script
 pub mod ScriptAnswers
 pub mod ScriptParts
+pub mod ScriptRuns
 pub mod ScriptWords
 pub mod Stateless

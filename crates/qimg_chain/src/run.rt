@@ -1,8 +1,16 @@
 //! A script is run over a chain of layers: line by line, with an answer to each.
+ghost use Rattle.std.specs.Prelude.{◌≡◌, ◌∷◌, ◌++◌, [], IfErr, IfSome, OnOk};
+ghost use Rattle.std.specs.Io.BufRead.{take_through, DropsThrough};
+ghost use Rattle.std.specs.Io.KnownBytes.{Appends};
+ghost use Rattle.std.specs.Io.Take.{take_remaining};
 ghost use Rattle.imago_access.specs.Layer.{IsFree};
+ghost use Rattle.qimg_chain.specs.RunCalls.{Turn};
+ghost use Rattle.qimg_chain.specs.ScriptAnswers.{answer_text};
+ghost use Rattle.qimg_chain.specs.ScriptRuns.{reply, standing, IsReadingFault, IsTellingFault, Replies, Scripted};
 
 mod answers;
 mod calls;
+mod files;
 
 use crate::script::{Answer, parse_line, split_line};
 pub use answers::answer_line;
@@ -19,7 +27,11 @@ const MOST_LINES: u32 = 1_048_576;
 const MOST_BYTES: u64 = 137_438_953_472;
 
 /// Reads the next line with its end. Nothing is read behind the last one.
-fn next_line<R: BufRead>(input: &mut Take<R>, line: &mut Vec<u8>) -> Result<(), RunFault> {
+fn next_line<R: BufRead>(input: &mut Take<R>, line: &mut Vec<u8>) -> Result<(), RunFault>
+    ensures line { OnOk result (IfSome (take_remaining R.remaining input.old) (λ bytes. line.new.items ≡ take_through 10 bytes)) }
+    ensures rest { OnOk result (DropsThrough (take_remaining R.remaining input.old) (take_remaining R.remaining input.new) 10) }
+    ensures err { IfErr result IsReadingFault }
+{
     line.clear();
     match input.read_until(b'\n', line) {
         Ok(_) if input.limit() > 0 => Ok(()),
@@ -37,15 +49,20 @@ fn answer_to<D: FormatDriverInstance<Storage = MemStorage>>(
 ) -> Answer
     requires free { IsFree (D.layer chain.old.0) }
     ensures free { IsFree (D.layer chain.new.0) }
+    ensures replied { (turn : Turn)
+        × Replies D.Seen (reply text.now turn result) (standing chain.old saved.old) (standing chain.new saved.new) }
 {
     match parse_line(alloc, text) {
-        Ok(line) => answer_line(alloc, chain, &line, saved),
+        Ok(line) => answer_line(alloc, chain, line, saved),
         Err(fault) => Answer::Refused(fault),
     }
 }
 
 /// Writes the line of an answer.
-fn tell<W: Write>(alloc: Global, writer: &mut W, answer: &Answer) -> Result<(), RunFault> {
+fn tell<W: Write>(alloc: Global, writer: &mut W, answer: &Answer) -> Result<(), RunFault>
+    ensures ok { OnOk result (Appends (W.contents writer.old) (W.contents writer.new) (answer_text answer.now ++ 10 ∷ [])) }
+    ensures err { IfErr result IsTellingFault }
+{
     let line = answer.to_line(alloc)?;
     match writer.write_all(line.as_bytes()) {
         Ok(()) => Ok(()),
@@ -66,6 +83,7 @@ pub fn run<R: BufRead + Drop, W: Write, D: FormatDriverInstance<Storage = MemSto
 ) -> Result<Option<Vec<u8>>, RunFault>
     requires free { IsFree (D.layer chain.old.0) }
     ensures free { IsFree (D.layer chain.new.0) }
+    ensures scripted { Scripted D.Seen (R.remaining reader) (W.contents writer.old) (W.contents writer.new) result chain.old chain.new }
 {
     let mut input = reader.take(MOST_BYTES + 1);
     let mut line = Vec::new(alloc);
@@ -79,9 +97,8 @@ pub fn run<R: BufRead + Drop, W: Write, D: FormatDriverInstance<Storage = MemSto
         tell(alloc, writer, &answer)?;
     }
     next_line(&mut input, &mut line)?;
-    if line.is_empty() {
-        Ok(saved)
-    } else {
-        Err(RunFault::Lines)
+    match split_line(&line) {
+        Some(_) => Err(RunFault::Lines),
+        None => Ok(saved),
     }
 }

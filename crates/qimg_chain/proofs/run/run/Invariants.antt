@@ -1,6 +1,10 @@
--- Nothing is prepared between two lines.
+use Rattle.std.specs.Io.Take.{take_remaining}
 use Rattle.imago_access.specs.Layer.{IsFree}
+use Rattle.qimg_chain.specs.ScriptRuns.{standing}
+use Rattle.qimg_chain.proofs.ScriptRunLemmas.{RanSoFar}
 use Rattle.qimg_chain.proofs.run.run.Given as goal
 
+-- Nothing is prepared between two lines; each line so far is read, made and answered.
 abbrev pub invariant-loop : goal.invariant-loop
 invariant-loop g l = IsFree (g.D.Seen.layer l.chain.0)
+    × RanSoFar g.D.Seen (g.R.Read.remaining l.fn.reader) (take_remaining g.R.Read.remaining l.input) (g.W.Write.contents l.fn.writer) (g.W.Write.contents l.writer) l.fn.chain (standing l.chain l.saved)

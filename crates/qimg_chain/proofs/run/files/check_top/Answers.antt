@@ -2,7 +2,7 @@ use Rattle.std.proofs.Common.{ap, refl}
 use Rattle.imago_storage.specs.MemStorage.{mem_state}
 use Rattle.qcow2_types.specs.Bytes.{bytes_of}
 use Rattle.qimg_chain.proofs.RunAnswerLemmas.{unsound}
-use Rattle.qimg_chain.proofs.run.answers.check_top.Goals as goal
+use Rattle.qimg_chain.proofs.run.files.check_top.Goals as goal
 
 pub returns : goal.returns
 unfolding mem_state

@@ -3,7 +3,7 @@ use Rattle.std.specs.Prelude.{OnOk}
 use Rattle.imago_access.specs.declared.format.Format.TheVariants.{Qcow2}
 use Rattle.imago_storage.specs.MemStorage.{mem_state}
 use Rattle.qimg_core.specs.Plain.{IsPlainRead, seen_files}
-use Rattle.qimg_chain.proofs.run.answers.read_image.Goals as goal
+use Rattle.qimg_chain.proofs.run.files.read_image.Goals as goal
 
 pub returns : goal.returns
 unfolding seen_files

@@ -1,0 +1,105 @@
+-- The calls that lines of a script ask for, and their answers.
+use Rattle.std.proofs.Common.{◌≡◌, inl, inr, ℕ, List, [], ◌∷◌, refl, sym, subst, ap, false}
+use Rattle.std.specs.Prelude.{None, Some, IsFalse, IsSome, IsTrue, Vec, nat_lt}
+use Rattle.std.specs.Global.{Global}
+use Rattle.imago_storage.specs.declared.fault.Fault.{Fault}
+use Rattle.imago_storage.specs.declared.fault.Fault.TheVariants.{Memory}
+use Rattle.imago_access.specs.declared.seen.Seen.{Ghosts}
+use Rattle.qimg_calls.specs.Calls.{Fits, is_of_mapping}
+use Rattle.qimg_calls.specs.Making.{AnswersAlone}
+use Rattle.qimg_calls.specs.declared.call.Call.{Call}
+use Rattle.qimg_calls.specs.declared.call.Answer.{Answer as CallAnswer}
+use Rattle.qimg_calls.specs.declared.call.Answer.TheVariants as answers
+use Rattle.qimg_calls.specs.Held.{holding}
+use Rattle.qimg_chain.specs.RunAnswers.{Answered, IsShort, TellsLine}
+use Rattle.qimg_chain.specs.RunCalls.{IsCallOf, TellsCall, Turn, asks_for_call, one, told_of, unmade}
+use Rattle.qimg_chain.specs.declared.script.answer.Answer.{Answer}
+use Rattle.qimg_chain.specs.declared.script.answer.Answer.TheVariants as told
+use Rattle.qimg_chain.specs.declared.script.line.Line.{Line}
+use Rattle.qimg_chain.specs.declared.script.line.Line.TheVariants.{Size, Read, Write, Zero, Discard, DiscardAny, DiscardBacking, Grow, Shrink, Flush, Check, Plain, Save}
+
+-- no call of a script is one of a mapping
+pub other-call : (line : Line) (call : Call) → IsCallOf line call → IsFalse (is_of_mapping call)
+other-call (Read offset n) call is = subst (λ c. IsFalse (is_of_mapping c)) (sym is) refl
+other-call (Write offset bytes) call is = subst (λ c. IsFalse (is_of_mapping c)) (sym is.2) refl
+other-call (Zero offset n) call is = subst (λ c. IsFalse (is_of_mapping c)) (sym is) refl
+other-call (Discard offset n) call is = subst (λ c. IsFalse (is_of_mapping c)) (sym is) refl
+other-call (DiscardAny offset n) call is = subst (λ c. IsFalse (is_of_mapping c)) (sym is) refl
+other-call (DiscardBacking offset n) call is = subst (λ c. IsFalse (is_of_mapping c)) (sym is) refl
+other-call (Grow size mode) call is = subst (λ c. IsFalse (is_of_mapping c)) (sym is) refl
+other-call (Shrink size) call is = subst (λ c. IsFalse (is_of_mapping c)) (sym is) refl
+other-call (Flush) call is = subst (λ c. IsFalse (is_of_mapping c)) (sym is) refl
+other-call (Save) call is = subst (λ c. IsFalse (is_of_mapping c)) (sym is) refl
+other-call Size call is = absurd is
+other-call Check call is = absurd is
+other-call (Plain offset n) call is = absurd is
+
+-- nor is one answered with a mapping: what it is answered with can be told
+pub known-answer : (line : Line) (call : Call) (answer : CallAnswer) → IsCallOf line call → Fits call answer → IsSome (told_of answer)
+known-answer line call answers.Done is fits = refl
+known-answer line call (answers.Bytes bytes) is fits = refl
+known-answer line call (answers.Refused fault) is fits = refl
+known-answer (Read offset n) call (answers.Mapped mapping count) is fits = absurd (subst (λ c. Fits c (answers.Mapped mapping count)) is fits)
+known-answer (Read offset n) call (answers.Shallow mapping count) is fits = absurd (subst (λ c. Fits c (answers.Shallow mapping count)) is fits)
+known-answer (Read offset n) call (answers.Prepared storage place count state) is fits = absurd (subst (λ c. Fits c (answers.Prepared storage place count state)) is fits)
+known-answer (Write offset bytes) call (answers.Mapped mapping count) is fits = absurd (subst (λ c. Fits c (answers.Mapped mapping count)) is.2 fits)
+known-answer (Write offset bytes) call (answers.Shallow mapping count) is fits = absurd (subst (λ c. Fits c (answers.Shallow mapping count)) is.2 fits)
+known-answer (Write offset bytes) call (answers.Prepared storage place count state) is fits = absurd (subst (λ c. Fits c (answers.Prepared storage place count state)) is.2 fits)
+known-answer (Zero offset n) call (answers.Mapped mapping count) is fits = absurd (subst (λ c. Fits c (answers.Mapped mapping count)) is fits)
+known-answer (Zero offset n) call (answers.Shallow mapping count) is fits = absurd (subst (λ c. Fits c (answers.Shallow mapping count)) is fits)
+known-answer (Zero offset n) call (answers.Prepared storage place count state) is fits = absurd (subst (λ c. Fits c (answers.Prepared storage place count state)) is fits)
+known-answer (Discard offset n) call (answers.Mapped mapping count) is fits = absurd (subst (λ c. Fits c (answers.Mapped mapping count)) is fits)
+known-answer (Discard offset n) call (answers.Shallow mapping count) is fits = absurd (subst (λ c. Fits c (answers.Shallow mapping count)) is fits)
+known-answer (Discard offset n) call (answers.Prepared storage place count state) is fits = absurd (subst (λ c. Fits c (answers.Prepared storage place count state)) is fits)
+known-answer (DiscardAny offset n) call (answers.Mapped mapping count) is fits = absurd (subst (λ c. Fits c (answers.Mapped mapping count)) is fits)
+known-answer (DiscardAny offset n) call (answers.Shallow mapping count) is fits = absurd (subst (λ c. Fits c (answers.Shallow mapping count)) is fits)
+known-answer (DiscardAny offset n) call (answers.Prepared storage place count state) is fits = absurd (subst (λ c. Fits c (answers.Prepared storage place count state)) is fits)
+known-answer (DiscardBacking offset n) call (answers.Mapped mapping count) is fits = absurd (subst (λ c. Fits c (answers.Mapped mapping count)) is fits)
+known-answer (DiscardBacking offset n) call (answers.Shallow mapping count) is fits = absurd (subst (λ c. Fits c (answers.Shallow mapping count)) is fits)
+known-answer (DiscardBacking offset n) call (answers.Prepared storage place count state) is fits = absurd (subst (λ c. Fits c (answers.Prepared storage place count state)) is fits)
+known-answer (Grow size mode) call (answers.Mapped mapping count) is fits = absurd (subst (λ c. Fits c (answers.Mapped mapping count)) is fits)
+known-answer (Grow size mode) call (answers.Shallow mapping count) is fits = absurd (subst (λ c. Fits c (answers.Shallow mapping count)) is fits)
+known-answer (Grow size mode) call (answers.Prepared storage place count state) is fits = absurd (subst (λ c. Fits c (answers.Prepared storage place count state)) is fits)
+known-answer (Shrink size) call (answers.Mapped mapping count) is fits = absurd (subst (λ c. Fits c (answers.Mapped mapping count)) is fits)
+known-answer (Shrink size) call (answers.Shallow mapping count) is fits = absurd (subst (λ c. Fits c (answers.Shallow mapping count)) is fits)
+known-answer (Shrink size) call (answers.Prepared storage place count state) is fits = absurd (subst (λ c. Fits c (answers.Prepared storage place count state)) is fits)
+known-answer (Flush) call (answers.Mapped mapping count) is fits = absurd (subst (λ c. Fits c (answers.Mapped mapping count)) is fits)
+known-answer (Flush) call (answers.Shallow mapping count) is fits = absurd (subst (λ c. Fits c (answers.Shallow mapping count)) is fits)
+known-answer (Flush) call (answers.Prepared storage place count state) is fits = absurd (subst (λ c. Fits c (answers.Prepared storage place count state)) is fits)
+known-answer (Save) call (answers.Mapped mapping count) is fits = absurd (subst (λ c. Fits c (answers.Mapped mapping count)) is fits)
+known-answer (Save) call (answers.Shallow mapping count) is fits = absurd (subst (λ c. Fits c (answers.Shallow mapping count)) is fits)
+known-answer (Save) call (answers.Prepared storage place count state) is fits = absurd (subst (λ c. Fits c (answers.Prepared storage place count state)) is fits)
+known-answer Size call (answers.Mapped mapping count) is fits = absurd is
+known-answer Size call (answers.Shallow mapping count) is fits = absurd is
+known-answer Size call (answers.Prepared storage place count state) is fits = absurd is
+known-answer Check call (answers.Mapped mapping count) is fits = absurd is
+known-answer Check call (answers.Shallow mapping count) is fits = absurd is
+known-answer Check call (answers.Prepared storage place count state) is fits = absurd is
+known-answer (Plain offset n) call (answers.Mapped mapping count) is fits = absurd is
+known-answer (Plain offset n) call (answers.Shallow mapping count) is fits = absurd is
+known-answer (Plain offset n) call (answers.Prepared storage place count state) is fits = absurd is
+
+-- a line that asks for a call, and doesn't read too much, is answered by it
+pub line-tells : {D St : Type 0} (g : Ghosts D St) (line : Line) (turn : Turn) (answer : Answer) (c : D × List D) → IsTrue (asks_for_call line) → IsShort line → TellsCall line turn answer → TellsLine g line turn answer c
+line-tells g Size turn answer c asks short tells = absurd (cc asks)
+line-tells g Check turn answer c asks short tells = absurd (cc asks)
+line-tells g (Plain offset n) turn answer c asks short tells = absurd (cc asks)
+line-tells g (Read offset n) turn answer c asks short tells = inr (short, tells)
+line-tells g Save turn answer c asks short tells = inl tells
+line-tells g line turn answer c asks short tells = tells
+
+-- it is answered by its call, or isn't made for want of room
+pub told-line : {D St : Type 0} (g : Ghosts D St) (line : Line) (call : Call) (said : CallAnswer) (answer : Answer) (old new : D × List D) → IsTrue (asks_for_call line) → IsShort line → IsCallOf line call
+    → AnswersAlone g (call ∷ []) (said ∷ []) old new → told_of said ≡ Some answer → Answered g line answer old new
+told-line g line call said answer old new asks short is made tells = record {
+  turn = one call said;
+  made = made;
+  tells = line-tells g line (one call said) answer old asks short (inl (call, said, is, refl, tells));
+}
+
+pub unmade-line : {D St : Type 0} (g : Ghosts D St) (line : Line) (answer : Answer) (old new : D × List D) → new ≡ old → TellsLine g line unmade answer old → Answered g line answer old new
+unmade-line {D} {St} g line answer old new same tells = record { turn = unmade; made = ap (λ (c : D × List D). holding {St = St} c None) same; tells = tells }
+
+pub no-room : {D St : Type 0} (g : Ghosts D St) (line : Line) (fault : Fault) (old new : D × List D) → IsTrue (asks_for_call line) → IsShort line → (fault ≡ Memory) × (new ≡ old) → Answered g line (told.Refused fault) old new
+no-room g line fault old new asks short not_made = unmade-line g line (told.Refused fault) old new not_made.1
+    (line-tells g line unmade (told.Refused fault) old asks short (inr (refl, ap told.Refused not_made.0)))

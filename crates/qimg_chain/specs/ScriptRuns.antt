@@ -1,0 +1,106 @@
+-- What a script does that is run over a chain, line by line, and the text that answers it.
+use Rattle.std.specs.Prelude.{◌≡◌, ◌⊎◌, ⊤, ℕ, List, [], ◌∷◌, ◌++◌, map, take, Option, None, IfSome, OnOk, Result, Ok, Err, Vec}
+use Rattle.std.specs.Global.{Global}
+use Rattle.std.specs.Io.KnownBytes.{Appends}
+use Rattle.std.specs.Str.Lines.{lines}
+use Rattle.imago_storage.specs.declared.fault.Fault.{Fault}
+use Rattle.imago_access.specs.declared.seen.Seen.{Ghosts}
+use Rattle.qimg_calls.specs.Held.{IsReady}
+use Rattle.qimg_calls.specs.Making.{AnswersAlone}
+use Rattle.qimg_calls.specs.Runs.{Driven, StandsSince}
+use Rattle.qimg_calls.specs.Since.{Since}
+use Rattle.qimg_calls.specs.declared.call.Call.{Call}
+use Rattle.qimg_calls.specs.declared.call.Answer.{Answer as CallAnswer}
+use Rattle.qimg_core.specs.declared.first.worked.RunFault.{RunFault}
+use Rattle.qimg_core.specs.declared.first.worked.RunFault.TheVariants as run_fault
+use Rattle.qimg_chain.specs.RunAnswers.{Keeps, TellsLine}
+use Rattle.qimg_chain.specs.RunCalls.{Turn, unmade}
+use Rattle.qimg_chain.specs.Script.{IsLine, NotLine}
+use Rattle.qimg_chain.specs.ScriptAnswers.{answer_text}
+use Rattle.qimg_chain.specs.declared.script.answer.Answer.{Answer}
+use Rattle.qimg_chain.specs.declared.script.answer.Answer.TheVariants as told
+use Rattle.qimg_chain.specs.declared.script.line.Line.{Line}
+
+-- where a script stands: the drivers of the chain, the top first, and what the last `save` kept
+pub record Standing (D : Type 0) : Type 0 where
+  pub drivers : D × List D
+  pub saved : Option (Vec ℕ Global)
+
+abbrev pub standing : {D : Type 0} → D × List D → Option (Vec ℕ Global) → Standing D
+standing drivers saved = record { drivers = drivers; saved = saved }
+
+-- a line that was run: its text, the calls that it made, and its answer
+pub record Reply : Type 0 where
+  pub text : List ℕ
+  pub turn : Turn
+  pub answer : Answer
+
+abbrev pub reply : List ℕ → Turn → Answer → Reply
+reply text turn answer = record { text = text; turn = turn; answer = answer }
+
+-- a text is a line, which is answered as it asks
+pub record RunsLine {D St : Type 0} (g : Ghosts D St) (r : Reply) (old new : Standing D) : Type 0 where
+  pub line : Line
+  pub is_line : IsLine r.text line
+  pub tells : TellsLine g line r.turn r.answer old.drivers
+  pub keeps : Keeps line r.answer (g.image new.drivers.0).bytes old.saved new.saved
+
+-- a text isn't taken as a line, and nothing is done
+pub record RunsNothing {D St : Type 0} (g : Ghosts D St) (r : Reply) (old new : Standing D) : Type 0 where
+  pub fault : Fault
+  pub why : NotLine r.text fault
+  pub none : r.turn ≡ unmade
+  pub answered : r.answer ≡ told.Refused fault
+  pub kept : new.saved ≡ old.saved
+
+pub record Replies {D St : Type 0} (g : Ghosts D St) (r : Reply) (old new : Standing D) : Type 0 where
+  pub made : AnswersAlone g r.turn.list r.turn.answers old.drivers new.drivers
+  pub runs : RunsLine g r old new ⊎ RunsNothing g r old new
+
+-- texts one behind the other
+abbrev pub RunsAll : {D St : Type 0} → Ghosts D St → List Reply → Standing D → Standing D → Type 0
+RunsAll g [] old new = new ≡ old
+RunsAll {D} g (r ∷ replies) old new = (mid : Standing D) × Replies g r old mid × RunsAll g replies mid new
+
+-- the calls that they make, with their answers, and the text that answers them, a line each
+abbrev pub calls_of : List Reply → List Call
+calls_of [] = []
+calls_of (r ∷ replies) = r.turn.list ++ calls_of replies
+
+abbrev pub answers_of : List Reply → List CallAnswer
+answers_of [] = []
+answers_of (r ∷ replies) = r.turn.answers ++ answers_of replies
+
+abbrev pub text_of : List Reply → List ℕ
+text_of [] = []
+text_of (r ∷ replies) = (answer_text r.answer ++ 10 ∷ []) ++ text_of replies
+
+-- why the next line isn't read, and why an answer isn't written
+abbrev pub IsReadingFault : RunFault → Type 0
+IsReadingFault run_fault.Read = ⊤
+IsReadingFault run_fault.Memory = ⊤
+IsReadingFault fault = ⊥
+
+abbrev pub IsTellingFault : RunFault → Type 0
+IsTellingFault run_fault.Write = ⊤
+IsTellingFault run_fault.Memory = ⊤
+IsTellingFault fault = ⊥
+
+-- all that was answered is written: the script has ended, or its reader failed, or it has too many lines
+abbrev pub IsAllWritten : Result (Option (Vec ℕ Global)) RunFault → Type 0
+IsAllWritten (Err run_fault.Write) = ⊥
+IsAllWritten (Err run_fault.Memory) = ⊥
+IsAllWritten result = ⊤
+
+-- What a script does that is run over a chain, by the bytes that its reader has and that its writer holds, where these are known: each line
+-- makes the call that it asks for, and what all of them do is what the list of these calls does.
+pub record Scripted {D St : Type 0} (g : Ghosts D St) (input before after : Option (List ℕ))
+    (result : Result (Option (Vec ℕ Global)) RunFault) (old new : D × List D) : Type 0 where
+  pub replies : List Reply
+  pub saved : Option (Vec ℕ Global)
+  pub runs : RunsAll g replies (standing old None) (standing new saved)
+  pub driven : (since : Since) → IsReady g old → StandsSince g since old → Driven g since (calls_of replies) (answers_of replies) old new
+  -- the lines of the script are those that the reader has, and its text is their answers
+  pub lines : OnOk result (IfSome input (λ bytes. map (λ (r : Reply). r.text) replies ≡ lines (take 137438953473 bytes)))
+  pub written : IsAllWritten result → Appends before after (text_of replies)
+  pub kept : OnOk result (result ≡ Ok saved)
