@@ -4,6 +4,7 @@ mod Moving
 mod Resizing
 mod Spending
 mod Committing
+mod Copying
 pub mod Alone
 mod Lists
 mod Driven

@@ -6,3 +6,4 @@ pub mod Leading
 pub mod Moves
 pub mod Making
 pub mod Runs
+pub mod Flattening

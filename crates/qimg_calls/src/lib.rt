@@ -3,7 +3,9 @@
 
 mod call;
 mod driving;
+mod flattening;
 mod making;
 
 pub use call::{Answer, Call};
 pub use driving::drive;
+pub use flattening::flatten;

@@ -1,0 +1,115 @@
+-- What a copy of one chain's disk into another's does, by the drivers of both before and after: those of the source, and of the target.
+use Rattle.std.specs.Prelude.{◌≡◌, ◌⊎◌, ⊤, ℕ, ◌*◌, ◌-◌, ◌<◌, ◌≤◌, min, List, None, Result, Ok, OnOk, IfErr, IsTrue, length, map}
+use Rattle.imago_storage.specs.Disk.{Value, byte, Disk, Shows}
+use Rattle.imago_storage.specs.Steps.{IsIn, IsOut, write}
+use Rattle.imago_storage.specs.declared.fault.Fault.{Fault}
+use Rattle.imago_access.specs.declared.seen.Seen.{Ghosts}
+use Rattle.imago_access.specs.Layer.{IsLike}
+use Rattle.imago_access.specs.Layers.{chain}
+use Rattle.imago_access.specs.Chain.{at, Each, unit_of_chain}
+use Rattle.imago_access.specs.ChainCalls.{ChainFails, OwnCause, TakesNear}
+use Rattle.imago_access.specs.Files.{Pairs, WasNotCutOff, files_of}
+use Rattle.imago_access.specs.Going.{Looked, MarksSome}
+use Rattle.imago_access.specs.Refusals.{barrier, ReadCause}
+use Rattle.imago_access.specs.RunCalls.{MarksTop}
+use Rattle.imago_access.specs.Running.{RanChain, IsIntactChain, below_ghosts, chain_disk}
+
+-- the drivers of two chains: of a source, and of a target
+abbrev pub Chains : Type 0 → Type 0 → Type 0
+Chains S T = (S × List S) × (T × List T)
+
+-- Lookups in the source are true, and the target is as promises on its values rest on.
+pub record IsSoundPair {S P T Q : Type 0} (g : Ghosts S P) (h : Ghosts T Q) (chains : Chains S T) : Type 0 where
+  pub source : Each g.sees (chain chains.0)
+  pub target : IsIntactChain h chains.1
+
+-- it is a byte, and no place that can't be read
+abbrev pub HasByte : Value → Type 0
+HasByte v = (b : ℕ) × (v ≡ byte b)
+
+-- What a copy of so many bytes takes: both chains can be used, and the target was opened for writing if there is anything to write.
+pub record MayCopy {S P T Q : Type 0} (g : Ghosts S P) (h : Ghosts T Q) (n : ℕ) (chains : Chains S T) : Type 0 where
+  pub source : barrier (g.layer chains.0.0) ≡ None
+  pub target : barrier (h.layer chains.1.0) ≡ None
+  pub writable : 0 < n → IsTrue (h.layer chains.1.0).fixed.writable
+
+-- what a copy may give at a place: a byte, which is the source's where lookups in the source are true
+abbrev pub GivesRead : {D St : Type 0} → Ghosts D St → D × List D → ℕ → Value → Type 0
+GivesRead g source p v = HasByte v × (Each g.sees (chain source) → v ≡ (chain_disk g.layer source).value p)
+
+-- The places of a range have a byte in the source, which the target shows now, and every other place of the target shows what it did.
+pub record IsCopied (source old new : Disk) (offset n : ℕ) : Type 0 where
+  pub size : new.size ≡ old.size
+  pub range : (p : ℕ) → IsIn offset n p → HasByte (source.value p) × (new.value p ≡ source.value p)
+  pub others : (p : ℕ) → p < old.size → IsOut offset n p → new.value p ≡ old.value p
+
+abbrev pub CopiesRange : {S P T Q : Type 0} → Ghosts S P → Ghosts T Q → ℕ → ℕ → Chains S T → T × List T → Type 0
+CopiesRange g h offset n old new = IsCopied (chain_disk g.layer old.0) (chain_disk h.layer old.1) (chain_disk h.layer new) offset n
+
+-- the target, as large as the source, shows all of its disk then
+abbrev pub CopiesDisk : {S P T Q : Type 0} → Ghosts S P → Ghosts T Q → Chains S T → T × List T → Type 0
+CopiesDisk g h old new = ((h.layer old.1.0).size ≡ (g.layer old.0.0).size) × CopiesRange g h 0 (g.layer old.0.0).size old new
+
+-- A read of the source was refused, of every image; nothing has cut the target off.
+pub record SourceFails {S P T Q : Type 0} (g : Ghosts S P) (h : Ghosts T Q) (old new : Chains S T) (fault : Fault) : Type 0 where
+  pub cause : ChainFails g old.0 new.0 fault
+  pub marks : MarksSome g (chain old.0) (chain new.0) fault
+  pub target : RanChain h ⊤ (GivesRead g old.0) old.1 new.1
+
+-- A write of the target was refused, of every image; nothing has cut the source off.
+pub record TargetFails {S P T Q : Type 0} (g : Ghosts S P) (h : Ghosts T Q) (old new : Chains S T) (fault : Fault) : Type 0 where
+  pub cause : ChainFails h old.1 new.1 fault
+  pub marks : MarksTop h (below_ghosts h) old.1 new.1 fault
+  pub source : Pairs (Looked g ⊤) (chain old.0) (chain new.0)
+
+abbrev pub CopyFails : {S P T Q : Type 0} → Ghosts S P → Ghosts T Q → Chains S T → Chains S T → Fault → Type 0
+CopyFails g h old new fault = SourceFails g h old new fault ⊎ TargetFails g h old new fault
+
+-- A range is copied: the source is only looked at, and places of the target take what the source shows, also where that is refused. A copy
+-- that ends well has given all of the range.
+pub record Copies {S P T Q : Type 0} (g : Ghosts S P) (h : Ghosts T Q) (offset n : ℕ) (result : Result Unit Fault)
+    (old new : Chains S T) : Type 0 where
+  pub source : Pairs (Looked g (WasNotCutOff result)) (chain old.0) (chain new.0)
+  pub ran : RanChain h (WasNotCutOff result) (GivesRead g old.0) old.1 new.1
+  pub like : IsLike (h.layer old.1.0) (h.layer new.1.0)
+  pub room : TakesNear h offset n result old.1 new.1
+  pub copied : IsSoundPair g h old → OnOk result (CopiesRange g h offset n old new.1)
+  pub failed : IfErr result (CopyFails g h old new)
+
+-- Why a piece is refused: by a read of the source, or by a write of the bytes that it shows to the target as it is then.
+abbrev pub PieceUnread : {D St : Type 0} → Ghosts D St → ℕ → ℕ → D × List D → D × List D → Fault → Type 0
+PieceUnread g offset n old new = let layers = map g.layer (chain old) in
+    ReadCause layers (at layers) (unit_of_chain layers) offset n (files_of g (chain old)) (files_of g (chain new))
+
+pub record PieceUnwritten {D St : Type 0} (h : Ghosts D St) (source : Disk) (offset n : ℕ) (old new : D × List D)
+    (fault : Fault) : Type 0 where
+  pub bytes : List ℕ
+  pub long : length bytes ≡ n
+  pub shown : Shows source.value offset bytes
+  pub cause : OwnCause h (write offset bytes) old new fault
+
+abbrev pub PieceCause : {S P T Q : Type 0} → Ghosts S P → Ghosts T Q → ℕ → ℕ → Chains S T → Chains S T → Fault → Type 0
+PieceCause g h offset n old new fault =
+    PieceUnread g offset n old.0 new.0 fault ⊎ PieceUnwritten h (chain_disk g.layer old.0) offset n old.1 new.1 fault
+
+abbrev pub PieceRefused : {S P T Q : Type 0} → Ghosts S P → Ghosts T Q → ℕ → ℕ → Result Unit Fault → Chains S T → Chains S T → Type 0
+PieceRefused g h offset n result old new = IsSoundPair g h old → IfErr result (PieceCause g h offset n old new)
+
+-- a piece of a disk: from a multiple of 65,536 bytes on so many bytes, or those up to the disk's end
+pub record IsPiece (size offset n : ℕ) : Type 0 where
+  pub index : ℕ
+  pub start : offset ≡ index * 65536
+  pub inside : offset ≤ size
+  pub long : n ≡ min 65536 (size - offset)
+
+-- Why a copy is refused: at a piece, behind those before it, which are copied.
+pub record CopyCause {S P T Q : Type 0} (g : Ghosts S P) (h : Ghosts T Q) (old new : Chains S T) (fault : Fault) : Type 0 where
+  pub offset : ℕ
+  pub n : ℕ
+  pub piece : IsPiece (g.layer old.0.0).size offset n
+  pub mid : Chains S T
+  pub before : Copies g h 0 offset (Ok tt) old mid
+  pub cause : PieceCause g h offset n mid new fault
+
+abbrev pub CopyRefused : {S P T Q : Type 0} → Ghosts S P → Ghosts T Q → Result Unit Fault → Chains S T → Chains S T → Type 0
+CopyRefused g h result old new = IsSoundPair g h old → IfErr result (CopyCause g h old new)

@@ -1,0 +1,109 @@
+// A copy of one chain's disk into another's.
+ghost use Rattle.std.specs.Prelude.{◌≡◌, ◌≢◌, ◌≤◌, ◌+◌, length, OnOk, IfErr, IsErrOf};
+ghost use Rattle.imago_storage.specs.declared.fault.Fault.TheVariants.{BadArgument};
+ghost use Rattle.imago_access.specs.Layer.{IsFree, IsLike};
+ghost use Rattle.imago_access.specs.Layers.{chain};
+ghost use Rattle.imago_access.specs.ChainCalls.{TakesNear};
+ghost use Rattle.imago_access.specs.Files.{Pairs, WasNotCutOff};
+ghost use Rattle.imago_access.specs.Going.{Looked};
+ghost use Rattle.imago_access.specs.Running.{RanChain};
+ghost use Rattle.qimg_calls.specs.Flattening.{Copies, CopiesDisk, CopyFails, CopyRefused, GivesRead, IsSoundPair, MayCopy, PieceRefused};
+
+use imago_access::{FormatAccess, FormatDriverInstance};
+use imago_storage::Fault;
+use std::alloc::Global;
+
+// The most bytes that are copied at once.
+const PIECE: u64 = 65_536;
+
+// Copies a range that lies in the source's disk, as long as the buffer.
+fn copy_piece<S: FormatDriverInstance, T: FormatDriverInstance>(
+    alloc: Global,
+    source: &mut FormatAccess<S>,
+    target: &mut FormatAccess<T>,
+    buf: &mut [u8],
+    offset: u64,
+) -> Result<(), Fault>
+    requires free { IsFree (T.layer target.old.0) }
+    requires inside { offset + length buf.old ≤ (S.layer source.old.0).size }
+    ensures copies { Copies S.Seen T.Seen offset (length buf.old) result (source.old, target.old) (source.new, target.new) }
+    ensures usable { OnOk result (MayCopy S.Seen T.Seen (length buf.old) (source.old, target.old)) }
+    ensures cause { PieceRefused S.Seen T.Seen offset (length buf.old) result (source.old, target.old) (source.new, target.new) }
+{
+    match source.read(alloc, buf, offset) {
+        Ok(()) => target.write(alloc, buf, offset),
+        Err(fault) => Err(fault),
+    }
+}
+
+// Copies all of the source's disk, which is as large as the target's, piece by piece: at least one, so that a chain that can't be used
+// refuses an empty disk, too.
+fn copy_all<S: FormatDriverInstance, T: FormatDriverInstance>(
+    alloc: Global,
+    source: &mut FormatAccess<S>,
+    target: &mut FormatAccess<T>,
+    buf: &mut [u8],
+) -> Result<(), Fault>
+    requires free { IsFree (T.layer target.old.0) }
+    requires same { (T.layer target.old.0).size ≡ (S.layer source.old.0).size }
+    requires room { length buf.old ≡ 65536 }
+    ensures copies { Copies S.Seen T.Seen 0 (S.layer source.old.0).size result (source.old, target.old) (source.new, target.new) }
+    ensures usable { OnOk result (MayCopy S.Seen T.Seen (S.layer source.old.0).size (source.old, target.old)) }
+    ensures cause { CopyRefused S.Seen T.Seen result (source.old, target.old) (source.new, target.new) }
+{
+    let size = source.size();
+    let mut done = 0;
+    loop {
+        let n = PIECE.min(size - done);
+        match copy_piece(alloc, source, target, &mut buf[..n as usize], done) {
+            Ok(()) => done += n,
+            Err(fault) => return Err(fault),
+        }
+        if done == size {
+            return Ok(());
+        }
+    }
+}
+
+/// Copies the disk of one chain into another of the same size, in pieces of 65,536 bytes. Nothing may be prepared in the target.
+///
+/// Where it succeeds, each place of the source's disk has a byte, and the target shows it. The source is only read: its disk stays, and no
+/// file of a layer changes in which nothing waits to be written. Nor does one below the target.
+///
+/// It refuses with `Fault::BadArgument` where the sizes differ, and there alone, and with `Fault::Memory` where room for a piece is
+/// refused; then nothing is asked of either chain. Else it is refused as a read of a piece from the source is, or as its write to the
+/// target: where a layer can't be used, for a place of the source that has no byte (`Fault::Barred`, `Fault::DamagedTable`), where the end
+/// of the piece, rounded up to a chain's alignment, passes `u64` (`Fault::RangeOverflow`), with `Fault::ReadOnly`, with causes of the
+/// target's driver, and with `Fault::Memory` and `Fault::Storage`. The pieces before that one are copied.
+///
+/// A refusal for another cause than `Memory` and `Storage` leaves the source's disk as it was, and each place of the target as it was or
+/// with the source's byte. Whatever is answered, each file that a stop leaves for the target's top is sound, and shows at each place what
+/// it or the disk did before, or the source's byte.
+pub fn flatten<S: FormatDriverInstance, T: FormatDriverInstance>(
+    alloc: Global,
+    source: &mut FormatAccess<S>,
+    target: &mut FormatAccess<T>,
+) -> Result<(), Fault>
+    requires free { IsFree (T.layer target.old.0) }
+    ensures copied { IsSoundPair S.Seen T.Seen (source.old, target.old)
+        → OnOk result (CopiesDisk S.Seen T.Seen (source.old, target.old) target.new) }
+    ensures ran { RanChain T.Seen (WasNotCutOff result) (GivesRead S.Seen source.old) target.old target.new }
+    ensures source { Pairs (Looked S.Seen (WasNotCutOff result)) (chain source.old) (chain source.new) }
+    ensures like { IsLike (T.layer target.old.0) (T.layer target.new.0) }
+    ensures room { TakesNear T.Seen 0 (S.layer source.old.0).size result target.old target.new }
+    ensures unequal { (T.layer target.old.0).size ≢ (S.layer source.old.0).size
+        → IsErrOf result BadArgument × (source.new ≡ source.old) × (target.new ≡ target.old) }
+    ensures usable { OnOk result (MayCopy S.Seen T.Seen (S.layer source.old.0).size (source.old, target.old)) }
+    ensures failed { (T.layer target.old.0).size ≡ (S.layer source.old.0).size
+        → IfErr result (CopyFails S.Seen T.Seen (source.old, target.old) (source.new, target.new)) }
+    ensures cause { (T.layer target.old.0).size ≡ (S.layer source.old.0).size
+        → CopyRefused S.Seen T.Seen result (source.old, target.old) (source.new, target.new) }
+{
+    if target.size() != source.size() {
+        return Err(Fault::BadArgument);
+    }
+    match vec![in alloc; 0u8; PIECE as usize] {
+        Ok(mut buf) => copy_all(alloc, source, target, &mut buf),
+        Err(_) => Err(Fault::Memory),
+    }
+}
