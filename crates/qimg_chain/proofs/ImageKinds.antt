@@ -1,14 +1,25 @@
 -- The kinds of drivers that a layer of a chain of image files has.
-use Rattle.std.proofs.Common.{◌≡◌, refl}
+use Rattle.std.proofs.Common.{◌≡◌, ℕ, List, refl, sym}
+use Rattle.std.specs.Prelude.{Bool, None, Ok, false, map}
 use Rattle.std.specs.Borrow.{RattleType}
+use Rattle.imago_storage.specs.State.{StorageState}
 use Rattle.imago_storage.specs.Steps.{Call}
 use Rattle.imago_storage.specs.declared.storage.Storage.{Ghosts}
+use Rattle.imago_access.specs.declared.format.Format.TheVariants as format
+use Rattle.imago_access.specs.Building.{IsOpened}
+use Rattle.imago_access.specs.Files.{IsKept, keep_all}
+use Rattle.imago_access.specs.Layer.{IsFree, loose}
+use Rattle.imago_access.specs.Refusals.{barrier}
+use Rattle.imago_formats.specs.Descriptor.{descriptor_of}
+use Rattle.imago_formats.specs.DescriptorView.{kept_extents}
+use Rattle.imago_formats.specs.VmdkLaws.{as_stated, said_still, written}
 use Rattle.imago_formats.specs.declared.raw.Raw.{Raw}
 use Rattle.imago_formats.specs.declared.vmdk.driver.Vmdk.{Vmdk}
 use Rattle.imago_formats.specs.contracts.raw.RawSeen.TheImpl as raw_seen
 use Rattle.imago_formats.specs.contracts.vmdk.driver.VmdkSeen.TheImpl as vmdk_seen
 use Rattle.qcow2_image.specs.declared.qcow2.Qcow2.{Qcow2}
 use Rattle.qcow2_image.specs.contracts.qcow2.Qcow2Seen.TheImpl as qcow2_seen
+use Rattle.qimg_chain.specs.Chains.{IsSoundAs}
 use Rattle.qimg_chain.specs.ImageDrivers.{began_as}
 use Rattle.qimg_chain.specs.contracts.chain.image_driver.ImageDriverSeen.TheImpl as image_seen
 use Rattle.qimg_chain.specs.declared.chain.image_driver.ImageDriver.{ImageDriver}
@@ -41,3 +52,43 @@ module _ (R : RattleType) (st : Ghosts R.Denot) (sd : mir.Syntax.Dict) (dd : mir
 
   pub qcow2_kind : IsKind {E = ImageDriver R.Denot st} (λ (d : Qcow2 R.Denot st). variant.Qcow2 d) (image_seen.ghosts R st sd dd) (qcow2_seen.ghosts R st sd dd)
   qcow2_kind = record { sound = λ d file s. s; sound_for = λ d file s. s; alike = qcow2_alike _ _ _ }
+
+  -- no place is held where nothing is prepared
+  pub none_held : (d : ImageDriver R.Denot st) → IsFree ((image_seen.ghosts R st sd dd).layer d) → (p : ℕ) → ((image_seen.ghosts R st sd dd).layer d).held p ≡ loose
+  none_held (variant.Raw d) free p = refl
+  none_held (variant.Vmdk d) free p = refl
+  none_held (variant.Qcow2 d) free p = refl
+
+  -- whether it keeps what is written, its storages say, and whether a file is sound for it, its format
+  pub keeps_so : (d : ImageDriver R.Denot st) → ((image_seen.ghosts R st sd dd).layer d).fixed.keeps
+      ≡ keep_all ((image_seen.ghosts R st sd dd).image d) ((image_seen.ghosts R st sd dd).extras d)
+  keeps_so (variant.Raw d) = refl
+  keeps_so (variant.Vmdk d) = refl
+  keeps_so (variant.Qcow2 d) = refl
+
+  pub sound_so : (d : ImageDriver R.Denot st) (f : List ℕ) → IsSoundAs ((image_seen.ghosts R st sd dd).layer d).fixed.format f
+      → (image_seen.ghosts R st sd dd).sound ((image_seen.ghosts R st sd dd).layer d).fixed.kind f
+  sound_so (variant.Raw d) f sound = sound
+  sound_so (variant.Vmdk d) f sound = sound
+  sound_so (variant.Qcow2 d) f sound = sound
+
+  -- a VMDK image just opened
+  pub vmdk_opened : (writable : Bool) (before : StorageState) (d : Vmdk R.Denot) → writable ≡ false → IsKept before (st.state d.image) → descriptor_of before.bytes ≡ Ok (kept_extents d.disk.extents.items)
+      → barrier ((vmdk_seen.ghosts R st sd dd).layer d) ≡ None → (vmdk_seen.ghosts R st sd dd).sees d → IsOpened (image_seen.ghosts R st sd dd) format.Vmdk writable 0 before (variant.Vmdk d)
+  vmdk_opened writable before d closed kept means usable sees =
+      let said = said_still before (st.state d.image) d.disk.extents.items kept means in
+      let files = map st.state d.files.items in
+      record {
+        format_is = refl;
+        writable_is = sym closed;
+        number_is = refl;
+        size_is = as_stated d.disk.extents.items (st.state d.image) files said;
+        meant = written d.disk.extents.items (st.state d.image) files said;
+        kept = kept;
+        free = refl;
+        usable = usable;
+        sees = sees;
+        still = tt;
+        lasting = tt;
+        safe = λ keeps sound. (keeps, sees, said);
+      }

@@ -1,7 +1,11 @@
 -- Lemmas.
 mod ArgumentLemmas
 mod CallsThrough
+mod FirstCauses
+mod FurtherTaken
 mod ImageKinds
+mod Opened
+mod Refusing
 mod RunAnswerLemmas
 mod RunCallLemmas
 mod ScriptLines

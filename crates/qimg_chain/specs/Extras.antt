@@ -1,5 +1,5 @@
 -- The files that were handed in for those that images name.
-use Rattle.std.specs.Prelude.{◌≡◌, ◌++◌, ◌∷◌, ℕ, List, Result, Ok, Err, All}
+use Rattle.std.specs.Prelude.{◌≡◌, ◌⊎◌, ⊤, ◌++◌, ◌∷◌, [], ℕ, List, Result, Ok, Err, All}
 use Rattle.std.specs.String.{string_bytes}
 use Rattle.std.specs.declared.string.String.{String}
 use Rattle.std.specs.declared.alloc.Global.{Global}
@@ -24,3 +24,16 @@ pub record TakesFirst {S : Type 0} (files : List (String Global × S)) (name : L
 abbrev pub IsTaken : {S : Type 0} → List (String Global × S) → List ℕ → Result S Fault → List (String Global × S) → Type 0
 IsTaken files name (Ok file) left = TakesFirst files name file left
 IsTaken files name (Err fault) left = (fault ≡ MissingData) × All (IsOther name) files × (left ≡ files)
+
+-- A file is taken for each of these names, one after the other.
+abbrev pub TakesEach : {S : Type 0} → List (String Global × S) → List (List ℕ) → List S → Type 0
+TakesEach files [] [] = ⊤
+TakesEach {S} files (name ∷ names) (taken ∷ others) =
+    (left : List (String Global × S)) × TakesFirst files name taken left × TakesEach left names others
+TakesEach files names taken = ⊥
+
+-- One of these names has no file, once a file is taken for each name before it.
+abbrev pub LacksOne : {S : Type 0} → List (String Global × S) → List (List ℕ) → Type 0
+LacksOne files [] = ⊥
+LacksOne {S} files (name ∷ names) =
+    All (IsOther name) files ⊎ ((taken : S) × (left : List (String Global × S)) × TakesFirst files name taken left × LacksOne left names)

@@ -3,7 +3,10 @@ pub mod Arguments
 pub mod Chains
 pub mod CheckNumbers
 pub mod Extras
+pub mod FileLayers
+pub mod FurtherFiles
 pub mod ImageDrivers
+pub mod Refusals
 pub mod RunAnswers
 pub mod RunCalls
 pub mod Script

@@ -1,8 +1,18 @@
 // Image files are opened as a chain.
-ghost use Rattle.std.specs.Prelude.{◌≡◌, ◌<◌, ◌∷◌, length, reverse, IfOk, IfErr, IsErrOf};
+ghost use Rattle.std.specs.Prelude.{◌≡◌, ◌⊎◌, ◌<◌, ◌∷◌, length, map, reverse, IfOk, IfErr, IsErrOf};
+ghost use Rattle.imago_storage.specs.State.{InStep};
 ghost use Rattle.imago_access.specs.Building.{IsOpened};
+ghost use Rattle.imago_access.specs.Chain.{Each};
+ghost use Rattle.imago_access.specs.Layer.{IsFree};
 ghost use Rattle.imago_access.specs.Layers.{chain};
-ghost use Rattle.qimg_chain.specs.Chains.{AreLayers, EndsThere, number_for};
+ghost use Rattle.imago_access.specs.Running.{chain_disk};
+ghost use Rattle.imago_access.specs.declared.format.Format.TheVariants as format;
+ghost use Rattle.qimg_calls.specs.Held.{IsReady};
+ghost use Rattle.qimg_calls.specs.Runs.{StandsSince};
+ghost use Rattle.qimg_calls.specs.Since.{flushed};
+ghost use Rattle.qimg_chain.specs.Chains.{AreInPlace, AreLayers, IsFit, OfTop, number_for};
+ghost use Rattle.qimg_chain.specs.FileLayers.{IsLayer, IsLayerAs, WhyNotAs, WhyNotLayer, shows_below};
+ghost use Rattle.qimg_chain.specs.Refusals.{FirstCause, FormChain, IsCutOff, WhyNotLayers};
 
 use crate::chain::extras::Extras;
 use crate::chain::image_driver::ImageDriver;
@@ -23,9 +33,14 @@ const MOST_LAYERS: usize = 64;
 /// yet. That a backing file has the name and the format by which it is named isn't asked.
 ///
 /// It refuses with `Fault::MissingBelow` where there is no file, and with `Fault::Limit` where there are more than 64. Then it goes from
-/// the top downward, and refuses as the builder of each file's format does, with `Fault::MissingData` for a further file that wasn't handed
-/// in, and behind that with `Fault::MissingBelow` for the last file, where it names a backing file, and with `Fault::ExtraLayer` for
-/// another that names none. Nothing is written, and the files are dropped where it refuses.
+/// the top downward, and refuses for the first cause: as the builder of each file's format does, with `Fault::MissingData` for a further
+/// file that wasn't handed in, and behind that with `Fault::MissingBelow` for the last file, where it names a backing file, and with
+/// `Fault::ExtraLayer` for another that names none. `Fault::Memory` and `Fault::Storage` come at any time from there on. Nothing is
+/// written, and the files are dropped where it refuses.
+///
+/// Calls may begin on a chain just opened, as `qimg_calls::drive` makes them, with the disk that its files mean as the one last flushed:
+/// where the top's storages keep what is written, a stop would leave its file as it is, and it is sound. A raw and a VMDK image always is,
+/// and a qcow2 image where `qimg_core::check` accepts it.
 pub fn open_chain<S: Storage>(
     alloc: Global,
     files: Vec<ChainFile<S>>,
@@ -33,6 +48,17 @@ pub fn open_chain<S: Storage>(
     number: u64,
 ) -> Result<FormatAccess<ImageDriver<S>>, Fault>
     ensures layers { IfOk result (λ c. AreLayers ⟦<ImageDriver<S> as Seen>⟧ S.state writable number files.items (chain c)) }
+    ensures places { let d = ⟦<ImageDriver<S> as Seen>⟧ in IfOk result (λ c. AreInPlace (map d.layer (chain c))) }
+    // Nothing is prepared in the top, and nothing waits to be written below it.
+    ensures free { let d = ⟦<ImageDriver<S> as Seen>⟧ in IfOk result (λ c. IsFree (d.layer c.0)) }
+    ensures still { let d = ⟦<ImageDriver<S> as Seen>⟧ in IfOk result (λ c. Each d.still c.1) }
+    // What calls rest on: the top is sound and its storages keep what is written, or a stop leaves its bytes.
+    ensures ready { IfOk result (λ c. OfTop (IsFit S.state) files.items → IsReady ⟦<ImageDriver<S> as Seen>⟧ c) }
+    ensures stands { let d = ⟦<ImageDriver<S> as Seen>⟧ in
+        IfOk result (λ c. OfTop (λ file. InStep (S.state file.image)) files.items → StandsSince d (flushed (chain_disk d.layer c)) c) }
+    // Files that form a chain have no cause against that: it is refused exactly for the first cause, or cut off.
+    ensures formed { IfOk result (λ _. FormChain S.state writable files.items) }
+    ensures err { IfErr result (λ e. IsCutOff e ⊎ FirstCause S.state writable files.items e) }
     ensures none { length files.items ≡ 0 → IsErrOf result Fault.MissingBelow }
     ensures many { 64 < length files.items → IsErrOf result (Fault.Limit (length files.items)) }
 {
@@ -56,8 +82,10 @@ fn open_over<S: Storage>(
     writable: bool,
     number: u64,
 ) -> Result<FormatAccess<ImageDriver<S>>, Fault>
-    ensures layers { IfOk result (λ c. AreLayers ⟦<ImageDriver<S> as Seen>⟧ S.state writable number (top ∷ reverse below.old.items) (chain c)) }
-    ensures ends { IfOk result (λ c. EndsThere ⟦<ImageDriver<S> as Seen>⟧ (chain c)) }
+    ensures layers { let d = ⟦<ImageDriver<S> as Seen>⟧ in
+        IfOk result (λ c. AreLayers d S.state writable number (top ∷ reverse below.old.items) (chain c)) }
+    ensures places { let d = ⟦<ImageDriver<S> as Seen>⟧ in IfOk result (λ c. AreInPlace (map d.layer (chain c))) }
+    ensures err { IfErr result (λ e. IsCutOff e ⊎ WhyNotLayers S.state writable (top ∷ reverse below.old.items) e) }
 {
     let driver = open_layer(alloc, top, writable, number)?;
     let next = match below.pop() {
@@ -86,7 +114,11 @@ fn open_layer<S: Storage>(
     writable: bool,
     number: u64,
 ) -> Result<ImageDriver<S>, Fault>
-    ensures { IfOk result (IsOpened ⟦<ImageDriver<S> as Seen>⟧ file.format writable (number_for file.format number) (S.state file.image)) }
+    ensures opened { let d = ⟦<ImageDriver<S> as Seen>⟧ in
+        IfOk result (IsOpened d file.format writable (number_for file.format number) (S.state file.image)) }
+    ensures layer { let d = ⟦<ImageDriver<S> as Seen>⟧ in
+        IfOk result (λ l. IsLayer S.state writable file (shows_below (d.layer l)) (d.extras l)) }
+    ensures err { IfErr result (λ e. IsCutOff e ⊎ WhyNotLayer S.state writable file e) }
 {
     let ChainFile {
         format,
@@ -95,27 +127,67 @@ fn open_layer<S: Storage>(
     } = file;
     let mut extras = Extras { files: extras };
     match format {
-        Format::Raw => {
-            let builder = Raw::builder(image).write(writable);
-            match open_by(alloc, builder, &mut extras) {
-                Ok(raw) => Ok(ImageDriver::Raw(raw)),
-                Err(fault) => Err(fault),
-            }
-        }
-        Format::Vmdk => {
-            let builder = Vmdk::builder(image).write(writable);
-            match open_by(alloc, builder, &mut extras) {
-                Ok(vmdk) => Ok(ImageDriver::Vmdk(vmdk)),
-                Err(fault) => Err(fault),
-            }
-        }
-        Format::Qcow2 => {
-            let builder = Qcow2::builder(image).number(number).write(writable);
-            match open_by(alloc, builder, &mut extras) {
-                Ok(qcow2) => Ok(ImageDriver::Qcow2(qcow2)),
-                Err(fault) => Err(fault),
-            }
-        }
+        Format::Raw => open_raw(alloc, image, &mut extras, writable),
+        Format::Vmdk => open_vmdk(alloc, image, &mut extras, writable),
+        Format::Qcow2 => open_qcow2(alloc, image, &mut extras, writable, number),
+    }
+}
+
+// Opens a raw image, which is never refused.
+fn open_raw<S: Storage>(
+    alloc: Global,
+    image: S,
+    extras: &mut Extras<S>,
+    writable: bool,
+) -> Result<ImageDriver<S>, Fault>
+    ensures opened { IfOk result (IsOpened ⟦<ImageDriver<S> as Seen>⟧ format.Raw writable 0 (S.state image)) }
+    ensures layer { let d = ⟦<ImageDriver<S> as Seen>⟧ in let handed = extras.old.files.items in
+        IfOk result (λ l. IsLayerAs S.state format.Raw writable (S.state image) handed (shows_below (d.layer l)) (d.extras l)) }
+    ensures err { IfErr result (λ _. ⊥) }
+{
+    let builder = Raw::builder(image).write(writable);
+    match open_by(alloc, builder, extras) {
+        Ok(raw) => Ok(ImageDriver::Raw(raw)),
+        Err(fault) => Err(fault),
+    }
+}
+
+// Opens a VMDK image, with the files that it names.
+fn open_vmdk<S: Storage>(
+    alloc: Global,
+    image: S,
+    extras: &mut Extras<S>,
+    writable: bool,
+) -> Result<ImageDriver<S>, Fault>
+    ensures opened { IfOk result (IsOpened ⟦<ImageDriver<S> as Seen>⟧ format.Vmdk writable 0 (S.state image)) }
+    ensures layer { let d = ⟦<ImageDriver<S> as Seen>⟧ in let handed = extras.old.files.items in
+        IfOk result (λ l. IsLayerAs S.state format.Vmdk writable (S.state image) handed (shows_below (d.layer l)) (d.extras l)) }
+    ensures err { IfErr result (λ e. IsCutOff e ⊎ WhyNotAs S.state format.Vmdk writable (S.state image) extras.old.files.items e) }
+{
+    let builder = Vmdk::builder(image).write(writable);
+    match builder.open(alloc, extras) {
+        Ok(vmdk) => Ok(ImageDriver::Vmdk(vmdk)),
+        Err(fault) => Err(fault),
+    }
+}
+
+// Opens a qcow2 image, over the layer below where it names a backing file.
+fn open_qcow2<S: Storage>(
+    alloc: Global,
+    image: S,
+    extras: &mut Extras<S>,
+    writable: bool,
+    number: u64,
+) -> Result<ImageDriver<S>, Fault>
+    ensures opened { IfOk result (IsOpened ⟦<ImageDriver<S> as Seen>⟧ format.Qcow2 writable number (S.state image)) }
+    ensures layer { let d = ⟦<ImageDriver<S> as Seen>⟧ in let handed = extras.old.files.items in
+        IfOk result (λ l. IsLayerAs S.state format.Qcow2 writable (S.state image) handed (shows_below (d.layer l)) (d.extras l)) }
+    ensures err { IfErr result (λ e. IsCutOff e ⊎ WhyNotAs S.state format.Qcow2 writable (S.state image) extras.old.files.items e) }
+{
+    let builder = Qcow2::builder(image).number(number).write(writable);
+    match open_by(alloc, builder, extras) {
+        Ok(qcow2) => Ok(ImageDriver::Qcow2(qcow2)),
+        Err(fault) => Err(fault),
     }
 }
 
@@ -125,6 +197,7 @@ fn open_by<S: Storage, B: FormatDriverBuilder<S>, G: ImplicitOpenGate<S>>(
     builder: B,
     gate: &mut G,
 ) -> Result<B::Format, Fault>
+    ensures ok { IfOk result (B.opens builder) }
     ensures opened { let before = S.state (B.image_of builder) in
         IfOk result (IsOpened B.Format.Seen B.FORMAT (B.writable_of builder) (B.number_of builder) before) }
     ensures err { IfErr result (B.refuses builder) }

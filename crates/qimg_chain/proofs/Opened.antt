@@ -1,0 +1,182 @@
+-- A chain just opened is where calls may begin.
+use Rattle.std.proofs.Common.{◌≡◌, ◌∷◌, ◌++◌, ◌≤◌, ◌∙◌, [], ℕ, List, arith, drop, length, refl, subst, sym, take, true}
+use Rattle.std.specs.Prelude.{◌&&◌, ◌≢◌, All, Bool, IfOk, IsTrue, Err, None, Ok, Result, false, map}
+use Rattle.std.specs.declared.string.String.{String}
+use Rattle.std.specs.declared.alloc.Global.{Global}
+use Rattle.std.proofs.lemmas.List.{drop_at, take_at}
+use Rattle.std.proofs.lemmas.List.Elements.{All-append, All-drop, All-head, All-same, All-tail, All-take}
+use Rattle.imago_storage.specs.State.{InStep, Shape, StorageState}
+use Rattle.imago_access.specs.declared.format.Format.{Format}
+use Rattle.imago_access.specs.declared.format.Format.TheVariants.{Qcow2, Raw, Vmdk}
+use Rattle.imago_access.specs.declared.seen.Seen.{Ghosts}
+use Rattle.imago_access.specs.Building.{IsOpened}
+use Rattle.imago_access.specs.Chain.{Each, IsBacked, at}
+use Rattle.imago_access.specs.Files.{keep_all}
+use Rattle.imago_access.specs.Layer.{Cell, IsFree, Layer, loose, own, unmapped}
+use Rattle.imago_access.specs.Layers.{chain}
+use Rattle.imago_access.specs.Refusals.{barrier}
+use Rattle.imago_access.specs.Running.{chain_disk}
+use Rattle.imago_access.proofs.Running.{intact_free}
+use Rattle.qimg_calls.specs.Held.{IsReady}
+use Rattle.qimg_calls.specs.Runs.{StandsSince}
+use Rattle.qimg_calls.specs.Since.{flushed}
+use Rattle.qimg_calls.proofs.Stops.{since-flushed}
+use Rattle.qimg_core.specs.declared.plain.ChainFile.{ChainFile}
+use Rattle.qimg_chain.specs.Chains.{AreInPlace, AreLayers, IsFit, IsInPlace, IsLayerOf, IsSoundAs, OfTop, number_for}
+use Rattle.qimg_chain.specs.Extras.{TakesEach, TakesFirst}
+use Rattle.qimg_chain.specs.FileLayers.{is_unmapped}
+use Rattle.qimg_chain.specs.FurtherFiles.{HasFurther}
+use Rattle.qimg_chain.specs.Refusals.{ArePlaced, FormChain, misplaced}
+
+-- what holds on success may be said otherwise
+pub on_ok : {T E : Type 0} {P Q : T → Type 0} → ((x : T) → P x → Q x) → (result : Result T E) → IfOk result P → IfOk result Q
+on_ok follows (Ok x) p = follows x p
+on_ok follows (Err e) p = tt
+
+-- the same of two facts
+pub on_ok_both : {T E : Type 0} {P Q R : T → Type 0} → ((x : T) → P x → Q x → R x) → (result : Result T E) → IfOk result P → IfOk result Q → IfOk result R
+on_ok_both follows (Ok x) p q = follows x p q
+on_ok_both follows (Err e) p q = tt
+
+-- a layer in its place shows those below
+backed : (below : List Layer) (layer : Layer) → IsInPlace below layer → IsBacked below layer
+backed [] layer place = tt
+backed (next ∷ below) layer place = place
+
+-- ---- Storages that keep what is written.
+
+both_true : (a b : Bool) → IsTrue a → IsTrue b → IsTrue (a && b)
+both_true true b first second = second
+both_true false b first second = absurd (cc first)
+
+module _ {S : Type 0} (P : S → Type 0) where
+  -- what each file has, the one that is taken has, and those that are left
+  taken_has : (files left : List (String Global × S)) (name : List ℕ) (taken : S) → All (λ f. P f.1) files → TakesFirst files name taken left
+      → P taken × All (λ (f : String Global × S). P f.1) left
+  taken_has files left name taken all t =
+      let Q = λ (f : String Global × S). P f.1 in
+      let behind = (t.given, taken) ∷ t.behind in
+      let parted : All Q (t.before ++ behind) = All-same Q (t.before ++ behind) files (sym t.where_is) all in
+      let first : All Q t.before = All-same Q t.before (take (length t.before) (t.before ++ behind))
+      (sym (take_at t.before behind (length t.before) refl)) (All-take Q (length t.before) (t.before ++ behind) parted) in
+      let last : All Q behind = All-same Q behind (drop (length t.before) (t.before ++ behind))
+      (sym (drop_at t.before behind (length t.before) refl)) (All-drop Q (length t.before) (t.before ++ behind) parted) in (
+        All-head Q (t.given, taken) t.behind last,
+        All-same Q left (t.before ++ t.behind) t.rest (All-append Q t.before t.behind first (All-tail Q (t.given, taken) t.behind last)),
+      )
+
+module _ {S : Type 0} (state : S → StorageState) where
+  each_keeps : (names : List (List ℕ)) (files : List (String Global × S)) (ones : List S) (s : StorageState)
+      → All (λ f. IsTrue (state f.1).shape.keeps) files → TakesEach files names ones → IsTrue s.shape.keeps → IsTrue (keep_all s (map state ones))
+  each_keeps [] files [] s all t keeps = keeps
+  each_keeps [] files (x ∷ xs) s all t keeps = absurd t
+  each_keeps (name ∷ names) files [] s all t keeps = absurd t
+  each_keeps (name ∷ names) files (x ∷ xs) s all t keeps =
+      let has = taken_has (λ (x : S). IsTrue (state x).shape.keeps) files t.0 name x all t.1 in
+      both_true s.shape.keeps (keep_all (state x) (map state xs)) keeps (each_keeps names t.0 xs (state x) has.1 t.2 has.0)
+
+  further_keep : (format : Format) (image s : StorageState) (handed : List (String Global × S)) (further : List StorageState)
+      → All (λ f. IsTrue (state f.1).shape.keeps) handed → HasFurther state format image handed further → IsTrue s.shape.keeps → IsTrue (keep_all s further)
+  further_keep Raw image s handed further all has keeps = subst (λ (ts : List StorageState). IsTrue (keep_all s ts)) (sym has) keeps
+  further_keep Qcow2 image s handed further all has keeps = subst (λ (ts : List StorageState). IsTrue (keep_all s ts)) (sym has) keeps
+  further_keep Vmdk image s handed further all has keeps =
+      subst (λ (ts : List StorageState). IsTrue (keep_all s ts)) (sym has.2.2) (each_keeps _ handed has.2.0 s all has.2.1.taken keeps)
+
+-- ---- Files whose layers are in their places are in theirs.
+
+last_in_place : (F : Type 0) (blank : Cell) → blank ≢ unmapped → misplaced {F = F} (is_unmapped blank) [] ≡ None
+last_in_place F (own value) shows = refl
+last_in_place F unmapped shows = absurd (shows refl)
+
+upper_in_place : {F : Type 0} (blank : Cell) (next : F) (below : List F) → blank ≡ unmapped → misplaced (is_unmapped blank) (next ∷ below) ≡ None
+upper_in_place (own value) next below shows = absurd (cc shows)
+upper_in_place unmapped next below shows = refl
+
+module _ {S D St : Type 0} (g : Ghosts D St) (state : S → StorageState) where
+  in_place : (files : List (ChainFile S)) (ds : List D) (d : D) → AreLayers g state false 0 files ds → IsInPlace (map g.layer ds) (g.layer d)
+      → misplaced (is_unmapped (g.layer d).fixed.blank) files ≡ None
+  in_place [] [] d are place = last_in_place (ChainFile S) (g.layer d).fixed.blank place
+  in_place (file ∷ files) (e ∷ ds) d are place = upper_in_place (g.layer d).fixed.blank file files place
+  in_place [] (e ∷ ds) d are place = absurd are
+  in_place (file ∷ files) [] d are place = absurd are
+
+  placed : (writable : Bool) (number : ℕ) (files : List (ChainFile S)) (ds : List D) → AreLayers g state writable number files ds → AreInPlace (map g.layer ds)
+      → ArePlaced state writable files
+  placed writable number [] [] are places = tt
+  placed writable number (file ∷ files) (d ∷ ds) are places =
+      ((is_unmapped (g.layer d).fixed.blank, g.extras d, are.0.layer, in_place files ds d are.1 places.0), placed false 0 files ds are.1 places.1)
+  placed writable number [] (d ∷ ds) are places = absurd are
+  placed writable number (file ∷ files) [] are places = absurd are
+
+  pub formed : (writable : Bool) (number : ℕ) (file : ChainFile S) (files : List (ChainFile S)) → length (file ∷ files) ≤ 64 → (c : D × List D)
+      → AreLayers g state writable number (file ∷ files) (chain c) → AreInPlace (map g.layer (chain c)) → FormChain state writable (file ∷ files)
+  formed writable number file files few c are places = (omega arith, few, placed writable number (file ∷ files) (chain c) are places)
+
+  -- ---- What calls rest on.
+
+  -- what each driver just opened has, each layer has
+  each : (P : D → Type 0) → ((format : Format) (writable : Bool) (number : ℕ) (before : StorageState) (d : D) → IsOpened g format writable number before d → P d)
+      → (writable : Bool) (number : ℕ) (files : List (ChainFile S)) (ds : List D) → AreLayers g state writable number files ds → Each P ds
+  each P has writable number [] [] are = tt
+  each P has writable number (file ∷ files) (d ∷ ds) are =
+      (has file.format writable (number_for file.format number) (state file.image) d are.0.opened, each P has false 0 files ds are.1)
+  each P has writable number [] (d ∷ ds) are = absurd are
+  each P has writable number (file ∷ files) [] are = absurd are
+
+  usable : (ds : List D) → Each (λ d. barrier (g.layer d) ≡ None) ds → Each (λ l. barrier l ≡ None) (map g.layer ds)
+  usable [] can = tt
+  usable (d ∷ ds) can = (can.0, usable ds can.1)
+
+  as_many : (writable : Bool) (number : ℕ) (files : List (ChainFile S)) (ds : List D) → AreLayers g state writable number files ds → length (map g.layer ds) ≡ length files
+  as_many writable number [] [] are = refl
+  as_many writable number (file ∷ files) (d ∷ ds) are = omega (arith, as_many false 0 files ds are.1)
+  as_many writable number [] (d ∷ ds) are = absurd are
+  as_many writable number (file ∷ files) [] are = absurd are
+
+  pub free : (writable : Bool) (number : ℕ) (file : ChainFile S) (files : List (ChainFile S)) (c : D × List D)
+      → AreLayers g state writable number (file ∷ files) (chain c) → IsFree (g.layer c.0)
+  free writable number file files c are = are.0.opened.free
+
+  pub still : (writable : Bool) (number : ℕ) (file : ChainFile S) (files : List (ChainFile S)) (c : D × List D)
+      → AreLayers g state writable number (file ∷ files) (chain c) → Each g.still c.1
+  still writable number file files c are = each g.still (λ f w n b d o. o.still) false 0 files c.1 are.1
+
+  -- a driver of a file that may be the top is as a sound image has to be
+  safe : ((d : D) → (g.layer d).fixed.keeps ≡ keep_all (g.image d) (g.extras d))
+      → ((d : D) (f : List ℕ) → IsSoundAs (g.layer d).fixed.format f → g.sound (g.layer d).fixed.kind f)
+      → (writable : Bool) (number : ℕ) (file : ChainFile S) (d : D) → IsLayerOf g state writable number file d → IsFit state file → g.safe d
+  safe keeps_so sound_so writable number file d is fit =
+      let kept = is.opened.kept.0 in
+      let own_keeps : IsTrue (g.image d).shape.keeps = subst (λ (s : Shape). IsTrue s.keeps) (sym kept.shape) fit.keeps in
+      let keeps = further_keep state file.format (state file.image) (g.image d) file.extras.items (g.extras d) fit.others is.layer.has own_keeps in
+      let sound : IsSoundAs (g.layer d).fixed.format (g.image d).bytes =
+      subst (λ (f : Format). IsSoundAs f (g.image d).bytes) (sym is.opened.format_is)
+      (subst (λ (f : List ℕ). IsSoundAs file.format f) (sym kept.bytes) fit.sound) in
+      is.opened.safe (subst (λ (b : Bool). IsTrue b) (sym (keeps_so d)) keeps) (sound_so d (g.image d).bytes sound)
+
+  pub ready : ((d : D) → IsFree (g.layer d) → (p : ℕ) → (g.layer d).held p ≡ loose) → ((d : D) → (g.layer d).fixed.keeps ≡ keep_all (g.image d) (g.extras d))
+      → ((d : D) (f : List ℕ) → IsSoundAs (g.layer d).fixed.format f → g.sound (g.layer d).fixed.kind f)
+      → (writable : Bool) (number : ℕ) (file : ChainFile S) (files : List (ChainFile S)) → length (file ∷ files) ≤ 64
+      → (c : D × List D) → AreLayers g state writable number (file ∷ files) (chain c) → AreInPlace (map g.layer (chain c))
+      → OfTop (IsFit state) (file ∷ files) → IsReady g c
+  ready free_loose keeps_so sound_so writable number file files few c are places fit = record {
+    intact = record {
+      is_safe = safe keeps_so sound_so writable number file c.0 are.0 fit;
+      is_seen = each g.sees (λ f w n b d o. o.sees) false 0 files c.1 are.1;
+      backed = backed (map g.layer c.1) (g.layer c.0) places.0;
+      held = intact_free g.layer free_loose (at (map g.layer c.1)) c.0 are.0.opened.free;
+    };
+    usable = (are.0.opened.usable, usable c.1 (each (λ d. barrier (g.layer d) ≡ None) (λ f w n b d o. o.usable) false 0 files c.1 are.1));
+    still = still writable number file files c are;
+    few = omega (arith, few, as_many false 0 files c.1 are.1);
+  }
+
+  pub stands : (writable : Bool) (number : ℕ) (file : ChainFile S) (files : List (ChainFile S)) (c : D × List D)
+      → AreLayers g state writable number (file ∷ files) (chain c) → OfTop (λ f. InStep (state f.image)) (file ∷ files)
+      → StandsSince g (flushed (chain_disk g.layer c)) c
+  stands writable number file files c are step exact tells keeps room =
+      let kept = are.0.opened.kept.0 in
+      let same = step (subst (λ (s : Shape). IsTrue s.tells) kept.shape tells) (subst (λ (s : Shape). IsTrue s.keeps) kept.shape keeps) in (
+        kept.stop ∙ same ∙ sym kept.bytes,
+        since-flushed (map g.layer c.1) (g.layer c.0) (g.image c.0).bytes are.0.opened.meant,
+      )

@@ -1,0 +1,77 @@
+-- Why files aren't opened as layers.
+use Rattle.std.proofs.Common.{◌≡◌, ◌≤◌, ◌⊎◌, ◌∷◌, ℕ, List, ap, inl, inr, length, refl, sym}
+use Rattle.std.specs.Prelude.{◌↔◌, Bool, Err, IfErr, IsTrue, None, Ok, Result, Some, false, true}
+use Rattle.std.specs.declared.string.String.{String}
+use Rattle.std.specs.declared.alloc.Global.{Global}
+use Rattle.imago_storage.specs.State.{StorageState}
+use Rattle.imago_storage.specs.declared.fault.Fault.{Fault}
+use Rattle.imago_storage.specs.declared.fault.Fault.TheVariants.{ExtraLayer}
+use Rattle.imago_access.specs.Layer.{Cell, own, unmapped}
+use Rattle.imago_access.specs.declared.format.Format.TheVariants.{Vmdk}
+use Rattle.imago_formats.specs.Descriptor.{descriptor_of}
+use Rattle.imago_formats.specs.VmdkOpening.{NotBuilt, Unread}
+use Rattle.imago_formats.specs.declared.vmdk.descriptor.Extent.{Extent}
+use Rattle.qimg_core.specs.declared.plain.ChainFile.{ChainFile}
+use Rattle.qimg_chain.specs.FileLayers.{IsLayer, WhyNotAs, asked_of, is_unmapped, said_of}
+use Rattle.qimg_chain.specs.Refusals.{FirstCause, IsCutOff, WhyNotLayers, misplaced}
+use Rattle.qimg_chain.specs.declared.chain.extras.Extras.{Extras}
+use Rattle.qimg_chain.proofs.FurtherTaken.{Answers, lacks_files}
+
+-- what holds on refusal may be said otherwise
+pub on_err : {T E : Type 0} {P Q : E → Type 0} → ((e : E) → P e → Q e) → (result : Result T E) → IfErr result P → IfErr result Q
+on_err follows (Ok x) p = tt
+on_err follows (Err e) p = follows e p
+
+-- a layer that says whether it shows those below
+pub shown_so : (shows : Bool) (blank : Cell) → (IsTrue shows ↔ (blank ≡ unmapped)) → is_unmapped blank ≡ shows
+shown_so true blank is = rw (is.0 refl) refl
+shown_so false unmapped is = absurd (cc (is.1 refl))
+shown_so false (own value) is = refl
+
+-- ---- What a VMDK image says, and why it is refused.
+
+pub vmdk_said : (writable : Bool) (bytes : List ℕ) (extents : List (Extent (List ℕ))) → writable ≡ false → descriptor_of bytes ≡ Ok extents
+    → said_of Vmdk writable bytes ≡ Ok false
+vmdk_said true bytes extents closed means = absurd (cc closed)
+vmdk_said false bytes extents closed means = ap (asked_of (λ (xs : List (Extent (List ℕ))). false)) means
+
+module _ {S : Type 0} (state : S → StorageState) where
+  vmdk_unread : (writable : Bool) (image : StorageState) (handed : List (String Global × S)) (e : Fault) → Unread writable (descriptor_of image.bytes) e
+      → IsCutOff e ⊎ WhyNotAs state Vmdk writable image handed e
+  vmdk_unread true image handed e why = inr (inl (ap Err (sym why)))
+  vmdk_unread false image handed e (inl memory) = inl (inl memory)
+  vmdk_unread false image handed e (inr (inl failed)) = inl (inr failed)
+  vmdk_unread false image handed e (inr (inr said)) = inr (inl (ap (asked_of (λ (xs : List (Extent (List ℕ))). false)) said))
+
+  pub vmdk_refused : (writable : Bool) (image : StorageState) (handed left : Extras S) (e : Fault) → NotBuilt state Answers writable image handed left e
+      → IsCutOff e ⊎ WhyNotAs state Vmdk writable image handed.files.items e
+  vmdk_refused writable image handed left e (inl unread) = vmdk_unread writable image handed.files.items e unread.1
+  vmdk_refused writable image handed left e (inr why) = elim (lacks_files state image handed left e why.1) [
+    | inl memory ↦ inl (inl memory)
+    | inr lacking ↦ inr (inr ((false, vmdk_said writable image.bytes lacking.0 why.0 lacking.1), lacking))
+  ]
+
+-- ---- The files of a chain.
+
+module _ {S : Type 0} (state : S → StorageState) (writable : Bool) (file : ChainFile S) (below : List (ChainFile S)) where
+  -- the first of files is out of its place, or one below it is refused
+  pub at_place : (e : Fault) (named : Bool) (further : List StorageState) → IsLayer state writable file named further → misplaced named below ≡ Some e
+      → IsCutOff e ⊎ WhyNotLayers state writable (file ∷ below) e
+  at_place e named further is out = inr (inr (inl (named, further, is, out)))
+
+  pub at_below : (e : Fault) (named : Bool) (further : List StorageState) → IsLayer state writable file named further → misplaced named below ≡ None
+      → IsCutOff e ⊎ WhyNotLayers state false below e → IsCutOff e ⊎ WhyNotLayers state writable (file ∷ below) e
+  at_below e named further is here (inl cut) = inl cut
+  at_below e named further is here (inr why) = inr (inr (inr ((named, further, is, here), why)))
+
+  pub first_of : length (file ∷ below) ≤ 64 → (e : Fault) → IsCutOff e ⊎ WhyNotLayers state writable (file ∷ below) e
+      → IsCutOff e ⊎ FirstCause state writable (file ∷ below) e
+  first_of few e (inl cut) = inl cut
+  first_of few e (inr why) = inr (inr (few, why))
+
+-- where another file names one below it, or names none
+pub upper_misplaced : {F : Type 0} (named : Bool) (next : F) (below : List F) → named ≡ false → misplaced named (next ∷ below) ≡ Some ExtraLayer
+upper_misplaced named next below names = rw names refl
+
+pub upper_placed : {F : Type 0} (named : Bool) (next : F) (below : List F) → named ≡ true → misplaced named (next ∷ below) ≡ None
+upper_placed named next below names = rw names refl

@@ -1,0 +1,56 @@
+-- An image file as a layer of a chain.
+use Rattle.std.specs.Prelude.{◌≡◌, ◌⊎◌, ℕ, Bool, true, false, List, is_some, Result, Ok, Err}
+use Rattle.std.specs.declared.string.String.{String}
+use Rattle.std.specs.declared.alloc.Global.{Global}
+use Rattle.imago_storage.specs.State.{StorageState}
+use Rattle.imago_storage.specs.declared.fault.Fault.{Fault}
+use Rattle.imago_storage.specs.declared.fault.Fault.TheVariants.{Unsupported}
+use Rattle.imago_access.specs.Layer.{Cell, Layer, own, unmapped}
+use Rattle.imago_access.specs.declared.format.Format.{Format}
+use Rattle.imago_access.specs.declared.format.Format.TheVariants.{Qcow2, Raw, Vmdk}
+use Rattle.imago_formats.specs.Descriptor.{descriptor_of}
+use Rattle.qcow2_types.specs.Bytes.{bytes_of}
+use Rattle.qcow2_image.specs.Opening.{header_for_reading}
+use Rattle.qimg_core.specs.declared.plain.ChainFile.{ChainFile}
+use Rattle.qimg_chain.specs.FurtherFiles.{HasFurther, WhyNotFurther}
+
+-- what is asked of what was read, or why it wasn't read
+abbrev pub asked_of : {A : Type 0} → (A → Bool) → Result A Fault → Result Bool Fault
+asked_of asks (Ok x) = Ok (asks x)
+asked_of asks (Err fault) = Err fault
+
+-- What a file's own bytes say of it as a layer: whether it names a layer below, or why it isn't opened. Only raw images are opened for
+-- writing, and only qcow2 images name a layer below.
+abbrev pub said_of : Format → Bool → List ℕ → Result Bool Fault
+said_of Raw writable bytes = Ok false
+said_of Vmdk true bytes = Err Unsupported
+said_of Vmdk false bytes = asked_of (λ _. false) (descriptor_of bytes)
+said_of Qcow2 true bytes = Err Unsupported
+said_of Qcow2 false bytes = asked_of (λ H. is_some H.backing_name) (header_for_reading (bytes_of bytes))
+
+-- the same, as a layer shows it: what it gives up is what the layer below shows
+abbrev pub is_unmapped : Cell → Bool
+is_unmapped (own value) = false
+is_unmapped unmapped = true
+
+abbrev pub shows_below : Layer → Bool
+shows_below layer = is_unmapped layer.fixed.blank
+
+-- A file with those that were handed in with it is a layer in this format, be it for writing or not: its bytes say whether it names a layer
+-- below, and these are its further files.
+pub record IsLayerAs {S : Type 0} (state : S → StorageState) (format : Format) (writable : Bool) (image : StorageState)
+    (handed : List (String Global × S)) (named : Bool) (further : List StorageState) : Type 0 where
+  pub says : said_of format writable image.bytes ≡ Ok named
+  pub has : HasFurther state format image handed further
+
+-- Why it isn't one: by its own bytes, or else by its further files.
+abbrev pub WhyNotAs : {S : Type 0} → (S → StorageState) → Format → Bool → StorageState → List (String Global × S) → Fault → Type 0
+WhyNotAs state format writable image handed fault = (said_of format writable image.bytes ≡ Err fault)
+    ⊎ (((named : Bool) × (said_of format writable image.bytes ≡ Ok named)) × WhyNotFurther state format image handed fault)
+
+-- the same of a file of a chain
+abbrev pub IsLayer : {S : Type 0} → (S → StorageState) → Bool → ChainFile S → Bool → List StorageState → Type 0
+IsLayer state writable file named further = IsLayerAs state file.format writable (state file.image) file.extras.items named further
+
+abbrev pub WhyNotLayer : {S : Type 0} → (S → StorageState) → Bool → ChainFile S → Fault → Type 0
+WhyNotLayer state writable file fault = WhyNotAs state file.format writable (state file.image) file.extras.items fault
