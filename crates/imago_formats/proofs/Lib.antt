@@ -7,7 +7,7 @@ mod ExtentLines
 mod WorkedDescriptors
 mod FileLemmas
 mod ExtentLemmas
-mod OpeningLemmas
+pub mod OpeningLemmas
 pub mod StorageLemmas
 pub mod Quiet
 pub mod VmdkSteps

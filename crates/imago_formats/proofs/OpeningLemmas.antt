@@ -77,38 +77,48 @@ name_at xs i k x name h is e count =
 -- ---- What the gate opens.
 
 module _ {G S : Type 0} (answers : G → List ℕ → Result S Fault → G → Type 0) (names : List (List ℕ)) where
-  opens_more : (k : ℕ) (gate mid now : G) (files : List S) (file : S) → Opens answers names k gate files mid →
+  opens_more : (k : ℕ) (gate mid now : G) (files : List S) (file : S) → Opens answers names k gate files mid → k + length files < length names →
       answers mid (get_or names (k + length files) []) (Ok file) now → Opens answers names k gate (files ++ file ∷ []) now
-  opens_more k gate mid now [] file opens given =
-      let here : k + 0 ≡ k = omega arith in
-      (now, subst (λ (g : G). answers g (get_or names k []) (Ok file) now) opens (subst (λ (n : ℕ). answers mid (get_or names n []) (Ok file) now) here given), refl)
-  opens_more k gate mid now (f ∷ fs) file opens given =
-      let there : k + length (f ∷ fs) ≡ k + 1 + length fs = omega arith in
-      (opens.0, opens.1, opens_more (k + 1) opens.0 mid now fs file opens.2 (subst (λ (n : ℕ). answers mid (get_or names n []) (Ok file) now) there given))
+  opens_more k gate mid now [] file opens named given =
+      let here : k + 0 ≡ k = omega arith in (
+        now,
+        omega (arith, named),
+        subst (λ (g : G). answers g (get_or names k []) (Ok file) now) opens (subst (λ (n : ℕ). answers mid (get_or names n []) (Ok file) now) here given),
+        refl,
+      )
+  opens_more k gate mid now (f ∷ fs) file opens named given =
+      let there : k + length (f ∷ fs) ≡ k + 1 + length fs = omega arith in (
+        opens.0,
+        opens.1,
+        opens.2,
+        opens_more (k + 1) opens.0 mid now fs file opens.3 (omega (arith, named, there))
+            (subst (λ (n : ℕ). answers mid (get_or names n []) (Ok file) now) there given),
+      )
 
   pub opened_none : (old : List S × G) → OpensNext answers names old old
   opened_none old = record { opened = []; behind = sym (append-nil old.0); given = refl }
 
   -- one file more
   pub opened_more : (old : List S × G) (files : List S) (mid now : G) (file : S) → OpensNext answers names old (files, mid) →
-      answers mid (get_or names (length files) []) (Ok file) now → OpensNext answers names old (files ++ file ∷ [], now)
-  opened_more old files mid now file opens given =
+      length files < length names → answers mid (get_or names (length files) []) (Ok file) now → OpensNext answers names old (files ++ file ∷ [], now)
+  opened_more old files mid now file opens named given =
       let long : length files ≡ length old.0 + length opens.opened = ap length opens.behind ∙ length-append old.0 opens.opened in record {
         opened = opens.opened ++ file ∷ [];
         behind = ap (λ fs. fs ++ file ∷ []) opens.behind ∙ append_assoc old.0 opens.opened (file ∷ []);
-        given = opens_more (length old.0) old.1 mid now opens.opened file opens.given
+        given = opens_more (length old.0) old.1 mid now opens.opened file opens.given (omega (arith, named, long))
             (subst (λ (n : ℕ). answers mid (get_or names n []) (Ok file) now) long given);
       }
 
 module _ {G S : Type 0} (answers : G → List ℕ → Result S Fault → G → Type 0) (names : List (List ℕ)) (old : List S × G) where
   -- a file whose name has this number is opened, or isn't
   pub opens_here : (files files' : List S) (gate now : G) (k : ℕ) (name : List ℕ) → OpensNext answers names old (files, gate) → length files ≡ k →
-      get_or names k [] ≡ name → (file : S) × (files' ≡ files ++ file ∷ []) × answers gate name (Ok file) now →
+      (get_or names k [] ≡ name) × (k < length names) → (file : S) × (files' ≡ files ++ file ∷ []) × answers gate name (Ok file) now →
       OpensNext answers names old (files', now)
   opens_here files files' gate now k name opens long is more =
-      let here : get_or names (length files) [] ≡ name = ap (λ n. get_or names n []) long ∙ is in
+      let here : get_or names (length files) [] ≡ name = ap (λ n. get_or names n []) long ∙ is.0 in
       subst (λ (fs : List S). OpensNext answers names old (fs, now)) (sym more.1)
-      (opened_more answers names old files gate now more.0 opens (subst (λ (n : List ℕ). answers gate n (Ok more.0) now) (sym here) more.2))
+      (opened_more answers names old files gate now more.0 opens (omega (arith, long, is.1))
+      (subst (λ (n : List ℕ). answers gate n (Ok more.0) now) (sym here) more.2))
 
   pub stops_here : (files files' : List S) (gate now : G) (k : ℕ) (name : List ℕ) (fault : Fault) → OpensNext answers names old (files, gate) →
       files' ≡ files → length files ≡ k → (get_or names k [] ≡ name) × (k < length names) →

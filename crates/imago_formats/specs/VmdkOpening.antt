@@ -10,11 +10,11 @@ use Rattle.imago_formats.specs.DescriptorView.{RefusesOpening, kept_extents, kep
 use Rattle.imago_formats.specs.VmdkLayer.{ReadsReach, files_asked}
 use Rattle.imago_formats.specs.declared.vmdk.descriptor.Extent.{Extent}
 
--- A gate opened these files for the names from the k-th on, one after the other, and is this then.
+-- A gate opened these files for the names from the k-th on, one after the other and each for a name, and is this then.
 abbrev pub Opens : {G S : Type 0} → (G → List ℕ → Result S Fault → G → Type 0) → List (List ℕ) → ℕ → G → List S → G → Type 0
 Opens answers names k gate [] now = now ≡ gate
 Opens {G} answers names k gate (file ∷ files) now =
-    (mid : G) × answers gate (slice_index_or names k []) (Ok file) mid × Opens answers names (k + 1) mid files now
+    (mid : G) × (k < length names) × answers gate (slice_index_or names k []) (Ok file) mid × Opens answers names (k + 1) mid files now
 
 -- Files and a gate, and what they are then: behind the files stand those that the gate opened for the names that come next, in order.
 pub record OpensNext {G S : Type 0} (answers : G → List ℕ → Result S Fault → G → Type 0) (names : List (List ℕ))

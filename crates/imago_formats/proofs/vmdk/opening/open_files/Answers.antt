@@ -31,5 +31,5 @@ loop-extent-preserved g c =
       );
       there = omega (arith, full, ap length more.1, length-append loop.files.items (more.0 ∷ []));
       opens = opens_here g.G.ImplicitOpenGate.answers (kept_names c.args.extents.now) _ loop.files.items c.open_file.new.files.items
-          loop.gate c.open_file.new.gate loop.number c.in-Some.name.now loop.invariant.opens full next.0 more;
+          loop.gate c.open_file.new.gate loop.number c.in-Some.name.now loop.invariant.opens full next more;
     }
