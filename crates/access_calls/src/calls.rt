@@ -306,6 +306,22 @@ pub fn ready<D: FormatDriverInstance>(
     Ok(text)
 }
 
+/// Copies a disk into another, in which nothing is prepared.
+///
+/// # Errors
+///
+/// [`Trouble::NoCall`] where something is prepared in that one; [`Trouble::Refused`] as the call.
+pub fn flatten<S: FormatDriverInstance, T: FormatDriverInstance>(
+    alloc: Global,
+    source: &mut FormatAccess<S>,
+    target: &mut FormatAccess<T>,
+) -> Result<(), Trouble> {
+    if !is_free(target) {
+        return Err(Trouble::NoCall);
+    }
+    Ok(qimg_calls::flatten(alloc, source, target)?)
+}
+
 /// The most layers of which it is told.
 const MOST_LAYERS: u8 = 16;
 

@@ -8,7 +8,7 @@ mod driving;
 mod texts;
 mod words;
 
-pub use calls::{buffer, cancel, commit, done, prepare, read, stacked, top};
+pub use calls::{buffer, cancel, commit, done, flatten, prepare, read, stacked, top};
 pub use driving::nothing_below;
 pub use texts::prepared;
 pub use words::{called, mode_of, run_of};

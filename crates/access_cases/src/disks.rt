@@ -6,7 +6,7 @@ use crate::layers::{Disk, add, driver_of, kept_by, lookups, probe, write_storage
 use crate::storages::{Base, Notebook, storage_of};
 use crate::texts;
 use access_calls::{
-    called, cancel, commit, done, mode_of, nothing_below, prepare, prepared, run_of, top,
+    called, cancel, commit, done, flatten, mode_of, nothing_below, prepare, prepared, run_of, top,
 };
 use cases::{Layer, Notes, Trouble, bytes, number, ok, size, told};
 use imago_access::{FormatAccess, PreparedDataMapping, check_range};
@@ -243,6 +243,17 @@ impl<'a> Disks<'a> {
         }
     }
 
+    // Copies the disk into the other one.
+    fn flatten(&mut self, alloc: Global) -> Result<(), Trouble> {
+        let Some(source) = &mut self.disk else {
+            return Err(Trouble::NoCall);
+        };
+        let Some(target) = &mut self.other else {
+            return Err(Trouble::NoCall);
+        };
+        flatten(alloc, source, target)
+    }
+
     // A mapping of these words: its storage, offset and length, and what it is known by, if it has state.
     fn make_mapping(&mut self, alloc: Global, words: &[&str]) -> Result<String, Trouble> {
         let mapping = match words {
@@ -281,6 +292,7 @@ impl<'a> Disks<'a> {
             ["cancel"] => self.cancel(alloc),
             ["mapping"] => self.told_mapping(alloc),
             ["mapping", rest @ ..] => self.make_mapping(alloc, rest),
+            ["flatten"] => done(alloc, self.flatten(alloc)),
             ["asked"] => Ok(told(alloc, self.notes.asked)?),
             ["resized"] => Ok(texts::mode(self.notes.mode.replace(None)).to_string(alloc)?),
             _ => self.call(alloc, words),

@@ -12,7 +12,8 @@
 //! - `layer holding IMAGE [fuse N] [backed] BYTES`: an image that is mapped, and holds these bytes.
 //! - `open STORAGE`, `open_told WRITING DIRECT FILE STORAGE`, `create`, `create_open` and `create_unopened SIZE MODE STORAGE`: a raw image
 //!   by its builders.
-//! - `close` lets go of the disk. `other` goes to the other disk, and back.
+//! - `close` lets go of the disk. `other` goes to the other disk, and back. `flatten` copies the disk into the other one, where nothing is
+//!   prepared in that.
 //!
 //! # Calls
 //!
