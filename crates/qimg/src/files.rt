@@ -44,15 +44,30 @@ pub fn read_files<R: Files + AllocGlobal>(
     Ok(files)
 }
 
-/// Puts bytes in the place of a file: they are written to a new file beside it, of the same permissions, which takes its name then. So the
-/// path names the old bytes or the new ones all the time.
-pub fn replace<R: Files + AllocGlobal>(rt: &R, path: &str, bytes: &[u8]) -> Result<(), Failure> {
-    let beside = format!(in rt.alloc(); "{path}.qimg-new")?;
-    let mut file = File::create_new(rt, beside.as_str())?;
+/// Fills a new file with bytes, gives it the permissions of the one at the path, and has it take that one's name.
+fn take_place<R: Files + AllocGlobal>(
+    rt: &R,
+    mut file: R::File,
+    beside: &str,
+    path: &str,
+    bytes: &[u8],
+) -> Result<(), Failure> {
     let old = File::open(rt, path)?;
     file.set_permissions(old.metadata()?.permissions())?;
     file.write_all(bytes)?;
     file.sync_all()?;
-    fs::rename(rt, beside.as_str(), path)?;
+    fs::rename(rt, beside, path)?;
     Ok(())
+}
+
+/// Puts bytes in the place of a file: they are written to a new file beside it, of the same permissions, which takes its name then. So the
+/// path names the old bytes or the new ones all the time. Where that fails the new file is removed.
+pub fn replace<R: Files + AllocGlobal>(rt: &R, path: &str, bytes: &[u8]) -> Result<(), Failure> {
+    let beside = format!(in rt.alloc(); "{path}.qimg-new")?;
+    let file = File::create_new(rt, beside.as_str())?;
+    let taken = take_place(rt, file, beside.as_str(), path, bytes);
+    if taken.is_err() {
+        let _ = fs::remove_file(rt, beside.as_str());
+    }
+    taken
 }
