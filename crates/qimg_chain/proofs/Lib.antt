@@ -1,10 +1,15 @@
 -- Lemmas.
 mod ArgumentLemmas
 mod CallsThrough
+mod Copies
+mod FilesShown
+mod FilesTaken
 mod FirstCauses
 mod FurtherTaken
 mod ImageKinds
+mod Narrowing
 mod Opened
+mod PlainlyRead
 mod Refusing
 mod RunAnswerLemmas
 mod RunCallLemmas

@@ -80,26 +80,26 @@ known-answer (Plain offset n) call (answers.Shallow mapping count) is fits = abs
 known-answer (Plain offset n) call (answers.Prepared storage place count state) is fits = absurd is
 
 -- a line that asks for a call, and doesn't read too much, is answered by it
-pub line-tells : {D St : Type 0} (g : Ghosts D St) (line : Line) (turn : Turn) (answer : Answer) (c : D × List D) → IsTrue (asks_for_call line) → IsShort line → TellsCall line turn answer → TellsLine g line turn answer c
-line-tells g Size turn answer c asks short tells = absurd (cc asks)
-line-tells g Check turn answer c asks short tells = absurd (cc asks)
-line-tells g (Plain offset n) turn answer c asks short tells = absurd (cc asks)
-line-tells g (Read offset n) turn answer c asks short tells = inr (short, tells)
-line-tells g Save turn answer c asks short tells = inl tells
-line-tells g line turn answer c asks short tells = tells
+pub line-tells : {D St : Type 0} (g : Ghosts D St) (names : D → ℕ → List ℕ) (line : Line) (turn : Turn) (answer : Answer) (c : D × List D) → IsTrue (asks_for_call line) → IsShort line → TellsCall line turn answer → TellsLine g names line turn answer c
+line-tells g names Size turn answer c asks short tells = absurd (cc asks)
+line-tells g names Check turn answer c asks short tells = absurd (cc asks)
+line-tells g names (Plain offset n) turn answer c asks short tells = absurd (cc asks)
+line-tells g names (Read offset n) turn answer c asks short tells = inr (short, tells)
+line-tells g names Save turn answer c asks short tells = inl tells
+line-tells g names line turn answer c asks short tells = tells
 
 -- it is answered by its call, or isn't made for want of room
-pub told-line : {D St : Type 0} (g : Ghosts D St) (line : Line) (call : Call) (said : CallAnswer) (answer : Answer) (old new : D × List D) → IsTrue (asks_for_call line) → IsShort line → IsCallOf line call
-    → AnswersAlone g (call ∷ []) (said ∷ []) old new → told_of said ≡ Some answer → Answered g line answer old new
-told-line g line call said answer old new asks short is made tells = record {
+pub told-line : {D St : Type 0} (g : Ghosts D St) (names : D → ℕ → List ℕ) (line : Line) (call : Call) (said : CallAnswer) (answer : Answer) (old new : D × List D) → IsTrue (asks_for_call line) → IsShort line → IsCallOf line call
+    → AnswersAlone g (call ∷ []) (said ∷ []) old new → told_of said ≡ Some answer → Answered g names line answer old new
+told-line g names line call said answer old new asks short is made tells = record {
   turn = one call said;
   made = made;
-  tells = line-tells g line (one call said) answer old asks short (inl (call, said, is, refl, tells));
+  tells = line-tells g names line (one call said) answer old asks short (inl (call, said, is, refl, tells));
 }
 
-pub unmade-line : {D St : Type 0} (g : Ghosts D St) (line : Line) (answer : Answer) (old new : D × List D) → new ≡ old → TellsLine g line unmade answer old → Answered g line answer old new
-unmade-line {D} {St} g line answer old new same tells = record { turn = unmade; made = ap (λ (c : D × List D). holding {St = St} c None) same; tells = tells }
+pub unmade-line : {D St : Type 0} (g : Ghosts D St) (names : D → ℕ → List ℕ) (line : Line) (answer : Answer) (old new : D × List D) → new ≡ old → TellsLine g names line unmade answer old → Answered g names line answer old new
+unmade-line {D} {St} g names line answer old new same tells = record { turn = unmade; made = ap (λ (c : D × List D). holding {St = St} c None) same; tells = tells }
 
-pub no-room : {D St : Type 0} (g : Ghosts D St) (line : Line) (fault : Fault) (old new : D × List D) → IsTrue (asks_for_call line) → IsShort line → (fault ≡ Memory) × (new ≡ old) → Answered g line (told.Refused fault) old new
-no-room g line fault old new asks short not_made = unmade-line g line (told.Refused fault) old new not_made.1
-    (line-tells g line unmade (told.Refused fault) old asks short (inr (refl, ap told.Refused not_made.0)))
+pub no-room : {D St : Type 0} (g : Ghosts D St) (names : D → ℕ → List ℕ) (line : Line) (fault : Fault) (old new : D × List D) → IsTrue (asks_for_call line) → IsShort line → (fault ≡ Memory) × (new ≡ old) → Answered g names line (told.Refused fault) old new
+no-room g names line fault old new asks short not_made = unmade-line g names line (told.Refused fault) old new not_made.1
+    (line-tells g names line unmade (told.Refused fault) old asks short (inr (refl, ap told.Refused not_made.0)))

@@ -30,9 +30,9 @@ ReadSoFar None left texts = ⊤
 ReadSoFar (Some bytes) left texts = (rest : List ℕ) × (left ≡ Some rest) × (lines (take 137438953473 bytes) ≡ texts ++ lines rest)
 
 -- how far a script was run
-pub record RanSoFar {D St : Type 0} (g : Ghosts D St) (input left before after : Option (List ℕ)) (old : D × List D) (now : Standing D) : Type 0 where
+pub record RanSoFar {D St : Type 0} (g : Ghosts D St) (names : D → ℕ → List ℕ) (input left before after : Option (List ℕ)) (old : D × List D) (now : Standing D) : Type 0 where
   pub replies : List Reply
-  pub runs : RunsAll g replies (standing old None) now
+  pub runs : RunsAll g names replies (standing old None) now
   pub written : Appends before after (text_of replies)
   pub read : ReadSoFar input left (map text replies)
 
@@ -84,18 +84,18 @@ read-end (Some bytes) left texts line so_far is none =
     let line_is : line ≡ take_through 10 so_far.0 = rw (so_far.1) at is in
     sym (so_far.2 ∙ ap (λ ls. texts ++ ls) (lines-end so_far.0 (rw (line_is) at none)) ∙ append-nil texts)
 
-module _ {D St : Type 0} (g : Ghosts D St) where
-  runs-then : (replies : List Reply) (r : Reply) (old mid new : Standing D) → RunsAll g replies old mid → Replies g r mid new → RunsAll g (replies ++ r ∷ []) old new
-  runs-then [] r old mid new same one = (new, subst (λ s. Replies g r s new) same one, refl)
+module _ {D St : Type 0} (g : Ghosts D St) (names : D → ℕ → List ℕ) where
+  runs-then : (replies : List Reply) (r : Reply) (old mid new : Standing D) → RunsAll g names replies old mid → Replies g names r mid new → RunsAll g names (replies ++ r ∷ []) old new
+  runs-then [] r old mid new same one = (new, subst (λ s. Replies g names r s new) same one, refl)
   runs-then (a ∷ replies) r old mid new all one = (all.0, all.1, runs-then replies r all.0 mid new all.2 one)
 
-  pub ran-none : (input left before : Option (List ℕ)) (old : D × List D) → ReadSoFar input left [] → RanSoFar g input left before before old (standing old None)
+  pub ran-none : (input left before : Option (List ℕ)) (old : D × List D) → ReadSoFar input left [] → RanSoFar g names input left before before old (standing old None)
   ran-none input left before old read = record { replies = []; runs = refl; written = append-none before; read = read }
 
   -- one more line is run
-  pub ran-then : (input left next before after last : Option (List ℕ)) (old : D × List D) (now new : Standing D) (r : Reply) (line rest : List ℕ) → RanSoFar g input left before after old now
-      → IfSome left (λ bytes. line ≡ take_through 10 bytes) → DropsThrough left next 10 → lines line ≡ r.text ∷ lines rest → Replies g r now new → Appends after last (answer_text r.answer ++ 10 ∷ [])
-      → RanSoFar g input next before last old new
+  pub ran-then : (input left next before after last : Option (List ℕ)) (old : D × List D) (now new : Standing D) (r : Reply) (line rest : List ℕ) → RanSoFar g names input left before after old now
+      → IfSome left (λ bytes. line ≡ take_through 10 bytes) → DropsThrough left next 10 → lines line ≡ r.text ∷ lines rest → Replies g names r now new → Appends after last (answer_text r.answer ++ 10 ∷ [])
+      → RanSoFar g names input next before last old new
   ran-then input left next before after last old now new r line rest ran is drops first one tells = record {
     replies = ran.replies ++ r ∷ [];
     runs = runs-then ran.replies r (standing old None) now new ran.runs one;
@@ -103,23 +103,23 @@ module _ {D St : Type 0} (g : Ghosts D St) where
     read = subst (ReadSoFar input next) (sym (map-then ran.replies r)) (read-then input left next (map text ran.replies) line r.text rest ran.read is drops first);
   }
 
-  alone-all : (replies : List Reply) (old new : Standing D) → RunsAll g replies old new → AnswersAlone g (calls_of replies) (answers_of replies) old.drivers new.drivers
+  alone-all : (replies : List Reply) (old new : Standing D) → RunsAll g names replies old new → AnswersAlone g (calls_of replies) (answers_of replies) old.drivers new.drivers
   alone-all [] old new same = rw (same) refl
   alone-all (r ∷ replies) old new all =
       alone-both g r.turn.list (calls_of replies) r.turn.answers (answers_of replies) old.drivers all.0.drivers new.drivers all.1.made (alone-all replies all.0 new all.2)
 
   -- what the calls of all lines do
   pub driven-all : (safe_sees : (d : D) → g.safe d → g.sees d) (safe_sound : (d : D) → g.safe d → IsCovered (g.layer d) g.sound (g.image d).bytes)
-      (replies : List Reply) (old new : D × List D) (saved : Option (Vec ℕ Global)) (since : Since) → RunsAll g replies (standing old None) (standing new saved) → IsFree (g.layer old.0) → IsReady g old → StandsSince g since old
+      (replies : List Reply) (old new : D × List D) (saved : Option (Vec ℕ Global)) (since : Since) → RunsAll g names replies (standing old None) (standing new saved) → IsFree (g.layer old.0) → IsReady g old → StandsSince g since old
       → Driven g since (calls_of replies) (answers_of replies) old new
   driven-all safe_sees safe_sound replies old new saved since runs none ready stands =
       driven-alone g safe_sees safe_sound (calls_of replies) (answers_of replies) old new since (alone-all replies (standing old None) (standing new saved) runs) none ready stands
 
   -- what a script does that was run so far, and ends so
   pub scripted : (safe_sees : (d : D) → g.safe d → g.sees d) (safe_sound : (d : D) → g.safe d → IsCovered (g.layer d) g.sound (g.image d).bytes)
-      (input left before after : Option (List ℕ)) (result : Result (Option (Vec ℕ Global)) RunFault) (old new : D × List D) (saved : Option (Vec ℕ Global)) → RanSoFar g input left before after old (standing new saved)
+      (input left before after : Option (List ℕ)) (result : Result (Option (Vec ℕ Global)) RunFault) (old new : D × List D) (saved : Option (Vec ℕ Global)) → RanSoFar g names input left before after old (standing new saved)
       → IsFree (g.layer old.0) → ((texts : List (List ℕ)) → ReadSoFar input left texts → OnOk result (IfSome input (λ bytes. texts ≡ lines (take 137438953473 bytes)))) → OnOk result (result ≡ Ok saved)
-      → Scripted g input before after result old new
+      → Scripted g names input before after result old new
   scripted safe_sees safe_sound input left before after result old new saved ran none all kept = record {
     replies = ran.replies;
     saved = saved;
@@ -133,8 +133,8 @@ module _ {D St : Type 0} (g : Ghosts D St) where
   -- the same, where the last answer isn't written
   pub scripted-cut : (safe_sees : (d : D) → g.safe d → g.sees d) (safe_sound : (d : D) → g.safe d → IsCovered (g.layer d) g.sound (g.image d).bytes)
       (input left before after last : Option (List ℕ)) (result : Result (Option (Vec ℕ Global)) RunFault) (old new : D × List D) (now : Standing D) (saved : Option (Vec ℕ Global)) (r : Reply) (fault : RunFault)
-      → RanSoFar g input left before after old now → Replies g r now (standing new saved) → IsFree (g.layer old.0) → IsTellingFault fault → result ≡ Err fault
-      → Scripted g input before last result old new
+      → RanSoFar g names input left before after old now → Replies g names r now (standing new saved) → IsFree (g.layer old.0) → IsTellingFault fault → result ≡ Err fault
+      → Scripted g names input before last result old new
   scripted-cut safe_sees safe_sound input left before after last result old new now saved r fault ran one none telling is =
       let runs = runs-then ran.replies r (standing old None) now (standing new saved) ran.runs one in
       record {

@@ -4,8 +4,10 @@ pub mod Chains
 pub mod CheckNumbers
 pub mod Extras
 pub mod FileLayers
+pub mod FileMeanings
 pub mod FurtherFiles
 pub mod ImageDrivers
+pub mod PlainReads
 pub mod Refusals
 pub mod RunAnswers
 pub mod RunCalls

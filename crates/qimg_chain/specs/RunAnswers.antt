@@ -1,9 +1,13 @@
 -- What lines of a script are answered with, and what they do to a chain, by its drivers before and after, the top first.
-use Rattle.std.specs.Prelude.{◌≡◌, ◌≢◌, ⊤, ℕ, ◌<◌, ◌≤◌, ◌⊎◌, List, [], length, Option, Result, Ok, Err, IfOk, MatchOption, Vec}
+use Rattle.std.specs.Prelude.{◌≡◌, ◌≢◌, ⊤, ℕ, ◌<◌, ◌≤◌, ◌⊎◌, List, length, Option, Result, Ok, Err, MatchOption, Vec, map}
 use Rattle.std.specs.Global.{Global}
+use Rattle.imago_storage.specs.Disk.{Shows}
+use Rattle.imago_storage.specs.MemStorage.{mem_state}
 use Rattle.imago_storage.specs.declared.fault.Fault.{Fault}
 use Rattle.imago_storage.specs.declared.fault.Fault.TheVariants.{BadArgument, Memory as WantOfMemory, Unsupported}
+use Rattle.imago_storage.specs.declared.memory.MemStorage.{MemStorage}
 use Rattle.imago_access.specs.declared.seen.Seen.{Ghosts}
+use Rattle.imago_access.specs.Layers.{chain}
 use Rattle.imago_access.specs.declared.format.Format.{Format}
 use Rattle.imago_access.specs.declared.format.Format.TheVariants.{Qcow2}
 use Rattle.qcow2_types.specs.Bytes.{Bytes}
@@ -11,9 +15,11 @@ use Rattle.qcow2_types.specs.Consistency.{Finding, header, snapshots, external, 
 use Rattle.qimg_calls.specs.Making.{AnswersAlone}
 use Rattle.qimg_core.specs.Check.{IsFinding}
 use Rattle.qimg_core.specs.Files.{file}
-use Rattle.qimg_core.specs.Plain.{IsImageRead}
+use Rattle.qimg_core.specs.declared.plain.ChainFile.{ChainFile}
 use Rattle.qimg_core.specs.declared.check.CheckFault.{CheckFault}
 use Rattle.qimg_core.specs.declared.check.CheckFault.TheVariants as check_fault
+use Rattle.qimg_chain.specs.FileMeanings.{driver_bytes, files_bytes, value_of}
+use Rattle.qimg_chain.specs.PlainReads.{NotPlainlyRead}
 use Rattle.qimg_chain.specs.RunCalls.{Turn, unmade, TellsCall, TellsSave}
 use Rattle.qimg_chain.specs.declared.script.answer.Answer.{Answer}
 use Rattle.qimg_chain.specs.declared.script.answer.Answer.TheVariants as told
@@ -56,10 +62,17 @@ Checks format f (told.Refused Unsupported) = format ≢ Qcow2
 Checks format f (told.Refused WantOfMemory) = ⊤
 Checks format f answer = ⊥
 
--- A plain read of the chain: the bytes that its one file, a qcow2 image, means.
-abbrev pub ReadsPlainly : {D St : Type 0} → Ghosts D St → ℕ → ℕ → Result (List ℕ) Fault → D × List D → Type 0
-ReadsPlainly g offset n result c = IfOk result (λ bytes. IsLength n bytes × (c.1 ≡ []) × ((g.layer c.0).fixed.format ≡ Qcow2)
-    × IsImageRead (file (g.image c.0)) offset bytes)
+-- Why what the chain's files show isn't read: there are too many bytes for a line, there was want of memory, or as copies of these files
+-- are refused.
+abbrev pub NotReadPlainly : {D St : Type 0} → Ghosts D St → (D → ℕ → List ℕ) → ℕ → ℕ → Fault → D × List D → Type 0
+NotReadPlainly g names offset n fault c = ((32768 < n) × (fault ≡ BadArgument)) ⊎ ((fault ≡ WantOfMemory)
+    ⊎ ((copies : List (ChainFile MemStorage)) × (files_bytes mem_state copies ≡ map (driver_bytes g names) (chain c))
+    × NotPlainlyRead mem_state copies offset n fault))
+
+-- A plain read of the chain, by the names of its further files: the bytes that its files mean as they stand.
+abbrev pub ReadsPlainly : {D St : Type 0} → Ghosts D St → (D → ℕ → List ℕ) → ℕ → ℕ → Result (List ℕ) Fault → D × List D → Type 0
+ReadsPlainly g names offset n (Ok bytes) c = IsLength n bytes × Shows (value_of (map (driver_bytes g names) (chain c))) offset bytes
+ReadsPlainly g names offset n (Err fault) c = NotReadPlainly g names offset n fault c
 
 -- what a plain read is answered with
 abbrev pub bytes_told_of : Result (List ℕ) Fault → Answer
@@ -70,21 +83,23 @@ bytes_told_of (Err fault) = told.Refused fault
 abbrev pub TellsBytes : (Result (List ℕ) Fault → Type 0) → Answer → Type 0
 TellsBytes P answer = (result : Result (List ℕ) Fault) × (answer ≡ bytes_told_of result) × P result
 
--- What a line is answered with, by the call that it makes, or by the top file. One that would read more than a line may makes none.
-abbrev pub TellsLine : {D St : Type 0} → Ghosts D St → Line → Turn → Answer → D × List D → Type 0
-TellsLine g Size turn answer c = (turn ≡ unmade) × (answer ≡ told.Number (g.layer c.0).size)
-TellsLine g (Read offset n) turn answer c = ((32768 < n) × (turn ≡ unmade) × (answer ≡ told.Refused BadArgument))
+-- What a line is answered with, by the call that it makes, or by the files, of which further ones have these names. One that would read
+-- more than a line may makes none.
+abbrev pub TellsLine : {D St : Type 0} → Ghosts D St → (D → ℕ → List ℕ) → Line → Turn → Answer → D × List D → Type 0
+TellsLine g names Size turn answer c = (turn ≡ unmade) × (answer ≡ told.Number (g.layer c.0).size)
+TellsLine g names (Read offset n) turn answer c = ((32768 < n) × (turn ≡ unmade) × (answer ≡ told.Refused BadArgument))
     ⊎ ((n ≤ 32768) × TellsCall (Read offset n) turn answer)
-TellsLine g Check turn answer c = (turn ≡ unmade) × Checks (g.layer c.0).fixed.format (file (g.image c.0)) answer
-TellsLine g (Plain offset n) turn answer c = (turn ≡ unmade) × TellsBytes (λ result. ReadsPlainly g offset n result c) answer
-TellsLine g Save turn answer c = TellsSave turn answer
-TellsLine g line turn answer c = TellsCall line turn answer
+TellsLine g names Check turn answer c = (turn ≡ unmade) × Checks (g.layer c.0).fixed.format (file (g.image c.0)) answer
+TellsLine g names (Plain offset n) turn answer c = (turn ≡ unmade) × TellsBytes (λ result. ReadsPlainly g names offset n result c) answer
+TellsLine g names Save turn answer c = TellsSave turn answer
+TellsLine g names line turn answer c = TellsCall line turn answer
 
 -- What a line does, and is answered with.
-pub record Answered {D St : Type 0} (g : Ghosts D St) (line : Line) (answer : Answer) (old new : D × List D) : Type 0 where
+pub record Answered {D St : Type 0} (g : Ghosts D St) (names : D → ℕ → List ℕ) (line : Line) (answer : Answer)
+    (old new : D × List D) : Type 0 where
   pub turn : Turn
   pub made : AnswersAlone g turn.list turn.answers old new
-  pub tells : TellsLine g line turn answer old
+  pub tells : TellsLine g names line turn answer old
 
 -- Where it is a `save` that is done, the bytes of the top file are kept, and else what was kept before.
 abbrev pub Keeps : Line → Answer → List ℕ → Option (Vec ℕ Global) → Option (Vec ℕ Global) → Type 0

@@ -38,11 +38,11 @@ pub record Reply : Type 0 where
 abbrev pub reply : List ℕ → Turn → Answer → Reply
 reply text turn answer = record { text = text; turn = turn; answer = answer }
 
--- a text is a line, which is answered as it asks
-pub record RunsLine {D St : Type 0} (g : Ghosts D St) (r : Reply) (old new : Standing D) : Type 0 where
+-- A text is a line, which is answered as it asks, by the names of further files.
+pub record RunsLine {D St : Type 0} (g : Ghosts D St) (names : D → ℕ → List ℕ) (r : Reply) (old new : Standing D) : Type 0 where
   pub line : Line
   pub is_line : IsLine r.text line
-  pub tells : TellsLine g line r.turn r.answer old.drivers
+  pub tells : TellsLine g names line r.turn r.answer old.drivers
   pub keeps : Keeps line r.answer (g.image new.drivers.0).bytes old.saved new.saved
 
 -- a text isn't taken as a line, and nothing is done
@@ -53,14 +53,14 @@ pub record RunsNothing {D St : Type 0} (g : Ghosts D St) (r : Reply) (old new : 
   pub answered : r.answer ≡ told.Refused fault
   pub kept : new.saved ≡ old.saved
 
-pub record Replies {D St : Type 0} (g : Ghosts D St) (r : Reply) (old new : Standing D) : Type 0 where
+pub record Replies {D St : Type 0} (g : Ghosts D St) (names : D → ℕ → List ℕ) (r : Reply) (old new : Standing D) : Type 0 where
   pub made : AnswersAlone g r.turn.list r.turn.answers old.drivers new.drivers
-  pub runs : RunsLine g r old new ⊎ RunsNothing g r old new
+  pub runs : RunsLine g names r old new ⊎ RunsNothing g r old new
 
 -- texts one behind the other
-abbrev pub RunsAll : {D St : Type 0} → Ghosts D St → List Reply → Standing D → Standing D → Type 0
-RunsAll g [] old new = new ≡ old
-RunsAll {D} g (r ∷ replies) old new = (mid : Standing D) × Replies g r old mid × RunsAll g replies mid new
+abbrev pub RunsAll : {D St : Type 0} → Ghosts D St → (D → ℕ → List ℕ) → List Reply → Standing D → Standing D → Type 0
+RunsAll g names [] old new = new ≡ old
+RunsAll {D} g names (r ∷ replies) old new = (mid : Standing D) × Replies g names r old mid × RunsAll g names replies mid new
 
 -- the calls that they make, with their answers, and the text that answers them, a line each
 abbrev pub calls_of : List Reply → List Call
@@ -94,11 +94,11 @@ IsAllWritten result = ⊤
 
 -- What a script does that is run over a chain, by the bytes that its reader has and that its writer holds, where these are known: each line
 -- makes the call that it asks for, and what all of them do is what the list of these calls does.
-pub record Scripted {D St : Type 0} (g : Ghosts D St) (input before after : Option (List ℕ))
+pub record Scripted {D St : Type 0} (g : Ghosts D St) (names : D → ℕ → List ℕ) (input before after : Option (List ℕ))
     (result : Result (Option (Vec ℕ Global)) RunFault) (old new : D × List D) : Type 0 where
   pub replies : List Reply
   pub saved : Option (Vec ℕ Global)
-  pub runs : RunsAll g replies (standing old None) (standing new saved)
+  pub runs : RunsAll g names replies (standing old None) (standing new saved)
   pub driven : (since : Since) → IsReady g old → StandsSince g since old → Driven g since (calls_of replies) (answers_of replies) old new
   -- the lines of the script are those that the reader has, and its text is their answers
   pub lines : OnOk result (IfSome input (λ bytes. map (λ (r : Reply). r.text) replies ≡ lines (take 137438953473 bytes)))

@@ -2,8 +2,14 @@
 mod drivers;
 mod extras;
 mod image_driver;
+mod naming;
 mod opening;
+mod plain_reads;
+mod snapshots;
 mod stateless;
 
 pub use image_driver::ImageDriver;
+pub use naming::NamesFiles;
 pub use opening::open_chain;
+pub use plain_reads::plain_read;
+pub use snapshots::snapshot;

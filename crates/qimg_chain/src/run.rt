@@ -12,6 +12,7 @@ mod answers;
 mod calls;
 mod files;
 
+use crate::chain::NamesFiles;
 use crate::script::{Answer, parse_line, split_line};
 pub use answers::answer_line;
 use imago_access::{FormatAccess, FormatDriverInstance};
@@ -41,7 +42,7 @@ fn next_line<R: BufRead>(input: &mut Take<R>, line: &mut Vec<u8>) -> Result<(), 
 }
 
 /// The answer to a line, which comes without its end.
-fn answer_to<D: FormatDriverInstance<Storage = MemStorage>>(
+fn answer_to<D: FormatDriverInstance<Storage = MemStorage> + NamesFiles>(
     alloc: Global,
     chain: &mut FormatAccess<D>,
     text: &[u8],
@@ -50,7 +51,7 @@ fn answer_to<D: FormatDriverInstance<Storage = MemStorage>>(
     requires free { IsFree (D.layer chain.old.0) }
     ensures free { IsFree (D.layer chain.new.0) }
     ensures replied { (turn : Turn)
-        × Replies D.Seen (reply text.now turn result) (standing chain.old saved.old) (standing chain.new saved.new) }
+        × Replies D.Seen D.names (reply text.now turn result) (standing chain.old saved.old) (standing chain.new saved.new) }
 {
     match parse_line(alloc, text) {
         Ok(line) => answer_line(alloc, chain, line, saved),
@@ -75,7 +76,7 @@ fn tell<W: Write>(alloc: Global, writer: &mut W, answer: &Answer) -> Result<(), 
 ///
 /// `RunFault::Read` where the reader fails, and for a script of more than 2^37 bytes; `RunFault::Lines` for one of more than 2^20 lines;
 /// `RunFault::Write` where the writer fails; and `RunFault::Memory` for want of memory. The lines before it are answered.
-pub fn run<R: BufRead + Drop, W: Write, D: FormatDriverInstance<Storage = MemStorage>>(
+pub fn run<R: BufRead + Drop, W: Write, D: FormatDriverInstance<Storage = MemStorage> + NamesFiles>(
     alloc: Global,
     reader: R,
     writer: &mut W,
@@ -83,7 +84,8 @@ pub fn run<R: BufRead + Drop, W: Write, D: FormatDriverInstance<Storage = MemSto
 ) -> Result<Option<Vec<u8>>, RunFault>
     requires free { IsFree (D.layer chain.old.0) }
     ensures free { IsFree (D.layer chain.new.0) }
-    ensures scripted { Scripted D.Seen (R.remaining reader) (W.contents writer.old) (W.contents writer.new) result chain.old chain.new }
+    ensures scripted { Scripted D.Seen D.names (R.remaining reader) (W.contents writer.old) (W.contents writer.new) result
+        chain.old chain.new }
 {
     let mut input = reader.take(MOST_BYTES + 1);
     let mut line = Vec::new(alloc);

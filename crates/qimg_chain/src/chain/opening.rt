@@ -11,6 +11,7 @@ ghost use Rattle.qimg_calls.specs.Held.{IsReady};
 ghost use Rattle.qimg_calls.specs.Runs.{StandsSince};
 ghost use Rattle.qimg_calls.specs.Since.{flushed};
 ghost use Rattle.qimg_chain.specs.Chains.{AreInPlace, AreLayers, IsFit, OfTop, number_for};
+ghost use Rattle.qimg_chain.specs.FileMeanings.{IsDiskOf, ShowsFile, extra_bytes, file_bytes, files_bytes};
 ghost use Rattle.qimg_chain.specs.FileLayers.{IsLayer, IsLayerAs, WhyNotAs, WhyNotLayer, shows_below};
 ghost use Rattle.qimg_chain.specs.Refusals.{FirstCause, FormChain, IsCutOff, WhyNotLayers};
 
@@ -49,6 +50,8 @@ pub fn open_chain<S: Storage>(
 ) -> Result<FormatAccess<ImageDriver<S>>, Fault>
     ensures layers { IfOk result (λ c. AreLayers ⟦<ImageDriver<S> as Seen>⟧ S.state writable number files.items (chain c)) }
     ensures places { let d = ⟦<ImageDriver<S> as Seen>⟧ in IfOk result (λ c. AreInPlace (map d.layer (chain c))) }
+    ensures means { let d = ⟦<ImageDriver<S> as Seen>⟧ in
+        IfOk result (λ c. IsDiskOf (chain_disk d.layer c) (files_bytes S.state files.items)) }
     // Nothing is prepared in the top, and nothing waits to be written below it.
     ensures free { let d = ⟦<ImageDriver<S> as Seen>⟧ in IfOk result (λ c. IsFree (d.layer c.0)) }
     ensures still { let d = ⟦<ImageDriver<S> as Seen>⟧ in IfOk result (λ c. Each d.still c.1) }
@@ -85,6 +88,8 @@ fn open_over<S: Storage>(
     ensures layers { let d = ⟦<ImageDriver<S> as Seen>⟧ in
         IfOk result (λ c. AreLayers d S.state writable number (top ∷ reverse below.old.items) (chain c)) }
     ensures places { let d = ⟦<ImageDriver<S> as Seen>⟧ in IfOk result (λ c. AreInPlace (map d.layer (chain c))) }
+    ensures means { let d = ⟦<ImageDriver<S> as Seen>⟧ in
+        IfOk result (λ c. IsDiskOf (chain_disk d.layer c) (files_bytes S.state (top ∷ reverse below.old.items))) }
     ensures err { IfErr result (λ e. IsCutOff e ⊎ WhyNotLayers S.state writable (top ∷ reverse below.old.items) e) }
 {
     let driver = open_layer(alloc, top, writable, number)?;
@@ -118,6 +123,7 @@ fn open_layer<S: Storage>(
         IfOk result (IsOpened d file.format writable (number_for file.format number) (S.state file.image)) }
     ensures layer { let d = ⟦<ImageDriver<S> as Seen>⟧ in
         IfOk result (λ l. IsLayer S.state writable file (shows_below (d.layer l)) (d.extras l)) }
+    ensures means { let d = ⟦<ImageDriver<S> as Seen>⟧ in IfOk result (λ l. ShowsFile (d.layer l) (file_bytes S.state file)) }
     ensures err { IfErr result (λ e. IsCutOff e ⊎ WhyNotLayer S.state writable file e) }
 {
     let ChainFile {
@@ -143,6 +149,8 @@ fn open_raw<S: Storage>(
     ensures opened { IfOk result (IsOpened ⟦<ImageDriver<S> as Seen>⟧ format.Raw writable 0 (S.state image)) }
     ensures layer { let d = ⟦<ImageDriver<S> as Seen>⟧ in let handed = extras.old.files.items in
         IfOk result (λ l. IsLayerAs S.state format.Raw writable (S.state image) handed (shows_below (d.layer l)) (d.extras l)) }
+    ensures means { let d = ⟦<ImageDriver<S> as Seen>⟧ in IfOk result (λ l. ShowsFile (d.layer l)
+        (record { format = format.Raw; bytes = (S.state image).bytes; extras = map (extra_bytes S.state) extras.old.files.items })) }
     ensures err { IfErr result (λ _. ⊥) }
 {
     let builder = Raw::builder(image).write(writable);
@@ -162,6 +170,8 @@ fn open_vmdk<S: Storage>(
     ensures opened { IfOk result (IsOpened ⟦<ImageDriver<S> as Seen>⟧ format.Vmdk writable 0 (S.state image)) }
     ensures layer { let d = ⟦<ImageDriver<S> as Seen>⟧ in let handed = extras.old.files.items in
         IfOk result (λ l. IsLayerAs S.state format.Vmdk writable (S.state image) handed (shows_below (d.layer l)) (d.extras l)) }
+    ensures means { let d = ⟦<ImageDriver<S> as Seen>⟧ in IfOk result (λ l. ShowsFile (d.layer l)
+        (record { format = format.Vmdk; bytes = (S.state image).bytes; extras = map (extra_bytes S.state) extras.old.files.items })) }
     ensures err { IfErr result (λ e. IsCutOff e ⊎ WhyNotAs S.state format.Vmdk writable (S.state image) extras.old.files.items e) }
 {
     let builder = Vmdk::builder(image).write(writable);
@@ -182,6 +192,8 @@ fn open_qcow2<S: Storage>(
     ensures opened { IfOk result (IsOpened ⟦<ImageDriver<S> as Seen>⟧ format.Qcow2 writable number (S.state image)) }
     ensures layer { let d = ⟦<ImageDriver<S> as Seen>⟧ in let handed = extras.old.files.items in
         IfOk result (λ l. IsLayerAs S.state format.Qcow2 writable (S.state image) handed (shows_below (d.layer l)) (d.extras l)) }
+    ensures means { let d = ⟦<ImageDriver<S> as Seen>⟧ in IfOk result (λ l. ShowsFile (d.layer l)
+        (record { format = format.Qcow2; bytes = (S.state image).bytes; extras = map (extra_bytes S.state) extras.old.files.items })) }
     ensures err { IfErr result (λ e. IsCutOff e ⊎ WhyNotAs S.state format.Qcow2 writable (S.state image) extras.old.files.items e) }
 {
     let builder = Qcow2::builder(image).number(number).write(writable);

@@ -6,6 +6,7 @@ ghost use Rattle.qimg_chain.specs.RunCalls.{asks_for_call};
 
 use super::calls::{MOST_READ, call_of, make, told};
 use super::files::{check_top, read_plainly};
+use crate::chain::NamesFiles;
 use crate::script::{Answer, Bytes, Line};
 use imago_access::{FormatAccess, FormatDriverInstance};
 use imago_storage::{Fault, MemStorage};
@@ -23,7 +24,7 @@ fn told_bytes(outcome: Result<Bytes, Fault>) -> Answer
 }
 
 /// Makes the call that a line asks for, and answers it. It doesn't read more than a line may.
-fn answer_call<D: FormatDriverInstance<Storage = MemStorage>>(
+fn answer_call<D: FormatDriverInstance<Storage = MemStorage> + NamesFiles>(
     alloc: Global,
     chain: &mut FormatAccess<D>,
     line: Line,
@@ -32,7 +33,7 @@ fn answer_call<D: FormatDriverInstance<Storage = MemStorage>>(
     requires asks { IsTrue (asks_for_call line) }
     requires short { IsShort line }
     ensures free { IsFree (D.layer chain.new.0) }
-    ensures answered { Answered D.Seen line result chain.old chain.new }
+    ensures answered { Answered D.Seen D.names line result chain.old chain.new }
 {
     match call_of(line) {
         Some(call) => match make(alloc, chain, call) {
@@ -44,14 +45,14 @@ fn answer_call<D: FormatDriverInstance<Storage = MemStorage>>(
 }
 
 /// Flushes the chain, and keeps the bytes of the top file.
-fn save<D: FormatDriverInstance<Storage = MemStorage>>(
+fn save<D: FormatDriverInstance<Storage = MemStorage> + NamesFiles>(
     alloc: Global,
     chain: &mut FormatAccess<D>,
     saved: &mut Option<Vec<u8>>,
 ) -> Answer
     requires free { IsFree (D.layer chain.old.0) }
     ensures free { IsFree (D.layer chain.new.0) }
-    ensures saves { Answered D.Seen Line.Save result chain.old chain.new }
+    ensures saves { Answered D.Seen D.names Line.Save result chain.old chain.new }
     ensures kept { Keeps Line.Save result (D.image chain.new.0).bytes saved.old saved.new }
 {
     match make(alloc, chain, Call::Flush) {
@@ -69,7 +70,7 @@ fn save<D: FormatDriverInstance<Storage = MemStorage>>(
 }
 
 /// Does what a line asks for, and answers it. What a `save` keeps is put in the place of what was kept before.
-pub fn answer_line<D: FormatDriverInstance<Storage = MemStorage>>(
+pub fn answer_line<D: FormatDriverInstance<Storage = MemStorage> + NamesFiles>(
     alloc: Global,
     chain: &mut FormatAccess<D>,
     line: Line,
@@ -77,7 +78,7 @@ pub fn answer_line<D: FormatDriverInstance<Storage = MemStorage>>(
 ) -> Answer
     requires free { IsFree (D.layer chain.old.0) }
     ensures free { IsFree (D.layer chain.new.0) }
-    ensures answered { Answered D.Seen line result chain.old chain.new }
+    ensures answered { Answered D.Seen D.names line result chain.old chain.new }
     ensures kept { Keeps line result (D.image chain.new.0).bytes saved.old saved.new }
 {
     match line {

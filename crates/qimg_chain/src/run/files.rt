@@ -3,15 +3,14 @@ ghost use Rattle.std.specs.Prelude.{◌≡◌, IfOk, IfErr, OnOk};
 ghost use Rattle.imago_storage.specs.MemStorage.{mem_state};
 ghost use Rattle.imago_access.specs.declared.format.Format.TheVariants.{Qcow2};
 ghost use Rattle.qimg_core.specs.Files.{file};
-ghost use Rattle.qimg_core.specs.Plain.{IsImageRead};
 ghost use Rattle.qimg_chain.specs.RunAnswers.{Checks, IsLength, ReadsPlainly, WhyNoBuffer, WhyNotCopied};
 
 use super::calls::MOST_READ;
+use crate::chain::{NamesFiles, plain_read, snapshot};
 use crate::script::{Answer, Bytes};
 use imago_access::{Format, FormatAccess, FormatDriverInstance};
 use imago_storage::{Fault, MemStorage};
 use qimg_core::check::check;
-use qimg_core::plain::{ChainFile, plain_read};
 use std::alloc::Global;
 
 /// A buffer of so many bytes, if a line may read as many.
@@ -64,34 +63,26 @@ pub fn check_top<D: FormatDriverInstance<Storage = MemStorage>>(
     }
 }
 
-/// Fills the buffer with what a file of a qcow2 image shows by itself from an offset on.
-fn read_image(alloc: Global, image: MemStorage, offset: u64, buf: &mut [u8]) -> Result<(), Fault>
-    ensures { OnOk result (IsImageRead (file (mem_state image)) offset buf.new) }
-{
-    let mut files = Vec::new(alloc);
-    files.push(ChainFile {
-        format: Format::Qcow2,
-        image,
-        extras: Vec::new(alloc),
-    })?;
-    plain_read(alloc, files.as_mut_slice(), offset, buf)
-}
-
-/// What the files themselves show in a range. So far this is done of one qcow2 file alone: `Fault::Unsupported` for other chains.
-pub fn read_plainly<D: FormatDriverInstance<Storage = MemStorage>>(
+/// What the files themselves show in a range: a plain read of copies of them.
+///
+/// `Fault::BadArgument` for more than 32,768 bytes, `Fault::Memory` for want of memory, and else what `plain_read` refuses.
+pub fn read_plainly<D: FormatDriverInstance<Storage = MemStorage> + NamesFiles>(
     alloc: Global,
     chain: &FormatAccess<D>,
     offset: u64,
     count: u64,
 ) -> Result<Bytes, Fault>
-    ensures { ReadsPlainly D.Seen offset count result chain.now }
+    ensures { ReadsPlainly D.Seen D.names offset count result chain.now }
 {
-    let mut buf = buffer(alloc, count)?;
-    if chain.below().is_some() {
-        return Err(Fault::Unsupported);
-    }
-    let image = image_copy(chain)?;
-    match read_image(alloc, image, offset, &mut buf) {
+    let mut buf = match buffer(alloc, count) {
+        Ok(buf) => buf,
+        Err(fault) => return Err(fault),
+    };
+    let files = match snapshot(alloc, chain) {
+        Ok(files) => files,
+        Err(fault) => return Err(fault),
+    };
+    match plain_read(alloc, files, offset, &mut buf) {
         Ok(()) => Ok(Bytes::from(buf)),
         Err(fault) => Err(fault),
     }

@@ -51,3 +51,7 @@ returns-in-Some-clause-err g c =
     let few : length c.args.files.items ≤ 64 = grind (arith, nat_tests, c.if-len-gt-MOST_LAYERS.false, c.len.ensures) in
     rw same (on_err (first_of g.S.Storage.state c.args.writable c.in-Some.top (reverse c.pop.new.self.items) (rw same at few))
     c.open_over.result c.open_over.ensures.err)
+
+pub returns-in-Some-clause-means : goal.returns-in-Some-clause-means
+returns-in-Some-clause-means g c =
+    rw (begins c.args.files.items c.reverse.new.self.items c.pop.new.self.items c.in-Some.top c.reverse.ensures.items c.in-Some.ensures.items) c.open_over.ensures.means

@@ -7,6 +7,7 @@ use Rattle.imago_formats.specs.DescriptorView.{kept_extents}
 use Rattle.imago_formats.specs.RawOpening.{kept_same}
 use Rattle.qimg_chain.specs.FurtherFiles.{HasFurther}
 use Rattle.qimg_chain.proofs.FurtherTaken.{has_files}
+use Rattle.qimg_chain.proofs.FilesShown.{vmdk_shown}
 use Rattle.qimg_chain.proofs.ImageKinds.{vmdk_opened}
 use Rattle.qimg_chain.proofs.Refusing.{vmdk_refused, vmdk_said}
 use Rattle.qimg_chain.proofs.chain.opening.open_vmdk.Goals as goal
@@ -35,3 +36,10 @@ pub returns-in-Err-clause-err : goal.returns-in-Err-clause-err
 returns-in-Err-clause-err g c =
     let cause = rw (c.write-builder.ensures.made, c.builder.ensures) at c.in-Err.ensures.cause in
     vmdk_refused g.S.Storage.state c.args.writable (g.S.Storage.state c.args.image) c.args.extras.now c.open.new.gate c.in-Err.fault cause
+
+pub returns-in-Ok-clause-means : goal.returns-in-Ok-clause-means
+returns-in-Ok-clause-means g c =
+    let ok = rw (c.write-builder.ensures.made, c.builder.ensures) at c.in-Ok.ensures.ok in
+    let state = g.S.Storage.state in
+    let vmdk = c.in-Ok.vmdk in
+    vmdk_shown state vmdk.disk.extents.items (state c.args.image) vmdk.image c.args.extras.now c.open.new.gate vmdk.files.items ok.1 ok.2 ok.3 c.in-Ok.ensures.files

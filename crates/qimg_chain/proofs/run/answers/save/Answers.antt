@@ -8,11 +8,11 @@ use Rattle.qimg_chain.proofs.RunCallLemmas.{no-room, told-line}
 use Rattle.qimg_chain.proofs.run.answers.save.Goals as goal
 
 pub returns-in-Ok-bytes-clause-saves : goal.returns-in-Ok-bytes-clause-saves
-returns-in-Ok-bytes-clause-saves g c = told-line g.D.Seen lines.Save calls.Flush answers.Done told.Done c.args.chain.now c.make.new.chain refl tt refl (rw (c.in-Ok-Done.field-0-is) at c.in-Ok-Done.ensures.made.0) refl
+returns-in-Ok-bytes-clause-saves g c = told-line g.D.Seen g.D.NamesFiles.names lines.Save calls.Flush answers.Done told.Done c.args.chain.now c.make.new.chain refl tt refl (rw (c.in-Ok-Done.field-0-is) at c.in-Ok-Done.ensures.made.0) refl
 
 pub returns-in-Ok-Refused-clause-saves : goal.returns-in-Ok-Refused-clause-saves
 returns-in-Ok-Refused-clause-saves g c =
-    told-line g.D.Seen lines.Save calls.Flush (answers.Refused c.in-Ok-Refused.fault) (told.Refused c.in-Ok-Refused.fault) c.args.chain.now c.make.new.chain refl tt refl (rw (c.in-Ok-Refused.field-0-is) at c.in-Ok-Refused.ensures.made.0) refl
+    told-line g.D.Seen g.D.NamesFiles.names lines.Save calls.Flush (answers.Refused c.in-Ok-Refused.fault) (told.Refused c.in-Ok-Refused.fault) c.args.chain.now c.make.new.chain refl tt refl (rw (c.in-Ok-Refused.field-0-is) at c.in-Ok-Refused.ensures.made.0) refl
 
 pub returns-in-Ok-Done-clause-saves : goal.returns-in-Ok-Done-clause-saves
 returns-in-Ok-Done-clause-saves g c = record {
@@ -22,4 +22,4 @@ returns-in-Ok-Done-clause-saves g c = record {
 }
 
 pub returns-clause-saves : goal.returns-clause-saves
-returns-clause-saves g c = no-room g.D.Seen lines.Save c.in-Err.fault c.args.chain.now c.make.new.chain refl tt c.in-Err.ensures.made
+returns-clause-saves g c = no-room g.D.Seen g.D.NamesFiles.names lines.Save c.in-Err.fault c.args.chain.now c.make.new.chain refl tt c.in-Err.ensures.made

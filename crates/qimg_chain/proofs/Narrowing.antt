@@ -1,0 +1,115 @@
+-- The first value of a range that can't be read, found by reads of its parts.
+use Rattle.std.proofs.Common.{◌≡◌, ◌∙◌, ◌<◌, ◌≤◌, ◌+◌, ◌-◌, ◌%◌, ◌^◌, ℕ, List, ap, arith, inl, inr, length, subst, sym}
+use Rattle.std.specs.Prelude.{None, Some}
+use Rattle.std.proofs.lemmas.Bool.{cases_lt}
+use Rattle.imago_storage.specs.Disk.{Shows, Value, barred, byte, damaged_place}
+use Rattle.imago_storage.specs.State.{IsAlignment, StorageState}
+use Rattle.imago_storage.specs.Through.{round_up}
+use Rattle.imago_storage.specs.declared.fault.Fault.{Fault}
+use Rattle.imago_storage.proofs.Rounding.{round_up_part, round_up_whole}
+use Rattle.imago_storage.specs.declared.fault.Fault.TheVariants.{Barred, DamagedTable, Failed, Memory, MissingData, RangeOverflow, Storage}
+use Rattle.imago_access.specs.Chain.{at, unit_of_chain}
+use Rattle.imago_access.specs.Files.{IsMild}
+use Rattle.imago_access.specs.Layer.{Layer}
+use Rattle.imago_access.specs.Refusals.{ReadCause, SomeUnusable}
+use Rattle.qimg_core.specs.Plain.{IsFirstFault, value_fault}
+use Rattle.qimg_chain.specs.PlainReads.{HasFault, IsNarrowed, IsOfPlace, NotReadInOrder}
+
+overflow_is_none : (v : Value) → value_fault v ≡ Some RangeOverflow → ⊥
+overflow_is_none (byte n) is = cc is
+overflow_is_none barred is = cc is
+overflow_is_none damaged_place is = cc is
+
+-- the first value that can't be read is why none behind it is
+pub in_order : (value : ℕ → Value) (offset n : ℕ) (fault : Fault) → IsFirstFault value offset n fault → NotReadInOrder value offset n fault
+in_order value offset n Memory first = tt
+in_order value offset n Storage first = tt
+in_order value offset n RangeOverflow first = absurd (overflow_is_none (value (offset + first.place)) first.faulty)
+in_order value offset n fault first = first
+
+-- an end that passes 64 bits where it is padded is near that
+near_end : (unit k : ℕ) → IsAlignment unit → 2 ^ 64 ≤ round_up unit k → 2 ^ 64 ≤ k + 2 ^ 20
+near_end unit k aligned high = elim (cases_lt 0 (k % unit)) [
+  | inl part ↦ let is = round_up_part unit k aligned.positive part in omega (arith, is, high, aligned.small)
+  | inr whole ↦ let is = round_up_whole unit k aligned.positive (omega (arith, whole)) in omega (arith, is, high)
+]
+
+-- such a fault cuts nothing off
+pub mild : (fault : Fault) → IsOfPlace fault → IsMild fault
+mild Barred place = tt
+mild DamagedTable place = tt
+mild fault place = absurd place
+
+-- the cause of a refusal, by layers that are the same
+pub moved : (ls layers : List Layer) (begin m : ℕ) (olds news : List StorageState) (fault : Fault) → ls ≡ layers
+    → ReadCause ls (at ls) (unit_of_chain ls) begin m olds news fault → ReadCause layers (at layers) (unit_of_chain layers) begin m olds news fault
+moved ls layers begin m olds news fault same why = subst (λ (ys : List Layer). ReadCause ys (at ys) (unit_of_chain ys) begin m olds news fault) same why
+
+module _ (layers : List Layer) (value : ℕ → Value) (unit : ℕ) (usable : (f : Fault) → SomeUnusable layers f → ⊥) (olds news : List StorageState) where
+  -- a read that is refused for a value's sake has met one
+  pub met : (begin m : ℕ) (fault : Fault) → IsOfPlace fault → ReadCause layers value unit begin m olds news fault → HasFault value begin m fault
+  met begin m Barred place why = (why.0, why.1, ap value_fault why.2)
+  met begin m DamagedTable place why = (why.0, why.1, ap value_fault why.2)
+  met begin m fault place why = absurd place
+
+  -- and one of a part that is refused otherwise is why the whole isn't read
+  pub otherwise : IsAlignment unit → (offset n begin m : ℕ) (fault : Fault) → offset ≤ begin → begin + m ≤ offset + n → (IsOfPlace fault → ⊥)
+      → ReadCause layers value unit begin m olds news fault → NotReadInOrder value offset n fault
+  otherwise aligned offset n begin m Failed low most place why = absurd (usable Failed why)
+  otherwise aligned offset n begin m MissingData low most place why = absurd (usable MissingData why)
+  otherwise aligned offset n begin m RangeOverflow low most place why =
+      (omega (arith, why.0, low, most), omega (arith, near_end unit (begin + m) aligned why.1, most))
+  otherwise aligned offset n begin m DamagedTable low most place why = absurd (place tt)
+  otherwise aligned offset n begin m Barred low most place why = absurd (place tt)
+  otherwise aligned offset n begin m Memory low most place why = tt
+  otherwise aligned offset n begin m Storage low most place why = tt
+  otherwise aligned offset n begin m fault low most place why = absurd why
+
+module _ (value : ℕ → Value) (offset n : ℕ) where
+  -- at first nothing is known but that one can't be read
+  pub begun : (fault : Fault) → HasFault value offset n fault → IsNarrowed value offset n 0 n fault
+  begun fault has = record {
+    most = omega arith;
+    before = λ i none. absurd (omega (arith, none));
+    faulty = (has.0, omega arith, has.1, has.2);
+  }
+
+  byte_at : (good : ℕ) (bytes : List ℕ) → Shows value (offset + good) bytes → (i : ℕ) → good ≤ i → i < good + length bytes → value_fault (value (offset + i)) ≡ None
+  byte_at good bytes shows i low high =
+      let same : offset + i ≡ offset + good + (i - good) = omega (arith, low) in
+      ap (λ p. value_fault (value p)) same ∙ ap value_fault (shows (i - good) (omega (arith, low, high)))
+
+  -- a part that is read: the one that can't be read is behind it
+  pub passed : (good end middle : ℕ) (bytes : List ℕ) (fault : Fault) → IsNarrowed value offset n good end fault → middle ≡ good + length bytes
+      → Shows value (offset + good) bytes → IsNarrowed value offset n middle end fault
+  passed good end middle bytes fault so_far is shows = record {
+    most = so_far.most;
+    before = λ i less. elim (cases_lt i good) [
+      | inl low ↦ so_far.before i low
+      | inr high ↦ byte_at good bytes shows i high (omega (arith, less, is))
+    ];
+    faulty = elim (cases_lt so_far.faulty.0 middle) [
+      | inl low ↦ absurd (cc (sym (byte_at good bytes shows so_far.faulty.0 so_far.faulty.1 (omega (arith, low, is))) ∙ so_far.faulty.3))
+      | inr high ↦ (so_far.faulty.0, high, so_far.faulty.2, so_far.faulty.3)
+    ];
+  }
+
+  -- a part that isn't: one is in it
+  pub found : (good end middle m : ℕ) (before fault : Fault) → IsNarrowed value offset n good end before → middle ≡ good + m → middle ≤ end
+      → HasFault value (offset + good) m fault → IsNarrowed value offset n good middle fault
+  found good end middle m before fault so_far is le has =
+      let same : offset + good + has.0 ≡ offset + (good + has.0) = omega arith in
+      record {
+        most = omega (arith, so_far.most, le);
+        before = so_far.before;
+        faulty = (good + has.0, omega arith, omega (arith, has.1, is), ap (λ p. value_fault (value p)) (sym same) ∙ has.2);
+      }
+
+  -- where no two are left, that is the first
+  pub alone : (good end : ℕ) (fault : Fault) → IsNarrowed value offset n good end fault → end - good ≤ 1 → IsFirstFault value offset n fault
+  alone good end fault so_far one = record {
+    place = so_far.faulty.0;
+    inside = omega (arith, so_far.faulty.2, so_far.most);
+    faulty = so_far.faulty.3;
+    before = λ i less. so_far.before i (omega (arith, less, so_far.faulty.1, so_far.faulty.2, one));
+  }

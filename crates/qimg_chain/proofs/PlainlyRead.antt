@@ -1,0 +1,87 @@
+-- What a read of opened files shows is what the files mean, and why it is refused.
+use Rattle.std.proofs.Common.{◌≡◌, ◌⊎◌, ◌∙◌, ◌∷◌, ◌<◌, ◌≤◌, ◌+◌, ◌-◌, ◌^◌, [], ℕ, List, ap, arith, inl, inr, length, map, refl, sym}
+use Rattle.std.specs.Prelude.{Bool, IfErr, OnOk, Result, Err, Ok, false, min, slice_index}
+use Rattle.std.proofs.lemmas.Bool.{cases_lt, le-ltb}
+use Rattle.imago_storage.specs.Disk.{Disk, Shows, Value, byte}
+use Rattle.imago_storage.specs.State.{StorageState}
+use Rattle.imago_storage.specs.declared.fault.Fault.{Fault}
+use Rattle.imago_storage.specs.declared.fault.Fault.TheVariants.{Memory, RangeOverflow, Storage}
+use Rattle.imago_access.specs.Chain.{Each}
+use Rattle.imago_access.specs.Refusals.{SomeUnusable}
+use Rattle.imago_access.specs.declared.seen.Seen.{Ghosts}
+use Rattle.qimg_core.specs.Plain.{IsFirstFault, value_fault}
+use Rattle.qimg_core.specs.declared.plain.ChainFile.{ChainFile}
+use Rattle.qimg_chain.specs.Chains.{AreLayers}
+use Rattle.qimg_chain.specs.FileMeanings.{FileBytes, IsDiskOf, files_bytes, size_of, value_of}
+use Rattle.qimg_chain.specs.PlainReads.{IsPlainlyRead, NotPlainlyRead, NotReadInOrder}
+use Rattle.qimg_chain.specs.Refusals.{FormChain, IsCutOff}
+
+module _ {S D St : Type 0} (g : Ghosts D St) (state : S → StorageState) where
+  -- lookups in each layer just opened are true
+  pub seen : (writable : Bool) (number : ℕ) (files : List (ChainFile S)) (ds : List D) → AreLayers g state writable number files ds → Each g.sees ds
+  seen writable number [] [] are = tt
+  seen writable number (file ∷ files) (d ∷ ds) are = (are.0.opened.sees, seen false 0 files ds are.1)
+  seen writable number [] (d ∷ ds) are = absurd are
+  seen writable number (file ∷ files) [] are = absurd are
+
+  -- each can be used
+  pub usable : (writable : Bool) (number : ℕ) (files : List (ChainFile S)) (ds : List D) → AreLayers g state writable number files ds
+      → (f : Fault) → SomeUnusable (map g.layer ds) f → ⊥
+  usable writable number [] [] are f bad = bad
+  usable writable number (file ∷ files) (d ∷ ds) are f (inl bad) = cc (sym are.0.opened.usable ∙ bad)
+  usable writable number (file ∷ files) (d ∷ ds) are f (inr bad) = usable false 0 files ds are.1 f bad
+  usable writable number [] (d ∷ ds) are f bad = are
+  usable writable number (file ∷ files) [] are f bad = are
+
+-- past its size the disk of files shows 0
+past_size : (files : List FileBytes) (p : ℕ) → size_of files ≤ p → value_of files p ≡ byte 0
+past_size [] p past = refl
+past_size (file ∷ below) p past = rw (le-ltb p (size_of (file ∷ below)) past) refl
+
+-- a buffer of zeroes whose front was read up to the disk's size
+filled : (disk : Disk) (files : List FileBytes) (offset inside n : ℕ) (part whole : List ℕ) → length whole ≡ n → IsDiskOf disk files → inside ≡ min (size_of files - offset) n
+    → length part ≡ inside → Shows disk.value offset part → ((i : ℕ) → i < inside → slice_index whole i ≡ slice_index part i)
+    → ((i : ℕ) → inside ≤ i → slice_index whole i ≡ 0) → Shows (value_of files) offset whole
+filled disk files offset inside n part whole all means is long shows front rest i less = elim (cases_lt i inside) [
+  | inl within ↦ sym (means.value (offset + i)) ∙ shows i (omega (arith, within, long)) ∙ ap byte (sym (front i within))
+  | inr behind ↦ past_size files (offset + i) (omega (arith, behind, is, less, all)) ∙ ap byte (sym (rest i behind))
+]
+
+module _ {S : Type 0} (state : S → StorageState) (files : List (ChainFile S)) (offset : ℕ) where
+  -- the buffer, where the front of it was read
+  pub read_plainly : {E : Type 0} (result : Result Unit E) (disk : Disk) (inside n : ℕ) (part whole : List ℕ) → FormChain state false files → offset + n < 2 ^ 64
+      → length whole ≡ n → IsDiskOf disk (files_bytes state files) → inside ≡ min (size_of (files_bytes state files) - offset) n → length part ≡ inside
+      → ((i : ℕ) → i < inside → slice_index whole i ≡ slice_index part i) → ((i : ℕ) → inside ≤ i → slice_index whole i ≡ 0)
+      → OnOk result (Shows disk.value offset part) → OnOk result (IsPlainlyRead state files offset n whole)
+  read_plainly (Ok done) disk inside n part whole formed fits all means is long front rest shows = record {
+    formed = formed;
+    fits = fits;
+    shows = filled disk (files_bytes state files) offset inside n part whole all means is long shows front rest;
+  }
+  read_plainly (Err e) disk inside n part whole formed fits all means is long front rest shows = tt
+
+  first_in : (value : ℕ → Value) (inside n : ℕ) (fault : Fault) → ((p : ℕ) → value p ≡ value_of (files_bytes state files) p) → inside ≤ n
+      → IsFirstFault value offset inside fault → IsFirstFault (value_of (files_bytes state files)) offset n fault
+  first_in value inside n fault same most first = record {
+    place = first.place;
+    inside = omega (arith, first.inside, most);
+    faulty = ap value_fault (sym (same (offset + first.place))) ∙ first.faulty;
+    before = λ i less. ap value_fault (sym (same (offset + i))) ∙ first.before i less;
+  }
+
+  refused_range : (disk : Disk) (inside n : ℕ) (fault : Fault) → IsDiskOf disk (files_bytes state files) → inside ≡ min (size_of (files_bytes state files) - offset) n
+      → NotReadInOrder disk.value offset inside fault
+      → IsCutOff fault ⊎ (IsFirstFault (value_of (files_bytes state files)) offset n fault ⊎ ((2 ^ 64 ≤ size_of (files_bytes state files) + 2 ^ 20) × (fault ≡ RangeOverflow)))
+  refused_range disk inside n Memory means is why = inl (inl refl)
+  refused_range disk inside n Storage means is why = inl (inr refl)
+  refused_range disk inside n RangeOverflow means is why = inr (inr (omega (arith, is, why.0, why.1), refl))
+  refused_range disk inside n fault means is why = inr (inl (first_in disk.value inside n fault means.value (omega (arith, is)) why))
+
+  -- why the front isn't read is why the files aren't
+  pub not_read : {T : Type 0} (result : Result T Fault) (disk : Disk) (inside n : ℕ) → FormChain state false files → offset + n < 2 ^ 64 → IsDiskOf disk (files_bytes state files)
+      → inside ≡ min (size_of (files_bytes state files) - offset) n → IfErr result (NotReadInOrder disk.value offset inside) → IfErr result (NotPlainlyRead state files offset n)
+  not_read (Ok done) disk inside n formed fits means is why = tt
+  not_read (Err fault) disk inside n formed fits means is why = elim (refused_range disk inside n fault means is why) [
+    | inl cut ↦ inl cut
+    | inr first ↦ inr (inr (formed, inr (fits, first)))
+  ]

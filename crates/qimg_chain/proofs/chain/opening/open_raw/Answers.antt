@@ -1,0 +1,8 @@
+use Rattle.std.proofs.Common.{rules}
+use Rattle.std.specs.Prelude.{map}
+use Rattle.qimg_chain.specs.FileMeanings.{extra_bytes}
+use Rattle.qimg_chain.proofs.FilesShown.{raw_shown}
+use Rattle.qimg_chain.proofs.chain.opening.open_raw.Goals as goal
+
+pub returns-in-Ok-clause-means : goal.returns-in-Ok-clause-means
+returns-in-Ok-clause-means g c = raw_shown g.row.S g.S.Storage g.S.Storage-dict g.S.Destruct-dict c.args.writable 0 (g.S.Storage.state c.args.image) (map (extra_bytes g.S.Storage.state) c.args.extras.now.files.items) c.in-Ok.raw (search rules)

@@ -1,0 +1,15 @@
+use Rattle.std.proofs.Common.{◌≡◌, ◌∷◌, ◌-◌, length, map}
+use Rattle.imago_access.specs.Chain.{at, Each}
+use Rattle.qimg_chain.specs.PlainReads.{IsNarrowed}
+use Rattle.qimg_chain.proofs.chain.plain_reads.first_fault.Given as goal
+
+-- The layers show what they did, and the first value that can't be read is sought between two places.
+abbrev pub invariant-loop-end : goal.invariant-loop-end
+invariant-loop-end g l = let d = g.D.Seen in let layers = map d.layer (l.fn.chain.0 ∷ l.fn.chain.1) in record {
+  narrowed : IsNarrowed (at layers) l.offset (length l.fn.buf) l.good l.end l.fault;
+  same : map d.layer (l.chain.0 ∷ l.chain.1) ≡ layers;
+  sees : Each d.sees (l.chain.0 ∷ l.chain.1);
+}
+
+abbrev pub decreases-loop-end : goal.decreases-loop-end
+decreases-loop-end g l = l.end - l.good

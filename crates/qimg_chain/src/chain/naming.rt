@@ -1,0 +1,47 @@
+// The names of a layer's further files.
+ghost use Rattle.std.specs.Prelude.{◌≡◌, ◌<◌, ℕ, List, [], length, slice_index_or};
+ghost use Rattle.imago_formats.specs.DescriptorView.{kept_names};
+ghost use Rattle.qimg_chain.specs.declared.chain.image_driver.ImageDriver.TheVariants as variant;
+
+use crate::chain::image_driver::ImageDriver;
+use imago_access::FormatDriverInstance;
+use imago_storage::Storage;
+
+/// A driver that tells by which names its image asks for its further files, so that these are found again when it is opened anew.
+pub trait NamesFiles: FormatDriverInstance {
+    /// The name of a further file, by its index.
+    ghost names: { Self → ℕ → List ℕ };
+
+    /// How many further files it has open.
+    fn extra_count(&self) -> usize
+        ensures { result ≡ length (Self.extras self.now) };
+
+    /// The name of one of them.
+    fn extra_name(&self, index: usize) -> &str
+        requires { index < length (Self.extras self.now) }
+        ensures { result.now ≡ Self.names self.now index };
+}
+
+impl<S: Storage> NamesFiles for ImageDriver<S> {
+    ghost names = { elim [
+      | variant.Raw d ↦ λ index. []
+      | variant.Vmdk d ↦ λ index. slice_index_or (kept_names d.disk.extents.items) index []
+      | variant.Qcow2 d ↦ λ index. []
+    ] };
+
+    fn extra_count(&self) -> usize {
+        match self {
+            ImageDriver::Raw(raw) => raw.extras(),
+            ImageDriver::Vmdk(vmdk) => vmdk.extras(),
+            ImageDriver::Qcow2(qcow2) => qcow2.extras(),
+        }
+    }
+
+    fn extra_name(&self, index: usize) -> &str {
+        match self {
+            ImageDriver::Raw(raw) => raw.extra_name(index),
+            ImageDriver::Vmdk(vmdk) => vmdk.extra_name(index),
+            ImageDriver::Qcow2(qcow2) => qcow2.extra_name(index),
+        }
+    }
+}
