@@ -2,6 +2,7 @@
 ghost use Rattle.std.specs.Prelude.{◌≡◌, Result, Ok, Err};
 
 use imago_storage::Fault;
+use qimg_chain::run::ScriptFault;
 use qimg_core::first::RunFault;
 use std::alloc::{AllocError, AllocFailed};
 use std::{fmt, io};
@@ -48,6 +49,15 @@ impl<T: Drop> From<AllocFailed<T>> for Failure {
 impl From<RunFault> for Failure {
     fn from(_: RunFault) -> Self {
         Failure::InputOutput
+    }
+}
+
+impl From<ScriptFault> for Failure {
+    fn from(fault: ScriptFault) -> Self {
+        match fault {
+            ScriptFault::Opening(fault) => Failure::Opening(fault),
+            ScriptFault::Running(_) => Failure::InputOutput,
+        }
     }
 }
 

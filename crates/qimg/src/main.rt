@@ -21,8 +21,7 @@ use failure::{Failure, status};
 use files::{read_files, replace};
 use imago_storage::Fault;
 use qimg_chain::arguments::{Arguments, parse};
-use qimg_chain::chain::open_chain;
-use qimg_chain::run::run;
+use qimg_chain::run::run_files;
 use qimg_core::first::first_run;
 use std::env::Env;
 use std::fs::Files;
@@ -59,13 +58,10 @@ fn run_script<R: Files + Input + Print + AllocGlobal>(
     arguments: &Arguments,
 ) -> Result<(), Failure> {
     let files = read_files(rt, &arguments.layers)?;
-    let mut chain = match open_chain(rt.alloc(), files, !arguments.read_only, CHAIN) {
-        Ok(chain) => chain,
-        Err(fault) => return Err(Failure::Opening(fault)),
-    };
     let input = BufReader::new(rt.alloc(), rt.reader())?;
     let mut output = BufWriter::new(rt.alloc(), io::writer(rt))?;
-    let ended = run(rt.alloc(), input, &mut output, &mut chain);
+    let writable = !arguments.read_only;
+    let ended = run_files(rt.alloc(), files, writable, CHAIN, input, &mut output);
     output.flush()?;
     match (ended?, arguments.layers.first()) {
         (Some(bytes), Some(top)) => replace(rt, &top.path, &bytes),

@@ -6,6 +6,7 @@ pub mod Extras
 pub mod FileLayers
 pub mod FileMeanings
 pub mod FurtherFiles
+pub mod Headline
 pub mod ImageDrivers
 pub mod PlainReads
 pub mod Refusals

@@ -1,0 +1,51 @@
+// A script that is run over files, from their opening as a chain on.
+ghost use Rattle.std.specs.Prelude.{IfOk, IfErr};
+ghost use Rattle.qimg_chain.specs.Headline.{NotRun, RunFrom};
+
+use super::run;
+use crate::chain::{ImageDriver, NamesFiles, open_chain};
+use imago_access::Seen;
+use imago_storage::{Fault, MemStorage};
+use qimg_core::first::RunFault;
+use qimg_core::plain::ChainFile;
+use std::alloc::Global;
+use std::io::{BufRead, Write};
+
+/// Why a script isn't run to its end over files.
+#[derive(Clone, Copy, Debug, Drop)]
+pub enum ScriptFault {
+    /// The files don't open as a chain, for this fault of `open_chain`.
+    Opening(Fault),
+    /// The script ended early, as `run` says.
+    Running(RunFault),
+}
+
+/// Opens files as a chain, the top first, and runs a script over it. It answers the bytes of the top file at the last `save` that was done,
+/// if one was. The chain is dropped at the end.
+///
+/// Where the top file is sound (a qcow2 image that `qimg_core::check` accepts, or one of another format) and its storages keep what is
+/// written, the calls of all lines read and change one flat disk, at opening the one that the files' bytes mean; no file below changes; and
+/// a stop in a call leaves the top file sound, showing at each place what it did at the last flush before or what a call begun since gives.
+///
+/// `ScriptFault::Opening` as `open_chain` refuses, and `ScriptFault::Running` as `run` does.
+pub fn run_files<R: BufRead + Drop, W: Write>(
+    alloc: Global,
+    files: Vec<ChainFile<MemStorage>>,
+    writable: bool,
+    number: u64,
+    reader: R,
+    writer: &mut W,
+) -> Result<Option<Vec<u8>>, ScriptFault>
+    ensures headline { IfOk result (λ saved. RunFrom ⟦<ImageDriver<MemStorage> as Seen>⟧ ⟦<ImageDriver<MemStorage> as NamesFiles>⟧.names
+        files.items (R.remaining reader) (W.contents writer.old) (W.contents writer.new) saved) }
+    ensures err { IfErr result (NotRun writable files.items) }
+{
+    let mut chain = match open_chain(alloc, files, writable, number) {
+        Ok(chain) => chain,
+        Err(fault) => return Err(ScriptFault::Opening(fault)),
+    };
+    match run(alloc, reader, writer, &mut chain) {
+        Ok(saved) => Ok(saved),
+        Err(fault) => Err(ScriptFault::Running(fault)),
+    }
+}
