@@ -1,7 +1,9 @@
 // The files and the disk of a case, and the calls of its lines.
 use crate::files::{NamedFiles, making_of};
 use crate::layers::{Disk, add, counts, image_of};
+use crate::openings;
 use crate::prefixes::{Looked, prefixes};
+use crate::scripts::Scripted;
 use access_calls::{called, cancel, commit, done, prepare, prepared, run_of};
 use cases::{Layer, Notes, Trouble, bytes, joined, number, ok, size, told};
 use imago_access::PreparedDataMapping;
@@ -12,11 +14,12 @@ use std::mem;
 
 type Prepared = PreparedDataMapping<PreparedMappingState>;
 
-/// The files of a case, the disk over them, and a prepared mapping beside it.
+/// The files of a case, the disk over them, a prepared mapping beside it, and the chain in memory of which scripts are run.
 pub struct Chains<'a> {
     files: NamedFiles<'a>,
     disk: Option<Disk<'a>>,
     mapping: Option<Prepared>,
+    scripted: Option<Scripted>,
     notes: &'a Cell<Notes>,
 }
 
@@ -89,6 +92,7 @@ impl<'a> Chains<'a> {
             files: NamedFiles::new(alloc, notes),
             disk: None,
             mapping: None,
+            scripted: None,
             notes,
         }
     }
@@ -99,9 +103,11 @@ impl<'a> Chains<'a> {
             files: _files,
             disk,
             mapping,
+            scripted,
             notes: _notes,
         } = self;
         drop(disk);
+        drop(scripted);
         let_go(mapping);
     }
 
@@ -114,6 +120,30 @@ impl<'a> Chains<'a> {
         let disk = add(alloc, image, self.disk.take())?;
         put(&mut self.disk, Some(disk));
         Ok(ok(alloc)?)
+    }
+
+    // Opens files as a chain, in the place of the disk that was open.
+    fn open_chain(&mut self, alloc: Global, words: &[&str]) -> Result<String, Trouble> {
+        put(&mut self.disk, None);
+        let disk = openings::open(alloc, words, &mut self.files)?;
+        put(&mut self.disk, Some(disk));
+        Ok(ok(alloc)?)
+    }
+
+    // Opens files as a chain in memory, in the place of the one that was open.
+    fn open_in_memory(&mut self, alloc: Global, words: &[&str]) -> Result<String, Trouble> {
+        put(&mut self.scripted, None);
+        let scripted = Scripted::open(alloc, words, &mut self.files)?;
+        put(&mut self.scripted, Some(scripted));
+        Ok(ok(alloc)?)
+    }
+
+    // A script of the chain in memory that there has to be, or what the last one saved.
+    fn scripted(&mut self, alloc: Global, words: &[&str]) -> Result<String, Trouble> {
+        match &mut self.scripted {
+            Some(scripted) => scripted.called(alloc, words),
+            None => Err(Trouble::NoCall),
+        }
     }
 
     // The disk that there has to be.
@@ -225,6 +255,7 @@ impl<'a> Layer for Chains<'a> {
     fn begin(&mut self) {
         self.files.clear();
         put(&mut self.disk, None);
+        put(&mut self.scripted, None);
         self.keep(None);
         self.notes.set(Notes::none());
     }
@@ -237,6 +268,11 @@ impl<'a> Layer for Chains<'a> {
                 self.prefixes(alloc, (*format, *name), [*first, *last], rest)
             }
             ["layer", rest @ ..] => self.add(alloc, rest),
+            ["chain", rest @ ..] => self.open_chain(alloc, rest),
+            ["in_memory", rest @ ..] => self.open_in_memory(alloc, rest),
+            ["script" | "script_bytes" | "script_count" | "saved", ..] => self.scripted(
+                alloc, words,
+            ),
             ["close"] => {
                 put(&mut self.disk, None);
                 Ok(ok(alloc)?)

@@ -146,6 +146,30 @@ impl<'a> NamedFiles<'a> {
     }
 }
 
+/// Files that are opened by their names, each time as another storage.
+pub trait NamedStorages<S> {
+    /// A storage over the file of a name.
+    ///
+    /// # Errors
+    ///
+    /// `Trouble::NoCall` where there is no such file; `Trouble::Refused` for want of memory.
+    fn open_storage(&mut self, name: &str) -> Result<S, Trouble>;
+}
+
+impl<'a> NamedStorages<Base<'a>> for NamedFiles<'a> {
+    fn open_storage(&mut self, name: &str) -> Result<Base<'a>, Trouble> {
+        self.open(name)
+    }
+}
+
+// A copy in memory, which is read by single bytes, and fails at no call.
+impl<'a> NamedStorages<MemStorage> for NamedFiles<'a> {
+    fn open_storage(&mut self, name: &str) -> Result<MemStorage, Trouble> {
+        let bytes = self.named(name)?.bytes.bytes()?;
+        Ok(MemStorage::from_bytes(bytes)?)
+    }
+}
+
 // An image may open each file of its case.
 impl<'a> ImplicitOpenGate<Base<'a>> for NamedFiles<'a> {
     ghost answers = { λ gate name answer now. ⊤ };

@@ -7,11 +7,11 @@ use imago_storage::Storage;
 use qcow2_image::{Qcow2, Qcow2OpenBuilder};
 use std::alloc::Global;
 
-// Words in front of others, and these.
-type Split<'x, 'y, T> = (T, &'y [&'x str]);
+/// What words in front of others stand for, and these.
+pub type Split<'x, 'y, T> = (T, &'y [&'x str]);
 
-// Whether it is to be for writing, by the word `writing` where it stands first.
-fn access_of<'x, 'y>(words: &'y [&'x str]) -> Split<'x, 'y, bool> {
+/// Whether it is to be for writing, by the word `writing` where it stands first, and the words behind it.
+pub fn access_of<'x, 'y>(words: &'y [&'x str]) -> Split<'x, 'y, bool> {
     match words {
         ["writing", rest @ ..] => (true, rest),
         _ => (false, words),

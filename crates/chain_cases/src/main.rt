@@ -17,6 +17,8 @@
 //!   what is said; its caches have room for so many L2 tables and refcount blocks.
 //! - `layer vmdk NAME [writing]`: a descriptor, whose extents are files of the case.
 //! - `close` lets go of the disk.
+//! - `chain [writing] [number N] [LAYER [over LAYER] ..]`: files that are opened as a chain all at once, the top first, in the place of the
+//!   disk. A LAYER is `FORMAT FILE [with NAME FILE] ..`, where further files are handed in by the names that they have there.
 //!
 //! # Calls
 //!
@@ -25,13 +27,23 @@
 //! - `counts`: how many calls the image file of each layer was asked for, the highest layer first. `asked`: what all storages were asked
 //!   for, since it was last told or `forget`.
 //! - `if_open CALL`: the call where a disk is open, and else `closed`.
+//!
+//! # Scripts of the program
+//!
+//! - `in_memory`, with the words of `chain`: a chain over copies of the files, of which these scripts are run, beside the disk.
+//! - `script LINE [; LINE] ..`: the lines that answer these, with `/` behind each, and `too many` where there were more than a script may
+//!   have. `script_bytes BYTES`: the same of a script of these bytes; `script_count BYTES` tells how many lines and bytes these
+//!   answers have. Where a line is answered with `error 20` the script is, too.
+//! - `saved`: how many bytes the last script saved, or `none`; `saved OFFSET N`: these of them.
 #![tactic(auto)]
 
 mod chains;
 mod files;
 mod images;
 mod layers;
+mod openings;
 mod prefixes;
+mod scripts;
 
 use cases::{Notes, run};
 use chains::Chains;

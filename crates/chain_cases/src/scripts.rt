@@ -1,0 +1,183 @@
+// Scripts of the program, which are run over a chain in memory.
+ghost use Rattle.std.specs.Prelude.{IsTrue};
+ghost use Rattle.imago_access.specs.Layer.{IsFree};
+
+use crate::files::NamedFiles;
+use crate::openings::open;
+use cases::{Trouble, bytes, joined, number, runs};
+use imago_access::{FormatAccess, FormatDriverInstance};
+use imago_storage::{Fault, MemStorage};
+use qimg_chain::chain::{ImageDriver, NamesFiles};
+use qimg_chain::run::run;
+use qimg_core::first::RunFault;
+use std::alloc::Global;
+
+/// A chain over copies of the case's files, of which scripts are run, and what the last of them saved.
+#[derive(Drop)]
+pub struct Scripted {
+    chain: FormatAccess<ImageDriver<MemStorage>>,
+    saved: Option<Vec<u8>>,
+}
+
+// Whether nothing is prepared in the top layer.
+fn is_free<D: FormatDriverInstance>(chain: &FormatAccess<D>) -> bool
+    ensures { IsTrue result → IsFree (D.layer chain.now.0) }
+{
+    !chain.inner().prepared()
+}
+
+// Runs a script over a chain. Returns what it writes, and what it saves or why it ended early.
+fn written<D: FormatDriverInstance<Storage = MemStorage> + NamesFiles>(
+    alloc: Global,
+    chain: &mut FormatAccess<D>,
+    script: &[u8],
+) -> Result<(Vec<u8>, Result<Option<Vec<u8>>, RunFault>), Trouble> {
+    if !is_free(chain) {
+        return Err(Trouble::NoCall);
+    }
+    let mut text = Vec::new(alloc);
+    let ended = run(alloc, script, &mut text, chain);
+    Ok((text, ended))
+}
+
+// A script of these words, with a blank between each and the next: the word `;` ends a line.
+fn script_of(alloc: Global, words: &[&str]) -> Result<String, Trouble> {
+    let mut script = String::new(alloc);
+    for line in words.split(|word| *word == ";") {
+        let mut text = String::new(alloc);
+        for word in line.iter() {
+            joined(&mut text, word)?;
+        }
+        text.push_str("\n")?;
+        script.push_str(text.as_str())?;
+    }
+    Ok(script)
+}
+
+// The lines that a script writes, with `/` behind each. Where one is `error 20`, the script as a whole is answered so.
+fn told_lines(alloc: Global, written: &[u8]) -> Result<String, Trouble> {
+    let mut text = String::new(alloc);
+    for line in str::from_utf8(written).unwrap_or("other bytes").lines() {
+        if line == "error 20" {
+            return Err(Trouble::Refused(Fault::Memory));
+        }
+        joined(&mut text, line)?;
+        joined(&mut text, "/")?;
+    }
+    Ok(text)
+}
+
+// How many lines a script writes, and of how many bytes.
+fn counted_lines(alloc: Global, written: &[u8]) -> Result<String, Trouble> {
+    let lines = written.iter().filter(|byte| **byte == b'\n').count();
+    let bytes = written.len();
+    Ok(format!(in alloc; "{lines} lines {bytes} bytes")?)
+}
+
+// Why a script ended early. The writer of these scripts fails for want of memory alone.
+fn early_end(fault: RunFault) -> Result<&'static str, Trouble> {
+    match fault {
+        RunFault::Lines => Ok("too many"),
+        RunFault::Read => Ok("the reader failed"),
+        RunFault::Write | RunFault::Memory => Err(Trouble::Refused(Fault::Memory)),
+    }
+}
+
+impl Scripted {
+    /// Opens a chain, by the words of `openings::open`.
+    ///
+    /// # Errors
+    ///
+    /// As `openings::open`.
+    pub fn open(
+        alloc: Global,
+        words: &[&str],
+        files: &mut NamedFiles<'_>,
+    ) -> Result<Self, Trouble> {
+        Ok(Scripted {
+            chain: open(alloc, words, files)?,
+            saved: None,
+        })
+    }
+
+    // Runs a script, and keeps what it saves. Returns what it writes, and why it ended early, if it did.
+    fn run(
+        &mut self,
+        alloc: Global,
+        script: &[u8],
+    ) -> Result<(Vec<u8>, Option<&'static str>), Trouble> {
+        let (text, ended) = written(alloc, &mut self.chain, script)?;
+        match ended {
+            Ok(saved) => {
+                self.saved = saved;
+                Ok((text, None))
+            }
+            Err(fault) => Ok((text, Some(early_end(fault)?))),
+        }
+    }
+
+    // The lines that a script writes, and why it ended early, if it did.
+    fn lines(&mut self, alloc: Global, script: &[u8]) -> Result<String, Trouble> {
+        let (text, early) = self.run(alloc, script)?;
+        let mut told = told_lines(alloc, &text)?;
+        if let Some(early) = early {
+            joined(&mut told, early)?;
+        }
+        Ok(told)
+    }
+
+    // How many lines and bytes a script writes, and why it ended early, if it did.
+    fn count(&mut self, alloc: Global, script: &[u8]) -> Result<String, Trouble> {
+        let (text, early) = self.run(alloc, script)?;
+        let mut told = counted_lines(alloc, &text)?;
+        if let Some(early) = early {
+            joined(&mut told, early)?;
+        }
+        Ok(told)
+    }
+
+    // How long the bytes are that the last script saved, if it did.
+    fn saved_length(&self, alloc: Global) -> Result<String, Trouble> {
+        match &self.saved {
+            None => Ok("none".to_string(alloc)?),
+            Some(saved) => Ok(saved.len().to_string(alloc)?),
+        }
+    }
+
+    // A range of the bytes that the last script saved.
+    fn saved_range(&self, alloc: Global, offset: u64, n: u64) -> Result<String, Trouble> {
+        let Some(saved) = &self.saved else {
+            return Err(Trouble::NoCall);
+        };
+        let end = offset.saturating_add(n);
+        if end > saved.len() as u64 {
+            return Err(Trouble::NoCall);
+        }
+        Ok(runs(alloc, &saved[offset as usize..end as usize])?)
+    }
+
+    /// Makes the call of these words.
+    ///
+    /// # Errors
+    ///
+    /// `Trouble::NoCall` where they are no call; `Trouble::Refused` for want of memory, be it of a script's line or of its answer.
+    pub fn called(&mut self, alloc: Global, words: &[&str]) -> Result<String, Trouble> {
+        match words {
+            ["script", words @ ..] => {
+                let script = script_of(alloc, words)?;
+                self.lines(alloc, script.as_bytes())
+            }
+            ["script_bytes", words @ ..] => {
+                let script = bytes(alloc, words)?;
+                self.lines(alloc, &script)
+            }
+            ["script_count", words @ ..] => {
+                let script = bytes(alloc, words)?;
+                self.count(alloc, &script)
+            }
+            ["saved"] => self.saved_length(alloc),
+            ["saved", offset, n] => self.saved_range(alloc, number(offset)?, number(n)?),
+            _ => Err(Trouble::NoCall),
+        }
+    }
+}
