@@ -83,13 +83,11 @@ pub(crate) fn copy_out(bytes: &[u8], at: usize, buf: &mut [u8])
     requires { at + length buf.old < 2 ^ 64 }
     ensures { Reads bytes.now at buf.new }
 {
-    for (i, b) in buf.iter_mut().enumerate() {
-        *b = if at + i < bytes.len() {
-            bytes[at + i]
-        } else {
-            0
-        };
-    }
+    let start = at.min(bytes.len());
+    let end = (at + buf.len()).min(bytes.len());
+    let there = end - start;
+    copy_in(buf, 0, &bytes[start..end]);
+    zero_in(buf, there, buf.len() - there);
 }
 
 // Fills the buffer with the bytes from a place on.
