@@ -1,5 +1,5 @@
 -- What the calls of a storage do. Places past a file's end read as 0.
-use Rattle.std.specs.Prelude.{◌≡◌, ◌⊎◌, ℕ, ◌+◌, ◌-◌, ◌<◌, ◌≤◌, max, List, ◌∷◌, length, slice_index, IsTrue, Result, MatchResult}
+use Rattle.std.specs.Prelude.{◌≡◌, ◌⊎◌, ℕ, ◌+◌, ◌-◌, ◌<◌, ◌≤◌, max, List, ◌∷◌, length, slice_index, replicate, IsTrue, Result, MatchResult}
 use Rattle.imago_storage.specs.State.{StorageState, Rose, InStep}
 use Rattle.imago_storage.specs.declared.fault.Fault.{Fault}
 use Rattle.imago_storage.specs.declared.fault.Fault.TheVariants.{Unsupported, Memory, Storage}
@@ -112,6 +112,18 @@ pub record NotResized (old new : StorageState) (fault : Fault) : Type 0 where
 abbrev pub UnlessUnsupported : StorageState → StorageState → (Fault → Type 0) → Fault → Type 0
 UnlessUnsupported old new P Unsupported = new ≡ old
 UnlessUnsupported old new P fault = P fault
+
+-- zeroes that were refused
+abbrev pub ZeroingRefused : StorageState → StorageState → (at n : ℕ) → Fault → Type 0
+ZeroingRefused old new at n = UnlessUnsupported old new (NotWritten old new at (replicate n 0))
+
+-- a range that was refused to be given up
+abbrev pub DiscardRefused : StorageState → StorageState → (at n : ℕ) → Fault → Type 0
+DiscardRefused old new at n = UnlessUnsupported old new (NotDiscarded old new at n)
+
+-- a length that was refused
+abbrev pub ResizeRefused : StorageState → StorageState → Fault → Type 0
+ResizeRefused old new = UnlessUnsupported old new (NotResized old new)
 
 -- a name isn't resolved: a call that can't count a fault has no other refusal
 abbrev pub NotResolved : Fault → Type 0

@@ -1,7 +1,7 @@
 // A storage that fails once.
 ghost use Rattle.std.specs.Prelude.{◌≡◌, ◌≢◌, ◌+◌, ◌^◌, ◌-◌, min, length, replicate, OnOk, IfErr, MatchBool};
 ghost use Rattle.imago_storage.specs.State.{Rose, IsWhole, unit_of};
-ghost use Rattle.imago_storage.specs.Calls.{Reads, Kept, Later, RequestsOne, CountsFaults, Written, NotWritten, Discarded, NotDiscarded, Resized, NotResized, UnlessUnsupported};
+ghost use Rattle.imago_storage.specs.Calls.{CountsFaults, DiscardRefused, Discarded, Kept, Later, NotWritten, Reads, RequestsOne, ResizeRefused, Resized, Written, ZeroingRefused};
 
 use crate::{Fault, PreallocateMode, StopStorage, Storage};
 use std::alloc::Global;
@@ -149,7 +149,7 @@ impl<S: Storage> Storage for FuseStorage<S> {
         requires whole { IsWhole (unit_of (fuse_state S.state self.old).shape) offset length }
         requires zeroes { IsWhole (fuse_state S.state self.old).shape.zero_align offset length }
         ensures ok { OnOk result (Written (fuse_state S.state self.old) (fuse_state S.state self.new) offset (replicate length 0)) }
-        ensures err { IfErr result (UnlessUnsupported (fuse_state S.state self.old) (fuse_state S.state self.new) (NotWritten (fuse_state S.state self.old) (fuse_state S.state self.new) offset (replicate length 0))) }
+        ensures err { IfErr result (ZeroingRefused (fuse_state S.state self.old) (fuse_state S.state self.new) offset length) }
         ensures shape { (fuse_state S.state self.new).shape ≡ (fuse_state S.state self.old).shape }
         ensures later { Later (fuse_state S.state self.old) (fuse_state S.state self.new) }
         ensures once { RequestsOne (fuse_state S.state self.old) (fuse_state S.state self.new) result }
@@ -165,7 +165,7 @@ impl<S: Storage> Storage for FuseStorage<S> {
         requires whole { IsWhole (unit_of (fuse_state S.state self.old).shape) offset length }
         requires zeroes { IsWhole (fuse_state S.state self.old).shape.zero_align offset length }
         ensures ok { OnOk result (Written (fuse_state S.state self.old) (fuse_state S.state self.new) offset (replicate length 0)) }
-        ensures err { IfErr result (UnlessUnsupported (fuse_state S.state self.old) (fuse_state S.state self.new) (NotWritten (fuse_state S.state self.old) (fuse_state S.state self.new) offset (replicate length 0))) }
+        ensures err { IfErr result (ZeroingRefused (fuse_state S.state self.old) (fuse_state S.state self.new) offset length) }
         ensures shape { (fuse_state S.state self.new).shape ≡ (fuse_state S.state self.old).shape }
         ensures later { Later (fuse_state S.state self.old) (fuse_state S.state self.new) }
         ensures once { RequestsOne (fuse_state S.state self.old) (fuse_state S.state self.new) result }
@@ -181,7 +181,7 @@ impl<S: Storage> Storage for FuseStorage<S> {
         requires whole { IsWhole (unit_of (fuse_state S.state self.old).shape) offset length }
         requires discards { IsWhole (fuse_state S.state self.old).shape.discard_align offset length }
         ensures ok { OnOk result (Discarded (fuse_state S.state self.old) (fuse_state S.state self.new) offset length) }
-        ensures err { IfErr result (UnlessUnsupported (fuse_state S.state self.old) (fuse_state S.state self.new) (NotDiscarded (fuse_state S.state self.old) (fuse_state S.state self.new) offset length)) }
+        ensures err { IfErr result (DiscardRefused (fuse_state S.state self.old) (fuse_state S.state self.new) offset length) }
         ensures shape { (fuse_state S.state self.new).shape ≡ (fuse_state S.state self.old).shape }
         ensures later { Later (fuse_state S.state self.old) (fuse_state S.state self.new) }
         ensures once { RequestsOne (fuse_state S.state self.old) (fuse_state S.state self.new) result }
@@ -195,7 +195,7 @@ impl<S: Storage> Storage for FuseStorage<S> {
 
     fn resize(&mut self, size: u64, mode: PreallocateMode) -> Result<(), Fault>
         ensures ok { OnOk result (Resized (fuse_state S.state self.old) (fuse_state S.state self.new) size) }
-        ensures err { IfErr result (UnlessUnsupported (fuse_state S.state self.old) (fuse_state S.state self.new) (NotResized (fuse_state S.state self.old) (fuse_state S.state self.new))) }
+        ensures err { IfErr result (ResizeRefused (fuse_state S.state self.old) (fuse_state S.state self.new)) }
         ensures shape { (fuse_state S.state self.new).shape ≡ (fuse_state S.state self.old).shape }
         ensures later { Later (fuse_state S.state self.old) (fuse_state S.state self.new) }
         ensures once { RequestsOne (fuse_state S.state self.old) (fuse_state S.state self.new) result }

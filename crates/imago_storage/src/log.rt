@@ -1,7 +1,7 @@
 // A storage that keeps a log of its requests.
 ghost use Rattle.std.specs.Prelude.{◌≡◌, ◌≤◌, ◌-◌, ◌∷◌, ◌++◌, [], List, length, take, replicate, slice_get, true, OnOk, IfOk, IfErr, IsErrOf, IsOkUnless, IsTrue};
 ghost use Rattle.imago_storage.specs.State.{InStep, IsWhole, Rose, unit_of};
-ghost use Rattle.imago_storage.specs.Calls.{CountsFaults, Kept, Later, NotResized, NotWritten, Reads, RequestsOne, Resized, UnlessUnsupported, Written};
+ghost use Rattle.imago_storage.specs.Calls.{CountsFaults, Kept, Later, NotWritten, Reads, RequestsOne, ResizeRefused, Resized, Written, ZeroingRefused};
 ghost use Rattle.imago_storage.specs.Log.{apply, NotLogged, replay};
 
 use crate::edits::{splice, splice_zeroes};
@@ -277,7 +277,7 @@ impl<S: Storage> Storage for LogStorage<S> {
         requires whole { IsWhole (unit_of (log_state S.state self.old).shape) offset length }
         requires zeroes { IsWhole (log_state S.state self.old).shape.zero_align offset length }
         ensures ok { OnOk result (Written (log_state S.state self.old) (log_state S.state self.new) offset (replicate length 0)) }
-        ensures err { IfErr result (UnlessUnsupported (log_state S.state self.old) (log_state S.state self.new) (NotWritten (log_state S.state self.old) (log_state S.state self.new) offset (replicate length 0))) }
+        ensures err { IfErr result (ZeroingRefused (log_state S.state self.old) (log_state S.state self.new) offset length) }
         ensures shape { (log_state S.state self.new).shape ≡ (log_state S.state self.old).shape }
         ensures later { Later (log_state S.state self.old) (log_state S.state self.new) }
         ensures once { RequestsOne (log_state S.state self.old) (log_state S.state self.new) result }
@@ -297,7 +297,7 @@ impl<S: Storage> Storage for LogStorage<S> {
         requires whole { IsWhole (unit_of (log_state S.state self.old).shape) offset length }
         requires zeroes { IsWhole (log_state S.state self.old).shape.zero_align offset length }
         ensures ok { OnOk result (Written (log_state S.state self.old) (log_state S.state self.new) offset (replicate length 0)) }
-        ensures err { IfErr result (UnlessUnsupported (log_state S.state self.old) (log_state S.state self.new) (NotWritten (log_state S.state self.old) (log_state S.state self.new) offset (replicate length 0))) }
+        ensures err { IfErr result (ZeroingRefused (log_state S.state self.old) (log_state S.state self.new) offset length) }
         ensures shape { (log_state S.state self.new).shape ≡ (log_state S.state self.old).shape }
         ensures later { Later (log_state S.state self.old) (log_state S.state self.new) }
         ensures once { RequestsOne (log_state S.state self.old) (log_state S.state self.new) result }
@@ -324,7 +324,7 @@ impl<S: Storage> Storage for LogStorage<S> {
 
     fn resize(&mut self, size: u64, mode: PreallocateMode) -> Result<(), Fault>
         ensures ok { OnOk result (Resized (log_state S.state self.old) (log_state S.state self.new) size) }
-        ensures err { IfErr result (UnlessUnsupported (log_state S.state self.old) (log_state S.state self.new) (NotResized (log_state S.state self.old) (log_state S.state self.new))) }
+        ensures err { IfErr result (ResizeRefused (log_state S.state self.old) (log_state S.state self.new)) }
         ensures shape { (log_state S.state self.new).shape ≡ (log_state S.state self.old).shape }
         ensures later { Later (log_state S.state self.old) (log_state S.state self.new) }
         ensures once { RequestsOne (log_state S.state self.old) (log_state S.state self.new) result }

@@ -1,7 +1,7 @@
 // A storage in memory.
 ghost use Rattle.std.specs.Prelude.{◌≡◌, [], length, replicate, IsOk, OnOk, IfOk, IfErr, IsOkUnless};
 ghost use Rattle.imago_storage.specs.State.{IsAlignment, IsWhole, unit_of};
-ghost use Rattle.imago_storage.specs.Calls.{CountsFaults, Discarded, Kept, Later, NotDiscarded, NotResized, NotWritten, Reads, RequestsOne, Resized, UnlessUnsupported, Written};
+ghost use Rattle.imago_storage.specs.Calls.{CountsFaults, DiscardRefused, Discarded, Kept, Later, NotWritten, Reads, RequestsOne, ResizeRefused, Resized, Written, ZeroingRefused};
 
 use crate::edits::{clear, copy_out, splice, splice_zeroes};
 use crate::{Fault, PreallocateMode, Storage};
@@ -152,7 +152,7 @@ impl Storage for MemStorage {
         requires whole { IsWhole (unit_of (mem_state self.old).shape) offset length }
         requires zeroes { IsWhole (mem_state self.old).shape.zero_align offset length }
         ensures ok { OnOk result (Written (mem_state self.old) (mem_state self.new) offset (replicate length 0)) }
-        ensures err { IfErr result (UnlessUnsupported (mem_state self.old) (mem_state self.new) (NotWritten (mem_state self.old) (mem_state self.new) offset (replicate length 0))) }
+        ensures err { IfErr result (ZeroingRefused (mem_state self.old) (mem_state self.new) offset length) }
         ensures shape { (mem_state self.new).shape ≡ (mem_state self.old).shape }
         ensures later { Later (mem_state self.old) (mem_state self.new) }
         ensures once { RequestsOne (mem_state self.old) (mem_state self.new) result }
@@ -171,7 +171,7 @@ impl Storage for MemStorage {
         requires whole { IsWhole (unit_of (mem_state self.old).shape) offset length }
         requires zeroes { IsWhole (mem_state self.old).shape.zero_align offset length }
         ensures ok { OnOk result (Written (mem_state self.old) (mem_state self.new) offset (replicate length 0)) }
-        ensures err { IfErr result (UnlessUnsupported (mem_state self.old) (mem_state self.new) (NotWritten (mem_state self.old) (mem_state self.new) offset (replicate length 0))) }
+        ensures err { IfErr result (ZeroingRefused (mem_state self.old) (mem_state self.new) offset length) }
         ensures shape { (mem_state self.new).shape ≡ (mem_state self.old).shape }
         ensures later { Later (mem_state self.old) (mem_state self.new) }
         ensures once { RequestsOne (mem_state self.old) (mem_state self.new) result }
@@ -184,7 +184,7 @@ impl Storage for MemStorage {
         requires whole { IsWhole (unit_of (mem_state self.old).shape) offset length }
         requires discards { IsWhole (mem_state self.old).shape.discard_align offset length }
         ensures ok { OnOk result (Discarded (mem_state self.old) (mem_state self.new) offset length) }
-        ensures err { IfErr result (UnlessUnsupported (mem_state self.old) (mem_state self.new) (NotDiscarded (mem_state self.old) (mem_state self.new) offset length)) }
+        ensures err { IfErr result (DiscardRefused (mem_state self.old) (mem_state self.new) offset length) }
         ensures shape { (mem_state self.new).shape ≡ (mem_state self.old).shape }
         ensures later { Later (mem_state self.old) (mem_state self.new) }
         ensures once { RequestsOne (mem_state self.old) (mem_state self.new) result }
@@ -197,7 +197,7 @@ impl Storage for MemStorage {
 
     fn resize(&mut self, size: u64, _mode: PreallocateMode) -> Result<(), Fault>
         ensures ok { OnOk result (Resized (mem_state self.old) (mem_state self.new) size) }
-        ensures err { IfErr result (UnlessUnsupported (mem_state self.old) (mem_state self.new) (NotResized (mem_state self.old) (mem_state self.new))) }
+        ensures err { IfErr result (ResizeRefused (mem_state self.old) (mem_state self.new)) }
         ensures shape { (mem_state self.new).shape ≡ (mem_state self.old).shape }
         ensures later { Later (mem_state self.old) (mem_state self.new) }
         ensures once { RequestsOne (mem_state self.old) (mem_state self.new) result }

@@ -1,7 +1,7 @@
 // A storage that holds nothing.
 ghost use Rattle.std.specs.Prelude.{◌≡◌, length, replicate, IsOk, OnOk, IfErr};
 ghost use Rattle.imago_storage.specs.State.{IsWhole, unit_of};
-ghost use Rattle.imago_storage.specs.Calls.{CountsFaults, Discarded, Kept, Later, NotDiscarded, NotResized, NotWritten, Reads, RequestsOne, Resized, UnlessUnsupported, Written};
+ghost use Rattle.imago_storage.specs.Calls.{CountsFaults, DiscardRefused, Discarded, Kept, Later, NotWritten, Reads, RequestsOne, ResizeRefused, Resized, Written, ZeroingRefused};
 
 use crate::{Fault, PreallocateMode, Storage};
 
@@ -87,7 +87,7 @@ impl Storage for Null {
         requires whole { IsWhole (unit_of (null_state self.old).shape) offset length }
         requires zeroes { IsWhole (null_state self.old).shape.zero_align offset length }
         ensures ok { OnOk result (Written (null_state self.old) (null_state self.new) offset (replicate length 0)) }
-        ensures err { IfErr result (UnlessUnsupported (null_state self.old) (null_state self.new) (NotWritten (null_state self.old) (null_state self.new) offset (replicate length 0))) }
+        ensures err { IfErr result (ZeroingRefused (null_state self.old) (null_state self.new) offset length) }
         ensures shape { (null_state self.new).shape ≡ (null_state self.old).shape }
         ensures later { Later (null_state self.old) (null_state self.new) }
         ensures once { RequestsOne (null_state self.old) (null_state self.new) result }
@@ -101,7 +101,7 @@ impl Storage for Null {
         requires whole { IsWhole (unit_of (null_state self.old).shape) offset length }
         requires zeroes { IsWhole (null_state self.old).shape.zero_align offset length }
         ensures ok { OnOk result (Written (null_state self.old) (null_state self.new) offset (replicate length 0)) }
-        ensures err { IfErr result (UnlessUnsupported (null_state self.old) (null_state self.new) (NotWritten (null_state self.old) (null_state self.new) offset (replicate length 0))) }
+        ensures err { IfErr result (ZeroingRefused (null_state self.old) (null_state self.new) offset length) }
         ensures shape { (null_state self.new).shape ≡ (null_state self.old).shape }
         ensures later { Later (null_state self.old) (null_state self.new) }
         ensures once { RequestsOne (null_state self.old) (null_state self.new) result }
@@ -115,7 +115,7 @@ impl Storage for Null {
         requires whole { IsWhole (unit_of (null_state self.old).shape) offset length }
         requires discards { IsWhole (null_state self.old).shape.discard_align offset length }
         ensures ok { OnOk result (Discarded (null_state self.old) (null_state self.new) offset length) }
-        ensures err { IfErr result (UnlessUnsupported (null_state self.old) (null_state self.new) (NotDiscarded (null_state self.old) (null_state self.new) offset length)) }
+        ensures err { IfErr result (DiscardRefused (null_state self.old) (null_state self.new) offset length) }
         ensures shape { (null_state self.new).shape ≡ (null_state self.old).shape }
         ensures later { Later (null_state self.old) (null_state self.new) }
         ensures once { RequestsOne (null_state self.old) (null_state self.new) result }
@@ -126,7 +126,7 @@ impl Storage for Null {
 
     fn resize(&mut self, size: u64, _mode: PreallocateMode) -> Result<(), Fault>
         ensures ok { OnOk result (Resized (null_state self.old) (null_state self.new) size) }
-        ensures err { IfErr result (UnlessUnsupported (null_state self.old) (null_state self.new) (NotResized (null_state self.old) (null_state self.new))) }
+        ensures err { IfErr result (ResizeRefused (null_state self.old) (null_state self.new)) }
         ensures shape { (null_state self.new).shape ≡ (null_state self.old).shape }
         ensures later { Later (null_state self.old) (null_state self.new) }
         ensures once { RequestsOne (null_state self.old) (null_state self.new) result }

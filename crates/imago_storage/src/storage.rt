@@ -2,7 +2,7 @@
 ghost use Rattle.std.specs.Prelude.{◌≡◌, ◌≢◌, ℕ, ◌+◌, ◌%◌, ◌<◌, ◌^◌, List, length, slice_index, replicate, max, OnOk, IfErr, IsErrOf, EachIndex};
 ghost use Rattle.std.specs.Option.{option_map, option_copied};
 ghost use Rattle.imago_storage.specs.State.{StorageState, IsAlignment, IsAligned, IsWhole, unit_of};
-ghost use Rattle.imago_storage.specs.Calls.{Reads, Kept, Later, RequestsOne, NotResolved, CountsFaults, Written, NotWritten, Discarded, NotDiscarded, Resized, NotResized, UnlessUnsupported};
+ghost use Rattle.imago_storage.specs.Calls.{CountsFaults, DiscardRefused, Discarded, Kept, Later, NotResolved, NotWritten, Reads, RequestsOne, ResizeRefused, Resized, Written, ZeroingRefused};
 
 use crate::Fault;
 use std::alloc::Global;
@@ -103,7 +103,7 @@ pub trait Storage: Drop {
         requires whole { IsWhole (unit_of (state self.old).shape) offset length }
         requires zeroes { IsWhole (state self.old).shape.zero_align offset length }
         ensures ok { OnOk result (Written (state self.old) (state self.new) offset (replicate length 0)) }
-        ensures err { IfErr result (UnlessUnsupported (state self.old) (state self.new) (NotWritten (state self.old) (state self.new) offset (replicate length 0))) }
+        ensures err { IfErr result (ZeroingRefused (state self.old) (state self.new) offset length) }
         ensures shape { (state self.new).shape ≡ (state self.old).shape }
         ensures later { Later (state self.old) (state self.new) }
         ensures once { RequestsOne (state self.old) (state self.new) result };
@@ -116,7 +116,7 @@ pub trait Storage: Drop {
         requires whole { IsWhole (unit_of (state self.old).shape) offset length }
         requires zeroes { IsWhole (state self.old).shape.zero_align offset length }
         ensures ok { OnOk result (Written (state self.old) (state self.new) offset (replicate length 0)) }
-        ensures err { IfErr result (UnlessUnsupported (state self.old) (state self.new) (NotWritten (state self.old) (state self.new) offset (replicate length 0))) }
+        ensures err { IfErr result (ZeroingRefused (state self.old) (state self.new) offset length) }
         ensures shape { (state self.new).shape ≡ (state self.old).shape }
         ensures later { Later (state self.old) (state self.new) }
         ensures once { RequestsOne (state self.old) (state self.new) result };
@@ -130,7 +130,7 @@ pub trait Storage: Drop {
         requires whole { IsWhole (unit_of (state self.old).shape) offset length }
         requires discards { IsWhole (state self.old).shape.discard_align offset length }
         ensures ok { OnOk result (Discarded (state self.old) (state self.new) offset length) }
-        ensures err { IfErr result (UnlessUnsupported (state self.old) (state self.new) (NotDiscarded (state self.old) (state self.new) offset length)) }
+        ensures err { IfErr result (DiscardRefused (state self.old) (state self.new) offset length) }
         ensures shape { (state self.new).shape ≡ (state self.old).shape }
         ensures later { Later (state self.old) (state self.new) }
         ensures once { RequestsOne (state self.old) (state self.new) result };
@@ -141,7 +141,7 @@ pub trait Storage: Drop {
     /// `Fault::Storage`. A refusal changes no byte; the latter two are counted as refused changes.
     fn resize(&mut self, size: u64, mode: PreallocateMode) -> Result<(), Fault>
         ensures ok { OnOk result (Resized (state self.old) (state self.new) size) }
-        ensures err { IfErr result (UnlessUnsupported (state self.old) (state self.new) (NotResized (state self.old) (state self.new))) }
+        ensures err { IfErr result (ResizeRefused (state self.old) (state self.new)) }
         ensures shape { (state self.new).shape ≡ (state self.old).shape }
         ensures later { Later (state self.old) (state self.new) }
         ensures once { RequestsOne (state self.old) (state self.new) result };
