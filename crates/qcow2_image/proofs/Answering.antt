@@ -9,7 +9,7 @@ use Rattle.imago_storage.specs.declared.fault.Fault.{Fault}
 use Rattle.imago_storage.specs.declared.fault.Fault.TheVariants.{DamagedTable, Memory, Storage}
 use Rattle.imago_access.specs.Files.{byte_in}
 use Rattle.imago_access.specs.Layer.{Layer, Cell, own, unmapped, unit_of_layer}
-use Rattle.imago_access.specs.Mappings.{IsOneOf, IsRun, IsInReach, IsRoomy, Looks, Names, NamesRoom}
+use Rattle.imago_access.specs.Mappings.{IsOneOf, IsRun, IsInReach, HasStoredRoom, Looks, Names, NamesRoom}
 use Rattle.imago_access.specs.Refusals.{LookCause}
 use Rattle.imago_access.specs.declared.mapping.ShallowMapping.{ShallowMapping}
 use Rattle.imago_access.specs.declared.mapping.ShallowMapping.TheVariants as shallow
@@ -174,7 +174,7 @@ module _ (s : StorageState) (words-there : Bytes) (h : Fields) (backed : Bool) (
     backing true = tt
     backing false = tt
 
-    roomy : ((i : ℕ) → i < n → (TakesNone (entry f h ((offset + i) / cluster_size h)) ⊎ ReadsNone (entry f h ((offset + i) / cluster_size h))) → ⊥) → IsRoomy layer (IsVacant words-there h) (IsZeroed words-there h) offset n
+    roomy : ((i : ℕ) → i < n → (TakesNone (entry f h ((offset + i) / cluster_size h)) ⊎ ReadsNone (entry f h ((offset + i) / cluster_size h))) → ⊥) → HasStoredRoom layer (IsVacant words-there h) (IsZeroed words-there h) offset n
     roomy taken states i lt which = elim which [
       | inl vacant ↦ elim vacant [ inl behind ↦ absurd (omega (arith, behind, inside, lt)) | inr none ↦ taken i lt (inl (rw (sym clean) none)) ]
       | inr zeroed ↦ elim zeroed [ inl behind ↦ absurd (omega (arith, behind, inside, lt)) | inr none ↦ taken i lt (inr (rw (sym clean) none)) ]

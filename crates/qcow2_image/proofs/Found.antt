@@ -37,7 +37,7 @@ use Rattle.qcow2_alloc.specs.declared.cache.MetadataCaches.{MetadataCaches}
 use Rattle.qcow2_alloc.specs.declared.file.ImageFile.{ImageFile}
 use Rattle.qcow2_alloc.proofs.Pins.{pins-hit, pins-written, full-pinned}
 use Rattle.qcow2_image.specs.declared.tables.Tables.{Tables}
-use Rattle.qcow2_image.specs.Caching.{IsLoose}
+use Rattle.qcow2_image.specs.Caching.{IsUnpinned}
 use Rattle.qcow2_image.specs.Seen.{IsOfFile, IsSeen, file_of}
 use Rattle.qcow2_image.specs.Looking.{cluster_named, place_of_table, Follows, IsRunOf, ReadsRun, LooksAt, WhyNotLooked}
 use Rattle.qcow2_image.proofs.Runs.{run-same}
@@ -202,14 +202,14 @@ clean-used state table does old before result new after stays clean (inr u) =
 
 -- and loose.
 module _ {S : Type 0} (state : S → StorageState) (table : ℕ) (old : MetadataCaches S) (before : ImageFile S) where
-  loose-found : (answer : Result Unit Fault) (new : MetadataCaches S) (after : ImageFile S) → TableFound state table old before answer new after → IsLoose old → IsLoose new
+  loose-found : (answer : Result Unit Fault) (new : MetadataCaches S) (after : ImageFile S) → TableFound state table old before answer new after → IsUnpinned old → IsUnpinned new
   loose-found answer new after found loose = (
     (let less = found.sought.pinned.among (λ _. true) in omega (arith, less, loose.0)),
     (let less = (pins-written written_block (λ e. e.0) (λ e. e.1.pins) (λ e. (refl, refl)) (cached_in old).blocks (cached_in new).blocks found.blocks).among (λ _. true) in omega (arith, less, loose.1)),
     omega (arith, found.room.tables, loose.2),
   )
 
-  pub loose-used : {T : Type 0} (does : TableValue → Result T Fault → TableValue → Type 0) (result : Result T Fault) (new : MetadataCaches S) (after : ImageFile S) → IsLoose old → UsesTable state table does old before result new after → IsLoose new
+  pub loose-used : {T : Type 0} (does : TableValue → Result T Fault → TableValue → Type 0) (result : Result T Fault) (new : MetadataCaches S) (after : ImageFile S) → IsUnpinned old → UsesTable state table does old before result new after → IsUnpinned new
   loose-used does result new after loose (inl r) = loose-found (Err r.0) new after r.2 loose
   loose-used does result new after loose (inr u) =
       let mid = loose-found (Ok tt) u.mid after u.found loose in

@@ -15,5 +15,5 @@ abbrev pub IsClean : Cached → Type 0
 IsClean cached = AreTablesClean cached × AreBlocksClean cached
 
 -- Nothing that is cached is pinned, and a table may be: so there always is room for one more, and all can be dropped.
-abbrev pub IsLoose : {S : Type 0} → MetadataCaches S → Type 0
-IsLoose caches = (pinned_in (cached_in caches).tables ≡ 0) × (pinned_in (cached_in caches).blocks ≡ 0) × (0 < caches.l2.slots.cap)
+abbrev pub IsUnpinned : {S : Type 0} → MetadataCaches S → Type 0
+IsUnpinned caches = (pinned_in (cached_in caches).tables ≡ 0) × (pinned_in (cached_in caches).blocks ≡ 0) × (0 < caches.l2.slots.cap)

@@ -6,7 +6,7 @@ ghost use Rattle.qcow2_types.specs.Header.{header_of, has_external_data};
 ghost use Rattle.qcow2_metadata.specs.Loading.{file, NotLoaded};
 ghost use Rattle.qcow2_alloc.specs.Caches.{cached_in, HasRoomOf};
 ghost use Rattle.qcow2_alloc.specs.Opening.{IsL1Of};
-ghost use Rattle.qcow2_image.specs.Caching.{IsLoose};
+ghost use Rattle.qcow2_image.specs.Caching.{IsUnpinned};
 ghost use Rattle.qcow2_image.specs.Opening.{header_for_reading};
 ghost use Rattle.qcow2_image.specs.Steps.{IsFirstFault, Reloads, WhyNotReloaded};
 
@@ -71,7 +71,7 @@ fn load_anew<S: Storage>(
 
 // Drops all that is cached. Nothing of it is to be written, and nothing of it is pinned, so that nothing stays.
 fn drop_cached<S: Storage>(caches: &mut MetadataCaches<S>) -> Result<(), Fault>
-    requires loose { IsLoose caches.old }
+    requires loose { IsUnpinned caches.old }
     ensures ok { IsOk result }
     ensures empty { cached_in caches.new ≡ record { tables = []; blocks = [] } }
     ensures room { HasRoomOf caches.old caches.new }

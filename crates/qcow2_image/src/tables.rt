@@ -1,7 +1,7 @@
 // The metadata of an open image, as one value.
 ghost use Rattle.std.proofs.Props.{props};
 ghost use Rattle.qcow2_alloc.specs.Caches.{cached_in};
-ghost use Rattle.qcow2_image.specs.Caching.{IsClean, IsLoose};
+ghost use Rattle.qcow2_image.specs.Caching.{IsClean, IsUnpinned};
 
 use imago_storage::Storage;
 use qcow2_alloc::{ImageFile, MetadataCaches};
@@ -15,5 +15,5 @@ pub struct Tables<S: Storage> {
     pub(crate) l1: L1Table,
     pub(crate) caches: MetadataCaches<S>,
     ghost clean: { IsClean (cached_in caches) } by { Prim.hlevel props },
-    ghost loose: { IsLoose caches } by { Prim.hlevel props },
+    ghost loose: { IsUnpinned caches } by { Prim.hlevel props },
 }

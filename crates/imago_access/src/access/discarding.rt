@@ -105,16 +105,24 @@ impl<D: FormatDriverInstance> FormatAccess<D> {
     /// every other as it was.
     pub fn discard_to_any(&mut self, alloc: Global, offset: u64, length: u64) -> Result<(), Fault>
         requires free { IsFree (D.layer self.old.0) }
+
+        // What it does.
         ensures ok { IsCarriedOut D.Seen (discard_to_any offset length) result self.old self.new }
         ensures err { IsDoneInPart D.Seen (discard_to_any offset length) result self.old self.new }
+        ensures room { IsIntactChain D.Seen self.old → WasNotCutOff result → GivesUp D.Seen offset length self.old.0 self.new.0 }
+        ensures gives_up { GivesUnitsUp D.Seen (discard_to_any offset length) result self.old self.new }
+
+        // When it ends at once.
         ensures at_once { (f : Fault) → chain_refusal D.Seen self.old offset length ≡ Some f → IsErrOf result f }
         ensures idle { length ≡ 0 → barrier (D.layer self.old.0) ≡ None → IsOk result }
         ensures untouched { EndsAtOnce D.Seen self.old offset length → self.new ≡ self.old }
+
+        // What it keeps, and what its stops show.
         ensures like { IsLike (D.layer self.old.0) (D.layer self.new.0) }
         ensures ran { RanChain D.Seen (WasNotCutOff result) (GivesAny offset length) self.old self.new }
         ensures below { self.new.1 ≡ self.old.1 }
-        ensures room { IsIntactChain D.Seen self.old → WasNotCutOff result → GivesUp D.Seen offset length self.old.0 self.new.0 }
-        ensures gives_up { GivesUnitsUp D.Seen (discard_to_any offset length) result self.old self.new }
+
+        // Why it is refused, and what that marks.
         ensures failed { IfErr result (Fails D.Seen self.old.0 self.new.0) }
         ensures marks { IfErr result (MarksAlone D.Seen self.old.0 self.new.0) }
         ensures cause { CallRefused D.Seen (discard_to_any offset length) result self.old self.new }
@@ -134,16 +142,24 @@ impl<D: FormatDriverInstance> FormatAccess<D> {
         length: u64,
     ) -> Result<(), Fault>
         requires free { IsFree (D.layer self.old.0) }
+
+        // What it does.
         ensures ok { IsCarriedOut D.Seen (discard_to_backing offset length) result self.old self.new }
         ensures err { IsDoneInPart D.Seen (discard_to_backing offset length) result self.old self.new }
+        ensures room { IsIntactChain D.Seen self.old → WasNotCutOff result → GivesUp D.Seen offset length self.old.0 self.new.0 }
+        ensures gives_up { GivesUnitsUp D.Seen (discard_to_backing offset length) result self.old self.new }
+
+        // When it ends at once.
         ensures at_once { (f : Fault) → chain_refusal D.Seen self.old offset length ≡ Some f → IsErrOf result f }
         ensures idle { length ≡ 0 → barrier (D.layer self.old.0) ≡ None → IsOk result }
         ensures untouched { EndsAtOnce D.Seen self.old offset length → self.new ≡ self.old }
+
+        // What it keeps, and what its stops show.
         ensures like { IsLike (D.layer self.old.0) (D.layer self.new.0) }
         ensures ran { RanChain D.Seen (WasNotCutOff result) (GivesBelow (map D.layer self.old.1) offset length) self.old self.new }
         ensures below { self.new.1 ≡ self.old.1 }
-        ensures room { IsIntactChain D.Seen self.old → WasNotCutOff result → GivesUp D.Seen offset length self.old.0 self.new.0 }
-        ensures gives_up { GivesUnitsUp D.Seen (discard_to_backing offset length) result self.old self.new }
+
+        // Why it is refused, and what that marks.
         ensures failed { IfErr result (Fails D.Seen self.old.0 self.new.0) }
         ensures marks { IfErr result (MarksAlone D.Seen self.old.0 self.new.0) }
         ensures cause { CallRefused D.Seen (discard_to_backing offset length) result self.old self.new }

@@ -34,18 +34,26 @@ impl<D: FormatDriverInstance> FormatAccess<D> {
         overwrite: bool,
     ) -> Result<(Mapping, u64), Fault>
         requires free { IsFree (D.layer self.old.0) }
+
+        // What it does.
         ensures ok { IsIntactChain D.Seen self.old → IfOk result (ChainEnsures D.Seen (asking offset length overwrite) self.old self.new) }
         ensures home { IsIntactChain D.Seen self.old → IfOk result (λ r. IsHomeRun (D.layer self.new.0) offset r.0 r.1) }
-        ensures empty { length ≡ 0 → IfOk result (λ r. (r ≡ (deep.Raw 0 0 0 true, 0)) × (D.layer self.new.0 ≡ D.layer self.old.0)) }
-        ensures untouched { IsSome (chain_refusal D.Seen self.old offset length) → self.new ≡ self.old }
         ensures run { IfOk result (λ r. IsMappedRun (D.layer self.old.0) offset length r.1) }
         ensures raw { IfOk result (λ r. IsTopRun r.0 r.1) }
         ensures err { IsIntactChain D.Seen self.old → IfMild result (ChainStays D.Seen self.old self.new) }
+
+        // When it ends at once.
+        ensures empty { length ≡ 0 → IfOk result (λ r. (r ≡ (deep.Raw 0 0 0 true, 0)) × (D.layer self.new.0 ≡ D.layer self.old.0)) }
+        ensures untouched { IsSome (chain_refusal D.Seen self.old offset length) → self.new ≡ self.old }
         ensures at_once { (f : Fault) → chain_refusal D.Seen self.old offset length ≡ Some f → IsErrOf result f }
         ensures idle { length ≡ 0 → barrier (D.layer self.old.0) ≡ None → IsOk result }
         ensures unchanged { EndsAtOnce D.Seen self.old offset length → AllUnchanged D.Seen self.old self.new }
+
+        // What it keeps, and what its stops show.
         ensures like { IsLike (D.layer self.old.0) (D.layer self.new.0) }
         ensures ran { RanChain D.Seen (WasNotCutOff result) (GivesAnnounced overwrite offset length) self.old self.new }
+
+        // Why it is refused, and what that marks.
         ensures failed { IfErr result (ChainFails D.Seen self.old self.new) }
         ensures marks { IfErr result (MarksTop D.Seen (below_ghosts D.Seen) self.old self.new) }
         ensures cause { CallRefused D.Seen (ensure offset length overwrite) result self.old self.new }

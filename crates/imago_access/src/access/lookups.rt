@@ -29,16 +29,23 @@ impl<D: FormatDriverInstance> FormatAccess<D> {
         offset: u64,
         max_length: u64,
     ) -> Result<(ShallowMapping, u64), Fault>
+        // What it answers.
         ensures ok { D.sees self.old.0 → IfOk result (TopFinds D.Seen offset max_length self.old self.new) }
         ensures run { IfOk result (λ r. IsRun (D.layer self.old.0) offset max_length r.0 r.1) }
         ensures looks { D.sees self.old.0 → IfOk result (LooksIn D.Seen offset max_length self.old.0 self.new.0) }
         ensures room { D.sees self.old.0 → IfOk result (NamesRoomIn D.Seen offset self.old.0) }
         ensures there { IfOk result (λ r. IsOneOf (length (files D.Seen self.old.0)) r.0) }
+
+        // When it ends at once.
         ensures idle { max_length ≡ 0 → barrier (D.layer self.old.0) ≡ None → IsOk result }
         ensures unusable { (f : Fault) → barrier (D.layer self.old.0) ≡ Some f → IsErrOf result f }
         ensures unchanged { NeedsNoLook (D.layer self.old.0) max_length → IsUnchanged D.Seen self.old.0 self.new.0 }
+
+        // What it keeps.
         ensures looked { Pairs (Looked D.Seen (WasNotCutOff result)) (chain self.old) (chain self.new) }
         ensures below { self.new.1 ≡ self.old.1 }
+
+        // Why it is refused, and what that marks.
         ensures failed { IfErr result (Fails D.Seen self.old.0 self.new.0) }
         ensures marks { IfErr result (Marks D.Seen self.old.0 self.new.0) }
         ensures cause { D.sees self.old.0 → IfErr result (RefusesLookup D.Seen offset max_length self.old.0 self.new.0) }
@@ -62,6 +69,7 @@ impl<D: FormatDriverInstance> FormatAccess<D> {
         offset: u64,
         max_length: u64,
     ) -> Result<(Mapping, u64), Fault>
+        // What it answers.
         ensures ok { WhereAllSee D.Seen (chain self.old) (IfOk result (ChainFinds D.Seen offset max_length self.old self.new)) }
         ensures run { IfOk result (λ r. IsDeepRun (D.layer self.old.0).size offset max_length r.0 r.1) }
         ensures names { NamesTruly D.Seen offset result (chain self.old) (chain self.new) }
@@ -69,10 +77,16 @@ impl<D: FormatDriverInstance> FormatAccess<D> {
         ensures there { NamesStorage D.Seen result (chain self.old) }
         ensures home { D.sees self.old.0 → IfOk result (λ r. DeepNamesHome (D.layer self.old.0) offset max_length r.0) }
         ensures writable { NamesWritable D.Seen offset max_length result (chain self.old) }
+
+        // When it ends at once.
         ensures idle { max_length ≡ 0 → barrier (D.layer self.old.0) ≡ None → IsOk result }
         ensures unusable { (f : Fault) → barrier (D.layer self.old.0) ≡ Some f → IsErrOf result f }
         ensures unchanged { UnchangedIfIdle D.Seen max_length self.old self.new }
+
+        // What it keeps.
         ensures looked { Pairs (Looked D.Seen (WasNotCutOff result)) (chain self.old) (chain self.new) }
+
+        // Why it is refused, and what that marks.
         ensures failed { IfErr result (ChainFails D.Seen self.old self.new) }
         ensures marks { IfErr result (MarksSome D.Seen (chain self.old) (chain self.new)) }
         ensures cause { LookRefused D.Seen offset max_length result (chain self.old) (chain self.new) }

@@ -39,19 +39,27 @@ impl<D: FormatDriverInstance> FormatAccess<D> {
         overwrite: bool,
     ) -> Result<PreparedDataMapping<D::State>, Fault>
         requires free { IsFree (D.layer self.old.0) }
+
+        // What it does.
         ensures ok { IsIntactChain D.Seen self.old → IfOk result (ChainPrepares D.Seen (asking offset length overwrite) self.old self.new) }
         ensures home { IsIntactChain D.Seen self.old → IfOk result (CanWriteRun (D.layer self.new.0) offset) }
         ensures run { IfOk result (λ m. IsMappedRun (D.layer self.old.0) offset length m.length × (m.offset + m.length < 2 ^ 64)) }
         ensures mine { IfOk result (λ m. IsMine D.Seen m.state (D.layer self.new.0)) }
         ensures stateless { IfOk result (λ m. m.state ≡ None → IsFree (D.layer self.new.0)) }
+        ensures err { IsIntactChain D.Seen self.old → IfMild result (ChainStays D.Seen self.old self.new) }
+
+        // When it ends at once.
         ensures empty { length ≡ 0 → IfOk result (λ m. (m ≡ nowhere) × (D.layer self.new.0 ≡ D.layer self.old.0)) }
         ensures untouched { IsSome (chain_refusal D.Seen self.old offset length) → self.new ≡ self.old }
-        ensures err { IsIntactChain D.Seen self.old → IfMild result (ChainStays D.Seen self.old self.new) }
         ensures at_once { (f : Fault) → chain_refusal D.Seen self.old offset length ≡ Some f → IsErrOf result f }
         ensures idle { length ≡ 0 → barrier (D.layer self.old.0) ≡ None → IsOk result }
         ensures unchanged { EndsAtOnce D.Seen self.old offset length → AllUnchanged D.Seen self.old self.new }
+
+        // What it keeps, and what its stops show.
         ensures free { IsErr result → IsFree (D.layer self.new.0) }
         ensures ran { RanChain D.Seen (WasNotCutOff result) GivesNone self.old self.new }
+
+        // Why it is refused, and what that marks.
         ensures failed { IfErr result (ChainFails D.Seen self.old self.new) }
         ensures marks { IfErr result (MarksOver D.Seen self.old.0 self.new.0) }
         ensures cause { CallRefused D.Seen (prepare offset length overwrite) result self.old self.new }
@@ -72,16 +80,21 @@ impl<D: FormatDriverInstance> FormatAccess<D> {
         alloc: Global,
         mapping: PreparedDataMapping<D::State>,
     ) -> Result<(), (Fault, Option<PreparedDataMapping<D::State>>)>
+        // What it does.
         ensures ok { WhereMine D.Seen mapping.state self.old (OnOk result (ChainCommits D.Seen mapping.state self.old self.new)) }
         ensures own { IsForeignTo D.tag mapping.state (D.layer self.old.0) → IsErr result }
         ensures home { WhereMine D.Seen mapping.state self.old (OnOk result (KeepsHomes (D.layer self.old.0) (D.layer self.new.0))) }
-        ensures refused { CommitRefused D.Seen mapping result self.old.0 self.new.0 }
-        ensures free { IsMine D.Seen mapping.state (D.layer self.old.0) → IsSome mapping.state → OnOk result (IsFree (D.layer self.new.0)) }
         ensures stateless { mapping.state ≡ None → OnOk result (D.layer self.new.0 ≡ D.layer self.old.0) }
         ensures commits { Commits D.Seen mapping.state result self.old.0 self.new.0 }
+
+        // What it keeps, and what its stops show.
+        ensures free { IsMine D.Seen mapping.state (D.layer self.old.0) → IsSome mapping.state → OnOk result (IsFree (D.layer self.new.0)) }
         ensures intact { IsMine D.Seen mapping.state (D.layer self.old.0) → OnOk result (StaysIntact D.Seen self.old self.new) }
         ensures stops { WhereMine D.Seen mapping.state self.old (CommitStops D.Seen self.old self.new) }
         ensures below { self.new.1 ≡ self.old.1 }
+
+        // Why it is refused, and what that marks.
+        ensures refused { CommitRefused D.Seen mapping result self.old.0 self.new.0 }
         ensures cause { ChainCommitRefused D.Seen mapping.state result self.old self.new }
     {
         self.driver.commit_data_mapping(alloc, mapping)
@@ -95,11 +108,14 @@ impl<D: FormatDriverInstance> FormatAccess<D> {
         &mut self,
         mapping: PreparedDataMapping<D::State>,
     ) -> Result<(), (Fault, PreparedDataMapping<D::State>)>
+        // What it does.
         ensures ok { IsMine D.Seen mapping.state (D.layer self.old.0) → OnOk result (ChainCancels D.Seen mapping.state self.old self.new) }
         ensures own { IsForeignTo D.tag mapping.state (D.layer self.old.0) → IsErr result }
         ensures cancels { Cancels D.Seen mapping result self.old.0 self.new.0 }
-        ensures free { IsMine D.Seen mapping.state (D.layer self.old.0) → IsSome mapping.state → IsFree (D.layer self.new.0) }
         ensures stateless { mapping.state ≡ None → D.layer self.new.0 ≡ D.layer self.old.0 }
+
+        // What it keeps, and what its stops show.
+        ensures free { IsMine D.Seen mapping.state (D.layer self.old.0) → IsSome mapping.state → IsFree (D.layer self.new.0) }
         ensures intact { IsMine D.Seen mapping.state (D.layer self.old.0) → StaysIntact D.Seen self.old self.new }
         ensures below { self.new.1 ≡ self.old.1 }
     {
@@ -120,18 +136,25 @@ impl<D: FormatDriverInstance> FormatAccess<D> {
         place: u64,
         bytes: &[u8],
     ) -> Result<(), Fault>
+        // What it does.
         ensures ok { IsCarriedOut D.Seen (write_mapped guest bytes.now) result self.old self.new }
         ensures mapped { D.sees self.old.0 → OnOk result (IsMappedFor (D.layer self.old.0) guest place (length bytes.now)) }
         ensures home { IsIntactChain D.Seen self.old → OnOk result ((D.layer self.new.0).home ≡ (D.layer self.old.0).home) }
         ensures err { IsIntactChain D.Seen self.old → IfMild result (D.layer self.new.0 ≡ D.layer self.old.0) }
+
+        // When it ends at once.
         ensures at_once { (f : Fault) → chain_refusal D.Seen self.old guest (length bytes.now) ≡ Some f → IsErrOf result f }
         ensures idle { length bytes.now ≡ 0 → barrier (D.layer self.old.0) ≡ None → IsOk result }
         ensures unchanged { EndsAtOnce D.Seen self.old guest (length bytes.now) → IsUnchanged D.Seen self.old.0 self.new.0 }
         ensures untouched { IsSome (chain_refusal D.Seen self.old guest (length bytes.now)) → self.new ≡ self.old }
         ensures empty { length bytes.now ≡ 0 → D.layer self.new.0 ≡ D.layer self.old.0 }
+
+        // What it keeps, and what its stops show.
         ensures like { IsLike (D.layer self.old.0) (D.layer self.new.0) }
         ensures ran { RanChain D.Seen (WasNotCutOff result) (GivesBytes guest bytes.now) self.old self.new }
         ensures below { self.new.1 ≡ self.old.1 }
+
+        // Why it is refused, and what that marks.
         ensures failed { IfErr result (Fails D.Seen self.old.0 self.new.0) }
         ensures marks { IfErr result (Marks D.Seen self.old.0 self.new.0) }
         ensures cause { IsIntactChain D.Seen self.old → IfErr result (ChainMappedCause D.Seen guest place bytes.now self.old self.new) }

@@ -27,11 +27,18 @@ impl<D: FormatDriverInstance> FormatAccess<D> {
     /// where a layer can't be used. A refusal leaves the buffer open, and for another cause than `Memory` and `Storage` the disk as it was.
     /// With `Fault::Storage` the layer whose storage it was has failed, if it is a qcow2 image.
     pub fn read(&mut self, alloc: Global, buf: &mut [u8], offset: u64) -> Result<(), Fault>
+        // What it answers.
         ensures ok { Each D.sees (chain self.old) → OnOk result (ChainReads D.Seen offset (length buf.old) buf.new self.old self.new) }
+
+        // When it ends at once.
         ensures at_once { (f : Fault) → chain_look_refusal D.Seen self.old offset (length buf.old) ≡ Some f → IsErrOf result f }
         ensures idle { length buf.old ≡ 0 → barrier (D.layer self.old.0) ≡ None → IsOk result }
         ensures untouched { LookEndsAtOnce D.Seen self.old offset (length buf.old) → self.new ≡ self.old }
+
+        // What it keeps.
         ensures looked { Pairs (Looked D.Seen (WasNotCutOff result)) (chain self.old) (chain self.new) }
+
+        // Why it is refused, and what that marks.
         ensures failed { IfErr result (ChainFails D.Seen self.old self.new) }
         ensures marks { IfErr result (MarksSome D.Seen (chain self.old) (chain self.new)) }
         ensures cause { ReadRefused D.Seen offset (length buf.old) result (chain self.old) (chain self.new) }

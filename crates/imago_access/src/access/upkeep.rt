@@ -25,16 +25,23 @@ impl<D: FormatDriverInstance> FormatAccess<D> {
     ///
     /// It refuses with `Fault::Memory` and `Fault::Storage`, and where the image can't be used.
     pub fn flush(&mut self, alloc: Global) -> Result<(), Fault>
+        // What it does.
         ensures ok { IsCarriedOut D.Seen flush result self.old self.new }
+        ensures written { IsIntactChain D.Seen self.old → IsFree (D.layer self.old.0) → OnOk result (IsWritten D.Seen self.new.0) }
+
+        // When it ends at once.
+        ensures unusable { (f : Fault) → barrier (D.layer self.old.0) ≡ Some f → IsErrOf result f }
+        ensures unchanged { IsUnusable (D.layer self.old.0) → IsUnchanged D.Seen self.old.0 self.new.0 }
+
+        // What it keeps, and what its stops show.
         ensures same { IsIntactChain D.Seen self.old → OnOk result (D.layer self.new.0 ≡ D.layer self.old.0) }
         ensures sees { D.sees self.old.0 → OnOk result ((D.layer self.new.0 ≡ D.layer self.old.0) × D.sees self.new.0) }
         ensures still { OnOk result (D.still self.new.0) }
-        ensures written { IsIntactChain D.Seen self.old → IsFree (D.layer self.old.0) → OnOk result (IsWritten D.Seen self.new.0) }
-        ensures unusable { (f : Fault) → barrier (D.layer self.old.0) ≡ Some f → IsErrOf result f }
-        ensures unchanged { IsUnusable (D.layer self.old.0) → IsUnchanged D.Seen self.old.0 self.new.0 }
         ensures like { IsLike (D.layer self.old.0) (D.layer self.new.0) }
         ensures ran { RanChain D.Seen (IsOk result) GivesNone self.old self.new }
         ensures below { self.new.1 ≡ self.old.1 }
+
+        // Why it is refused, and what that marks.
         ensures failed { IfErr result (Fails D.Seen self.old.0 self.new.0) }
         ensures marks { IfErr result (Marks D.Seen self.old.0 self.new.0) }
         ensures cause { D.safe self.old.0 → IfErr result (RefusesFlush D.Seen self.old.0 self.new.0) }
@@ -46,15 +53,22 @@ impl<D: FormatDriverInstance> FormatAccess<D> {
     ///
     /// It refuses with `Fault::Memory` and `Fault::Storage`, and where the image can't be used.
     pub fn sync(&mut self) -> Result<(), Fault>
+        // What it does.
         ensures ok { OnOk result (ChainSteps D.Seen sync done self.old self.new) }
+
+        // When it ends at once.
+        ensures unusable { (f : Fault) → barrier (D.layer self.old.0) ≡ Some f → IsErrOf result f }
+        ensures unchanged { IsUnusable (D.layer self.old.0) → IsUnchanged D.Seen self.old.0 self.new.0 }
+
+        // What it keeps, and what its stops show.
         ensures same { OnOk result (D.layer self.new.0 ≡ D.layer self.old.0) }
         ensures kept { Pairs IsKept (files D.Seen self.old.0) (files D.Seen self.new.0) }
         ensures still { D.still self.old.0 → D.still self.new.0 }
-        ensures unusable { (f : Fault) → barrier (D.layer self.old.0) ≡ Some f → IsErrOf result f }
-        ensures unchanged { IsUnusable (D.layer self.old.0) → IsUnchanged D.Seen self.old.0 self.new.0 }
         ensures like { IsLike (D.layer self.old.0) (D.layer self.new.0) }
         ensures ran { RanChain D.Seen (IsOk result) GivesNone self.old self.new }
         ensures below { self.new.1 ≡ self.old.1 }
+
+        // Why it is refused, and what that marks.
         ensures marks { IfErr result (Marks D.Seen self.old.0 self.new.0) }
         ensures cause { IfErr result (RefusesFlush D.Seen self.old.0 self.new.0) }
     {
@@ -70,15 +84,21 @@ impl<D: FormatDriverInstance> FormatAccess<D> {
     #[cycle(invalidate)]
     pub fn invalidate_cache(&mut self, alloc: Global) -> Result<(), Fault>
         requires free { Each (λ d. IsFree (D.layer d)) (chain self.old) }
+
+        // When it ends at once.
+        ensures unusable { (f : Fault) → barrier (D.layer self.old.0) ≡ Some f → IsErrOf result f }
+        ensures unchanged { IsUnusable (D.layer self.old.0) → AllUnchanged D.Seen self.old self.new }
+
+        // What it keeps, and what its stops show.
         ensures same { KeepsLayers D.Seen result (chain self.old) (chain self.new) }
         ensures sees { KeepsSight D.Seen result (chain self.old) (chain self.new) }
         ensures kept { Pairs IsKept (files_of D.Seen (chain self.old)) (files_of D.Seen (chain self.new)) }
         ensures still { OnOk result (Each D.still (chain self.new)) }
-        ensures unusable { (f : Fault) → barrier (D.layer self.old.0) ≡ Some f → IsErrOf result f }
-        ensures unchanged { IsUnusable (D.layer self.old.0) → AllUnchanged D.Seen self.old self.new }
         ensures went { Pairs (Went D.Seen (IsOk result) (IsOk result)) (chain self.old) (chain self.new) }
         ensures free { Each (λ d. IsFree (D.layer d)) (chain self.new) }
         ensures downward { IfErr result (λ _. EndsAt D.still (chain self.old) (chain self.new)) }
+
+        // Why it is refused, and what that marks.
         ensures failed { IfErr result (λ e. IsStale e → SomeFailed (map D.layer (chain self.new))) }
         ensures marks { IfErr result (MarksSome D.Seen (chain self.old) (chain self.new)) }
         ensures cause { IfErr result (RefusesReloads D.Seen (chain self.old) (chain self.new)) }

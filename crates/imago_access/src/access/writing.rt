@@ -164,14 +164,22 @@ impl<D: FormatDriverInstance> FormatAccess<D> {
     /// as it was.
     pub fn write(&mut self, alloc: Global, bytes: &[u8], offset: u64) -> Result<(), Fault>
         requires free { IsFree (D.layer self.old.0) }
+
+        // What it does.
         ensures ok { IsCarriedOut D.Seen (write offset bytes.now) result self.old self.new }
         ensures err { IsDoneInPart D.Seen (write offset bytes.now) result self.old self.new }
+        ensures room { TakesNear D.Seen offset (length bytes.now) result self.old self.new }
+
+        // When it ends at once.
         ensures at_once { (f : Fault) → chain_refusal D.Seen self.old offset (length bytes.now) ≡ Some f → IsErrOf result f }
         ensures idle { length bytes.now ≡ 0 → barrier (D.layer self.old.0) ≡ None → IsOk result }
         ensures untouched { EndsAtOnce D.Seen self.old offset (length bytes.now) → self.new ≡ self.old }
+
+        // What it keeps, and what its stops show.
         ensures like { IsLike (D.layer self.old.0) (D.layer self.new.0) }
         ensures ran { RanChain D.Seen (WasNotCutOff result) (GivesBytes offset bytes.now) self.old self.new }
-        ensures room { TakesNear D.Seen offset (length bytes.now) result self.old self.new }
+
+        // Why it is refused, and what that marks.
         ensures failed { IfErr result (ChainFails D.Seen self.old self.new) }
         ensures marks { IfErr result (MarksTop D.Seen (below_ghosts D.Seen) self.old self.new) }
         ensures cause { CallRefused D.Seen (write offset bytes.now) result self.old self.new }

@@ -275,15 +275,23 @@ impl<D: FormatDriverInstance> FormatAccess<D> {
     /// it was. The chain itself takes no memory for it: want of it is the driver's.
     pub fn write_zeroes(&mut self, alloc: Global, offset: u64, length: u64) -> Result<(), Fault>
         requires free { IsFree (D.layer self.old.0) }
+
+        // What it does.
         ensures ok { IsCarriedOut D.Seen (write_zeroes offset length) result self.old self.new }
         ensures err { IsDoneInPart D.Seen (write_zeroes offset length) result self.old self.new }
+        ensures room { TakesNear D.Seen offset length result self.old self.new }
+        ensures zeroed { ZeroesUnits D.Seen (write_zeroes offset length) result self.old self.new }
+
+        // When it ends at once.
         ensures at_once { (f : Fault) → chain_refusal D.Seen self.old offset length ≡ Some f → IsErrOf result f }
         ensures idle { length ≡ 0 → barrier (D.layer self.old.0) ≡ None → IsOk result }
         ensures untouched { EndsAtOnce D.Seen self.old offset length → self.new ≡ self.old }
+
+        // What it keeps, and what its stops show.
         ensures like { IsLike (D.layer self.old.0) (D.layer self.new.0) }
         ensures ran { RanChain D.Seen (WasNotCutOff result) (GivesZero offset length) self.old self.new }
-        ensures room { TakesNear D.Seen offset length result self.old self.new }
-        ensures zeroed { ZeroesUnits D.Seen (write_zeroes offset length) result self.old self.new }
+
+        // Why it is refused, and what that marks.
         ensures failed { IfErr result (ChainFails D.Seen self.old self.new) }
         ensures marks { IfErr result (MarksTop D.Seen (below_ghosts D.Seen) self.old self.new) }
         ensures cause { CallRefused D.Seen (write_zeroes offset length) result self.old self.new }
@@ -305,15 +313,23 @@ impl<D: FormatDriverInstance> FormatAccess<D> {
     /// It refuses as `write_zeroes` does, and leaves the same. The chain itself takes no memory for it either.
     pub fn discard_to_zero(&mut self, alloc: Global, offset: u64, length: u64) -> Result<(), Fault>
         requires free { IsFree (D.layer self.old.0) }
+
+        // What it does.
         ensures ok { IsCarriedOut D.Seen (discard_to_zero offset length) result self.old self.new }
         ensures err { IsDoneInPart D.Seen (discard_to_zero offset length) result self.old self.new }
+        ensures room { GivesUpNear D.Seen offset length result self.old self.new }
+        ensures gives_up { GivesUnitsUp D.Seen (discard_to_zero offset length) result self.old self.new }
+
+        // When it ends at once.
         ensures at_once { (f : Fault) → chain_refusal D.Seen self.old offset length ≡ Some f → IsErrOf result f }
         ensures idle { length ≡ 0 → barrier (D.layer self.old.0) ≡ None → IsOk result }
         ensures untouched { EndsAtOnce D.Seen self.old offset length → self.new ≡ self.old }
+
+        // What it keeps, and what its stops show.
         ensures like { IsLike (D.layer self.old.0) (D.layer self.new.0) }
         ensures ran { RanChain D.Seen (WasNotCutOff result) (GivesZero offset length) self.old self.new }
-        ensures room { GivesUpNear D.Seen offset length result self.old self.new }
-        ensures gives_up { GivesUnitsUp D.Seen (discard_to_zero offset length) result self.old self.new }
+
+        // Why it is refused, and what that marks.
         ensures failed { IfErr result (ChainFails D.Seen self.old self.new) }
         ensures marks { IfErr result (MarksTop D.Seen (below_ghosts D.Seen) self.old self.new) }
         ensures cause { CallRefused D.Seen (discard_to_zero offset length) result self.old self.new }
