@@ -30,8 +30,8 @@ minus_none k = omega arith
 
 -- a part of the bytes written into a buffer of n bytes, and zeroes behind it
 module _ (bytes buf part mid new : List ℕ) (at n from to rest : ℕ)
-  (from_is : from ≡ min at (length bytes)) (to_is : to ≡ min (at + n) (length bytes)) (rest_is : rest ≡ n - (to - from))
-  (part_is : part ≡ between from to bytes) (written : Spliced buf 0 part mid) (zeroed : Spliced mid (to - from) (replicate rest 0) new) where
+    (from_is : from ≡ min at (length bytes)) (to_is : to ≡ min (at + n) (length bytes)) (rest_is : rest ≡ n - (to - from))
+    (part_is : part ≡ between from to bytes) (written : Spliced buf 0 part mid) (zeroed : Spliced mid (to - from) (replicate rest 0) new) where
   part_length : length part ≡ to - from
   part_length = ap length part_is ∙ length-between bytes from to (omega arith)
 
