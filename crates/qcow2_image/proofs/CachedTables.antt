@@ -13,7 +13,7 @@ use Rattle.qcow2_alloc.specs.Cache.{hit, victim}
 use Rattle.qcow2_alloc.specs.Finding.{Sought, with_room}
 use Rattle.qcow2_alloc.specs.Memory.{written_table}
 use Rattle.qcow2_alloc.specs.declared.async_lru_cache.Slot.{Slot}
-use Rattle.qcow2_alloc.proofs.Places.{Place, place-of-key, place-hit, slot-of}
+use Rattle.qcow2_alloc.proofs.Caching.Places.{Place, place-of-key, place-hit, slot-of}
 use Rattle.qcow2_image.specs.Seen.{IsOfFile}
 
 -- An entry that is used goes first: each is as it was.

@@ -35,7 +35,7 @@ use Rattle.qcow2_alloc.specs.Safety.{AreTablesClean, AreBlocksClean}
 use Rattle.qcow2_alloc.specs.declared.async_lru_cache.Slot.{Slot}
 use Rattle.qcow2_alloc.specs.declared.cache.MetadataCaches.{MetadataCaches}
 use Rattle.qcow2_alloc.specs.declared.file.ImageFile.{ImageFile}
-use Rattle.qcow2_alloc.proofs.Pins.{pins-hit, pins-written, full-pinned}
+use Rattle.qcow2_alloc.proofs.Caching.Pins.{pins-hit, pins-written, full-pinned}
 use Rattle.qcow2_image.specs.declared.tables.Tables.{Tables}
 use Rattle.qcow2_image.specs.Caching.{IsUnpinned}
 use Rattle.qcow2_image.specs.Seen.{IsOfFile, IsSeen, file_of}

@@ -15,7 +15,7 @@ use Rattle.qcow2_alloc.specs.Caches.{cached_in, order_of}
 use Rattle.qcow2_alloc.specs.Memory.{Cached, memory}
 use Rattle.qcow2_alloc.specs.Opening.{IsL1Of}
 use Rattle.qcow2_alloc.specs.Safety.{AreTablesClean, AreBlocksClean}
-use Rattle.qcow2_alloc.proofs.LoadingTable.{verdict-consistent}
+use Rattle.qcow2_alloc.proofs.Growth.LoadingTable.{verdict-consistent}
 use Rattle.qcow2_alloc.specs.declared.cache.CacheDependency.TheVariants.{Unset}
 use Rattle.qcow2_image.specs.Seen.{IsOfFile, file_of, memory_of}
 use Rattle.qcow2_image.specs.ImageLayer.{qcow2_layer, meaning_of, blank_of}

@@ -15,7 +15,7 @@ use Rattle.imago_access.proofs.Stopping.{passes_none}
 use Rattle.qcow2_types.specs.Bytes.{Bytes, bytes_of}
 use Rattle.qcow2_types.specs.Header.{Fields, Header}
 use Rattle.qcow2_alloc.specs.Caches.{cached_in}
-use Rattle.qcow2_alloc.proofs.SafeLaws.{clean-memory}
+use Rattle.qcow2_alloc.proofs.Memory.SafeLaws.{clean-memory}
 use Rattle.qcow2_image.specs.contracts.qcow2.Qcow2Seen.TheImpl.{ghosts}
 use Rattle.imago_access.specs.declared.seen.Seen.{Ghosts as SeenGhosts}
 use Rattle.qcow2_image.specs.declared.qcow2.Qcow2.{Qcow2}

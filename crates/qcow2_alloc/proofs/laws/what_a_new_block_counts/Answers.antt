@@ -1,4 +1,4 @@
-use Rattle.qcow2_alloc.proofs.NewBlocks.{counter-read, zeroes-count, itself-counts, none-cached, one-cached}
+use Rattle.qcow2_alloc.proofs.Blocks.NewBlocks.{counter-read, zeroes-count, itself-counts, none-cached, one-cached}
 use Rattle.qcow2_alloc.proofs.laws.what_a_new_block_counts.Goals as goal
 
 pub returns : goal.returns

@@ -1,4 +1,4 @@
-use Rattle.qcow2_alloc.proofs.QuietEntries.{safe-sound}
+use Rattle.qcow2_alloc.proofs.Quiet.QuietEntries.{safe-sound}
 use Rattle.qcow2_alloc.proofs.laws.what_is_safe_is_sound.Goals as goal
 
 pub returns : goal.returns

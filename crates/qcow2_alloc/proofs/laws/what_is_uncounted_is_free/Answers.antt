@@ -1,4 +1,4 @@
-use Rattle.qcow2_alloc.proofs.FreeClusters.{uncounted-free, flushes-count, clean-counts}
+use Rattle.qcow2_alloc.proofs.Searching.FreeClusters.{uncounted-free, flushes-count, clean-counts}
 use Rattle.qcow2_alloc.proofs.laws.what_is_uncounted_is_free.Goals as goal
 
 pub returns : goal.returns

@@ -1,4 +1,4 @@
-use Rattle.qcow2_alloc.proofs.QuietFlushes.{quiet-none, used-quiet, order-quiet, settled-quiet}
+use Rattle.qcow2_alloc.proofs.Quiet.QuietFlushes.{quiet-none, used-quiet, order-quiet, settled-quiet}
 use Rattle.qcow2_alloc.proofs.laws.what_stays_is_quiet.Goals as goal
 
 pub returns : goal.returns

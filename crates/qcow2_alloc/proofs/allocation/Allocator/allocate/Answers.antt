@@ -4,7 +4,7 @@ use Rattle.qcow2_types.specs.Pending.{FreeEntry}
 use Rattle.qcow2_alloc.specs.Allocating.{CountsRun}
 use Rattle.qcow2_alloc.specs.Allocators.{table_of, mark_of}
 use Rattle.qcow2_alloc.specs.ReadyingRuns.{Allocates, ReadiesRun, mark_behind}
-use Rattle.qcow2_alloc.proofs.AllocatingRuns.{none-allocated, run-refused, count-refused, run-allocated}
+use Rattle.qcow2_alloc.proofs.Handing.AllocatingRuns.{none-allocated, run-refused, count-refused, run-allocated}
 use Rattle.qcow2_alloc.proofs.allocation.Allocator.allocate.Goals as goal
 
 pub returns-then-eq-clause-allocates : goal.returns-then-eq-clause-allocates

@@ -5,9 +5,9 @@ use Rattle.qcow2_metadata.specs.Tables.{TableValue}
 use Rattle.qcow2_alloc.specs.Allocators.{table_of, mark_of}
 use Rattle.qcow2_alloc.specs.HandingOut.{IsBarred}
 use Rattle.qcow2_alloc.specs.HandingOutOne.{AllocatesAt, ReadiesCounter}
-use Rattle.qcow2_alloc.proofs.AllocatingReadied.{out-of-reach, uncounted-at, refused-at, readied-at}
-use Rattle.qcow2_alloc.proofs.CountingOne.{handed_so, not_handed}
-use Rattle.qcow2_alloc.proofs.EnsuringBlocks.{so}
+use Rattle.qcow2_alloc.proofs.Handing.AllocatingReadied.{out-of-reach, uncounted-at, refused-at, readied-at}
+use Rattle.qcow2_alloc.proofs.Handing.CountingOne.{handed_so, not_handed}
+use Rattle.qcow2_alloc.proofs.Blocks.EnsuringBlocks.{so}
 use Rattle.qcow2_alloc.proofs.allocation.Allocator.allocate_at.Goals as goal
 
 never : (b : Bool) → b ≡ false → IsTrue b → ⊥

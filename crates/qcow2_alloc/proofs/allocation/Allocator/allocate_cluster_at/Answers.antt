@@ -5,9 +5,9 @@ use Rattle.qcow2_types.specs.Pending.{FreeEntry}
 use Rattle.qcow2_alloc.specs.Allocators.{table_of, mark_of}
 use Rattle.qcow2_alloc.specs.FreeList.{FreeList}
 use Rattle.qcow2_alloc.specs.HandingOut.{AllocatesClusterAt}
-use Rattle.qcow2_alloc.proofs.AnnouncedOrders.{not-begun}
-use Rattle.qcow2_alloc.proofs.CountingOne.{handed_so, not_handed}
-use Rattle.qcow2_alloc.proofs.HandingOut.{at-not-announced}
+use Rattle.qcow2_alloc.proofs.Handing.AnnouncedOrders.{not-begun}
+use Rattle.qcow2_alloc.proofs.Handing.CountingOne.{handed_so, not_handed}
+use Rattle.qcow2_alloc.proofs.Handing.HandingOut.{at-not-announced}
 use Rattle.qcow2_alloc.proofs.allocation.Allocator.allocate_cluster_at.Goals as goal
 
 pub returns-in-Err-clause-allocates : goal.returns-in-Err-clause-allocates

@@ -4,7 +4,7 @@ use Rattle.qcow2_types.specs.Pending.{FreeEntry}
 use Rattle.qcow2_alloc.specs.Allocators.{table_of, mark_of}
 use Rattle.qcow2_alloc.specs.FreeList.{FreeList}
 use Rattle.qcow2_alloc.specs.HandingOut.{AllocatesClusters}
-use Rattle.qcow2_alloc.proofs.HandingOut.{refused_run, run_so, run-not-held}
+use Rattle.qcow2_alloc.proofs.Handing.HandingOut.{refused_run, run_so, run-not-held}
 use Rattle.qcow2_alloc.proofs.allocation.Allocator.allocate_clusters.Goals as goal
 
 pub returns-in-Err-clause-allocates : goal.returns-in-Err-clause-allocates

@@ -1,6 +1,6 @@
 use Rattle.std.proofs.Common.{sym, ◌∙◌}
 use Rattle.qcow2_alloc.specs.Allocators.{table_of, mark_of}
-use Rattle.qcow2_alloc.proofs.AllocatingAt.{search-refused, counted-already, counted-or-not, same-place, other-place}
+use Rattle.qcow2_alloc.proofs.Handing.AllocatingAt.{search-refused, counted-already, counted-or-not, same-place, other-place}
 use Rattle.qcow2_alloc.proofs.allocation.Allocator.allocate_one.Goals as goal
 
 pub returns-in-Err-clause-allocates : goal.returns-in-Err-clause-allocates

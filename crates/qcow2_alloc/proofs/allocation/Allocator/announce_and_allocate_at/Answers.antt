@@ -1,8 +1,8 @@
 use Rattle.qcow2_alloc.specs.Allocators.{table_of, mark_of}
-use Rattle.qcow2_alloc.proofs.AnnouncedOrders.{announced}
-use Rattle.qcow2_alloc.proofs.CountingClusters.{succeeded}
-use Rattle.qcow2_alloc.proofs.FreeingEntries.{failed}
-use Rattle.qcow2_alloc.proofs.HandingOut.{at-not-announced, at-announced}
+use Rattle.qcow2_alloc.proofs.Handing.AnnouncedOrders.{announced}
+use Rattle.qcow2_alloc.proofs.Blocks.CountingClusters.{succeeded}
+use Rattle.qcow2_alloc.proofs.Freeing.FreeingEntries.{failed}
+use Rattle.qcow2_alloc.proofs.Handing.HandingOut.{at-not-announced, at-announced}
 use Rattle.qcow2_alloc.proofs.allocation.Allocator.announce_and_allocate_at.Goals as goal
 
 pub returns-in-Ok-clause-allocates : goal.returns-in-Ok-clause-allocates

@@ -9,10 +9,10 @@ use Rattle.qcow2_alloc.specs.declared.cache.MetadataCaches.{MetadataCaches}
 use Rattle.qcow2_alloc.specs.declared.file.ImageFile.{ImageFile}
 use Rattle.qcow2_alloc.specs.Allocating.{RaisesCluster, CountsNamed}
 use Rattle.qcow2_alloc.specs.Allocators.{table_of, named_block}
-use Rattle.qcow2_alloc.proofs.CountingClusters.{succeeded, cluster-counted}
-use Rattle.qcow2_alloc.proofs.CountingRuns.{named-run-none, named-run-then, named-run-within, passed-over, counted-named}
-use Rattle.qcow2_alloc.proofs.FreeingEntries.{failed}
-use Rattle.qcow2_alloc.proofs.NamedWords.{named-some, named-none}
+use Rattle.qcow2_alloc.proofs.Blocks.CountingClusters.{succeeded, cluster-counted}
+use Rattle.qcow2_alloc.proofs.Blocks.CountingRuns.{named-run-none, named-run-then, named-run-within, passed-over, counted-named}
+use Rattle.qcow2_alloc.proofs.Freeing.FreeingEntries.{failed}
+use Rattle.qcow2_alloc.proofs.Blocks.NamedWords.{named-some, named-none}
 use Rattle.qcow2_alloc.proofs.allocation.Allocator.count_named.Goals as goal
 use Rattle.qcow2_alloc.proofs.allocation.Allocator.count_named.Goals.{then-is_some+in-Ok, else-is_some}
 

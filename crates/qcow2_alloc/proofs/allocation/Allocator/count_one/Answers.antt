@@ -4,9 +4,9 @@ use Rattle.std.proofs.Common.{Some}
 use Rattle.qcow2_types.specs.Pending.{FreeEntry}
 use Rattle.qcow2_alloc.specs.Allocating.{RaisesCluster}
 use Rattle.qcow2_alloc.specs.Allocators.{table_of}
-use Rattle.qcow2_alloc.proofs.CountingClusters.{succeeded}
-use Rattle.qcow2_alloc.proofs.FreeingEntries.{failed}
-use Rattle.qcow2_alloc.proofs.CountingOne.{first-uncounted, raised-one, unraised-one}
+use Rattle.qcow2_alloc.proofs.Blocks.CountingClusters.{succeeded}
+use Rattle.qcow2_alloc.proofs.Freeing.FreeingEntries.{failed}
+use Rattle.qcow2_alloc.proofs.Handing.CountingOne.{first-uncounted, raised-one, unraised-one}
 use Rattle.qcow2_alloc.proofs.allocation.Allocator.count_one.Goals as goal
 
 pub returns-then-eq-clause-counts : goal.returns-then-eq-clause-counts

@@ -1,9 +1,9 @@
 use Rattle.std.proofs.Common.{◌≡◌, ◌+◌, ℕ, arith, subst}
 use Rattle.qcow2_alloc.specs.Allocating.{RaisesCluster, CountsRun}
 use Rattle.qcow2_alloc.specs.Allocators.{table_of}
-use Rattle.qcow2_alloc.proofs.CountingClusters.{succeeded, cluster-counted}
-use Rattle.qcow2_alloc.proofs.CountingRuns.{run-none, run-then, run-within}
-use Rattle.qcow2_alloc.proofs.FreeingEntries.{failed}
+use Rattle.qcow2_alloc.proofs.Blocks.CountingClusters.{succeeded, cluster-counted}
+use Rattle.qcow2_alloc.proofs.Blocks.CountingRuns.{run-none, run-then, run-within}
+use Rattle.qcow2_alloc.proofs.Freeing.FreeingEntries.{failed}
 use Rattle.qcow2_alloc.proofs.allocation.Allocator.count_run.Goals as goal
 
 pub loop-index-init : goal.loop-index-init

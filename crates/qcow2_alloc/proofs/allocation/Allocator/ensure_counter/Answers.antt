@@ -4,8 +4,8 @@ use Rattle.qcow2_types.specs.Counts.{counters_of_block}
 use Rattle.qcow2_alloc.specs.Allocators.{metadata_of, table_of, mark_of}
 use Rattle.qcow2_alloc.specs.FillingBlocks.{FillsFrom}
 use Rattle.qcow2_alloc.specs.HandingOutOne.{ReadiesWord}
-use Rattle.qcow2_alloc.proofs.EnsuringBlocks.{so, refused}
-use Rattle.qcow2_alloc.proofs.ReadyingCounters.{counter-barred, counter-made, counter-unmade, index-moved}
+use Rattle.qcow2_alloc.proofs.Blocks.EnsuringBlocks.{so, refused}
+use Rattle.qcow2_alloc.proofs.Blocks.ReadyingCounters.{counter-barred, counter-made, counter-unmade, index-moved}
 use Rattle.qcow2_alloc.proofs.allocation.Allocator.ensure_counter.Goals as goal
 
 pub returns-in-Ok-clause-readies : goal.returns-in-Ok-clause-readies

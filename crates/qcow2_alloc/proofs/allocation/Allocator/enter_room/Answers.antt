@@ -8,9 +8,9 @@ use Rattle.qcow2_alloc.specs.FreeList.{FreeList}
 use Rattle.qcow2_alloc.specs.GrowingTables.{table_run}
 use Rattle.qcow2_alloc.specs.MakingRoom.{run_of}
 use Rattle.qcow2_alloc.specs.MovingTables.{FillsRoom, WasSound}
-use Rattle.qcow2_alloc.proofs.FilledRooms.{some-clusters}
-use Rattle.qcow2_alloc.proofs.FreeingEntries.{failed}
-use Rattle.qcow2_alloc.proofs.UnfilledRooms.{not-begun}
+use Rattle.qcow2_alloc.proofs.Growth.FilledRooms.{some-clusters}
+use Rattle.qcow2_alloc.proofs.Freeing.FreeingEntries.{failed}
+use Rattle.qcow2_alloc.proofs.Growth.UnfilledRooms.{not-begun}
 use Rattle.qcow2_alloc.proofs.allocation.Allocator.enter_room.Goals as goal
 
 pub returns-then-clusters-eq0-clause-fills : goal.returns-then-clusters-eq0-clause-fills

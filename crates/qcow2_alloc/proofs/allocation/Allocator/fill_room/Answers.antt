@@ -7,8 +7,8 @@ use Rattle.qcow2_metadata.specs.Places.{IsPlaced, IsInReach}
 use Rattle.qcow2_alloc.specs.Allocators.{table_of}
 use Rattle.qcow2_alloc.specs.Growing.{lacking}
 use Rattle.qcow2_alloc.specs.MovingTables.{IsPlan, WasSound}
-use Rattle.qcow2_alloc.proofs.FilledRooms.{room-filled}
-use Rattle.qcow2_alloc.proofs.UnfilledRooms.{not-filled}
+use Rattle.qcow2_alloc.proofs.Growth.FilledRooms.{room-filled}
+use Rattle.qcow2_alloc.proofs.Growth.UnfilledRooms.{not-filled}
 use Rattle.qcow2_alloc.proofs.allocation.Allocator.fill_room.Goals as goal
 
 pub move_table-requires-clause-placed : goal.move_table-requires-clause-placed

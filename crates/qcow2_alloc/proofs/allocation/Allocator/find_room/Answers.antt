@@ -5,8 +5,8 @@ use Rattle.qcow2_metadata.specs.Tables.{TableValue}
 use Rattle.qcow2_alloc.specs.declared.allocation.searching.Run.{Run}
 use Rattle.qcow2_alloc.specs.Allocators.{table_of}
 use Rattle.qcow2_alloc.specs.Growing.{lacking, needed_for, GrowsRoom}
-use Rattle.qcow2_alloc.proofs.FindingRoom.{needed-few}
-use Rattle.qcow2_alloc.proofs.SearchingRooms.{rooms-first, rooms-found, rooms-not-grown, rooms-then, rooms-fewer}
+use Rattle.qcow2_alloc.proofs.Growth.FindingRoom.{needed-few}
+use Rattle.qcow2_alloc.proofs.Growth.SearchingRooms.{rooms-first, rooms-found, rooms-not-grown, rooms-then, rooms-fewer}
 use Rattle.qcow2_alloc.proofs.allocation.Allocator.find_room.Goals as goal
 
 -- A block has at least 64 counters, and at most 2^24.

@@ -5,10 +5,10 @@ use Rattle.qcow2_alloc.specs.Allocators.{table_of, mark_of}
 use Rattle.qcow2_alloc.specs.Freeing.{Frees}
 use Rattle.qcow2_alloc.specs.HandingOut.{AllocatesClusters}
 use Rattle.qcow2_alloc.specs.ReadyingRuns.{Allocates}
-use Rattle.qcow2_alloc.proofs.AnnouncedOrders.{announced}
-use Rattle.qcow2_alloc.proofs.CountingClusters.{succeeded}
-use Rattle.qcow2_alloc.proofs.FreeingEntries.{failed}
-use Rattle.qcow2_alloc.proofs.HandingOut.{refused_run, run-not-freed, run-not-announced, run-announced}
+use Rattle.qcow2_alloc.proofs.Handing.AnnouncedOrders.{announced}
+use Rattle.qcow2_alloc.proofs.Blocks.CountingClusters.{succeeded}
+use Rattle.qcow2_alloc.proofs.Freeing.FreeingEntries.{failed}
+use Rattle.qcow2_alloc.proofs.Handing.HandingOut.{refused_run, run-not-freed, run-not-announced, run-announced}
 use Rattle.qcow2_alloc.proofs.allocation.Allocator.free_and_allocate.Goals as goal
 
 pub returns-in-Err-clause-allocates : goal.returns-in-Err-clause-allocates

@@ -7,8 +7,8 @@ use Rattle.qcow2_alloc.specs.Allocators.{table_of, mark_of}
 use Rattle.qcow2_alloc.specs.Caches.{order_of}
 use Rattle.qcow2_alloc.specs.FreeList.{FreeList, entry_at, shorter, shortened}
 use Rattle.qcow2_alloc.specs.Freeing.{Frees}
-use Rattle.qcow2_alloc.proofs.FreeingEntries.{frees-none, frees-then, empty-removed, may-still, freed, failed}
-use Rattle.qcow2_alloc.proofs.FreeingLists.{entry-shortened, shortened-none, shortened-more, removed-shortened}
+use Rattle.qcow2_alloc.proofs.Freeing.FreeingEntries.{frees-none, frees-then, empty-removed, may-still, freed, failed}
+use Rattle.qcow2_alloc.proofs.Freeing.FreeingLists.{entry-shortened, shortened-none, shortened-more, removed-shortened}
 use Rattle.qcow2_alloc.proofs.allocation.Allocator.free_entry.Goals as goal
 
 pub loop-init : goal.loop-init

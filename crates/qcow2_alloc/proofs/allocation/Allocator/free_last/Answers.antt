@@ -3,8 +3,8 @@ use Rattle.qcow2_types.specs.Pending.{FreeEntry}
 use Rattle.qcow2_alloc.specs.Allocators.{table_of, mark_of, LowersCluster}
 use Rattle.qcow2_alloc.specs.FreeList.{FreeList}
 use Rattle.qcow2_alloc.specs.Freeing.{Frees}
-use Rattle.qcow2_alloc.proofs.FreeingEntries.{last-freed, far-refused}
-use Rattle.qcow2_alloc.proofs.FreeingLists.{last}
+use Rattle.qcow2_alloc.proofs.Freeing.FreeingEntries.{last-freed, far-refused}
+use Rattle.qcow2_alloc.proofs.Freeing.FreeingLists.{last}
 use Rattle.qcow2_alloc.proofs.allocation.Allocator.free_last.Goals as goal
 
 pub returns-in_default-clause-frees : goal.returns-in_default-clause-frees

@@ -4,9 +4,9 @@ use Rattle.qcow2_metadata.specs.Tables.{TableValue}
 use Rattle.qcow2_alloc.specs.Allocators.{table_of, mark_of}
 use Rattle.qcow2_alloc.specs.Freeing.{Frees, IsSublist, data_in}
 use Rattle.qcow2_alloc.specs.Quiet.{metadata_in}
-use Rattle.qcow2_alloc.proofs.FreeingEntries.{frees-none, frees-then, freed, failed}
-use Rattle.qcow2_alloc.proofs.FreeingInTurn.{metadata-found, none-found, data-stays, all-data}
-use Rattle.qcow2_alloc.proofs.FreeingRest.{sublist-all, sublist-then, sublist-removed, data-not-shortened, rest-whole, rest-shortened, rest-with-data}
+use Rattle.qcow2_alloc.proofs.Freeing.FreeingEntries.{frees-none, frees-then, freed, failed}
+use Rattle.qcow2_alloc.proofs.Freeing.FreeingInTurn.{metadata-found, none-found, data-stays, all-data}
+use Rattle.qcow2_alloc.proofs.Freeing.FreeingRest.{sublist-all, sublist-then, sublist-removed, data-not-shortened, rest-whole, rest-shortened, rest-with-data}
 use Rattle.qcow2_alloc.proofs.allocation.Allocator.free_metadata.Goals as goal
 
 pub loop-index-init : goal.loop-index-init

@@ -3,7 +3,7 @@ use Rattle.qcow2_alloc.specs.Allocators.{table_of, mark_of}
 use Rattle.qcow2_alloc.specs.Caches.{order_of}
 use Rattle.qcow2_alloc.specs.Freeing.{Frees, IsSublist, data_in}
 use Rattle.qcow2_alloc.specs.Quiet.{metadata_in}
-use Rattle.qcow2_alloc.proofs.FreeingEntries.{freed}
+use Rattle.qcow2_alloc.proofs.Freeing.FreeingEntries.{freed}
 use Rattle.qcow2_alloc.proofs.allocation.Allocator.free_metadata.Given as goal
 
 abbrev pub invariant-loop-index : goal.invariant-loop-index

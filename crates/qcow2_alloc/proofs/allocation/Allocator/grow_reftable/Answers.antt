@@ -8,10 +8,10 @@ use Rattle.qcow2_alloc.specs.FreeList.{FreeList}
 use Rattle.qcow2_alloc.specs.GrowingTables.{GrowsTable}
 use Rattle.qcow2_alloc.specs.HandingOut.{GrowsReftable}
 use Rattle.qcow2_alloc.specs.MovingTables.{IsGrownFor}
-use Rattle.qcow2_alloc.proofs.AnnouncedOrders.{announced}
-use Rattle.qcow2_alloc.proofs.CountingClusters.{succeeded}
-use Rattle.qcow2_alloc.proofs.FreeingEntries.{failed}
-use Rattle.qcow2_alloc.proofs.GrowingReftables.{not-copied, not-announced, announced-grows}
+use Rattle.qcow2_alloc.proofs.Handing.AnnouncedOrders.{announced}
+use Rattle.qcow2_alloc.proofs.Blocks.CountingClusters.{succeeded}
+use Rattle.qcow2_alloc.proofs.Freeing.FreeingEntries.{failed}
+use Rattle.qcow2_alloc.proofs.Growth.GrowingReftables.{not-copied, not-announced, announced-grows}
 use Rattle.qcow2_alloc.proofs.allocation.Allocator.grow_reftable.Goals as goal
 
 pub returns-in-Err-clause-grows : goal.returns-in-Err-clause-grows

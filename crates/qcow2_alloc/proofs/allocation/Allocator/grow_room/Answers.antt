@@ -2,7 +2,7 @@ use Rattle.std.proofs.Common.{◌≡◌, ◌+◌, ℕ, Ok, Err, sym, subst, ◌�
 use Rattle.std.proofs.lemmas.Bool.{eqb-true, eqb-false}
 use Rattle.qcow2_alloc.specs.Allocators.{table_of}
 use Rattle.qcow2_alloc.specs.SearchingClusters.{LooksForRun}
-use Rattle.qcow2_alloc.proofs.GrowingRooms.{room-here, room-refused, room-next, room-not-next}
+use Rattle.qcow2_alloc.proofs.Growth.GrowingRooms.{room-here, room-refused, room-next, room-not-next}
 use Rattle.qcow2_alloc.proofs.allocation.Allocator.grow_room.Goals as goal
 
 pub returns-in-Err : goal.returns-in-Err

@@ -4,8 +4,8 @@ use Rattle.imago_storage.specs.declared.fault.Fault.TheVariants.{Memory}
 use Rattle.qcow2_alloc.specs.Allocators.{table_of, mark_of}
 use Rattle.qcow2_alloc.specs.FreeList.{FreeList}
 use Rattle.qcow2_alloc.specs.GrowingTables.{GrowsTable}
-use Rattle.qcow2_alloc.proofs.FreeingEntries.{failed}
-use Rattle.qcow2_alloc.proofs.GrowingTables.{no-copy}
+use Rattle.qcow2_alloc.proofs.Freeing.FreeingEntries.{failed}
+use Rattle.qcow2_alloc.proofs.Growth.GrowingTables.{no-copy}
 use Rattle.qcow2_alloc.proofs.allocation.Allocator.grow_table.Goals as goal
 
 pub returns-in-Err-clause-grows : goal.returns-in-Err-clause-grows

@@ -1,8 +1,8 @@
 use Rattle.qcow2_alloc.specs.Allocators.{table_of, mark_of}
-use Rattle.qcow2_alloc.proofs.MadeBlocks.{begins-makes}
-use Rattle.qcow2_alloc.proofs.SearchedPlaces.{looked-refused, looked-begins, found-free}
+use Rattle.qcow2_alloc.proofs.Blocks.MadeBlocks.{begins-makes}
+use Rattle.qcow2_alloc.proofs.Searching.SearchedPlaces.{looked-refused, looked-begins, found-free}
 use Rattle.qcow2_alloc.proofs.allocation.Allocator.make_block.Goals as goal
-use Rattle.qcow2_alloc.proofs.PlacedBlocks.{placed-found, placed-itself}
+use Rattle.qcow2_alloc.proofs.Blocks.PlacedBlocks.{placed-found, placed-itself}
 
 pub returns-in-Ok-Some-clause-makes : goal.returns-in-Ok-Some-clause-makes
 returns-in-Ok-Some-clause-makes g c = λ pending.

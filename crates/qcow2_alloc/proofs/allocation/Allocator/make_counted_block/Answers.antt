@@ -7,13 +7,13 @@ use Rattle.qcow2_alloc.specs.Allocators.{table_of, metadata_of}
 use Rattle.qcow2_alloc.specs.MakingBlocks.{WhyNotNamed}
 use Rattle.qcow2_alloc.specs.Quiet.{counted}
 use Rattle.qcow2_alloc.specs.declared.cache.MetadataCaches.{MetadataCaches}
-use Rattle.qcow2_alloc.proofs.CountingClusters.{succeeded}
-use Rattle.qcow2_alloc.proofs.FreeClusters.{uncounted-free}
-use Rattle.qcow2_alloc.proofs.FreeingEntries.{failed}
-use Rattle.qcow2_alloc.proofs.MadeBlocks.{first-counted, namable, unmade-memory, unmade-place, unforgotten}
-use Rattle.qcow2_alloc.proofs.TakenBlocks.{uncounted-made, unwritten-made, taken-made-so}
+use Rattle.qcow2_alloc.proofs.Blocks.CountingClusters.{succeeded}
+use Rattle.qcow2_alloc.proofs.Searching.FreeClusters.{uncounted-free}
+use Rattle.qcow2_alloc.proofs.Freeing.FreeingEntries.{failed}
+use Rattle.qcow2_alloc.proofs.Blocks.MadeBlocks.{first-counted, namable, unmade-memory, unmade-place, unforgotten}
+use Rattle.qcow2_alloc.proofs.Blocks.TakenBlocks.{uncounted-made, unwritten-made, taken-made-so}
 use Rattle.qcow2_alloc.proofs.allocation.Allocator.make_counted_block.Goals as goal
-use Rattle.qcow2_alloc.proofs.PlacedBlocks.{written-on-ok}
+use Rattle.qcow2_alloc.proofs.Blocks.PlacedBlocks.{written-on-ok}
 
 pub returns-in-Err-clause-makes : goal.returns-in-Err-clause-makes
 returns-in-Err-clause-makes g c = λ first f pending begun free.

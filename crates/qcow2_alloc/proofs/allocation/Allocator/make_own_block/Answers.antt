@@ -3,15 +3,15 @@ use Rattle.qcow2_metadata.specs.Places.{IsInReach}
 use Rattle.qcow2_alloc.specs.Allocators.{table_of, metadata_of}
 use Rattle.qcow2_alloc.specs.MakingBlocks.{WhyNotNamed}
 use Rattle.qcow2_alloc.specs.Quiet.{IsSound, counted}
-use Rattle.qcow2_alloc.proofs.FreeClusters.{uncounted-free}
-use Rattle.qcow2_alloc.proofs.MadeBlocks.{begins-none, first-counted, unmade-place, unforgotten}
-use Rattle.qcow2_alloc.proofs.OwnBlocks.{own-uncounted, own-made-at}
+use Rattle.qcow2_alloc.proofs.Searching.FreeClusters.{uncounted-free}
+use Rattle.qcow2_alloc.proofs.Blocks.MadeBlocks.{begins-none, first-counted, unmade-place, unforgotten}
+use Rattle.qcow2_alloc.proofs.Blocks.OwnBlocks.{own-uncounted, own-made-at}
 use Rattle.qcow2_alloc.proofs.allocation.Allocator.make_own_block.Goals as goal
 use Rattle.std.proofs.Common.{ℕ, ◌*◌, ap, ◌≢◌}
 use Rattle.std.specs.Prelude.{slice_index, OnOk, ◌^◌}
 use Rattle.qcow2_types.specs.Words.{block_offset}
 use Rattle.qcow2_metadata.specs.Blocks.{Block}
-use Rattle.qcow2_alloc.proofs.PlacedBlocks.{written-on-ok}
+use Rattle.qcow2_alloc.proofs.Blocks.PlacedBlocks.{written-on-ok}
 
 pub returns-in-Err-clause-makes : goal.returns-in-Err-clause-makes
 returns-in-Err-clause-makes g c = λ pending.

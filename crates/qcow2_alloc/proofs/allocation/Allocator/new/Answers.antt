@@ -1,5 +1,5 @@
 use Rattle.std.proofs.Common.{refl}
-use Rattle.qcow2_alloc.proofs.LoadingTable.{loaded-from, table-loaded, table-not-loaded}
+use Rattle.qcow2_alloc.proofs.Growth.LoadingTable.{loaded-from, table-loaded, table-not-loaded}
 use Rattle.qcow2_alloc.proofs.allocation.Allocator.new.Goals as goal
 
 pub returns-in-Ok-clause-loads : goal.returns-in-Ok-clause-loads

@@ -7,9 +7,9 @@ use Rattle.qcow2_alloc.specs.Allocators.{table_of, mark_of}
 use Rattle.qcow2_alloc.specs.Caches.{order_of}
 use Rattle.qcow2_alloc.specs.FreeList.{FreeList}
 use Rattle.qcow2_alloc.specs.Freeing.{Frees, IsRest, IsRestInTurn, data_in}
-use Rattle.qcow2_alloc.proofs.FreeingEntries.{frees-then, freed, failed}
-use Rattle.qcow2_alloc.proofs.FreeingInTurn.{announcing-frees}
-use Rattle.qcow2_alloc.proofs.FreeingRest.{order-announced, rest-none, rest-of-data, rest-without-metadata}
+use Rattle.qcow2_alloc.proofs.Freeing.FreeingEntries.{frees-then, freed, failed}
+use Rattle.qcow2_alloc.proofs.Freeing.FreeingInTurn.{announcing-frees}
+use Rattle.qcow2_alloc.proofs.Freeing.FreeingRest.{order-announced, rest-none, rest-of-data, rest-without-metadata}
 use Rattle.qcow2_alloc.proofs.allocation.Allocator.process_clusters_to_free.Goals as goal
 
 pub returns-in-Ok-clause-frees : goal.returns-in-Ok-clause-frees

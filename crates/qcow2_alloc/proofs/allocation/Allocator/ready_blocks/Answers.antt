@@ -2,9 +2,9 @@ use Rattle.std.proofs.Common.{arith, ℕ, ◌+◌, ◌/◌, subst}
 use Rattle.qcow2_alloc.specs.Allocators.{table_of, mark_of}
 use Rattle.qcow2_types.specs.Counts.{counters_of_block}
 use Rattle.qcow2_alloc.specs.GrowingTables.{GrowsTable}
-use Rattle.qcow2_alloc.proofs.CountingClusters.{succeeded}
-use Rattle.qcow2_alloc.proofs.FreeingEntries.{failed}
-use Rattle.qcow2_alloc.proofs.ReadyingBlocks.{blocks-ready, table-ready, table-not-ready}
+use Rattle.qcow2_alloc.proofs.Blocks.CountingClusters.{succeeded}
+use Rattle.qcow2_alloc.proofs.Freeing.FreeingEntries.{failed}
+use Rattle.qcow2_alloc.proofs.Blocks.ReadyingBlocks.{blocks-ready, table-ready, table-not-ready}
 use Rattle.qcow2_alloc.proofs.allocation.Allocator.ready_blocks.Goals as goal
 
 pub returns-then-last-entries-clause-readies : goal.returns-then-last-entries-clause-readies

@@ -5,7 +5,7 @@ use Rattle.qcow2_types.specs.Counts.{counters_of_block}
 use Rattle.qcow2_alloc.specs.Allocators.{table_of, mark_of}
 use Rattle.qcow2_alloc.specs.ReadyingBlocks.{ReadiesBlocks, last_number}
 use Rattle.qcow2_alloc.specs.ReadyingRuns.{ReadiesRun}
-use Rattle.qcow2_alloc.proofs.ReadyingRuns.{Stays, stays-none, stays-found, stays-on, found-run, readying-none, readying-searched, readying-made, search-refused, making-refused, unfit-refused, grown-refused, run-ready, turns-fewer}
+use Rattle.qcow2_alloc.proofs.Handing.ReadyingRuns.{Stays, stays-none, stays-found, stays-on, found-run, readying-none, readying-searched, readying-made, search-refused, making-refused, unfit-refused, grown-refused, run-ready, turns-fewer}
 use Rattle.qcow2_alloc.proofs.allocation.Allocator.ready_run.Goals as goal
 
 pub loop-first-init : goal.loop-first-init

@@ -1,6 +1,6 @@
 use Rattle.std.proofs.Common.{◌≡◌, length}
 use Rattle.qcow2_alloc.specs.Allocators.{table_of, mark_of}
-use Rattle.qcow2_alloc.proofs.ReadyingRuns.{Readying, Stays, turns_left}
+use Rattle.qcow2_alloc.proofs.Handing.ReadyingRuns.{Readying, Stays, turns_left}
 use Rattle.qcow2_alloc.proofs.allocation.Allocator.ready_run.Given as goal
 
 abbrev pub invariant-loop-first : goal.invariant-loop-first

@@ -10,8 +10,8 @@ use Rattle.qcow2_alloc.specs.Allocators.{table_of}
 use Rattle.qcow2_alloc.specs.Caches.{cached_in}
 use Rattle.qcow2_alloc.specs.Growing.{lacking}
 use Rattle.qcow2_alloc.specs.MovingTables.{ForgetsRun, IsPinnedWithin}
-use Rattle.qcow2_alloc.proofs.WritingNewBlocks.{run-fits}
-use Rattle.qcow2_alloc.proofs.TakingRoom.{flushed-then, room-not-forgotten, room-taken}
+use Rattle.qcow2_alloc.proofs.Blocks.WritingNewBlocks.{run-fits}
+use Rattle.qcow2_alloc.proofs.Growth.TakingRoom.{flushed-then, room-not-forgotten, room-taken}
 use Rattle.qcow2_alloc.proofs.allocation.Allocator.take_room.Goals as goal
 
 pub returns-in-Err-flush_rb : goal.returns-in-Err-flush_rb

@@ -15,9 +15,9 @@ use Rattle.qcow2_alloc.specs.Allocators.{table_of}
 use Rattle.qcow2_alloc.specs.Growing.{lacking}
 use Rattle.qcow2_alloc.specs.MakingRoom.{rank}
 use Rattle.qcow2_alloc.specs.NewBlocks.{WritesLacking}
-use Rattle.qcow2_alloc.proofs.FindingRoom.{lacking-before, lacking-there, lacking-here, index-near}
-use Rattle.qcow2_alloc.proofs.NamedWords.{named-some, named-none}
-use Rattle.qcow2_alloc.proofs.WritingNewBlocks.{lack, WritesBefore, before-none, before-over, before-then-at, before-few, before-all, room-for, all-before, run-fits}
+use Rattle.qcow2_alloc.proofs.Growth.FindingRoom.{lacking-before, lacking-there, lacking-here, index-near}
+use Rattle.qcow2_alloc.proofs.Blocks.NamedWords.{named-some, named-none}
+use Rattle.qcow2_alloc.proofs.Blocks.WritingNewBlocks.{lack, WritesBefore, before-none, before-over, before-then-at, before-few, before-all, room-for, all-before, run-fits}
 use Rattle.qcow2_alloc.proofs.allocation.Allocator.write_new_blocks.Goals as goal
 use Rattle.qcow2_alloc.proofs.allocation.Allocator.write_new_blocks.Goals.{then-is_none+in-Ok, else-is_none}
 

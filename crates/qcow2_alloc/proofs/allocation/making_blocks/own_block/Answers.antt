@@ -2,7 +2,7 @@ use Rattle.std.proofs.Common.{ℕ, ◌<◌, ◌^◌, ap, sym, ◌∙◌, arith, 
 use Rattle.std.proofs.lemmas.Nat.{pow_pos}
 use Rattle.std.proofs.Math.Pow.{pow-lt}
 use Rattle.qcow2_metadata.specs.Blocks.{Block}
-use Rattle.qcow2_alloc.proofs.NewBlocks.{ClearedAt, cleared-at}
+use Rattle.qcow2_alloc.proofs.Blocks.NewBlocks.{ClearedAt, cleared-at}
 use Rattle.qcow2_alloc.proofs.allocation.making_blocks.own_block.Goals as goal
 
 pub increment-requires : goal.increment-requires

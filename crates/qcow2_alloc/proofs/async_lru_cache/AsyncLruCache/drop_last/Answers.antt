@@ -1,6 +1,6 @@
 use Rattle.std.proofs.Common.{sym, ap, subst, List}
 use Rattle.qcow2_alloc.specs.Cache.{DroppedLast}
-use Rattle.qcow2_alloc.proofs.Turns.{dropped_pinned, dropped_free}
+use Rattle.qcow2_alloc.proofs.Flushing.Turns.{dropped_pinned, dropped_free}
 use Rattle.qcow2_alloc.proofs.async_lru_cache.AsyncLruCache.drop_last.Goals as goal
 
 pub returns-then-pinned-clause-dropped : goal.returns-then-pinned-clause-dropped

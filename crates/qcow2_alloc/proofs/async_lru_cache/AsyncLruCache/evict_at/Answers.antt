@@ -1,6 +1,6 @@
 use Rattle.std.proofs.Common.{refl, ap, ◌∙◌, arith}
 use Rattle.std.specs.Map.{remove_entry}
-use Rattle.qcow2_alloc.proofs.Entries.{remove_written, remove_shorter, remove_absent}
+use Rattle.qcow2_alloc.proofs.Caching.Entries.{remove_written, remove_shorter, remove_absent}
 use Rattle.qcow2_alloc.proofs.async_lru_cache.AsyncLruCache.evict_at.Goals as goal
 
 pub returns-in-Ok-clause-evicted : goal.returns-in-Ok-clause-evicted

@@ -1,6 +1,6 @@
 use Rattle.std.proofs.Common.{◌≡◌, ◌-◌, ◌+◌, arith, ap, subst, ◌∙◌, ℕ}
 use Rattle.qcow2_alloc.specs.Cache.{with_entries, latest}
-use Rattle.qcow2_alloc.proofs.Turns.{Turning, turn_step}
+use Rattle.qcow2_alloc.proofs.Flushing.Turns.{Turning, turn_step}
 use Rattle.qcow2_alloc.proofs.async_lru_cache.AsyncLruCache.flush.Goals as goal
 
 pub loop-preserved : goal.loop-preserved

@@ -1,6 +1,6 @@
 use Rattle.std.proofs.Common.{◌≡◌, ◌-◌}
 use Rattle.qcow2_alloc.specs.Cache.{with_entries}
-use Rattle.qcow2_alloc.proofs.Turns.{Turning}
+use Rattle.qcow2_alloc.proofs.Flushing.Turns.{Turning}
 use Rattle.qcow2_alloc.proofs.async_lru_cache.AsyncLruCache.flush.Given as goal
 
 abbrev pub invariant-loop : goal.invariant-loop

@@ -1,5 +1,5 @@
 use Rattle.std.proofs.Common.{sym}
-use Rattle.qcow2_alloc.proofs.Turns.{last_flushed, last_there}
+use Rattle.qcow2_alloc.proofs.Flushing.Turns.{last_flushed, last_there}
 use Rattle.qcow2_alloc.proofs.async_lru_cache.AsyncLruCache.flush_last.Goals as goal
 
 pub returns-in-Some-get_mut-clause-flushed : goal.returns-in-Some-get_mut-clause-flushed

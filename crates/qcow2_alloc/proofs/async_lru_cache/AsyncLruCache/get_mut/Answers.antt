@@ -1,6 +1,6 @@
 use Rattle.std.proofs.Common.{rules, refl, ap, sym}
 use Rattle.qcow2_alloc.specs.Cache.{with_entries}
-use Rattle.qcow2_alloc.proofs.Entries.{promoted_hit, hit_missed}
+use Rattle.qcow2_alloc.proofs.Caching.Entries.{promoted_hit, hit_missed}
 use Rattle.qcow2_alloc.proofs.async_lru_cache.AsyncLruCache.get_mut.Goals as goal
 
 pub returns-in-Some : goal.returns-in-Some

@@ -1,6 +1,6 @@
 use Rattle.std.proofs.Common.{◌≡◌, ◌-◌, ◌+◌, arith, ap, subst, ◌∙◌, ℕ}
 use Rattle.qcow2_alloc.specs.Cache.{with_entries}
-use Rattle.qcow2_alloc.proofs.Turns.{Dropping, drop_step}
+use Rattle.qcow2_alloc.proofs.Flushing.Turns.{Dropping, drop_step}
 use Rattle.qcow2_alloc.proofs.async_lru_cache.AsyncLruCache.invalidate.Goals as goal
 
 pub loop-preserved : goal.loop-preserved

@@ -1,6 +1,6 @@
 use Rattle.std.proofs.Common.{◌≡◌, ◌-◌}
 use Rattle.qcow2_alloc.specs.Cache.{with_entries}
-use Rattle.qcow2_alloc.proofs.Turns.{Dropping}
+use Rattle.qcow2_alloc.proofs.Flushing.Turns.{Dropping}
 use Rattle.qcow2_alloc.proofs.async_lru_cache.AsyncLruCache.invalidate.Given as goal
 
 abbrev pub invariant-loop : goal.invariant-loop

@@ -1,5 +1,5 @@
 use Rattle.std.proofs.Common.{sym}
-use Rattle.qcow2_alloc.proofs.Entries.{victim_there}
+use Rattle.qcow2_alloc.proofs.Caching.Entries.{victim_there}
 use Rattle.qcow2_alloc.proofs.async_lru_cache.AsyncLruCache.make_room.Goals as goal
 
 pub evict_at-requires : goal.evict_at-requires

@@ -1,7 +1,7 @@
 use Rattle.std.proofs.Common.{subst, sym, List}
 use Rattle.std.specs.Prelude.{IsSome}
 use Rattle.std.specs.Map.{lookup}
-use Rattle.qcow2_alloc.proofs.Entries.{lookup_written}
+use Rattle.qcow2_alloc.proofs.Caching.Entries.{lookup_written}
 use Rattle.qcow2_alloc.proofs.async_lru_cache.AsyncLruCache.overwrite.Goals as goal
 
 pub put_over-requires : goal.put_over-requires

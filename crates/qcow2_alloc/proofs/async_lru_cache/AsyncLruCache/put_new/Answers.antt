@@ -1,7 +1,7 @@
 use Rattle.std.proofs.Common.{◌-◌, ◌∷◌, ap, ◌∙◌, arith}
 use Rattle.std.proofs.lemmas.List.{take_all}
 use Rattle.qcow2_alloc.specs.Cache.{with_entries}
-use Rattle.qcow2_alloc.proofs.Entries.{missed}
+use Rattle.qcow2_alloc.proofs.Caching.Entries.{missed}
 use Rattle.qcow2_alloc.proofs.async_lru_cache.AsyncLruCache.put_new.Goals as goal
 
 pub returns-in-Ok-clause-ok : goal.returns-in-Ok-clause-ok

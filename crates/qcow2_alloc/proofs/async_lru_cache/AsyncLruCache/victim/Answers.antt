@@ -1,6 +1,6 @@
 use Rattle.std.proofs.Common.{sym, ap, ◌∙◌}
 use Rattle.qcow2_alloc.specs.Cache.{victim}
-use Rattle.qcow2_alloc.proofs.Entries.{victim_free, victim_pinned}
+use Rattle.qcow2_alloc.proofs.Caching.Entries.{victim_free, victim_pinned}
 use Rattle.qcow2_alloc.proofs.async_lru_cache.AsyncLruCache.victim.Goals as goal
 
 pub returns-then-slot-eq0 : goal.returns-then-slot-eq0

@@ -6,16 +6,16 @@ use Rattle.imago_storage.specs.declared.fault.Fault.{Fault}
 use Rattle.qcow2_alloc.specs.Backends.{BlockFlushed}
 use Rattle.qcow2_alloc.specs.Caches.{order_of}
 use Rattle.qcow2_alloc.specs.Going.{ReadyBlocks}
-use Rattle.qcow2_alloc.proofs.Lists.{on_ok_from}
-use Rattle.qcow2_alloc.proofs.Turns.{each-related, each-made, each-kept, each-told}
-use Rattle.qcow2_alloc.proofs.Going.{going-weaker, each-flushed}
-use Rattle.qcow2_alloc.proofs.FlushingBlocks.{block-flushed, flushed-clean}
+use Rattle.qcow2_alloc.proofs.Freeing.Lists.{on_ok_from}
+use Rattle.qcow2_alloc.proofs.Flushing.Turns.{each-related, each-made, each-kept, each-told}
+use Rattle.qcow2_alloc.proofs.Flushing.Going.{going-weaker, each-flushed}
+use Rattle.qcow2_alloc.proofs.Flushing.FlushingBlocks.{block-flushed, flushed-clean}
 use Rattle.qcow2_metadata.specs.Blocks.{Block}
 use Rattle.qcow2_metadata.specs.Places.{IsInReach}
-use Rattle.qcow2_alloc.proofs.Counting.{block-counted, each-counted, each-faultless}
+use Rattle.qcow2_alloc.proofs.Flushing.Counting.{block-counted, each-counted, each-faultless}
 use Rattle.qcow2_alloc.specs.declared.async_lru_cache.Slot.{Slot}
 use Rattle.qcow2_alloc.specs.Memory.{written_table, written_block}
-use Rattle.qcow2_alloc.proofs.Kept.{block-kept}
+use Rattle.qcow2_alloc.proofs.Flushing.Kept.{block-kept}
 use Rattle.qcow2_alloc.proofs.cache.MetadataCaches.flush_blocks.Goals as goal
 
 pub returns-clause-going : goal.returns-clause-going

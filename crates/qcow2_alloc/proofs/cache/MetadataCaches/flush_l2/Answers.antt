@@ -6,16 +6,16 @@ use Rattle.imago_storage.specs.declared.fault.Fault.{Fault}
 use Rattle.qcow2_alloc.specs.Backends.{TableFlushed}
 use Rattle.qcow2_alloc.specs.Caches.{order_of}
 use Rattle.qcow2_alloc.specs.Going.{ReadyTables}
-use Rattle.qcow2_alloc.proofs.Lists.{on_ok_from}
-use Rattle.qcow2_alloc.proofs.Turns.{each-related, each-made, each-kept, each-told}
-use Rattle.qcow2_alloc.proofs.Going.{going-weaker, each-flushed}
-use Rattle.qcow2_alloc.proofs.FlushingTables.{table-flushed, flushed-clean}
+use Rattle.qcow2_alloc.proofs.Freeing.Lists.{on_ok_from}
+use Rattle.qcow2_alloc.proofs.Flushing.Turns.{each-related, each-made, each-kept, each-told}
+use Rattle.qcow2_alloc.proofs.Flushing.Going.{going-weaker, each-flushed}
+use Rattle.qcow2_alloc.proofs.Flushing.FlushingTables.{table-flushed, flushed-clean}
 use Rattle.qcow2_metadata.specs.Tables.{TableValue}
 use Rattle.qcow2_metadata.specs.Places.{IsInReach}
-use Rattle.qcow2_alloc.proofs.Counting.{table-counted, each-counted, each-faultless}
+use Rattle.qcow2_alloc.proofs.Flushing.Counting.{table-counted, each-counted, each-faultless}
 use Rattle.qcow2_alloc.specs.declared.async_lru_cache.Slot.{Slot}
 use Rattle.qcow2_alloc.specs.Memory.{written_table, written_block}
-use Rattle.qcow2_alloc.proofs.Kept.{table-kept}
+use Rattle.qcow2_alloc.proofs.Flushing.Kept.{table-kept}
 use Rattle.qcow2_alloc.proofs.cache.MetadataCaches.flush_l2.Goals as goal
 
 pub returns-clause-going : goal.returns-clause-going

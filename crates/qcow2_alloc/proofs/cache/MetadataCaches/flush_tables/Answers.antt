@@ -3,8 +3,8 @@ use Rattle.qcow2_types.specs.Header.{Header}
 use Rattle.qcow2_alloc.specs.declared.cache.CacheDependency.{CacheDependency}
 use Rattle.qcow2_alloc.specs.Caches.{cached_in, order_of}
 use Rattle.qcow2_alloc.specs.Going.{Going, ReadyTables, WritesTables, WritesBlocks}
-use Rattle.qcow2_alloc.proofs.Faultless.{faultless-then}
-use Rattle.qcow2_alloc.proofs.Going.{going-ready, in-turn-both, in-turn-halted}
+use Rattle.qcow2_alloc.proofs.Flushing.Faultless.{faultless-then}
+use Rattle.qcow2_alloc.proofs.Flushing.Going.{going-ready, in-turn-both, in-turn-halted}
 use Rattle.qcow2_alloc.proofs.cache.MetadataCaches.flush_tables.Goals as goal
 
 pub returns-in-Ok-clause-going : goal.returns-in-Ok-clause-going

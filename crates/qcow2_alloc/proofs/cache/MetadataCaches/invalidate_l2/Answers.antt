@@ -1,4 +1,4 @@
-use Rattle.qcow2_alloc.proofs.Dropping.{tables-dropped}
+use Rattle.qcow2_alloc.proofs.Caching.Dropping.{tables-dropped}
 use Rattle.qcow2_alloc.proofs.cache.MetadataCaches.invalidate_l2.Goals as goal
 
 pub returns-clause-safe : goal.returns-clause-safe

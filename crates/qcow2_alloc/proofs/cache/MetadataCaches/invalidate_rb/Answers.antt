@@ -1,4 +1,4 @@
-use Rattle.qcow2_alloc.proofs.Dropping.{blocks-dropped}
+use Rattle.qcow2_alloc.proofs.Caching.Dropping.{blocks-dropped}
 use Rattle.qcow2_alloc.proofs.cache.MetadataCaches.invalidate_rb.Goals as goal
 
 pub returns-clause-safe : goal.returns-clause-safe

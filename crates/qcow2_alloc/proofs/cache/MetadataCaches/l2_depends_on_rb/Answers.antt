@@ -2,7 +2,7 @@ use Rattle.std.proofs.Common.{subst}
 use Rattle.qcow2_alloc.specs.declared.cache.CacheDependency.{CacheDependency}
 use Rattle.qcow2_alloc.specs.Caches.{cached_in, order_of}
 use Rattle.qcow2_alloc.specs.Going.{ReadyBlocks}
-use Rattle.qcow2_alloc.proofs.Announcing.{blocks-come-first}
+use Rattle.qcow2_alloc.proofs.Flushing.Announcing.{blocks-come-first}
 use Rattle.qcow2_alloc.proofs.cache.MetadataCaches.l2_depends_on_rb.Goals as goal
 
 pub returns-clause-safe : goal.returns-clause-safe

@@ -6,8 +6,8 @@ use Rattle.qcow2_alloc.specs.declared.file.ImageFile.{ImageFile}
 use Rattle.qcow2_alloc.specs.Cache.{Inserted}
 use Rattle.qcow2_alloc.specs.CachesLending.{table_flushes}
 use Rattle.qcow2_alloc.specs.Putting.{TableInserted}
-use Rattle.qcow2_alloc.proofs.Inserting.{IsBarred}
-use Rattle.qcow2_alloc.proofs.InsertingTables.{table-put-now, table-back}
+use Rattle.qcow2_alloc.proofs.Caching.Inserting.{IsBarred}
+use Rattle.qcow2_alloc.proofs.Caching.InsertingTables.{table-put-now, table-back}
 use Rattle.qcow2_alloc.proofs.cache.MetadataCaches.l2_insert_at.Goals as goal
 
 pub returns-in-Ok-None : goal.returns-in-Ok-None

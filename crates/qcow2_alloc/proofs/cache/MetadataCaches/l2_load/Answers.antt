@@ -1,5 +1,5 @@
 use Rattle.std.proofs.Common.{Ok, Err, ap}
-use Rattle.qcow2_alloc.proofs.SearchingTables.{rb-alone, table-found-full, table-found-halted}
+use Rattle.qcow2_alloc.proofs.Caching.SearchingTables.{rb-alone, table-found-full, table-found-halted}
 use Rattle.qcow2_alloc.proofs.cache.MetadataCaches.l2_load.Goals as goal
 
 pub returns-in-Ok-ready : goal.returns-in-Ok-ready

@@ -1,7 +1,7 @@
 use Rattle.std.proofs.Common.{Ok, Err, ap}
 use Rattle.qcow2_alloc.specs.declared.file.ImageFile.{ImageFile}
-use Rattle.qcow2_alloc.proofs.SearchingTables.{rb-alone}
-use Rattle.qcow2_alloc.proofs.InsertingTables.{table-put-behind, table-put-halted}
+use Rattle.qcow2_alloc.proofs.Caching.SearchingTables.{rb-alone}
+use Rattle.qcow2_alloc.proofs.Caching.InsertingTables.{table-put-behind, table-put-halted}
 use Rattle.qcow2_alloc.proofs.cache.MetadataCaches.l2_put_over.Goals as goal
 
 pub returns-in-Ok-insert : goal.returns-in-Ok-insert

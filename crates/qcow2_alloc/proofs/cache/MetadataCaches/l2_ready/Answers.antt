@@ -5,7 +5,7 @@ use Rattle.qcow2_alloc.specs.declared.file.ImageFile.{ImageFile}
 use Rattle.qcow2_alloc.specs.Cache.{Readied}
 use Rattle.qcow2_alloc.specs.CachesLending.{table_loads, table_flushes}
 use Rattle.qcow2_alloc.specs.Finding.{TableFound}
-use Rattle.qcow2_alloc.proofs.SearchingTables.{table-found-now, table-stuck}
+use Rattle.qcow2_alloc.proofs.Caching.SearchingTables.{table-found-now, table-stuck}
 use Rattle.qcow2_alloc.proofs.cache.MetadataCaches.l2_ready.Goals as goal
 
 pub returns-in-Ok-true : goal.returns-in-Ok-true

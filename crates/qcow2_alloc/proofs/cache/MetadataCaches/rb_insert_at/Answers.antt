@@ -6,8 +6,8 @@ use Rattle.qcow2_alloc.specs.declared.file.ImageFile.{ImageFile}
 use Rattle.qcow2_alloc.specs.Cache.{Inserted}
 use Rattle.qcow2_alloc.specs.CachesLending.{block_flushes}
 use Rattle.qcow2_alloc.specs.Putting.{BlockInserted}
-use Rattle.qcow2_alloc.proofs.Inserting.{IsBarred}
-use Rattle.qcow2_alloc.proofs.InsertingBlocks.{block-put-now, block-back}
+use Rattle.qcow2_alloc.proofs.Caching.Inserting.{IsBarred}
+use Rattle.qcow2_alloc.proofs.Caching.InsertingBlocks.{block-put-now, block-back}
 use Rattle.qcow2_alloc.proofs.cache.MetadataCaches.rb_insert_at.Goals as goal
 
 pub returns-in-Ok-None : goal.returns-in-Ok-None

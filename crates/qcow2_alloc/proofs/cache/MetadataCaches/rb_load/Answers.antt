@@ -1,5 +1,5 @@
 use Rattle.std.proofs.Common.{Ok, Err, ap}
-use Rattle.qcow2_alloc.proofs.SearchingBlocks.{l2-alone, block-found-full, block-found-halted}
+use Rattle.qcow2_alloc.proofs.Caching.SearchingBlocks.{l2-alone, block-found-full, block-found-halted}
 use Rattle.qcow2_alloc.proofs.cache.MetadataCaches.rb_load.Goals as goal
 
 pub returns-in-Ok-ready : goal.returns-in-Ok-ready

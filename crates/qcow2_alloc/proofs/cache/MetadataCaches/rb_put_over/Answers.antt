@@ -1,7 +1,7 @@
 use Rattle.std.proofs.Common.{Ok, Err, ap}
 use Rattle.qcow2_alloc.specs.declared.file.ImageFile.{ImageFile}
-use Rattle.qcow2_alloc.proofs.SearchingBlocks.{l2-alone}
-use Rattle.qcow2_alloc.proofs.InsertingBlocks.{block-put-behind, block-put-halted}
+use Rattle.qcow2_alloc.proofs.Caching.SearchingBlocks.{l2-alone}
+use Rattle.qcow2_alloc.proofs.Caching.InsertingBlocks.{block-put-behind, block-put-halted}
 use Rattle.qcow2_alloc.proofs.cache.MetadataCaches.rb_put_over.Goals as goal
 
 pub returns-in-Ok-insert : goal.returns-in-Ok-insert

@@ -5,7 +5,7 @@ use Rattle.qcow2_alloc.specs.declared.file.ImageFile.{ImageFile}
 use Rattle.qcow2_alloc.specs.Cache.{Readied}
 use Rattle.qcow2_alloc.specs.CachesLending.{block_loads, block_flushes}
 use Rattle.qcow2_alloc.specs.Finding.{BlockFound}
-use Rattle.qcow2_alloc.proofs.SearchingBlocks.{block-found-now, block-stuck}
+use Rattle.qcow2_alloc.proofs.Caching.SearchingBlocks.{block-found-now, block-stuck}
 use Rattle.qcow2_alloc.proofs.cache.MetadataCaches.rb_ready.Goals as goal
 
 pub returns-in-Ok-true : goal.returns-in-Ok-true

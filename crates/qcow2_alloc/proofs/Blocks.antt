@@ -1,0 +1,20 @@
+-- Refcount blocks: counted in, made and named.
+pub mod CountedBlocks
+pub mod NamedBlocks
+pub mod NamingBlocks
+pub mod NewBlocks
+pub mod MakingBlocks
+pub mod CountingClusters
+pub mod ReadyingCounters
+pub mod CountingRuns
+pub mod NamedWords
+pub mod EnsuringBlocks
+pub mod ReadyingBlocks
+pub mod MadeBlocks
+pub mod OwnBlocks
+pub mod CountedApart
+pub mod TakenBlocks
+pub mod WritingNewBlocks
+pub mod PlacedBlocks
+pub mod FillingBlocks
+pub mod NamingNewBlocks

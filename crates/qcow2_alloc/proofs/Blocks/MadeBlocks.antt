@@ -1,0 +1,436 @@
+-- A refcount block is made, from the first of the call to its last.
+use Rattle.std.proofs.Common.{◌≡◌, ◌≢◌, ℕ, ◌+◌, ◌*◌, ◌^◌, ◌<◌, ◌≤◌, refl, arith, ap, sym, subst, ◌∙◌, inl, List, length, Ok, Err, Some, Bool, true, Option, Result}
+use Rattle.std.specs.Prelude.{⊤, nat_eq, slice_index, IsTrue, OnOk, IsSomeAnd, MatchResult}
+use Rattle.std.specs.Int.{w64, to_be_bytes}
+use Rattle.std.specs.Map.{lookup}
+use Rattle.std.proofs.lemmas.List.{length-set, get_or-set_same, get_or-set_other}
+use Rattle.std.proofs.lemmas.Nat.{pow_pos}
+use Rattle.imago_storage.specs.State.{StorageState, Rose}
+use Rattle.imago_storage.specs.Calls.{Cause, Later, IsFaultless}
+use Rattle.imago_storage.specs.Through.{Put, PutAtOnce}
+use Rattle.imago_storage.specs.declared.fault.Fault.{Fault}
+use Rattle.imago_storage.specs.declared.fault.Fault.TheVariants.{Memory, Storage, DamagedTable, CacheFull, Counter, Limit}
+use Rattle.imago_storage.proofs.Composing.{keeps_on, later_both, later_same}
+use Rattle.qcow2_types.specs.Bytes.{bytes_of}
+use Rattle.qcow2_types.specs.Counts.{counters_of_block}
+use Rattle.qcow2_types.specs.Header.{Header, cluster_size}
+use Rattle.qcow2_types.specs.Pending.{FreeEntry}
+use Rattle.qcow2_types.specs.References.{meets}
+use Rattle.qcow2_types.specs.Words.{Layout, block_offset, max_offset}
+use Rattle.qcow2_types.proofs.Consistent.{meets-own}
+use Rattle.qcow2_types.proofs.Frames.{header-part}
+use Rattle.qcow2_types.proofs.HeaderLimits.{header-limited}
+use Rattle.qcow2_types.proofs.Named.{structure-le-refs}
+use Rattle.qcow2_types.proofs.WriteBack.{place-near, place-whole}
+use Rattle.qcow2_metadata.specs.Blocks.{Block, BlockPut, block_of}
+use Rattle.qcow2_metadata.specs.Places.{IsInReach, IsPlaced}
+use Rattle.qcow2_metadata.specs.Tables.{TableValue, IsNamable, with_word, table_place}
+use Rattle.qcow2_metadata.proofs.TableSteps.{block_named}
+use Rattle.qcow2_alloc.specs.declared.cache.CacheDependency.TheVariants.{L2DependsOnRb}
+use Rattle.qcow2_alloc.specs.declared.cache.MetadataCaches.{MetadataCaches}
+use Rattle.qcow2_alloc.specs.declared.file.ImageFile.{ImageFile}
+use Rattle.qcow2_alloc.specs.Allocating.{MakesBlock, OnlyRaised, WhyNotAllocated}
+use Rattle.qcow2_alloc.specs.Allocators.{metadata_of, named_block}
+use Rattle.qcow2_alloc.specs.Caches.{cached_in, order_of}
+use Rattle.qcow2_alloc.specs.Freeing.{IsUnbarred, IsLoose, WhyNotCounted, WhyNotFreed}
+use Rattle.qcow2_alloc.specs.Going.{WasNotCutOff, WhyNotWritten}
+use Rattle.qcow2_alloc.specs.MakingBlocks.{Begins, CanName, WhyNotNamed, NamesWritten}
+use Rattle.qcow2_alloc.specs.MakingRoom.{with_block}
+use Rattle.qcow2_alloc.specs.Quiet.{Metadata, in_memory, counted, IsUsed, IsSound, Quietly, named_at_all}
+use Rattle.qcow2_alloc.proofs.Handing.Allocating.{raised-then}
+use Rattle.qcow2_alloc.proofs.Quiet.AtOnce.{put-done}
+use Rattle.qcow2_alloc.proofs.Flushing.Faultless.{never-mild, faultless-then, put-faultless}
+use Rattle.qcow2_alloc.proofs.Caching.Forgetting.{never-unnamed}
+use Rattle.qcow2_alloc.proofs.Freeing.FreeingEntries.{failed}
+use Rattle.qcow2_alloc.proofs.Caching.Loose.{StaysLoose, loose-named, name-kept}
+use Rattle.qcow2_alloc.proofs.Memory.Patches.{place-there}
+use Rattle.qcow2_alloc.proofs.Quiet.QuietFlushes.{memory-quietly, quiet-none, quietly-weaker}
+use Rattle.qcow2_alloc.proofs.Quiet.QuietGiven.{quietly-given, quietly-then-given}
+use Rattle.qcow2_alloc.proofs.Quiet.QuietThen.{quietly-then, quietly-otherwise, quiet-otherwise}
+use Rattle.qcow2_alloc.proofs.Caching.Pins.{pinned-there}
+
+module _ (m : Metadata) (sound : IsSound m) where
+  -- The first cluster is counted.
+  pub first-counted : 0 < counted m 0
+  first-counted =
+      let part = header-part (in_memory m) m.header.fields (meets m.header.fields 0) in
+      let at : 0 ≡ 0 * cluster_size m.header.fields = omega arith in
+      let one : meets m.header.fields 0 0 (cluster_size m.header.fields) ≡ 1 = ap (λ n. meets m.header.fields 0 n (cluster_size m.header.fields)) at ∙ meets-own m.header.fields 0 in
+      let le = structure-le-refs (in_memory m) m.header.fields 0 in
+      let covers = sound.covered 0 in
+      omega (arith, part, one, le, covers)
+
+  -- The words of the refcount table can be written.
+  pub can-name : (place : ℕ) → place ≢ 0 → CanName m.table m.header.fields.cluster_bits place
+  can-name place some =
+      let bits : m.table.layout.cluster_bits ≡ m.header.fields.cluster_bits = ap (λ (l : Layout). l.cluster_bits) sound.table.layout in
+      let limited = header-limited true m.file m.header sound.safe.consistent.readable.loads in
+      let whole = place-whole m.header.fields.cluster_bits m.header.fields.refcount_table_offset limited.refcount_place in
+      let near = place-near m.header.fields.cluster_bits m.header.fields.refcount_table_offset limited.refcount_place in
+      record {
+        placed = subst (λ (b : ℕ). IsPlaced b m.table.cluster) (sym bits) (subst (λ (c : Option ℕ). IsPlaced m.header.fields.cluster_bits c) (sym sound.table.placed) (subst (λ n. n ≤ max_offset) (sym whole) near));
+        bits = bits;
+        some = some;
+      }
+
+-- So a word can name the cluster of a block.
+pub namable : (table : TableValue) (bits d : ℕ) → CanName table bits d → IsInReach bits d → (cluster : Option ℕ) → cluster ≡ Some d → IsNamable table.layout.cluster_bits cluster
+namable table bits d can reach cluster is =
+    let place : IsNamable bits (Some d) = record { placed = reach; some = let there = place-there (2 ^ bits) d (pow_pos bits) can.some in omega (arith, there) } in
+    subst (λ (b : ℕ). IsNamable b cluster) (sym can.bits) (subst (λ (c : Option ℕ). IsNamable bits c) (sym is) place)
+
+-- What is known of a request that was refused,
+put-cause : (old new : StorageState) (at : ℕ) (bytes : List ℕ) (done : Result Unit Fault) → Put old new at bytes done → (fault : Fault) → done ≡ Err fault → Cause old.faults new.faults fault
+put-cause old new at bytes (Ok done) put fault is = absurd (cc is)
+put-cause old new at bytes (Err other) put fault is = subst (λ (f : Fault). Cause old.faults new.faults f) (let e = is in cc) put.answer.cause
+
+-- and of one that wasn't.
+put-faults : (old new : StorageState) (at : ℕ) (bytes : List ℕ) (done : Result Unit Fault) → Put old new at bytes done → done ≡ Ok tt → new.faults ≡ old.faults
+put-faults old new at bytes (Ok done) put is = put.answer.faults
+put-faults old new at bytes (Err fault) put is = absurd (cc is)
+
+caused : (holds : Type 0) (loose : Bool → Type 0) (full : ℕ → Type 0) (a b c : ℕ) → b ≡ a → (fault : Fault) → Cause b c fault → WhyNotAllocated holds loose full a c fault
+caused holds loose full a b c same Memory cause = tt
+caused holds loose full a b c same Storage cause = subst (λ n. Rose n c) same cause
+caused holds loose full a b c same other cause = absurd cause
+
+-- A table is as it was, or names this cluster at an index.
+pub record NamedAt (table : TableValue) (i d : ℕ) (result : Result Unit Fault) (table' : TableValue) : Type 0 where
+  pub named : OnOk result (block_offset (slice_index table'.words i) ≢ 0)
+  pub others : (k : ℕ) → k ≢ i → slice_index table'.words k ≡ slice_index table.words k
+  pub long : length table'.words ≡ length table.words
+  pub layout : table'.layout ≡ table.layout
+  pub placed : table'.cluster ≡ table.cluster
+
+refused-named : (table : TableValue) (i d : ℕ) (fault : Fault) → NamedAt table i d (Err fault) table
+refused-named table i d fault = record { named = tt; others = λ k apart. refl; long = refl; layout = refl; placed = refl }
+
+on-ok : (result : Result Unit Fault) (P : Type 0) → P → OnOk result P
+on-ok (Ok done) P p = p
+on-ok (Err fault) P p = tt
+
+word-named : (table : TableValue) (i d bits : ℕ) (result : Result Unit Fault) (modified : Bool) → i < length table.words → 9 ≤ bits → d ≢ 0 → IsInReach bits d → NamedAt table i d result (record (with_word table i (d * 2 ^ bits)) { modified = modified })
+word-named table i d bits result modified inside low some reach = record {
+  named = on-ok result _ (λ none. place-there (2 ^ bits) d (pow_pos bits) some (sym (ap block_offset (get_or-set_same table.words i (d * 2 ^ bits) 0 inside) ∙ block_named bits d low reach) ∙ none));
+  others = λ k apart. get_or-set_other table.words i k (d * 2 ^ bits) 0 apart;
+  long = length-set table.words i (d * 2 ^ bits);
+  layout = refl;
+  placed = refl;
+}
+
+-- The end of the call: a block is written, and then named.
+module _ {S : Type 0} (state : S → StorageState) (i d : ℕ) (counters : List ℕ) (table : TableValue) (C : MetadataCaches S) (fC : ImageFile S) (pending : List FreeEntry) where
+  abbrev pub B : Block
+  B = block_of fC.header.fields.cluster_bits fC.header.fields.refcount_order counters (Some d) true
+
+  abbrev mC : Metadata
+  mC = metadata_of state fC C table pending
+
+  -- What it does, where these clusters are taken.
+  pub record Ends (ready : Type 0) (taken : ℕ → ℕ) (result : Result Unit Fault) (table' : TableValue) (after : StorageState) : Type 0 where
+    pub shape : after.shape ≡ (state fC.image).shape
+    pub later : Later (state fC.image) after
+    pub faults : WasNotCutOff result → IsFaultless (state fC.image) after
+    pub quiet : IsTrue (state fC.image).shape.keeps → ready → Quietly (WasNotCutOff result) (λ _. 0) taken (state fC.image) mC after (record mC { file = bytes_of after.bytes; table = table' })
+    pub raised : IsTrue (state fC.image).shape.keeps → IsSound mC → ready → WasNotCutOff result → OnlyRaised mC (record mC { file = bytes_of after.bytes; table = table' })
+    pub named : NamedAt table i d result table'
+    pub cause : MatchResult result (λ _. after.faults ≡ (state fC.image).faults) (Cause (state fC.image).faults after.faults)
+
+  module _ (ready : Type 0) (taken : ℕ → ℕ) (inside : i < length table.words) (low : 9 ≤ fC.header.fields.cluster_bits) (some : d ≢ 0) (reach : IsInReach fC.header.fields.cluster_bits d)
+      (written : ready → (mid : StorageState) (done : Result Unit Fault) → BlockPut B (d * cluster_size fC.header.fields) (state fC.image) mid done → Quietly (done ≡ Ok tt) taken taken (state fC.image) mC mid (record mC { file = bytes_of mid.bytes }))
+      (named : ready → (modified : Bool) (mid new : StorageState) (done : Result Unit Fault) → done ≡ Ok tt → BlockPut B (d * cluster_size fC.header.fields) (state fC.image) mid done → (result : Result Unit Fault)
+      → PutAtOnce mid new (table_place (with_word table i (d * cluster_size fC.header.fields)) + 8 * i) (to_be_bytes w64 (slice_index (with_word table i (d * cluster_size fC.header.fields)).words i)) result
+      → Quietly (result ≡ Ok tt) (λ _. 0) taken (state fC.image) mC new (with_block mC i d modified (bytes_of new.bytes))
+      × (IsTrue (state fC.image).shape.keeps → IsSound mC → result ≡ Ok tt → OnlyRaised mC (with_block mC i d modified (bytes_of new.bytes)))) where
+    stopped-end : (fault : Fault) (mid : StorageState) (done : Result Unit Fault) → done ≡ Err fault → BlockPut B (d * cluster_size fC.header.fields) (state fC.image) mid done → Ends ready taken (Err fault) table mid
+    stopped-end fault mid done is put =
+        let cause = put-cause (state fC.image) mid (d * cluster_size fC.header.fields) put.bytes done put.put.put fault is in
+        record {
+          shape = put.put.put.shape;
+          later = put.put.put.later;
+          faults = λ mild. absurd (never-mild _ _ fault cause mild);
+          quiet = λ keeps r. let q = written r mid done put in record { shape = q.shape; later = q.later; passes = q.passes; holds = λ k sound mild. absurd (never-mild _ _ fault cause mild) };
+          raised = λ keeps sound r mild. absurd (never-mild _ _ fault cause mild);
+          named = refused-named table i d fault;
+          cause = cause;
+        }
+
+    -- what is known of the answer
+    answer-caused : (result : Result Unit Fault) (old mid new : StorageState) (at : ℕ) (bytes : List ℕ) → mid.faults ≡ old.faults → Put mid new at bytes result → MatchResult result (λ _. new.faults ≡ old.faults) (Cause old.faults new.faults)
+    answer-caused (Ok done) old mid new at bytes same put = put.answer.faults ∙ same
+    answer-caused (Err fault) old mid new at bytes same put = subst (λ n. Cause n new.faults fault) same put.answer.cause
+
+    named-end : (modified : Bool) (mid new : StorageState) (done : Result Unit Fault) → done ≡ Ok tt → BlockPut B (d * cluster_size fC.header.fields) (state fC.image) mid done → (result : Result Unit Fault)
+        → PutAtOnce mid new (table_place (with_word table i (d * cluster_size fC.header.fields)) + 8 * i) (to_be_bytes w64 (slice_index (with_word table i (d * cluster_size fC.header.fields)).words i)) result
+        → Ends ready taken result (record (with_word table i (d * cluster_size fC.header.fields)) { modified = modified }) new
+    named-end modified mid new done is put result names =
+        let end = λ (whole : WasNotCutOff result). put-done mid new _ _ result names.put whole in
+        record {
+          shape = names.put.shape ∙ put.put.put.shape;
+          later = later_both (state fC.image) mid new put.put.put.later names.put.later;
+          faults = λ whole. faultless-then (put-faultless (state fC.image) mid (d * cluster_size fC.header.fields) put.bytes done put.put.put (subst (λ (r : Result Unit Fault). WasNotCutOff r) (sym is) tt)) (put-faultless mid new _ _ result names.put whole);
+          quiet = λ keeps r. quietly-weaker (result ≡ Ok tt) (WasNotCutOff result) (λ _. 0) taken (state fC.image) mC new (with_block mC i d modified (bytes_of new.bytes)) (λ sound whole. end whole) (named r modified mid new done is put result names).0;
+          raised = λ keeps sound r whole. (named r modified mid new done is put result names).1 keeps sound (end whole);
+          named = word-named table i d fC.header.fields.cluster_bits result modified inside low some reach;
+          cause = answer-caused result (state fC.image) mid new _ _ (put-faults (state fC.image) mid _ _ done put.put.put is) names.put;
+        }
+
+    pub ends : (result : Result Unit Fault) (table' : TableValue) (after : StorageState) → NamesWritten table i B (state fC.image) result table' after → Ends ready taken result table' after
+    ends result table' after n = by-done n.done refl
+      where
+        by-done : (done : Result Unit Fault) → n.done ≡ done → Ends ready taken result table' after
+        by-done (Err fault) is =
+            let all = n.stopped fault is in
+            subst (λ (r : Result Unit Fault). Ends ready taken r table' after) (sym all.0)
+            (subst (λ (t : TableValue). Ends ready taken (Err fault) t after) (sym all.2)
+            (subst (λ (s : StorageState). Ends ready taken (Err fault) table s) (sym all.1) (stopped-end fault n.mid n.done is n.put)))
+        by-done (Ok done) is =
+            let all = n.named is in
+            subst (λ (t : TableValue). Ends ready taken result t after) (sym all.1.1) (named-end all.1.0 n.mid after n.done is n.put result all.0)
+
+allocated-by : (sound sound' loose : Type 0) (loose' : Bool → Type 0) (full : ℕ → Type 0) (a b c : ℕ) → (sound' → sound) → (IsUnbarred sound' loose' → loose) → b ≡ a → (fault : Fault) → WhyNotFreed sound loose b c fault → WhyNotAllocated sound' loose' full a c fault
+allocated-by sound sound' loose loose' full a b c from from' same Memory why = tt
+allocated-by sound sound' loose loose' full a b c from from' same Storage why = subst (λ n. Rose n c) same why
+allocated-by sound sound' loose loose' full a b c from from' same DamagedTable why = λ s. why (from s)
+allocated-by sound sound' loose loose' full a b c from from' same Counter why = λ s. why (from s)
+allocated-by sound sound' loose loose' full a b c from from' same CacheFull why = λ u. why (from' u)
+allocated-by sound sound' loose loose' full a b c from from' same (Limit number) why = absurd why
+allocated-by sound sound' loose loose' full a b c from from' same other why = absurd why
+
+-- A cause of what frees or searches is one of what allocates, as is one of what counts,
+pub allocated-wider : (sound sound' loose : Type 0) (loose' : Bool → Type 0) (full : ℕ → Type 0) (a b c : ℕ) → (sound' → sound) → ((any : Bool) → loose' any → loose) → b ≡ a → (fault : Fault) → WhyNotFreed sound loose b c fault → WhyNotAllocated sound' loose' full a c fault
+allocated-wider sound sound' loose loose' full a b c from from' same fault why = allocated-by sound sound' loose loose' full a b c from (λ u. from' u.0 u.2) same fault why
+
+pub counted-wider : (sound sound' : Type 0) (loose loose' : Bool → Type 0) (full : ℕ → Type 0) (a b c : ℕ) → (sound' → sound) → ((any : Bool) → loose' any → loose any) → b ≡ a → (fault : Fault) → WhyNotCounted sound loose b c fault → WhyNotAllocated sound' loose' full a c fault
+counted-wider sound sound' loose loose' full a b c from from' same fault why = allocated-by sound sound' (IsUnbarred sound loose) loose' full a b c from (λ u. (u.0, λ is. from (u.1 is), from' u.0 u.2)) same fault why
+
+-- and so is one of writes.
+pub allocated-written : (sound reach : Type 0) (loose : Bool → Type 0) (full : ℕ → Type 0) (a b c : ℕ) → (sound → reach) → b ≡ a → (fault : Fault) → WhyNotWritten reach b c fault → WhyNotAllocated sound loose full a c fault
+allocated-written sound reach loose full a b c from same Memory why = tt
+allocated-written sound reach loose full a b c from same Storage why = subst (λ n. Rose n c) same why
+allocated-written sound reach loose full a b c from same DamagedTable why = λ s. why (from s)
+allocated-written sound reach loose full a b c from same other why = absurd why
+
+caused-all : (holds : Type 0) (loose : Bool → Type 0) (full : ℕ → Type 0) (a b c : ℕ) → b ≡ a → (result : Result Unit Fault) → MatchResult result (λ _. c ≡ b) (Cause b c) → MatchResult result (λ _. c ≡ a) (WhyNotAllocated holds loose full a c)
+caused-all holds loose full a b c same (Ok done) counts = counts ∙ same
+caused-all holds loose full a b c same (Err fault) cause = caused holds loose full a b c same fault cause
+
+allocated-then : (sound sound' : Type 0) (loose loose' : Bool → Type 0) (full full' : ℕ → Type 0) (a b c : ℕ) → (sound' → sound) → ((any : Bool) → loose' any → loose any) → ((n : ℕ) → full n → full' n) → b ≡ a → (fault : Fault) → WhyNotAllocated sound loose full b c fault → WhyNotAllocated sound' loose' full' a c fault
+allocated-then sound sound' loose loose' full full' a b c from from' to same Memory why = tt
+allocated-then sound sound' loose loose' full full' a b c from from' to same Storage why = subst (λ n. Rose n c) same why
+allocated-then sound sound' loose loose' full full' a b c from from' to same DamagedTable why = λ s. why (from s)
+allocated-then sound sound' loose loose' full full' a b c from from' to same Counter why = λ s. why (from s)
+allocated-then sound sound' loose loose' full full' a b c from from' to same CacheFull why = λ u. why (u.0, λ is. from (u.1 is), from' u.0 u.2)
+allocated-then sound sound' loose loose' full full' a b c from from' to same (Limit number) why = (to number why.0, why.1 ∙ same)
+allocated-then sound sound' loose loose' full full' a b c from from' to same other why = absurd why
+
+cause-then : (sound sound' : Type 0) (loose loose' : Bool → Type 0) (full full' : ℕ → Type 0) (a b c : ℕ) → (sound' → sound) → ((any : Bool) → loose' any → loose any) → ((n : ℕ) → full n → full' n) → b ≡ a → (result : Result Unit Fault) → MatchResult result (λ _. c ≡ b) (WhyNotAllocated sound loose full b c) → MatchResult result (λ _. c ≡ a) (WhyNotAllocated sound' loose' full' a c)
+cause-then sound sound' loose loose' full full' a b c from from' to same (Ok done) counts = counts ∙ same
+cause-then sound sound' loose loose' full full' a b c from from' to same (Err fault) why = allocated-then sound sound' loose loose' full full' a b c from from' to same fault why
+
+module _ {S : Type 0} (state : S → StorageState) (i : ℕ) (table : TableValue) (pending : List FreeEntry) (old : MetadataCaches S) (before : ImageFile S) where
+  abbrev m0 : Metadata
+  m0 = metadata_of state before old table pending
+
+  abbrev pub Holds : Type 0
+  Holds = IsTrue (state before.image).shape.keeps × (order_of old ≡ L2DependsOnRb) × IsSound m0
+
+  abbrev pub Full : ℕ → Type 0
+  Full number = (number ≤ i * counters_of_block before.header.fields) × (IsInReach before.header.fields.cluster_bits number → ⊥)
+
+  -- Nothing was done yet.
+  pub begins-none : Begins state table pending old before (λ _. 0) old before
+  begins-none = record {
+    shape = refl;
+    later = later_same (state before.image);
+    quiet = λ order. memory-quietly ⊤ (λ _. 0) (λ _. 0) (state before.image) m0 m0 (λ sound done. (sound, quiet-none m0 sound));
+    raised = λ order keeps sound c. inl refl;
+    faults = (refl, refl);
+    header = refl;
+    order = refl;
+    loose = λ any loose. loose;
+    room = record { tables = refl; blocks = refl; entries = refl };
+  }
+
+  -- What is done next.
+  pub record Follows (ok : Type 0) (more : ℕ → ℕ) (C : MetadataCaches S) (fC : ImageFile S) (D : MetadataCaches S) (fD : ImageFile S) : Type 0 where
+    pub shape : (state fD.image).shape ≡ (state fC.image).shape
+    pub later : Later (state fC.image) (state fD.image)
+    pub faults : ok → IsFaultless (state fC.image) (state fD.image)
+    pub quiet : order_of old ≡ L2DependsOnRb → IsTrue (state before.image).shape.keeps → IsSound m0 → IsSound (metadata_of state fC C table pending)
+        → Quietly ok more (λ _. 0) (state fC.image) (metadata_of state fC C table pending) (state fD.image) (metadata_of state fD D table pending)
+    pub raised : order_of old ≡ L2DependsOnRb → IsTrue (state before.image).shape.keeps → IsSound m0 → IsSound (metadata_of state fC C table pending) → ok → OnlyRaised (metadata_of state fC C table pending) (metadata_of state fD D table pending)
+    pub stays : StaysLoose table C fC D fD
+
+  module _ (handed more : ℕ → ℕ) (C : MetadataCaches S) (fC : ImageFile S) (D : MetadataCaches S) (fD : ImageFile S) (begins : Begins state table pending old before handed C fC) where
+    abbrev mB : Metadata
+    mB = metadata_of state fC C table pending
+
+    abbrev mD : Metadata
+    mD = metadata_of state fD D table pending
+
+    both-quietly : (ok : Type 0) → Follows ok more C fC D fD → order_of old ≡ L2DependsOnRb → Quietly ok (λ c. handed c + more c) (λ _. 0 + 0) (state before.image) m0 (state fD.image) mD
+    both-quietly ok follows order =
+        quietly-given ok (λ c. handed c + more c) (λ _. 0 + 0) (state before.image) m0 (state fD.image) mD (follows.shape ∙ begins.shape) (later_both _ _ _ begins.later follows.later)
+        (λ keeps sound. quietly-then-given ⊤ ok handed (λ _. 0) more (λ _. 0) (state before.image) m0 (state fC.image) mB (state fD.image) mD tt (λ s c some. refl) (begins.quiet order) follows.shape follows.later
+        (λ k s s1 quiet. follows.quiet order keeps s s1))
+
+    both-raised : (ok : Type 0) → Follows ok more C fC D fD → order_of old ≡ L2DependsOnRb → IsTrue (state before.image).shape.keeps → IsSound m0 → ok → OnlyRaised m0 mD
+    both-raised ok follows order keeps sound done =
+        raised-then m0 mB mD (begins.raised order keeps sound) (follows.raised order keeps sound ((begins.quiet order).holds keeps sound tt).0 done)
+
+    pub begins-then : (all : ℕ → ℕ) → ((c : ℕ) → handed c + more c ≡ all c) → Follows ⊤ more C fC D fD → Begins state table pending old before all D fD
+    begins-then all sum follows = record {
+      shape = follows.shape ∙ begins.shape;
+      later = later_both _ _ _ begins.later follows.later;
+      quiet = λ order. quietly-otherwise ⊤ (λ c. handed c + more c) (λ _. 0 + 0) all (λ _. 0) (state before.image) m0 (state fD.image) mD (λ s c. let is = sum c in omega (arith, is)) (λ s c used none. omega arith) (both-quietly ⊤ follows order);
+      raised = λ order keeps sound. both-raised ⊤ follows order keeps sound tt;
+      faults = faultless-then begins.faults (follows.faults tt);
+      header = follows.stays.header ∙ begins.header;
+      order = follows.stays.order ∙ begins.order;
+      loose = λ any loose. follows.stays.loose any (begins.loose any loose);
+      room = record { tables = follows.stays.room.tables ∙ begins.room.tables; blocks = follows.stays.room.blocks ∙ begins.room.blocks; entries = follows.stays.room.entries ∙ begins.room.entries };
+    }
+
+    -- It is refused, and wasn't cut off only where nothing was handed out.
+    pub begins-refused : (fault : Fault) → Follows (WasNotCutOff (failed fault)) more C fC D fD
+        → (order_of old ≡ L2DependsOnRb → IsTrue (state before.image).shape.keeps → IsSound m0 → WasNotCutOff (failed fault) → (c : ℕ) → handed c + more c ≡ 0)
+        → WhyNotAllocated Holds (IsLoose table old) Full (state before.image).faults (state fD.image).faults fault → MakesBlock state i table old before (Err fault) table D fD pending
+    begins-refused fault follows none why = record {
+      faults = λ whole. faultless-then begins.faults (follows.faults whole);
+      quiet = λ order.
+          let q = both-quietly (WasNotCutOff (failed fault)) follows order in
+          record {
+            shape = q.shape;
+            later = q.later;
+            passes = q.passes;
+            holds = λ keeps sound whole.
+                let all = q.holds keeps sound whole in
+                (all.0, quiet-otherwise m0 mD (λ c. handed c + more c) (λ _. 0 + 0) (λ _. 0) (λ _. 0) (λ c. let zero = none order keeps sound whole c in omega (arith, zero)) (λ c used zero. omega arith) all.1);
+          };
+      raised = λ order keeps sound whole. both-raised (WasNotCutOff (failed fault)) follows order keeps sound whole;
+      named = tt;
+      others = λ k apart. refl;
+      long = refl;
+      layout = refl;
+      placed = refl;
+      order = follows.stays.order ∙ begins.order;
+      header = follows.stays.header ∙ begins.header;
+      loose = λ any loose. follows.stays.loose any (begins.loose any loose);
+      room = record { tables = follows.stays.room.tables ∙ begins.room.tables; blocks = follows.stays.room.blocks ∙ begins.room.blocks; entries = follows.stays.room.entries ∙ begins.room.entries };
+      cause = why;
+    }
+
+  -- It is refused before anything was handed out, and changes nothing more,
+  module _ (C : MetadataCaches S) (fC : ImageFile S) (begins : Begins state table pending old before (λ _. 0) C fC) where
+    abbrev mU : Metadata
+    mU = metadata_of state fC C table pending
+
+    pub unmade : (fault : Fault) → WhyNotAllocated Holds (IsLoose table old) Full (state before.image).faults (state before.image).faults fault → MakesBlock state i table old before (Err fault) table C fC pending
+    unmade fault why =
+        begins-refused (λ _. 0) (λ _. 0) C fC C fC begins fault
+        (record {
+          shape = refl;
+          later = later_same (state fC.image);
+          faults = λ whole. (refl, refl);
+          quiet = λ order keeps sound s. memory-quietly (WasNotCutOff (failed fault)) (λ _. 0) (λ _. 0) (state fC.image) mU mU (λ s' whole. (s', quiet-none mU s'));
+          raised = λ order keeps sound s whole c. inl refl;
+          stays = record { header = refl; order = refl; loose = λ any loose. loose; room = record { tables = refl; blocks = refl; entries = refl } };
+        })
+        (λ order keeps sound whole c. omega arith)
+        (subst (λ n. WhyNotAllocated Holds (IsLoose table old) Full (state before.image).faults n fault) (sym begins.faults.0) why)
+
+    -- for want of memory,
+    pub unmade-memory : (fault : Fault) → fault ≡ Memory → MakesBlock state i table old before (Err fault) table C fC pending
+    unmade-memory fault is = unmade fault (subst (λ (f : Fault). WhyNotAllocated Holds (IsLoose table old) Full (state before.image).faults (state before.image).faults f) (sym is) tt)
+
+    -- for a cluster that no word can name,
+    pub unmade-place : (d : ℕ) (fault : Fault) → d ≤ i * counters_of_block fC.header.fields → (Holds → d ≢ 0) → WhyNotNamed table fC.header.fields.cluster_bits d fault → MakesBlock state i table old before (Err fault) table C fC pending
+    unmade-place d fault low some why = unmade fault (by-fault fault why)
+      where
+        by-fault : (fault : Fault) → WhyNotNamed table fC.header.fields.cluster_bits d fault → WhyNotAllocated Holds (IsLoose table old) Full (state before.image).faults (state before.image).faults fault
+        by-fault DamagedTable why = λ holds. why (can-name mU ((begins.quiet holds.1).holds holds.0 holds.2 tt).0 d (some holds))
+        by-fault (Limit number) why = (
+          subst (λ (h : Header). (number ≤ i * counters_of_block h.fields) × (IsInReach h.fields.cluster_bits number → ⊥)) begins.header
+              (let is = why.1 in omega (arith, is, low), λ near. why.0 (subst (λ n. IsInReach fC.header.fields.cluster_bits n) why.1 near)),
+          refl,
+        )
+        by-fault other why = absurd why
+
+    -- and where a block is pinned in a cluster that nothing names.
+    pub unforgotten : (d : ℕ) (fault : Fault) (new : MetadataCaches S) → (Holds → named_at_all mU d ≡ 0) → (fault ≡ CacheFull) × IsSomeAnd (lookup (nat_eq d) (cached_in C).blocks) (λ s. 0 < s.pins) × (new ≡ C) → MakesBlock state i table old before (Err fault) table new fC pending
+    unforgotten d fault new unnamed (is, pinned, same) =
+        subst (λ (c : MetadataCaches S). MakesBlock state i table old before (Err fault) table c fC pending) (sym same)
+        (unmade fault (subst (λ (f : Fault). WhyNotAllocated Holds (IsLoose table old) Full (state before.image).faults (state before.image).faults f) (sym is)
+        (λ u. let there = (begins.loose u.0 u.2).named d (pinned-there d (cached_in C).blocks pinned) in let holds = u.1 there.0 in
+        never-unnamed mU ((begins.quiet holds.1).holds holds.0 holds.2 tt).0 d (unnamed holds) there.1)))
+
+  -- What makes a block from there on makes it in all.
+  pub begins-makes : (C : MetadataCaches S) (fC : ImageFile S) → Begins state table pending old before (λ _. 0) C fC → (result : Result Unit Fault) (table' : TableValue) (new : MetadataCaches S) (after : ImageFile S)
+      → MakesBlock state i table C fC result table' new after pending → MakesBlock state i table old before result table' new after pending
+  begins-makes C fC begins result table' new after makes = record {
+    faults = λ whole. faultless-then begins.faults (makes.faults whole);
+    quiet = λ order. quietly-then ⊤ (WasNotCutOff result) (λ _. 0) (λ _. 0) (λ _. 0) (λ _. 0) (state before.image) m0 (state fC.image) (metadata_of state fC C table pending) (state after.image) (metadata_of state after new table' pending) tt (λ s c some. refl)
+        (begins.quiet order) (makes.quiet (begins.order ∙ order));
+    raised = λ order keeps sound whole. raised-then m0 (metadata_of state fC C table pending) (metadata_of state after new table' pending) (begins.raised order keeps sound)
+        (makes.raised (begins.order ∙ order) (on keeps) ((begins.quiet order).holds keeps sound tt).0 whole);
+    named = makes.named;
+    others = makes.others;
+    long = makes.long;
+    layout = makes.layout;
+    placed = makes.placed;
+    order = makes.order ∙ begins.order;
+    header = makes.header ∙ begins.header;
+    loose = λ any loose. makes.loose any (begins.loose any loose);
+    room = record { tables = makes.room.tables ∙ begins.room.tables; blocks = makes.room.blocks ∙ begins.room.blocks; entries = makes.room.entries ∙ begins.room.entries };
+    cause = cause-then _ _ _ _ _ _ _ _ _ (λ holds. (on holds.0, begins.order ∙ holds.1, ((begins.quiet holds.1).holds holds.0 holds.2 tt).0)) begins.loose
+        (λ number full. subst (λ (h : Header). (number ≤ i * counters_of_block h.fields) × (IsInReach h.fields.cluster_bits number → ⊥)) begins.header full) begins.faults.0 result makes.cause;
+  }
+    where
+      on : IsTrue (state before.image).shape.keeps → IsTrue (state fC.image).shape.keeps
+      on keeps = keeps_on (state before.image) (state fC.image) begins.shape keeps
+
+  -- Begin and end.
+  module _ (both : ℕ → ℕ) (ready : Type 0) (d : ℕ) (counters : List ℕ) (C : MetadataCaches S) (fC : ImageFile S) (begins : Begins state table pending old before both C fC)
+      (unused : order_of old ≡ L2DependsOnRb → IsTrue (state before.image).shape.keeps → IsSound m0 → (c : ℕ) → IsUsed m0 c → both c ≡ 0)
+      (from : order_of old ≡ L2DependsOnRb → IsTrue (state before.image).shape.keeps → IsSound m0 → IsSound (metadata_of state fC C table pending) → ready) where
+    abbrev m1 : Metadata
+    m1 = metadata_of state fC C table pending
+
+    pub made : block_offset (slice_index table.words i) ≡ 0 → (result : Result Unit Fault) (table' : TableValue) (after : ImageFile S) → after.header ≡ fC.header → Ends state i d counters table C fC pending ready both result table' (state after.image)
+        → MakesBlock state i table old before result table' C after pending
+    made empty result table' after header ends = record {
+      faults = λ whole. faultless-then begins.faults (ends.faults whole);
+      quiet = λ order.
+          quietly-given (WasNotCutOff result) (λ _. 0) (λ _. 0) (state before.image) m0 (state after.image) (metadata_of state after C table' pending) (ends.shape ∙ begins.shape) (later_both _ _ _ begins.later ends.later) (λ keeps sound.
+          quietly-otherwise (WasNotCutOff result) (λ c. both c + 0) (λ c. 0 + both c) (λ _. 0) (λ _. 0) (state before.image) m0 (state after.image) (metadata_of state after C table' pending) (λ s c. omega arith)
+          (λ s c used none. let no = unused order keeps s c used in omega (arith, no))
+          (there (λ m. Quietly (WasNotCutOff result) (λ c. both c + 0) (λ c. 0 + both c) (state before.image) m0 (state after.image) m)
+          (quietly-then-given ⊤ (WasNotCutOff result) both (λ _. 0) (λ _. 0) both (state before.image) m0 (state fC.image) m1 (state after.image) (ended m1.header) tt (λ s c some. refl) (begins.quiet order) ends.shape ends.later
+          (λ k s s1 quiet. ends.quiet (on keeps) (from order keeps s s1)))));
+      raised = λ order keeps sound whole.
+          let s1 = ((begins.quiet order).holds keeps sound tt).0 in
+          there (λ m. OnlyRaised m0 m) (raised-then m0 m1 (ended m1.header) (begins.raised order keeps sound) (ends.raised (on keeps) s1 (from order keeps sound s1) whole));
+      named = ends.named.named;
+      others = ends.named.others;
+      long = ends.named.long;
+      layout = ends.named.layout;
+      placed = ends.named.placed;
+      order = begins.order;
+      header = header ∙ begins.header;
+      loose = λ any loose. loose-named table table' C kept any (begins.loose any loose);
+      room = begins.room;
+      cause = caused-all Holds (IsLoose table old) Full (state before.image).faults (state fC.image).faults (state after.image).faults begins.faults.0 result ends.cause;
+    }
+      where
+        kept : (k key : ℕ) → named_block table k ≡ Some key → named_block table' k ≡ Some key
+        kept k key = name-kept table table' k key (ap (λ (l : Layout). l.cluster_bits) ends.named.layout) (λ some. ap block_offset (ends.named.others k (λ here. some (subst (λ n. block_offset (slice_index table.words n) ≡ 0) (sym here) empty))))
+
+        ended : Header → Metadata
+        ended h = record { file = bytes_of (state after.image).bytes; header = h; cached = cached_in C; order = order_of C; table = table'; pending = pending }
+
+        there : (P : Metadata → Type 0) → P (ended fC.header) → P (metadata_of state after C table' pending)
+        there P p = subst (λ (h : Header). P (ended h)) (sym header) p
+
+        on : IsTrue (state before.image).shape.keeps → IsTrue (state fC.image).shape.keeps
+        on keeps = keeps_on (state before.image) (state fC.image) begins.shape keeps

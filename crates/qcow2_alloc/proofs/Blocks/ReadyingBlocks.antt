@@ -1,0 +1,134 @@
+-- What a run of clusters needs is made, or the refcount table grows.
+use Rattle.std.proofs.Common.{◌≡◌, ◌≢◌, ℕ, ◌+◌, ◌<◌, ◌≤◌, refl, arith, ap, sym, subst, List, length, Bool, true, false, Result, Ok, Err, inl, inr}
+use Rattle.std.specs.Prelude.{IsTrue, IfOk, OnOk, MatchResult, slice_index, ◌*◌, ◌^◌}
+use Rattle.std.proofs.Math.Nat.{mul-le-mul_right}
+use Rattle.imago_storage.specs.State.{StorageState}
+use Rattle.imago_storage.specs.declared.fault.Fault.{Fault}
+use Rattle.imago_storage.specs.declared.fault.Fault.TheVariants.{CacheFull, Limit}
+use Rattle.qcow2_types.specs.Counts.{counters_of_block}
+use Rattle.qcow2_types.specs.Words.{block_offset}
+use Rattle.qcow2_types.specs.Pending.{FreeEntry}
+use Rattle.qcow2_metadata.specs.Places.{IsInReach}
+use Rattle.qcow2_metadata.specs.Tables.{TableValue}
+use Rattle.qcow2_alloc.specs.declared.cache.CacheDependency.TheVariants.{L2DependsOnRb}
+use Rattle.qcow2_alloc.specs.declared.cache.MetadataCaches.{MetadataCaches}
+use Rattle.qcow2_alloc.specs.declared.file.ImageFile.{ImageFile}
+use Rattle.qcow2_alloc.specs.Allocating.{MakesBlocks, WhyNotAllocated, missing}
+use Rattle.qcow2_alloc.specs.Allocators.{metadata_of}
+use Rattle.qcow2_alloc.specs.Caches.{order_of}
+use Rattle.qcow2_alloc.specs.FillingBlocks.{FillsFrom}
+use Rattle.qcow2_alloc.specs.Freeing.{IsLoose}
+use Rattle.qcow2_alloc.specs.Going.{IsMild}
+use Rattle.qcow2_alloc.specs.GrowingTables.{Leaks, GrowsTable}
+use Rattle.qcow2_alloc.specs.Quiet.{Metadata, IsSound}
+use Rattle.qcow2_alloc.specs.ReadyingBlocks.{HasMade, HasMore, NoneCanBeMade, ReadiesBlocks}
+use Rattle.qcow2_alloc.proofs.Blocks.EnsuringBlocks.{refused, so, why-allocated-wider}
+
+-- An answer that refuses with a number is that of its fault.
+limit-of : (fault : Fault) (number : ℕ) → refused fault ≡ Err (Limit number) → fault ≡ Limit number
+limit-of fault number is = let e = is in cc
+
+-- Nothing leaks,
+pub leaks-none : {T : Type 0} (sound : Type 0) (loose : Bool → Type 0) (result : Result T Fault) → Leaks sound loose result (λ _. 0)
+leaks-none sound loose result = record { none = λ other c. refl; pinned = λ holds all c. refl }
+
+-- or what did, where the fault is handed on,
+pub leaks-on : {T U : Type 0} (sound sound' : Type 0) (loose loose' : Bool → Type 0) (fault : Fault) (leaked : ℕ → ℕ) → (sound' → sound) → ((any : Bool) → loose' any → loose any) → Leaks {T = T} sound loose (Err fault) leaked → Leaks {T = U} sound' loose' (Err fault) leaked
+leaks-on sound sound' loose loose' fault leaked from from' leaks = record {
+  none = λ other c. leaks.none (λ is. other (ap (λ f. Err f) (let e = is in let same : fault ≡ CacheFull = cc in same))) c;
+  pinned = λ holds all c. leaks.pinned (from holds) (from' true all) c;
+}
+
+-- and a call that succeeded leaked nothing.
+pub leaks-ok : {T : Type 0} (sound : Type 0) (loose : Bool → Type 0) (v : T) (leaked : ℕ → ℕ) → Leaks sound loose (Ok v) leaked → (c : ℕ) → leaked c ≡ 0
+leaks-ok sound loose v leaked leaks c = leaks.none (λ is. absurd (cc)) c
+
+module _ {S : Type 0} (state : S → StorageState) (mark at first last : ℕ) (table : TableValue) (old : MetadataCaches S) (before : ImageFile S) (pending : List FreeEntry) where
+  abbrev Start : Metadata
+  Start = metadata_of state before old table pending
+
+  abbrev Knows : Type 0 → Type 0
+  Knows P = order_of old ≡ L2DependsOnRb → IsTrue (state before.image).shape.keeps → IsSound Start → P
+
+  -- The table has words for all: blocks are made.
+  pub blocks-ready : last < length table.words → (result : Result Bool Fault) (table' : TableValue) (new : MetadataCaches S) (after : ImageFile S) → MakesBlocks state first (last + 1) table old before result table' new after pending
+      → Knows (OnOk result (FillsFrom mark first (last + 1) Start (metadata_of state after new table' pending))) → ReadiesBlocks state mark at first last table old before pending result table' new after pending
+  blocks-ready inside result table' new after makes fills = record {
+    leaked = λ _. 0;
+    leaks = leaks-none _ _ result;
+    step = makes.step;
+    idle = makes.idle;
+    ready = named result makes.named;
+    further = more result makes.fewer;
+    made = λ order keeps sound. filled result (fills order keeps sound);
+    once = λ inside. (refl, makes.header, makes.long);
+    grew = λ past. absurd (omega (arith, past, inside));
+    kept = λ past. absurd (omega (arith, past, inside));
+    barred = λ past. absurd (omega (arith, past, inside));
+    cause = caused result makes.cause;
+  }
+    where
+      filled : (r : Result Bool Fault) → OnOk r (FillsFrom mark first (last + 1) Start (metadata_of state after new table' pending)) → IfOk r (λ made. made ≡ true → HasMade mark at first last Start (metadata_of state after new table' pending))
+      filled (Ok made) is = λ some. inl (inside, makes.long, is)
+      filled (Err fault) is = tt
+
+      named : (r : Result Bool Fault) → OnOk r ((i : ℕ) → first ≤ i → i < last + 1 → block_offset (slice_index table'.words i) ≢ 0) → IfOk r (λ made. made ≡ false → (i : ℕ) → first ≤ i → i ≤ last → block_offset (slice_index table'.words i) ≢ 0)
+      named (Ok made) all = λ idle i above below. all i above (omega (arith, below))
+      named (Err fault) all = tt
+
+      more : (r : Result Bool Fault) → IfOk r (λ made. made ≡ true → missing table' < missing table) → IfOk r (λ made. made ≡ true → HasMore table table')
+      more (Ok made) fewer = λ some. inr (makes.long, fewer some)
+      more (Err fault) fewer = tt
+
+      far-all : (number : ℕ) → ((i : ℕ) × (first ≤ i) × (i < last + 1) × (number ≤ i * counters_of_block before.header.fields) × (IsInReach before.header.fields.cluster_bits number → ⊥)) → Knows (NoneCanBeMade mark at first last number Start)
+      far-all number (i, above, below, le, far) order keeps sound = inl (λ all.
+          let near : IsInReach before.header.fields.cluster_bits (i * counters_of_block before.header.fields) = all i above (omega (arith, below)) in
+          let more = mul-le-mul_right (2 ^ before.header.fields.cluster_bits) le in
+          far (omega (arith, near, more)))
+
+      caused : (r : Result Bool Fault)
+          → MatchResult r (λ _. (state after.image).faults ≡ (state before.image).faults)
+          (WhyNotAllocated (IsTrue (state before.image).shape.keeps × (order_of old ≡ L2DependsOnRb) × IsSound (metadata_of state before old table pending)) (IsLoose table old)
+          (λ number. (i : ℕ) × (first ≤ i) × (i < last + 1) × (number ≤ i * counters_of_block before.header.fields) × (IsInReach before.header.fields.cluster_bits number → ⊥)) (state before.image).faults (state after.image).faults)
+          → MatchResult r (λ _. (state after.image).faults ≡ (state before.image).faults)
+          (WhyNotAllocated (IsTrue (state before.image).shape.keeps × (order_of old ≡ L2DependsOnRb) × IsSound (metadata_of state before old table pending)) (IsLoose table old) (λ number. Knows (NoneCanBeMade mark at first last number Start)) (state before.image).faults (state after.image).faults)
+      caused (Ok made) same = same
+      caused (Err fault) why = why-allocated-wider _ _ _ _ _ _ _ _ _ (λ holds. holds) (λ any loose. loose) far-all refl fault why
+
+  module _ (past : length table.words ≤ last) (table' : TableValue) (new : MetadataCaches S) (after : ImageFile S) (pending' : List FreeEntry) where
+    -- It hasn't: it grows,
+    pub table-ready : last ≤ at → GrowsTable state mark at table old before pending (Ok tt) table' new after pending' → ReadiesBlocks state mark at first last table old before pending (so true) table' new after pending'
+    table-ready behind grows = record {
+      leaked = grows.leaked;
+      leaks = record { none = λ other c. leaks-ok _ _ tt grows.leaked grows.leaks c; pinned = grows.leaks.pinned };
+      step = grows.step;
+      idle = λ none. absurd (cc);
+      ready = λ none. absurd (cc);
+      further = λ some. inl (let above = grows.enough.enough.above in omega (arith, above, past, behind));
+      made = λ order keeps sound some. inr (past, grows.grown order keeps sound);
+      once = λ inside. absurd (omega (arith, inside, past));
+      grew = λ past. (let above = grows.enough.enough.above in omega (arith, above, past, behind), grows.waits);
+      kept = λ past. tt;
+      barred = λ past order keeps sound number is. absurd (cc is);
+      cause = grows.cause;
+    }
+
+    -- or that is refused.
+    pub table-not-ready : (fault : Fault) → GrowsTable state mark at table old before pending (Err fault) table' new after pending' → ReadiesBlocks state mark at first last table old before pending (Err fault) table' new after pending'
+    table-not-ready fault grows = record {
+      leaked = grows.leaked;
+      leaks = leaks-on _ _ _ _ fault grows.leaked (λ holds. holds) (λ any loose. loose) grows.leaks;
+      step = grows.step;
+      idle = tt;
+      ready = tt;
+      further = tt;
+      made = λ order keeps sound. tt;
+      once = λ inside. absurd (omega (arith, inside, past));
+      grew = λ past. tt;
+      kept = λ past. grows.kept;
+      barred = λ past order keeps sound number is.
+          let mild : IsMild fault = subst (λ (f : Fault). IsMild f) (sym (limit-of fault number is)) tt in
+          let still = grows.stays mild in
+          record { header = still.1; table = still.0; counts = grows.barred order keeps sound number (ap (λ (f : Fault). Err f) (limit-of fault number is)) };
+      cause = why-allocated-wider _ _ _ _ _ _ _ _ _ (λ holds. holds) (λ any loose. loose) (λ number none order keeps sound. inr (past, none order keeps sound)) refl fault grows.cause;
+    }

@@ -1,0 +1,26 @@
+-- Entries of the caches: found, loaded, put, used, dropped.
+pub mod Entries
+pub mod CachedTables
+pub mod CachedBlocks
+pub mod Empty
+pub mod Entering
+pub mod Pins
+pub mod Places
+pub mod Readying
+pub mod FindingTables
+pub mod FindingBlocks
+pub mod Searching
+pub mod LettingIn
+pub mod SearchingTables
+pub mod SearchingBlocks
+pub mod Staying
+pub mod Inserting
+pub mod InsertingTables
+pub mod InsertingBlocks
+pub mod Dropping
+pub mod Using
+pub mod UsingBlocks
+pub mod UsingTables
+pub mod Loose
+pub mod Forgetting
+pub mod ForgettingRuns

@@ -1,0 +1,11 @@
+-- Writes of cached tables and blocks, in the announced order.
+pub mod Turns
+pub mod WritingTables
+pub mod WritingBlocks
+pub mod Going
+pub mod Faultless
+pub mod FlushingTables
+pub mod FlushingBlocks
+pub mod Announcing
+pub mod Counting
+pub mod Kept

@@ -1,0 +1,134 @@
+-- Why cached tables and blocks weren't written.
+use Rattle.std.proofs.Common.{◌≡◌, ℕ, ◌*◌, ◌^◌, ◌≤◌, arith, ap, sym, subst, ◌∙◌, List, [], ◌∷◌, inl, inr, Bool, true, false, Option, Some, None, Result, Ok, Err}
+use Rattle.std.specs.Prelude.{IfSome, not, cond, ◌&&◌}
+use Rattle.std.specs.List.{AllByRecursion}
+use Rattle.std.proofs.lemmas.Bool.{cases_Bool, cases_lt}
+use Rattle.imago_storage.specs.State.{StorageState}
+use Rattle.imago_storage.specs.Calls.{Cause, IsFaultless}
+use Rattle.imago_storage.specs.Through.{PutAtOnce}
+use Rattle.imago_storage.specs.declared.fault.Fault.{Fault}
+use Rattle.imago_storage.specs.declared.fault.Fault.TheVariants.{Memory, Storage, DamagedTable}
+use Rattle.imago_storage.proofs.Composing.{rose_before, rose_behind}
+use Rattle.qcow2_types.specs.Words.{max_offset}
+use Rattle.qcow2_metadata.specs.Places.{IsInReach}
+use Rattle.qcow2_metadata.specs.Tables.{TableValue}
+use Rattle.qcow2_metadata.specs.Blocks.{Block}
+use Rattle.qcow2_alloc.specs.declared.async_lru_cache.Slot.{Slot}
+use Rattle.qcow2_alloc.specs.Cache.{FlushedEach, is_mild, latest, fault_of}
+use Rattle.qcow2_alloc.specs.Backends.{TableFlushed, BlockFlushed}
+use Rattle.qcow2_alloc.specs.Going.{IsMild, WasNotCutOff, WhyNotWritten, CountsWrites}
+use Rattle.qcow2_alloc.proofs.Flushing.Faultless.{faultless-same, faultless-then, mild-later, put-faultless}
+
+-- A cause stays one over more calls.
+pub why-wider : (reach reach' : Type 0) (a b c d : ℕ) → (reach' → reach) → a ≤ b → c ≤ d → (fault : Fault) → WhyNotWritten reach b c fault → WhyNotWritten reach' a d fault
+why-wider reach reach' a b c d from le le' Memory why = tt
+why-wider reach reach' a b c d from le le' Storage why = rose_behind a b d le (rose_before b c d why le')
+why-wider reach reach' a b c d from le le' DamagedTable why = λ r. why (from r)
+why-wider reach reach' a b c d from le le' fault why = absurd why
+
+-- That of a storage is one.
+storage-why : (reach : Type 0) (a b : ℕ) (fault : Fault) → Cause a b fault → WhyNotWritten reach a b fault
+storage-why reach a b Memory cause = tt
+storage-why reach a b Storage cause = cause
+storage-why reach a b fault cause = absurd cause
+
+put-counted : (reach : Type 0) (old new : StorageState) (at : ℕ) (bytes : List ℕ) (result : Result Unit Fault) → PutAtOnce old new at bytes result → CountsWrites reach old.faults new.faults result
+put-counted reach old new at bytes (Ok done) put = put.put.answer.faults
+put-counted reach old new at bytes (Err fault) put = storage-why reach old.faults new.faults fault put.put.answer.cause
+
+-- the same, with a count that hasn't fallen, and stays where the storage didn't cut it off
+pub record Counted (reach : Type 0) (old new : StorageState) (result : Result Unit Fault) : Type 0 where
+  pub counts : CountsWrites reach old.faults new.faults result
+  pub rising : old.faults ≤ new.faults
+  pub faults : WasNotCutOff result → IsFaultless old new
+
+-- where nothing is written
+none-counted : (reach : Type 0) (old new : StorageState) (result : Result Unit Fault) → new ≡ old → result ≡ Ok tt → Counted reach old new result
+none-counted reach old new result same done = record {
+  counts = subst (λ (r : Result Unit Fault). CountsWrites reach old.faults new.faults r) (sym done) (ap (λ (s : StorageState). s.faults) same);
+  rising = let n = ap (λ (s : StorageState). s.faults) same in omega (arith, n);
+  faults = λ whole. faultless-same old new same;
+}
+
+far-counted : (reach : Type 0) (old new : StorageState) (result : Result Unit Fault) → (reach → ⊥) → new ≡ old → result ≡ Err DamagedTable → Counted reach old new result
+far-counted reach old new result far same refused = record {
+  counts = subst (λ (r : Result Unit Fault). CountsWrites reach old.faults new.faults r) (sym refused) far;
+  rising = let n = ap (λ (s : StorageState). s.faults) same in omega (arith, n);
+  faults = λ whole. faultless-same old new same;
+}
+
+pub table-counted : (key : ℕ) (t : TableValue) (old new : StorageState) (result : Result Unit Fault) (t' : TableValue) → TableFlushed key t old result new t'
+    → Counted (t.modified ≡ true → IsInReach t.layout.cluster_bits key) old new result
+table-counted key t old new result t' flushed = elim (cases_Bool t.modified) [
+  | inr clean ↦ let none = flushed.clean clean in none-counted _ old new result none.1 none.0
+  | inl modified ↦ elim (cases_lt max_offset (key * 2 ^ t.layout.cluster_bits)) [
+    | inl far ↦ let none = flushed.out modified (λ reach. omega (arith, far, reach)) in far-counted _ old new result (λ reach. let r = reach modified in omega (arith, far, r)) none.1 none.0
+    | inr reach ↦ let put = flushed.written modified reach in record { counts = put-counted _ old new _ _ result put; rising = put.put.later.faults; faults = put-faultless old new _ _ result put.put }
+  ]
+]
+
+pub block-counted : (key : ℕ) (b : Block) (old new : StorageState) (result : Result Unit Fault) (b' : Block) → BlockFlushed key b old result new b'
+    → Counted (b.modified ≡ true → IsInReach b.cluster_bits key) old new result
+block-counted key b old new result b' flushed = elim (cases_Bool b.modified) [
+  | inr clean ↦ let none = flushed.clean clean in none-counted _ old new result none.1 none.0
+  | inl modified ↦ elim (cases_lt max_offset (key * 2 ^ b.cluster_bits)) [
+    | inl far ↦ let none = flushed.out modified (λ reach. omega (arith, far, reach)) in far-counted _ old new result (λ reach. let r = reach modified in omega (arith, far, r)) none.1 none.0
+    | inr reach ↦ let put = (flushed.written modified reach).put in record { counts = put-counted _ old new _ _ result put; rising = put.put.later.faults; faults = put-faultless old new _ _ result put.put }
+  ]
+]
+
+-- All entries of a cache are flushed.
+module _ {V D : Type 0} (state : D → StorageState) (flushes : D → ℕ → V → Result Unit Fault → D → V → Type 0) (Reach : ℕ → V → Type 0)
+    (step : (old : D) (key : ℕ) (value : V) (result : Result Unit Fault) (new : D) (value' : V) → flushes old key value result new value' → Counted (Reach key value) (state old) (state new) result) where
+  -- what is known of the fault that is reported
+  abbrev Outcome : Type 0 → ℕ → ℕ → Option Fault → Type 0
+  Outcome reach before after None = after ≡ before
+  Outcome reach before after (Some fault) = WhyNotWritten reach before after fault
+
+  behind : (here rest : Type 0) (a b c : ℕ) → a ≤ b → b ≤ c → (first : Option Fault) (result : Result Unit Fault) → Outcome rest a b first → CountsWrites here b c result → Outcome (here × rest) a c (latest first result)
+  behind here rest a b c le le' None (Err fault) earlier why = why-wider here (here × rest) a b c c (λ r. r.0) le (omega arith) fault why
+  behind here rest a b c le le' (Some first) (Err fault) earlier why =
+      by-choice (not (is_mild first) && is_mild fault) (why-wider rest (here × rest) a a b c (λ r. r.1) (omega arith) le' first earlier) (why-wider here (here × rest) a b c c (λ r. r.0) le (omega arith) fault why)
+    where
+      by-choice : (choice : Bool) → WhyNotWritten (here × rest) a c first → WhyNotWritten (here × rest) a c fault → WhyNotWritten (here × rest) a c (cond choice first fault)
+      by-choice true one two = one
+      by-choice false one two = two
+  behind here rest a b c le le' (Some fault) (Ok done) earlier same = why-wider rest (here × rest) a a b c (λ r. r.1) (omega arith) le' fault earlier
+  behind here rest a b c le le' None (Ok done) earlier same = same ∙ earlier
+
+  each : (before : D) (es : List (ℕ × Slot V)) (outcome : Option Fault) (after : D) (es' : List (ℕ × Slot V)) → FlushedEach flushes before es outcome after es'
+      → ((state before).faults ≤ (state after).faults) × Outcome (AllByRecursion (λ (e : ℕ × Slot V). Reach e.0 e.1.value) es) (state before).faults (state after).faults outcome
+  each before [] outcome after es' flushed =
+      let same : (state after).faults ≡ (state before).faults = ap (λ (d : D). (state d).faults) flushed.1 in (
+        omega (arith, same),
+        subst (λ (o : Option Fault). Outcome (AllByRecursion (λ (e : ℕ × Slot V). Reach e.0 e.1.value) []) (state before).faults (state after).faults o) (sym flushed.0) same,
+      )
+  each before (e ∷ es) outcome after es' (mid, first, rest, earlier, result, value, flush, worst, is) =
+      let one = each before es first mid rest earlier in
+      let two = step mid e.0 e.1.value result after value flush in
+      let le = one.0 in
+      let le' = two.rising in (
+        omega (arith, le, le'),
+        subst (λ (o : Option Fault). Outcome (AllByRecursion (λ (x : ℕ × Slot V). Reach x.0 x.1.value) (e ∷ es)) (state before).faults (state after).faults o) (sym worst)
+            (behind _ _ _ _ _ le le' first result one.1 two.counts),
+      )
+
+  pub each-counted : (before : D) (es : List (ℕ × Slot V)) (result : Result Unit Fault) (after : D) (es' : List (ℕ × Slot V)) → FlushedEach flushes before es (fault_of result) after es'
+      → CountsWrites (AllByRecursion (λ (e : ℕ × Slot V). Reach e.0 e.1.value) es) (state before).faults (state after).faults result
+  each-counted before es (Ok done) after es' flushed = (each before es None after es' flushed).1
+  each-counted before es (Err fault) after es' flushed = (each before es (Some fault) after es' flushed).1
+
+  faultless : (before : D) (es : List (ℕ × Slot V)) (outcome : Option Fault) (after : D) (es' : List (ℕ × Slot V)) → FlushedEach flushes before es outcome after es' → IfSome outcome IsMild → IsFaultless (state before) (state after)
+  faultless before [] outcome after es' flushed mild = faultless-same (state before) (state after) (ap state flushed.1)
+  faultless before (e ∷ es) outcome after es' (mid, first, rest, earlier, result, value, flush, worst, is) mild =
+      let each-mild = mild-later first result (subst (λ (o : Option Fault). IfSome o IsMild) worst mild) in
+      faultless-then (faultless before es first mid rest earlier each-mild.0) ((step mid e.0 e.1.value result after value flush).faults each-mild.1)
+
+  pub each-faultless : (before : D) (es : List (ℕ × Slot V)) (result : Result Unit Fault) (after : D) (es' : List (ℕ × Slot V)) → FlushedEach flushes before es (fault_of result) after es' → WasNotCutOff result → IsFaultless (state before) (state after)
+  each-faultless before es (Ok done) after es' flushed whole = faultless before es None after es' flushed tt
+  each-faultless before es (Err fault) after es' flushed whole = faultless before es (Some fault) after es' flushed whole
+
+-- Calls one behind the other.
+pub counted-then : (reach reach' whole : Type 0) (a b c : ℕ) (result : Result Unit Fault) → (whole → reach') → b ≡ a → CountsWrites reach' b c result → CountsWrites whole a c result
+counted-then reach reach' whole a b c (Ok done) from same counts = counts ∙ same
+counted-then reach reach' whole a b c (Err fault) from same why = why-wider reach' whole a b c c from (omega (arith, same)) (omega arith) fault why

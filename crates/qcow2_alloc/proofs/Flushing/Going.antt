@@ -1,0 +1,192 @@
+-- Writes of cached tables and blocks, one behind the other.
+use Rattle.std.proofs.Common.{◌≡◌, ℕ, refl, sym, subst, ◌∙◌, List, [], ◌∷◌, ◌++◌, inl, inr, Option, None, Result, Ok, Err}
+use Rattle.std.specs.Prelude.{IsTrue}
+use Rattle.imago_storage.specs.State.{StorageState, Rose, InStep, Shape}
+use Rattle.imago_storage.specs.Calls.{IsFaultless}
+use Rattle.imago_storage.specs.Through.{Stops}
+use Rattle.imago_storage.proofs.Composing.{keeps_on, no_stops, stops_both, later_same, later_both, rose_before, rose_behind}
+use Rattle.qcow2_types.specs.Bytes.{Bytes, bytes_of}
+use Rattle.qcow2_types.specs.Header.{Header}
+use Rattle.qcow2_types.specs.Entries.{l2_table}
+use Rattle.qcow2_types.specs.Slots.{Live}
+use Rattle.qcow2_types.proofs.Either.{places-refl}
+use Rattle.qcow2_types.specs.Consistency.{IsConsistent}
+use Rattle.std.proofs.lemmas.List.{append_assoc}
+use Rattle.imago_storage.specs.declared.fault.Fault.{Fault}
+use Rattle.qcow2_alloc.specs.declared.async_lru_cache.Slot.{Slot}
+use Rattle.qcow2_alloc.specs.Cache.{FlushedEach, with_value}
+use Rattle.qcow2_alloc.proofs.Flushing.Faultless.{faultless-then}
+use Rattle.qcow2_alloc.proofs.Flushing.Turns.{none-later}
+use Rattle.qcow2_alloc.specs.declared.cache.CacheDependency.{CacheDependency}
+use Rattle.qcow2_alloc.specs.Memory.{Cached, memory}
+use Rattle.qcow2_alloc.specs.Safety.{Safe, IsLeft, IsCalm, IsSettled}
+use Rattle.qcow2_alloc.specs.Going.{Going, Always, InTurn}
+
+-- A file may be left as it is,
+pub left-same : (f g : Bytes) (H : Header) → IsConsistent f H → IsLeft f g H f
+left-same f g H was = record { consistent = was; words = record { places = places-refl f H.fields; slots = λ i j live. inl refl }; bytes = λ p. inl refl }
+
+-- and a file that is left behind one that is left is left.
+pub left-then : (f x g : Bytes) (H : Header) (y : Bytes) → IsLeft f g H x → IsLeft x g H y → IsLeft f g H y
+left-then f x g H y first second = record {
+  consistent = second.consistent;
+  words = record {
+    places = record { l1 = λ i. second.words.places.l1 i ∙ first.words.places.l1 i; blocks = λ i. second.words.places.blocks i ∙ first.words.places.blocks i };
+    slots = λ i j live.
+        let live' : Live (l2_table x H.fields) H.fields i j = record { in_l1 = live.in_l1; is_there = (λ e. live.is_there (sym (first.words.places.l1 i) ∙ e)); in_table = live.in_table } in
+        elim (second.words.slots i j live') [
+          | inl same ↦ elim (first.words.slots i j live) [ inl was ↦ inl (same ∙ was) | inr now ↦ inr (same ∙ now) ]
+          | inr now ↦ inr now
+        ];
+  };
+  bytes = λ p. elim (second.bytes p) [
+    | inl same ↦ elim (first.bytes p) [ inl was ↦ inl (same ∙ was) | inr now ↦ inr (same ∙ now) ]
+    | inr now ↦ inr now
+  ];
+}
+
+module _ (H : Header) (order : CacheDependency) (Ready : Cached → Type 0) where
+  pub settled-same : (f : List ℕ) (cached : Cached) → Safe (bytes_of f) H cached order → IsSettled H order f cached f cached
+  settled-same f cached safe = record { safe = safe; memory_same = refl; left = left-same (bytes_of f) (memory (bytes_of f) H.fields cached) H safe.consistent }
+
+  -- none,
+  pub going-none : (ok : Type 0) (old : StorageState) (cached : Cached) → Going H order Ready ok old cached old cached
+  going-none ok old cached = record {
+    shape = refl;
+    later = later_same old;
+    faults = λ o. (refl, refl);
+    ready = λ r. r;
+    passes = λ keeps safe ready calm. (λ same. same, no_stops _ old old refl refl);
+    holds = λ keeps safe ready why. settled-same old.bytes cached safe;
+  }
+
+  settled-then : (a b c : List ℕ) (A B C : Cached) → IsSettled H order a A b B → IsSettled H order b B c C → IsSettled H order a A c C
+  settled-then a b c A B C first second = record {
+    safe = second.safe;
+    memory_same = second.memory_same ∙ first.memory_same;
+    left = left-then (bytes_of a) (bytes_of b) (memory (bytes_of a) H.fields A) H (bytes_of c) first.left (subst (λ (g : Bytes). IsLeft (bytes_of b) g H (bytes_of c)) first.memory_same second.left);
+  }
+
+-- Some more, also where the first make ready for the second.
+pub going-both-from : (H : Header) (order : CacheDependency) (Ready Ready' : Cached → Type 0) (ok ok' : Type 0) (a b c : StorageState) (A B C : Cached)
+    → (IsTrue a.shape.keeps → Safe (bytes_of a.bytes) H A order → Ready A → IsSettled H order a.bytes A b.bytes B → Ready' B) → (Ready A → Ready C)
+    → Going H order Ready ok a A b B → Going H order Ready' ok' b B c C → Going H order Ready (ok × ok') a A c C
+going-both-from H order Ready Ready' ok ok' a b c A B C from stays first second = record {
+  shape = second.shape ∙ first.shape;
+  later = later_both a b c first.later second.later;
+  faults = λ both. faultless-then (first.faults both.0) (second.faults both.1);
+  ready = stays;
+  passes = λ keeps safe ready calm.
+      let calm-first : Rose a.refusals b.refusals → ⊥ = λ r. calm (rose_before a.refusals b.refusals c.refusals r second.later.refusals) in
+      let calm-second : Rose b.refusals c.refusals → ⊥ = λ r. calm (rose_behind a.refusals b.refusals c.refusals first.later.refusals r) in
+      let one = first.passes keeps safe ready calm-first in
+      let mid : InStep a → IsTrue a.shape.tells → IsSettled H order a.bytes A b.bytes B = λ same tells. first.holds keeps safe ready (inr (record { calm = calm-first; in_step = same; tells = tells })) in
+      let two : (same : InStep a) (tells : IsTrue a.shape.tells) → (InStep b → InStep c) × Stops (λ x. IsLeft (bytes_of b.bytes) (memory (bytes_of b.bytes) H.fields B) H (bytes_of x)) b c =
+      λ same tells. second.passes (keeps_on a b first.shape keeps) (mid same tells).safe (from keeps safe ready (mid same tells)) calm-second in (
+        λ same tells' keeps'. (two same (tells_back tells')).0 (one.0 same) tells' keeps',
+        λ same tells keeps'.
+            let m = mid same tells in
+            stops_both (λ x. IsLeft (bytes_of a.bytes) (memory (bytes_of a.bytes) H.fields A) H (bytes_of x)) (λ x. IsLeft (bytes_of b.bytes) (memory (bytes_of b.bytes) H.fields B) H (bytes_of x))
+            (λ x. IsLeft (bytes_of a.bytes) (memory (bytes_of a.bytes) H.fields A) H (bytes_of x)) a b c first.shape one.0 (λ _ x l. l)
+            (λ _ x l. left-then (bytes_of a.bytes) (bytes_of b.bytes) (memory (bytes_of a.bytes) H.fields A) H (bytes_of x) m.left (subst (λ (g : Bytes). IsLeft (bytes_of b.bytes) g H (bytes_of x)) m.memory_same l))
+            one.1 (two same tells).1 same tells keeps',
+      );
+  holds = λ keeps safe ready why.
+      let calm-first : IsCalm a c → IsCalm a b = λ k. record { calm = (λ r. k.calm (rose_before a.refusals b.refusals c.refusals r second.later.refusals)); in_step = k.in_step; tells = k.tells } in
+      let m = first.holds keeps safe ready (elim why [ inl both ↦ inl both.0 | inr k ↦ inr (calm-first k) ]) in
+      let calm-second : IsCalm a c → IsCalm b c = λ k. record {
+        calm = (λ r. k.calm (rose_behind a.refusals b.refusals c.refusals first.later.refusals r));
+        in_step = (first.passes keeps safe ready (calm-first k).calm).0 k.in_step;
+        tells = tells_on' k.tells;
+      } in
+      settled-then H order Ready a.bytes b.bytes c.bytes A B C m (second.holds (keeps_on a b first.shape keeps) m.safe (from keeps safe ready m) (elim why [ inl both ↦ inl both.1 | inr k ↦ inr (calm-second k) ]));
+}
+  where
+    tells_back : IsTrue c.shape.tells → IsTrue a.shape.tells
+    tells_back = subst (λ (s : Shape). IsTrue s.tells) (second.shape ∙ first.shape)
+
+    tells_on' : IsTrue a.shape.tells → IsTrue b.shape.tells
+    tells_on' = subst (λ (s : Shape). IsTrue s.tells) (sym first.shape)
+
+pub going-both : (H : Header) (order : CacheDependency) (Ready : Cached → Type 0) (ok ok' : Type 0) (a b c : StorageState) (A B C : Cached) → Going H order Ready ok a A b B → Going H order Ready ok' b B c C → Going H order Ready (ok × ok') a A c C
+going-both H order Ready ok ok' a b c A B C first second = going-both-from H order Ready Ready ok ok' a b c A B C (λ keeps safe r m. first.ready r) (λ r. second.ready (first.ready r)) first second
+
+-- what succeeded may be said otherwise
+pub going-weaker : (H : Header) (order : CacheDependency) (Ready : Cached → Type 0) (ok ok' : Type 0) (a b : StorageState) (A B : Cached) → (ok' → ok) → Going H order Ready ok a A b B → Going H order Ready ok' a A b B
+going-weaker H order Ready ok ok' a b A B from h = record {
+  shape = h.shape;
+  later = h.later;
+  faults = λ o. h.faults (from o);
+  ready = h.ready;
+  passes = h.passes;
+  holds = λ keeps safe ready why. h.holds keeps safe ready (elim why [ inl done ↦ inl (from done) | inr calm ↦ inr calm ]);
+}
+
+-- also from what is safe
+pub going-safely : (H : Header) (order : CacheDependency) (Ready : Cached → Type 0) (ok ok' : Type 0) (a b : StorageState) (A B : Cached) → (ok' → IsFaultless a b) → (Safe (bytes_of a.bytes) H A order → ok' → ok) → Going H order Ready ok a A b B → Going H order Ready ok' a A b B
+going-safely H order Ready ok ok' a b A B faultless from h = record {
+  shape = h.shape;
+  later = h.later;
+  faults = faultless;
+  ready = h.ready;
+  passes = h.passes;
+  holds = λ keeps safe ready why. h.holds keeps safe ready (elim why [ inl done ↦ inl (from safe done) | inr calm ↦ inr calm ]);
+}
+
+-- All entries of a cache are flushed, from the last to the first.
+module _ {V D : Type 0} (state : D → StorageState) (flushes : D → ℕ → V → Result Unit Fault → D → V → Type 0) (H : Header) (order : CacheDependency) (Ready : Cached → Type 0) (put : List (ℕ × Slot V) → Cached)
+    (step : (front : List (ℕ × Slot V)) (key : ℕ) (slot : Slot V) (back : List (ℕ × Slot V)) (old new : D) (result : Result Unit Fault) (value : V) → flushes old key slot.value result new value
+    → Going H order Ready (result ≡ Ok tt) (state old) (put (front ++ (key, slot) ∷ back)) (state new) (put (front ++ (key, record slot { value = value }) ∷ back))) where
+  each-behind : (front es : List (ℕ × Slot V)) (before : D) (outcome : Option Fault) (after : D) (es' : List (ℕ × Slot V)) → FlushedEach flushes before es outcome after es'
+      → Going H order Ready (outcome ≡ None) (state before) (put (front ++ es)) (state after) (put (front ++ es'))
+  each-behind front [] before outcome after es' flushed =
+      subst (λ (d : D). Going H order Ready (outcome ≡ None) (state before) (put (front ++ [])) (state d) (put (front ++ es'))) (sym flushed.1)
+      (subst (λ (l : List (ℕ × Slot V)). Going H order Ready (outcome ≡ None) (state before) (put (front ++ [])) (state before) (put (front ++ l))) (sym flushed.2)
+      (going-none H order Ready (outcome ≡ None) (state before) (put (front ++ []))))
+  each-behind front (e ∷ es) before outcome after es' (mid, first, rest, earlier, result, value, flush, worst, is) =
+      let one = each-behind (front ++ e ∷ []) es before first mid rest earlier in
+      let one' : Going H order Ready (first ≡ None) (state before) (put (front ++ e ∷ es)) (state mid) (put (front ++ e ∷ rest)) =
+      subst (λ (l : List (ℕ × Slot V)). Going H order Ready (first ≡ None) (state before) (put l) (state mid) (put (front ++ e ∷ rest))) (append_assoc front (e ∷ []) es)
+      (subst (λ (l : List (ℕ × Slot V)). Going H order Ready (first ≡ None) (state before) (put ((front ++ e ∷ []) ++ es)) (state mid) (put l)) (append_assoc front (e ∷ []) rest) one) in
+      let both = going-both H order Ready (first ≡ None) (result ≡ Ok tt) (state before) (state mid) (state after) (put (front ++ e ∷ es)) (put (front ++ e ∷ rest)) (put (front ++ with_value e value ∷ rest)) one' (step front e.0 e.1 rest mid after result value flush) in
+      subst (λ (l : List (ℕ × Slot V)). Going H order Ready (outcome ≡ None) (state before) (put (front ++ e ∷ es)) (state after) (put (front ++ l))) (sym is)
+      (going-weaker H order Ready ((first ≡ None) × (result ≡ Ok tt)) (outcome ≡ None) (state before) (state after) (put (front ++ e ∷ es)) (put (front ++ with_value e value ∷ rest)) (λ none. none-later first result (sym worst ∙ none)) both)
+
+  pub each-flushed : (es : List (ℕ × Slot V)) (before : D) (outcome : Option Fault) (after : D) (es' : List (ℕ × Slot V)) → FlushedEach flushes before es outcome after es'
+      → Going H order Ready (outcome ≡ None) (state before) (put es) (state after) (put es')
+  each-flushed = each-behind []
+
+-- What is always so is so under any premise.
+pub going-under : (H : Header) (order : CacheDependency) (P : Type 0) (ok : Type 0) (a b : StorageState) (A B : Cached) → Going H order Always ok a A b B → Going H order (λ _. P) ok a A b B
+going-under H order P ok a b A B h = record {
+  shape = h.shape;
+  later = h.later;
+  faults = h.faults;
+  ready = λ r. r;
+  passes = λ keeps safe r. h.passes keeps safe tt;
+  holds = λ keeps safe r. h.holds keeps safe tt;
+}
+
+-- What may be written at once,
+pub going-now : (H : Header) (order : CacheDependency) (Ready : Cached → Type 0) (ok : Type 0) (a b : StorageState) (A B : Cached) → Ready A → Going H order Ready ok a A b B → Going H order Always ok a A b B
+going-now H order Ready ok a b A B ready h = record {
+  shape = h.shape;
+  later = h.later;
+  faults = h.faults;
+  ready = λ r. tt;
+  passes = λ keeps safe r. h.passes keeps safe ready;
+  holds = λ keeps safe r. h.holds keeps safe ready;
+}
+
+-- or after calls that saw to it.
+pub going-ready : (H : Header) (order : CacheDependency) (Ready : Cached → Type 0) (ok ok' : Type 0) (a b c : StorageState) (A B C : Cached) → ok → Ready B → Going H order Always ok a A b B → Going H order Ready ok' b B c C → Going H order Always ok' a A c C
+going-ready H order Ready ok ok' a b c A B C done ready first second =
+    going-weaker H order Always (ok × ok') ok' a c A C (λ d. (done, d)) (going-both H order Always ok ok' a b c A B C first (going-now H order Ready ok' b c B C ready second))
+
+-- What is done in turn, where the first succeeded, and where it didn't.
+module _ (First Second : StorageState → Cached → Result Unit Fault → StorageState → Cached → Type 0) (a b : StorageState) (A B : Cached) where
+  pub in-turn-both : (c : StorageState) (C : Cached) (result : Result Unit Fault) → First a A (Ok tt) b B → Second b B result c C → InTurn First Second a A result c C
+  in-turn-both c C result first second = record { mid = b; between = B; answer = Ok tt; first = first; halted = λ e. absurd (cc e); second = λ done. second }
+
+  pub in-turn-halted : (fault : Fault) → First a A (Err fault) b B → InTurn First Second a A (Err fault) b B
+  in-turn-halted fault first = record { mid = b; between = B; answer = Err fault; first = first; halted = λ e. (refl, refl, refl); second = λ done. absurd (cc done) }

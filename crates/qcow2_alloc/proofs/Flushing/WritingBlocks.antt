@@ -1,0 +1,234 @@
+-- A modified block is written to its cluster: the file stays consistent, and what is cached stays safe.
+use Rattle.std.proofs.Common.{◌≡◌, ◌≢◌, ℕ, ◌+◌, ◌-◌, ◌*◌, ◌/◌, ◌^◌, ◌<◌, ◌≤◌, refl, arith, ap, sym, subst, ◌∙◌, List, ◌∷◌, length, true, false, inl, inr}
+use Rattle.std.specs.Prelude.{Some, ◌⊎◌, nat_eq, slice_index}
+use Rattle.std.specs.List.{AllByRecursion, IsDistinct}
+use Rattle.std.proofs.lemmas.Bool.{cases_lt, cases_eq}
+use Rattle.std.proofs.lemmas.Nat.{pow_pos}
+use Rattle.std.proofs.lemmas.Grind.{same_number_lists}
+use Rattle.std.proofs.lemmas.List.FromFn.{length-map-range_with_len, get_or-map-range_with_len}
+use Rattle.qcow2_types.proofs.Parts.{block_at-kept}
+use Rattle.qcow2_types.specs.Bytes.{Bytes, bytes_of, splice, word}
+use Rattle.qcow2_types.specs.Header.{Header, Shaped, cluster_size, words_of_cluster, refcount_table_entries}
+use Rattle.qcow2_types.specs.Entries.{l2_table}
+use Rattle.qcow2_types.specs.Counts.{block_at, count, counter, counter_of, counters_of_block}
+use Rattle.qcow2_types.specs.References.{refs}
+use Rattle.qcow2_types.specs.BlockBytes.{block_bytes}
+use Rattle.qcow2_types.specs.Frames.{Same, Outside, Kept, block}
+use Rattle.qcow2_types.specs.Steps.{BlockWritten}
+use Rattle.qcow2_types.specs.Versions.{NamedApart, SamePlaces, IsBetween, KeepsSlots}
+use Rattle.qcow2_types.proofs.BlockSteps.{block-kept, block-written, counters-written}
+use Rattle.qcow2_types.proofs.Counters.{count-same, counter-same}
+use Rattle.qcow2_types.proofs.Either.{refs-file, refs-kept, between-kept, block-before-tables, block-after-tables, block-without-order}
+use Rattle.qcow2_types.proofs.Frames.{splice-is-outside}
+use Rattle.qcow2_types.proofs.Splices.{splice-inside, splice-outside}
+use Rattle.qcow2_types.proofs.Stops.{apart-falls}
+use Rattle.qcow2_metadata.specs.Tables.{TableValue, words_in}
+use Rattle.qcow2_metadata.specs.Blocks.{Block, counters_in}
+use Rattle.qcow2_alloc.specs.declared.async_lru_cache.Slot.{Slot}
+use Rattle.qcow2_alloc.specs.declared.cache.CacheDependency.{CacheDependency}
+use Rattle.qcow2_alloc.specs.declared.cache.CacheDependency.TheVariants.{Unset, L2DependsOnRb, RbDependsOnL2}
+use Rattle.qcow2_alloc.specs.Memory.{memory}
+use Rattle.qcow2_alloc.specs.Safety.{IsCachedTable, IsCachedBlock, IsOrdered, Safe, IsLeft, AreTablesClean}
+use Rattle.qcow2_alloc.proofs.Freeing.Lists.{map-same}
+use Rattle.qcow2_alloc.proofs.Memory.Patches.{all-append, all-front, all-back, all-weaker, all-both, others-before, others-behind, places-differ, place-there, block-length, shaped-in}
+use Rattle.qcow2_alloc.proofs.Caching.CachedBlocks.{blocks_with, this-block, block-shows, block-settled}
+use Rattle.qcow2_alloc.proofs.Memory.MemoryWords.{places-in-memory, slot-same}
+use Rattle.qcow2_alloc.proofs.Flushing.WritingTables.{keys-with}
+
+block-number : (i k : ℕ) → block i ≡ block k → i ≡ k
+block-number i k same = cc
+
+module _ (f : Bytes) (H : Header) (tables : List (ℕ × Slot TableValue)) (front : List (ℕ × Slot Block)) (key : ℕ) (here : Slot Block) (back : List (ℕ × Slot Block)) (order : CacheDependency)
+    (safe : Safe f H (blocks_with tables front key here back) order) (modified : here.value.modified ≡ true)
+    (ready : order ≡ RbDependsOnL2 → AreTablesClean (blocks_with tables front key here back)) where
+  abbrev g : Bytes
+  g = memory f H.fields (blocks_with tables front key here back)
+
+  this : IsCachedBlock f H.fields key here.value
+  this = this-block f H safe.consistent tables front key here back safe.blocks_apart modified safe.tables safe.blocks
+
+  abbrev r : ℕ
+  r = (this.modified modified).0
+
+  lt : r < refcount_table_entries H.fields
+  lt = (this.modified modified).1
+
+  place : block_at f H.fields r ≡ key * cluster_size H.fields
+  place = (this.modified modified).2
+
+  there : block_at f H.fields r ≢ 0
+  there = λ none. place-there (cluster_size H.fields) key (pow_pos H.fields.cluster_bits) (this.modified modified).3 (sym place ∙ none)
+
+  abbrev bytes : List ℕ
+  bytes = block_bytes here.value.order here.value.counters
+
+  fits : Shaped H.fields
+  fits = shaped-in f H safe.consistent
+
+  all : length bytes ≡ cluster_size H.fields
+  all = block-length H.fields fits here.value.order here.value.counters this.order this.long
+
+  shown : (k : ℕ) → k < cluster_size H.fields → slice_index bytes k ≡ g (block_at f H.fields r + k)
+  shown k less = subst (λ t. slice_index bytes k ≡ g (t + k)) (sym place) (sym (block-shows f H safe.consistent tables front key here back safe.blocks_apart modified safe.tables safe.blocks k (omega (arith, less, all))))
+
+  places : SamePlaces f g H.fields
+  places = places-in-memory f H safe.consistent (blocks_with tables front key here back) safe.tables safe.blocks
+
+  abbrev x : Bytes
+  x = splice f (block_at f H.fields r) bytes
+
+  outside : Outside f x (block_at f H.fields r) (length bytes)
+  outside = splice-is-outside f (block_at f H.fields r) bytes
+
+  keeps : Kept f x H.fields (block r)
+  keeps = let some : 0 < cluster_size H.fields = pow_pos H.fields.cluster_bits in
+      block-kept f H safe.consistent r there x (block_at f H.fields r) (length bytes) (omega (arith, some, all)) outside (omega arith) (omega (arith, all))
+
+  -- what its clusters are counted is what memory says
+  counts-here : (c : ℕ) → c / counters_of_block H.fields ≡ r → (block_at x H.fields r ≡ block_at f H.fields r) → count x H.fields c ≡ count g H.fields c
+  counts-here c own kept_place = sym (count-same x g H.fields c fits
+      (subst (λ b. block_at g H.fields b ≡ block_at x H.fields b) (sym own) (places.blocks r ∙ sym kept_place))
+      (λ some. subst (λ b. Same x g (block_at x H.fields b) (cluster_size H.fields)) (sym own)
+      (subst (λ t. Same x g t (cluster_size H.fields)) (sym kept_place) (λ k less. sym (shown k less) ∙ sym (splice-inside f (block_at f H.fields r) bytes k (omega (arith, less, all)))))))
+
+  same_place : block_at x H.fields r ≡ block_at f H.fields r
+  same_place = block_at-kept f x H.fields (block r) keeps r (λ e. cc)
+
+  -- while no table is modified, words mean in memory what they do in the file
+  words-kept : AreTablesClean (blocks_with tables front key here back) → KeepsSlots f g H.fields
+  words-kept clean = record {
+    places = places;
+    slots = λ i j live. slot-same f H safe.consistent (blocks_with tables front key here back) safe.tables safe.blocks i j live
+        (all-weaker _ _ (λ e off m. absurd (let both = sym off ∙ m in cc)) tables clean);
+  }
+
+  covers-by : (o : CacheDependency) → order ≡ o → IsOrdered o f g H.fields → (c : ℕ) → refs f H.fields c ≤ count g H.fields c
+  covers-by Unset is both c = let a = refs-file f g H.fields c in let b = both.0.cached c in omega (arith, a, b)
+  covers-by L2DependsOnRb is first c = let a = refs-file f g H.fields c in let b = first.cached c in omega (arith, a, b)
+  covers-by RbDependsOnL2 is first c = let a = refs-kept f g H.fields c (words-kept (ready is)) in let b = safe.covered c in omega (arith, a, b)
+
+  written : BlockWritten f x H r
+  written = block-written f H safe.consistent r there x (block_at f H.fields r) (length bytes) outside (omega arith) (omega (arith, all))
+      (λ c own. let a = covers-by order refl safe.ordered c in let b = counts-here c own same_place in omega (arith, a, b))
+
+  counts : (c : ℕ) → (count x H.fields c ≡ count f H.fields c) ⊎ (count x H.fields c ≡ count g H.fields c)
+  counts c = elim (cases_eq (c / counters_of_block H.fields) r) [
+    | inl own ↦ inr (counts-here c own same_place)
+    | inr other ↦ inl (written.counts c other)
+  ]
+
+  ordered-by : (o : CacheDependency) → order ≡ o → IsOrdered o f g H.fields → IsOrdered o x g H.fields
+  ordered-by Unset is both = (block-before-tables f x g H.fields both.0 written.keeps counts, block-without-order f x g H.fields both.0 both.1 written.keeps counts)
+  ordered-by L2DependsOnRb is first = block-before-tables f x g H.fields first written.keeps counts
+  ordered-by RbDependsOnL2 is first = block-after-tables f x g H.fields first (words-kept (ready is)) safe.covered written.keeps counts
+
+  between : IsBetween f x g H.fields
+  between = between-kept f x g H.fields written.keeps
+
+  each : (p : ℕ) → (x p ≡ f p) ⊎ (x p ≡ g p)
+  each p = elim (cases_lt p (block_at f H.fields r)) [
+    | inl before ↦ inl (splice-outside f (block_at f H.fields r) bytes p (inl before))
+    | inr le ↦ elim (cases_lt p (block_at f H.fields r + length bytes)) [
+      | inl inside ↦ inr (
+          let at : block_at f H.fields r + (p - block_at f H.fields r) ≡ p = omega (arith, le) in
+          rw at at (splice-inside f (block_at f H.fields r) bytes (p - block_at f H.fields r) (omega (arith, le, inside)) ∙ shown (p - block_at f H.fields r) (omega (arith, le, inside, all))))
+      | inr past ↦ inl (splice-outside f (block_at f H.fields r) bytes p (inr past))
+    ]
+  ]
+
+  left-there : IsLeft f g H x
+  left-there = record { consistent = written.consistent; words = between; bytes = each }
+
+  -- cached tables, and blocks at other places, fit the file as before
+  table-kept : (cluster : ℕ) (other : TableValue) → IsCachedTable f H.fields cluster other → IsCachedTable x H.fields cluster other
+  table-kept cluster other is = record {
+    fits = is.fits;
+    placed = is.placed;
+    layout = is.layout;
+    modified = λ m. let live = is.modified m in (live.0, live.1, between.places.l1 live.0 ∙ live.2, live.3);
+    clean = λ m live.
+        let at : l2_table f H.fields live.0 ≡ cluster * cluster_size H.fields = sym (between.places.l1 live.0) ∙ live.2 in
+        let there' : l2_table f H.fields live.0 ≢ 0 = λ none. place-there (cluster_size H.fields) cluster (pow_pos H.fields.cluster_bits) live.3 (sym at ∙ none) in
+        is.clean m (live.0, live.1, at, live.3)
+        ∙ subst (λ t. words_in f t (words_of_cluster H.fields) ≡ words_in x t (words_of_cluster H.fields)) at
+        (map-same (word f (l2_table f H.fields live.0)) (word x (l2_table f H.fields live.0)) (words_of_cluster H.fields)
+        (λ j less. sym (keeps.words live.0 j (record { in_l1 = live.1; is_there = there'; in_table = less }) (λ e. cc))));
+  }
+
+  block-kept-at : (cluster : ℕ) (other : Block) → key ≢ cluster → IsCachedBlock f H.fields cluster other → IsCachedBlock x H.fields cluster other
+  block-kept-at cluster other apart is = record {
+    placed = is.placed;
+    cluster_bits = is.cluster_bits;
+    order = is.order;
+    long = is.long;
+    fit = is.fit;
+    modified = λ m. let live = is.modified m in (live.0, live.1, between.places.blocks live.0 ∙ live.2, live.3);
+    clean = λ m live.
+        let at : block_at f H.fields live.0 ≡ cluster * cluster_size H.fields = sym (between.places.blocks live.0) ∙ live.2 in
+        let there' : block_at f H.fields live.0 ≢ 0 = λ none. place-there (cluster_size H.fields) cluster (pow_pos H.fields.cluster_bits) live.3 (sym at ∙ none) in
+        let away : r ≢ live.0 = λ same. places-differ (cluster_size H.fields) key cluster (pow_pos H.fields.cluster_bits) apart (sym place ∙ ap (block_at f H.fields) same ∙ at) in
+        let same : Same f x (block_at f H.fields live.0) (cluster_size H.fields) = keeps.counters live.0 live.1 there' (λ e. away (block-number r live.0 e)) in
+        is.clean m (live.0, live.1, at, live.3)
+        ∙ subst (λ t. counters_in f H.fields t ≡ counters_in x H.fields t) at
+        (map-same (counter f H.fields (block_at f H.fields live.0)) (counter x H.fields (block_at f H.fields live.0)) (counters_of_block H.fields)
+        (λ k less. sym (counter-same f x H.fields (block_at f H.fields live.0) same k less)));
+  }
+
+  module _ (packs : (k : ℕ) → k < length here.value.counters → counter_of (bytes_of bytes) (2 ^ here.value.order) 0 k ≡ slice_index here.value.counters k)
+      (settled : Slot Block) (counters_same : settled.value.counters ≡ here.value.counters) (bits_same : settled.value.cluster_bits ≡ here.value.cluster_bits) (order_same : settled.value.order ≡ here.value.order) (clean : settled.value.modified ≡ false) (at_key : settled.value.cluster ≡ Some key) where
+    memory-same : memory x H.fields (blocks_with tables front key settled back) ≡ g
+    memory-same =
+        subst (λ t. memory (splice f t bytes) H.fields (blocks_with tables front key settled back) ≡ g) (sym place)
+        (block-settled f H safe.consistent tables front key here back safe.blocks_apart modified safe.tables safe.blocks settled clean)
+
+    counters-read : counters_in x H.fields (block_at f H.fields r) ≡ here.value.counters
+    counters-read =
+        same_number_lists (counters_in x H.fields (block_at f H.fields r)) here.value.counters (length-map-range_with_len _ 0 (counters_of_block H.fields) ∙ sym this.long)
+        (λ k inside.
+        let less : k < counters_of_block H.fields = omega (arith, inside, length-map-range_with_len (counter x H.fields (block_at f H.fields r)) 0 (counters_of_block H.fields)) in
+        get_or-map-range_with_len (counter x H.fields (block_at f H.fields r)) 0 (counters_of_block H.fields) k k 0 less (omega arith)
+        ∙ counters-written f H.fields (block_at f H.fields r) bytes all k less
+        ∙ ap (λ o. counter_of (bytes_of bytes) (2 ^ o) 0 k) (sym this.order)
+        ∙ packs k (omega (arith, less, this.long)))
+
+    settled-is : IsCachedBlock x H.fields key settled.value
+    settled-is = record {
+      placed = at_key;
+      cluster_bits = bits_same ∙ this.cluster_bits;
+      order = order_same ∙ this.order;
+      long = ap (λ (l : List ℕ). length l) counters_same ∙ this.long;
+      fit = rw (counters_same, order_same) this.fit;
+      modified = λ m. absurd (let both = sym clean ∙ m in cc);
+      clean = λ m live. counters_same ∙ sym (subst (λ t. counters_in x H.fields t ≡ here.value.counters) place counters-read);
+    }
+
+    blocks-kept : (es : List (ℕ × Slot Block)) → AllByRecursion (λ e. key ≢ e.0) es → AllByRecursion (λ e. IsCachedBlock f H.fields e.0 e.1.value) es → AllByRecursion (λ e. IsCachedBlock x H.fields e.0 e.1.value) es
+    blocks-kept es apart are = all-weaker _ _ (λ e both. block-kept-at e.0 e.1.value both.0 both.1) es (all-both _ _ es apart are)
+
+    -- What is cached stays safe.
+    safe-there : Safe x H (blocks_with tables front key settled back) order
+    safe-there = record {
+      consistent = written.consistent;
+      tables_apart = safe.tables_apart;
+      blocks_apart = subst (λ (ks : List ℕ). IsDistinct nat_eq ks) (keys-with front key here settled back) safe.blocks_apart;
+      tables = all-weaker _ _ (λ e is. table-kept e.0 e.1.value is) tables safe.tables;
+      blocks = all-append _ front ((key, settled) ∷ back)
+          (blocks-kept front (others-before key here front back safe.blocks_apart) (all-front _ front ((key, here) ∷ back) safe.blocks))
+          (settled-is, blocks-kept back (others-behind key here front back safe.blocks_apart) (all-back _ front ((key, here) ∷ back) safe.blocks).1);
+      apart = subst (λ (m : Bytes). NamedApart x m H.fields) (sym memory-same) (apart-falls f x g H.fields between safe.apart);
+      ordered = subst (λ (m : Bytes). IsOrdered order x m H.fields) (sym memory-same) (ordered-by order refl safe.ordered);
+      covered = subst (λ (m : Bytes). (c : ℕ) → refs m H.fields c ≤ count m H.fields c) (sym memory-same) safe.covered;
+    }
+
+-- The block is at its cluster.
+module _ (f : Bytes) (H : Header) (tables : List (ℕ × Slot TableValue)) (front : List (ℕ × Slot Block)) (key : ℕ) (here : Slot Block) (back : List (ℕ × Slot Block)) (order : CacheDependency)
+    (safe : Safe f H (blocks_with tables front key here back) order) (modified : here.value.modified ≡ true)
+    (ready : order ≡ RbDependsOnL2 → AreTablesClean (blocks_with tables front key here back)) where
+  pub block-left : IsLeft f (memory f H.fields (blocks_with tables front key here back)) H (splice f (key * cluster_size H.fields) (block_bytes here.value.order here.value.counters))
+  block-left = subst (λ t. IsLeft f (memory f H.fields (blocks_with tables front key here back)) H (splice f t (block_bytes here.value.order here.value.counters))) (place f H tables front key here back order safe modified ready) (left-there f H tables front key here back order safe modified ready)
+
+  pub block-safe : ((k : ℕ) → k < length here.value.counters → counter_of (bytes_of (block_bytes here.value.order here.value.counters)) (2 ^ here.value.order) 0 k ≡ slice_index here.value.counters k)
+      → (settled : Slot Block) → settled.value.counters ≡ here.value.counters → settled.value.cluster_bits ≡ here.value.cluster_bits → settled.value.order ≡ here.value.order → settled.value.modified ≡ false → settled.value.cluster ≡ Some key
+      → Safe (splice f (key * cluster_size H.fields) (block_bytes here.value.order here.value.counters)) H (blocks_with tables front key settled back) order
+  block-safe packs settled counters bits order_same clean at_key = subst (λ t. Safe (splice f t (block_bytes here.value.order here.value.counters)) H (blocks_with tables front key settled back) order) (place f H tables front key here back order safe modified ready)
+      (safe-there f H tables front key here back order safe modified ready packs settled counters bits order_same clean at_key)

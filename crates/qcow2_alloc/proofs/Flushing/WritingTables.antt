@@ -1,0 +1,291 @@
+-- A modified table is written to its cluster: the file stays consistent, and what is cached stays safe.
+use Rattle.std.proofs.Common.{◌≡◌, ◌≢◌, ℕ, ◌+◌, ◌-◌, ◌*◌, ◌/◌, ◌^◌, ◌<◌, ◌≤◌, refl, arith, ap, sym, subst, ◌∙◌, List, [], ◌∷◌, ◌++◌, length, true, false, inl, inr}
+use Rattle.std.specs.Prelude.{Some, ◌⊎◌, nat_eq, slice_index, IsFalse}
+use Rattle.std.specs.List.{AllByRecursion, IsDistinct}
+use Rattle.std.specs.Map.{keys_of}
+use Rattle.std.proofs.lemmas.Bool.{cases_lt, not-true}
+use Rattle.std.proofs.lemmas.Nat.{pow_pos}
+use Rattle.std.proofs.Math.Nat.{mul-div_left}
+use Rattle.qcow2_types.specs.Bytes.{Bytes, splice, word}
+use Rattle.qcow2_types.specs.Words.{Layout, mapping_of, is_damaged}
+use Rattle.qcow2_types.specs.Header.{Header, Shaped, cluster_size, words_of_cluster, layout_of}
+use Rattle.qcow2_types.specs.Entries.{l2_table}
+use Rattle.qcow2_types.specs.Counts.{block_at, count, counter, counters_of_block}
+use Rattle.qcow2_types.specs.References.{structure, refs}
+use Rattle.qcow2_types.specs.Slots.{Live, slot}
+use Rattle.qcow2_types.specs.TableBytes.{table_bytes}
+use Rattle.qcow2_types.specs.Consistency.{IsConsistent}
+use Rattle.qcow2_types.specs.Frames.{Same, Kept, table, touches}
+use Rattle.qcow2_types.specs.Versions.{named, NamedApart, SamePlaces, IsBetween}
+use Rattle.qcow2_types.proofs.Over.{table-over}
+use Rattle.qcow2_types.proofs.Frames.{word-same}
+use Rattle.qcow2_types.proofs.Parts.{words-fit}
+use Rattle.qcow2_types.proofs.Sound.{sound-words, stop-consistent}
+use Rattle.qcow2_types.proofs.Splices.{splice-inside, splice-outside}
+use Rattle.qcow2_types.proofs.Stops.{write-between, write-counts, apart-falls}
+use Rattle.qcow2_types.proofs.Either.{table-after-blocks, table-before-blocks, table-without-order, refs-between}
+use Rattle.qcow2_types.proofs.WriteBack.{once, kept, loads-still, shaped}
+use Rattle.qcow2_metadata.specs.Tables.{TableValue, IsTable, l2_words, words_in}
+use Rattle.qcow2_metadata.specs.Blocks.{Block, counters_in}
+use Rattle.qcow2_alloc.specs.declared.async_lru_cache.Slot.{Slot}
+use Rattle.qcow2_alloc.specs.declared.cache.CacheDependency.{CacheDependency}
+use Rattle.qcow2_alloc.specs.declared.cache.CacheDependency.TheVariants.{Unset, L2DependsOnRb, RbDependsOnL2}
+use Rattle.qcow2_alloc.specs.Memory.{Cached, memory}
+use Rattle.qcow2_alloc.specs.Safety.{IsCachedTable, IsCachedBlock, IsOrdered, Safe, IsLeft, AreBlocksClean}
+use Rattle.qcow2_alloc.proofs.Memory.Patches.{all-append, all-front, all-back, all-weaker, all-both, others-before, others-behind, places-differ, table-long, place-there}
+use Rattle.qcow2_alloc.proofs.Freeing.Lists.{map-same}
+use Rattle.qcow2_metadata.proofs.WrittenBack.{read_back}
+use Rattle.qcow2_types.proofs.Counters.{counter-same}
+use Rattle.qcow2_alloc.proofs.Caching.CachedTables.{tables_with, table-shows, table-settled}
+use Rattle.qcow2_alloc.proofs.Memory.MemoryWords.{find-table, places-in-memory, slot-same, counts-same}
+
+table-number : (i k : ℕ) → table i ≡ table k → i ≡ k
+table-number i k same = cc
+
+-- what a modified table's words are in memory
+module _ (f : Bytes) (H : Header) (was : IsConsistent f H) (front : List (ℕ × Slot TableValue)) (key : ℕ) (here : Slot TableValue) (back : List (ℕ × Slot TableValue)) (blocks : List (ℕ × Slot Block))
+    (apart : IsDistinct nat_eq (keys_of (front ++ (key, here) ∷ back))) (modified : here.value.modified ≡ true)
+    (tables : AllByRecursion (λ e. IsCachedTable f H.fields e.0 e.1.value) (front ++ (key, here) ∷ back)) (cached_blocks : AllByRecursion (λ e. IsCachedBlock f H.fields e.0 e.1.value) blocks) where
+  pub this-table : IsCachedTable f H.fields key here.value
+  this-table = (all-back (λ e. IsCachedTable f H.fields e.0 e.1.value) front ((key, here) ∷ back) tables).0
+
+  long : length (table_bytes here.value.words) ≡ cluster_size H.fields
+  long = table-long f H was here.value this-table.fits this-table.layout
+
+  shows : (k : ℕ) → k < cluster_size H.fields → slice_index (table_bytes here.value.words) k ≡ memory f H.fields (tables_with front key here back blocks) (key * cluster_size H.fields + k)
+  shows k lt = sym (table-shows f H was front key here back blocks apart modified tables cached_blocks k (omega (arith, lt, long)))
+
+  pub word-within : (j : ℕ) → j < words_of_cluster H.fields → j < length here.value.words
+  word-within j lt =
+      let whole : length here.value.words * 8 ≡ 2 ^ here.value.layout.cluster_bits = this-table.fits.long in
+      let bits : 2 ^ here.value.layout.cluster_bits ≡ cluster_size H.fields = ap (λ (l : Layout). 2 ^ l.cluster_bits) this-table.layout in
+      let fits : 8 * j + 8 ≤ cluster_size H.fields = words-fit H.fields j lt in
+      omega (arith, whole, bits, fits)
+
+  -- each word is the table's
+  pub word-here : (j : ℕ) → j < words_of_cluster H.fields → word (memory f H.fields (tables_with front key here back blocks)) (key * cluster_size H.fields) j ≡ slice_index here.value.words j
+  word-here j lt =
+      let g : Bytes = memory f H.fields (tables_with front key here back blocks) in
+      let at : ℕ = key * cluster_size H.fields in
+      let same : Same (splice f (key * cluster_size H.fields) (table_bytes here.value.words)) (memory f H.fields (tables_with front key here back blocks)) (key * cluster_size H.fields) (cluster_size H.fields) =
+      (λ k less. sym (shows k less) ∙ sym (splice-inside f (key * cluster_size H.fields) (table_bytes here.value.words) k (omega (arith, less, long)))) in
+      word-same (splice f (key * cluster_size H.fields) (table_bytes here.value.words)) (memory f H.fields (tables_with front key here back blocks)) (key * cluster_size H.fields) (cluster_size H.fields) j same (words-fit H.fields j lt)
+      ∙ table-over f (key * cluster_size H.fields) here.value.words j this-table.fits.fit (word-within j lt)
+
+-- Each word in memory has a meaning.
+module _ (f : Bytes) (H : Header) (was : IsConsistent f H) where
+  sound-here : (front : List (ℕ × Slot TableValue)) (key : ℕ) (here : Slot TableValue) (back : List (ℕ × Slot TableValue)) (blocks : List (ℕ × Slot Block))
+      → IsDistinct nat_eq (keys_of (front ++ (key, here) ∷ back)) → here.value.modified ≡ true
+      → AllByRecursion (λ e. IsCachedTable f H.fields e.0 e.1.value) (front ++ (key, here) ∷ back) → AllByRecursion (λ e. IsCachedBlock f H.fields e.0 e.1.value) blocks
+      → (i j : ℕ) → Live (l2_table f H.fields) H.fields i j → key * cluster_size H.fields ≡ l2_table f H.fields i
+      → IsFalse (is_damaged (slot (memory f H.fields (tables_with front key here back blocks)) H.fields i j))
+  sound-here front key here back blocks apart modified tables cached_blocks i j live place =
+      let this = this-table f H was front key here back blocks apart modified tables cached_blocks in
+      let places = places-in-memory f H was (tables_with front key here back blocks) tables cached_blocks in
+      let means : slot (memory f H.fields (tables_with front key here back blocks)) H.fields i j ≡ mapping_of (layout_of H.fields) (slice_index here.value.words j) =
+      ap (λ t. mapping_of (layout_of H.fields) (word (memory f H.fields (tables_with front key here back blocks)) t j)) (places.l1 i ∙ sym place)
+      ∙ ap (mapping_of (layout_of H.fields)) (word-here f H was front key here back blocks apart modified tables cached_blocks j live.in_table) in
+      ap is_damaged means ∙ subst (λ (l : Layout). is_damaged (mapping_of l (slice_index here.value.words j)) ≡ false) this.layout
+      (not-true _ (this.fits.sound j (word-within f H was front key here back blocks apart modified tables cached_blocks j live.in_table)))
+
+  pub memory-sound : (cached : Cached) → IsDistinct nat_eq (keys_of cached.tables) → AllByRecursion (λ e. IsCachedTable f H.fields e.0 e.1.value) cached.tables → AllByRecursion (λ e. IsCachedBlock f H.fields e.0 e.1.value) cached.blocks
+      → (i j : ℕ) → Live (l2_table f H.fields) H.fields i j → IsFalse (is_damaged (slot (memory f H.fields cached) H.fields i j))
+  memory-sound cached apart tables blocks i j live = elim (find-table (cluster_size H.fields) (l2_table f H.fields i) cached.tables) [
+    | inl a ↦
+        subst (λ (ts : List (ℕ × Slot TableValue)). IsFalse (is_damaged (slot (memory f H.fields (record { tables = ts; blocks = cached.blocks })) H.fields i j))) (sym a.is)
+        (sound-here a.front a.key a.slot a.back cached.blocks (subst (λ (ts : List (ℕ × Slot TableValue)). IsDistinct nat_eq (keys_of ts)) a.is apart) a.modified
+        (subst (λ (ts : List (ℕ × Slot TableValue)). AllByRecursion (λ e. IsCachedTable f H.fields e.0 e.1.value) ts) a.is tables) blocks i j live a.place_is)
+    | inr none ↦ ap is_damaged (slot-same f H was cached tables blocks i j live none) ∙ (sound-words f H.fields was.readable.tables).slots i j live
+  ]
+
+-- keys are the same with another value
+pub keys-with : {V : Type 0} (front : List (ℕ × V)) (key : ℕ) (v w : V) (back : List (ℕ × V)) → keys_of (front ++ (key, v) ∷ back) ≡ keys_of (front ++ (key, w) ∷ back)
+keys-with [] key v w back = refl
+keys-with (e ∷ front) key v w back = ap (λ l. e.0 ∷ l) (keys-with front key v w back)
+
+module _ (f : Bytes) (H : Header) (front : List (ℕ × Slot TableValue)) (key : ℕ) (here : Slot TableValue) (back : List (ℕ × Slot TableValue)) (blocks : List (ℕ × Slot Block)) (order : CacheDependency)
+    (safe : Safe f H (tables_with front key here back blocks) order) (modified : here.value.modified ≡ true)
+    (ready : order ≡ L2DependsOnRb → AreBlocksClean (tables_with front key here back blocks)) where
+  abbrev g : Bytes
+  g = memory f H.fields (tables_with front key here back blocks)
+
+  this : IsCachedTable f H.fields key here.value
+  this = this-table f H safe.consistent front key here back blocks safe.tables_apart modified safe.tables safe.blocks
+
+  abbrev i : ℕ
+  i = (this.modified modified).0
+
+  lt : i < H.fields.l1_entries
+  lt = (this.modified modified).1
+
+  place : l2_table f H.fields i ≡ key * cluster_size H.fields
+  place = (this.modified modified).2
+
+  there : l2_table f H.fields i ≢ 0
+  there = λ none. place-there (cluster_size H.fields) key (pow_pos H.fields.cluster_bits) (this.modified modified).3 (sym place ∙ none)
+
+  abbrev bytes : List ℕ
+  bytes = table_bytes here.value.words
+
+  all : length bytes ≡ cluster_size H.fields
+  all = table-long f H safe.consistent here.value this.fits this.layout
+
+  shown : (k : ℕ) → k < cluster_size H.fields → slice_index bytes k ≡ g (l2_table f H.fields i + k)
+  shown k less = subst (λ t. slice_index bytes k ≡ g (t + k)) (sym place) (sym (table-shows f H safe.consistent front key here back blocks safe.tables_apart modified safe.tables safe.blocks k (omega (arith, less, all))))
+
+  places : SamePlaces f g H.fields
+  places = places-in-memory f H safe.consistent (tables_with front key here back blocks) safe.tables safe.blocks
+
+  abbrev x : Bytes
+  x = splice f (l2_table f H.fields i) bytes
+
+  fits : Shaped H.fields
+  fits = shaped f g H i bytes safe.consistent lt there all shown places
+
+  alone : structure f H.fields (touches (l2_table f H.fields i) (length bytes)) ≤ 1
+  alone = once f g H i bytes safe.consistent lt there all shown places
+
+  keeps : Kept f x H.fields (table i)
+  keeps = kept f g H i bytes safe.consistent lt there all shown places
+
+  between : IsBetween f x g H.fields
+  between = write-between f g H.fields i bytes fits lt there all shown alone places
+
+  counts : (c : ℕ) → count x H.fields c ≡ count f H.fields c
+  counts = write-counts f g H.fields i bytes fits lt there all shown alone places
+
+  clean : order ≡ L2DependsOnRb → (c : ℕ) → count g H.fields c ≡ count f H.fields c
+  clean announced = counts-same f H safe.consistent (tables_with front key here back blocks) safe.tables safe.blocks (ready announced)
+
+  ordered-by : (o : CacheDependency) → order ≡ o → IsOrdered o f g H.fields → IsOrdered o x g H.fields
+  ordered-by Unset is both = (table-without-order f x g H.fields both.0 both.1 between counts, table-before-blocks f x g H.fields both.1 between counts)
+  ordered-by L2DependsOnRb is first = table-after-blocks f x g H.fields first (clean is) between counts
+  ordered-by RbDependsOnL2 is first = table-before-blocks f x g H.fields first between counts
+
+  ordered : IsOrdered order x g H.fields
+  ordered = ordered-by order refl safe.ordered
+
+  counted-by : (o : CacheDependency) → IsOrdered o x g H.fields → IsOrdered o f g H.fields → (c : ℕ) → refs x H.fields c ≤ count x H.fields c
+  counted-by Unset both was c = both.0.file c
+  counted-by L2DependsOnRb first was c = first.file c
+  counted-by RbDependsOnL2 first was c =
+      let less : refs x H.fields c ≤ named f g H.fields c = refs-between f x g H.fields c between in
+      let covers : named f g H.fields c ≤ count f H.fields c = was.file c in
+      omega (arith, less, covers, counts c)
+
+  consistent : IsConsistent x H
+  consistent = stop-consistent f x g H safe.consistent (loads-still f g H i bytes safe.consistent lt there all shown places)
+      (record { l1 = λ k less. keeps.l1 k less (λ e. cc); blocks = λ k less. keeps.blocks k less (λ e. cc) }) between
+      (memory-sound f H safe.consistent (tables_with front key here back blocks) safe.tables_apart safe.tables safe.blocks) safe.apart
+      (counted-by order ordered safe.ordered)
+
+  each : (p : ℕ) → (x p ≡ f p) ⊎ (x p ≡ g p)
+  each p = elim (cases_lt p (l2_table f H.fields i)) [
+    | inl before ↦ inl (splice-outside f (l2_table f H.fields i) bytes p (inl before))
+    | inr le ↦ elim (cases_lt p (l2_table f H.fields i + length bytes)) [
+      | inl inside ↦ inr (
+          let at : l2_table f H.fields i + (p - l2_table f H.fields i) ≡ p = omega (arith, le) in
+          rw at at (splice-inside f (l2_table f H.fields i) bytes (p - l2_table f H.fields i) (omega (arith, le, inside)) ∙ shown (p - l2_table f H.fields i) (omega (arith, le, inside, all))))
+      | inr past ↦ inl (splice-outside f (l2_table f H.fields i) bytes p (inr past))
+    ]
+  ]
+
+  left-there : IsLeft f g H x
+  left-there = record { consistent = consistent; words = between; bytes = each }
+
+  -- cached tables at other places, and blocks, fit the file as before
+  table-kept : (cluster : ℕ) (other : TableValue) → key ≢ cluster → IsCachedTable f H.fields cluster other → IsCachedTable x H.fields cluster other
+  table-kept cluster other apart is = record {
+    fits = is.fits;
+    placed = is.placed;
+    layout = is.layout;
+    modified = λ m. let live = is.modified m in (live.0, live.1, between.places.l1 live.0 ∙ live.2, live.3);
+    clean = λ m live.
+        let at : l2_table f H.fields live.0 ≡ cluster * cluster_size H.fields = sym (between.places.l1 live.0) ∙ live.2 in
+        let there' : l2_table f H.fields live.0 ≢ 0 = λ none. place-there (cluster_size H.fields) cluster (pow_pos H.fields.cluster_bits) live.3 (sym at ∙ none) in
+        let away : i ≢ live.0 = λ same. places-differ (cluster_size H.fields) key cluster (pow_pos H.fields.cluster_bits) apart (sym place ∙ ap (l2_table f H.fields) same ∙ at) in
+        is.clean m (live.0, live.1, at, live.3)
+        ∙ subst (λ t. words_in f t (words_of_cluster H.fields) ≡ words_in x t (words_of_cluster H.fields)) at
+        (map-same (word f (l2_table f H.fields live.0)) (word x (l2_table f H.fields live.0)) (words_of_cluster H.fields)
+        (λ j less. sym (keeps.words live.0 j (record { in_l1 = live.1; is_there = there'; in_table = less }) (λ e. away (table-number i live.0 e)))));
+  }
+
+  block-kept : (cluster : ℕ) (block : Block) → IsCachedBlock f H.fields cluster block → IsCachedBlock x H.fields cluster block
+  block-kept cluster block is = record {
+    placed = is.placed;
+    cluster_bits = is.cluster_bits;
+    order = is.order;
+    long = is.long;
+    fit = is.fit;
+    modified = λ m. let live = is.modified m in (live.0, live.1, between.places.blocks live.0 ∙ live.2, live.3);
+    clean = λ m live.
+        let at : block_at f H.fields live.0 ≡ cluster * cluster_size H.fields = sym (between.places.blocks live.0) ∙ live.2 in
+        let there' : block_at f H.fields live.0 ≢ 0 = λ none. place-there (cluster_size H.fields) cluster (pow_pos H.fields.cluster_bits) live.3 (sym at ∙ none) in
+        let same : Same f x (block_at f H.fields live.0) (cluster_size H.fields) = keeps.counters live.0 live.1 there' (λ e. cc) in
+        is.clean m (live.0, live.1, at, live.3)
+        ∙ subst (λ t. counters_in f H.fields t ≡ counters_in x H.fields t) at
+        (map-same (counter f H.fields (block_at f H.fields live.0)) (counter x H.fields (block_at f H.fields live.0)) (counters_of_block H.fields)
+        (λ k less. sym (counter-same f x H.fields (block_at f H.fields live.0) same k less)));
+  }
+
+  module _ (settled : Slot TableValue) (words_same : settled.value.words ≡ here.value.words) (layout_same : settled.value.layout ≡ here.value.layout) (written : settled.value.modified ≡ false) (at_key : settled.value.cluster ≡ Some key) where
+    memory-same : memory x H.fields (tables_with front key settled back blocks) ≡ g
+    memory-same =
+        subst (λ t. memory (splice f t bytes) H.fields (tables_with front key settled back blocks) ≡ g) (sym place)
+        (table-settled f H safe.consistent front key here back blocks safe.tables_apart modified safe.tables safe.blocks settled written)
+
+    settled-fits : IsTable l2_words settled.value
+    settled-fits = record {
+      low = subst (λ (l : Layout). 9 ≤ l.cluster_bits) (sym layout_same) this.fits.low;
+      high = subst (λ (l : Layout). l.cluster_bits ≤ 21) (sym layout_same) this.fits.high;
+      long = rw (layout_same, words_same) this.fits.long;
+      sound = rw (layout_same, words_same) this.fits.sound;
+      fit = rw words_same this.fits.fit;
+    }
+
+    settled-is : IsCachedTable x H.fields key settled.value
+    settled-is = record {
+      fits = settled-fits;
+      placed = at_key;
+      layout = layout_same ∙ this.layout;
+      modified = λ m. absurd (let both = sym written ∙ m in cc);
+      clean = λ m live.
+          words_same ∙ sym (subst (λ t. words_in x t (words_of_cluster H.fields) ≡ here.value.words) place
+          (subst (λ n. words_in x (l2_table f H.fields i) n ≡ here.value.words) enough (read_back f (l2_table f H.fields i) here.value.words this.fits.fit)));
+    }
+      where
+        enough : length here.value.words ≡ words_of_cluster H.fields
+        enough =
+            let whole : length here.value.words * 8 ≡ 2 ^ here.value.layout.cluster_bits = this.fits.long in
+            let bits : 2 ^ here.value.layout.cluster_bits ≡ cluster_size H.fields = ap (λ (l : Layout). 2 ^ l.cluster_bits) this.layout in
+            sym (mul-div_left (length here.value.words) (omega arith)) ∙ ap (λ n. n / 8) (whole ∙ bits)
+
+    tables-kept : (es : List (ℕ × Slot TableValue)) → AllByRecursion (λ e. key ≢ e.0) es → AllByRecursion (λ e. IsCachedTable f H.fields e.0 e.1.value) es → AllByRecursion (λ e. IsCachedTable x H.fields e.0 e.1.value) es
+    tables-kept es apart are = all-weaker _ _ (λ e both. table-kept e.0 e.1.value both.0 both.1) es (all-both _ _ es apart are)
+
+    -- What is cached stays safe.
+    safe-there : Safe x H (tables_with front key settled back blocks) order
+    safe-there = record {
+      consistent = consistent;
+      tables_apart = subst (λ (ks : List ℕ). IsDistinct nat_eq ks) (keys-with front key here settled back) safe.tables_apart;
+      blocks_apart = safe.blocks_apart;
+      tables = all-append _ front ((key, settled) ∷ back)
+          (tables-kept front (others-before key here front back safe.tables_apart) (all-front _ front ((key, here) ∷ back) safe.tables))
+          (settled-is, tables-kept back (others-behind key here front back safe.tables_apart) (all-back _ front ((key, here) ∷ back) safe.tables).1);
+      blocks = all-weaker _ _ (λ e is. block-kept e.0 e.1.value is) blocks safe.blocks;
+      apart = subst (λ (m : Bytes). NamedApart x m H.fields) (sym memory-same) (apart-falls f x g H.fields between safe.apart);
+      ordered = subst (λ (m : Bytes). IsOrdered order x m H.fields) (sym memory-same) ordered;
+      covered = subst (λ (m : Bytes). (c : ℕ) → refs m H.fields c ≤ count m H.fields c) (sym memory-same) safe.covered;
+    }
+
+-- The table is at its cluster.
+module _ (f : Bytes) (H : Header) (front : List (ℕ × Slot TableValue)) (key : ℕ) (here : Slot TableValue) (back : List (ℕ × Slot TableValue)) (blocks : List (ℕ × Slot Block)) (order : CacheDependency)
+    (safe : Safe f H (tables_with front key here back blocks) order) (modified : here.value.modified ≡ true)
+    (ready : order ≡ L2DependsOnRb → AreBlocksClean (tables_with front key here back blocks)) where
+  pub table-left : IsLeft f (memory f H.fields (tables_with front key here back blocks)) H (splice f (key * cluster_size H.fields) (table_bytes here.value.words))
+  table-left = subst (λ t. IsLeft f (memory f H.fields (tables_with front key here back blocks)) H (splice f t (table_bytes here.value.words))) (place f H front key here back blocks order safe modified ready) (left-there f H front key here back blocks order safe modified ready)
+
+  pub table-safe : (settled : Slot TableValue) → settled.value.words ≡ here.value.words → settled.value.layout ≡ here.value.layout → settled.value.modified ≡ false → settled.value.cluster ≡ Some key
+      → Safe (splice f (key * cluster_size H.fields) (table_bytes here.value.words)) H (tables_with front key settled back blocks) order
+  table-safe settled words layout written at_key = subst (λ t. Safe (splice f t (table_bytes here.value.words)) H (tables_with front key settled back blocks) order) (place f H front key here back blocks order safe modified ready)
+      (safe-there f H front key here back blocks order safe modified ready settled words layout written at_key)

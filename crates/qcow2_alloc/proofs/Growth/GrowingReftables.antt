@@ -1,0 +1,147 @@
+-- The refcount table grows once the order of writes was announced.
+use Rattle.std.proofs.Common.{inl, ◌≡◌, ℕ, ◌++◌, refl, ap, subst, ◌∙◌, List, length, Result, Ok, Err, Bool, true}
+use Rattle.std.specs.Prelude.{IsTrue, OnOk, IfErr, MatchResult}
+use Rattle.imago_storage.specs.State.{StorageState}
+use Rattle.imago_storage.specs.declared.fault.Fault.{Fault}
+use Rattle.imago_storage.specs.declared.fault.Fault.TheVariants.{Memory, DamagedTable, Limit}
+use Rattle.qcow2_types.specs.Header.{Header, words_of_cluster}
+use Rattle.qcow2_types.specs.Counts.{counters_of_block}
+use Rattle.qcow2_types.specs.Pending.{FreeEntry}
+use Rattle.qcow2_types.specs.Words.{Layout}
+use Rattle.qcow2_metadata.specs.Growth.{IsGrownLength}
+use Rattle.qcow2_metadata.specs.Tables.{TableValue}
+use Rattle.qcow2_alloc.specs.declared.cache.CacheDependency.TheVariants.{L2DependsOnRb}
+use Rattle.qcow2_alloc.specs.declared.cache.MetadataCaches.{MetadataCaches}
+use Rattle.qcow2_alloc.specs.declared.file.ImageFile.{ImageFile}
+use Rattle.qcow2_alloc.specs.Allocating.{MovedTable, WhyNotAllocated}
+use Rattle.qcow2_alloc.specs.Allocators.{metadata_of}
+use Rattle.qcow2_alloc.specs.Caches.{order_of, KeepsTables}
+use Rattle.qcow2_alloc.specs.Freeing.{IsLoose}
+use Rattle.qcow2_alloc.specs.Going.{IsMild, WasNotCutOff}
+use Rattle.qcow2_alloc.specs.GrowingTables.{GrowsTable, NoPlaceToGrow, TableGrown, table_run}
+use Rattle.qcow2_alloc.specs.HandingOut.{GrowsReftable, StaysInShape}
+use Rattle.qcow2_alloc.specs.MovingTables.{WhyNotGrown}
+use Rattle.qcow2_alloc.specs.Quiet.{Metadata, IsSound}
+use Rattle.qcow2_alloc.proofs.Handing.Allocating.{moved-none}
+use Rattle.qcow2_alloc.proofs.Handing.AnnouncedOrders.{Announced, no-place-as, grown-as, quiet-behind, sound-behind, raised-behind, caused-behind}
+use Rattle.qcow2_alloc.proofs.Flushing.Faultless.{faultless-then}
+use Rattle.qcow2_alloc.proofs.Freeing.FreeingEntries.{failed}
+use Rattle.qcow2_alloc.proofs.Caching.Loose.{loose-all}
+use Rattle.qcow2_alloc.proofs.Blocks.MadeBlocks.{allocated-wider}
+use Rattle.qcow2_alloc.proofs.Quiet.QuietFlushes.{memory-quietly, quiet-none}
+use Rattle.qcow2_alloc.proofs.Blocks.ReadyingBlocks.{leaks-none}
+
+module _ {S : Type 0} (state : S → StorageState) (mark at : ℕ) (table : TableValue) (old : MetadataCaches S) (before : ImageFile S) (pending : List FreeEntry) (mid : MetadataCaches S) (between : ImageFile S) where
+  abbrev Start : Metadata
+  Start = metadata_of state before old table pending
+
+  abbrev Mid : Metadata
+  Mid = metadata_of state between mid table pending
+
+  -- Caches that are as loose as those were, and have as much room.
+  pub shape-behind : (result : Result Unit Fault) (table' : TableValue) (new : MetadataCaches S) (after : ImageFile S) → Announced state table pending old before result mid between → MovedTable between.header after.header → ((any : Bool) → IsLoose table mid any → IsLoose table' new any) → KeepsTables mid new
+      → StaysInShape table old before table' new after
+  shape-behind result table' new after first moved loose room = record {
+    moved = subst (λ (H : Header). MovedTable H after.header) first.header moved;
+    loose = λ any all. loose any (first.loose any all);
+    room = record { tables = room.tables ∙ first.room.tables; blocks = room.blocks ∙ first.room.blocks; entries = room.entries ∙ first.room.entries };
+  }
+
+  -- There was no grown copy of the table, or no room for the clusters of this one: nothing has changed.
+  pub not-copied : (fault : Fault) → WhyNotGrown before.header.fields table at fault → GrowsReftable state mark at table old before pending (failed fault) table old before pending
+  not-copied fault why = record {
+    leaked = λ _. 0;
+    leaks = leaks-none _ _ (failed fault);
+    faults = λ whole. (refl, refl);
+    quiet = memory-quietly (WasNotCutOff (failed fault)) (λ _. 0) (λ _. 0) (state before.image) Start Start (λ sound whole. (sound, quiet-none Start sound));
+    raised = λ keeps sound whole c. inl refl;
+    grown = λ keeps sound. tt;
+    enough = tt;
+    order = tt;
+    shape = record { moved = moved-none before.header before.header refl; loose = λ any loose. loose; room = record { tables = refl; blocks = refl; entries = refl } };
+    waits = tt;
+    kept = refl;
+    stays = λ mild. (refl, refl);
+    cause = by-fault fault why;
+  }
+    where
+      by-fault : (f : Fault) → WhyNotGrown before.header.fields table at f → WhyNotAllocated (IsTrue (state before.image).shape.keeps × IsSound Start) (IsLoose table old) (λ number. IsTrue (state before.image).shape.keeps → IsSound Start → NoPlaceToGrow Start mark at number) (state before.image).faults (state before.image).faults f
+      by-fault Memory why = tt
+      by-fault DamagedTable why = λ known. why (ap (λ (l : Layout). l.cluster_bits) known.1.table.layout)
+      by-fault (Limit number) why = (λ keeps sound. inl why, refl)
+      by-fault other why = absurd why
+
+  -- Where that was refused nothing grew,
+  pub not-announced : (fault : Fault) → Announced state table pending old before (failed fault) mid between → GrowsReftable state mark at table old before pending (failed fault) table mid between pending
+  not-announced fault first = record {
+    leaked = λ _. 0;
+    leaks = leaks-none _ _ (failed fault);
+    faults = first.faults;
+    quiet = first.quiet;
+    raised = λ keeps sound whole c. inl (first.counts keeps sound whole c);
+    grown = λ keeps sound. tt;
+    enough = tt;
+    order = tt;
+    shape = shape-behind (failed fault) table mid between first (moved-none between.header between.header refl) (λ any loose. loose) (record { tables = refl; blocks = refl; entries = refl });
+    waits = tt;
+    kept = refl;
+    stays = λ mild. (refl, first.header);
+    cause = allocated-wider _ _ _ _ _ _ _ _ (λ holds. holds) (loose-all table old) refl fault first.cause;
+  }
+
+  -- and else it grows as it does under that order.
+  module _ (first : Announced state table pending old before (Ok tt) mid between) (result : Result Unit Fault) (table' : TableValue) (new : MetadataCaches S) (after : ImageFile S) (pending' : List FreeEntry)
+      (grows : GrowsTable state mark at table mid between pending result table' new after pending') where
+    abbrev End : Metadata
+    End = metadata_of state after new table' pending'
+
+    grown : (r : Result Unit Fault) → IsTrue (state before.image).shape.keeps → IsSound Start → OnOk r (TableGrown mark at Mid End) → OnOk r (TableGrown mark at Start End)
+    grown (Ok done) keeps sound is = grown-as Start Mid first.header refl (first.counts keeps sound tt) mark at End is
+    grown (Err fault) keeps sound is = tt
+
+    enough : (r : Result Unit Fault) → OnOk r (IsGrownLength (words_of_cluster between.header.fields) (counters_of_block between.header.fields) at (length table'.words))
+        → OnOk r (IsGrownLength (words_of_cluster before.header.fields) (counters_of_block before.header.fields) at (length table'.words))
+    enough (Ok done) is = subst (λ (H : Header). IsGrownLength (words_of_cluster H.fields) (counters_of_block H.fields) at (length table'.words)) first.header is
+    enough (Err fault) is = tt
+
+    ordered : (r : Result Unit Fault) → OnOk r (order_of new ≡ L2DependsOnRb)
+    ordered (Ok done) = grows.step.order ∙ first.order
+    ordered (Err fault) = tt
+
+    waits : (r : Result Unit Fault) → OnOk r (pending' ≡ pending ++ table_run between.header.fields) → OnOk r (pending' ≡ pending ++ table_run before.header.fields)
+    waits (Ok done) is = subst (λ (H : Header). pending' ≡ pending ++ table_run H.fields) first.header is
+    waits (Err fault) is = tt
+
+    stays : (r : Result Unit Fault) → IfErr r (λ fault. IsMild fault → (table' ≡ table) × (after.header ≡ between.header)) → IfErr r (λ fault. IsMild fault → (table' ≡ table) × (after.header ≡ before.header))
+    stays (Ok done) is = tt
+    stays (Err fault) is = λ mild. let both = is mild in (both.0, both.1 ∙ first.header)
+
+    caused : (r : Result Unit Fault)
+        → MatchResult r (λ _. (state after.image).faults ≡ (state between.image).faults)
+        (WhyNotAllocated (IsTrue (state between.image).shape.keeps × (order_of mid ≡ L2DependsOnRb) × IsSound Mid) (IsLoose table mid)
+        (λ number. order_of mid ≡ L2DependsOnRb → IsTrue (state between.image).shape.keeps → IsSound Mid → NoPlaceToGrow Mid mark at number) (state between.image).faults (state after.image).faults)
+        → MatchResult r (λ _. (state after.image).faults ≡ (state before.image).faults)
+        (WhyNotAllocated (IsTrue (state before.image).shape.keeps × IsSound Start) (IsLoose table old)
+        (λ number. IsTrue (state before.image).shape.keeps → IsSound Start → NoPlaceToGrow Start mark at number) (state before.image).faults (state after.image).faults)
+    caused (Ok done) same = same ∙ first.cause
+    caused (Err fault) why =
+        caused-behind state table pending old before mid between first _ _ (state after.image).faults
+        (λ number full keeps sound. let still = sound-behind state table pending old before mid between first keeps sound in no-place-as Start Mid first.header refl (first.counts keeps sound tt) mark at number (full first.order still.0 still.1)) fault why
+
+    pub announced-grows : GrowsReftable state mark at table old before pending result table' new after pending'
+    announced-grows = record {
+      leaked = grows.leaked;
+      leaks = record { none = grows.leaks.none; pinned = λ holds loose. let still = sound-behind state table pending old before mid between first holds.0 holds.1 in grows.leaks.pinned (still.0, first.order, still.1) (first.loose true loose) };
+      faults = λ whole. faultless-then (first.faults tt) (grows.step.faults whole);
+      quiet = quiet-behind state table pending old before mid between first (WasNotCutOff result) grows.leaked (state after.image) End grows.step.quiet;
+      raised = λ keeps sound whole. let still = sound-behind state table pending old before mid between first keeps sound in
+          raised-behind state table pending old before mid between first End keeps sound (grows.step.raised first.order still.0 still.1 whole);
+      grown = λ keeps sound. let still = sound-behind state table pending old before mid between first keeps sound in grown result keeps sound (grows.grown first.order still.0 still.1);
+      enough = enough result grows.enough;
+      order = ordered result;
+      shape = shape-behind (Ok tt) table' new after first grows.step.moved grows.step.loose grows.step.room;
+      waits = waits result grows.waits;
+      kept = grows.kept;
+      stays = stays result grows.stays;
+      cause = caused result grows.cause;
+    }

@@ -1,0 +1,73 @@
+-- One cluster is counted for who asked for it.
+use Rattle.std.proofs.Common.{false, ◌≡◌, ◌≢◌, ℕ, refl, arith, subst, List, Option, Some, Result, Ok, Err}
+use Rattle.imago_storage.specs.State.{StorageState}
+use Rattle.imago_storage.specs.declared.fault.Fault.{Fault}
+use Rattle.imago_storage.specs.declared.fault.Fault.TheVariants.{DamagedTable}
+use Rattle.imago_storage.proofs.Composing.{later_same}
+use Rattle.qcow2_types.specs.Pending.{FreeEntry}
+use Rattle.qcow2_metadata.specs.Tables.{TableValue}
+use Rattle.qcow2_alloc.specs.declared.cache.MetadataCaches.{MetadataCaches}
+use Rattle.qcow2_alloc.specs.declared.file.ImageFile.{ImageFile}
+use Rattle.qcow2_alloc.specs.Allocating.{RaisesCluster}
+use Rattle.qcow2_alloc.specs.Allocators.{metadata_of}
+use Rattle.qcow2_alloc.specs.Freeing.{IsLoose, WhyNotCounted}
+use Rattle.qcow2_alloc.specs.FreeList.{covers}
+use Rattle.qcow2_alloc.specs.HandingOutOne.{CountsOne}
+use Rattle.qcow2_alloc.specs.MakingRoom.{run_of}
+use Rattle.qcow2_alloc.specs.Quiet.{Metadata, IsSound, counted}
+use Rattle.qcow2_alloc.proofs.Blocks.CountingClusters.{one-counted}
+use Rattle.qcow2_alloc.proofs.Freeing.Listed.{covers-none}
+use Rattle.qcow2_alloc.proofs.Blocks.MadeBlocks.{first-counted}
+use Rattle.qcow2_alloc.proofs.Quiet.QuietFlushes.{memory-quietly, quiet-none}
+use Rattle.qcow2_alloc.proofs.Quiet.QuietThen.{quietly-otherwise}
+
+-- what is answered with clusters, and where that is refused
+abbrev pub handed_so : Option FreeEntry → Result (Option FreeEntry) Fault
+handed_so found = Ok found
+
+abbrev pub not_handed : Fault → Result (Option FreeEntry) Fault
+not_handed fault = Err fault
+
+module _ {S : Type 0} (state : S → StorageState) (table : TableValue) (pending : List FreeEntry) (c : ℕ) (old : MetadataCaches S) (before : ImageFile S) where
+  abbrev Old : Metadata
+  Old = metadata_of state before old table pending
+
+  -- Nothing was counted, for a reason that a sound image doesn't give where the cluster isn't counted.
+  uncounted : (fault : Fault) → ((sound : Type 0) → (sound → IsSound Old × (counted Old c ≡ 0)) → WhyNotCounted sound (IsLoose table old) (state before.image).faults (state before.image).faults fault)
+      → CountsOne state c table old before pending (not_handed fault) old before
+  uncounted fault why = record {
+    counts = record {
+      part = 0;
+      inside = omega arith;
+      whole = tt;
+      shape = refl;
+      later = later_same (state before.image);
+      faults = λ whole. (refl, refl);
+      quiet = λ order free. quietly-otherwise _ (λ _. 0) (λ _. 0) (λ d. covers d (run_of c 0)) (λ _. 0) (state before.image) Old (state before.image) Old (λ sound d. let zero = covers-none d (run_of c 0) refl in omega (arith, zero)) (λ sound d used none. omega arith)
+          (memory-quietly _ (λ _. 0) (λ _. 0) (state before.image) Old Old (λ sound whole. (sound, quiet-none Old sound)));
+      raised = λ order keeps sound free whole d. let zero = covers-none d (run_of c 0) refl in omega (arith, zero);
+      order = refl;
+      header = refl;
+      loose = λ any loose. loose;
+      room = record { tables = refl; blocks = refl; entries = refl };
+      cause = why _ (λ holds. (holds.2, (holds.3 c (omega arith) (omega arith)).0));
+    };
+    exact = refl;
+    entry = tt;
+    some = tt;
+  }
+
+  -- The first cluster is counted for the header.
+  pub first-uncounted : c ≡ 0 → CountsOne state c table old before pending (not_handed DamagedTable) old before
+  first-uncounted first = uncounted DamagedTable (λ sound from holds. let both = from holds in let some = first-counted Old both.0 in let zero = subst (λ n. counted Old n ≡ 0) first both.1 in omega (arith, some, zero))
+
+  pub raised-one : (new : MetadataCaches S) (after : ImageFile S) → c ≢ 0 → (found : Option FreeEntry) → found ≡ Some (record { first = c; count = 1; metadata = false }) → RaisesCluster state table c old before (Ok tt) new after
+      → CountsOne state c table old before pending (handed_so found) new after
+  raised-one new after some found is raises =
+      let one = one-counted state table pending c old before (Ok tt) new after raises in
+      record { counts = one.0; exact = tt; entry = is; some = some }
+
+  pub unraised-one : (new : MetadataCaches S) (after : ImageFile S) (fault : Fault) → RaisesCluster state table c old before (Err fault) new after → CountsOne state c table old before pending (not_handed fault) new after
+  unraised-one new after fault raises =
+      let one = one-counted state table pending c old before (Err fault) new after raises in
+      record { counts = one.0; exact = one.1; entry = tt; some = tt }

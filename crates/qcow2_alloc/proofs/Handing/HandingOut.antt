@@ -1,0 +1,407 @@
+-- Clusters are handed out once the order of writes was announced.
+use Rattle.std.proofs.Common.{◌≡◌, ◌≢◌, ℕ, ◌+◌, ◌-◌, ◌/◌, ◌<◌, ◌≤◌, [], Bool, refl, arith, ap, subst, ◌∙◌, inl, inr, List, length, Option, None, Some, Result, Ok, Err, true}
+use Rattle.std.specs.Prelude.{⊤, IsTrue, OnOk, IfOk, MatchResult}
+use Rattle.std.proofs.lemmas.Bool.{le-leb, lt-ltb}
+use Rattle.imago_storage.specs.State.{StorageState}
+use Rattle.imago_storage.specs.declared.fault.Fault.{Fault}
+use Rattle.imago_storage.specs.declared.fault.Fault.TheVariants.{Memory, Limit}
+use Rattle.imago_storage.proofs.Composing.{keeps_on}
+use Rattle.qcow2_types.specs.Counts.{counters_of_block}
+use Rattle.qcow2_types.specs.Header.{Header}
+use Rattle.qcow2_types.specs.Pending.{FreeEntry}
+use Rattle.qcow2_metadata.specs.Places.{IsInReach}
+use Rattle.qcow2_metadata.specs.Tables.{TableValue}
+use Rattle.qcow2_alloc.specs.declared.cache.CacheDependency.TheVariants.{L2DependsOnRb}
+use Rattle.qcow2_alloc.specs.declared.cache.MetadataCaches.{MetadataCaches}
+use Rattle.qcow2_alloc.specs.declared.file.ImageFile.{ImageFile}
+use Rattle.qcow2_alloc.specs.Allocating.{MovedTable, WhyNotAllocated}
+use Rattle.qcow2_alloc.specs.Allocators.{metadata_of}
+use Rattle.qcow2_alloc.specs.Caches.{order_of}
+use Rattle.qcow2_alloc.specs.Crowding.{IsCrowded}
+use Rattle.qcow2_alloc.specs.Freeing.{Frees, HasSpareRoom, IsLoose, IsMarked, IsRestInTurn, WhyNotFreed}
+use Rattle.qcow2_alloc.specs.FreeList.{covers}
+use Rattle.qcow2_alloc.specs.Going.{WasNotCutOff}
+use Rattle.qcow2_alloc.specs.GrowingTables.{IsInRoomToGrow, IsLengthenedByTable, IsRoomToGrow, IsTakenFor, NoPlaceToGrow}
+use Rattle.qcow2_alloc.specs.HandingOut.{AllocatesClusterAt, AllocatesClusters, AreUnnamed, IsBarred, IsFreed, IsHandedAt, IsOneAt, IsSearched, StaysInShape, handed_at}
+use Rattle.qcow2_alloc.specs.HandingOutOne.{AllocatesAt}
+use Rattle.qcow2_alloc.specs.Quiet.{Metadata, IsSound, Quietly, counted}
+use Rattle.qcow2_alloc.specs.ReadyingRuns.{Allocates, IsRunCounted, IsRunTold, handed_by}
+use Rattle.qcow2_alloc.proofs.Handing.Allocating.{moved-none}
+use Rattle.qcow2_alloc.proofs.Handing.AnnouncedOrders.{Announced, no-place-as, room-as, quiet-behind, sound-behind, raised-behind, marked-behind, caused-behind}
+use Rattle.qcow2_alloc.proofs.Handing.CountingOne.{not_handed}
+use Rattle.qcow2_alloc.proofs.Blocks.EnsuringBlocks.{why-allocated-wider}
+use Rattle.qcow2_alloc.proofs.Flushing.Faultless.{faultless-then}
+use Rattle.qcow2_alloc.proofs.Freeing.FreeingEntries.{failed}
+use Rattle.qcow2_alloc.proofs.Freeing.FreeingRest.{rest-all, rest-none}
+use Rattle.qcow2_alloc.proofs.Growth.GrowingReftables.{shape-behind}
+use Rattle.qcow2_alloc.proofs.Handing.HandedOut.{handed-unnamed}
+use Rattle.qcow2_alloc.proofs.Caching.Loose.{loose-on, loose-all}
+use Rattle.qcow2_alloc.proofs.Blocks.MadeBlocks.{allocated-wider}
+use Rattle.qcow2_alloc.proofs.Quiet.QuietFlushes.{memory-quietly, quiet-none, quietly-weaker}
+use Rattle.qcow2_alloc.proofs.Quiet.QuietThen.{fewer-counted, quietly-then, quietly-otherwise}
+use Rattle.qcow2_alloc.proofs.Blocks.ReadyingBlocks.{leaks-none}
+
+module _ {S : Type 0} (state : S → StorageState) (mark cluster : ℕ) (table : TableValue) (old : MetadataCaches S) (before : ImageFile S) (pending : List FreeEntry) (mid : MetadataCaches S) (between : ImageFile S) where
+  abbrev Start : Metadata
+  Start = metadata_of state before old table pending
+
+  abbrev Mid : Metadata
+  Mid = metadata_of state between mid table pending
+
+  -- One cluster isn't where that was refused,
+  pub at-not-announced : (fault : Fault) → Announced state table pending old before (failed fault) mid between → AllocatesClusterAt state mark cluster table old before pending (not_handed fault) table mid between pending mark
+  at-not-announced fault first = record {
+    leaked = λ _. 0;
+    leaks = leaks-none _ _ (not_handed fault);
+    faults = first.faults;
+    quiet = first.quiet;
+    raised = λ keeps sound whole c. inl (first.counts keeps sound whole c);
+    one = tt;
+    answer = λ keeps sound. tt;
+    near = λ keeps sound. tt;
+    further = tt;
+    stays = refl;
+    marked = λ keeps sound whole marked c below. let same = first.counts keeps sound whole c in let was = marked c below in omega (arith, same, was);
+    order = tt;
+    shape = shape-behind state mark cluster table old before pending mid between (failed fault) table mid between first (moved-none between.header between.header refl) (λ any loose. loose) (record { tables = refl; blocks = refl; entries = refl });
+    list = inl refl;
+    cause = allocated-wider _ _ _ _ _ _ _ _ (λ holds. holds) (loose-all table old) refl fault first.cause;
+  }
+
+  -- and else as it is under that order.
+  module _ (first : Announced state table pending old before (Ok tt) mid between) (result : Result (Option FreeEntry) Fault) (table' : TableValue) (new : MetadataCaches S) (after : ImageFile S) (pending' : List FreeEntry) (mark' : ℕ)
+      (at : AllocatesAt state (λ m. IsBarred m mark cluster) mark cluster table mid between pending result table' new after pending' mark') where
+    abbrev End : Metadata
+    End = metadata_of state after new table' pending'
+
+    answered : (r : Result (Option FreeEntry) Fault) → IsTrue (state before.image).shape.keeps → IsSound Start → IfOk r (IsHandedAt (IsBarred Mid mark cluster) cluster Mid End) → IfOk r (IsHandedAt (IsBarred Start mark cluster) cluster Start End)
+    answered (Ok (Some entry)) keeps sound (zero, is, unnamed, free) = (let same = first.counts keeps sound tt cluster in omega (arith, same, zero), is, unnamed, free)
+    answered (Ok None) keeps sound (inl more) = inl (let same = first.counts keeps sound tt cluster in omega (arith, same, more))
+    answered (Ok None) keeps sound (inr (inl stands)) = inr (inl stands)
+    answered (Ok None) keeps sound (inr (inr (inl far))) = inr (inr (inl (subst (λ (H : Header). IsInReach H.fields.cluster_bits cluster → ⊥) first.header far)))
+    answered (Ok None) keeps sound (inr (inr (inr (past, number, none)))) = inr (inr (inr (
+      subst (λ (H : Header). length table.words ≤ cluster / counters_of_block H.fields) first.header past,
+      number,
+      no-place-as Start Mid first.header refl (first.counts keeps sound tt) mark (cluster / counters_of_block before.header.fields) number (subst (λ (H : Header). NoPlaceToGrow Mid mark (cluster / counters_of_block H.fields) number) first.header none),
+    )))
+    answered (Err fault) keeps sound said = tt
+
+    room-there : IsTrue (state before.image).shape.keeps → IsSound Start → (c : ℕ) → IsInRoomToGrow Mid mark (cluster / counters_of_block between.header.fields) c → IsInRoomToGrow Start mark (cluster / counters_of_block before.header.fields) c
+    room-there keeps sound c (past, begin, total, clusters, room, from, to) = (
+      subst (λ (H : Header). length table.words ≤ cluster / counters_of_block H.fields) first.header past,
+      begin,
+      total,
+      clusters,
+      room-as Start Mid first.header refl (first.counts keeps sound tt) mark (cluster / counters_of_block before.header.fields) begin total clusters (subst (λ (H : Header). IsRoomToGrow Mid mark (cluster / counters_of_block H.fields) begin total clusters) first.header room),
+      from,
+      to,
+    )
+
+    nearby : (r : Result (Option FreeEntry) Fault) → IsTrue (state before.image).shape.keeps → IsSound Start → IfOk r (λ _. IsTakenFor mark cluster Mid End) → IfOk r (λ _. IsTakenFor mark cluster Start End)
+    nearby (Err fault) keeps sound said = tt
+    nearby (Ok found) keeps sound said = λ c none more. elim (said c (let same = first.counts keeps sound tt c in omega (arith, same, none)) more) [ inl le ↦ inl le | inr room ↦ inr (room-there keeps sound c room) ]
+
+    ordered : (r : Result (Option FreeEntry) Fault) → OnOk r (order_of new ≡ L2DependsOnRb)
+    ordered (Ok found) = at.did.step.order ∙ first.order
+    ordered (Err fault) = tt
+
+    caused : (r : Result (Option FreeEntry) Fault)
+        → MatchResult r (λ _. (state after.image).faults ≡ (state between.image).faults)
+        (WhyNotAllocated (IsTrue (state between.image).shape.keeps × (order_of mid ≡ L2DependsOnRb) × IsSound Mid) (IsLoose table mid) (λ _. ⊥) (state between.image).faults (state after.image).faults)
+        → MatchResult r (λ _. (state after.image).faults ≡ (state before.image).faults)
+        (WhyNotAllocated (IsTrue (state before.image).shape.keeps × IsSound Start) (IsLoose table old) (λ _. ⊥) (state before.image).faults (state after.image).faults)
+    caused (Ok found) same = same ∙ first.cause
+    caused (Err fault) why = caused-behind state table pending old before mid between first _ _ (state after.image).faults (λ n full. full) fault why
+
+    pub at-announced : AllocatesClusterAt state mark cluster table old before pending result table' new after pending' mark'
+    at-announced = record {
+      leaked = at.did.leaked;
+      leaks = record { none = at.did.leaks.none; pinned = λ holds loose. let still = sound-behind state table pending old before mid between first holds.0 holds.1 in at.did.leaks.pinned (still.0, first.order, still.1) (first.loose true loose) };
+      faults = λ whole. faultless-then (first.faults tt) (at.did.step.faults whole);
+      quiet = quiet-behind state table pending old before mid between first (WasNotCutOff result) (handed_at result at.did.leaked) (state after.image) End at.did.step.quiet;
+      raised = λ keeps sound whole. let still = sound-behind state table pending old before mid between first keeps sound in
+          raised-behind state table pending old before mid between first End keeps sound (at.did.step.raised first.order still.0 still.1 whole);
+      one = subst (λ (H : Header). IfOk result (IsOneAt cluster H.fields.cluster_bits)) first.header at.one;
+      answer = λ keeps sound. let still = sound-behind state table pending old before mid between first keeps sound in answered result keeps sound (at.answer first.order still.0 still.1);
+      near = λ keeps sound. let still = sound-behind state table pending old before mid between first keeps sound in nearby result keeps sound (at.near first.order still.0 still.1);
+      further = at.further;
+      stays = at.stays;
+      marked = λ keeps sound whole marked. let still = sound-behind state table pending old before mid between first keeps sound in
+          at.marked first.order still.0 still.1 whole (marked-behind state table pending old before mid between first mark keeps sound marked);
+      order = ordered result;
+      shape = shape-behind state mark cluster table old before pending mid between (Ok tt) table' new after first at.did.step.moved at.did.step.loose at.did.step.room;
+      list = subst (λ (H : Header). IsLengthenedByTable H.fields table table' pending pending') first.header at.did.list;
+      cause = caused result at.did.cause;
+    }
+
+-- Nothing was freed, and nothing has changed, for want of memory.
+memory-unfreed : {S : Type 0} (state : S → StorageState) (table : TableValue) (old : MetadataCaches S) (before : ImageFile S) (mark : ℕ) (pending : List FreeEntry) → Frees state table old before mark pending (failed Memory) old before mark pending
+memory-unfreed state table old before mark pending =
+    let m = metadata_of state before old table pending in
+    record {
+      faults = λ whole. absurd whole;
+      quiet = memory-quietly _ (λ _. 0) (λ _. 0) (state before.image) m m (λ sound whole. (sound, quiet-none m sound));
+      marked = λ keeps sound whole marked. marked;
+      lower = omega arith;
+      fallen = inl refl;
+      header = refl;
+      pins = omega arith;
+      room = record { tables = refl; blocks = refl; entries = refl };
+      less = λ c. omega arith;
+      fewer = omega arith;
+      cause = tt;
+    }
+
+-- what is answered with a run, and where that is refused
+abbrev pub run_so : FreeEntry → Result FreeEntry Fault
+run_so entry = Ok entry
+
+abbrev pub refused_run : Fault → Result FreeEntry Fault
+refused_run fault = Err fault
+
+-- A cluster of an entry is covered by it.
+covers-inside : (c : ℕ) (e : FreeEntry) → e.first ≤ c → c < e.first + e.count → covers c e ≡ 1
+covers-inside c e above below = rw (le-leb e.first c above, lt-ltb c (e.first + e.count) below) refl
+
+-- Clusters in a row are handed out: what waits is freed first.
+module _ {S : Type 0} (state : S → StorageState) (mark n : ℕ) (metadata : Bool) (table : TableValue) (old : MetadataCaches S) (before : ImageFile S) (pending : List FreeEntry) where
+  abbrev First : Metadata
+  First = metadata_of state before old table pending
+
+  -- That was refused,
+  module _ (fault : Fault) (mark1 : ℕ) (A : MetadataCaches S) (fA : ImageFile S) (pA : List FreeEntry) (frees : Frees state table old before mark pending (failed fault) A fA mark1 pA) (rest : IsRestInTurn pending pA) where
+    abbrev Rest : Metadata
+    Rest = metadata_of state fA A table pA
+
+    not-limited : IsSearched (refused_run fault) → WhyNotFreed (IsTrue (state before.image).shape.keeps × IsSound First) (HasSpareRoom old) (state before.image).faults (state fA.image).faults fault → ⊥
+    not-limited searched why = by-fault fault searched why
+      where
+        by-fault : (f : Fault) → IsSearched (refused_run f) → WhyNotFreed (IsTrue (state before.image).shape.keeps × IsSound First) (HasSpareRoom old) (state before.image).faults (state fA.image).faults f → ⊥
+        by-fault (Limit number) searched why = why
+        by-fault f searched why = searched
+
+    pub run-not-freed : AllocatesClusters state mark n metadata table old before pending (refused_run fault) table A fA pA mark1
+    run-not-freed = record {
+      leaked = λ _. 0;
+      leaks = leaks-none _ _ (refused_run fault);
+      faults = frees.faults;
+      quiet = quietly-weaker _ (WasNotCutOff (refused_run fault)) (λ _. 0) (λ _. 0) (state before.image) First (state fA.image) Rest (λ sound whole. inl whole) frees.quiet;
+      run = tt;
+      unnamed = λ keeps sound. tt;
+      answer = failed fault;
+      between = A;
+      at = fA;
+      mid_mark = mark1;
+      left = pA;
+      frees = frees;
+      rest = rest;
+      halted = λ other is. (ap (λ f. refused_run f) (let e = is in let same : fault ≡ other = cc in same), refl, refl, refl, refl);
+      mid = Rest;
+      mid_left = refl;
+      freed = λ keeps sound whole. let held = frees.quiet.holds keeps sound (inl whole) in record {
+        sound = held.0;
+        quiet = held.1;
+        header = frees.header;
+        table = refl;
+        fewer = fewer-counted First Rest (λ _. 0) (λ _. 0) held.1 sound held.0 frees.header refl (λ c. refl) frees.less;
+        lower = frees.lower;
+        marked = frees.marked keeps sound (inl whole);
+      };
+      emptied = tt;
+      searched = λ searched. absurd (not-limited searched frees.cause);
+      fresh = λ keeps sound. tt;
+      taken = λ keeps sound. tt;
+      little = λ keeps sound. tt;
+      raised = λ keeps sound whole c. inl refl;
+      marked = λ keeps sound whole. frees.marked keeps sound (inl whole);
+      further = tt;
+      stays = refl;
+      order = tt;
+      shape = record { moved = moved-none before.header fA.header frees.header; loose = loose-on table old A frees.pins frees.room.blocks; room = frees.room };
+      list = inl refl;
+      cause = allocated-wider _ _ _ _ _ _ _ _ (λ holds. holds) (λ any loose. loose.room) refl fault frees.cause;
+    }
+
+  -- or not begun, for want of memory,
+  pub run-not-held : AllocatesClusters state mark n metadata table old before pending (refused_run Memory) table old before pending mark
+  run-not-held = run-not-freed Memory mark old before pending (memory-unfreed state table old before mark pending) (rest-all pending)
+
+  -- or there was nothing left.
+  module _ (mark1 : ℕ) (A : MetadataCaches S) (fA : ImageFile S) (frees : Frees state table old before mark pending (Ok tt) A fA mark1 []) (B : MetadataCaches S) (fB : ImageFile S) where
+    abbrev Freed : Metadata
+    Freed = metadata_of state fA A table []
+
+    abbrev Ready : Metadata
+    Ready = metadata_of state fB B table []
+
+    freed-loose : (any : Bool) → IsLoose table old any → IsLoose table A any
+    freed-loose = loose-on table old A frees.pins frees.room.blocks
+
+    still-sound : IsTrue (state before.image).shape.keeps → IsSound First → IsTrue (state fA.image).shape.keeps × IsSound Freed
+    still-sound keeps sound = (keeps_on (state before.image) (state fA.image) frees.quiet.shape keeps, (frees.quiet.holds keeps sound (inl tt)).0)
+
+    quiet-on : (ok : Type 0) (handed : ℕ → ℕ) (s : StorageState) (m : Metadata) → Quietly ok handed (λ _. 0) (state fA.image) Freed s m → Quietly ok handed (λ _. 0) (state before.image) First s m
+    quiet-on ok handed s m second =
+        quietly-otherwise ok (λ c. 0 + handed c) (λ c. 0 + 0) handed (λ _. 0) (state before.image) First s m (λ sound c. omega arith) (λ sound c used none. omega arith)
+        (quietly-then _ ok (λ _. 0) (λ _. 0) handed (λ _. 0) (state before.image) First (state fA.image) Freed s m (inl tt) (λ sound c some. refl) frees.quiet second)
+
+    -- The announcement was refused,
+    pub run-not-announced : (fault : Fault) → Announced state table [] A fA (failed fault) B fB → AllocatesClusters state mark n metadata table old before pending (refused_run fault) table B fB [] mark1
+    run-not-announced fault second = record {
+      leaked = λ _. 0;
+      leaks = leaks-none _ _ (refused_run fault);
+      faults = λ mild. faultless-then (frees.faults tt) (second.faults mild);
+      quiet = quiet;
+      run = tt;
+      unnamed = λ keeps sound. tt;
+      answer = Ok tt;
+      between = A;
+      at = fA;
+      mid_mark = mark1;
+      left = [];
+      frees = frees;
+      rest = rest-none pending;
+      halted = λ other is. let e = is in absurd (cc e);
+      mid = Ready;
+      mid_left = refl;
+      freed = λ keeps sound whole. let held = quiet.holds keeps sound whole in record {
+        sound = held.0;
+        quiet = held.1;
+        header = second.header ∙ frees.header;
+        table = refl;
+        fewer = fewer-counted First Ready (λ _. 0) (λ _. 0) held.1 sound held.0 (second.header ∙ frees.header) refl (λ c. refl) frees.less;
+        lower = frees.lower;
+        marked = marked keeps sound whole;
+      };
+      emptied = refl;
+      searched = λ searched. absurd (never fault searched second.cause);
+      fresh = λ keeps sound. tt;
+      taken = λ keeps sound. tt;
+      little = λ keeps sound. tt;
+      raised = λ keeps sound whole c. inl refl;
+      marked = marked;
+      further = tt;
+      stays = refl;
+      order = tt;
+      shape = record {
+        moved = moved-none before.header fB.header (second.header ∙ frees.header);
+        loose = λ any loose. second.loose any (freed-loose any loose);
+        room = record { tables = second.room.tables ∙ frees.room.tables; blocks = second.room.blocks ∙ frees.room.blocks; entries = second.room.entries ∙ frees.room.entries };
+      };
+      list = inl refl;
+      cause = allocated-wider _ _ _ _ _ _ _ _ (λ holds. still-sound holds.0 holds.1) (λ any loose. loose-all table A any (freed-loose any loose)) frees.cause fault second.cause;
+    }
+      where
+        quiet : Quietly (WasNotCutOff (refused_run fault)) (λ _. 0) (λ _. 0) (state before.image) First (state fB.image) Ready
+        quiet = quiet-on (WasNotCutOff (refused_run fault)) (λ _. 0) (state fB.image) Ready second.quiet
+
+        marked : IsTrue (state before.image).shape.keeps → IsSound First → WasNotCutOff (refused_run fault) → IsMarked First mark → IsMarked Ready mark1
+        marked keeps sound whole was c below =
+            let still = still-sound keeps sound in
+            let same = second.counts still.0 still.1 whole c in
+            let more = frees.marked keeps sound (inl tt) was c below in
+            omega (arith, same, more)
+
+        never : (f : Fault) → IsSearched (refused_run f) → WhyNotFreed (IsTrue (state fA.image).shape.keeps × IsSound Freed) (IsLoose table A true) (state fA.image).faults (state fB.image).faults f → ⊥
+        never (Limit number) searched why = why
+        never f searched why = searched
+
+    -- or a run was searched for.
+    module _ (second : Announced state table [] A fA (Ok tt) B fB) (result : Result FreeEntry Fault) (table' : TableValue) (new : MetadataCaches S) (after : ImageFile S) (pending' : List FreeEntry) (mark' : ℕ)
+        (third : Allocates state mark1 n metadata table B fB [] result table' new after pending' mark') where
+      abbrev Last : Metadata
+      Last = metadata_of state after new table' pending'
+
+      ready-sound : IsTrue (state before.image).shape.keeps → IsSound First → IsTrue (state fB.image).shape.keeps × IsSound Ready
+      ready-sound keeps sound = let still = still-sound keeps sound in sound-behind state table [] A fA B fB second still.0 still.1
+
+      ready-marked : IsTrue (state before.image).shape.keeps → IsSound First → IsMarked First mark → IsMarked Ready mark1
+      ready-marked keeps sound marked = let still = still-sound keeps sound in marked-behind state table [] A fA B fB second mark1 still.0 still.1 (frees.marked keeps sound (inl tt) marked)
+
+      is-freed : IsTrue (state before.image).shape.keeps → IsSound First → IsFreed First mark Ready mark1
+      is-freed keeps sound = let quiet = ((quiet-on ⊤ (λ _. 0) (state fB.image) Ready second.quiet).holds keeps sound tt).1 in record {
+        sound = (ready-sound keeps sound).1;
+        quiet = quiet;
+        header = second.header ∙ frees.header;
+        table = refl;
+        fewer = fewer-counted First Ready (λ _. 0) (λ _. 0) quiet sound (ready-sound keeps sound).1 (second.header ∙ frees.header) refl (λ c. refl) frees.less;
+        lower = frees.lower;
+        marked = ready-marked keeps sound;
+      }
+
+      same-shape : StaysInShape table old before table' new after
+      same-shape = record {
+        moved = subst (λ (H : Header). MovedTable H after.header) (second.header ∙ frees.header) third.step.moved;
+        loose = λ any loose. third.step.loose any (second.loose any (freed-loose any loose));
+        room = record { tables = third.step.room.tables ∙ second.room.tables ∙ frees.room.tables; blocks = third.step.room.blocks ∙ second.room.blocks ∙ frees.room.blocks; entries = third.step.room.entries ∙ second.room.entries ∙ frees.room.entries };
+      }
+
+      abbrev RunIs : ℕ → FreeEntry → Type 0
+      RunIs bits entry = (entry.count ≡ n) × (entry.metadata ≡ metadata) × (0 < n → (entry.first ≢ 0) × IsInReach bits (entry.first + (n - 1)))
+
+      runs : IfOk result (RunIs before.header.fields.cluster_bits)
+      runs = subst (λ (H : Header). IfOk result (RunIs H.fields.cluster_bits)) (second.header ∙ frees.header) third.run
+
+      unnamed-run : IsTrue (state before.image).shape.keeps → IsSound First → (r : Result FreeEntry Fault) → result ≡ r → IfOk r (RunIs before.header.fields.cluster_bits) → IfOk r (IsRunCounted mark1 n Last)
+          → IfOk r (λ entry. (c : ℕ) → entry.first ≤ c → c < entry.first + n → counted Ready c ≡ 0) → IfOk r (AreUnnamed Last)
+      unnamed-run keeps sound (Err fault) is run taken fresh = tt
+      unnamed-run keeps sound (Ok entry) is run taken fresh = λ c above below.
+          let still = ready-sound keeps sound in
+          let quiet : Quietly (WasNotCutOff (run_so entry)) (handed_by (run_so entry) third.leaked) (λ _. 0) (state fB.image) Ready (state after.image) Last =
+          subst (λ (r : Result FreeEntry Fault). Quietly (WasNotCutOff r) (handed_by r third.leaked) (λ _. 0) (state fB.image) Ready (state after.image) Last) is (third.step.quiet second.order) in
+          let held = quiet.holds still.0 still.1 tt in
+          let length-is = run.0 in
+          let inside : c < entry.first + n = omega (arith, below, length-is) in
+          handed-unnamed Ready Last (λ d. covers d entry) c still.1 held.0 second.order held.1 (fresh c above inside) (taken.once c above inside) (covers-inside c entry above below)
+
+      run-ordered : (r : Result FreeEntry Fault) → OnOk r (order_of new ≡ L2DependsOnRb)
+      run-ordered (Ok entry) = third.step.order ∙ second.order
+      run-ordered (Err fault) = tt
+
+      run-caused : (r : Result FreeEntry Fault)
+          → MatchResult r (λ _. (state after.image).faults ≡ (state fB.image).faults)
+          (WhyNotAllocated (IsTrue (state fB.image).shape.keeps × (order_of B ≡ L2DependsOnRb) × IsSound Ready) (IsLoose table B)
+          (λ number. order_of B ≡ L2DependsOnRb → IsTrue (state fB.image).shape.keeps → IsSound Ready → IsCrowded Ready mark1 n × IsRunTold Last mark1 n number) (state fB.image).faults (state after.image).faults)
+          → MatchResult r (λ _. (state after.image).faults ≡ (state before.image).faults)
+          (WhyNotAllocated (IsTrue (state before.image).shape.keeps × IsSound First) (IsLoose table old)
+          (λ number. IsTrue (state before.image).shape.keeps → IsSound First → IsCrowded Ready mark1 n × IsRunTold Last mark1 n number) (state before.image).faults (state after.image).faults)
+      run-caused (Ok entry) same = same ∙ second.cause ∙ frees.cause
+      run-caused (Err fault) why =
+          why-allocated-wider _ _ _ _ _ _ _ _ _ (λ holds. still-sound holds.0 holds.1) freed-loose (λ n full keeps sound. let still = still-sound keeps sound in full still.0 still.1) frees.cause fault
+          (caused-behind state table [] A fA B fB second _ (λ number. IsTrue (state fA.image).shape.keeps → IsSound Freed → IsCrowded Ready mark1 n × IsRunTold Last mark1 n number) (state after.image).faults
+          (λ n full keeps sound. let still = sound-behind state table [] A fA B fB second keeps sound in full second.order still.0 still.1) fault why)
+
+      pub run-announced : AllocatesClusters state mark n metadata table old before pending result table' new after pending' mark'
+      run-announced = record {
+        leaked = third.leaked;
+        leaks = record { none = third.leaks.none; pinned = λ holds loose. let still = ready-sound holds.0 holds.1 in third.leaks.pinned (still.0, second.order, still.1) (second.loose true (freed-loose true loose)) };
+        faults = λ whole. faultless-then (frees.faults tt) (faultless-then (second.faults tt) (third.step.faults whole));
+        quiet = quiet-on (WasNotCutOff result) (handed_by result third.leaked) (state after.image) Last
+            (quiet-behind state table [] A fA B fB second (WasNotCutOff result) (handed_by result third.leaked) (state after.image) Last third.step.quiet);
+        run = runs;
+        unnamed = λ keeps sound. let still = ready-sound keeps sound in unnamed-run keeps sound result refl runs (third.taken second.order still.0 still.1) (third.fresh second.order still.0 still.1);
+        answer = Ok tt;
+        between = A;
+        at = fA;
+        mid_mark = mark1;
+        left = [];
+        frees = frees;
+        rest = rest-none pending;
+        halted = λ other is. let e = is in absurd (cc e);
+        mid = Ready;
+        mid_left = refl;
+        freed = λ keeps sound whole. is-freed keeps sound;
+        emptied = refl;
+        searched = λ searched. (refl, second.order);
+        fresh = λ keeps sound. let still = ready-sound keeps sound in third.fresh second.order still.0 still.1;
+        taken = λ keeps sound. let still = ready-sound keeps sound in third.taken second.order still.0 still.1;
+        little = λ keeps sound. let still = ready-sound keeps sound in third.little second.order still.0 still.1;
+        raised = λ keeps sound whole. let still = ready-sound keeps sound in third.step.raised second.order still.0 still.1 whole;
+        marked = λ keeps sound whole marked. let still = ready-sound keeps sound in third.marked second.order still.0 still.1 whole (ready-marked keeps sound marked);
+        further = third.moved;
+        stays = third.stays;
+        order = run-ordered result;
+        shape = same-shape;
+        list = subst (λ (H : Header). IsLengthenedByTable H.fields table table' [] pending') (second.header ∙ frees.header) third.list;
+        cause = run-caused result third.cause;
+      }

@@ -1,0 +1,370 @@
+-- A run of clusters is searched for and made ready, turn by turn.
+use Rattle.std.proofs.Common.{◌≡◌, ◌≢◌, ℕ, ◌+◌, ◌-◌, ◌*◌, ◌/◌, ◌^◌, ◌<◌, ◌≤◌, refl, arith, ap, sym, subst, ◌∙◌, ◌++◌, List, length, Bool, true, false, Result, Ok, Err, inl, inr}
+use Rattle.std.specs.Prelude.{⊤, ◌⊎◌, min, IsTrue, slice_index, ◌==◌}
+use Rattle.std.proofs.lemmas.Bool.{cases_lt}
+use Rattle.std.proofs.lemmas.List.Sums.{count_by-le-length}
+use Rattle.std.proofs.lemmas.Nat.{le-div}
+use Rattle.std.proofs.Math.Nat.{div-mul-le_self, mul-le-mul, mul-le-mul_right}
+use Rattle.imago_storage.specs.State.{StorageState}
+use Rattle.imago_storage.specs.declared.fault.Fault.{Fault}
+use Rattle.imago_storage.specs.declared.fault.Fault.TheVariants.{DamagedTable, Limit}
+use Rattle.imago_storage.proofs.Composing.{keeps_on}
+use Rattle.qcow2_types.specs.Counts.{counters_of_block}
+use Rattle.qcow2_types.specs.Header.{Header, cluster_size}
+use Rattle.qcow2_types.specs.Pending.{FreeEntry}
+use Rattle.qcow2_types.specs.Words.{block_offset}
+use Rattle.qcow2_types.proofs.HeaderLimits.{header-limited}
+use Rattle.qcow2_metadata.specs.Places.{IsInReach}
+use Rattle.qcow2_metadata.specs.Tables.{TableValue}
+use Rattle.qcow2_alloc.specs.declared.cache.CacheDependency.TheVariants.{L2DependsOnRb}
+use Rattle.qcow2_alloc.specs.declared.cache.MetadataCaches.{MetadataCaches}
+use Rattle.qcow2_alloc.specs.declared.file.ImageFile.{ImageFile}
+use Rattle.qcow2_alloc.specs.Allocating.{Allocating, MovedTable, WhyNotAllocated, missing}
+use Rattle.qcow2_alloc.specs.Allocators.{metadata_of}
+use Rattle.qcow2_alloc.specs.Caches.{order_of}
+use Rattle.qcow2_alloc.specs.Freeing.{IsLoose}
+use Rattle.qcow2_alloc.specs.GrowingTables.{IsLengthenedByTable, NoPlaceToGrow, table_run}
+use Rattle.qcow2_alloc.specs.Going.{WasNotCutOff}
+use Rattle.qcow2_alloc.specs.Quiet.{Metadata, IsSound, counted}
+use Rattle.qcow2_alloc.specs.ReadyingBlocks.{CountsAsBefore, HasMore, NoneCanBeMade, ReadiesBlocks, WhyNotFit, last_number}
+use Rattle.qcow2_alloc.specs.ReadyingRuns.{IsRunTold, ReadiesRun}
+use Rattle.qcow2_alloc.specs.SearchingClusters.{IsFirstRun, IsSafeWith, LooksForRun, counts_in}
+use Rattle.qcow2_alloc.proofs.Handing.Allocating.{allocating-none, allocating-then, allocating-as}
+use Rattle.qcow2_alloc.proofs.Handing.AnnouncedOrders.{no-place-as}
+use Rattle.qcow2_alloc.proofs.Blocks.EnsuringBlocks.{why-allocated-as}
+use Rattle.qcow2_alloc.proofs.Growth.GrowingRooms.{first-run-same}
+use Rattle.qcow2_alloc.proofs.Searching.Looking.{counts-still}
+use Rattle.qcow2_alloc.proofs.Searching.LookingAt.{looked-allocates, counts-looked}
+use Rattle.qcow2_alloc.specs.Crowding.{IsCrowded, IsGapless, IsRoomy, TakesLittle, room_for}
+use Rattle.qcow2_alloc.proofs.Space.GaplessRuns.{gapless-same, gapless-then, made-gapless}
+use Rattle.qcow2_alloc.proofs.Caching.Loose.{loose-all}
+use Rattle.qcow2_alloc.proofs.Space.RoomyRuns.{RoomStays, stays-start, stays-searched, room-left, run-counted, run-early, run-fits, can-make, stays-made}
+use Rattle.qcow2_alloc.proofs.Blocks.MadeBlocks.{allocated-wider, first-counted}
+use Rattle.qcow2_alloc.proofs.Blocks.ReadyingBlocks.{leaks-none, leaks-on, leaks-ok}
+
+-- The list, the header and the length of the table are what they were; or the table became longer, and its old clusters are behind.
+abbrev pub IsLengthenedOnce : Header → Header → TableValue → TableValue → List FreeEntry → List FreeEntry → Type 0
+IsLengthenedOnce H H' table table' old new = ((new ≡ old) × (H' ≡ H) × (length table'.words ≡ length table.words)) ⊎ ((length table.words < length table'.words) × (new ≡ old ++ table_run H.fields))
+
+by-table : (H H' : Header) (table table' : TableValue) (old new : List FreeEntry) → IsLengthenedOnce H H' table table' old new → IsLengthenedByTable H.fields table table' old new
+by-table H H' table table' old new (inl same) = inl same.0
+by-table H H' table table' old new (inr longer) = inr longer
+
+-- What a call came to that has counted clusters, of which it handed out none, and wasn't refused yet.
+pub record Readying {S : Type 0} (state : S → StorageState) (table : TableValue) (old : MetadataCaches S) (before : ImageFile S) (pending : List FreeEntry) (table' : TableValue) (new : MetadataCaches S) (after : ImageFile S) (pending' : List FreeEntry) : Type 0 where
+  pub step : Allocating state ⊤ (λ _. 0) table old before pending table' new after pending'
+  pub list : IsLengthenedOnce before.header after.header table table' pending pending'
+  pub faults : (state after.image).faults ≡ (state before.image).faults
+
+-- A cluster of a run is counted by a block between those of the first and the last one.
+between-blocks : (k first n c : ℕ) → 0 < k → first ≤ c → c < first + n → (first / k ≤ c / k) × (c / k ≤ (first + (n - 1)) / k)
+between-blocks k first n c some above below =
+    let low = div-mul-le_self first k in
+    let high = div-mul-le_self c k in (
+      le-div (first / k) c k some (omega (arith, low, above)),
+      le-div (c / k) (first + (n - 1)) k some (omega (arith, high, below)),
+    )
+
+-- Words can name the first cluster that a block counts, where they can name one that it counts, or one behind.
+block-near : (H : Header) (z n i : ℕ) → i ≤ (z + (n - 1)) / counters_of_block H.fields → IsInReach H.fields.cluster_bits (z + (n - 1)) → IsInReach H.fields.cluster_bits (i * counters_of_block H.fields)
+block-near H z n i below near =
+    let le = mul-le-mul_right (counters_of_block H.fields) below in
+    let under = div-mul-le_self (z + (n - 1)) (counters_of_block H.fields) in
+    let more : i * counters_of_block H.fields * cluster_size H.fields ≤ (z + (n - 1)) * cluster_size H.fields = mul-le-mul_right (cluster_size H.fields) (omega (arith, le, under)) in
+    omega (arith, near, more)
+
+-- What tells that a table can't grow for a run tells why that can't be made ready, also where nothing that this rests on changed.
+making-told : (mark n z : ℕ) (m m' : Metadata) → CountsAsBefore m m' → IsFirstRun (counted m) mark n z → (number : ℕ)
+    → NoPlaceToGrow m mark ((z + (n - 1)) / counters_of_block m.header.fields + (n / counters_of_block m.header.fields + 2)) number → IsRunTold m' mark n number
+making-told mark n z m m' same run number none = record {
+  first = z;
+  run = first-run-same (counted m) (counted m') mark n z same.counts run;
+  told = inr (subst (λ (H : Header). NoPlaceToGrow m' mark ((z + (n - 1)) / counters_of_block H.fields + (n / counters_of_block H.fields + 2)) number) (sym same.header)
+      (no-place-as m' m (sym same.header) (sym same.table) (λ c. sym (same.counts c)) mark ((z + (n - 1)) / counters_of_block m.header.fields + (n / counters_of_block m.header.fields + 2)) number none));
+}
+
+-- What an allocation leaves of its room, turn by turn.
+pub record StaysRoomy (mark n : ℕ) (m0 m : Metadata) : Type 0 where
+  pub room : (roomy : IsRoomy m0 mark n) → RoomStays mark n m0 m roomy
+  pub gapless : n ≤ 1 → IsGapless mark m0 m
+
+module _ {S : Type 0} (state : S → StorageState) (table : TableValue) (old : MetadataCaches S) (before : ImageFile S) (pending : List FreeEntry) where
+  pub readying-none : Readying state table old before pending table old before pending
+  readying-none = record { step = allocating-none state table old before pending; list = inl (refl, refl, refl); faults = refl }
+
+  abbrev Start : Metadata
+  Start = metadata_of state before old table pending
+
+  abbrev Holds : TableValue → MetadataCaches S → ImageFile S → List FreeEntry → Type 0
+  Holds t caches file es = IsTrue (state file.image).shape.keeps × (order_of caches ≡ L2DependsOnRb) × IsSound (metadata_of state file caches t es)
+
+  -- Where there is room for n clusters, so much of it is left, and there is no gap where that is one.
+  abbrev pub Stays : (mark n : ℕ) → TableValue → MetadataCaches S → ImageFile S → List FreeEntry → Type 0
+  Stays mark n t caches file es = Holds table old before pending → StaysRoomy mark n (metadata_of state before old table pending) (metadata_of state file caches t es)
+
+  pub stays-none : (mark n : ℕ) → 1 ≤ n → Stays mark n table old before pending
+  stays-none mark n some holds =
+      let m = metadata_of state before old table pending in
+      record { room = λ roomy. stays-start mark n some m holds.2 roomy; gapless = λ one. gapless-same mark m m (λ c. refl) }
+
+  module _ (tA : TableValue) (A : MetadataCaches S) (fA : ImageFile S) (pA : List FreeEntry) (so_far : Readying state table old before pending tA A fA pA) where
+    holds-on : Holds table old before pending → Holds tA A fA pA
+    holds-on holds = let quiet = so_far.step.quiet holds.1 in (keeps_on (state before.image) (state fA.image) quiet.shape holds.0, so_far.step.order ∙ holds.1, (quiet.holds holds.0 holds.2 tt).0)
+
+    safe-with : Holds table old before pending → IsSafeWith state tA A fA
+    safe-with holds = let there = holds-on holds in record { keeps = there.0; safe = there.2.safe; table_of_file = there.2.table }
+
+    step-on : {T : Type 0} (result : Result T Fault) (leaked : ℕ → ℕ) (tB : TableValue) (B : MetadataCaches S) (fB : ImageFile S) (pB : List FreeEntry) → Allocating state (WasNotCutOff result) leaked tA A fA pA tB B fB pB → Allocating state (WasNotCutOff result) leaked table old before pending tB B fB pB
+    step-on result leaked tB B fB pB step =
+        allocating-as state (WasNotCutOff result) (WasNotCutOff result) (λ c. 0 + leaked c) leaked table old before pending tB B fB pB (λ whole. whole) (λ c. omega arith)
+        (allocating-then state ⊤ (WasNotCutOff result) (λ _. 0) leaked table old before pending tA A fA pA tB B fB pB tt so_far.step step)
+
+    -- It goes on with a search,
+    pub readying-searched : (mark n z : ℕ) (B : MetadataCaches S) (fB : ImageFile S) → LooksForRun state tA mark n A fA (Ok z) B fB → Readying state table old before pending tA B fB pA
+    readying-searched mark n z B fB looks = record {
+      step = step-on {T = ℕ} (Ok z) (λ _. 0) tA B fB pA (looked-allocates state tA pA A fA ℕ (Ok z) B fB looks.looked);
+      list = elim so_far.list [ inl same ↦ inl (same.0, looks.looked.header ∙ same.1, same.2) | inr longer ↦ inr longer ];
+      faults = looks.looked.cause ∙ so_far.faults;
+    }
+
+    -- or with what is made,
+    pub readying-made : (mark at first last : ℕ) (made : Bool) (tB : TableValue) (B : MetadataCaches S) (fB : ImageFile S) (pB : List FreeEntry) → ReadiesBlocks state mark at first last tA A fA pA (Ok made) tB B fB pB → (length table.words < length tA.words → last < length tA.words) → Readying state table old before pending tB B fB pB
+    readying-made mark at first last made tB B fB pB makes covers = record {
+      step = step-on {T = Bool} (Ok made) (λ _. 0) tB B fB pB
+          (allocating-as state ⊤ ⊤ makes.leaked (λ _. 0) tA A fA pA tB B fB pB (λ whole. whole) (leaks-ok _ _ made makes.leaked makes.leaks) makes.step);
+      list = elim (cases_lt last (length tA.words)) [
+        | inl inside ↦ let still = makes.once inside in elim so_far.list [
+          | inl same ↦ inl (still.0 ∙ same.0, still.1 ∙ same.1, still.2 ∙ same.2)
+          | inr longer ↦ inr (let more = longer.0 in let long = still.2 in omega (arith, more, long), still.0 ∙ longer.1)
+        ]
+        | inr past ↦ let grew = makes.grew past in elim so_far.list [
+          | inl same ↦ inr (let more = grew.0 in let long = same.2 in omega (arith, more, long), grew.1 ∙ ap (λ es. es ++ table_run fA.header.fields) same.0 ∙ ap (λ (H : Header). pending ++ table_run H.fields) same.1)
+          | inr longer ↦ absurd (let inside = covers longer.0 in omega (arith, inside, past))
+        ]
+      ];
+      faults = makes.cause ∙ so_far.faults;
+    }
+
+    -- and where there was room for it there is still.
+    pub stays-found : (mark n z : ℕ) → 1 ≤ n → (B : MetadataCaches S) (fB : ImageFile S) → LooksForRun state tA mark n A fA (Ok z) B fB → Stays mark n tA A fA pA → Stays mark n tA B fB pA
+    stays-found mark n z some B fB looks stays holds =
+        let there = holds-on holds in
+        let m = metadata_of state before old table pending in
+        let same = counts-looked state tA pA A fA ℕ (Ok z) B fB looks.looked there.0 there.2 tt in
+        record {
+          room = λ roomy. stays-searched mark n some m holds.2 roomy (metadata_of state fA A tA pA) ((stays holds).room roomy) (metadata_of state fB B tA pA) refl same;
+          gapless = λ one. gapless-then mark m (metadata_of state fA A tA pA) (metadata_of state fB B tA pA) ((stays holds).gapless one) (λ c. inl (same c)) (gapless-same mark (metadata_of state fA A tA pA) (metadata_of state fB B tA pA) same);
+        }
+
+    pub stays-on : (mark n z first last : ℕ) → 1 ≤ n → (Holds table old before pending → IsFirstRun (counted (metadata_of state fA A tA pA)) mark n z) → first ≡ z / counters_of_block fA.header.fields → last ≡ (z + (n - 1)) / counters_of_block fA.header.fields
+        → Stays mark n tA A fA pA → (tB : TableValue) (B : MetadataCaches S) (fB : ImageFile S) (pB : List FreeEntry) → ReadiesBlocks state mark (last + (n / counters_of_block fA.header.fields + 2)) first last tA A fA pA (Ok true) tB B fB pB → Stays mark n tB B fB pB
+    stays-on mark n z first last some run first-is last-is stays tB B fB pB makes holds =
+        let there = holds-on holds in
+        let m0 = metadata_of state before old table pending in
+        let m = metadata_of state fA A tA pA in
+        let m' = metadata_of state fB B tB pB in
+        let made = makes.made there.1 there.0 there.2 refl in
+        let raised = makes.step.raised there.1 there.0 there.2 tt in
+        record {
+          room = λ roomy. stays-made mark n some m0 holds.2 roomy m ((stays holds).room roomy) so_far.step.moved (so_far.step.raised holds.1 holds.0 holds.2 tt) there.2 z (run holds) first last first-is last-is m' made;
+          gapless = λ one. gapless-then mark m0 m m' ((stays holds).gapless one) raised
+              (made-gapless mark m m' there.2 raised z (subst (λ x. IsFirstRun (counted m) mark x z) (let is : n ≡ 1 = omega (arith, some, one) in is) (run holds)) (last + (n / counters_of_block fA.header.fields + 2)) first last first-is
+              (last-is ∙ ap (λ x. x / counters_of_block fA.header.fields) (let is : z + (n - 1) ≡ z = omega (arith, one) in is)) made);
+        }
+
+    -- or is refused as it searches,
+    pub search-refused : (mark n : ℕ) (fault : Fault) (B : MetadataCaches S) (fB : ImageFile S) → LooksForRun state tA mark n A fA (Err fault) B fB → ReadiesRun state mark n table old before pending (Err fault) tA B fB pA
+    search-refused mark n fault B fB looks = record {
+      leaked = λ _. 0;
+      leaks = leaks-none _ _ (Err fault);
+      step = step-on {T = ℕ} (Err fault) (λ _. 0) tA B fB pA (looked-allocates state tA pA A fA ℕ (Err fault) B fB looks.looked);
+      found = λ order keeps sound. tt;
+      little = λ order keeps sound. tt;
+      ready = tt;
+      reach = tt;
+      some = tt;
+      list = by-table before.header fA.header table tA pending pA so_far.list;
+      cause = allocated-wider _ _ _ _ _ _ _ _ safe-with (λ any loose. loose-all tA A any (so_far.step.loose any loose)) so_far.faults fault looks.looked.cause;
+    }
+
+    -- or as it makes something,
+    pub making-refused : (mark n z first last : ℕ) → 1 ≤ n → (Holds table old before pending → IsFirstRun (counted (metadata_of state fA A tA pA)) mark n z) → first ≡ z / counters_of_block fA.header.fields → last ≡ (z + (n - 1)) / counters_of_block fA.header.fields
+        → IsInReach fA.header.fields.cluster_bits (z + (n - 1)) → Stays mark n tA A fA pA → (fault : Fault) (tB : TableValue) (B : MetadataCaches S) (fB : ImageFile S) (pB : List FreeEntry) → ReadiesBlocks state mark (last + (n / counters_of_block fA.header.fields + 2)) first last tA A fA pA (Err fault) tB B fB pB → (length table.words < length tA.words → last < length tA.words) → ReadiesRun state mark n table old before pending (Err fault) tB B fB pB
+    making-refused mark n z first last positive run first-is last-is near stays fault tB B fB pB makes covers = record {
+      leaked = makes.leaked;
+      leaks = leaks-on _ _ _ _ fault makes.leaked holds-on so_far.step.loose makes.leaks;
+      step = step-on {T = ℕ} (Err fault) makes.leaked tB B fB pB makes.step;
+      found = λ order keeps sound. tt;
+      little = λ order keeps sound. tt;
+      ready = tt;
+      reach = tt;
+      some = tt;
+      list = elim (cases_lt last (length tA.words)) [
+        | inl inside ↦ let still = makes.once inside in elim so_far.list [
+          | inl same ↦ inl (still.0 ∙ same.0)
+          | inr longer ↦ inr (let more = longer.0 in let long = still.2 in omega (arith, more, long), still.0 ∙ longer.1)
+        ]
+        | inr past ↦ elim so_far.list [
+          | inl same ↦ inl (makes.kept past ∙ same.0)
+          | inr longer ↦ absurd (let inside = covers longer.0 in omega (arith, inside, past))
+        ]
+      ];
+      cause = why-allocated-as _ _ _ _ _ _ _ _ _ holds-on so_far.step.loose so_far.faults fault
+          (λ number is none order keeps sound.
+          let holds : Holds table old before pending = (keeps, order, sound) in
+          let there = holds-on holds in
+          let why = none there.1 there.0 there.2 in
+          (crowded number holds why, told number is holds why)) makes.cause;
+    }
+      where
+        mA : Metadata
+        mA = metadata_of state fA A tA pA
+
+        CanNot : ℕ → Type 0
+        CanNot number = NoneCanBeMade mark (last + (n / counters_of_block fA.header.fields + 2)) first last number mA
+
+        crowded : (number : ℕ) → Holds table old before pending → CanNot number → IsCrowded Start mark n
+        crowded number holds none roomy =
+            let there = holds-on holds in
+            can-make mark n positive Start holds.2 roomy mA ((stays holds).room roomy) so_far.step.moved (so_far.step.raised holds.1 holds.0 holds.2 tt) there.2 z (run holds) first last first-is last-is number none
+
+        told : (number : ℕ) → fault ≡ Limit number → Holds table old before pending → CanNot number → IsRunTold (metadata_of state fB B tB pB) mark n number
+        told number is holds (inl far) = absurd (far (λ i above below. block-near fA.header z n i (omega (arith, below, last-is)) near))
+        told number is holds (inr (past, none)) =
+            let there = holds-on holds in
+            making-told mark n z mA (metadata_of state fB B tB pB) (makes.barred past there.1 there.0 there.2 number (ap (λ (f : Fault). Err f) is)) (run holds) number
+            (subst (λ (l : ℕ). NoPlaceToGrow mA mark (l + (n / counters_of_block fA.header.fields + 2)) number) last-is none)
+
+    module _ (mark n z : ℕ) (some : 1 ≤ n) (B : MetadataCaches S) (fB : ImageFile S) (looks : LooksForRun state tA mark n A fA (Ok z) B fB) where
+      -- What it found isn't counted.
+      pub found-run : Holds table old before pending → IsFirstRun (counts_in state B fB) mark n z
+      found-run holds =
+          let safe = safe-with holds in
+          first-run-same (counts_in state A fA) (counts_in state B fB) mark n z (counts-still state tA A fA z B fB looks.looked safe) (looks.found safe)
+
+      -- It is refused as no run begins there that can be counted,
+      pub unfit-refused : (fault : Fault) → WhyNotFit fB.header.fields n z fault → Stays mark n tA A fA pA → ReadiesRun state mark n table old before pending (Err fault) tA B fB pA
+      unfit-refused fault why stays =
+          let searched = readying-searched mark n z B fB looks in record {
+            leaked = λ _. 0;
+            leaks = leaks-none _ _ (Err fault);
+            step = allocating-as state ⊤ (WasNotCutOff {T = ℕ} (Err fault)) (λ _. 0) (λ _. 0) table old before pending tA B fB pA (λ whole. tt) (λ c. refl) searched.step;
+            found = λ order keeps sound. tt;
+            little = λ order keeps sound. tt;
+            ready = tt;
+            reach = tt;
+            some = tt;
+            list = by-table before.header fA.header table tA pending pA so_far.list;
+            cause = caused fault why;
+          }
+        where
+          never : z ≡ 0 → Holds table old before pending → ⊥
+          never is holds =
+              let there = holds-on holds in
+              let run = (looks.found (safe-with holds)).free z (omega arith) (omega (arith, some)) in
+              let counts : 0 < counted (metadata_of state fA A tA pA) 0 = first-counted (metadata_of state fA A tA pA) there.2 in
+              let none : counted (metadata_of state fA A tA pA) 0 ≡ 0 = subst (λ c. counted (metadata_of state fA A tA pA) c ≡ 0) is run in
+              omega (arith, counts, none)
+
+          told : (number : ℕ) → WhyNotFit fB.header.fields n z (Limit number) → Holds table old before pending → IsRunTold (metadata_of state fB B tA pA) mark n number
+          told number why holds =
+              let there = holds-on holds in
+              let long = there.2.table.long in
+              let few = (header-limited true _ fA.header there.2.safe.consistent.readable.loads).refcount_entries in
+              record { first = z; run = found-run holds; told = inl (why.0, λ near. let far = why.1 near in omega (arith, long, few, far)) }
+
+          crowded : (IsInReach fB.header.fields.cluster_bits (z + (n - 1)) → 2 ^ 20 ≤ (z + (n - 1)) / counters_of_block fB.header.fields) → order_of old ≡ L2DependsOnRb → IsTrue (state before.image).shape.keeps → IsSound (metadata_of state before old table pending) → IsCrowded (metadata_of state before old table pending) mark n
+          crowded far order keeps sound roomy =
+              let holds : Holds table old before pending = (keeps, order, sound) in
+              let there = holds-on holds in
+              run-fits mark n some (metadata_of state before old table pending) sound roomy (metadata_of state fA A tA pA) ((stays holds).room roomy) so_far.step.moved (so_far.step.raised order keeps sound tt) there.2 z (looks.found (safe-with holds))
+              (subst (λ (H : Header). IsInReach H.fields.cluster_bits (z + (n - 1)) → 2 ^ 20 ≤ (z + (n - 1)) / counters_of_block H.fields) looks.looked.header far)
+
+          caused : (f : Fault) → WhyNotFit fB.header.fields n z f → WhyNotAllocated (Holds table old before pending) (IsLoose table old)
+              (λ number. order_of old ≡ L2DependsOnRb → IsTrue (state before.image).shape.keeps → IsSound Start → IsCrowded Start mark n × IsRunTold (metadata_of state fB B tA pA) mark n number) (state before.image).faults (state fB.image).faults f
+          caused DamagedTable is = never is
+          caused (Limit number) far = ((λ order keeps sound. (crowded far.1 order keeps sound, told number far (keeps, order, sound))), looks.looked.cause ∙ so_far.faults)
+          caused other is = absurd is
+
+      -- What it has taken is little.
+      little-found : Stays mark n tA A fA pA → order_of old ≡ L2DependsOnRb → IsTrue (state before.image).shape.keeps → IsSound Start → TakesLittle mark n Start (metadata_of state fB B tA pA) × ((roomy : IsRoomy Start mark n) → z + n ≤ roomy.first + room_for before.header.fields n)
+      little-found stays order keeps sound =
+          let holds : Holds table old before pending = (keeps, order, sound) in
+          let kept = stays-found mark n z some B fB looks stays holds in
+          let m = metadata_of state fB B tA pA in (
+            record { early = λ roomy. room-left mark n some Start sound roomy m (kept.room roomy); gapless = kept.gapless },
+            λ roomy. run-early mark n some Start sound roomy m (kept.room roomy) z (found-run holds),
+          )
+
+      -- It is refused as the table has grown and doesn't count the run,
+      pub grown-refused : (number : ℕ) → number ≡ last_number z n → length table.words < length tA.words → length tA.words ≤ (z + (n - 1)) / counters_of_block fB.header.fields → Stays mark n tA A fA pA → ReadiesRun state mark n table old before pending (Err (Limit number)) tA B fB pA
+      grown-refused number is longer past stays =
+          let searched = readying-searched mark n z B fB looks in record {
+            leaked = λ _. 0;
+            leaks = leaks-none _ _ (Err (Limit number));
+            step = allocating-as state ⊤ (WasNotCutOff {T = ℕ} (Err (Limit number))) (λ _. 0) (λ _. 0) table old before pending tA B fB pA (λ whole. tt) (λ c. refl) searched.step;
+            found = λ order keeps sound. tt;
+            little = λ order keeps sound. tt;
+            ready = tt;
+            reach = tt;
+            some = tt;
+            list = by-table before.header fA.header table tA pending pA so_far.list;
+            cause = ((λ order keeps sound. (crowded order keeps sound, record { first = z; run = found-run (keeps, order, sound); told = inl (is, λ near. past) })), looks.looked.cause ∙ so_far.faults);
+          }
+        where
+          crowded : order_of old ≡ L2DependsOnRb → IsTrue (state before.image).shape.keeps → IsSound (metadata_of state before old table pending) → IsCrowded (metadata_of state before old table pending) mark n
+          crowded order keeps sound roomy =
+              let holds : Holds table old before pending = (keeps, order, sound) in
+              let there = holds-on holds in
+              let inside = run-counted mark n some (metadata_of state before old table pending) sound roomy (metadata_of state fA A tA pA) ((stays holds).room roomy) so_far.step.moved (so_far.step.raised order keeps sound tt) there.2 z (looks.found (safe-with holds)) longer in
+              let past' : length tA.words ≤ (z + (n - 1)) / counters_of_block fA.header.fields = subst (λ (H : Header). length tA.words ≤ (z + (n - 1)) / counters_of_block H.fields) looks.looked.header past in
+              omega (arith, inside, past')
+
+      -- and ends where each cluster of the run has a block.
+      module _ (tC : TableValue) (C : MetadataCaches S) (fC : ImageFile S) (pC : List FreeEntry) (k last : ℕ) (size : counters_of_block fB.header.fields ≡ k) (at : ℕ) (made : ReadiesBlocks state mark at (z / k) last tA B fB pA (Ok false) tC C fC pC)
+          (done : Readying state table old before pending tC C fC pC) where
+        pub run-ready : Stays mark n tA A fA pA → 0 < k → z ≢ 0 → IsInReach fB.header.fields.cluster_bits (z + (n - 1)) → last ≡ (z + (n - 1)) / k → ReadiesRun state mark n table old before pending (Ok z) tC C fC pC
+        run-ready stays wide apart reach at = record {
+          leaked = λ _. 0;
+          leaks = leaks-none _ _ (Ok z);
+          step = done.step;
+          found = λ order keeps sound.
+              subst (λ (ca : MetadataCaches S). IsFirstRun (counts_in state ca fC) mark n z) (sym (made.idle refl).1)
+              (subst (λ (f : ImageFile S). IsFirstRun (counts_in state B f) mark n z) (sym (made.idle refl).2) (found-run (keeps, order, sound)));
+          little = λ order keeps sound.
+              subst (λ (ca : MetadataCaches S). Little (metadata_of state fC ca tC pC)) (sym (made.idle refl).1)
+              (subst (λ (f : ImageFile S). Little (metadata_of state f B tC pC)) (sym (made.idle refl).2) (there (little-found stays order keeps sound)));
+          ready = λ c above below.
+              let both = between-blocks k z n c wide above below in
+              let le = both.1 in
+              subst (λ b. block_offset (slice_index tC.words (c / b)) ≢ 0) (sym size ∙ ap (λ (H : Header). counters_of_block H.fields) moved.2) (made.ready refl (c / k) both.0 (omega (arith, le, at)));
+          reach = subst (λ (H : Header). IsInReach H.fields.cluster_bits (z + (n - 1))) moved.2 reach;
+          some = apart;
+          list = by-table before.header fC.header table tC pending pC done.list;
+          cause = done.faults;
+        }
+          where
+            Little : Metadata → Type 0
+            Little m = TakesLittle mark n Start m × ((roomy : IsRoomy Start mark n) → z + n ≤ roomy.first + room_for before.header.fields n)
+
+            there : Little (metadata_of state fB B tA pA) → Little (metadata_of state fB B tC pC)
+            there little = (record { early = little.0.early; gapless = little.0.gapless }, little.1)
+
+            moved : MovedTable before.header fB.header
+            moved = (readying-searched mark n z B fB looks).step.moved
+
+-- How far the turns are from their end: with each the refcount table becomes longer, or as long names more blocks.
+abbrev pub turns_left : TableValue → ℕ
+turns_left table = (2 ^ 20 + 1 - length table.words) * (2 ^ 20 + 1) + min (2 ^ 20) (missing table)
+
+pub turns-fewer : (table table' : TableValue) → length table.words ≤ 2 ^ 20 → HasMore table table' → turns_left table' < turns_left table
+turns-fewer table table' short more = elim more [
+  | inl longer ↦
+      let step : (2 ^ 20 + 1 - length table'.words + 1) * (2 ^ 20 + 1) ≤ (2 ^ 20 + 1 - length table.words) * (2 ^ 20 + 1) = mul-le-mul (omega (arith, short, longer)) (omega arith) in
+      omega (arith, step)
+  | inr both ↦
+      let same = both.0 in
+      let fewer = both.1 in
+      let few : missing table ≤ length table.words = count_by-le-length (λ w. block_offset w == 0) table.words in
+      omega (arith, same, fewer, few, short)
+]

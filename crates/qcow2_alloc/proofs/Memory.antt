@@ -1,0 +1,11 @@
+-- What is in memory over the file.
+pub mod Patches
+pub mod MemoryWords
+pub mod SafeLaws
+pub mod MemoryImage
+pub mod ChangingCounters
+pub mod ChangingWords
+pub mod DroppingNames
+pub mod WordsKept
+pub mod FreeRuns
+pub mod StructureWrites

@@ -1,0 +1,135 @@
+-- What is named and what is cached where each word means what it did, in the file and in memory, whatever the refcount table.
+use Rattle.std.proofs.Common.{◌≡◌, ◌≢◌, ℕ, ◌+◌, ◌*◌, ◌≤◌, refl, arith, ap, sym, subst, ◌∙◌, true, false}
+use Rattle.std.specs.Prelude.{max, Some, None}
+use Rattle.std.proofs.lemmas.Nat.{pow_pos}
+use Rattle.qcow2_types.specs.Bytes.{Bytes, word}
+use Rattle.qcow2_types.specs.Words.{Mapping, data_at, zeroes, packed, unmapped, damaged}
+use Rattle.qcow2_types.specs.Header.{Fields, cluster_size, words_of_cluster}
+use Rattle.qcow2_types.specs.Entries.{l2_table}
+use Rattle.qcow2_types.specs.Counts.{count, counter, counters_of_block}
+use Rattle.qcow2_types.specs.Frames.{Same}
+use Rattle.qcow2_types.specs.References.{Weight, structure, contents, of_mapping, of_copied, meets, refs}
+use Rattle.qcow2_types.specs.Slots.{slot, Live, over_slots}
+use Rattle.qcow2_types.specs.Switched.{with_reftable}
+use Rattle.qcow2_types.specs.Versions.{of_either, named, copied}
+use Rattle.qcow2_types.proofs.Counters.{counter-same}
+use Rattle.qcow2_types.proofs.Either.{tables-same}
+use Rattle.std.proofs.Math.Nat.{le-max_left}
+use Rattle.qcow2_types.proofs.Slots.{contents-slots, slots-same, slot-le}
+use Rattle.qcow2_metadata.specs.Tables.{TableValue, words_in}
+use Rattle.qcow2_metadata.specs.Blocks.{Block, counters_in}
+use Rattle.qcow2_alloc.specs.declared.cache.CacheDependency.{CacheDependency}
+use Rattle.qcow2_alloc.specs.declared.cache.CacheDependency.TheVariants.{Unset, L2DependsOnRb, RbDependsOnL2}
+use Rattle.qcow2_alloc.specs.Safety.{IsLiveBlock, IsCachedTable, IsCachedBlock, IsOrdered}
+use Rattle.qcow2_alloc.proofs.Freeing.Lists.{map-same}
+use Rattle.qcow2_alloc.proofs.Memory.Patches.{place-there}
+use Rattle.qcow2_alloc.proofs.Quiet.QuietThen.{of-moved}
+
+-- What a word names as copied doesn't depend on the refcount table.
+copied-moved : (h h' : Fields) → cluster_size h' ≡ cluster_size h → (w : Weight) (m : Mapping) → of_copied h' w m ≡ of_copied h w m
+copied-moved h h' same w (data_at cluster true) = ap (λ s. w (cluster * s) s) same
+copied-moved h h' same w (data_at cluster false) = refl
+copied-moved h h' same w (zeroes (Some cluster) true) = ap (λ s. w (cluster * s) s) same
+copied-moved h h' same w (zeroes (Some cluster) false) = refl
+copied-moved h h' same w (zeroes None copied) = refl
+copied-moved h h' same w (packed offset length) = refl
+copied-moved h h' same w unmapped = refl
+copied-moved h h' same w damaged = refl
+
+-- f is the file and g what is in memory, and x and y are what they become.
+module _ (f g x y : Bytes) (h : Fields) (offset clusters : ℕ) (tables : (i : ℕ) → l2_table x (with_reftable h offset clusters) i ≡ l2_table f h i)
+    (file : (i j : ℕ) → Live (l2_table f h) h i j → slot x (with_reftable h offset clusters) i j ≡ slot f h i j)
+    (cached : (i j : ℕ) → Live (l2_table f h) h i j → slot y (with_reftable h offset clusters) i j ≡ slot g h i j) where
+  abbrev h' : Fields
+  h' = with_reftable h offset clusters
+
+  slots-moved : (t : ℕ → ℕ) (p : ℕ → ℕ → ℕ) → over_slots t h' p ≡ over_slots t h p
+  unfolding over_slots
+  slots-moved t p = refl
+
+  weighs-same : (d i j : ℕ) → Live (l2_table f h) h i j → of_either h' (meets h' d) (slot x h' i j) (slot y h' i j) ≡ of_either h (meets h d) (slot f h i j) (slot g h i j)
+  weighs-same d i j live =
+      ap (λ n. max n (of_mapping h' (meets h' d) (slot y h' i j))) (of-moved h h' refl (meets h d) (slot x h' i j) ∙ ap (of_mapping h (meets h d)) (file i j live))
+      ∙ ap (λ n. max (of_mapping h (meets h d) (slot f h i j)) n) (of-moved h h' refl (meets h d) (slot y h' i j) ∙ ap (of_mapping h (meets h d)) (cached i j live))
+
+  marked-same : (d i j : ℕ) → Live (l2_table f h) h i j → max (of_copied h' (meets h' d) (slot x h' i j)) (of_copied h' (meets h' d) (slot y h' i j)) ≡ max (of_copied h (meets h d) (slot f h i j)) (of_copied h (meets h d) (slot g h i j))
+  marked-same d i j live =
+      ap (λ n. max n (of_copied h' (meets h' d) (slot y h' i j))) (copied-moved h h' refl (meets h d) (slot x h' i j) ∙ ap (of_copied h (meets h d)) (file i j live))
+      ∙ ap (λ n. max (of_copied h (meets h d) (slot f h i j)) n) (copied-moved h h' refl (meets h d) (slot y h' i j) ∙ ap (of_copied h (meets h d)) (cached i j live))
+
+  -- A cluster is named by the structure, and by words as it was.
+  pub named-more : (d old new : ℕ) → structure x h' (meets h' d) + old ≡ structure f h (meets h d) + new → named x y h' d + old ≡ named f g h d + new
+  unfolding named
+  named-more d old new more =
+      let words = slots-moved (l2_table x h') (λ i j. of_either h' (meets h' d) (slot x h' i j) (slot y h' i j)) ∙ tables-same (l2_table f h) (l2_table x h') h _ tables ∙ slots-same (l2_table f h) h _ _ (weighs-same d) in
+      omega (arith, words, more)
+
+  pub copied-stays : (d : ℕ) → copied x y h' d ≡ copied f g h d
+  unfolding copied
+  copied-stays d = slots-moved (l2_table x h') (λ i j. max (of_copied h' (meets h' d) (slot x h' i j)) (of_copied h' (meets h' d) (slot y h' i j))) ∙ tables-same (l2_table f h) (l2_table x h') h _ tables ∙ slots-same (l2_table f h) h _ _ (marked-same d)
+
+-- What a word of the file names is among all that is named,
+pub word-named : (f g : Bytes) (h : Fields) (d i j : ℕ) → Live (l2_table f h) h i j → of_mapping h (meets h d) (slot f h i j) ≤ named f g h d
+unfolding named
+word-named f g h d i j live =
+    let one : of_mapping h (meets h d) (slot f h i j) ≤ of_either h (meets h d) (slot f h i j) (slot g h i j) = le-max_left (of_mapping h (meets h d) (slot f h i j)) (of_mapping h (meets h d) (slot g h i j)) in
+    let all = slot-le (l2_table f h) h (λ k n. of_either h (meets h d) (slot f h k n) (slot g h k n)) i j live in
+    omega (arith, one, all)
+
+-- and among what the words of the file name,
+pub word-contents : (f : Bytes) (h : Fields) (d i j : ℕ) → Live (l2_table f h) h i j → of_mapping h (meets h d) (slot f h i j) ≤ contents f h (of_mapping h (meets h d))
+word-contents f h d i j live =
+    let all = contents-slots f h (of_mapping h (meets h d)) in
+    let one = slot-le (l2_table f h) h (λ k n. of_mapping h (meets h d) (slot f h k n)) i j live in
+    omega (arith, one, all)
+
+-- and so is what the structure does.
+pub structure-named : (f g : Bytes) (h : Fields) (d : ℕ) → structure f h (meets h d) ≤ named f g h d
+unfolding named
+structure-named f g h d = omega arith
+
+-- The order is kept where what covers a cluster still does.
+pub ordered-still : (f g x y : Bytes) (h later : Fields) → ((d : ℕ) → named f g h d ≤ count g h d → named x y later d ≤ count y later d) → ((d : ℕ) → named f g h d ≤ count f h d → named x y later d ≤ count x later d)
+    → ((d : ℕ) → refs x later d ≤ count x later d) → ((d : ℕ) → count g h d ≤ count f h d → count y later d ≤ count x later d) → (o : CacheDependency) → IsOrdered o f g h → IsOrdered o x y later
+ordered-still f g x y h later cached file covers lowered Unset both = (
+  record { cached = λ d. cached d (both.0.cached d); file = covers },
+  record { file = λ d. file d (both.1.file d); lowered = λ d. lowered d (both.1.lowered d) },
+)
+ordered-still f g x y h later cached file covers lowered L2DependsOnRb first = record { cached = λ d. cached d (first.cached d); file = covers }
+ordered-still f g x y h later cached file covers lowered RbDependsOnL2 first = record { file = λ d. file d (first.file d); lowered = λ d. lowered d (first.lowered d) }
+
+-- A cached table fits the file as before,
+pub table-fits : (f x : Bytes) (h : Fields) (offset clusters : ℕ) → ((i : ℕ) → l2_table x (with_reftable h offset clusters) i ≡ l2_table f h i) → ((i j : ℕ) → Live (l2_table f h) h i j → word x (l2_table f h i) j ≡ word f (l2_table f h i) j)
+    → (cluster : ℕ) (t : TableValue) → IsCachedTable f h cluster t → IsCachedTable x (with_reftable h offset clusters) cluster t
+table-fits f x h offset clusters tables words cluster t is = record {
+  fits = is.fits;
+  placed = is.placed;
+  layout = is.layout;
+  modified = λ m. let live = is.modified m in (live.0, live.1, tables live.0 ∙ live.2, live.3);
+  clean = λ m live.
+      let at : l2_table f h live.0 ≡ cluster * cluster_size h = sym (tables live.0) ∙ live.2 in
+      let there : l2_table f h live.0 ≢ 0 = λ none. place-there (cluster_size h) cluster (pow_pos h.cluster_bits) live.3 (sym at ∙ none) in
+      is.clean m (live.0, live.1, at, live.3)
+      ∙ subst (λ p. words_in f p (words_of_cluster h) ≡ words_in x p (words_of_cluster h)) at
+      (map-same (word f (l2_table f h live.0)) (word x (l2_table f h live.0)) (words_of_cluster h)
+      (λ j less. sym (words live.0 j (record { in_l1 = live.1; is_there = there; in_table = less }))));
+}
+
+-- and so does a cached block.
+pub block-fits : (f x : Bytes) (h : Fields) (offset clusters : ℕ) (cluster : ℕ) (b : Block) → (IsLiveBlock f h cluster → IsLiveBlock x (with_reftable h offset clusters) cluster)
+    → (b.modified ≡ false → IsLiveBlock x (with_reftable h offset clusters) cluster → b.counters ≡ counters_in x h (cluster * cluster_size h))
+    → IsCachedBlock f h cluster b → IsCachedBlock x (with_reftable h offset clusters) cluster b
+unfolding counter
+block-fits f x h offset clusters cluster b alive clean is = record {
+  placed = is.placed;
+  cluster_bits = is.cluster_bits;
+  order = is.order;
+  long = is.long;
+  fit = is.fit;
+  modified = λ m. alive (is.modified m);
+  clean = clean;
+}
+
+-- Its counters are the same where its bytes are.
+pub counters-same : (f x : Bytes) (h : Fields) (place : ℕ) → Same f x place (cluster_size h) → counters_in x h place ≡ counters_in f h place
+counters-same f x h place same = map-same (counter x h place) (counter f h place) (counters_of_block h) (λ k less. counter-same f x h place same k less)

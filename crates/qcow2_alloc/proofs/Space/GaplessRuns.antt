@@ -1,0 +1,99 @@
+-- A lone cluster that is handed out, and what is made for it, leaves no gap behind the mark.
+use Rattle.std.proofs.Common.{◌≡◌, ℕ, ◌+◌, ◌*◌, ◌/◌, ◌<◌, ◌≤◌, arith, subst, inl, inr, length}
+use Rattle.std.proofs.lemmas.Bool.{cases_eq, cases_lt}
+use Rattle.std.proofs.Math.Nat.{div-mul-le_self, min-le_left, mul-le-mul}
+use Rattle.std.proofs.lemmas.Nat.{le-div}
+use Rattle.qcow2_types.specs.Counts.{counters_of_block}
+use Rattle.qcow2_alloc.specs.Allocating.{OnlyRaised}
+use Rattle.qcow2_alloc.specs.Crowding.{IsGapless}
+use Rattle.qcow2_alloc.specs.FillingBlocks.{FillsFrom}
+use Rattle.qcow2_alloc.specs.GrowingTables.{TableGrown}
+use Rattle.qcow2_alloc.specs.Quiet.{Metadata, IsSound, counted}
+use Rattle.qcow2_alloc.specs.ReadyingBlocks.{HasMade}
+use Rattle.qcow2_alloc.specs.SearchingClusters.{IsFirstRun}
+use Rattle.qcow2_alloc.proofs.Handing.Allocating.{counted-still}
+use Rattle.qcow2_alloc.proofs.Growth.FindingRoom.{lacking-few}
+use Rattle.qcow2_alloc.proofs.Growth.GrownTables.{covers-inside}
+use Rattle.qcow2_alloc.proofs.Space.KeepingRoom.{covered-inside, fill-near, quotient-few, room-long}
+use Rattle.qcow2_alloc.proofs.Space.KeptRooms.{counted-inside}
+use Rattle.qcow2_alloc.proofs.Memory.Patches.{shaped-in}
+use Rattle.qcow2_alloc.proofs.Space.SizesOfSpace.{counters-wide}
+
+-- Nothing is counted anew where counts stay,
+pub gapless-same : (mark : ℕ) (m m' : Metadata) → ((c : ℕ) → counted m' c ≡ counted m c) → IsGapless mark m m'
+gapless-same mark m m' same c none some = absurd (let is = same c in omega (arith, is, none, some))
+
+-- and what is counted anew in turn leaves no gap where neither does.
+pub gapless-then : (mark : ℕ) (m0 m m' : Metadata) → IsGapless mark m0 m → OnlyRaised m m' → IsGapless mark m m' → IsGapless mark m0 m'
+gapless-then mark m0 m m' one raised two c none some d from to = elim (cases_eq (counted m c) 0) [
+  | inl still ↦ two c still some d from to
+  | inr up ↦ counted-still m m' d raised (one c none (omega (arith, up)) d from to)
+]
+
+module _ (mark : ℕ) (m m' : Metadata) (sound : IsSound m) (raised : OnlyRaised m m') (z : ℕ) (run : IsFirstRun (counted m) mark 1 z) where
+  abbrev k : ℕ
+  k = counters_of_block m.header.fields
+
+  wide : 64 ≤ k
+  wide = counters-wide m.header.fields (shaped-in m.file m.header sound.safe.consistent)
+
+  some-counters : 0 < k
+  some-counters = let w = wide in omega (arith, w)
+
+  -- Each cluster from the mark to the first free one is counted.
+  pub counted-before : (d : ℕ) → mark ≤ d → d < z → 0 < counted m d
+  counted-before d from to =
+      let met = run.least d from to in
+      let above = met.1 in
+      let below = met.2 in
+      let here : met.0 ≡ d = omega (arith, above, below) in
+      subst (λ c. 0 < counted m c) here met.3
+
+  -- A block was made for it,
+  filled : (last : ℕ) → last ≡ z / k → FillsFrom mark (z / k) (last + 1) m m' → IsGapless mark m m'
+  filled last is fills c none some d from to =
+      let met = fill-near m.table z z 0 0 mark 1 z (last + 1) m m' fills some-counters z 1 (omega arith) (λ i lt. before i lt) run.behind (omega (arith, is)) (λ x above below. run.free x above below) c (λ same. omega (arith, same, none, some)) in
+      let few = fills.few z 1 in
+      counted-still m m' d raised (counted-before d from (omega (arith, met, few, is, to)))
+    where
+      before : (i : ℕ) → i < last + 1 → i * k < z + 1
+      before i lt = let le : i * k ≤ z / k * k = mul-le-mul (omega (arith, lt, is)) (omega arith) in let under = div-mul-le_self z k in omega (arith, le, under)
+
+  -- or the table has grown: there was no word for a cluster from there on, so none was counted.
+  past-free : length m.table.words ≤ z / k → (c : ℕ) → z ≤ c → counted m c ≡ 0
+  past-free past c from = elim (cases_eq (counted m c) 0) [
+    | inl none ↦ none
+    | inr some ↦
+        let inside = counted-inside m c sound (omega (arith, some)) in
+        let low : z / k ≤ c / k = le-div (z / k) c k some-counters (let under = div-mul-le_self z k in omega (arith, under, from)) in
+        absurd (omega (arith, inside, low, past))
+  ]
+
+  -- Its room begins no later.
+  room-early : (at : ℕ) → length m.table.words ≤ z / k → (grown : TableGrown mark at m m') → grown.first ≤ z
+  room-early at past grown = elim (cases_lt z grown.first) [
+    | inr le ↦ le
+    | inl before ↦
+        let most = 2 * grown.clusters + 8 in
+        let few = lacking-few m.table k some-counters z most in
+        let quotient = quotient-few k most wide in
+        let t = room-long m.table k z grown.clusters most most (omega arith) (omega (arith, few, quotient)) in
+        let low = min-le_left mark (length m.table.words * k) in
+        let from = run.behind in
+        absurd (grown.room.room.least z t.0 (omega (arith, low, from)) before (record { enough = t.2; free = λ c above below. past-free past c above }))
+  ]
+
+  grown-gapless : (at : ℕ) → length m.table.words ≤ z / k → TableGrown mark at m m' → IsGapless mark m m'
+  grown-gapless at past grown c none some d from to =
+      let more = grown.counts c in
+      let inside = covered-inside c grown.first grown.total (omega (arith, more, none, some)) in
+      let ends = inside.1 in
+      elim (cases_lt d grown.first) [
+        | inl before ↦ counted-still m m' d raised (counted-before d from (let early = room-early at past grown in omega (arith, before, early)))
+        | inr after ↦ let one = covers-inside d grown.first grown.total after (omega (arith, to, ends)) in let counts = grown.counts d in omega (arith, one, counts)
+      ]
+
+  -- So is what it needs.
+  pub made-gapless : (at first last : ℕ) → first ≡ z / k → last ≡ z / k → HasMade mark at first last m m' → IsGapless mark m m'
+  made-gapless at first last first-is last-is (inl (inside, long, fills)) = filled last last-is (subst (λ f. FillsFrom mark f (last + 1) m m') first-is fills)
+  made-gapless at first last first-is last-is (inr (past, grown)) = grown-gapless at (omega (arith, past, last-is)) grown
