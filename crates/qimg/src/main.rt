@@ -62,8 +62,11 @@ fn run_script<R: Files + Input + Print + AllocGlobal>(
     let mut output = BufWriter::new(rt.alloc(), io::writer(rt))?;
     let writable = !arguments.read_only;
     let ended = run_files(rt.alloc(), files, writable, CHAIN, input, &mut output);
-    output.flush()?;
-    match (ended?, arguments.layers.first()) {
+    let flushed = output.flush();
+    // A chain that doesn't open is told as such, also where nobody takes the output.
+    let saved = ended?;
+    flushed?;
+    match (saved, arguments.layers.first()) {
         (Some(bytes), Some(top)) => replace(rt, &top.path, &bytes),
         _ => Ok(()),
     }
