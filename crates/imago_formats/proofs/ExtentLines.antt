@@ -26,7 +26,7 @@ use Rattle.imago_formats.specs.declared.vmdk.descriptor.Extent.{Extent}
 
 -- ---- A text in two parts, the second of which begins at the first byte that passes.
 
-abbrev Meets : (ℕ → Bool) → List ℕ → Type 0
+abbrev pub Meets : (ℕ → Bool) → List ℕ → Type 0
 Meets p [] = ⊤
 Meets p (b ∷ bs) = p b ≡ true
 
@@ -34,7 +34,7 @@ one_more : (n : ℕ) → 1 + n ≡ suc n
 one_more n = omega arith
 
 -- the first place that passes stands behind those that don't
-first_at : (p : ℕ → Bool) (xs ys : List ℕ) → list_all (λ b. not (p b)) xs ≡ true → Meets p ys → position_or_len p (xs ++ ys) ≡ length xs
+pub first_at : (p : ℕ → Bool) (xs ys : List ℕ) → list_all (λ b. not (p b)) xs ≡ true → Meets p ys → position_or_len p (xs ++ ys) ≡ length xs
 first_at p [] [] fails meets = refl
 first_at p [] (y ∷ ys) fails meets = ap (λ t. cond (not t) (1 + position_or_len p ys) 0) meets
 first_at p (x ∷ xs) ys fails meets =
@@ -42,7 +42,7 @@ first_at p (x ∷ xs) ys fails meets =
     ap (λ t. cond t (1 + position_or_len p (xs ++ ys)) 0) parts.0
     ∙ ap (λ n. 1 + n) (first_at p xs ys parts.1 meets) ∙ one_more (length xs)
 
-take_front : (xs ys : List ℕ) → take (length xs) (xs ++ ys) ≡ xs
+pub take_front : (xs ys : List ℕ) → take (length xs) (xs ++ ys) ≡ xs
 take_front [] ys = grind (arith, common_steps)
 take_front (x ∷ xs) ys = ap (λ l. x ∷ l) (take_front xs ys)
 
@@ -51,7 +51,7 @@ drop_front [] ys = grind (arith, common_steps)
 drop_front (x ∷ xs) ys = drop_front xs ys
 
 -- what passes at the front of a text, and what stands behind it
-front_passes : (q : ℕ → Bool) (xs : List ℕ) → list_all q (take_while q xs) ≡ true
+pub front_passes : (q : ℕ → Bool) (xs : List ℕ) → list_all q (take_while q xs) ≡ true
 front_passes q [] = refl
 front_passes q (x ∷ xs) = ap (λ l. list_all q l) (take_while-cons q x xs) ∙ at_first (q x) refl (front_passes q xs)
   where
@@ -69,13 +69,13 @@ rest_meets p (x ∷ xs) = at_first (p x) refl (rest_meets p xs)
 
 -- ---- Blanks and words.
 
-abbrev NoBlanks : List ℕ → Type 0
+abbrev pub NoBlanks : List ℕ → Type 0
 NoBlanks xs = list_all (λ b. not (is_blank b)) xs ≡ true
 
-abbrev Ends : List ℕ → Type 0
+abbrev pub Ends : List ℕ → Type 0
 Ends xs = Meets is_blank xs
 
-abbrev Starts : List ℕ → Type 0
+abbrev pub Starts : List ℕ → Type 0
 Starts xs = Meets (λ b. not (is_blank b)) xs
 
 not_not : (t : Bool) → not (not t) ≡ t
@@ -86,7 +86,7 @@ twice : (xs : List ℕ) → list_all (λ b. not (not (is_blank b))) xs ≡ list_
 twice [] = refl
 twice (x ∷ xs) = λ i. not_not (is_blank x) i && twice xs i
 
-blanks_end : (xs : List ℕ) → AreBlanks xs → Ends xs
+pub blanks_end : (xs : List ℕ) → AreBlanks xs → Ends xs
 blanks_end [] blanks = tt
 blanks_end (x ∷ xs) blanks = (both (is_blank x) (list_all is_blank xs) blanks).0
 
@@ -95,17 +95,17 @@ gap_ends [] rest gap = absurd (omega (arith, gap.0))
 gap_ends (x ∷ xs) rest gap = (both (is_blank x) (list_all is_blank xs) gap.1).0
 
 -- blanks at the start go
-blanks_off : (gap rest : List ℕ) → AreBlanks gap → Starts rest → past_blanks (gap ++ rest) ≡ rest
+pub blanks_off : (gap rest : List ℕ) → AreBlanks gap → Starts rest → past_blanks (gap ++ rest) ≡ rest
 blanks_off gap rest blanks starts =
     ap (λ n. drop n (gap ++ rest)) (first_at (λ b. not (is_blank b)) gap rest (twice gap ∙ blanks) starts) ∙ drop_front gap rest
 
-all_off : (gap : List ℕ) → AreBlanks gap → past_blanks gap ≡ []
+pub all_off : (gap : List ℕ) → AreBlanks gap → past_blanks gap ≡ []
 all_off gap blanks = ap past_blanks (sym (append-nil gap)) ∙ blanks_off gap [] blanks tt
 
-word_is : (one rest : List ℕ) → NoBlanks one → Ends rest → word (one ++ rest) ≡ one
+pub word_is : (one rest : List ℕ) → NoBlanks one → Ends rest → word (one ++ rest) ≡ one
 word_is one rest none ends = ap (λ n. take n (one ++ rest)) (first_at is_blank one rest none ends) ∙ take_front one rest
 
-behind_word : (one rest : List ℕ) → NoBlanks one → Ends rest → past_word (one ++ rest) ≡ past_blanks rest
+pub behind_word : (one rest : List ℕ) → NoBlanks one → Ends rest → past_word (one ++ rest) ≡ past_blanks rest
 behind_word one rest none ends = ap (λ n. past_blanks (drop n (one ++ rest))) (first_at is_blank one rest none ends) ∙ ap past_blanks (drop_front one rest)
 
 -- the same of a word with a gap behind it
@@ -113,19 +113,19 @@ next_word : (one gap rest : List ℕ) → NoBlanks one → IsGap gap → Starts 
 next_word one gap rest none is starts = behind_word one (gap ++ rest) none (gap_ends gap rest is) ∙ blanks_off gap rest is.1 starts
 
 -- a text as its first word, a gap, and the rest
-record IsSplit (text : List ℕ) : Type 0 where
+pub record IsSplit (text : List ℕ) : Type 0 where
   pub gap : List ℕ
   pub whole : text ≡ word text ++ (gap ++ past_word text)
   pub blanks : AreBlanks gap
   pub some : 0 < length (past_word text) → 0 < length gap
 
-abbrev gap_of : List ℕ → List ℕ
+abbrev pub gap_of : List ℕ → List ℕ
 gap_of text = take_while (λ b. not (not (is_blank b))) text
 
-gap_blanks : (text : List ℕ) → AreBlanks (gap_of text)
+pub gap_blanks : (text : List ℕ) → AreBlanks (gap_of text)
 gap_blanks text = sym (twice (gap_of text)) ∙ front_passes (λ b. not (not (is_blank b))) text
 
-gap_whole : (text : List ℕ) → text ≡ gap_of text ++ past_blanks text
+pub gap_whole : (text : List ℕ) → text ≡ gap_of text ++ past_blanks text
 gap_whole text = sym (take-append-drop (position_or_len (λ b. not (is_blank b)) text) text)
 
 gap_some : (text : List ℕ) → Ends text → 0 < length (past_blanks text) → 0 < length (gap_of text)
@@ -135,7 +135,7 @@ gap_some (b ∷ bs) ends some =
     (sym (take_while-cons (λ x. not (not (is_blank x))) b bs ∙ ap (λ t. cond t (b ∷ gap_of bs) []) (not_not (is_blank b) ∙ ends)))
     (omega arith)
 
-split : (text : List ℕ) → IsSplit text
+pub split : (text : List ℕ) → IsSplit text
 split text =
     let n = position_or_len is_blank text in
     let tail = drop n text in record {
@@ -190,14 +190,14 @@ number_from xs n e =
     let same : ◌≡◌ {A = Result ℕ Fault} (Ok n) (Ok (digits_value 10 xs)) = sym parts.1 in
     (parts.0, cc same)
 
-empty_is : (xs : List ℕ) → is_empty xs ≡ true → xs ≡ []
+pub empty_is : (xs : List ℕ) → is_empty xs ≡ true → xs ≡ []
 empty_is [] e = refl
 empty_is (x ∷ xs) e = let none : length (x ∷ xs) ≡ 0 = eqb-true _ _ e in absurd (omega (arith, none))
 
-some_byte : (b : ℕ) (bs : List ℕ) → is_empty (b ∷ bs) ≡ false
+pub some_byte : (b : ℕ) (bs : List ℕ) → is_empty (b ∷ bs) ≡ false
 some_byte b bs = ne_eqb _ _ (omega arith)
 
-same_bytes : (xs ys : List ℕ) → bytes_eq xs ys ≡ true → xs ≡ ys
+pub same_bytes : (xs ys : List ℕ) → bytes_eq xs ys ≡ true → xs ≡ ys
 same_bytes xs ys e = (bytes_eq-Decides xs ys).0 e
 
 -- ---- From what a line is made of to what it says.
@@ -279,7 +279,7 @@ source_starts : (sectors : ℕ) (source : Source (List ℕ)) (text : List ℕ) �
 source_starts sectors (Flat name sector) text s = subst (λ (l : List ℕ). Starts l) (sym s.made) refl
 source_starts sectors Zero text s = subst (λ (l : List ℕ). Starts l) (sym s.made) refl
 
-abbrev said_from : List ℕ → Result (Option (Extent (List ℕ))) Fault
+abbrev pub said_from : List ℕ → Result (Option (Extent (List ℕ))) Fault
 said_from text = cond (is_skipped text) (Ok None) (said_with (access_of (word text)) text)
 
 by_access : (access : Access) → NoBlanks (access_word access)
@@ -293,7 +293,7 @@ access_starts ReadOnly rest = refl
 access_starts NoAccess rest = refl
 
 -- a text that begins with another byte than that of a comment
-unskipped : (b : ℕ) (bs : List ℕ) → eqb b 35 ≡ false → said_from (b ∷ bs) ≡ said_with (access_of (word (b ∷ bs))) (b ∷ bs)
+pub unskipped : (b : ℕ) (bs : List ℕ) → eqb b 35 ≡ false → said_from (b ∷ bs) ≡ said_with (access_of (word (b ∷ bs))) (b ∷ bs)
 unskipped b bs other =
     ap (λ t. cond (t || eqb b 35) (Ok None) (said_with (access_of (word (b ∷ bs))) (b ∷ bs))) (some_byte b bs)
     ∙ ap (λ t. cond t (Ok None) (said_with (access_of (word (b ∷ bs))) (b ∷ bs))) other
@@ -453,7 +453,7 @@ source_made sectors text source e = at_flat (bytes_eq (word text) (codes "FLAT")
     at_flat true is told = at_quote (begins_with 34 (past_word text)) refl told (same_bytes (word text) (codes "FLAT") is)
     at_flat false is told = at_zero (bytes_eq (word text) (codes "ZERO")) refl told
 
-access_made : (one : List ℕ) (access : Access) → access_of one ≡ Some access → one ≡ access_word access
+pub access_made : (one : List ℕ) (access : Access) → access_of one ≡ Some access → one ≡ access_word access
 access_made one access e = at_first (bytes_eq one (codes "RW")) refl e
   where
     at_third : (t : Bool) → bytes_eq one (codes "NOACCESS") ≡ t → cond t (Some NoAccess) None ≡ Some access → one ≡ access_word access

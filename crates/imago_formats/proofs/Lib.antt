@@ -4,6 +4,7 @@ mod WordLemmas
 pub mod LineLemmas
 mod LineOrder
 mod ExtentLines
+mod SettingLines
 mod WorkedDescriptors
 mod FileLemmas
 mod ExtentLemmas

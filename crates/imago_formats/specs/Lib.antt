@@ -6,6 +6,7 @@ pub mod RawOpening
 pub mod DescriptorWords
 pub mod Descriptor
 pub mod DescriptorLines
+pub mod SettingLines
 pub mod DescriptorView
 pub mod WorkedDescriptor
 pub mod VmdkLayer

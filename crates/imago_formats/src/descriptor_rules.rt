@@ -1,12 +1,13 @@
-//! What the rules of descriptors say, by worked texts, and of what lines are made that name an extent.
+//! What the rules of descriptors say, by worked texts, and of what lines are made that name an extent, or none.
 //! Each function does nothing, and its contract is what was computed or proved of the rules.
 
-ghost use Rattle.std.specs.Prelude.{◌≡◌, ◌++◌, ◌∷◌, [], ℕ, List, Option, Some, Ok, Err, codes, map};
+ghost use Rattle.std.specs.Prelude.{◌≡◌, ◌++◌, ◌∷◌, [], ℕ, List, Option, Some, None, Ok, Err, codes, map};
 ghost use Rattle.std.specs.List.{filter_map};
 ghost use Rattle.imago_storage.specs.declared.fault.Fault.{Fault};
 ghost use Rattle.imago_storage.specs.declared.fault.Fault.TheVariants.{DamagedDescriptor, Unsupported};
 ghost use Rattle.imago_formats.specs.Descriptor.{descriptor_of, extents_of, said_by, size_of};
 ghost use Rattle.imago_formats.specs.DescriptorLines.{IsExtentLine};
+ghost use Rattle.imago_formats.specs.SettingLines.{HasNoSign, IsCarriedSetting, IsOtherLine, IsSettingLine, IsSilent};
 ghost use Rattle.imago_formats.specs.WorkedDescriptor.{descriptor_with, extent, other_extents, other_text, quoted, two_extents, two_sectors};
 ghost use Rattle.imago_formats.specs.declared.vmdk.descriptor.Access.TheVariants.{ReadWrite};
 ghost use Rattle.imago_formats.specs.declared.vmdk.descriptor.Source.TheVariants.{Zero};
@@ -55,4 +56,14 @@ pub fn lines_in_order()
 pub fn extent_lines()
     ensures read { (x : Extent (List ℕ)) (line : List ℕ) → said_by line ≡ Ok (Some x) → IsExtentLine x line }
     ensures made { (x : Extent (List ℕ)) (line : List ℕ) → IsExtentLine x line → said_by line ≡ Ok (Some x) }
+{}
+
+/// A line that names no extent, and isn't refused as one: blanks alone and comments say nothing, a setting is carried or it isn't, by its
+/// key and its value, and what is neither is damage.
+pub fn setting_lines()
+    ensures silent { (line : List ℕ) → IsSilent line → said_by line ≡ Ok None }
+    ensures carried { (key value line : List ℕ) → IsSettingLine key value line → IsCarriedSetting key value → said_by line ≡ Ok None }
+    ensures uncarried { (key value line : List ℕ) → IsSettingLine key value line → (IsCarriedSetting key value → ⊥)
+        → said_by line ≡ Err Unsupported }
+    ensures neither { (text line : List ℕ) → IsOtherLine text line → HasNoSign text → said_by line ≡ Err DamagedDescriptor }
 {}
