@@ -1,4 +1,4 @@
-// How raw images are opened and created.
+// How raw images are opened and created, and VMDK images opened.
 ghost use Rattle.std.specs.Prelude.{refl, map, ◌≡◌, [], true, false, Ok, Err, None, IsTrue, IfOk, IfErr};
 ghost use Rattle.std.proofs.Common.{sym};
 ghost use Rattle.imago_storage.specs.declared.fault.Fault.TheVariants.{Unsupported};
