@@ -54,21 +54,30 @@ fn script_of(alloc: Global, words: &[&str]) -> Result<String, Trouble> {
     Ok(script)
 }
 
-// The lines that a script writes, with `/` behind each. Where one is `error 20`, the script as a whole is answered so.
-fn told_lines(alloc: Global, written: &[u8]) -> Result<String, Trouble> {
-    let mut text = String::new(alloc);
-    for line in str::from_utf8(written).unwrap_or("other bytes").lines() {
+// What a script writes, as text. Where a line is `error 20`, the script as a whole is answered so.
+fn told_text(written: &[u8]) -> Result<&str, Trouble> {
+    let text = str::from_utf8(written).unwrap_or("other bytes");
+    for line in text.lines() {
         if line == "error 20" {
             return Err(Trouble::Refused(Fault::Memory));
         }
-        joined(&mut text, line)?;
-        joined(&mut text, "/")?;
     }
     Ok(text)
 }
 
+// The lines that a script writes, with `/` behind each.
+fn told_lines(alloc: Global, written: &[u8]) -> Result<String, Trouble> {
+    let mut told = String::new(alloc);
+    for line in told_text(written)?.lines() {
+        joined(&mut told, line)?;
+        joined(&mut told, "/")?;
+    }
+    Ok(told)
+}
+
 // How many lines a script writes, and of how many bytes.
 fn counted_lines(alloc: Global, written: &[u8]) -> Result<String, Trouble> {
+    told_text(written)?;
     let lines = written.iter().filter(|byte| **byte == b'\n').count();
     let bytes = written.len();
     Ok(format!(in alloc; "{lines} lines {bytes} bytes")?)
