@@ -3,14 +3,15 @@ use Rattle.std.specs.Prelude.{◌≡◌, ◌<◌, ◌^◌, ⊤, ℕ, Bool, List,
 use Rattle.imago_storage.specs.Steps.{Answer as DiskAnswer, shrink}
 use Rattle.imago_storage.specs.declared.fault.Fault.{Fault}
 use Rattle.imago_access.specs.declared.seen.Seen.{Ghosts}
+use Rattle.imago_access.specs.declared.mapping.Mapping.{Mapping}
 use Rattle.imago_access.specs.declared.mapping.PreparedDataMapping.{PreparedDataMapping}
 use Rattle.imago_access.specs.Layer.{IsFree}
 use Rattle.imago_access.specs.Layers.{chain}
 use Rattle.imago_access.specs.Chain.{at, unit_of_chain, Each}
 use Rattle.imago_access.specs.ChainCalls.{ChainSteps, ChainPartly, ChainStays, chain_refusal, chain_look_refusal, ChainCause, OwnCause, ChainMappedCause, CanWriteRun, KeepsHomes, IsMappedFor}
 use Rattle.imago_access.specs.Failing.{RefusesLookup, RefusesFlush}
-use Rattle.imago_access.specs.Files.{files_of, IsMild}
-use Rattle.imago_access.specs.Mappings.{DeepNames, DeepNamesHome, IsHomeRun, LooksIn, stored_at}
+use Rattle.imago_access.specs.Files.{files, files_of, IsMild}
+use Rattle.imago_access.specs.Mappings.{DeepNames, DeepNamesHome, DeepNamesWritable, IsDeepBelow, IsHomeRun, IsOneOf, IsThere, LooksIn, NamesRoomIn, stored_at}
 use Rattle.imago_access.specs.Parts.{GrowthCause, ShrinkCause}
 use Rattle.imago_access.specs.Refusals.{ReadCause, DeepLookCause, barrier}
 use Rattle.imago_access.specs.Running.{IsIntactChain}
@@ -26,16 +27,27 @@ use Rattle.qimg_calls.specs.Held.{Holding, disk_call}
 abbrev pub TopStays : {D St : Type 0} → Ghosts D St → D × List D → D × List D → Type 0
 TopStays g old new = g.layer new.0 ≡ g.layer old.0
 
--- Which places an answer names: of storages, what their bytes are and where the run can be written. A look leaves the top as it was. A
--- flush with nothing prepared is done where the top's file by itself means the disk.
+-- an answer of a lookup names a layer and a storage that there are, and says of a place that it can be written wherever it can be
+pub record NamesOneThere {D St : Type 0} (g : Ghosts D St) (offset asked : ℕ) (mapping : Mapping) (c : D × List D) : Type 0 where
+  pub layer : IsDeepBelow (length (chain c)) mapping
+  pub storage : IsThere g (chain c) mapping
+  pub writable : DeepNamesWritable (map g.layer (chain c)) offset asked mapping
+
+-- Which places an answer names: of storages that there are, what their bytes are and where the run can be written, and by the top layer
+-- none of those that it has no room for. A look leaves the top as it was. A flush with nothing prepared is done where the top's file by
+-- itself means the disk.
 abbrev pub Names : {D St : Type 0} → Ghosts D St → Call → Answer → D × List D → D × List D → Type 0
 Names g (calls.Read offset n) answer old new = TopStays g old new
 Names g (calls.GetMapping offset asked) (told.Mapped mapping n) old new =
     DeepNames (map g.layer (chain old)) (at (map g.layer (chain old))) (stored_at g (chain new)) offset n mapping
     × DeepNamesHome (g.layer old.0) offset asked mapping
     × TopStays g old new
+    × NamesOneThere g offset asked mapping old
 Names g (calls.GetShallowMapping offset asked) (told.Shallow mapping n) old new =
-    LooksIn g offset asked old.0 new.0 (mapping, n) × TopStays g old new
+    LooksIn g offset asked old.0 new.0 (mapping, n)
+    × TopStays g old new
+    × IsOneOf (length (files g old.0)) mapping
+    × NamesRoomIn g offset old.0 (mapping, n)
 Names g (calls.EnsureDataMapping offset asked overwrite) (told.Mapped mapping n) old new = IsHomeRun (g.layer new.0) offset mapping n
 Names g (calls.WriteMapped guest place bytes) told.Done old new =
     IsMappedFor (g.layer old.0) guest place (length bytes.items) × ((g.layer new.0).home ≡ (g.layer old.0).home)

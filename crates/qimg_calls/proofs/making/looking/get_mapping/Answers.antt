@@ -17,7 +17,15 @@ returns-in-Ok g c kept is =
     record {
       fits = tt;
       at_once = λ f is. absurd (cc (e.unusable f is));
-      moves = λ rests. ((found (deep_kind_of c.in-Ok.mapping) c.in-Ok.count, refl, e.ok rests.1 rests.0, (e.names rests.1 rests.0, e.home rests.0.0, (e.looked.0.stays tt rests.0.0).0)), refl);
+      moves = λ rests. (
+        (
+          found (deep_kind_of c.in-Ok.mapping) c.in-Ok.count,
+          refl,
+          e.ok rests.1 rests.0,
+          (e.names rests.1 rests.0, e.home rests.0.0, (e.looked.0.stays tt rests.0.0).0, record { layer = e.deep rests.1; storage = e.there rests.1; writable = e.writable rests.1 rests.0 }),
+        ),
+        refl,
+      );
       leads = look-leads d old new (GoesOn (told.Mapped c.in-Ok.mapping c.in-Ok.count)) _ (lookup c.args.offset c.args.length) m.safe_sees e.looked (λ on. tt) (omega arith);
       kept = like-kept d old new kept e.looked.0.like;
       same = λ _. refl;
