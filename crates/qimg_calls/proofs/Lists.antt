@@ -187,6 +187,7 @@ module _ {D St : Type 0} (g : Ghosts D St) where
     made-of call answer old new since makes is_kept ready stands = record {
       fits = makes.fits;
       at_once = makes.at_once;
+      idle = λ nothing. makes.idle nothing ready.usable.0;
       moves = makes.moves (ready-rests g safe_sees call old.drivers ready);
       stops = λ exact. stops-of call answer old new since makes ready exact stands;
       later = makes.leads.later;

@@ -1,6 +1,6 @@
 -- What calls do that answer nothing but that they were done.
 use Rattle.std.proofs.Common.{◌≡◌, ap, refl}
-use Rattle.std.specs.Prelude.{Result, Ok, Err, OnOk, IfErr, IsErrOf, IsFalse, List, ⊤, None}
+use Rattle.std.specs.Prelude.{Result, Ok, Err, OnOk, IfErr, IsErrOf, IsOk, IsFalse, List, ⊤, None}
 use Rattle.imago_storage.specs.State.{StorageState}
 use Rattle.imago_storage.specs.Steps.{done}
 use Rattle.imago_storage.specs.declared.fault.Fault.{Fault}
@@ -14,7 +14,7 @@ use Rattle.imago_access.specs.Stops.{IsWritten}
 use Rattle.imago_access.specs.Files.{WasNotCutOff}
 use Rattle.qimg_calls.specs.declared.call.Call.{Call}
 use Rattle.qimg_calls.specs.declared.call.Answer.TheVariants as told
-use Rattle.qimg_calls.specs.Calls.{Fits, GoesOn, tells_something}
+use Rattle.qimg_calls.specs.Calls.{Fits, GoesOn, WasDone, tells_something}
 use Rattle.qimg_calls.specs.Held.{Holding, disk_call}
 use Rattle.qimg_calls.specs.Making.{told_of}
 use Rattle.qimg_calls.specs.Moves.{Moves, Does, Keeps, Names, Refuses, Leaves, TopStays}
@@ -46,6 +46,11 @@ told-fits call (Err fault) nothing = tt
 pub told-refused : (result : Result Unit Fault) (f : Fault) → IsErrOf result f → told_of result ≡ told.Refused f
 told-refused (Ok unit) f is = absurd (cc is)
 told-refused (Err fault) f is = ap told.Refused (cc is)
+
+-- a call that is done is told as done
+pub told-idle : (result : Result Unit Fault) → IsOk result → WasDone (told_of result)
+told-idle (Ok unit) was = tt
+told-idle (Err fault) was = absurd (cc was)
 
 -- where the top can be used, a flush is refused for want of memory and for a fault of a storage alone
 pub refused-stays : {D St : Type 0} (g : Ghosts D St) (old new : D × List D) (olds news : List StorageState) (result : Result Unit Fault) → IfErr result (PlainCause (g.layer old.0) olds news)

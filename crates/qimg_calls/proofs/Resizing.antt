@@ -1,16 +1,41 @@
 -- What resizes make of the values of a disk.
 use Rattle.std.proofs.lemmas.Bool.{cases_lt}
-use Rattle.std.proofs.Common.{◌≡◌, ◌⊎◌, inl, inr, ℕ, ◌<◌, ◌≤◌, List, arith, refl}
-use Rattle.std.specs.Prelude.{Result, Ok, Err, OnOk}
+use Rattle.std.proofs.lemmas.Bool.Decides.{nat_tests}
+use Rattle.std.proofs.Common.{◌≡◌, ◌⊎◌, inl, inr, ℕ, ◌<◌, ◌≤◌, List, arith, refl, subst}
+use Rattle.std.specs.Prelude.{Bool, true, false, not, ◌&&◌, if◌then◌else◌, ltb, Some, None, Result, Ok, Err, OnOk, IsErrOf, IsTrue, IsFalse}
 use Rattle.imago_storage.specs.Disk.{Value, Disk}
 use Rattle.imago_storage.specs.Steps.{Step, Stays, Growth, grow, shrink, done}
 use Rattle.imago_storage.specs.declared.fault.Fault.{Fault}
+use Rattle.imago_storage.specs.declared.fault.Fault.TheVariants.{ReadOnly, MissingData, Failed}
+use Rattle.imago_access.specs.declared.seen.Seen.{Ghosts}
 use Rattle.imago_access.specs.ChainCalls.{IfMild}
 use Rattle.imago_access.specs.Layer.{Layer}
+use Rattle.imago_access.specs.ResizeCalls.{Resizes}
 use Rattle.qimg_calls.specs.Calls.{GoesOn}
 use Rattle.qimg_calls.specs.Making.{told_of}
+use Rattle.qimg_calls.specs.Moves.{resize_refusal}
 use Rattle.qimg_calls.specs.Since.{Begun}
 use Rattle.qimg_calls.proofs.Leading.{ValuesBetween}
+
+-- what refuses a resize before anything is done, by whether the top has failed, lacks a file, is altered and can be written
+refused-then : (failed missing alters writable : Bool) (result : Result Unit Fault) (f : Fault)
+    → ((e : Fault) → (if failed then Some Failed else if missing then Some MissingData else None) ≡ Some e → IsErrOf result e)
+    → ((if failed then Some Failed else if missing then Some MissingData else None) ≡ None → IsTrue alters → IsFalse writable → IsErrOf result ReadOnly)
+    → (if failed then Some Failed else if missing then Some MissingData else if alters && not writable then Some ReadOnly else None) ≡ Some f → IsErrOf result f
+refused-then true missing alters writable result f barred locked is = barred f is
+refused-then false true alters writable result f barred locked is = barred f is
+refused-then false false true false result f barred locked is = subst (IsErrOf result) (cc is) (locked refl refl refl)
+refused-then false false true true result f barred locked is = absurd (cc is)
+refused-then false false false writable result f barred locked is = absurd (cc is)
+
+below : (first second : ℕ) → IsTrue (ltb second first) → second < first
+below first second is = grind (arith, nat_tests)
+
+-- a resize to a size that alters the disk, where `second` is below `first`
+pub resize-refused : {D St : Type 0} (g : Ghosts D St) (first second : ℕ) (result : Result Unit Fault) (old new : D) (f : Fault) → Resizes g first second result old new
+    → resize_refusal (g.layer old) (ltb second first) ≡ Some f → IsErrOf result f
+resize-refused g first second result old new f resizes = let layer = g.layer old in
+    refused-then layer.failed layer.fixed.missing (ltb second first) layer.fixed.writable result f resizes.at_once.refused (λ usable alters locked. (resizes.read_only usable (below first second alters) locked).0)
 
 -- a disk that stays shows what it did
 pub stays-between : (gives : ℕ → Value → Type 0) (old new : Disk) → Stays old new → ValuesBetween gives old new

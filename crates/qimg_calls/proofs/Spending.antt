@@ -4,9 +4,11 @@ use Rattle.std.specs.Prelude.{Bool, true, false, not, Option, Some, None, is_som
 use Rattle.imago_storage.specs.Disk.{Value, Disk, Hold, free, held}
 use Rattle.imago_storage.specs.Steps.{Step, Settles, commit, cancel, done}
 use Rattle.imago_storage.specs.declared.fault.Fault.{Fault}
+use Rattle.imago_storage.specs.declared.fault.Fault.TheVariants.{Failed, MissingData}
 use Rattle.imago_access.specs.declared.seen.Seen.{Ghosts}
 use Rattle.imago_access.specs.Files.{IsMild}
-use Rattle.imago_access.specs.Spending.{IsMine, IsForeignTo, Spends}
+use Rattle.imago_access.specs.Spending.{GivenBack, IsMine, IsForeignTo, Spends}
+use Rattle.imago_access.specs.Refusals.{barrier}
 use Rattle.imago_access.specs.Layer.{Layer, Held, loose, beside, inside, hold_of, IsFree}
 use Rattle.imago_access.specs.Running.{IsIntactChain, chain_disk, below_of}
 use Rattle.imago_access.specs.Stops.{MayTake as MayTakeHeld}
@@ -58,6 +60,13 @@ not-spent g (Some s) old new safe fault mine is mild some spends = (spends.1 min
 pub spent-free : {D St : Type 0} (g : Ghosts D St) (state : Option St) (old new : Layer) (P : Type 0) → IsMine g state old → IsSome state → Spends g state old new (IsFree new × P) → IsFree new
 spent-free g None old new P mine some spends = absurd (cc some)
 spent-free g (Some s) old new P mine some spends = (spends.1 mine.1).0
+
+-- a mapping without state isn't given back by a layer that can be used
+pub not-given-back : {S : Type 0} (tag : S → ℕ) (state : Option S) (layer : Layer) (fault : Fault) → state ≡ None → barrier layer ≡ None → GivenBack tag state layer fault → ⊥
+not-given-back tag None layer Failed none usable back = absurd (cc (back, usable))
+not-given-back tag None layer MissingData none usable back = absurd (cc (back, usable))
+not-given-back tag None layer fault none usable back = back
+not-given-back tag (Some s) layer fault none usable back = absurd (cc none)
 
 -- a mapping that is the layer's own isn't another's
 pub not-foreign : {D St : Type 0} (g : Ghosts D St) (state : Option St) (layer : Layer) → IsMine g state layer → IsForeignTo g.tag state layer → ⊥

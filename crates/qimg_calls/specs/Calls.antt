@@ -72,6 +72,11 @@ abbrev pub GoesOn : Answer → Type 0
 GoesOn (told.Refused fault) = IsMild fault
 GoesOn answer = ⊤
 
+-- it wasn't refused
+abbrev pub WasDone : Answer → Type 0
+WasDone (told.Refused fault) = ⊥
+WasDone answer = ⊤
+
 -- P where it holds, and else Q
 abbrev pub Either : Bool → Type 0 → Type 0 → Type 0
 Either true P Q = P

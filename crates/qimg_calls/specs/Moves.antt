@@ -1,11 +1,12 @@
 -- What a call of a list does to the disk, what it names, why it is refused, and what it makes of the mapping that is kept.
-use Rattle.std.specs.Prelude.{◌≡◌, ◌<◌, ◌^◌, ⊤, ℕ, Bool, List, Some, None, is_some, length, map, Option}
+use Rattle.std.specs.Prelude.{◌≡◌, ◌<◌, ◌≤◌, ◌^◌, ◌&&◌, ⊤, ℕ, Bool, List, Some, None, if◌then◌else◌, is_some, length, ltb, map, not, Option}
 use Rattle.imago_storage.specs.Steps.{Answer as DiskAnswer, shrink}
 use Rattle.imago_storage.specs.declared.fault.Fault.{Fault}
+use Rattle.imago_storage.specs.declared.fault.Fault.TheVariants.{ReadOnly, MissingData, Failed}
 use Rattle.imago_access.specs.declared.seen.Seen.{Ghosts}
 use Rattle.imago_access.specs.declared.mapping.Mapping.{Mapping}
 use Rattle.imago_access.specs.declared.mapping.PreparedDataMapping.{PreparedDataMapping}
-use Rattle.imago_access.specs.Layer.{IsFree}
+use Rattle.imago_access.specs.Layer.{Layer, IsFree}
 use Rattle.imago_access.specs.Layers.{chain}
 use Rattle.imago_access.specs.Chain.{at, unit_of_chain, Each}
 use Rattle.imago_access.specs.ChainCalls.{ChainSteps, ChainPartly, ChainStays, chain_refusal, chain_look_refusal, ChainCause, OwnCause, ChainMappedCause, CanWriteRun, KeepsHomes, IsMappedFor}
@@ -15,13 +16,14 @@ use Rattle.imago_access.specs.Mappings.{DeepNames, DeepNamesHome, DeepNamesWrita
 use Rattle.imago_access.specs.Parts.{GrowthCause, ShrinkCause}
 use Rattle.imago_access.specs.Refusals.{ReadCause, DeepLookCause, barrier}
 use Rattle.imago_access.specs.Running.{IsIntactChain}
+use Rattle.imago_access.specs.Spending.{commit_refusal}
 use Rattle.imago_access.specs.Stops.{IsWritten}
 use Rattle.qimg_calls.specs.declared.call.Call.{Call}
 use Rattle.qimg_calls.specs.declared.call.Call.TheVariants as calls
 use Rattle.qimg_calls.specs.declared.call.Answer.{Answer}
 use Rattle.qimg_calls.specs.declared.call.Answer.TheVariants as told
 use Rattle.qimg_calls.specs.Calls.{said}
-use Rattle.qimg_calls.specs.Held.{Holding, disk_call}
+use Rattle.qimg_calls.specs.Held.{Holding, disk_call, state_of}
 
 -- the top shows, holds and maps what it did
 abbrev pub TopStays : {D St : Type 0} → Ghosts D St → D × List D → D × List D → Type 0
@@ -129,17 +131,45 @@ RestsOn g (calls.GetMapping offset n) c = Each g.sees (chain c) × (length (chai
 RestsOn g (calls.GetShallowMapping offset n) c = Each g.sees (chain c)
 RestsOn g call c = IsIntactChain g c
 
+-- the call has nothing to do: its range is empty, its size is the disk's or on the other side of it, or the mapping has no state
+abbrev pub IsIdle : {D St : Type 0} → Ghosts D St → Call → Holding D St → Type 0
+IsIdle g (calls.Read offset n) h = n ≡ 0
+IsIdle g (calls.Write offset bytes) h = length bytes.items ≡ 0
+IsIdle g (calls.WriteZeroes offset n) h = n ≡ 0
+IsIdle g (calls.DiscardToZero offset n) h = n ≡ 0
+IsIdle g (calls.DiscardToAny offset n) h = n ≡ 0
+IsIdle g (calls.DiscardToBacking offset n) h = n ≡ 0
+IsIdle g (calls.PrepareDataMapping offset n overwrite) h = n ≡ 0
+IsIdle g (calls.EnsureDataMapping offset n overwrite) h = n ≡ 0
+IsIdle g (calls.WriteMapped guest place bytes) h = length bytes.items ≡ 0
+IsIdle g (calls.GetMapping offset n) h = n ≡ 0
+IsIdle g (calls.GetShallowMapping offset n) h = n ≡ 0
+IsIdle g (calls.ResizeGrow size mode) h = size ≤ (g.layer h.drivers.0).size
+IsIdle g (calls.ResizeShrink size) h = (g.layer h.drivers.0).size ≤ size
+IsIdle g calls.CommitDataMapping h = state_of h.kept ≡ None
+IsIdle g call h = ⊥
+
+-- the first cause why a resize is refused before anything is done, by whether it alters the disk
+abbrev pub resize_refusal : Layer → Bool → Option Fault
+resize_refusal layer alters =
+    if layer.failed then Some Failed
+    else if layer.fixed.missing then Some MissingData
+    else if alters && not layer.fixed.writable then Some ReadOnly
+    else None
+
 -- the first cause why a call is refused before anything is done, by the order of causes
-abbrev pub refusal_at_once : {D St : Type 0} → Ghosts D St → Call → D × List D → Option Fault
-refusal_at_once g (calls.Read offset n) c = chain_look_refusal g c offset n
-refusal_at_once g (calls.Write offset bytes) c = chain_refusal g c offset (length bytes.items)
-refusal_at_once g (calls.WriteZeroes offset n) c = chain_refusal g c offset n
-refusal_at_once g (calls.DiscardToZero offset n) c = chain_refusal g c offset n
-refusal_at_once g (calls.DiscardToAny offset n) c = chain_refusal g c offset n
-refusal_at_once g (calls.DiscardToBacking offset n) c = chain_refusal g c offset n
-refusal_at_once g (calls.PrepareDataMapping offset n overwrite) c = chain_refusal g c offset n
-refusal_at_once g (calls.EnsureDataMapping offset n overwrite) c = chain_refusal g c offset n
-refusal_at_once g (calls.WriteMapped guest place bytes) c = chain_refusal g c guest (length bytes.items)
-refusal_at_once g calls.CommitDataMapping c = None
-refusal_at_once g calls.Cancel c = None
-refusal_at_once g call c = barrier (g.layer c.0)
+abbrev pub refusal_at_once : {D St : Type 0} → Ghosts D St → Call → Holding D St → Option Fault
+refusal_at_once g (calls.Read offset n) h = chain_look_refusal g h.drivers offset n
+refusal_at_once g (calls.Write offset bytes) h = chain_refusal g h.drivers offset (length bytes.items)
+refusal_at_once g (calls.WriteZeroes offset n) h = chain_refusal g h.drivers offset n
+refusal_at_once g (calls.DiscardToZero offset n) h = chain_refusal g h.drivers offset n
+refusal_at_once g (calls.DiscardToAny offset n) h = chain_refusal g h.drivers offset n
+refusal_at_once g (calls.DiscardToBacking offset n) h = chain_refusal g h.drivers offset n
+refusal_at_once g (calls.PrepareDataMapping offset n overwrite) h = chain_refusal g h.drivers offset n
+refusal_at_once g (calls.EnsureDataMapping offset n overwrite) h = chain_refusal g h.drivers offset n
+refusal_at_once g (calls.WriteMapped guest place bytes) h = chain_refusal g h.drivers guest (length bytes.items)
+refusal_at_once g calls.CommitDataMapping h = commit_refusal g (state_of h.kept) (g.layer h.drivers.0)
+refusal_at_once g calls.Cancel h = None
+refusal_at_once g (calls.ResizeGrow size mode) h = let top = g.layer h.drivers.0 in resize_refusal top (ltb top.size size)
+refusal_at_once g (calls.ResizeShrink size) h = let top = g.layer h.drivers.0 in resize_refusal top (ltb size top.size)
+refusal_at_once g call h = barrier (g.layer h.drivers.0)

@@ -12,11 +12,11 @@ use Rattle.qimg_calls.specs.declared.call.Call.{Call}
 use Rattle.qimg_calls.specs.declared.call.Call.TheVariants as calls
 use Rattle.qimg_calls.specs.declared.call.Answer.{Answer}
 use Rattle.qimg_calls.specs.declared.call.Answer.TheVariants as told
-use Rattle.qimg_calls.specs.Calls.{Either, Fits, is_out_of_place, GoesOn}
+use Rattle.qimg_calls.specs.Calls.{Either, Fits, is_out_of_place, GoesOn, WasDone}
 use Rattle.qimg_calls.specs.Since.{Since, flushed, begun, LeftSince, IsSince}
 use Rattle.qimg_calls.specs.Held.{Holding, holding, IsKept, IsReady, disk_call, state_of}
 use Rattle.qimg_calls.specs.Making.{MadeAll}
-use Rattle.qimg_calls.specs.Moves.{Moves, refusal_at_once}
+use Rattle.qimg_calls.specs.Moves.{IsIdle, Moves, refusal_at_once}
 
 -- where a list of calls stands: the chain with what is kept, and what may show since the last flush
 pub record Moment (D St : Type 0) : Type 0 where
@@ -46,7 +46,8 @@ StatesSize g c = IsTrue (g.layer c.0).fixed.exact
 pub record Made {D St : Type 0} (g : Ghosts D St) (call : Call) (answer : Answer) (old new : Moment D St) : Type 0 where
   -- what it does to the disk, or why it is refused
   pub fits : Fits call answer
-  pub at_once : (f : Fault) → refusal_at_once g call old.now.drivers ≡ Some f → answer ≡ told.Refused f
+  pub at_once : (f : Fault) → refusal_at_once g call old.now ≡ Some f → answer ≡ told.Refused f
+  pub idle : IsIdle g call old.now → WasDone answer
   pub moves : Moves g call answer old.now new.now
   -- what a stop in it leaves, and what one behind it may show
   pub stops : StatesSize g old.now.drivers → Passes (IsLeftBy g call old) (g.image old.now.drivers.0) (g.image new.now.drivers.0)

@@ -8,7 +8,7 @@ use Rattle.qimg_calls.specs.Held.{holding}
 use Rattle.qimg_calls.specs.Making.{told_of}
 use Rattle.qimg_calls.specs.declared.call.Call.TheVariants as calls
 use Rattle.qimg_calls.proofs.Leading.{ran-leads}
-use Rattle.qimg_calls.proofs.Moving.{not-cut, nothing-named, told-fits, told-moves, told-refused}
+use Rattle.qimg_calls.proofs.Moving.{not-cut, nothing-named, told-fits, told-idle, told-moves, told-refused}
 use Rattle.qimg_calls.proofs.making.changing.discard_to_backing.Goals as goal
 
 pub returns : goal.returns
@@ -21,6 +21,7 @@ returns g c =
     rw (c.told.ensures) (record {
       fits = told-fits (calls.DiscardToBacking c.args.offset c.args.length) r refl;
       at_once = λ f is. told-refused r f (e.at_once f is);
+      idle = λ nothing usable. told-idle r (e.idle nothing usable);
       moves = λ intact. told-moves d (calls.DiscardToBacking c.args.offset c.args.length) r (holding old None) (holding new None) refl
           (e.ok intact) (nothing-named r) (e.cause intact) (e.err intact);
       leads = ran-leads d old new (GoesOn (told_of r)) (WasNotCutOff r) (discard_to_backing c.args.offset c.args.length) g.met.D.FormatDriverInstance.safe_runs

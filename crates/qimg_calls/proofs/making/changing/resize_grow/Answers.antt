@@ -10,8 +10,8 @@ use Rattle.qimg_calls.specs.Held.{holding}
 use Rattle.qimg_calls.specs.Making.{told_of}
 use Rattle.qimg_calls.specs.declared.call.Call.TheVariants as calls
 use Rattle.qimg_calls.proofs.Leading.{fewer-stops, step-leads}
-use Rattle.qimg_calls.proofs.Moving.{not-cut, nothing-named, told-fits, told-moves, told-refused}
-use Rattle.qimg_calls.proofs.Resizing.{grown-between}
+use Rattle.qimg_calls.proofs.Moving.{not-cut, nothing-named, told-fits, told-idle, told-moves, told-refused}
+use Rattle.qimg_calls.proofs.Resizing.{grown-between, resize-refused}
 use Rattle.qimg_calls.proofs.making.changing.resize_grow.Goals as goal
 
 pub returns : goal.returns
@@ -24,7 +24,8 @@ returns g c =
     let call = grow c.args.size (fill_of c.args.mode) in
     rw (c.told.ensures) (record {
       fits = told-fits (calls.ResizeGrow c.args.size c.args.mode) r refl;
-      at_once = λ f is. told-refused r f (e.resizes.at_once.refused f is);
+      at_once = λ f is. told-refused r f (resize-refused d c.args.size (d.layer old.0).size r old.0 new.0 f e.resizes is);
+      idle = λ nothing usable. told-idle r (e.resizes.at_once.idle nothing usable);
       moves = λ intact. told-moves d (calls.ResizeGrow c.args.size c.args.mode) r (holding old None) (holding new None) refl
           (e.ok intact) (nothing-named r) (e.cause intact) (e.err intact);
       leads = step-leads d old new (GoesOn (told_of r)) (WasNotCutOff r) call g.met.D.FormatDriverInstance.safe_runs e.went e.below

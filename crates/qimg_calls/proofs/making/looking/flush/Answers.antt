@@ -22,6 +22,7 @@ returns g c kept is =
     rw (c.told.ensures) (record {
       fits = told-fits calls.Flush r refl;
       at_once = λ f is. told-refused r f (e.unusable f is);
+      idle = λ nothing usable. absurd nothing;
       moves = λ intact. told-moves d calls.Flush r (holding old kept) (holding new kept) refl (e.ok intact) (flush-names d old new r (e.written intact)) (e.cause intact.is_safe)
           (refused-stays d old new (files d old.0) (files d new.0) r (e.cause intact.is_safe));
       leads = ran-leads d old new (GoesOn (told_of r)) (IsOk r) flush m.safe_runs GivesNone e.ran

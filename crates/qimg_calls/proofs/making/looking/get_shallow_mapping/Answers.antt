@@ -16,6 +16,7 @@ returns-in-Ok g c kept is =
     record {
       fits = tt;
       at_once = λ f is. absurd (cc (e.unusable f is));
+      idle = λ nothing usable. tt;
       moves = λ sees. ((found (kind_of c.in-Ok.mapping) c.in-Ok.count, refl, e.ok sees.0, (e.looks sees.0, (e.looked.0.stays tt sees.0).0, e.there, e.room sees.0)), refl);
       leads = look-leads d old new (GoesOn (told.Shallow c.in-Ok.mapping c.in-Ok.count)) _ (lookup c.args.offset c.args.length) m.safe_sees e.looked (λ on. tt) (omega arith);
       kept = like-kept d old new kept e.looked.0.like;
@@ -32,6 +33,7 @@ returns-in-Err g c kept is =
     record {
       fits = tt;
       at_once = λ f is. ap told.Refused (cc (e.unusable f is));
+      idle = λ nothing usable. absurd (cc (e.idle nothing usable));
       moves = λ sees. (e.cause sees.0, λ mild. (((e.looked.0.stays mild sees.0).0, looked-stays d old new _ mild e.looked sees), refl));
       leads = look-leads d old new (GoesOn (told.Refused c.in-Err.fault)) _ (lookup c.args.offset c.args.length) m.safe_sees e.looked (λ on. on) (omega arith);
       kept = like-kept d old new kept e.looked.0.like;

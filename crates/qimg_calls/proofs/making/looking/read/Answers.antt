@@ -23,6 +23,7 @@ returns-in-Ok-clause-made g c kept is =
     record {
       fits = tt;
       at_once = λ f is. absurd (cc ((rw (c.deref_mut.ensures.len ∙ c.in_ok-buf.ensures.len) at e.at_once) f is));
+      idle = λ nothing usable. tt;
       moves = λ sees. (
         let ok = e.ok sees in
             let size : length c.deref_mut.result.now ≡ c.args.length = c.deref_mut.ensures.len ∙ c.in_ok-buf.ensures.len in (
@@ -50,6 +51,7 @@ returns-in-Err-clause-made g c kept is =
     record {
       fits = tt;
       at_once = λ f is. ap told.Refused (cc ((rw (c.deref_mut.ensures.len ∙ c.in_ok-buf.ensures.len) at e.at_once) f is));
+      idle = λ nothing usable. absurd (cc ((rw (c.deref_mut.ensures.len ∙ c.in_ok-buf.ensures.len) at e.idle) nothing usable));
       moves = λ sees. (rw (c.deref_mut.ensures.len ∙ c.in_ok-buf.ensures.len) at e.cause sees, λ mild. (((e.looked.0.stays mild sees.0).0, looked-stays d old new _ mild e.looked sees), refl));
       leads = look-leads d old new _ _ (read c.args.offset c.args.length) m.safe_sees e.looked (λ on. on) (omega arith);
       kept = like-kept d old new kept e.looked.0.like;

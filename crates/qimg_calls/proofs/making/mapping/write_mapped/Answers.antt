@@ -8,7 +8,7 @@ use Rattle.qimg_calls.specs.Held.{holding}
 use Rattle.qimg_calls.specs.Making.{told_of}
 use Rattle.qimg_calls.specs.declared.call.Call.TheVariants as calls
 use Rattle.qimg_calls.proofs.Leading.{ran-leads, like-kept}
-use Rattle.qimg_calls.proofs.Moving.{both-named, not-cut, same-stays, told-fits, told-moves, told-refused}
+use Rattle.qimg_calls.proofs.Moving.{both-named, not-cut, same-stays, told-fits, told-idle, told-moves, told-refused}
 use Rattle.qimg_calls.proofs.making.mapping.write_mapped.Goals as goal
 
 pub returns : goal.returns
@@ -23,6 +23,7 @@ returns g c kept is =
     rw (c.told.ensures) (record {
       fits = told-fits call r refl;
       at_once = λ f is. told-refused r f ((rw (c.deref.ensures.value) at e.at_once) f is);
+      idle = λ nothing usable. told-idle r ((rw (c.deref.ensures.value) at e.idle) nothing usable);
       moves = λ intact. told-moves d call r (holding old kept) (holding new kept) refl
           (rw (c.deref.ensures.value) at e.ok intact)
           (both-named (IsMappedFor (d.layer old.0) c.args.guest c.args.place (length c.args.bytes.now.items)) ((d.layer new.0).home ≡ (d.layer old.0).home) r (rw (c.deref.ensures.value) at e.mapped (m.safe_sees old.0 intact.is_safe)) (e.home intact))
