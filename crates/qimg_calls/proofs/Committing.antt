@@ -68,6 +68,8 @@ module _ {D St : Type 0} (g : Ghosts D St) (safe_runs : (d : D) → g.safe d →
           fits = tt;
           at_once = λ f is. ap told.Refused (refused.at_once f is).0;
           idle = λ none usable. absurd (cc (rw (none) at spent.0));
+          room = λ intact on. tt;
+          units = λ intact may was. tt;
           moves = λ intact. (cause intact, λ mild. absurd (never intact mild));
           leads = step-leads g old new (IsMild fault) (IsMild fault) call safe_runs does.went (looked (IsMild fault)) (λ mild ready. mild) (λ mild ready. absurd (never ready.intact mild)) (λ mild ready. absurd (never ready.intact mild)) commit-stops;
           kept = λ k. record { mine = tt; free = λ none. spent-free g mapping.state (g.layer old.0) (g.layer new.0) (g.safe old.0 → IsMild fault → ⊥) kept.mine spent.0 spent.3 };
@@ -80,6 +82,8 @@ module _ {D St : Type 0} (g : Ghosts D St) (safe_runs : (d : D) → g.safe d →
           fits = tt;
           at_once = λ f is. ap told.Refused (refused.at_once f is).0;
           idle = λ none usable. not-given-back g.tag mapping.state (g.layer old.0) fault none usable back.1;
+          room = λ intact on. tt;
+          units = λ intact may was. tt;
           moves = λ intact. (cause intact, λ mild. (stays, ap Some back.0));
           leads = step-leads g old new (IsMild fault) (IsMild fault) call safe_runs does.went (looked (IsMild fault)) (λ mild ready. mild) (λ mild ready. unchanged-intact back.2 ready.intact)
               (λ mild ready. stays-between (Begun (map g.layer old.1) (chain_disk g.layer old) call) (chain_disk g.layer old) (chain_disk g.layer new) stays) commit-stops;

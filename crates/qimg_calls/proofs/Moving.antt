@@ -52,6 +52,11 @@ pub told-idle : (result : Result Unit Fault) → IsOk result → WasDone (told_o
 told-idle (Ok unit) was = tt
 told-idle (Err fault) was = absurd (cc was)
 
+-- what is true of a call that was done
+pub told-done : (P : Type 0) (result : Result Unit Fault) → WasDone (told_of result) → OnOk result P → P
+told-done P (Ok unit) was holds = holds
+told-done P (Err fault) was holds = absurd was
+
 -- where the top can be used, a flush is refused for want of memory and for a fault of a storage alone
 pub refused-stays : {D St : Type 0} (g : Ghosts D St) (old new : D × List D) (olds news : List StorageState) (result : Result Unit Fault) → IfErr result (PlainCause (g.layer old.0) olds news)
     → IfMild result (barrier (g.layer old.0) ≡ None → ChainStays g old new)

@@ -4,6 +4,7 @@ pub mod Calls
 pub mod Held
 pub mod Leading
 pub mod Moves
+pub mod RoomTaken
 pub mod Making
 pub mod Runs
 pub mod Flattening

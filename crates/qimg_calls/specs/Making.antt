@@ -4,7 +4,9 @@ use Rattle.imago_storage.specs.declared.fault.Fault.{Fault}
 use Rattle.imago_storage.specs.declared.fault.Fault.TheVariants.{BadArgument}
 use Rattle.imago_access.specs.declared.seen.Seen.{Ghosts}
 use Rattle.imago_access.specs.declared.mapping.PreparedDataMapping.{PreparedDataMapping}
+use Rattle.imago_access.specs.ChainCalls.{WontDecline}
 use Rattle.imago_access.specs.Refusals.{barrier}
+use Rattle.imago_access.specs.Running.{IsIntactChain}
 use Rattle.qimg_calls.specs.declared.call.Call.{Call}
 use Rattle.qimg_calls.specs.declared.call.Call.TheVariants as calls
 use Rattle.qimg_calls.specs.declared.call.Answer.{Answer}
@@ -13,14 +15,18 @@ use Rattle.qimg_calls.specs.Calls.{Either, Fits, GoesOn, WasDone, is_of_mapping,
 use Rattle.qimg_calls.specs.Held.{Holding, holding, IsKept, disk_call}
 use Rattle.qimg_calls.specs.Leading.{Leads}
 use Rattle.qimg_calls.specs.Moves.{IsIdle, Moves, RestsOn, refusal_at_once}
+use Rattle.qimg_calls.specs.RoomTaken.{LeavesRoomFor, SettlesUnits}
 
--- The answer fits the call, which is refused at once where it has to be and done where it has nothing to do, moves the disk, and leaves what
--- the next one rests on; and what is kept is still the mapping that is prepared.
+-- The answer fits the call, which is refused at once where it has to be and done where it has nothing to do, moves the disk, takes
+-- and gives up room as it may, and leaves what the next one rests on; and what is kept is still the mapping that is prepared.
 pub record Makes {D St : Type 0} (g : Ghosts D St) (call : Call) (answer : Answer) (old new : Holding D St) : Type 0 where
   pub fits : Fits call answer
   pub at_once : (f : Fault) → refusal_at_once g call old ≡ Some f → answer ≡ told.Refused f
   pub idle : IsIdle g call old → barrier (g.layer old.drivers.0) ≡ None → WasDone answer
   pub moves : RestsOn g call old.drivers → Moves g call answer old new
+  pub room : IsIntactChain g old.drivers → GoesOn answer → LeavesRoomFor g call old.drivers.0 new.drivers.0
+  pub units : IsIntactChain g old.drivers → WontDecline g (disk_call g old call) old.drivers → WasDone answer
+      → SettlesUnits g call old.drivers.0 new.drivers.0
   pub leads : Leads g (GoesOn answer) (disk_call g old call) old.drivers new.drivers
   pub kept : IsKept g old → IsKept g new
   pub same : IsFalse (is_of_mapping call) → new.kept ≡ old.kept

@@ -6,7 +6,7 @@ use Rattle.imago_storage.specs.declared.fault.Fault.{Fault}
 use Rattle.imago_storage.specs.declared.fault.Fault.TheVariants.{BadArgument}
 use Rattle.imago_access.specs.declared.seen.Seen.{Ghosts}
 use Rattle.imago_access.specs.Files.{Pairs, IsKept as IsKeptFile, IsLater, files_of}
-use Rattle.imago_access.specs.ChainCalls.{ChainCancels}
+use Rattle.imago_access.specs.ChainCalls.{ChainCancels, WontDecline}
 use Rattle.imago_access.specs.Running.{chain_disk}
 use Rattle.qimg_calls.specs.declared.call.Call.{Call}
 use Rattle.qimg_calls.specs.declared.call.Call.TheVariants as calls
@@ -17,6 +17,7 @@ use Rattle.qimg_calls.specs.Since.{Since, flushed, begun, LeftSince, IsSince}
 use Rattle.qimg_calls.specs.Held.{Holding, holding, IsKept, IsReady, disk_call, state_of}
 use Rattle.qimg_calls.specs.Making.{MadeAll}
 use Rattle.qimg_calls.specs.Moves.{IsIdle, Moves, refusal_at_once}
+use Rattle.qimg_calls.specs.RoomTaken.{LeavesRoomFor, SettlesUnits}
 
 -- where a list of calls stands: the chain with what is kept, and what may show since the last flush
 pub record Moment (D St : Type 0) : Type 0 where
@@ -49,6 +50,10 @@ pub record Made {D St : Type 0} (g : Ghosts D St) (call : Call) (answer : Answer
   pub at_once : (f : Fault) → refusal_at_once g call old.now ≡ Some f → answer ≡ told.Refused f
   pub idle : IsIdle g call old.now → WasDone answer
   pub moves : Moves g call answer old.now new.now
+  -- what it takes and gives up of the room that is allocated
+  pub room : GoesOn answer → LeavesRoomFor g call old.now.drivers.0 new.now.drivers.0
+  pub units : WontDecline g (disk_call g old.now call) old.now.drivers → WasDone answer
+      → SettlesUnits g call old.now.drivers.0 new.now.drivers.0
   -- what a stop in it leaves, and what one behind it may show
   pub stops : StatesSize g old.now.drivers → Passes (IsLeftBy g call old) (g.image old.now.drivers.0) (g.image new.now.drivers.0)
   pub later : IsLater (g.image old.now.drivers.0) (g.image new.now.drivers.0)

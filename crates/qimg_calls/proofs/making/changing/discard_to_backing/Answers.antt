@@ -6,9 +6,10 @@ use Rattle.imago_access.specs.Stops.{GivesBelow}
 use Rattle.qimg_calls.specs.Calls.{GoesOn}
 use Rattle.qimg_calls.specs.Held.{holding}
 use Rattle.qimg_calls.specs.Making.{told_of}
+use Rattle.qimg_calls.specs.RoomTaken.{SettlesUnits}
 use Rattle.qimg_calls.specs.declared.call.Call.TheVariants as calls
 use Rattle.qimg_calls.proofs.Leading.{ran-leads}
-use Rattle.qimg_calls.proofs.Moving.{not-cut, nothing-named, told-fits, told-idle, told-moves, told-refused}
+use Rattle.qimg_calls.proofs.Moving.{not-cut, nothing-named, told-done, told-fits, told-idle, told-moves, told-refused}
 use Rattle.qimg_calls.proofs.making.changing.discard_to_backing.Goals as goal
 
 pub returns : goal.returns
@@ -22,6 +23,8 @@ returns g c =
       fits = told-fits (calls.DiscardToBacking c.args.offset c.args.length) r refl;
       at_once = λ f is. told-refused r f (e.at_once f is);
       idle = λ nothing usable. told-idle r (e.idle nothing usable);
+      room = λ intact on. e.room intact (not-cut r on);
+      units = λ intact may was. told-done (SettlesUnits d (calls.DiscardToBacking c.args.offset c.args.length) old.0 new.0) r was (e.gives_up intact may);
       moves = λ intact. told-moves d (calls.DiscardToBacking c.args.offset c.args.length) r (holding old None) (holding new None) refl
           (e.ok intact) (nothing-named r) (e.cause intact) (e.err intact);
       leads = ran-leads d old new (GoesOn (told_of r)) (WasNotCutOff r) (discard_to_backing c.args.offset c.args.length) g.met.D.FormatDriverInstance.safe_runs

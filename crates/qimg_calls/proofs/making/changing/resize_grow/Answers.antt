@@ -26,6 +26,8 @@ returns g c =
       fits = told-fits (calls.ResizeGrow c.args.size c.args.mode) r refl;
       at_once = λ f is. told-refused r f (resize-refused d c.args.size (d.layer old.0).size r old.0 new.0 f e.resizes is);
       idle = λ nothing usable. told-idle r (e.resizes.at_once.idle nothing usable);
+      room = λ intact on. tt;
+      units = λ intact may was. tt;
       moves = λ intact. told-moves d (calls.ResizeGrow c.args.size c.args.mode) r (holding old None) (holding new None) refl
           (e.ok intact) (nothing-named r) (e.cause intact) (e.err intact);
       leads = step-leads d old new (GoesOn (told_of r)) (WasNotCutOff r) call g.met.D.FormatDriverInstance.safe_runs e.went e.below

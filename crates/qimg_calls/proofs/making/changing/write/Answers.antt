@@ -23,6 +23,8 @@ returns g c =
       fits = told-fits call r refl;
       at_once = λ f is. told-refused r f ((rw (c.deref.ensures.value) at e.at_once) f is);
       idle = λ nothing usable. told-idle r ((rw (c.deref.ensures.value) at e.idle) nothing usable);
+      room = λ intact on. (rw (c.deref.ensures.value) at e.room) intact (not-cut r on);
+      units = λ intact may was. tt;
       moves = λ intact. told-moves d call r (holding old None) (holding new None) refl (rw (c.deref.ensures.value) at e.ok intact) (nothing-named r) (rw (c.deref.ensures.value) at e.cause intact) (rw (c.deref.ensures.value) at e.err intact);
       leads = ran-leads d old new (GoesOn (told_of r)) (WasNotCutOff r) (write c.args.offset c.args.bytes.now.items) g.met.D.FormatDriverInstance.safe_runs (GivesBytes c.args.offset c.args.bytes.now.items) (rw (c.deref.ensures.value) at e.ran)
           (λ on ready. not-cut r on) (λ p v gave. gave) (omega arith);

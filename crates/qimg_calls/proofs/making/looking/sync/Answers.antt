@@ -23,6 +23,8 @@ returns g c kept is =
       fits = told-fits calls.Sync r refl;
       at_once = λ f is. told-refused r f (e.unusable f is);
       idle = λ nothing usable. absurd nothing;
+      room = λ intact on. tt;
+      units = λ intact may was. tt;
       moves = λ intact. told-moves d calls.Sync r (holding old kept) (holding new kept) refl e.ok (nothing-named r) e.cause
           (refused-stays d old new (files d old.0) (files d new.0) r e.cause);
       leads = ran-leads d old new (GoesOn (told_of r)) (IsOk r) sync m.safe_runs GivesNone e.ran

@@ -24,6 +24,8 @@ returns g c kept is =
       fits = told-fits call r refl;
       at_once = λ f is. told-refused r f ((rw (c.deref.ensures.value) at e.at_once) f is);
       idle = λ nothing usable. told-idle r ((rw (c.deref.ensures.value) at e.idle) nothing usable);
+      room = λ intact on. tt;
+      units = λ intact may was. tt;
       moves = λ intact. told-moves d call r (holding old kept) (holding new kept) refl
           (rw (c.deref.ensures.value) at e.ok intact)
           (both-named (IsMappedFor (d.layer old.0) c.args.guest c.args.place (length c.args.bytes.now.items)) ((d.layer new.0).home ≡ (d.layer old.0).home) r (rw (c.deref.ensures.value) at e.mapped (m.safe_sees old.0 intact.is_safe)) (e.home intact))
