@@ -29,7 +29,7 @@ use Rattle.qimg_calls.specs.Making.{Makes}
 use Rattle.qimg_calls.proofs.Leading.{ValuesBetween, fewer-stops, step-leads, usable-by}
 use Rattle.qimg_calls.proofs.Moving.{layer-stays}
 use Rattle.qimg_calls.proofs.Resizing.{stays-between}
-use Rattle.qimg_calls.proofs.Spending.{cancelled-between, committed-between, free-then, held-gives, not-foreign, not-given-back, not-spent, spent-free}
+use Rattle.qimg_calls.proofs.Spending.{cancelled-between, committed-between, free-then, held-gives, not-foreign, not-given-back, not-spending, not-spent, spent-free}
 
 module _ {D St : Type 0} (g : Ghosts D St) (safe_runs : (d : D) → g.safe d → (g.layer d).failed ≡ false) (old new : D × List D) (mapping : PreparedDataMapping St)
     (below : new.1 ≡ old.1) (kept : IsKept g (holding old (Some mapping))) where
@@ -70,6 +70,7 @@ module _ {D St : Type 0} (g : Ghosts D St) (safe_runs : (d : D) → g.safe d →
           idle = λ none usable. absurd (cc (rw (none) at spent.0));
           room = λ intact on. tt;
           units = λ intact may was. tt;
+          marks = λ spending. spent.1;
           moves = λ intact. (cause intact, λ mild. absurd (never intact mild));
           leads = step-leads g old new (IsMild fault) (IsMild fault) call safe_runs does.went (looked (IsMild fault)) (λ mild ready. mild) (λ mild ready. absurd (never ready.intact mild)) (λ mild ready. absurd (never ready.intact mild)) commit-stops;
           kept = λ k. record { mine = tt; free = λ none. spent-free g mapping.state (g.layer old.0) (g.layer new.0) (g.safe old.0 → IsMild fault → ⊥) kept.mine spent.0 spent.3 };
@@ -84,6 +85,7 @@ module _ {D St : Type 0} (g : Ghosts D St) (safe_runs : (d : D) → g.safe d →
           idle = λ none usable. not-given-back g.tag mapping.state (g.layer old.0) fault none usable back.1;
           room = λ intact on. tt;
           units = λ intact may was. tt;
+          marks = λ spending. absurd (not-spending g.tag mapping.state (g.layer old.0) fault back.1 spending);
           moves = λ intact. (cause intact, λ mild. (stays, ap Some back.0));
           leads = step-leads g old new (IsMild fault) (IsMild fault) call safe_runs does.went (looked (IsMild fault)) (λ mild ready. mild) (λ mild ready. unchanged-intact back.2 ready.intact)
               (λ mild ready. stays-between (Begun (map g.layer old.1) (chain_disk g.layer old) call) (chain_disk g.layer old) (chain_disk g.layer new) stays) commit-stops;

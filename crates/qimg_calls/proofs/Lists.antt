@@ -190,6 +190,7 @@ module _ {D St : Type 0} (g : Ghosts D St) where
       idle = λ nothing. makes.idle nothing ready.usable.0;
       room = λ on. makes.room ready.intact on;
       units = λ may was. makes.units ready.intact may was;
+      marks = makes.marks;
       moves = makes.moves (ready-rests g safe_sees call old.drivers ready);
       stops = λ exact. stops-of call answer old new since makes ready exact stands;
       later = makes.leads.later;

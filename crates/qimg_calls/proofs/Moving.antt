@@ -14,7 +14,7 @@ use Rattle.imago_access.specs.Stops.{IsWritten}
 use Rattle.imago_access.specs.Files.{WasNotCutOff}
 use Rattle.qimg_calls.specs.declared.call.Call.{Call}
 use Rattle.qimg_calls.specs.declared.call.Answer.TheVariants as told
-use Rattle.qimg_calls.specs.Calls.{Fits, GoesOn, WasDone, tells_something}
+use Rattle.qimg_calls.specs.Calls.{Fits, GoesOn, IfRefused, WasDone, tells_something}
 use Rattle.qimg_calls.specs.Held.{Holding, disk_call}
 use Rattle.qimg_calls.specs.Making.{told_of}
 use Rattle.qimg_calls.specs.Moves.{Moves, Does, Keeps, Names, Refuses, Leaves, TopStays}
@@ -56,6 +56,11 @@ told-idle (Err fault) was = absurd (cc was)
 pub told-done : (P : Type 0) (result : Result Unit Fault) → WasDone (told_of result) → OnOk result P → P
 told-done P (Ok unit) was holds = holds
 told-done P (Err fault) was holds = absurd was
+
+-- what is true of the fault of one that was refused
+pub told-marks : (P : Fault → Type 0) (result : Result Unit Fault) → IfErr result P → IfRefused (told_of result) P
+told-marks P (Ok unit) marks = tt
+told-marks P (Err fault) marks = marks
 
 -- where the top can be used, a flush is refused for want of memory and for a fault of a storage alone
 pub refused-stays : {D St : Type 0} (g : Ghosts D St) (old new : D × List D) (olds news : List StorageState) (result : Result Unit Fault) → IfErr result (PlainCause (g.layer old.0) olds news)

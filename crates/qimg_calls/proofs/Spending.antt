@@ -4,10 +4,10 @@ use Rattle.std.specs.Prelude.{Bool, true, false, not, Option, Some, None, is_som
 use Rattle.imago_storage.specs.Disk.{Value, Disk, Hold, free, held}
 use Rattle.imago_storage.specs.Steps.{Step, Settles, commit, cancel, done}
 use Rattle.imago_storage.specs.declared.fault.Fault.{Fault}
-use Rattle.imago_storage.specs.declared.fault.Fault.TheVariants.{Failed, MissingData}
+use Rattle.imago_storage.specs.declared.fault.Fault.TheVariants.{Failed, Foreign, MissingData, ReadOnly}
 use Rattle.imago_access.specs.declared.seen.Seen.{Ghosts}
 use Rattle.imago_access.specs.Files.{IsMild}
-use Rattle.imago_access.specs.Spending.{GivenBack, IsMine, IsForeignTo, Spends}
+use Rattle.imago_access.specs.Spending.{GivenBack, IsMine, IsForeignTo, IsSpending, Spends}
 use Rattle.imago_access.specs.Refusals.{barrier}
 use Rattle.imago_access.specs.Layer.{Layer, Held, loose, beside, inside, hold_of, IsFree}
 use Rattle.imago_access.specs.Running.{IsIntactChain, chain_disk, below_of}
@@ -67,6 +67,17 @@ not-given-back tag None layer Failed none usable back = absurd (cc (back, usable
 not-given-back tag None layer MissingData none usable back = absurd (cc (back, usable))
 not-given-back tag None layer fault none usable back = back
 not-given-back tag (Some s) layer fault none usable back = absurd (cc none)
+
+-- a mapping that is given back isn't spent
+pub not-spending : {S : Type 0} (tag : S → ℕ) (state : Option S) (layer : Layer) (fault : Fault) → GivenBack tag state layer fault → IsSpending fault → ⊥
+not-spending tag None layer Failed back spending = spending
+not-spending tag None layer MissingData back spending = spending
+not-spending tag None layer fault back spending = back
+not-spending tag (Some s) layer Failed back spending = spending
+not-spending tag (Some s) layer MissingData back spending = spending
+not-spending tag (Some s) layer ReadOnly back spending = spending
+not-spending tag (Some s) layer Foreign back spending = spending
+not-spending tag (Some s) layer fault back spending = back
 
 -- a mapping that is the layer's own isn't another's
 pub not-foreign : {D St : Type 0} (g : Ghosts D St) (state : Option St) (layer : Layer) → IsMine g state layer → IsForeignTo g.tag state layer → ⊥

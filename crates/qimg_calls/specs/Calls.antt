@@ -77,6 +77,11 @@ abbrev pub WasDone : Answer → Type 0
 WasDone (told.Refused fault) = ⊥
 WasDone answer = ⊤
 
+-- P of the fault, where it was refused
+abbrev pub IfRefused : Answer → (Fault → Type 0) → Type 0
+IfRefused (told.Refused fault) P = P fault
+IfRefused answer P = ⊤
+
 -- P where it holds, and else Q
 abbrev pub Either : Bool → Type 0 → Type 0 → Type 0
 Either true P Q = P

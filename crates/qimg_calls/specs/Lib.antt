@@ -5,6 +5,7 @@ pub mod Held
 pub mod Leading
 pub mod Moves
 pub mod RoomTaken
+pub mod Marking
 pub mod Making
 pub mod Runs
 pub mod Flattening

@@ -11,14 +11,16 @@ use Rattle.qimg_calls.specs.declared.call.Call.{Call}
 use Rattle.qimg_calls.specs.declared.call.Call.TheVariants as calls
 use Rattle.qimg_calls.specs.declared.call.Answer.{Answer}
 use Rattle.qimg_calls.specs.declared.call.Answer.TheVariants as told
-use Rattle.qimg_calls.specs.Calls.{Either, Fits, GoesOn, WasDone, is_of_mapping, is_out_of_place}
+use Rattle.qimg_calls.specs.Calls.{Either, Fits, GoesOn, IfRefused, WasDone, is_of_mapping, is_out_of_place}
 use Rattle.qimg_calls.specs.Held.{Holding, holding, IsKept, disk_call}
 use Rattle.qimg_calls.specs.Leading.{Leads}
+use Rattle.qimg_calls.specs.Marking.{MarksRefused}
 use Rattle.qimg_calls.specs.Moves.{IsIdle, Moves, RestsOn, refusal_at_once}
 use Rattle.qimg_calls.specs.RoomTaken.{LeavesRoomFor, SettlesUnits}
 
--- The answer fits the call, which is refused at once where it has to be and done where it has nothing to do, moves the disk, takes
--- and gives up room as it may, and leaves what the next one rests on; and what is kept is still the mapping that is prepared.
+-- The answer fits the call, which is refused at once where it has to be and done where it has nothing to do, moves the disk, takes and gives
+-- up room as it may, marks an image that failed, and leaves what the next one rests on; and what is kept is still the mapping that is
+-- prepared.
 pub record Makes {D St : Type 0} (g : Ghosts D St) (call : Call) (answer : Answer) (old new : Holding D St) : Type 0 where
   pub fits : Fits call answer
   pub at_once : (f : Fault) → refusal_at_once g call old ≡ Some f → answer ≡ told.Refused f
@@ -27,6 +29,7 @@ pub record Makes {D St : Type 0} (g : Ghosts D St) (call : Call) (answer : Answe
   pub room : IsIntactChain g old.drivers → GoesOn answer → LeavesRoomFor g call old.drivers.0 new.drivers.0
   pub units : IsIntactChain g old.drivers → WontDecline g (disk_call g old call) old.drivers → WasDone answer
       → SettlesUnits g call old.drivers.0 new.drivers.0
+  pub marks : IfRefused answer (MarksRefused g call old.drivers new.drivers)
   pub leads : Leads g (GoesOn answer) (disk_call g old call) old.drivers new.drivers
   pub kept : IsKept g old → IsKept g new
   pub same : IsFalse (is_of_mapping call) → new.kept ≡ old.kept

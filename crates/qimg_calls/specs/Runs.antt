@@ -12,10 +12,11 @@ use Rattle.qimg_calls.specs.declared.call.Call.{Call}
 use Rattle.qimg_calls.specs.declared.call.Call.TheVariants as calls
 use Rattle.qimg_calls.specs.declared.call.Answer.{Answer}
 use Rattle.qimg_calls.specs.declared.call.Answer.TheVariants as told
-use Rattle.qimg_calls.specs.Calls.{Either, Fits, is_out_of_place, GoesOn, WasDone}
+use Rattle.qimg_calls.specs.Calls.{Either, Fits, is_out_of_place, GoesOn, IfRefused, WasDone}
 use Rattle.qimg_calls.specs.Since.{Since, flushed, begun, LeftSince, IsSince}
 use Rattle.qimg_calls.specs.Held.{Holding, holding, IsKept, IsReady, disk_call, state_of}
 use Rattle.qimg_calls.specs.Making.{MadeAll}
+use Rattle.qimg_calls.specs.Marking.{MarksRefused}
 use Rattle.qimg_calls.specs.Moves.{IsIdle, Moves, refusal_at_once}
 use Rattle.qimg_calls.specs.RoomTaken.{LeavesRoomFor, SettlesUnits}
 
@@ -54,6 +55,8 @@ pub record Made {D St : Type 0} (g : Ghosts D St) (call : Call) (answer : Answer
   pub room : GoesOn answer → LeavesRoomFor g call old.now.drivers.0 new.now.drivers.0
   pub units : WontDecline g (disk_call g old.now call) old.now.drivers → WasDone answer
       → SettlesUnits g call old.now.drivers.0 new.now.drivers.0
+  -- which image has failed where it is refused
+  pub marks : IfRefused answer (MarksRefused g call old.now.drivers new.now.drivers)
   -- what a stop in it leaves, and what one behind it may show
   pub stops : StatesSize g old.now.drivers → Passes (IsLeftBy g call old) (g.image old.now.drivers.0) (g.image new.now.drivers.0)
   pub later : IsLater (g.image old.now.drivers.0) (g.image new.now.drivers.0)

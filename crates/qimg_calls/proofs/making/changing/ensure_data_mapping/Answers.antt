@@ -31,6 +31,7 @@ returns-in-Ok g c =
       idle = λ nothing usable. tt;
       room = λ intact on. tt;
       units = λ intact may was. tt;
+      marks = tt;
       moves = λ intact. ((run c.in-Ok.count, refl, e.ok intact, e.home intact), refl);
       leads = ran-leads d old new (GoesOn (told.Mapped c.in-Ok.mapping c.in-Ok.count)) _ (ensure c.args.offset c.args.length c.args.overwrite) g.met.D.FormatDriverInstance.safe_runs
           (GivesAnnounced c.args.overwrite c.args.offset c.args.length) e.ran (λ on ready. tt)
@@ -51,6 +52,7 @@ returns-in-Err g c =
       idle = λ nothing usable. absurd (cc (e.idle nothing usable));
       room = λ intact on. tt;
       units = λ intact may was. tt;
+      marks = e.marks;
       moves = λ intact. (e.cause intact, λ mild. (e.err intact mild, refl));
       leads = ran-leads d old new (GoesOn (told.Refused c.in-Err.fault)) _ (ensure c.args.offset c.args.length c.args.overwrite) g.met.D.FormatDriverInstance.safe_runs
           (GivesAnnounced c.args.overwrite c.args.offset c.args.length) e.ran (λ on ready. on)

@@ -4,13 +4,14 @@ use Rattle.imago_storage.specs.Steps.{grow}
 use Rattle.imago_access.specs.Files.{WasNotCutOff}
 use Rattle.imago_access.specs.Resizes.{fill_of}
 use Rattle.imago_access.specs.Running.{chain_disk, below_of}
+use Rattle.imago_access.specs.Going.{MarksOver}
 use Rattle.imago_access.specs.Stops.{GivesPast}
 use Rattle.qimg_calls.specs.Calls.{GoesOn}
 use Rattle.qimg_calls.specs.Held.{holding}
 use Rattle.qimg_calls.specs.Making.{told_of}
 use Rattle.qimg_calls.specs.declared.call.Call.TheVariants as calls
 use Rattle.qimg_calls.proofs.Leading.{fewer-stops, step-leads}
-use Rattle.qimg_calls.proofs.Moving.{not-cut, nothing-named, told-fits, told-idle, told-moves, told-refused}
+use Rattle.qimg_calls.proofs.Moving.{not-cut, nothing-named, told-fits, told-idle, told-marks, told-moves, told-refused}
 use Rattle.qimg_calls.proofs.Resizing.{grown-between, resize-refused}
 use Rattle.qimg_calls.proofs.making.changing.resize_grow.Goals as goal
 
@@ -28,6 +29,7 @@ returns g c =
       idle = λ nothing usable. told-idle r (e.resizes.at_once.idle nothing usable);
       room = λ intact on. tt;
       units = λ intact may was. tt;
+      marks = told-marks (MarksOver d old.0 new.0) r e.marks;
       moves = λ intact. told-moves d (calls.ResizeGrow c.args.size c.args.mode) r (holding old None) (holding new None) refl
           (e.ok intact) (nothing-named r) (e.cause intact) (e.err intact);
       leads = step-leads d old new (GoesOn (told_of r)) (WasNotCutOff r) call g.met.D.FormatDriverInstance.safe_runs e.went e.below

@@ -2,7 +2,7 @@ use Rattle.std.specs.Prelude.{None, map}
 use Rattle.std.proofs.Common.{arith, refl, subst, sym}
 use Rattle.imago_storage.specs.Steps.{shrink}
 use Rattle.imago_access.specs.Files.{WasNotCutOff}
-use Rattle.imago_access.specs.Going.{LookedUnder}
+use Rattle.imago_access.specs.Going.{LookedUnder, Marks}
 use Rattle.imago_access.specs.Running.{below_ghosts, below_of, chain_disk}
 use Rattle.imago_access.specs.Stops.{GivesBelowPast}
 use Rattle.imago_access.proofs.Looking.{looked_under_same}
@@ -11,7 +11,7 @@ use Rattle.qimg_calls.specs.Held.{holding}
 use Rattle.qimg_calls.specs.Making.{told_of}
 use Rattle.qimg_calls.specs.declared.call.Call.TheVariants as calls
 use Rattle.qimg_calls.proofs.Leading.{fewer-stops, step-leads}
-use Rattle.qimg_calls.proofs.Moving.{not-cut, nothing-named, told-fits, told-idle, told-moves, told-refused}
+use Rattle.qimg_calls.proofs.Moving.{not-cut, nothing-named, told-fits, told-idle, told-marks, told-moves, told-refused}
 use Rattle.qimg_calls.proofs.Resizing.{resize-refused, shrunk-between}
 use Rattle.qimg_calls.proofs.making.changing.resize_shrink.Goals as goal
 
@@ -28,6 +28,7 @@ returns g c =
       idle = λ nothing usable. told-idle r (e.resizes.at_once.idle nothing usable);
       room = λ intact on. tt;
       units = λ intact may was. tt;
+      marks = told-marks (Marks d old.0 new.0) r e.marks;
       moves = λ intact. told-moves d (calls.ResizeShrink c.args.size) r (holding old None) (holding new None) refl
           (e.ok intact) (nothing-named r) (e.cause intact) (e.err intact);
       leads = step-leads d old new (GoesOn (told_of r)) (WasNotCutOff r) (shrink c.args.size) g.met.D.FormatDriverInstance.safe_runs e.went

@@ -2,6 +2,8 @@ use Rattle.std.specs.Prelude.{None}
 use Rattle.std.proofs.Common.{arith, refl}
 use Rattle.imago_storage.specs.Steps.{write_zeroes}
 use Rattle.imago_access.specs.Files.{WasNotCutOff}
+use Rattle.imago_access.specs.RunCalls.{MarksTop}
+use Rattle.imago_access.specs.Running.{below_ghosts}
 use Rattle.imago_access.specs.Stops.{GivesZero}
 use Rattle.qimg_calls.specs.Calls.{GoesOn}
 use Rattle.qimg_calls.specs.Held.{holding}
@@ -9,7 +11,7 @@ use Rattle.qimg_calls.specs.Making.{told_of}
 use Rattle.qimg_calls.specs.RoomTaken.{SettlesUnits}
 use Rattle.qimg_calls.specs.declared.call.Call.TheVariants as calls
 use Rattle.qimg_calls.proofs.Leading.{ran-leads}
-use Rattle.qimg_calls.proofs.Moving.{not-cut, nothing-named, told-done, told-fits, told-idle, told-moves, told-refused}
+use Rattle.qimg_calls.proofs.Moving.{not-cut, nothing-named, told-done, told-fits, told-idle, told-marks, told-moves, told-refused}
 use Rattle.qimg_calls.proofs.making.changing.write_zeroes.Goals as goal
 
 pub returns : goal.returns
@@ -25,6 +27,7 @@ returns g c =
       idle = λ nothing usable. told-idle r (e.idle nothing usable);
       room = λ intact on. e.room intact (not-cut r on);
       units = λ intact may was. told-done (SettlesUnits d (calls.WriteZeroes c.args.offset c.args.length) old.0 new.0) r was (e.zeroed intact may);
+      marks = told-marks (MarksTop d (below_ghosts d) old new) r e.marks;
       moves = λ intact. told-moves d (calls.WriteZeroes c.args.offset c.args.length) r (holding old None) (holding new None) refl
           (e.ok intact) (nothing-named r) (e.cause intact) (e.err intact);
       leads = ran-leads d old new (GoesOn (told_of r)) (WasNotCutOff r) (write_zeroes c.args.offset c.args.length) g.met.D.FormatDriverInstance.safe_runs

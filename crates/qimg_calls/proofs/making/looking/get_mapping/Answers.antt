@@ -20,6 +20,7 @@ returns-in-Ok g c kept is =
       idle = λ nothing usable. tt;
       room = λ intact on. tt;
       units = λ intact may was. tt;
+      marks = tt;
       moves = λ rests. (
         (
           found (deep_kind_of c.in-Ok.mapping) c.in-Ok.count,
@@ -47,6 +48,7 @@ returns-in-Err g c kept is =
       idle = λ nothing usable. absurd (cc (e.idle nothing usable));
       room = λ intact on. tt;
       units = λ intact may was. tt;
+      marks = e.marks;
       moves = λ rests. (e.cause rests.0, λ mild. (((e.looked.0.stays mild rests.0.0).0, looked-stays d old new _ mild e.looked rests.0), refl));
       leads = look-leads d old new (GoesOn (told.Refused c.in-Err.fault)) _ (lookup c.args.offset c.args.length) m.safe_sees e.looked (λ on. on) (omega arith);
       kept = like-kept d old new kept e.looked.0.like;
