@@ -6,19 +6,20 @@ use Rattle.std.proofs.Common.{◌≡◌, ◌⊎◌, inl, inr, ℕ, ◌+◌, ◌-
 use Rattle.std.specs.Prelude.{⊤, min, ◌*◌, not, eqb, Bool, true, false, if◌then◌else◌, Option, Some, None, Result, Ok, Err, OnOk, IfErr, IsErrOf, IsTrue}
 use Rattle.imago_storage.specs.Disk.{Value, Disk, byte, Shows}
 use Rattle.imago_storage.specs.Steps.{write, IsIn, Stays, Changes, ToBytes, Unless}
+use Rattle.imago_storage.specs.Causes.{PartlyDone}
 use Rattle.imago_storage.specs.declared.fault.Fault.{Fault}
 use Rattle.imago_storage.specs.declared.fault.Fault.TheVariants.{Failed, MissingData, Memory, ReadOnly}
 use Rattle.imago_access.specs.declared.seen.Seen.{Ghosts}
 use Rattle.imago_access.specs.Layer.{Layer, Fixed, IsLike}
 use Rattle.imago_access.specs.Layers.{chain}
 use Rattle.imago_access.specs.Chain.{at, Each}
-use Rattle.imago_access.specs.ChainCalls.{CallRefused, chain_refusal, chain_look_refusal, ChainFails, IsCarriedOut, TakesNear}
+use Rattle.imago_access.specs.ChainCalls.{CallRefused, chain_refusal, chain_look_refusal, ChainFails, IsCarriedOut, IsDoneInPart, TakesNear}
 use Rattle.imago_access.specs.ChainLooks.{ChainReads}
 use Rattle.imago_access.specs.Files.{Pairs, IsLater, IsMild, WasNotCutOff, files, files_of}
 use Rattle.imago_access.specs.Going.{Looked, MarksSome}
 use Rattle.imago_access.specs.RunCalls.{MarksTop}
 use Rattle.imago_access.specs.Room.{IsApart}
-use Rattle.imago_access.specs.Running.{RanChain, below_ghosts, chain_disk}
+use Rattle.imago_access.specs.Running.{RanChain, below_ghosts, below_of, chain_disk}
 use Rattle.imago_access.specs.Refusals.{barrier}
 use Rattle.imago_access.specs.Stops.{GivesBytes}
 use Rattle.imago_access.proofs.FilePairs.{pairs_append}
@@ -27,7 +28,7 @@ use Rattle.imago_access.proofs.Looking.{all_looked_same, all_looked_both, all_lo
 use Rattle.imago_access.proofs.Marking.{marked_behind, top_behind}
 use Rattle.imago_access.proofs.Room.{room_same, takes_both, apart_wider}
 use Rattle.imago_access.proofs.Running.{ran_same, ran_both, ran_gives}
-use Rattle.qimg_calls.specs.Flattening.{Chains, HasByte, IsSoundPair, GivesRead, IsCopied, CopiesRange, CopiesDisk, CopyFails, Copies, CopyCause, MayCopy, PieceRefused}
+use Rattle.qimg_calls.specs.Flattening.{Chains, HasByte, IsSoundPair, GivesRead, IsCopied, IsCopiedInPart, CopiesRange, CopiesDisk, CopyFails, Copies, CopyCause, MayCopy, PieceRefused, PieceStops}
 
 -- bytes that were read give what the source shows
 pub gives_read : {D St : Type 0} (g : Ghosts D St) (source : D × List D) (offset : ℕ) (bytes : List ℕ) → (Each g.sees (chain source) → Shows (chain_disk g.layer source).value offset bytes) → (p : ℕ) (v : Value) → GivesBytes offset bytes p v → GivesRead g source p v
@@ -65,6 +66,15 @@ written_copied source old new offset bytes shown step = elim step [
     others = some.1.others;
   }
 ]
+
+-- .. and one that is refused, and not cut off, copies it in part
+written_part : (source old new : Disk) (under : ℕ → Value) (offset : ℕ) (bytes : List ℕ) → Shows source.value offset bytes → PartlyDone under (write offset bytes) old new
+    → IsCopiedInPart source old new offset (length bytes)
+written_part source old new under offset bytes shown part = record {
+  size = part.size;
+  range = λ p lt inside. elim (part.value p lt) [ inl same ↦ inl same | inr gave ↦ inr (there offset bytes source shown p (new.value p) inside gave) ];
+  others = part.others;
+}
 
 -- two ranges, one behind the other
 pub copied_both : (source a b c : Disk) (offset n m : ℕ) → offset + n ≤ a.size → IsCopied source a b offset n → IsCopied source b c (offset + n) m → IsCopied source a c offset (n + m)
@@ -184,6 +194,7 @@ module _ {S P T Q : Type 0} (g : Ghosts S P) (h : Ghosts T Q) where
     mid = a;
     before = copies_same 0 a;
     cause = inl tt;
+    rest = λ mild. absurd mild;
   }
 
   -- all of a disk
@@ -244,6 +255,16 @@ module _ {S P T Q : Type 0} (g : Ghosts S P) (h : Ghosts T Q) where
       → PieceRefused g h offset (length bytes) result old new
   piece_unwritten (Ok unit) old new offset bytes shown cause pair = tt
   piece_unwritten (Err fault) old new offset bytes shown cause pair = inr (record { bytes = bytes; long = refl; shown = shown pair.source; cause = cause pair.target })
+
+  -- what a piece leaves that is refused: one that isn't written, and one that isn't read
+  pub piece_part : (result : Result Unit Fault) (old new : Chains S T) (offset : ℕ) (bytes : List ℕ) → (Each g.sees (chain old.0) → Shows (chain_disk g.layer old.0).value offset bytes)
+      → IsDoneInPart h (write offset bytes) result old.1 new.1 → PieceStops g h offset (length bytes) result old new.1
+  piece_part (Ok unit) old new offset bytes shown part pair = tt
+  piece_part (Err fault) old new offset bytes shown part pair = λ mild.
+      written_part (chain_disk g.layer old.0) (chain_disk h.layer old.1) (chain_disk h.layer new.1) (below_of h.layer old.1) offset bytes (shown pair.source) (part pair.target mild)
+
+  pub piece_same : (fault : Fault) (old : Chains S T) (offset n : ℕ) → PieceStops g h offset n (Err fault) old old.1
+  piece_same fault old offset n pair = λ mild. record { size = refl; range = λ p lt inside. inl refl; others = λ p lt out. refl }
 
   module _ (safe_sees : (d : S) → g.safe d → g.sees d) where
     -- what a later part gives, seen from the source before

@@ -7,8 +7,8 @@ use Rattle.imago_access.specs.declared.seen.Seen.{Ghosts}
 use Rattle.imago_access.specs.Layer.{IsLike}
 use Rattle.imago_access.specs.Layers.{chain}
 use Rattle.imago_access.specs.Chain.{at, Each, unit_of_chain}
-use Rattle.imago_access.specs.ChainCalls.{ChainFails, OwnCause, TakesNear}
-use Rattle.imago_access.specs.Files.{Pairs, WasNotCutOff, files_of}
+use Rattle.imago_access.specs.ChainCalls.{ChainFails, IfMild, OwnCause, TakesNear}
+use Rattle.imago_access.specs.Files.{IsMild, Pairs, WasNotCutOff, files_of}
 use Rattle.imago_access.specs.Going.{Looked, MarksSome}
 use Rattle.imago_access.specs.Refusals.{barrier, ReadCause}
 use Rattle.imago_access.specs.RunCalls.{MarksTop}
@@ -43,8 +43,19 @@ pub record IsCopied (source old new : Disk) (offset n : ℕ) : Type 0 where
   pub range : (p : ℕ) → IsIn offset n p → HasByte (source.value p) × (new.value p ≡ source.value p)
   pub others : (p : ℕ) → p < old.size → IsOut offset n p → new.value p ≡ old.value p
 
+-- A range is copied in part: each of its places shows what it did, or the source's byte, and every other place of the target what it did.
+pub record IsCopiedInPart (source old new : Disk) (offset n : ℕ) : Type 0 where
+  pub size : new.size ≡ old.size
+  pub range : (p : ℕ) → p < old.size → IsIn offset n p
+      → (new.value p ≡ old.value p) ⊎ (HasByte (source.value p) × (new.value p ≡ source.value p))
+  pub others : (p : ℕ) → p < old.size → IsOut offset n p → new.value p ≡ old.value p
+
 abbrev pub CopiesRange : {S P T Q : Type 0} → Ghosts S P → Ghosts T Q → ℕ → ℕ → Chains S T → T × List T → Type 0
 CopiesRange g h offset n old new = IsCopied (chain_disk g.layer old.0) (chain_disk h.layer old.1) (chain_disk h.layer new) offset n
+
+abbrev pub CopiesInPart : {S P T Q : Type 0} → Ghosts S P → Ghosts T Q → ℕ → ℕ → Chains S T → T × List T → Type 0
+CopiesInPart g h offset n old new =
+    IsCopiedInPart (chain_disk g.layer old.0) (chain_disk h.layer old.1) (chain_disk h.layer new) offset n
 
 -- the target, as large as the source, shows all of its disk then
 abbrev pub CopiesDisk : {S P T Q : Type 0} → Ghosts S P → Ghosts T Q → Chains S T → T × List T → Type 0
@@ -95,6 +106,10 @@ PieceCause g h offset n old new fault =
 abbrev pub PieceRefused : {S P T Q : Type 0} → Ghosts S P → Ghosts T Q → ℕ → ℕ → Result Unit Fault → Chains S T → Chains S T → Type 0
 PieceRefused g h offset n result old new = IsSoundPair g h old → IfErr result (PieceCause g h offset n old new)
 
+-- a piece that is refused, and not cut off, is copied in part
+abbrev pub PieceStops : {S P T Q : Type 0} → Ghosts S P → Ghosts T Q → ℕ → ℕ → Result Unit Fault → Chains S T → T × List T → Type 0
+PieceStops g h offset n result old new = IsSoundPair g h old → IfMild result (CopiesInPart g h offset n old new)
+
 -- a piece of a disk: from a multiple of 65,536 bytes on so many bytes, or those up to the disk's end
 pub record IsPiece (size offset n : ℕ) : Type 0 where
   pub index : ℕ
@@ -102,7 +117,8 @@ pub record IsPiece (size offset n : ℕ) : Type 0 where
   pub inside : offset ≤ size
   pub long : n ≡ min 65536 (size - offset)
 
--- Why a copy is refused: at a piece, behind those before it, which are copied.
+-- Why a copy is refused: at a piece, behind those before it, which are copied. Where it wasn't cut off, that piece is copied in part and no
+-- place behind it has changed.
 pub record CopyCause {S P T Q : Type 0} (g : Ghosts S P) (h : Ghosts T Q) (old new : Chains S T) (fault : Fault) : Type 0 where
   pub offset : ℕ
   pub n : ℕ
@@ -110,6 +126,7 @@ pub record CopyCause {S P T Q : Type 0} (g : Ghosts S P) (h : Ghosts T Q) (old n
   pub mid : Chains S T
   pub before : Copies g h 0 offset (Ok tt) old mid
   pub cause : PieceCause g h offset n mid new fault
+  pub rest : IsMild fault → CopiesInPart g h offset n mid new.1
 
 abbrev pub CopyRefused : {S P T Q : Type 0} → Ghosts S P → Ghosts T Q → Result Unit Fault → Chains S T → Chains S T → Type 0
 CopyRefused g h result old new = IsSoundPair g h old → IfErr result (CopyCause g h old new)

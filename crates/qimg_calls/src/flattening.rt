@@ -7,7 +7,7 @@ ghost use Rattle.imago_access.specs.ChainCalls.{TakesNear};
 ghost use Rattle.imago_access.specs.Files.{Pairs, WasNotCutOff};
 ghost use Rattle.imago_access.specs.Going.{Looked};
 ghost use Rattle.imago_access.specs.Running.{RanChain};
-ghost use Rattle.qimg_calls.specs.Flattening.{Copies, CopiesDisk, CopyFails, CopyRefused, GivesRead, IsSoundPair, MayCopy, PieceRefused};
+ghost use Rattle.qimg_calls.specs.Flattening.{Copies, CopiesDisk, CopyFails, CopyRefused, GivesRead, IsSoundPair, MayCopy, PieceRefused, PieceStops};
 
 use imago_access::{FormatAccess, FormatDriverInstance};
 use imago_storage::Fault;
@@ -29,6 +29,7 @@ fn copy_piece<S: FormatDriverInstance, T: FormatDriverInstance>(
     ensures copies { Copies S.Seen T.Seen offset (length buf.old) result (source.old, target.old) (source.new, target.new) }
     ensures usable { OnOk result (MayCopy S.Seen T.Seen (length buf.old) (source.old, target.old)) }
     ensures cause { PieceRefused S.Seen T.Seen offset (length buf.old) result (source.old, target.old) (source.new, target.new) }
+    ensures part { PieceStops S.Seen T.Seen offset (length buf.old) result (source.old, target.old) target.new }
 {
     match source.read(alloc, buf, offset) {
         Ok(()) => target.write(alloc, buf, offset),

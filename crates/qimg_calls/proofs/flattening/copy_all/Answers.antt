@@ -1,7 +1,7 @@
 use Rattle.std.proofs.Common.{◌≡◌, ◌+◌, ◌<◌, ◌≤◌, inl, inr, ℕ, Ok, Err, length, arith, refl, subst}
 use Rattle.std.specs.Prelude.{take}
 use Rattle.std.proofs.lemmas.Grind.{common_steps}
-use Rattle.qimg_calls.specs.Flattening.{Copies, PieceCause}
+use Rattle.qimg_calls.specs.Flattening.{Copies, CopiesInPart, PieceCause}
 use Rattle.qimg_calls.proofs.Copying.{copies_next, copies_same, copies_wider, may_before, next_more, next_piece, pair_behind, some_left}
 use Rattle.qimg_calls.proofs.flattening.copy_all.Goals as goal
 
@@ -28,14 +28,15 @@ returns-in-Err-clause-cause g c pair =
     let l = c.loop-done.invariant in
     let n = c.min-n.result in
     let long : length (take n c.loop-done.buf) ≡ n = grind (arith, common_steps) in
+    let behind = pair_behind g.S.Seen g.T.Seen g.met.S.FormatDriverInstance.safe_sees (c.args.source.now, c.args.target.now) (c.loop-done.source, c.loop-done.target) 0 c.loop-done.done l.copies pair in
     record {
       offset = c.loop-done.done;
       n = n;
       piece = record { index = l.start.0; start = l.start.1; inside = omega (arith, l.inside, c.size-size.ensures); long = rw (← c.size-size.ensures) c.min-n.ensures };
       mid = (c.loop-done.source, c.loop-done.target);
       before = l.copies;
-      cause = subst (λ (m : ℕ). PieceCause g.S.Seen g.T.Seen c.loop-done.done m (c.loop-done.source, c.loop-done.target) (c.copy_piece.new.source, c.copy_piece.new.target) c.in-Err.fault) long
-          (c.in-Err.ensures.cause (pair_behind g.S.Seen g.T.Seen g.met.S.FormatDriverInstance.safe_sees (c.args.source.now, c.args.target.now) (c.loop-done.source, c.loop-done.target) 0 c.loop-done.done l.copies pair));
+      cause = subst (λ (m : ℕ). PieceCause g.S.Seen g.T.Seen c.loop-done.done m (c.loop-done.source, c.loop-done.target) (c.copy_piece.new.source, c.copy_piece.new.target) c.in-Err.fault) long (c.in-Err.ensures.cause behind);
+      rest = λ mild. subst (λ (m : ℕ). CopiesInPart g.S.Seen g.T.Seen c.loop-done.done m (c.loop-done.source, c.loop-done.target) c.copy_piece.new.target) long (c.in-Err.ensures.part behind mild);
     }
 
 pub returns-then-done-size-clause-copies : goal.returns-then-done-size-clause-copies
