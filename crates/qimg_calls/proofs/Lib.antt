@@ -9,3 +9,4 @@ pub mod Alone
 mod Lists
 mod Driven
 pub mod Stops
+mod Standing

@@ -7,6 +7,7 @@ use Rattle.imago_storage.specs.State.{StorageState, InStep, Rose}
 use Rattle.imago_storage.specs.Passing.{Passes}
 use Rattle.imago_storage.specs.Through.{StopsIn}
 use Rattle.imago_storage.specs.Calls.{IsFaultless}
+use Rattle.imago_storage.specs.Steps.{Call as DiskCall}
 use Rattle.imago_storage.specs.declared.fault.Fault.{Fault}
 use Rattle.imago_storage.specs.declared.fault.Fault.TheVariants.{Memory, Storage, BadArgument}
 use Rattle.imago_access.specs.declared.seen.Seen.{Ghosts}
@@ -135,50 +136,65 @@ module _ {D St : Type 0} (g : Ghosts D St) where
   all-then (c ∷ cs) [] call answer old mid new all one = absurd all
 
   module _ (safe_sees : (d : D) → g.safe d → g.sees d) (safe_sound : (d : D) → g.safe d → IsCovered (g.layer d) g.sound (g.image d).bytes) where
-    -- what a stop in a call shows
-    stops-of : (call : Call) (answer : Answer) (old new : Holding D St) (since : Since) → Makes g call answer old new → IsReady g old.drivers → StatesSize g old.drivers → StandsSince g since old.drivers
-        → Passes (IsLeftBy g call (moment old since)) (g.image old.drivers.0) (g.image new.drivers.0)
-    stops-of call answer old new since makes ready exact stands calm =
-        let one = makes.leads.stops ready calm in
-        let below = map g.layer old.drivers.1 in
-        let entry = g.layer old.drivers.0 in
-        let file = (g.image old.drivers.0).bytes in
-        let does = disk_call g old call in
-        let room : (g.image old.drivers.0).refusals + 1 < 2 ^ 64 = omega (arith, makes.leads.later.1.refusals, not-risen (g.image old.drivers.0).refusals (g.image new.drivers.0).refusals makes.leads.later.1.refusals calm) in (
+    -- what a stop in a call of the disk shows
+    stops-behind : (whole : Type 0) (does : DiskCall) (old new : D × List D) (since : Since) → Leads g whole does old new → IsReady g old → StatesSize g old → StandsSince g since old
+        → Passes (LeftSince (map g.layer old.1) (g.layer old.0).fixed g.sound (begun since (chain_disk g.layer old) does)) (g.image old.0) (g.image new.0)
+    stops-behind whole does old new since leads ready exact stands calm =
+        let one = leads.stops ready calm in
+        let below = map g.layer old.1 in
+        let entry = g.layer old.0 in
+        let file = (g.image old.0).bytes in
+        let room : (g.image old.0).refusals + 1 < 2 ^ 64 = omega (arith, leads.later.1.refusals, not-risen (g.image old.0).refusals (g.image new.0).refusals leads.later.1.refusals calm) in (
           one.0,
-          λ step tells keeps. stops-in (Left below entry file g.sound 0 (most_size (chain_disk g.layer old.drivers) does) (Begun below (chain_disk g.layer old.drivers) does)) (IsLeftBy g call (moment old since))
-              (g.image old.drivers.0) (g.image new.drivers.0)
-              (λ f left. left-since below g.sound entry file since does (stands exact tells keeps room).1 (safe_sound old.drivers.0 ready.intact.is_safe).size exact f left)
+          λ step tells keeps. stops-in (Left below entry file g.sound 0 (most_size (chain_disk g.layer old) does) (Begun below (chain_disk g.layer old) does))
+              (LeftSince below entry.fixed g.sound (begun since (chain_disk g.layer old) does))
+              (g.image old.0) (g.image new.0)
+              (λ f left. left-since below g.sound entry file since does (stands exact tells keeps room).1 (safe_sound old.0 ready.intact.is_safe).size exact f left)
               (one.1 step tells keeps),
         )
+
+    -- what stands behind one that wasn't cut off
+    pub stands-behind : (whole : Type 0) (does : DiskCall) (old new : D × List D) (since : Since) → Leads g whole does old new → IsReady g old → whole → StandsSince g since old
+        → StandsSince g (begun since (chain_disk g.layer old) does) new
+    stands-behind whole does old new since leads ready on stands exact_then tells keeps room =
+        let exact : StatesSize g old = rw (sym leads.fixed) exact_then in
+        let a = g.image old.0 in
+        let b = g.image new.0 in
+        let below = map g.layer old.1 in
+        let entry = g.layer old.0 in
+        let left = LeftSince below entry.fixed g.sound (begun since (chain_disk g.layer old) does) in
+        let told_before : IsTrue a.shape.tells = rw (sym leads.later.0) tells in
+        let kept_before : IsTrue a.shape.keeps = rw (sym leads.later.0) keeps in
+        let same : b.refusals ≡ a.refusals = (leads.calm on ready).1 in
+        let calm : Rose a.refusals b.refusals → ⊥ = calm-then a.refusals b.refusals same room in
+        let stood = stands exact told_before kept_before (omega (arith, same, room)) in
+        let step : InStep a = λ _ _. stood.0 in
+        let passes = stops-behind whole does old new since leads ready exact stands calm in
+        let now : InStep b = passes.0 step in
+        let how = here left a b leads.later step now told_before kept_before (passes.1 step told_before kept_before) in (
+          now tells keeps,
+          subst (λ ls. IsSince ls (g.layer new.0) b.bytes (begun since (chain_disk g.layer old) does)) (sym (leads.below on ready))
+              (since-on below g.sound entry a.bytes since does stood.1 (safe_sound old.0 ready.intact.is_safe).size (g.layer new.0) b.bytes leads.fixed (leads.shows on ready) how),
+        )
+
+    -- what a stop in a call of a list shows
+    stops-of : (call : Call) (answer : Answer) (old new : Holding D St) (since : Since) → Makes g call answer old new → IsReady g old.drivers → StatesSize g old.drivers → StandsSince g since old.drivers
+        → Passes (IsLeftBy g call (moment old since)) (g.image old.drivers.0) (g.image new.drivers.0)
+    stops-of call answer old new since makes = stops-behind (GoesOn answer) (disk_call g old call) old.drivers new.drivers since makes.leads
 
     -- what stands behind it
     pub stands-next : (call : Call) (answer : Answer) (old new : Holding D St) (since : Since) → Makes g call answer old new → IsKept g old → IsReady g old.drivers → GoesOn answer → StandsSince g since old.drivers
         → StandsSince g (since_behind g call answer (moment old since) new) new.drivers
-    stands-next call answer old new since makes is_kept ready on stands exact_then tells keeps room =
-        let exact : StatesSize g old.drivers = rw (sym makes.leads.fixed) exact_then in
-        let a = g.image old.drivers.0 in
-        let b = g.image new.drivers.0 in
-        let below = map g.layer old.drivers.1 in
-        let entry = g.layer old.drivers.0 in
-        let does = disk_call g old call in
-        let told_before : IsTrue a.shape.tells = rw (sym makes.leads.later.0) tells in
-        let kept_before : IsTrue a.shape.keeps = rw (sym makes.leads.later.0) keeps in
-        let same : b.refusals ≡ a.refusals = (makes.leads.calm on ready).1 in
-        let calm : Rose a.refusals b.refusals → ⊥ = calm-then a.refusals b.refusals same room in
-        let stood = stands exact told_before kept_before (omega (arith, same, room)) in
-        let step : InStep a = λ _ _. stood.0 in
-        let passes = stops-of call answer old new since makes ready exact stands calm in
-        let now : InStep b = passes.0 step in
-        let how = here (IsLeftBy g call (moment old since)) a b makes.leads.later step now told_before kept_before (passes.1 step told_before kept_before) in
-        let shows : IsSince (map g.layer new.drivers.1) (g.layer new.drivers.0) b.bytes (begun since (chain_disk g.layer old.drivers) does) =
-        subst (λ ls. IsSince ls (g.layer new.drivers.0) b.bytes (begun since (chain_disk g.layer old.drivers) does)) (sym (makes.leads.below on ready))
-        (since-on below g.sound entry a.bytes since does stood.1 (safe_sound old.drivers.0 ready.intact.is_safe).size (g.layer new.drivers.0) b.bytes makes.leads.fixed (makes.leads.shows on ready) how) in (
-          now tells keeps,
+    stands-next call answer old new since makes is_kept ready on stands exact tells keeps room =
+        let next = stands-behind (GoesOn answer) (disk_call g old call) old.drivers new.drivers since makes.leads ready on stands exact tells keeps room in
+        let below = map g.layer new.drivers.1 in
+        let layer = g.layer new.drivers.0 in
+        let bytes = (g.image new.drivers.0).bytes in (
+          next.0,
           elim (behind-or call answer (moment old since) new) [
-            | inl is ↦ subst (IsSince (map g.layer new.drivers.1) (g.layer new.drivers.0) b.bytes) (sym is) shows
-            | inr is ↦ subst (IsSince (map g.layer new.drivers.1) (g.layer new.drivers.0) b.bytes) (sym is.3)
-                (since-flushed (map g.layer new.drivers.1) (g.layer new.drivers.0) b.bytes (made-flush call answer old new makes ready.intact is.0 is.1 (is_kept.free is.2)))
+            | inl is ↦ subst (IsSince below layer bytes) (sym is) next.1
+            | inr is ↦ subst (IsSince below layer bytes) (sym is.3)
+                (since-flushed below layer bytes (made-flush call answer old new makes ready.intact is.0 is.1 (is_kept.free is.2)))
           ],
         )
 

@@ -1,5 +1,5 @@
 -- What a copy of one chain's disk into another's does, by the drivers of both before and after: those of the source, and of the target.
-use Rattle.std.specs.Prelude.{◌≡◌, ◌⊎◌, ⊤, ℕ, ◌*◌, ◌-◌, ◌<◌, ◌≤◌, min, List, None, Result, Ok, OnOk, IfErr, IsTrue, length, map}
+use Rattle.std.specs.Prelude.{◌≡◌, ◌⊎◌, ⊤, ℕ, ◌*◌, ◌-◌, ◌<◌, ◌≤◌, min, List, None, Result, Ok, OnOk, IfErr, IsTrue, length, map, slice_index}
 use Rattle.imago_storage.specs.Disk.{Value, byte, Disk, Shows}
 use Rattle.imago_storage.specs.Steps.{IsIn, IsOut, write}
 use Rattle.imago_storage.specs.declared.fault.Fault.{Fault}
@@ -13,6 +13,9 @@ use Rattle.imago_access.specs.Going.{Looked, MarksSome}
 use Rattle.imago_access.specs.Refusals.{barrier, ReadCause}
 use Rattle.imago_access.specs.RunCalls.{MarksTop}
 use Rattle.imago_access.specs.Running.{RanChain, IsIntactChain, below_ghosts, chain_disk}
+use Rattle.qimg_calls.specs.Held.{IsReady}
+use Rattle.qimg_calls.specs.Runs.{StandsSince}
+use Rattle.qimg_calls.specs.Since.{Since, begun}
 
 -- the drivers of two chains: of a source, and of a target
 abbrev pub Chains : Type 0 → Type 0 → Type 0
@@ -130,3 +133,15 @@ pub record CopyCause {S P T Q : Type 0} (g : Ghosts S P) (h : Ghosts T Q) (old n
 
 abbrev pub CopyRefused : {S P T Q : Type 0} → Ghosts S P → Ghosts T Q → Result Unit Fault → Chains S T → Chains S T → Type 0
 CopyRefused g h result old new = IsSoundPair g h old → IfErr result (CopyCause g h old new)
+
+-- these are the bytes of a disk, at each of its places that has one, and any at the others
+pub record AreBytesOf (disk : Disk) (bytes : List ℕ) : Type 0 where
+  pub long : length bytes ≡ disk.size
+  pub same : (p b : ℕ) → p < disk.size → disk.value p ≡ byte b → slice_index bytes p ≡ b
+
+-- What stands behind a copy that wasn't cut off: the target is as promises on calls rest on, and shows what it may since the last flush,
+-- as if a write of the source's bytes had begun.
+abbrev pub StandsBehind : {S P T Q : Type 0} → Ghosts S P → Ghosts T Q → Result Unit Fault → Chains S T → T × List T → Type 0
+StandsBehind g h result old new = (since : Since) (bytes : List ℕ) → Each g.sees (chain old.0)
+    → AreBytesOf (chain_disk g.layer old.0) bytes → IsReady h old.1 → StandsSince h since old.1 → WasNotCutOff result
+    → IsReady h new × StandsSince h (begun since (chain_disk h.layer old.1) (write 0 bytes)) new

@@ -7,7 +7,7 @@ ghost use Rattle.imago_access.specs.ChainCalls.{TakesNear};
 ghost use Rattle.imago_access.specs.Files.{Pairs, WasNotCutOff};
 ghost use Rattle.imago_access.specs.Going.{Looked};
 ghost use Rattle.imago_access.specs.Running.{RanChain};
-ghost use Rattle.qimg_calls.specs.Flattening.{Copies, CopiesDisk, CopyFails, CopyRefused, GivesRead, IsSoundPair, MayCopy, PieceRefused, PieceStops};
+ghost use Rattle.qimg_calls.specs.Flattening.{Copies, CopiesDisk, CopyFails, CopyRefused, GivesRead, IsSoundPair, MayCopy, PieceRefused, PieceStops, StandsBehind};
 
 use imago_access::{FormatAccess, FormatDriverInstance};
 use imago_storage::Fault;
@@ -79,7 +79,8 @@ fn copy_all<S: FormatDriverInstance, T: FormatDriverInstance>(
 ///
 /// A refusal for another cause than `Memory` and `Storage` leaves the source's disk as it was, and each place of the target as it was or
 /// with the source's byte. Whatever is answered, each file that a stop leaves for the target's top is sound, and shows at each place what
-/// it or the disk did before, or the source's byte.
+/// it or the disk did before, or the source's byte. Calls may be made of the target behind a copy that wasn't cut off: for stops and what
+/// they show it stands as behind a write of the source's bytes.
 pub fn flatten<S: FormatDriverInstance, T: FormatDriverInstance>(
     alloc: Global,
     source: &mut FormatAccess<S>,
@@ -99,6 +100,8 @@ pub fn flatten<S: FormatDriverInstance, T: FormatDriverInstance>(
         → IfErr result (CopyFails S.Seen T.Seen (source.old, target.old) (source.new, target.new)) }
     ensures cause { (T.layer target.old.0).size ≡ (S.layer source.old.0).size
         → CopyRefused S.Seen T.Seen result (source.old, target.old) (source.new, target.new) }
+    ensures since { (T.layer target.old.0).size ≡ (S.layer source.old.0).size
+        → StandsBehind S.Seen T.Seen result (source.old, target.old) target.new }
 {
     if target.size() != source.size() {
         return Err(Fault::BadArgument);

@@ -7,6 +7,7 @@ use Rattle.imago_access.proofs.Looking.{all_looked_same}
 use Rattle.imago_access.proofs.Running.{ran_same}
 use Rattle.qimg_calls.specs.Flattening.{GivesRead}
 use Rattle.qimg_calls.proofs.Copying.{copies_disk, no_room, no_room_cause}
+use Rattle.qimg_calls.proofs.Standing.{copy_stands}
 use Rattle.qimg_calls.proofs.flattening.flatten.Goals as goal
 
 pub returns-then-size-clause-ran : goal.returns-then-size-clause-ran
@@ -32,3 +33,10 @@ returns-in-Err-clause-cause g c same pair = no_room_cause g.S.Seen g.T.Seen (c.a
 
 pub returns-in-Ok-clause-usable : goal.returns-in-Ok-clause-usable
 returns-in-Ok-clause-usable g c = c.copy_all.ensures.usable
+
+pub returns-in-Ok-clause-since : goal.returns-in-Ok-clause-since
+returns-in-Ok-clause-since g c same = let m = g.met.T.FormatDriverInstance in
+    copy_stands g.S.Seen g.T.Seen m.safe_sees m.safe_sound m.safe_runs c.copy_all.result (c.args.source.now, c.args.target.now) c.copy_all.new.target same c.copy_all.ensures.copies.ran
+
+pub returns-in-Err-clause-since : goal.returns-in-Err-clause-since
+returns-in-Err-clause-since g c same since bytes see are ready stands whole = absurd whole
