@@ -28,7 +28,7 @@ use Rattle.imago_access.proofs.Looking.{all_looked_same, all_looked_both, all_lo
 use Rattle.imago_access.proofs.Marking.{marked_behind, top_behind}
 use Rattle.imago_access.proofs.Room.{room_same, takes_both, apart_wider}
 use Rattle.imago_access.proofs.Running.{ran_same, ran_both, ran_gives}
-use Rattle.qimg_calls.specs.Flattening.{Chains, HasByte, IsSoundPair, GivesRead, IsCopied, IsCopiedInPart, CopiesRange, CopiesDisk, CopyFails, Copies, CopyCause, MayCopy, PieceRefused, PieceStops}
+use Rattle.qimg_calls.specs.Flattening.{Chains, HasByte, IsSoundPair, GivesRead, IsRangeCopied, IsRangeCopiedInPart, CopiesRange, CopiesDisk, CopyFails, Copies, CopyCause, MayCopy, PieceRefused, PieceStops}
 
 -- bytes that were read give what the source shows
 pub gives_read : {D St : Type 0} (g : Ghosts D St) (source : D × List D) (offset : ℕ) (bytes : List ℕ) → (Each g.sees (chain source) → Shows (chain_disk g.layer source).value offset bytes) → (p : ℕ) (v : Value) → GivesBytes offset bytes p v → GivesRead g source p v
@@ -53,7 +53,7 @@ there offset bytes source shown p v inside is =
 
 -- a write of what the source shows copies it
 pub written_copied : (source old new : Disk) (offset : ℕ) (bytes : List ℕ) → Shows source.value offset bytes
-    → Unless (length bytes ≡ 0) (Stays old new) (Changes (ToBytes offset bytes) old new offset (length bytes)) → IsCopied source old new offset (length bytes)
+    → Unless (length bytes ≡ 0) (Stays old new) (Changes (ToBytes offset bytes) old new offset (length bytes)) → IsRangeCopied source old new offset (length bytes)
 written_copied source old new offset bytes shown step = elim step [
   | inl none ↦ record {
     size = none.1.size;
@@ -69,7 +69,7 @@ written_copied source old new offset bytes shown step = elim step [
 
 -- .. and one that is refused, and not cut off, copies it in part
 written_part : (source old new : Disk) (under : ℕ → Value) (offset : ℕ) (bytes : List ℕ) → Shows source.value offset bytes → PartlyDone under (write offset bytes) old new
-    → IsCopiedInPart source old new offset (length bytes)
+    → IsRangeCopiedInPart source old new offset (length bytes)
 written_part source old new under offset bytes shown part = record {
   size = part.size;
   range = λ p lt inside. elim (part.value p lt) [ inl same ↦ inl same | inr gave ↦ inr (there offset bytes source shown p (new.value p) inside gave) ];
@@ -77,7 +77,7 @@ written_part source old new under offset bytes shown part = record {
 }
 
 -- two ranges, one behind the other
-pub copied_both : (source a b c : Disk) (offset n m : ℕ) → offset + n ≤ a.size → IsCopied source a b offset n → IsCopied source b c (offset + n) m → IsCopied source a c offset (n + m)
+pub copied_both : (source a b c : Disk) (offset n m : ℕ) → offset + n ≤ a.size → IsRangeCopied source a b offset n → IsRangeCopied source b c (offset + n) m → IsRangeCopied source a c offset (n + m)
 copied_both source a b c offset n m fits first second = record {
   size = second.size ∙ first.size;
   range = λ p inside. elim (cases_lt p (offset + n)) [

@@ -16,12 +16,12 @@ use Rattle.qimg_calls.specs.declared.call.Call.{Call}
 use Rattle.qimg_calls.specs.declared.call.Answer.TheVariants as told
 use Rattle.qimg_calls.specs.Calls.{Fits, GoesOn, IfRefused, WasDone, tells_something}
 use Rattle.qimg_calls.specs.Held.{Holding, disk_call}
-use Rattle.qimg_calls.specs.Making.{told_of}
+use Rattle.qimg_calls.specs.Making.{done_or_refused}
 use Rattle.qimg_calls.specs.Moves.{Moves, Does, Keeps, Names, Refuses, Leaves, TopStays}
 use Rattle.qimg_calls.proofs.Leading.{whole-ok}
 
 -- an answer that goes on is that of a call that was not cut off
-pub not-cut : (result : Result Unit Fault) → GoesOn (told_of result) → WasNotCutOff result
+pub not-cut : (result : Result Unit Fault) → GoesOn (done_or_refused result) → WasNotCutOff result
 not-cut (Ok unit) on = tt
 not-cut (Err fault) on = on
 
@@ -30,35 +30,35 @@ nothing-named (Ok unit) = tt
 nothing-named (Err fault) = tt
 
 pub told-moves : {D St : Type 0} (g : Ghosts D St) (call : Call) (result : Result Unit Fault) (old new : Holding D St)
-    → Keeps g call (told_of result) old new
+    → Keeps g call (done_or_refused result) old new
     → OnOk result (ChainSteps g (disk_call g old call) done old.drivers new.drivers) → OnOk result (Names g call told.Done old.drivers new.drivers)
     → IfErr result (λ fault. Refuses g call fault old new) → IfMild result (Leaves g call old new)
-    → Moves g call (told_of result) old new
+    → Moves g call (done_or_refused result) old new
 told-moves g call (Ok unit) old new keeps steps names refuses leaves = ((done, refl, steps, names), keeps)
 told-moves g call (Err fault) old new keeps steps names refuses leaves = (refuses, λ mild. (leaves mild, keeps))
 
 -- the answer of a call that tells nothing fits it
-pub told-fits : (call : Call) (result : Result Unit Fault) → IsFalse (tells_something call) → Fits call (told_of result)
+pub told-fits : (call : Call) (result : Result Unit Fault) → IsFalse (tells_something call) → Fits call (done_or_refused result)
 told-fits call (Ok unit) nothing = nothing
 told-fits call (Err fault) nothing = tt
 
 -- a refusal that comes at once is the answer
-pub told-refused : (result : Result Unit Fault) (f : Fault) → IsErrOf result f → told_of result ≡ told.Refused f
+pub told-refused : (result : Result Unit Fault) (f : Fault) → IsErrOf result f → done_or_refused result ≡ told.Refused f
 told-refused (Ok unit) f is = absurd (cc is)
 told-refused (Err fault) f is = ap told.Refused (cc is)
 
 -- a call that is done is told as done
-pub told-idle : (result : Result Unit Fault) → IsOk result → WasDone (told_of result)
+pub told-idle : (result : Result Unit Fault) → IsOk result → WasDone (done_or_refused result)
 told-idle (Ok unit) was = tt
 told-idle (Err fault) was = absurd (cc was)
 
 -- what is true of a call that was done
-pub told-done : (P : Type 0) (result : Result Unit Fault) → WasDone (told_of result) → OnOk result P → P
+pub told-done : (P : Type 0) (result : Result Unit Fault) → WasDone (done_or_refused result) → OnOk result P → P
 told-done P (Ok unit) was holds = holds
 told-done P (Err fault) was holds = absurd was
 
 -- what is true of the fault of one that was refused
-pub told-marks : (P : Fault → Type 0) (result : Result Unit Fault) → IfErr result P → IfRefused (told_of result) P
+pub told-marks : (P : Fault → Type 0) (result : Result Unit Fault) → IfErr result P → IfRefused (done_or_refused result) P
 told-marks P (Ok unit) marks = tt
 told-marks P (Err fault) marks = marks
 

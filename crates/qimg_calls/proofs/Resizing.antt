@@ -12,7 +12,7 @@ use Rattle.imago_access.specs.ChainCalls.{IfMild}
 use Rattle.imago_access.specs.Layer.{Layer}
 use Rattle.imago_access.specs.ResizeCalls.{Resizes}
 use Rattle.qimg_calls.specs.Calls.{GoesOn}
-use Rattle.qimg_calls.specs.Making.{told_of}
+use Rattle.qimg_calls.specs.Making.{done_or_refused}
 use Rattle.qimg_calls.specs.Moves.{resize_refusal}
 use Rattle.qimg_calls.specs.Since.{Begun}
 use Rattle.qimg_calls.proofs.Leading.{ValuesBetween}
@@ -41,7 +41,7 @@ resize-refused g first second result old new f resizes = let layer = g.layer old
 pub stays-between : (gives : ℕ → Value → Type 0) (old new : Disk) → Stays old new → ValuesBetween gives old new
 stays-between gives old new stays p inside = let was : p < old.size = omega (arith, inside, stays.size) in inl (was, stays.value p was)
 
-pub grown-between : (under : ℕ → Value) (below : List Layer) (old new : Disk) (size : ℕ) (fill : Growth) (result : Result Unit Fault) → GoesOn (told_of result)
+pub grown-between : (under : ℕ → Value) (below : List Layer) (old new : Disk) (size : ℕ) (fill : Growth) (result : Result Unit Fault) → GoesOn (done_or_refused result)
     → OnOk result (Step under old (grow size fill) done new) → IfMild result (Stays old new) → ValuesBetween (Begun below old (grow size fill)) old new
 grown-between under below old new size fill (Ok unit) on step stays p inside = elim step [
   | inl same ↦ stays-between (Begun below old (grow size fill)) old new same.1 p inside
@@ -52,7 +52,7 @@ grown-between under below old new size fill (Ok unit) on step stays p inside = e
 ]
 grown-between under below old new size fill (Err fault) on step stays p inside = stays-between (Begun below old (grow size fill)) old new (stays on) p inside
 
-pub shrunk-between : (under : ℕ → Value) (below : List Layer) (old new : Disk) (size : ℕ) (result : Result Unit Fault) → GoesOn (told_of result)
+pub shrunk-between : (under : ℕ → Value) (below : List Layer) (old new : Disk) (size : ℕ) (result : Result Unit Fault) → GoesOn (done_or_refused result)
     → OnOk result (Step under old (shrink size) done new) → IfMild result (Stays old new) → ValuesBetween (Begun below old (shrink size)) old new
 shrunk-between under below old new size (Ok unit) on step stays p inside = elim step [
   | inl same ↦ stays-between (Begun below old (shrink size)) old new same.1 p inside

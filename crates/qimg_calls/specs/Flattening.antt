@@ -41,24 +41,24 @@ abbrev pub GivesRead : {D St : Type 0} → Ghosts D St → D × List D → ℕ �
 GivesRead g source p v = HasByte v × (Each g.sees (chain source) → v ≡ (chain_disk g.layer source).value p)
 
 -- The places of a range have a byte in the source, which the target shows now, and every other place of the target shows what it did.
-pub record IsCopied (source old new : Disk) (offset n : ℕ) : Type 0 where
+pub record IsRangeCopied (source old new : Disk) (offset n : ℕ) : Type 0 where
   pub size : new.size ≡ old.size
   pub range : (p : ℕ) → IsIn offset n p → HasByte (source.value p) × (new.value p ≡ source.value p)
   pub others : (p : ℕ) → p < old.size → IsOut offset n p → new.value p ≡ old.value p
 
 -- A range is copied in part: each of its places shows what it did, or the source's byte, and every other place of the target what it did.
-pub record IsCopiedInPart (source old new : Disk) (offset n : ℕ) : Type 0 where
+pub record IsRangeCopiedInPart (source old new : Disk) (offset n : ℕ) : Type 0 where
   pub size : new.size ≡ old.size
   pub range : (p : ℕ) → p < old.size → IsIn offset n p
       → (new.value p ≡ old.value p) ⊎ (HasByte (source.value p) × (new.value p ≡ source.value p))
   pub others : (p : ℕ) → p < old.size → IsOut offset n p → new.value p ≡ old.value p
 
 abbrev pub CopiesRange : {S P T Q : Type 0} → Ghosts S P → Ghosts T Q → ℕ → ℕ → Chains S T → T × List T → Type 0
-CopiesRange g h offset n old new = IsCopied (chain_disk g.layer old.0) (chain_disk h.layer old.1) (chain_disk h.layer new) offset n
+CopiesRange g h offset n old new = IsRangeCopied (chain_disk g.layer old.0) (chain_disk h.layer old.1) (chain_disk h.layer new) offset n
 
 abbrev pub CopiesInPart : {S P T Q : Type 0} → Ghosts S P → Ghosts T Q → ℕ → ℕ → Chains S T → T × List T → Type 0
 CopiesInPart g h offset n old new =
-    IsCopiedInPart (chain_disk g.layer old.0) (chain_disk h.layer old.1) (chain_disk h.layer new) offset n
+    IsRangeCopiedInPart (chain_disk g.layer old.0) (chain_disk h.layer old.1) (chain_disk h.layer new) offset n
 
 -- the target, as large as the source, shows all of its disk then
 abbrev pub CopiesDisk : {S P T Q : Type 0} → Ghosts S P → Ghosts T Q → Chains S T → T × List T → Type 0

@@ -35,9 +35,9 @@ pub record Makes {D St : Type 0} (g : Ghosts D St) (call : Call) (answer : Answe
   pub same : IsFalse (is_of_mapping call) → new.kept ≡ old.kept
 
 -- what a call is answered with that answers nothing else
-abbrev pub told_of : Result Unit Fault → Answer
-told_of (Ok unit) = told.Done
-told_of (Err fault) = told.Refused fault
+abbrev pub done_or_refused : Result Unit Fault → Answer
+done_or_refused (Ok unit) = told.Done
+done_or_refused (Err fault) = told.Refused fault
 
 -- a call that may be made whatever is kept
 abbrev pub MakesBeside : {D St : Type 0} → Ghosts D St → Call → Answer → D × List D → D × List D → Type 0

@@ -93,8 +93,8 @@ abbrev pub Ends : {D St : Type 0} → Ghosts D St → Moment D St → D × List 
 Ends g last new = MatchOption last.now.kept (new ≡ last.now.drivers)
     (λ m. ChainCancels g m.state last.now.drivers new × (g.image new.0 ≡ g.image last.now.drivers.0))
 
--- The file and the disk show what they may since the last flush, and a stop now leaves the file: where the top's file states the size of its
--- disk, and its storage tells its stops, keeps what is written, and has a count of refused changes that isn't at its greatest value.
+-- The file and the disk show what they may since the last flush, and a stop now leaves the file: where the top's file states the size of
+-- its disk, and its storage tells its stops, keeps what is written, and has a count of refused changes that isn't at its greatest value.
 abbrev pub StandsSince : {D St : Type 0} → Ghosts D St → Since → D × List D → Type 0
 StandsSince g since c = StatesSize g c
     → IsTrue (g.image c.0).shape.tells → IsTrue (g.image c.0).shape.keeps → (g.image c.0).refusals + 1 < 2 ^ 64

@@ -17,16 +17,17 @@ use std::alloc::{AllocError, Global};
 /// Makes calls of a chain, one behind the other, and answers what each was answered with. Nothing may be prepared in the chain.
 ///
 /// A mapping that is prepared is kept until it is committed or cancelled; what is kept at the end is cancelled. A call that is out of place
-/// isn't made, and answered with `Fault::BadArgument`: a commit, a cancel or a `WriteMapped` where no mapping is kept, and while one is, with
-/// something to commit or not, any other call that changes the disk.
+/// isn't made, and answered with `Fault::BadArgument`: a commit, a cancel or a `WriteMapped` where no mapping is kept, and while one is,
+/// with something to commit or not, any other call that changes the disk.
 ///
 /// It refuses with `Fault::Memory` alone, where room for an answer is refused: before the call is made, and no later call is.
 ///
 /// Where the chain is ready (its top is as an image that was found sound has to be, lookups in the layers below are true, none has failed)
 /// the calls read and change one flat disk, moment by moment: each is a step of it, or is refused for a cause that is stated, and first for
-/// one that bars it at once. No file below changes. A stop in a call leaves the top's file, where it states the size of its disk, sound, and
-/// showing at each place what it did at the last flush before that or what a call begun since gives. The first answer of `Fault::Memory` or
-/// `Fault::Storage` ends what is promised, but that no file below changes.
+/// one that bars it at once; one that has nothing to do is done. A discard gives up each whole unit of its range that the format can, and a
+/// zeroing zeroes it. No file below changes. A stop in a call leaves the top's file, where it states the size of its disk, sound, and
+/// showing at each place what it did at the last flush before that or what a call begun since gives. The first answer of `Fault::Memory`
+/// or `Fault::Storage` ends what is promised, but that no file below changes, and that a qcow2 image has failed whose storage it was.
 ///
 /// Of any chain, ready or not, each answer fits its call, and is one that the call may have for what lookups tell of the disk.
 pub fn drive<D: FormatDriverInstance>(

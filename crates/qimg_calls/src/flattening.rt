@@ -71,11 +71,12 @@ fn copy_all<S: FormatDriverInstance, T: FormatDriverInstance>(
 /// Where it succeeds, each place of the source's disk has a byte, and the target shows it. The source is only read: its disk stays, and no
 /// file of a layer changes in which nothing waits to be written. Nor does one below the target.
 ///
-/// It refuses with `Fault::BadArgument` where the sizes differ, and there alone, and with `Fault::Memory` where room for a piece is
-/// refused; then nothing is asked of either chain. Else it is refused as a read of a piece from the source is, or as its write to the
-/// target: where a layer can't be used, for a place of the source that has no byte (`Fault::Barred`, `Fault::DamagedTable`), where the end
-/// of the piece, rounded up to a chain's alignment, passes `u64` (`Fault::RangeOverflow`), with `Fault::ReadOnly`, with causes of the
-/// target's driver, and with `Fault::Memory` and `Fault::Storage`. The pieces before that one are copied.
+/// It refuses with `Fault::BadArgument` where the sizes differ, and there alone; then all is as it was. Where room for a piece is refused
+/// it refuses with `Fault::Memory`. Else it is refused as a read of a piece from the source is, or as its write to the target: where a
+/// layer can't be used, for a place of the source that has no byte (`Fault::Barred`, `Fault::DamagedTable`), where the end of the piece,
+/// rounded up to a chain's alignment, passes `u64` (`Fault::RangeOverflow`), with `Fault::ReadOnly`, with causes of the target's driver,
+/// and with `Fault::Memory` and `Fault::Storage`. The pieces before that one are copied, and for another cause than these two none of the
+/// places behind it has changed.
 ///
 /// A refusal for another cause than `Memory` and `Storage` leaves the source's disk as it was, and each place of the target as it was or
 /// with the source's byte. Whatever is answered, each file that a stop leaves for the target's top is sound, and shows at each place what

@@ -2,7 +2,7 @@
 ghost use Rattle.std.specs.Prelude.{◌≡◌, IfOk, IfErr};
 ghost use Rattle.qimg_calls.specs.declared.call.Call.TheVariants as calls;
 ghost use Rattle.qimg_calls.specs.declared.call.Answer.TheVariants as told;
-ghost use Rattle.qimg_calls.specs.Making.{MakesBeside, told_of};
+ghost use Rattle.qimg_calls.specs.Making.{MakesBeside, done_or_refused};
 
 use crate::call::Answer;
 use imago_access::{FormatAccess, FormatDriverInstance};
@@ -11,7 +11,7 @@ use std::alloc::{AllocError, Global};
 
 /// What a call is answered with that answers nothing else.
 pub fn told(outcome: Result<(), Fault>) -> Answer
-    ensures { result ≡ told_of outcome }
+    ensures { result ≡ done_or_refused outcome }
 {
     match outcome {
         Ok(()) => Answer::Done,

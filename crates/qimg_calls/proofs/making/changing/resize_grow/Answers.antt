@@ -8,7 +8,7 @@ use Rattle.imago_access.specs.Going.{MarksOver}
 use Rattle.imago_access.specs.Stops.{GivesPast}
 use Rattle.qimg_calls.specs.Calls.{GoesOn}
 use Rattle.qimg_calls.specs.Held.{holding}
-use Rattle.qimg_calls.specs.Making.{told_of}
+use Rattle.qimg_calls.specs.Making.{done_or_refused}
 use Rattle.qimg_calls.specs.declared.call.Call.TheVariants as calls
 use Rattle.qimg_calls.proofs.Leading.{fewer-stops, step-leads}
 use Rattle.qimg_calls.proofs.Moving.{not-cut, nothing-named, told-fits, told-idle, told-marks, told-moves, told-refused}
@@ -32,7 +32,7 @@ returns g c =
       marks = told-marks (MarksOver d old.0 new.0) r e.marks;
       moves = λ intact. told-moves d (calls.ResizeGrow c.args.size c.args.mode) r (holding old None) (holding new None) refl
           (e.ok intact) (nothing-named r) (e.cause intact) (e.err intact);
-      leads = step-leads d old new (GoesOn (told_of r)) (WasNotCutOff r) call g.met.D.FormatDriverInstance.safe_runs e.went e.below
+      leads = step-leads d old new (GoesOn (done_or_refused r)) (WasNotCutOff r) call g.met.D.FormatDriverInstance.safe_runs e.went e.below
           (λ on ready. not-cut r on) (λ on ready. e.intact (not-cut r on) ready.intact)
           (λ on ready. grown-between (below_of d.layer old) (map d.layer old.1) (chain_disk d.layer old) (chain_disk d.layer new) c.args.size (fill_of c.args.mode) r on (e.ok ready.intact) (e.err ready.intact))
           (λ ready. fewer-stops d (map d.layer old.1) (d.layer old.0).size (max (d.layer old.0).size c.args.size) (max (d.layer old.0).size c.args.size) (GivesPast (d.layer old.0).size) (GivesPast (d.layer old.0).size) old.0 new.0

@@ -8,7 +8,7 @@ use Rattle.imago_access.specs.Stops.{GivesBelowPast}
 use Rattle.imago_access.proofs.Looking.{looked_under_same}
 use Rattle.qimg_calls.specs.Calls.{GoesOn}
 use Rattle.qimg_calls.specs.Held.{holding}
-use Rattle.qimg_calls.specs.Making.{told_of}
+use Rattle.qimg_calls.specs.Making.{done_or_refused}
 use Rattle.qimg_calls.specs.declared.call.Call.TheVariants as calls
 use Rattle.qimg_calls.proofs.Leading.{fewer-stops, step-leads}
 use Rattle.qimg_calls.proofs.Moving.{not-cut, nothing-named, told-fits, told-idle, told-marks, told-moves, told-refused}
@@ -31,7 +31,7 @@ returns g c =
       marks = told-marks (Marks d old.0 new.0) r e.marks;
       moves = λ intact. told-moves d (calls.ResizeShrink c.args.size) r (holding old None) (holding new None) refl
           (e.ok intact) (nothing-named r) (e.cause intact) (e.err intact);
-      leads = step-leads d old new (GoesOn (told_of r)) (WasNotCutOff r) (shrink c.args.size) g.met.D.FormatDriverInstance.safe_runs e.went
+      leads = step-leads d old new (GoesOn (done_or_refused r)) (WasNotCutOff r) (shrink c.args.size) g.met.D.FormatDriverInstance.safe_runs e.went
           (subst (LookedUnder (below_ghosts d) (WasNotCutOff r) old.1) (sym e.below) (looked_under_same (below_ghosts d) (WasNotCutOff r) old.1))
           (λ on ready. not-cut r on) (λ on ready. e.intact (not-cut r on) ready.intact)
           (λ on ready. shrunk-between (below_of d.layer old) (map d.layer old.1) (chain_disk d.layer old) (chain_disk d.layer new) c.args.size r on (e.ok ready.intact) (e.err ready.intact))

@@ -7,7 +7,7 @@ use Rattle.imago_access.specs.Running.{below_ghosts}
 use Rattle.imago_access.specs.Stops.{GivesBytes}
 use Rattle.qimg_calls.specs.Calls.{GoesOn}
 use Rattle.qimg_calls.specs.Held.{holding}
-use Rattle.qimg_calls.specs.Making.{told_of}
+use Rattle.qimg_calls.specs.Making.{done_or_refused}
 use Rattle.qimg_calls.specs.declared.call.Call.TheVariants as calls
 use Rattle.qimg_calls.proofs.Leading.{ran-leads}
 use Rattle.qimg_calls.proofs.Moving.{not-cut, nothing-named, told-fits, told-idle, told-marks, told-moves, told-refused}
@@ -29,7 +29,7 @@ returns g c =
       units = λ intact may was. tt;
       marks = told-marks (MarksTop d (below_ghosts d) old new) r e.marks;
       moves = λ intact. told-moves d call r (holding old None) (holding new None) refl (rw (c.deref.ensures.value) at e.ok intact) (nothing-named r) (rw (c.deref.ensures.value) at e.cause intact) (rw (c.deref.ensures.value) at e.err intact);
-      leads = ran-leads d old new (GoesOn (told_of r)) (WasNotCutOff r) (write c.args.offset c.args.bytes.now.items) g.met.D.FormatDriverInstance.safe_runs (GivesBytes c.args.offset c.args.bytes.now.items) (rw (c.deref.ensures.value) at e.ran)
+      leads = ran-leads d old new (GoesOn (done_or_refused r)) (WasNotCutOff r) (write c.args.offset c.args.bytes.now.items) g.met.D.FormatDriverInstance.safe_runs (GivesBytes c.args.offset c.args.bytes.now.items) (rw (c.deref.ensures.value) at e.ran)
           (λ on ready. not-cut r on) (λ p v gave. gave) (omega arith);
       kept = λ kept. record { mine = tt; free = λ none. rw (e.like.unspent) (kept.free refl) };
       same = λ _. refl;

@@ -7,7 +7,7 @@ use Rattle.imago_access.specs.Running.{below_ghosts}
 use Rattle.imago_access.specs.Stops.{GivesZero}
 use Rattle.qimg_calls.specs.Calls.{GoesOn}
 use Rattle.qimg_calls.specs.Held.{holding}
-use Rattle.qimg_calls.specs.Making.{told_of}
+use Rattle.qimg_calls.specs.Making.{done_or_refused}
 use Rattle.qimg_calls.specs.RoomTaken.{SettlesUnits}
 use Rattle.qimg_calls.specs.declared.call.Call.TheVariants as calls
 use Rattle.qimg_calls.proofs.Leading.{ran-leads}
@@ -30,7 +30,7 @@ returns g c =
       marks = told-marks (MarksTop d (below_ghosts d) old new) r e.marks;
       moves = λ intact. told-moves d (calls.WriteZeroes c.args.offset c.args.length) r (holding old None) (holding new None) refl
           (e.ok intact) (nothing-named r) (e.cause intact) (e.err intact);
-      leads = ran-leads d old new (GoesOn (told_of r)) (WasNotCutOff r) (write_zeroes c.args.offset c.args.length) g.met.D.FormatDriverInstance.safe_runs
+      leads = ran-leads d old new (GoesOn (done_or_refused r)) (WasNotCutOff r) (write_zeroes c.args.offset c.args.length) g.met.D.FormatDriverInstance.safe_runs
           (GivesZero c.args.offset c.args.length) e.ran (λ on ready. not-cut r on) (λ p v gave. gave) (omega arith);
       kept = λ kept. record { mine = tt; free = λ none. rw (e.like.unspent) (kept.free refl) };
       same = λ _. refl;

@@ -6,7 +6,7 @@ use Rattle.imago_access.specs.Going.{Marks}
 use Rattle.imago_access.specs.Stops.{GivesNone}
 use Rattle.qimg_calls.specs.Calls.{GoesOn}
 use Rattle.qimg_calls.specs.Held.{holding}
-use Rattle.qimg_calls.specs.Making.{told_of}
+use Rattle.qimg_calls.specs.Making.{done_or_refused}
 use Rattle.qimg_calls.specs.declared.call.Call.TheVariants as calls
 use Rattle.qimg_calls.proofs.Leading.{ran-leads, whole-ok, like-kept}
 use Rattle.qimg_calls.proofs.Moving.{not-cut, told-fits, told-marks, told-moves, told-refused, refused-stays, flush-names}
@@ -29,7 +29,7 @@ returns g c kept is =
       marks = told-marks (Marks d old.0 new.0) r e.marks;
       moves = λ intact. told-moves d calls.Flush r (holding old kept) (holding new kept) refl (e.ok intact) (flush-names d old new r (e.written intact)) (e.cause intact.is_safe)
           (refused-stays d old new (files d old.0) (files d new.0) r (e.cause intact.is_safe));
-      leads = ran-leads d old new (GoesOn (told_of r)) (IsOk r) flush m.safe_runs GivesNone e.ran
+      leads = ran-leads d old new (GoesOn (done_or_refused r)) (IsOk r) flush m.safe_runs GivesNone e.ran
           (λ on ready. whole-ok (d.layer old.0) (files d old.0) (files d new.0) r (not-cut r on) ready.usable.0 (e.cause ready.intact.is_safe)) (λ p v none. absurd none) (omega arith);
       kept = like-kept d old new kept e.like;
       same = λ _. refl;

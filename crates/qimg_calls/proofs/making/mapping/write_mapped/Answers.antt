@@ -6,7 +6,7 @@ use Rattle.imago_access.specs.Going.{Marks}
 use Rattle.imago_access.specs.Stops.{GivesBytes}
 use Rattle.qimg_calls.specs.Calls.{GoesOn}
 use Rattle.qimg_calls.specs.Held.{holding}
-use Rattle.qimg_calls.specs.Making.{told_of}
+use Rattle.qimg_calls.specs.Making.{done_or_refused}
 use Rattle.qimg_calls.specs.declared.call.Call.TheVariants as calls
 use Rattle.qimg_calls.proofs.Leading.{ran-leads, like-kept}
 use Rattle.qimg_calls.proofs.Moving.{both-named, not-cut, same-stays, told-fits, told-idle, told-marks, told-moves, told-refused}
@@ -32,7 +32,7 @@ returns g c kept is =
           (rw (c.deref.ensures.value) at e.ok intact)
           (both-named (IsMappedFor (d.layer old.0) c.args.guest c.args.place (length c.args.bytes.now.items)) ((d.layer new.0).home ≡ (d.layer old.0).home) r (rw (c.deref.ensures.value) at e.mapped (m.safe_sees old.0 intact.is_safe)) (e.home intact))
           (rw (c.deref.ensures.value) at e.cause intact) (same-stays d old new r e.below (e.err intact));
-      leads = ran-leads d old new (GoesOn (told_of r)) (WasNotCutOff r) (write_mapped c.args.guest c.args.bytes.now.items) m.safe_runs (GivesBytes c.args.guest c.args.bytes.now.items) (rw (c.deref.ensures.value) at e.ran)
+      leads = ran-leads d old new (GoesOn (done_or_refused r)) (WasNotCutOff r) (write_mapped c.args.guest c.args.bytes.now.items) m.safe_runs (GivesBytes c.args.guest c.args.bytes.now.items) (rw (c.deref.ensures.value) at e.ran)
           (λ on ready. not-cut r on) (λ p v gave. gave) (omega arith);
       kept = like-kept d old new kept e.like;
       same = λ _. refl;
