@@ -24,8 +24,9 @@ pub enum ScriptFault {
 /// if one was. The chain is dropped at the end.
 ///
 /// Where the top file is sound (a qcow2 image that `qimg_core::check` accepts, or one of another format) and its storages keep what is
-/// written, the calls of all lines read and change one flat disk, at opening the one that the files' bytes mean; no file below changes; and
-/// a stop in a call leaves the top file sound, showing at each place what it did at the last flush before or what a call begun since gives.
+/// written, the calls of all lines read and change one flat disk, at opening the one that the files' bytes mean; and no file below changes.
+/// Of stops in a call that changes a file nothing is said yet: storages in memory tell none, raw files don't state the size of their disk,
+/// and qcow2 and VMDK images are only read.
 ///
 /// `ScriptFault::Opening` as `open_chain` refuses, and `ScriptFault::Running` as `run` does.
 pub fn run_files<R: BufRead + Drop, W: Write>(
