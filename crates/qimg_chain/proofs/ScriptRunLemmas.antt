@@ -29,12 +29,26 @@ abbrev pub ReadSoFar : Option (List ℕ) → Option (List ℕ) → List (List �
 ReadSoFar None left texts = ⊤
 ReadSoFar (Some bytes) left texts = (rest : List ℕ) × (left ≡ Some rest) × (lines (take 137438953473 bytes) ≡ texts ++ lines rest)
 
+-- what a script's reader had and has left, and what its writer held and holds, where these are known
+pub record Streams : Type 0 where
+  pub input : Option (List ℕ)
+  pub left : Option (List ℕ)
+  pub before : Option (List ℕ)
+  pub after : Option (List ℕ)
+
+-- what a script's run over these drivers rests on
+pub record MayBegin {D St : Type 0} (g : Ghosts D St) (old : D × List D) : Type 0 where
+  pub safe_sees : (d : D) → g.safe d → g.sees d
+  pub safe_sound : (d : D) → g.safe d → IsCovered (g.layer d) g.sound (g.image d).bytes
+  pub free : IsFree (g.layer old.0)
+
 -- how far a script was run
-pub record RanSoFar {D St : Type 0} (g : Ghosts D St) (names : D → ℕ → List ℕ) (input left before after : Option (List ℕ)) (old : D × List D) (now : Standing D) : Type 0 where
+pub record RanSoFar {D St : Type 0} (g : Ghosts D St) (names : D → ℕ → List ℕ) (io : Streams) (old : D × List D) (now : Standing D) : Type 0 where
+  pub rests : MayBegin g old
   pub replies : List Reply
   pub runs : RunsAll g names replies (standing old None) now
-  pub written : Appends before after (text_of replies)
-  pub read : ReadSoFar input left (map text replies)
+  pub written : Appends io.before io.after (text_of replies)
+  pub read : ReadSoFar io.input io.left (map text replies)
 
 -- none is read yet
 pub read-none : (input left : Option (List ℕ)) → left ≡ option_map (take 137438953473) input → ReadSoFar input left []
@@ -89,18 +103,20 @@ module _ {D St : Type 0} (g : Ghosts D St) (names : D → ℕ → List ℕ) wher
   runs-then [] r old mid new same one = (new, subst (λ s. Replies g names r s new) same one, refl)
   runs-then (a ∷ replies) r old mid new all one = (all.0, all.1, runs-then replies r all.0 mid new all.2 one)
 
-  pub ran-none : (input left before : Option (List ℕ)) (old : D × List D) → ReadSoFar input left [] → RanSoFar g names input left before before old (standing old None)
-  ran-none input left before old read = record { replies = []; runs = refl; written = append-none before; read = read }
+  pub ran-none : (input left before : Option (List ℕ)) (old : D × List D) → MayBegin g old → ReadSoFar input left []
+      → RanSoFar g names (record { input = input; left = left; before = before; after = before }) old (standing old None)
+  ran-none input left before old rests read = record { rests = rests; replies = []; runs = refl; written = append-none before; read = read }
 
   -- one more line is run
-  pub ran-then : (input left next before after last : Option (List ℕ)) (old : D × List D) (now new : Standing D) (r : Reply) (line rest : List ℕ) → RanSoFar g names input left before after old now
-      → IfSome left (λ bytes. line ≡ take_through 10 bytes) → DropsThrough left next 10 → lines line ≡ r.text ∷ lines rest → Replies g names r now new → Appends after last (answer_text r.answer ++ 10 ∷ [])
-      → RanSoFar g names input next before last old new
-  ran-then input left next before after last old now new r line rest ran is drops first one tells = record {
+  pub ran-then : (io : Streams) (next last : Option (List ℕ)) (old : D × List D) (now new : Standing D) (r : Reply) (line rest : List ℕ) → RanSoFar g names io old now
+      → IfSome io.left (λ bytes. line ≡ take_through 10 bytes) → DropsThrough io.left next 10 → lines line ≡ r.text ∷ lines rest → Replies g names r now new → Appends io.after last (answer_text r.answer ++ 10 ∷ [])
+      → RanSoFar g names (record io { left = next; after = last }) old new
+  ran-then io next last old now new r line rest ran is drops first one tells = record {
+    rests = ran.rests;
     replies = ran.replies ++ r ∷ [];
     runs = runs-then ran.replies r (standing old None) now new ran.runs one;
-    written = subst (Appends before last) (sym (text-then ran.replies r)) (append-both before after last (text_of ran.replies) (answer_text r.answer ++ 10 ∷ []) ran.written tells);
-    read = subst (ReadSoFar input next) (sym (map-then ran.replies r)) (read-then input left next (map text ran.replies) line r.text rest ran.read is drops first);
+    written = subst (Appends io.before last) (sym (text-then ran.replies r)) (append-both io.before io.after last (text_of ran.replies) (answer_text r.answer ++ 10 ∷ []) ran.written tells);
+    read = subst (ReadSoFar io.input next) (sym (map-then ran.replies r)) (read-then io.input io.left next (map text ran.replies) line r.text rest ran.read is drops first);
   }
 
   alone-all : (replies : List Reply) (old new : Standing D) → RunsAll g names replies old new → AnswersAlone g (calls_of replies) (answers_of replies) old.drivers new.drivers
@@ -109,40 +125,37 @@ module _ {D St : Type 0} (g : Ghosts D St) (names : D → ℕ → List ℕ) wher
       alone-both g r.turn.list (calls_of replies) r.turn.answers (answers_of replies) old.drivers all.0.drivers new.drivers all.1.made (alone-all replies all.0 new all.2)
 
   -- what the calls of all lines do
-  pub driven-all : (safe_sees : (d : D) → g.safe d → g.sees d) (safe_sound : (d : D) → g.safe d → IsCovered (g.layer d) g.sound (g.image d).bytes)
-      (replies : List Reply) (old new : D × List D) (saved : Option (Vec ℕ Global)) (since : Since) → RunsAll g names replies (standing old None) (standing new saved) → IsFree (g.layer old.0) → IsReady g old → StandsSince g since old
-      → Driven g since (calls_of replies) (answers_of replies) old new
-  driven-all safe_sees safe_sound replies old new saved since runs none ready stands =
-      driven-alone g safe_sees safe_sound (calls_of replies) (answers_of replies) old new since (alone-all replies (standing old None) (standing new saved) runs) none ready stands
+  driven-all : (replies : List Reply) (old new : D × List D) (saved : Option (Vec ℕ Global)) (since : Since) → MayBegin g old
+      → RunsAll g names replies (standing old None) (standing new saved) → IsReady g old → StandsSince g since old → Driven g since (calls_of replies) (answers_of replies) old new
+  driven-all replies old new saved since rests runs ready stands =
+      driven-alone g rests.safe_sees rests.safe_sound (calls_of replies) (answers_of replies) old new since (alone-all replies (standing old None) (standing new saved) runs) rests.free ready stands
 
-  -- what a script does that was run so far, and ends so
-  pub scripted : (safe_sees : (d : D) → g.safe d → g.sees d) (safe_sound : (d : D) → g.safe d → IsCovered (g.layer d) g.sound (g.image d).bytes)
-      (input left before after : Option (List ℕ)) (result : Result (Option (Vec ℕ Global)) RunFault) (old new : D × List D) (saved : Option (Vec ℕ Global)) → RanSoFar g names input left before after old (standing new saved)
-      → IsFree (g.layer old.0) → ((texts : List (List ℕ)) → ReadSoFar input left texts → OnOk result (IfSome input (λ bytes. texts ≡ lines (take 137438953473 bytes)))) → OnOk result (result ≡ Ok saved)
-      → Scripted g names input before after result old new
-  scripted safe_sees safe_sound input left before after result old new saved ran none all kept = record {
-    replies = ran.replies;
-    saved = saved;
-    runs = ran.runs;
-    driven = λ since ready stands. driven-all safe_sees safe_sound ran.replies old new saved since ran.runs none ready stands;
-    lines = all (map text ran.replies) ran.read;
-    written = λ _. ran.written;
-    kept = kept;
-  }
+-- what a script does that was run so far, and ends so
+pub scripted : {D St : Type 0} {g : Ghosts D St} {names : D → ℕ → List ℕ} {io : Streams} {old new : D × List D} {saved : Option (Vec ℕ Global)} {result : Result (Option (Vec ℕ Global)) RunFault}
+    → RanSoFar g names io old (standing new saved) → ((texts : List (List ℕ)) → ReadSoFar io.input io.left texts → OnOk result (IfSome io.input (λ bytes. texts ≡ lines (take 137438953473 bytes))))
+    → OnOk result (result ≡ Ok saved) → Scripted g names io.input io.before io.after result old new
+scripted {g = g} {names = names} {old = old} {new = new} {saved = saved} ran all kept = record {
+  replies = ran.replies;
+  saved = saved;
+  runs = ran.runs;
+  driven = λ since ready stands. driven-all g names ran.replies old new saved since ran.rests ran.runs ready stands;
+  lines = all (map text ran.replies) ran.read;
+  written = λ _. ran.written;
+  kept = kept;
+}
 
-  -- the same, where the last answer isn't written
-  pub scripted-cut : (safe_sees : (d : D) → g.safe d → g.sees d) (safe_sound : (d : D) → g.safe d → IsCovered (g.layer d) g.sound (g.image d).bytes)
-      (input left before after last : Option (List ℕ)) (result : Result (Option (Vec ℕ Global)) RunFault) (old new : D × List D) (now : Standing D) (saved : Option (Vec ℕ Global)) (r : Reply) (fault : RunFault)
-      → RanSoFar g names input left before after old now → Replies g names r now (standing new saved) → IsFree (g.layer old.0) → IsTellingFault fault → result ≡ Err fault
-      → Scripted g names input before last result old new
-  scripted-cut safe_sees safe_sound input left before after last result old new now saved r fault ran one none telling is =
-      let runs = runs-then ran.replies r (standing old None) now (standing new saved) ran.runs one in
-      record {
-        replies = ran.replies ++ r ∷ [];
-        saved = saved;
-        runs = runs;
-        driven = λ since ready stands. driven-all safe_sees safe_sound (ran.replies ++ r ∷ []) old new saved since runs none ready stands;
-        lines = rw (is) tt;
-        written = λ all. absurd (not-written fault telling (rw (is) at all));
-        kept = rw (is) tt;
-      }
+-- the same, where the last answer isn't written
+pub scripted-cut : {D St : Type 0} {g : Ghosts D St} {names : D → ℕ → List ℕ} {io : Streams} {old new : D × List D} {now : Standing D} {saved : Option (Vec ℕ Global)} {result : Result (Option (Vec ℕ Global)) RunFault}
+    → (last : Option (List ℕ)) (r : Reply) (fault : RunFault) → RanSoFar g names io old now → Replies g names r now (standing new saved) → IsTellingFault fault → result ≡ Err fault
+    → Scripted g names io.input io.before last result old new
+scripted-cut {g = g} {names = names} {old = old} {new = new} {now = now} {saved = saved} last r fault ran one telling is =
+    let runs = runs-then g names ran.replies r (standing old None) now (standing new saved) ran.runs one in
+    record {
+      replies = ran.replies ++ r ∷ [];
+      saved = saved;
+      runs = runs;
+      driven = λ since ready stands. driven-all g names (ran.replies ++ r ∷ []) old new saved since ran.rests runs ready stands;
+      lines = rw (is) tt;
+      written = λ all. absurd (not-written fault telling (rw (is) at all));
+      kept = rw (is) tt;
+    }

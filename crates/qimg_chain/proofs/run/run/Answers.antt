@@ -12,55 +12,50 @@ handed-on (Ok x) fault is = absurd is
 handed-on (Err e) fault is = ap Err is
 
 pub loop-init : goal.loop-init
-loop-init g c = (
-  c.requires.free,
-  ran-none g.D.Seen g.D.NamesFiles.names (g.R.Read.remaining c.args.reader) (take_remaining g.R.Read.remaining c.take-input.result) (g.W.Write.contents c.args.writer.now) c.args.chain.now
-      (read-none (g.R.Read.remaining c.args.reader) (take_remaining g.R.Read.remaining c.take-input.result) (rw (c.take-input.ensures.limit, c.take-input.ensures.inner) refl)),
-)
+loop-init g c =
+    let m = g.met.D.FormatDriverInstance in
+    let had = g.R.Read.remaining c.args.reader in
+    let left = take_remaining g.R.Read.remaining c.take-input.result in
+    (
+      c.requires.free,
+      ran-none g.D.Seen g.D.NamesFiles.names had left (g.W.Write.contents c.args.writer.now) c.args.chain.now
+          (record { safe_sees = m.safe_sees; safe_sound = m.safe_sound; free = c.requires.free })
+          (read-none had left (rw (c.take-input.ensures.limit, c.take-input.ensures.inner) refl)),
+    )
 
 pub loop-preserved : goal.loop-preserved
 loop-preserved g c = (
   c.answer_to-answer.ensures.free,
-  ran-then g.D.Seen g.D.NamesFiles.names (g.R.Read.remaining c.args.reader) (take_remaining g.R.Read.remaining c.loop.input) (take_remaining g.R.Read.remaining c.next_line.new.input)
-      (g.W.Write.contents c.args.writer.now) (g.W.Write.contents c.loop.writer) (g.W.Write.contents c.tell.new.writer) c.args.chain.now (standing c.loop.chain c.loop.saved) (standing c.answer_to-answer.new.chain c.answer_to-answer.new.saved)
+  ran-then g.D.Seen g.D.NamesFiles.names _ (take_remaining g.R.Read.remaining c.next_line.new.input) (g.W.Write.contents c.tell.new.writer) c.args.chain.now
+      (standing c.loop.chain c.loop.saved) (standing c.answer_to-answer.new.chain c.answer_to-answer.new.saved)
       (reply c.in-Some.text.now c.answer_to-answer.ensures.replied.0 c.answer_to-answer.result) c.next_line.new.line.items c.in-Some.field-0-1.now c.loop.invariant.1 c.in_ok-next_line.ensures.line c.in_ok-next_line.ensures.rest
       (rw (c.deref.ensures.value) at c.in-Some.ensures.lines) c.answer_to-answer.ensures.replied.1 c.in_ok-tell.ensures.ok,
 )
 
 pub returns-in_err-next_line-clause-scripted : goal.returns-in_err-next_line-clause-scripted
 returns-in_err-next_line-clause-scripted g c =
-    let m = g.met.D.FormatDriverInstance in
     let failed = handed-on c.from_residual.result _ c.from_residual.ensures.1 in
-    scripted g.D.Seen g.D.NamesFiles.names m.safe_sees m.safe_sound (g.R.Read.remaining c.args.reader) (take_remaining g.R.Read.remaining c.loop.input) (g.W.Write.contents c.args.writer.now) (g.W.Write.contents c.loop.writer) _ c.args.chain.now c.loop.chain c.loop.saved
-    c.loop.invariant.1 c.requires.free (λ texts read. rw (failed) tt) (rw (failed) tt)
+    scripted c.loop.invariant.1 (λ texts read. rw (failed) tt) (rw (failed) tt)
 
 pub returns-in_err-next_line-2-clause-scripted : goal.returns-in_err-next_line-2-clause-scripted
 returns-in_err-next_line-2-clause-scripted g c =
-    let m = g.met.D.FormatDriverInstance in
     let failed = handed-on c.from_residual-in_err-next_line-2.result _ c.from_residual-in_err-next_line-2.ensures.1 in
-    scripted g.D.Seen g.D.NamesFiles.names m.safe_sees m.safe_sound (g.R.Read.remaining c.args.reader) (take_remaining g.R.Read.remaining c.loop.input) (g.W.Write.contents c.args.writer.now) (g.W.Write.contents c.loop.writer) _ c.args.chain.now c.loop.chain c.loop.saved
-    c.loop.invariant.1 c.requires.free (λ texts read. rw (failed) tt) (rw (failed) tt)
+    scripted c.loop.invariant.1 (λ texts read. rw (failed) tt) (rw (failed) tt)
 
 pub returns-in_default-clause-scripted : goal.returns-in_default-clause-scripted
-returns-in_default-clause-scripted g c = let m = g.met.D.FormatDriverInstance in
-    scripted g.D.Seen g.D.NamesFiles.names m.safe_sees m.safe_sound (g.R.Read.remaining c.args.reader) (take_remaining g.R.Read.remaining c.loop.input) (g.W.Write.contents c.args.writer.now) (g.W.Write.contents c.loop.writer) _ c.args.chain.now c.loop.chain c.loop.saved
-    c.loop.invariant.1 c.requires.free (λ texts read. read-end (g.R.Read.remaining c.args.reader) (take_remaining g.R.Read.remaining c.loop.input) texts c.next_line.new.line.items read c.in_ok-next_line.ensures.line
+returns-in_default-clause-scripted g c = scripted c.loop.invariant.1
+    (λ texts read. read-end (g.R.Read.remaining c.args.reader) (take_remaining g.R.Read.remaining c.loop.input) texts c.next_line.new.line.items read c.in_ok-next_line.ensures.line
     (rw (c.deref.ensures.value) at c.in_default.ensures.lines)) refl
 
 pub returns-in_err-tell-clause-scripted : goal.returns-in_err-tell-clause-scripted
-returns-in_err-tell-clause-scripted g c = let m = g.met.D.FormatDriverInstance in
-    scripted-cut g.D.Seen g.D.NamesFiles.names m.safe_sees m.safe_sound (g.R.Read.remaining c.args.reader) (take_remaining g.R.Read.remaining c.loop.input) (g.W.Write.contents c.args.writer.now) (g.W.Write.contents c.loop.writer) (g.W.Write.contents c.tell.new.writer)
-    c.from_residual-in_err-tell.result c.args.chain.now c.answer_to-answer.new.chain (standing c.loop.chain c.loop.saved) c.answer_to-answer.new.saved
-    (reply c.in-Some.text.now c.answer_to-answer.ensures.replied.0 c.answer_to-answer.result) c.in_err-tell.field-0.0 c.loop.invariant.1 c.answer_to-answer.ensures.replied.1 c.requires.free c.in_err-tell.ensures.err
+returns-in_err-tell-clause-scripted g c = scripted-cut (g.W.Write.contents c.tell.new.writer)
+    (reply c.in-Some.text.now c.answer_to-answer.ensures.replied.0 c.answer_to-answer.result) c.in_err-tell.field-0.0 c.loop.invariant.1 c.answer_to-answer.ensures.replied.1 c.in_err-tell.ensures.err
     (handed-on c.from_residual-in_err-tell.result _ c.from_residual-in_err-tell.ensures.1)
 
 pub returns-in-Some-split_line-clause-scripted : goal.returns-in-Some-split_line-clause-scripted
-returns-in-Some-split_line-clause-scripted g c = let m = g.met.D.FormatDriverInstance in
-    scripted g.D.Seen g.D.NamesFiles.names m.safe_sees m.safe_sound (g.R.Read.remaining c.args.reader) (take_remaining g.R.Read.remaining c.loop.input) (g.W.Write.contents c.args.writer.now) (g.W.Write.contents c.loop.writer) _ c.args.chain.now c.loop.chain c.loop.saved
-    c.loop.invariant.1 c.requires.free (λ texts read. tt) tt
+returns-in-Some-split_line-clause-scripted g c = scripted c.loop.invariant.1 (λ texts read. tt) tt
 
 pub returns-clause-scripted : goal.returns-clause-scripted
-returns-clause-scripted g c = let m = g.met.D.FormatDriverInstance in
-    scripted g.D.Seen g.D.NamesFiles.names m.safe_sees m.safe_sound (g.R.Read.remaining c.args.reader) (take_remaining g.R.Read.remaining c.loop.input) (g.W.Write.contents c.args.writer.now) (g.W.Write.contents c.loop.writer) _ c.args.chain.now c.loop.chain c.loop.saved
-    c.loop.invariant.1 c.requires.free (λ texts read. read-end (g.R.Read.remaining c.args.reader) (take_remaining g.R.Read.remaining c.loop.input) texts c.next_line-2.new.line.items read c.in_ok-next_line-2.ensures.line
+returns-clause-scripted g c = scripted c.loop.invariant.1
+    (λ texts read. read-end (g.R.Read.remaining c.args.reader) (take_remaining g.R.Read.remaining c.loop.input) texts c.next_line-2.new.line.items read c.in_ok-next_line-2.ensures.line
     (rw (c.deref-2.ensures.value) at c.in-None.ensures.lines)) refl

@@ -7,4 +7,9 @@ use Rattle.qimg_chain.proofs.run.run.Given as goal
 -- Nothing is prepared between two lines; each line so far is read, made and answered.
 abbrev pub invariant-loop : goal.invariant-loop
 invariant-loop g l = IsFree (g.D.Seen.layer l.chain.0)
-    × RanSoFar g.D.Seen g.D.NamesFiles.names (g.R.Read.remaining l.fn.reader) (take_remaining g.R.Read.remaining l.input) (g.W.Write.contents l.fn.writer) (g.W.Write.contents l.writer) l.fn.chain (standing l.chain l.saved)
+    × RanSoFar g.D.Seen g.D.NamesFiles.names (record {
+      input = g.R.Read.remaining l.fn.reader;
+      left = take_remaining g.R.Read.remaining l.input;
+      before = g.W.Write.contents l.fn.writer;
+      after = g.W.Write.contents l.writer;
+    }) l.fn.chain (standing l.chain l.saved)
