@@ -13,6 +13,7 @@ mod PlainlyRead
 mod Refusing
 mod RunAnswerLemmas
 mod RunCallLemmas
+mod ScriptBytes
 mod ScriptLines
 mod ScriptNumbers
 mod ScriptParting

@@ -1,10 +1,11 @@
 -- The lines of a text, cut behind its first line feed.
-use Rattle.std.proofs.Common.{◌≡◌, ◌⊎◌, inl, inr, ℕ, ◌<◌, ◌∙◌, Bool, true, false, List, [], ◌∷◌, length, refl, ap, subst, sym, arith}
+use Rattle.std.proofs.Common.{◌≡◌, ◌⊎◌, inl, inr, ℕ, zero, suc, ◌-◌, ◌<◌, ◌∙◌, Bool, true, false, List, [], ◌∷◌, ◌++◌, length, take, refl, ap, sym, arith}
 use Rattle.std.specs.Prelude.{◌==◌}
 use Rattle.std.specs.List.{slice_split, onto_first}
 use Rattle.std.specs.Io.BufRead.{take_through, drop_through}
 use Rattle.std.specs.Str.Lines.{lines, lines_of_parts, strip_carriage_return}
 use Rattle.std.proofs.lemmas.List.Splits.{length-slice_split}
+use borrow.Author.Tests.{eqb-true}
 use Rattle.qimg_chain.proofs.ScriptParting.{lines_go_on}
 
 abbrev parts : List ℕ → List (List ℕ)
@@ -41,9 +42,48 @@ lines-step text line rest is = elim (cut text) [
       ∙ ap (λ x. x ∷ lines (drop_through 10 text)) first
 ]
 
--- a text whose first line is none has none
-pub lines-end : (text : List ℕ) → lines (take_through 10 text) ≡ [] → lines text ≡ []
-lines-end text is = elim (cut text) [
-  | inl whole ↦ rw (whole.0) at is
+-- a line with its end and what follows it are the text
+pub through-joined : (text : List ℕ) → take_through 10 text ++ drop_through 10 text ≡ text
+through-joined [] = refl
+through-joined (b ∷ text) = at (b == 10) refl (through-joined text)
+  where
+    at : (t : Bool) → (b == 10) ≡ t → take_through 10 text ++ drop_through 10 text ≡ text
+        → take_through 10 (b ∷ text) ++ drop_through 10 (b ∷ text) ≡ b ∷ text
+    at true is more = rw (is) refl
+    at false is more = rw (is) (ap (λ xs. b ∷ xs) more)
+
+-- A line that ends before the first n bytes of a text do is the text's, and what is left of these bytes follows it.
+abbrev pub CutAlike : ℕ → List ℕ → Type 0
+CutAlike n text = (take_through 10 (take n text) ≡ take_through 10 text)
+    × (drop_through 10 (take n text) ≡ take (n - length (take_through 10 text)) (drop_through 10 text))
+
+take-nil : (n : ℕ) → take {A = ℕ} n [] ≡ []
+take-nil zero = refl
+take-nil (suc n) = refl
+
+pub line-within : (n : ℕ) (text : List ℕ) → length (take_through 10 (take n text)) < n → CutAlike n text
+line-within zero text fewer = absurd (omega arith)
+line-within (suc n) [] fewer = (refl, sym (take-nil (suc n - 0)))
+line-within (suc n) (b ∷ text) fewer = at (b == 10) refl (line-within n text) fewer
+  where
+    at : (t : Bool) → (b == 10) ≡ t → (length (take_through 10 (take n text)) < n → CutAlike n text)
+        → length (take_through 10 (take (suc n) (b ∷ text))) < suc n → CutAlike (suc n) (b ∷ text)
+    at true is more less = rw (is) (refl, ap (λ k. take k text) (omega arith))
+    at false is more less =
+        let rest = more (let k = rw (is) at less in omega arith) in
+        rw (is) (ap (λ xs. b ∷ xs) rest.0, rest.1 ∙ ap (λ k. take k (drop_through 10 text)) (omega arith))
+
+-- a text whose first line is none is empty
+pub through-none : (text : List ℕ) → lines (take_through 10 text) ≡ [] → text ≡ []
+through-none text is = elim (cut text) [
+  | inl whole ↦ at text (sym (ap lines_of_parts whole.2) ∙ (rw (whole.0) at is))
   | inr part ↦ absurd (cc (sym (ap lines_of_parts part.2) ∙ is))
 ]
+  where
+    at : (whole : List ℕ) → lines_of_parts (whole ∷ []) ≡ [] → whole ≡ []
+    at [] e = refl
+    at (b ∷ whole) e = some (length (b ∷ whole) == 0) refl
+      where
+        some : (t : Bool) → (length (b ∷ whole) == 0) ≡ t → b ∷ whole ≡ []
+        some true is = absurd (omega (arith, eqb-true (length (b ∷ whole)) 0 is))
+        some false is = cc (rw (is) at e)

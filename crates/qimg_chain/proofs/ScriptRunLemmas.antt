@@ -1,10 +1,10 @@
 -- Scripts that are run line by line.
-use Rattle.std.proofs.Common.{◌≡◌, inl, inr, ℕ, ◌∙◌, List, [], ◌∷◌, ◌++◌, length, refl, ap, subst, sym}
+use Rattle.std.proofs.Common.{◌≡◌, ℕ, ◌+◌, ◌∙◌, List, [], ◌∷◌, ◌++◌, length, refl, ap, subst, sym, arith, length-append}
 use Rattle.std.proofs.lemmas.List.{append-nil}
 use mathlib.Core.List.{append_assoc}
-use Rattle.std.specs.Prelude.{⊤, map, take, Option, Some, None, option_map, IfSome, OnOk, Result, Ok, Err, Vec}
+use Rattle.std.specs.Prelude.{map, Option, Some, None, IfSome, OnOk, Result, Ok, Err, Vec}
 use Rattle.std.specs.Global.{Global}
-use Rattle.std.specs.Io.BufRead.{take_through, drop_through, DropsThrough}
+use Rattle.std.specs.Io.BufRead.{take_through, DropsThrough}
 use Rattle.std.specs.Io.KnownBytes.{Appends}
 use Rattle.std.specs.Str.Lines.{lines}
 use Rattle.imago_access.specs.declared.seen.Seen.{Ghosts}
@@ -18,23 +18,12 @@ use Rattle.qimg_calls.proofs.Alone.{alone-both, driven-alone}
 use Rattle.qimg_core.specs.declared.first.worked.RunFault.{RunFault}
 use Rattle.qimg_core.specs.declared.first.worked.RunFault.TheVariants as run_fault
 use Rattle.qimg_chain.specs.ScriptAnswers.{answer_text}
+use Rattle.qimg_chain.specs.ScriptLimits.{AreAnswered, IsAnswerCount, most_bytes}
 use Rattle.qimg_chain.specs.ScriptRuns.{IsAllWritten, IsTellingFault, Reply, Standing, standing, Replies, RunsAll, Scripted, calls_of, answers_of, text_of}
-use Rattle.qimg_chain.proofs.ScriptLines.{lines-step, lines-end}
+use Rattle.qimg_chain.proofs.ScriptBytes.{EndsEarly, ReadSoFar, read-cut, read-then}
 
 abbrev pub text : Reply → List ℕ
 text r = r.text
-
--- the lines of a script that were read, where its bytes are known: they and those of the bytes that are left are the script's
-abbrev pub ReadSoFar : Option (List ℕ) → Option (List ℕ) → List (List ℕ) → Type 0
-ReadSoFar None left texts = ⊤
-ReadSoFar (Some bytes) left texts = (rest : List ℕ) × (left ≡ Some rest) × (lines (take 137438953473 bytes) ≡ texts ++ lines rest)
-
--- what a script's reader had and has left, and what its writer held and holds, where these are known
-pub record Streams : Type 0 where
-  pub input : Option (List ℕ)
-  pub left : Option (List ℕ)
-  pub before : Option (List ℕ)
-  pub after : Option (List ℕ)
 
 -- what a script's run over these drivers rests on
 pub record MayBegin {D St : Type 0} (g : Ghosts D St) (old : D × List D) : Type 0 where
@@ -42,26 +31,38 @@ pub record MayBegin {D St : Type 0} (g : Ghosts D St) (old : D × List D) : Type
   pub safe_sound : (d : D) → g.safe d → IsCovered (g.layer d) g.sound (g.image d).bytes
   pub free : IsFree (g.layer old.0)
 
--- how far a script was run
-pub record RanSoFar {D St : Type 0} (g : Ghosts D St) (names : D → ℕ → List ℕ) (io : Streams) (old : D × List D) (now : Standing D) : Type 0 where
+-- So many lines of a script were read and made, by the bytes that its reader had and has left, and by how many of them may still be read.
+pub record MadeSoFar {D St : Type 0} (g : Ghosts D St) (names : D → ℕ → List ℕ) (input left : Option (List ℕ)) (room count : ℕ) (old : D × List D) (now : Standing D) : Type 0 where
   pub rests : MayBegin g old
   pub replies : List Reply
   pub runs : RunsAll g names replies (standing old None) now
-  pub written : Appends io.before io.after (text_of replies)
-  pub read : ReadSoFar io.input io.left (map text replies)
+  pub read : ReadSoFar input left room (map text replies)
+  pub counted : length replies ≡ count
 
--- none is read yet
-pub read-none : (input left : Option (List ℕ)) → left ≡ option_map (take 137438953473) input → ReadSoFar input left []
-read-none None left is = tt
-read-none (Some bytes) left is = (take 137438953473 bytes, is, refl)
+-- what a script's reader had and has left, how many bytes may still be read, and what its writer held and holds, where these are known
+pub record Streams : Type 0 where
+  pub input : Option (List ℕ)
+  pub left : Option (List ℕ)
+  pub room : ℕ
+  pub before : Option (List ℕ)
+  pub after : Option (List ℕ)
 
-not-written : (fault : RunFault) → IsTellingFault fault → IsAllWritten (Err fault) → ⊥
-not-written run_fault.Write telling all = all
-not-written run_fault.Memory telling all = all
-not-written run_fault.Read telling all = telling
-not-written run_fault.Lines telling all = telling
+-- how far a script was run, with the bytes that its writer held and holds
+pub record RanSoFar {D St : Type 0} (g : Ghosts D St) (names : D → ℕ → List ℕ) (io : Streams) (count : ℕ) (old : D × List D) (now : Standing D) : Type 0 where
+  pub made : MadeSoFar g names io.input io.left io.room count old now
+  pub written : Appends io.before io.after (text_of made.replies)
 
-append-none : (known : Option (List ℕ)) → Appends known known []
+-- behind a fault in the telling of an answer not all is written
+pub not-written : {A : Type 0} (result : Result (Option (Vec ℕ Global)) RunFault) (fault : RunFault) → IsTellingFault fault → result ≡ Err fault → IsAllWritten result → A
+not-written result fault telling is all = absurd (at fault telling (rw (is) at all))
+  where
+    at : (fault : RunFault) → IsTellingFault fault → IsAllWritten (Err fault) → ⊥
+    at run_fault.Write telling all = all
+    at run_fault.Memory telling all = all
+    at run_fault.Read telling all = telling
+    at run_fault.Lines telling all = telling
+
+pub append-none : (known : Option (List ℕ)) → Appends known known []
 append-none None = tt
 append-none (Some xs) = sym (append-nil xs)
 
@@ -80,44 +81,13 @@ map-then : (replies : List Reply) (r : Reply) → map text (replies ++ r ∷ [])
 map-then [] r = refl
 map-then (a ∷ replies) r = ap (λ xs. a.text ∷ xs) (map-then replies r)
 
--- one more line is read
-read-then : (input left next : Option (List ℕ)) (texts : List (List ℕ)) (line one rest : List ℕ) → ReadSoFar input left texts → IfSome left (λ bytes. line ≡ take_through 10 bytes) → DropsThrough left next 10
-    → lines line ≡ one ∷ lines rest → ReadSoFar input next (texts ++ (one ∷ []))
-read-then None left next texts line one rest so_far is drops first = tt
-read-then (Some bytes) left next texts line one rest so_far is drops first =
-    let left_is = so_far.1 in
-    let line_is : line ≡ take_through 10 so_far.0 = rw (left_is) at is in
-    let next_is : next ≡ Some (drop_through 10 so_far.0) = rw (left_is) at drops in
-    (drop_through 10 so_far.0, next_is, so_far.2 ∙ ap (λ ls. texts ++ ls) (lines-step so_far.0 one rest (rw (line_is) at first)) ∙ sym (append_assoc texts (one ∷ []) (lines (drop_through 10 so_far.0))))
-
--- no more is there
-pub read-end : (input left : Option (List ℕ)) (texts : List (List ℕ)) (line : List ℕ) → ReadSoFar input left texts → IfSome left (λ bytes. line ≡ take_through 10 bytes) → lines line ≡ []
-    → IfSome input (λ bytes. texts ≡ lines (take 137438953473 bytes))
-read-end None left texts line so_far is none = tt
-read-end (Some bytes) left texts line so_far is none =
-    let line_is : line ≡ take_through 10 so_far.0 = rw (so_far.1) at is in
-    sym (so_far.2 ∙ ap (λ ls. texts ++ ls) (lines-end so_far.0 (rw (line_is) at none)) ∙ append-nil texts)
+length-then : (replies : List Reply) (r : Reply) (count : ℕ) → length replies ≡ count → length (replies ++ r ∷ []) ≡ count + 1
+length-then replies r count is = omega (arith, length-append replies (r ∷ []), is)
 
 module _ {D St : Type 0} (g : Ghosts D St) (names : D → ℕ → List ℕ) where
   runs-then : (replies : List Reply) (r : Reply) (old mid new : Standing D) → RunsAll g names replies old mid → Replies g names r mid new → RunsAll g names (replies ++ r ∷ []) old new
   runs-then [] r old mid new same one = (new, subst (λ s. Replies g names r s new) same one, refl)
   runs-then (a ∷ replies) r old mid new all one = (all.0, all.1, runs-then replies r all.0 mid new all.2 one)
-
-  pub ran-none : (input left before : Option (List ℕ)) (old : D × List D) → MayBegin g old → ReadSoFar input left []
-      → RanSoFar g names (record { input = input; left = left; before = before; after = before }) old (standing old None)
-  ran-none input left before old rests read = record { rests = rests; replies = []; runs = refl; written = append-none before; read = read }
-
-  -- one more line is run
-  pub ran-then : (io : Streams) (next last : Option (List ℕ)) (old : D × List D) (now new : Standing D) (r : Reply) (line rest : List ℕ) → RanSoFar g names io old now
-      → IfSome io.left (λ bytes. line ≡ take_through 10 bytes) → DropsThrough io.left next 10 → lines line ≡ r.text ∷ lines rest → Replies g names r now new → Appends io.after last (answer_text r.answer ++ 10 ∷ [])
-      → RanSoFar g names (record io { left = next; after = last }) old new
-  ran-then io next last old now new r line rest ran is drops first one tells = record {
-    rests = ran.rests;
-    replies = ran.replies ++ r ∷ [];
-    runs = runs-then ran.replies r (standing old None) now new ran.runs one;
-    written = subst (Appends io.before last) (sym (text-then ran.replies r)) (append-both io.before io.after last (text_of ran.replies) (answer_text r.answer ++ 10 ∷ []) ran.written tells);
-    read = subst (ReadSoFar io.input next) (sym (map-then ran.replies r)) (read-then io.input io.left next (map text ran.replies) line r.text rest ran.read is drops first);
-  }
 
   alone-all : (replies : List Reply) (old new : Standing D) → RunsAll g names replies old new → AnswersAlone g (calls_of replies) (answers_of replies) old.drivers new.drivers
   alone-all [] old new same = rw (same) refl
@@ -130,32 +100,64 @@ module _ {D St : Type 0} (g : Ghosts D St) (names : D → ℕ → List ℕ) wher
   driven-all replies old new saved since rests runs ready stands =
       driven-alone g rests.safe_sees rests.safe_sound (calls_of replies) (answers_of replies) old new since (alone-all replies (standing old None) (standing new saved) runs) rests.free ready stands
 
+  pub ran-none : (input left before : Option (List ℕ)) (old : D × List D) → MayBegin g old → ReadSoFar input left most_bytes []
+      → RanSoFar g names (record { input = input; left = left; room = most_bytes; before = before; after = before }) 0 old (standing old None)
+  ran-none input left before old rests read = record {
+    made = record { rests = rests; replies = []; runs = refl; read = read; counted = refl };
+    written = append-none before;
+  }
+
+-- one more line is read and made
+pub made-then : {D St : Type 0} {g : Ghosts D St} {names : D → ℕ → List ℕ} {input left : Option (List ℕ)} {room count : ℕ} {old : D × List D} {now : Standing D}
+    → (next : Option (List ℕ)) (less : ℕ) (new : Standing D) (r : Reply) (line rest : List ℕ) → MadeSoFar g names input left room count old now
+    → IfSome left (λ bytes. line ≡ take_through 10 bytes) → DropsThrough left next 10 → length line + less ≡ room → lines line ≡ r.text ∷ lines rest → Replies g names r now new
+    → MadeSoFar g names input next less (count + 1) old new
+made-then {g = g} {names = names} {input = input} {left = left} {room = room} {count = count} {old = old} {now = now} next less new r line rest made is drops fewer first one = record {
+  rests = made.rests;
+  replies = made.replies ++ r ∷ [];
+  runs = runs-then g names made.replies r (standing old None) now new made.runs one;
+  read = subst (ReadSoFar input next less) (sym (map-then made.replies r)) (read-then input left next room less (map text made.replies) line r.text rest made.read is drops fewer first);
+  counted = length-then made.replies r count made.counted;
+}
+
+-- and its answer is written
+pub ran-then : {D St : Type 0} {g : Ghosts D St} {names : D → ℕ → List ℕ} {io : Streams} {count : ℕ} {old : D × List D} {now : Standing D}
+    → (next last : Option (List ℕ)) (less : ℕ) (new : Standing D) (r : Reply) (line rest : List ℕ) → RanSoFar g names io count old now
+    → IfSome io.left (λ bytes. line ≡ take_through 10 bytes) → DropsThrough io.left next 10 → length line + less ≡ io.room → lines line ≡ r.text ∷ lines rest → Replies g names r now new
+    → Appends io.after last (answer_text r.answer ++ 10 ∷ []) → RanSoFar g names (record io { left = next; room = less; after = last }) (count + 1) old new
+unfolding made-then
+ran-then {io = io} next last less new r line rest ran is drops fewer first one tells = record {
+  made = made-then next less new r line rest ran.made is drops fewer first one;
+  written = subst (Appends io.before last) (sym (text-then ran.made.replies r)) (append-both io.before io.after last (text_of ran.made.replies) (answer_text r.answer ++ 10 ∷ []) ran.written tells);
+}
+
 -- what a script does that was run so far, and ends so
-pub scripted : {D St : Type 0} {g : Ghosts D St} {names : D → ℕ → List ℕ} {io : Streams} {old new : D × List D} {saved : Option (Vec ℕ Global)} {result : Result (Option (Vec ℕ Global)) RunFault}
-    → RanSoFar g names io old (standing new saved) → ((texts : List (List ℕ)) → ReadSoFar io.input io.left texts → OnOk result (IfSome io.input (λ bytes. texts ≡ lines (take 137438953473 bytes))))
-    → OnOk result (result ≡ Ok saved) → Scripted g names io.input io.before io.after result old new
-scripted {g = g} {names = names} {old = old} {new = new} {saved = saved} ran all kept = record {
-  replies = ran.replies;
+pub scripted : {D St : Type 0} {g : Ghosts D St} {names : D → ℕ → List ℕ} {io : Streams} {count : ℕ} {old new : D × List D} {saved : Option (Vec ℕ Global)} {result : Result (Option (Vec ℕ Global)) RunFault}
+    → RanSoFar g names io count old (standing new saved) → IsAnswerCount result count
+    → ((texts : List (List ℕ)) → ReadSoFar io.input io.left io.room texts → IfSome io.input (λ bytes. AreAnswered result bytes texts)) → OnOk result (result ≡ Ok saved)
+    → Scripted g names io.input io.before io.after result old new
+scripted {g = g} {names = names} {old = old} {new = new} {saved = saved} {result = result} ran counts all kept = record {
+  replies = ran.made.replies;
   saved = saved;
-  runs = ran.runs;
-  driven = λ since ready stands. driven-all g names ran.replies old new saved since ran.rests ran.runs ready stands;
-  lines = all (map text ran.replies) ran.read;
+  runs = ran.made.runs;
+  driven = λ since ready stands. driven-all g names ran.made.replies old new saved since ran.made.rests ran.made.runs ready stands;
+  count = subst (IsAnswerCount result) (sym ran.made.counted) counts;
+  lines = all (map text ran.made.replies) ran.made.read;
   written = λ _. ran.written;
   kept = kept;
 }
 
--- the same, where the last answer isn't written
-pub scripted-cut : {D St : Type 0} {g : Ghosts D St} {names : D → ℕ → List ℕ} {io : Streams} {old new : D × List D} {now : Standing D} {saved : Option (Vec ℕ Global)} {result : Result (Option (Vec ℕ Global)) RunFault}
-    → (last : Option (List ℕ)) (r : Reply) (fault : RunFault) → RanSoFar g names io old now → Replies g names r now (standing new saved) → IsTellingFault fault → result ≡ Err fault
-    → Scripted g names io.input io.before last result old new
-scripted-cut {g = g} {names = names} {old = old} {new = new} {now = now} {saved = saved} last r fault ran one telling is =
-    let runs = runs-then g names ran.replies r (standing old None) now (standing new saved) ran.runs one in
-    record {
-      replies = ran.replies ++ r ∷ [];
-      saved = saved;
-      runs = runs;
-      driven = λ since ready stands. driven-all g names (ran.replies ++ r ∷ []) old new saved since ran.rests runs ready stands;
-      lines = rw (is) tt;
-      written = λ all. absurd (not-written fault telling (rw (is) at all));
-      kept = rw (is) tt;
-    }
+-- the same, where it ends early for a fault that is no limit of lines
+pub scripted-cut : {D St : Type 0} {g : Ghosts D St} {names : D → ℕ → List ℕ} {input left : Option (List ℕ)} {room count : ℕ} {old new : D × List D} {saved : Option (Vec ℕ Global)}
+    → (before after : Option (List ℕ)) (result : Result (Option (Vec ℕ Global)) RunFault) (fault : RunFault) (made : MadeSoFar g names input left room count old (standing new saved)) → EndsEarly fault count
+    → result ≡ Err fault → (IsAllWritten result → Appends before after (text_of made.replies)) → Scripted g names input before after result old new
+scripted-cut {g = g} {names = names} {input = input} {left = left} {room = room} {count = count} {old = old} {new = new} {saved = saved} before after result fault made cut is written = record {
+  replies = made.replies;
+  saved = saved;
+  runs = made.runs;
+  driven = λ since ready stands. driven-all g names made.replies old new saved since made.rests made.runs ready stands;
+  count = rw (is) (subst (IsAnswerCount (Err fault)) (sym made.counted) cut.count);
+  lines = rw (is) (read-cut input left room count (map text made.replies) fault made.read cut);
+  written = written;
+  kept = rw (is) tt;
+}

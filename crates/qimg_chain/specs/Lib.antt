@@ -14,6 +14,7 @@ pub mod RunAnswers
 pub mod RunCalls
 pub mod Script
 pub mod ScriptAnswers
+pub mod ScriptLimits
 pub mod ScriptParts
 pub mod ScriptRuns
 pub mod ScriptWords

@@ -1,8 +1,7 @@
 -- What a script does that is run over a chain, line by line, and the text that answers it.
-use Rattle.std.specs.Prelude.{◌≡◌, ◌⊎◌, ⊤, ℕ, List, [], ◌∷◌, ◌++◌, map, take, Option, None, IfSome, OnOk, Result, Ok, Err, Vec}
+use Rattle.std.specs.Prelude.{◌≡◌, ◌⊎◌, ⊤, ℕ, List, [], ◌∷◌, ◌++◌, length, map, Option, None, IfSome, OnOk, Result, Ok, Err, Vec}
 use Rattle.std.specs.Global.{Global}
 use Rattle.std.specs.Io.KnownBytes.{Appends}
-use Rattle.std.specs.Str.Lines.{lines}
 use Rattle.imago_storage.specs.declared.fault.Fault.{Fault}
 use Rattle.imago_access.specs.declared.seen.Seen.{Ghosts}
 use Rattle.qimg_calls.specs.Held.{IsReady}
@@ -17,6 +16,7 @@ use Rattle.qimg_chain.specs.RunAnswers.{Keeps, TellsLine}
 use Rattle.qimg_chain.specs.RunCalls.{Turn, unmade}
 use Rattle.qimg_chain.specs.Script.{IsLine, NotLine}
 use Rattle.qimg_chain.specs.ScriptAnswers.{answer_text}
+use Rattle.qimg_chain.specs.ScriptLimits.{AreAnswered, IsAnswerCount}
 use Rattle.qimg_chain.specs.declared.script.answer.Answer.{Answer}
 use Rattle.qimg_chain.specs.declared.script.answer.Answer.TheVariants as told
 use Rattle.qimg_chain.specs.declared.script.line.Line.{Line}
@@ -100,7 +100,8 @@ pub record Scripted {D St : Type 0} (g : Ghosts D St) (names : D → ℕ → Lis
   pub saved : Option (Vec ℕ Global)
   pub runs : RunsAll g names replies (standing old None) (standing new saved)
   pub driven : (since : Since) → IsReady g old → StandsSince g since old → Driven g since (calls_of replies) (answers_of replies) old new
-  -- the lines of the script are those that the reader has, and its text is their answers
-  pub lines : OnOk result (IfSome input (λ bytes. map (λ (r : Reply). r.text) replies ≡ lines (take 137438953473 bytes)))
+  -- its lines are the first that the reader has, all of them where it ends, as many as a script has at most; and its text is their answers
+  pub count : IsAnswerCount result (length replies)
+  pub lines : IfSome input (λ bytes. AreAnswered result bytes (map (λ (r : Reply). r.text) replies))
   pub written : IsAllWritten result → Appends before after (text_of replies)
   pub kept : OnOk result (result ≡ Ok saved)

@@ -1,5 +1,5 @@
 //! A script is run over a chain of layers: line by line, with an answer to each.
-ghost use Rattle.std.specs.Prelude.{◌≡◌, ◌∷◌, ◌++◌, [], IfErr, IfSome, OnOk};
+ghost use Rattle.std.specs.Prelude.{◌≡◌, ◌+◌, ◌∷◌, ◌++◌, [], length, IfErr, IfSome, OnOk};
 ghost use Rattle.std.specs.Io.BufRead.{take_through, DropsThrough};
 ghost use Rattle.std.specs.Io.KnownBytes.{Appends};
 ghost use Rattle.std.specs.Io.Take.{take_remaining};
@@ -29,15 +29,23 @@ const MOST_LINES: u32 = 1_048_576;
 /// The most bytes of a script.
 const MOST_BYTES: u64 = 137_438_953_472;
 
-/// Reads the next line with its end. Nothing is read behind the last one.
-fn next_line<R: BufRead>(input: &mut Take<R>, line: &mut Vec<u8>) -> Result<(), RunFault>
+/// Reads the next line with its end, where there is room for its bytes, and takes these off the room. Nothing is read behind the last line.
+fn next_line<R: BufRead>(
+    input: &mut Take<R>,
+    line: &mut Vec<u8>,
+    room: &mut u64,
+) -> Result<(), RunFault>
     ensures line { OnOk result (IfSome (take_remaining R.remaining input.old) (λ bytes. line.new.items ≡ take_through 10 bytes)) }
     ensures rest { OnOk result (DropsThrough (take_remaining R.remaining input.old) (take_remaining R.remaining input.new) 10) }
+    ensures room { OnOk result (length line.new.items + room.new ≡ room.old) }
     ensures err { IfErr result IsReadingFault }
 {
     line.clear();
     match input.read_until(b'\n', line) {
-        Ok(_) if input.limit() > 0 => Ok(()),
+        Ok(_) if line.len() as u64 <= *room => {
+            *room -= line.len() as u64;
+            Ok(())
+        }
         Err(error) if error.kind() == ErrorKind::OutOfMemory => Err(RunFault::Memory),
         _ => Err(RunFault::Read),
     }
@@ -76,8 +84,8 @@ fn tell<W: Write>(alloc: Global, writer: &mut W, answer: &Answer) -> Result<(), 
 /// Runs a script over a chain: each of its lines, as the module `script` has them, is answered by one line. It answers the bytes of the
 /// top file at the last `save` that was done, if one was. Nothing may be prepared in the chain.
 ///
-/// `RunFault::Read` where the reader fails, and for a script of more than 2^37 bytes; `RunFault::Lines` for one of more than 2^20 lines;
-/// `RunFault::Write` where the writer fails; and `RunFault::Memory` for want of memory. The lines before it are answered.
+/// `RunFault::Read` where the reader fails, and for the line with which a script passes 2^37 bytes; `RunFault::Lines` for the one behind
+/// 2^20 lines; `RunFault::Write` where the writer fails; and `RunFault::Memory` for want of memory. The lines before it are answered.
 pub fn run<R: BufRead + Drop, W: Write, D: FormatDriverInstance<Storage = MemStorage> + NamesFiles>(
     alloc: Global,
     reader: R,
@@ -91,16 +99,17 @@ pub fn run<R: BufRead + Drop, W: Write, D: FormatDriverInstance<Storage = MemSto
 {
     let mut input = reader.take(MOST_BYTES + 1);
     let mut line = Vec::new(alloc);
+    let mut room = MOST_BYTES;
     let mut saved = None;
     for _ in 0..MOST_LINES {
-        next_line(&mut input, &mut line)?;
+        next_line(&mut input, &mut line, &mut room)?;
         let Some((text, _)) = split_line(&line) else {
             return Ok(saved);
         };
         let answer = answer_to(alloc, chain, text, &mut saved);
         tell(alloc, writer, &answer)?;
     }
-    next_line(&mut input, &mut line)?;
+    next_line(&mut input, &mut line, &mut room)?;
     match split_line(&line) {
         Some(_) => Err(RunFault::Lines),
         None => Ok(saved),

@@ -1,9 +1,10 @@
-use Rattle.std.proofs.Common.{◌≡◌, List, ℕ, ap, refl}
+use Rattle.std.proofs.Common.{◌≡◌, ap, refl, arith}
 use Rattle.std.specs.Prelude.{Result, Ok, Err, IsErrAnd}
 use Rattle.std.specs.Io.Take.{take_remaining}
 use Rattle.qimg_core.specs.declared.first.worked.RunFault.{RunFault}
 use Rattle.qimg_chain.specs.ScriptRuns.{reply, standing}
-use Rattle.qimg_chain.proofs.ScriptRunLemmas.{ran-none, ran-then, read-none, read-end, scripted, scripted-cut}
+use Rattle.qimg_chain.proofs.ScriptBytes.{cut-reading, cut-telling, read-all, read-more, read-none}
+use Rattle.qimg_chain.proofs.ScriptRunLemmas.{made-then, not-written, ran-none, ran-then, scripted, scripted-cut}
 use Rattle.qimg_chain.proofs.run.run.Goals as goal
 
 -- what is handed on is the fault that came
@@ -15,8 +16,7 @@ pub loop-init : goal.loop-init
 loop-init g c =
     let m = g.met.D.FormatDriverInstance in
     let had = g.R.Read.remaining c.args.reader in
-    let left = take_remaining g.R.Read.remaining c.take-input.result in
-    (
+    let left = take_remaining g.R.Read.remaining c.take-input.result in (
       c.requires.free,
       ran-none g.D.Seen g.D.NamesFiles.names had left (g.W.Write.contents c.args.writer.now) c.args.chain.now
           (record { safe_sees = m.safe_sees; safe_sound = m.safe_sound; free = c.requires.free })
@@ -26,36 +26,42 @@ loop-init g c =
 pub loop-preserved : goal.loop-preserved
 loop-preserved g c = (
   c.answer_to-answer.ensures.free,
-  ran-then g.D.Seen g.D.NamesFiles.names _ (take_remaining g.R.Read.remaining c.next_line.new.input) (g.W.Write.contents c.tell.new.writer) c.args.chain.now
-      (standing c.loop.chain c.loop.saved) (standing c.answer_to-answer.new.chain c.answer_to-answer.new.saved)
+  ran-then (take_remaining g.R.Read.remaining c.next_line.new.input) (g.W.Write.contents c.tell.new.writer) c.next_line.new.room (standing c.answer_to-answer.new.chain c.answer_to-answer.new.saved)
       (reply c.in-Some.text.now c.answer_to-answer.ensures.replied.0 c.answer_to-answer.result) c.next_line.new.line.items c.in-Some.field-0-1.now c.loop.invariant.1 c.in_ok-next_line.ensures.line c.in_ok-next_line.ensures.rest
-      (rw (c.deref.ensures.value) at c.in-Some.ensures.lines) c.answer_to-answer.ensures.replied.1 c.in_ok-tell.ensures.ok,
+      c.in_ok-next_line.ensures.room (rw (c.deref.ensures.value) at c.in-Some.ensures.lines) c.answer_to-answer.ensures.replied.1 c.in_ok-tell.ensures.ok,
 )
 
 pub returns-in_err-next_line-clause-scripted : goal.returns-in_err-next_line-clause-scripted
 returns-in_err-next_line-clause-scripted g c =
-    let failed = handed-on c.from_residual.result _ c.from_residual.ensures.1 in
-    scripted c.loop.invariant.1 (λ texts read. rw (failed) tt) (rw (failed) tt)
+    scripted-cut (g.W.Write.contents c.args.writer.now) (g.W.Write.contents c.loop.writer) c.from_residual.result _ c.loop.invariant.1.made (cut-reading _ _ c.in_err-next_line.ensures.err (omega arith))
+    (handed-on c.from_residual.result _ c.from_residual.ensures.1) (λ all. c.loop.invariant.1.written)
 
 pub returns-in_err-next_line-2-clause-scripted : goal.returns-in_err-next_line-2-clause-scripted
 returns-in_err-next_line-2-clause-scripted g c =
-    let failed = handed-on c.from_residual-in_err-next_line-2.result _ c.from_residual-in_err-next_line-2.ensures.1 in
-    scripted c.loop.invariant.1 (λ texts read. rw (failed) tt) (rw (failed) tt)
+    scripted-cut (g.W.Write.contents c.args.writer.now) (g.W.Write.contents c.loop.writer) c.from_residual-in_err-next_line-2.result _ c.loop.invariant.1.made (cut-reading _ _ c.in_err-next_line-2.ensures.err (omega arith))
+    (handed-on c.from_residual-in_err-next_line-2.result _ c.from_residual-in_err-next_line-2.ensures.1) (λ all. c.loop.invariant.1.written)
 
 pub returns-in_default-clause-scripted : goal.returns-in_default-clause-scripted
-returns-in_default-clause-scripted g c = scripted c.loop.invariant.1
-    (λ texts read. read-end (g.R.Read.remaining c.args.reader) (take_remaining g.R.Read.remaining c.loop.input) texts c.next_line.new.line.items read c.in_ok-next_line.ensures.line
+returns-in_default-clause-scripted g c = scripted c.loop.invariant.1 (omega arith)
+    (λ texts read. read-all (g.R.Read.remaining c.args.reader) (take_remaining g.R.Read.remaining c.loop.input) c.loop.room texts c.next_line.new.line.items c.loop.saved read c.in_ok-next_line.ensures.line
     (rw (c.deref.ensures.value) at c.in_default.ensures.lines)) refl
 
 pub returns-in_err-tell-clause-scripted : goal.returns-in_err-tell-clause-scripted
-returns-in_err-tell-clause-scripted g c = scripted-cut (g.W.Write.contents c.tell.new.writer)
-    (reply c.in-Some.text.now c.answer_to-answer.ensures.replied.0 c.answer_to-answer.result) c.in_err-tell.field-0.0 c.loop.invariant.1 c.answer_to-answer.ensures.replied.1 c.in_err-tell.ensures.err
-    (handed-on c.from_residual-in_err-tell.result _ c.from_residual-in_err-tell.ensures.1)
+returns-in_err-tell-clause-scripted g c =
+    let result = c.from_residual-in_err-tell.result in
+    let failed = handed-on result c.in_err-tell.field-0.0 c.from_residual-in_err-tell.ensures.1 in
+    scripted-cut (g.W.Write.contents c.args.writer.now) (g.W.Write.contents c.tell.new.writer) result c.in_err-tell.field-0.0
+    (made-then (take_remaining g.R.Read.remaining c.next_line.new.input) c.next_line.new.room (standing c.answer_to-answer.new.chain c.answer_to-answer.new.saved)
+    (reply c.in-Some.text.now c.answer_to-answer.ensures.replied.0 c.answer_to-answer.result) c.next_line.new.line.items c.in-Some.field-0-1.now c.loop.invariant.1.made c.in_ok-next_line.ensures.line c.in_ok-next_line.ensures.rest
+    c.in_ok-next_line.ensures.room (rw (c.deref.ensures.value) at c.in-Some.ensures.lines) c.answer_to-answer.ensures.replied.1)
+    (cut-telling c.in_err-tell.field-0.0 _ c.in_err-tell.ensures.err (omega arith) (omega arith)) failed (λ all. not-written result c.in_err-tell.field-0.0 c.in_err-tell.ensures.err failed all)
 
 pub returns-in-Some-split_line-clause-scripted : goal.returns-in-Some-split_line-clause-scripted
-returns-in-Some-split_line-clause-scripted g c = scripted c.loop.invariant.1 (λ texts read. tt) tt
+returns-in-Some-split_line-clause-scripted g c = scripted c.loop.invariant.1 (omega arith)
+    (λ texts read. read-more (g.R.Read.remaining c.args.reader) (take_remaining g.R.Read.remaining c.loop.input) c.loop.room c.next_line-2.new.room texts c.next_line-2.new.line.items _ c.in-Some-split_line.field-0.1.now read c.in_ok-next_line-2.ensures.line
+    c.in_ok-next_line-2.ensures.room (rw (c.deref-2.ensures.value) at c.in-Some-split_line.ensures.lines)) tt
 
 pub returns-clause-scripted : goal.returns-clause-scripted
-returns-clause-scripted g c = scripted c.loop.invariant.1
-    (λ texts read. read-end (g.R.Read.remaining c.args.reader) (take_remaining g.R.Read.remaining c.loop.input) texts c.next_line-2.new.line.items read c.in_ok-next_line-2.ensures.line
+returns-clause-scripted g c = scripted c.loop.invariant.1 (omega arith)
+    (λ texts read. read-all (g.R.Read.remaining c.args.reader) (take_remaining g.R.Read.remaining c.loop.input) c.loop.room texts c.next_line-2.new.line.items c.loop.saved read c.in_ok-next_line-2.ensures.line
     (rw (c.deref-2.ensures.value) at c.in-None.ensures.lines)) refl

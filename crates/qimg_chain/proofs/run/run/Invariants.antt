@@ -10,6 +10,7 @@ invariant-loop g l = IsFree (g.D.Seen.layer l.chain.0)
     × RanSoFar g.D.Seen g.D.NamesFiles.names (record {
       input = g.R.Read.remaining l.fn.reader;
       left = take_remaining g.R.Read.remaining l.input;
+      room = l.room;
       before = g.W.Write.contents l.fn.writer;
       after = g.W.Write.contents l.writer;
-    }) l.fn.chain (standing l.chain l.saved)
+    }) l.counter l.fn.chain (standing l.chain l.saved)

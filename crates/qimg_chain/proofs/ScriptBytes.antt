@@ -1,0 +1,119 @@
+-- The bytes of a script that were read, line by line, within its limits.
+use Rattle.std.proofs.Common.{◌≡◌, ◌≢◌, ℕ, ◌+◌, ◌-◌, ◌<◌, ◌≤◌, ◌∙◌, List, [], ◌∷◌, ◌++◌, length, take, refl, ap, sym, arith, length-append, add-one}
+use mathlib.Core.List.{append_assoc}
+use Rattle.std.specs.Prelude.{⊤, Option, Some, None, option_map, IfSome, Ok, Err, Vec}
+use Rattle.std.specs.Global.{Global}
+use Rattle.std.specs.Io.BufRead.{take_through, drop_through, DropsThrough}
+use Rattle.std.specs.Str.Lines.{lines}
+use Rattle.qimg_core.specs.declared.first.worked.RunFault.{RunFault}
+use Rattle.qimg_core.specs.declared.first.worked.RunFault.TheVariants as run_fault
+use Rattle.qimg_chain.specs.ScriptLimits.{most_bytes, most_lines, AreAnswered, EndsBetween, IsAnswerCount}
+use Rattle.qimg_chain.specs.ScriptRuns.{IsReadingFault, IsTellingFault}
+use Rattle.qimg_chain.proofs.ScriptLines.{CutAlike, line-within, lines-step, through-joined, through-none}
+
+-- These lines were read of a script's bytes, and so many more may be; the reader has left these and one more.
+pub record LinesRead (bytes : List ℕ) (left : Option (List ℕ)) (room : ℕ) (texts : List (List ℕ)) : Type 0 where
+  pub before : List ℕ
+  pub rest : List ℕ
+  pub parts : bytes ≡ before ++ rest
+  pub first : lines bytes ≡ texts ++ lines rest
+  pub size : length before + room ≡ most_bytes
+  pub left_is : left ≡ Some (take (room + 1) rest)
+
+-- the same where the script's bytes are known
+abbrev pub ReadSoFar : Option (List ℕ) → Option (List ℕ) → ℕ → List (List ℕ) → Type 0
+ReadSoFar None left room texts = ⊤
+ReadSoFar (Some bytes) left room texts = LinesRead bytes left room texts
+
+-- none is read yet
+pub read-none : (input left : Option (List ℕ)) → left ≡ option_map (take (most_bytes + 1)) input → ReadSoFar input left most_bytes []
+read-none None left is = tt
+read-none (Some bytes) left is = record { before = []; rest = bytes; parts = refl; first = refl; size = refl; left_is = is }
+
+-- a line that is read within the room that is left is the next of the script
+next-line : (bytes line : List ℕ) (left : Option (List ℕ)) (room less : ℕ) (texts : List (List ℕ)) (r : LinesRead bytes left room texts)
+    → IfSome left (λ xs. line ≡ take_through 10 xs) → length line + less ≡ room → (line ≡ take_through 10 r.rest) × CutAlike (room + 1) r.rest
+next-line bytes line left room less texts r is fewer =
+    let seen : line ≡ take_through 10 (take (room + 1) r.rest) = rw (r.left_is) at is in
+    let within = line-within (room + 1) r.rest (omega (arith, fewer, ap length seen)) in
+    (seen ∙ within.0, within)
+
+-- one more line is read
+pub read-then : (input left next : Option (List ℕ)) (room less : ℕ) (texts : List (List ℕ)) (line one more : List ℕ) → ReadSoFar input left room texts
+    → IfSome left (λ xs. line ≡ take_through 10 xs) → DropsThrough left next 10 → length line + less ≡ room → lines line ≡ one ∷ lines more
+    → ReadSoFar input next less (texts ++ (one ∷ []))
+read-then None left next room less texts line one more so_far is drops fewer first = tt
+read-then (Some bytes) left next room less texts line one more r is drops fewer first =
+    let read = next-line bytes line left room less texts r is fewer in
+    let head = take_through 10 r.rest in
+    let tail = drop_through 10 r.rest in
+    let dropped : next ≡ Some (drop_through 10 (take (room + 1) r.rest)) = rw (r.left_is) at drops in
+    record {
+      before = r.before ++ head;
+      rest = tail;
+      parts = r.parts ∙ ap (λ xs. r.before ++ xs) (sym (through-joined r.rest)) ∙ sym (append_assoc r.before head tail);
+      first = r.first ∙ ap (λ ls. texts ++ ls) (lines-step r.rest one more (rw (read.0) at first)) ∙ sym (append_assoc texts (one ∷ []) (lines tail));
+      size = omega (arith, length-append r.before head, ap length read.0, r.size, fewer);
+      left_is = dropped ∙ ap Some (read.1.1 ∙ ap (λ k. take k tail) (omega (arith, ap length read.0, fewer)));
+    }
+
+none-taken : (room : ℕ) (rest : List ℕ) → take (room + 1) rest ≡ [] → rest ≡ []
+none-taken room [] is = refl
+none-taken room (b ∷ rest) is = cc (rw (add-one) at is)
+
+-- the script has no more lines
+pub read-all : (input left : Option (List ℕ)) (room : ℕ) (texts : List (List ℕ)) (line : List ℕ) (saved : Option (Vec ℕ Global)) → ReadSoFar input left room texts
+    → IfSome left (λ xs. line ≡ take_through 10 xs) → lines line ≡ [] → IfSome input (λ bytes. AreAnswered (Ok saved) bytes texts)
+read-all None left room texts line saved so_far is none = tt
+read-all (Some bytes) left room texts line saved r is none =
+    let seen : line ≡ take_through 10 (take (room + 1) r.rest) = rw (r.left_is) at is in
+    record {
+      before = r.before;
+      rest = r.rest;
+      parts = r.parts;
+      first = r.first;
+      short = omega (arith, r.size);
+      ends = none-taken room r.rest (through-none (take (room + 1) r.rest) (rw (seen) at none));
+    }
+
+-- the script has one more line, within its bytes
+pub read-more : (input left : Option (List ℕ)) (room less : ℕ) (texts : List (List ℕ)) (line one more : List ℕ) → ReadSoFar input left room texts
+    → IfSome left (λ xs. line ≡ take_through 10 xs) → length line + less ≡ room → lines line ≡ one ∷ lines more
+    → IfSome input (λ bytes. AreAnswered (Err run_fault.Lines) bytes texts)
+read-more None left room less texts line one more so_far is fewer first = tt
+read-more (Some bytes) left room less texts line one more r is fewer first =
+    let read = next-line bytes line left room less texts r is fewer in
+    record {
+      before = r.before;
+      rest = r.rest;
+      parts = r.parts;
+      first = r.first;
+      short = omega (arith, r.size);
+      ends = (some r.rest (rw (read.0) at first), omega (arith, length-append r.before (take_through 10 r.rest), ap length read.0, r.size, fewer));
+    }
+  where
+    some : (rest : List ℕ) → lines (take_through 10 rest) ≡ one ∷ lines more → rest ≢ []
+    some rest e none = absurd (cc (rw (none) at e))
+
+-- what ends a script early behind so many lines is no limit of theirs
+pub record EndsEarly (fault : RunFault) (n : ℕ) : Type 0 where
+  pub between : (before rest : List ℕ) → EndsBetween (Err fault) before rest
+  pub count : IsAnswerCount (Err fault) n
+
+pub cut-reading : (fault : RunFault) (n : ℕ) → IsReadingFault fault → n ≤ most_lines → EndsEarly fault n
+cut-reading run_fault.Read n is few = record { between = λ before rest. tt; count = few }
+cut-reading run_fault.Memory n is few = record { between = λ before rest. tt; count = few }
+cut-reading run_fault.Write n is few = absurd is
+cut-reading run_fault.Lines n is few = absurd is
+
+pub cut-telling : (fault : RunFault) (n : ℕ) → IsTellingFault fault → 0 < n → n ≤ most_lines → EndsEarly fault n
+cut-telling run_fault.Write n is some few = record { between = λ before rest. tt; count = (some, few) }
+cut-telling run_fault.Memory n is some few = record { between = λ before rest. tt; count = few }
+cut-telling run_fault.Read n is some few = absurd is
+cut-telling run_fault.Lines n is some few = absurd is
+
+pub read-cut : (input left : Option (List ℕ)) (room n : ℕ) (texts : List (List ℕ)) (fault : RunFault) → ReadSoFar input left room texts → EndsEarly fault n
+    → IfSome input (λ bytes. AreAnswered (Err fault) bytes texts)
+read-cut None left room n texts fault so_far cut = tt
+read-cut (Some bytes) left room n texts fault r cut =
+    record { before = r.before; rest = r.rest; parts = r.parts; first = r.first; short = omega (arith, r.size); ends = cut.between r.before r.rest }
