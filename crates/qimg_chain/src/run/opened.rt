@@ -1,6 +1,6 @@
 // A script that is run over files, from their opening as a chain on.
-ghost use Rattle.std.specs.Prelude.{IfOk, IfErr};
-ghost use Rattle.qimg_chain.specs.Headline.{NotRun, RunFrom};
+ghost use Rattle.std.specs.Prelude.{IfOk, IfErr, Ok};
+ghost use Rattle.qimg_chain.specs.Headline.{NotRun, RunFrom, to_open};
 
 use super::run;
 use crate::chain::{ImageDriver, NamesFiles, open_chain};
@@ -28,7 +28,7 @@ pub enum ScriptFault {
 /// Of stops in a call that changes a file nothing is said yet: storages in memory tell none, raw files don't state the size of their disk,
 /// and qcow2 and VMDK images are only read.
 ///
-/// `ScriptFault::Opening` as `open_chain` refuses, and `ScriptFault::Running` as `run` does.
+/// `ScriptFault::Opening` as `open_chain` refuses: then nothing is written. `ScriptFault::Running` as `run` refuses, over the chain.
 pub fn run_files<R: BufRead + Drop, W: Write>(
     alloc: Global,
     files: Vec<ChainFile<MemStorage>>,
@@ -37,9 +37,12 @@ pub fn run_files<R: BufRead + Drop, W: Write>(
     reader: R,
     writer: &mut W,
 ) -> Result<Option<Vec<u8>>, ScriptFault>
-    ensures headline { IfOk result (λ saved. RunFrom ⟦<ImageDriver<MemStorage> as Seen>⟧ ⟦<ImageDriver<MemStorage> as NamesFiles>⟧.names
-        files.items (R.remaining reader) (W.contents writer.old) (W.contents writer.new) saved) }
-    ensures err { IfErr result (NotRun writable files.items) }
+    ensures headline { let what = to_open files.items writable number in let names = ⟦<ImageDriver<MemStorage> as NamesFiles>⟧.names in
+        IfOk result (λ saved. RunFrom ⟦<ImageDriver<MemStorage> as Seen>⟧ names what
+        (R.remaining reader) (W.contents writer.old) (W.contents writer.new) (Ok saved)) }
+    ensures err { let what = to_open files.items writable number in let names = ⟦<ImageDriver<MemStorage> as NamesFiles>⟧.names in
+        IfErr result (NotRun ⟦<ImageDriver<MemStorage> as Seen>⟧ names what
+        (R.remaining reader) (W.contents writer.old) (W.contents writer.new)) }
 {
     let mut chain = match open_chain(alloc, files, writable, number) {
         Ok(chain) => chain,
