@@ -5,6 +5,7 @@ mod Copies
 mod FilesShown
 mod FilesTaken
 mod FirstCauses
+mod FitFiles
 mod FurtherTaken
 mod ImageKinds
 mod Narrowing

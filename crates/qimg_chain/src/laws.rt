@@ -1,8 +1,15 @@
-//! Laws of scripts and arguments, and of why files don't form a chain.
-ghost use Rattle.std.specs.Prelude.{◌≡◌, ℕ, Bool, List};
+//! Laws of scripts and arguments, of why files don't form a chain, and of files that do.
+ghost use Rattle.std.specs.Prelude.{◌≡◌, ◌∷◌, [], ℕ, Bool, List, None, true, false};
+ghost use Rattle.imago_access.specs.declared.format.Format.TheVariants.{Qcow2, Raw};
+ghost use Rattle.imago_storage.specs.MemStorage.{mem_state};
 ghost use Rattle.imago_storage.specs.declared.fault.Fault.{Fault};
+ghost use Rattle.imago_storage.specs.declared.memory.MemStorage.{MemStorage};
+ghost use Rattle.qcow2_types.specs.Bytes.{bytes_of};
+ghost use Rattle.qcow2_types.specs.Consistency.{IsConsistent};
+ghost use Rattle.qcow2_types.specs.Header.{Header};
 ghost use Rattle.qimg_core.specs.declared.plain.ChainFile.{ChainFile};
 ghost use Rattle.qimg_chain.specs.Arguments.{Asked, AskFor};
+ghost use Rattle.qimg_chain.specs.Chains.{IsFit, OfTop};
 ghost use Rattle.qimg_chain.specs.Refusals.{FirstCause, FormChain};
 ghost use Rattle.qimg_chain.specs.Script.{IsLine};
 ghost use Rattle.qimg_chain.specs.declared.script.line.Line.{Line};
@@ -30,4 +37,18 @@ pub fn files_have_one_first_cause<S: Storage>()
 pub fn a_chain_has_no_cause<S: Storage>()
     ensures { (writable : Bool) (files : List (ChainFile S)) (fault : Fault)
         → FormChain S.state writable files → FirstCause S.state writable files fault → ⊥ }
+{}
+
+/// A raw file in memory, whatever it holds, is a chain by itself, which may be written, and its calls may begin: what `open_chain` and
+/// `run_files` promise of a top under such a premise isn't empty.
+pub fn a_raw_file_may_be_written()
+    ensures { (file : ChainFile MemStorage) → file.format ≡ Raw
+        → FormChain mem_state true (file ∷ []) × OfTop (IsFit mem_state) (file ∷ []) }
+{}
+
+/// So is a consistent qcow2 image that names no backing file, for reading. One is `qcow2_types::worked_image`.
+pub fn a_consistent_image_may_be_read()
+    ensures { (file : ChainFile MemStorage) (h : Header) → file.format ≡ Qcow2
+        → IsConsistent (bytes_of (mem_state file.image).bytes) h → h.backing_name ≡ None
+        → FormChain mem_state false (file ∷ []) × OfTop (IsFit mem_state) (file ∷ []) }
 {}

@@ -1,0 +1,48 @@
+-- Files in memory that form a chain by themselves, and are fit to be its top.
+use Rattle.std.proofs.Common.{◌≡◌, ◌∙◌, Bool, true, false, [], ◌∷◌, Ok, None, refl, ap, arith}
+use Rattle.std.specs.Prelude.{◌&&◌, IsTrue, is_some}
+use Rattle.std.proofs.lemmas.Bool.{and_parts}
+use Rattle.imago_storage.specs.MemStorage.{mem_state}
+use Rattle.imago_storage.specs.declared.memory.MemStorage.{MemStorage}
+use Rattle.imago_access.specs.declared.format.Format.TheVariants.{Qcow2, Raw}
+use Rattle.qcow2_types.specs.Bytes.{Bytes, bytes_of}
+use Rattle.qcow2_types.specs.Consistency.{IsConsistent, tables_sound}
+use Rattle.qcow2_types.specs.Counts.{refcount_table_sound}
+use Rattle.qcow2_types.specs.Entries.{l1_table_sound}
+use Rattle.qcow2_types.specs.Header.{Header}
+use Rattle.qcow2_types.proofs.Consistent.{header-reading}
+use Rattle.qcow2_image.specs.Opening.{header_for_reading}
+use Rattle.qimg_core.specs.declared.plain.ChainFile.{ChainFile}
+use Rattle.qimg_chain.specs.Chains.{IsFit, IsSoundAs, OfTop}
+use Rattle.qimg_chain.specs.FileLayers.{IsLayer, asked_of}
+use Rattle.qimg_chain.specs.Refusals.{FormChain}
+
+keeps : (m : MemStorage) → IsTrue (mem_state m).shape.keeps
+unfolding mem_state
+keeps m = refl
+
+fit : (file : ChainFile MemStorage) → IsSoundAs file.format (mem_state file.image).bytes → OfTop (IsFit mem_state) (file ∷ [])
+fit file sound = record { sound = sound; keeps = keeps file.image; others = λ k d inside. keeps _ }
+
+-- one file that names no layer below is a chain
+alone : (writable : Bool) (file : ChainFile MemStorage) → IsLayer mem_state writable file false [] → FormChain mem_state writable (file ∷ [])
+alone writable file layer = (omega arith, omega arith, ((false, [], layer, refl), tt))
+
+pub raw-fits : (file : ChainFile MemStorage) → file.format ≡ Raw → FormChain mem_state true (file ∷ []) × OfTop (IsFit mem_state) (file ∷ [])
+raw-fits file is = (alone true file (record { says = rw (is) refl; has = rw (is) refl }), fit file (rw (is) tt))
+
+-- a consistent image opens for reading by its header
+reads : (f : Bytes) (h : Header) → IsConsistent f h → header_for_reading f ≡ Ok h
+unfolding header_for_reading tables_sound
+reads f h sound =
+    let tables = and_parts (l1_table_sound f h.fields && refcount_table_sound f h.fields) _ sound.readable.tables in
+    let l1 : IsTrue (l1_table_sound f h.fields) = (and_parts (l1_table_sound f h.fields) (refcount_table_sound f h.fields) tables.0).0 in
+    rw (header-reading f h sound.readable.loads, sound.readable.data_inside, l1) refl
+
+pub image-fits : (file : ChainFile MemStorage) (h : Header) → file.format ≡ Qcow2 → IsConsistent (bytes_of (mem_state file.image).bytes) h → h.backing_name ≡ None
+    → FormChain mem_state false (file ∷ []) × OfTop (IsFit mem_state) (file ∷ [])
+image-fits file h is sound none =
+    let opens = reads (bytes_of (mem_state file.image).bytes) h sound in (
+      alone false file (record { says = rw (is) (ap (asked_of (λ H. is_some H.backing_name)) opens ∙ ap (λ name. Ok (is_some name)) none); has = rw (is) refl }),
+      fit file (rw (is) (h, sound)),
+    )
