@@ -13,7 +13,7 @@ use Rattle.qimg_core.specs.Plain.{IsFirstFault, value_fault}
 use Rattle.qimg_core.specs.declared.plain.ChainFile.{ChainFile}
 use Rattle.qimg_chain.specs.Chains.{AreLayers}
 use Rattle.qimg_chain.specs.FileMeanings.{FileBytes, IsDiskOf, files_bytes, size_of, value_of}
-use Rattle.qimg_chain.specs.PlainReads.{IsPlainlyRead, NotPlainlyRead, NotReadInOrder}
+use Rattle.qimg_chain.specs.PlainReads.{IsOutOfReach, IsPlainlyRead, NotPlainlyRead, NotReadInOrder}
 use Rattle.qimg_chain.specs.Refusals.{FormChain, IsCutOff}
 
 module _ {S D St : Type 0} (g : Ghosts D St) (state : S → StorageState) where
@@ -71,10 +71,10 @@ module _ {S : Type 0} (state : S → StorageState) (files : List (ChainFile S)) 
 
   refused_range : (disk : Disk) (inside n : ℕ) (fault : Fault) → IsDiskOf disk (files_bytes state files) → inside ≡ min (size_of (files_bytes state files) - offset) n
       → NotReadInOrder disk.value offset inside fault
-      → IsCutOff fault ⊎ (IsFirstFault (value_of (files_bytes state files)) offset n fault ⊎ ((2 ^ 64 ≤ size_of (files_bytes state files) + 2 ^ 20) × (fault ≡ RangeOverflow)))
+      → IsCutOff fault ⊎ (IsFirstFault (value_of (files_bytes state files)) offset n fault ⊎ (IsOutOfReach (files_bytes state files) offset n × (fault ≡ RangeOverflow)))
   refused_range disk inside n Memory means is why = inl (inl refl)
   refused_range disk inside n Storage means is why = inl (inr refl)
-  refused_range disk inside n RangeOverflow means is why = inr (inr (omega (arith, is, why.0, why.1), refl))
+  refused_range disk inside n RangeOverflow means is why = inr (inr ((omega (arith, is, why.0), omega (arith, is, why.0), omega (arith, is, why.0, why.1)), refl))
   refused_range disk inside n fault means is why = inr (inl (first_in disk.value inside n fault means.value (omega (arith, is)) why))
 
   -- why the front isn't read is why the files aren't

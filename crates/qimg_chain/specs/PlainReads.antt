@@ -1,5 +1,5 @@
 -- What a plain read of files fills its buffer with, and why it is refused.
-use Rattle.std.specs.Prelude.{◌≡◌, ◌⊎◌, ⊤, ℕ, ◌+◌, ◌^◌, ◌<◌, ◌≤◌, false, List, Some, None}
+use Rattle.std.specs.Prelude.{◌≡◌, ◌⊎◌, ⊤, ℕ, ◌+◌, ◌^◌, ◌<◌, ◌≤◌, min, false, List, Some, None}
 use Rattle.imago_storage.specs.State.{StorageState}
 use Rattle.imago_storage.specs.Disk.{Value, Shows}
 use Rattle.imago_storage.specs.declared.fault.Fault.{Fault}
@@ -33,13 +33,17 @@ pub record IsNarrowed (value : ℕ → Value) (offset n good end : ℕ) (fault :
   pub before : (i : ℕ) → i < good → value_fault (value (offset + i)) ≡ None
   pub faulty : (i : ℕ) × (good ≤ i) × (i < end) × (value_fault (value (offset + i)) ≡ Some fault)
 
+-- What the disk has of a range isn't empty, and ends so near the end of 64 bits that padded requests don't reach it.
+abbrev pub IsOutOfReach : List FileBytes → (offset n : ℕ) → Type 0
+IsOutOfReach files offset n = (offset < size_of files) × (0 < n) × (2 ^ 64 ≤ min (size_of files) (offset + n) + 2 ^ 20)
+
 -- Why a read of a range isn't carried out on files that are opened: its end passes 64 bits; or else the first value that can't be read; or
--- the disk ends so near the end of 64 bits that padded requests don't reach it.
+-- padded requests don't reach the end of what the disk has of it.
 abbrev pub RefusesRange : List FileBytes → (offset n : ℕ) → Fault → Type 0
 RefusesRange files offset n fault =
     ((2 ^ 64 ≤ offset + n) × (fault ≡ RangeOverflow))
     ⊎ ((offset + n < 2 ^ 64)
-    × (IsFirstFault (value_of files) offset n fault ⊎ ((2 ^ 64 ≤ size_of files + 2 ^ 20) × (fault ≡ RangeOverflow))))
+    × (IsFirstFault (value_of files) offset n fault ⊎ (IsOutOfReach files offset n × (fault ≡ RangeOverflow))))
 
 -- Why files aren't read: for want of memory or by a storage that failed; for the first cause why they aren't opened for reading; or for the
 -- range's own sake.

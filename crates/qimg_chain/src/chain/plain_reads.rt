@@ -17,9 +17,9 @@ use std::alloc::Global;
 ///
 /// It is refused with the first of these: what `open_chain` refuses for reading; `Fault::RangeOverflow` where the range's end passes
 /// `u64`; and where a place of the range can't be read, what the first such place asks for: `Fault::DamagedTable` where its table is
-/// damaged, `Fault::Barred` where it is compressed or has no access. `Fault::RangeOverflow` comes too where the disk ends so near the end
-/// of `u64` that requests of whole units don't reach its end: that is within 2^20 bytes. `Fault::Memory` and `Fault::Storage` come
-/// whenever they are met. A refusal leaves the buffer open.
+/// damaged, `Fault::Barred` where it is compressed or has no access. `Fault::RangeOverflow` comes too where what the disk has of the range
+/// ends so near the end of `u64` that requests of whole units don't reach its end: that is within 2^20 bytes. `Fault::Memory` and
+/// `Fault::Storage` come whenever they are met. A refusal leaves the buffer open.
 pub fn plain_read<S: Storage>(
     alloc: Global,
     files: Vec<ChainFile<S>>,
