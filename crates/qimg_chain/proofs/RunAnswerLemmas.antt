@@ -1,5 +1,5 @@
 -- Why lines of a script are refused, and what is found in the file that one checks.
-use Rattle.std.proofs.Common.{◌≡◌, refl, arith, subst, ℕ, ◌+◌, ◌<◌, ◌^◌, List}
+use Rattle.std.proofs.Common.{◌≡◌, refl, ap, arith, subst, ℕ, zero, suc, ◌+◌, ◌<◌, ◌^◌, List, [], ◌∷◌, ◌++◌, length, take}
 use Rattle.std.specs.Prelude.{Err}
 use Rattle.imago_storage.specs.declared.fault.Fault.{Fault}
 use Rattle.imago_storage.specs.declared.fault.Fault.TheVariants.{BadArgument, Memory}
@@ -32,3 +32,10 @@ unsound copy after image found.Storage same none still is =
     let more : after.faults + 1 < 2 ^ 64 = omega (arith, still) in
     let rose : copy.faults < after.faults = is.rose more in
     absurd (omega (arith, none, still, rose))
+
+-- what was written over the front of a buffer, which is all of it
+pub front_of : (n : ℕ) (xs ys : List ℕ) → n ≡ length xs → take n (xs ++ ys) ≡ xs
+front_of zero [] ys same = refl
+front_of zero (x ∷ xs) ys same = absurd (omega (arith, same))
+front_of (suc n) [] ys same = absurd (omega (arith, same))
+front_of (suc n) (x ∷ xs) ys same = ap (λ zs. x ∷ zs) (front_of n xs ys (omega (arith, same)))

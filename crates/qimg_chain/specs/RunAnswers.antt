@@ -1,7 +1,6 @@
 -- What lines of a script are answered with, and what they do to a chain, by its drivers before and after, the top first.
 use Rattle.std.specs.Prelude.{◌≡◌, ◌≢◌, ⊤, ℕ, ◌<◌, ◌≤◌, ◌⊎◌, List, length, Option, Result, Ok, Err, MatchOption, Vec, map}
 use Rattle.std.specs.Global.{Global}
-use Rattle.imago_storage.specs.Disk.{Shows}
 use Rattle.imago_storage.specs.MemStorage.{mem_state}
 use Rattle.imago_storage.specs.declared.fault.Fault.{Fault}
 use Rattle.imago_storage.specs.declared.fault.Fault.TheVariants.{BadArgument, Memory as WantOfMemory, Unsupported}
@@ -11,15 +10,15 @@ use Rattle.imago_access.specs.Layers.{chain}
 use Rattle.imago_access.specs.declared.format.Format.{Format}
 use Rattle.imago_access.specs.declared.format.Format.TheVariants.{Qcow2}
 use Rattle.qcow2_types.specs.Bytes.{Bytes}
-use Rattle.qcow2_types.specs.Consistency.{Finding, header, snapshots, external, table, shared_table, false_copied, under_counted, IsVerdict}
+use Rattle.qcow2_types.specs.Consistency.{header, snapshots, external, table, shared_table, false_copied, under_counted, IsVerdict}
 use Rattle.qimg_calls.specs.Making.{AnswersAlone}
 use Rattle.qimg_core.specs.Check.{IsFinding}
 use Rattle.qimg_core.specs.Files.{file}
 use Rattle.qimg_core.specs.declared.plain.ChainFile.{ChainFile}
 use Rattle.qimg_core.specs.declared.check.CheckFault.{CheckFault}
 use Rattle.qimg_core.specs.declared.check.CheckFault.TheVariants as check_fault
-use Rattle.qimg_chain.specs.FileMeanings.{driver_bytes, files_bytes, value_of}
-use Rattle.qimg_chain.specs.PlainReads.{NotPlainlyRead}
+use Rattle.qimg_chain.specs.FileMeanings.{driver_bytes, files_bytes}
+use Rattle.qimg_chain.specs.PlainReads.{IsPlainlyRead, NotPlainlyRead}
 use Rattle.qimg_chain.specs.RunCalls.{Turn, unmade, TellsCall, TellsSave}
 use Rattle.qimg_chain.specs.declared.script.answer.Answer.{Answer}
 use Rattle.qimg_chain.specs.declared.script.answer.Answer.TheVariants as told
@@ -62,16 +61,22 @@ Checks format f (told.Refused Unsupported) = format ≢ Qcow2
 Checks format f (told.Refused WantOfMemory) = ⊤
 Checks format f answer = ⊥
 
+-- of some copies of the chain's files, by the names of its further files, this holds
+abbrev pub OfCopies : {D St : Type 0} → Ghosts D St → (D → ℕ → List ℕ) → (List (ChainFile MemStorage) → Type 0) → D × List D → Type 0
+OfCopies g names P c =
+    (copies : List (ChainFile MemStorage)) × (files_bytes mem_state copies ≡ map (driver_bytes g names) (chain c)) × P copies
+
 -- Why what the chain's files show isn't read: there are too many bytes for a line, there was want of memory, or as copies of these files
 -- are refused.
 abbrev pub NotReadPlainly : {D St : Type 0} → Ghosts D St → (D → ℕ → List ℕ) → ℕ → ℕ → Fault → D × List D → Type 0
-NotReadPlainly g names offset n fault c = ((32768 < n) × (fault ≡ BadArgument)) ⊎ ((fault ≡ WantOfMemory)
-    ⊎ ((copies : List (ChainFile MemStorage)) × (files_bytes mem_state copies ≡ map (driver_bytes g names) (chain c))
-    × NotPlainlyRead mem_state copies offset n fault))
+NotReadPlainly g names offset n fault c = ((32768 < n) × (fault ≡ BadArgument))
+    ⊎ ((fault ≡ WantOfMemory) ⊎ OfCopies g names (λ copies. NotPlainlyRead mem_state copies offset n fault) c)
 
--- A plain read of the chain, by the names of its further files: the bytes that its files mean as they stand.
+-- A plain read of the chain, as one of copies of its files: the bytes that they mean as they stand, where they form a chain and the
+-- range's end fits 64 bits.
 abbrev pub ReadsPlainly : {D St : Type 0} → Ghosts D St → (D → ℕ → List ℕ) → ℕ → ℕ → Result (List ℕ) Fault → D × List D → Type 0
-ReadsPlainly g names offset n (Ok bytes) c = IsLength n bytes × Shows (value_of (map (driver_bytes g names) (chain c))) offset bytes
+ReadsPlainly g names offset n (Ok bytes) c =
+    IsLength n bytes × OfCopies g names (λ copies. IsPlainlyRead mem_state copies offset n bytes) c
 ReadsPlainly g names offset n (Err fault) c = NotReadPlainly g names offset n fault c
 
 -- what a plain read is answered with
