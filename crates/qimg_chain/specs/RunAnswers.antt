@@ -47,10 +47,10 @@ IsUnsoundBy f (check_fault.UnderCounted c) = IsFinding f (under_counted c)
 IsUnsoundBy f check_fault.Memory = ⊤
 IsUnsoundBy f check_fault.Storage = ⊥
 
--- why the file of a layer of this format isn't copied: it is no qcow2 image, or there was want of memory
+-- why the file of a layer of this format isn't copied: it is no qcow2 image, or else there was want of memory
 abbrev pub WhyNotCopied : Format → Fault → Type 0
 WhyNotCopied format Unsupported = format ≢ Qcow2
-WhyNotCopied format WantOfMemory = ⊤
+WhyNotCopied format WantOfMemory = format ≡ Qcow2
 WhyNotCopied format fault = ⊥
 
 -- What is said of the file of a layer of this format: how many clusters it leaks, or what the checker finds in it.
@@ -58,7 +58,7 @@ abbrev pub Checks : Format → Bytes → Answer → Type 0
 Checks format f (told.Number n) = (format ≡ Qcow2) × ((found : List (ℕ × ℕ)) × IsVerdict f (Ok found) × (n ≡ length found))
 Checks format f (told.Unsound finding) = (format ≡ Qcow2) × IsUnsoundBy f finding
 Checks format f (told.Refused Unsupported) = format ≢ Qcow2
-Checks format f (told.Refused WantOfMemory) = ⊤
+Checks format f (told.Refused WantOfMemory) = format ≡ Qcow2
 Checks format f answer = ⊥
 
 -- of some copies of the chain's files, by the names of its further files, this holds
@@ -66,11 +66,11 @@ abbrev pub OfCopies : {D St : Type 0} → Ghosts D St → (D → ℕ → List �
 OfCopies g names P c =
     (copies : List (ChainFile MemStorage)) × (files_bytes mem_state copies ≡ map (driver_bytes g names) (chain c)) × P copies
 
--- Why what the chain's files show isn't read: there are too many bytes for a line, there was want of memory, or as copies of these files
--- are refused.
+-- Why what the chain's files show isn't read: there are too many bytes for a line; or else there was want of memory, or as copies of these
+-- files are refused.
 abbrev pub NotReadPlainly : {D St : Type 0} → Ghosts D St → (D → ℕ → List ℕ) → ℕ → ℕ → Fault → D × List D → Type 0
 NotReadPlainly g names offset n fault c = ((32768 < n) × (fault ≡ BadArgument))
-    ⊎ ((fault ≡ WantOfMemory) ⊎ OfCopies g names (λ copies. NotPlainlyRead mem_state copies offset n fault) c)
+    ⊎ ((n ≤ 32768) × ((fault ≡ WantOfMemory) ⊎ OfCopies g names (λ copies. NotPlainlyRead mem_state copies offset n fault) c))
 
 -- A plain read of the chain, as one of copies of its files: the bytes that they mean as they stand, where they form a chain and the
 -- range's end fits 64 bits.

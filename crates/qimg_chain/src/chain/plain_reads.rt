@@ -1,5 +1,5 @@
 // Reads of files as a chain, of which nothing stays open.
-ghost use Rattle.std.specs.Prelude.{◌≡◌, ◌↔◌, ◌∷◌, ◌<◌, ◌+◌, ◌^◌, ℕ, length, map, slice_index, IfErr, IsTrue, OnOk};
+ghost use Rattle.std.specs.Prelude.{◌≡◌, ◌↔◌, ◌∷◌, ◌<◌, ◌+◌, ◌^◌, ℕ, length, map, slice_index, IfErr, IsErrOf, IsTrue, OnOk};
 ghost use Rattle.imago_storage.specs.Disk.{Shows};
 ghost use Rattle.imago_access.specs.Chain.{at, Each};
 ghost use Rattle.imago_storage.specs.declared.fault.Fault.{Fault};
@@ -28,6 +28,8 @@ pub fn plain_read<S: Storage>(
 ) -> Result<(), Fault>
     ensures ok { OnOk result (IsPlainlyRead S.state files.items offset (length buf.old) buf.new) }
     ensures err { IfErr result (NotPlainlyRead S.state files.items offset (length buf.old)) }
+    ensures none { length files.items ≡ 0 → IsErrOf result Fault.MissingBelow }
+    ensures many { 64 < length files.items → IsErrOf result (Fault.Limit (length files.items)) }
 {
     let mut chain = match open_chain(alloc, files, false, 0) {
         Ok(chain) => chain,
