@@ -1,12 +1,12 @@
 -- What a layer just opened shows is what its file means.
-use Rattle.std.proofs.Common.{◌≡◌, ◌⊎◌, ◌∙◌, ◌∷◌, ◌<◌, ◌≤◌, ◌+◌, ◌/◌, [], ℕ, zero, suc, List, ap, arith, inl, inr, length, refl, subst, sym}
-use Rattle.std.specs.Prelude.{Bool, Err, None, Ok, Result, Some, cond, false, ltb, map, slice_index, true}
+use Rattle.std.proofs.Common.{◌≡◌, ◌⊎◌, ◌∙◌, ◌∷◌, ◌<◌, ◌≤◌, ◌+◌, [], ℕ, zero, suc, List, ap, arith, inl, inr, length, refl, subst, sym}
+use Rattle.std.specs.Prelude.{Bool, None, Ok, Result, Some, cond, false, ltb, map, slice_index, true}
 use Rattle.std.specs.Borrow.{RattleType}
 use Rattle.std.specs.declared.string.String.{String}
 use Rattle.std.specs.declared.alloc.Global.{Global}
 use Rattle.std.proofs.lemmas.Bool.{cases_lt, lt-ltb, le-ltb}
 use Rattle.std.proofs.lemmas.List.{length-map}
-use Rattle.imago_storage.specs.Disk.{Value, byte}
+use Rattle.imago_storage.specs.Disk.{byte}
 use Rattle.imago_storage.specs.State.{StorageState}
 use Rattle.imago_storage.specs.declared.fault.Fault.{Fault}
 use Rattle.imago_storage.specs.declared.fault.Fault.TheVariants.{MissingData}
@@ -14,7 +14,7 @@ use Rattle.imago_storage.specs.declared.storage.Storage.{Ghosts}
 use Rattle.imago_access.specs.Building.{IsOpened}
 use Rattle.imago_access.specs.Chain.{at, disk_of}
 use Rattle.imago_access.specs.Files.{byte_in}
-use Rattle.imago_access.specs.Layer.{Layer, own, through, unmapped}
+use Rattle.imago_access.specs.Layer.{Layer, through, unmapped}
 use Rattle.imago_access.specs.Refusals.{barrier}
 use Rattle.imago_access.specs.declared.format.Format.TheVariants as format
 use Rattle.imago_formats.specs.Descriptor.{descriptor_of}
@@ -25,19 +25,16 @@ use Rattle.imago_formats.specs.VmdkLaws.{as_stated, written}
 use Rattle.imago_formats.specs.contracts.raw.RawSeen.TheImpl as raw_seen
 use Rattle.imago_formats.specs.declared.raw.Raw.{Raw}
 use Rattle.imago_formats.specs.declared.vmdk.descriptor.Extent.{Extent}
-use Rattle.qcow2_image.specs.ImageLayer.{blank_of, cell_by, qcow2_meaning}
-use Rattle.qcow2_image.specs.ImageLayer as image_layer
+use Rattle.qcow2_image.specs.ImageLayer.{qcow2_meaning}
 use Rattle.qcow2_image.specs.contracts.qcow2.Qcow2Seen.TheImpl as qcow2_seen
 use Rattle.qcow2_image.specs.declared.qcow2.Qcow2.{Qcow2}
-use Rattle.qcow2_types.specs.Bytes.{Bytes, bytes_of}
-use Rattle.qcow2_types.specs.Entries.{entry}
-use Rattle.qcow2_types.specs.Header.{Fields, Header, cluster_size, header_of}
-use Rattle.qcow2_types.specs.Words.{Mapping, data_at, damaged, packed, zeroes}
-use Rattle.qcow2_types.specs.Words as words
+use Rattle.qcow2_types.specs.Bytes.{bytes_of}
+use Rattle.qcow2_types.specs.Header.{header_of}
 use Rattle.qimg_chain.specs.FileMeanings.{FileBytes, IsDiskOf, ShowsFile, byte_at, extra_bytes, names_said, taken_for, value_of}
+use Rattle.qimg_chain.specs.FilesByName.{names_kept, qcow2_through, same_extents, same_size, sized}
 use Rattle.qimg_chain.specs.declared.chain.extras.Extras.{Extras}
 use Rattle.qimg_chain.proofs.FurtherTaken.{Answers}
-use Rattle.qimg_chain.proofs.FilesTaken.{alike, as_many, names_kept, opened_bytes}
+use Rattle.qimg_chain.proofs.FilesTaken.{as_many, opened_bytes}
 
 -- ---- One layer over others.
 
@@ -53,33 +50,6 @@ over layer below file files shows same backed = record {
   ];
 }
 
--- ---- Qcow2 images.
-
--- places that nothing maps are 0 where nothing lies below
-blank_mapped : (f : Bytes) (h : Fields) (p : ℕ) (v : Value) (t : Bool) (m : Mapping) → v ≡ byte 0
-    → through (cond t (cell_by (own (byte 0)) f h p m) (own (byte 0))) v ≡ through (cond t (cell_by unmapped f h p m) (own (byte 0))) v
-blank_mapped f h p v false m is = refl
-blank_mapped f h p v true (data_at cluster copied) is = refl
-blank_mapped f h p v true (zeroes cluster copied) is = refl
-blank_mapped f h p v true (packed offset n) is = refl
-blank_mapped f h p v true words.unmapped is = sym is
-blank_mapped f h p v true damaged is = refl
-
-blank_meant : (f : Bytes) (said : Result Header Fault) (p : ℕ) (v : Value) → v ≡ byte 0
-    → through ((image_layer.meaning_of (own (byte 0)) f said).cell p) v ≡ through ((image_layer.meaning_of unmapped f said).cell p) v
-blank_meant f (Ok H) p v is = blank_mapped f H.fields p v (ltb p H.fields.size) (entry f H.fields (p / cluster_size H.fields)) is
-blank_meant f (Err fault) p v is = refl
-
-qcow2_through : (backed : Bool) (bytes : List ℕ) (p : ℕ) (v : Value) → (blank_of backed ≡ unmapped) ⊎ (v ≡ byte 0)
-    → through ((qcow2_meaning (blank_of backed) bytes).cell p) v ≡ through ((qcow2_meaning unmapped bytes).cell p) v
-qcow2_through true bytes p v known = refl
-qcow2_through false bytes p v (inl hides) = absurd (cc hides)
-qcow2_through false bytes p v (inr is) = blank_meant (bytes_of bytes) (header_of false (bytes_of bytes)) p v is
-
-sized : (backed : Bool) (f : Bytes) (said : Result Header Fault) → (image_layer.meaning_of (blank_of backed) f said).size ≡ (image_layer.meaning_of unmapped f said).size
-sized backed f (Ok H) = refl
-sized backed f (Err fault) = refl
-
 -- ---- VMDK images.
 
 -- an image that lacks no file has at least as many as are asked for
@@ -89,15 +59,6 @@ lacks_none false is = refl
 
 enough : (n asked : ℕ) → ltb n asked ≡ false → asked ≤ n
 enough n asked is = elim (cases_lt n asked) [ inl less ↦ absurd (cc (sym (lt-ltb n asked less) ∙ is)) | inr le ↦ le ]
-
-same_extents : (f e : ℕ → ℕ → ℕ) (said : Result (List (Extent (List ℕ))) Fault) (p : ℕ) → ((j q : ℕ) → 1 ≤ j → j < 1 + length (names_said said) → f j q ≡ e j q)
-    → (meaning_of said f).cell p ≡ (meaning_of said e).cell p
-same_extents f e (Ok xs) p same = alike f e xs 1 p same
-same_extents f e (Err fault) p same = refl
-
-same_size : (f e : ℕ → ℕ → ℕ) (said : Result (List (Extent (List ℕ))) Fault) → (meaning_of said f).size ≡ (meaning_of said e).size
-same_size f e (Ok xs) = refl
-same_size f e (Err fault) = refl
 
 -- the files that were opened for the names of extents have the bytes of those that are taken for them
 files_alike : {S : Type 0} (state : S → StorageState) (xs : List (Extent (String Global))) (image : StorageState) (bytes : List ℕ) (handed left : Extras S) (files : List S)

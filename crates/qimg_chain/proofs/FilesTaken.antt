@@ -1,6 +1,6 @@
 -- The files that are taken for the names in a descriptor.
-use Rattle.std.proofs.Common.{◌≡◌, ◌∙◌, ◌∷◌, ◌++◌, ◌<◌, ◌≤◌, ◌+◌, ◌-◌, ◌*◌, [], ℕ, zero, suc, List, ap, arith, cond, drop, length, refl, subst, sym}
-use Rattle.std.specs.Prelude.{All, Bool, Ok, false, ltb, map, slice_index, slice_index_or, true}
+use Rattle.std.proofs.Common.{◌≡◌, ◌∙◌, ◌∷◌, ◌++◌, ◌<◌, ◌+◌, ◌-◌, [], ℕ, zero, suc, List, ap, arith, cond, drop, length, refl, subst, sym}
+use Rattle.std.specs.Prelude.{All, Bool, Ok, false, map, slice_index, slice_index_or, true}
 use Rattle.std.specs.Str.{bytes_eq}
 use Rattle.std.specs.String.{string_bytes}
 use Rattle.std.specs.declared.string.String.{String}
@@ -10,11 +10,9 @@ use Rattle.std.proofs.lemmas.List.Elements.{All-head, All-tail}
 use Rattle.std.proofs.lemmas.List.Sums.{sum_by-cons}
 use Rattle.std.proofs.lemmas.Slice.Eq.{bytes_eq-Decides}
 use Rattle.imago_storage.specs.State.{StorageState}
-use Rattle.imago_storage.specs.Disk.{byte}
 use Rattle.imago_access.specs.Files.{byte_in}
-use Rattle.imago_access.specs.Layer.{own}
-use Rattle.imago_formats.specs.DescriptorView.{kept_extents, kept_names, source_with}
-use Rattle.imago_formats.specs.VmdkLayer.{asks_file, file_names, files_asked, has_file, in_extents, in_source, name_in}
+use Rattle.imago_formats.specs.DescriptorView.{kept_names}
+use Rattle.imago_formats.specs.VmdkLayer.{asks_file, file_names, files_asked, has_file, name_in}
 use Rattle.imago_formats.specs.VmdkOpening.{Opens}
 use Rattle.imago_formats.specs.declared.vmdk.descriptor.Access.{Access}
 use Rattle.imago_formats.specs.declared.vmdk.descriptor.Access.TheVariants.{NoAccess, ReadOnly, ReadWrite}
@@ -26,40 +24,7 @@ use Rattle.qimg_chain.specs.FileMeanings.{byte_at, extra_bytes, first_named, tak
 use Rattle.qimg_chain.specs.declared.chain.extras.Extras.{Extras}
 use Rattle.qimg_chain.proofs.FurtherTaken.{Answers}
 
--- ---- Extents show the same over files that agree where they are asked for.
-
-pub alike : (f e : ℕ → ℕ → ℕ) (xs : List (Extent (List ℕ))) (k p : ℕ)
-    → ((j q : ℕ) → k ≤ j → j < k + length (file_names xs) → f j q ≡ e j q) → in_extents f xs k p ≡ in_extents e xs k p
-alike f e [] k p same = refl
-alike f e (x ∷ xs) k p same = by_access x.access x.source (ltb p (512 * x.sectors)) (λ n. alike f e xs n (p - 512 * x.sectors)) same where
-  by_access : (a : Access) (s : Source (List ℕ)) (t : Bool)
-      → ((n : ℕ) → ((j q : ℕ) → n ≤ j → j < n + length (file_names xs) → f j q ≡ e j q) → in_extents f xs n (p - 512 * x.sectors) ≡ in_extents e xs n (p - 512 * x.sectors))
-      → ((j q : ℕ) → k ≤ j → j < k + length (name_in a s ++ file_names xs) → f j q ≡ e j q)
-      → cond t (in_source a s (f k) p) (in_extents f xs (cond (asks_file a s) (k + 1) k) (p - 512 * x.sectors))
-      ≡ cond t (in_source a s (e k) p) (in_extents e xs (cond (asks_file a s) (k + 1) k) (p - 512 * x.sectors))
-  by_access NoAccess s true later agree = refl
-  by_access NoAccess s false later agree = later k agree
-  by_access ReadWrite (Flat name sector) true later agree = ap (λ b. own (byte b)) (agree k (512 * sector + p) (omega arith) (omega arith))
-  by_access ReadWrite (Flat name sector) false later agree = later (k + 1) (λ j q low high. agree j q (omega (arith, low)) (omega (arith, high)))
-  by_access ReadWrite Zero true later agree = refl
-  by_access ReadWrite Zero false later agree = later k agree
-  by_access ReadOnly (Flat name sector) true later agree = ap (λ b. own (byte b)) (agree k (512 * sector + p) (omega arith) (omega arith))
-  by_access ReadOnly (Flat name sector) false later agree = later (k + 1) (λ j q low high. agree j q (omega (arith, low)) (omega (arith, high)))
-  by_access ReadOnly Zero true later agree = refl
-  by_access ReadOnly Zero false later agree = later k agree
-
--- ---- Names, as the descriptor has them and as they are kept.
-
-pub names_kept : (xs : List (Extent (String Global))) → file_names (kept_extents xs) ≡ kept_names xs
-names_kept [] = refl
-names_kept (x ∷ xs) = by_access x.access x.source (names_kept xs) where
-  by_access : (a : Access) (s : Source (String Global)) → file_names (kept_extents xs) ≡ kept_names xs
-      → name_in a (source_with (λ name. string_bytes name) s) ++ file_names (kept_extents xs) ≡ map (λ name. string_bytes name) (name_in a s ++ file_names xs)
-  by_access NoAccess s rest = rest
-  by_access ReadWrite (Flat name sector) rest = ap (λ names. string_bytes name ∷ names) rest
-  by_access ReadWrite Zero rest = rest
-  by_access ReadOnly (Flat name sector) rest = ap (λ names. string_bytes name ∷ names) rest
-  by_access ReadOnly Zero rest = rest
+-- ---- Names, as they are kept.
 
 pub as_many : (xs : List (Extent (String Global))) → length (kept_names xs) ≡ files_asked xs
 as_many [] = refl

@@ -103,6 +103,13 @@ pub record ShowsFile (layer : Layer) (file : FileBytes) : Type 0 where
   pub cell : (p : ℕ) (below : Value) → p < layer.size → (layer.fixed.blank ≡ unmapped) ⊎ (below ≡ byte 0)
       → through (layer.cell p) below ≡ through ((file_meaning file).cell p) below
 
+-- What a layer's own file means to it is what a file means. Places that the file leaves to what lies below are 0 where the layer shows
+-- nothing below.
+pub record MeansFile (layer : Layer) (bytes : List ℕ) (file : FileBytes) : Type 0 where
+  pub size : (layer.fixed.means bytes).size ≡ (file_meaning file).size
+  pub cell : (p : ℕ) (below : Value) → (layer.fixed.blank ≡ unmapped) ⊎ (below ≡ byte 0)
+      → through ((layer.fixed.means bytes).cell p) below ≡ through ((file_meaning file).cell p) below
+
 -- The disk is as long as that of the files, and shows the same.
 pub record IsDiskOf (disk : Disk) (files : List FileBytes) : Type 0 where
   pub size : disk.size ≡ size_of files

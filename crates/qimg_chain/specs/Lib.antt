@@ -5,6 +5,7 @@ pub mod CheckNumbers
 pub mod Extras
 pub mod FileLayers
 pub mod FileMeanings
+pub mod FilesByName
 pub mod FurtherFiles
 pub mod Headline
 pub mod ImageDrivers

@@ -1,6 +1,10 @@
 // The names of a layer's further files.
-ghost use Rattle.std.specs.Prelude.{◌≡◌, ◌<◌, ℕ, List, [], length, slice_index_or};
+ghost use Rattle.std.specs.Prelude.{◌≡◌, ◌<◌, ℕ, List, [], false, length, map, refl, slice_index_or};
 ghost use Rattle.imago_formats.specs.DescriptorView.{kept_names};
+ghost use Rattle.qcow2_types.specs.Bytes.{bytes_of};
+ghost use Rattle.qcow2_types.specs.Header.{header_of};
+ghost use Rattle.qimg_chain.specs.FileMeanings.{MeansFile, driver_bytes};
+ghost use Rattle.qimg_chain.specs.FilesByName.{qcow2_through, sized, vmdk_named};
 ghost use Rattle.qimg_chain.specs.declared.chain.image_driver.ImageDriver.TheVariants as variant;
 
 use crate::chain::image_driver::ImageDriver;
@@ -20,6 +24,9 @@ pub trait NamesFiles: FormatDriverInstance {
     fn extra_name(&self, index: usize) -> &str
         requires { index < length (Self.extras self.now) }
         ensures { result.now ≡ Self.names self.now index };
+
+    /// What the image file of a safe driver means to it is what it means with the further files that are found by these names.
+    ghost named: { (d : Self) → Self.safe d → MeansFile (Self.layer d) (Self.image d).bytes (driver_bytes Self.Seen names d) };
 }
 
 impl<S: Storage> NamesFiles for ImageDriver<S> {
@@ -27,6 +34,14 @@ impl<S: Storage> NamesFiles for ImageDriver<S> {
       | variant.Raw d ↦ λ index. []
       | variant.Vmdk d ↦ λ index. slice_index_or (kept_names d.disk.extents.items) index []
       | variant.Qcow2 d ↦ λ index. []
+    ] };
+
+    ghost named = { elim [
+      | variant.Raw d ↦ λ safe. record { size = refl; cell = λ p below backed. refl }
+      | variant.Vmdk d ↦ λ safe. vmdk_named d.disk.extents.items (S.state d.image) (map S.state d.files.items) safe.2
+      | variant.Qcow2 d ↦ λ safe.
+          let bytes = (S.state d.tables.file.image).bytes in
+          record { size = sized d.backing (bytes_of bytes) (header_of false (bytes_of bytes)); cell = qcow2_through d.backing bytes }
     ] };
 
     fn extra_count(&self) -> usize {
