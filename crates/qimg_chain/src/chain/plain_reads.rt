@@ -67,7 +67,7 @@ fn read_in_order<D: FormatDriverInstance>(
         Ok(()) => Ok(()),
         Err(fault) => {
             if is_of_place(fault) {
-                return Err(first_fault(alloc, chain, offset, buf, fault));
+                return Err(first_place_fault(alloc, chain, offset, buf, fault));
             }
             Err(fault)
         }
@@ -83,7 +83,7 @@ fn is_of_place(fault: Fault) -> bool
 
 // Why the first place of a range can't be read that can't: there is one, and this is the fault of one. It halves the range in which the
 // first one is sought.
-fn first_fault<D: FormatDriverInstance>(
+fn first_place_fault<D: FormatDriverInstance>(
     alloc: Global,
     chain: &mut FormatAccess<D>,
     offset: u64,

@@ -6,7 +6,7 @@ ghost use Rattle.qimg_core.specs.Files.{file};
 ghost use Rattle.qimg_chain.specs.RunAnswers.{Checks, IsLength, ReadsPlainly, WhyNoBuffer, WhyNotCopied};
 
 use super::calls::MOST_READ;
-use crate::chain::{NamesFiles, plain_read, snapshot};
+use crate::chain::{NamesFiles, copy_file, plain_read, snapshot};
 use crate::script::{Answer, Bytes};
 use imago_access::{Format, FormatAccess, FormatDriverInstance};
 use imago_storage::{Fault, MemStorage};
@@ -37,12 +37,8 @@ fn image_copy<D: FormatDriverInstance<Storage = MemStorage>>(
     ensures err { IfErr result (WhyNotCopied (D.layer chain.now.0).fixed.format) }
 {
     match chain.inner().format() {
-        Format::Qcow2 => {}
-        Format::Raw | Format::Vmdk => return Err(Fault::Unsupported),
-    }
-    match chain.inner().image_file().bytes() {
-        Ok(bytes) => MemStorage::from_bytes(bytes),
-        Err(fault) => Err(fault),
+        Format::Qcow2 => copy_file(chain.inner().image_file()),
+        Format::Raw | Format::Vmdk => Err(Fault::Unsupported),
     }
 }
 

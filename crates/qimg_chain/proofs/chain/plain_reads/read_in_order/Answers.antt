@@ -9,21 +9,21 @@ use Rattle.qimg_chain.specs.PlainReads.{HasFault, NotReadInOrder}
 use Rattle.qimg_chain.proofs.Narrowing.{met, mild, otherwise}
 use Rattle.qimg_chain.proofs.chain.plain_reads.read_in_order.Goals as goal
 
-pub first_fault-requires-clause-sees : goal.first_fault-requires-clause-sees
-first_fault-requires-clause-sees g c =
+pub first_place_fault-requires-clause-sees : goal.first_place_fault-requires-clause-sees
+first_place_fault-requires-clause-sees g c =
     let d = g.D.Seen in
     let place = c.is_of_place.ensures.0 (grind (arith, c.if-is_of_place.true)) in
     chain_sees d (IsMild c.in-Err.fault) (c.args.chain.now.0 ∷ c.args.chain.now.1) (c.read.new.self.0 ∷ c.read.new.self.1) (mild c.in-Err.fault place) c.requires.sees c.in-Err.ensures.looked
 
-pub first_fault-requires-clause-usable : goal.first_fault-requires-clause-usable
-first_fault-requires-clause-usable g c = λ f is.
+pub first_place_fault-requires-clause-usable : goal.first_place_fault-requires-clause-usable
+first_place_fault-requires-clause-usable g c = λ f is.
     let d = g.D.Seen in
     let place = c.is_of_place.ensures.0 (grind (arith, c.if-is_of_place.true)) in
     let same = chain_same d (IsMild c.in-Err.fault) (c.args.chain.now.0 ∷ c.args.chain.now.1) (c.read.new.self.0 ∷ c.read.new.self.1) (mild c.in-Err.fault place) c.requires.sees c.in-Err.ensures.looked in
     c.requires.usable f (subst (λ (ls : List Layer). SomeUnusable ls f) same is)
 
-pub first_fault-requires-clause-faulty : goal.first_fault-requires-clause-faulty
-first_fault-requires-clause-faulty g c =
+pub first_place_fault-requires-clause-faulty : goal.first_place_fault-requires-clause-faulty
+first_place_fault-requires-clause-faulty g c =
     let d = g.D.Seen in
     let olds = c.args.chain.now.0 ∷ c.args.chain.now.1 in let news = c.read.new.self.0 ∷ c.read.new.self.1 in
     let layers = map d.layer olds in
@@ -41,8 +41,8 @@ returns-then-is_of_place-clause-err g c =
     let layers = map d.layer olds in
     let place = c.is_of_place.ensures.0 (grind (arith, c.if-is_of_place.true)) in
     let same = chain_same d (IsMild c.in-Err.fault) olds news (mild c.in-Err.fault place) c.requires.sees c.in-Err.ensures.looked in
-    subst (λ (n : ℕ). NotReadInOrder (at layers) c.args.offset n c.first_fault.result) c.read.auto.buf
-    (subst (λ (ls : List Layer). NotReadInOrder (at ls) c.args.offset (length c.read.new.buf) c.first_fault.result) same c.first_fault.ensures)
+    subst (λ (n : ℕ). NotReadInOrder (at layers) c.args.offset n c.first_place_fault.result) c.read.auto.buf
+    (subst (λ (ls : List Layer). NotReadInOrder (at ls) c.args.offset (length c.read.new.buf) c.first_place_fault.result) same c.first_place_fault.ensures)
 
 pub returns-else-is_of_place-clause-err : goal.returns-else-is_of_place-clause-err
 returns-else-is_of_place-clause-err g c =

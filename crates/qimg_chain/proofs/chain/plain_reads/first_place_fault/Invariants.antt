@@ -1,7 +1,7 @@
 use Rattle.std.proofs.Common.{◌≡◌, ◌∷◌, ◌-◌, length, map}
 use Rattle.imago_access.specs.Chain.{at, Each}
 use Rattle.qimg_chain.specs.PlainReads.{IsNarrowed}
-use Rattle.qimg_chain.proofs.chain.plain_reads.first_fault.Given as goal
+use Rattle.qimg_chain.proofs.chain.plain_reads.first_place_fault.Given as goal
 
 -- The layers show what they did, and the first value that can't be read is sought between two places.
 abbrev pub invariant-loop-end : goal.invariant-loop-end

@@ -9,7 +9,7 @@ use Rattle.imago_access.proofs.Looking.{chain_same, chain_sees}
 use Rattle.imago_access.proofs.Reading.{shown_of_step}
 use Rattle.imago_access.proofs.Units.{unit_aligned}
 use Rattle.qimg_chain.proofs.Narrowing.{alone, begun, found, in_order, met, mild, moved, otherwise, passed}
-use Rattle.qimg_chain.proofs.chain.plain_reads.first_fault.Goals as goal
+use Rattle.qimg_chain.proofs.chain.plain_reads.first_place_fault.Goals as goal
 
 pub loop-end-init : goal.loop-end-init
 loop-end-init g c = let d = g.D.Seen in record {
