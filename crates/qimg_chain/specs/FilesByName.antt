@@ -139,10 +139,10 @@ vmdk_named xs image ss said =
           (numbered xs image ss)));
     }
   where
-  numbered : (xs : List (Extent (String Global))) (image : StorageState) (ss : List StorageState) (j q : ℕ) → 1 ≤ j → j < 1 + length (file_names (kept_extents xs))
-      → byte_in (image ∷ ss) j q
-      ≡ byte_at (image.bytes ∷ taken_for (file_names (kept_extents xs)) (with_names (λ (i : ℕ). slice_index_or (kept_names xs) i []) 0 ss)) j q
-  numbered xs image ss zero q low high = absurd (omega (arith, low))
-  numbered xs image ss (suc j) q low high = in_order (λ (i : ℕ). slice_index_or (kept_names xs) i []) (file_names (kept_extents xs)) 0 ss
-      (λ i small. let here : 0 + i ≡ i = omega arith in
-      ap (λ n. slice_index_or (kept_names xs) n []) here ∙ ap (λ names. slice_index_or names i []) (sym (names_kept xs))) j q (omega (arith, high))
+    numbered : (xs : List (Extent (String Global))) (image : StorageState) (ss : List StorageState) (j q : ℕ) → 1 ≤ j → j < 1 + length (file_names (kept_extents xs))
+        → byte_in (image ∷ ss) j q
+        ≡ byte_at (image.bytes ∷ taken_for (file_names (kept_extents xs)) (with_names (λ (i : ℕ). slice_index_or (kept_names xs) i []) 0 ss)) j q
+    numbered xs image ss zero q low high = absurd (omega (arith, low))
+    numbered xs image ss (suc j) q low high = in_order (λ (i : ℕ). slice_index_or (kept_names xs) i []) (file_names (kept_extents xs)) 0 ss
+        (λ i small. let here : 0 + i ≡ i = omega arith in
+        ap (λ n. slice_index_or (kept_names xs) n []) here ∙ ap (λ names. slice_index_or names i []) (sym (names_kept xs))) j q (omega (arith, high))
