@@ -27,7 +27,7 @@ use std::alloc::{AllocError, Global};
 /// one that bars it at once; one that has nothing to do is done. A discard gives up each whole unit of its range that the format can, and a
 /// zeroing zeroes it. No file below changes. A stop in a call leaves the top's file, where it states the size of its disk, sound, and
 /// showing at each place what it did at the last flush before that or what a call begun since gives. The first answer of `Fault::Memory`
-/// or `Fault::Storage` ends what is promised, but that no file below changes, and that a qcow2 image has failed whose storage it was.
+/// or `Fault::Storage` ends what is promised, but that no file below changes, and that a qcow2 top has failed where its own storage did.
 ///
 /// Of any chain, ready or not, each answer fits its call, and is one that the call may have for what lookups tell of the disk.
 pub fn drive<D: FormatDriverInstance>(
