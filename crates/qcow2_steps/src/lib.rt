@@ -1,0 +1,4 @@
+//! The laws of single steps of a qcow2 image that is written.
+#![tactic(auto)]
+
+pub mod words;
