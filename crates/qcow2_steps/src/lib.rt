@@ -1,4 +1,5 @@
 //! The laws of single steps of a qcow2 image that is written.
 #![tactic(auto)]
 
+pub mod data;
 pub mod words;
