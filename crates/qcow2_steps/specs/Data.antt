@@ -1,13 +1,16 @@
 -- Bytes are written into clusters in a row in which no table, block or header stands.
-use Rattle.std.specs.Prelude.{◌≡◌, ℕ, ◌+◌, ◌*◌, ◌≤◌}
+use Rattle.std.specs.Prelude.{◌≡◌, ◌≢◌, ℕ, ◌+◌, ◌*◌, ◌<◌, ◌≤◌, Option, Some}
+use Rattle.imago_storage.specs.Disk.{Value, byte}
 use Rattle.qcow2_types.specs.Bytes.{Bytes}
 use Rattle.qcow2_types.specs.Consistency.{IsConsistent}
 use Rattle.qcow2_types.specs.Counts.{count}
-use Rattle.qcow2_types.specs.Entries.{entry}
+use Rattle.qcow2_types.specs.Entries.{entry, l2_table}
 use Rattle.qcow2_types.specs.Frames.{Outside}
-use Rattle.qcow2_types.specs.Header.{cluster_size}
-use Rattle.qcow2_types.specs.References.{meets, refs, structure}
-use Rattle.qcow2_types.specs.Versions.{KeepsSlots}
+use Rattle.qcow2_types.specs.Header.{Fields, cluster_size, words_of_cluster}
+use Rattle.qcow2_types.specs.References.{meets, of_copied, refs, structure}
+use Rattle.qcow2_types.specs.Slots.{Live, slot}
+use Rattle.qcow2_types.specs.Versions.{KeepsSlots, of_either}
+use Rattle.qcow2_types.specs.Words.{Mapping}
 use Rattle.qcow2_alloc.specs.Quiet.{Metadata, counted, in_memory, named_at_all, referenced}
 
 -- x is the file with n other bytes from `at` on, in clusters c to c + k.
@@ -31,3 +34,29 @@ pub record KeepsWords (m : Metadata) (x : Bytes) : Type 0 where
   pub references : (d : ℕ) → referenced (record m { file = x }) d ≡ referenced m d
   pub names : (d : ℕ) → named_at_all (record m { file = x }) d ≡ named_at_all m d
   pub apart : (d : ℕ) → structure x m.header.fields (meets m.header.fields d) ≡ structure m.file m.header.fields (meets m.header.fields d)
+
+-- how often a word that means this names cluster c as copied
+abbrev pub copies_at : Metadata → Mapping → ℕ → ℕ
+copies_at m mapping c = of_copied m.header.fields (meets m.header.fields c) mapping
+
+-- No word of another guest cluster names cluster c, in the file or in memory.
+abbrev pub IsNamedFor : Metadata → ℕ → ℕ → Type 0
+IsNamedFor m guest c = (i j : ℕ) → Live (l2_table m.file m.header.fields) m.header.fields i j
+    → i * words_of_cluster m.header.fields + j ≢ guest
+    → of_either m.header.fields (meets m.header.fields c) (slot m.file m.header.fields i j) (slot (in_memory m) m.header.fields i j) ≡ 0
+
+-- Each of clusters c to c + k is so for the guest cluster that lies as far behind `first` as it does behind c.
+abbrev pub AreNamedFor : Metadata → ℕ → ℕ → ℕ → Type 0
+AreNamedFor m first c k = (d : ℕ) → d ≤ k → IsNamedFor m (first + d) (c + d)
+
+-- Byte q of a file lies as far behind cluster c as the place behind guest cluster `first`.
+abbrev pub IsByteOf : Fields → ℕ → ℕ → ℕ → ℕ → Type 0
+IsByteOf h first c q p = p + c * cluster_size h ≡ q + first * cluster_size h
+
+-- What such a place shows whose byte is among the n from `at` on: the byte that is there.
+pub record GivesData (h : Fields) (first c at n : ℕ) (x : Bytes) (p : ℕ) (v : Option Value) : Type 0 where
+  pub q : ℕ
+  pub from : at ≤ q
+  pub to : q < at + n
+  pub place : IsByteOf h first c q p
+  pub value : v ≡ Some (byte (x q))

@@ -1,3 +1,4 @@
 pub mod Values
 pub mod Words
 pub mod Data
+pub mod Advancing
