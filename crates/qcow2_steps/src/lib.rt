@@ -1,5 +1,6 @@
 //! The laws of single steps of a qcow2 image that is written.
 #![tactic(auto)]
 
+pub mod advancing;
 pub mod data;
 pub mod words;

@@ -1,0 +1,116 @@
+-- Two steps of an image add up to one, which gives what either does.
+use Rattle.std.proofs.Common.{◌≡◌, ℕ, ◌+◌, ◌/◌, ◌^◌, arith, ap, sym, subst, ◌∙◌, Option, inl, inr}
+use Rattle.std.specs.Prelude.{◌⊎◌}
+use Rattle.imago_storage.specs.Disk.{Value}
+use Rattle.qcow2_types.specs.Bytes.{Bytes}
+use Rattle.qcow2_types.specs.Header.{Header, cluster_size}
+use Rattle.qcow2_alloc.specs.Quiet.{Metadata, IsUsed}
+use Rattle.qcow2_steps.specs.Advancing.{Advances, MayBeLeft}
+use Rattle.qcow2_steps.specs.Words.{IsReserved}
+
+-- What may be left where this is given may be left where more is.
+pub left-weaker : (gives more : ℕ → Option Value → Type 0) → ((p : ℕ) (v : Option Value) → gives p v → more p v) → (m : Metadata) (x : Bytes) (H : Header) → MayBeLeft gives m x H → MayBeLeft more m x H
+left-weaker gives more from m x H left = record {
+  consistent = left.consistent;
+  size = left.size;
+  shows = λ p. elim (left.shows p) [
+    | inl file ↦ inl file
+    | inr other ↦ inr (elim other [ inl memory ↦ inl memory | inr given ↦ inr (from p _ given) ])
+  ];
+}
+
+-- A step may be said to give, write and set more, and to hand out and take the same beside what it hands out and takes.
+pub advances-weaker : (gives more : ℕ → Option Value → Type 0) (written wider set further : ℕ → Type 0) (handed taken h t : ℕ → ℕ) (m m' : Metadata)
+    → ((p : ℕ) (v : Option Value) → gives p v → more p v) → ((q : ℕ) → written q → wider q) → ((guest : ℕ) → set guest → further guest)
+    → ((c : ℕ) → handed c + t c ≡ h c + taken c) → ((c : ℕ) → IsUsed m c → t c ≡ 0 → taken c ≡ 0)
+    → Advances gives written set handed taken m m' → Advances more wider further h t m m'
+advances-weaker gives more written wider set further handed taken h t m m' given place word same spared step = record {
+  sound = step.sound;
+  bits = step.bits;
+  file = left-weaker gives more given m m'.file m'.header step.file;
+  memory = λ p. elim (step.memory p) [ inl was ↦ inl was | inr now ↦ inr (given p _ now) ];
+  words = λ guest. elim (step.words guest) [ inl was ↦ inl was | inr now ↦ inr (word guest now) ];
+  used = λ c used none. step.used c used (spared c used none);
+  waits = λ c used none. step.waits c used (spared c used none);
+  names = λ c used none. step.names c used (spared c used none);
+  kept = λ p used none. elim (step.kept p used (spared _ used none)) [ inl now ↦ inl (place p now) | inr was ↦ inr was ];
+  law = λ c. let law = step.law c in let e = same c in omega (arith, law, e);
+}
+
+module _ (gives gives' : ℕ → Option Value → Type 0) (written written' set set' : ℕ → Type 0) (handed taken handed' taken' : ℕ → ℕ) (m m1 m2 : Metadata)
+    (first : Advances gives written set handed taken m m1) where
+  abbrev Either : ℕ → Option Value → Type 0
+  Either p v = gives p v ⊎ gives' p v
+
+  -- What may be left in the second may be left in both.
+  pub left-then : (x : Bytes) (H : Header) → MayBeLeft gives' m1 x H → MayBeLeft Either m x H
+  left-then x H left = record {
+    consistent = left.consistent;
+    size = left.size ∙ first.file.size;
+    shows = λ p. elim (left.shows p) [
+      | inl file ↦ elim (first.file.shows p) [
+        | inl was ↦ inl (file ∙ was)
+        | inr other ↦ elim other [
+          | inl memory ↦ inr (inl (file ∙ memory))
+          | inr given ↦ inr (inr (inl (subst (gives p) (sym file) given)))
+        ]
+      ]
+      | inr other ↦ elim other [
+        | inl memory ↦ elim (first.memory p) [
+          | inl was ↦ inr (inl (memory ∙ was))
+          | inr given ↦ inr (inr (inl (subst (gives p) (sym memory) given)))
+        ]
+        | inr given ↦ inr (inr (inr given))
+      ]
+    ];
+  }
+
+  module _ (second : Advances gives' written' set' handed' taken' m1 m2) where
+    still-used : (c : ℕ) → IsUsed m c → taken c + taken' c ≡ 0 → IsUsed m1 c × (taken c ≡ 0) × (taken' c ≡ 0)
+    still-used c used none = (first.used c used (omega (arith, none)), omega (arith, none), omega (arith, none))
+
+    size-same : cluster_size m1.header.fields ≡ cluster_size m.header.fields
+    size-same = ap (λ b. 2 ^ b) first.bits
+
+    pub advances-then : Advances Either (λ q. written q ⊎ written' q) (λ guest. set guest ⊎ set' guest) (λ c. handed c + handed' c) (λ c. taken c + taken' c) m m2
+    advances-then = record {
+      sound = second.sound;
+      bits = second.bits ∙ first.bits;
+      file = left-then m2.file m2.header second.file;
+      memory = λ p. elim (second.memory p) [
+        | inl same ↦ elim (first.memory p) [
+          | inl was ↦ inl (same ∙ was)
+          | inr given ↦ inr (inl (subst (gives p) (sym same) given))
+        ]
+        | inr given ↦ inr (inr given)
+      ];
+      words = λ guest. elim (second.words guest) [
+        | inl same ↦ elim (first.words guest) [
+          | inl was ↦ inl (same ∙ was)
+          | inr now ↦ inr (inl now)
+        ]
+        | inr now ↦ inr (inr now)
+      ];
+      used = λ c used none. let still = still-used c used none in second.used c still.0 still.2;
+      waits = λ c used none. let still = still-used c used none in let one = first.waits c used still.1 in let two = second.waits c still.0 still.2 in omega (arith, one, two);
+      names = λ c used none. let still = still-used c used none in let one = first.names c used still.1 in let two = second.names c still.0 still.2 in omega (arith, one, two);
+      kept = λ p used none.
+          let still = still-used (p / cluster_size m.header.fields) used none in
+          let there = subst (λ s. IsUsed m1 (p / s) → taken' (p / s) ≡ 0 → written' p ⊎ (m2.file p ≡ m1.file p)) size-same (second.kept p) still.0 still.2 in
+          elim there [
+            | inl now ↦ inl (inr now)
+            | inr same ↦ elim (first.kept p used still.1) [
+              | inl now ↦ inl (inl now)
+              | inr was ↦ inr (same ∙ was)
+            ]
+          ];
+      law = λ c. let one = first.law c in let two = second.law c in omega (arith, one, two);
+    }
+
+-- What was reserved and isn't taken is so still.
+pub reserved-still : (gives : ℕ → Option Value → Type 0) (written set : ℕ → Type 0) (handed taken : ℕ → ℕ) (m m' : Metadata) → Advances gives written set handed taken m m' → (c : ℕ) → IsReserved m c → taken c ≡ 0 → IsReserved m' c
+reserved-still gives written set handed taken m m' step c reserved none = record {
+  used = step.used c reserved.used none;
+  unnamed = let fewer = step.names c reserved.used none in let was = reserved.unnamed in omega (arith, fewer, was);
+  waits = let fewer = step.waits c reserved.used none in let was = reserved.waits in omega (arith, fewer, was);
+}

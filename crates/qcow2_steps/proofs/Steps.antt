@@ -1,0 +1,179 @@
+-- Quiet steps, bytes that are written, and words that are set, in the words of what adds up.
+use Rattle.std.proofs.Common.{◌≡◌, ◌≢◌, ℕ, ◌+◌, ◌*◌, ◌/◌, ◌%◌, ◌<◌, ◌≤◌, refl, arith, ap, sym, subst, ◌∙◌, true, [], ◌++◌, ◌∷◌, false, inl, inr}
+use Rattle.std.specs.Prelude.{◌⊎◌}
+use Rattle.std.proofs.lemmas.Bool.{cases_eq, cases_lt}
+use Rattle.std.proofs.lemmas.Bool.Decides.{nat_tests}
+use Rattle.imago_storage.specs.Steps.{IsIn}
+use Rattle.qcow2_types.specs.Bytes.{Bytes}
+use Rattle.qcow2_types.specs.Entries.{entry}
+use Rattle.qcow2_types.specs.Header.{Fields, Header, cluster_size, words_of_cluster}
+use Rattle.qcow2_types.specs.Pending.{FreeEntry}
+use Rattle.qcow2_types.specs.References.{meets, of_mapping}
+use Rattle.qcow2_types.specs.Words.{Mapping, data_at}
+use Rattle.qcow2_types.proofs.Consistent.{meets-other, meets-own}
+use Rattle.qcow2_alloc.specs.FreeList.{covers}
+use Rattle.qcow2_alloc.specs.Memory.{Cached}
+use Rattle.qcow2_alloc.specs.Quiet.{Metadata, IsQuiet, IsSound, counted, covers_metadata, in_memory, named_at_all, one_at, referenced, waiting}
+use Rattle.qcow2_alloc.proofs.Handing.HandedOut.{quiet-names-no-more}
+use Rattle.qcow2_alloc.proofs.Freeing.Listed.{listed_push}
+use Rattle.qcow2_alloc.proofs.Quiet.QuietEntries.{push-quiet}
+use Rattle.qcow2_alloc.proofs.Quiet.QuietShows.{in-cluster}
+use Rattle.qcow2_alloc.proofs.Quiet.QuietThen.{used-then}
+use Rattle.qcow2_steps.specs.Advancing.{Advances}
+use Rattle.qcow2_steps.specs.Data.{AreNamedFor, GivesData, WritesBeside}
+use Rattle.qcow2_steps.specs.Values.{memory_value, own_value_by}
+use Rattle.qcow2_steps.specs.Words.{ChangesWord, DropsNames, GivesWord, IsOfOther, IsOfWord, IsReserved, NamesCluster}
+use Rattle.qcow2_steps.proofs.AddingUp.{advances-then, advances-weaker}
+use Rattle.qcow2_steps.proofs.DataRuns.{beside-sound, beside-used, beside-words}
+use Rattle.qcow2_steps.proofs.QuietValues.{quiet-entries, quiet-left, quiet-values}
+use Rattle.qcow2_steps.proofs.WordSteps.{dropped-owed, dropped-sound, named-sound, used-after}
+use Rattle.qcow2_steps.proofs.WrittenValues.{written-memory, written-stops}
+
+pub quiet-advances : (m m' : Metadata) (handed taken : ℕ → ℕ) → IsSound m → IsSound m' → IsQuiet handed taken m m' → ((c : ℕ) → 0 < referenced m c → taken c ≡ 0)
+    → Advances (λ p v. ⊥) (λ q. ⊥) (λ guest. ⊥) handed taken m m'
+quiet-advances m m' handed taken sound sound' quiet spared = record {
+  sound = sound';
+  bits = ap (λ (H : Header). H.fields.cluster_bits) quiet.shows.moved.2;
+  file = quiet-left (λ p v. ⊥) m m'.file m'.header sound quiet.shows;
+  memory = λ p. inl (quiet-values m m' handed taken sound sound' quiet spared p);
+  words = λ guest. inl (quiet-entries m m' handed taken sound sound' quiet guest);
+  used = used-then m m' handed taken quiet sound sound';
+  waits = quiet.waits;
+  names = λ c used none. quiet-names-no-more m m' handed taken quiet c (quiet.apart c used none);
+  kept = λ p used none. inr (in-cluster m.header.fields m.file m'.file p (quiet.kept (p / cluster_size m.header.fields) used none));
+  law = quiet.law;
+}
+
+pub written-advances : (m : Metadata) (first c k at n : ℕ) (x : Bytes) → IsSound m → WritesBeside m c k at n x → AreNamedFor m first c k
+    → Advances (GivesData m.header.fields first c at n x) (IsIn at n) (λ guest. ⊥) (λ _. 0) (λ _. 0) m (record m { file = x })
+written-advances m first c k at n x sound writes own =
+    let words = beside-words m sound c k at n x writes in
+    record {
+      sound = beside-sound m sound c k at n x writes;
+      bits = refl;
+      file = written-stops m first c k at n x x sound writes own (λ q. inr refl);
+      memory = written-memory m first c k at n x sound writes own;
+      words = λ guest. inl (words.memory_entries guest);
+      used = λ d used none. beside-used m x words d used;
+      waits = λ d used none. omega arith;
+      names = λ d used none. let same = words.names d in omega (arith, same);
+      kept = λ p used none. elim (cases_lt p at) [
+        | inl before ↦ inr (writes.outside p (inl before))
+        | inr from ↦ elim (cases_lt p (at + n)) [
+          | inl to ↦ inl (from, to)
+          | inr past ↦ inr (writes.outside p (inr past))
+        ]
+      ];
+      law = λ d. let counts = words.counts d in let references = words.references d in omega (arith, counts, references);
+    }
+
+-- What is put among what waits to be freed.
+pub put-off-advances : (m : Metadata) (e : FreeEntry) → IsSound m → ((c : ℕ) → referenced m c + waiting m c + covers c e ≤ counted m c) → ((c : ℕ) → 0 < covers_metadata c e → named_at_all m c ≡ 0)
+    → Advances (λ p v. ⊥) (λ q. ⊥) (λ guest. ⊥) (λ _. 0) (λ c. covers c e) m (record m { pending = m.pending ++ e ∷ [] })
+put-off-advances m e sound enough unnamed =
+    let both = push-quiet m e sound enough unnamed in
+    record {
+      sound = both.0;
+      bits = refl;
+      file = record { consistent = sound.safe.consistent; size = refl; shows = λ p. inl refl };
+      memory = λ p. inl refl;
+      words = λ guest. inl refl;
+      used = λ c used none. record { apart = used.apart; taken = let more = listed_push m.pending e c in let taken = used.taken in omega (arith, more, taken, none) };
+      waits = both.1.waits;
+      names = λ c used none. omega arith;
+      kept = λ p used none. inr refl;
+      law = both.1.law;
+    }
+
+-- A word is set.
+module _ (m : Metadata) (i j : ℕ) (old new : Mapping) (cached' : Cached) (changes : ChangesWord m i j old new cached') where
+  abbrev later : Metadata
+  later = record m { cached = cached' }
+
+  own-or-other : (guest : ℕ) → IsOfWord m.header.fields i j guest ⊎ IsOfOther m.header.fields i j guest
+  own-or-other guest = elim (cases_eq (guest / words_of_cluster m.header.fields) i) [
+    | inl row ↦ elim (cases_eq (guest % words_of_cluster m.header.fields) j) [
+      | inl column ↦ inl (row, column)
+      | inr apart ↦ inr (inr apart)
+    ]
+    | inr apart ↦ inr (inl apart)
+  ]
+
+  pub value-here : (p : ℕ) → IsOfWord m.header.fields i j (p / cluster_size m.header.fields) → memory_value later p ≡ own_value_by m.file m.header.fields p new
+  value-here p own = ap (own_value_by m.file m.header.fields p) (changes.written.entries (p / cluster_size m.header.fields) own.0 own.1)
+
+  pub word-elsewhere : (guest : ℕ) → IsOfOther m.header.fields i j guest → entry (in_memory later) m.header.fields guest ≡ entry (in_memory m) m.header.fields guest
+  word-elsewhere guest other = (changes.written.elsewhere guest other).mapping
+
+  pub value-elsewhere : (p : ℕ) → IsOfOther m.header.fields i j (p / cluster_size m.header.fields) → memory_value later p ≡ memory_value m p
+  value-elsewhere p other = ap (own_value_by m.file m.header.fields p) (word-elsewhere (p / cluster_size m.header.fields) other)
+
+  -- What it shows, and that the rest stays.
+  set-advances : (handed taken : ℕ → ℕ) → IsSound m → IsSound later → ((c : ℕ) → taken c ≡ 0 → named_at_all later c ≤ named_at_all m c)
+      → ((c : ℕ) → of_mapping m.header.fields (meets m.header.fields c) old + taken c ≡ of_mapping m.header.fields (meets m.header.fields c) new + handed c)
+      → Advances (GivesWord m i j new) (λ q. ⊥) (IsOfWord m.header.fields i j) handed taken m later
+  set-advances handed taken sound sound' fewer law = record {
+    sound = sound';
+    bits = refl;
+    file = record { consistent = sound.safe.consistent; size = refl; shows = λ p. inl refl };
+    memory = λ p. elim (own-or-other (p / cluster_size m.header.fields)) [
+      | inl own ↦ inr (own, value-here p own)
+      | inr other ↦ inl (value-elsewhere p other)
+    ];
+    words = λ guest. elim (own-or-other guest) [
+      | inl own ↦ inr own
+      | inr other ↦ inl (word-elsewhere guest other)
+    ];
+    used = λ c used none. used-after m i j old cached' new changes c used;
+    waits = λ c used none. omega arith;
+    names = λ c used none. fewer c none;
+    kept = λ p used none. inr refl;
+    law = λ c. let counts = changes.written.counts c in let moved = changes.references c in let e = law c in omega (arith, counts, moved, e);
+  }
+
+-- What data in cluster x meets.
+pub meets-one : (h : Fields) (x c : ℕ) → of_mapping h (meets h c) (data_at x true) ≡ one_at x c
+meets-one h x c = elim (cases_eq c x) [
+  | inl is ↦ let own = meets-own h c in subst (λ d. meets h c (d * cluster_size h) (cluster_size h) ≡ one_at d c) is (own ∙ sym (one-here c))
+  | inr other ↦ meets-other h c x (λ e. other (sym e)) ∙ sym (one-elsewhere c x other)
+]
+  where
+    one-here : (c : ℕ) → one_at c c ≡ 1
+    one-here c = grind (arith, nat_tests)
+
+    one-elsewhere : (c x : ℕ) → c ≢ x → one_at x c ≡ 0
+    one-elsewhere c x other = grind (arith, nat_tests)
+
+pub named-advances : (m : Metadata) (i j x : ℕ) (old : Mapping) (cached' : Cached) → IsSound m → NamesCluster m i j old x cached' → IsReserved m x
+    → Advances (GivesWord m i j (data_at x true)) (λ q. ⊥) (IsOfWord m.header.fields i j) (λ c. of_mapping m.header.fields (meets m.header.fields c) old) (one_at x) m (record m { cached = cached' })
+named-advances m i j x old cached' sound names reserved =
+    set-advances m i j old (data_at x true) cached' names.changed (λ c. of_mapping m.header.fields (meets m.header.fields c) old) (one_at x) sound (named-sound m i j old cached' sound x names reserved)
+    (λ c spared. elim (cases_eq c x) [
+      | inl is ↦ absurd (let one = meets-one m.header.fields x c in let own : meets m.header.fields c (x * cluster_size m.header.fields) (cluster_size m.header.fields) ≡ 1 = subst (λ d. meets m.header.fields c (d * cluster_size m.header.fields) (cluster_size m.header.fields) ≡ 1) is (meets-own m.header.fields c) in omega (arith, one, own, spared))
+      | inr other ↦ names.others c other
+    ])
+    (λ c. let one = meets-one m.header.fields x c in omega (arith, one))
+
+pub dropped-advances : (m : Metadata) (i j : ℕ) (old new : Mapping) (handed : ℕ → ℕ) (cached' : Cached) → IsSound m → DropsNames m i j old new cached'
+    → ((c : ℕ) → of_mapping m.header.fields (meets m.header.fields c) new + handed c ≡ of_mapping m.header.fields (meets m.header.fields c) old)
+    → Advances (GivesWord m i j new) (λ q. ⊥) (IsOfWord m.header.fields i j) handed (λ _. 0) m (record m { cached = cached' })
+dropped-advances m i j old new handed cached' sound drops back =
+    set-advances m i j old new cached' drops.changed handed (λ _. 0) sound (dropped-sound m i j old cached' sound new drops) (λ c none. drops.names c) (λ c. let e = back c in omega (arith, e))
+
+-- What a word names no longer may wait to be freed: the two steps add up.
+pub freed-advances : (m : Metadata) (i j : ℕ) (old new : Mapping) (e : FreeEntry) (cached' : Cached) → IsSound m → DropsNames m i j old new cached' → e.metadata ≡ false
+    → ((c : ℕ) → of_mapping m.header.fields (meets m.header.fields c) new + covers c e ≡ of_mapping m.header.fields (meets m.header.fields c) old)
+    → Advances (GivesWord m i j new) (λ q. ⊥) (IsOfWord m.header.fields i j) (λ c. covers c e) (λ c. covers c e) m (record m { cached = cached'; pending = m.pending ++ e ∷ [] })
+freed-advances m i j old new e cached' sound drops guest back =
+    advances-weaker (λ p v. GivesWord m i j new p v ⊎ ⊥) (GivesWord m i j new) (λ q. ⊥ ⊎ ⊥) (λ q. ⊥) (λ g. IsOfWord m.header.fields i j g ⊎ ⊥) (IsOfWord m.header.fields i j)
+    (λ c. covers c e + 0) (λ c. 0 + covers c e) (λ c. covers c e) (λ c. covers c e) m (record m { cached = cached'; pending = m.pending ++ e ∷ [] })
+    (λ p v given. elim given [ inl is ↦ is | inr never ↦ absurd never ])
+    (λ q given. elim given [ inl never ↦ never | inr never ↦ never ])
+    (λ g given. elim given [ inl is ↦ is | inr never ↦ absurd never ])
+    (λ c. omega arith) (λ c used none. omega (arith, none))
+    (advances-then (GivesWord m i j new) (λ p v. ⊥) (λ q. ⊥) (λ q. ⊥) (IsOfWord m.header.fields i j) (λ g. ⊥) (λ c. covers c e) (λ _. 0) (λ _. 0) (λ c. covers c e)
+    m (record m { cached = cached' }) (record m { cached = cached'; pending = m.pending ++ e ∷ [] })
+    (dropped-advances m i j old new (λ c. covers c e) cached' sound drops back)
+    (put-off-advances (record m { cached = cached' }) e (dropped-sound m i j old cached' sound new drops)
+    (λ c. let owed = dropped-owed m i j old cached' sound new drops c in let same = drops.changed.written.counts c in let less = back c in omega (arith, owed, same, less))
+    (λ c some. absurd (let none : covers_metadata c e ≡ 0 = rw guest refl in omega (arith, some, none)))))

@@ -1,0 +1,52 @@
+//! Each step in the words of what adds up: what it may show, and what is left of the clusters. The functions do nothing, and their
+//! contracts are the laws. That two steps add up is a lemma, since a clause can't speak of any values that a step may give
+//! (`Rattle.qcow2_steps.proofs.AddingUp`).
+
+ghost use Rattle.std.specs.Prelude.{◌≡◌, ◌+◌, ◌<◌, ◌≤◌, ◌++◌, ◌∷◌, [], ℕ, false, true};
+ghost use Rattle.imago_storage.specs.Steps.{IsIn};
+ghost use Rattle.qcow2_types.specs.Bytes.{Bytes};
+ghost use Rattle.qcow2_types.specs.Header.{Header};
+ghost use Rattle.qcow2_types.specs.Pending.{FreeEntry};
+ghost use Rattle.qcow2_types.specs.Words.{Mapping, data_at};
+ghost use Rattle.qcow2_alloc.specs.FreeList.{covers};
+ghost use Rattle.qcow2_alloc.specs.Memory.{Cached};
+ghost use Rattle.qcow2_alloc.specs.Quiet.{Metadata, IsQuiet, IsSound, ShowsEither, counted, covers_metadata, named_at_all, one_at, referenced, waiting};
+ghost use Rattle.qcow2_steps.specs.Advancing.{Advances, MayBeLeft};
+ghost use Rattle.qcow2_steps.specs.Data.{AreNamedFor, GivesData, WritesBeside};
+ghost use Rattle.qcow2_steps.specs.Words.{DropsNames, GivesWord, IsOfWord, IsReserved, NamesCluster, names_at};
+
+/// What is quiet, and takes nothing that is named, gives nothing.
+pub fn what_is_quiet_advances()
+    ensures quietly { (m m' : Metadata) (handed taken : ℕ → ℕ) → IsSound m → IsSound m' → IsQuiet handed taken m m'
+        → ((c : ℕ) → 0 < referenced m c → taken c ≡ 0) → Advances (λ p v. ⊥) (λ q. ⊥) (λ guest. ⊥) handed taken m m' }
+    ensures stops { (m : Metadata) (x : Bytes) (H : Header) → IsSound m → ShowsEither m x H → MayBeLeft (λ p v. ⊥) m x H }
+{}
+
+/// Bytes that are written for guest clusters in a row give these.
+pub fn what_is_written_advances()
+    ensures { (m : Metadata) (first c k at n : ℕ) (x : Bytes) → IsSound m → WritesBeside m c k at n x → AreNamedFor m first c k
+        → Advances (GivesData m.header.fields first c at n x) (IsIn at n) (λ guest. ⊥) (λ _. 0) (λ _. 0) m (record m { file = x }) }
+{}
+
+/// What is put among what waits to be freed is taken, also where other words name it still. So where a word names less, and what it named
+/// no longer waits, this is handed out by the one and taken by the other.
+pub fn what_is_put_off_advances()
+    ensures pushed { (m : Metadata) (e : FreeEntry) → IsSound m → ((c : ℕ) → referenced m c + waiting m c + covers c e ≤ counted m c)
+        → ((c : ℕ) → 0 < covers_metadata c e → named_at_all m c ≡ 0)
+        → Advances (λ p v. ⊥) (λ q. ⊥) (λ guest. ⊥) (λ _. 0) (λ c. covers c e) m (record m { pending = m.pending ++ e ∷ [] }) }
+    ensures dropped { (m : Metadata) (i j : ℕ) (old new : Mapping) (e : FreeEntry) (cached' : Cached) → IsSound m
+        → DropsNames m i j old new cached' → e.metadata ≡ false → ((c : ℕ) → names_at m new c + covers c e ≡ names_at m old c)
+        → Advances (GivesWord m i j new) (λ q. ⊥) (IsOfWord m.header.fields i j) (λ c. covers c e) (λ c. covers c e)
+        m (record m { cached = cached'; pending = m.pending ++ e ∷ [] }) }
+{}
+
+/// A word that is set gives what it means, to its guest cluster. The cluster that it names anew is taken, and what it named is handed out.
+pub fn what_is_set_advances()
+    ensures named { (m : Metadata) (i j x : ℕ) (old : Mapping) (cached' : Cached) → IsSound m → NamesCluster m i j old x cached'
+        → IsReserved m x
+        → Advances (GivesWord m i j (data_at x true)) (λ q. ⊥) (IsOfWord m.header.fields i j)
+        (names_at m old) (one_at x) m (record m { cached = cached' }) }
+    ensures dropped { (m : Metadata) (i j : ℕ) (old new : Mapping) (handed : ℕ → ℕ) (cached' : Cached) → IsSound m
+        → DropsNames m i j old new cached' → ((c : ℕ) → names_at m new c + handed c ≡ names_at m old c)
+        → Advances (GivesWord m i j new) (λ q. ⊥) (IsOfWord m.header.fields i j) handed (λ _. 0) m (record m { cached = cached' }) }
+{}
