@@ -6,3 +6,5 @@ pub mod WrittenValues
 pub mod QuietValues
 pub mod AddingUp
 pub mod Steps
+pub mod CopiedTables
+pub mod NewTables

@@ -2,3 +2,4 @@ pub mod Values
 pub mod Words
 pub mod Data
 pub mod Advancing
+pub mod NewTables

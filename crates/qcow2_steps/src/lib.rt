@@ -3,4 +3,5 @@
 
 pub mod advancing;
 pub mod data;
+pub mod new_tables;
 pub mod words;

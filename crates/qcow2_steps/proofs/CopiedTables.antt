@@ -1,0 +1,179 @@
+-- In one file, a word of the L1 table comes to name a table whose words mean what those of the old one do, but for marks.
+use Rattle.std.proofs.Common.{◌≡◌, ◌≢◌, ℕ, ◌+◌, ◌*◌, ◌/◌, ◌%◌, ◌^◌, ◌<◌, ◌≤◌, refl, arith, ap, sym, subst, ◌∙◌, Some, None, inl, inr}
+use Rattle.std.specs.Prelude.{◌==◌, if◌then◌else◌, IsFalse, IsTrue}
+use Rattle.std.specs.Int.{w64, to_be_bytes}
+use Rattle.std.proofs.lemmas.Bool.{cases_eq, cases_lt}
+use Rattle.std.proofs.lemmas.Bool.Decides.{nat_tests}
+use Rattle.std.proofs.lemmas.Nat.{mod_below, pow_pos}
+use Rattle.qcow2_types.specs.Bytes.{Bytes, splice, sum_below}
+use Rattle.qcow2_types.specs.Consistency.{IsConsistent}
+use Rattle.qcow2_types.specs.Counts.{count}
+use Rattle.qcow2_types.specs.Entries.{entry, l2_mapping, l2_table}
+use Rattle.qcow2_types.specs.Header.{Fields, Header, cluster_size, layout_of, words_of_cluster}
+use Rattle.qcow2_types.specs.References.{Weight, contents, meets, of_cluster, of_copied, of_mapping, of_table, of_table_or_none, refs, structure}
+use Rattle.qcow2_types.specs.Slots.{slot}
+use Rattle.qcow2_types.specs.Steps.{TableReplaced, TableSwapped}
+use Rattle.qcow2_types.specs.Unmarked.{unmarked_mapping}
+use Rattle.qcow2_types.specs.Words.{Mapping, data_at, zeroes, packed, unmapped, damaged, is_damaged, l1_word_sound, mapping_of, table_offset}
+use Rattle.qcow2_types.proofs.Consistent.{consistent-shaped, copied-named-once, meets-own, meets-other, named-counted, some-words, structure-named-once}
+use Rattle.qcow2_types.proofs.Limit.{sum-zero}
+use Rattle.qcow2_types.proofs.Named.{structure-le-refs}
+use Rattle.qcow2_types.proofs.Sound.{sound-words}
+use Rattle.qcow2_types.proofs.Sums.{sum-same, term-le-sum}
+use Rattle.qcow2_types.proofs.TableReplaces.{table-replaced-spliced, table-swapped-spliced}
+use Rattle.qcow2_types.proofs.Values.{entry-slot}
+use Rattle.qcow2_alloc.proofs.Memory.Patches.{place-there}
+use Rattle.qcow2_steps.specs.NewTables.{slot_or_none}
+
+-- The mark of a cluster changes nothing but what is named as copied.
+pub unmarked-weighs : (h : Fields) (w : Weight) (n : Mapping) → of_mapping h w (unmarked_mapping n) ≡ of_mapping h w n
+unmarked-weighs h w (data_at d copied) = refl
+unmarked-weighs h w (zeroes (Some d) copied) = refl
+unmarked-weighs h w (zeroes None copied) = refl
+unmarked-weighs h w (packed offset n) = refl
+unmarked-weighs h w unmapped = refl
+unmarked-weighs h w damaged = refl
+
+pub unmarked-free : (h : Fields) (w : Weight) (n : Mapping) → of_copied h w (unmarked_mapping n) ≡ 0
+unmarked-free h w (data_at d copied) = refl
+unmarked-free h w (zeroes (Some d) copied) = refl
+unmarked-free h w (zeroes None copied) = refl
+unmarked-free h w (packed offset n) = refl
+unmarked-free h w unmapped = refl
+unmarked-free h w damaged = refl
+
+unmarked-sane : (n : Mapping) → is_damaged (unmarked_mapping n) ≡ is_damaged n
+unmarked-sane (data_at d copied) = refl
+unmarked-sane (zeroes d copied) = refl
+unmarked-sane (packed offset n) = refl
+unmarked-sane unmapped = refl
+unmarked-sane damaged = refl
+
+pub unmarked-twice : (n : Mapping) → unmarked_mapping (unmarked_mapping n) ≡ unmarked_mapping n
+unmarked-twice (data_at d copied) = refl
+unmarked-twice (zeroes d copied) = refl
+unmarked-twice (packed offset n) = refl
+unmarked-twice unmapped = refl
+unmarked-twice damaged = refl
+
+-- The word of a table that there is, and where there is none.
+pub none-there : (f : Bytes) (h : Fields) (i j : ℕ) → l2_table f h i ≡ 0 → slot_or_none f h i j ≡ unmapped
+none-there f h i j none = rw none refl
+
+pub slot-there : (f : Bytes) (h : Fields) (i j : ℕ) → l2_table f h i ≢ 0 → slot_or_none f h i j ≡ slot f h i j
+slot-there f h i j there = choose (l2_table f h i) unmapped (slot f h i j) there
+  where
+    choose : (t : ℕ) (a b : Mapping) → t ≢ 0 → (if t == 0 then a else b) ≡ b
+    choose t a b there = grind (arith, nat_tests)
+
+module _ (f : Bytes) (H : Header) (was : IsConsistent f H) (i c w : ℕ) (inside : i < H.fields.l1_entries) (fits : w < 2 ^ 64) (sane : IsTrue (l1_word_sound H.fields.cluster_bits w))
+    (names : table_offset w ≡ c * cluster_size H.fields) (some : c ≢ 0) (unnamed : refs f H.fields c ≡ 0) (counted : 1 ≤ count f H.fields c)
+    (copies : (j : ℕ) → j < words_of_cluster H.fields → l2_mapping f H.fields (c * cluster_size H.fields) j ≡ unmarked_mapping (slot_or_none f H.fields i j)) where
+  abbrev h : Fields
+  h = H.fields
+
+  abbrev t : ℕ
+  t = c * cluster_size H.fields
+
+  abbrev x : Bytes
+  x = splice f (H.fields.l1_offset + 8 * i) (to_be_bytes w64 w)
+
+  pub there : t ≢ 0
+  there = place-there (cluster_size h) c (pow_pos h.cluster_bits) some
+
+  pub replaced : TableReplaced f x H i t
+  replaced = table-replaced-spliced f H was i inside w fits sane c t names there refl unnamed
+
+  -- Its words weigh what those of the old one do,
+  as-before : (of : Mapping → ℕ) → ((n : Mapping) → of (unmarked_mapping n) ≡ of n) → of unmapped ≡ 0 → of_table f h of t ≡ of_table_or_none f h of (l2_table f h i)
+  unfolding of_table
+  as-before of same none = elim (cases_eq (l2_table f h i) 0) [
+    | inl empty ↦
+        let zero : sum_below (words_of_cluster h) (λ j. of (l2_mapping f h t j)) ≡ 0 = sum-zero _ _ (λ j less. ap of (copies j less) ∙ same (slot_or_none f h i j) ∙ ap of (none-there f h i j empty) ∙ none) in
+        rw empty zero
+    | inr full ↦
+        sum-same (words_of_cluster h) (λ j. of (l2_mapping f h t j)) (λ j. of (slot f h i j)) (λ j less. ap of (copies j less) ∙ same (slot_or_none f h i j) ∙ ap of (slot-there f h i j full))
+        ∙ sym (chosen (l2_table f h i) (sum_below (words_of_cluster h) (λ j. of (slot f h i j))) full)
+  ]
+    where
+      chosen : (p n : ℕ) → p ≢ 0 → (if p == 0 then 0 else n) ≡ n
+      chosen p n apart = grind (arith, nat_tests)
+
+  -- and none is marked.
+  unmarked-table : (d : ℕ) → of_table f h (of_copied h (meets h d)) t ≡ 0
+  unfolding of_table
+  unmarked-table d = sum-zero _ _ (λ j less. ap (of_copied h (meets h d)) (copies j less) ∙ unmarked-free h (meets h d) (slot_or_none f h i j))
+
+  -- So each cluster is named as often, but for the two tables' own.
+  pub references : (d : ℕ) → refs x h d + of_cluster h (meets h d) (l2_table f h i) ≡ refs f h d + meets h d t (cluster_size h)
+  references d =
+      let all = replaced.references d in
+      let words = as-before (of_mapping h (meets h d)) (unmarked-weighs h (meets h d)) refl in
+      omega (arith, all, words)
+
+  marks : (d : ℕ) → contents x h (of_copied h (meets h d)) ≤ contents f h (of_copied h (meets h d))
+  marks d = let all = replaced.contents (of_copied h (meets h d)) in let none = unmarked-table d in omega (arith, all, none)
+
+  -- The old table doesn't stand in the new one's cluster.
+  old-apart : of_cluster h (meets h c) (l2_table f h i) ≡ 0
+  unfolding structure
+  old-apart =
+      let le = term-le-sum h.l1_entries i (λ k. of_cluster h (meets h c) (l2_table f h k)) inside in
+      let all = structure-le-refs f h c in
+      omega (arith, le, all, unnamed)
+
+  once : refs x h c ≡ 1
+  once = let all = references c in let own = meets-own h c in let apart = old-apart in omega (arith, all, own, apart, unnamed)
+
+  elsewhere : (d : ℕ) → d ≢ c → (refs x h d ≤ refs f h d) × (structure x h (meets h d) ≤ structure f h (meets h d))
+  elsewhere d apart =
+      let none = meets-other h d c (λ e. apart (sym e)) in
+      let all = references d in
+      let base = replaced.structure (meets h d) in
+      (omega (arith, all, none), omega (arith, base, none))
+
+  plain : (j : ℕ) → j < words_of_cluster h → IsFalse (is_damaged (l2_mapping f h t j))
+  plain j less = ap is_damaged (copies j less) ∙ unmarked-sane (slot_or_none f h i j) ∙ elim (cases_eq (l2_table f h i) 0) [
+    | inl empty ↦ ap is_damaged (none-there f h i j empty)
+    | inr full ↦ ap is_damaged (slot-there f h i j full) ∙ (sound-words f h was.readable.tables).slots i j (record { in_l1 = inside; is_there = full; in_table = less })
+  ]
+
+  covered : (d : ℕ) → refs x h d ≤ count f h d
+  covered d = elim (cases_eq d c) [
+    | inl same ↦ subst (λ k. refs x h k ≤ count f h k) (sym same) (let one = once in omega (arith, one, counted))
+    | inr apart ↦ let fewer = (elsewhere d apart).0 in let le = named-counted f H was d in omega (arith, fewer, le)
+  ]
+
+  apart-still : (d : ℕ) → 0 < structure x h (meets h d) + contents x h (of_copied h (meets h d)) → refs x h d ≤ 1
+  apart-still d more = elim (cases_eq d c) [
+    | inl same ↦ subst (λ k. refs x h k ≤ 1) (sym same) (let one = once in omega (arith, one))
+    | inr apart ↦
+        let fewer = elsewhere d apart in
+        let fewer-marks = marks d in
+        elim (cases_lt 0 (structure f h (meets h d))) [
+          | inl base ↦ let one = structure-named-once f H was d base in omega (arith, one, fewer.0)
+          | inr none ↦ let one = copied-named-once f H was d (omega (arith, none, more, fewer.1, fewer-marks)) in omega (arith, one, fewer.0)
+        ]
+  ]
+
+  pub swapped : TableSwapped f x H i t
+  swapped = table-swapped-spliced f H was i inside w fits sane c t names there refl unnamed plain covered apart-still
+
+  -- Each guest cluster has its mapping, but for the mark.
+  pub entry-unmarked : (guest : ℕ) → unmarked_mapping (entry x h guest) ≡ unmarked_mapping (entry f h guest)
+  entry-unmarked guest = elim (cases_eq (guest / words_of_cluster h) i) [
+    | inr apart ↦ ap unmarked_mapping (swapped.elsewhere guest (inl apart)).mapping
+    | inl row ↦
+        let less : guest % words_of_cluster h < words_of_cluster h = mod_below guest (words_of_cluster h) (some-words h (consistent-shaped f H was)) in
+        ap unmarked_mapping (swapped.entries guest row ∙ copies (guest % words_of_cluster h) less)
+        ∙ unmarked-twice (slot_or_none f h i (guest % words_of_cluster h))
+        ∙ ap (λ k. unmarked_mapping (slot_or_none f h k (guest % words_of_cluster h))) (sym row)
+        ∙ ap unmarked_mapping (sym (entry-slot f h guest was.readable.tables))
+  ]
+
+  pub entry-elsewhere : (guest : ℕ) → guest / words_of_cluster h ≢ i → entry x h guest ≡ entry f h guest
+  entry-elsewhere guest apart = (swapped.elsewhere guest (inl apart)).mapping
+
+  -- A word of the new table means what the old one's did, but for the mark.
+  pub slot-new : (j : ℕ) → j < words_of_cluster h → slot x h i j ≡ unmarked_mapping (slot_or_none f h i j)
+  slot-new j less = ap (λ p. l2_mapping x h p j) replaced.here ∙ ap (mapping_of (layout_of h)) (replaced.words j less) ∙ copies j less

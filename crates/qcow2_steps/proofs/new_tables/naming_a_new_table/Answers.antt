@@ -1,0 +1,11 @@
+use Rattle.qcow2_steps.proofs.NewTables.{file-shows-same, memory-shows-same, old-unnamed, table-advances, table-sound}
+use Rattle.qcow2_steps.proofs.new_tables.naming_a_new_table.Goals as goal
+
+pub returns : goal.returns
+returns g = record {
+  sound = λ m i c w sound ready by. table-sound m i c w sound ready by;
+  advances = λ m i c w sound ready by. table-advances m i c w sound ready by;
+  file = λ m i c w sound ready by. file-shows-same m i c w sound ready by;
+  memory = λ m i c w sound ready by. memory-shows-same m i c w sound ready by;
+  old = λ m i c w d sound ready by. old-unnamed m i c w sound ready by d;
+}

@@ -1,0 +1,53 @@
+-- A word of the L1 table comes to name a new L2 table, in place of none or of one that it copies.
+use Rattle.std.specs.Prelude.{◌≡◌, ◌≢◌, ℕ, ◌+◌, ◌*◌, ◌/◌, ◌<◌, ◌≤◌, ◌^◌, ◌==◌, if◌then◌else◌, IsTrue, true}
+use Rattle.std.specs.Int.{w64, to_be_bytes}
+use Rattle.std.specs.List.{AllByRecursion}
+use Rattle.qcow2_types.specs.Bytes.{Bytes, splice}
+use Rattle.qcow2_types.specs.Counts.{count}
+use Rattle.qcow2_types.specs.Entries.{l2_mapping, l2_table}
+use Rattle.qcow2_types.specs.Header.{Fields, cluster_size, words_of_cluster}
+use Rattle.qcow2_types.specs.References.{meets, of_cluster}
+use Rattle.qcow2_types.specs.Slots.{slot}
+use Rattle.qcow2_types.specs.Unmarked.{unmarked_mapping}
+use Rattle.qcow2_types.specs.Words.{Mapping, l1_word_sound, table_offset, unmapped}
+use Rattle.qcow2_metadata.specs.Tables.{words_in}
+use Rattle.qcow2_alloc.specs.Quiet.{Metadata}
+use Rattle.qcow2_steps.specs.Words.{IsReserved}
+
+-- what word j of the table means that word i of the L1 table names; where it names none, nothing is mapped
+abbrev pub slot_or_none : Bytes → Fields → ℕ → ℕ → Mapping
+slot_or_none f h i j = if l2_table f h i == 0 then unmapped else slot f h i j
+
+-- the image with word i of the L1 table in its file, which is written at once
+abbrev pub with_l1_word : Metadata → ℕ → ℕ → Metadata
+with_l1_word m i w = record m { file = splice m.file (m.header.fields.l1_offset + 8 * i) (to_be_bytes w64 w) }
+
+-- Cluster c holds what may become table i: it is reserved, and counted in the file, too; its words mean there what those of the table do
+-- that word i names by now, but for the marks of their clusters; of this nothing waits to be written, and what is cached at c, if anything
+-- is, is what the file has there.
+pub record IsReadyL2Table (m : Metadata) (i c : ℕ) : Type 0 where
+  pub inside : i < m.header.fields.l1_entries
+  pub some : c ≢ 0
+  pub reserved : IsReserved m c
+  pub counts : 1 ≤ count m.file m.header.fields c
+  pub words : (j : ℕ) → j < words_of_cluster m.header.fields
+      → l2_mapping m.file m.header.fields (c * cluster_size m.header.fields) j ≡ unmarked_mapping (slot_or_none m.file m.header.fields i j)
+  pub settled : AllByRecursion
+      (λ e. e.1.value.modified ≡ true → e.0 * cluster_size m.header.fields ≢ l2_table m.file m.header.fields i) m.cached.tables
+  pub cached : AllByRecursion
+      (λ e. e.0 ≡ c → e.1.value.words ≡ words_in m.file (c * cluster_size m.header.fields) (words_of_cluster m.header.fields))
+      m.cached.tables
+
+-- a word that names the table in cluster c
+pub record NamesTable (h : Fields) (c w : ℕ) : Type 0 where
+  pub fits : w < 2 ^ 64
+  pub sane : IsTrue (l1_word_sound h.cluster_bits w)
+  pub names : table_offset w ≡ c * cluster_size h
+
+-- the guest clusters that have their words in table i
+abbrev pub IsOfTable : Fields → ℕ → ℕ → Type 0
+IsOfTable h i guest = guest / words_of_cluster h ≡ i
+
+-- 1 where cluster d holds the table that word i of the L1 table names, else 0
+abbrev pub old_table : Metadata → ℕ → ℕ → ℕ
+old_table m i d = of_cluster m.header.fields (meets m.header.fields d) (l2_table m.file m.header.fields i)
