@@ -8,3 +8,4 @@ pub mod AddingUp
 pub mod Steps
 pub mod CopiedTables
 pub mod NewTables
+pub mod LongerL1

@@ -3,3 +3,4 @@ pub mod Words
 pub mod Data
 pub mod Advancing
 pub mod NewTables
+pub mod LongerL1

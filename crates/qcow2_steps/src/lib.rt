@@ -3,5 +3,6 @@
 
 pub mod advancing;
 pub mod data;
+pub mod longer_l1;
 pub mod new_tables;
 pub mod words;
