@@ -323,7 +323,8 @@ pub trait FormatDriverInstance: Seen {
         ensures at_once { RangeAtOnce Self.Seen offset length result self.old self.new }
         ensures refused { PartRefused Self.Seen offset length result self.old self.new };
 
-    /// Hands all that waits in memory to its files, and flushes these: while nothing is prepared, the files alone then mean the disk.
+    /// Hands all that waits in memory to its files, and flushes these. While nothing is prepared, its files alone then mean what the
+    /// layer shows.
     ///
     /// It refuses with `Fault::Memory` and `Fault::Storage`.
     fn flush(&mut self, alloc: Global) -> Result<(), Fault>

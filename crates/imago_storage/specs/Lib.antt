@@ -5,6 +5,7 @@ pub mod MemStorage
 pub mod Through
 pub mod Edges
 pub mod Null
+pub mod View
 pub mod Fuse
 pub mod Log
 pub mod Disk

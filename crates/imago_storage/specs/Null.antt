@@ -31,7 +31,7 @@ zeroes size = record {
 unfoldable pub null_state : Null → StorageState
 null_state n = zeroes n.size
 
-one_aligned : IsAlignment 1
+pub one_aligned : IsAlignment 1
 one_aligned = record { positive = lit< tt; small = lit≤ tt; divides = refl }
 
 -- its alignments are 1

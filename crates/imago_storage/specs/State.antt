@@ -56,3 +56,11 @@ pub record Rose (before after : ℕ) : Type 0 where
 -- where it tells its stops and keeps what is written: a stop leaves the bytes
 abbrev pub InStep : StorageState → Type 0
 InStep s = IsTrue s.shape.tells → IsTrue s.shape.keeps → s.stop ≡ s.bytes
+
+-- no request of a storage of this kind ever fails
+abbrev pub NeverFails : {S : Type 0} → (S → StorageState) → Type 0
+NeverFails {S} state = (s : S) → (state s).faults ≡ 0
+
+-- a storage of this kind may fail
+abbrev pub MayFail : {S : Type 0} → (S → StorageState) → Type 0
+MayFail state = NeverFails state → ⊥

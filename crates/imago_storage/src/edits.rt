@@ -1,8 +1,16 @@
 // Edits of bytes, by ranges.
-ghost use Rattle.std.specs.Prelude.{◌≡◌, ℕ, ◌+◌, ◌<◌, ◌≤◌, ◌^◌, length, slice_index, replicate, max, OnOk, OnErr};
+ghost use Rattle.std.specs.Prelude.{◌≡◌, ℕ, ◌+◌, ◌<◌, ◌≤◌, ◌^◌, length, slice_index, replicate, max, EachIndex, OnOk, OnErr};
 ghost use Rattle.imago_storage.specs.Calls.{Reads, Spliced, SameOutside};
 
 use std::alloc::AllocError;
+
+// How many bytes there are.
+pub(crate) fn byte_count(bytes: &[u8]) -> u64
+    ensures value { result ≡ length bytes.now }
+    ensures bytes { EachIndex bytes.now (λ k. slice_index bytes.now k < 256) }
+{
+    bytes.len() as u64
+}
 
 // Writes over what is there.
 pub(crate) fn copy_in(bytes: &mut [u8], at: usize, data: &[u8])

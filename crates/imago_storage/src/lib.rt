@@ -1,8 +1,9 @@
 //! Storages: lists of bytes that are read and written by requests of whole, aligned units.
 //!
 //! `Storage` is what a storage promises, and `StorageExt` adds reads and writes of any range. `MemStorage` holds its bytes
-//! in memory, and `Null` holds none. `FuseStorage` and `LogStorage` are for tests of what a fault or a stop of the machine
-//! leaves behind. `Fault` is what every call of this crate, and of those above it, is refused with.
+//! in memory, `MemoryView` reads bytes that are lent, and `Null` holds none. `FuseStorage` and `LogStorage` are for tests of
+//! what a fault or a stop of the machine leaves behind. `Fault` is what every call of this crate, and of those above it, is
+//! refused with.
 #![tactic(auto)]
 
 mod discarding;
@@ -16,6 +17,7 @@ mod null;
 mod options;
 mod padding;
 mod storage;
+mod view;
 mod zeroing;
 
 pub use ext::{StorageExt, larger_alignment, padded_end};
@@ -26,4 +28,5 @@ pub use memory::MemStorage;
 pub use null::Null;
 pub use options::{StorageCreateOptions, StorageOpenOptions};
 pub use storage::{PreallocateMode, Storage};
+pub use view::MemoryView;
 pub use zeroing::write_full_zeroes;

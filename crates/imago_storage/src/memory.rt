@@ -9,8 +9,9 @@ use std::alloc::Global;
 
 /// A storage whose bytes are in memory.
 ///
-/// Its only refusal is `Fault::Memory`, where a change needs room that isn't there; each byte of the change's range is then old
-/// or new. It counts no faults, so it never answers `Fault::Storage`. A discard makes the bytes of its range 0.
+/// A request of it is refused with `Fault::Memory` alone, where a change needs room that isn't there; each byte of the change's range is
+/// then old or new. It counts no faults, so it never answers `Fault::Storage`. A discard makes the bytes of its range 0. Its file has no
+/// name, so `resolve_relative_path` answers `Fault::Unsupported`.
 #[derive(Drop)]
 pub struct MemStorage {
     bytes: Vec<u8>,
@@ -73,6 +74,13 @@ impl MemStorage {
         let mut copy = Vec::new(*self.bytes.allocator());
         copy.extend_from_slice(&self.bytes)?;
         Ok(copy)
+    }
+
+    /// The bytes as they stand, lent.
+    pub fn as_bytes(&self) -> &[u8]
+        ensures { result.now ≡ (mem_state self.now).bytes }
+    {
+        self.bytes.as_slice()
     }
 
     /// The bytes. Its only refusal is `Fault::Memory`, which drops them.

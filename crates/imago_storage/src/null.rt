@@ -7,7 +7,8 @@ use crate::{Fault, PreallocateMode, Storage};
 
 /// A storage that has a length and holds no bytes: it reads as zeroes, and drops what is written.
 ///
-/// Writing and zeroing extend the length and never lower it. It refuses nothing. All its alignments are 1.
+/// Writing and zeroing extend the length and never lower it. It refuses no request. All its alignments are 1. It has no name, so
+/// `resolve_relative_path` answers `Fault::Unsupported`.
 #[derive(Drop)]
 pub struct Null {
     size: u64,

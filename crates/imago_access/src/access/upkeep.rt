@@ -20,8 +20,8 @@ use imago_storage::Fault;
 use std::alloc::Global;
 
 impl<D: FormatDriverInstance> FormatAccess<D> {
-    /// Hands all that waits in memory to the files of the top layer, and flushes these: while nothing is prepared, the files alone then
-    /// mean the disk.
+    /// Hands all that waits in memory to the files of the top layer, and flushes these. While nothing is prepared, the top's files alone
+    /// then mean what its layer shows; the layers below it are only read.
     ///
     /// It refuses with `Fault::Memory` and `Fault::Storage`, and where the image can't be used.
     pub fn flush(&mut self, alloc: Global) -> Result<(), Fault>

@@ -1,0 +1,166 @@
+// Bytes in memory that are lent as a storage.
+ghost use Rattle.std.specs.Prelude.{◌≡◌, length, replicate, IsOk, OnOk, IfErr, IsOkUnless, IsErrOf};
+ghost use Rattle.imago_storage.specs.State.{IsWhole, unit_of};
+ghost use Rattle.imago_storage.specs.Calls.{CountsFaults, DiscardRefused, Discarded, Kept, Later, NotWritten, Reads, RequestsOne, ResizeRefused, Resized, Written, ZeroingRefused};
+
+use crate::edits::{byte_count, copy_out};
+use crate::{Fault, PreallocateMode, Storage};
+
+/// Bytes in memory that are lent, as a storage that is only read. All its alignments are 1.
+///
+/// A read never fails, and copies what it reads alone. There is no room for a change: a write is refused with `Fault::Memory`, and
+/// zeroing, discarding and a new length with `Fault::Unsupported`. Each leaves the bytes as they were.
+#[derive(Drop)]
+pub struct MemoryView<'a> {
+    bytes: &'a [u8],
+    refusals: u64,
+}
+
+#[tactic(auto, unfolding(crate::specs::View::view_state))]
+impl<'a> MemoryView<'a> {
+    ghost use Rattle.imago_storage.specs.MemStorage.{memory};
+    ghost use Rattle.imago_storage.specs.View.{view_state};
+
+    /// These bytes as a storage.
+    pub fn new(bytes: &'a [u8]) -> Self
+        ensures { view_state result ≡ memory «bytes».now 1 0 }
+    {
+        MemoryView { bytes, refusals: 0 }
+    }
+}
+
+#[tactic(auto, unfolding(crate::specs::View::view_state))]
+impl Storage for MemoryView<'_> {
+    ghost use Rattle.imago_storage.specs.View.{view_state, view_aligned};
+
+    ghost state = { view_state };
+
+    ghost aligned = { view_aligned };
+
+    fn mem_align(&self) -> usize {
+        1
+    }
+
+    fn req_align(&self) -> usize {
+        1
+    }
+
+    fn zero_align(&self) -> usize {
+        1
+    }
+
+    fn discard_align(&self) -> usize {
+        1
+    }
+
+    fn size(&self) -> u64 {
+        byte_count(self.bytes)
+    }
+
+    fn get_filename(&self) -> Option<&str> {
+        None
+    }
+
+    fn pure_read(&mut self, buf: &mut [u8], offset: u64) -> Result<(), Fault>
+        requires { IsWhole (unit_of (view_state self.old).shape) offset (length buf.old) }
+        ensures read { OnOk result (Reads (view_state self.old).bytes offset buf.new) }
+        ensures kept { Kept (view_state self.old) (view_state self.new) }
+        ensures faults { CountsFaults (view_state self.old).faults (view_state self.new).faults result }
+        ensures later { Later (view_state self.old) (view_state self.new) }
+        ensures always { IsOk result }
+    {
+        copy_out(self.bytes, offset as usize, buf);
+        Ok(())
+    }
+
+    fn pure_write(&mut self, data: &[u8], offset: u64) -> Result<(), Fault>
+        requires { IsWhole (unit_of (view_state self.old).shape) offset (length «data».now) }
+        ensures ok { OnOk result (Written (view_state self.old) (view_state self.new) offset «data».now) }
+        ensures err { IfErr result (NotWritten (view_state self.old) (view_state self.new) offset «data».now) }
+        ensures shape { (view_state self.new).shape ≡ (view_state self.old).shape }
+        ensures later { Later (view_state self.old) (view_state self.new) }
+        ensures once { RequestsOne (view_state self.old) (view_state self.new) result }
+        ensures never { IsErrOf result Fault.Memory }
+        ensures bytes { (view_state self.new).bytes ≡ (view_state self.old).bytes }
+    {
+        self.refusals = self.refusals.saturating_add(1);
+        Err(Fault::Memory)
+    }
+
+    fn pure_write_zeroes(&mut self, offset: u64, length: u64) -> Result<(), Fault>
+        requires whole { IsWhole (unit_of (view_state self.old).shape) offset length }
+        requires zeroes { IsWhole (view_state self.old).shape.zero_align offset length }
+        ensures ok { OnOk result (Written (view_state self.old) (view_state self.new) offset (replicate length 0)) }
+        ensures err { IfErr result (ZeroingRefused (view_state self.old) (view_state self.new) offset length) }
+        ensures shape { (view_state self.new).shape ≡ (view_state self.old).shape }
+        ensures later { Later (view_state self.old) (view_state self.new) }
+        ensures once { RequestsOne (view_state self.old) (view_state self.new) result }
+        ensures never { IsErrOf result Fault.Unsupported }
+    {
+        Err(Fault::Unsupported)
+    }
+
+    fn pure_write_allocated_zeroes(&mut self, offset: u64, length: u64) -> Result<(), Fault>
+        requires whole { IsWhole (unit_of (view_state self.old).shape) offset length }
+        requires zeroes { IsWhole (view_state self.old).shape.zero_align offset length }
+        ensures ok { OnOk result (Written (view_state self.old) (view_state self.new) offset (replicate length 0)) }
+        ensures err { IfErr result (ZeroingRefused (view_state self.old) (view_state self.new) offset length) }
+        ensures shape { (view_state self.new).shape ≡ (view_state self.old).shape }
+        ensures later { Later (view_state self.old) (view_state self.new) }
+        ensures once { RequestsOne (view_state self.old) (view_state self.new) result }
+        ensures never { IsErrOf result Fault.Unsupported }
+    {
+        Err(Fault::Unsupported)
+    }
+
+    fn pure_discard(&mut self, offset: u64, length: u64) -> Result<(), Fault>
+        requires whole { IsWhole (unit_of (view_state self.old).shape) offset length }
+        requires discards { IsWhole (view_state self.old).shape.discard_align offset length }
+        ensures ok { OnOk result (Discarded (view_state self.old) (view_state self.new) offset length) }
+        ensures err { IfErr result (DiscardRefused (view_state self.old) (view_state self.new) offset length) }
+        ensures shape { (view_state self.new).shape ≡ (view_state self.old).shape }
+        ensures later { Later (view_state self.old) (view_state self.new) }
+        ensures once { RequestsOne (view_state self.old) (view_state self.new) result }
+        ensures never { IsErrOf result Fault.Unsupported }
+    {
+        Err(Fault::Unsupported)
+    }
+
+    fn resize(&mut self, size: u64, _mode: PreallocateMode) -> Result<(), Fault>
+        ensures ok { OnOk result (Resized (view_state self.old) (view_state self.new) size) }
+        ensures err { IfErr result (ResizeRefused (view_state self.old) (view_state self.new)) }
+        ensures shape { (view_state self.new).shape ≡ (view_state self.old).shape }
+        ensures later { Later (view_state self.old) (view_state self.new) }
+        ensures once { RequestsOne (view_state self.old) (view_state self.new) result }
+        ensures never { IsErrOf result Fault.Unsupported }
+    {
+        Err(Fault::Unsupported)
+    }
+
+    fn flush(&mut self) -> Result<(), Fault>
+        ensures kept { Kept (view_state self.old) (view_state self.new) }
+        ensures faults { CountsFaults (view_state self.old).faults (view_state self.new).faults result }
+        ensures later { Later (view_state self.old) (view_state self.new) }
+        ensures always { IsOk result }
+    {
+        Ok(())
+    }
+
+    fn sync(&mut self) -> Result<(), Fault>
+        ensures kept { Kept (view_state self.old) (view_state self.new) }
+        ensures faults { CountsFaults (view_state self.old).faults (view_state self.new).faults result }
+        ensures later { Later (view_state self.old) (view_state self.new) }
+        ensures always { IsOk result }
+    {
+        Ok(())
+    }
+
+    fn invalidate_cache(&mut self) -> Result<(), Fault>
+        ensures kept { Kept (view_state self.old) (view_state self.new) }
+        ensures faults { CountsFaults (view_state self.old).faults (view_state self.new).faults result }
+        ensures later { Later (view_state self.old) (view_state self.new) }
+        ensures always { IsOk result }
+    {
+        Ok(())
+    }
+}
