@@ -47,18 +47,11 @@ IsUnsoundBy f (check_fault.UnderCounted c) = IsFinding f (under_counted c)
 IsUnsoundBy f check_fault.Memory = ⊤
 IsUnsoundBy f check_fault.Storage = ⊥
 
--- why the file of a layer of this format isn't copied: it is no qcow2 image, or else there was want of memory
-abbrev pub WhyNotCopied : Format → Fault → Type 0
-WhyNotCopied format Unsupported = format ≢ Qcow2
-WhyNotCopied format WantOfMemory = format ≡ Qcow2
-WhyNotCopied format fault = ⊥
-
 -- What is said of the file of a layer of this format: how many clusters it leaks, or what the checker finds in it.
 abbrev pub Checks : Format → Bytes → Answer → Type 0
 Checks format f (told.Number n) = (format ≡ Qcow2) × ((found : List (ℕ × ℕ)) × IsVerdict f (Ok found) × (n ≡ length found))
 Checks format f (told.Unsound finding) = (format ≡ Qcow2) × IsUnsoundBy f finding
 Checks format f (told.Refused Unsupported) = format ≢ Qcow2
-Checks format f (told.Refused WantOfMemory) = format ≡ Qcow2
 Checks format f answer = ⊥
 
 -- of some copies of the chain's files, by the names of its further files, this holds

@@ -12,5 +12,4 @@ pub use image_driver::ImageDriver;
 pub use naming::NamesFiles;
 pub use opening::open_chain;
 pub use plain_reads::plain_read;
-pub(crate) use snapshots::copy_file;
 pub use snapshots::snapshot;

@@ -88,7 +88,7 @@ fn copy_named(alloc: Global, name: &str, file: &MemStorage) -> Result<(String, M
 }
 
 // Copies a file.
-pub(crate) fn copy_file(file: &MemStorage) -> Result<MemStorage, Fault>
+fn copy_file(file: &MemStorage) -> Result<MemStorage, Fault>
     ensures ok { IfOk result (λ copy. (mem_state copy).bytes ≡ (mem_state file.now).bytes) }
     ensures err { IsOkUnless result Fault.Memory }
 {

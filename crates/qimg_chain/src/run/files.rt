@@ -1,15 +1,13 @@
 // What lines of a script ask of the top file itself: what the checker says of it, and what it shows by itself.
-ghost use Rattle.std.specs.Prelude.{◌≡◌, IfOk, IfErr, OnOk};
-ghost use Rattle.imago_storage.specs.MemStorage.{mem_state};
-ghost use Rattle.imago_access.specs.declared.format.Format.TheVariants.{Qcow2};
+ghost use Rattle.std.specs.Prelude.{IfOk, IfErr};
 ghost use Rattle.qimg_core.specs.Files.{file};
-ghost use Rattle.qimg_chain.specs.RunAnswers.{Checks, IsLength, ReadsPlainly, WhyNoBuffer, WhyNotCopied};
+ghost use Rattle.qimg_chain.specs.RunAnswers.{Checks, IsLength, ReadsPlainly, WhyNoBuffer};
 
 use super::calls::MOST_READ;
-use crate::chain::{NamesFiles, copy_file, plain_read, snapshot};
+use crate::chain::{NamesFiles, plain_read, snapshot};
 use crate::script::{Answer, Bytes};
 use imago_access::{Format, FormatAccess, FormatDriverInstance};
-use imago_storage::{Fault, MemStorage};
+use imago_storage::{Fault, MemStorage, MemoryView};
 use qimg_core::check::check;
 use std::alloc::Global;
 
@@ -26,33 +24,21 @@ fn buffer(alloc: Global, count: u64) -> Result<Vec<u8>, Fault>
     Ok(vec![in alloc; 0u8; count as usize]?)
 }
 
-/// A copy of the top file, where it is a qcow2 image.
+/// What the checker says of the top file as it stands. The file is read where it lies.
 ///
-/// `Fault::Unsupported` where it isn't, and `Fault::Memory` for want of memory.
-fn image_copy<D: FormatDriverInstance<Storage = MemStorage>>(
-    chain: &FormatAccess<D>,
-) -> Result<MemStorage, Fault>
-    ensures qcow2 { OnOk result ((D.layer chain.now.0).fixed.format ≡ Qcow2) }
-    ensures copy { IfOk result (λ m. (mem_state m).bytes ≡ (D.image chain.now.0).bytes) }
-    ensures err { IfErr result (WhyNotCopied (D.layer chain.now.0).fixed.format) }
-{
-    match chain.inner().format() {
-        Format::Qcow2 => copy_file(chain.inner().image_file()),
-        Format::Raw | Format::Vmdk => Err(Fault::Unsupported),
-    }
-}
-
-/// What the checker says of the top file as it stands.
+/// `Fault::Unsupported` where the top isn't a qcow2 image.
 pub fn check_top<D: FormatDriverInstance<Storage = MemStorage>>(
     alloc: Global,
     chain: &FormatAccess<D>,
 ) -> Answer
     ensures { Checks (D.layer chain.now.0).fixed.format (file (D.image chain.now.0)) result }
 {
-    let mut image = match image_copy(chain) {
-        Ok(image) => image,
-        Err(fault) => return Answer::Refused(fault),
-    };
+    let top = chain.inner();
+    match top.format() {
+        Format::Qcow2 => {}
+        Format::Raw | Format::Vmdk => return Answer::Refused(Fault::Unsupported),
+    }
+    let mut image = MemoryView::new(top.image_file().as_bytes());
     match check(alloc, &mut image) {
         Ok(leaks) => Answer::Number(leaks.len() as u64),
         Err(finding) => Answer::Unsound(finding),
