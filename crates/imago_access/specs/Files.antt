@@ -1,7 +1,8 @@
 -- What calls do to the storages of an image or of a chain.
 use Rattle.std.specs.Prelude.{◌≡◌, ◌⊎◌, ⊤, ◌<◌, ◌≤◌, ◌+◌, ◌∷◌, [], ◌++◌, ◌&&◌, max, ℕ, zero, suc, Bool, List, Result, MatchResult, slice_index}
-use Rattle.imago_storage.specs.State.{StorageState, Rose}
+use Rattle.imago_storage.specs.State.{StorageState, Rose, unit_of}
 use Rattle.imago_storage.specs.Calls.{Kept, Later}
+use Rattle.imago_storage.specs.Through.{Overflows}
 use Rattle.imago_access.specs.declared.seen.Seen.{Ghosts}
 use Rattle.imago_storage.specs.declared.fault.Fault.{Fault}
 use Rattle.imago_storage.specs.declared.fault.Fault.TheVariants.{DamagedHeader, DamagedTable, DamagedDescriptor, Unsupported, VersionLimit, Limit, MissingBelow, ExtraLayer, CacheFull, BadArgument, Memory, Storage, BadCommand}
@@ -82,6 +83,12 @@ abbrev pub byte_in : List StorageState → ℕ → ℕ → ℕ
 byte_in [] storage place = 0
 byte_in (s ∷ ss) zero place = slice_index s.bytes place
 byte_in (s ∷ ss) (suc storage) place = byte_in ss storage place
+
+-- the padded end of a range of the storage with this number passes 64 bits
+abbrev pub OverflowsIn : List StorageState → ℕ → (place n : ℕ) → Type 0
+OverflowsIn [] storage place n = ⊥
+OverflowsIn (s ∷ ss) zero place n = Overflows (unit_of s.shape) place n
+OverflowsIn (s ∷ ss) (suc storage) place n = OverflowsIn ss storage place n
 
 -- the greatest of a measure of the storages
 abbrev pub greatest : (StorageState → ℕ) → StorageState → List StorageState → ℕ

@@ -6,7 +6,7 @@ ghost use Rattle.imago_storage.specs.Disk.{byte};
 ghost use Rattle.imago_access.specs.Layer.{Layer, IsOneAt, own, unmapped, loose, IsFree, IsLike};
 ghost use Rattle.imago_access.specs.Chain.{at};
 ghost use Rattle.imago_access.specs.Room.{SaysRoom};
-ghost use Rattle.imago_access.specs.Files.{AreRead, Pairs, IsKept, IsStorageAt, WasNotCutOff, IsStale, files};
+ghost use Rattle.imago_access.specs.Files.{AreRead, OverflowsIn, Pairs, IsKept, IsStorageAt, WasNotCutOff, IsStale, files};
 ghost use Rattle.imago_access.specs.PartCalls.{IsPart, DoesPart, PartRefused, ensures_zero, discards_to_zero, discards_to_any, discards_to_backing};
 ghost use Rattle.imago_access.specs.Going.{AtOnce, RangeAtOnce, KeepsWhatIsFlushed, IsUnchanged, Marks, Looked, LookedUnder, Went};
 ghost use Rattle.imago_access.specs.Mappings.{IsRun, IsOneOf, IsMappedRun, LooksIn, NamesRoomIn};
@@ -120,10 +120,11 @@ pub trait FormatDriverInstance: Seen {
         ensures marks { IfErr result (Marks Self.Seen self.old self.new) }
         ensures cause { Self.sees self.old → IfErr result (RefusesLookup Self.Seen offset max_length self.old self.new) };
 
-    /// Fills the buffer with the bytes of a storage from a place on, as a lookup has named them. Past its end it reads zeroes.
+    /// Fills the buffer with the bytes of a storage from a place on, as a lookup has named them. Past its end it reads zeroes, and so does
+    /// a number that no storage has.
     ///
-    /// It refuses with `Fault::RangeOverflow` where the padded end passes `u64`, with `Fault::Memory` and with `Fault::Storage`. A
-    /// refusal leaves the buffer open.
+    /// It refuses with `Fault::RangeOverflow` where the range isn't empty and its padded end passes `u64`, with `Fault::Memory` and with
+    /// `Fault::Storage`. A refusal leaves the buffer open.
     fn read_mapped(
         &mut self,
         alloc: Global,
@@ -141,6 +142,8 @@ pub trait FormatDriverInstance: Seen {
         ensures none { MakesNone (Self.image self.old) (Self.image self.new) }
 
         // Why it is refused, and what that marks.
+        ensures overflow { barrier (Self.layer self.old) ≡ None → OverflowsIn (files Self.Seen self.old) storage place (length buf.old)
+            → IsErrOf result Fault.RangeOverflow }
         ensures marks { IfErr result (Marks Self.Seen self.old self.new) }
         ensures cause { IfErr result (RefusesRead Self.Seen place (length buf.old) self.old self.new) };
 
