@@ -10,10 +10,10 @@ use Rattle.imago_storage.specs.declared.fault.Fault.{Fault}
 use Rattle.imago_storage.specs.declared.fault.Fault.TheVariants.{Memory, Storage, RangeOverflow}
 use Rattle.imago_formats.specs.VmdkFiles.{IsStopped, IsUnread, unit_of_all}
 use Rattle.imago_formats.specs.VmdkLaws.{aligned_files}
-use Rattle.imago_storage.specs.Through.{NotRead}
+use Rattle.imago_storage.specs.Through.{NotRead, Overflows}
 use Rattle.std.proofs.Math.Nat.{le_refl}
 use Rattle.imago_access.proofs.FilePairs.{is_kept_same, is_kept_both, kept_all_same, faultless_all_same}
-use Rattle.imago_access.specs.Files.{IsKept, IsStorageAt, Pairs, SomeRose, WasNotCutOff, byte_in, greatest}
+use Rattle.imago_access.specs.Files.{IsKept, IsStorageAt, Pairs, OverflowsIn, SomeRose, WasNotCutOff, byte_in, greatest}
 use Rattle.imago_access.proofs.Units.{alignment_max, overflows_more}
 
 module _ {A : Type 0} (state : A → StorageState) (measure : StorageState → ℕ) where
@@ -131,6 +131,18 @@ module _ {A : Type 0} (state : A → StorageState) where
   byte_past (y ∷ ys) zero p h = absurd (omega arith)
   byte_past (y ∷ ys) (suc i) p h = byte_past ys i p (omega arith)
 
+  -- a range that passes 64 bits at one of them
+  pub overflow_at : (xs : List A) (i : ℕ) (d : A) (place n : ℕ) → i < length xs → OverflowsIn (map state xs) i place n →
+      Overflows (unit_of (state (get_or xs i d)).shape) place n
+  overflow_at [] i d place n h passes = absurd (omega arith)
+  overflow_at (y ∷ ys) zero d place n h passes = passes
+  overflow_at (y ∷ ys) (suc i) d place n h passes = overflow_at ys i d place n (omega arith) passes
+
+  pub overflow_past : (xs : List A) (i place n : ℕ) → length xs ≤ i → OverflowsIn (map state xs) i place n → ⊥
+  overflow_past [] i place n h passes = passes
+  overflow_past (y ∷ ys) zero place n h passes = absurd (omega (arith, h))
+  overflow_past (y ∷ ys) (suc i) place n h passes = overflow_past ys i place n (omega (arith, h)) passes
+
   pub same_at : (xs : List A) (i : ℕ) (d y : A) → i < length xs → state y ≡ state (get_or xs i d) → map state (set xs i y) ≡ map state xs
   same_at [] i d y h e = absurd (omega arith)
   same_at (z ∷ zs) zero d y h e = ap (λ s. s ∷ map state zs) e
@@ -158,6 +170,18 @@ byte_within state s xs zero d p some h = absurd (omega arith)
 byte_within state s xs (suc k) d p some h =
     let same : suc k - 1 ≡ k = omega arith in
     byte_at state s xs k d p (omega (arith, h)) ∙ ap (λ i. get_or (state (get_or xs i d)).bytes p 0) (sym same)
+
+pub overflow_beyond : {A : Type 0} (state : A → StorageState) (s : StorageState) (xs : List A) (k place n : ℕ) → length xs < k →
+    OverflowsIn (s ∷ map state xs) k place n → ⊥
+overflow_beyond state s xs zero place n h passes = absurd (omega (arith, h))
+overflow_beyond state s xs (suc k) place n h passes = overflow_past state xs k place n (omega (arith, h)) passes
+
+pub overflow_within : {A : Type 0} (state : A → StorageState) (s : StorageState) (xs : List A) (k : ℕ) (d : A) (place n : ℕ) → 0 < k → k - 1 < length xs →
+    OverflowsIn (s ∷ map state xs) k place n → Overflows (unit_of (state (get_or xs (k - 1) d)).shape) place n
+overflow_within state s xs zero d place n some h passes = absurd (omega (arith, some))
+overflow_within state s xs (suc k) d place n some h passes =
+    let same : suc k - 1 ≡ k = omega arith in
+    subst (λ i. Overflows (unit_of (state (get_or xs i d)).shape) place n) (sym same) (overflow_at state xs k d place n (omega (arith, h)) passes)
 
 -- the storage that is found by its index
 storage_at : {A : Type 0} (state : A → StorageState) (xs : List A) (i : ℕ) (x : A) → i < length xs → x ≡ get_or xs i x → IsStorageAt (map state xs) i (state x)

@@ -1,10 +1,10 @@
 // A VMDK image as a driver.
-ghost use Rattle.std.specs.Prelude.{slice_index_or, ◌<◌, ℕ, ◌≡◌, ◌⊎◌, ◌∷◌, ◌-◌, ◌+◌, ◌*◌, ◌<◌, [], ⊤, min, map, refl, length, OnOk, IfOk, IfErr, IsOk, IsTrue, Ok, Err, Some, None};
+ghost use Rattle.std.specs.Prelude.{IsErrOf, slice_index_or, ◌<◌, ℕ, ◌≡◌, ◌⊎◌, ◌∷◌, ◌-◌, ◌+◌, ◌*◌, ◌<◌, [], ⊤, min, map, refl, length, OnOk, IfOk, IfErr, IsOk, IsTrue, Ok, Err, Some, None};
 ghost use Rattle.std.proofs.Common.{inr};
 ghost use Rattle.std.proofs.Math.Nat.{le_refl};
 ghost use Rattle.imago_storage.specs.Calls.{CountsFaults, IsFaultless, Kept};
 ghost use Rattle.imago_access.specs.Failing.{Fails, RefusesFlush, RefusesLookup};
-ghost use Rattle.imago_access.specs.Files.{AreRead, Pairs, WasNotCutOff, byte_in, files, keep_all};
+ghost use Rattle.imago_access.specs.Files.{AreRead, OverflowsIn, Pairs, WasNotCutOff, byte_in, files, keep_all};
 ghost use Rattle.imago_access.specs.Mappings.{IsOneOf, IsRun, LooksIn, NamesRoomIn};
 ghost use Rattle.imago_access.specs.Going.{AtOnce, IsUnchanged, Looked, Marks, RangeAtOnce};
 ghost use Rattle.imago_access.specs.PartCalls.{IsPart, DoesPart, PartCall, PartRefused};
@@ -170,6 +170,8 @@ impl<S: Storage> Vmdk<S> {
         ensures whole { let d = ⟦<Vmdk<S> as Seen>⟧ in WasNotCutOff result → Pairs IsFaultless (files d self.old) (files d self.new) }
         ensures err { let d = ⟦<Vmdk<S> as Seen>⟧ in
             IfErr result (IsUnread (files d self.old) (files d self.new) place (length buf.old)) }
+        ensures overflow { OverflowsIn (files ⟦<Vmdk<S> as Seen>⟧ self.old) storage place (length buf.old)
+            → IsErrOf result Fault.RangeOverflow }
         ensures empty { length buf.old ≡ 0 → IsOk result × IsUnchanged ⟦<Vmdk<S> as Seen>⟧ self.old self.new }
     {
         read_storage(alloc, &mut self.image, &mut self.files, storage, place, buf)

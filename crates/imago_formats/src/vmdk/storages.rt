@@ -1,9 +1,9 @@
 // The storages of an image: the file of its descriptor, and those that its extents ask for.
-ghost use Rattle.std.specs.Prelude.{◌≡◌, ◌∷◌, map, length, OnOk, IfErr, IsOk};
+ghost use Rattle.std.specs.Prelude.{IsErrOf, ◌≡◌, ◌∷◌, map, length, OnOk, IfErr, IsOk};
 ghost use Rattle.imago_storage.specs.Calls.{Cause, IsFaultless};
 ghost use Rattle.imago_formats.specs.VmdkFiles.{IsStopped, IsUnread, states};
 ghost use Rattle.imago_storage.specs.State.{IsAlignment};
-ghost use Rattle.imago_access.specs.Files.{AreRead, IsKept, Pairs, WasNotCutOff, greatest};
+ghost use Rattle.imago_access.specs.Files.{AreRead, IsKept, OverflowsIn, Pairs, WasNotCutOff, greatest};
 
 use imago_storage::{Fault, Storage, StorageExt, larger_alignment};
 use std::alloc::Global;
@@ -101,6 +101,8 @@ pub(crate) fn read_storage<S: Storage>(
     ensures kept { Pairs IsKept (states S.state image.old files.old) (states S.state image.new files.new) }
     ensures whole { WasNotCutOff result → Pairs IsFaultless (states S.state image.old files.old) (states S.state image.new files.new) }
     ensures err { IfErr result (IsUnread (states S.state image.old files.old) (states S.state image.new files.new) place (length buf.old)) }
+    ensures overflow { OverflowsIn (states S.state image.old files.old) storage place (length buf.old)
+        → IsErrOf result Fault.RangeOverflow }
     ensures empty { length buf.old ≡ 0
         → IsOk result × (S.state image.new ≡ S.state image.old) × (map S.state files.new ≡ map S.state files.old) }
 {

@@ -1,7 +1,7 @@
 use Rattle.std.proofs.Common.{◌≡◌, ◌∷◌, ◌∙◌, ◌+◌, ◌-◌, ℕ, refl, sym, get_or, length, arith, ◌<◌}
 use Rattle.std.specs.Prelude.{map}
 use Rattle.imago_access.proofs.FilePairs.{kept_all_same, faultless_all_same}
-use Rattle.imago_formats.proofs.StorageLemmas.{kept_first, read_first_whole, read_first_err, read_at_kept, read_at_whole, read_at_err, all_aligned, byte_beyond, byte_within, same_at, zero_at, on_ok_reads}
+use Rattle.imago_formats.proofs.StorageLemmas.{kept_first, read_first_whole, read_first_err, read_at_kept, read_at_whole, read_at_err, all_aligned, byte_beyond, byte_within, same_at, overflow_beyond, overflow_within, zero_at, on_ok_reads}
 use Rattle.imago_formats.proofs.vmdk.storages.read_storage.Goals as goal
 
 pub returns-then-storage-eq0-clause-kept : goal.returns-then-storage-eq0-clause-kept
@@ -32,6 +32,11 @@ returns-then-storage-files-clause-bytes g c = λ i low.
     let state = g.S.Storage.state in
     let zeroes : get_or c.fill.new.self i 0 ≡ 0 = zero_at (length c.args.buf.now) c.fill.new.self i (c.fill.ensures.after (λ y e. e)) in
     zeroes ∙ sym (byte_beyond state (state c.args.image.now) c.args.files.now c.args.storage (c.args.place + i) c.if-storage-files.true)
+
+pub returns-then-storage-files-clause-overflow : goal.returns-then-storage-files-clause-overflow
+returns-then-storage-files-clause-overflow g c = λ passes.
+    let state = g.S.Storage.state in
+    absurd (overflow_beyond state (state c.args.image.now) c.args.files.now c.args.storage c.args.place _ c.if-storage-files.true passes)
 
 some_storage : (n : ℕ) → (n ≡ 0 → ⊥) → 0 < n
 some_storage n h = omega (arith, h)
@@ -76,3 +81,11 @@ returns-clause-empty g c = λ none.
     let inside : c.args.storage - 1 < length c.args.files.now = omega (arith, some, c.if-storage-files.false) in
     let nothing = c.read-2.ensures.empty none in
     (nothing.0, refl, same_at state c.args.files.now (c.args.storage - 1) c.index-files-storage.result c.read-2.new.self inside nothing.1)
+
+pub returns-clause-overflow : goal.returns-clause-overflow
+returns-clause-overflow g c = λ passes.
+    let state = g.S.Storage.state in
+    let some : 0 < c.args.storage = some_storage c.args.storage c.if-storage-eq0.false in
+    let inside : c.args.storage - 1 < length c.args.files.now = omega (arith, some, c.if-storage-files.false) in
+    c.read-2.ensures.overflow (overflow_within state (state c.args.image.now) c.args.files.now c.args.storage c.index-files-storage.result
+    c.args.place (length c.args.buf.now) some inside passes)
