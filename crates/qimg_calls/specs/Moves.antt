@@ -1,10 +1,11 @@
 -- What a call of a list does to the disk, what it names, why it is refused, and what it makes of the mapping that is kept.
-use Rattle.std.specs.Prelude.{◌≡◌, ◌<◌, ◌≤◌, ◌^◌, ◌&&◌, ⊤, ℕ, Bool, List, Some, None, if◌then◌else◌, is_some, length, ltb, map, not, Option}
+use Rattle.std.specs.Prelude.{◌≡◌, true, ◌<◌, ◌≤◌, ◌^◌, ◌&&◌, ⊤, ℕ, Bool, List, Some, None, if◌then◌else◌, is_some, length, ltb, map, not, Option}
 use Rattle.imago_storage.specs.Steps.{Answer as DiskAnswer, shrink}
 use Rattle.imago_storage.specs.declared.fault.Fault.{Fault}
 use Rattle.imago_storage.specs.declared.fault.Fault.TheVariants.{ReadOnly, MissingData, Failed}
 use Rattle.imago_access.specs.declared.seen.Seen.{Ghosts}
 use Rattle.imago_access.specs.declared.mapping.Mapping.{Mapping}
+use Rattle.imago_access.specs.declared.mapping.Mapping.TheVariants as deep
 use Rattle.imago_access.specs.declared.mapping.PreparedDataMapping.{PreparedDataMapping}
 use Rattle.imago_access.specs.Layer.{Layer, IsFree}
 use Rattle.imago_access.specs.Layers.{chain}
@@ -14,6 +15,7 @@ use Rattle.imago_access.specs.Failing.{RefusesLookup, RefusesFlush}
 use Rattle.imago_access.specs.Files.{files, files_of, IsMild}
 use Rattle.imago_access.specs.Mappings.{DeepNames, DeepNamesHome, DeepNamesWritable, IsDeepBelow, IsHomeRun, IsOneOf, IsThere, LooksIn, NamesRoomIn, stored_at}
 use Rattle.imago_access.specs.Parts.{GrowthCause, ShrinkCause}
+use Rattle.imago_access.specs.PreparingCalls.{nowhere}
 use Rattle.imago_access.specs.Refusals.{ReadCause, DeepLookCause, barrier}
 use Rattle.imago_access.specs.Running.{IsIntactChain}
 use Rattle.imago_access.specs.Spending.{commit_refusal}
@@ -50,7 +52,8 @@ Names g (calls.GetShallowMapping offset asked) (told.Shallow mapping n) old new 
     × TopStays g old new
     × IsOneOf (length (files g old.0)) mapping
     × NamesRoomIn g offset old.0 (mapping, n)
-Names g (calls.EnsureDataMapping offset asked overwrite) (told.Mapped mapping n) old new = IsHomeRun (g.layer new.0) offset mapping n
+Names g (calls.EnsureDataMapping offset asked overwrite) (told.Mapped mapping n) old new =
+    IsHomeRun (g.layer new.0) offset mapping n × (asked ≡ 0 → (mapping ≡ deep.Raw 0 0 0 true) × (n ≡ 0))
 Names g (calls.WriteMapped guest place bytes) told.Done old new =
     IsMappedFor (g.layer old.0) guest place (length bytes.items) × ((g.layer new.0).home ≡ (g.layer old.0).home)
 Names g calls.CommitDataMapping told.Done old new = KeepsHomes (g.layer old.0) (g.layer new.0)
@@ -68,7 +71,11 @@ pub record IsTold {St : Type 0} (m : PreparedDataMapping St) (storage place n : 
 -- cancelled is spent, and else it stays.
 abbrev pub Keeps : {D St : Type 0} → Ghosts D St → Call → Answer → Holding D St → Holding D St → Type 0
 Keeps {D} {St} g (calls.PrepareDataMapping offset asked overwrite) (told.Prepared storage place n state) old new =
-    (m : PreparedDataMapping St) × (new.kept ≡ Some m) × IsTold m storage place n state × CanWriteRun (g.layer new.drivers.0) offset m
+    (m : PreparedDataMapping St)
+    × (new.kept ≡ Some m)
+    × IsTold m storage place n state
+    × CanWriteRun (g.layer new.drivers.0) offset m
+    × (asked ≡ 0 → m ≡ nowhere)
 Keeps g calls.CommitDataMapping told.Done old new = new.kept ≡ None
 Keeps g calls.Cancel told.Done old new = new.kept ≡ None
 Keeps g call answer old new = new.kept ≡ old.kept

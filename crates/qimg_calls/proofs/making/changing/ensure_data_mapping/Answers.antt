@@ -32,7 +32,7 @@ returns-in-Ok g c =
       room = λ intact on. tt;
       units = λ intact may was. tt;
       marks = tt;
-      moves = λ intact. ((run c.in-Ok.count, refl, e.ok intact, e.home intact), refl);
+      moves = λ intact. ((run c.in-Ok.count, refl, e.ok intact, (e.home intact, λ none. (ap (λ r. r.0) (e.empty none).0, ap (λ r. r.1) (e.empty none).0))), refl);
       leads = ran-leads d old new (GoesOn (told.Mapped c.in-Ok.mapping c.in-Ok.count)) _ (ensure c.args.offset c.args.length c.args.overwrite) g.met.D.FormatDriverInstance.safe_runs
           (GivesAnnounced c.args.overwrite c.args.offset c.args.length) e.ran (λ on ready. tt)
           (announced (map d.layer old.1) (chain_disk d.layer old) c.args.offset c.args.length c.args.overwrite) (omega arith);

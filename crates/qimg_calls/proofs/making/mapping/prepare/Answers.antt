@@ -25,7 +25,7 @@ returns-in-Ok g c =
       marks = tt;
       moves = λ intact. (
         (prepared _ _, refl, rw (c.length.ensures, sym state) (e.ok intact), tt),
-        (m, refl, record { storage_is = sym c.storage.ensures; place_is = sym c.offset.ensures; length_is = sym c.length.ensures; state_is = state }, e.home intact),
+        (m, refl, record { storage_is = sym c.storage.ensures; place_is = sym c.offset.ensures; length_is = sym c.length.ensures; state_is = state }, e.home intact, λ none. (e.empty none).0),
       );
       leads = ran-leads d old new _ _ (prepare c.args.offset c.args.length c.args.overwrite) g.met.D.FormatDriverInstance.safe_runs GivesNone e.ran (λ on ready. tt) (λ p v none. absurd none) (omega arith);
       kept = λ kept. record { mine = e.mine; free = λ none. e.stateless none };
