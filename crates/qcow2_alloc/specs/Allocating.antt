@@ -1,5 +1,5 @@
 -- How free clusters are counted, and made room to be counted in.
-use Rattle.std.specs.Prelude.{⊤, ◌==◌, if◌then◌else◌, Bool, true, false, IfOk, ◌≡◌, ◌≢◌, ◌⊎◌, ℕ, ◌+◌, ◌*◌, ◌/◌, ◌%◌, ◌<◌, ◌≤◌, IsTrue, Result, OnOk, Ok, Err, MatchResult, MatchOption, List, length, slice_index}
+use Rattle.std.specs.Prelude.{⊤, ◌==◌, if◌then◌else◌, Bool, true, false, IfOk, ◌≡◌, ◌≢◌, ◌⊎◌, ℕ, ◌+◌, ◌*◌, ◌/◌, ◌%◌, ◌<◌, ◌≤◌, IsTrue, Result, OnOk, Ok, Err, MatchResult, MatchOption, length, slice_index}
 use Rattle.std.specs.List.{sum_by}
 use Rattle.imago_storage.specs.State.{StorageState}
 use Rattle.imago_storage.specs.Calls.{Later, IsFaultless}
@@ -9,20 +9,20 @@ use Rattle.qcow2_types.specs.Words.{block_offset}
 use Rattle.qcow2_types.specs.Counts.{counters_of_block}
 use Rattle.qcow2_types.specs.Header.{Header}
 use Rattle.qcow2_types.specs.Switched.{with_refcount_table}
-use Rattle.qcow2_types.specs.Pending.{FreeEntry}
 use Rattle.qcow2_metadata.specs.Tables.{TableValue}
 use Rattle.qcow2_metadata.specs.Blocks.{Block, with_counter}
 use Rattle.qcow2_metadata.specs.Places.{IsInReach}
 use Rattle.qcow2_alloc.specs.declared.cache.CacheDependency.TheVariants.{L2DependsOnRb}
 use Rattle.qcow2_alloc.specs.declared.cache.MetadataCaches.{MetadataCaches}
 use Rattle.qcow2_alloc.specs.declared.file.ImageFile.{ImageFile}
-use Rattle.qcow2_alloc.specs.Allocators.{metadata_of, named_block, UsesBlock}
+use Rattle.qcow2_alloc.specs.Allocators.{named_block, UsesBlock}
 use Rattle.qcow2_alloc.specs.Caches.{order_of, KeepsTables}
 use Rattle.qcow2_alloc.specs.FreeList.{covers}
 use Rattle.qcow2_alloc.specs.Freeing.{IsLoose, WhyNotCounted}
 use Rattle.qcow2_alloc.specs.Going.{WasNotCutOff}
 use Rattle.qcow2_alloc.specs.MakingRoom.{run_of}
 use Rattle.qcow2_alloc.specs.Quiet.{Metadata, IsSound, Quietly, counted}
+use Rattle.qcow2_alloc.specs.State.{ImageState, metadata, IsGuarded, WhereGuarded}
 
 -- How a counter of a block that is 0 is raised to 1: it is refused where there is no such counter or where it isn't 0.
 pub record Raises (index : ℕ) (block : Block) (result : Result Unit Fault) (block' : Block) : Type 0 where
@@ -31,8 +31,10 @@ pub record Raises (index : ℕ) (block : Block) (result : Result Unit Fault) (bl
   pub none : index < length block.counters → slice_index block.counters index ≡ 0 → (result ≡ Ok tt) × (block' ≡ with_counter block index 1)
 
 -- A cluster that isn't counted is counted in its block, as a word of the refcount table names it; where none does the table is damaged.
-abbrev pub RaisesCluster : {S : Type 0} → (S → StorageState) → TableValue → ℕ → MetadataCaches S → ImageFile S → Result Unit Fault → MetadataCaches S → ImageFile S → Type 0
-RaisesCluster state table cluster old before result new after = MatchOption (named_block table (cluster / counters_of_block before.header.fields))
+abbrev pub RaisesCluster : {S : Type 0} → (S → StorageState) → TableValue → ℕ → MetadataCaches S → ImageFile S → Result Unit Fault
+    → MetadataCaches S → ImageFile S → Type 0
+RaisesCluster state table cluster old before result new after = MatchOption
+    (named_block table (cluster / counters_of_block before.header.fields))
     ((result ≡ Err DamagedTable) × (new ≡ old) × (after ≡ before))
     (λ key. UsesBlock state key (Raises (cluster % counters_of_block before.header.fields)) old before result new after)
 
@@ -48,60 +50,65 @@ WhyNotAllocated sound loose full before after fault = WhyNotCounted sound loose 
 
 -- Clusters of a run of n are counted, while blocks are written before tables: those that are handed out of a part of it, which is all of it
 -- unless that is cut off. No counter of a sound image stops it where no cluster of the run is counted and each is ready.
-pub record CountsPart {S : Type 0} (state : S → StorageState) (handed : ℕ → ℕ → ℕ) (ready : ℕ → Type 0) (table : TableValue) (first n : ℕ) (old : MetadataCaches S) (before : ImageFile S) (result : Result Unit Fault) (new : MetadataCaches S) (after : ImageFile S) (pending : List FreeEntry) : Type 0 where
+pub record CountsPart {S : Type 0} (state : S → StorageState) (handed : ℕ → ℕ → ℕ) (ready : ℕ → Type 0) (first n : ℕ) (s : ImageState S)
+    (result : Result Unit Fault) (s' : ImageState S) : Type 0 where
   pub part : ℕ
   pub inside : part ≤ n
   pub whole : OnOk result (part ≡ n)
-  pub shape : (state after.image).shape ≡ (state before.image).shape
-  pub later : Later (state before.image) (state after.image)
-  pub faults : WasNotCutOff result → IsFaultless (state before.image) (state after.image)
-  pub quiet : order_of old ≡ L2DependsOnRb → (IsSound (metadata_of state before old table pending) → (c : ℕ) → first ≤ c → c < first + n → counted (metadata_of state before old table pending) c ≡ 0)
-      → Quietly (WasNotCutOff result) (handed part) (λ _. 0) (state before.image) (metadata_of state before old table pending) (state after.image) (metadata_of state after new table pending)
-  pub raised : order_of old ≡ L2DependsOnRb → IsTrue (state before.image).shape.keeps → IsSound (metadata_of state before old table pending)
-      → ((c : ℕ) → first ≤ c → c < first + n → counted (metadata_of state before old table pending) c ≡ 0) → WasNotCutOff result
-      → (c : ℕ) → counted (metadata_of state after new table pending) c ≡ counted (metadata_of state before old table pending) c + handed part c
-  pub order : order_of new ≡ order_of old
-  pub header : after.header ≡ before.header
-  pub loose : (any : Bool) → IsLoose table old any → IsLoose table new any
-  pub room : KeepsTables old new
-  pub cause : MatchResult result (λ _. (state after.image).faults ≡ (state before.image).faults)
-      (WhyNotCounted (IsTrue (state before.image).shape.keeps × (order_of old ≡ L2DependsOnRb) × IsSound (metadata_of state before old table pending)
-      × ((c : ℕ) → first ≤ c → c < first + n → (counted (metadata_of state before old table pending) c ≡ 0) × ready c))
-      (IsLoose table old) (state before.image).faults (state after.image).faults)
+  pub shape : (state s'.file.image).shape ≡ (state s.file.image).shape
+  pub later : Later (state s.file.image) (state s'.file.image)
+  pub faults : WasNotCutOff result → IsFaultless (state s.file.image) (state s'.file.image)
+  pub quiet : order_of s.caches ≡ L2DependsOnRb
+      → (IsSound (metadata state s) → (c : ℕ) → first ≤ c → c < first + n → counted (metadata state s) c ≡ 0)
+      → Quietly (WasNotCutOff result) (handed part) (λ _. 0) (state s.file.image) (metadata state s) (state s'.file.image)
+      (metadata state s')
+  pub raised : WhereGuarded state s (((c : ℕ) → first ≤ c → c < first + n → counted (metadata state s) c ≡ 0) → WasNotCutOff result
+      → (c : ℕ) → counted (metadata state s') c ≡ counted (metadata state s) c + handed part c)
+  pub order : order_of s'.caches ≡ order_of s.caches
+  pub header : s'.file.header ≡ s.file.header
+  pub loose : (any : Bool) → IsLoose s.table s.caches any → IsLoose s.table s'.caches any
+  pub room : KeepsTables s.caches s'.caches
+  pub cause : MatchResult result (λ _. (state s'.file.image).faults ≡ (state s.file.image).faults)
+      (WhyNotCounted (IsTrue (state s.file.image).shape.keeps × (order_of s.caches ≡ L2DependsOnRb) × IsSound (metadata state s)
+      × ((c : ℕ) → first ≤ c → c < first + n → (counted (metadata state s) c ≡ 0) × ready c))
+      (IsLoose s.table s.caches) (state s.file.image).faults (state s'.file.image).faults)
 
 -- A run of n clusters is counted. Each needs a block that the refcount table names.
-abbrev pub CountsRun : {S : Type 0} → (S → StorageState) → TableValue → ℕ → ℕ → MetadataCaches S → ImageFile S → Result Unit Fault → MetadataCaches S → ImageFile S → List FreeEntry → Type 0
-CountsRun state table first n old before result new after pending = CountsPart state (λ part c. covers c (run_of first part))
-    (λ c. block_offset (slice_index table.words (c / counters_of_block before.header.fields)) ≢ 0) table first n old before result new after pending
+abbrev pub CountsRun : {S : Type 0} → (S → StorageState) → (first n : ℕ) → ImageState S → Result Unit Fault → ImageState S → Type 0
+CountsRun state first n s result s' = CountsPart state (λ part c. covers c (run_of first part))
+    (λ c. block_offset (slice_index s.table.words (c / counters_of_block s.file.header.fields)) ≢ 0) first n s result s'
 
 -- 1 where cluster c is one of so many of a run, and the refcount table names the block, of k counters, that counts it; else 0
 abbrev pub named_part : TableValue → ℕ → ℕ → ℕ → ℕ → ℕ
 named_part table k first part c = if block_offset (slice_index table.words (c / k)) == 0 then 0 else covers c (run_of first part)
 
 -- Those of a run of n clusters are counted for which the refcount table names a block. The others are passed over.
-abbrev pub CountsNamed : {S : Type 0} → (S → StorageState) → TableValue → ℕ → ℕ → MetadataCaches S → ImageFile S → Result Unit Fault → MetadataCaches S → ImageFile S → List FreeEntry → Type 0
-CountsNamed state table first n old before result new after pending = CountsPart state (named_part table (counters_of_block before.header.fields) first)
-    (λ _. ⊤) table first n old before result new after pending
+abbrev pub CountsNamed : {S : Type 0} → (S → StorageState) → (first n : ℕ) → ImageState S → Result Unit Fault → ImageState S → Type 0
+CountsNamed state first n s result s' = CountsPart state (named_part s.table (counters_of_block s.file.header.fields) first)
+    (λ _. ⊤) first n s result s'
 
 -- A block is made, where there was none, while blocks are written before tables: at the first place from the mark on that another block
 -- counts, or at the first cluster that it counts itself. Where that is cut off, the table in memory may name it already.
-pub record MakesBlock {S : Type 0} (state : S → StorageState) (index : ℕ) (table : TableValue) (old : MetadataCaches S) (before : ImageFile S) (result : Result Unit Fault) (table' : TableValue) (new : MetadataCaches S) (after : ImageFile S) (pending : List FreeEntry) : Type 0 where
-  pub faults : WasNotCutOff result → IsFaultless (state before.image) (state after.image)
-  pub quiet : order_of old ≡ L2DependsOnRb → Quietly (WasNotCutOff result) (λ _. 0) (λ _. 0) (state before.image) (metadata_of state before old table pending) (state after.image) (metadata_of state after new table' pending)
-  pub raised : order_of old ≡ L2DependsOnRb → IsTrue (state before.image).shape.keeps → IsSound (metadata_of state before old table pending) → WasNotCutOff result
-      → OnlyRaised (metadata_of state before old table pending) (metadata_of state after new table' pending)
-  pub named : OnOk result (block_offset (slice_index table'.words index) ≢ 0)
-  pub others : (i : ℕ) → i ≢ index → slice_index table'.words i ≡ slice_index table.words i
-  pub long : length table'.words ≡ length table.words
-  pub layout : table'.layout ≡ table.layout
-  pub placed : table'.cluster ≡ table.cluster
-  pub order : order_of new ≡ order_of old
-  pub header : after.header ≡ before.header
-  pub loose : (any : Bool) → IsLoose table old any → IsLoose table' new any
-  pub room : KeepsTables old new
-  pub cause : MatchResult result (λ _. (state after.image).faults ≡ (state before.image).faults)
-      (WhyNotAllocated (IsTrue (state before.image).shape.keeps × (order_of old ≡ L2DependsOnRb) × IsSound (metadata_of state before old table pending)) (IsLoose table old)
-      (λ number. (number ≤ index * counters_of_block before.header.fields) × (IsInReach before.header.fields.cluster_bits number → ⊥)) (state before.image).faults (state after.image).faults)
+pub record MakesBlock {S : Type 0} (state : S → StorageState) (index : ℕ) (s : ImageState S) (result : Result Unit Fault)
+    (s' : ImageState S) : Type 0 where
+  pub faults : WasNotCutOff result → IsFaultless (state s.file.image) (state s'.file.image)
+  pub quiet : order_of s.caches ≡ L2DependsOnRb → Quietly (WasNotCutOff result) (λ _. 0) (λ _. 0) (state s.file.image) (metadata state s)
+      (state s'.file.image) (metadata state s')
+  pub raised : WhereGuarded state s (WasNotCutOff result
+      → OnlyRaised (metadata state s) (metadata state s'))
+  pub named : OnOk result (block_offset (slice_index s'.table.words index) ≢ 0)
+  pub others : (i : ℕ) → i ≢ index → slice_index s'.table.words i ≡ slice_index s.table.words i
+  pub long : length s'.table.words ≡ length s.table.words
+  pub layout : s'.table.layout ≡ s.table.layout
+  pub placed : s'.table.cluster ≡ s.table.cluster
+  pub order : order_of s'.caches ≡ order_of s.caches
+  pub header : s'.file.header ≡ s.file.header
+  pub loose : (any : Bool) → IsLoose s.table s.caches any → IsLoose s'.table s'.caches any
+  pub room : KeepsTables s.caches s'.caches
+  pub cause : MatchResult result (λ _. (state s'.file.image).faults ≡ (state s.file.image).faults)
+      (WhyNotAllocated (IsGuarded state s) (IsLoose s.table s.caches)
+      (λ number. (number ≤ index * counters_of_block s.file.header.fields) × (IsInReach s.file.header.fields.cluster_bits number → ⊥))
+      (state s.file.image).faults (state s'.file.image).faults)
 
 -- how many words of a refcount table name no block
 abbrev pub missing : TableValue → ℕ
@@ -113,28 +120,31 @@ MovedTable H H' = (offset : ℕ) × (clusters : ℕ) × (H' ≡ with_refcount_ta
 
 -- What a call does that counts clusters, while blocks are written before tables, and hands out so many of them. Counts are raised from 0 to
 -- 1 alone. It wasn't cut off where `ok` holds.
-pub record Allocating {S : Type 0} (state : S → StorageState) (ok : Type 0) (handed : ℕ → ℕ) (table : TableValue) (old : MetadataCaches S) (before : ImageFile S) (pending : List FreeEntry) (table' : TableValue) (new : MetadataCaches S) (after : ImageFile S) (pending' : List FreeEntry) : Type 0 where
-  pub faults : ok → IsFaultless (state before.image) (state after.image)
-  pub quiet : order_of old ≡ L2DependsOnRb → Quietly ok handed (λ _. 0) (state before.image) (metadata_of state before old table pending) (state after.image) (metadata_of state after new table' pending')
-  pub raised : order_of old ≡ L2DependsOnRb → IsTrue (state before.image).shape.keeps → IsSound (metadata_of state before old table pending) → ok
-      → OnlyRaised (metadata_of state before old table pending) (metadata_of state after new table' pending')
-  pub order : order_of new ≡ order_of old
-  pub moved : MovedTable before.header after.header
-  pub longer : length table.words ≤ length table'.words
-  pub loose : (any : Bool) → IsLoose table old any → IsLoose table' new any
-  pub room : KeepsTables old new
+pub record Allocating {S : Type 0} (state : S → StorageState) (ok : Type 0) (handed : ℕ → ℕ) (s s' : ImageState S) : Type 0 where
+  pub faults : ok → IsFaultless (state s.file.image) (state s'.file.image)
+  pub quiet : order_of s.caches ≡ L2DependsOnRb → Quietly ok handed (λ _. 0) (state s.file.image) (metadata state s) (state s'.file.image)
+      (metadata state s')
+  pub raised : WhereGuarded state s (ok
+      → OnlyRaised (metadata state s) (metadata state s'))
+  pub order : order_of s'.caches ≡ order_of s.caches
+  pub moved : MovedTable s.file.header s'.file.header
+  pub longer : length s.table.words ≤ length s'.table.words
+  pub loose : (any : Bool) → IsLoose s.table s.caches any → IsLoose s'.table s'.caches any
+  pub room : KeepsTables s.caches s'.caches
 
 -- The blocks at these indices are made that there aren't, and the answer is whether one was. Words that named a block stay.
-pub record MakesBlocks {S : Type 0} (state : S → StorageState) (first end : ℕ) (table : TableValue) (old : MetadataCaches S) (before : ImageFile S) (result : Result Bool Fault) (table' : TableValue) (new : MetadataCaches S) (after : ImageFile S) (pending : List FreeEntry) : Type 0 where
-  pub step : Allocating state (WasNotCutOff result) (λ _. 0) table old before pending table' new after pending
-  pub named : OnOk result ((i : ℕ) → first ≤ i → i < end → block_offset (slice_index table'.words i) ≢ 0)
-  pub kept : (i : ℕ) → block_offset (slice_index table.words i) ≢ 0 → slice_index table'.words i ≡ slice_index table.words i
-  pub idle : IfOk result (λ made. made ≡ false → (table' ≡ table) × (new ≡ old) × (after ≡ before))
-  pub fewer : IfOk result (λ made. made ≡ true → missing table' < missing table)
-  pub long : length table'.words ≡ length table.words
-  pub layout : table'.layout ≡ table.layout
-  pub placed : table'.cluster ≡ table.cluster
-  pub header : after.header ≡ before.header
-  pub cause : MatchResult result (λ _. (state after.image).faults ≡ (state before.image).faults)
-      (WhyNotAllocated (IsTrue (state before.image).shape.keeps × (order_of old ≡ L2DependsOnRb) × IsSound (metadata_of state before old table pending)) (IsLoose table old)
-      (λ number. (i : ℕ) × (first ≤ i) × (i < end) × (number ≤ i * counters_of_block before.header.fields) × (IsInReach before.header.fields.cluster_bits number → ⊥)) (state before.image).faults (state after.image).faults)
+pub record MakesBlocks {S : Type 0} (state : S → StorageState) (first end : ℕ) (s : ImageState S) (result : Result Bool Fault)
+    (s' : ImageState S) : Type 0 where
+  pub step : Allocating state (WasNotCutOff result) (λ _. 0) s s'
+  pub named : OnOk result ((i : ℕ) → first ≤ i → i < end → block_offset (slice_index s'.table.words i) ≢ 0)
+  pub kept : (i : ℕ) → block_offset (slice_index s.table.words i) ≢ 0 → slice_index s'.table.words i ≡ slice_index s.table.words i
+  pub idle : IfOk result (λ made. made ≡ false → (s'.table ≡ s.table) × (s'.caches ≡ s.caches) × (s'.file ≡ s.file))
+  pub fewer : IfOk result (λ made. made ≡ true → missing s'.table < missing s.table)
+  pub long : length s'.table.words ≡ length s.table.words
+  pub layout : s'.table.layout ≡ s.table.layout
+  pub placed : s'.table.cluster ≡ s.table.cluster
+  pub header : s'.file.header ≡ s.file.header
+  pub cause : MatchResult result (λ _. (state s'.file.image).faults ≡ (state s.file.image).faults)
+      (WhyNotAllocated (IsGuarded state s) (IsLoose s.table s.caches)
+      (λ number. (i : ℕ) × (first ≤ i) × (i < end) × (number ≤ i * counters_of_block s.file.header.fields)
+      × (IsInReach s.file.header.fields.cluster_bits number → ⊥)) (state s.file.image).faults (state s'.file.image).faults)

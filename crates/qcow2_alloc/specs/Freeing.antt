@@ -1,5 +1,5 @@
 -- How clusters that wait to be freed are counted down.
-use Rattle.std.specs.Prelude.{◌≡◌, ◌⊎◌, ⊤, ℕ, ◌<◌, ◌≤◌, IsTrue, Result, MatchResult, OnOk, Bool, List, [], ◌∷◌, Some, length, nat_eq, not, true, false}
+use Rattle.std.specs.Prelude.{◌≡◌, ◌⊎◌, ⊤, ℕ, ◌<◌, ◌≤◌, Result, MatchResult, OnOk, Bool, List, [], ◌∷◌, Some, length, nat_eq, not, true, false}
 use Rattle.std.specs.List.{filter}
 use Rattle.imago_storage.specs.State.{StorageState, Rose}
 use Rattle.imago_storage.specs.Calls.{IsFaultless}
@@ -10,14 +10,14 @@ use Rattle.qcow2_metadata.specs.Tables.{TableValue}
 use Rattle.qcow2_alloc.specs.declared.cache.CacheDependency.{CacheDependency}
 use Rattle.qcow2_alloc.specs.declared.cache.CacheDependency.TheVariants.{RbDependsOnL2}
 use Rattle.qcow2_alloc.specs.declared.cache.MetadataCaches.{MetadataCaches}
-use Rattle.qcow2_alloc.specs.declared.file.ImageFile.{ImageFile}
-use Rattle.qcow2_alloc.specs.Allocators.{metadata_of, named_block}
+use Rattle.qcow2_alloc.specs.Allocators.{named_block}
 use Rattle.qcow2_alloc.specs.Caches.{cached_in, KeepsTables}
 use Rattle.qcow2_alloc.specs.Finding.{pinned_among, pinned_in, PinsNothing}
 use Rattle.qcow2_alloc.specs.FreeList.{entry_at, listed, shortened}
 use Rattle.qcow2_alloc.specs.Going.{WasNotCutOff}
-use Rattle.qcow2_alloc.specs.Quiet.{Metadata, IsSound, Quietly, counted, metadata_in}
+use Rattle.qcow2_alloc.specs.Quiet.{Metadata, Quietly, counted, metadata_in}
 use Rattle.qcow2_alloc.specs.Safety.{IsCalm}
+use Rattle.qcow2_alloc.specs.State.{ImageState, metadata, IsKept, WhereKept}
 
 -- Fewer blocks are pinned than there is room for, so that any can be loaded.
 abbrev pub HasSpareRoom : {S : Type 0} → MetadataCaches S → Type 0
@@ -69,18 +69,22 @@ IsWholeOrCalm result old new = WasNotCutOff result ⊎ IsCalm old new
 
 -- Clusters were counted down, and what waits to be freed is less by them. The mark stays, or falls to a cluster that waited and was freed.
 -- What contracts see of an image: its file, its caches, the mark, and what waits to be freed.
-pub record Frees {S : Type 0} (state : S → StorageState) (table : TableValue) (old : MetadataCaches S) (before : ImageFile S) (mark : ℕ) (pending : List FreeEntry) (result : Result Unit Fault) (new : MetadataCaches S) (after : ImageFile S) (mark' : ℕ) (pending' : List FreeEntry) : Type 0 where
-  pub faults : WasNotCutOff result → IsFaultless (state before.image) (state after.image)
-  pub quiet : Quietly (IsWholeOrCalm result (state before.image) (state after.image)) (λ _. 0) (λ _. 0) (state before.image) (metadata_of state before old table pending) (state after.image) (metadata_of state after new table pending')
-  pub marked : IsTrue (state before.image).shape.keeps → IsSound (metadata_of state before old table pending) → IsWholeOrCalm result (state before.image) (state after.image) → IsMarked (metadata_of state before old table pending) mark → IsMarked (metadata_of state after new table pending') mark'
+pub record Frees {S : Type 0} (state : S → StorageState) (mark : ℕ) (s : ImageState S) (result : Result Unit Fault) (s' : ImageState S)
+    (mark' : ℕ) : Type 0 where
+  pub faults : WasNotCutOff result → IsFaultless (state s.file.image) (state s'.file.image)
+  pub quiet : Quietly (IsWholeOrCalm result (state s.file.image) (state s'.file.image)) (λ _. 0) (λ _. 0) (state s.file.image)
+      (metadata state s) (state s'.file.image) (metadata state s')
+  pub marked : WhereKept state s
+      (IsWholeOrCalm result (state s.file.image) (state s'.file.image) → IsMarked (metadata state s) mark
+      → IsMarked (metadata state s') mark')
   pub lower : mark' ≤ mark
-  pub fallen : (mark' ≡ mark) ⊎ (listed pending' mark' < listed pending mark')
-  pub header : after.header ≡ before.header
-  pub pins : PinsNothing (cached_in old).blocks (cached_in new).blocks
-  pub room : KeepsTables old new
-  pub less : (c : ℕ) → listed pending' c ≤ listed pending c
-  pub fewer : length pending' ≤ length pending
-  pub cause : CountsFreeing (IsTrue (state before.image).shape.keeps × IsSound (metadata_of state before old table pending)) (HasSpareRoom old) (state before.image).faults (state after.image).faults result
+  pub fallen : (mark' ≡ mark) ⊎ (listed s'.pending mark' < listed s.pending mark')
+  pub header : s'.file.header ≡ s.file.header
+  pub pins : PinsNothing (cached_in s.caches).blocks (cached_in s'.caches).blocks
+  pub room : KeepsTables s.caches s'.caches
+  pub less : (c : ℕ) → listed s'.pending c ≤ listed s.pending c
+  pub fewer : length s'.pending ≤ length s.pending
+  pub cause : CountsFreeing (IsKept state s) (HasSpareRoom s.caches) (state s.file.image).faults (state s'.file.image).faults result
 
 -- the entries of guest data
 abbrev pub data_in : List FreeEntry → List FreeEntry
@@ -108,7 +112,8 @@ pub record IsRestInTurn (old left : List FreeEntry) : Type 0 where
 
 -- In which order caches are written once what waits was counted down, or that was refused: as before, or tables first. It is as before
 -- where no guest data waited, where that is in an external file, and where metadata is left; else, on success, tables come first.
-pub record OrdersFreeing (external : Bool) (pending left : List FreeEntry) (old : CacheDependency) (result : Result Unit Fault) (new : CacheDependency) : Type 0 where
+pub record OrdersFreeing (external : Bool) (pending left : List FreeEntry) (old : CacheDependency) (result : Result Unit Fault)
+    (new : CacheDependency) : Type 0 where
   pub either : (new ≡ old) ⊎ (new ≡ RbDependsOnL2)
   pub kept : (external ≡ true) ⊎ ((data_in pending ≡ []) ⊎ (metadata_in left ≡ [] → ⊥)) → new ≡ old
   pub announced : external ≡ false → (data_in pending ≡ [] → ⊥) → OnOk result (new ≡ RbDependsOnL2)

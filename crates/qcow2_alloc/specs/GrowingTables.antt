@@ -1,5 +1,5 @@
 -- How the refcount table grows.
-use Rattle.std.specs.Prelude.{◌≡◌, ◌⊎◌, ℕ, ◌+◌, ◌-◌, ◌*◌, ◌/◌, ◌^◌, ◌<◌, ◌≤◌, ◌==◌, ◌++◌, ◌∷◌, [], IsTrue, min, true, if◌then◌else◌, List, Some, Result, Err, OnOk, OnErr, IfErr, MatchResult, length, slice_index, Bool}
+use Rattle.std.specs.Prelude.{◌≡◌, ◌⊎◌, ℕ, ◌+◌, ◌-◌, ◌*◌, ◌/◌, ◌^◌, ◌<◌, ◌≤◌, ◌==◌, ◌++◌, ◌∷◌, [], min, true, if◌then◌else◌, List, Some, Result, Err, OnOk, OnErr, IfErr, MatchResult, length, slice_index, Bool}
 use Rattle.imago_storage.specs.State.{StorageState}
 use Rattle.imago_storage.specs.declared.fault.Fault.{Fault}
 use Rattle.imago_storage.specs.declared.fault.Fault.TheVariants.{CacheFull, Limit}
@@ -10,22 +10,19 @@ use Rattle.qcow2_types.specs.Pending.{FreeEntry}
 use Rattle.qcow2_metadata.specs.Growth.{IsEnough, IsGrownLength}
 use Rattle.qcow2_metadata.specs.Places.{IsInReach}
 use Rattle.qcow2_metadata.specs.Tables.{TableValue}
-use Rattle.qcow2_alloc.specs.declared.cache.CacheDependency.TheVariants.{L2DependsOnRb}
-use Rattle.qcow2_alloc.specs.declared.cache.MetadataCaches.{MetadataCaches}
-use Rattle.qcow2_alloc.specs.declared.file.ImageFile.{ImageFile}
 use Rattle.qcow2_alloc.specs.Allocating.{Allocating, WhyNotAllocated}
-use Rattle.qcow2_alloc.specs.Allocators.{metadata_of}
-use Rattle.qcow2_alloc.specs.Caches.{order_of}
 use Rattle.qcow2_alloc.specs.FreeList.{covers}
 use Rattle.qcow2_alloc.specs.Freeing.{IsLoose}
 use Rattle.qcow2_alloc.specs.Going.{WasNotCutOff, IsMild}
 use Rattle.qcow2_alloc.specs.Growing.{lacks, lacking, IsFirstRoom}
 use Rattle.qcow2_alloc.specs.MakingRoom.{run_of, rank}
-use Rattle.qcow2_alloc.specs.Quiet.{Metadata, IsSound, counted}
+use Rattle.qcow2_alloc.specs.Quiet.{Metadata, counted}
+use Rattle.qcow2_alloc.specs.State.{ImageState, metadata, IsGuarded, WhereGuarded}
 
 -- the clusters of the refcount table of an image, if there are any
 abbrev pub table_run : Fields → List FreeEntry
-table_run h = if h.refcount_table_clusters == 0 then [] else run_of (h.refcount_table_offset / cluster_size h) h.refcount_table_clusters ∷ []
+table_run h = if h.refcount_table_clusters == 0 then [] else run_of
+    (h.refcount_table_offset / cluster_size h) h.refcount_table_clusters ∷ []
 
 -- the list as it was; or the refcount table became longer, and the clusters of the old one are behind
 abbrev pub IsLengthenedByTable : Fields → TableValue → TableValue → List FreeEntry → List FreeEntry → Type 0
@@ -37,7 +34,8 @@ room_from m mark = min mark (length m.table.words * counters_of_block m.header.f
 
 -- A room of `total` clusters from `first` on is the first one for the table, grown to so many clusters for an index.
 pub record IsRoomToGrow (m : Metadata) (mark at first total clusters : ℕ) : Type 0 where
-  pub long : IsGrownLength (words_of_cluster m.header.fields) (counters_of_block m.header.fields) at (clusters * words_of_cluster m.header.fields)
+  pub long : IsGrownLength (words_of_cluster m.header.fields) (counters_of_block m.header.fields) at
+      (clusters * words_of_cluster m.header.fields)
   pub room : IsFirstRoom m.table (counters_of_block m.header.fields) (counted m) (room_from m mark) clusters first total
 
 -- Words can name the clusters of the room, and the grown table can name a block for each.
@@ -48,16 +46,21 @@ pub record IsRoomInReach (m : Metadata) (first total clusters : ℕ) : Type 0 wh
 -- There is no place for a table that holds an index, as a number tells: that of the words that it would have at least, which are too many; or
 -- that of the last cluster of its room, which is out of reach.
 abbrev pub NoPlaceToGrow : Metadata → (mark at number : ℕ) → Type 0
-NoPlaceToGrow m mark at number = (((n : ℕ) → IsEnough (words_of_cluster m.header.fields) (counters_of_block m.header.fields) at n → 2 ^ 20 < n) × (number ≡ 2 ^ 20 + words_of_cluster m.header.fields))
-    ⊎ ((first : ℕ) × (total : ℕ) × (clusters : ℕ) × IsRoomToGrow m mark at first total clusters × (IsRoomInReach m first total clusters → ⊥) × (number ≡ first + (total - 1)))
+NoPlaceToGrow m mark at number =
+    (((n : ℕ) → IsEnough (words_of_cluster m.header.fields) (counters_of_block m.header.fields) at n → 2 ^ 20 < n)
+    × (number ≡ 2 ^ 20 + words_of_cluster m.header.fields))
+    ⊎ ((first : ℕ) × (total : ℕ) × (clusters : ℕ) × IsRoomToGrow m mark at first total clusters
+    × (IsRoomInReach m first total clusters → ⊥) × (number ≡ first + (total - 1)))
 
 -- A cluster of the room that the table takes to hold an index, which it has no word for.
 abbrev pub IsInRoomToGrow : Metadata → (mark at c : ℕ) → Type 0
-IsInRoomToGrow m mark at c = (length m.table.words ≤ at) × (first : ℕ) × (total : ℕ) × (clusters : ℕ) × IsRoomToGrow m mark at first total clusters × (first ≤ c) × (c < first + total)
+IsInRoomToGrow m mark at c = (length m.table.words ≤ at) × (first : ℕ) × (total : ℕ) × (clusters : ℕ)
+    × IsRoomToGrow m mark at first total clusters × (first ≤ c) × (c < first + total)
 
 -- What is counted anew for a cluster comes no later than it, or is the room of a table that has a word for its block.
 abbrev pub IsTakenFor : (mark cluster : ℕ) → Metadata → Metadata → Type 0
-IsTakenFor mark cluster m m' = (c : ℕ) → counted m c ≡ 0 → 0 < counted m' c → (c ≤ cluster) ⊎ IsInRoomToGrow m mark (cluster / counters_of_block m.header.fields) c
+IsTakenFor mark cluster m m' = (c : ℕ) → counted m c ≡ 0 → 0 < counted m' c
+    → (c ≤ cluster) ⊎ IsInRoomToGrow m mark (cluster / counters_of_block m.header.fields) c
 
 -- The table has grown for an index: it stands in its room behind the blocks that were lacking for that, in the order of their indices. Its words
 -- name these blocks, and those that they named before. Each cluster of the room is counted, and no other count changed.
@@ -70,8 +73,10 @@ pub record TableGrown (mark at : ℕ) (m m' : Metadata) : Type 0 where
   pub long : length m'.table.words ≡ clusters * words_of_cluster m.header.fields
   pub placed : m'.table.cluster ≡ Some (first + lacking m.table (counters_of_block m.header.fields) first total)
   pub news : (i : ℕ) → lacks m.table (counters_of_block m.header.fields) first total i ≡ true
-      → block_offset (slice_index m'.table.words i) ≡ (first + rank (lacks m.table (counters_of_block m.header.fields) first total) i) * cluster_size m.header.fields
-  pub olds : (i : ℕ) → (lacks m.table (counters_of_block m.header.fields) first total i ≡ true → ⊥) → block_offset (slice_index m'.table.words i) ≡ block_offset (slice_index m.table.words i)
+      → block_offset (slice_index m'.table.words i) ≡ (first + rank
+      (lacks m.table (counters_of_block m.header.fields) first total) i) * cluster_size m.header.fields
+  pub olds : (i : ℕ) → (lacks m.table (counters_of_block m.header.fields) first total i ≡ true → ⊥)
+      → block_offset (slice_index m'.table.words i) ≡ block_offset (slice_index m.table.words i)
   pub counts : (c : ℕ) → counted m' c ≡ counted m c + covers c (run_of first total)
 
 -- What a refused call has counted and nobody was handed: only one that found the cache full has, and so none of a sound image where there is room
@@ -82,19 +87,20 @@ pub record Leaks {T : Type 0} (sound : Type 0) (loose : Bool → Type 0) (result
 
 -- The refcount table grows until it holds an index, while blocks are written before tables. The old table waits to be freed then. Refused without
 -- being cut off, table, header and list are what they were, and of a sound image nothing is counted otherwise unless the cache is full of what is pinned.
-pub record GrowsTable {S : Type 0} (state : S → StorageState) (mark at : ℕ) (table : TableValue) (old : MetadataCaches S) (before : ImageFile S) (pending : List FreeEntry) (result : Result Unit Fault) (table' : TableValue) (new : MetadataCaches S) (after : ImageFile S) (pending' : List FreeEntry) : Type 0 where
+pub record GrowsTable {S : Type 0} (state : S → StorageState) (mark at : ℕ) (s : ImageState S) (result : Result Unit Fault)
+    (s' : ImageState S) : Type 0 where
   pub leaked : ℕ → ℕ
-  pub leaks : Leaks (IsTrue (state before.image).shape.keeps × (order_of old ≡ L2DependsOnRb) × IsSound (metadata_of state before old table pending)) (IsLoose table old) result leaked
-  pub step : Allocating state (WasNotCutOff result) leaked table old before pending table' new after pending'
-  pub grown : order_of old ≡ L2DependsOnRb → IsTrue (state before.image).shape.keeps → IsSound (metadata_of state before old table pending)
-      → OnOk result (TableGrown mark at (metadata_of state before old table pending) (metadata_of state after new table' pending'))
-  pub barred : order_of old ≡ L2DependsOnRb → IsTrue (state before.image).shape.keeps → IsSound (metadata_of state before old table pending)
-      → (number : ℕ) → result ≡ Err (Limit number) → (c : ℕ) → counted (metadata_of state after new table' pending') c ≡ counted (metadata_of state before old table pending) c
-  pub enough : OnOk result (IsGrownLength (words_of_cluster before.header.fields) (counters_of_block before.header.fields) at (length table'.words))
-  pub waits : OnOk result (pending' ≡ pending ++ table_run before.header.fields)
-  pub kept : OnErr result (pending' ≡ pending)
-  pub stays : IfErr result (λ fault. IsMild fault → (table' ≡ table) × (after.header ≡ before.header))
-  pub cause : MatchResult result (λ _. (state after.image).faults ≡ (state before.image).faults)
-      (WhyNotAllocated (IsTrue (state before.image).shape.keeps × (order_of old ≡ L2DependsOnRb) × IsSound (metadata_of state before old table pending)) (IsLoose table old)
-      (λ number. order_of old ≡ L2DependsOnRb → IsTrue (state before.image).shape.keeps → IsSound (metadata_of state before old table pending) → NoPlaceToGrow (metadata_of state before old table pending) mark at number)
-      (state before.image).faults (state after.image).faults)
+  pub leaks : Leaks (IsGuarded state s) (IsLoose s.table s.caches) result leaked
+  pub step : Allocating state (WasNotCutOff result) leaked s s'
+  pub grown : WhereGuarded state s (OnOk result (TableGrown mark at (metadata state s) (metadata state s')))
+  pub barred : WhereGuarded state s
+      ((number : ℕ) → result ≡ Err (Limit number) → (c : ℕ) → counted (metadata state s') c ≡ counted (metadata state s) c)
+  pub enough : OnOk result
+      (IsGrownLength (words_of_cluster s.file.header.fields) (counters_of_block s.file.header.fields) at (length s'.table.words))
+  pub waits : OnOk result (s'.pending ≡ s.pending ++ table_run s.file.header.fields)
+  pub kept : OnErr result (s'.pending ≡ s.pending)
+  pub stays : IfErr result (λ fault. IsMild fault → (s'.table ≡ s.table) × (s'.file.header ≡ s.file.header))
+  pub cause : MatchResult result (λ _. (state s'.file.image).faults ≡ (state s.file.image).faults)
+      (WhyNotAllocated (IsGuarded state s) (IsLoose s.table s.caches)
+      (λ number. WhereGuarded state s (NoPlaceToGrow (metadata state s) mark at number))
+      (state s.file.image).faults (state s'.file.image).faults)

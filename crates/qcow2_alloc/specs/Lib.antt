@@ -13,6 +13,7 @@ pub mod Changes
 pub mod FreeList
 pub mod Quiet
 pub mod Allocators
+pub mod State
 pub mod Freeing
 pub mod MakingRoom
 pub mod SearchingClusters

@@ -1,5 +1,5 @@
 -- How a refcount block is made where there was none.
-use Rattle.std.specs.Prelude.{◌≡◌, ◌≢◌, ⊤, ℕ, ◌+◌, ◌*◌, ◌/◌, ◌<◌, Bool, IsTrue, Result, Ok, Err, List, slice_index}
+use Rattle.std.specs.Prelude.{◌≡◌, ◌≢◌, ⊤, ℕ, ◌+◌, ◌*◌, ◌/◌, ◌<◌, Bool, Result, Ok, Err, slice_index}
 use Rattle.std.specs.Int.{w64, to_be_bytes}
 use Rattle.imago_storage.specs.State.{StorageState}
 use Rattle.imago_storage.specs.Calls.{Later, IsFaultless}
@@ -7,7 +7,6 @@ use Rattle.imago_storage.specs.Through.{PutAtOnce}
 use Rattle.imago_storage.specs.declared.fault.Fault.{Fault}
 use Rattle.imago_storage.specs.declared.fault.Fault.TheVariants.{DamagedTable, Limit}
 use Rattle.qcow2_types.specs.Counts.{counters_of_block}
-use Rattle.qcow2_types.specs.Pending.{FreeEntry}
 use Rattle.qcow2_types.specs.Words.{block_offset}
 use Rattle.qcow2_metadata.specs.Blocks.{Block, BlockPut}
 use Rattle.qcow2_metadata.specs.Places.{IsInReach, place_of}
@@ -16,10 +15,10 @@ use Rattle.qcow2_alloc.specs.declared.cache.CacheDependency.TheVariants.{L2Depen
 use Rattle.qcow2_alloc.specs.declared.cache.MetadataCaches.{MetadataCaches}
 use Rattle.qcow2_alloc.specs.declared.file.ImageFile.{ImageFile}
 use Rattle.qcow2_alloc.specs.Allocating.{MakesBlock, OnlyRaised}
-use Rattle.qcow2_alloc.specs.Allocators.{metadata_of}
 use Rattle.qcow2_alloc.specs.Caches.{order_of, KeepsTables}
 use Rattle.qcow2_alloc.specs.Freeing.{IsLoose}
-use Rattle.qcow2_alloc.specs.Quiet.{Metadata, IsSound, Quietly, counted}
+use Rattle.qcow2_alloc.specs.Quiet.{Metadata, Quietly, counted}
+use Rattle.qcow2_alloc.specs.State.{ImageState, lent, metadata, WhereGuarded}
 
 -- A word of the refcount table can be written, of an image whose clusters have 2 to this power of bytes, and name this cluster.
 pub record CanName (table : TableValue) (cluster_bits place : ℕ) : Type 0 where
@@ -34,7 +33,8 @@ WhyNotNamed table cluster_bits place (Limit number) = (IsInReach cluster_bits pl
 WhyNotNamed table cluster_bits place fault = ⊥
 
 -- A block is written, and then word i of the refcount table, which names it. Where the block wasn't written the table stays.
-pub record NamesWritten (table : TableValue) (i : ℕ) (block : Block) (old : StorageState) (result : Result Unit Fault) (table' : TableValue) (new : StorageState) : Type 0 where
+pub record NamesWritten (table : TableValue) (i : ℕ) (block : Block) (old : StorageState) (result : Result Unit Fault)
+    (table' : TableValue) (new : StorageState) : Type 0 where
   pub done : Result Unit Fault
   pub mid : StorageState
   pub put : BlockPut block (place_of block.cluster_bits block.cluster) old mid done
@@ -50,20 +50,21 @@ pub record IsFreePlace (m : Metadata) (i place : ℕ) : Type 0 where
   pub there : block_offset (slice_index m.table.words (place / counters_of_block m.header.fields)) ≢ 0
 
 -- So far came a call: these clusters were handed out, while blocks are written before tables, and nothing else changed.
-pub record Begins {S : Type 0} (state : S → StorageState) (table : TableValue) (pending : List FreeEntry) (old : MetadataCaches S) (before : ImageFile S) (handed : ℕ → ℕ) (new : MetadataCaches S) (after : ImageFile S) : Type 0 where
-  pub shape : (state after.image).shape ≡ (state before.image).shape
-  pub later : Later (state before.image) (state after.image)
-  pub quiet : order_of old ≡ L2DependsOnRb → Quietly ⊤ handed (λ _. 0) (state before.image) (metadata_of state before old table pending) (state after.image) (metadata_of state after new table pending)
-  pub raised : order_of old ≡ L2DependsOnRb → IsTrue (state before.image).shape.keeps → IsSound (metadata_of state before old table pending)
-      → OnlyRaised (metadata_of state before old table pending) (metadata_of state after new table pending)
-  pub faults : IsFaultless (state before.image) (state after.image)
-  pub header : after.header ≡ before.header
-  pub order : new.order ≡ old.order
-  pub loose : (any : Bool) → IsLoose table old any → IsLoose table new any
-  pub room : KeepsTables old new
+pub record Begins {S : Type 0} (state : S → StorageState) (s : ImageState S) (handed : ℕ → ℕ) (s' : ImageState S) : Type 0 where
+  pub shape : (state s'.file.image).shape ≡ (state s.file.image).shape
+  pub later : Later (state s.file.image) (state s'.file.image)
+  pub quiet : order_of s.caches ≡ L2DependsOnRb → Quietly ⊤ handed (λ _. 0) (state s.file.image) (metadata state s) (state s'.file.image)
+      (metadata state s')
+  pub raised : WhereGuarded state s (OnlyRaised (metadata state s) (metadata state s'))
+  pub faults : IsFaultless (state s.file.image) (state s'.file.image)
+  pub header : s'.file.header ≡ s.file.header
+  pub order : s'.caches.order ≡ s.caches.order
+  pub loose : (any : Bool) → IsLoose s.table s.caches any → IsLoose s.table s'.caches any
+  pub room : KeepsTables s.caches s'.caches
 
 -- A block is made in a cluster that another counts, by a call that came so far and knows by what the image was that this one is free.
-abbrev pub MakesIn : {S : Type 0} → (S → StorageState) → ℕ → ℕ → TableValue → MetadataCaches S → ImageFile S → Result Unit Fault → TableValue → MetadataCaches S → ImageFile S → Type 0
-MakesIn {S} state index place table old before result table' new after = (first : MetadataCaches S) (file : ImageFile S) (pending : List FreeEntry) → Begins state table pending first file (λ _. 0) old before
-    → (order_of first ≡ L2DependsOnRb → IsTrue (state file.image).shape.keeps → IsSound (metadata_of state file first table pending) → IsFreePlace (metadata_of state before old table pending) index place)
-    → MakesBlock state index table first file result table' new after pending
+abbrev pub MakesIn : {S : Type 0} → (S → StorageState) → (index place : ℕ) → ImageState S → Result Unit Fault → ImageState S → Type 0
+MakesIn {S} state index place s result s' = (first : MetadataCaches S) (file : ImageFile S)
+    → Begins state (lent s.table first file s.pending) (λ _. 0) s
+    → WhereGuarded state (lent s.table first file s.pending) (IsFreePlace (metadata state s) index place)
+    → MakesBlock state index (lent s.table first file s.pending) result s'

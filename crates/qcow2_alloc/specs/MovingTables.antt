@@ -22,7 +22,6 @@ use Rattle.qcow2_alloc.specs.declared.cache.CacheDependency.TheVariants.{L2Depen
 use Rattle.qcow2_alloc.specs.declared.cache.MetadataCaches.{MetadataCaches}
 use Rattle.qcow2_alloc.specs.declared.file.ImageFile.{ImageFile}
 use Rattle.qcow2_alloc.specs.Allocating.{CountsNamed, MovedTable, OnlyRaised}
-use Rattle.qcow2_alloc.specs.Allocators.{metadata_of}
 use Rattle.qcow2_alloc.specs.Caches.{cached_in, order_of, KeepsTables}
 use Rattle.qcow2_alloc.specs.Finding.{pinned_among}
 use Rattle.qcow2_alloc.specs.FreeList.{covers}
@@ -35,6 +34,7 @@ use Rattle.qcow2_alloc.specs.MakingBlocks.{CanName}
 use Rattle.qcow2_alloc.specs.Memory.{Cached}
 use Rattle.qcow2_alloc.specs.NewBlocks.{HasCountedOwn}
 use Rattle.qcow2_alloc.specs.Quiet.{Metadata, in_memory, counted, named_at_all, IsSound, IsQuiet, Quietly}
+use Rattle.qcow2_alloc.specs.State.{ImageState, lent, metadata, WhereKept, WhereGuarded}
 
 -- how many clusters the words of a table take, where a cluster has 2 to this power of bytes
 abbrev pub clusters_of : TableValue → ℕ → ℕ
@@ -45,14 +45,16 @@ abbrev pub naming_table : Header → TableValue → Header
 naming_table H table = with_refcount_table H (table_place table) (clusters_of table H.fields.cluster_bits)
 
 -- A table is written to its place, and then the header's pointer to it. Where this is refused the image has the table that it had.
-pub record MovesTable {S : Type 0} (state : S → StorageState) (table was : TableValue) (before : ImageFile S) (result : Result Unit Fault) (now : TableValue) (after : ImageFile S) : Type 0 where
+pub record MovesTable {S : Type 0} (state : S → StorageState) (table was : TableValue) (before : ImageFile S) (result : Result Unit Fault)
+    (now : TableValue) (after : ImageFile S) : Type 0 where
   pub done : Result Unit Fault
   pub mid : S
   pub put : Put (state before.image) (state mid) (table_place table) (table_bytes table.words) done
   pub stopped : (fault : Fault) → done ≡ Err fault → (result ≡ Err fault) × (after ≡ record { image = mid; header = before.header })
   pub pointed : done ≡ Ok tt → PutAtOnce (state mid) (state after.image) 0 (first_bytes (naming_table before.header table).fields) result
   pub fit : done ≡ Ok tt → FirstFieldsFit (naming_table before.header table).fields
-  pub sizes : done ≡ Ok tt → first_fault (rules_of_size before.header.fields) ≡ None → first_fault (rules_of_size (naming_table before.header table).fields) ≡ None
+  pub sizes : done ≡ Ok tt → first_fault (rules_of_size before.header.fields) ≡ None
+      → first_fault (rules_of_size (naming_table before.header table).fields) ≡ None
   pub ok : OnOk result ((now ≡ record table { modified = false }) × (after.header ≡ naming_table before.header table))
   pub err : OnErr result ((now ≡ was) × MovedTable before.header after.header)
 
@@ -61,7 +63,8 @@ pub record NamesNewBlocks (h : Fields) (was : TableValue) (run : Run) (old new :
   pub layout : new.layout ≡ old.layout
   pub placed : new.cluster ≡ old.cluster
   pub long : length new.words ≡ length old.words
-  pub news : (i : ℕ) → lacks was (counters_of_block h) run.first run.len i ≡ true → block_offset (slice_index new.words i) ≡ (run.first + rank (lacks was (counters_of_block h) run.first run.len) i) * cluster_size h
+  pub news : (i : ℕ) → lacks was (counters_of_block h) run.first run.len i ≡ true
+      → block_offset (slice_index new.words i) ≡ (run.first + rank (lacks was (counters_of_block h) run.first run.len) i) * cluster_size h
   pub olds : (i : ℕ) → lacks was (counters_of_block h) run.first run.len i ≡ false → slice_index new.words i ≡ slice_index old.words i
 
 -- A copy of the refcount table, grown to n clusters, is to stand in a run behind the blocks that are lacking for it. Its words name these, and
@@ -73,8 +76,11 @@ pub record IsGrownCopy (h : Fields) (table : TableValue) (run : Run) (n : ℕ) (
   pub placed : copy.cluster ≡ Some (run.first + lacking table (counters_of_block h) run.first run.len)
   pub sane : (i : ℕ) → i < length copy.words → IsTrue (block_word_sound h.cluster_bits (slice_index copy.words i))
   pub fit : AreFit copy.words
-  pub news : (i : ℕ) → lacks table (counters_of_block h) run.first run.len i ≡ true → block_offset (slice_index copy.words i) ≡ (run.first + rank (lacks table (counters_of_block h) run.first run.len) i) * cluster_size h
-  pub olds : (i : ℕ) → lacks table (counters_of_block h) run.first run.len i ≡ false → block_offset (slice_index copy.words i) ≡ block_offset (slice_index table.words i)
+  pub news : (i : ℕ) → lacks table (counters_of_block h) run.first run.len i ≡ true
+      → block_offset (slice_index copy.words i) ≡ (run.first + rank
+      (lacks table (counters_of_block h) run.first run.len) i) * cluster_size h
+  pub olds : (i : ℕ) → lacks table (counters_of_block h) run.first run.len i ≡ false
+      → block_offset (slice_index copy.words i) ≡ block_offset (slice_index table.words i)
 
 -- The run has room for both, in reach of words and of the counters of the copy's blocks.
 pub record HasRoomFor (h : Fields) (table : TableValue) (run : Run) (n : ℕ) : Type 0 where
@@ -101,7 +107,8 @@ pub record IsGrownFor (h : Fields) (table : TableValue) (at : ℕ) (copy : Table
 abbrev pub WhyNotGrown : Fields → TableValue → ℕ → Fault → Type 0
 WhyNotGrown h table at Memory = ⊤
 WhyNotGrown h table at DamagedTable = table.layout.cluster_bits ≢ h.cluster_bits
-WhyNotGrown h table at (Limit number) = ((n : ℕ) → IsEnough (words_of_cluster h) (counters_of_block h) at n → 2 ^ 20 < n) × (number ≡ 2 ^ 20 + words_of_cluster h)
+WhyNotGrown h table at (Limit number) = ((n : ℕ) → IsEnough (words_of_cluster h) (counters_of_block h) at n → 2 ^ 20 < n)
+    × (number ≡ 2 ^ 20 + words_of_cluster h)
 WhyNotGrown h table at fault = ⊥
 
 -- A copy of the refcount table has grown in memory by whole clusters of empty words, and a run has room for it.
@@ -117,7 +124,9 @@ pub record IsCopyFor (h : Fields) (table : TableValue) (run : Run) (copy : Table
 abbrev pub WhyNotPlaced : Fields → TableValue → Run → TableValue → Fault → Type 0
 WhyNotPlaced h table run copy Memory = ⊤
 WhyNotPlaced h table run copy DamagedTable = (run.first ≢ 0) × CanName table h.cluster_bits (run.first + (run.len - 1)) → ⊥
-WhyNotPlaced h table run copy (Limit number) = (IsInReach h.cluster_bits (run.first + (run.len - 1)) × (run.first + run.len ≤ length copy.words * counters_of_block h) → ⊥) × (number ≡ run.first + (run.len - 1))
+WhyNotPlaced h table run copy (Limit number) =
+    (IsInReach h.cluster_bits (run.first + (run.len - 1)) × (run.first + run.len ≤ length copy.words * counters_of_block h) → ⊥)
+    × (number ≡ run.first + (run.len - 1))
 WhyNotPlaced h table run copy fault = ⊥
 
 -- The image shows the same, with the same in memory.
@@ -132,7 +141,8 @@ with_cached m cached = record m { cached = cached }
 -- What is cached of the blocks in a run, which nothing names, is forgotten.
 pub record ForgetsRun (first n : ℕ) (old : Cached) (result : Result Unit Fault) (new : Cached) : Type 0 where
   pub stays : (m : Metadata) → IsSound (with_cached m old) → ((d : ℕ) → first ≤ d → d < first + n → named_at_all (with_cached m old) d ≡ 0)
-      → StaysInMemory (with_cached m old) (with_cached m new) × OnOk result ((d : ℕ) → first ≤ d → d < first + n → lookup (nat_eq d) new.blocks ≡ None)
+      → StaysInMemory (with_cached m old) (with_cached m new)
+      × OnOk result ((d : ℕ) → first ≤ d → d < first + n → lookup (nat_eq d) new.blocks ≡ None)
 
 -- A block in one of so many clusters is pinned.
 abbrev pub IsPinnedWithin : {S : Type 0} → ℕ → ℕ → MetadataCaches S → Type 0
@@ -142,7 +152,8 @@ IsPinnedWithin first n caches = (d : ℕ) × (first ≤ d) × (d < first + n) ×
 pub record IsTaken (m : Metadata) (run : Run) : Type 0 where
   pub free : (c : ℕ) → run.first ≤ c → c < run.first + run.len → named_at_all m c ≡ 0
   pub counters : (i : ℕ) → lacks m.table (counters_of_block m.header.fields) run.first run.len i ≡ true
-      → HasCountedOwn m.file m.header.fields (run.first + rank (lacks m.table (counters_of_block m.header.fields) run.first run.len) i) i run
+      → HasCountedOwn m.file m.header.fields
+      (run.first + rank (lacks m.table (counters_of_block m.header.fields) run.first run.len) i) i run
   pub written : (c : ℕ) → count m.file m.header.fields c ≡ counted m c
   pub uncached : (i : ℕ) → lacks m.table (counters_of_block m.header.fields) run.first run.len i ≡ true
       → lookup (nat_eq (run.first + rank (lacks m.table (counters_of_block m.header.fields) run.first run.len) i)) m.cached.blocks ≡ None
@@ -159,47 +170,48 @@ waiting_then (Err fault) h pending = pending
 module _ {S : Type 0} (state : S → StorageState) where
   -- A run that wasn't counted is taken: those of its clusters are counted that an old block counts, and the blocks that are lacking for it are
   -- written.
-  pub record TakesRoom (table : TableValue) (run : Run) (old : MetadataCaches S) (before : ImageFile S) (result : Result Unit Fault) (new : MetadataCaches S) (after : ImageFile S) (pending : List FreeEntry) : Type 0 where
-    pub counts : CountsNamed state table run.first run.len old before result new after pending
-    pub taken : order_of old ≡ L2DependsOnRb → IsTrue (state before.image).shape.keeps → IsSound (metadata_of state before old table pending) → IsUncounted (metadata_of state before old table pending) run
-        → OnOk result (IsTaken (metadata_of state after new table pending) run)
+  pub record TakesRoom (run : Run) (s : ImageState S) (result : Result Unit Fault) (s' : ImageState S) : Type 0 where
+    pub counts : CountsNamed state run.first run.len s result s'
+    pub taken : WhereGuarded state s (IsUncounted (metadata state s) run
+        → OnOk result (IsTaken (metadata state s') run))
 
   -- A copy of the refcount table takes a run, and becomes the image's, while the old one comes to wait; where something is known of the image
   -- that says that the run isn't counted.
-  pub record FillsRoom (known : Type 0) (run : Run) (copy table : TableValue) (old : MetadataCaches S) (before : ImageFile S) (result : Result Unit Fault) (table' : TableValue) (new : MetadataCaches S) (after : ImageFile S) (pending pending' : List FreeEntry) : Type 0 where
+  pub record FillsRoom (known : Type 0) (run : Run) (copy : TableValue) (s : ImageState S) (result : Result Unit Fault)
+      (s' : ImageState S) : Type 0 where
     pub leaked : ℕ → ℕ
-    pub leaks : Leaks (known × IsTrue (state before.image).shape.keeps × IsSound (metadata_of state before old table pending)) (IsLoose table old) result leaked
-    pub shape : (state after.image).shape ≡ (state before.image).shape
-    pub later : Later (state before.image) (state after.image)
-    pub faults : WasNotCutOff result → IsFaultless (state before.image) (state after.image)
-    pub quiet : known → Quietly (WasNotCutOff result) leaked (λ _. 0) (state before.image) (metadata_of state before old table pending) (state after.image) (metadata_of state after new table' pending')
-    pub raised : known → IsTrue (state before.image).shape.keeps → IsSound (metadata_of state before old table pending) → WasNotCutOff result
-        → OnlyRaised (metadata_of state before old table pending) (metadata_of state after new table' pending')
-    pub counts : known → IsTrue (state before.image).shape.keeps → IsSound (metadata_of state before old table pending)
-        → OnOk result ((c : ℕ) → counted (metadata_of state after new table' pending') c ≡ counted (metadata_of state before old table pending) c + covers c (run_of run.first run.len))
-    pub order : order_of new ≡ order_of old
-    pub moved : MovedTable before.header after.header
-    pub longer : length table.words ≤ length table'.words
-    pub loose : (any : Bool) → IsLoose table old any → IsLoose table' new any
-    pub room : KeepsTables old new
-    pub table_is : OnOk result (table' ≡ record copy { modified = false })
-    pub stays : IfErr result (λ fault. IsMild fault → (table' ≡ table) × (after.header ≡ before.header))
-    pub cause : MatchResult result (λ _. (state after.image).faults ≡ (state before.image).faults)
-        (WhyNotCounted (known × IsTrue (state before.image).shape.keeps × IsSound (metadata_of state before old table pending)) (IsLoose table old) (state before.image).faults (state after.image).faults)
+    pub leaks : Leaks (known × IsTrue (state s.file.image).shape.keeps × IsSound (metadata state s))
+        (IsLoose s.table s.caches) result leaked
+    pub shape : (state s'.file.image).shape ≡ (state s.file.image).shape
+    pub later : Later (state s.file.image) (state s'.file.image)
+    pub faults : WasNotCutOff result → IsFaultless (state s.file.image) (state s'.file.image)
+    pub quiet : known → Quietly (WasNotCutOff result) leaked (λ _. 0) (state s.file.image) (metadata state s) (state s'.file.image)
+        (metadata state s')
+    pub raised : known → WhereKept state s (WasNotCutOff result
+        → OnlyRaised (metadata state s) (metadata state s'))
+    pub counts : known → WhereKept state s
+        (OnOk result ((c : ℕ) → counted (metadata state s') c ≡ counted (metadata state s) c + covers c (run_of run.first run.len)))
+    pub order : order_of s'.caches ≡ order_of s.caches
+    pub moved : MovedTable s.file.header s'.file.header
+    pub longer : length s.table.words ≤ length s'.table.words
+    pub loose : (any : Bool) → IsLoose s.table s.caches any → IsLoose s'.table s'.caches any
+    pub room : KeepsTables s.caches s'.caches
+    pub table_is : OnOk result (s'.table ≡ record copy { modified = false })
+    pub stays : IfErr result (λ fault. IsMild fault → (s'.table ≡ s.table) × (s'.file.header ≡ s.file.header))
+    pub cause : MatchResult result (λ _. (state s'.file.image).faults ≡ (state s.file.image).faults)
+        (WhyNotCounted (known × IsTrue (state s.file.image).shape.keeps × IsSound (metadata state s)) (IsLoose s.table s.caches)
+        (state s.file.image).faults (state s'.file.image).faults)
 
   -- blocks are written first, and the run isn't counted
-  abbrev pub IsFreeIn : Run → TableValue → MetadataCaches S → ImageFile S → List FreeEntry → Type 0
-  IsFreeIn run table old before pending = (order_of old ≡ L2DependsOnRb) × IsUncounted (metadata_of state before old table pending) run
+  abbrev pub IsFreeIn : Run → ImageState S → Type 0
+  IsFreeIn run s = (order_of s.caches ≡ L2DependsOnRb) × IsUncounted (metadata state s) run
 
   -- it was sound before, in an image that keeps what is written
-  abbrev pub WasSound : MetadataCaches S → ImageFile S → TableValue → List FreeEntry → Type 0
-  WasSound first file table pending = (order_of first ≡ L2DependsOnRb) × IsTrue (state file.image).shape.keeps × IsSound (metadata_of state file first table pending)
+  abbrev pub WasSound : ImageState S → Type 0
+  WasSound s = (order_of s.caches ≡ L2DependsOnRb) × IsTrue (state s.file.image).shape.keeps × IsSound (metadata state s)
 
-  abbrev pub FillsFree : Run → TableValue → TableValue → MetadataCaches S → ImageFile S → Result Unit Fault → TableValue → MetadataCaches S → ImageFile S → Type 0
-  FillsFree run copy table old before result table' new after = (pending : List FreeEntry) (first : MetadataCaches S) (file : ImageFile S) → (WasSound first file table pending → IsFreeIn run table old before pending)
-      → FillsRoom (WasSound first file table pending) run copy table old before result table' new after pending (waiting_then result before.header.fields pending)
-
-  -- the same, by what waits to be freed
-  abbrev pub EntersFree : Run → TableValue → TableValue → MetadataCaches S → ImageFile S → List FreeEntry → Result Unit Fault → TableValue → MetadataCaches S → ImageFile S → List FreeEntry → Type 0
-  EntersFree run copy table old before pending result table' new after pending' = (first : MetadataCaches S) (file : ImageFile S) → (WasSound first file table pending → IsFreeIn run table old before pending)
-      → FillsRoom (WasSound first file table pending) run copy table old before result table' new after pending pending'
+  -- So it is where, of what the image was before some of the call, follows that the run isn't counted.
+  abbrev pub EntersFree : Run → TableValue → ImageState S → Result Unit Fault → ImageState S → Type 0
+  EntersFree run copy s result s' = (first : MetadataCaches S) (file : ImageFile S)
+      → (WasSound (lent s.table first file s.pending) → IsFreeIn run s)
+      → FillsRoom (WasSound (lent s.table first file s.pending)) run copy s result s'

@@ -1,25 +1,20 @@
 -- What a run of clusters needs before it can be counted.
-use Rattle.std.specs.Prelude.{◌≡◌, ◌≢◌, ◌⊎◌, ℕ, min, ◌+◌, ◌-◌, ◌*◌, ◌/◌, ◌^◌, ◌<◌, ◌≤◌, ◌++◌, Bool, true, false, IsTrue, List, Result, Err, IfOk, OnOk, OnErr, MatchResult, length, slice_index}
+use Rattle.std.specs.Prelude.{◌≡◌, ◌≢◌, ◌⊎◌, ℕ, min, ◌+◌, ◌-◌, ◌*◌, ◌/◌, ◌^◌, ◌<◌, ◌≤◌, ◌++◌, Bool, true, false, Result, Err, IfOk, OnOk, OnErr, MatchResult, length, slice_index}
 use Rattle.imago_storage.specs.State.{StorageState}
 use Rattle.imago_storage.specs.declared.fault.Fault.{Fault}
 use Rattle.imago_storage.specs.declared.fault.Fault.TheVariants.{DamagedTable, Limit}
 use Rattle.qcow2_types.specs.Counts.{counters_of_block}
 use Rattle.qcow2_types.specs.Header.{Fields}
 use Rattle.qcow2_types.specs.Words.{block_offset}
-use Rattle.qcow2_types.specs.Pending.{FreeEntry}
 use Rattle.qcow2_metadata.specs.Places.{IsInReach}
 use Rattle.qcow2_metadata.specs.Tables.{TableValue}
-use Rattle.qcow2_alloc.specs.declared.cache.CacheDependency.TheVariants.{L2DependsOnRb}
-use Rattle.qcow2_alloc.specs.declared.cache.MetadataCaches.{MetadataCaches}
-use Rattle.qcow2_alloc.specs.declared.file.ImageFile.{ImageFile}
 use Rattle.qcow2_alloc.specs.Allocating.{Allocating, WhyNotAllocated, missing}
-use Rattle.qcow2_alloc.specs.Allocators.{metadata_of}
-use Rattle.qcow2_alloc.specs.Caches.{order_of}
 use Rattle.qcow2_alloc.specs.FillingBlocks.{FillsFrom}
 use Rattle.qcow2_alloc.specs.Freeing.{IsLoose}
 use Rattle.qcow2_alloc.specs.Going.{WasNotCutOff}
 use Rattle.qcow2_alloc.specs.GrowingTables.{Leaks, NoPlaceToGrow, TableGrown, table_run}
-use Rattle.qcow2_alloc.specs.Quiet.{Metadata, IsSound, counted}
+use Rattle.qcow2_alloc.specs.Quiet.{Metadata, counted}
+use Rattle.qcow2_alloc.specs.State.{ImageState, metadata, IsGuarded, WhereGuarded}
 
 -- the number of the last cluster of a run, or the greatest one where that is more
 abbrev pub last_number : (first n : ℕ) → ℕ
@@ -35,15 +30,20 @@ WhyNotFit h n first fault = ⊥
 
 -- A refcount table became longer, or as long names a block where it named none.
 abbrev pub HasMore : TableValue → TableValue → Type 0
-HasMore table table' = (length table.words < length table'.words) ⊎ ((length table'.words ≡ length table.words) × (missing table' < missing table))
+HasMore table table' = (length table.words < length table'.words)
+    ⊎ ((length table'.words ≡ length table.words) × (missing table' < missing table))
 
 -- What was done: the blocks that were lacking were made, where the table has words for them, or it has grown.
 abbrev pub HasMade : (mark at first last : ℕ) → Metadata → Metadata → Type 0
-HasMade mark at first last m m' = ((last < length m.table.words) × (length m'.table.words ≡ length m.table.words) × FillsFrom mark first (last + 1) m m') ⊎ ((length m.table.words ≤ last) × TableGrown mark at m m')
+HasMade mark at first last m m' =
+    ((last < length m.table.words) × (length m'.table.words ≡ length m.table.words) × FillsFrom mark first (last + 1) m m')
+    ⊎ ((length m.table.words ≤ last) × TableGrown mark at m m')
 
 -- Why neither could be: words can't name the first cluster that one of the blocks counts, or there is no place for the table, as a number tells.
 abbrev pub NoneCanBeMade : (mark at first last number : ℕ) → Metadata → Type 0
-NoneCanBeMade mark at first last number m = (((i : ℕ) → first ≤ i → i ≤ last → IsInReach m.header.fields.cluster_bits (i * counters_of_block m.header.fields)) → ⊥) ⊎ ((length m.table.words ≤ last) × NoPlaceToGrow m mark at number)
+NoneCanBeMade mark at first last number m =
+    (((i : ℕ) → first ≤ i → i ≤ last → IsInReach m.header.fields.cluster_bits (i * counters_of_block m.header.fields)) → ⊥)
+    ⊎ ((length m.table.words ≤ last) × NoPlaceToGrow m mark at number)
 
 -- An image has the header and the refcount table that it had, and counts each cluster as it did.
 pub record CountsAsBefore (m m' : Metadata) : Type 0 where
@@ -53,22 +53,24 @@ pub record CountsAsBefore (m m' : Metadata) : Type 0 where
 
 -- The refcount table has a block at each index of a range, or has more than it had: it grows until it holds the index `at` where it has no word for
 -- the last of these. The answer is whether it does.
-pub record ReadiesBlocks {S : Type 0} (state : S → StorageState) (mark at first last : ℕ) (table : TableValue) (old : MetadataCaches S) (before : ImageFile S) (pending : List FreeEntry) (result : Result Bool Fault) (table' : TableValue) (new : MetadataCaches S) (after : ImageFile S) (pending' : List FreeEntry) : Type 0 where
+pub record ReadiesBlocks {S : Type 0} (state : S → StorageState) (mark at first last : ℕ) (s : ImageState S) (result : Result Bool Fault)
+    (s' : ImageState S) : Type 0 where
   pub leaked : ℕ → ℕ
-  pub leaks : Leaks (IsTrue (state before.image).shape.keeps × (order_of old ≡ L2DependsOnRb) × IsSound (metadata_of state before old table pending)) (IsLoose table old) result leaked
-  pub step : Allocating state (WasNotCutOff result) leaked table old before pending table' new after pending'
-  pub idle : IfOk result (λ made. made ≡ false → (table' ≡ table) × (new ≡ old) × (after ≡ before))
-  pub ready : IfOk result (λ made. made ≡ false → (i : ℕ) → first ≤ i → i ≤ last → block_offset (slice_index table'.words i) ≢ 0)
-  pub further : IfOk result (λ made. made ≡ true → HasMore table table')
-  pub made : order_of old ≡ L2DependsOnRb → IsTrue (state before.image).shape.keeps → IsSound (metadata_of state before old table pending)
-      → IfOk result (λ made. made ≡ true → HasMade mark at first last (metadata_of state before old table pending) (metadata_of state after new table' pending'))
+  pub leaks : Leaks (IsGuarded state s) (IsLoose s.table s.caches) result leaked
+  pub step : Allocating state (WasNotCutOff result) leaked s s'
+  pub idle : IfOk result (λ made. made ≡ false → (s'.table ≡ s.table) × (s'.caches ≡ s.caches) × (s'.file ≡ s.file))
+  pub ready : IfOk result (λ made. made ≡ false → (i : ℕ) → first ≤ i → i ≤ last → block_offset (slice_index s'.table.words i) ≢ 0)
+  pub further : IfOk result (λ made. made ≡ true → HasMore s.table s'.table)
+  pub made : WhereGuarded state s (IfOk result (λ made. made ≡ true → HasMade mark at first last (metadata state s) (metadata state s')))
   -- It grows where it has no word for the last, and only then.
-  pub once : last < length table.words → (pending' ≡ pending) × (after.header ≡ before.header) × (length table'.words ≡ length table.words)
-  pub grew : length table.words ≤ last → OnOk result ((length table.words < length table'.words) × (pending' ≡ pending ++ table_run before.header.fields))
-  pub kept : length table.words ≤ last → OnErr result (pending' ≡ pending)
-  pub barred : length table.words ≤ last → order_of old ≡ L2DependsOnRb → IsTrue (state before.image).shape.keeps → IsSound (metadata_of state before old table pending)
-      → (number : ℕ) → result ≡ Err (Limit number) → CountsAsBefore (metadata_of state before old table pending) (metadata_of state after new table' pending')
-  pub cause : MatchResult result (λ _. (state after.image).faults ≡ (state before.image).faults)
-      (WhyNotAllocated (IsTrue (state before.image).shape.keeps × (order_of old ≡ L2DependsOnRb) × IsSound (metadata_of state before old table pending)) (IsLoose table old)
-      (λ number. order_of old ≡ L2DependsOnRb → IsTrue (state before.image).shape.keeps → IsSound (metadata_of state before old table pending) → NoneCanBeMade mark at first last number (metadata_of state before old table pending))
-      (state before.image).faults (state after.image).faults)
+  pub once : last < length s.table.words → (s'.pending ≡ s.pending) × (s'.file.header ≡ s.file.header)
+      × (length s'.table.words ≡ length s.table.words)
+  pub grew : length s.table.words ≤ last
+      → OnOk result ((length s.table.words < length s'.table.words) × (s'.pending ≡ s.pending ++ table_run s.file.header.fields))
+  pub kept : length s.table.words ≤ last → OnErr result (s'.pending ≡ s.pending)
+  pub barred : length s.table.words ≤ last
+      → WhereGuarded state s ((number : ℕ) → result ≡ Err (Limit number) → CountsAsBefore (metadata state s) (metadata state s'))
+  pub cause : MatchResult result (λ _. (state s'.file.image).faults ≡ (state s.file.image).faults)
+      (WhyNotAllocated (IsGuarded state s) (IsLoose s.table s.caches)
+      (λ number. WhereGuarded state s (NoneCanBeMade mark at first last number (metadata state s)))
+      (state s.file.image).faults (state s'.file.image).faults)

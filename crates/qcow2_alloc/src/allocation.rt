@@ -13,6 +13,7 @@ ghost use Rattle.qcow2_alloc.specs.Freeing.{Frees, MayFree, data_in, IsRest, IsR
 ghost use Rattle.qcow2_types.specs.Header.{has_external_data};
 ghost use Rattle.qcow2_alloc.specs.Finding.{BlockFound};
 ghost use Rattle.qcow2_alloc.specs.Quiet.{metadata_in};
+ghost use Rattle.qcow2_alloc.specs.State.{seen};
 
 use crate::cache::MetadataCaches;
 use crate::clusters_to_free::ClustersToFreeList;
@@ -133,7 +134,9 @@ impl Allocator {
     ) -> Result<(), Fault>
         requires inside { index < length list.old.entries }
         requires some { 0 < (entry_at list.old.entries index).count }
-        ensures frees { MayFree (order_of caches.old) (entry_at list.old.entries index) → Frees S.state (table_of self.old) caches.old file.old (mark_of self.old) list.old.entries result caches.new file.new (mark_of self.new) list.new.entries }
+        ensures frees { MayFree (order_of caches.old) (entry_at list.old.entries index)
+            → Frees S.state (mark_of self.old) (seen self.old caches.old file.old list.old) result
+            (seen self.old caches.new file.new list.new) (mark_of self.new) }
         ensures order { order_of caches.new ≡ order_of caches.old }
         ensures table { table_of self.new ≡ table_of self.old }
         ensures ok { OnOk result (list.new.entries ≡ shortened list.old.entries index 1) }
@@ -161,7 +164,9 @@ impl Allocator {
         index: usize,
     ) -> Result<(), Fault>
         requires inside { index < length list.old.entries }
-        ensures frees { MayFree (order_of caches.old) (entry_at list.old.entries index) → Frees S.state (table_of self.old) caches.old file.old (mark_of self.old) list.old.entries result caches.new file.new (mark_of self.new) list.new.entries }
+        ensures frees { MayFree (order_of caches.old) (entry_at list.old.entries index)
+            → Frees S.state (mark_of self.old) (seen self.old caches.old file.old list.old) result
+            (seen self.old caches.new file.new list.new) (mark_of self.new) }
         ensures order { order_of caches.new ≡ order_of caches.old }
         ensures table { table_of self.new ≡ table_of self.old }
         ensures ok { OnOk result (list.new.entries ≡ remove list.old.entries index) }
@@ -186,7 +191,8 @@ impl Allocator {
         caches: &mut MetadataCaches<S>,
         list: &mut ClustersToFreeList,
     ) -> Result<(), Fault>
-        ensures frees { Frees S.state (table_of self.old) caches.old file.old (mark_of self.old) list.old.entries result caches.new file.new (mark_of self.new) list.new.entries }
+        ensures frees { Frees S.state (mark_of self.old) (seen self.old caches.old file.old list.old) result
+            (seen self.old caches.new file.new list.new) (mark_of self.new) }
         ensures order { order_of caches.new ≡ order_of caches.old }
         ensures table { table_of self.new ≡ table_of self.old }
         ensures ok { OnOk result (list.new.entries ≡ data_in list.old.entries) }
@@ -210,7 +216,9 @@ impl Allocator {
         caches: &mut MetadataCaches<S>,
         list: &mut ClustersToFreeList,
     ) -> Result<(), Fault>
-        ensures frees { order_of caches.old ≡ RbDependsOnL2 → Frees S.state (table_of self.old) caches.old file.old (mark_of self.old) list.old.entries result caches.new file.new (mark_of self.new) list.new.entries }
+        ensures frees { order_of caches.old ≡ RbDependsOnL2
+            → Frees S.state (mark_of self.old) (seen self.old caches.old file.old list.old) result
+            (seen self.old caches.new file.new list.new) (mark_of self.new) }
         ensures order { order_of caches.new ≡ order_of caches.old }
         ensures table { table_of self.new ≡ table_of self.old }
         ensures ok { OnOk result (list.new.entries ≡ []) }
@@ -242,7 +250,8 @@ impl Allocator {
         caches: &mut MetadataCaches<S>,
         list: &mut ClustersToFreeList,
     ) -> Result<(), Fault>
-        ensures frees { Frees S.state (table_of self.old) caches.old file.old (mark_of self.old) list.old.entries result caches.new file.new (mark_of self.new) list.new.entries }
+        ensures frees { Frees S.state (mark_of self.old) (seen self.old caches.old file.old list.old) result
+            (seen self.old caches.new file.new list.new) (mark_of self.new) }
         ensures table { table_of self.new ≡ table_of self.old }
         ensures ok { OnOk result (list.new.entries ≡ []) }
         ensures left { IsRestInTurn list.old.entries list.new.entries }

@@ -36,6 +36,7 @@ use Rattle.qcow2_alloc.specs.MakingRoom.{run_of}
 use Rattle.qcow2_alloc.specs.Memory.{memory}
 use Rattle.qcow2_alloc.specs.Quiet.{Metadata, IsSound, IsQuiet, Quietly, counted, one_at}
 use Rattle.qcow2_alloc.specs.Safety.{Safe, IsCachedBlock}
+use Rattle.qcow2_alloc.specs.State.{lent}
 use Rattle.qcow2_alloc.proofs.Memory.ChangingCounters.{cached-count, counter-raised}
 use Rattle.qcow2_alloc.proofs.Blocks.CountedBlocks.{block-named}
 use Rattle.qcow2_alloc.proofs.Freeing.FreeingClusters.{named-there, search-quietly}
@@ -202,7 +203,7 @@ module _ {S : Type 0} (state : S → StorageState) (table : TableValue) (pending
 
     -- A run of one cluster is counted, or none of it.
     abbrev CountsOne : Result Unit Fault → MetadataCaches S → ImageFile S → Type 0
-    CountsOne q m f = (run : CountsRun state table c 1 old before q m f pending) × (run.part ≡ done_of q)
+    CountsOne q m f = (run : CountsRun state c 1 (lent table old before pending) q (lent table m f pending)) × (run.part ≡ done_of q)
 
     not-found : (key : ℕ) → named_block table i ≡ Some key → (fault : Fault) → BlockFound state key old before (Err fault) new after → CountsOne (Err fault) new after
     not-found key named fault found =
@@ -314,5 +315,5 @@ module _ {S : Type 0} (state : S → StorageState) (table : TableValue) (pending
         by-name (Some key) named (inl (fault, is, found)) = subst (λ (q : Result Unit Fault). CountsOne q new after) (sym is) (not-found key named fault found)
         by-name (Some key) named (inr u) = used-run key named u
 
-    pub cluster-counted : RaisesCluster state table c old before result new after → CountsRun state table c 1 old before result new after pending
+    pub cluster-counted : RaisesCluster state table c old before result new after → CountsRun state c 1 (lent table old before pending) result (lent table new after pending)
     cluster-counted raises = (one-counted raises).0

@@ -22,6 +22,7 @@ use Rattle.qcow2_alloc.specs.FreeList.{covers}
 use Rattle.qcow2_alloc.specs.Going.{WasNotCutOff}
 use Rattle.qcow2_alloc.specs.MakingRoom.{run_of}
 use Rattle.qcow2_alloc.specs.Quiet.{Metadata, IsSound, counted}
+use Rattle.qcow2_alloc.specs.State.{lent}
 use Rattle.qcow2_alloc.proofs.Blocks.CountingClusters.{succeeded}
 use Rattle.qcow2_alloc.proofs.Flushing.Faultless.{faultless-then}
 use Rattle.qcow2_alloc.proofs.Freeing.FreeingEntries.{failed, why-counted-wider}
@@ -83,7 +84,7 @@ module _ {S : Type 0} (state : S → StorageState) (table : TableValue) (pending
 
   -- so many clusters from one on are counted
   abbrev Counts : ℕ → ℕ → MetadataCaches S → ImageFile S → Result Unit Fault → MetadataCaches S → ImageFile S → Type 0
-  Counts from n old before result new after = CountsPart state (part_of passed from) ready table from n old before result new after pending
+  Counts from n old before result new after = CountsPart state (part_of passed from) ready from n (lent table old before pending) result (lent table new after pending)
 
   -- nothing, where nothing is handed out,
   parts-still : (n part : ℕ) → part ≤ n → part ≡ n → ((d : ℕ) → part_of passed first part d ≡ 0) → (old : MetadataCaches S) (before : ImageFile S) → Counts first n old before succeeded old before
@@ -203,16 +204,16 @@ module _ {S : Type 0} (state : S → StorageState) (table : TableValue) (pending
   abbrev named_in : Header → ℕ → Type 0
   named_in h c = block_offset (slice_index table.words (c / counters_of_block h.fields)) ≢ 0
 
-  pub run-none : (old : MetadataCaches S) (before : ImageFile S) → CountsRun state table first 0 old before succeeded old before pending
+  pub run-none : (old : MetadataCaches S) (before : ImageFile S) → CountsRun state first 0 (lent table old before pending) succeeded (lent table old before pending)
   run-none old before = parts-none state table pending (λ c. false) (named_in before.header) first old before
 
   pub run-then : (n : ℕ) (A : MetadataCaches S) (fA : ImageFile S) (B : MetadataCaches S) (fB : ImageFile S) (result : Result Unit Fault) (C : MetadataCaches S) (fC : ImageFile S)
-      → CountsRun state table first n A fA succeeded B fB pending → CountsRun state table (first + n) 1 B fB result C fC pending → CountsRun state table first (n + 1) A fA result C fC pending
+      → CountsRun state first n (lent table A fA pending) succeeded (lent table B fB pending) → CountsRun state (first + n) 1 (lent table B fB pending) result (lent table C fC pending) → CountsRun state first (n + 1) (lent table A fA pending) result (lent table C fC pending)
   run-then n A fA B fB result C fC one two =
       parts-then state table pending (λ c. false) (named_in fA.header) first n A fA B fB result C fC one
-      (subst (λ (h : Header). CountsPart state (part_of (λ c. false) (first + n)) (named_in h) table (first + n) 1 B fB result C fC pending) one.header two)
+      (subst (λ (h : Header). CountsPart state (part_of (λ c. false) (first + n)) (named_in h) (first + n) 1 (lent table B fB pending) result (lent table C fC pending)) one.header two)
 
-  pub run-within : (n N : ℕ) → n ≤ N → (A : MetadataCaches S) (fA : ImageFile S) (fault : Fault) (B : MetadataCaches S) (fB : ImageFile S) → CountsRun state table first n A fA (failed fault) B fB pending → CountsRun state table first N A fA (failed fault) B fB pending
+  pub run-within : (n N : ℕ) → n ≤ N → (A : MetadataCaches S) (fA : ImageFile S) (fault : Fault) (B : MetadataCaches S) (fB : ImageFile S) → CountsRun state first n (lent table A fA pending) (failed fault) (lent table B fB pending) → CountsRun state first N (lent table A fA pending) (failed fault) (lent table B fB pending)
   run-within n N le A fA = parts-within state table pending (λ c. false) (named_in fA.header) first n N le A fA
 
 -- and where those are passed over whose block isn't named.
@@ -220,20 +221,20 @@ module _ {S : Type 0} (state : S → StorageState) (table : TableValue) (pending
   abbrev unnamed_in : Header → ℕ → Bool
   unnamed_in h c = block_offset (slice_index table.words (c / counters_of_block h.fields)) == 0
 
-  pub named-run-none : (first : ℕ) (old : MetadataCaches S) (before : ImageFile S) → CountsNamed state table first 0 old before succeeded old before pending
+  pub named-run-none : (first : ℕ) (old : MetadataCaches S) (before : ImageFile S) → CountsNamed state first 0 (lent table old before pending) succeeded (lent table old before pending)
   named-run-none first old before = parts-none state table pending (unnamed_in before.header) (λ c. ⊤) first old before
 
   pub named-run-then : (first n : ℕ) (A : MetadataCaches S) (fA : ImageFile S) (B : MetadataCaches S) (fB : ImageFile S) (result : Result Unit Fault) (C : MetadataCaches S) (fC : ImageFile S)
-      → CountsNamed state table first n A fA succeeded B fB pending → CountsNamed state table (first + n) 1 B fB result C fC pending → CountsNamed state table first (n + 1) A fA result C fC pending
+      → CountsNamed state first n (lent table A fA pending) succeeded (lent table B fB pending) → CountsNamed state (first + n) 1 (lent table B fB pending) result (lent table C fC pending) → CountsNamed state first (n + 1) (lent table A fA pending) result (lent table C fC pending)
   named-run-then first n A fA B fB result C fC one two =
       parts-then state table pending (unnamed_in fA.header) (λ c. ⊤) first n A fA B fB result C fC one
-      (subst (λ (h : Header). CountsPart state (part_of (unnamed_in h) (first + n)) (λ c. ⊤) table (first + n) 1 B fB result C fC pending) one.header two)
+      (subst (λ (h : Header). CountsPart state (part_of (unnamed_in h) (first + n)) (λ c. ⊤) (first + n) 1 (lent table B fB pending) result (lent table C fC pending)) one.header two)
 
-  pub named-run-within : (first n N : ℕ) → n ≤ N → (A : MetadataCaches S) (fA : ImageFile S) (fault : Fault) (B : MetadataCaches S) (fB : ImageFile S) → CountsNamed state table first n A fA (failed fault) B fB pending → CountsNamed state table first N A fA (failed fault) B fB pending
+  pub named-run-within : (first n N : ℕ) → n ≤ N → (A : MetadataCaches S) (fA : ImageFile S) (fault : Fault) (B : MetadataCaches S) (fB : ImageFile S) → CountsNamed state first n (lent table A fA pending) (failed fault) (lent table B fB pending) → CountsNamed state first N (lent table A fA pending) (failed fault) (lent table B fB pending)
   named-run-within first n N le A fA = parts-within state table pending (unnamed_in fA.header) (λ c. ⊤) first n N le A fA
 
   -- A cluster is passed over,
-  pub passed-over : (c : ℕ) (old : MetadataCaches S) (before : ImageFile S) → block_offset (slice_index table.words (c / counters_of_block before.header.fields)) ≡ 0 → CountsNamed state table c 1 old before succeeded old before pending
+  pub passed-over : (c : ℕ) (old : MetadataCaches S) (before : ImageFile S) → block_offset (slice_index table.words (c / counters_of_block before.header.fields)) ≡ 0 → CountsNamed state c 1 (lent table old before pending) succeeded (lent table old before pending)
   passed-over c old before none =
       let nothing : (d : ℕ) → named_part table (counters_of_block before.header.fields) c 1 d ≡ 0 = λ d. elim (cases_eq d c) [
         | inl same ↦ subst (λ n. named_part table (counters_of_block before.header.fields) c 1 n ≡ 0) (sym same) (unnamed-part _ (covers c (run_of c 1)) none)
@@ -256,7 +257,7 @@ module _ {S : Type 0} (state : S → StorageState) (table : TableValue) (pending
     named-ready : Named c → Could (λ d. ⊤) → Could Named
     named-ready some holds = (holds.0, holds.1, holds.2, λ d above below. ((holds.3 d above below).0, subst Named (only d above below) some))
 
-    pub counted-named : (result : Result Unit Fault) (new : MetadataCaches S) (after : ImageFile S) → Named c → CountsRun state table c 1 old before result new after pending → CountsNamed state table c 1 old before result new after pending
+    pub counted-named : (result : Result Unit Fault) (new : MetadataCaches S) (after : ImageFile S) → Named c → CountsRun state c 1 (lent table old before pending) result (lent table new after pending) → CountsNamed state c 1 (lent table old before pending) result (lent table new after pending)
     counted-named result new after some run =
         let le = run.inside in
         let same : (d : ℕ) → covers d (run_of c run.part) ≡ named_part table (counters_of_block before.header.fields) c run.part d = λ d. elim (cases_eq d c) [

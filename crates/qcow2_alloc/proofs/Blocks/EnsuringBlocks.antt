@@ -24,6 +24,7 @@ use Rattle.qcow2_alloc.specs.Caches.{order_of}
 use Rattle.qcow2_alloc.specs.Freeing.{IsLoose}
 use Rattle.qcow2_alloc.specs.Going.{WasNotCutOff}
 use Rattle.qcow2_alloc.specs.Quiet.{IsSound}
+use Rattle.qcow2_alloc.specs.State.{lent}
 use Rattle.qcow2_alloc.proofs.Handing.Allocating.{allocating-none, allocating-then, allocating-as, block-allocates}
 use Rattle.qcow2_alloc.proofs.Freeing.FreeingEntries.{why-counted-wider}
 
@@ -71,7 +72,7 @@ fewer-missing table table' index inside long none some others =
 
 module _ {S : Type 0} (state : S → StorageState) (pending : List FreeEntry) (first : ℕ) where
   -- None,
-  pub blocks-none : (table : TableValue) (old : MetadataCaches S) (before : ImageFile S) → MakesBlocks state first first table old before (so false) table old before pending
+  pub blocks-none : (table : TableValue) (old : MetadataCaches S) (before : ImageFile S) → MakesBlocks state first first (lent table old before pending) (so false) (lent table old before pending)
   blocks-none table old before = record {
     step = allocating-none state table old before pending;
     named = λ i above below. omega (arith, above, below);
@@ -85,9 +86,9 @@ module _ {S : Type 0} (state : S → StorageState) (pending : List FreeEntry) (f
     cause = refl;
   }
 
-  module _ (c : ℕ) (tA : TableValue) (A : MetadataCaches S) (fA : ImageFile S) (made : Bool) (tB : TableValue) (B : MetadataCaches S) (fB : ImageFile S) (one : MakesBlocks state first c tA A fA (so made) tB B fB pending) where
+  module _ (c : ℕ) (tA : TableValue) (A : MetadataCaches S) (fA : ImageFile S) (made : Bool) (tB : TableValue) (B : MetadataCaches S) (fB : ImageFile S) (one : MakesBlocks state first c (lent tA A fA pending) (so made) (lent tB B fB pending)) where
     -- one that is there,
-    pub blocks-there : block_offset (slice_index tB.words c) ≢ 0 → MakesBlocks state first (c + 1) tA A fA (so made) tB B fB pending
+    pub blocks-there : block_offset (slice_index tB.words c) ≢ 0 → MakesBlocks state first (c + 1) (lent tA A fA pending) (so made) (lent tB B fB pending)
     blocks-there there = record {
       step = one.step;
       named = λ i above below. elim (cases_eq i c) [
@@ -105,8 +106,8 @@ module _ {S : Type 0} (state : S → StorageState) (pending : List FreeEntry) (f
     }
 
     -- and one that is made.
-    pub blocks-then : c < length tA.words → block_offset (slice_index tB.words c) ≡ 0 → first ≤ c → (result : Result Unit Fault) (tC : TableValue) (C : MetadataCaches S) (fC : ImageFile S) → MakesBlock state c tB B fB result tC C fC pending
-        → MakesBlocks state first (c + 1) tA A fA (made_by result) tC C fC pending
+    pub blocks-then : c < length tA.words → block_offset (slice_index tB.words c) ≡ 0 → first ≤ c → (result : Result Unit Fault) (tC : TableValue) (C : MetadataCaches S) (fC : ImageFile S) → MakesBlock state c (lent tB B fB pending) result (lent tC C fC pending)
+        → MakesBlocks state first (c + 1) (lent tA A fA pending) (made_by result) (lent tC C fC pending)
     blocks-then inside none above result tC C fC two = record {
       step = step result (block-allocates state c tB B fB result tC C fC pending two);
       named = named result two.named;
@@ -120,7 +121,7 @@ module _ {S : Type 0} (state : S → StorageState) (pending : List FreeEntry) (f
       cause = caused result two.cause;
     }
       where
-        step : (r : Result Unit Fault) → Allocating state (WasNotCutOff r) (λ _. 0) tB B fB pending tC C fC pending → Allocating state (WasNotCutOff (made_by r)) (λ _. 0) tA A fA pending tC C fC pending
+        step : (r : Result Unit Fault) → Allocating state (WasNotCutOff r) (λ _. 0) (lent tB B fB pending) (lent tC C fC pending) → Allocating state (WasNotCutOff (made_by r)) (λ _. 0) (lent tA A fA pending) (lent tC C fC pending)
         step (Ok done) more = allocating-as state (WasNotCutOff (so true)) (WasNotCutOff (so true)) (λ d. 0 + 0) (λ _. 0) tA A fA pending tC C fC pending (λ w. w) (λ d. omega arith)
             (allocating-then state (WasNotCutOff (so made)) (WasNotCutOff (so true)) (λ _. 0) (λ _. 0) tA A fA pending tB B fB pending tC C fC pending tt one.step more)
         step (Err fault) more = allocating-as state (WasNotCutOff (made_by (Err fault))) (WasNotCutOff (made_by (Err fault))) (λ d. 0 + 0) (λ _. 0) tA A fA pending tC C fC pending (λ w. w) (λ d. omega arith)
@@ -170,7 +171,7 @@ module _ {S : Type 0} (state : S → StorageState) (pending : List FreeEntry) (f
 
   -- They are part of more, where that was refused.
   pub blocks-within : (end more : ℕ) → end ≤ more → (tA : TableValue) (A : MetadataCaches S) (fA : ImageFile S) (fault : Fault) (tB : TableValue) (B : MetadataCaches S) (fB : ImageFile S)
-      → MakesBlocks state first end tA A fA (refused fault) tB B fB pending → MakesBlocks state first more tA A fA (refused fault) tB B fB pending
+      → MakesBlocks state first end (lent tA A fA pending) (refused fault) (lent tB B fB pending) → MakesBlocks state first more (lent tA A fA pending) (refused fault) (lent tB B fB pending)
   blocks-within end more le tA A fA fault tB B fB part = record {
     step = part.step;
     named = tt;

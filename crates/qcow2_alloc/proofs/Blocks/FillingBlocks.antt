@@ -21,6 +21,7 @@ use Rattle.qcow2_alloc.specs.Caches.{order_of}
 use Rattle.qcow2_alloc.specs.FillingBlocks.{IsBlockPlaced, FillsFrom, made_for}
 use Rattle.qcow2_alloc.specs.Growing.{lacks, lacking}
 use Rattle.qcow2_alloc.specs.Quiet.{Metadata, IsSound, counted}
+use Rattle.qcow2_alloc.specs.State.{lent}
 use Rattle.qcow2_alloc.proofs.Growth.FindingRoom.{rank-almost, rank-more, rank-fewer, lacks-inside, lacks-none, lacks-so}
 use Rattle.qcow2_alloc.proofs.Blocks.EnsuringBlocks.{so}
 use Rattle.qcow2_alloc.proofs.Memory.Patches.{shaped-in}
@@ -119,14 +120,14 @@ module _ (mark index : ℕ) (m : Metadata) where
       }
 
 -- One turn of a call that makes blocks.
-module _ {S : Type 0} (state : S → StorageState) (mark : ℕ) (pending : List FreeEntry) (first c : ℕ) (tA : TableValue) (A : MetadataCaches S) (fA : ImageFile S) (made : Bool) (tB : TableValue) (B : MetadataCaches S) (fB : ImageFile S) (one : MakesBlocks state first c tA A fA (so made) tB B fB pending) where
+module _ {S : Type 0} (state : S → StorageState) (mark : ℕ) (pending : List FreeEntry) (first c : ℕ) (tA : TableValue) (A : MetadataCaches S) (fA : ImageFile S) (made : Bool) (tB : TableValue) (B : MetadataCaches S) (fB : ImageFile S) (one : MakesBlocks state first c (lent tA A fA pending) (so made) (lent tB B fB pending)) where
   abbrev Start : Metadata
   Start = metadata_of state fA A tA pending
 
   abbrev Mid : Metadata
   Mid = metadata_of state fB B tB pending
 
-  pub turn-fills : block_offset (slice_index tB.words c) ≡ 0 → first ≤ c → (tC : TableValue) (C : MetadataCaches S) (fC : ImageFile S) → MakesBlock state c tB B fB (Ok tt) tC C fC pending
+  pub turn-fills : block_offset (slice_index tB.words c) ≡ 0 → first ≤ c → (tC : TableValue) (C : MetadataCaches S) (fC : ImageFile S) → MakesBlock state c (lent tB B fB pending) (Ok tt) (lent tC C fC pending)
       → (order_of B ≡ L2DependsOnRb → IsTrue (state fB.image).shape.keeps → IsSound Mid → IsBlockPlaced mark c Mid (metadata_of state fC C tC pending))
       → order_of A ≡ L2DependsOnRb → IsTrue (state fA.image).shape.keeps → IsSound Start → FillsFrom mark first c Start Mid → FillsFrom mark first (c + 1) Start (metadata_of state fC C tC pending)
   turn-fills none above tC C fC two placed order keeps sound fills =

@@ -37,6 +37,7 @@ use Rattle.qcow2_alloc.specs.Going.{WasNotCutOff, WhyNotWritten}
 use Rattle.qcow2_alloc.specs.MakingBlocks.{Begins, CanName, WhyNotNamed, NamesWritten}
 use Rattle.qcow2_alloc.specs.MakingRoom.{with_block}
 use Rattle.qcow2_alloc.specs.Quiet.{Metadata, in_memory, counted, IsUsed, IsSound, Quietly, named_at_all}
+use Rattle.qcow2_alloc.specs.State.{lent}
 use Rattle.qcow2_alloc.proofs.Handing.Allocating.{raised-then}
 use Rattle.qcow2_alloc.proofs.Quiet.AtOnce.{put-done}
 use Rattle.qcow2_alloc.proofs.Flushing.Faultless.{never-mild, faultless-then, put-faultless}
@@ -239,7 +240,7 @@ module _ {S : Type 0} (state : S → StorageState) (i : ℕ) (table : TableValue
   Full number = (number ≤ i * counters_of_block before.header.fields) × (IsInReach before.header.fields.cluster_bits number → ⊥)
 
   -- Nothing was done yet.
-  pub begins-none : Begins state table pending old before (λ _. 0) old before
+  pub begins-none : Begins state (lent table old before pending) (λ _. 0) (lent table old before pending)
   begins-none = record {
     shape = refl;
     later = later_same (state before.image);
@@ -262,7 +263,7 @@ module _ {S : Type 0} (state : S → StorageState) (i : ℕ) (table : TableValue
     pub raised : order_of old ≡ L2DependsOnRb → IsTrue (state before.image).shape.keeps → IsSound m0 → IsSound (metadata_of state fC C table pending) → ok → OnlyRaised (metadata_of state fC C table pending) (metadata_of state fD D table pending)
     pub stays : StaysLoose table C fC D fD
 
-  module _ (handed more : ℕ → ℕ) (C : MetadataCaches S) (fC : ImageFile S) (D : MetadataCaches S) (fD : ImageFile S) (begins : Begins state table pending old before handed C fC) where
+  module _ (handed more : ℕ → ℕ) (C : MetadataCaches S) (fC : ImageFile S) (D : MetadataCaches S) (fD : ImageFile S) (begins : Begins state (lent table old before pending) handed (lent table C fC pending)) where
     abbrev mB : Metadata
     mB = metadata_of state fC C table pending
 
@@ -279,7 +280,7 @@ module _ {S : Type 0} (state : S → StorageState) (i : ℕ) (table : TableValue
     both-raised ok follows order keeps sound done =
         raised-then m0 mB mD (begins.raised order keeps sound) (follows.raised order keeps sound ((begins.quiet order).holds keeps sound tt).0 done)
 
-    pub begins-then : (all : ℕ → ℕ) → ((c : ℕ) → handed c + more c ≡ all c) → Follows ⊤ more C fC D fD → Begins state table pending old before all D fD
+    pub begins-then : (all : ℕ → ℕ) → ((c : ℕ) → handed c + more c ≡ all c) → Follows ⊤ more C fC D fD → Begins state (lent table old before pending) all (lent table D fD pending)
     begins-then all sum follows = record {
       shape = follows.shape ∙ begins.shape;
       later = later_both _ _ _ begins.later follows.later;
@@ -295,7 +296,7 @@ module _ {S : Type 0} (state : S → StorageState) (i : ℕ) (table : TableValue
     -- It is refused, and wasn't cut off only where nothing was handed out.
     pub begins-refused : (fault : Fault) → Follows (WasNotCutOff (failed fault)) more C fC D fD
         → (order_of old ≡ L2DependsOnRb → IsTrue (state before.image).shape.keeps → IsSound m0 → WasNotCutOff (failed fault) → (c : ℕ) → handed c + more c ≡ 0)
-        → WhyNotAllocated Holds (IsLoose table old) Full (state before.image).faults (state fD.image).faults fault → MakesBlock state i table old before (Err fault) table D fD pending
+        → WhyNotAllocated Holds (IsLoose table old) Full (state before.image).faults (state fD.image).faults fault → MakesBlock state i (lent table old before pending) (Err fault) (lent table D fD pending)
     begins-refused fault follows none why = record {
       faults = λ whole. faultless-then begins.faults (follows.faults whole);
       quiet = λ order.
@@ -322,11 +323,11 @@ module _ {S : Type 0} (state : S → StorageState) (i : ℕ) (table : TableValue
     }
 
   -- It is refused before anything was handed out, and changes nothing more,
-  module _ (C : MetadataCaches S) (fC : ImageFile S) (begins : Begins state table pending old before (λ _. 0) C fC) where
+  module _ (C : MetadataCaches S) (fC : ImageFile S) (begins : Begins state (lent table old before pending) (λ _. 0) (lent table C fC pending)) where
     abbrev mU : Metadata
     mU = metadata_of state fC C table pending
 
-    pub unmade : (fault : Fault) → WhyNotAllocated Holds (IsLoose table old) Full (state before.image).faults (state before.image).faults fault → MakesBlock state i table old before (Err fault) table C fC pending
+    pub unmade : (fault : Fault) → WhyNotAllocated Holds (IsLoose table old) Full (state before.image).faults (state before.image).faults fault → MakesBlock state i (lent table old before pending) (Err fault) (lent table C fC pending)
     unmade fault why =
         begins-refused (λ _. 0) (λ _. 0) C fC C fC begins fault
         (record {
@@ -341,11 +342,11 @@ module _ {S : Type 0} (state : S → StorageState) (i : ℕ) (table : TableValue
         (subst (λ n. WhyNotAllocated Holds (IsLoose table old) Full (state before.image).faults n fault) (sym begins.faults.0) why)
 
     -- for want of memory,
-    pub unmade-memory : (fault : Fault) → fault ≡ Memory → MakesBlock state i table old before (Err fault) table C fC pending
+    pub unmade-memory : (fault : Fault) → fault ≡ Memory → MakesBlock state i (lent table old before pending) (Err fault) (lent table C fC pending)
     unmade-memory fault is = unmade fault (subst (λ (f : Fault). WhyNotAllocated Holds (IsLoose table old) Full (state before.image).faults (state before.image).faults f) (sym is) tt)
 
     -- for a cluster that no word can name,
-    pub unmade-place : (d : ℕ) (fault : Fault) → d ≤ i * counters_of_block fC.header.fields → (Holds → d ≢ 0) → WhyNotNamed table fC.header.fields.cluster_bits d fault → MakesBlock state i table old before (Err fault) table C fC pending
+    pub unmade-place : (d : ℕ) (fault : Fault) → d ≤ i * counters_of_block fC.header.fields → (Holds → d ≢ 0) → WhyNotNamed table fC.header.fields.cluster_bits d fault → MakesBlock state i (lent table old before pending) (Err fault) (lent table C fC pending)
     unmade-place d fault low some why = unmade fault (by-fault fault why)
       where
         by-fault : (fault : Fault) → WhyNotNamed table fC.header.fields.cluster_bits d fault → WhyNotAllocated Holds (IsLoose table old) Full (state before.image).faults (state before.image).faults fault
@@ -358,16 +359,16 @@ module _ {S : Type 0} (state : S → StorageState) (i : ℕ) (table : TableValue
         by-fault other why = absurd why
 
     -- and where a block is pinned in a cluster that nothing names.
-    pub unforgotten : (d : ℕ) (fault : Fault) (new : MetadataCaches S) → (Holds → named_at_all mU d ≡ 0) → (fault ≡ CacheFull) × IsSomeAnd (lookup (nat_eq d) (cached_in C).blocks) (λ s. 0 < s.pins) × (new ≡ C) → MakesBlock state i table old before (Err fault) table new fC pending
+    pub unforgotten : (d : ℕ) (fault : Fault) (new : MetadataCaches S) → (Holds → named_at_all mU d ≡ 0) → (fault ≡ CacheFull) × IsSomeAnd (lookup (nat_eq d) (cached_in C).blocks) (λ s. 0 < s.pins) × (new ≡ C) → MakesBlock state i (lent table old before pending) (Err fault) (lent table new fC pending)
     unforgotten d fault new unnamed (is, pinned, same) =
-        subst (λ (c : MetadataCaches S). MakesBlock state i table old before (Err fault) table c fC pending) (sym same)
+        subst (λ (c : MetadataCaches S). MakesBlock state i (lent table old before pending) (Err fault) (lent table c fC pending)) (sym same)
         (unmade fault (subst (λ (f : Fault). WhyNotAllocated Holds (IsLoose table old) Full (state before.image).faults (state before.image).faults f) (sym is)
         (λ u. let there = (begins.loose u.0 u.2).named d (pinned-there d (cached_in C).blocks pinned) in let holds = u.1 there.0 in
         never-unnamed mU ((begins.quiet holds.1).holds holds.0 holds.2 tt).0 d (unnamed holds) there.1)))
 
   -- What makes a block from there on makes it in all.
-  pub begins-makes : (C : MetadataCaches S) (fC : ImageFile S) → Begins state table pending old before (λ _. 0) C fC → (result : Result Unit Fault) (table' : TableValue) (new : MetadataCaches S) (after : ImageFile S)
-      → MakesBlock state i table C fC result table' new after pending → MakesBlock state i table old before result table' new after pending
+  pub begins-makes : (C : MetadataCaches S) (fC : ImageFile S) → Begins state (lent table old before pending) (λ _. 0) (lent table C fC pending) → (result : Result Unit Fault) (table' : TableValue) (new : MetadataCaches S) (after : ImageFile S)
+      → MakesBlock state i (lent table C fC pending) result (lent table' new after pending) → MakesBlock state i (lent table old before pending) result (lent table' new after pending)
   begins-makes C fC begins result table' new after makes = record {
     faults = λ whole. faultless-then begins.faults (makes.faults whole);
     quiet = λ order. quietly-then ⊤ (WasNotCutOff result) (λ _. 0) (λ _. 0) (λ _. 0) (λ _. 0) (state before.image) m0 (state fC.image) (metadata_of state fC C table pending) (state after.image) (metadata_of state after new table' pending) tt (λ s c some. refl)
@@ -391,14 +392,14 @@ module _ {S : Type 0} (state : S → StorageState) (i : ℕ) (table : TableValue
       on keeps = keeps_on (state before.image) (state fC.image) begins.shape keeps
 
   -- Begin and end.
-  module _ (both : ℕ → ℕ) (ready : Type 0) (d : ℕ) (counters : List ℕ) (C : MetadataCaches S) (fC : ImageFile S) (begins : Begins state table pending old before both C fC)
+  module _ (both : ℕ → ℕ) (ready : Type 0) (d : ℕ) (counters : List ℕ) (C : MetadataCaches S) (fC : ImageFile S) (begins : Begins state (lent table old before pending) both (lent table C fC pending))
       (unused : order_of old ≡ L2DependsOnRb → IsTrue (state before.image).shape.keeps → IsSound m0 → (c : ℕ) → IsUsed m0 c → both c ≡ 0)
       (from : order_of old ≡ L2DependsOnRb → IsTrue (state before.image).shape.keeps → IsSound m0 → IsSound (metadata_of state fC C table pending) → ready) where
     abbrev m1 : Metadata
     m1 = metadata_of state fC C table pending
 
     pub made : block_offset (slice_index table.words i) ≡ 0 → (result : Result Unit Fault) (table' : TableValue) (after : ImageFile S) → after.header ≡ fC.header → Ends state i d counters table C fC pending ready both result table' (state after.image)
-        → MakesBlock state i table old before result table' C after pending
+        → MakesBlock state i (lent table old before pending) result (lent table' C after pending)
     made empty result table' after header ends = record {
       faults = λ whole. faultless-then begins.faults (ends.faults whole);
       quiet = λ order.

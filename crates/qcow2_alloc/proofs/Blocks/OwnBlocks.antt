@@ -22,6 +22,7 @@ use Rattle.qcow2_alloc.specs.Caches.{cached_in, order_of}
 use Rattle.qcow2_alloc.specs.CachesLending.{with_blocks}
 use Rattle.qcow2_alloc.specs.MakingBlocks.{Begins, NamesWritten}
 use Rattle.qcow2_alloc.specs.Quiet.{Metadata, counted, named_at_all, IsSound}
+use Rattle.qcow2_alloc.specs.State.{lent}
 use Rattle.qcow2_alloc.proofs.Caching.Forgetting.{forgotten-quiet, forgotten-counts, removed-apart}
 use Rattle.qcow2_alloc.proofs.Searching.FreeClusters.{uncounted-free}
 use Rattle.qcow2_alloc.proofs.Memory.FreeRuns.{block-quietly}
@@ -46,7 +47,7 @@ module _ {S : Type 0} (state : S → StorageState) (table : TableValue) (pending
   m = metadata_of state before old table pending
 
   -- What is cached of the cluster is dropped, where nothing names it.
-  pub forgets : (order_of old ≡ L2DependsOnRb → IsTrue (state before.image).shape.keeps → IsSound m → named_at_all m d ≡ 0) → Begins state table pending old before (λ _. 0) without before
+  pub forgets : (order_of old ≡ L2DependsOnRb → IsTrue (state before.image).shape.keeps → IsSound m → named_at_all m d ≡ 0) → Begins state (lent table old before pending) (λ _. 0) (lent table without before pending)
   forgets unnamed = record {
     shape = refl;
     later = later_same (state before.image);
@@ -80,7 +81,7 @@ module _ {S : Type 0} (state : S → StorageState) (table : TableValue) (pending
   -- The block is written and named.
   pub own-made : (inside : d / counters_of_block before.header.fields < length table.words) → block_offset (slice_index table.words (d / counters_of_block before.header.fields)) ≡ 0 → 9 ≤ before.header.fields.cluster_bits → d ≢ 0 → IsInReach before.header.fields.cluster_bits d
       → (result : Result Unit Fault) (table' : TableValue) (after : ImageFile S) → after.header ≡ before.header
-      → NamesWritten table i (B state i d counters table without before pending) (state before.image) result table' (state after.image) → MakesBlock state i table old before result table' without after pending
+      → NamesWritten table i (B state i d counters table without before pending) (state before.image) result table' (state after.image) → MakesBlock state i (lent table old before pending) result (lent table' without after pending)
   own-made inside empty low some reach result table' after header names =
       made state i table pending old before (λ _. 0) Ready d counters without before
       (forgets (λ order keeps sound. (uncounted-free m sound order d (own-uncounted m i d refl inside empty sound)).0))
@@ -102,10 +103,10 @@ module _ {S : Type 0} (state : S → StorageState) (table : TableValue) (pending
 
   pub own-made-at : (index : ℕ) → d / counters_of_block before.header.fields ≡ index → index < length table.words → block_offset (slice_index table.words index) ≡ 0 → 9 ≤ before.header.fields.cluster_bits → d ≢ 0 → IsInReach before.header.fields.cluster_bits d
       → (block : Block) → block ≡ block_of before.header.fields.cluster_bits before.header.fields.refcount_order counters (Some d) true → (new : MetadataCaches S) → new ≡ without
-      → (result : Result Unit Fault) (table' : TableValue) (after : ImageFile S) → after.header ≡ before.header → NamesWritten table index block (state before.image) result table' (state after.image) → MakesBlock state index table old before result table' new after pending
+      → (result : Result Unit Fault) (table' : TableValue) (after : ImageFile S) → after.header ≡ before.header → NamesWritten table index block (state before.image) result table' (state after.image) → MakesBlock state index (lent table old before pending) result (lent table' new after pending)
   own-made-at index own inside empty low some reach block is new left result table' after header names =
-      subst (λ (c : MetadataCaches S). MakesBlock state index table old before result table' c after pending) (sym left)
+      subst (λ (c : MetadataCaches S). MakesBlock state index (lent table old before pending) result (lent table' c after pending)) (sym left)
       (subst (λ k. k < length table.words → block_offset (slice_index table.words k) ≡ 0 → NamesWritten table k (B state k d counters table without before pending) (state before.image) result table' (state after.image)
-      → MakesBlock state k table old before result table' without after pending) own
+      → MakesBlock state k (lent table old before pending) result (lent table' without after pending)) own
       (λ inside empty names. own-made inside empty low some reach result table' after header names)
       inside empty (subst (λ (b : Block). NamesWritten table index b (state before.image) result table' (state after.image)) is names))

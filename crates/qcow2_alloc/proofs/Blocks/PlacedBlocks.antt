@@ -29,6 +29,7 @@ use Rattle.qcow2_alloc.specs.FreeList.{listed}
 use Rattle.qcow2_alloc.specs.MakingBlocks.{NamesWritten}
 use Rattle.qcow2_alloc.specs.Quiet.{Metadata, IsSound, IsQuiet, in_memory, counted, referenced, waiting, one_at}
 use Rattle.qcow2_alloc.specs.SearchingClusters.{LooksForFree}
+use Rattle.qcow2_alloc.specs.State.{lent}
 use Rattle.qcow2_alloc.proofs.Searching.LookingAt.{sound-safe, counter-there}
 use Rattle.qcow2_alloc.proofs.Blocks.NamingBlocks.{meets-one}
 use Rattle.qcow2_alloc.proofs.Memory.Patches.{place-there}
@@ -103,7 +104,7 @@ module _ (m m' : Metadata) (i d : ℕ) (sound : IsSound m) (sound' : IsSound m')
 
 -- So the block is placed.
 module _ {S : Type 0} (state : S → StorageState) (mark index : ℕ) (table : TableValue) (old : MetadataCaches S) (before : ImageFile S) (table' : TableValue) (new : MetadataCaches S) (after : ImageFile S) (pending : List FreeEntry)
-    (made : MakesBlock state index table old before (Ok tt) table' new after pending) (inside : index < length table.words) (empty : block_offset (slice_index table.words index) ≡ 0)
+    (made : MakesBlock state index (lent table old before pending) (Ok tt) (lent table' new after pending)) (inside : index < length table.words) (empty : block_offset (slice_index table.words index) ≡ 0)
     (order : order_of old ≡ L2DependsOnRb) (keeps : IsTrue (state before.image).shape.keeps) (sound : IsSound (metadata_of state before old table pending)) where
   abbrev Old : Metadata
   Old = metadata_of state before old table pending
@@ -160,7 +161,7 @@ module _ {S : Type 0} (state : S → StorageState) (mark index : ℕ) (table : T
   Placed result = order_of old ≡ L2DependsOnRb → IsTrue (state before.image).shape.keeps → IsSound (metadata_of state before old table pending)
       → OnOk result (IsBlockPlaced mark index (metadata_of state before old table pending) (metadata_of state after new table' pending))
 
-  pub placed-found : (place : ℕ) → found ≡ Some place → (result : Result Unit Fault) → MakesBlock state index table old before result table' new after pending
+  pub placed-found : (place : ℕ) → found ≡ Some place → (result : Result Unit Fault) → MakesBlock state index (lent table old before pending) result (lent table' new after pending)
       → OnOk result ((place ≢ 0) × (block_offset (slice_index table'.words index) ≡ place * cluster_size between.header.fields)) → Placed result
   placed-found place is (Err fault) made at order keeps sound = tt
   placed-found place is (Ok done) made at order keeps sound =
@@ -168,7 +169,7 @@ module _ {S : Type 0} (state : S → StorageState) (mark index : ℕ) (table : T
       (subst (λ (o : Option ℕ). LooksForFree state table mark (index * counters_of_block before.header.fields) old before (Ok o) mid between) is looks) at.0
       (subst (λ (H : Header). block_offset (slice_index table'.words index) ≡ place * cluster_size H.fields) looks.looked.header at.1)
 
-  pub placed-itself : found ≡ None → (result : Result Unit Fault) → MakesBlock state index table old before result table' new after pending
+  pub placed-itself : found ≡ None → (result : Result Unit Fault) → MakesBlock state index (lent table old before pending) result (lent table' new after pending)
       → OnOk result ((index * counters_of_block between.header.fields ≢ 0) × (block_offset (slice_index table'.words index) ≡ index * counters_of_block between.header.fields * cluster_size between.header.fields)) → Placed result
   placed-itself is (Err fault) made at order keeps sound = tt
   placed-itself is (Ok done) made at order keeps sound =

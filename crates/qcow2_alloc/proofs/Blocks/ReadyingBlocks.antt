@@ -22,6 +22,7 @@ use Rattle.qcow2_alloc.specs.Going.{IsMild}
 use Rattle.qcow2_alloc.specs.GrowingTables.{Leaks, GrowsTable}
 use Rattle.qcow2_alloc.specs.Quiet.{Metadata, IsSound}
 use Rattle.qcow2_alloc.specs.ReadyingBlocks.{HasMade, HasMore, NoneCanBeMade, ReadiesBlocks}
+use Rattle.qcow2_alloc.specs.State.{lent}
 use Rattle.qcow2_alloc.proofs.Blocks.EnsuringBlocks.{refused, so, why-allocated-wider}
 
 -- An answer that refuses with a number is that of its fault.
@@ -51,8 +52,8 @@ module _ {S : Type 0} (state : S → StorageState) (mark at first last : ℕ) (t
   Knows P = order_of old ≡ L2DependsOnRb → IsTrue (state before.image).shape.keeps → IsSound Start → P
 
   -- The table has words for all: blocks are made.
-  pub blocks-ready : last < length table.words → (result : Result Bool Fault) (table' : TableValue) (new : MetadataCaches S) (after : ImageFile S) → MakesBlocks state first (last + 1) table old before result table' new after pending
-      → Knows (OnOk result (FillsFrom mark first (last + 1) Start (metadata_of state after new table' pending))) → ReadiesBlocks state mark at first last table old before pending result table' new after pending
+  pub blocks-ready : last < length table.words → (result : Result Bool Fault) (table' : TableValue) (new : MetadataCaches S) (after : ImageFile S) → MakesBlocks state first (last + 1) (lent table old before pending) result (lent table' new after pending)
+      → Knows (OnOk result (FillsFrom mark first (last + 1) Start (metadata_of state after new table' pending))) → ReadiesBlocks state mark at first last (lent table old before pending) result (lent table' new after pending)
   blocks-ready inside result table' new after makes fills = record {
     leaked = λ _. 0;
     leaks = leaks-none _ _ result;
@@ -97,7 +98,7 @@ module _ {S : Type 0} (state : S → StorageState) (mark at first last : ℕ) (t
 
   module _ (past : length table.words ≤ last) (table' : TableValue) (new : MetadataCaches S) (after : ImageFile S) (pending' : List FreeEntry) where
     -- It hasn't: it grows,
-    pub table-ready : last ≤ at → GrowsTable state mark at table old before pending (Ok tt) table' new after pending' → ReadiesBlocks state mark at first last table old before pending (so true) table' new after pending'
+    pub table-ready : last ≤ at → GrowsTable state mark at (lent table old before pending) (Ok tt) (lent table' new after pending') → ReadiesBlocks state mark at first last (lent table old before pending) (so true) (lent table' new after pending')
     table-ready behind grows = record {
       leaked = grows.leaked;
       leaks = record { none = λ other c. leaks-ok _ _ tt grows.leaked grows.leaks c; pinned = grows.leaks.pinned };
@@ -114,7 +115,7 @@ module _ {S : Type 0} (state : S → StorageState) (mark at first last : ℕ) (t
     }
 
     -- or that is refused.
-    pub table-not-ready : (fault : Fault) → GrowsTable state mark at table old before pending (Err fault) table' new after pending' → ReadiesBlocks state mark at first last table old before pending (Err fault) table' new after pending'
+    pub table-not-ready : (fault : Fault) → GrowsTable state mark at (lent table old before pending) (Err fault) (lent table' new after pending') → ReadiesBlocks state mark at first last (lent table old before pending) (Err fault) (lent table' new after pending')
     table-not-ready fault grows = record {
       leaked = grows.leaked;
       leaks = leaks-on _ _ _ _ fault grows.leaked (λ holds. holds) (λ any loose. loose) grows.leaks;

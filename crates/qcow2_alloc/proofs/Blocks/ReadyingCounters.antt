@@ -29,6 +29,7 @@ use Rattle.qcow2_alloc.specs.Going.{WasNotCutOff}
 use Rattle.qcow2_alloc.specs.GrowingTables.{GrowsTable, IsInRoomToGrow, IsLengthenedByTable, NoPlaceToGrow, table_run}
 use Rattle.qcow2_alloc.specs.HandingOutOne.{HandsOut, ReadiesCounter, ReadiesWord, leaked_by}
 use Rattle.qcow2_alloc.specs.Quiet.{IsSound, counted}
+use Rattle.qcow2_alloc.specs.State.{lent}
 use Rattle.qcow2_alloc.proofs.Handing.Allocating.{allocating-none, allocating-as, allocating-then}
 use Rattle.qcow2_alloc.proofs.Blocks.ReadyingBlocks.{leaks-none}
 use Rattle.qcow2_alloc.proofs.Blocks.EnsuringBlocks.{so, refused, why-allocated-wider}
@@ -57,7 +58,7 @@ module _ {S : Type 0} (state : S → StorageState) (mark cluster : ℕ) (table :
   k = counters_of_block before.header.fields
 
   -- Nothing was to be done.
-  stands : (there : Bool) → HandsOut state leaked_by table old before pending (so there) table old before pending
+  stands : (there : Bool) → HandsOut state leaked_by (lent table old before pending) (so there) (lent table old before pending)
   stands there = record {
     leaked = λ _. 0;
     leaks = leaks-none _ _ (so there);
@@ -66,14 +67,14 @@ module _ {S : Type 0} (state : S → StorageState) (mark cluster : ℕ) (table :
     cause = refl;
   }
 
-  pub counter-stands : block_offset (slice_index table.words (cluster / k)) ≢ 0 → ReadiesCounter state mark cluster table old before pending (so true) table old before pending
+  pub counter-stands : block_offset (slice_index table.words (cluster / k)) ≢ 0 → ReadiesCounter state mark cluster (lent table old before pending) (so true) (lent table old before pending)
   counter-stands some = record { did = stands true; there = λ yes. some; barred = λ order keeps sound no. cc no; near = λ order keeps sound c none more. absurd (omega (arith, none, more)) }
 
-  pub word-stands : cluster / k < length table.words → ReadiesWord state mark cluster table old before pending (so true) table old before pending
+  pub word-stands : cluster / k < length table.words → ReadiesWord state mark cluster (lent table old before pending) (so true) (lent table old before pending)
   word-stands inside = record { did = stands true; there = λ yes. inside; barred = λ order keeps sound no. cc no; near = λ order keeps sound c none more. absurd (omega (arith, none, more)) }
 
   -- The table has grown,
-  module _ (past : length table.words ≤ cluster / k) (result : Result Unit Fault) (table' : TableValue) (new : MetadataCaches S) (after : ImageFile S) (pending' : List FreeEntry) (grows : GrowsTable state mark (cluster / k) table old before pending result table' new after pending') where
+  module _ (past : length table.words ≤ cluster / k) (result : Result Unit Fault) (table' : TableValue) (new : MetadataCaches S) (after : ImageFile S) (pending' : List FreeEntry) (grows : GrowsTable state mark (cluster / k) (lent table old before pending) result (lent table' new after pending')) where
     grown-list : (r : Result Unit Fault) → OnOk r (IsGrownLength (words_of_cluster before.header.fields) k (cluster / k) (length table'.words)) → OnOk r (pending' ≡ pending ++ table_run before.header.fields) → OnErr r (pending' ≡ pending)
         → IsLengthenedByTable before.header.fields table table' pending pending'
     grown-list (Ok done) grown waits kept = inr (let above = grown.enough.above in omega (arith, above, past), waits)
@@ -82,7 +83,7 @@ module _ {S : Type 0} (state : S → StorageState) (mark cluster : ℕ) (table :
     no-leak : (result ≡ Err CacheFull → ⊥) → (c : ℕ) → grows.leaked c ≡ 0
     no-leak = grows.leaks.none
 
-    pub word-made : result ≡ Ok tt → ReadiesWord state mark cluster table old before pending (so true) table' new after pending'
+    pub word-made : result ≡ Ok tt → ReadiesWord state mark cluster (lent table old before pending) (so true) (lent table' new after pending')
     word-made ok = record {
       did = record {
         leaked = λ _. 0;
@@ -117,7 +118,7 @@ module _ {S : Type 0} (state : S → StorageState) (mark cluster : ℕ) (table :
         by-cause P (Err fault) is same = absurd (cc is)
 
     -- or has no place,
-    pub word-barred : (number : ℕ) → result ≡ Err (Limit number) → ReadiesWord state mark cluster table old before pending (so false) table' new after pending'
+    pub word-barred : (number : ℕ) → result ≡ Err (Limit number) → ReadiesWord state mark cluster (lent table old before pending) (so false) (lent table' new after pending')
     word-barred number limit = record {
       did = record {
         leaked = λ _. 0;
@@ -138,7 +139,7 @@ module _ {S : Type 0} (state : S → StorageState) (mark cluster : ℕ) (table :
             (state before.image).faults (state after.image).faults)) limit grows.cause
 
     -- or was refused.
-    pub word-refused : (fault : Fault) → result ≡ Err fault → ((number : ℕ) → fault ≢ Limit number) → ReadiesWord state mark cluster table old before pending (refused fault) table' new after pending'
+    pub word-refused : (fault : Fault) → result ≡ Err fault → ((number : ℕ) → fault ≢ Limit number) → ReadiesWord state mark cluster (lent table old before pending) (refused fault) (lent table' new after pending')
     word-refused fault is other = record {
       did = record {
         leaked = grows.leaked;
@@ -158,14 +159,14 @@ module _ {S : Type 0} (state : S → StorageState) (mark cluster : ℕ) (table :
   -- There is a word for the cluster, and its block is made.
   module _ (mid_table : TableValue) (mid : MetadataCaches S) (between : ImageFile S) (mid_pending : List FreeEntry) where
     -- There was no place for one,
-    pub counter-barred : ReadiesWord state mark cluster table old before pending (so false) mid_table mid between mid_pending → ReadiesCounter state mark cluster table old before pending (so false) mid_table mid between mid_pending
+    pub counter-barred : ReadiesWord state mark cluster (lent table old before pending) (so false) (lent mid_table mid between mid_pending) → ReadiesCounter state mark cluster (lent table old before pending) (so false) (lent mid_table mid between mid_pending)
     counter-barred word = record { did = word.did; there = λ yes. cc yes; barred = word.barred; near = word.near }
 
     -- it wasn't to be had,
-    pub counter-refused : (fault : Fault) → ReadiesWord state mark cluster table old before pending (refused fault) mid_table mid between mid_pending → ReadiesCounter state mark cluster table old before pending (refused fault) mid_table mid between mid_pending
+    pub counter-refused : (fault : Fault) → ReadiesWord state mark cluster (lent table old before pending) (refused fault) (lent mid_table mid between mid_pending) → ReadiesCounter state mark cluster (lent table old before pending) (refused fault) (lent mid_table mid between mid_pending)
     counter-refused fault word = record { did = word.did; there = tt; barred = word.barred; near = word.near }
 
-    module _ (word : ReadiesWord state mark cluster table old before pending (so true) mid_table mid between mid_pending) (reach : IsInReach before.header.fields.cluster_bits cluster) (table' : TableValue) (new : MetadataCaches S) (after : ImageFile S) where
+    module _ (word : ReadiesWord state mark cluster (lent table old before pending) (so true) (lent mid_table mid between mid_pending)) (reach : IsInReach before.header.fields.cluster_bits cluster) (table' : TableValue) (new : MetadataCaches S) (after : ImageFile S) where
       header-moved : (P : Header → Type 0) → P (with_refcount_table before.header word.did.step.moved.0 word.did.step.moved.1) → P between.header
       header-moved P p = subst P (sym word.did.step.moved.2) p
 
@@ -179,7 +180,7 @@ module _ {S : Type 0} (state : S → StorageState) (mark cluster : ℕ) (table :
       never-far : (number : ℕ) → ((i : ℕ) × (cluster / k ≤ i) × (i < cluster / k + 1) × (number ≤ i * counters_of_block between.header.fields) × (IsInReach between.header.fields.cluster_bits number → ⊥)) → ⊥
       never-far number (i, above, below, le, far) = let there = near i above below in let more = mul-le-mul_right (2 ^ between.header.fields.cluster_bits) le in far (omega (arith, there, more))
 
-      both : (ok' : Type 0) → Allocating state ok' (λ _. 0) mid_table mid between mid_pending table' new after mid_pending → Allocating state ok' (λ _. 0) table old before pending table' new after mid_pending
+      both : (ok' : Type 0) → Allocating state ok' (λ _. 0) (lent mid_table mid between mid_pending) (lent table' new after mid_pending) → Allocating state ok' (λ _. 0) (lent table old before pending) (lent table' new after mid_pending)
       both ok' two = allocating-as state ok' ok' (λ c. leaked_by (so true) word.did.leaked c + 0) (λ _. 0) table old before pending table' new after mid_pending (λ o. o) (λ c. omega arith)
           (allocating-then state ⊤ ok' (leaked_by (so true) word.did.leaked) (λ _. 0) table old before pending mid_table mid between mid_pending table' new after mid_pending tt word.did.step two)
 
@@ -191,10 +192,10 @@ module _ {S : Type 0} (state : S → StorageState) (mark cluster : ℕ) (table :
       holds-still holds = let quiet = word.did.step.quiet holds.1 in (keeps_on (state before.image) (state between.image) quiet.shape holds.0, word.did.step.order ∙ holds.1, (quiet.holds holds.0 holds.2 tt).0)
 
       -- or now there is a block,
-      pub counter-made : (made : Bool) → MakesBlocks state (cluster / k) (cluster / k + 1) mid_table mid between (so made) table' new after mid_pending
+      pub counter-made : (made : Bool) → MakesBlocks state (cluster / k) (cluster / k + 1) (lent mid_table mid between mid_pending) (so made) (lent table' new after mid_pending)
           → (order_of mid ≡ L2DependsOnRb → IsTrue (state between.image).shape.keeps → IsSound (metadata_of state between mid mid_table mid_pending)
           → FillsFrom mark (cluster / k) (cluster / k + 1) (metadata_of state between mid mid_table mid_pending) (metadata_of state after new table' mid_pending))
-          → ReadiesCounter state mark cluster table old before pending (so true) table' new after mid_pending
+          → ReadiesCounter state mark cluster (lent table old before pending) (so true) (lent table' new after mid_pending)
       counter-made made blocks fills = record {
         did = record {
           leaked = λ _. 0;
@@ -221,7 +222,7 @@ module _ {S : Type 0} (state : S → StorageState) (mark cluster : ℕ) (table :
       }
 
       -- or none could be made.
-      pub counter-unmade : (fault : Fault) → MakesBlocks state (cluster / k) (cluster / k + 1) mid_table mid between (refused fault) table' new after mid_pending → ReadiesCounter state mark cluster table old before pending (refused fault) table' new after mid_pending
+      pub counter-unmade : (fault : Fault) → MakesBlocks state (cluster / k) (cluster / k + 1) (lent mid_table mid between mid_pending) (refused fault) (lent table' new after mid_pending) → ReadiesCounter state mark cluster (lent table old before pending) (refused fault) (lent table' new after mid_pending)
       counter-unmade fault blocks = record {
         did = record {
           leaked = λ _. 0;

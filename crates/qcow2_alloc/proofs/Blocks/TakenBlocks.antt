@@ -32,6 +32,7 @@ use Rattle.qcow2_alloc.specs.MakingRoom.{run_of}
 use Rattle.qcow2_alloc.specs.Memory.{Cached, written, written_block}
 use Rattle.qcow2_alloc.specs.Quiet.{Metadata, counted, named_at_all, waiting, one_at, IsUsed, IsSound, Quietly}
 use Rattle.qcow2_alloc.specs.Safety.{AreBlocksClean}
+use Rattle.qcow2_alloc.specs.State.{lent}
 use Rattle.qcow2_alloc.proofs.Blocks.CountedApart.{counted-apart}
 use Rattle.qcow2_alloc.proofs.Blocks.CountingClusters.{succeeded, done_of, one-counted}
 use Rattle.qcow2_alloc.proofs.Caching.Forgetting.{forgotten-counts, forgotten-quiet, removed-apart}
@@ -63,7 +64,7 @@ none-written c put keys (x ∷ xs) (y ∷ ys) same none =
       | inr t ↦ let f : nat_eq c x.0 ≡ false = ap (nat_eq c) key ∙ t in rw f (none-written c put keys xs ys tail (rw t at none))
     ]
 
-module _ {S : Type 0} (state : S → StorageState) (table : TableValue) (pending : List FreeEntry) (old : MetadataCaches S) (before : ImageFile S) (i d : ℕ) (A : MetadataCaches S) (fA : ImageFile S) (begun : Begins state table pending old before (λ _. 0) A fA)
+module _ {S : Type 0} (state : S → StorageState) (table : TableValue) (pending : List FreeEntry) (old : MetadataCaches S) (before : ImageFile S) (i d : ℕ) (A : MetadataCaches S) (fA : ImageFile S) (begun : Begins state (lent table old before pending) (λ _. 0) (lent table A fA pending))
     (free : order_of old ≡ L2DependsOnRb → IsTrue (state before.image).shape.keeps → IsSound (metadata_of state before old table pending) → IsFreePlace (metadata_of state fA A table pending) i d) where
   abbrev At : MetadataCaches S → ImageFile S → Metadata
   At caches file = metadata_of state file caches table pending
@@ -90,7 +91,7 @@ module _ {S : Type 0} (state : S → StorageState) (table : TableValue) (pending
   unused : order_of old ≡ L2DependsOnRb → Keeps → IsSound m0 → (named_at_all mA d ≡ 0) × (waiting mA d ≡ 0) × (IsUsed mA d → ⊥)
   unused order keeps sound = uncounted-free mA (sound-then order keeps sound) (begun.order ∙ order) d (free order keeps sound).uncounted
 
-  begin : Begins state table pending old before (λ _. 0) C1 fA
+  begin : Begins state (lent table old before pending) (λ _. 0) (lent table C1 fA pending)
   begin =
       begins-then state i table pending old before (λ _. 0) (λ _. 0) A fA C1 fA begun (λ _. 0) (λ c. omega arith)
       (record {
@@ -115,7 +116,7 @@ module _ {S : Type 0} (state : S → StorageState) (table : TableValue) (pending
 
   -- The cluster is counted,
   module _ (result : Result Unit Fault) (C : MetadataCaches S) (fC : ImageFile S) (raises : RaisesCluster state table d C1 fA result C fC) where
-    abbrev run : CountsRun state table d 1 C1 fA result C fC pending
+    abbrev run : CountsRun state d 1 (lent table C1 fA pending) result (lent table C fC pending)
     run = (one-counted state table pending d C1 fA result C fC raises).0
 
     part-is : run.part ≡ done_of result
@@ -160,7 +161,7 @@ module _ {S : Type 0} (state : S → StorageState) (table : TableValue) (pending
       stays = record { header = run.header; order = run.order; loose = run.loose; room = run.room };
     }
 
-  pub uncounted-made : (fault : Fault) (C : MetadataCaches S) (fC : ImageFile S) → RaisesCluster state table d C1 fA (Err fault) C fC → MakesBlock state i table old before (Err fault) table C fC pending
+  pub uncounted-made : (fault : Fault) (C : MetadataCaches S) (fC : ImageFile S) → RaisesCluster state table d C1 fA (Err fault) C fC → MakesBlock state i (lent table old before pending) (Err fault) (lent table C fC pending)
   uncounted-made fault C fC raises =
       begins-refused state i table pending old before (λ _. 0) (more (Err fault) C fC raises) C1 fA C fC begin fault (counting (Err fault) C fC raises)
       (λ order keeps sound whole c. let none = more-none (Err fault) C fC raises (part-is (Err fault) C fC raises) c in omega (arith, none))
@@ -176,7 +177,7 @@ module _ {S : Type 0} (state : S → StorageState) (table : TableValue) (pending
     abbrev m2 : Metadata
     m2 = At C fC
 
-    taken : Begins state table pending old before (one_at d) C fC
+    taken : Begins state (lent table old before pending) (one_at d) (lent table C fC pending)
     taken =
         begins-then state i table pending old before (λ _. 0) (more succeeded C fC raises) C1 fA C fC begin (one_at d) (λ c. let one = more-one succeeded C fC raises (part-is succeeded C fC raises) c in omega (arith, one)) (counting succeeded C fC raises)
 
@@ -221,7 +222,7 @@ module _ {S : Type 0} (state : S → StorageState) (table : TableValue) (pending
 
     pub unwritten-made : (fault : Fault) (D : MetadataCaches S) (fD : ImageFile S) → Going fC.header (order_of C) Always (failed fault ≡ Ok tt) (state fC.image) (cached_in C) (state fD.image) (cached_in D) → written (cached_in D) ≡ written (cached_in C)
         → (D.order ≡ C.order) × (fD.header ≡ fC.header) → HasRoomOf C D → CountsWrites (AreTablesInReach (cached_in C) × AreBlocksInReach (cached_in C)) (state fC.image).faults (state fD.image).faults (failed fault) → (IsMild fault → IsFaultless (state fC.image) (state fD.image))
-        → MakesBlock state i table old before (Err fault) table D fD pending
+        → MakesBlock state i (lent table old before pending) (Err fault) (lent table D fD pending)
     unwritten-made fault D fD going kept others room cause faultless =
         begins-refused state i table pending old before (one_at d) (λ _. 0) C fC D fD taken fault (flushing (failed fault) D fD going kept others room cause faultless)
         (λ order keeps sound whole c. absurd (let no = done-so (failed fault) D fD going kept others room cause (sound2 (failed fault) D fD going kept others room cause order keeps sound) whole in cc no))
@@ -266,7 +267,7 @@ module _ {S : Type 0} (state : S → StorageState) (table : TableValue) (pending
 
       pub taken-made : i < length table.words → block_offset (slice_index table.words i) ≡ 0 → 9 ≤ fD.header.fields.cluster_bits → d ≢ 0 → IsInReach fD.header.fields.cluster_bits d → d / counters_of_block fD.header.fields ≢ i
           → (result : Result Unit Fault) (table' : TableValue) (after : ImageFile S) → after.header ≡ fD.header
-          → NamesWritten table i (B state i d counters table D fD pending) (state fD.image) result table' (state after.image) → MakesBlock state i table old before result table' D after pending
+          → NamesWritten table i (B state i d counters table D fD pending) (state fD.image) result table' (state after.image) → MakesBlock state i (lent table old before pending) result (lent table' D after pending)
       taken-made inside empty low some reach other result table' after header names =
           made state i table pending old before (one_at d) Ready d counters D fD
           (begins-then state i table pending old before (one_at d) (λ _. 0) C fC D fD taken (one_at d) (λ c. omega arith) (flushing succeeded D fD going kept others room faults (λ whole. going.faults refl)))
@@ -289,7 +290,7 @@ module _ {S : Type 0} (state : S → StorageState) (table : TableValue) (pending
       pub taken-made-so : i < length table.words → block_offset (slice_index table.words i) ≡ 0 → 9 ≤ fA.header.fields.cluster_bits → d ≢ 0 → IsInReach fA.header.fields.cluster_bits d → d < i * counters_of_block fA.header.fields
           → (block : Block) → block ≡ block_of fA.header.fields.cluster_bits fA.header.fields.refcount_order (replicate (counters_of_block fA.header.fields) 0) (Some d) true
           → (result : Result Unit Fault) (table' : TableValue) (after : ImageFile S) → after.header ≡ fD.header
-          → NamesWritten table i block (state fD.image) result table' (state after.image) → MakesBlock state i table old before result table' D after pending
+          → NamesWritten table i block (state fD.image) result table' (state after.image) → MakesBlock state i (lent table old before pending) result (lent table' D after pending)
       taken-made-so inside empty low some reach below block is result table' after header names =
           let same : fA.header ≡ fD.header = sym (others.1 ∙ (run succeeded C fC raises).header) in
           taken-made inside empty (subst (λ (h : Header). 9 ≤ h.fields.cluster_bits) same low) some (subst (λ (h : Header). IsInReach h.fields.cluster_bits d) same reach)

@@ -26,6 +26,7 @@ use Rattle.qcow2_alloc.specs.Going.{Going, Always, IsMild, AreBlocksInReach, Cou
 use Rattle.qcow2_alloc.specs.Memory.{Cached, memory, written, written_block}
 use Rattle.qcow2_alloc.specs.Quiet.{Metadata, IsSound, Quietly, metadata_in}
 use Rattle.qcow2_alloc.specs.Safety.{Safe, IsCalm}
+use Rattle.qcow2_alloc.specs.State.{lent}
 use Rattle.qcow2_alloc.proofs.Caching.Loose.{kept-tables}
 use Rattle.qcow2_alloc.proofs.Caching.Pins.{pins-none, pins-written}
 use Rattle.qcow2_alloc.proofs.Quiet.QuietAnnouncing.{announced-quietly, whole-quietly}
@@ -70,7 +71,7 @@ module _ {S : Type 0} (state : S → StorageState) (table : TableValue) (old : M
       subst (λ (h : Header). 0 < count (memory (bytes_of (state after.image).bytes) h.fields (cached_in new)) h.fields d) (sym header) (subst (λ (g : Bytes). 0 < count g before.header.fields d) (sym settled.memory_same) was)
 
   pub announcing-frees : (result : Result Unit Fault) → Goes result → OnOk result (order_of new ≡ RbDependsOnL2) → OnErr result (order_of new ≡ order_of old) → OnOk result ((f : Bytes) (H : Header) → Safe f H (cached_in new) (order_of old) → Safe f H (cached_in new) RbDependsOnL2)
-      → CountsWrites (AreBlocksInReach (cached_in old)) (state before.image).faults (state after.image).faults result → (WasNotCutOff result → IsFaultless (state before.image) (state after.image)) → Frees state table old before mark es result new after mark es
+      → CountsWrites (AreBlocksInReach (cached_in old)) (state before.image).faults (state after.image).faults result → (WasNotCutOff result → IsFaultless (state before.image) (state after.image)) → Frees state mark (lent table old before es) result (lent table new after es) mark
   announcing-frees (Ok done) going order stays safe counts faultless =
       let announced = announced-quietly Old RbDependsOnL2 (Ok tt) (state before.image) (state after.image) (cached_in new) refl going safe in
       let quiet = whole-quietly Old (AreBlocksInReach (cached_in old)) (state before.image).faults (state after.image).faults (Ok tt) (λ _. 0) (λ _. 0) (state before.image) (state after.image) _ (λ reach. reach.1) counts announced in
@@ -110,7 +111,7 @@ module _ {S : Type 0} (state : S → StorageState) (table : TableValue) (old : M
       }
 
 -- An image whose data is in an external file isn't sound.
-pub external-dropped : {S : Type 0} (state : S → StorageState) (table : TableValue) (old : MetadataCaches S) (before : ImageFile S) (mark : ℕ) (es : List FreeEntry) → has_external_data before.header.fields ≡ true → Frees state table old before mark es (Ok tt) old before mark []
+pub external-dropped : {S : Type 0} (state : S → StorageState) (table : TableValue) (old : MetadataCaches S) (before : ImageFile S) (mark : ℕ) (es : List FreeEntry) → has_external_data before.header.fields ≡ true → Frees state mark (lent table old before es) (Ok tt) (lent table old before []) mark
 external-dropped state table old before mark es external =
     let m = metadata_of state before old table es in
     let never : IsSound m → ⊥ = (λ sound. let inside = sound.safe.consistent.readable.data_inside in let both = sym external ∙ inside in cc) in

@@ -33,6 +33,7 @@ use Rattle.qcow2_alloc.specs.GrowingTables.{table_run}
 use Rattle.qcow2_alloc.specs.MakingRoom.{run_of, rank, formerly, newly_counted, with_table}
 use Rattle.qcow2_alloc.specs.MovingTables.{waiting_then, clusters_of, naming_table, MovesTable, IsPlan, IsTaken, IsUncounted, TakesRoom, FillsRoom}
 use Rattle.qcow2_alloc.specs.Quiet.{Metadata, in_memory, counted, waiting, IsUsed, IsSound, Quietly}
+use Rattle.qcow2_alloc.specs.State.{lent}
 use Rattle.qcow2_alloc.proofs.Blocks.CountingClusters.{succeeded}
 use Rattle.qcow2_alloc.proofs.Blocks.CountingRuns.{covers-behind}
 use Rattle.qcow2_alloc.proofs.Searching.FreeClusters.{uncounted-free}
@@ -73,7 +74,7 @@ table-run-is h h' same some = ap (λ (x : Fields). table_run x) (sym same) ∙ r
 
 module _ {S : Type 0} (state : S → StorageState) (table : TableValue) (pending : List FreeEntry) (run : Run) (copy : TableValue) (old : MetadataCaches S) (before : ImageFile S)
     (known : Type 0) (free : known → (order_of old ≡ L2DependsOnRb) × IsUncounted (metadata_of state before old table pending) run)
-    (C : MetadataCaches S) (fC : ImageFile S) (takes : TakesRoom state table run old before succeeded C fC pending) (plan : IsPlan fC.header.fields table run copy)
+    (C : MetadataCaches S) (fC : ImageFile S) (takes : TakesRoom state run (lent table old before pending) succeeded (lent table C fC pending)) (plan : IsPlan fC.header.fields table run copy)
     (mid : S) (put : Put {T = Unit {0}} (state fC.image) (state mid) (table_place copy) (table_bytes copy.words) (Ok tt))
     (fit : FirstFieldsFit (naming_table fC.header copy).fields) (sizes : first_fault (rules_of_size fC.header.fields) ≡ None → first_fault (rules_of_size (naming_table fC.header copy).fields) ≡ None)
     (after : ImageFile S) (result : Result Unit Fault) (pointed : PutAtOnce (state mid) (state after.image) 0 (first_bytes (naming_table fC.header copy).fields) result) where
@@ -104,7 +105,7 @@ module _ {S : Type 0} (state : S → StorageState) (table : TableValue) (pending
   abbrev place : ℕ
   place = run.first + rank (lacks table (counters_of_block fC.header.fields) run.first run.len) (length copy.words)
 
-  abbrev at5 : CountsNamed state table run.first run.len old before succeeded C between pending
+  abbrev at5 : CountsNamed state run.first run.len (lent table old before pending) succeeded (lent table C between pending)
   at5 = table-written state table pending run copy old before C fC takes plan mid succeeded put
 
   abbrev handed : ℕ → ℕ
@@ -156,7 +157,7 @@ module _ {S : Type 0} (state : S → StorageState) (table : TableValue) (pending
   faults5 = at5.cause
 
   -- The pointer wasn't written: the call was cut off.
-  pub not-pointed : (fault : Fault) → result ≡ Err fault → (table' : TableValue) → table' ≡ table → MovedTable fC.header after.header → FillsRoom state known run copy table old before (failed fault) table' C after pending pending
+  pub not-pointed : (fault : Fault) → result ≡ Err fault → (table' : TableValue) → table' ≡ table → MovedTable fC.header after.header → FillsRoom state known run copy (lent table old before pending) (failed fault) (lent table' C after pending)
   not-pointed fault is table' same moved =
       let cause : Cause (state mid).faults (state after.image).faults fault = put-refused (state mid) (state after.image) 0 (first_bytes (naming_table fC.header copy).fields) result pointed.put fault is in
       record {
@@ -259,7 +260,7 @@ module _ {S : Type 0} (state : S → StorageState) (table : TableValue) (pending
         (λ s c used none. let off = unused given c used in omega (arith, off.0, off.1))
         (quietly-then ⊤ ⊤ handed (λ _. 0) (formerly m5) (λ c. newly_counted m5 place n c + covers c (old_run m4)) (state before.image) m0 (state mid) m5 (state after.image) m7 tt (λ s c some. refl) (at5.quiet (free e).0 (λ s. (free e).1)) so)))
 
-    pub filled : FillsRoom state known run copy table old before succeeded table' C after pending then_waits
+    pub filled : FillsRoom state known run copy (lent table old before pending) succeeded (lent table' C after then_waits)
     filled = record {
       leaked = λ _. 0;
       leaks = record { none = λ not c. refl; pinned = λ sound loose c. refl };
@@ -297,29 +298,29 @@ module _ {S : Type 0} (state : S → StorageState) (table : TableValue) (pending
 -- In all: the room was taken, and then the table moved.
 pub room-filled : {S : Type 0} (state : S → StorageState) (table : TableValue) (pending : List FreeEntry) (run : Run) (copy : TableValue) (old : MetadataCaches S) (before : ImageFile S)
     (known : Type 0) (free : known → (order_of old ≡ L2DependsOnRb) × IsUncounted (metadata_of state before old table pending) run)
-    (C : MetadataCaches S) (fC : ImageFile S) (takes : TakesRoom state table run old before succeeded C fC pending) (plan : IsPlan fC.header.fields table run copy)
-    (result : Result Unit Fault) (table' : TableValue) (after : ImageFile S) → MovesTable state copy table fC result table' after → FillsRoom state known run copy table old before result table' C after pending (waiting_then result before.header.fields pending)
+    (C : MetadataCaches S) (fC : ImageFile S) (takes : TakesRoom state run (lent table old before pending) succeeded (lent table C fC pending)) (plan : IsPlan fC.header.fields table run copy)
+    (result : Result Unit Fault) (table' : TableValue) (after : ImageFile S) → MovesTable state copy table fC result table' after → FillsRoom state known run copy (lent table old before pending) result (lent table' C after (waiting_then result before.header.fields pending))
 room-filled {S} state table pending run copy old before known free C fC takes plan result table' after moves = by-done moves.done refl
   where
     put-as : (d : Result Unit Fault) → moves.done ≡ d → Put (state fC.image) (state moves.mid) (table_place copy) (table_bytes copy.words) d
     put-as d is = subst (λ (r : Result Unit Fault). Put (state fC.image) (state moves.mid) (table_place copy) (table_bytes copy.words) r) is moves.put
 
-    by-result : (r : Result Unit Fault) → result ≡ r → moves.done ≡ Ok tt → FillsRoom state known run copy table old before result table' C after pending (waiting_then result before.header.fields pending)
+    by-result : (r : Result Unit Fault) → result ≡ r → moves.done ≡ Ok tt → FillsRoom state known run copy (lent table old before pending) result (lent table' C after (waiting_then result before.header.fields pending))
     by-result (Ok v) is done =
         let both = subst (λ (r : Result Unit Fault). OnOk r ((table' ≡ record copy { modified = false }) × (after.header ≡ naming_table fC.header copy))) is moves.ok in
-        subst (λ (r : Result Unit Fault). FillsRoom state known run copy table old before r table' C after pending (waiting_then r before.header.fields pending)) (sym is)
+        subst (λ (r : Result Unit Fault). FillsRoom state known run copy (lent table old before pending) r (lent table' C after (waiting_then r before.header.fields pending))) (sym is)
         (filled state table pending run copy old before known free C fC takes plan moves.mid (put-as (Ok tt) done) (moves.fit done) (moves.sizes done) after result (moves.pointed done) is table' both.0 both.1)
     by-result (Err fault) is done =
         let both = subst (λ (r : Result Unit Fault). OnErr r ((table' ≡ table) × MovedTable fC.header after.header)) is moves.err in
-        subst (λ (r : Result Unit Fault). FillsRoom state known run copy table old before r table' C after pending (waiting_then r before.header.fields pending)) (sym is)
+        subst (λ (r : Result Unit Fault). FillsRoom state known run copy (lent table old before pending) r (lent table' C after (waiting_then r before.header.fields pending))) (sym is)
         (not-pointed state table pending run copy old before known free C fC takes plan moves.mid (put-as (Ok tt) done) (moves.fit done) (moves.sizes done) after result (moves.pointed done) fault is table' both.0 both.1)
 
-    by-done : (d : Result Unit Fault) → moves.done ≡ d → FillsRoom state known run copy table old before result table' C after pending (waiting_then result before.header.fields pending)
+    by-done : (d : Result Unit Fault) → moves.done ≡ d → FillsRoom state known run copy (lent table old before pending) result (lent table' C after (waiting_then result before.header.fields pending))
     by-done (Ok v) is = by-result result refl is
     by-done (Err fault) is =
         let stop = moves.stopped fault is in
         let both = subst (λ (r : Result Unit Fault). OnErr r ((table' ≡ table) × MovedTable fC.header after.header)) stop.0 moves.err in
-        subst (λ (r : Result Unit Fault). FillsRoom state known run copy table old before r table' C after pending (waiting_then r before.header.fields pending)) (sym stop.0)
-        (subst (λ (t : TableValue). FillsRoom state known run copy table old before (failed fault) t C after pending pending) (sym both.0)
-        (subst (λ (f : ImageFile S). FillsRoom state known run copy table old before (failed fault) table C f pending pending) (sym stop.1)
+        subst (λ (r : Result Unit Fault). FillsRoom state known run copy (lent table old before pending) r (lent table' C after (waiting_then r before.header.fields pending))) (sym stop.0)
+        (subst (λ (t : TableValue). FillsRoom state known run copy (lent table old before pending) (failed fault) (lent t C after pending)) (sym both.0)
+        (subst (λ (f : ImageFile S). FillsRoom state known run copy (lent table old before pending) (failed fault) (lent table C f pending)) (sym stop.1)
         (not-filled state table pending run copy old before known free fault C (record { image = moves.mid; header = fC.header }) (table-written state table pending run copy old before C fC takes plan moves.mid (failed fault) (put-as (failed fault) is)))))

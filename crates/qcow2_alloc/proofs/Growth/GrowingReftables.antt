@@ -22,6 +22,7 @@ use Rattle.qcow2_alloc.specs.GrowingTables.{GrowsTable, NoPlaceToGrow, TableGrow
 use Rattle.qcow2_alloc.specs.HandingOut.{GrowsReftable, StaysInShape}
 use Rattle.qcow2_alloc.specs.MovingTables.{WhyNotGrown}
 use Rattle.qcow2_alloc.specs.Quiet.{Metadata, IsSound}
+use Rattle.qcow2_alloc.specs.State.{lent}
 use Rattle.qcow2_alloc.proofs.Handing.Allocating.{moved-none}
 use Rattle.qcow2_alloc.proofs.Handing.AnnouncedOrders.{Announced, no-place-as, grown-as, quiet-behind, sound-behind, raised-behind, caused-behind}
 use Rattle.qcow2_alloc.proofs.Flushing.Faultless.{faultless-then}
@@ -48,7 +49,7 @@ module _ {S : Type 0} (state : S → StorageState) (mark at : ℕ) (table : Tabl
   }
 
   -- There was no grown copy of the table, or no room for the clusters of this one: nothing has changed.
-  pub not-copied : (fault : Fault) → WhyNotGrown before.header.fields table at fault → GrowsReftable state mark at table old before pending (failed fault) table old before pending
+  pub not-copied : (fault : Fault) → WhyNotGrown before.header.fields table at fault → GrowsReftable state mark at (lent table old before pending) (failed fault) (lent table old before pending)
   not-copied fault why = record {
     leaked = λ _. 0;
     leaks = leaks-none _ _ (failed fault);
@@ -72,7 +73,7 @@ module _ {S : Type 0} (state : S → StorageState) (mark at : ℕ) (table : Tabl
       by-fault other why = absurd why
 
   -- Where that was refused nothing grew,
-  pub not-announced : (fault : Fault) → Announced state table pending old before (failed fault) mid between → GrowsReftable state mark at table old before pending (failed fault) table mid between pending
+  pub not-announced : (fault : Fault) → Announced state table pending old before (failed fault) mid between → GrowsReftable state mark at (lent table old before pending) (failed fault) (lent table mid between pending)
   not-announced fault first = record {
     leaked = λ _. 0;
     leaks = leaks-none _ _ (failed fault);
@@ -91,7 +92,7 @@ module _ {S : Type 0} (state : S → StorageState) (mark at : ℕ) (table : Tabl
 
   -- and else it grows as it does under that order.
   module _ (first : Announced state table pending old before (Ok tt) mid between) (result : Result Unit Fault) (table' : TableValue) (new : MetadataCaches S) (after : ImageFile S) (pending' : List FreeEntry)
-      (grows : GrowsTable state mark at table mid between pending result table' new after pending') where
+      (grows : GrowsTable state mark at (lent table mid between pending) result (lent table' new after pending')) where
     abbrev End : Metadata
     End = metadata_of state after new table' pending'
 
@@ -128,7 +129,7 @@ module _ {S : Type 0} (state : S → StorageState) (mark at : ℕ) (table : Tabl
         caused-behind state table pending old before mid between first _ _ (state after.image).faults
         (λ number full keeps sound. let still = sound-behind state table pending old before mid between first keeps sound in no-place-as Start Mid first.header refl (first.counts keeps sound tt) mark at number (full first.order still.0 still.1)) fault why
 
-    pub announced-grows : GrowsReftable state mark at table old before pending result table' new after pending'
+    pub announced-grows : GrowsReftable state mark at (lent table old before pending) result (lent table' new after pending')
     announced-grows = record {
       leaked = grows.leaked;
       leaks = record { none = grows.leaks.none; pinned = λ holds loose. let still = sound-behind state table pending old before mid between first holds.0 holds.1 in grows.leaks.pinned (still.0, first.order, still.1) (first.loose true loose) };

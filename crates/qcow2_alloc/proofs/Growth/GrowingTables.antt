@@ -30,6 +30,7 @@ use Rattle.qcow2_alloc.specs.MakingRoom.{run_of}
 use Rattle.qcow2_alloc.specs.MovingTables.{clusters_of, IsPlan, WhyNotGrown, WhyNotPlaced, IsFreeIn, WasSound, FillsRoom, EntersFree}
 use Rattle.qcow2_alloc.specs.Quiet.{Metadata, counted, IsSound, Quietly}
 use Rattle.qcow2_alloc.specs.SearchingClusters.{IsSafeWith, Looked}
+use Rattle.qcow2_alloc.specs.State.{lent}
 use Rattle.qcow2_alloc.proofs.Handing.Allocating.{moved-none, allocating-none, allocating-as}
 use Rattle.qcow2_alloc.proofs.Flushing.Faultless.{faultless-then}
 use Rattle.qcow2_alloc.proofs.Searching.FreeClusters.{flushes-count}
@@ -57,7 +58,7 @@ module _ {S T : Type 0} (state : S → StorageState) (table : TableValue) (pendi
   looked-counts keeps sound whole c =
       moved (λ m. counted m c ≡ counted m0 c) (flushes-count m0 (state before.image).bytes (state fC.image).bytes (cached_in C) refl (looked.going.holds keeps sound.safe tt (inl whole)) c).0
 
-  pub looked-allocates : Allocating state (WasNotCutOff result) (λ _. 0) table old before pending table C fC pending
+  pub looked-allocates : Allocating state (WasNotCutOff result) (λ _. 0) (lent table old before pending) (lent table C fC pending)
   looked-allocates = record {
     faults = looked.going.faults;
     quiet = λ order. moved (λ m. Quietly (WasNotCutOff result) (λ _. 0) (λ _. 0) (state before.image) m0 (state fC.image) m)
@@ -87,9 +88,9 @@ module _ {S : Type 0} (state : S → StorageState) (mark at : ℕ) (table : Tabl
   safe-with keeps sound = record { keeps = keeps; safe = sound.safe; table_of_file = sound.table }
 
   -- It is refused, and nothing was counted.
-  not-grown : (fault : Fault) (C : MetadataCaches S) (fC : ImageFile S) → Allocating state (IsMild fault) (λ _. 0) table old before pending table C fC pending → fC.header ≡ before.header
+  not-grown : (fault : Fault) (C : MetadataCaches S) (fC : ImageFile S) → Allocating state (IsMild fault) (λ _. 0) (lent table old before pending) (lent table C fC pending) → fC.header ≡ before.header
       → (Keeps → IsSound start → (number : ℕ) → fault ≡ Limit number → (c : ℕ) → counted (metadata_of state fC C table pending) c ≡ counted start c)
-      → WhyNotAllocated Sound (IsLoose table old) Full (state before.image).faults (state fC.image).faults fault → GrowsTable state mark at table old before pending (failed fault) table C fC pending
+      → WhyNotAllocated Sound (IsLoose table old) Full (state before.image).faults (state fC.image).faults fault → GrowsTable state mark at (lent table old before pending) (failed fault) (lent table C fC pending)
   not-grown fault C fC step header same why = record {
     leaked = λ _. 0;
     leaks = record { none = λ not c. refl; pinned = λ holds loose c. refl };
@@ -104,7 +105,7 @@ module _ {S : Type 0} (state : S → StorageState) (mark at : ℕ) (table : Tabl
   }
 
   -- There is no copy of the table,
-  pub no-copy : (fault : Fault) → WhyNotGrown before.header.fields table at fault → GrowsTable state mark at table old before pending (failed fault) table old before pending
+  pub no-copy : (fault : Fault) → WhyNotGrown before.header.fields table at fault → GrowsTable state mark at (lent table old before pending) (failed fault) (lent table old before pending)
   no-copy fault why = not-grown fault old before (allocating-as state ⊤ (IsMild fault) (λ _. 0) (λ _. 0) table old before pending table old before pending (λ mild. tt) (λ c. refl) (allocating-none state table old before pending)) refl (λ keeps sound number is c. refl) (by-fault fault why)
     where
       by-fault : (fault : Fault) → WhyNotGrown before.header.fields table at fault → WhyNotAllocated Sound (IsLoose table old) Full (state before.image).faults (state before.image).faults fault
@@ -114,7 +115,7 @@ module _ {S : Type 0} (state : S → StorageState) (mark at : ℕ) (table : Tabl
       by-fault other why = absurd why
 
   -- or the search for a room was refused,
-  pub no-room : (fault : Fault) (C : MetadataCaches S) (fC : ImageFile S) → Looked state {T = Run} table old before (Err fault) C fC → GrowsTable state mark at table old before pending (failed fault) table C fC pending
+  pub no-room : (fault : Fault) (C : MetadataCaches S) (fC : ImageFile S) → Looked state {T = Run} table old before (Err fault) C fC → GrowsTable state mark at (lent table old before pending) (failed fault) (lent table C fC pending)
   no-room fault C fC looked =
       not-grown fault C fC (looked-allocates {T = Run} state table pending old before C fC (Err fault) looked) looked.header
       (λ keeps sound number is. looked-counts {T = Run} state table pending old before C fC (Err fault) looked keeps sound (subst (λ (f : Fault). WasNotCutOff {T = Run} (Err f)) (sym is) tt))
@@ -142,7 +143,7 @@ module _ {S : Type 0} (state : S → StorageState) (mark at : ℕ) (table : Tabl
     room-to-grow known = record { long = subst (λ (l : ℕ). IsGrownLength (words_of_cluster h) (counters_of_block h) at l) (sym whole) long; room = found known }
 
     -- It can't take it.
-    pub no-place : (fault : Fault) → 1 ≤ room.len → WhyNotPlaced fC.header.fields table room copy fault → GrowsTable state mark at table old before pending (failed fault) table C fC pending
+    pub no-place : (fault : Fault) → 1 ≤ room.len → WhyNotPlaced fC.header.fields table room copy fault → GrowsTable state mark at (lent table old before pending) (failed fault) (lent table C fC pending)
     no-place fault some why =
         not-grown fault C fC (allocating-as state ⊤ (IsMild fault) (λ _. 0) (λ _. 0) table old before pending table C fC pending (λ mild. tt) (λ c. refl) (looked-allocates {T = Run} state table pending old before C fC (Ok room) looks.looked)) looks.looked.header
         (λ keeps sound number is. looked-counts {T = Run} state table pending old before C fC (Ok room) looks.looked keeps sound tt)
@@ -173,7 +174,7 @@ module _ {S : Type 0} (state : S → StorageState) (mark at : ℕ) (table : Tabl
 
     -- It takes it, as it was planned.
     module _ (placed : TableValue) (plan_there : IsPlan fC.header.fields table room placed) (same : length placed.words ≡ length copy.words)
-        (result : Result Unit Fault) (table' : TableValue) (D : MetadataCaches S) (fD : ImageFile S) (pending' : List FreeEntry) (fills : EntersFree state room placed table C fC pending result table' D fD pending')
+        (result : Result Unit Fault) (table' : TableValue) (D : MetadataCaches S) (fD : ImageFile S) (pending' : List FreeEntry) (fills : EntersFree state room placed (lent table C fC pending) result (lent table' D fD pending'))
         (waits : OnOk result (pending' ≡ pending ++ table_run fC.header.fields)) (kept : OnErr result (pending' ≡ pending)) where
       abbrev mid : Metadata
       mid = metadata_of state fC C table pending
@@ -188,18 +189,18 @@ module _ {S : Type 0} (state : S → StorageState) (mark at : ℕ) (table : Tabl
       plan = subst (λ (H : Header). IsPlan H.fields table room placed) looked.header plan_there
 
       abbrev Was : Type 0
-      Was = WasSound state old before table pending
+      Was = WasSound state (lent table old before pending)
 
-      free : Was → IsFreeIn state room table C fC pending
+      free : Was → IsFreeIn state room (lent table C fC pending)
       free known = (
         looked.order ∙ known.0,
         λ c above below. looked-counts {T = Run} state table pending old before C fC (Ok room) looked known.1 known.2 tt c ∙ (found (known.1, known.0, known.2)).room.free c above below,
       )
 
-      abbrev filled : FillsRoom state Was room placed table C fC result table' D fD pending pending'
+      abbrev filled : FillsRoom state Was room placed (lent table C fC pending) result (lent table' D fD pending')
       filled = fills old before free
 
-      abbrev one : Allocating state ⊤ (λ _. 0) table old before pending table C fC pending
+      abbrev one : Allocating state ⊤ (λ _. 0) (lent table old before pending) (lent table C fC pending)
       one = looked-allocates {T = Run} state table pending old before C fC (Ok room) looked
 
       on : Keeps → IsTrue (state fC.image).shape.keeps
@@ -239,7 +240,7 @@ module _ {S : Type 0} (state : S → StorageState) (mark at : ℕ) (table : Tabl
             counts = λ c. from-ok result done (filled.counts (order, keeps, sound) (on keeps) (mid-sound order keeps sound)) c ∙ ap (λ k. k + covers c (run_of room.first room.len)) (mid-counts keeps sound c);
           }
 
-      pub grows : GrowsTable state mark at table old before pending result table' D fD pending'
+      pub grows : GrowsTable state mark at (lent table old before pending) result (lent table' D fD pending')
       grows = record {
         leaked = filled.leaked;
         leaks = record { none = filled.leaks.none; pinned = λ holds loose. filled.leaks.pinned (was-on holds) (looked.loose true loose) };

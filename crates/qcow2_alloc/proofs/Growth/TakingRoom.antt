@@ -32,6 +32,7 @@ use Rattle.qcow2_alloc.specs.MovingTables.{ForgetsRun, IsPinnedWithin, StaysInMe
 use Rattle.qcow2_alloc.specs.NewBlocks.{MayWrite, WritesLacking}
 use Rattle.qcow2_alloc.specs.Quiet.{Metadata, counted, named_at_all, IsUsed, IsSound, Quietly}
 use Rattle.qcow2_alloc.specs.Safety.{AreBlocksClean}
+use Rattle.qcow2_alloc.specs.State.{lent}
 use Rattle.qcow2_alloc.proofs.Blocks.CountingClusters.{succeeded}
 use Rattle.qcow2_alloc.proofs.Blocks.CountingRuns.{covers-behind}
 use Rattle.qcow2_alloc.proofs.Flushing.Faultless.{faultless-then}
@@ -79,7 +80,7 @@ module _ {S : Type 0} (state : S → StorageState) (table : TableValue) (pending
   Given = Keeps × (order_of old ≡ L2DependsOnRb) × IsSound m0 × IsUncounted m0 run
 
   abbrev Counts : Result Unit Fault → MetadataCaches S → ImageFile S → Type 0
-  Counts result new after = CountsNamed state table run.first run.len old before result new after pending
+  Counts result new after = CountsNamed state run.first run.len (lent table old before pending) result (lent table new after pending)
 
   -- the clusters of the run
   abbrev pub ours : ℕ → ℕ
@@ -292,28 +293,28 @@ module _ {S : Type 0} (state : S → StorageState) (table : TableValue) (pending
           })
 
 -- All of them, where the flush and the drop succeeded.
-module _ {S : Type 0} (state : S → StorageState) (table : TableValue) (pending : List FreeEntry) (run : Run) (old : MetadataCaches S) (before : ImageFile S) (C : MetadataCaches S) (fC : ImageFile S) (counts : CountsNamed state table run.first run.len old before succeeded C fC pending)
+module _ {S : Type 0} (state : S → StorageState) (table : TableValue) (pending : List FreeEntry) (run : Run) (old : MetadataCaches S) (before : ImageFile S) (C : MetadataCaches S) (fC : ImageFile S) (counts : CountsNamed state run.first run.len (lent table old before pending) succeeded (lent table C fC pending))
     (D : MetadataCaches S) (fD : ImageFile S) (going : Going fC.header (order_of C) Always (succeeded ≡ Ok tt) (state fC.image) (cached_in C) (state fD.image) (cached_in D)) (kept : written (cached_in D) ≡ written (cached_in C))
     (others : (D.order ≡ C.order) × (fD.header ≡ fC.header)) (room : HasRoomOf C D) (cause : (state fD.image).faults ≡ (state fC.image).faults) (clean : AreBlocksClean (cached_in D)) (n : ℕ) (few : n ≤ run.len) where
-  pub counts-flushed : CountsNamed state table run.first run.len old before succeeded D fD pending
+  pub counts-flushed : CountsNamed state run.first run.len (lent table old before pending) succeeded (lent table D fD pending)
   counts-flushed = flushed-then state table pending run old before C fC counts succeeded D fD going kept others room cause (λ whole. going.faults refl)
 
   pub header-there : fD.header ≡ before.header
   header-there = counts-flushed.header
 
   pub room-not-forgotten : (fault : Fault) (E : MetadataCaches S) → ForgetsRun run.first n (cached_in D) (failed fault) (cached_in E) → E.order ≡ D.order → PinsNothing (cached_in D).blocks (cached_in E).blocks → KeepsTables D E → (fault ≡ CacheFull) × IsPinnedWithin run.first n D
-      → TakesRoom state table run old before (Err fault) E fD pending
+      → TakesRoom state run (lent table old before pending) (Err fault) (lent table E fD pending)
   room-not-forgotten fault E forgets order pins space why = record {
     counts = forgotten-then state table pending run old before D fD counts-flushed (failed fault) E n few forgets order pins space why;
     taken = λ o k s z. tt;
   }
 
   module _ (E : MetadataCaches S) (forgets : ForgetsRun run.first n (cached_in D) succeeded (cached_in E)) (order : E.order ≡ D.order) (pins : PinsNothing (cached_in D).blocks (cached_in E).blocks) (space : KeepsTables D E) where
-    counts-forgotten : CountsNamed state table run.first run.len old before succeeded E fD pending
+    counts-forgotten : CountsNamed state run.first run.len (lent table old before pending) succeeded (lent table E fD pending)
     counts-forgotten = forgotten-then state table pending run old before D fD counts-flushed succeeded E n few forgets order pins space tt
 
     pub room-taken : n ≡ lacking table (counters_of_block fD.header.fields) run.first run.len → 0 < counters_of_block fD.header.fields → (result : Result Unit Fault) (fE : ImageFile S) → fE.header ≡ fD.header
-        → WritesLacking fD.header table run (state fD.image) result (state fE.image) → TakesRoom state table run old before result E fE pending
+        → WritesLacking fD.header table run (state fD.image) result (state fE.image) → TakesRoom state run (lent table old before pending) result (lent table E fE pending)
     room-taken all some result fE header writes = record {
       counts = written-then state table pending run old before E fD counts-forgotten result fE header writes;
       taken = λ o k s z. on-ok result (λ done. run-taken state table pending run old before E fD counts-forgotten result fE header writes

@@ -23,6 +23,7 @@ use Rattle.qcow2_alloc.specs.Going.{IsMild}
 use Rattle.qcow2_alloc.specs.MakingRoom.{run_of}
 use Rattle.qcow2_alloc.specs.MovingTables.{IsUncounted, FillsRoom}
 use Rattle.qcow2_alloc.specs.Quiet.{Metadata, counted, IsSound}
+use Rattle.qcow2_alloc.specs.State.{lent}
 use Rattle.qcow2_alloc.proofs.Handing.Allocating.{moved-none}
 use Rattle.qcow2_alloc.proofs.Blocks.CountingRuns.{covers-behind}
 use Rattle.qcow2_alloc.proofs.Freeing.FreeingEntries.{failed}
@@ -87,7 +88,7 @@ module _ {S : Type 0} (state : S → StorageState) (table : TableValue) (pending
   Sound = known × Keeps × IsSound m0
 
   -- Where the room wasn't filled the image has the table that it had.
-  module _ (fault : Fault) (D : MetadataCaches S) (fD : ImageFile S) (counts : CountsNamed state table run.first run.len old before (failed fault) D fD pending) where
+  module _ (fault : Fault) (D : MetadataCaches S) (fD : ImageFile S) (counts : CountsNamed state run.first run.len (lent table old before pending) (failed fault) (lent table D fD pending)) where
     abbrev mD : Metadata
     mD = metadata_of state fD D table pending
 
@@ -100,7 +101,7 @@ module _ {S : Type 0} (state : S → StorageState) (table : TableValue) (pending
     why : WhyNotCounted Sound (IsLoose table old) (state before.image).faults (state fD.image).faults fault
     why = why-from _ Sound _ _ _ all-known fault counts.cause
 
-    pub not-filled : FillsRoom state known run copy table old before (failed fault) table D fD pending pending
+    pub not-filled : FillsRoom state known run copy (lent table old before pending) (failed fault) (lent table D fD pending)
     not-filled = record {
       leaked = leaked-by fault handed;
       leaks = record { none = leaked-none fault handed; pinned = λ sound loose. leaked-pinned Sound (IsLoose table old) _ _ fault handed sound loose why };
@@ -134,7 +135,7 @@ module _ {S : Type 0} (state : S → StorageState) (table : TableValue) (pending
 -- Nothing was done.
 pub not-begun : {S : Type 0} (state : S → StorageState) (known : Type 0) (table : TableValue) (pending : List FreeEntry) (run : Run) (copy : TableValue) (caches : MetadataCaches S) (file : ImageFile S) (fault : Fault)
     → WhyNotCounted (known × IsTrue (state file.image).shape.keeps × IsSound (metadata_of state file caches table pending)) (IsLoose table caches) (state file.image).faults (state file.image).faults fault
-    → FillsRoom state known run copy table caches file (failed fault) table caches file pending pending
+    → FillsRoom state known run copy (lent table caches file pending) (failed fault) (lent table caches file pending)
 not-begun state known table pending run copy caches file fault why = record {
   leaked = λ _. 0;
   leaks = record { none = λ not c. refl; pinned = λ sound loose c. refl };

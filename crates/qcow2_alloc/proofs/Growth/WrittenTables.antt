@@ -18,6 +18,7 @@ use Rattle.qcow2_alloc.specs.Freeing.{IsLoose, WhyNotCounted}
 use Rattle.qcow2_alloc.specs.Going.{WasNotCutOff}
 use Rattle.qcow2_alloc.specs.MovingTables.{clusters_of, IsPlan, IsTaken, TakesRoom}
 use Rattle.qcow2_alloc.specs.Quiet.{Metadata, IsSound}
+use Rattle.qcow2_alloc.specs.State.{lent}
 use Rattle.qcow2_alloc.proofs.Blocks.CountingClusters.{succeeded}
 use Rattle.qcow2_alloc.proofs.Flushing.Faultless.{put-faultless}
 use Rattle.qcow2_alloc.proofs.Growth.GrownTables.{covers-inside}
@@ -29,7 +30,7 @@ use Rattle.qcow2_alloc.proofs.Blocks.WritingNewBlocks.{put-counts}
 
 -- The table is written, where the room was taken.
 module _ {S : Type 0} (state : S → StorageState) (table : TableValue) (pending : List FreeEntry) (run : Run) (copy : TableValue) (old : MetadataCaches S) (before : ImageFile S)
-    (C : MetadataCaches S) (fC : ImageFile S) (takes : TakesRoom state table run old before succeeded C fC pending) (plan : IsPlan fC.header.fields table run copy)
+    (C : MetadataCaches S) (fC : ImageFile S) (takes : TakesRoom state run (lent table old before pending) succeeded (lent table C fC pending)) (plan : IsPlan fC.header.fields table run copy)
     (mid : S) (done : Result Unit Fault) (put : Put (state fC.image) (state mid) (table_place copy) (table_bytes copy.words) done) where
   abbrev between : ImageFile S
   between = record { image = mid; header = fC.header }
@@ -81,5 +82,5 @@ module _ {S : Type 0} (state : S → StorageState) (table : TableValue) (pending
   why-put (Ok v) same = same
   why-put (Err fault) cause = why-caused _ _ _ _ _ refl fault cause
 
-  pub table-written : CountsNamed state table run.first run.len old before done C between pending
+  pub table-written : CountsNamed state run.first run.len (lent table old before pending) done (lent table C between pending)
   table-written = counts-then state table pending run old before C fC takes.counts done C between table-next (why-put done (put-counts (state fC.image) (state mid) (table_place copy) (table_bytes copy.words) done put))

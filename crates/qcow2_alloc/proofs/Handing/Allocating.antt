@@ -14,6 +14,7 @@ use Rattle.qcow2_alloc.specs.Allocating.{Allocating, MakesBlock, MovedTable, Onl
 use Rattle.qcow2_alloc.specs.Allocators.{metadata_of}
 use Rattle.qcow2_alloc.specs.Going.{WasNotCutOff}
 use Rattle.qcow2_alloc.specs.Quiet.{Metadata, counted}
+use Rattle.qcow2_alloc.specs.State.{lent}
 use Rattle.qcow2_alloc.proofs.Flushing.Faultless.{faultless-then}
 use Rattle.qcow2_alloc.proofs.Quiet.QuietFlushes.{memory-quietly, quiet-none, quietly-weaker}
 use Rattle.qcow2_alloc.proofs.Quiet.QuietThen.{quietly-then, quietly-otherwise}
@@ -40,7 +41,7 @@ module _ {S : Type 0} (state : S → StorageState) where
   At table caches file pending = metadata_of state file caches table pending
 
   -- None,
-  pub allocating-none : (table : TableValue) (old : MetadataCaches S) (before : ImageFile S) (pending : List FreeEntry) → Allocating state ⊤ (λ _. 0) table old before pending table old before pending
+  pub allocating-none : (table : TableValue) (old : MetadataCaches S) (before : ImageFile S) (pending : List FreeEntry) → Allocating state ⊤ (λ _. 0) (lent table old before pending) (lent table old before pending)
   allocating-none table old before pending =
       let m = At table old before pending in
       record {
@@ -56,7 +57,7 @@ module _ {S : Type 0} (state : S → StorageState) where
 
   -- one behind another,
   pub allocating-then : (ok ok' : Type 0) (h h' : ℕ → ℕ) (tA : TableValue) (A : MetadataCaches S) (fA : ImageFile S) (pA : List FreeEntry) (tB : TableValue) (B : MetadataCaches S) (fB : ImageFile S) (pB : List FreeEntry) (tC : TableValue) (C : MetadataCaches S) (fC : ImageFile S) (pC : List FreeEntry)
-      → ok → Allocating state ok h tA A fA pA tB B fB pB → Allocating state ok' h' tB B fB pB tC C fC pC → Allocating state ok' (λ c. h c + h' c) tA A fA pA tC C fC pC
+      → ok → Allocating state ok h (lent tA A fA pA) (lent tB B fB pB) → Allocating state ok' h' (lent tB B fB pB) (lent tC C fC pC) → Allocating state ok' (λ c. h c + h' c) (lent tA A fA pA) (lent tC C fC pC)
   allocating-then ok ok' h h' tA A fA pA tB B fB pB tC C fC pC done one two =
       let le = one.longer in
       let le' = two.longer in
@@ -77,7 +78,7 @@ module _ {S : Type 0} (state : S → StorageState) where
 
   -- and said otherwise, of what is handed out and of what succeeded.
   pub allocating-as : (ok ok' : Type 0) (h h' : ℕ → ℕ) (tA : TableValue) (A : MetadataCaches S) (fA : ImageFile S) (pA : List FreeEntry) (tB : TableValue) (B : MetadataCaches S) (fB : ImageFile S) (pB : List FreeEntry)
-      → (ok' → ok) → ((c : ℕ) → h c ≡ h' c) → Allocating state ok h tA A fA pA tB B fB pB → Allocating state ok' h' tA A fA pA tB B fB pB
+      → (ok' → ok) → ((c : ℕ) → h c ≡ h' c) → Allocating state ok h (lent tA A fA pA) (lent tB B fB pB) → Allocating state ok' h' (lent tA A fA pA) (lent tB B fB pB)
   allocating-as ok ok' h h' tA A fA pA tB B fB pB from same one = record {
     faults = λ whole. one.faults (from whole);
     quiet = λ order. quietly-weaker ok ok' h' (λ _. 0) (state fA.image) (At tA A fA pA) (state fB.image) (At tB B fB pB) (λ sound. from)
@@ -92,7 +93,7 @@ module _ {S : Type 0} (state : S → StorageState) where
 
   -- A block is made so.
   pub block-allocates : (index : ℕ) (table : TableValue) (old : MetadataCaches S) (before : ImageFile S) (result : Result Unit Fault) (table' : TableValue) (new : MetadataCaches S) (after : ImageFile S) (pending : List FreeEntry)
-      → MakesBlock state index table old before result table' new after pending → Allocating state (WasNotCutOff result) (λ _. 0) table old before pending table' new after pending
+      → MakesBlock state index (lent table old before pending) result (lent table' new after pending) → Allocating state (WasNotCutOff result) (λ _. 0) (lent table old before pending) (lent table' new after pending)
   block-allocates index table old before result table' new after pending made =
       let long = made.long in
       record {

@@ -26,6 +26,7 @@ use Rattle.qcow2_alloc.specs.HandingOutOne.{AllocatesAt, CountsOne, counting_of}
 use Rattle.qcow2_alloc.specs.MakingRoom.{run_of}
 use Rattle.qcow2_alloc.specs.Quiet.{Metadata, IsSound, Quietly, counted, one_at}
 use Rattle.qcow2_alloc.specs.SearchingClusters.{LooksForFree}
+use Rattle.qcow2_alloc.specs.State.{lent}
 use Rattle.qcow2_alloc.proofs.Flushing.Faultless.{faultless-then}
 use Rattle.qcow2_alloc.proofs.Space.KeepingRoom.{covered-inside}
 use Rattle.qcow2_alloc.proofs.Handing.Allocating.{moved-none}
@@ -65,7 +66,7 @@ module _ {S : Type 0} (state : S → StorageState) (mark cluster : ℕ) (table :
   Looks result mid between = LooksForFree state table cluster ((cluster / k + 1) * k) old before result mid between
 
   -- The search was refused,
-  pub search-refused : (fault : Fault) (mid : MetadataCaches S) (between : ImageFile S) → Looks (Err fault) mid between → AllocatesAt state (λ _. ⊥) mark cluster table old before pending (not_handed fault) table mid between pending mark
+  pub search-refused : (fault : Fault) (mid : MetadataCaches S) (between : ImageFile S) → Looks (Err fault) mid between → AllocatesAt state (λ _. ⊥) mark cluster (lent table old before pending) (not_handed fault) (lent table mid between pending) mark
   search-refused fault mid between looks = record {
     did = record {
       leaked = λ _. 0;
@@ -93,7 +94,7 @@ module _ {S : Type 0} (state : S → StorageState) (mark cluster : ℕ) (table :
     counts-same keeps sound c = counts-looked state table pending old before (Option ℕ) (Ok found) mid between looks.looked keeps sound tt c
 
     -- or has found that the cluster is counted,
-    pub counted-already : found ≢ Some cluster → AllocatesAt state (λ _. ⊥) mark cluster table old before pending (handed_so None) table mid between pending mark
+    pub counted-already : found ≢ Some cluster → AllocatesAt state (λ _. ⊥) mark cluster (lent table old before pending) (handed_so None) (lent table mid between pending) mark
     counted-already other = record {
       did = record {
         leaked = λ _. 0;
@@ -113,7 +114,7 @@ module _ {S : Type 0} (state : S → StorageState) (mark cluster : ℕ) (table :
       marked = λ order keeps sound whole marked c below. let same = counts-same keeps sound c in let was = marked c below in omega (arith, same, was);
     }
 
-    module _ (is : found ≡ Some cluster) (reach : IsInReach before.header.fields.cluster_bits cluster) (result : Result (Option FreeEntry) Fault) (new : MetadataCaches S) (after : ImageFile S) (mark' : ℕ) (counted_one : CountsOne state cluster table mid between pending result new after)
+    module _ (is : found ≡ Some cluster) (reach : IsInReach before.header.fields.cluster_bits cluster) (result : Result (Option FreeEntry) Fault) (new : MetadataCaches S) (after : ImageFile S) (mark' : ℕ) (counted_one : CountsOne state cluster (lent table mid between pending) result (lent table new after pending))
         (further : IfOk result (λ o. mark' ≡ mark_past mark cluster o)) (stays : OnErr result (mark' ≡ mark)) where
       abbrev New : Metadata
       New = metadata_of state after new table pending
@@ -124,7 +125,7 @@ module _ {S : Type 0} (state : S → StorageState) (mark cluster : ℕ) (table :
       was-free : IsTrue (state before.image).shape.keeps → IsSound Old → counted Old cluster ≡ 0
       was-free keeps sound = let same = counts-same keeps sound cluster in let zero = free keeps sound in omega (arith, same, zero)
 
-      looked-step : Allocating state ⊤ (λ _. 0) table old before pending table mid between pending
+      looked-step : Allocating state ⊤ (λ _. 0) (lent table old before pending) (lent table mid between pending)
       looked-step = looked-allocates state table pending old before (Option ℕ) (Ok found) mid between looks.looked
 
       abbrev given : ℕ → ℕ
@@ -175,7 +176,7 @@ module _ {S : Type 0} (state : S → StorageState) (mark cluster : ℕ) (table :
                 ]
           ]
 
-      step : (handed : ℕ → ℕ) → ((c : ℕ) → given c ≡ handed c) → Allocating state (WasNotCutOff result) handed table old before pending table new after pending
+      step : (handed : ℕ → ℕ) → ((c : ℕ) → given c ≡ handed c) → Allocating state (WasNotCutOff result) handed (lent table old before pending) (lent table new after pending)
       step handed same = record {
         faults = λ whole. faultless-then (looked-step.faults tt) (counted_one.counts.faults (whole-as result whole));
         quiet = λ order. quietly-otherwise (WasNotCutOff result) given (λ _. 0) handed (λ _. 0) (state before.image) Old (state after.image) New (λ sound c. let is' = same c in omega (arith, is')) (λ sound c used none. none) (quietly order);
@@ -223,12 +224,12 @@ module _ {S : Type 0} (state : S → StorageState) (mark cluster : ℕ) (table :
           ]
 
       -- or counted none,
-      pub refused-one : (fault : Fault) → result ≡ Err fault → AllocatesAt state (λ _. ⊥) mark cluster table old before pending result table new after pending mark'
-      refused-one fault refused = subst (λ (r : Result (Option FreeEntry) Fault). AllocatesAt state (λ _. ⊥) mark cluster table old before pending r table new after pending mark') (sym refused) record {
+      pub refused-one : (fault : Fault) → result ≡ Err fault → AllocatesAt state (λ _. ⊥) mark cluster (lent table old before pending) result (lent table new after pending) mark'
+      refused-one fault refused = subst (λ (r : Result (Option FreeEntry) Fault). AllocatesAt state (λ _. ⊥) mark cluster (lent table old before pending) r (lent table new after pending) mark') (sym refused) record {
         did = record {
           leaked = λ _. 0;
           leaks = leaks-none _ _ (not_handed fault);
-          step = subst (λ (r : Result (Option FreeEntry) Fault). Allocating state (WasNotCutOff r) (λ _. 0) table old before pending table new after pending) refused (step (λ _. 0) (given-none none));
+          step = subst (λ (r : Result (Option FreeEntry) Fault). Allocating state (WasNotCutOff r) (λ _. 0) (lent table old before pending) (lent table new after pending)) refused (step (λ _. 0) (given-none none));
           list = inl refl;
           cause = counted-wider _ _ _ _ _ _ _ _ knows looked-step.loose looks.looked.cause fault
               (subst (λ (r : Result (Option FreeEntry) Fault). MatchResult (counting_of r) (λ _. (state after.image).faults ≡ (state between.image).faults)
@@ -255,12 +256,12 @@ module _ {S : Type 0} (state : S → StorageState) (mark cluster : ℕ) (table :
       itself = record { first = cluster; count = 1; metadata = false }
 
       -- or counted it, and hands it out.
-      pub handed-one : (entry : Option FreeEntry) → result ≡ Ok entry → AllocatesAt state (λ _. ⊥) mark cluster table old before pending result table new after pending mark'
-      handed-one entry ok = subst (λ (r : Result (Option FreeEntry) Fault). AllocatesAt state (λ _. ⊥) mark cluster table old before pending r table new after pending mark') (sym (ok ∙ ap (λ (o : Option FreeEntry). Ok o) entry-is)) record {
+      pub handed-one : (entry : Option FreeEntry) → result ≡ Ok entry → AllocatesAt state (λ _. ⊥) mark cluster (lent table old before pending) result (lent table new after pending) mark'
+      handed-one entry ok = subst (λ (r : Result (Option FreeEntry) Fault). AllocatesAt state (λ _. ⊥) mark cluster (lent table old before pending) r (lent table new after pending) mark') (sym (ok ∙ ap (λ (o : Option FreeEntry). Ok o) entry-is)) record {
         did = record {
           leaked = λ _. 0;
           leaks = leaks-none _ _ (handed_so (Some itself));
-          step = subst (λ (r : Result (Option FreeEntry) Fault). Allocating state (WasNotCutOff r) (one_at cluster) table old before pending table new after pending) ok (step (one_at cluster) (given-one one));
+          step = subst (λ (r : Result (Option FreeEntry) Fault). Allocating state (WasNotCutOff r) (one_at cluster) (lent table old before pending) (lent table new after pending)) ok (step (one_at cluster) (given-one one));
           list = inl refl;
           cause = faults ∙ looks.looked.cause;
         };
@@ -313,9 +314,9 @@ module _ {S : Type 0} (state : S → StorageState) (mark cluster : ℕ) (table :
             | inr apart ↦ inl (let is' : mark' ≡ mark = mark-is ∙ rw (ne_eqb cluster mark apart) refl in omega (arith, is'))
           ]
 
-      pub counted-or-not : AllocatesAt state (λ _. ⊥) mark cluster table old before pending result table new after pending mark'
+      pub counted-or-not : AllocatesAt state (λ _. ⊥) mark cluster (lent table old before pending) result (lent table new after pending) mark'
       counted-or-not = by-result result refl
         where
-          by-result : (r : Result (Option FreeEntry) Fault) → result ≡ r → AllocatesAt state (λ _. ⊥) mark cluster table old before pending result table new after pending mark'
+          by-result : (r : Result (Option FreeEntry) Fault) → result ≡ r → AllocatesAt state (λ _. ⊥) mark cluster (lent table old before pending) result (lent table new after pending) mark'
           by-result (Ok entry) ok = handed-one entry ok
           by-result (Err fault) refused = refused-one fault refused

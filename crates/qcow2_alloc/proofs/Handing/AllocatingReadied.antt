@@ -25,6 +25,7 @@ use Rattle.qcow2_alloc.specs.GrowingTables.{IsTakenFor}
 use Rattle.qcow2_alloc.specs.HandingOut.{handed_at, IsBarred, IsHandedAt, IsOneAt}
 use Rattle.qcow2_alloc.specs.HandingOutOne.{AllocatesAt, ReadiesCounter, leaked_by}
 use Rattle.qcow2_alloc.specs.Quiet.{Metadata, IsSound, counted}
+use Rattle.qcow2_alloc.specs.State.{lent}
 use Rattle.qcow2_alloc.proofs.Handing.Allocating.{counted-still, allocating-none, allocating-as, allocating-then}
 use Rattle.qcow2_alloc.proofs.Blocks.ReadyingBlocks.{leaks-none}
 use Rattle.qcow2_alloc.proofs.Handing.HandedOut.{stands-there}
@@ -47,7 +48,7 @@ module _ {S : Type 0} (state : S → StorageState) (mark cluster : ℕ) (table :
   Barred m = IsBarred m mark cluster
 
   -- A cluster that words can't name isn't handed out,
-  pub out-of-reach : (IsInReach before.header.fields.cluster_bits cluster → ⊥) → AllocatesAt state Barred mark cluster table old before pending (handed_so None) table old before pending mark
+  pub out-of-reach : (IsInReach before.header.fields.cluster_bits cluster → ⊥) → AllocatesAt state Barred mark cluster (lent table old before pending) (handed_so None) (lent table old before pending) mark
   out-of-reach far = record {
     did = record {
       leaked = λ _. 0;
@@ -69,7 +70,7 @@ module _ {S : Type 0} (state : S → StorageState) (mark cluster : ℕ) (table :
     Mid = metadata_of state between mid mid_table mid_pending
 
     -- nor one that there is no counter for,
-    pub uncounted-at : ReadiesCounter state mark cluster table old before pending (so false) mid_table mid between mid_pending → AllocatesAt state Barred mark cluster table old before pending (handed_so None) mid_table mid between mid_pending mark
+    pub uncounted-at : ReadiesCounter state mark cluster (lent table old before pending) (so false) (lent mid_table mid between mid_pending) → AllocatesAt state Barred mark cluster (lent table old before pending) (handed_so None) (lent mid_table mid between mid_pending) mark
     uncounted-at counter = record {
       did = record { leaked = λ _. 0; leaks = leaks-none _ _ (handed_so None); step = counter.did.step; list = counter.did.list; cause = counter.did.cause };
       one = tt;
@@ -81,7 +82,7 @@ module _ {S : Type 0} (state : S → StorageState) (mark cluster : ℕ) (table :
     }
 
     -- nor any where that is refused.
-    pub refused-at : (fault : Fault) → ReadiesCounter state mark cluster table old before pending (refused fault) mid_table mid between mid_pending → AllocatesAt state Barred mark cluster table old before pending (not_handed fault) mid_table mid between mid_pending mark
+    pub refused-at : (fault : Fault) → ReadiesCounter state mark cluster (lent table old before pending) (refused fault) (lent mid_table mid between mid_pending) → AllocatesAt state Barred mark cluster (lent table old before pending) (not_handed fault) (lent mid_table mid between mid_pending) mark
     refused-at fault counter = record {
       did = record {
         leaked = counter.did.leaked;
@@ -98,15 +99,15 @@ module _ {S : Type 0} (state : S → StorageState) (mark cluster : ℕ) (table :
       marked = λ order keeps sound whole marked. marked-raised Old Mid mark (counter.did.step.raised order keeps sound whole) marked;
     }
 
-    module _ (counter : ReadiesCounter state mark cluster table old before pending (so true) mid_table mid between mid_pending) (result : Result (Option FreeEntry) Fault) (new : MetadataCaches S) (after : ImageFile S) (mark' : ℕ)
-        (one : AllocatesAt state (λ _. ⊥) mark cluster mid_table mid between mid_pending result mid_table new after mid_pending mark') where
+    module _ (counter : ReadiesCounter state mark cluster (lent table old before pending) (so true) (lent mid_table mid between mid_pending)) (result : Result (Option FreeEntry) Fault) (new : MetadataCaches S) (after : ImageFile S) (mark' : ℕ)
+        (one : AllocatesAt state (λ _. ⊥) mark cluster (lent mid_table mid between mid_pending) result (lent mid_table new after mid_pending) mark') where
       abbrev New : Metadata
       New = metadata_of state after new mid_table mid_pending
 
       holds-still : IsTrue (state before.image).shape.keeps × (order_of old ≡ L2DependsOnRb) × IsSound Old → IsTrue (state between.image).shape.keeps × (order_of mid ≡ L2DependsOnRb) × IsSound Mid
       holds-still holds = let quiet = counter.did.step.quiet holds.1 in (keeps_on (state before.image) (state between.image) quiet.shape holds.0, counter.did.step.order ∙ holds.1, (quiet.holds holds.0 holds.2 tt).0)
 
-      both : Allocating state (WasNotCutOff result) (handed_at result one.did.leaked) table old before pending mid_table new after mid_pending
+      both : Allocating state (WasNotCutOff result) (handed_at result one.did.leaked) (lent table old before pending) (lent mid_table new after mid_pending)
       both = allocating-as state (WasNotCutOff result) (WasNotCutOff result) (λ c. leaked_by (so true) counter.did.leaked c + handed_at result one.did.leaked c) (handed_at result one.did.leaked) table old before pending mid_table new after mid_pending (λ w. w) (λ c. omega arith)
           (allocating-then state ⊤ (WasNotCutOff result) (leaked_by (so true) counter.did.leaked) (handed_at result one.did.leaked) table old before pending mid_table mid between mid_pending mid_table new after mid_pending tt counter.did.step one.did.step)
 
@@ -153,7 +154,7 @@ module _ {S : Type 0} (state : S → StorageState) (mark cluster : ℕ) (table :
               counter.there refl (ap block_offset (get_or_past mid_table.words (cluster / counters_of_block before.header.fields) 0 here))
 
       -- Else it is handed out where it is free.
-      pub readied-at : AllocatesAt state Barred mark cluster table old before pending result mid_table new after mid_pending mark'
+      pub readied-at : AllocatesAt state Barred mark cluster (lent table old before pending) result (lent mid_table new after mid_pending) mark'
       readied-at = record {
         did = record {
           leaked = one.did.leaked;

@@ -25,6 +25,7 @@ use Rattle.qcow2_alloc.specs.Going.{WasNotCutOff}
 use Rattle.qcow2_alloc.specs.MakingRoom.{run_of}
 use Rattle.qcow2_alloc.specs.Quiet.{Metadata, IsSound, counted}
 use Rattle.qcow2_alloc.specs.ReadyingRuns.{Allocates, IsRunCounted, ReadiesRun, handed_by, mark_behind}
+use Rattle.qcow2_alloc.specs.State.{lent}
 use Rattle.qcow2_alloc.proofs.Handing.Allocating.{allocating-none, allocating-as, raised-then}
 use Rattle.qcow2_alloc.proofs.Flushing.Faultless.{faultless-then}
 use Rattle.qcow2_alloc.proofs.Space.GaplessRuns.{gapless-same}
@@ -111,11 +112,11 @@ module _ {S : Type 0} (state : S → StorageState) (mark n : ℕ) (metadata : Bo
   Keeps = IsTrue (state before.image).shape.keeps
 
   abbrev Handing : Result FreeEntry Fault → TableValue → MetadataCaches S → ImageFile S → List FreeEntry → ℕ → Type 0
-  Handing result table' new after pending' mark' = Allocates state mark n metadata table old before pending result table' new after pending' mark'
+  Handing result table' new after pending' mark' = Allocates state mark n metadata (lent table old before pending) result (lent table' new after pending') mark'
 
   -- What can't come about hands out what you like.
   allocating-never : (ok : Type 0) (h h' : ℕ → ℕ) (table' : TableValue) (new : MetadataCaches S) (after : ImageFile S) (pending' : List FreeEntry) → (order_of old ≡ L2DependsOnRb → Keeps → IsSound mA → ok → ⊥)
-      → Allocating state ok h table old before pending table' new after pending' → Allocating state ok h' table old before pending table' new after pending'
+      → Allocating state ok h (lent table old before pending) (lent table' new after pending') → Allocating state ok h' (lent table old before pending) (lent table' new after pending')
   allocating-never ok h h' table' new after pending' never step = record {
     faults = step.faults;
     quiet = λ order. let quiet = step.quiet order in record { shape = quiet.shape; later = quiet.later; passes = quiet.passes; holds = λ keeps sound done. absurd (never order keeps sound done) };
@@ -154,7 +155,7 @@ module _ {S : Type 0} (state : S → StorageState) (mark n : ℕ) (metadata : Bo
     mB = metadata_of state fB B tB pB
 
     -- No run was made ready.
-    pub run-refused : (fault : Fault) → ReadiesRun state mark n table old before pending (Err fault) tB B fB pB → Handing (Err fault) tB B fB pB mark
+    pub run-refused : (fault : Fault) → ReadiesRun state mark n (lent table old before pending) (Err fault) (lent tB B fB pB) → Handing (Err fault) tB B fB pB mark
     run-refused fault ready = record {
       leaked = ready.leaked;
       leaks = leaks-on _ _ _ _ fault ready.leaked (λ holds. holds) (λ any loose. loose) ready.leaks;
@@ -170,9 +171,9 @@ module _ {S : Type 0} (state : S → StorageState) (mark n : ℕ) (metadata : Bo
       cause = ready.cause;
     }
 
-    module _ (first : ℕ) (ready : ReadiesRun state mark n table old before pending (Ok first) tB B fB pB) where
+    module _ (first : ℕ) (ready : ReadiesRun state mark n (lent table old before pending) (Ok first) (lent tB B fB pB)) where
       -- So far none was handed out.
-      begun : Allocating state ⊤ (λ _. 0) table old before pending tB B fB pB
+      begun : Allocating state ⊤ (λ _. 0) (lent table old before pending) (lent tB B fB pB)
       begun = allocating-as state ⊤ ⊤ ready.leaked (λ _. 0) table old before pending tB B fB pB (λ whole. whole) (leaks-ok _ _ first ready.leaked ready.leaks) ready.step
 
       free : order_of old ≡ L2DependsOnRb → Keeps → IsSound mA → (c : ℕ) → first ≤ c → c < first + n → counted mB c ≡ 0
@@ -203,12 +204,12 @@ module _ {S : Type 0} (state : S → StorageState) (mark n : ℕ) (metadata : Bo
         mC = metadata_of state fC C tB pB
 
         -- A part of the run is counted, each cluster of it once.
-        counted-more : (result : Result Unit Fault) (counts : CountsRun state tB first n B fB result C fC pB) → order_of old ≡ L2DependsOnRb → Keeps → IsSound mA → WasNotCutOff result → (c : ℕ) → counted mC c ≡ counted mB c + covers c (run_of first counts.part)
+        counted-more : (result : Result Unit Fault) (counts : CountsRun state first n (lent tB B fB pB) result (lent tB C fC pB)) → order_of old ≡ L2DependsOnRb → Keeps → IsSound mA → WasNotCutOff result → (c : ℕ) → counted mC c ≡ counted mB c + covers c (run_of first counts.part)
         counted-more result counts order keeps sound whole =
             let there = holds-on (keeps, order, sound) in
             counts.raised there.1 there.0 there.2 (free order keeps sound) whole
 
-        part-raised : (result : Result Unit Fault) → CountsRun state tB first n B fB result C fC pB → order_of old ≡ L2DependsOnRb → Keeps → IsSound mA → WasNotCutOff result → OnlyRaised mB mC
+        part-raised : (result : Result Unit Fault) → CountsRun state first n (lent tB B fB pB) result (lent tB C fC pB) → order_of old ≡ L2DependsOnRb → Keeps → IsSound mA → WasNotCutOff result → OnlyRaised mB mC
         part-raised result counts order keeps sound whole c =
             let more = counted-more result counts order keeps sound whole c in
             let le = counts.inside in
@@ -220,7 +221,7 @@ module _ {S : Type 0} (state : S → StorageState) (mark n : ℕ) (metadata : Bo
               ]
             ]
 
-        part-allocates : (result : Result Unit Fault) (counts : CountsRun state tB first n B fB result C fC pB) → Allocating state (WasNotCutOff result) (λ c. covers c (run_of first counts.part)) table old before pending tB C fC pB
+        part-allocates : (result : Result Unit Fault) (counts : CountsRun state first n (lent tB B fB pB) result (lent tB C fC pB)) → Allocating state (WasNotCutOff result) (λ c. covers c (run_of first counts.part)) (lent table old before pending) (lent tB C fC pB)
         part-allocates result counts =
             let part : ℕ → ℕ = λ c. covers c (run_of first counts.part) in record {
               faults = λ whole. faultless-then (begun.faults tt) (counts.faults whole);
@@ -236,10 +237,10 @@ module _ {S : Type 0} (state : S → StorageState) (mark n : ℕ) (metadata : Bo
             }
 
         abbrev Stopped : Fault → (ℕ → ℕ) → Type 0
-        Stopped f h = Allocating state (WasNotCutOff {T = FreeEntry} (Err f)) h table old before pending tB C fC pB
+        Stopped f h = Allocating state (WasNotCutOff {T = FreeEntry} (Err f)) h (lent table old before pending) (lent tB C fC pB)
 
         -- Counting is refused.
-        pub count-refused : (fault : Fault) → CountsRun state tB first n B fB (Err fault) C fC pB → Handing (Err fault) tB C fC pB mark
+        pub count-refused : (fault : Fault) → CountsRun state first n (lent tB B fB pB) (Err fault) (lent tB C fC pB) → Handing (Err fault) tB C fC pB mark
         count-refused fault counts = record {
           leaked = lost fault first counts.part;
           leaks = record { none = lost-none fault first counts.part; pinned = λ holds all. lost-pinned CanCount (IsLoose tB B) _ _ fault first counts.part counts.cause (holds-on holds) (begun.loose true all) };
@@ -264,7 +265,7 @@ module _ {S : Type 0} (state : S → StorageState) (mark n : ℕ) (metadata : Bo
             stopped other why step = absurd why
 
         -- All are counted.
-        module _ (counts : CountsRun state tB first n B fB (Ok tt) C fC pB) where
+        module _ (counts : CountsRun state first n (lent tB B fB pB) (Ok tt) (lent tB C fC pB)) where
           abbrev entry : FreeEntry
           entry = record { first = first; count = n; metadata = metadata }
 

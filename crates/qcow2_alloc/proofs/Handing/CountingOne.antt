@@ -15,6 +15,7 @@ use Rattle.qcow2_alloc.specs.FreeList.{covers}
 use Rattle.qcow2_alloc.specs.HandingOutOne.{CountsOne}
 use Rattle.qcow2_alloc.specs.MakingRoom.{run_of}
 use Rattle.qcow2_alloc.specs.Quiet.{Metadata, IsSound, counted}
+use Rattle.qcow2_alloc.specs.State.{lent}
 use Rattle.qcow2_alloc.proofs.Blocks.CountingClusters.{one-counted}
 use Rattle.qcow2_alloc.proofs.Freeing.Listed.{covers-none}
 use Rattle.qcow2_alloc.proofs.Blocks.MadeBlocks.{first-counted}
@@ -34,7 +35,7 @@ module _ {S : Type 0} (state : S → StorageState) (table : TableValue) (pending
 
   -- Nothing was counted, for a reason that a sound image doesn't give where the cluster isn't counted.
   uncounted : (fault : Fault) → ((sound : Type 0) → (sound → IsSound Old × (counted Old c ≡ 0)) → WhyNotCounted sound (IsLoose table old) (state before.image).faults (state before.image).faults fault)
-      → CountsOne state c table old before pending (not_handed fault) old before
+      → CountsOne state c (lent table old before pending) (not_handed fault) (lent table old before pending)
   uncounted fault why = record {
     counts = record {
       part = 0;
@@ -58,16 +59,16 @@ module _ {S : Type 0} (state : S → StorageState) (table : TableValue) (pending
   }
 
   -- The first cluster is counted for the header.
-  pub first-uncounted : c ≡ 0 → CountsOne state c table old before pending (not_handed DamagedTable) old before
+  pub first-uncounted : c ≡ 0 → CountsOne state c (lent table old before pending) (not_handed DamagedTable) (lent table old before pending)
   first-uncounted first = uncounted DamagedTable (λ sound from holds. let both = from holds in let some = first-counted Old both.0 in let zero = subst (λ n. counted Old n ≡ 0) first both.1 in omega (arith, some, zero))
 
   pub raised-one : (new : MetadataCaches S) (after : ImageFile S) → c ≢ 0 → (found : Option FreeEntry) → found ≡ Some (record { first = c; count = 1; metadata = false }) → RaisesCluster state table c old before (Ok tt) new after
-      → CountsOne state c table old before pending (handed_so found) new after
+      → CountsOne state c (lent table old before pending) (handed_so found) (lent table new after pending)
   raised-one new after some found is raises =
       let one = one-counted state table pending c old before (Ok tt) new after raises in
       record { counts = one.0; exact = tt; entry = is; some = some }
 
-  pub unraised-one : (new : MetadataCaches S) (after : ImageFile S) (fault : Fault) → RaisesCluster state table c old before (Err fault) new after → CountsOne state c table old before pending (not_handed fault) new after
+  pub unraised-one : (new : MetadataCaches S) (after : ImageFile S) (fault : Fault) → RaisesCluster state table c old before (Err fault) new after → CountsOne state c (lent table old before pending) (not_handed fault) (lent table new after pending)
   unraised-one new after fault raises =
       let one = one-counted state table pending c old before (Err fault) new after raises in
       record { counts = one.0; exact = one.1; entry = tt; some = tt }

@@ -26,6 +26,7 @@ use Rattle.qcow2_alloc.specs.HandingOut.{AllocatesClusterAt, AllocatesClusters, 
 use Rattle.qcow2_alloc.specs.HandingOutOne.{AllocatesAt}
 use Rattle.qcow2_alloc.specs.Quiet.{Metadata, IsSound, Quietly, counted}
 use Rattle.qcow2_alloc.specs.ReadyingRuns.{Allocates, IsRunCounted, IsRunTold, handed_by}
+use Rattle.qcow2_alloc.specs.State.{lent}
 use Rattle.qcow2_alloc.proofs.Handing.Allocating.{moved-none}
 use Rattle.qcow2_alloc.proofs.Handing.AnnouncedOrders.{Announced, no-place-as, room-as, quiet-behind, sound-behind, raised-behind, marked-behind, caused-behind}
 use Rattle.qcow2_alloc.proofs.Handing.CountingOne.{not_handed}
@@ -49,7 +50,7 @@ module _ {S : Type 0} (state : S → StorageState) (mark cluster : ℕ) (table :
   Mid = metadata_of state between mid table pending
 
   -- One cluster isn't where that was refused,
-  pub at-not-announced : (fault : Fault) → Announced state table pending old before (failed fault) mid between → AllocatesClusterAt state mark cluster table old before pending (not_handed fault) table mid between pending mark
+  pub at-not-announced : (fault : Fault) → Announced state table pending old before (failed fault) mid between → AllocatesClusterAt state mark cluster (lent table old before pending) (not_handed fault) (lent table mid between pending) mark
   at-not-announced fault first = record {
     leaked = λ _. 0;
     leaks = leaks-none _ _ (not_handed fault);
@@ -70,7 +71,7 @@ module _ {S : Type 0} (state : S → StorageState) (mark cluster : ℕ) (table :
 
   -- and else as it is under that order.
   module _ (first : Announced state table pending old before (Ok tt) mid between) (result : Result (Option FreeEntry) Fault) (table' : TableValue) (new : MetadataCaches S) (after : ImageFile S) (pending' : List FreeEntry) (mark' : ℕ)
-      (at : AllocatesAt state (λ m. IsBarred m mark cluster) mark cluster table mid between pending result table' new after pending' mark') where
+      (at : AllocatesAt state (λ m. IsBarred m mark cluster) mark cluster (lent table mid between pending) result (lent table' new after pending') mark') where
     abbrev End : Metadata
     End = metadata_of state after new table' pending'
 
@@ -113,7 +114,7 @@ module _ {S : Type 0} (state : S → StorageState) (mark cluster : ℕ) (table :
     caused (Ok found) same = same ∙ first.cause
     caused (Err fault) why = caused-behind state table pending old before mid between first _ _ (state after.image).faults (λ n full. full) fault why
 
-    pub at-announced : AllocatesClusterAt state mark cluster table old before pending result table' new after pending' mark'
+    pub at-announced : AllocatesClusterAt state mark cluster (lent table old before pending) result (lent table' new after pending') mark'
     at-announced = record {
       leaked = at.did.leaked;
       leaks = record { none = at.did.leaks.none; pinned = λ holds loose. let still = sound-behind state table pending old before mid between first holds.0 holds.1 in at.did.leaks.pinned (still.0, first.order, still.1) (first.loose true loose) };
@@ -135,7 +136,7 @@ module _ {S : Type 0} (state : S → StorageState) (mark cluster : ℕ) (table :
     }
 
 -- Nothing was freed, and nothing has changed, for want of memory.
-memory-unfreed : {S : Type 0} (state : S → StorageState) (table : TableValue) (old : MetadataCaches S) (before : ImageFile S) (mark : ℕ) (pending : List FreeEntry) → Frees state table old before mark pending (failed Memory) old before mark pending
+memory-unfreed : {S : Type 0} (state : S → StorageState) (table : TableValue) (old : MetadataCaches S) (before : ImageFile S) (mark : ℕ) (pending : List FreeEntry) → Frees state mark (lent table old before pending) (failed Memory) (lent table old before pending) mark
 memory-unfreed state table old before mark pending =
     let m = metadata_of state before old table pending in
     record {
@@ -169,7 +170,7 @@ module _ {S : Type 0} (state : S → StorageState) (mark n : ℕ) (metadata : Bo
   First = metadata_of state before old table pending
 
   -- That was refused,
-  module _ (fault : Fault) (mark1 : ℕ) (A : MetadataCaches S) (fA : ImageFile S) (pA : List FreeEntry) (frees : Frees state table old before mark pending (failed fault) A fA mark1 pA) (rest : IsRestInTurn pending pA) where
+  module _ (fault : Fault) (mark1 : ℕ) (A : MetadataCaches S) (fA : ImageFile S) (pA : List FreeEntry) (frees : Frees state mark (lent table old before pending) (failed fault) (lent table A fA pA) mark1) (rest : IsRestInTurn pending pA) where
     abbrev Rest : Metadata
     Rest = metadata_of state fA A table pA
 
@@ -180,7 +181,7 @@ module _ {S : Type 0} (state : S → StorageState) (mark n : ℕ) (metadata : Bo
         by-fault (Limit number) searched why = why
         by-fault f searched why = searched
 
-    pub run-not-freed : AllocatesClusters state mark n metadata table old before pending (refused_run fault) table A fA pA mark1
+    pub run-not-freed : AllocatesClusters state mark n metadata (lent table old before pending) (refused_run fault) (lent table A fA pA) mark1
     run-not-freed = record {
       leaked = λ _. 0;
       leaks = leaks-none _ _ (refused_run fault);
@@ -223,11 +224,11 @@ module _ {S : Type 0} (state : S → StorageState) (mark n : ℕ) (metadata : Bo
     }
 
   -- or not begun, for want of memory,
-  pub run-not-held : AllocatesClusters state mark n metadata table old before pending (refused_run Memory) table old before pending mark
+  pub run-not-held : AllocatesClusters state mark n metadata (lent table old before pending) (refused_run Memory) (lent table old before pending) mark
   run-not-held = run-not-freed Memory mark old before pending (memory-unfreed state table old before mark pending) (rest-all pending)
 
   -- or there was nothing left.
-  module _ (mark1 : ℕ) (A : MetadataCaches S) (fA : ImageFile S) (frees : Frees state table old before mark pending (Ok tt) A fA mark1 []) (B : MetadataCaches S) (fB : ImageFile S) where
+  module _ (mark1 : ℕ) (A : MetadataCaches S) (fA : ImageFile S) (frees : Frees state mark (lent table old before pending) (Ok tt) (lent table A fA []) mark1) (B : MetadataCaches S) (fB : ImageFile S) where
     abbrev Freed : Metadata
     Freed = metadata_of state fA A table []
 
@@ -246,7 +247,7 @@ module _ {S : Type 0} (state : S → StorageState) (mark n : ℕ) (metadata : Bo
         (quietly-then _ ok (λ _. 0) (λ _. 0) handed (λ _. 0) (state before.image) First (state fA.image) Freed s m (inl tt) (λ sound c some. refl) frees.quiet second)
 
     -- The announcement was refused,
-    pub run-not-announced : (fault : Fault) → Announced state table [] A fA (failed fault) B fB → AllocatesClusters state mark n metadata table old before pending (refused_run fault) table B fB [] mark1
+    pub run-not-announced : (fault : Fault) → Announced state table [] A fA (failed fault) B fB → AllocatesClusters state mark n metadata (lent table old before pending) (refused_run fault) (lent table B fB []) mark1
     run-not-announced fault second = record {
       leaked = λ _. 0;
       leaks = leaks-none _ _ (refused_run fault);
@@ -308,7 +309,7 @@ module _ {S : Type 0} (state : S → StorageState) (mark n : ℕ) (metadata : Bo
 
     -- or a run was searched for.
     module _ (second : Announced state table [] A fA (Ok tt) B fB) (result : Result FreeEntry Fault) (table' : TableValue) (new : MetadataCaches S) (after : ImageFile S) (pending' : List FreeEntry) (mark' : ℕ)
-        (third : Allocates state mark1 n metadata table B fB [] result table' new after pending' mark') where
+        (third : Allocates state mark1 n metadata (lent table B fB []) result (lent table' new after pending') mark') where
       abbrev Last : Metadata
       Last = metadata_of state after new table' pending'
 
@@ -371,7 +372,7 @@ module _ {S : Type 0} (state : S → StorageState) (mark n : ℕ) (metadata : Bo
           (caused-behind state table [] A fA B fB second _ (λ number. IsTrue (state fA.image).shape.keeps → IsSound Freed → IsCrowded Ready mark1 n × IsRunTold Last mark1 n number) (state after.image).faults
           (λ n full keeps sound. let still = sound-behind state table [] A fA B fB second keeps sound in full second.order still.0 still.1) fault why)
 
-      pub run-announced : AllocatesClusters state mark n metadata table old before pending result table' new after pending' mark'
+      pub run-announced : AllocatesClusters state mark n metadata (lent table old before pending) result (lent table' new after pending') mark'
       run-announced = record {
         leaked = third.leaked;
         leaks = record { none = third.leaks.none; pinned = λ holds loose. let still = ready-sound holds.0 holds.1 in third.leaks.pinned (still.0, second.order, still.1) (second.loose true (freed-loose true loose)) };

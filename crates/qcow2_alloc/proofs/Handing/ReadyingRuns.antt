@@ -36,6 +36,7 @@ use Rattle.qcow2_alloc.proofs.Growth.GrowingRooms.{first-run-same}
 use Rattle.qcow2_alloc.proofs.Searching.Looking.{counts-still}
 use Rattle.qcow2_alloc.proofs.Searching.LookingAt.{looked-allocates, counts-looked}
 use Rattle.qcow2_alloc.specs.Crowding.{IsCrowded, IsGapless, IsRoomy, TakesLittle, room_for}
+use Rattle.qcow2_alloc.specs.State.{lent}
 use Rattle.qcow2_alloc.proofs.Space.GaplessRuns.{gapless-same, gapless-then, made-gapless}
 use Rattle.qcow2_alloc.proofs.Caching.Loose.{loose-all}
 use Rattle.qcow2_alloc.proofs.Space.RoomyRuns.{RoomStays, stays-start, stays-searched, room-left, run-counted, run-early, run-fits, can-make, stays-made}
@@ -52,7 +53,7 @@ by-table H H' table table' old new (inr longer) = inr longer
 
 -- What a call came to that has counted clusters, of which it handed out none, and wasn't refused yet.
 pub record Readying {S : Type 0} (state : S → StorageState) (table : TableValue) (old : MetadataCaches S) (before : ImageFile S) (pending : List FreeEntry) (table' : TableValue) (new : MetadataCaches S) (after : ImageFile S) (pending' : List FreeEntry) : Type 0 where
-  pub step : Allocating state ⊤ (λ _. 0) table old before pending table' new after pending'
+  pub step : Allocating state ⊤ (λ _. 0) (lent table old before pending) (lent table' new after pending')
   pub list : IsLengthenedOnce before.header after.header table table' pending pending'
   pub faults : (state after.image).faults ≡ (state before.image).faults
 
@@ -114,7 +115,7 @@ module _ {S : Type 0} (state : S → StorageState) (table : TableValue) (old : M
     safe-with : Holds table old before pending → IsSafeWith state tA A fA
     safe-with holds = let there = holds-on holds in record { keeps = there.0; safe = there.2.safe; table_of_file = there.2.table }
 
-    step-on : {T : Type 0} (result : Result T Fault) (leaked : ℕ → ℕ) (tB : TableValue) (B : MetadataCaches S) (fB : ImageFile S) (pB : List FreeEntry) → Allocating state (WasNotCutOff result) leaked tA A fA pA tB B fB pB → Allocating state (WasNotCutOff result) leaked table old before pending tB B fB pB
+    step-on : {T : Type 0} (result : Result T Fault) (leaked : ℕ → ℕ) (tB : TableValue) (B : MetadataCaches S) (fB : ImageFile S) (pB : List FreeEntry) → Allocating state (WasNotCutOff result) leaked (lent tA A fA pA) (lent tB B fB pB) → Allocating state (WasNotCutOff result) leaked (lent table old before pending) (lent tB B fB pB)
     step-on result leaked tB B fB pB step =
         allocating-as state (WasNotCutOff result) (WasNotCutOff result) (λ c. 0 + leaked c) leaked table old before pending tB B fB pB (λ whole. whole) (λ c. omega arith)
         (allocating-then state ⊤ (WasNotCutOff result) (λ _. 0) leaked table old before pending tA A fA pA tB B fB pB tt so_far.step step)
@@ -128,7 +129,7 @@ module _ {S : Type 0} (state : S → StorageState) (table : TableValue) (old : M
     }
 
     -- or with what is made,
-    pub readying-made : (mark at first last : ℕ) (made : Bool) (tB : TableValue) (B : MetadataCaches S) (fB : ImageFile S) (pB : List FreeEntry) → ReadiesBlocks state mark at first last tA A fA pA (Ok made) tB B fB pB → (length table.words < length tA.words → last < length tA.words) → Readying state table old before pending tB B fB pB
+    pub readying-made : (mark at first last : ℕ) (made : Bool) (tB : TableValue) (B : MetadataCaches S) (fB : ImageFile S) (pB : List FreeEntry) → ReadiesBlocks state mark at first last (lent tA A fA pA) (Ok made) (lent tB B fB pB) → (length table.words < length tA.words → last < length tA.words) → Readying state table old before pending tB B fB pB
     readying-made mark at first last made tB B fB pB makes covers = record {
       step = step-on {T = Bool} (Ok made) (λ _. 0) tB B fB pB
           (allocating-as state ⊤ ⊤ makes.leaked (λ _. 0) tA A fA pA tB B fB pB (λ whole. whole) (leaks-ok _ _ made makes.leaked makes.leaks) makes.step);
@@ -157,7 +158,7 @@ module _ {S : Type 0} (state : S → StorageState) (table : TableValue) (old : M
         }
 
     pub stays-on : (mark n z first last : ℕ) → 1 ≤ n → (Holds table old before pending → IsFirstRun (counted (metadata_of state fA A tA pA)) mark n z) → first ≡ z / counters_of_block fA.header.fields → last ≡ (z + (n - 1)) / counters_of_block fA.header.fields
-        → Stays mark n tA A fA pA → (tB : TableValue) (B : MetadataCaches S) (fB : ImageFile S) (pB : List FreeEntry) → ReadiesBlocks state mark (last + (n / counters_of_block fA.header.fields + 2)) first last tA A fA pA (Ok true) tB B fB pB → Stays mark n tB B fB pB
+        → Stays mark n tA A fA pA → (tB : TableValue) (B : MetadataCaches S) (fB : ImageFile S) (pB : List FreeEntry) → ReadiesBlocks state mark (last + (n / counters_of_block fA.header.fields + 2)) first last (lent tA A fA pA) (Ok true) (lent tB B fB pB) → Stays mark n tB B fB pB
     stays-on mark n z first last some run first-is last-is stays tB B fB pB makes holds =
         let there = holds-on holds in
         let m0 = metadata_of state before old table pending in
@@ -173,7 +174,7 @@ module _ {S : Type 0} (state : S → StorageState) (table : TableValue) (old : M
         }
 
     -- or is refused as it searches,
-    pub search-refused : (mark n : ℕ) (fault : Fault) (B : MetadataCaches S) (fB : ImageFile S) → LooksForRun state tA mark n A fA (Err fault) B fB → ReadiesRun state mark n table old before pending (Err fault) tA B fB pA
+    pub search-refused : (mark n : ℕ) (fault : Fault) (B : MetadataCaches S) (fB : ImageFile S) → LooksForRun state tA mark n A fA (Err fault) B fB → ReadiesRun state mark n (lent table old before pending) (Err fault) (lent tA B fB pA)
     search-refused mark n fault B fB looks = record {
       leaked = λ _. 0;
       leaks = leaks-none _ _ (Err fault);
@@ -189,7 +190,7 @@ module _ {S : Type 0} (state : S → StorageState) (table : TableValue) (old : M
 
     -- or as it makes something,
     pub making-refused : (mark n z first last : ℕ) → 1 ≤ n → (Holds table old before pending → IsFirstRun (counted (metadata_of state fA A tA pA)) mark n z) → first ≡ z / counters_of_block fA.header.fields → last ≡ (z + (n - 1)) / counters_of_block fA.header.fields
-        → IsInReach fA.header.fields.cluster_bits (z + (n - 1)) → Stays mark n tA A fA pA → (fault : Fault) (tB : TableValue) (B : MetadataCaches S) (fB : ImageFile S) (pB : List FreeEntry) → ReadiesBlocks state mark (last + (n / counters_of_block fA.header.fields + 2)) first last tA A fA pA (Err fault) tB B fB pB → (length table.words < length tA.words → last < length tA.words) → ReadiesRun state mark n table old before pending (Err fault) tB B fB pB
+        → IsInReach fA.header.fields.cluster_bits (z + (n - 1)) → Stays mark n tA A fA pA → (fault : Fault) (tB : TableValue) (B : MetadataCaches S) (fB : ImageFile S) (pB : List FreeEntry) → ReadiesBlocks state mark (last + (n / counters_of_block fA.header.fields + 2)) first last (lent tA A fA pA) (Err fault) (lent tB B fB pB) → (length table.words < length tA.words → last < length tA.words) → ReadiesRun state mark n (lent table old before pending) (Err fault) (lent tB B fB pB)
     making-refused mark n z first last positive run first-is last-is near stays fault tB B fB pB makes covers = record {
       leaked = makes.leaked;
       leaks = leaks-on _ _ _ _ fault makes.leaked holds-on so_far.step.loose makes.leaks;
@@ -243,7 +244,7 @@ module _ {S : Type 0} (state : S → StorageState) (table : TableValue) (old : M
           first-run-same (counts_in state A fA) (counts_in state B fB) mark n z (counts-still state tA A fA z B fB looks.looked safe) (looks.found safe)
 
       -- It is refused as no run begins there that can be counted,
-      pub unfit-refused : (fault : Fault) → WhyNotFit fB.header.fields n z fault → Stays mark n tA A fA pA → ReadiesRun state mark n table old before pending (Err fault) tA B fB pA
+      pub unfit-refused : (fault : Fault) → WhyNotFit fB.header.fields n z fault → Stays mark n tA A fA pA → ReadiesRun state mark n (lent table old before pending) (Err fault) (lent tA B fB pA)
       unfit-refused fault why stays =
           let searched = readying-searched mark n z B fB looks in record {
             leaked = λ _. 0;
@@ -297,7 +298,7 @@ module _ {S : Type 0} (state : S → StorageState) (table : TableValue) (old : M
           )
 
       -- It is refused as the table has grown and doesn't count the run,
-      pub grown-refused : (number : ℕ) → number ≡ last_number z n → length table.words < length tA.words → length tA.words ≤ (z + (n - 1)) / counters_of_block fB.header.fields → Stays mark n tA A fA pA → ReadiesRun state mark n table old before pending (Err (Limit number)) tA B fB pA
+      pub grown-refused : (number : ℕ) → number ≡ last_number z n → length table.words < length tA.words → length tA.words ≤ (z + (n - 1)) / counters_of_block fB.header.fields → Stays mark n tA A fA pA → ReadiesRun state mark n (lent table old before pending) (Err (Limit number)) (lent tA B fB pA)
       grown-refused number is longer past stays =
           let searched = readying-searched mark n z B fB looks in record {
             leaked = λ _. 0;
@@ -321,9 +322,9 @@ module _ {S : Type 0} (state : S → StorageState) (table : TableValue) (old : M
               omega (arith, inside, past')
 
       -- and ends where each cluster of the run has a block.
-      module _ (tC : TableValue) (C : MetadataCaches S) (fC : ImageFile S) (pC : List FreeEntry) (k last : ℕ) (size : counters_of_block fB.header.fields ≡ k) (at : ℕ) (made : ReadiesBlocks state mark at (z / k) last tA B fB pA (Ok false) tC C fC pC)
+      module _ (tC : TableValue) (C : MetadataCaches S) (fC : ImageFile S) (pC : List FreeEntry) (k last : ℕ) (size : counters_of_block fB.header.fields ≡ k) (at : ℕ) (made : ReadiesBlocks state mark at (z / k) last (lent tA B fB pA) (Ok false) (lent tC C fC pC))
           (done : Readying state table old before pending tC C fC pC) where
-        pub run-ready : Stays mark n tA A fA pA → 0 < k → z ≢ 0 → IsInReach fB.header.fields.cluster_bits (z + (n - 1)) → last ≡ (z + (n - 1)) / k → ReadiesRun state mark n table old before pending (Ok z) tC C fC pC
+        pub run-ready : Stays mark n tA A fA pA → 0 < k → z ≢ 0 → IsInReach fB.header.fields.cluster_bits (z + (n - 1)) → last ≡ (z + (n - 1)) / k → ReadiesRun state mark n (lent table old before pending) (Ok z) (lent tC C fC pC)
         run-ready stays wide apart reach at = record {
           leaked = λ _. 0;
           leaks = leaks-none _ _ (Ok z);

@@ -22,6 +22,7 @@ use Rattle.qcow2_alloc.specs.Caches.{cached_in, order_of}
 use Rattle.qcow2_alloc.specs.Going.{WasNotCutOff}
 use Rattle.qcow2_alloc.specs.Quiet.{Metadata, counted, IsSound, Quietly}
 use Rattle.qcow2_alloc.specs.SearchingClusters.{FindsFree, HasCounter, IsSafeWith, Looked, LooksForFree, counts_in}
+use Rattle.qcow2_alloc.specs.State.{lent}
 use Rattle.qcow2_alloc.proofs.Handing.Allocating.{moved-none}
 use Rattle.qcow2_alloc.proofs.Searching.FreeClusters.{flushes-count}
 use Rattle.qcow2_alloc.proofs.Memory.Patches.{shaped-in}
@@ -48,7 +49,7 @@ module _ {S : Type 0} (state : S → StorageState) (table : TableValue) (pending
     counts-looked keeps sound whole c =
         moved (λ m. counted m c ≡ counted Old c) (flushes-count Old (state before.image).bytes (state after.image).bytes (cached_in new) refl (looked.going.holds keeps sound.safe tt (inl whole)) c).0
 
-    pub looked-allocates : Allocating state (WasNotCutOff result) (λ _. 0) table old before pending table new after pending
+    pub looked-allocates : Allocating state (WasNotCutOff result) (λ _. 0) (lent table old before pending) (lent table new after pending)
     looked-allocates = record {
       faults = looked.going.faults;
       quiet = λ order. moved (λ m. Quietly (WasNotCutOff result) (λ _. 0) (λ _. 0) (state before.image) Old (state after.image) m) (going-quietly Old (WasNotCutOff result) (state before.image) (state after.image) (cached_in new) refl looked.going);

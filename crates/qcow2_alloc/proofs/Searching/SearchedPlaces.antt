@@ -21,6 +21,7 @@ use Rattle.qcow2_alloc.specs.Going.{WasNotCutOff}
 use Rattle.qcow2_alloc.specs.MakingBlocks.{Begins, IsFreePlace}
 use Rattle.qcow2_alloc.specs.Quiet.{Metadata, counted, IsSound, Quietly}
 use Rattle.qcow2_alloc.specs.SearchingClusters.{IsSafeWith, Looked, LooksForFree}
+use Rattle.qcow2_alloc.specs.State.{lent}
 use Rattle.qcow2_alloc.proofs.Searching.FreeClusters.{flushes-count}
 use Rattle.qcow2_alloc.proofs.Caching.Loose.{loose-all}
 use Rattle.qcow2_alloc.proofs.Blocks.MadeBlocks.{Follows, allocated-wider, begins-none, begins-then, begins-refused}
@@ -71,12 +72,12 @@ module _ {S : Type 0} (state : S → StorageState) (table : TableValue) (pending
       stays = record { header = looked.header; order = looked.order; loose = looked.loose; room = looked.room };
     }
 
-  pub looked-refused : (fault : Fault) → Looked state table old before (refused_so fault) C fC → MakesBlock state i table old before (Err fault) table C fC pending
+  pub looked-refused : (fault : Fault) → Looked state table old before (refused_so fault) C fC → MakesBlock state i (lent table old before pending) (Err fault) (lent table C fC pending)
   looked-refused fault looked =
       begins-refused state i table pending old before (λ _. 0) (λ _. 0) old before C fC (begins-none state i table pending old before) fault (looking (refused_so fault) looked) (λ order keeps sound whole c. omega arith)
       (allocated-wider _ _ _ _ _ _ _ _ (λ holds. safe-with holds.0 holds.2) (loose-all table old) refl fault looked.cause)
 
-  pub looked-begins : (found : Option ℕ) → Looked state table old before (found_so found) C fC → Begins state table pending old before (λ _. 0) C fC
+  pub looked-begins : (found : Option ℕ) → Looked state table old before (found_so found) C fC → Begins state (lent table old before pending) (λ _. 0) (lent table C fC pending)
   looked-begins found looked =
       begins-then state i table pending old before (λ _. 0) (λ _. 0) old before C fC (begins-none state i table pending old before) (λ _. 0) (λ c. omega arith) (looking (found_so found) looked)
 

@@ -1,7 +1,8 @@
 //! Free clusters are taken.
 ghost use Rattle.std.specs.Prelude.{◌≡◌, ◌<◌, ◌+◌, ◌^◌};
-ghost use Rattle.qcow2_alloc.specs.Allocators.{table_of, mark_of};
+ghost use Rattle.qcow2_alloc.specs.Allocators.{mark_of};
 ghost use Rattle.qcow2_alloc.specs.ReadyingRuns.{Allocates, mark_behind};
+ghost use Rattle.qcow2_alloc.specs.State.{seen};
 
 use crate::allocation::Allocator;
 use crate::cache::MetadataCaches;
@@ -21,7 +22,8 @@ impl Allocator {
         count: ClusterCount,
         metadata: bool,
     ) -> Result<PendingClusters, Fault>
-        ensures allocates { Allocates S.state (mark_of self.old) count metadata (table_of self.old) caches.old file.old list.old.entries result (table_of self.new) caches.new file.new list.new.entries (mark_of self.new) }
+        ensures allocates { Allocates S.state (mark_of self.old) count metadata (seen self.old caches.old file.old list.old) result
+            (seen self.new caches.new file.new list.new) (mark_of self.new) }
         ensures held { list.new.held ≡ list.old.held }
     {
         if count == ClusterCount(0) {

@@ -4,6 +4,7 @@ ghost use Rattle.qcow2_metadata.specs.Blocks.{Block};
 ghost use Rattle.qcow2_types.specs.Pending.{FreeEntry};
 ghost use Rattle.qcow2_alloc.specs.Allocating.{Raises, RaisesCluster, CountsRun, CountsNamed};
 ghost use Rattle.qcow2_alloc.specs.Allocators.{table_of, UsesBlock};
+ghost use Rattle.qcow2_alloc.specs.State.{lent};
 
 use crate::allocation::Allocator;
 use crate::allocation::searching::Run;
@@ -39,7 +40,9 @@ impl Allocator {
         count: u64,
     ) -> Result<(), Fault>
         requires fits { first + count ≤ 2 ^ 64 }
-        ensures { (pending : List FreeEntry) → CountsRun S.state (table_of self.now) first count caches.old file.old result caches.new file.new pending }
+        ensures { (pending : List FreeEntry)
+            → CountsRun S.state first count (lent (table_of self.now) caches.old file.old pending) result
+            (lent (table_of self.now) caches.new file.new pending) }
     {
         for index in 0..count {
             match self.count_cluster(file, caches, HostCluster(first.0 + index)) {
@@ -58,7 +61,9 @@ impl Allocator {
         run: Run,
     ) -> Result<(), Fault>
         requires fits { run.first + run.len ≤ 2 ^ 64 }
-        ensures { (pending : List FreeEntry) → CountsNamed S.state (table_of self.now) run.first run.len caches.old file.old result caches.new file.new pending }
+        ensures { (pending : List FreeEntry)
+            → CountsNamed S.state run.first run.len (lent (table_of self.now) caches.old file.old pending) result
+            (lent (table_of self.now) caches.new file.new pending) }
     {
         let rb_bits = file.header.rb_bits();
         for index in 0..run.len() {

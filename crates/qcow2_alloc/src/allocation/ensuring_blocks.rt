@@ -7,6 +7,7 @@ ghost use Rattle.qcow2_alloc.specs.Allocators.{metadata_of, table_of, mark_of};
 ghost use Rattle.qcow2_alloc.specs.Caches.{order_of};
 ghost use Rattle.qcow2_alloc.specs.FillingBlocks.{FillsFrom};
 ghost use Rattle.qcow2_alloc.specs.Quiet.{IsSound};
+ghost use Rattle.qcow2_alloc.specs.State.{lent};
 
 use crate::allocation::Allocator;
 use crate::cache::MetadataCaches;
@@ -24,7 +25,9 @@ impl Allocator {
     ) -> Result<bool, Fault>
         requires order { first ≤ end }
         requires inside { end ≤ length (table_of self.old).words }
-        ensures makes { (pending : List FreeEntry) → MakesBlocks S.state first end (table_of self.old) caches.old file.old result (table_of self.new) caches.new file.new pending }
+        ensures makes { (pending : List FreeEntry)
+            → MakesBlocks S.state first end (lent (table_of self.old) caches.old file.old pending) result
+            (lent (table_of self.new) caches.new file.new pending) }
         ensures fills { (pending : List FreeEntry) → order_of caches.old ≡ L2DependsOnRb → IsTrue (S.state file.old.image).shape.keeps → IsSound (metadata_of S.state file.old caches.old (table_of self.old) pending)
             → OnOk result (FillsFrom (mark_of self.old) first end (metadata_of S.state file.old caches.old (table_of self.old) pending) (metadata_of S.state file.new caches.new (table_of self.new) pending)) }
         ensures mark { mark_of self.new ≡ mark_of self.old }

@@ -3,6 +3,7 @@ ghost use Rattle.std.specs.Prelude.{◌≡◌, ℕ, ◌≤◌, ◌<◌, ◌+◌,
 ghost use Rattle.qcow2_alloc.specs.Allocators.{table_of, mark_of};
 ghost use Rattle.qcow2_alloc.specs.GrowingTables.{GrowsTable, table_run};
 ghost use Rattle.qcow2_alloc.specs.MovingTables.{IsPlan, IsCopyFor, WhyNotPlaced, IsGrownFor, WhyNotGrown, EntersFree};
+ghost use Rattle.qcow2_alloc.specs.State.{seen};
 
 use crate::allocation::Allocator;
 use crate::allocation::searching::Run;
@@ -27,7 +28,8 @@ impl Allocator {
         at: usize,
     ) -> Result<(), Fault>
         requires past { length (table_of self.old).words ≤ at }
-        ensures grows { GrowsTable S.state (mark_of self.old) at (table_of self.old) caches.old file.old list.old.entries result (table_of self.new) caches.new file.new list.new.entries }
+        ensures grows { GrowsTable S.state (mark_of self.old) at (seen self.old caches.old file.old list.old) result
+            (seen self.new caches.new file.new list.new) }
         ensures mark { mark_of self.new ≡ mark_of self.old }
         ensures held { list.new.held ≡ list.old.held }
     {
@@ -52,7 +54,9 @@ impl Allocator {
     ) -> Result<(), Fault>
         requires grown { (at : ℕ) × (length (table_of self.old).words ≤ at) × IsGrownFor file.old.header.fields (table_of self.old) at copy }
         requires held { 0 < list.old.held }
-        ensures grows { (at : ℕ) → IsGrownFor file.old.header.fields (table_of self.old) at copy → GrowsTable S.state (mark_of self.old) at (table_of self.old) caches.old file.old list.old.entries result (table_of self.new) caches.new file.new list.new.entries }
+        ensures grows { (at : ℕ) → IsGrownFor file.old.header.fields (table_of self.old) at copy
+            → GrowsTable S.state (mark_of self.old) at (seen self.old caches.old file.old list.old) result
+            (seen self.new caches.new file.new list.new) }
         ensures mark { mark_of self.new ≡ mark_of self.old }
         ensures held { list.new.held ≡ list.old.held - 1 }
     {
@@ -86,7 +90,8 @@ impl Allocator {
     ) -> Result<(), Fault>
         requires plan { IsPlan file.old.header.fields (table_of self.old) room table }
         requires held { 0 < list.old.held }
-        ensures fills { EntersFree S.state room table (table_of self.old) caches.old file.old list.old.entries result (table_of self.new) caches.new file.new list.new.entries }
+        ensures fills { EntersFree S.state room table (seen self.old caches.old file.old list.old) result
+            (seen self.new caches.new file.new list.new) }
         ensures waits { OnOk result (list.new.entries ≡ list.old.entries ++ table_run file.old.header.fields) }
         ensures kept { OnErr result (list.new.entries ≡ list.old.entries) }
         ensures held { list.new.held ≡ list.old.held - 1 }

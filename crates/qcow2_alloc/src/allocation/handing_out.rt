@@ -8,6 +8,7 @@ ghost use Rattle.qcow2_metadata.specs.Places.{IsInReach};
 ghost use Rattle.qcow2_alloc.specs.Allocators.{table_of, mark_of};
 ghost use Rattle.qcow2_alloc.specs.HandingOut.{AllocatesClusters, AllocatesClusterAt, GrowsReftable, IsBarred, held_at, held_by, mark_past};
 ghost use Rattle.qcow2_alloc.specs.HandingOutOne.{AllocatesAt, CountsOne, ReadiesCounter, ReadiesWord};
+ghost use Rattle.qcow2_alloc.specs.State.{lent, seen};
 
 use crate::allocation::Allocator;
 use crate::cache::MetadataCaches;
@@ -43,7 +44,8 @@ impl Allocator {
         count: ClusterCount,
         metadata: bool,
     ) -> Result<PendingClusters, Fault>
-        ensures allocates { AllocatesClusters S.state (mark_of self.old) count metadata (table_of self.old) caches.old file.old list.old.entries result (table_of self.new) caches.new file.new list.new.entries (mark_of self.new) }
+        ensures allocates { AllocatesClusters S.state (mark_of self.old) count metadata
+            (seen self.old caches.old file.old list.old) result (seen self.new caches.new file.new list.new) (mark_of self.new) }
         ensures held { list.new.held ≡ held_by result list.old.held }
     {
         if let Err(fault) = list.hold() {
@@ -76,7 +78,8 @@ impl Allocator {
         list: &mut ClustersToFreeList,
         cluster: HostCluster,
     ) -> Result<Option<PendingClusters>, Fault>
-        ensures allocates { AllocatesClusterAt S.state (mark_of self.old) cluster (table_of self.old) caches.old file.old list.old.entries result (table_of self.new) caches.new file.new list.new.entries (mark_of self.new) }
+        ensures allocates { AllocatesClusterAt S.state (mark_of self.old) cluster
+            (seen self.old caches.old file.old list.old) result (seen self.new caches.new file.new list.new) (mark_of self.new) }
         ensures held { list.new.held ≡ held_at result list.old.held }
     {
         if let Err(fault) = list.hold() {
@@ -117,7 +120,8 @@ impl Allocator {
         index: usize,
     ) -> Result<(), Fault>
         requires past { length (table_of self.old).words ≤ index }
-        ensures grows { GrowsReftable S.state (mark_of self.old) index (table_of self.old) caches.old file.old list.old.entries result (table_of self.new) caches.new file.new list.new.entries }
+        ensures grows { GrowsReftable S.state (mark_of self.old) index (seen self.old caches.old file.old list.old) result
+            (seen self.new caches.new file.new list.new) }
         ensures mark { mark_of self.new ≡ mark_of self.old }
         ensures held { list.new.held ≡ list.old.held }
     {
@@ -146,7 +150,8 @@ impl Allocator {
         count: ClusterCount,
         metadata: bool,
     ) -> Result<PendingClusters, Fault>
-        ensures allocates { AllocatesClusters S.state (mark_of self.old) count metadata (table_of self.old) caches.old file.old list.old.entries result (table_of self.new) caches.new file.new list.new.entries (mark_of self.new) }
+        ensures allocates { AllocatesClusters S.state (mark_of self.old) count metadata
+            (seen self.old caches.old file.old list.old) result (seen self.new caches.new file.new list.new) (mark_of self.new) }
         ensures held { list.new.held ≡ list.old.held }
     {
         if let Err(fault) = self.process_clusters_to_free(file, caches, list) {
@@ -166,7 +171,8 @@ impl Allocator {
         list: &mut ClustersToFreeList,
         cluster: HostCluster,
     ) -> Result<Option<PendingClusters>, Fault>
-        ensures allocates { AllocatesClusterAt S.state (mark_of self.old) cluster (table_of self.old) caches.old file.old list.old.entries result (table_of self.new) caches.new file.new list.new.entries (mark_of self.new) }
+        ensures allocates { AllocatesClusterAt S.state (mark_of self.old) cluster
+            (seen self.old caches.old file.old list.old) result (seen self.new caches.new file.new list.new) (mark_of self.new) }
         ensures held { list.new.held ≡ list.old.held }
     {
         match caches.l2_depends_on_rb(file) {
@@ -183,7 +189,8 @@ impl Allocator {
         list: &mut ClustersToFreeList,
         cluster: HostCluster,
     ) -> Result<Option<PendingClusters>, Fault>
-        ensures allocates { AllocatesAt S.state (λ m. IsBarred m (mark_of self.old) cluster) (mark_of self.old) cluster (table_of self.old) caches.old file.old list.old.entries result (table_of self.new) caches.new file.new list.new.entries (mark_of self.new) }
+        ensures allocates { AllocatesAt S.state (λ m. IsBarred m (mark_of self.old) cluster) (mark_of self.old) cluster
+            (seen self.old caches.old file.old list.old) result (seen self.new caches.new file.new list.new) (mark_of self.new) }
         ensures held { list.new.held ≡ list.old.held }
     {
         if !is_in_reach(cluster, file.header.cluster_bits()) {
@@ -205,7 +212,8 @@ impl Allocator {
         list: &mut ClustersToFreeList,
         cluster: HostCluster,
     ) -> Result<bool, Fault>
-        ensures readies { ReadiesWord S.state (mark_of self.old) cluster (table_of self.old) caches.old file.old list.old.entries result (table_of self.new) caches.new file.new list.new.entries }
+        ensures readies { ReadiesWord S.state (mark_of self.old) cluster (seen self.old caches.old file.old list.old) result
+            (seen self.new caches.new file.new list.new) }
         ensures mark { mark_of self.new ≡ mark_of self.old }
         ensures held { list.new.held ≡ list.old.held }
     {
@@ -235,7 +243,8 @@ impl Allocator {
         cluster: HostCluster,
     ) -> Result<bool, Fault>
         requires reach { IsInReach file.old.header.fields.cluster_bits cluster }
-        ensures readies { ReadiesCounter S.state (mark_of self.old) cluster (table_of self.old) caches.old file.old list.old.entries result (table_of self.new) caches.new file.new list.new.entries }
+        ensures readies { ReadiesCounter S.state (mark_of self.old) cluster (seen self.old caches.old file.old list.old) result
+            (seen self.new caches.new file.new list.new) }
         ensures mark { mark_of self.new ≡ mark_of self.old }
         ensures held { list.new.held ≡ list.old.held }
     {
@@ -261,7 +270,9 @@ impl Allocator {
     ) -> Result<Option<PendingClusters>, Fault>
         requires there { block_offset (slice_index (table_of self.old).words (cluster / counters_of_block file.old.header.fields)) ≢ 0 }
         requires reach { IsInReach file.old.header.fields.cluster_bits cluster }
-        ensures allocates { (pending : List FreeEntry) → AllocatesAt S.state (λ _. ⊥) (mark_of self.old) cluster (table_of self.old) caches.old file.old pending result (table_of self.old) caches.new file.new pending (mark_of self.new) }
+        ensures allocates { (pending : List FreeEntry)
+            → AllocatesAt S.state (λ _. ⊥) (mark_of self.old) cluster (lent (table_of self.old) caches.old file.old pending) result
+            (lent (table_of self.old) caches.new file.new pending) (mark_of self.new) }
         ensures table { table_of self.new ≡ table_of self.old }
     {
         let found = match self.find_in_block(file, caches, cluster) {
@@ -282,7 +293,9 @@ impl Allocator {
         cluster: HostCluster,
     ) -> Result<Option<PendingClusters>, Fault>
         requires reach { IsInReach file.old.header.fields.cluster_bits cluster }
-        ensures counts { (pending : List FreeEntry) → CountsOne S.state cluster (table_of self.old) caches.old file.old pending result caches.new file.new }
+        ensures counts { (pending : List FreeEntry)
+            → CountsOne S.state cluster (lent (table_of self.old) caches.old file.old pending) result
+            (lent (table_of self.old) caches.new file.new pending) }
         ensures table { table_of self.new ≡ table_of self.old }
         ensures further { IfOk result (λ found. mark_of self.new ≡ mark_past (mark_of self.old) cluster found) }
         ensures stays { OnErr result (mark_of self.new ≡ mark_of self.old) }

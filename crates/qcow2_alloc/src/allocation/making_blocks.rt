@@ -14,6 +14,7 @@ ghost use Rattle.qcow2_alloc.specs.Caches.{order_of};
 ghost use Rattle.qcow2_alloc.specs.FillingBlocks.{IsBlockPlaced};
 ghost use Rattle.qcow2_alloc.specs.Quiet.{IsSound};
 ghost use Rattle.qcow2_alloc.specs.MakingBlocks.{CanName, WhyNotNamed, NamesWritten, MakesIn};
+ghost use Rattle.qcow2_alloc.specs.State.{lent};
 
 use crate::allocation::Allocator;
 use crate::cache::MetadataCaches;
@@ -38,7 +39,9 @@ impl Allocator {
     ) -> Result<(), Fault>
         requires inside { index < length (table_of self.old).words }
         requires empty { block_offset (slice_index (table_of self.old).words index) ≡ 0 }
-        ensures makes { (pending : List FreeEntry) → MakesBlock S.state index (table_of self.old) caches.old file.old result (table_of self.new) caches.new file.new pending }
+        ensures makes { (pending : List FreeEntry)
+            → MakesBlock S.state index (lent (table_of self.old) caches.old file.old pending) result
+            (lent (table_of self.new) caches.new file.new pending) }
         ensures placed { (pending : List FreeEntry) → order_of caches.old ≡ L2DependsOnRb → IsTrue (S.state file.old.image).shape.keeps → IsSound (metadata_of S.state file.old caches.old (table_of self.old) pending)
             → OnOk result (IsBlockPlaced (mark_of self.old) index (metadata_of S.state file.old caches.old (table_of self.old) pending) (metadata_of S.state file.new caches.new (table_of self.new) pending)) }
         ensures mark { mark_of self.new ≡ mark_of self.old }
@@ -123,7 +126,9 @@ impl Allocator {
     ) -> Result<(), Fault>
         requires inside { index < length (table_of self.old).words }
         requires empty { block_offset (slice_index (table_of self.old).words index) ≡ 0 }
-        ensures makes { (pending : List FreeEntry) → MakesBlock S.state index (table_of self.old) caches.old file.old result (table_of self.new) caches.new file.new pending }
+        ensures makes { (pending : List FreeEntry)
+            → MakesBlock S.state index (lent (table_of self.old) caches.old file.old pending) result
+            (lent (table_of self.new) caches.new file.new pending) }
         ensures at { OnOk result ((index * counters_of_block file.old.header.fields ≢ 0) × (block_offset (slice_index (table_of self.new).words index) ≡ index * counters_of_block file.old.header.fields * cluster_size file.old.header.fields)) }
         ensures mark { mark_of self.new ≡ mark_of self.old }
     {
@@ -152,7 +157,9 @@ impl Allocator {
     ) -> Result<(), Fault>
         requires inside { index < length (table_of self.old).words }
         requires empty { block_offset (slice_index (table_of self.old).words index) ≡ 0 }
-        ensures makes { MakesIn S.state index place (table_of self.old) caches.old file.old result (table_of self.new) caches.new file.new }
+        ensures makes { (pending : List FreeEntry)
+            → MakesIn S.state index place (lent (table_of self.old) caches.old file.old pending) result
+            (lent (table_of self.new) caches.new file.new pending) }
         ensures at { OnOk result ((place ≢ 0) × (block_offset (slice_index (table_of self.new).words index) ≡ place * cluster_size file.old.header.fields)) }
         ensures mark { mark_of self.new ≡ mark_of self.old }
     {

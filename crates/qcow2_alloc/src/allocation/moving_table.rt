@@ -8,7 +8,8 @@ ghost use Rattle.qcow2_alloc.specs.Allocators.{table_of, mark_of};
 ghost use Rattle.qcow2_alloc.specs.Caches.{cached_in, KeepsTables};
 ghost use Rattle.qcow2_alloc.specs.Finding.{PinsNothing};
 ghost use Rattle.qcow2_alloc.specs.Growing.{lacking};
-ghost use Rattle.qcow2_alloc.specs.MovingTables.{MovesTable, NamesNewBlocks, ForgetsRun, IsPinnedWithin, TakesRoom, IsPlan, FillsFree};
+ghost use Rattle.qcow2_alloc.specs.MovingTables.{MovesTable, NamesNewBlocks, ForgetsRun, IsPinnedWithin, TakesRoom, IsPlan, EntersFree, waiting_then};
+ghost use Rattle.qcow2_alloc.specs.State.{lent};
 
 use crate::allocation::Allocator;
 use crate::allocation::searching::Run;
@@ -31,7 +32,9 @@ impl Allocator {
         room: Run,
     ) -> Result<(), Fault>
         requires { IsPlan file.old.header.fields (table_of self.old) room table }
-        ensures fills { FillsFree S.state room table (table_of self.old) caches.old file.old result (table_of self.new) caches.new file.new }
+        ensures fills { (pending : List FreeEntry)
+            → EntersFree S.state room table (lent (table_of self.old) caches.old file.old pending) result
+            (lent (table_of self.new) caches.new file.new (waiting_then result file.old.header.fields pending)) }
         ensures mark { mark_of self.new ≡ mark_of self.old }
     {
         match self.take_room(file, caches, room) {
@@ -50,7 +53,9 @@ impl Allocator {
     ) -> Result<(), Fault>
         requires reach { IsInReach file.old.header.fields.cluster_bits (room.first + (room.len - 1)) }
         requires few { lacking (table_of self.now) (counters_of_block file.old.header.fields) room.first room.len ≤ room.len }
-        ensures { (pending : List FreeEntry) → TakesRoom S.state (table_of self.now) room caches.old file.old result caches.new file.new pending }
+        ensures { (pending : List FreeEntry)
+            → TakesRoom S.state room (lent (table_of self.now) caches.old file.old pending) result
+            (lent (table_of self.now) caches.new file.new pending) }
     {
         if let Err(fault) = self.count_named(file, caches, room) {
             return Err(fault);

@@ -5,6 +5,7 @@ ghost use Rattle.qcow2_metadata.specs.Places.{IsInReach};
 ghost use Rattle.qcow2_alloc.specs.Allocators.{table_of, mark_of};
 ghost use Rattle.qcow2_alloc.specs.ReadyingBlocks.{ReadiesBlocks, WhyNotFit};
 ghost use Rattle.qcow2_alloc.specs.ReadyingRuns.{ReadiesRun};
+ghost use Rattle.qcow2_alloc.specs.State.{seen};
 
 use crate::allocation::Allocator;
 use crate::cache::MetadataCaches;
@@ -27,7 +28,8 @@ impl Allocator {
         count: u64,
     ) -> Result<HostCluster, Fault>
         requires some { 1 ≤ count }
-        ensures readies { ReadiesRun S.state (mark_of self.old) count (table_of self.old) caches.old file.old list.old.entries result (table_of self.new) caches.new file.new list.new.entries }
+        ensures readies { ReadiesRun S.state (mark_of self.old) count (seen self.old caches.old file.old list.old) result
+            (seen self.new caches.new file.new list.new) }
         ensures mark { mark_of self.new ≡ mark_of self.old }
         ensures held { list.new.held ≡ list.old.held }
     {
@@ -74,7 +76,7 @@ impl Allocator {
     ) -> Result<bool, Fault>
         requires order { first ≤ last }
         requires few { last < 2 ^ 20 }
-        ensures readies { ReadiesBlocks S.state (mark_of self.old) (last + (count / counters_of_block file.old.header.fields + 2)) first last (table_of self.old) caches.old file.old list.old.entries result (table_of self.new) caches.new file.new list.new.entries }
+        ensures readies { ReadiesBlocks S.state (mark_of self.old) (last + (count / counters_of_block file.old.header.fields + 2)) first last (seen self.old caches.old file.old list.old) result (seen self.new caches.new file.new list.new) }
         ensures short { length (table_of self.old).words ≤ 2 ^ 20 }
         ensures mark { mark_of self.new ≡ mark_of self.old }
         ensures held { list.new.held ≡ list.old.held }

@@ -5,6 +5,7 @@ use Rattle.qcow2_metadata.specs.Tables.{TableValue}
 use Rattle.qcow2_alloc.specs.Allocators.{table_of, mark_of}
 use Rattle.qcow2_alloc.specs.HandingOut.{IsBarred}
 use Rattle.qcow2_alloc.specs.HandingOutOne.{AllocatesAt, ReadiesCounter}
+use Rattle.qcow2_alloc.specs.State.{lent}
 use Rattle.qcow2_alloc.proofs.Handing.AllocatingReadied.{out-of-reach, uncounted-at, refused-at, readied-at}
 use Rattle.qcow2_alloc.proofs.Handing.CountingOne.{handed_so, not_handed}
 use Rattle.qcow2_alloc.proofs.Blocks.EnsuringBlocks.{so}
@@ -24,22 +25,22 @@ returns-in-Ok-true-clause-allocates g c =
     let state = g.S.Storage.state in
     let mid = c.ensure_counter.new in
     let new = c.allocate_one.new in
-    let counter = subst (λ (b : Bool). ReadiesCounter state (mark_of c.args.self.now) c.args.cluster (table_of c.args.self.now) c.args.caches.now c.args.file.now c.args.list.now.entries (so b) (table_of mid.self) mid.caches mid.file mid.list.entries) c.in-Ok-true.field-0-test c.in-Ok-true.ensures.readies in
-    subst (λ (t : TableValue). AllocatesAt state (λ m. IsBarred m (mark_of c.args.self.now) c.args.cluster) (mark_of c.args.self.now) c.args.cluster (table_of c.args.self.now) c.args.caches.now c.args.file.now c.args.list.now.entries c.allocate_one.result t new.caches new.file mid.list.entries (mark_of new.self)) (sym c.allocate_one.ensures.table)
+    let counter = subst (λ (b : Bool). ReadiesCounter state (mark_of c.args.self.now) c.args.cluster (lent (table_of c.args.self.now) c.args.caches.now c.args.file.now c.args.list.now.entries) (so b) (lent (table_of mid.self) mid.caches mid.file mid.list.entries)) c.in-Ok-true.field-0-test c.in-Ok-true.ensures.readies in
+    subst (λ (t : TableValue). AllocatesAt state (λ m. IsBarred m (mark_of c.args.self.now) c.args.cluster) (mark_of c.args.self.now) c.args.cluster (lent (table_of c.args.self.now) c.args.caches.now c.args.file.now c.args.list.now.entries) c.allocate_one.result (lent t new.caches new.file mid.list.entries) (mark_of new.self)) (sym c.allocate_one.ensures.table)
     (readied-at state (mark_of c.args.self.now) c.args.cluster (table_of c.args.self.now) c.args.caches.now c.args.file.now c.args.list.now.entries (table_of mid.self) mid.caches mid.file mid.list.entries counter c.allocate_one.result new.caches new.file (mark_of new.self)
-    (subst (λ (m : ℕ). AllocatesAt state (λ _. ⊥) m c.args.cluster (table_of mid.self) mid.caches mid.file mid.list.entries c.allocate_one.result (table_of mid.self) new.caches new.file mid.list.entries (mark_of new.self)) c.in-Ok-true.ensures.mark (c.allocate_one.ensures.allocates mid.list.entries)))
+    (subst (λ (m : ℕ). AllocatesAt state (λ _. ⊥) m c.args.cluster (lent (table_of mid.self) mid.caches mid.file mid.list.entries) c.allocate_one.result (lent (table_of mid.self) new.caches new.file mid.list.entries) (mark_of new.self)) c.in-Ok-true.ensures.mark (c.allocate_one.ensures.allocates mid.list.entries)))
 
 pub returns-in-Ok-false-clause-allocates : goal.returns-in-Ok-false-clause-allocates
 returns-in-Ok-false-clause-allocates g c =
     let state = g.S.Storage.state in
     let mid = c.ensure_counter.new in
-    subst (λ (m : ℕ). AllocatesAt state (λ m'. IsBarred m' (mark_of c.args.self.now) c.args.cluster) (mark_of c.args.self.now) c.args.cluster (table_of c.args.self.now) c.args.caches.now c.args.file.now c.args.list.now.entries (handed_so None) (table_of mid.self) mid.caches mid.file mid.list.entries m) (sym c.in-Ok-false.ensures.mark)
+    subst (λ (m : ℕ). AllocatesAt state (λ m'. IsBarred m' (mark_of c.args.self.now) c.args.cluster) (mark_of c.args.self.now) c.args.cluster (lent (table_of c.args.self.now) c.args.caches.now c.args.file.now c.args.list.now.entries) (handed_so None) (lent (table_of mid.self) mid.caches mid.file mid.list.entries) m) (sym c.in-Ok-false.ensures.mark)
     (uncounted-at state (mark_of c.args.self.now) c.args.cluster (table_of c.args.self.now) c.args.caches.now c.args.file.now c.args.list.now.entries (table_of mid.self) mid.caches mid.file mid.list.entries
-    (subst (λ (b : Bool). ReadiesCounter state (mark_of c.args.self.now) c.args.cluster (table_of c.args.self.now) c.args.caches.now c.args.file.now c.args.list.now.entries (so b) (table_of mid.self) mid.caches mid.file mid.list.entries) c.in-Ok-false.field-0-test c.in-Ok-false.ensures.readies))
+    (subst (λ (b : Bool). ReadiesCounter state (mark_of c.args.self.now) c.args.cluster (lent (table_of c.args.self.now) c.args.caches.now c.args.file.now c.args.list.now.entries) (so b) (lent (table_of mid.self) mid.caches mid.file mid.list.entries)) c.in-Ok-false.field-0-test c.in-Ok-false.ensures.readies))
 
 pub returns-in-Err-clause-allocates : goal.returns-in-Err-clause-allocates
 returns-in-Err-clause-allocates g c =
     let state = g.S.Storage.state in
     let mid = c.ensure_counter.new in
-    subst (λ (m : ℕ). AllocatesAt state (λ m'. IsBarred m' (mark_of c.args.self.now) c.args.cluster) (mark_of c.args.self.now) c.args.cluster (table_of c.args.self.now) c.args.caches.now c.args.file.now c.args.list.now.entries (not_handed c.in-Err.fault) (table_of mid.self) mid.caches mid.file mid.list.entries m) (sym c.in-Err.ensures.mark)
+    subst (λ (m : ℕ). AllocatesAt state (λ m'. IsBarred m' (mark_of c.args.self.now) c.args.cluster) (mark_of c.args.self.now) c.args.cluster (lent (table_of c.args.self.now) c.args.caches.now c.args.file.now c.args.list.now.entries) (not_handed c.in-Err.fault) (lent (table_of mid.self) mid.caches mid.file mid.list.entries) m) (sym c.in-Err.ensures.mark)
     (refused-at state (mark_of c.args.self.now) c.args.cluster (table_of c.args.self.now) c.args.caches.now c.args.file.now c.args.list.now.entries (table_of mid.self) mid.caches mid.file mid.list.entries c.in-Err.fault c.in-Err.ensures.readies)

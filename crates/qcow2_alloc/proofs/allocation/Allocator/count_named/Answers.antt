@@ -9,6 +9,7 @@ use Rattle.qcow2_alloc.specs.declared.cache.MetadataCaches.{MetadataCaches}
 use Rattle.qcow2_alloc.specs.declared.file.ImageFile.{ImageFile}
 use Rattle.qcow2_alloc.specs.Allocating.{RaisesCluster, CountsNamed}
 use Rattle.qcow2_alloc.specs.Allocators.{table_of, named_block}
+use Rattle.qcow2_alloc.specs.State.{lent}
 use Rattle.qcow2_alloc.proofs.Blocks.CountingClusters.{succeeded, cluster-counted}
 use Rattle.qcow2_alloc.proofs.Blocks.CountingRuns.{named-run-none, named-run-then, named-run-within, passed-over, counted-named}
 use Rattle.qcow2_alloc.proofs.Freeing.FreeingEntries.{failed}
@@ -55,10 +56,10 @@ loop-index-preserved g c = λ pending.
     let run = c.args.run in
     let at : c.cluster.inside.0 ≡ run.first = c.cluster.view_is ∙ c.first.ensures in
     let word = word-of (c.cluster.inside.0 + l.index) (run.first + l.index) c.rb_bits-rb_bits.result c.rt_index.result c.args.file.now.header l.file.header c.rt_index.ensures (ap (λ n. n + l.index) at) c.rb_bits-rb_bits.ensures.entries (l.invariant pending).header in
-    let then : (new : MetadataCaches g.row.S.Denot) (after : ImageFile g.row.S.Denot) → c.if-is_some.caches ≡ new → c.if-is_some.file ≡ after → CountsNamed state table (run.first + l.index) 1 l.caches l.file succeeded new after pending
-    → CountsNamed state table run.first (l.index + 1) c.args.caches.now c.args.file.now succeeded c.if-is_some.caches c.if-is_some.file pending = λ new after caches file one.
-    subst (λ (x : MetadataCaches g.row.S.Denot). CountsNamed state table run.first (l.index + 1) c.args.caches.now c.args.file.now succeeded x c.if-is_some.file pending) (sym caches)
-    (subst (λ (x : ImageFile g.row.S.Denot). CountsNamed state table run.first (l.index + 1) c.args.caches.now c.args.file.now succeeded new x pending) (sym file)
+    let then : (new : MetadataCaches g.row.S.Denot) (after : ImageFile g.row.S.Denot) → c.if-is_some.caches ≡ new → c.if-is_some.file ≡ after → CountsNamed state (run.first + l.index) 1 (lent table l.caches l.file pending) succeeded (lent table new after pending)
+    → CountsNamed state run.first (l.index + 1) (lent table c.args.caches.now c.args.file.now pending) succeeded (lent table c.if-is_some.caches c.if-is_some.file pending) = λ new after caches file one.
+    subst (λ (x : MetadataCaches g.row.S.Denot). CountsNamed state run.first (l.index + 1) (lent table c.args.caches.now c.args.file.now pending) succeeded (lent table x c.if-is_some.file pending)) (sym caches)
+    (subst (λ (x : ImageFile g.row.S.Denot). CountsNamed state run.first (l.index + 1) (lent table c.args.caches.now c.args.file.now pending) succeeded (lent table new x pending)) (sym file)
     (named-run-then state table pending run.first l.index c.args.caches.now c.args.file.now l.caches l.file succeeded new after (l.invariant pending) one)) in
     elim c.if-is_some.branch [
       | then-is_some+in-Ok w ↦
@@ -78,4 +79,4 @@ returns g c = λ pending.
     let end = l.auto.index-end in
     let len = c.len-index-end.ensures in
     let all : l.index ≡ c.args.run.len = omega (arith, past, end, len) in
-    subst (λ (n : ℕ). CountsNamed g.S.Storage.state (table_of c.args.self.now) c.args.run.first n c.args.caches.now c.args.file.now succeeded l.caches l.file pending) all (l.invariant pending)
+    subst (λ (n : ℕ). CountsNamed g.S.Storage.state c.args.run.first n (lent (table_of c.args.self.now) c.args.caches.now c.args.file.now pending) succeeded (lent (table_of c.args.self.now) l.caches l.file pending)) all (l.invariant pending)

@@ -1,6 +1,7 @@
 use Rattle.std.proofs.Common.{◌≡◌, ◌+◌, ℕ, arith, subst}
 use Rattle.qcow2_alloc.specs.Allocating.{RaisesCluster, CountsRun}
 use Rattle.qcow2_alloc.specs.Allocators.{table_of}
+use Rattle.qcow2_alloc.specs.State.{lent}
 use Rattle.qcow2_alloc.proofs.Blocks.CountingClusters.{succeeded, cluster-counted}
 use Rattle.qcow2_alloc.proofs.Blocks.CountingRuns.{run-none, run-then, run-within}
 use Rattle.qcow2_alloc.proofs.Freeing.FreeingEntries.{failed}
@@ -37,4 +38,4 @@ returns g c = λ pending.
     let past = c.loop-index-test.false in
     let end = l.auto.index-end in
     let all : l.index ≡ c.args.count = omega (arith, past, end) in
-    subst (λ (n : ℕ). CountsRun g.S.Storage.state (table_of c.args.self.now) c.args.first n c.args.caches.now c.args.file.now succeeded l.caches l.file pending) all (l.invariant pending)
+    subst (λ (n : ℕ). CountsRun g.S.Storage.state c.args.first n (lent (table_of c.args.self.now) c.args.caches.now c.args.file.now pending) succeeded (lent (table_of c.args.self.now) l.caches l.file pending)) all (l.invariant pending)

@@ -11,6 +11,7 @@ use Rattle.qcow2_alloc.specs.Allocators.{metadata_of, table_of, mark_of}
 use Rattle.qcow2_alloc.specs.Caches.{order_of}
 use Rattle.qcow2_alloc.specs.FillingBlocks.{FillsFrom, IsBlockPlaced}
 use Rattle.qcow2_alloc.specs.Quiet.{IsSound}
+use Rattle.qcow2_alloc.specs.State.{lent}
 use Rattle.qcow2_alloc.proofs.Blocks.FillingBlocks.{fills-none, fills-there, turn-fills}
 use Rattle.qcow2_alloc.proofs.Blocks.EnsuringBlocks.{so, blocks-none, blocks-there, blocks-then, blocks-within}
 use Rattle.qcow2_alloc.proofs.Freeing.FreeingEntries.{failed}
@@ -71,7 +72,7 @@ loop-index-preserved g c = elim c.if-is_none.branch [
 ]
   where
     P : Bool → Allocator → MetadataCaches g.row.S.Denot → ImageFile g.row.S.Denot → Type 0
-    P b s ca f = ((pending : List FreeEntry) → MakesBlocks g.S.Storage.state c.args.first (c.loop-index.index + 1) (table_of c.args.self.now) c.args.caches.now c.args.file.now (so b) (table_of s) ca f pending) × (mark_of s ≡ mark_of c.args.self.now)
+    P b s ca f = ((pending : List FreeEntry) → MakesBlocks g.S.Storage.state c.args.first (c.loop-index.index + 1) (lent (table_of c.args.self.now) c.args.caches.now c.args.file.now pending) (so b) (lent (table_of s) ca f pending)) × (mark_of s ≡ mark_of c.args.self.now)
         × ((pending : List FreeEntry) → order_of c.args.caches.now ≡ L2DependsOnRb → IsTrue (g.S.Storage.state c.args.file.now.image).shape.keeps → IsSound (metadata_of g.S.Storage.state c.args.file.now c.args.caches.now (table_of c.args.self.now) pending)
         → FillsFrom (mark_of c.args.self.now) c.args.first (c.loop-index.index + 1) (metadata_of g.S.Storage.state c.args.file.now c.args.caches.now (table_of c.args.self.now) pending) (metadata_of g.S.Storage.state f ca (table_of s) pending))
 
@@ -89,7 +90,7 @@ returns-clause-makes g c = λ pending.
     let past = c.loop-index-test.false in
     let end = l.auto.index-end c.requires.order in
     let all : l.index ≡ c.args.end = omega (arith, past, end) in
-    subst (λ (n : ℕ). MakesBlocks g.S.Storage.state c.args.first n (table_of c.args.self.now) c.args.caches.now c.args.file.now (so l.made) (table_of l.self) l.caches l.file pending) all (l.invariant.0 pending)
+    subst (λ (n : ℕ). MakesBlocks g.S.Storage.state c.args.first n (lent (table_of c.args.self.now) c.args.caches.now c.args.file.now pending) (so l.made) (lent (table_of l.self) l.caches l.file pending)) all (l.invariant.0 pending)
 
 pub returns-clause-fills : goal.returns-clause-fills
 returns-clause-fills g c = λ pending order keeps sound.

@@ -5,6 +5,7 @@ use Rattle.imago_storage.specs.Fault.{number_of}
 use Rattle.qcow2_types.specs.Counts.{counters_of_block}
 use Rattle.qcow2_alloc.specs.Allocators.{table_of, mark_of}
 use Rattle.qcow2_alloc.specs.GrowingTables.{GrowsTable}
+use Rattle.qcow2_alloc.specs.State.{lent}
 use Rattle.qcow2_alloc.proofs.Freeing.FreeingEntries.{failed}
 use Rattle.qcow2_alloc.proofs.Blocks.CountingClusters.{succeeded}
 use Rattle.qcow2_alloc.proofs.Blocks.ReadyingCounters.{word-stands, word-made, word-barred, word-refused, limit-numbered, other-numbered}
@@ -24,7 +25,7 @@ returns-in-Ok-clause-readies g c =
     let past = c.if-index-entries.false in
     let long = c.entries.ensures.value in
     word-made g.S.Storage.state (mark_of c.args.self.now) c.args.cluster (table_of c.args.self.now) c.args.caches.now c.args.file.now c.args.list.now.entries (omega (arith, at, past, long)) succeeded (table_of new.self) new.caches new.file new.list.entries
-    (subst (λ (i : ℕ). GrowsTable g.S.Storage.state (mark_of c.args.self.now) i (table_of c.args.self.now) c.args.caches.now c.args.file.now c.args.list.now.entries succeeded (table_of new.self) new.caches new.file new.list.entries) at c.in-Ok.ensures.grows) refl
+    (subst (λ (i : ℕ). GrowsTable g.S.Storage.state (mark_of c.args.self.now) i (lent (table_of c.args.self.now) c.args.caches.now c.args.file.now c.args.list.now.entries) succeeded (lent (table_of new.self) new.caches new.file new.list.entries)) at c.in-Ok.ensures.grows) refl
 
 pub returns-then-is_limit-clause-readies : goal.returns-then-is_limit-clause-readies
 returns-then-is_limit-clause-readies g c =
@@ -34,7 +35,7 @@ returns-then-is_limit-clause-readies g c =
     let past = c.if-index-entries.false in
     let long = c.entries.ensures.value in
     word-barred g.S.Storage.state (mark_of c.args.self.now) c.args.cluster (table_of c.args.self.now) c.args.caches.now c.args.file.now c.args.list.now.entries (omega (arith, at, past, long)) (failed c.in-Err.fault) (table_of new.self) new.caches new.file new.list.entries
-    (subst (λ (i : ℕ). GrowsTable g.S.Storage.state (mark_of c.args.self.now) i (table_of c.args.self.now) c.args.caches.now c.args.file.now c.args.list.now.entries (failed c.in-Err.fault) (table_of new.self) new.caches new.file new.list.entries) at c.in-Err.ensures.grows)
+    (subst (λ (i : ℕ). GrowsTable g.S.Storage.state (mark_of c.args.self.now) i (lent (table_of c.args.self.now) c.args.caches.now c.args.file.now c.args.list.now.entries) (failed c.in-Err.fault) (lent (table_of new.self) new.caches new.file new.list.entries)) at c.in-Err.ensures.grows)
     limit.0 (ap (λ (f : Fault). failed f) limit.1)
 
 pub returns-else-is_limit-clause-readies : goal.returns-else-is_limit-clause-readies
@@ -44,5 +45,5 @@ returns-else-is_limit-clause-readies g c =
     let past = c.if-index-entries.false in
     let long = c.entries.ensures.value in
     word-refused g.S.Storage.state (mark_of c.args.self.now) c.args.cluster (table_of c.args.self.now) c.args.caches.now c.args.file.now c.args.list.now.entries (omega (arith, at, past, long)) (failed c.in-Err.fault) (table_of new.self) new.caches new.file new.list.entries
-    (subst (λ (i : ℕ). GrowsTable g.S.Storage.state (mark_of c.args.self.now) i (table_of c.args.self.now) c.args.caches.now c.args.file.now c.args.list.now.entries (failed c.in-Err.fault) (table_of new.self) new.caches new.file new.list.entries) at c.in-Err.ensures.grows)
+    (subst (λ (i : ℕ). GrowsTable g.S.Storage.state (mark_of c.args.self.now) i (lent (table_of c.args.self.now) c.args.caches.now c.args.file.now c.args.list.now.entries) (failed c.in-Err.fault) (lent (table_of new.self) new.caches new.file new.list.entries)) at c.in-Err.ensures.grows)
     c.in-Err.fault refl (other-numbered c.in-Err.fault (λ is. eqb-false (number_of c.in-Err.fault) 12 (sym c.is_limit.ensures ∙ c.if-is_limit.false) is))

@@ -8,6 +8,7 @@ use Rattle.qcow2_alloc.specs.FreeList.{FreeList}
 use Rattle.qcow2_alloc.specs.GrowingTables.{table_run}
 use Rattle.qcow2_alloc.specs.MakingRoom.{run_of}
 use Rattle.qcow2_alloc.specs.MovingTables.{FillsRoom, WasSound}
+use Rattle.qcow2_alloc.specs.State.{lent}
 use Rattle.qcow2_alloc.proofs.Growth.FilledRooms.{some-clusters}
 use Rattle.qcow2_alloc.proofs.Freeing.FreeingEntries.{failed}
 use Rattle.qcow2_alloc.proofs.Growth.UnfilledRooms.{not-begun}
@@ -17,8 +18,8 @@ pub returns-then-clusters-eq0-clause-fills : goal.returns-then-clusters-eq0-clau
 returns-then-clusters-eq0-clause-fills g c = λ before file free.
     let state = g.S.Storage.state in
     let table = table_of c.args.self.now in
-    let known = WasSound g.S.Storage.state before file (table_of c.args.self.now) c.args.list.now.entries in
-    subst (λ (es : List FreeEntry). FillsRoom state known c.args.room c.args.table table c.args.caches.now c.args.file.now (failed DamagedTable) table c.args.caches.now c.args.file.now c.args.list.now.entries es)
+    let known = WasSound g.S.Storage.state (lent (table_of c.args.self.now) before file c.args.list.now.entries) in
+    subst (λ (es : List FreeEntry). FillsRoom state known c.args.room c.args.table (lent table c.args.caches.now c.args.file.now c.args.list.now.entries) (failed DamagedTable) (lent table c.args.caches.now c.args.file.now es))
     (sym (ap (λ (l : FreeList). l.entries) c.release.ensures))
     (not-begun state known table c.args.list.now.entries c.args.room c.args.table c.args.caches.now c.args.file.now DamagedTable
     (λ all. some-clusters _ all.2 (sym c.reftable_clusters-clusters.ensures ∙ sym c.clusters.view_is ∙ c.if-clusters-eq0.true)))
@@ -34,7 +35,7 @@ pub returns-in-Ok-clause-fills : goal.returns-in-Ok-clause-fills
 returns-in-Ok-clause-fills g c = λ before file free.
     let state = g.S.Storage.state in
     let table = table_of c.args.self.now in
-    let known = WasSound g.S.Storage.state before file (table_of c.args.self.now) c.args.list.now.entries in
+    let known = WasSound g.S.Storage.state (lent (table_of c.args.self.now) before file c.args.list.now.entries) in
     let h = c.args.file.now.header.fields in
     let new = c.fill_room.new in
     let pending = c.args.list.now.entries in
@@ -45,16 +46,16 @@ returns-in-Ok-clause-fills g c = λ before file free.
     let entry = run-is h clusters c.cluster-first.result c.new.result some c.reftable_clusters-clusters.ensures first (c.new.ensures ∙ c.metadata-old.ensures) in
     let entries : c.give_back.new.self.entries ≡ pending ++ table_run h =
     ap (λ (l : FreeList). l.entries) c.give_back.ensures ∙ ap (λ (l : List FreeEntry). pending ++ l) entry in
-    subst (λ (l : List FreeEntry). FillsRoom state known c.args.room c.args.table table c.args.caches.now c.args.file.now (Ok tt) (table_of new.self) new.caches new.file pending l) (sym entries)
+    subst (λ (l : List FreeEntry). FillsRoom state known c.args.room c.args.table (lent table c.args.caches.now c.args.file.now pending) (Ok tt) (lent (table_of new.self) new.caches new.file l)) (sym entries)
     (c.in-Ok.ensures.fills pending before file free)
 
 pub returns-in-Err-clause-fills : goal.returns-in-Err-clause-fills
 returns-in-Err-clause-fills g c = λ before file free.
     let state = g.S.Storage.state in
     let table = table_of c.args.self.now in
-    let known = WasSound g.S.Storage.state before file (table_of c.args.self.now) c.args.list.now.entries in
+    let known = WasSound g.S.Storage.state (lent (table_of c.args.self.now) before file c.args.list.now.entries) in
     let new = c.fill_room.new in
     let pending = c.args.list.now.entries in
     let entries : c.release-in-Err.new.self.entries ≡ pending = ap (λ (l : FreeList). l.entries) c.release-in-Err.ensures in
-    subst (λ (l : List FreeEntry). FillsRoom state known c.args.room c.args.table table c.args.caches.now c.args.file.now (Err c.in-Err.fault) (table_of new.self) new.caches new.file pending l) (sym entries)
+    subst (λ (l : List FreeEntry). FillsRoom state known c.args.room c.args.table (lent table c.args.caches.now c.args.file.now pending) (Err c.in-Err.fault) (lent (table_of new.self) new.caches new.file l)) (sym entries)
     (c.in-Err.ensures.fills pending before file free)

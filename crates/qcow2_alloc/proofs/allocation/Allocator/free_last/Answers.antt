@@ -3,6 +3,7 @@ use Rattle.qcow2_types.specs.Pending.{FreeEntry}
 use Rattle.qcow2_alloc.specs.Allocators.{table_of, mark_of, LowersCluster}
 use Rattle.qcow2_alloc.specs.FreeList.{FreeList}
 use Rattle.qcow2_alloc.specs.Freeing.{Frees}
+use Rattle.qcow2_alloc.specs.State.{lent}
 use Rattle.qcow2_alloc.proofs.Freeing.FreeingEntries.{last-freed, far-refused}
 use Rattle.qcow2_alloc.proofs.Freeing.FreeingLists.{last}
 use Rattle.qcow2_alloc.proofs.allocation.Allocator.free_last.Goals as goal
@@ -22,8 +23,8 @@ returns-in-Ok-clause-frees g c = λ may.
     let all = last-freed state table es c.args.index c.requires.inside c.requires.some c.args.caches.now c.args.file.now (mark_of c.args.self.now) (Ok tt) new.caches new.file may
     (subst (λ (n : ℕ). LowersCluster state table n c.args.caches.now c.args.file.now (Ok tt) new.caches new.file) there c.in-Ok.ensures.lowered) in
     let mark : mark_of new.self ≡ min (mark_of c.args.self.now) (last es c.args.index c.requires.inside c.requires.some) = c.in-Ok.ensures.marked ∙ ap (λ n. min (mark_of c.args.self.now) n) there in
-    subst (λ (n : ℕ). Frees state table c.args.caches.now c.args.file.now (mark_of c.args.self.now) es (Ok tt) new.caches new.file n c.shorten.new.self.entries) (sym mark)
-    (subst (λ (l : List FreeEntry). Frees state table c.args.caches.now c.args.file.now (mark_of c.args.self.now) es (Ok tt) new.caches new.file (min (mark_of c.args.self.now) (last es c.args.index c.requires.inside c.requires.some)) l) (sym (ap (λ (l : FreeList). l.entries) c.shorten.ensures)) all)
+    subst (λ (n : ℕ). Frees state (mark_of c.args.self.now) (lent table c.args.caches.now c.args.file.now es) (Ok tt) (lent table new.caches new.file c.shorten.new.self.entries) n) (sym mark)
+    (subst (λ (l : List FreeEntry). Frees state (mark_of c.args.self.now) (lent table c.args.caches.now c.args.file.now es) (Ok tt) (lent table new.caches new.file l) (min (mark_of c.args.self.now) (last es c.args.index c.requires.inside c.requires.some))) (sym (ap (λ (l : FreeList). l.entries) c.shorten.ensures)) all)
 
 pub returns-in-Err-clause-frees : goal.returns-in-Err-clause-frees
 returns-in-Err-clause-frees g c = λ may.
@@ -34,4 +35,4 @@ returns-in-Err-clause-frees g c = λ may.
     let there : c.in-Some.last ≡ last es c.args.index c.requires.inside c.requires.some = c.in-Some.ensures ∙ ap (λ (e : FreeEntry). e.first + (e.count - 1)) c.entry.ensures in
     let all = last-freed state table es c.args.index c.requires.inside c.requires.some c.args.caches.now c.args.file.now (mark_of c.args.self.now) (Err c.in-Err.fault) new.caches new.file may
     (subst (λ (n : ℕ). LowersCluster state table n c.args.caches.now c.args.file.now (Err c.in-Err.fault) new.caches new.file) there c.in-Err.ensures.lowered) in
-    subst (λ (n : ℕ). Frees state table c.args.caches.now c.args.file.now (mark_of c.args.self.now) es (Err c.in-Err.fault) new.caches new.file n es) (sym c.in-Err.ensures.stays) all
+    subst (λ (n : ℕ). Frees state (mark_of c.args.self.now) (lent table c.args.caches.now c.args.file.now es) (Err c.in-Err.fault) (lent table new.caches new.file es) n) (sym c.in-Err.ensures.stays) all

@@ -8,6 +8,7 @@ use Rattle.qcow2_alloc.specs.FreeList.{FreeList}
 use Rattle.qcow2_alloc.specs.GrowingTables.{GrowsTable}
 use Rattle.qcow2_alloc.specs.HandingOut.{GrowsReftable}
 use Rattle.qcow2_alloc.specs.MovingTables.{IsGrownFor}
+use Rattle.qcow2_alloc.specs.State.{lent}
 use Rattle.qcow2_alloc.proofs.Handing.AnnouncedOrders.{announced}
 use Rattle.qcow2_alloc.proofs.Blocks.CountingClusters.{succeeded}
 use Rattle.qcow2_alloc.proofs.Freeing.FreeingEntries.{failed}
@@ -24,8 +25,8 @@ returns-in-Err-hold-clause-grows g c =
     let t = table_of c.args.self.now in
     let entries = c.args.list.now.entries in
     let refused = c.in-Err-hold.ensures.err in
-    subst (λ (l : FreeList). GrowsReftable state (mark_of c.args.self.now) c.args.index t c.args.caches.now c.args.file.now entries (failed c.in-Err-hold.fault) t c.args.caches.now c.args.file.now l.entries) (sym refused.1)
-    (subst (λ (f : Fault). GrowsReftable state (mark_of c.args.self.now) c.args.index t c.args.caches.now c.args.file.now entries (failed f) t c.args.caches.now c.args.file.now entries) (sym refused.0)
+    subst (λ (l : FreeList). GrowsReftable state (mark_of c.args.self.now) c.args.index (lent t c.args.caches.now c.args.file.now entries) (failed c.in-Err-hold.fault) (lent t c.args.caches.now c.args.file.now l.entries)) (sym refused.1)
+    (subst (λ (f : Fault). GrowsReftable state (mark_of c.args.self.now) c.args.index (lent t c.args.caches.now c.args.file.now entries) (failed f) (lent t c.args.caches.now c.args.file.now entries)) (sym refused.0)
     (not-copied state (mark_of c.args.self.now) c.args.index t c.args.caches.now c.args.file.now entries c.args.caches.now c.args.file.now Memory tt))
 
 pub place_grown-requires-clause-grown : goal.place_grown-requires-clause-grown
@@ -41,7 +42,7 @@ returns-in-Ok-l2_depends_on_rb-clause-grows g c =
     let done = c.in-Ok-l2_depends_on_rb.ensures in
     let first = announced state t entries c.args.caches.now c.args.file.now a.self a.file done.kept done.blocks done.header done.room succeeded done.going done.announced done.safe done.cause done.faults in
     let grown = subst (λ (H : Header). IsGrownFor H.fields t c.args.index c.in-Ok.copy) (sym done.header) c.in-Ok.ensures.ok in
-    let grows = subst (λ (l : FreeList). GrowsTable state (mark_of c.args.self.now) c.args.index t a.self a.file l.entries c.place_grown.result (table_of new.self) new.caches new.file new.list.entries) c.in_default.ensures.ok (c.place_grown.ensures.grows c.args.index grown) in
+    let grows = subst (λ (l : FreeList). GrowsTable state (mark_of c.args.self.now) c.args.index (lent t a.self a.file l.entries) c.place_grown.result (lent (table_of new.self) new.caches new.file new.list.entries)) c.in_default.ensures.ok (c.place_grown.ensures.grows c.args.index grown) in
     announced-grows state (mark_of c.args.self.now) c.args.index t c.args.caches.now c.args.file.now entries a.self a.file first c.place_grown.result (table_of new.self) new.caches new.file new.list.entries grows
 
 pub returns-in-Err-l2_depends_on_rb-clause-grows : goal.returns-in-Err-l2_depends_on_rb-clause-grows
@@ -52,6 +53,6 @@ returns-in-Err-l2_depends_on_rb-clause-grows g c =
     let a = c.l2_depends_on_rb.new in
     let done = c.in-Err-l2_depends_on_rb.ensures in
     let still = ap (λ (l : FreeList). l.entries) c.release.ensures ∙ ap (λ (l : FreeList). l.entries) c.in_default.ensures.ok in
-    subst (λ (es : List FreeEntry). GrowsReftable state (mark_of c.args.self.now) c.args.index t c.args.caches.now c.args.file.now entries (failed c.in-Err-l2_depends_on_rb.fault) t a.self a.file es) (sym still)
+    subst (λ (es : List FreeEntry). GrowsReftable state (mark_of c.args.self.now) c.args.index (lent t c.args.caches.now c.args.file.now entries) (failed c.in-Err-l2_depends_on_rb.fault) (lent t a.self a.file es)) (sym still)
     (not-announced state (mark_of c.args.self.now) c.args.index t c.args.caches.now c.args.file.now entries a.self a.file c.in-Err-l2_depends_on_rb.fault
     (announced state t entries c.args.caches.now c.args.file.now a.self a.file done.kept done.blocks done.header done.room (failed c.in-Err-l2_depends_on_rb.fault) done.going tt tt done.cause done.faults))

@@ -4,6 +4,7 @@ use Rattle.imago_storage.specs.declared.fault.Fault.TheVariants.{Memory}
 use Rattle.qcow2_alloc.specs.Allocators.{table_of, mark_of}
 use Rattle.qcow2_alloc.specs.FreeList.{FreeList}
 use Rattle.qcow2_alloc.specs.GrowingTables.{GrowsTable}
+use Rattle.qcow2_alloc.specs.State.{lent}
 use Rattle.qcow2_alloc.proofs.Freeing.FreeingEntries.{failed}
 use Rattle.qcow2_alloc.proofs.Growth.GrowingTables.{no-copy}
 use Rattle.qcow2_alloc.proofs.allocation.Allocator.grow_table.Goals as goal
@@ -17,8 +18,8 @@ returns-in-Err-hold-clause-grows g c =
     let state = g.S.Storage.state in
     let t = table_of c.args.self.now in
     let refused = c.in-Err-hold.ensures.err in
-    subst (λ (l : FreeList). GrowsTable state (mark_of c.args.self.now) c.args.at t c.args.caches.now c.args.file.now c.args.list.now.entries (failed c.in-Err-hold.fault) t c.args.caches.now c.args.file.now l.entries) (sym refused.1)
-    (subst (λ (f : Fault). GrowsTable state (mark_of c.args.self.now) c.args.at t c.args.caches.now c.args.file.now c.args.list.now.entries (failed f) t c.args.caches.now c.args.file.now c.args.list.now.entries) (sym refused.0)
+    subst (λ (l : FreeList). GrowsTable state (mark_of c.args.self.now) c.args.at (lent t c.args.caches.now c.args.file.now c.args.list.now.entries) (failed c.in-Err-hold.fault) (lent t c.args.caches.now c.args.file.now l.entries)) (sym refused.1)
+    (subst (λ (f : Fault). GrowsTable state (mark_of c.args.self.now) c.args.at (lent t c.args.caches.now c.args.file.now c.args.list.now.entries) (failed f) (lent t c.args.caches.now c.args.file.now c.args.list.now.entries)) (sym refused.0)
     (no-copy state (mark_of c.args.self.now) c.args.at t c.args.list.now.entries c.args.caches.now c.args.file.now Memory tt))
 
 pub place_grown-requires-clause-grown : goal.place_grown-requires-clause-grown
@@ -27,5 +28,5 @@ place_grown-requires-clause-grown g c = (c.args.at, c.requires.past, c.in-Ok.ens
 pub returns-clause-grows : goal.returns-clause-grows
 returns-clause-grows g c =
     let new = c.place_grown.new in
-    subst (λ (l : FreeList). GrowsTable g.S.Storage.state (mark_of c.args.self.now) c.args.at (table_of c.args.self.now) c.args.caches.now c.args.file.now l.entries c.place_grown.result (table_of new.self) new.caches new.file new.list.entries)
+    subst (λ (l : FreeList). GrowsTable g.S.Storage.state (mark_of c.args.self.now) c.args.at (lent (table_of c.args.self.now) c.args.caches.now c.args.file.now l.entries) c.place_grown.result (lent (table_of new.self) new.caches new.file new.list.entries))
     c.in_default.ensures.ok (c.place_grown.ensures.grows c.args.at c.in-Ok.ensures.ok)

@@ -9,7 +9,7 @@ returns-in-Ok-Some-clause-makes g c = λ pending.
     let state = g.S.Storage.state in
     let table = table_of c.args.self.now in
     let mid = c.find_counted.new in
-    c.make_counted_block.ensures.makes c.args.caches.now c.args.file.now pending
+    c.make_counted_block.ensures.makes pending c.args.caches.now c.args.file.now
     (looked-begins state table pending c.args.caches.now c.args.file.now c.args.index mid.caches mid.file c.in-Ok-Some.field-0 c.in-Ok-Some.ensures.looked)
     (found-free state table pending c.args.caches.now c.args.file.now c.args.index mid.caches mid.file (mark_of c.args.self.now) c.in-Ok-Some.place c.in-Ok-Some.field-0 c.in-Ok-Some.field-0-is c.in-Ok-Some.ensures)
 

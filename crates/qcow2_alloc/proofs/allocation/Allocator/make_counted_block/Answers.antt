@@ -16,7 +16,7 @@ use Rattle.qcow2_alloc.proofs.allocation.Allocator.make_counted_block.Goals as g
 use Rattle.qcow2_alloc.proofs.Blocks.PlacedBlocks.{written-on-ok}
 
 pub returns-in-Err-clause-makes : goal.returns-in-Err-clause-makes
-returns-in-Err-clause-makes g c = λ first f pending begun free.
+returns-in-Err-clause-makes g c = λ pending first f begun free.
     let state = g.S.Storage.state in
     let table = table_of c.args.self.now in
     let m = metadata_of state c.args.file.now c.args.caches.now table pending in
@@ -31,11 +31,11 @@ returns-in-Err-clause-makes g c = λ first f pending begun free.
     (subst (λ b. WhyNotNamed table b c.args.place c.in-Err.fault) c.cluster_bits.ensures.value c.in-Err.ensures.err)
 
 pub returns-in-Err-cleared_block-clause-makes : goal.returns-in-Err-cleared_block-clause-makes
-returns-in-Err-cleared_block-clause-makes g c = λ first f pending begun free.
+returns-in-Err-cleared_block-clause-makes g c = λ pending first f begun free.
     unmade-memory g.S.Storage.state c.args.index (table_of c.args.self.now) pending first f c.args.caches.now c.args.file.now begun c.in-Err-cleared_block.fault c.in-Err-cleared_block.ensures.err
 
 pub returns-in-Err-rb_forget-clause-makes : goal.returns-in-Err-rb_forget-clause-makes
-returns-in-Err-rb_forget-clause-makes g c = λ first f pending begun free.
+returns-in-Err-rb_forget-clause-makes g c = λ pending first f begun free.
     let state = g.S.Storage.state in
     let table = table_of c.args.self.now in
     let m = metadata_of state c.args.file.now c.args.caches.now table pending in
@@ -43,7 +43,7 @@ returns-in-Err-rb_forget-clause-makes g c = λ first f pending begun free.
     (λ holds. (uncounted-free m ((begun.quiet holds.1).holds holds.0 holds.2 tt).0 (begun.order ∙ holds.1) c.args.place (free holds.1 holds.0 holds.2).uncounted).0) c.in-Err-rb_forget.ensures.err
 
 pub returns-in-Err-count_cluster-clause-makes : goal.returns-in-Err-count_cluster-clause-makes
-returns-in-Err-count_cluster-clause-makes g c = λ first f pending begun free.
+returns-in-Err-count_cluster-clause-makes g c = λ pending first f begun free.
     let state = g.S.Storage.state in
     let table = table_of c.args.self.now in
     let new = c.count_cluster.new in
@@ -56,7 +56,7 @@ write_block-requires-clause-namable g c =
     namable (table_of c.args.self.now) c.cluster_bits.result c.args.place named.0 named.1 c.in-Ok.block.cluster (ap (λ (b : Block). b.cluster) c.in-Ok.ensures.ok)
 
 pub returns-in-Ok-flush_rb-clause-makes : goal.returns-in-Ok-flush_rb-clause-makes
-returns-in-Ok-flush_rb-clause-makes g c = λ first f pending begun free.
+returns-in-Ok-flush_rb-clause-makes g c = λ pending first f begun free.
     let state = g.S.Storage.state in
     let table = table_of c.args.self.now in
     let mid = c.count_cluster.new in
@@ -73,7 +73,7 @@ returns-in-Ok-flush_rb-clause-makes g c = λ first f pending begun free.
     c.requires.inside c.requires.empty c.cluster_bits.ensures.shaped.low named.0.some reach below c.in-Ok.block c.in-Ok.ensures.ok c.write_block.result (table_of new.self) new.file c.write_block.ensures.header c.write_block.ensures.names
 
 pub returns-in-Err-flush_rb-clause-makes : goal.returns-in-Err-flush_rb-clause-makes
-returns-in-Err-flush_rb-clause-makes g c = λ first f pending begun free.
+returns-in-Err-flush_rb-clause-makes g c = λ pending first f begun free.
     let state = g.S.Storage.state in
     let table = table_of c.args.self.now in
     let mid = c.count_cluster.new in

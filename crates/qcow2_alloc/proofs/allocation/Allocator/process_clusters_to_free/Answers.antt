@@ -7,6 +7,7 @@ use Rattle.qcow2_alloc.specs.Allocators.{table_of, mark_of}
 use Rattle.qcow2_alloc.specs.Caches.{order_of}
 use Rattle.qcow2_alloc.specs.FreeList.{FreeList}
 use Rattle.qcow2_alloc.specs.Freeing.{Frees, IsRest, IsRestInTurn, data_in}
+use Rattle.qcow2_alloc.specs.State.{lent}
 use Rattle.qcow2_alloc.proofs.Freeing.FreeingEntries.{frees-then, freed, failed}
 use Rattle.qcow2_alloc.proofs.Freeing.FreeingInTurn.{announcing-frees}
 use Rattle.qcow2_alloc.proofs.Freeing.FreeingRest.{order-announced, rest-none, rest-of-data, rest-without-metadata}
@@ -21,7 +22,7 @@ returns-in-Ok-clause-frees g c =
     let n = c.free_all.new in
     let done = c.in-Ok.ensures in
     let announced = announcing-frees state t m.caches m.file a.self a.file (mark_of m.self) m.list.entries done.kept done.header done.room freed done.going done.announced tt done.safe done.cause done.faults in
-    let rest = subst (λ (v : TableValue). Frees state v a.self a.file (mark_of m.self) m.list.entries c.free_all.result n.caches n.file (mark_of n.self) n.list.entries) c.free_metadata.ensures.table (c.free_all.ensures.frees done.announced) in
+    let rest = subst (λ (v : TableValue). Frees state (mark_of m.self) (lent v a.self a.file m.list.entries) c.free_all.result (lent v n.caches n.file n.list.entries) (mark_of n.self)) c.free_metadata.ensures.table (c.free_all.ensures.frees done.announced) in
     frees-then state t c.args.caches.now c.args.file.now (mark_of c.args.self.now) c.args.list.now.entries m.caches m.file (mark_of m.self) m.list.entries c.free_all.result n.caches n.file (mark_of n.self) n.list.entries c.in_default.ensures.frees
     (frees-then state t m.caches m.file (mark_of m.self) m.list.entries a.self a.file (mark_of m.self) m.list.entries c.free_all.result n.caches n.file (mark_of n.self) n.list.entries announced rest)
 

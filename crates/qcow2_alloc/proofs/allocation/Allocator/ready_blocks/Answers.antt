@@ -2,6 +2,7 @@ use Rattle.std.proofs.Common.{arith, ℕ, ◌+◌, ◌/◌, subst}
 use Rattle.qcow2_alloc.specs.Allocators.{table_of, mark_of}
 use Rattle.qcow2_types.specs.Counts.{counters_of_block}
 use Rattle.qcow2_alloc.specs.GrowingTables.{GrowsTable}
+use Rattle.qcow2_alloc.specs.State.{lent}
 use Rattle.qcow2_alloc.proofs.Blocks.CountingClusters.{succeeded}
 use Rattle.qcow2_alloc.proofs.Freeing.FreeingEntries.{failed}
 use Rattle.qcow2_alloc.proofs.Blocks.ReadyingBlocks.{blocks-ready, table-ready, table-not-ready}
@@ -22,7 +23,7 @@ returns-in-Err-clause-readies g c =
     let long = c.entries.ensures.value in
     table-not-ready g.S.Storage.state (mark_of c.args.self.now) (c.args.last + (c.args.count / counters_of_block c.args.file.now.header.fields + 2)) c.args.first c.args.last (table_of c.args.self.now) c.args.caches.now c.args.file.now c.args.list.now.entries (omega (arith, past, long))
     (table_of new.self) new.caches new.file new.list.entries c.in-Err.fault
-    (subst (λ (x : ℕ). GrowsTable g.S.Storage.state (mark_of c.args.self.now) (c.args.last + (c.args.count / x + 2)) (table_of c.args.self.now) c.args.caches.now c.args.file.now c.args.list.now.entries (failed c.in-Err.fault) (table_of new.self) new.caches new.file new.list.entries) c.rb_entries.ensures.value c.in-Err.ensures.grows)
+    (subst (λ (x : ℕ). GrowsTable g.S.Storage.state (mark_of c.args.self.now) (c.args.last + (c.args.count / x + 2)) (lent (table_of c.args.self.now) c.args.caches.now c.args.file.now c.args.list.now.entries) (failed c.in-Err.fault) (lent (table_of new.self) new.caches new.file new.list.entries)) c.rb_entries.ensures.value c.in-Err.ensures.grows)
 
 pub returns-in-Ok-clause-readies : goal.returns-in-Ok-clause-readies
 returns-in-Ok-clause-readies g c =
@@ -31,4 +32,4 @@ returns-in-Ok-clause-readies g c =
     let long = c.entries.ensures.value in
     table-ready g.S.Storage.state (mark_of c.args.self.now) (c.args.last + (c.args.count / counters_of_block c.args.file.now.header.fields + 2)) c.args.first c.args.last (table_of c.args.self.now) c.args.caches.now c.args.file.now c.args.list.now.entries (omega (arith, past, long))
     (table_of new.self) new.caches new.file new.list.entries (omega arith)
-    (subst (λ (x : ℕ). GrowsTable g.S.Storage.state (mark_of c.args.self.now) (c.args.last + (c.args.count / x + 2)) (table_of c.args.self.now) c.args.caches.now c.args.file.now c.args.list.now.entries succeeded (table_of new.self) new.caches new.file new.list.entries) c.rb_entries.ensures.value c.in-Ok.ensures.grows)
+    (subst (λ (x : ℕ). GrowsTable g.S.Storage.state (mark_of c.args.self.now) (c.args.last + (c.args.count / x + 2)) (lent (table_of c.args.self.now) c.args.caches.now c.args.file.now c.args.list.now.entries) succeeded (lent (table_of new.self) new.caches new.file new.list.entries)) c.rb_entries.ensures.value c.in-Ok.ensures.grows)

@@ -5,6 +5,7 @@ use Rattle.qcow2_types.specs.Counts.{counters_of_block}
 use Rattle.qcow2_alloc.specs.Allocators.{table_of, mark_of}
 use Rattle.qcow2_alloc.specs.ReadyingBlocks.{ReadiesBlocks, last_number}
 use Rattle.qcow2_alloc.specs.ReadyingRuns.{ReadiesRun}
+use Rattle.qcow2_alloc.specs.State.{lent}
 use Rattle.qcow2_alloc.proofs.Handing.ReadyingRuns.{Stays, stays-none, stays-found, stays-on, found-run, readying-none, readying-searched, readying-made, search-refused, making-refused, unfit-refused, grown-refused, run-ready, turns-fewer}
 use Rattle.qcow2_alloc.proofs.allocation.Allocator.ready_run.Goals as goal
 
@@ -16,7 +17,7 @@ returns-in-Err-clause-readies g c =
     let state = g.S.Storage.state in
     let l = c.loop-first in
     let new = c.find_run.new in
-    subst (λ (m : ℕ). ReadiesRun state m c.args.count (table_of c.args.self.now) c.args.caches.now c.args.file.now c.args.list.now.entries (Err c.in-Err.fault) (table_of l.self) new.caches new.file l.list.entries) l.invariant.1
+    subst (λ (m : ℕ). ReadiesRun state m c.args.count (lent (table_of c.args.self.now) c.args.caches.now c.args.file.now c.args.list.now.entries) (Err c.in-Err.fault) (lent (table_of l.self) new.caches new.file l.list.entries)) l.invariant.1
     (search-refused state (table_of c.args.self.now) c.args.caches.now c.args.file.now c.args.list.now.entries (table_of l.self) l.caches l.file l.list.entries l.invariant.0 (mark_of l.self) c.args.count c.in-Err.fault new.caches new.file c.in-Err.ensures)
 
 pub returns-in-Err-last_index-clause-readies : goal.returns-in-Err-last_index-clause-readies
@@ -24,7 +25,7 @@ returns-in-Err-last_index-clause-readies g c =
     let state = g.S.Storage.state in
     let l = c.loop-first in
     let new = c.find_run.new in
-    subst (λ (m : ℕ). ReadiesRun state m c.args.count (table_of c.args.self.now) c.args.caches.now c.args.file.now c.args.list.now.entries (Err c.in-Err-last_index.fault) (table_of l.self) new.caches new.file l.list.entries) l.invariant.1
+    subst (λ (m : ℕ). ReadiesRun state m c.args.count (lent (table_of c.args.self.now) c.args.caches.now c.args.file.now c.args.list.now.entries) (Err c.in-Err-last_index.fault) (lent (table_of l.self) new.caches new.file l.list.entries)) l.invariant.1
     (unfit-refused state (table_of c.args.self.now) c.args.caches.now c.args.file.now c.args.list.now.entries (table_of l.self) l.caches l.file l.list.entries l.invariant.0 (mark_of l.self) c.args.count c.in-Ok.first c.requires.some new.caches new.file c.in-Ok.ensures
     c.in-Err-last_index.fault c.in-Err-last_index.ensures.err
     (subst (λ (m : ℕ). Stays state (table_of c.args.self.now) c.args.caches.now c.args.file.now c.args.list.now.entries m c.args.count (table_of l.self) l.caches l.file l.list.entries) (sym l.invariant.1) l.invariant.4))
@@ -47,7 +48,7 @@ returns-then-has_grown_short_of-clause-readies g c =
     let more = short.0 in
     let less = short.1 in
     let index = c.in-Ok-last_index.ensures.index in
-    subst (λ (m : ℕ). ReadiesRun state m c.args.count (table_of c.args.self.now) c.args.caches.now c.args.file.now c.args.list.now.entries (Err (Limit c.saturating_add.result)) (table_of l.self) new.caches new.file l.list.entries) l.invariant.1
+    subst (λ (m : ℕ). ReadiesRun state m c.args.count (lent (table_of c.args.self.now) c.args.caches.now c.args.file.now c.args.list.now.entries) (Err (Limit c.saturating_add.result)) (lent (table_of l.self) new.caches new.file l.list.entries)) l.invariant.1
     (grown-refused state (table_of c.args.self.now) c.args.caches.now c.args.file.now c.args.list.now.entries (table_of l.self) l.caches l.file l.list.entries l.invariant.0 (mark_of l.self) c.args.count c.in-Ok.first c.requires.some new.caches new.file c.in-Ok.ensures
     c.saturating_add.result (subst (λ (z : ℕ). c.saturating_add.result ≡ last_number z c.args.count) c.first.view_is c.saturating_add.ensures) (omega (arith, long, more)) (omega (arith, less, index))
     (subst (λ (m : ℕ). Stays state (table_of c.args.self.now) c.args.caches.now c.args.file.now c.args.list.now.entries m c.args.count (table_of l.self) l.caches l.file l.list.entries) (sym l.invariant.1) l.invariant.4))
@@ -79,7 +80,7 @@ loop-first-preserved g c =
     let kept = stays-found state (table_of c.args.self.now) c.args.caches.now c.args.file.now c.args.list.now.entries (table_of l.self) l.caches l.file l.list.entries l.invariant.0 (mark_of l.self) c.args.count c.in-Ok.first c.requires.some searched.caches searched.file c.in-Ok.ensures
     (subst (λ (m : ℕ). Stays state (table_of c.args.self.now) c.args.caches.now c.args.file.now c.args.list.now.entries m c.args.count (table_of l.self) l.caches l.file l.list.entries) (sym l.invariant.1) l.invariant.4) in
     let index : c.rt_index-first_index.result ≡ c.in-Ok.first / k = c.rt_index-first_index.ensures ∙ ap (λ (m : ℕ). c.in-Ok.first / m) bits.entries in
-    let readies = subst (λ (b : Bool). ReadiesBlocks state (mark_of l.self) at c.rt_index-first_index.result c.in-Ok-last_index.index (table_of l.self) searched.caches searched.file l.list.entries (Ok b) (table_of new.self) new.caches new.file new.list.entries) c.in-Ok-true.field-0-test made.readies in (
+    let readies = subst (λ (b : Bool). ReadiesBlocks state (mark_of l.self) at c.rt_index-first_index.result c.in-Ok-last_index.index (lent (table_of l.self) searched.caches searched.file l.list.entries) (Ok b) (lent (table_of new.self) new.caches new.file new.list.entries)) c.in-Ok-true.field-0-test made.readies in (
       readying-made state (table_of c.args.self.now) c.args.caches.now c.args.file.now c.args.list.now.entries (table_of l.self) searched.caches searched.file l.list.entries found
           (mark_of l.self) at c.rt_index-first_index.result c.in-Ok-last_index.index true (table_of new.self) new.caches new.file new.list.entries readies
           (covers _ (length (table_of l.self).words) c.in-Ok-last_index.index (length (table_of c.args.self.now).words) c.has_grown_short_of.result c.if-has_grown_short_of.false (λ a b. c.has_grown_short_of.ensures.1 (a, b)) l.invariant.3),
@@ -109,10 +110,10 @@ returns-in-Ok-false-clause-readies g c =
     let done = readying-made state (table_of c.args.self.now) c.args.caches.now c.args.file.now c.args.list.now.entries (table_of l.self) searched.caches searched.file l.list.entries found
     (mark_of l.self) at c.rt_index-first_index.result c.in-Ok-last_index.index c.in-Ok-false.field-0 (table_of new.self) new.caches new.file new.list.entries made.readies
     (covers _ (length (table_of l.self).words) c.in-Ok-last_index.index (length (table_of c.args.self.now).words) c.has_grown_short_of.result c.if-has_grown_short_of.false (λ a b. c.has_grown_short_of.ensures.1 (a, b)) l.invariant.3) in
-    let none : ReadiesBlocks state (mark_of l.self) at (c.in-Ok.first / k) c.in-Ok-last_index.index (table_of l.self) searched.caches searched.file l.list.entries (Ok false) (table_of new.self) new.caches new.file new.list.entries =
-    subst (λ (m : ℕ). ReadiesBlocks state (mark_of l.self) at m c.in-Ok-last_index.index (table_of l.self) searched.caches searched.file l.list.entries (Ok false) (table_of new.self) new.caches new.file new.list.entries) index
-    (subst (λ (b : Bool). ReadiesBlocks state (mark_of l.self) at c.rt_index-first_index.result c.in-Ok-last_index.index (table_of l.self) searched.caches searched.file l.list.entries (Ok b) (table_of new.self) new.caches new.file new.list.entries) c.in-Ok-false.field-0-test made.readies) in
-    subst (λ (m : ℕ). ReadiesRun state m c.args.count (table_of c.args.self.now) c.args.caches.now c.args.file.now c.args.list.now.entries (Ok c.in-Ok.first) (table_of new.self) new.caches new.file new.list.entries) l.invariant.1
+    let none : ReadiesBlocks state (mark_of l.self) at (c.in-Ok.first / k) c.in-Ok-last_index.index (lent (table_of l.self) searched.caches searched.file l.list.entries) (Ok false) (lent (table_of new.self) new.caches new.file new.list.entries) =
+    subst (λ (m : ℕ). ReadiesBlocks state (mark_of l.self) at m c.in-Ok-last_index.index (lent (table_of l.self) searched.caches searched.file l.list.entries) (Ok false) (lent (table_of new.self) new.caches new.file new.list.entries)) index
+    (subst (λ (b : Bool). ReadiesBlocks state (mark_of l.self) at c.rt_index-first_index.result c.in-Ok-last_index.index (lent (table_of l.self) searched.caches searched.file l.list.entries) (Ok b) (lent (table_of new.self) new.caches new.file new.list.entries)) c.in-Ok-false.field-0-test made.readies) in
+    subst (λ (m : ℕ). ReadiesRun state m c.args.count (lent (table_of c.args.self.now) c.args.caches.now c.args.file.now c.args.list.now.entries) (Ok c.in-Ok.first) (lent (table_of new.self) new.caches new.file new.list.entries)) l.invariant.1
     (run-ready state (table_of c.args.self.now) c.args.caches.now c.args.file.now c.args.list.now.entries (table_of l.self) l.caches l.file l.list.entries l.invariant.0 (mark_of l.self) c.args.count c.in-Ok.first c.requires.some searched.caches searched.file c.in-Ok.ensures
     (table_of new.self) new.caches new.file new.list.entries k c.in-Ok-last_index.index refl at none done
     (subst (λ (m : ℕ). Stays state (table_of c.args.self.now) c.args.caches.now c.args.file.now c.args.list.now.entries m c.args.count (table_of l.self) l.caches l.file l.list.entries) (sym l.invariant.1) l.invariant.4)
@@ -132,7 +133,7 @@ returns-in-Err-ready_blocks-clause-readies g c =
     let index : c.rt_index-first_index.result ≡ c.in-Ok.first / k = c.rt_index-first_index.ensures ∙ ap (λ (m : ℕ). c.in-Ok.first / m) bits.entries in
     let kept = stays-found state (table_of c.args.self.now) c.args.caches.now c.args.file.now c.args.list.now.entries (table_of l.self) l.caches l.file l.list.entries l.invariant.0 (mark_of l.self) c.args.count c.in-Ok.first c.requires.some searched.caches searched.file c.in-Ok.ensures
     (subst (λ (m : ℕ). Stays state (table_of c.args.self.now) c.args.caches.now c.args.file.now c.args.list.now.entries m c.args.count (table_of l.self) l.caches l.file l.list.entries) (sym l.invariant.1) l.invariant.4) in
-    subst (λ (m : ℕ). ReadiesRun state m c.args.count (table_of c.args.self.now) c.args.caches.now c.args.file.now c.args.list.now.entries (Err c.in-Err-ready_blocks.fault) (table_of new.self) new.caches new.file new.list.entries) l.invariant.1
+    subst (λ (m : ℕ). ReadiesRun state m c.args.count (lent (table_of c.args.self.now) c.args.caches.now c.args.file.now c.args.list.now.entries) (Err c.in-Err-ready_blocks.fault) (lent (table_of new.self) new.caches new.file new.list.entries)) l.invariant.1
     (making-refused state (table_of c.args.self.now) c.args.caches.now c.args.file.now c.args.list.now.entries (table_of l.self) searched.caches searched.file l.list.entries
     (readying-searched state (table_of c.args.self.now) c.args.caches.now c.args.file.now c.args.list.now.entries (table_of l.self) l.caches l.file l.list.entries l.invariant.0 (mark_of l.self) c.args.count c.in-Ok.first searched.caches searched.file c.in-Ok.ensures)
     (mark_of l.self) c.args.count c.in-Ok.first c.rt_index-first_index.result c.in-Ok-last_index.index c.requires.some
