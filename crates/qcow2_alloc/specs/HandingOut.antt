@@ -10,7 +10,6 @@ use Rattle.qcow2_types.specs.Pending.{FreeEntry}
 use Rattle.qcow2_types.specs.References.{structure, meets}
 use Rattle.qcow2_metadata.specs.Growth.{IsGrownLength}
 use Rattle.qcow2_metadata.specs.Places.{IsInReach}
-use Rattle.qcow2_metadata.specs.Tables.{TableValue}
 use Rattle.qcow2_alloc.specs.declared.cache.CacheDependency.TheVariants.{L2DependsOnRb}
 use Rattle.qcow2_alloc.specs.declared.cache.MetadataCaches.{MetadataCaches}
 use Rattle.qcow2_alloc.specs.declared.file.ImageFile.{ImageFile}
@@ -26,11 +25,10 @@ use Rattle.qcow2_alloc.specs.State.{ImageState, lent, metadata, IsKept, WhereKep
 
 -- Caches that had room to spare have it still, and the refcount table names what is pinned where it did; there is as much room, and the L2 tables
 -- are kept; and nothing of the header has changed but perhaps the refcount table's place.
-pub record StaysInShape {S : Type 0} (table : TableValue) (old : MetadataCaches S) (before : ImageFile S) (table' : TableValue)
-    (new : MetadataCaches S) (after : ImageFile S) : Type 0 where
-  pub moved : MovedTable before.header after.header
-  pub loose : (any : Bool) → IsLoose table old any → IsLoose table' new any
-  pub room : KeepsTables old new
+pub record StaysInShape {S : Type 0} (s s' : ImageState S) : Type 0 where
+  pub moved : MovedTable s.file.header s'.file.header
+  pub loose : (any : Bool) → IsLoose s.table s.caches any → IsLoose s'.table s'.caches any
+  pub room : KeepsTables s.caches s'.caches
 
 -- The refcount table grows until it holds an index: first it is announced that blocks are written before tables. The old table waits to be freed
 -- then. A sound image stays sound, and its disk as it is, stops included. Refused without being cut off, table, header and list are what they
@@ -47,7 +45,7 @@ pub record GrowsReftable {S : Type 0} (state : S → StorageState) (mark at : �
   pub enough : OnOk result
       (IsGrownLength (words_of_cluster s.file.header.fields) (counters_of_block s.file.header.fields) at (length s'.table.words))
   pub order : OnOk result (order_of s'.caches ≡ L2DependsOnRb)
-  pub shape : StaysInShape s.table s.caches s.file s'.table s'.caches s'.file
+  pub shape : StaysInShape s s'
   pub waits : OnOk result (s'.pending ≡ s.pending ++ table_run s.file.header.fields)
   pub kept : OnErr result (s'.pending ≡ s.pending)
   pub stays : IfErr result (λ fault. IsMild fault → (s'.table ≡ s.table) × (s'.file.header ≡ s.file.header))
@@ -115,7 +113,7 @@ pub record AllocatesClusters {S : Type 0} (state : S → StorageState) (mark n :
   pub further : IfOk result (λ entry. mark' ≡ mark_behind mid_mark n entry.first)
   pub stays : OnErr result (mark' ≡ mid_mark)
   pub order : OnOk result (order_of s'.caches ≡ L2DependsOnRb)
-  pub shape : StaysInShape s.table s.caches s.file s'.table s'.caches s'.file
+  pub shape : StaysInShape s s'
   pub list : IsLengthenedByTable s.file.header.fields s.table s'.table left s'.pending
   pub cause : MatchResult result (λ _. (state s'.file.image).faults ≡ (state s.file.image).faults)
       (WhyNotAllocated (IsKept state s) (IsLoose s.table s.caches)
@@ -180,7 +178,7 @@ pub record AllocatesClusterAt {S : Type 0} (state : S → StorageState) (mark cl
   pub marked : WhereKept state s (WasNotCutOff result
       → IsMarked (metadata state s) mark → IsMarked (metadata state s') mark')
   pub order : OnOk result (order_of s'.caches ≡ L2DependsOnRb)
-  pub shape : StaysInShape s.table s.caches s.file s'.table s'.caches s'.file
+  pub shape : StaysInShape s s'
   pub list : IsLengthenedByTable s.file.header.fields s.table s'.table s.pending s'.pending
   pub cause : MatchResult result (λ _. (state s'.file.image).faults ≡ (state s.file.image).faults)
       (WhyNotAllocated (IsKept state s) (IsLoose s.table s.caches) (λ _. ⊥) (state s.file.image).faults (state s'.file.image).faults)

@@ -74,7 +74,7 @@ module _ {S : Type 0} (state : S → StorageState) (pending : List FreeEntry) (f
   -- None,
   pub blocks-none : (table : TableValue) (old : MetadataCaches S) (before : ImageFile S) → MakesBlocks state first first (lent table old before pending) (so false) (lent table old before pending)
   blocks-none table old before = record {
-    step = allocating-none state table old before pending;
+    step = allocating-none state (lent table old before pending);
     named = λ i above below. omega (arith, above, below);
     kept = λ i some. refl;
     idle = λ none. (refl, refl, refl);
@@ -109,7 +109,7 @@ module _ {S : Type 0} (state : S → StorageState) (pending : List FreeEntry) (f
     pub blocks-then : c < length tA.words → block_offset (slice_index tB.words c) ≡ 0 → first ≤ c → (result : Result Unit Fault) (tC : TableValue) (C : MetadataCaches S) (fC : ImageFile S) → MakesBlock state c (lent tB B fB pending) result (lent tC C fC pending)
         → MakesBlocks state first (c + 1) (lent tA A fA pending) (made_by result) (lent tC C fC pending)
     blocks-then inside none above result tC C fC two = record {
-      step = step result (block-allocates state c tB B fB result tC C fC pending two);
+      step = step result (block-allocates state c (lent tB B fB pending) result tC C fC two);
       named = named result two.named;
       kept = λ i some. kept i some;
       idle = idle result;
@@ -122,10 +122,10 @@ module _ {S : Type 0} (state : S → StorageState) (pending : List FreeEntry) (f
     }
       where
         step : (r : Result Unit Fault) → Allocating state (WasNotCutOff r) (λ _. 0) (lent tB B fB pending) (lent tC C fC pending) → Allocating state (WasNotCutOff (made_by r)) (λ _. 0) (lent tA A fA pending) (lent tC C fC pending)
-        step (Ok done) more = allocating-as state (WasNotCutOff (so true)) (WasNotCutOff (so true)) (λ d. 0 + 0) (λ _. 0) tA A fA pending tC C fC pending (λ w. w) (λ d. omega arith)
-            (allocating-then state (WasNotCutOff (so made)) (WasNotCutOff (so true)) (λ _. 0) (λ _. 0) tA A fA pending tB B fB pending tC C fC pending tt one.step more)
-        step (Err fault) more = allocating-as state (WasNotCutOff (made_by (Err fault))) (WasNotCutOff (made_by (Err fault))) (λ d. 0 + 0) (λ _. 0) tA A fA pending tC C fC pending (λ w. w) (λ d. omega arith)
-            (allocating-then state (WasNotCutOff (so made)) (WasNotCutOff (made_by (Err fault))) (λ _. 0) (λ _. 0) tA A fA pending tB B fB pending tC C fC pending tt one.step more)
+        step (Ok done) more = allocating-as state (WasNotCutOff (so true)) (WasNotCutOff (so true)) (λ d. 0 + 0) (λ _. 0) (lent tA A fA pending) (lent tC C fC pending) (λ w. w) (λ d. omega arith)
+            (allocating-then state (WasNotCutOff (so made)) (WasNotCutOff (so true)) (λ _. 0) (λ _. 0) (lent tA A fA pending) (lent tB B fB pending) (lent tC C fC pending) tt one.step more)
+        step (Err fault) more = allocating-as state (WasNotCutOff (made_by (Err fault))) (WasNotCutOff (made_by (Err fault))) (λ d. 0 + 0) (λ _. 0) (lent tA A fA pending) (lent tC C fC pending) (λ w. w) (λ d. omega arith)
+            (allocating-then state (WasNotCutOff (so made)) (WasNotCutOff (made_by (Err fault))) (λ _. 0) (λ _. 0) (lent tA A fA pending) (lent tB B fB pending) (lent tC C fC pending) tt one.step more)
 
         others : (i : ℕ) → i ≢ c → slice_index tC.words i ≡ slice_index tB.words i
         others = two.others

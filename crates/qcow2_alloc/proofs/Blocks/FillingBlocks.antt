@@ -1,5 +1,5 @@
 -- Which clusters blocks take that are made one behind the other.
-use Rattle.std.proofs.Common.{Bool, List, Ok, ◌≡◌, ◌≢◌, ℕ, ◌+◌, ◌*◌, ◌/◌, ◌<◌, ◌≤◌, refl, arith, ap, sym, subst, ◌∙◌, inl, inr}
+use Rattle.std.proofs.Common.{Bool, Ok, ◌≡◌, ◌≢◌, ℕ, ◌+◌, ◌*◌, ◌/◌, ◌<◌, ◌≤◌, refl, arith, ap, sym, subst, ◌∙◌, inl, inr}
 use Rattle.std.specs.Prelude.{IsTrue, slice_index}
 use Rattle.std.proofs.lemmas.Bool.{cases_Bool, cases_eq, cases_lt}
 use Rattle.std.proofs.Math.Nat.{mul-le-mul, div-mul-le_self}
@@ -7,7 +7,6 @@ use Rattle.std.proofs.lemmas.Nat.{le-div}
 use Rattle.imago_storage.specs.State.{StorageState}
 use Rattle.imago_storage.proofs.Composing.{keeps_on}
 use Rattle.qcow2_types.proofs.Counters.{some-counters}
-use Rattle.qcow2_types.specs.Pending.{FreeEntry}
 use Rattle.qcow2_types.specs.Counts.{counters_of_block}
 use Rattle.qcow2_types.specs.Header.{Header}
 use Rattle.qcow2_types.specs.Words.{block_offset}
@@ -21,7 +20,7 @@ use Rattle.qcow2_alloc.specs.Caches.{order_of}
 use Rattle.qcow2_alloc.specs.FillingBlocks.{IsBlockPlaced, FillsFrom, made_for}
 use Rattle.qcow2_alloc.specs.Growing.{lacks, lacking}
 use Rattle.qcow2_alloc.specs.Quiet.{Metadata, IsSound, counted}
-use Rattle.qcow2_alloc.specs.State.{lent}
+use Rattle.qcow2_alloc.specs.State.{ImageState, lent, metadata}
 use Rattle.qcow2_alloc.proofs.Growth.FindingRoom.{rank-almost, rank-more, rank-fewer, lacks-inside, lacks-none, lacks-so}
 use Rattle.qcow2_alloc.proofs.Blocks.EnsuringBlocks.{so}
 use Rattle.qcow2_alloc.proofs.Memory.Patches.{shaped-in}
@@ -120,18 +119,18 @@ module _ (mark index : ℕ) (m : Metadata) where
       }
 
 -- One turn of a call that makes blocks.
-module _ {S : Type 0} (state : S → StorageState) (mark : ℕ) (pending : List FreeEntry) (first c : ℕ) (tA : TableValue) (A : MetadataCaches S) (fA : ImageFile S) (made : Bool) (tB : TableValue) (B : MetadataCaches S) (fB : ImageFile S) (one : MakesBlocks state first c (lent tA A fA pending) (so made) (lent tB B fB pending)) where
+module _ {S : Type 0} (state : S → StorageState) (mark : ℕ) (sA : ImageState S) (first c : ℕ) (made : Bool) (tB : TableValue) (B : MetadataCaches S) (fB : ImageFile S) (one : MakesBlocks state first c sA (so made) (lent tB B fB sA.pending)) where
   abbrev Start : Metadata
-  Start = metadata_of state fA A tA pending
+  Start = metadata state sA
 
   abbrev Mid : Metadata
-  Mid = metadata_of state fB B tB pending
+  Mid = metadata_of state fB B tB sA.pending
 
-  pub turn-fills : block_offset (slice_index tB.words c) ≡ 0 → first ≤ c → (tC : TableValue) (C : MetadataCaches S) (fC : ImageFile S) → MakesBlock state c (lent tB B fB pending) (Ok tt) (lent tC C fC pending)
-      → (order_of B ≡ L2DependsOnRb → IsTrue (state fB.image).shape.keeps → IsSound Mid → IsBlockPlaced mark c Mid (metadata_of state fC C tC pending))
-      → order_of A ≡ L2DependsOnRb → IsTrue (state fA.image).shape.keeps → IsSound Start → FillsFrom mark first c Start Mid → FillsFrom mark first (c + 1) Start (metadata_of state fC C tC pending)
+  pub turn-fills : block_offset (slice_index tB.words c) ≡ 0 → first ≤ c → (tC : TableValue) (C : MetadataCaches S) (fC : ImageFile S) → MakesBlock state c (lent tB B fB sA.pending) (Ok tt) (lent tC C fC sA.pending)
+      → (order_of B ≡ L2DependsOnRb → IsTrue (state fB.image).shape.keeps → IsSound Mid → IsBlockPlaced mark c Mid (metadata_of state fC C tC sA.pending))
+      → order_of sA.caches ≡ L2DependsOnRb → IsTrue (state sA.file.image).shape.keeps → IsSound Start → FillsFrom mark first c Start Mid → FillsFrom mark first (c + 1) Start (metadata_of state fC C tC sA.pending)
   turn-fills none above tC C fC two placed order keeps sound fills =
       let quiet = one.step.quiet order in
       let still = (quiet.holds keeps sound tt).0 in
-      fills-then mark first Start c Mid fills (metadata_of state fC C tC pending) one.header (placed (one.step.order ∙ order) (keeps_on (state fA.image) (state fB.image) quiet.shape keeps) still)
-      (some-counters fA.header.fields (shaped-in Start.file Start.header sound.safe.consistent)) above one.named none two.named two.others
+      fills-then mark first Start c Mid fills (metadata_of state fC C tC sA.pending) one.header (placed (one.step.order ∙ order) (keeps_on (state sA.file.image) (state fB.image) quiet.shape keeps) still)
+      (some-counters sA.file.header.fields (shaped-in Start.file Start.header sound.safe.consistent)) above one.named none two.named two.others

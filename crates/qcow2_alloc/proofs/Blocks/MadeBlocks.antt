@@ -14,7 +14,6 @@ use Rattle.imago_storage.proofs.Composing.{keeps_on, later_both, later_same}
 use Rattle.qcow2_types.specs.Bytes.{bytes_of}
 use Rattle.qcow2_types.specs.Counts.{counters_of_block}
 use Rattle.qcow2_types.specs.Header.{Header, cluster_size}
-use Rattle.qcow2_types.specs.Pending.{FreeEntry}
 use Rattle.qcow2_types.specs.References.{meets}
 use Rattle.qcow2_types.specs.Words.{Layout, block_offset, max_offset}
 use Rattle.qcow2_types.proofs.Consistent.{meets-own}
@@ -37,7 +36,7 @@ use Rattle.qcow2_alloc.specs.Going.{WasNotCutOff, WhyNotWritten}
 use Rattle.qcow2_alloc.specs.MakingBlocks.{Begins, CanName, WhyNotNamed, NamesWritten}
 use Rattle.qcow2_alloc.specs.MakingRoom.{with_block}
 use Rattle.qcow2_alloc.specs.Quiet.{Metadata, in_memory, counted, IsUsed, IsSound, Quietly, named_at_all}
-use Rattle.qcow2_alloc.specs.State.{lent}
+use Rattle.qcow2_alloc.specs.State.{ImageState, lent, metadata, IsGuarded}
 use Rattle.qcow2_alloc.proofs.Handing.Allocating.{raised-then}
 use Rattle.qcow2_alloc.proofs.Quiet.AtOnce.{put-done}
 use Rattle.qcow2_alloc.proofs.Flushing.Faultless.{never-mild, faultless-then, put-faultless}
@@ -120,39 +119,39 @@ word-named table i d bits result modified inside low some reach = record {
 }
 
 -- The end of the call: a block is written, and then named.
-module _ {S : Type 0} (state : S → StorageState) (i d : ℕ) (counters : List ℕ) (table : TableValue) (C : MetadataCaches S) (fC : ImageFile S) (pending : List FreeEntry) where
+module _ {S : Type 0} (state : S → StorageState) (i d : ℕ) (counters : List ℕ) (sC : ImageState S) where
   abbrev pub B : Block
-  B = block_of fC.header.fields.cluster_bits fC.header.fields.refcount_order counters (Some d) true
+  B = block_of sC.file.header.fields.cluster_bits sC.file.header.fields.refcount_order counters (Some d) true
 
   abbrev mC : Metadata
-  mC = metadata_of state fC C table pending
+  mC = metadata state sC
 
   -- What it does, where these clusters are taken.
   pub record Ends (ready : Type 0) (taken : ℕ → ℕ) (result : Result Unit Fault) (table' : TableValue) (after : StorageState) : Type 0 where
-    pub shape : after.shape ≡ (state fC.image).shape
-    pub later : Later (state fC.image) after
-    pub faults : WasNotCutOff result → IsFaultless (state fC.image) after
-    pub quiet : IsTrue (state fC.image).shape.keeps → ready → Quietly (WasNotCutOff result) (λ _. 0) taken (state fC.image) mC after (record mC { file = bytes_of after.bytes; table = table' })
-    pub raised : IsTrue (state fC.image).shape.keeps → IsSound mC → ready → WasNotCutOff result → OnlyRaised mC (record mC { file = bytes_of after.bytes; table = table' })
-    pub named : NamedAt table i d result table'
-    pub cause : MatchResult result (λ _. after.faults ≡ (state fC.image).faults) (Cause (state fC.image).faults after.faults)
+    pub shape : after.shape ≡ (state sC.file.image).shape
+    pub later : Later (state sC.file.image) after
+    pub faults : WasNotCutOff result → IsFaultless (state sC.file.image) after
+    pub quiet : IsTrue (state sC.file.image).shape.keeps → ready → Quietly (WasNotCutOff result) (λ _. 0) taken (state sC.file.image) mC after (record mC { file = bytes_of after.bytes; table = table' })
+    pub raised : IsTrue (state sC.file.image).shape.keeps → IsSound mC → ready → WasNotCutOff result → OnlyRaised mC (record mC { file = bytes_of after.bytes; table = table' })
+    pub named : NamedAt sC.table i d result table'
+    pub cause : MatchResult result (λ _. after.faults ≡ (state sC.file.image).faults) (Cause (state sC.file.image).faults after.faults)
 
-  module _ (ready : Type 0) (taken : ℕ → ℕ) (inside : i < length table.words) (low : 9 ≤ fC.header.fields.cluster_bits) (some : d ≢ 0) (reach : IsInReach fC.header.fields.cluster_bits d)
-      (written : ready → (mid : StorageState) (done : Result Unit Fault) → BlockPut B (d * cluster_size fC.header.fields) (state fC.image) mid done → Quietly (done ≡ Ok tt) taken taken (state fC.image) mC mid (record mC { file = bytes_of mid.bytes }))
-      (named : ready → (modified : Bool) (mid new : StorageState) (done : Result Unit Fault) → done ≡ Ok tt → BlockPut B (d * cluster_size fC.header.fields) (state fC.image) mid done → (result : Result Unit Fault)
-      → PutAtOnce mid new (table_place (with_word table i (d * cluster_size fC.header.fields)) + 8 * i) (to_be_bytes w64 (slice_index (with_word table i (d * cluster_size fC.header.fields)).words i)) result
-      → Quietly (result ≡ Ok tt) (λ _. 0) taken (state fC.image) mC new (with_block mC i d modified (bytes_of new.bytes))
-      × (IsTrue (state fC.image).shape.keeps → IsSound mC → result ≡ Ok tt → OnlyRaised mC (with_block mC i d modified (bytes_of new.bytes)))) where
-    stopped-end : (fault : Fault) (mid : StorageState) (done : Result Unit Fault) → done ≡ Err fault → BlockPut B (d * cluster_size fC.header.fields) (state fC.image) mid done → Ends ready taken (Err fault) table mid
+  module _ (ready : Type 0) (taken : ℕ → ℕ) (inside : i < length sC.table.words) (low : 9 ≤ sC.file.header.fields.cluster_bits) (some : d ≢ 0) (reach : IsInReach sC.file.header.fields.cluster_bits d)
+      (written : ready → (mid : StorageState) (done : Result Unit Fault) → BlockPut B (d * cluster_size sC.file.header.fields) (state sC.file.image) mid done → Quietly (done ≡ Ok tt) taken taken (state sC.file.image) mC mid (record mC { file = bytes_of mid.bytes }))
+      (named : ready → (modified : Bool) (mid new : StorageState) (done : Result Unit Fault) → done ≡ Ok tt → BlockPut B (d * cluster_size sC.file.header.fields) (state sC.file.image) mid done → (result : Result Unit Fault)
+      → PutAtOnce mid new (table_place (with_word sC.table i (d * cluster_size sC.file.header.fields)) + 8 * i) (to_be_bytes w64 (slice_index (with_word sC.table i (d * cluster_size sC.file.header.fields)).words i)) result
+      → Quietly (result ≡ Ok tt) (λ _. 0) taken (state sC.file.image) mC new (with_block mC i d modified (bytes_of new.bytes))
+      × (IsTrue (state sC.file.image).shape.keeps → IsSound mC → result ≡ Ok tt → OnlyRaised mC (with_block mC i d modified (bytes_of new.bytes)))) where
+    stopped-end : (fault : Fault) (mid : StorageState) (done : Result Unit Fault) → done ≡ Err fault → BlockPut B (d * cluster_size sC.file.header.fields) (state sC.file.image) mid done → Ends ready taken (Err fault) sC.table mid
     stopped-end fault mid done is put =
-        let cause = put-cause (state fC.image) mid (d * cluster_size fC.header.fields) put.bytes done put.put.put fault is in
+        let cause = put-cause (state sC.file.image) mid (d * cluster_size sC.file.header.fields) put.bytes done put.put.put fault is in
         record {
           shape = put.put.put.shape;
           later = put.put.put.later;
           faults = λ mild. absurd (never-mild _ _ fault cause mild);
           quiet = λ keeps r. let q = written r mid done put in record { shape = q.shape; later = q.later; passes = q.passes; holds = λ k sound mild. absurd (never-mild _ _ fault cause mild) };
           raised = λ keeps sound r mild. absurd (never-mild _ _ fault cause mild);
-          named = refused-named table i d fault;
+          named = refused-named sC.table i d fault;
           cause = cause;
         }
 
@@ -161,22 +160,22 @@ module _ {S : Type 0} (state : S → StorageState) (i d : ℕ) (counters : List 
     answer-caused (Ok done) old mid new at bytes same put = put.answer.faults ∙ same
     answer-caused (Err fault) old mid new at bytes same put = subst (λ n. Cause n new.faults fault) same put.answer.cause
 
-    named-end : (modified : Bool) (mid new : StorageState) (done : Result Unit Fault) → done ≡ Ok tt → BlockPut B (d * cluster_size fC.header.fields) (state fC.image) mid done → (result : Result Unit Fault)
-        → PutAtOnce mid new (table_place (with_word table i (d * cluster_size fC.header.fields)) + 8 * i) (to_be_bytes w64 (slice_index (with_word table i (d * cluster_size fC.header.fields)).words i)) result
-        → Ends ready taken result (record (with_word table i (d * cluster_size fC.header.fields)) { modified = modified }) new
+    named-end : (modified : Bool) (mid new : StorageState) (done : Result Unit Fault) → done ≡ Ok tt → BlockPut B (d * cluster_size sC.file.header.fields) (state sC.file.image) mid done → (result : Result Unit Fault)
+        → PutAtOnce mid new (table_place (with_word sC.table i (d * cluster_size sC.file.header.fields)) + 8 * i) (to_be_bytes w64 (slice_index (with_word sC.table i (d * cluster_size sC.file.header.fields)).words i)) result
+        → Ends ready taken result (record (with_word sC.table i (d * cluster_size sC.file.header.fields)) { modified = modified }) new
     named-end modified mid new done is put result names =
         let end = λ (whole : WasNotCutOff result). put-done mid new _ _ result names.put whole in
         record {
           shape = names.put.shape ∙ put.put.put.shape;
-          later = later_both (state fC.image) mid new put.put.put.later names.put.later;
-          faults = λ whole. faultless-then (put-faultless (state fC.image) mid (d * cluster_size fC.header.fields) put.bytes done put.put.put (subst (λ (r : Result Unit Fault). WasNotCutOff r) (sym is) tt)) (put-faultless mid new _ _ result names.put whole);
-          quiet = λ keeps r. quietly-weaker (result ≡ Ok tt) (WasNotCutOff result) (λ _. 0) taken (state fC.image) mC new (with_block mC i d modified (bytes_of new.bytes)) (λ sound whole. end whole) (named r modified mid new done is put result names).0;
+          later = later_both (state sC.file.image) mid new put.put.put.later names.put.later;
+          faults = λ whole. faultless-then (put-faultless (state sC.file.image) mid (d * cluster_size sC.file.header.fields) put.bytes done put.put.put (subst (λ (r : Result Unit Fault). WasNotCutOff r) (sym is) tt)) (put-faultless mid new _ _ result names.put whole);
+          quiet = λ keeps r. quietly-weaker (result ≡ Ok tt) (WasNotCutOff result) (λ _. 0) taken (state sC.file.image) mC new (with_block mC i d modified (bytes_of new.bytes)) (λ sound whole. end whole) (named r modified mid new done is put result names).0;
           raised = λ keeps sound r whole. (named r modified mid new done is put result names).1 keeps sound (end whole);
-          named = word-named table i d fC.header.fields.cluster_bits result modified inside low some reach;
-          cause = answer-caused result (state fC.image) mid new _ _ (put-faults (state fC.image) mid _ _ done put.put.put is) names.put;
+          named = word-named sC.table i d sC.file.header.fields.cluster_bits result modified inside low some reach;
+          cause = answer-caused result (state sC.file.image) mid new _ _ (put-faults (state sC.file.image) mid _ _ done put.put.put is) names.put;
         }
 
-    pub ends : (result : Result Unit Fault) (table' : TableValue) (after : StorageState) → NamesWritten table i B (state fC.image) result table' after → Ends ready taken result table' after
+    pub ends : (result : Result Unit Fault) (table' : TableValue) (after : StorageState) → NamesWritten sC.table i B (state sC.file.image) result table' after → Ends ready taken result table' after
     ends result table' after n = by-done n.done refl
       where
         by-done : (done : Result Unit Fault) → n.done ≡ done → Ends ready taken result table' after
@@ -184,7 +183,7 @@ module _ {S : Type 0} (state : S → StorageState) (i d : ℕ) (counters : List 
             let all = n.stopped fault is in
             subst (λ (r : Result Unit Fault). Ends ready taken r table' after) (sym all.0)
             (subst (λ (t : TableValue). Ends ready taken (Err fault) t after) (sym all.2)
-            (subst (λ (s : StorageState). Ends ready taken (Err fault) table s) (sym all.1) (stopped-end fault n.mid n.done is n.put)))
+            (subst (λ (s : StorageState). Ends ready taken (Err fault) sC.table s) (sym all.1) (stopped-end fault n.mid n.done is n.put)))
         by-done (Ok done) is =
             let all = n.named is in
             subst (λ (t : TableValue). Ends ready taken result t after) (sym all.1.1) (named-end all.1.0 n.mid after n.done is n.put result all.0)
@@ -229,22 +228,22 @@ cause-then : (sound sound' : Type 0) (loose loose' : Bool → Type 0) (full full
 cause-then sound sound' loose loose' full full' a b c from from' to same (Ok done) counts = counts ∙ same
 cause-then sound sound' loose loose' full full' a b c from from' to same (Err fault) why = allocated-then sound sound' loose loose' full full' a b c from from' to same fault why
 
-module _ {S : Type 0} (state : S → StorageState) (i : ℕ) (table : TableValue) (pending : List FreeEntry) (old : MetadataCaches S) (before : ImageFile S) where
+module _ {S : Type 0} (state : S → StorageState) (i : ℕ) (image : ImageState S) where
   abbrev m0 : Metadata
-  m0 = metadata_of state before old table pending
+  m0 = metadata state image
 
   abbrev pub Holds : Type 0
-  Holds = IsTrue (state before.image).shape.keeps × (order_of old ≡ L2DependsOnRb) × IsSound m0
+  Holds = IsGuarded state image
 
   abbrev pub Full : ℕ → Type 0
-  Full number = (number ≤ i * counters_of_block before.header.fields) × (IsInReach before.header.fields.cluster_bits number → ⊥)
+  Full number = (number ≤ i * counters_of_block image.file.header.fields) × (IsInReach image.file.header.fields.cluster_bits number → ⊥)
 
   -- Nothing was done yet.
-  pub begins-none : Begins state (lent table old before pending) (λ _. 0) (lent table old before pending)
+  pub begins-none : Begins state image (λ _. 0) image
   begins-none = record {
     shape = refl;
-    later = later_same (state before.image);
-    quiet = λ order. memory-quietly ⊤ (λ _. 0) (λ _. 0) (state before.image) m0 m0 (λ sound done. (sound, quiet-none m0 sound));
+    later = later_same (state image.file.image);
+    quiet = λ order. memory-quietly ⊤ (λ _. 0) (λ _. 0) (state image.file.image) m0 m0 (λ sound done. (sound, quiet-none m0 sound));
     raised = λ order keeps sound c. inl refl;
     faults = (refl, refl);
     header = refl;
@@ -258,33 +257,33 @@ module _ {S : Type 0} (state : S → StorageState) (i : ℕ) (table : TableValue
     pub shape : (state fD.image).shape ≡ (state fC.image).shape
     pub later : Later (state fC.image) (state fD.image)
     pub faults : ok → IsFaultless (state fC.image) (state fD.image)
-    pub quiet : order_of old ≡ L2DependsOnRb → IsTrue (state before.image).shape.keeps → IsSound m0 → IsSound (metadata_of state fC C table pending)
-        → Quietly ok more (λ _. 0) (state fC.image) (metadata_of state fC C table pending) (state fD.image) (metadata_of state fD D table pending)
-    pub raised : order_of old ≡ L2DependsOnRb → IsTrue (state before.image).shape.keeps → IsSound m0 → IsSound (metadata_of state fC C table pending) → ok → OnlyRaised (metadata_of state fC C table pending) (metadata_of state fD D table pending)
-    pub stays : StaysLoose table C fC D fD
+    pub quiet : order_of image.caches ≡ L2DependsOnRb → IsTrue (state image.file.image).shape.keeps → IsSound m0 → IsSound (metadata_of state fC C image.table image.pending)
+        → Quietly ok more (λ _. 0) (state fC.image) (metadata_of state fC C image.table image.pending) (state fD.image) (metadata_of state fD D image.table image.pending)
+    pub raised : order_of image.caches ≡ L2DependsOnRb → IsTrue (state image.file.image).shape.keeps → IsSound m0 → IsSound (metadata_of state fC C image.table image.pending) → ok → OnlyRaised (metadata_of state fC C image.table image.pending) (metadata_of state fD D image.table image.pending)
+    pub stays : StaysLoose image.table C fC D fD
 
-  module _ (handed more : ℕ → ℕ) (C : MetadataCaches S) (fC : ImageFile S) (D : MetadataCaches S) (fD : ImageFile S) (begins : Begins state (lent table old before pending) handed (lent table C fC pending)) where
+  module _ (handed more : ℕ → ℕ) (C : MetadataCaches S) (fC : ImageFile S) (D : MetadataCaches S) (fD : ImageFile S) (begins : Begins state image handed (lent image.table C fC image.pending)) where
     abbrev mB : Metadata
-    mB = metadata_of state fC C table pending
+    mB = metadata_of state fC C image.table image.pending
 
     abbrev mD : Metadata
-    mD = metadata_of state fD D table pending
+    mD = metadata_of state fD D image.table image.pending
 
-    both-quietly : (ok : Type 0) → Follows ok more C fC D fD → order_of old ≡ L2DependsOnRb → Quietly ok (λ c. handed c + more c) (λ _. 0 + 0) (state before.image) m0 (state fD.image) mD
+    both-quietly : (ok : Type 0) → Follows ok more C fC D fD → order_of image.caches ≡ L2DependsOnRb → Quietly ok (λ c. handed c + more c) (λ _. 0 + 0) (state image.file.image) m0 (state fD.image) mD
     both-quietly ok follows order =
-        quietly-given ok (λ c. handed c + more c) (λ _. 0 + 0) (state before.image) m0 (state fD.image) mD (follows.shape ∙ begins.shape) (later_both _ _ _ begins.later follows.later)
-        (λ keeps sound. quietly-then-given ⊤ ok handed (λ _. 0) more (λ _. 0) (state before.image) m0 (state fC.image) mB (state fD.image) mD tt (λ s c some. refl) (begins.quiet order) follows.shape follows.later
+        quietly-given ok (λ c. handed c + more c) (λ _. 0 + 0) (state image.file.image) m0 (state fD.image) mD (follows.shape ∙ begins.shape) (later_both _ _ _ begins.later follows.later)
+        (λ keeps sound. quietly-then-given ⊤ ok handed (λ _. 0) more (λ _. 0) (state image.file.image) m0 (state fC.image) mB (state fD.image) mD tt (λ s c some. refl) (begins.quiet order) follows.shape follows.later
         (λ k s s1 quiet. follows.quiet order keeps s s1))
 
-    both-raised : (ok : Type 0) → Follows ok more C fC D fD → order_of old ≡ L2DependsOnRb → IsTrue (state before.image).shape.keeps → IsSound m0 → ok → OnlyRaised m0 mD
+    both-raised : (ok : Type 0) → Follows ok more C fC D fD → order_of image.caches ≡ L2DependsOnRb → IsTrue (state image.file.image).shape.keeps → IsSound m0 → ok → OnlyRaised m0 mD
     both-raised ok follows order keeps sound done =
         raised-then m0 mB mD (begins.raised order keeps sound) (follows.raised order keeps sound ((begins.quiet order).holds keeps sound tt).0 done)
 
-    pub begins-then : (all : ℕ → ℕ) → ((c : ℕ) → handed c + more c ≡ all c) → Follows ⊤ more C fC D fD → Begins state (lent table old before pending) all (lent table D fD pending)
+    pub begins-then : (all : ℕ → ℕ) → ((c : ℕ) → handed c + more c ≡ all c) → Follows ⊤ more C fC D fD → Begins state image all (lent image.table D fD image.pending)
     begins-then all sum follows = record {
       shape = follows.shape ∙ begins.shape;
       later = later_both _ _ _ begins.later follows.later;
-      quiet = λ order. quietly-otherwise ⊤ (λ c. handed c + more c) (λ _. 0 + 0) all (λ _. 0) (state before.image) m0 (state fD.image) mD (λ s c. let is = sum c in omega (arith, is)) (λ s c used none. omega arith) (both-quietly ⊤ follows order);
+      quiet = λ order. quietly-otherwise ⊤ (λ c. handed c + more c) (λ _. 0 + 0) all (λ _. 0) (state image.file.image) m0 (state fD.image) mD (λ s c. let is = sum c in omega (arith, is)) (λ s c used none. omega arith) (both-quietly ⊤ follows order);
       raised = λ order keeps sound. both-raised ⊤ follows order keeps sound tt;
       faults = faultless-then begins.faults (follows.faults tt);
       header = follows.stays.header ∙ begins.header;
@@ -295,8 +294,8 @@ module _ {S : Type 0} (state : S → StorageState) (i : ℕ) (table : TableValue
 
     -- It is refused, and wasn't cut off only where nothing was handed out.
     pub begins-refused : (fault : Fault) → Follows (WasNotCutOff (failed fault)) more C fC D fD
-        → (order_of old ≡ L2DependsOnRb → IsTrue (state before.image).shape.keeps → IsSound m0 → WasNotCutOff (failed fault) → (c : ℕ) → handed c + more c ≡ 0)
-        → WhyNotAllocated Holds (IsLoose table old) Full (state before.image).faults (state fD.image).faults fault → MakesBlock state i (lent table old before pending) (Err fault) (lent table D fD pending)
+        → (order_of image.caches ≡ L2DependsOnRb → IsTrue (state image.file.image).shape.keeps → IsSound m0 → WasNotCutOff (failed fault) → (c : ℕ) → handed c + more c ≡ 0)
+        → WhyNotAllocated Holds (IsLoose image.table image.caches) Full (state image.file.image).faults (state fD.image).faults fault → MakesBlock state i image (Err fault) (lent image.table D fD image.pending)
     begins-refused fault follows none why = record {
       faults = λ whole. faultless-then begins.faults (follows.faults whole);
       quiet = λ order.
@@ -323,11 +322,11 @@ module _ {S : Type 0} (state : S → StorageState) (i : ℕ) (table : TableValue
     }
 
   -- It is refused before anything was handed out, and changes nothing more,
-  module _ (C : MetadataCaches S) (fC : ImageFile S) (begins : Begins state (lent table old before pending) (λ _. 0) (lent table C fC pending)) where
+  module _ (C : MetadataCaches S) (fC : ImageFile S) (begins : Begins state image (λ _. 0) (lent image.table C fC image.pending)) where
     abbrev mU : Metadata
-    mU = metadata_of state fC C table pending
+    mU = metadata_of state fC C image.table image.pending
 
-    pub unmade : (fault : Fault) → WhyNotAllocated Holds (IsLoose table old) Full (state before.image).faults (state before.image).faults fault → MakesBlock state i (lent table old before pending) (Err fault) (lent table C fC pending)
+    pub unmade : (fault : Fault) → WhyNotAllocated Holds (IsLoose image.table image.caches) Full (state image.file.image).faults (state image.file.image).faults fault → MakesBlock state i image (Err fault) (lent image.table C fC image.pending)
     unmade fault why =
         begins-refused (λ _. 0) (λ _. 0) C fC C fC begins fault
         (record {
@@ -339,17 +338,17 @@ module _ {S : Type 0} (state : S → StorageState) (i : ℕ) (table : TableValue
           stays = record { header = refl; order = refl; loose = λ any loose. loose; room = record { tables = refl; blocks = refl; entries = refl } };
         })
         (λ order keeps sound whole c. omega arith)
-        (subst (λ n. WhyNotAllocated Holds (IsLoose table old) Full (state before.image).faults n fault) (sym begins.faults.0) why)
+        (subst (λ n. WhyNotAllocated Holds (IsLoose image.table image.caches) Full (state image.file.image).faults n fault) (sym begins.faults.0) why)
 
     -- for want of memory,
-    pub unmade-memory : (fault : Fault) → fault ≡ Memory → MakesBlock state i (lent table old before pending) (Err fault) (lent table C fC pending)
-    unmade-memory fault is = unmade fault (subst (λ (f : Fault). WhyNotAllocated Holds (IsLoose table old) Full (state before.image).faults (state before.image).faults f) (sym is) tt)
+    pub unmade-memory : (fault : Fault) → fault ≡ Memory → MakesBlock state i image (Err fault) (lent image.table C fC image.pending)
+    unmade-memory fault is = unmade fault (subst (λ (f : Fault). WhyNotAllocated Holds (IsLoose image.table image.caches) Full (state image.file.image).faults (state image.file.image).faults f) (sym is) tt)
 
     -- for a cluster that no word can name,
-    pub unmade-place : (d : ℕ) (fault : Fault) → d ≤ i * counters_of_block fC.header.fields → (Holds → d ≢ 0) → WhyNotNamed table fC.header.fields.cluster_bits d fault → MakesBlock state i (lent table old before pending) (Err fault) (lent table C fC pending)
+    pub unmade-place : (d : ℕ) (fault : Fault) → d ≤ i * counters_of_block fC.header.fields → (Holds → d ≢ 0) → WhyNotNamed image.table fC.header.fields.cluster_bits d fault → MakesBlock state i image (Err fault) (lent image.table C fC image.pending)
     unmade-place d fault low some why = unmade fault (by-fault fault why)
       where
-        by-fault : (fault : Fault) → WhyNotNamed table fC.header.fields.cluster_bits d fault → WhyNotAllocated Holds (IsLoose table old) Full (state before.image).faults (state before.image).faults fault
+        by-fault : (fault : Fault) → WhyNotNamed image.table fC.header.fields.cluster_bits d fault → WhyNotAllocated Holds (IsLoose image.table image.caches) Full (state image.file.image).faults (state image.file.image).faults fault
         by-fault DamagedTable why = λ holds. why (can-name mU ((begins.quiet holds.1).holds holds.0 holds.2 tt).0 d (some holds))
         by-fault (Limit number) why = (
           subst (λ (h : Header). (number ≤ i * counters_of_block h.fields) × (IsInReach h.fields.cluster_bits number → ⊥)) begins.header
@@ -359,21 +358,21 @@ module _ {S : Type 0} (state : S → StorageState) (i : ℕ) (table : TableValue
         by-fault other why = absurd why
 
     -- and where a block is pinned in a cluster that nothing names.
-    pub unforgotten : (d : ℕ) (fault : Fault) (new : MetadataCaches S) → (Holds → named_at_all mU d ≡ 0) → (fault ≡ CacheFull) × IsSomeAnd (lookup (nat_eq d) (cached_in C).blocks) (λ s. 0 < s.pins) × (new ≡ C) → MakesBlock state i (lent table old before pending) (Err fault) (lent table new fC pending)
+    pub unforgotten : (d : ℕ) (fault : Fault) (new : MetadataCaches S) → (Holds → named_at_all mU d ≡ 0) → (fault ≡ CacheFull) × IsSomeAnd (lookup (nat_eq d) (cached_in C).blocks) (λ s. 0 < s.pins) × (new ≡ C) → MakesBlock state i image (Err fault) (lent image.table new fC image.pending)
     unforgotten d fault new unnamed (is, pinned, same) =
-        subst (λ (c : MetadataCaches S). MakesBlock state i (lent table old before pending) (Err fault) (lent table c fC pending)) (sym same)
-        (unmade fault (subst (λ (f : Fault). WhyNotAllocated Holds (IsLoose table old) Full (state before.image).faults (state before.image).faults f) (sym is)
+        subst (λ (c : MetadataCaches S). MakesBlock state i image (Err fault) (lent image.table c fC image.pending)) (sym same)
+        (unmade fault (subst (λ (f : Fault). WhyNotAllocated Holds (IsLoose image.table image.caches) Full (state image.file.image).faults (state image.file.image).faults f) (sym is)
         (λ u. let there = (begins.loose u.0 u.2).named d (pinned-there d (cached_in C).blocks pinned) in let holds = u.1 there.0 in
         never-unnamed mU ((begins.quiet holds.1).holds holds.0 holds.2 tt).0 d (unnamed holds) there.1)))
 
   -- What makes a block from there on makes it in all.
-  pub begins-makes : (C : MetadataCaches S) (fC : ImageFile S) → Begins state (lent table old before pending) (λ _. 0) (lent table C fC pending) → (result : Result Unit Fault) (table' : TableValue) (new : MetadataCaches S) (after : ImageFile S)
-      → MakesBlock state i (lent table C fC pending) result (lent table' new after pending) → MakesBlock state i (lent table old before pending) result (lent table' new after pending)
+  pub begins-makes : (C : MetadataCaches S) (fC : ImageFile S) → Begins state image (λ _. 0) (lent image.table C fC image.pending) → (result : Result Unit Fault) (table' : TableValue) (new : MetadataCaches S) (after : ImageFile S)
+      → MakesBlock state i (lent image.table C fC image.pending) result (lent table' new after image.pending) → MakesBlock state i image result (lent table' new after image.pending)
   begins-makes C fC begins result table' new after makes = record {
     faults = λ whole. faultless-then begins.faults (makes.faults whole);
-    quiet = λ order. quietly-then ⊤ (WasNotCutOff result) (λ _. 0) (λ _. 0) (λ _. 0) (λ _. 0) (state before.image) m0 (state fC.image) (metadata_of state fC C table pending) (state after.image) (metadata_of state after new table' pending) tt (λ s c some. refl)
+    quiet = λ order. quietly-then ⊤ (WasNotCutOff result) (λ _. 0) (λ _. 0) (λ _. 0) (λ _. 0) (state image.file.image) m0 (state fC.image) (metadata_of state fC C image.table image.pending) (state after.image) (metadata_of state after new table' image.pending) tt (λ s c some. refl)
         (begins.quiet order) (makes.quiet (begins.order ∙ order));
-    raised = λ order keeps sound whole. raised-then m0 (metadata_of state fC C table pending) (metadata_of state after new table' pending) (begins.raised order keeps sound)
+    raised = λ order keeps sound whole. raised-then m0 (metadata_of state fC C image.table image.pending) (metadata_of state after new table' image.pending) (begins.raised order keeps sound)
         (makes.raised (begins.order ∙ order) (on keeps) ((begins.quiet order).holds keeps sound tt).0 whole);
     named = makes.named;
     others = makes.others;
@@ -388,26 +387,26 @@ module _ {S : Type 0} (state : S → StorageState) (i : ℕ) (table : TableValue
         (λ number full. subst (λ (h : Header). (number ≤ i * counters_of_block h.fields) × (IsInReach h.fields.cluster_bits number → ⊥)) begins.header full) begins.faults.0 result makes.cause;
   }
     where
-      on : IsTrue (state before.image).shape.keeps → IsTrue (state fC.image).shape.keeps
-      on keeps = keeps_on (state before.image) (state fC.image) begins.shape keeps
+      on : IsTrue (state image.file.image).shape.keeps → IsTrue (state fC.image).shape.keeps
+      on keeps = keeps_on (state image.file.image) (state fC.image) begins.shape keeps
 
   -- Begin and end.
-  module _ (both : ℕ → ℕ) (ready : Type 0) (d : ℕ) (counters : List ℕ) (C : MetadataCaches S) (fC : ImageFile S) (begins : Begins state (lent table old before pending) both (lent table C fC pending))
-      (unused : order_of old ≡ L2DependsOnRb → IsTrue (state before.image).shape.keeps → IsSound m0 → (c : ℕ) → IsUsed m0 c → both c ≡ 0)
-      (from : order_of old ≡ L2DependsOnRb → IsTrue (state before.image).shape.keeps → IsSound m0 → IsSound (metadata_of state fC C table pending) → ready) where
+  module _ (both : ℕ → ℕ) (ready : Type 0) (d : ℕ) (counters : List ℕ) (C : MetadataCaches S) (fC : ImageFile S) (begins : Begins state image both (lent image.table C fC image.pending))
+      (unused : order_of image.caches ≡ L2DependsOnRb → IsTrue (state image.file.image).shape.keeps → IsSound m0 → (c : ℕ) → IsUsed m0 c → both c ≡ 0)
+      (from : order_of image.caches ≡ L2DependsOnRb → IsTrue (state image.file.image).shape.keeps → IsSound m0 → IsSound (metadata_of state fC C image.table image.pending) → ready) where
     abbrev m1 : Metadata
-    m1 = metadata_of state fC C table pending
+    m1 = metadata_of state fC C image.table image.pending
 
-    pub made : block_offset (slice_index table.words i) ≡ 0 → (result : Result Unit Fault) (table' : TableValue) (after : ImageFile S) → after.header ≡ fC.header → Ends state i d counters table C fC pending ready both result table' (state after.image)
-        → MakesBlock state i (lent table old before pending) result (lent table' C after pending)
+    pub made : block_offset (slice_index image.table.words i) ≡ 0 → (result : Result Unit Fault) (table' : TableValue) (after : ImageFile S) → after.header ≡ fC.header → Ends state i d counters (lent image.table C fC image.pending) ready both result table' (state after.image)
+        → MakesBlock state i image result (lent table' C after image.pending)
     made empty result table' after header ends = record {
       faults = λ whole. faultless-then begins.faults (ends.faults whole);
       quiet = λ order.
-          quietly-given (WasNotCutOff result) (λ _. 0) (λ _. 0) (state before.image) m0 (state after.image) (metadata_of state after C table' pending) (ends.shape ∙ begins.shape) (later_both _ _ _ begins.later ends.later) (λ keeps sound.
-          quietly-otherwise (WasNotCutOff result) (λ c. both c + 0) (λ c. 0 + both c) (λ _. 0) (λ _. 0) (state before.image) m0 (state after.image) (metadata_of state after C table' pending) (λ s c. omega arith)
+          quietly-given (WasNotCutOff result) (λ _. 0) (λ _. 0) (state image.file.image) m0 (state after.image) (metadata_of state after C table' image.pending) (ends.shape ∙ begins.shape) (later_both _ _ _ begins.later ends.later) (λ keeps sound.
+          quietly-otherwise (WasNotCutOff result) (λ c. both c + 0) (λ c. 0 + both c) (λ _. 0) (λ _. 0) (state image.file.image) m0 (state after.image) (metadata_of state after C table' image.pending) (λ s c. omega arith)
           (λ s c used none. let no = unused order keeps s c used in omega (arith, no))
-          (there (λ m. Quietly (WasNotCutOff result) (λ c. both c + 0) (λ c. 0 + both c) (state before.image) m0 (state after.image) m)
-          (quietly-then-given ⊤ (WasNotCutOff result) both (λ _. 0) (λ _. 0) both (state before.image) m0 (state fC.image) m1 (state after.image) (ended m1.header) tt (λ s c some. refl) (begins.quiet order) ends.shape ends.later
+          (there (λ m. Quietly (WasNotCutOff result) (λ c. both c + 0) (λ c. 0 + both c) (state image.file.image) m0 (state after.image) m)
+          (quietly-then-given ⊤ (WasNotCutOff result) both (λ _. 0) (λ _. 0) both (state image.file.image) m0 (state fC.image) m1 (state after.image) (ended m1.header) tt (λ s c some. refl) (begins.quiet order) ends.shape ends.later
           (λ k s s1 quiet. ends.quiet (on keeps) (from order keeps s s1)))));
       raised = λ order keeps sound whole.
           let s1 = ((begins.quiet order).holds keeps sound tt).0 in
@@ -419,19 +418,19 @@ module _ {S : Type 0} (state : S → StorageState) (i : ℕ) (table : TableValue
       placed = ends.named.placed;
       order = begins.order;
       header = header ∙ begins.header;
-      loose = λ any loose. loose-named table table' C kept any (begins.loose any loose);
+      loose = λ any loose. loose-named image.table table' C kept any (begins.loose any loose);
       room = begins.room;
-      cause = caused-all Holds (IsLoose table old) Full (state before.image).faults (state fC.image).faults (state after.image).faults begins.faults.0 result ends.cause;
+      cause = caused-all Holds (IsLoose image.table image.caches) Full (state image.file.image).faults (state fC.image).faults (state after.image).faults begins.faults.0 result ends.cause;
     }
       where
-        kept : (k key : ℕ) → named_block table k ≡ Some key → named_block table' k ≡ Some key
-        kept k key = name-kept table table' k key (ap (λ (l : Layout). l.cluster_bits) ends.named.layout) (λ some. ap block_offset (ends.named.others k (λ here. some (subst (λ n. block_offset (slice_index table.words n) ≡ 0) (sym here) empty))))
+        kept : (k key : ℕ) → named_block image.table k ≡ Some key → named_block table' k ≡ Some key
+        kept k key = name-kept image.table table' k key (ap (λ (l : Layout). l.cluster_bits) ends.named.layout) (λ some. ap block_offset (ends.named.others k (λ here. some (subst (λ n. block_offset (slice_index image.table.words n) ≡ 0) (sym here) empty))))
 
         ended : Header → Metadata
-        ended h = record { file = bytes_of (state after.image).bytes; header = h; cached = cached_in C; order = order_of C; table = table'; pending = pending }
+        ended h = record { file = bytes_of (state after.image).bytes; header = h; cached = cached_in C; order = order_of C; table = table'; pending = image.pending }
 
-        there : (P : Metadata → Type 0) → P (ended fC.header) → P (metadata_of state after C table' pending)
+        there : (P : Metadata → Type 0) → P (ended fC.header) → P (metadata_of state after C table' image.pending)
         there P p = subst (λ (h : Header). P (ended h)) (sym header) p
 
-        on : IsTrue (state before.image).shape.keeps → IsTrue (state fC.image).shape.keeps
-        on keeps = keeps_on (state before.image) (state fC.image) begins.shape keeps
+        on : IsTrue (state image.file.image).shape.keeps → IsTrue (state fC.image).shape.keeps
+        on keeps = keeps_on (state image.file.image) (state fC.image) begins.shape keeps

@@ -8,7 +8,6 @@ use Rattle.imago_storage.proofs.Composing.{later_same}
 use Rattle.std.proofs.lemmas.List.{length-set, length-replicate}
 use Rattle.qcow2_types.specs.Counts.{counters_of_block}
 use Rattle.qcow2_types.specs.Header.{refcount_table_entries}
-use Rattle.qcow2_types.specs.Pending.{FreeEntry}
 use Rattle.qcow2_types.specs.Words.{block_offset}
 use Rattle.qcow2_metadata.specs.Blocks.{Block, block_of}
 use Rattle.qcow2_metadata.specs.Places.{IsInReach}
@@ -22,7 +21,7 @@ use Rattle.qcow2_alloc.specs.Caches.{cached_in, order_of}
 use Rattle.qcow2_alloc.specs.CachesLending.{with_blocks}
 use Rattle.qcow2_alloc.specs.MakingBlocks.{Begins, NamesWritten}
 use Rattle.qcow2_alloc.specs.Quiet.{Metadata, counted, named_at_all, IsSound}
-use Rattle.qcow2_alloc.specs.State.{lent}
+use Rattle.qcow2_alloc.specs.State.{ImageState, lent, metadata}
 use Rattle.qcow2_alloc.proofs.Caching.Forgetting.{forgotten-quiet, forgotten-counts, removed-apart}
 use Rattle.qcow2_alloc.proofs.Searching.FreeClusters.{uncounted-free}
 use Rattle.qcow2_alloc.proofs.Memory.FreeRuns.{block-quietly}
@@ -39,74 +38,74 @@ own-uncounted m i d own inside empty sound =
     let lt : i < refcount_table_entries m.header.fields = (let long = sound.table.long in omega (arith, inside, long)) in
     unnamed-uncounted m sound d (subst (λ k. k < refcount_table_entries m.header.fields) (sym own) lt) (subst (λ k. block_offset (slice_index m.table.words k) ≡ 0) (sym own) empty)
 
-module _ {S : Type 0} (state : S → StorageState) (table : TableValue) (pending : List FreeEntry) (old : MetadataCaches S) (before : ImageFile S) (d : ℕ) where
+module _ {S : Type 0} (state : S → StorageState) (image : ImageState S) (d : ℕ) where
   abbrev pub without : MetadataCaches S
-  without = with_blocks old (remove_entry (nat_eq d) (cached_in old).blocks)
+  without = with_blocks image.caches (remove_entry (nat_eq d) (cached_in image.caches).blocks)
 
   abbrev m : Metadata
-  m = metadata_of state before old table pending
+  m = metadata state image
 
   -- What is cached of the cluster is dropped, where nothing names it.
-  pub forgets : (order_of old ≡ L2DependsOnRb → IsTrue (state before.image).shape.keeps → IsSound m → named_at_all m d ≡ 0) → Begins state (lent table old before pending) (λ _. 0) (lent table without before pending)
+  pub forgets : (order_of image.caches ≡ L2DependsOnRb → IsTrue (state image.file.image).shape.keeps → IsSound m → named_at_all m d ≡ 0) → Begins state image (λ _. 0) (lent image.table without image.file image.pending)
   forgets unnamed = record {
     shape = refl;
-    later = later_same (state before.image);
-    quiet = λ order. quietly-given ⊤ (λ _. 0) (λ _. 0) (state before.image) m (state before.image) (metadata_of state before without table pending) refl (later_same (state before.image))
-        (λ keeps sound. memory-quietly ⊤ (λ _. 0) (λ _. 0) (state before.image) m (metadata_of state before without table pending) (λ s done. forgotten-quiet m d s (unnamed order keeps s)));
+    later = later_same (state image.file.image);
+    quiet = λ order. quietly-given ⊤ (λ _. 0) (λ _. 0) (state image.file.image) m (state image.file.image) (metadata_of state image.file without image.table image.pending) refl (later_same (state image.file.image))
+        (λ keeps sound. memory-quietly ⊤ (λ _. 0) (λ _. 0) (state image.file.image) m (metadata_of state image.file without image.table image.pending) (λ s done. forgotten-quiet m d s (unnamed order keeps s)));
     raised = λ order keeps sound c. inl (forgotten-counts m d sound (unnamed order keeps sound) c);
     faults = (refl, refl);
     header = refl;
     order = refl;
-    loose = loose-on table old without (pins-removed (nat_eq d) (cached_in old).blocks) refl;
+    loose = loose-on image.table image.caches without (pins-removed (nat_eq d) (cached_in image.caches).blocks) refl;
     room = record { tables = refl; blocks = refl; entries = refl };
   }
 
   abbrev i : ℕ
-  i = d / counters_of_block before.header.fields
+  i = d / counters_of_block image.file.header.fields
 
   abbrev m1 : Metadata
-  m1 = metadata_of state before without table pending
+  m1 = metadata_of state image.file without image.table image.pending
 
   abbrev counters : List ℕ
-  counters = slice_set (replicate (counters_of_block before.header.fields) 0) (d % counters_of_block before.header.fields) 1
+  counters = slice_set (replicate (counters_of_block image.file.header.fields) 0) (d % counters_of_block image.file.header.fields) 1
 
   record Ready : Type 0 where
-    pub order : order_of old ≡ L2DependsOnRb
-    pub inside : d / counters_of_block before.header.fields < refcount_table_entries before.header.fields
+    pub order : order_of image.caches ≡ L2DependsOnRb
+    pub inside : d / counters_of_block image.file.header.fields < refcount_table_entries image.file.header.fields
     pub uncached : lookup (nat_eq d) (cached_in without).blocks ≡ None
 
-  long : length counters ≡ counters_of_block before.header.fields
-  long = length-set (replicate (counters_of_block before.header.fields) 0) (d % counters_of_block before.header.fields) 1 ∙ length-replicate {A = ℕ} (counters_of_block before.header.fields) 0
+  long : length counters ≡ counters_of_block image.file.header.fields
+  long = length-set (replicate (counters_of_block image.file.header.fields) 0) (d % counters_of_block image.file.header.fields) 1 ∙ length-replicate {A = ℕ} (counters_of_block image.file.header.fields) 0
 
   -- The block is written and named.
-  pub own-made : (inside : d / counters_of_block before.header.fields < length table.words) → block_offset (slice_index table.words (d / counters_of_block before.header.fields)) ≡ 0 → 9 ≤ before.header.fields.cluster_bits → d ≢ 0 → IsInReach before.header.fields.cluster_bits d
-      → (result : Result Unit Fault) (table' : TableValue) (after : ImageFile S) → after.header ≡ before.header
-      → NamesWritten table i (B state i d counters table without before pending) (state before.image) result table' (state after.image) → MakesBlock state i (lent table old before pending) result (lent table' without after pending)
+  pub own-made : (inside : d / counters_of_block image.file.header.fields < length image.table.words) → block_offset (slice_index image.table.words (d / counters_of_block image.file.header.fields)) ≡ 0 → 9 ≤ image.file.header.fields.cluster_bits → d ≢ 0 → IsInReach image.file.header.fields.cluster_bits d
+      → (result : Result Unit Fault) (table' : TableValue) (after : ImageFile S) → after.header ≡ image.file.header
+      → NamesWritten image.table i (B state i d counters (lent image.table without image.file image.pending)) (state image.file.image) result table' (state after.image) → MakesBlock state i image result (lent table' without after image.pending)
   own-made inside empty low some reach result table' after header names =
-      made state i table pending old before (λ _. 0) Ready d counters without before
+      made state i image (λ _. 0) Ready d counters without image.file
       (forgets (λ order keeps sound. (uncounted-free m sound order d (own-uncounted m i d refl inside empty sound)).0))
       (λ order keeps sound c used. refl)
       (λ order keeps sound sound1. record {
         order = order;
         inside = let words = sound.table.long in omega (arith, inside, words);
-        uncached = (removed-apart d (cached_in old).blocks sound.safe.blocks_apart).0;
+        uncached = (removed-apart d (cached_in image.caches).blocks sound.safe.blocks_apart).0;
       })
       empty result table' after header
-      (ends state i d counters table without before pending Ready (λ _. 0) inside low some reach
-      (λ r mid done put. block-quietly m1 d (B state i d counters table without before pending) (state before.image) mid refl refl long (λ _. 0)
+      (ends state i d counters (lent image.table without image.file image.pending) Ready (λ _. 0) inside low some reach
+      (λ r mid done put. block-quietly m1 d (B state i d counters (lent image.table without image.file image.pending)) (state image.file.image) mid refl refl long (λ _. 0)
       (λ sound. let free = uncounted-free m1 sound r.order d (own-uncounted m1 i d refl inside empty sound) in (free.0, λ used. absurd (free.2 used))) done put)
       (λ r modified mid new done ok put answer named. (
-        own-block-made m1 d (B state i d counters table without before pending) modified (state before.image) mid new refl refl refl r.order r.inside empty some reach r.uncached done ok put answer named,
-        λ keeps sound is. own-block-raises m1 d (B state i d counters table without before pending) modified (state before.image) mid new refl refl refl r.order r.inside empty some reach r.uncached done ok put keeps sound answer named is,
+        own-block-made m1 d (B state i d counters (lent image.table without image.file image.pending)) modified (state image.file.image) mid new refl refl refl r.order r.inside empty some reach r.uncached done ok put answer named,
+        λ keeps sound is. own-block-raises m1 d (B state i d counters (lent image.table without image.file image.pending)) modified (state image.file.image) mid new refl refl refl r.order r.inside empty some reach r.uncached done ok put keeps sound answer named is,
       ))
       result table' (state after.image) names)
 
-  pub own-made-at : (index : ℕ) → d / counters_of_block before.header.fields ≡ index → index < length table.words → block_offset (slice_index table.words index) ≡ 0 → 9 ≤ before.header.fields.cluster_bits → d ≢ 0 → IsInReach before.header.fields.cluster_bits d
-      → (block : Block) → block ≡ block_of before.header.fields.cluster_bits before.header.fields.refcount_order counters (Some d) true → (new : MetadataCaches S) → new ≡ without
-      → (result : Result Unit Fault) (table' : TableValue) (after : ImageFile S) → after.header ≡ before.header → NamesWritten table index block (state before.image) result table' (state after.image) → MakesBlock state index (lent table old before pending) result (lent table' new after pending)
+  pub own-made-at : (index : ℕ) → d / counters_of_block image.file.header.fields ≡ index → index < length image.table.words → block_offset (slice_index image.table.words index) ≡ 0 → 9 ≤ image.file.header.fields.cluster_bits → d ≢ 0 → IsInReach image.file.header.fields.cluster_bits d
+      → (block : Block) → block ≡ block_of image.file.header.fields.cluster_bits image.file.header.fields.refcount_order counters (Some d) true → (new : MetadataCaches S) → new ≡ without
+      → (result : Result Unit Fault) (table' : TableValue) (after : ImageFile S) → after.header ≡ image.file.header → NamesWritten image.table index block (state image.file.image) result table' (state after.image) → MakesBlock state index image result (lent table' new after image.pending)
   own-made-at index own inside empty low some reach block is new left result table' after header names =
-      subst (λ (c : MetadataCaches S). MakesBlock state index (lent table old before pending) result (lent table' c after pending)) (sym left)
-      (subst (λ k. k < length table.words → block_offset (slice_index table.words k) ≡ 0 → NamesWritten table k (B state k d counters table without before pending) (state before.image) result table' (state after.image)
-      → MakesBlock state k (lent table old before pending) result (lent table' without after pending)) own
+      subst (λ (c : MetadataCaches S). MakesBlock state index image result (lent table' c after image.pending)) (sym left)
+      (subst (λ k. k < length image.table.words → block_offset (slice_index image.table.words k) ≡ 0 → NamesWritten image.table k (B state k d counters (lent image.table without image.file image.pending)) (state image.file.image) result table' (state after.image)
+      → MakesBlock state k image result (lent table' without after image.pending)) own
       (λ inside empty names. own-made inside empty low some reach result table' after header names)
-      inside empty (subst (λ (b : Block). NamesWritten table index b (state before.image) result table' (state after.image)) is names))
+      inside empty (subst (λ (b : Block). NamesWritten image.table index b (state image.file.image) result table' (state after.image)) is names))

@@ -29,7 +29,7 @@ use Rattle.qcow2_alloc.specs.FreeList.{listed}
 use Rattle.qcow2_alloc.specs.MakingBlocks.{NamesWritten}
 use Rattle.qcow2_alloc.specs.Quiet.{Metadata, IsSound, IsQuiet, in_memory, counted, referenced, waiting, one_at}
 use Rattle.qcow2_alloc.specs.SearchingClusters.{LooksForFree}
-use Rattle.qcow2_alloc.specs.State.{lent}
+use Rattle.qcow2_alloc.specs.State.{ImageState, lent, metadata}
 use Rattle.qcow2_alloc.proofs.Searching.LookingAt.{sound-safe, counter-there}
 use Rattle.qcow2_alloc.proofs.Blocks.NamingBlocks.{meets-one}
 use Rattle.qcow2_alloc.proofs.Memory.Patches.{place-there}
@@ -103,19 +103,19 @@ module _ (m m' : Metadata) (i d : ℕ) (sound : IsSound m) (sound' : IsSound m')
       omega (arith, law, more, waits)
 
 -- So the block is placed.
-module _ {S : Type 0} (state : S → StorageState) (mark index : ℕ) (table : TableValue) (old : MetadataCaches S) (before : ImageFile S) (table' : TableValue) (new : MetadataCaches S) (after : ImageFile S) (pending : List FreeEntry)
-    (made : MakesBlock state index (lent table old before pending) (Ok tt) (lent table' new after pending)) (inside : index < length table.words) (empty : block_offset (slice_index table.words index) ≡ 0)
-    (order : order_of old ≡ L2DependsOnRb) (keeps : IsTrue (state before.image).shape.keeps) (sound : IsSound (metadata_of state before old table pending)) where
+module _ {S : Type 0} (state : S → StorageState) (mark index : ℕ) (s : ImageState S) (table' : TableValue) (new : MetadataCaches S) (after : ImageFile S)
+    (made : MakesBlock state index s (Ok tt) (lent table' new after s.pending)) (inside : index < length s.table.words) (empty : block_offset (slice_index s.table.words index) ≡ 0)
+    (order : order_of s.caches ≡ L2DependsOnRb) (keeps : IsTrue (state s.file.image).shape.keeps) (sound : IsSound (metadata state s)) where
   abbrev Old : Metadata
-  Old = metadata_of state before old table pending
+  Old = metadata state s
 
   abbrev New : Metadata
-  New = metadata_of state after new table' pending
+  New = metadata_of state after new table' s.pending
 
   abbrev k : ℕ
-  k = counters_of_block before.header.fields
+  k = counters_of_block s.file.header.fields
 
-  raised-at : (d : ℕ) → d ≢ 0 → block_offset (slice_index table'.words index) ≡ d * cluster_size before.header.fields → (c : ℕ) → counted New c ≡ counted Old c + one_at d c
+  raised-at : (d : ℕ) → d ≢ 0 → block_offset (slice_index table'.words index) ≡ d * cluster_size s.file.header.fields → (c : ℕ) → counted New c ≡ counted Old c + one_at d c
   raised-at d some named =
       let held = (made.quiet order).holds keeps sound tt in
       counted-more Old New index d sound held.0 made.header refl held.1 some (let long = sound.table.long in omega (arith, inside, long)) empty named made.others
@@ -127,53 +127,53 @@ module _ {S : Type 0} (state : S → StorageState) (mark index : ℕ) (table : T
       elim (made.raised order keeps sound tt d) [ inl same ↦ absurd (omega (arith, same, up, own)) | inr both ↦ both.0 ]
 
   -- in a free cluster that another block counts,
-  pub placed-counted : (place : ℕ) (mid : MetadataCaches S) (between : ImageFile S) → LooksForFree state table mark (index * k) old before (Ok (Some place)) mid between → place ≢ 0
-      → block_offset (slice_index table'.words index) ≡ place * cluster_size before.header.fields → IsBlockPlaced mark index Old New
+  pub placed-counted : (place : ℕ) (mid : MetadataCaches S) (between : ImageFile S) → LooksForFree state s.table mark (index * k) s.caches s.file (Ok (Some place)) mid between → place ≢ 0
+      → block_offset (slice_index table'.words index) ≡ place * cluster_size s.file.header.fields → IsBlockPlaced mark index Old New
   placed-counted place mid between looks some named =
-      let found = looks.found (sound-safe state table pending old before keeps sound) in
+      let found = looks.found (sound-safe state s keeps sound) in
       record {
         place = place;
         raised = raised-at place some named;
         first = λ c above below there zero. elim (cases_lt c place) [
-          | inl less ↦ let more = found.least c above less (counter-there state table pending old before sound c there) in absurd (omega (arith, more, zero))
+          | inl less ↦ let more = found.least c above less (counter-there state s sound c there) in absurd (omega (arith, more, zero))
           | inr past ↦ past
         ];
         own = let lt = found.before in omega (arith, lt);
       }
 
   -- or in the first one that it counts itself.
-  pub placed-own : (mid : MetadataCaches S) (between : ImageFile S) → LooksForFree state table mark (index * k) old before (Ok None) mid between → index * k ≢ 0
-      → block_offset (slice_index table'.words index) ≡ index * k * cluster_size before.header.fields → IsBlockPlaced mark index Old New
+  pub placed-own : (mid : MetadataCaches S) (between : ImageFile S) → LooksForFree state s.table mark (index * k) s.caches s.file (Ok None) mid between → index * k ≢ 0
+      → block_offset (slice_index table'.words index) ≡ index * k * cluster_size s.file.header.fields → IsBlockPlaced mark index Old New
   placed-own mid between looks some named =
-      let all = looks.found (sound-safe state table pending old before keeps sound) in
+      let all = looks.found (sound-safe state s keeps sound) in
       record {
         place = index * k;
         raised = raised-at (index * k) some named;
-        first = λ c above below there zero. let more = all c above below (counter-there state table pending old before sound c there) in absurd (omega (arith, more, zero));
+        first = λ c above below there zero. let more = all c above below (counter-there state s sound c there) in absurd (omega (arith, more, zero));
         own = omega arith;
       }
 
 -- The answer is not known yet.
-module _ {S : Type 0} (state : S → StorageState) (mark index : ℕ) (table : TableValue) (old : MetadataCaches S) (before : ImageFile S) (mid : MetadataCaches S) (between : ImageFile S) (found : Option ℕ)
-    (looks : LooksForFree state table mark (index * counters_of_block before.header.fields) old before (Ok found) mid between) (inside : index < length table.words) (empty : block_offset (slice_index table.words index) ≡ 0)
-    (table' : TableValue) (new : MetadataCaches S) (after : ImageFile S) (pending : List FreeEntry) where
+module _ {S : Type 0} (state : S → StorageState) (mark index : ℕ) (s : ImageState S) (mid : MetadataCaches S) (between : ImageFile S) (found : Option ℕ)
+    (looks : LooksForFree state s.table mark (index * counters_of_block s.file.header.fields) s.caches s.file (Ok found) mid between) (inside : index < length s.table.words) (empty : block_offset (slice_index s.table.words index) ≡ 0)
+    (table' : TableValue) (new : MetadataCaches S) (after : ImageFile S) where
   abbrev Placed : Result Unit Fault → Type 0
-  Placed result = order_of old ≡ L2DependsOnRb → IsTrue (state before.image).shape.keeps → IsSound (metadata_of state before old table pending)
-      → OnOk result (IsBlockPlaced mark index (metadata_of state before old table pending) (metadata_of state after new table' pending))
+  Placed result = order_of s.caches ≡ L2DependsOnRb → IsTrue (state s.file.image).shape.keeps → IsSound (metadata state s)
+      → OnOk result (IsBlockPlaced mark index (metadata state s) (metadata_of state after new table' s.pending))
 
-  pub placed-found : (place : ℕ) → found ≡ Some place → (result : Result Unit Fault) → MakesBlock state index (lent table old before pending) result (lent table' new after pending)
+  pub placed-found : (place : ℕ) → found ≡ Some place → (result : Result Unit Fault) → MakesBlock state index s result (lent table' new after s.pending)
       → OnOk result ((place ≢ 0) × (block_offset (slice_index table'.words index) ≡ place * cluster_size between.header.fields)) → Placed result
   placed-found place is (Err fault) made at order keeps sound = tt
   placed-found place is (Ok done) made at order keeps sound =
-      placed-counted state mark index table old before table' new after pending made inside empty order keeps sound place mid between
-      (subst (λ (o : Option ℕ). LooksForFree state table mark (index * counters_of_block before.header.fields) old before (Ok o) mid between) is looks) at.0
+      placed-counted state mark index s table' new after made inside empty order keeps sound place mid between
+      (subst (λ (o : Option ℕ). LooksForFree state s.table mark (index * counters_of_block s.file.header.fields) s.caches s.file (Ok o) mid between) is looks) at.0
       (subst (λ (H : Header). block_offset (slice_index table'.words index) ≡ place * cluster_size H.fields) looks.looked.header at.1)
 
-  pub placed-itself : found ≡ None → (result : Result Unit Fault) → MakesBlock state index (lent table old before pending) result (lent table' new after pending)
+  pub placed-itself : found ≡ None → (result : Result Unit Fault) → MakesBlock state index s result (lent table' new after s.pending)
       → OnOk result ((index * counters_of_block between.header.fields ≢ 0) × (block_offset (slice_index table'.words index) ≡ index * counters_of_block between.header.fields * cluster_size between.header.fields)) → Placed result
   placed-itself is (Err fault) made at order keeps sound = tt
   placed-itself is (Ok done) made at order keeps sound =
-      placed-own state mark index table old before table' new after pending made inside empty order keeps sound mid between
-      (subst (λ (o : Option ℕ). LooksForFree state table mark (index * counters_of_block before.header.fields) old before (Ok o) mid between) is looks)
+      placed-own state mark index s table' new after made inside empty order keeps sound mid between
+      (subst (λ (o : Option ℕ). LooksForFree state s.table mark (index * counters_of_block s.file.header.fields) s.caches s.file (Ok o) mid between) is looks)
       (subst (λ (H : Header). index * counters_of_block H.fields ≢ 0) looks.looked.header at.0)
       (subst (λ (H : Header). block_offset (slice_index table'.words index) ≡ index * counters_of_block H.fields * cluster_size H.fields) looks.looked.header at.1)

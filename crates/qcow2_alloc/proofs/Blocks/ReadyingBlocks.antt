@@ -1,5 +1,5 @@
 -- What a run of clusters needs is made, or the refcount table grows.
-use Rattle.std.proofs.Common.{◌≡◌, ◌≢◌, ℕ, ◌+◌, ◌<◌, ◌≤◌, refl, arith, ap, sym, subst, List, length, Bool, true, false, Result, Ok, Err, inl, inr}
+use Rattle.std.proofs.Common.{◌≡◌, ◌≢◌, ℕ, ◌+◌, ◌<◌, ◌≤◌, refl, arith, ap, sym, subst, length, Bool, true, false, Result, Ok, Err, inl, inr}
 use Rattle.std.specs.Prelude.{IsTrue, IfOk, OnOk, MatchResult, slice_index, ◌*◌, ◌^◌}
 use Rattle.std.proofs.Math.Nat.{mul-le-mul_right}
 use Rattle.imago_storage.specs.State.{StorageState}
@@ -7,7 +7,6 @@ use Rattle.imago_storage.specs.declared.fault.Fault.{Fault}
 use Rattle.imago_storage.specs.declared.fault.Fault.TheVariants.{CacheFull, Limit}
 use Rattle.qcow2_types.specs.Counts.{counters_of_block}
 use Rattle.qcow2_types.specs.Words.{block_offset}
-use Rattle.qcow2_types.specs.Pending.{FreeEntry}
 use Rattle.qcow2_metadata.specs.Places.{IsInReach}
 use Rattle.qcow2_metadata.specs.Tables.{TableValue}
 use Rattle.qcow2_alloc.specs.declared.cache.CacheDependency.TheVariants.{L2DependsOnRb}
@@ -22,7 +21,7 @@ use Rattle.qcow2_alloc.specs.Going.{IsMild}
 use Rattle.qcow2_alloc.specs.GrowingTables.{Leaks, GrowsTable}
 use Rattle.qcow2_alloc.specs.Quiet.{Metadata, IsSound}
 use Rattle.qcow2_alloc.specs.ReadyingBlocks.{HasMade, HasMore, NoneCanBeMade, ReadiesBlocks}
-use Rattle.qcow2_alloc.specs.State.{lent}
+use Rattle.qcow2_alloc.specs.State.{ImageState, lent, metadata, IsGuarded}
 use Rattle.qcow2_alloc.proofs.Blocks.EnsuringBlocks.{refused, so, why-allocated-wider}
 
 -- An answer that refuses with a number is that of its fault.
@@ -44,16 +43,16 @@ leaks-on sound sound' loose loose' fault leaked from from' leaks = record {
 pub leaks-ok : {T : Type 0} (sound : Type 0) (loose : Bool → Type 0) (v : T) (leaked : ℕ → ℕ) → Leaks sound loose (Ok v) leaked → (c : ℕ) → leaked c ≡ 0
 leaks-ok sound loose v leaked leaks c = leaks.none (λ is. absurd (cc)) c
 
-module _ {S : Type 0} (state : S → StorageState) (mark at first last : ℕ) (table : TableValue) (old : MetadataCaches S) (before : ImageFile S) (pending : List FreeEntry) where
+module _ {S : Type 0} (state : S → StorageState) (mark at first last : ℕ) (s : ImageState S) where
   abbrev Start : Metadata
-  Start = metadata_of state before old table pending
+  Start = metadata state s
 
   abbrev Knows : Type 0 → Type 0
-  Knows P = order_of old ≡ L2DependsOnRb → IsTrue (state before.image).shape.keeps → IsSound Start → P
+  Knows P = order_of s.caches ≡ L2DependsOnRb → IsTrue (state s.file.image).shape.keeps → IsSound Start → P
 
   -- The table has words for all: blocks are made.
-  pub blocks-ready : last < length table.words → (result : Result Bool Fault) (table' : TableValue) (new : MetadataCaches S) (after : ImageFile S) → MakesBlocks state first (last + 1) (lent table old before pending) result (lent table' new after pending)
-      → Knows (OnOk result (FillsFrom mark first (last + 1) Start (metadata_of state after new table' pending))) → ReadiesBlocks state mark at first last (lent table old before pending) result (lent table' new after pending)
+  pub blocks-ready : last < length s.table.words → (result : Result Bool Fault) (table' : TableValue) (new : MetadataCaches S) (after : ImageFile S) → MakesBlocks state first (last + 1) s result (lent table' new after s.pending)
+      → Knows (OnOk result (FillsFrom mark first (last + 1) Start (metadata_of state after new table' s.pending))) → ReadiesBlocks state mark at first last s result (lent table' new after s.pending)
   blocks-ready inside result table' new after makes fills = record {
     leaked = λ _. 0;
     leaks = leaks-none _ _ result;
@@ -69,7 +68,7 @@ module _ {S : Type 0} (state : S → StorageState) (mark at first last : ℕ) (t
     cause = caused result makes.cause;
   }
     where
-      filled : (r : Result Bool Fault) → OnOk r (FillsFrom mark first (last + 1) Start (metadata_of state after new table' pending)) → IfOk r (λ made. made ≡ true → HasMade mark at first last Start (metadata_of state after new table' pending))
+      filled : (r : Result Bool Fault) → OnOk r (FillsFrom mark first (last + 1) Start (metadata_of state after new table' s.pending)) → IfOk r (λ made. made ≡ true → HasMade mark at first last Start (metadata_of state after new table' s.pending))
       filled (Ok made) is = λ some. inl (inside, makes.long, is)
       filled (Err fault) is = tt
 
@@ -77,28 +76,28 @@ module _ {S : Type 0} (state : S → StorageState) (mark at first last : ℕ) (t
       named (Ok made) all = λ idle i above below. all i above (omega (arith, below))
       named (Err fault) all = tt
 
-      more : (r : Result Bool Fault) → IfOk r (λ made. made ≡ true → missing table' < missing table) → IfOk r (λ made. made ≡ true → HasMore table table')
+      more : (r : Result Bool Fault) → IfOk r (λ made. made ≡ true → missing table' < missing s.table) → IfOk r (λ made. made ≡ true → HasMore s.table table')
       more (Ok made) fewer = λ some. inr (makes.long, fewer some)
       more (Err fault) fewer = tt
 
-      far-all : (number : ℕ) → ((i : ℕ) × (first ≤ i) × (i < last + 1) × (number ≤ i * counters_of_block before.header.fields) × (IsInReach before.header.fields.cluster_bits number → ⊥)) → Knows (NoneCanBeMade mark at first last number Start)
+      far-all : (number : ℕ) → ((i : ℕ) × (first ≤ i) × (i < last + 1) × (number ≤ i * counters_of_block s.file.header.fields) × (IsInReach s.file.header.fields.cluster_bits number → ⊥)) → Knows (NoneCanBeMade mark at first last number Start)
       far-all number (i, above, below, le, far) order keeps sound = inl (λ all.
-          let near : IsInReach before.header.fields.cluster_bits (i * counters_of_block before.header.fields) = all i above (omega (arith, below)) in
-          let more = mul-le-mul_right (2 ^ before.header.fields.cluster_bits) le in
+          let near : IsInReach s.file.header.fields.cluster_bits (i * counters_of_block s.file.header.fields) = all i above (omega (arith, below)) in
+          let more = mul-le-mul_right (2 ^ s.file.header.fields.cluster_bits) le in
           far (omega (arith, near, more)))
 
       caused : (r : Result Bool Fault)
-          → MatchResult r (λ _. (state after.image).faults ≡ (state before.image).faults)
-          (WhyNotAllocated (IsTrue (state before.image).shape.keeps × (order_of old ≡ L2DependsOnRb) × IsSound (metadata_of state before old table pending)) (IsLoose table old)
-          (λ number. (i : ℕ) × (first ≤ i) × (i < last + 1) × (number ≤ i * counters_of_block before.header.fields) × (IsInReach before.header.fields.cluster_bits number → ⊥)) (state before.image).faults (state after.image).faults)
-          → MatchResult r (λ _. (state after.image).faults ≡ (state before.image).faults)
-          (WhyNotAllocated (IsTrue (state before.image).shape.keeps × (order_of old ≡ L2DependsOnRb) × IsSound (metadata_of state before old table pending)) (IsLoose table old) (λ number. Knows (NoneCanBeMade mark at first last number Start)) (state before.image).faults (state after.image).faults)
+          → MatchResult r (λ _. (state after.image).faults ≡ (state s.file.image).faults)
+          (WhyNotAllocated (IsGuarded state s) (IsLoose s.table s.caches)
+          (λ number. (i : ℕ) × (first ≤ i) × (i < last + 1) × (number ≤ i * counters_of_block s.file.header.fields) × (IsInReach s.file.header.fields.cluster_bits number → ⊥)) (state s.file.image).faults (state after.image).faults)
+          → MatchResult r (λ _. (state after.image).faults ≡ (state s.file.image).faults)
+          (WhyNotAllocated (IsGuarded state s) (IsLoose s.table s.caches) (λ number. Knows (NoneCanBeMade mark at first last number Start)) (state s.file.image).faults (state after.image).faults)
       caused (Ok made) same = same
       caused (Err fault) why = why-allocated-wider _ _ _ _ _ _ _ _ _ (λ holds. holds) (λ any loose. loose) far-all refl fault why
 
-  module _ (past : length table.words ≤ last) (table' : TableValue) (new : MetadataCaches S) (after : ImageFile S) (pending' : List FreeEntry) where
+  module _ (past : length s.table.words ≤ last) (s' : ImageState S) where
     -- It hasn't: it grows,
-    pub table-ready : last ≤ at → GrowsTable state mark at (lent table old before pending) (Ok tt) (lent table' new after pending') → ReadiesBlocks state mark at first last (lent table old before pending) (so true) (lent table' new after pending')
+    pub table-ready : last ≤ at → GrowsTable state mark at s (Ok tt) s' → ReadiesBlocks state mark at first last s (so true) s'
     table-ready behind grows = record {
       leaked = grows.leaked;
       leaks = record { none = λ other c. leaks-ok _ _ tt grows.leaked grows.leaks c; pinned = grows.leaks.pinned };
@@ -115,7 +114,7 @@ module _ {S : Type 0} (state : S → StorageState) (mark at first last : ℕ) (t
     }
 
     -- or that is refused.
-    pub table-not-ready : (fault : Fault) → GrowsTable state mark at (lent table old before pending) (Err fault) (lent table' new after pending') → ReadiesBlocks state mark at first last (lent table old before pending) (Err fault) (lent table' new after pending')
+    pub table-not-ready : (fault : Fault) → GrowsTable state mark at s (Err fault) s' → ReadiesBlocks state mark at first last s (Err fault) s'
     table-not-ready fault grows = record {
       leaked = grows.leaked;
       leaks = leaks-on _ _ _ _ fault grows.leaked (λ holds. holds) (λ any loose. loose) grows.leaks;

@@ -1,5 +1,5 @@
 -- A cluster is given a counter: a word of the refcount table, and a block.
-use Rattle.std.proofs.Common.{◌≡◌, ◌≢◌, ℕ, ◌+◌, ◌*◌, ◌/◌, ◌^◌, ◌<◌, ◌≤◌, ◌++◌, true, false, refl, arith, ap, sym, subst, ◌∙◌, inl, inr, List, length, Bool, Result, Ok, Err}
+use Rattle.std.proofs.Common.{◌≡◌, ◌≢◌, ℕ, ◌+◌, ◌*◌, ◌/◌, ◌^◌, ◌<◌, ◌≤◌, ◌++◌, true, false, refl, arith, ap, sym, subst, ◌∙◌, inl, inr, length, Bool, Result, Ok, Err}
 use Rattle.std.specs.Prelude.{⊤, IsTrue, OnOk, OnErr, slice_index, MatchResult}
 use Rattle.std.proofs.lemmas.Bool.{cases_eq}
 use Rattle.std.proofs.lemmas.Nat.{div-add-mod'}
@@ -12,7 +12,6 @@ use Rattle.imago_storage.proofs.Composing.{keeps_on}
 use Rattle.qcow2_types.specs.Counts.{counters_of_block}
 use Rattle.qcow2_types.specs.Header.{Header, words_of_cluster}
 use Rattle.qcow2_types.specs.Switched.{with_refcount_table}
-use Rattle.qcow2_types.specs.Pending.{FreeEntry}
 use Rattle.qcow2_types.specs.Words.{block_offset}
 use Rattle.qcow2_metadata.specs.Growth.{IsGrownLength}
 use Rattle.qcow2_metadata.specs.Places.{IsInReach}
@@ -29,7 +28,7 @@ use Rattle.qcow2_alloc.specs.Going.{WasNotCutOff}
 use Rattle.qcow2_alloc.specs.GrowingTables.{GrowsTable, IsInRoomToGrow, IsLengthenedByTable, NoPlaceToGrow, table_run}
 use Rattle.qcow2_alloc.specs.HandingOutOne.{HandsOut, ReadiesCounter, ReadiesWord, leaked_by}
 use Rattle.qcow2_alloc.specs.Quiet.{IsSound, counted}
-use Rattle.qcow2_alloc.specs.State.{lent}
+use Rattle.qcow2_alloc.specs.State.{ImageState, lent, metadata, IsGuarded}
 use Rattle.qcow2_alloc.proofs.Handing.Allocating.{allocating-none, allocating-as, allocating-then}
 use Rattle.qcow2_alloc.proofs.Blocks.ReadyingBlocks.{leaks-none}
 use Rattle.qcow2_alloc.proofs.Blocks.EnsuringBlocks.{so, refused, why-allocated-wider}
@@ -53,42 +52,42 @@ limit-numbered fault is = absurd (cc is)
 pub other-numbered : (fault : Fault) → number_of fault ≢ 12 → (number : ℕ) → fault ≢ Limit number
 other-numbered fault apart number is = apart (ap (λ (f : Fault). number_of f) is)
 
-module _ {S : Type 0} (state : S → StorageState) (mark cluster : ℕ) (table : TableValue) (old : MetadataCaches S) (before : ImageFile S) (pending : List FreeEntry) where
+module _ {S : Type 0} (state : S → StorageState) (mark cluster : ℕ) (s : ImageState S) where
   abbrev k : ℕ
-  k = counters_of_block before.header.fields
+  k = counters_of_block s.file.header.fields
 
   -- Nothing was to be done.
-  stands : (there : Bool) → HandsOut state leaked_by (lent table old before pending) (so there) (lent table old before pending)
+  stands : (there : Bool) → HandsOut state leaked_by s (so there) s
   stands there = record {
     leaked = λ _. 0;
     leaks = leaks-none _ _ (so there);
-    step = allocating-none state table old before pending;
+    step = allocating-none state s;
     list = inl refl;
     cause = refl;
   }
 
-  pub counter-stands : block_offset (slice_index table.words (cluster / k)) ≢ 0 → ReadiesCounter state mark cluster (lent table old before pending) (so true) (lent table old before pending)
+  pub counter-stands : block_offset (slice_index s.table.words (cluster / k)) ≢ 0 → ReadiesCounter state mark cluster s (so true) s
   counter-stands some = record { did = stands true; there = λ yes. some; barred = λ order keeps sound no. cc no; near = λ order keeps sound c none more. absurd (omega (arith, none, more)) }
 
-  pub word-stands : cluster / k < length table.words → ReadiesWord state mark cluster (lent table old before pending) (so true) (lent table old before pending)
+  pub word-stands : cluster / k < length s.table.words → ReadiesWord state mark cluster s (so true) s
   word-stands inside = record { did = stands true; there = λ yes. inside; barred = λ order keeps sound no. cc no; near = λ order keeps sound c none more. absurd (omega (arith, none, more)) }
 
   -- The table has grown,
-  module _ (past : length table.words ≤ cluster / k) (result : Result Unit Fault) (table' : TableValue) (new : MetadataCaches S) (after : ImageFile S) (pending' : List FreeEntry) (grows : GrowsTable state mark (cluster / k) (lent table old before pending) result (lent table' new after pending')) where
-    grown-list : (r : Result Unit Fault) → OnOk r (IsGrownLength (words_of_cluster before.header.fields) k (cluster / k) (length table'.words)) → OnOk r (pending' ≡ pending ++ table_run before.header.fields) → OnErr r (pending' ≡ pending)
-        → IsLengthenedByTable before.header.fields table table' pending pending'
+  module _ (past : length s.table.words ≤ cluster / k) (result : Result Unit Fault) (s' : ImageState S) (grows : GrowsTable state mark (cluster / k) s result s') where
+    grown-list : (r : Result Unit Fault) → OnOk r (IsGrownLength (words_of_cluster s.file.header.fields) k (cluster / k) (length s'.table.words)) → OnOk r (s'.pending ≡ s.pending ++ table_run s.file.header.fields) → OnErr r (s'.pending ≡ s.pending)
+        → IsLengthenedByTable s.file.header.fields s.table s'.table s.pending s'.pending
     grown-list (Ok done) grown waits kept = inr (let above = grown.enough.above in omega (arith, above, past), waits)
     grown-list (Err fault) grown waits kept = inl kept
 
     no-leak : (result ≡ Err CacheFull → ⊥) → (c : ℕ) → grows.leaked c ≡ 0
     no-leak = grows.leaks.none
 
-    pub word-made : result ≡ Ok tt → ReadiesWord state mark cluster (lent table old before pending) (so true) (lent table' new after pending')
+    pub word-made : result ≡ Ok tt → ReadiesWord state mark cluster s (so true) s'
     word-made ok = record {
       did = record {
         leaked = λ _. 0;
         leaks = leaks-none _ _ (so true);
-        step = allocating-as state (WasNotCutOff result) (WasNotCutOff (so true)) grows.leaked (λ _. 0) table old before pending table' new after pending' (λ whole. subst (λ (r : Result Unit Fault). WasNotCutOff r) (sym ok) tt) (no-leak (λ full. let e = sym ok ∙ full in cc)) grows.step;
+        step = allocating-as state (WasNotCutOff result) (WasNotCutOff (so true)) grows.leaked (λ _. 0) s s' (λ whole. subst (λ (r : Result Unit Fault). WasNotCutOff r) (sym ok) tt) (no-leak (λ full. let e = sym ok ∙ full in cc)) grows.step;
         list = grown-list result grows.enough grows.waits grows.kept;
         cause = by-cause _ result ok grows.cause;
       };
@@ -97,8 +96,8 @@ module _ {S : Type 0} (state : S → StorageState) (mark cluster : ℕ) (table :
       near = λ order keeps sound c none more. inr (in-room order keeps sound c none more);
     }
       where
-        in-room : order_of old ≡ L2DependsOnRb → IsTrue (state before.image).shape.keeps → IsSound (metadata_of state before old table pending) → (c : ℕ) → counted (metadata_of state before old table pending) c ≡ 0 → 0 < counted (metadata_of state after new table' pending') c
-            → IsInRoomToGrow (metadata_of state before old table pending) mark (cluster / k) c
+        in-room : order_of s.caches ≡ L2DependsOnRb → IsTrue (state s.file.image).shape.keeps → IsSound (metadata state s) → (c : ℕ) → counted (metadata state s) c ≡ 0 → 0 < counted (metadata state s') c
+            → IsInRoomToGrow (metadata state s) mark (cluster / k) c
         in-room order keeps sound c none more =
             let grown = by-growth result ok (grows.grown order keeps sound) in
             let counts = grown.counts c in
@@ -109,21 +108,21 @@ module _ {S : Type 0} (state : S → StorageState) (mark cluster : ℕ) (table :
             by-growth (Ok done) is p = p
             by-growth (Err fault) is p = absurd (cc is)
 
-        by-length : (r : Result Unit Fault) → r ≡ Ok tt → OnOk r (IsGrownLength (words_of_cluster before.header.fields) k (cluster / k) (length table'.words)) → IsGrownLength (words_of_cluster before.header.fields) k (cluster / k) (length table'.words)
+        by-length : (r : Result Unit Fault) → r ≡ Ok tt → OnOk r (IsGrownLength (words_of_cluster s.file.header.fields) k (cluster / k) (length s'.table.words)) → IsGrownLength (words_of_cluster s.file.header.fields) k (cluster / k) (length s'.table.words)
         by-length (Ok done) is grown = grown
         by-length (Err fault) is grown = absurd (cc is)
 
-        by-cause : (P : Fault → Type 0) (r : Result Unit Fault) → r ≡ Ok tt → MatchResult r (λ _. (state after.image).faults ≡ (state before.image).faults) P → (state after.image).faults ≡ (state before.image).faults
+        by-cause : (P : Fault → Type 0) (r : Result Unit Fault) → r ≡ Ok tt → MatchResult r (λ _. (state s'.file.image).faults ≡ (state s.file.image).faults) P → (state s'.file.image).faults ≡ (state s.file.image).faults
         by-cause P (Ok done) is same = same
         by-cause P (Err fault) is same = absurd (cc is)
 
     -- or has no place,
-    pub word-barred : (number : ℕ) → result ≡ Err (Limit number) → ReadiesWord state mark cluster (lent table old before pending) (so false) (lent table' new after pending')
+    pub word-barred : (number : ℕ) → result ≡ Err (Limit number) → ReadiesWord state mark cluster s (so false) s'
     word-barred number limit = record {
       did = record {
         leaked = λ _. 0;
         leaks = leaks-none _ _ (so false);
-        step = allocating-as state (WasNotCutOff result) (WasNotCutOff (so false)) grows.leaked (λ _. 0) table old before pending table' new after pending' (λ whole. subst (λ (r : Result Unit Fault). WasNotCutOff r) (sym limit) tt) (no-leak (λ full. let e = sym limit ∙ full in cc)) grows.step;
+        step = allocating-as state (WasNotCutOff result) (WasNotCutOff (so false)) grows.leaked (λ _. 0) s s' (λ whole. subst (λ (r : Result Unit Fault). WasNotCutOff r) (sym limit) tt) (no-leak (λ full. let e = sym limit ∙ full in cc)) grows.step;
         list = grown-list result grows.enough grows.waits grows.kept;
         cause = cause.1;
       };
@@ -132,24 +131,24 @@ module _ {S : Type 0} (state : S → StorageState) (mark cluster : ℕ) (table :
       near = λ order keeps sound c none more. absurd (let same = grows.barred order keeps sound number limit c in omega (arith, same, none, more));
     }
       where
-        cause : (order_of old ≡ L2DependsOnRb → IsTrue (state before.image).shape.keeps → IsSound (metadata_of state before old table pending) → NoPlaceToGrow (metadata_of state before old table pending) mark (cluster / k) number) × ((state after.image).faults ≡ (state before.image).faults)
-        cause = subst (λ (r : Result Unit Fault). MatchResult r (λ _. (state after.image).faults ≡ (state before.image).faults)
-            (WhyNotAllocated (IsTrue (state before.image).shape.keeps × (order_of old ≡ L2DependsOnRb) × IsSound (metadata_of state before old table pending)) (IsLoose table old)
-            (λ n. order_of old ≡ L2DependsOnRb → IsTrue (state before.image).shape.keeps → IsSound (metadata_of state before old table pending) → NoPlaceToGrow (metadata_of state before old table pending) mark (cluster / k) n)
-            (state before.image).faults (state after.image).faults)) limit grows.cause
+        cause : (order_of s.caches ≡ L2DependsOnRb → IsTrue (state s.file.image).shape.keeps → IsSound (metadata state s) → NoPlaceToGrow (metadata state s) mark (cluster / k) number) × ((state s'.file.image).faults ≡ (state s.file.image).faults)
+        cause = subst (λ (r : Result Unit Fault). MatchResult r (λ _. (state s'.file.image).faults ≡ (state s.file.image).faults)
+            (WhyNotAllocated (IsGuarded state s) (IsLoose s.table s.caches)
+            (λ n. order_of s.caches ≡ L2DependsOnRb → IsTrue (state s.file.image).shape.keeps → IsSound (metadata state s) → NoPlaceToGrow (metadata state s) mark (cluster / k) n)
+            (state s.file.image).faults (state s'.file.image).faults)) limit grows.cause
 
     -- or was refused.
-    pub word-refused : (fault : Fault) → result ≡ Err fault → ((number : ℕ) → fault ≢ Limit number) → ReadiesWord state mark cluster (lent table old before pending) (refused fault) (lent table' new after pending')
+    pub word-refused : (fault : Fault) → result ≡ Err fault → ((number : ℕ) → fault ≢ Limit number) → ReadiesWord state mark cluster s (refused fault) s'
     word-refused fault is other = record {
       did = record {
         leaked = grows.leaked;
         leaks = record { none = λ full. grows.leaks.none (λ at. full (let e = sym is ∙ at in cc)); pinned = grows.leaks.pinned };
-        step = allocating-as state (WasNotCutOff result) (WasNotCutOff (refused fault)) grows.leaked grows.leaked table old before pending table' new after pending' (λ whole. subst (λ (r : Result Unit Fault). WasNotCutOff r) (sym is) whole) (λ c. refl) grows.step;
+        step = allocating-as state (WasNotCutOff result) (WasNotCutOff (refused fault)) grows.leaked grows.leaked s s' (λ whole. subst (λ (r : Result Unit Fault). WasNotCutOff r) (sym is) whole) (λ c. refl) grows.step;
         list = grown-list result grows.enough grows.waits grows.kept;
-        cause = never-limit _ _ _ _ _ _ fault other (subst (λ (r : Result Unit Fault). MatchResult r (λ _. (state after.image).faults ≡ (state before.image).faults)
-            (WhyNotAllocated (IsTrue (state before.image).shape.keeps × (order_of old ≡ L2DependsOnRb) × IsSound (metadata_of state before old table pending)) (IsLoose table old)
-            (λ n. order_of old ≡ L2DependsOnRb → IsTrue (state before.image).shape.keeps → IsSound (metadata_of state before old table pending) → NoPlaceToGrow (metadata_of state before old table pending) mark (cluster / k) n)
-            (state before.image).faults (state after.image).faults)) is grows.cause);
+        cause = never-limit _ _ _ _ _ _ fault other (subst (λ (r : Result Unit Fault). MatchResult r (λ _. (state s'.file.image).faults ≡ (state s.file.image).faults)
+            (WhyNotAllocated (IsGuarded state s) (IsLoose s.table s.caches)
+            (λ n. order_of s.caches ≡ L2DependsOnRb → IsTrue (state s.file.image).shape.keeps → IsSound (metadata state s) → NoPlaceToGrow (metadata state s) mark (cluster / k) n)
+            (state s.file.image).faults (state s'.file.image).faults)) is grows.cause);
       };
       there = tt;
       barred = λ order keeps sound. tt;
@@ -157,45 +156,45 @@ module _ {S : Type 0} (state : S → StorageState) (mark cluster : ℕ) (table :
     }
 
   -- There is a word for the cluster, and its block is made.
-  module _ (mid_table : TableValue) (mid : MetadataCaches S) (between : ImageFile S) (mid_pending : List FreeEntry) where
+  module _ (mid : ImageState S) where
     -- There was no place for one,
-    pub counter-barred : ReadiesWord state mark cluster (lent table old before pending) (so false) (lent mid_table mid between mid_pending) → ReadiesCounter state mark cluster (lent table old before pending) (so false) (lent mid_table mid between mid_pending)
+    pub counter-barred : ReadiesWord state mark cluster s (so false) mid → ReadiesCounter state mark cluster s (so false) mid
     counter-barred word = record { did = word.did; there = λ yes. cc yes; barred = word.barred; near = word.near }
 
     -- it wasn't to be had,
-    pub counter-refused : (fault : Fault) → ReadiesWord state mark cluster (lent table old before pending) (refused fault) (lent mid_table mid between mid_pending) → ReadiesCounter state mark cluster (lent table old before pending) (refused fault) (lent mid_table mid between mid_pending)
+    pub counter-refused : (fault : Fault) → ReadiesWord state mark cluster s (refused fault) mid → ReadiesCounter state mark cluster s (refused fault) mid
     counter-refused fault word = record { did = word.did; there = tt; barred = word.barred; near = word.near }
 
-    module _ (word : ReadiesWord state mark cluster (lent table old before pending) (so true) (lent mid_table mid between mid_pending)) (reach : IsInReach before.header.fields.cluster_bits cluster) (table' : TableValue) (new : MetadataCaches S) (after : ImageFile S) where
-      header-moved : (P : Header → Type 0) → P (with_refcount_table before.header word.did.step.moved.0 word.did.step.moved.1) → P between.header
+    module _ (word : ReadiesWord state mark cluster s (so true) mid) (reach : IsInReach s.file.header.fields.cluster_bits cluster) (table' : TableValue) (new : MetadataCaches S) (after : ImageFile S) where
+      header-moved : (P : Header → Type 0) → P (with_refcount_table s.file.header word.did.step.moved.0 word.did.step.moved.1) → P mid.file.header
       header-moved P p = subst P (sym word.did.step.moved.2) p
 
-      near : (i : ℕ) → cluster / k ≤ i → i < cluster / k + 1 → IsInReach between.header.fields.cluster_bits (i * counters_of_block between.header.fields)
+      near : (i : ℕ) → cluster / k ≤ i → i < cluster / k + 1 → IsInReach mid.file.header.fields.cluster_bits (i * counters_of_block mid.file.header.fields)
       near i above below = header-moved (λ (H : Header). IsInReach H.fields.cluster_bits (i * counters_of_block H.fields)) (
           let le : cluster / k * k ≤ cluster = (let shape = div-add-mod' cluster k in omega (arith, shape)) in
-          let more = mul-le-mul_right (2 ^ before.header.fields.cluster_bits) le in
+          let more = mul-le-mul_right (2 ^ s.file.header.fields.cluster_bits) le in
           let at : i ≡ cluster / k = omega (arith, above, below) in
-          subst (λ j. IsInReach before.header.fields.cluster_bits (j * k)) (sym at) (omega (arith, reach, more)))
+          subst (λ j. IsInReach s.file.header.fields.cluster_bits (j * k)) (sym at) (omega (arith, reach, more)))
 
-      never-far : (number : ℕ) → ((i : ℕ) × (cluster / k ≤ i) × (i < cluster / k + 1) × (number ≤ i * counters_of_block between.header.fields) × (IsInReach between.header.fields.cluster_bits number → ⊥)) → ⊥
-      never-far number (i, above, below, le, far) = let there = near i above below in let more = mul-le-mul_right (2 ^ between.header.fields.cluster_bits) le in far (omega (arith, there, more))
+      never-far : (number : ℕ) → ((i : ℕ) × (cluster / k ≤ i) × (i < cluster / k + 1) × (number ≤ i * counters_of_block mid.file.header.fields) × (IsInReach mid.file.header.fields.cluster_bits number → ⊥)) → ⊥
+      never-far number (i, above, below, le, far) = let there = near i above below in let more = mul-le-mul_right (2 ^ mid.file.header.fields.cluster_bits) le in far (omega (arith, there, more))
 
-      both : (ok' : Type 0) → Allocating state ok' (λ _. 0) (lent mid_table mid between mid_pending) (lent table' new after mid_pending) → Allocating state ok' (λ _. 0) (lent table old before pending) (lent table' new after mid_pending)
-      both ok' two = allocating-as state ok' ok' (λ c. leaked_by (so true) word.did.leaked c + 0) (λ _. 0) table old before pending table' new after mid_pending (λ o. o) (λ c. omega arith)
-          (allocating-then state ⊤ ok' (leaked_by (so true) word.did.leaked) (λ _. 0) table old before pending mid_table mid between mid_pending table' new after mid_pending tt word.did.step two)
+      both : (ok' : Type 0) → Allocating state ok' (λ _. 0) mid (lent table' new after mid.pending) → Allocating state ok' (λ _. 0) s (lent table' new after mid.pending)
+      both ok' two = allocating-as state ok' ok' (λ c. leaked_by (so true) word.did.leaked c + 0) (λ _. 0) s (lent table' new after mid.pending) (λ o. o) (λ c. omega arith)
+          (allocating-then state ⊤ ok' (leaked_by (so true) word.did.leaked) (λ _. 0) s mid (lent table' new after mid.pending) tt word.did.step two)
 
-      blocks-behind : IsLengthenedByTable before.header.fields table mid_table pending mid_pending → length table'.words ≡ length mid_table.words → IsLengthenedByTable before.header.fields table table' pending mid_pending
+      blocks-behind : IsLengthenedByTable s.file.header.fields s.table mid.table s.pending mid.pending → length table'.words ≡ length mid.table.words → IsLengthenedByTable s.file.header.fields s.table table' s.pending mid.pending
       blocks-behind (inl same) long = inl same
       blocks-behind (inr (longer, waits)) long = inr (omega (arith, longer, long), waits)
 
-      holds-still : IsTrue (state before.image).shape.keeps × (order_of old ≡ L2DependsOnRb) × IsSound (metadata_of state before old table pending) → IsTrue (state between.image).shape.keeps × (order_of mid ≡ L2DependsOnRb) × IsSound (metadata_of state between mid mid_table mid_pending)
-      holds-still holds = let quiet = word.did.step.quiet holds.1 in (keeps_on (state before.image) (state between.image) quiet.shape holds.0, word.did.step.order ∙ holds.1, (quiet.holds holds.0 holds.2 tt).0)
+      holds-still : IsGuarded state s → IsGuarded state mid
+      holds-still holds = let quiet = word.did.step.quiet holds.1 in (keeps_on (state s.file.image) (state mid.file.image) quiet.shape holds.0, word.did.step.order ∙ holds.1, (quiet.holds holds.0 holds.2 tt).0)
 
       -- or now there is a block,
-      pub counter-made : (made : Bool) → MakesBlocks state (cluster / k) (cluster / k + 1) (lent mid_table mid between mid_pending) (so made) (lent table' new after mid_pending)
-          → (order_of mid ≡ L2DependsOnRb → IsTrue (state between.image).shape.keeps → IsSound (metadata_of state between mid mid_table mid_pending)
-          → FillsFrom mark (cluster / k) (cluster / k + 1) (metadata_of state between mid mid_table mid_pending) (metadata_of state after new table' mid_pending))
-          → ReadiesCounter state mark cluster (lent table old before pending) (so true) (lent table' new after mid_pending)
+      pub counter-made : (made : Bool) → MakesBlocks state (cluster / k) (cluster / k + 1) mid (so made) (lent table' new after mid.pending)
+          → (order_of mid.caches ≡ L2DependsOnRb → IsTrue (state mid.file.image).shape.keeps → IsSound (metadata state mid)
+          → FillsFrom mark (cluster / k) (cluster / k + 1) (metadata state mid) (metadata_of state after new table' mid.pending))
+          → ReadiesCounter state mark cluster s (so true) (lent table' new after mid.pending)
       counter-made made blocks fills = record {
         did = record {
           leaked = λ _. 0;
@@ -206,12 +205,12 @@ module _ {S : Type 0} (state : S → StorageState) (mark cluster : ℕ) (table :
         };
         there = λ yes. blocks.named (cluster / k) (omega arith) (omega arith);
         barred = λ order keeps sound no. cc no;
-        near = λ order keeps sound c none more. elim (cases_eq (counted (metadata_of state between mid mid_table mid_pending) c) 0) [
+        near = λ order keeps sound c none more. elim (cases_eq (counted (metadata state mid) c) 0) [
           | inr made-before ↦ word.near order keeps sound c none (omega (arith, made-before))
           | inl still ↦
               let held = holds-still (keeps, order, sound) in
               let own = (fills held.1 held.0 held.2).own c (λ same. omega (arith, same, still, more)) in
-              let size : counters_of_block between.header.fields ≡ k = ap (λ (H : Header). counters_of_block H.fields) word.did.step.moved.2 in
+              let size : counters_of_block mid.file.header.fields ≡ k = ap (λ (H : Header). counters_of_block H.fields) word.did.step.moved.2 in
               let low = own.1 in
               let high = own.2 in
               let at : own.0 ≡ cluster / k = omega (arith, low, high) in
@@ -222,7 +221,7 @@ module _ {S : Type 0} (state : S → StorageState) (mark cluster : ℕ) (table :
       }
 
       -- or none could be made.
-      pub counter-unmade : (fault : Fault) → MakesBlocks state (cluster / k) (cluster / k + 1) (lent mid_table mid between mid_pending) (refused fault) (lent table' new after mid_pending) → ReadiesCounter state mark cluster (lent table old before pending) (refused fault) (lent table' new after mid_pending)
+      pub counter-unmade : (fault : Fault) → MakesBlocks state (cluster / k) (cluster / k + 1) mid (refused fault) (lent table' new after mid.pending) → ReadiesCounter state mark cluster s (refused fault) (lent table' new after mid.pending)
       counter-unmade fault blocks = record {
         did = record {
           leaked = λ _. 0;

@@ -12,7 +12,6 @@ use Rattle.imago_storage.proofs.Composing.{keeps_on, later_same}
 use Rattle.qcow2_types.specs.Bytes.{bytes_of}
 use Rattle.qcow2_types.specs.Counts.{counters_of_block}
 use Rattle.qcow2_types.specs.Header.{Header, refcount_table_entries}
-use Rattle.qcow2_types.specs.Pending.{FreeEntry}
 use Rattle.qcow2_types.specs.Words.{block_offset}
 use Rattle.qcow2_metadata.specs.Blocks.{Block, block_of}
 use Rattle.qcow2_metadata.specs.Places.{IsInReach}
@@ -32,7 +31,7 @@ use Rattle.qcow2_alloc.specs.MakingRoom.{run_of}
 use Rattle.qcow2_alloc.specs.Memory.{Cached, written, written_block}
 use Rattle.qcow2_alloc.specs.Quiet.{Metadata, counted, named_at_all, waiting, one_at, IsUsed, IsSound, Quietly}
 use Rattle.qcow2_alloc.specs.Safety.{AreBlocksClean}
-use Rattle.qcow2_alloc.specs.State.{lent}
+use Rattle.qcow2_alloc.specs.State.{ImageState, lent, metadata}
 use Rattle.qcow2_alloc.proofs.Blocks.CountedApart.{counted-apart}
 use Rattle.qcow2_alloc.proofs.Blocks.CountingClusters.{succeeded, done_of, one-counted}
 use Rattle.qcow2_alloc.proofs.Caching.Forgetting.{forgotten-counts, forgotten-quiet, removed-apart}
@@ -64,36 +63,36 @@ none-written c put keys (x ∷ xs) (y ∷ ys) same none =
       | inr t ↦ let f : nat_eq c x.0 ≡ false = ap (nat_eq c) key ∙ t in rw f (none-written c put keys xs ys tail (rw t at none))
     ]
 
-module _ {S : Type 0} (state : S → StorageState) (table : TableValue) (pending : List FreeEntry) (old : MetadataCaches S) (before : ImageFile S) (i d : ℕ) (A : MetadataCaches S) (fA : ImageFile S) (begun : Begins state (lent table old before pending) (λ _. 0) (lent table A fA pending))
-    (free : order_of old ≡ L2DependsOnRb → IsTrue (state before.image).shape.keeps → IsSound (metadata_of state before old table pending) → IsFreePlace (metadata_of state fA A table pending) i d) where
+module _ {S : Type 0} (state : S → StorageState) (image : ImageState S) (i d : ℕ) (A : MetadataCaches S) (fA : ImageFile S) (begun : Begins state image (λ _. 0) (lent image.table A fA image.pending))
+    (free : order_of image.caches ≡ L2DependsOnRb → IsTrue (state image.file.image).shape.keeps → IsSound (metadata state image) → IsFreePlace (metadata_of state fA A image.table image.pending) i d) where
   abbrev At : MetadataCaches S → ImageFile S → Metadata
-  At caches file = metadata_of state file caches table pending
+  At caches file = metadata_of state file caches image.table image.pending
 
   abbrev m0 : Metadata
-  m0 = At old before
+  m0 = At image.caches image.file
 
   abbrev mA : Metadata
   mA = At A fA
 
   abbrev C1 : MetadataCaches S
-  C1 = without state table pending A fA d
+  C1 = without state (lent image.table A fA image.pending) d
 
   abbrev m1 : Metadata
   m1 = At C1 fA
 
   abbrev Keeps : Type 0
-  Keeps = IsTrue (state before.image).shape.keeps
+  Keeps = IsTrue (state image.file.image).shape.keeps
 
-  sound-then : order_of old ≡ L2DependsOnRb → Keeps → IsSound m0 → IsSound mA
+  sound-then : order_of image.caches ≡ L2DependsOnRb → Keeps → IsSound m0 → IsSound mA
   sound-then order keeps sound = ((begun.quiet order).holds keeps sound tt).0
 
   -- Nothing names the cluster, and what is cached of it is dropped.
-  unused : order_of old ≡ L2DependsOnRb → Keeps → IsSound m0 → (named_at_all mA d ≡ 0) × (waiting mA d ≡ 0) × (IsUsed mA d → ⊥)
+  unused : order_of image.caches ≡ L2DependsOnRb → Keeps → IsSound m0 → (named_at_all mA d ≡ 0) × (waiting mA d ≡ 0) × (IsUsed mA d → ⊥)
   unused order keeps sound = uncounted-free mA (sound-then order keeps sound) (begun.order ∙ order) d (free order keeps sound).uncounted
 
-  begin : Begins state (lent table old before pending) (λ _. 0) (lent table C1 fA pending)
+  begin : Begins state image (λ _. 0) (lent image.table C1 fA image.pending)
   begin =
-      begins-then state i table pending old before (λ _. 0) (λ _. 0) A fA C1 fA begun (λ _. 0) (λ c. omega arith)
+      begins-then state i image (λ _. 0) (λ _. 0) A fA C1 fA begun (λ _. 0) (λ c. omega arith)
       (record {
         shape = refl;
         later = later_same (state fA.image);
@@ -103,24 +102,24 @@ module _ {S : Type 0} (state : S → StorageState) (table : TableValue) (pending
         stays = record {
           header = refl;
           order = refl;
-          loose = loose-on table A C1 (pins-removed (nat_eq d) (cached_in A).blocks) refl;
+          loose = loose-on image.table A C1 (pins-removed (nat_eq d) (cached_in A).blocks) refl;
           room = record { tables = refl; blocks = refl; entries = refl };
         };
       })
 
-  zero1 : order_of old ≡ L2DependsOnRb → Keeps → IsSound m0 → counted m1 d ≡ 0
+  zero1 : order_of image.caches ≡ L2DependsOnRb → Keeps → IsSound m0 → counted m1 d ≡ 0
   zero1 order keeps sound = forgotten-counts mA d (sound-then order keeps sound) (unused order keeps sound).0 d ∙ (free order keeps sound).uncounted
 
   on : Keeps → IsTrue (state fA.image).shape.keeps
-  on keeps = keeps_on (state before.image) (state fA.image) begun.shape keeps
+  on keeps = keeps_on (state image.file.image) (state fA.image) begun.shape keeps
 
   -- The cluster is counted,
-  module _ (result : Result Unit Fault) (C : MetadataCaches S) (fC : ImageFile S) (raises : RaisesCluster state table d C1 fA result C fC) where
-    abbrev run : CountsRun state d 1 (lent table C1 fA pending) result (lent table C fC pending)
-    run = (one-counted state table pending d C1 fA result C fC raises).0
+  module _ (result : Result Unit Fault) (C : MetadataCaches S) (fC : ImageFile S) (raises : RaisesCluster state image.table d C1 fA result C fC) where
+    abbrev run : CountsRun state d 1 (lent image.table C1 fA image.pending) result (lent image.table C fC image.pending)
+    run = (one-counted state image.table image.pending d C1 fA result C fC raises).0
 
     part-is : run.part ≡ done_of result
-    part-is = (one-counted state table pending d C1 fA result C fC raises).1
+    part-is = (one-counted state image.table image.pending d C1 fA result C fC raises).1
 
     abbrev more : ℕ → ℕ
     more c = covers c (run_of d run.part)
@@ -131,10 +130,10 @@ module _ {S : Type 0} (state : S → StorageState) (table : TableValue) (pending
     more-one : run.part ≡ 1 → (c : ℕ) → more c ≡ one_at d c
     more-one one c = ap (λ n. covers c (run_of d n)) one ∙ covers-one c (run_of d 1) refl
 
-    all-zero : order_of old ≡ L2DependsOnRb → Keeps → IsSound m0 → (c : ℕ) → d ≤ c → c < d + 1 → counted m1 c ≡ 0
+    all-zero : order_of image.caches ≡ L2DependsOnRb → Keeps → IsSound m0 → (c : ℕ) → d ≤ c → c < d + 1 → counted m1 c ≡ 0
     all-zero order keeps sound c ge lt = let same : d ≡ c = omega (arith, ge, lt) in subst (λ n. counted m1 n ≡ 0) same (zero1 order keeps sound)
 
-    only-one : order_of old ≡ L2DependsOnRb → Keeps → IsSound m0 → IsSound m1 → WasNotCutOff result → OnlyRaised m1 (At C fC)
+    only-one : order_of image.caches ≡ L2DependsOnRb → Keeps → IsSound m0 → IsSound m1 → WasNotCutOff result → OnlyRaised m1 (At C fC)
     only-one order keeps sound sound1 whole c =
         let is = run.raised (begin.order ∙ order) (on keeps) sound1 (all-zero order keeps sound) whole c in
         elim (cases_eq run.part 0) [
@@ -151,7 +150,7 @@ module _ {S : Type 0} (state : S → StorageState) (table : TableValue) (pending
               ]
         ]
 
-    counting : Follows state i table pending old before (WasNotCutOff result) more C1 fA C fC
+    counting : Follows state i image (WasNotCutOff result) more C1 fA C fC
     counting = record {
       shape = run.shape;
       later = run.later;
@@ -161,25 +160,25 @@ module _ {S : Type 0} (state : S → StorageState) (table : TableValue) (pending
       stays = record { header = run.header; order = run.order; loose = run.loose; room = run.room };
     }
 
-  pub uncounted-made : (fault : Fault) (C : MetadataCaches S) (fC : ImageFile S) → RaisesCluster state table d C1 fA (Err fault) C fC → MakesBlock state i (lent table old before pending) (Err fault) (lent table C fC pending)
+  pub uncounted-made : (fault : Fault) (C : MetadataCaches S) (fC : ImageFile S) → RaisesCluster state image.table d C1 fA (Err fault) C fC → MakesBlock state i image (Err fault) (lent image.table C fC image.pending)
   uncounted-made fault C fC raises =
-      begins-refused state i table pending old before (λ _. 0) (more (Err fault) C fC raises) C1 fA C fC begin fault (counting (Err fault) C fC raises)
+      begins-refused state i image (λ _. 0) (more (Err fault) C fC raises) C1 fA C fC begin fault (counting (Err fault) C fC raises)
       (λ order keeps sound whole c. let none = more-none (Err fault) C fC raises (part-is (Err fault) C fC raises) c in omega (arith, none))
       (counted-wider _ _ _ _ _ _ _ _ (λ holds. (
         on holds.0,
         begin.order ∙ holds.1,
         ((begin.quiet holds.1).holds holds.0 holds.2 tt).0,
-        λ c ge lt. (all-zero (Err fault) C fC raises holds.1 holds.0 holds.2 c ge lt, subst (λ n. block_offset (slice_index table.words (n / counters_of_block fA.header.fields)) ≢ 0) (let same : d ≡ c = omega (arith, ge, lt) in same) (free holds.1 holds.0 holds.2).there),
+        λ c ge lt. (all-zero (Err fault) C fC raises holds.1 holds.0 holds.2 c ge lt, subst (λ n. block_offset (slice_index image.table.words (n / counters_of_block fA.header.fields)) ≢ 0) (let same : d ≡ c = omega (arith, ge, lt) in same) (free holds.1 holds.0 holds.2).there),
       ))
       begin.loose begin.faults.0 fault (run (Err fault) C fC raises).cause)
 
-  module _ (C : MetadataCaches S) (fC : ImageFile S) (raises : RaisesCluster state table d C1 fA succeeded C fC) where
+  module _ (C : MetadataCaches S) (fC : ImageFile S) (raises : RaisesCluster state image.table d C1 fA succeeded C fC) where
     abbrev m2 : Metadata
     m2 = At C fC
 
-    taken : Begins state (lent table old before pending) (one_at d) (lent table C fC pending)
+    taken : Begins state image (one_at d) (lent image.table C fC image.pending)
     taken =
-        begins-then state i table pending old before (λ _. 0) (more succeeded C fC raises) C1 fA C fC begin (one_at d) (λ c. let one = more-one succeeded C fC raises (part-is succeeded C fC raises) c in omega (arith, one)) (counting succeeded C fC raises)
+        begins-then state i image (λ _. 0) (more succeeded C fC raises) C1 fA C fC begin (one_at d) (λ c. let one = more-one succeeded C fC raises (part-is succeeded C fC raises) c in omega (arith, one)) (counting succeeded C fC raises)
 
     -- and the block that counts it is written.
     module _ (result : Result Unit Fault) (D : MetadataCaches S) (fD : ImageFile S) (going : Going fC.header (order_of C) Always (result ≡ Ok tt) (state fC.image) (cached_in C) (state fD.image) (cached_in D)) (kept : written (cached_in D) ≡ written (cached_in C))
@@ -192,7 +191,7 @@ module _ {S : Type 0} (state : S → StorageState) (table : TableValue) (pending
           subst (λ (h : Header). P (record m2 { file = bytes_of (state fD.image).bytes; cached = cached_in D; header = h; order = order_of D })) (sym others.1)
           (subst (λ (o : CacheDependency). P (record m2 { file = bytes_of (state fD.image).bytes; cached = cached_in D; order = o })) (sym others.0) p)
 
-      sound2 : order_of old ≡ L2DependsOnRb → Keeps → IsSound m0 → IsSound m2
+      sound2 : order_of image.caches ≡ L2DependsOnRb → Keeps → IsSound m0 → IsSound m2
       sound2 order keeps sound = ((taken.quiet order).holds keeps sound tt).0
 
       done-so : IsSound m2 → WasNotCutOff result → result ≡ Ok tt
@@ -202,9 +201,9 @@ module _ {S : Type 0} (state : S → StorageState) (table : TableValue) (pending
       same : Keeps → IsSound m2 → result ≡ Ok tt → (c : ℕ) → (counted m3 c ≡ counted m2 c) × (named_at_all m3 c ≤ named_at_all m2 c)
       same keeps sound done c =
           moved (λ m. (counted m c ≡ counted m2 c) × (named_at_all m c ≤ named_at_all m2 c))
-          (flushes-count m2 (state fC.image).bytes (state fD.image).bytes (cached_in D) refl (going.holds (keeps_on (state before.image) (state fC.image) taken.shape keeps) sound.safe tt (inl done)) c)
+          (flushes-count m2 (state fC.image).bytes (state fD.image).bytes (cached_in D) refl (going.holds (keeps_on (state image.file.image) (state fC.image) taken.shape keeps) sound.safe tt (inl done)) c)
 
-      flushing : (WasNotCutOff result → IsFaultless (state fC.image) (state fD.image)) → Follows state i table pending old before (WasNotCutOff result) (λ _. 0) C fC D fD
+      flushing : (WasNotCutOff result → IsFaultless (state fC.image) (state fD.image)) → Follows state i image (WasNotCutOff result) (λ _. 0) C fC D fD
       flushing faultless = record {
         shape = going.shape;
         later = going.later;
@@ -215,16 +214,16 @@ module _ {S : Type 0} (state : S → StorageState) (table : TableValue) (pending
         stays = record {
           header = others.1;
           order = others.0;
-          loose = loose-on table C D (pins-written written_block (λ e. e.0) (λ e. e.1.pins) (λ e. (refl, refl)) (cached_in C).blocks (cached_in D).blocks (ap (λ (c : Cached). c.blocks) kept)) room.blocks;
+          loose = loose-on image.table C D (pins-written written_block (λ e. e.0) (λ e. e.1.pins) (λ e. (refl, refl)) (cached_in C).blocks (cached_in D).blocks (ap (λ (c : Cached). c.blocks) kept)) room.blocks;
           room = kept-tables C D kept room;
         };
       }
 
     pub unwritten-made : (fault : Fault) (D : MetadataCaches S) (fD : ImageFile S) → Going fC.header (order_of C) Always (failed fault ≡ Ok tt) (state fC.image) (cached_in C) (state fD.image) (cached_in D) → written (cached_in D) ≡ written (cached_in C)
         → (D.order ≡ C.order) × (fD.header ≡ fC.header) → HasRoomOf C D → CountsWrites (AreTablesInReach (cached_in C) × AreBlocksInReach (cached_in C)) (state fC.image).faults (state fD.image).faults (failed fault) → (IsMild fault → IsFaultless (state fC.image) (state fD.image))
-        → MakesBlock state i (lent table old before pending) (Err fault) (lent table D fD pending)
+        → MakesBlock state i image (Err fault) (lent image.table D fD image.pending)
     unwritten-made fault D fD going kept others room cause faultless =
-        begins-refused state i table pending old before (one_at d) (λ _. 0) C fC D fD taken fault (flushing (failed fault) D fD going kept others room cause faultless)
+        begins-refused state i image (one_at d) (λ _. 0) C fC D fD taken fault (flushing (failed fault) D fD going kept others room cause faultless)
         (λ order keeps sound whole c. absurd (let no = done-so (failed fault) D fD going kept others room cause (sound2 (failed fault) D fD going kept others room cause order keeps sound) whole in cc no))
         (allocated-written _ _ _ _ _ _ _ (λ holds. let s = sound2 (failed fault) D fD going kept others room cause holds.1 holds.0 holds.2 in safe-reach m2.file m2.header m2.cached m2.order s.safe) taken.faults.0 fault cause)
 
@@ -241,11 +240,11 @@ module _ {S : Type 0} (state : S → StorageState) (table : TableValue) (pending
         pub unlisted : waiting m4 d ≡ 0
         pub counts : 1 ≤ counted m4 d
 
-      ready : order_of old ≡ L2DependsOnRb → Keeps → IsSound m0 → i < length table.words → IsSound m4 → Ready
+      ready : order_of image.caches ≡ L2DependsOnRb → Keeps → IsSound m0 → i < length image.table.words → IsSound m4 → Ready
       ready order keeps sound inside sound4 =
           let s1 = ((begin.quiet order).holds keeps sound tt).0 in
           let s2 = sound2 succeeded D fD going kept others room faults order keeps sound in
-          let apart = counted-apart state table pending d C1 fA C fC (on keeps) (begin.order ∙ order) s1 (zero1 order keeps sound) (removed-apart d (cached_in A).blocks (sound-then order keeps sound).safe.blocks_apart).0 raises in
+          let apart = counted-apart state image.table image.pending d C1 fA C fC (on keeps) (begin.order ∙ order) s1 (zero1 order keeps sound) (removed-apart d (cached_in A).blocks (sound-then order keeps sound).safe.blocks_apart).0 raises in
           let zero = zero1 order keeps sound in
           let is = (run succeeded C fC raises).raised (begin.order ∙ order) (on keeps) s1 (all-zero succeeded C fC raises order keeps sound) tt d in
           let one = more-one succeeded C fC raises (part-is succeeded C fC raises) d in
@@ -265,36 +264,36 @@ module _ {S : Type 0} (state : S → StorageState) (table : TableValue) (pending
       abbrev counters : List ℕ
       counters = replicate (counters_of_block fD.header.fields) 0
 
-      pub taken-made : i < length table.words → block_offset (slice_index table.words i) ≡ 0 → 9 ≤ fD.header.fields.cluster_bits → d ≢ 0 → IsInReach fD.header.fields.cluster_bits d → d / counters_of_block fD.header.fields ≢ i
+      pub taken-made : i < length image.table.words → block_offset (slice_index image.table.words i) ≡ 0 → 9 ≤ fD.header.fields.cluster_bits → d ≢ 0 → IsInReach fD.header.fields.cluster_bits d → d / counters_of_block fD.header.fields ≢ i
           → (result : Result Unit Fault) (table' : TableValue) (after : ImageFile S) → after.header ≡ fD.header
-          → NamesWritten table i (B state i d counters table D fD pending) (state fD.image) result table' (state after.image) → MakesBlock state i (lent table old before pending) result (lent table' D after pending)
+          → NamesWritten image.table i (B state i d counters (lent image.table D fD image.pending)) (state fD.image) result table' (state after.image) → MakesBlock state i image result (lent table' D after image.pending)
       taken-made inside empty low some reach other result table' after header names =
-          made state i table pending old before (one_at d) Ready d counters D fD
-          (begins-then state i table pending old before (one_at d) (λ _. 0) C fC D fD taken (one_at d) (λ c. omega arith) (flushing succeeded D fD going kept others room faults (λ whole. going.faults refl)))
+          made state i image (one_at d) Ready d counters D fD
+          (begins-then state i image (one_at d) (λ _. 0) C fC D fD taken (one_at d) (λ c. omega arith) (flushing succeeded D fD going kept others room faults (λ whole. going.faults refl)))
           (λ order keeps sound c used. elim (cases_eq c d) [
             | inr away ↦ away-none d c away
             | inl same ↦ absurd ((unused order keeps sound).2 (used-then m0 mA (λ _. 0) (λ _. 0) ((begun.quiet order).holds keeps sound tt).1 sound (sound-then order keeps sound) d (subst (λ n. IsUsed m0 n) same used) refl))
           ])
           (λ order keeps sound sound4. ready order keeps sound inside sound4)
           empty result table' after header
-          (ends state i d counters table D fD pending Ready (one_at d) inside low some reach
-          (λ r mid done put. block-quietly m4 d (B state i d counters table D fD pending) (state fD.image) mid refl refl (length-replicate {A = ℕ} (counters_of_block fD.header.fields) 0) (one_at d)
+          (ends state i d counters (lent image.table D fD image.pending) Ready (one_at d) inside low some reach
+          (λ r mid done put. block-quietly m4 d (B state i d counters (lent image.table D fD image.pending)) (state fD.image) mid refl refl (length-replicate {A = ℕ} (counters_of_block fD.header.fields) 0) (one_at d)
           (λ s. (r.unnamed, λ used. let one = here-one d in omega (arith, one))) done put)
           (λ r modified mid new done ok put answer named. (
-            other-block-made m4 i d (B state i d counters table D fD pending) modified (state fD.image) mid new refl refl refl clean r.inside empty other some reach r.uncached (λ s. (r.unnamed, r.unlisted, r.counts)) done ok put answer named,
-            λ keeps s is. other-block-raises m4 i d (B state i d counters table D fD pending) modified (state fD.image) mid new refl refl refl clean r.inside empty other some reach r.uncached (λ s'. (r.unnamed, r.unlisted, r.counts)) done ok put keeps s answer named is,
+            other-block-made m4 i d (B state i d counters (lent image.table D fD image.pending)) modified (state fD.image) mid new refl refl refl clean r.inside empty other some reach r.uncached (λ s. (r.unnamed, r.unlisted, r.counts)) done ok put answer named,
+            λ keeps s is. other-block-raises m4 i d (B state i d counters (lent image.table D fD image.pending)) modified (state fD.image) mid new refl refl refl clean r.inside empty other some reach r.uncached (λ s'. (r.unnamed, r.unlisted, r.counts)) done ok put keeps s answer named is,
           ))
           result table' (state after.image) names)
 
       -- The same of the block as it was made before.
-      pub taken-made-so : i < length table.words → block_offset (slice_index table.words i) ≡ 0 → 9 ≤ fA.header.fields.cluster_bits → d ≢ 0 → IsInReach fA.header.fields.cluster_bits d → d < i * counters_of_block fA.header.fields
+      pub taken-made-so : i < length image.table.words → block_offset (slice_index image.table.words i) ≡ 0 → 9 ≤ fA.header.fields.cluster_bits → d ≢ 0 → IsInReach fA.header.fields.cluster_bits d → d < i * counters_of_block fA.header.fields
           → (block : Block) → block ≡ block_of fA.header.fields.cluster_bits fA.header.fields.refcount_order (replicate (counters_of_block fA.header.fields) 0) (Some d) true
           → (result : Result Unit Fault) (table' : TableValue) (after : ImageFile S) → after.header ≡ fD.header
-          → NamesWritten table i block (state fD.image) result table' (state after.image) → MakesBlock state i (lent table old before pending) result (lent table' D after pending)
+          → NamesWritten image.table i block (state fD.image) result table' (state after.image) → MakesBlock state i image result (lent table' D after image.pending)
       taken-made-so inside empty low some reach below block is result table' after header names =
           let same : fA.header ≡ fD.header = sym (others.1 ∙ (run succeeded C fC raises).header) in
           taken-made inside empty (subst (λ (h : Header). 9 ≤ h.fields.cluster_bits) same low) some (subst (λ (h : Header). IsInReach h.fields.cluster_bits d) same reach)
           (subst (λ (h : Header). d / counters_of_block h.fields ≢ i) same (λ own. let le = div-mul-le_self d (counters_of_block fA.header.fields) in let at = ap (λ n. n * counters_of_block fA.header.fields) own in omega (arith, le, at, below)))
           result table' after header
-          (subst (λ (b : Block). NamesWritten table i b (state fD.image) result table' (state after.image))
+          (subst (λ (b : Block). NamesWritten image.table i b (state fD.image) result table' (state after.image))
           (is ∙ ap (λ (h : Header). block_of h.fields.cluster_bits h.fields.refcount_order (replicate (counters_of_block h.fields) 0) (Some d) true) same) names)

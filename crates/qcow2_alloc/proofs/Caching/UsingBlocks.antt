@@ -14,6 +14,7 @@ use Rattle.qcow2_alloc.specs.Cache.{hit}
 use Rattle.qcow2_alloc.specs.Caches.{cached_in}
 use Rattle.qcow2_alloc.specs.CachesLending.{with_blocks}
 use Rattle.qcow2_alloc.specs.Finding.{BlockFound}
+use Rattle.qcow2_alloc.specs.State.{lent}
 
 pub block-used : {S T : Type 0} (state : S → StorageState) (cluster : ℕ) (does : Block → Result T Fault → Block → Type 0) (old : MetadataCaches S) (before : ImageFile S) (new : MetadataCaches S) (after : ImageFile S) (lent : Result (MutBor Block) Fault) (block : MutBor Block) (result : Result T Fault) (block' : Block)
     → lent ≡ Ok block

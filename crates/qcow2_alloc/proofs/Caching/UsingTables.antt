@@ -14,6 +14,7 @@ use Rattle.qcow2_alloc.specs.Cache.{hit}
 use Rattle.qcow2_alloc.specs.Caches.{cached_in}
 use Rattle.qcow2_alloc.specs.CachesLending.{with_tables}
 use Rattle.qcow2_alloc.specs.Finding.{TableFound}
+use Rattle.qcow2_alloc.specs.State.{lent}
 
 pub table-used : {S T : Type 0} (state : S → StorageState) (cluster : ℕ) (does : TableValue → Result T Fault → TableValue → Type 0) (old : MetadataCaches S) (before : ImageFile S) (new : MetadataCaches S) (after : ImageFile S) (lent : Result (MutBor TableValue) Fault) (table : MutBor TableValue) (result : Result T Fault) (table' : TableValue)
     → lent ≡ Ok table

@@ -12,7 +12,6 @@ use Rattle.qcow2_types.specs.Bytes.{Bytes, bytes_of}
 use Rattle.qcow2_types.specs.Header.{Header, has_external_data}
 use Rattle.qcow2_types.specs.Counts.{count}
 use Rattle.qcow2_types.specs.Pending.{FreeEntry}
-use Rattle.qcow2_metadata.specs.Tables.{TableValue}
 use Rattle.qcow2_alloc.specs.declared.cache.CacheDependency.{CacheDependency}
 use Rattle.qcow2_alloc.specs.declared.cache.CacheDependency.TheVariants.{RbDependsOnL2}
 use Rattle.qcow2_alloc.specs.declared.cache.MetadataCaches.{MetadataCaches}
@@ -26,7 +25,7 @@ use Rattle.qcow2_alloc.specs.Going.{Going, Always, IsMild, AreBlocksInReach, Cou
 use Rattle.qcow2_alloc.specs.Memory.{Cached, memory, written, written_block}
 use Rattle.qcow2_alloc.specs.Quiet.{Metadata, IsSound, Quietly, metadata_in}
 use Rattle.qcow2_alloc.specs.Safety.{Safe, IsCalm}
-use Rattle.qcow2_alloc.specs.State.{lent}
+use Rattle.qcow2_alloc.specs.State.{ImageState, lent, metadata, IsKept}
 use Rattle.qcow2_alloc.proofs.Caching.Loose.{kept-tables}
 use Rattle.qcow2_alloc.proofs.Caching.Pins.{pins-none, pins-written}
 use Rattle.qcow2_alloc.proofs.Quiet.QuietAnnouncing.{announced-quietly, whole-quietly}
@@ -34,28 +33,28 @@ use Rattle.qcow2_alloc.proofs.Quiet.QuietFlushes.{flushes-quietly, memory-quietl
 use Rattle.qcow2_alloc.proofs.Memory.SafeLaws.{safe-reach}
 
 -- The order is announced.
-module _ {S : Type 0} (state : S → StorageState) (table : TableValue) (old : MetadataCaches S) (before : ImageFile S) (new : MetadataCaches S) (after : ImageFile S) (mark : ℕ) (es : List FreeEntry)
-    (kept : written (cached_in new) ≡ written (cached_in old)) (header : after.header ≡ before.header) (room : HasRoomOf old new) where
+module _ {S : Type 0} (state : S → StorageState) (s : ImageState S) (new : MetadataCaches S) (after : ImageFile S) (mark : ℕ)
+    (kept : written (cached_in new) ≡ written (cached_in s.caches)) (header : after.header ≡ s.file.header) (room : HasRoomOf s.caches new) where
   abbrev Old : Metadata
-  Old = metadata_of state before old table es
+  Old = metadata state s
 
   abbrev New : Metadata
-  New = metadata_of state after new table es
+  New = metadata_of state after new s.table s.pending
 
   abbrev Goes : Result Unit Fault → Type 0
-  Goes result = Going before.header (order_of old) Always (result ≡ Ok tt) (state before.image) (cached_in old) (state after.image) (cached_in new)
+  Goes result = Going s.file.header (order_of s.caches) Always (result ≡ Ok tt) (state s.file.image) (cached_in s.caches) (state after.image) (cached_in new)
 
-  pins-still : PinsNothing (cached_in old).blocks (cached_in new).blocks
-  pins-still = pins-written written_block (λ e. e.0) (λ e. e.1.pins) (λ e. (refl, refl)) (cached_in old).blocks (cached_in new).blocks (ap (λ (c : Cached). c.blocks) kept)
+  pins-still : PinsNothing (cached_in s.caches).blocks (cached_in new).blocks
+  pins-still = pins-written written_block (λ e. e.0) (λ e. e.1.pins) (λ e. (refl, refl)) (cached_in s.caches).blocks (cached_in new).blocks (ap (λ (c : Cached). c.blocks) kept)
 
-  never : (fault : Fault) → IsSound Old → IsMild fault → WhyNotWritten (AreBlocksInReach (cached_in old)) (state before.image).faults (state after.image).faults fault → ⊥
+  never : (fault : Fault) → IsSound Old → IsMild fault → WhyNotWritten (AreBlocksInReach (cached_in s.caches)) (state s.file.image).faults (state after.image).faults fault → ⊥
   never Memory sound mild why = mild
   never Storage sound mild why = mild
   never DamagedTable sound mild why = why (safe-reach _ _ _ _ sound.safe).1
   never other sound mild why = why
 
-  caused : (fault : Fault) → WhyNotWritten (AreBlocksInReach (cached_in old)) (state before.image).faults (state after.image).faults fault
-      → WhyNotFreed (IsTrue (state before.image).shape.keeps × IsSound Old) (HasSpareRoom old) (state before.image).faults (state after.image).faults fault
+  caused : (fault : Fault) → WhyNotWritten (AreBlocksInReach (cached_in s.caches)) (state s.file.image).faults (state after.image).faults fault
+      → WhyNotFreed (IsKept state s) (HasSpareRoom s.caches) (state s.file.image).faults (state after.image).faults fault
   caused Memory why = tt
   caused Storage why = why
   caused DamagedTable why = λ holds. why (safe-reach _ _ _ _ holds.1.safe).1
@@ -64,65 +63,65 @@ module _ {S : Type 0} (state : S → StorageState) (table : TableValue) (old : M
   abbrev Succeeds : Result Unit Fault → Type 0
   Succeeds result = result ≡ Ok tt
 
-  still-marked : (result : Result Unit Fault) → Goes result → IsTrue (state before.image).shape.keeps → IsSound Old → Succeeds result ⊎ IsCalm (state before.image) (state after.image) → IsMarked Old mark → IsMarked New mark
+  still-marked : (result : Result Unit Fault) → Goes result → IsTrue (state s.file.image).shape.keeps → IsSound Old → Succeeds result ⊎ IsCalm (state s.file.image) (state after.image) → IsMarked Old mark → IsMarked New mark
   still-marked result going keeps sound why marked d below =
       let settled = going.holds keeps sound.safe tt why in
       let was = marked d below in
-      subst (λ (h : Header). 0 < count (memory (bytes_of (state after.image).bytes) h.fields (cached_in new)) h.fields d) (sym header) (subst (λ (g : Bytes). 0 < count g before.header.fields d) (sym settled.memory_same) was)
+      subst (λ (h : Header). 0 < count (memory (bytes_of (state after.image).bytes) h.fields (cached_in new)) h.fields d) (sym header) (subst (λ (g : Bytes). 0 < count g s.file.header.fields d) (sym settled.memory_same) was)
 
-  pub announcing-frees : (result : Result Unit Fault) → Goes result → OnOk result (order_of new ≡ RbDependsOnL2) → OnErr result (order_of new ≡ order_of old) → OnOk result ((f : Bytes) (H : Header) → Safe f H (cached_in new) (order_of old) → Safe f H (cached_in new) RbDependsOnL2)
-      → CountsWrites (AreBlocksInReach (cached_in old)) (state before.image).faults (state after.image).faults result → (WasNotCutOff result → IsFaultless (state before.image) (state after.image)) → Frees state mark (lent table old before es) result (lent table new after es) mark
+  pub announcing-frees : (result : Result Unit Fault) → Goes result → OnOk result (order_of new ≡ RbDependsOnL2) → OnErr result (order_of new ≡ order_of s.caches) → OnOk result ((f : Bytes) (H : Header) → Safe f H (cached_in new) (order_of s.caches) → Safe f H (cached_in new) RbDependsOnL2)
+      → CountsWrites (AreBlocksInReach (cached_in s.caches)) (state s.file.image).faults (state after.image).faults result → (WasNotCutOff result → IsFaultless (state s.file.image) (state after.image)) → Frees state mark s result (lent s.table new after s.pending) mark
   announcing-frees (Ok done) going order stays safe counts faultless =
-      let announced = announced-quietly Old RbDependsOnL2 (Ok tt) (state before.image) (state after.image) (cached_in new) refl going safe in
-      let quiet = whole-quietly Old (AreBlocksInReach (cached_in old)) (state before.image).faults (state after.image).faults (Ok tt) (λ _. 0) (λ _. 0) (state before.image) (state after.image) _ (λ reach. reach.1) counts announced in
+      let announced = announced-quietly Old RbDependsOnL2 (Ok tt) (state s.file.image) (state after.image) (cached_in new) refl going safe in
+      let quiet = whole-quietly Old (AreBlocksInReach (cached_in s.caches)) (state s.file.image).faults (state after.image).faults (Ok tt) (λ _. 0) (λ _. 0) (state s.file.image) (state after.image) _ (λ reach. reach.1) counts announced in
       record {
         faults = faultless;
-        quiet = quietly-weaker ⊤ _ (λ _. 0) (λ _. 0) (state before.image) Old (state after.image) New (λ sound why. tt)
-            (subst (λ (h : Header). Quietly ⊤ (λ _. 0) (λ _. 0) (state before.image) Old (state after.image) (record Old { file = bytes_of (state after.image).bytes; header = h; cached = cached_in new; order = order_of new })) (sym header)
-            (subst (λ (o : CacheDependency). Quietly ⊤ (λ _. 0) (λ _. 0) (state before.image) Old (state after.image) (record Old { file = bytes_of (state after.image).bytes; cached = cached_in new; order = o })) (sym order) quiet));
+        quiet = quietly-weaker ⊤ _ (λ _. 0) (λ _. 0) (state s.file.image) Old (state after.image) New (λ sound why. tt)
+            (subst (λ (h : Header). Quietly ⊤ (λ _. 0) (λ _. 0) (state s.file.image) Old (state after.image) (record Old { file = bytes_of (state after.image).bytes; header = h; cached = cached_in new; order = order_of new })) (sym header)
+            (subst (λ (o : CacheDependency). Quietly ⊤ (λ _. 0) (λ _. 0) (state s.file.image) Old (state after.image) (record Old { file = bytes_of (state after.image).bytes; cached = cached_in new; order = o })) (sym order) quiet));
         marked = λ keeps sound why marked. still-marked (Ok done) going keeps sound (inl refl) marked;
         lower = omega arith;
         fallen = inl refl;
         header = header;
         pins = pins-still;
-        room = kept-tables old new kept room;
+        room = kept-tables s.caches new kept room;
         less = λ d. omega arith;
         fewer = omega arith;
         cause = counts;
       }
   announcing-frees (Err fault) going order stays safe why faultless =
-      let flushed = flushes-quietly Old (Succeeds (Err fault)) (state before.image) (state after.image) (cached_in new) refl going in
-      let cut : IsSound Old → IsWholeOrCalm (Err fault) (state before.image) (state after.image) → Succeeds (Err fault) ⊎ IsCalm (state before.image) (state after.image) =
+      let flushed = flushes-quietly Old (Succeeds (Err fault)) (state s.file.image) (state after.image) (cached_in new) refl going in
+      let cut : IsSound Old → IsWholeOrCalm (Err fault) (state s.file.image) (state after.image) → Succeeds (Err fault) ⊎ IsCalm (state s.file.image) (state after.image) =
       λ sound why'. elim why' [ inl mild ↦ absurd (never fault sound mild why) | inr calm ↦ inr calm ] in
       record {
         faults = faultless;
-        quiet = quietly-weaker _ _ (λ _. 0) (λ _. 0) (state before.image) Old (state after.image) New cut
-            (subst (λ (h : Header). Quietly (Succeeds (Err fault) ⊎ IsCalm (state before.image) (state after.image)) (λ _. 0) (λ _. 0) (state before.image) Old (state after.image) (record Old { file = bytes_of (state after.image).bytes; header = h; cached = cached_in new; order = order_of new })) (sym header)
-            (subst (λ (o : CacheDependency). Quietly (Succeeds (Err fault) ⊎ IsCalm (state before.image) (state after.image)) (λ _. 0) (λ _. 0) (state before.image) Old (state after.image) (record Old { file = bytes_of (state after.image).bytes; cached = cached_in new; order = o })) (sym stays) flushed));
+        quiet = quietly-weaker _ _ (λ _. 0) (λ _. 0) (state s.file.image) Old (state after.image) New cut
+            (subst (λ (h : Header). Quietly (Succeeds (Err fault) ⊎ IsCalm (state s.file.image) (state after.image)) (λ _. 0) (λ _. 0) (state s.file.image) Old (state after.image) (record Old { file = bytes_of (state after.image).bytes; header = h; cached = cached_in new; order = order_of new })) (sym header)
+            (subst (λ (o : CacheDependency). Quietly (Succeeds (Err fault) ⊎ IsCalm (state s.file.image) (state after.image)) (λ _. 0) (λ _. 0) (state s.file.image) Old (state after.image) (record Old { file = bytes_of (state after.image).bytes; cached = cached_in new; order = o })) (sym stays) flushed));
         marked = λ keeps sound why' marked. still-marked (Err fault) going keeps sound (cut sound why') marked;
         lower = omega arith;
         fallen = inl refl;
         header = header;
         pins = pins-still;
-        room = kept-tables old new kept room;
+        room = kept-tables s.caches new kept room;
         less = λ d. omega arith;
         fewer = omega arith;
         cause = caused fault why;
       }
 
 -- An image whose data is in an external file isn't sound.
-pub external-dropped : {S : Type 0} (state : S → StorageState) (table : TableValue) (old : MetadataCaches S) (before : ImageFile S) (mark : ℕ) (es : List FreeEntry) → has_external_data before.header.fields ≡ true → Frees state mark (lent table old before es) (Ok tt) (lent table old before []) mark
-external-dropped state table old before mark es external =
-    let m = metadata_of state before old table es in
+pub external-dropped : {S : Type 0} (state : S → StorageState) (s : ImageState S) (mark : ℕ) → has_external_data s.file.header.fields ≡ true → Frees state mark s (Ok tt) (lent s.table s.caches s.file []) mark
+external-dropped state s mark external =
+    let m = metadata state s in
     let never : IsSound m → ⊥ = (λ sound. let inside = sound.safe.consistent.readable.data_inside in let both = sym external ∙ inside in cc) in
     record {
       faults = λ whole. (refl, refl);
-      quiet = memory-quietly _ (λ _. 0) (λ _. 0) (state before.image) m (record m { pending = [] }) (λ sound whole. absurd (never sound));
+      quiet = memory-quietly _ (λ _. 0) (λ _. 0) (state s.file.image) m (record m { pending = [] }) (λ sound whole. absurd (never sound));
       marked = λ keeps sound. absurd (never sound);
       lower = omega arith;
       fallen = inl refl;
       header = refl;
-      pins = pins-none (cached_in old).blocks (cached_in old).blocks refl;
+      pins = pins-none (cached_in s.caches).blocks (cached_in s.caches).blocks refl;
       room = record { tables = refl; blocks = refl; entries = refl };
       less = λ d. omega arith;
       fewer = omega arith;

@@ -1,5 +1,5 @@
 -- The refcount table grows, from the first of the call to its last.
-use Rattle.std.proofs.Common.{◌≡◌, ◌≢◌, ℕ, ◌+◌, ◌-◌, ◌*◌, ◌/◌, ◌^◌, ◌≤◌, ◌++◌, refl, arith, ap, sym, subst, ◌∙◌, List, length, inl, inr, Result, Ok, Err, false, true}
+use Rattle.std.proofs.Common.{◌≡◌, ◌≢◌, ℕ, ◌+◌, ◌-◌, ◌*◌, ◌/◌, ◌^◌, ◌≤◌, ◌++◌, refl, arith, ap, sym, subst, ◌∙◌, length, inl, inr, Result, Ok, Err, false, true}
 use Rattle.std.specs.Prelude.{⊤, IsTrue, OnOk, OnErr, IfErr, MatchResult, min, slice_index}
 use Rattle.std.proofs.lemmas.Bool.{cases_Bool}
 use Rattle.imago_storage.specs.State.{StorageState}
@@ -9,7 +9,6 @@ use Rattle.imago_storage.proofs.Composing.{keeps_on, later_both}
 use Rattle.qcow2_types.specs.Bytes.{bytes_of}
 use Rattle.qcow2_types.specs.Counts.{counters_of_block}
 use Rattle.qcow2_types.specs.Header.{Fields, Header, words_of_cluster}
-use Rattle.qcow2_types.specs.Pending.{FreeEntry}
 use Rattle.qcow2_types.specs.Words.{Layout, block_offset}
 use Rattle.qcow2_metadata.specs.Growth.{IsGrownLength}
 use Rattle.qcow2_metadata.specs.Tables.{TableValue}
@@ -30,7 +29,7 @@ use Rattle.qcow2_alloc.specs.MakingRoom.{run_of}
 use Rattle.qcow2_alloc.specs.MovingTables.{clusters_of, IsPlan, WhyNotGrown, WhyNotPlaced, IsFreeIn, WasSound, FillsRoom, EntersFree}
 use Rattle.qcow2_alloc.specs.Quiet.{Metadata, counted, IsSound, Quietly}
 use Rattle.qcow2_alloc.specs.SearchingClusters.{IsSafeWith, Looked}
-use Rattle.qcow2_alloc.specs.State.{lent}
+use Rattle.qcow2_alloc.specs.State.{ImageState, lent, metadata}
 use Rattle.qcow2_alloc.proofs.Handing.Allocating.{moved-none, allocating-none, allocating-as}
 use Rattle.qcow2_alloc.proofs.Flushing.Faultless.{faultless-then}
 use Rattle.qcow2_alloc.proofs.Searching.FreeClusters.{flushes-count}
@@ -42,55 +41,55 @@ use Rattle.qcow2_alloc.proofs.Quiet.QuietGiven.{quietly-given, quietly-then-give
 use Rattle.qcow2_alloc.proofs.Quiet.QuietThen.{quietly-otherwise}
 
 -- What a search does is what a call does that counts nothing.
-module _ {S T : Type 0} (state : S → StorageState) (table : TableValue) (pending : List FreeEntry) (old : MetadataCaches S) (before : ImageFile S) (C : MetadataCaches S) (fC : ImageFile S) (result : Result T Fault) (looked : Looked state table old before result C fC) where
+module _ {S T : Type 0} (state : S → StorageState) (s : ImageState S) (C : MetadataCaches S) (fC : ImageFile S) (result : Result T Fault) (looked : Looked state s.table s.caches s.file result C fC) where
   abbrev m0 : Metadata
-  m0 = metadata_of state before old table pending
+  m0 = metadata state s
 
   abbrev mC : Metadata
-  mC = metadata_of state fC C table pending
+  mC = metadata_of state fC C s.table s.pending
 
   moved : (P : Metadata → Type 0) → P (record m0 { file = bytes_of (state fC.image).bytes; cached = cached_in C }) → P mC
   moved P p =
       subst (λ (h : Header). P (record m0 { file = bytes_of (state fC.image).bytes; cached = cached_in C; header = h; order = order_of C })) (sym looked.header)
       (subst (λ (o : CacheDependency). P (record m0 { file = bytes_of (state fC.image).bytes; cached = cached_in C; order = o })) (sym looked.order) p)
 
-  pub looked-counts : IsTrue (state before.image).shape.keeps → IsSound m0 → WasNotCutOff result → (c : ℕ) → counted mC c ≡ counted m0 c
+  pub looked-counts : IsTrue (state s.file.image).shape.keeps → IsSound m0 → WasNotCutOff result → (c : ℕ) → counted mC c ≡ counted m0 c
   looked-counts keeps sound whole c =
-      moved (λ m. counted m c ≡ counted m0 c) (flushes-count m0 (state before.image).bytes (state fC.image).bytes (cached_in C) refl (looked.going.holds keeps sound.safe tt (inl whole)) c).0
+      moved (λ m. counted m c ≡ counted m0 c) (flushes-count m0 (state s.file.image).bytes (state fC.image).bytes (cached_in C) refl (looked.going.holds keeps sound.safe tt (inl whole)) c).0
 
-  pub looked-allocates : Allocating state (WasNotCutOff result) (λ _. 0) (lent table old before pending) (lent table C fC pending)
+  pub looked-allocates : Allocating state (WasNotCutOff result) (λ _. 0) s (lent s.table C fC s.pending)
   looked-allocates = record {
     faults = looked.going.faults;
-    quiet = λ order. moved (λ m. Quietly (WasNotCutOff result) (λ _. 0) (λ _. 0) (state before.image) m0 (state fC.image) m)
-        (going-quietly m0 (WasNotCutOff result) (state before.image) (state fC.image) (cached_in C) refl looked.going);
+    quiet = λ order. moved (λ m. Quietly (WasNotCutOff result) (λ _. 0) (λ _. 0) (state s.file.image) m0 (state fC.image) m)
+        (going-quietly m0 (WasNotCutOff result) (state s.file.image) (state fC.image) (cached_in C) refl looked.going);
     raised = λ order keeps sound whole c. inl (looked-counts keeps sound whole c);
     order = looked.order;
-    moved = moved-none before.header fC.header looked.header;
+    moved = moved-none s.file.header fC.header looked.header;
     longer = omega arith;
     loose = looked.loose;
     room = looked.room;
   }
 
-module _ {S : Type 0} (state : S → StorageState) (mark at : ℕ) (table : TableValue) (pending : List FreeEntry) (old : MetadataCaches S) (before : ImageFile S) where
+module _ {S : Type 0} (state : S → StorageState) (mark at : ℕ) (image : ImageState S) where
   abbrev start : Metadata
-  start = metadata_of state before old table pending
+  start = metadata state image
 
   abbrev Keeps : Type 0
-  Keeps = IsTrue (state before.image).shape.keeps
+  Keeps = IsTrue (state image.file.image).shape.keeps
 
   abbrev Sound : Type 0
-  Sound = Keeps × (order_of old ≡ L2DependsOnRb) × IsSound start
+  Sound = Keeps × (order_of image.caches ≡ L2DependsOnRb) × IsSound start
 
   abbrev Full : ℕ → Type 0
-  Full number = order_of old ≡ L2DependsOnRb → Keeps → IsSound start → NoPlaceToGrow start mark at number
+  Full number = order_of image.caches ≡ L2DependsOnRb → Keeps → IsSound start → NoPlaceToGrow start mark at number
 
-  safe-with : Keeps → IsSound start → IsSafeWith state table old before
+  safe-with : Keeps → IsSound start → IsSafeWith state image.table image.caches image.file
   safe-with keeps sound = record { keeps = keeps; safe = sound.safe; table_of_file = sound.table }
 
   -- It is refused, and nothing was counted.
-  not-grown : (fault : Fault) (C : MetadataCaches S) (fC : ImageFile S) → Allocating state (IsMild fault) (λ _. 0) (lent table old before pending) (lent table C fC pending) → fC.header ≡ before.header
-      → (Keeps → IsSound start → (number : ℕ) → fault ≡ Limit number → (c : ℕ) → counted (metadata_of state fC C table pending) c ≡ counted start c)
-      → WhyNotAllocated Sound (IsLoose table old) Full (state before.image).faults (state fC.image).faults fault → GrowsTable state mark at (lent table old before pending) (failed fault) (lent table C fC pending)
+  not-grown : (fault : Fault) (C : MetadataCaches S) (fC : ImageFile S) → Allocating state (IsMild fault) (λ _. 0) image (lent image.table C fC image.pending) → fC.header ≡ image.file.header
+      → (Keeps → IsSound start → (number : ℕ) → fault ≡ Limit number → (c : ℕ) → counted (metadata_of state fC C image.table image.pending) c ≡ counted start c)
+      → WhyNotAllocated Sound (IsLoose image.table image.caches) Full (state image.file.image).faults (state fC.image).faults fault → GrowsTable state mark at image (failed fault) (lent image.table C fC image.pending)
   not-grown fault C fC step header same why = record {
     leaked = λ _. 0;
     leaks = record { none = λ not c. refl; pinned = λ holds loose c. refl };
@@ -105,49 +104,49 @@ module _ {S : Type 0} (state : S → StorageState) (mark at : ℕ) (table : Tabl
   }
 
   -- There is no copy of the table,
-  pub no-copy : (fault : Fault) → WhyNotGrown before.header.fields table at fault → GrowsTable state mark at (lent table old before pending) (failed fault) (lent table old before pending)
-  no-copy fault why = not-grown fault old before (allocating-as state ⊤ (IsMild fault) (λ _. 0) (λ _. 0) table old before pending table old before pending (λ mild. tt) (λ c. refl) (allocating-none state table old before pending)) refl (λ keeps sound number is c. refl) (by-fault fault why)
+  pub no-copy : (fault : Fault) → WhyNotGrown image.file.header.fields image.table at fault → GrowsTable state mark at image (failed fault) image
+  no-copy fault why = not-grown fault image.caches image.file (allocating-as state ⊤ (IsMild fault) (λ _. 0) (λ _. 0) image image (λ mild. tt) (λ c. refl) (allocating-none state image)) refl (λ keeps sound number is c. refl) (by-fault fault why)
     where
-      by-fault : (fault : Fault) → WhyNotGrown before.header.fields table at fault → WhyNotAllocated Sound (IsLoose table old) Full (state before.image).faults (state before.image).faults fault
+      by-fault : (fault : Fault) → WhyNotGrown image.file.header.fields image.table at fault → WhyNotAllocated Sound (IsLoose image.table image.caches) Full (state image.file.image).faults (state image.file.image).faults fault
       by-fault Memory why = tt
       by-fault DamagedTable why = λ known. why (ap (λ (l : Layout). l.cluster_bits) known.2.table.layout)
       by-fault (Limit number) why = (λ order keeps sound. inl why, refl)
       by-fault other why = absurd why
 
   -- or the search for a room was refused,
-  pub no-room : (fault : Fault) (C : MetadataCaches S) (fC : ImageFile S) → Looked state {T = Run} table old before (Err fault) C fC → GrowsTable state mark at (lent table old before pending) (failed fault) (lent table C fC pending)
+  pub no-room : (fault : Fault) (C : MetadataCaches S) (fC : ImageFile S) → Looked state {T = Run} image.table image.caches image.file (Err fault) C fC → GrowsTable state mark at image (failed fault) (lent image.table C fC image.pending)
   no-room fault C fC looked =
-      not-grown fault C fC (looked-allocates {T = Run} state table pending old before C fC (Err fault) looked) looked.header
-      (λ keeps sound number is. looked-counts {T = Run} state table pending old before C fC (Err fault) looked keeps sound (subst (λ (f : Fault). WasNotCutOff {T = Run} (Err f)) (sym is) tt))
-      (allocated-wider _ _ _ _ _ _ _ _ (λ known. safe-with known.0 known.2) (loose-all table old) refl fault looked.cause)
+      not-grown fault C fC (looked-allocates {T = Run} state image C fC (Err fault) looked) looked.header
+      (λ keeps sound number is. looked-counts {T = Run} state image C fC (Err fault) looked keeps sound (subst (λ (f : Fault). WasNotCutOff {T = Run} (Err f)) (sym is) tt))
+      (allocated-wider _ _ _ _ _ _ _ _ (λ known. safe-with known.0 known.2) (loose-all image.table image.caches) refl fault looked.cause)
 
   -- A room was found for a copy.
-  module _ (room : Run) (copy : TableValue) (from n : ℕ) (C : MetadataCaches S) (fC : ImageFile S) (looks : LooksForRoom state table from n old before (Ok room) C fC) (from_is : from ≡ min mark (length table.words * counters_of_block before.header.fields))
-      (n_is : n ≡ clusters_of copy before.header.fields.cluster_bits) (long : IsGrownLength (words_of_cluster before.header.fields) (counters_of_block before.header.fields) at (length copy.words))
-      (whole : clusters_of copy before.header.fields.cluster_bits * words_of_cluster before.header.fields ≡ length copy.words) where
+  module _ (room : Run) (copy : TableValue) (from n : ℕ) (C : MetadataCaches S) (fC : ImageFile S) (looks : LooksForRoom state image.table from n image.caches image.file (Ok room) C fC) (from_is : from ≡ min mark (length image.table.words * counters_of_block image.file.header.fields))
+      (n_is : n ≡ clusters_of copy image.file.header.fields.cluster_bits) (long : IsGrownLength (words_of_cluster image.file.header.fields) (counters_of_block image.file.header.fields) at (length copy.words))
+      (whole : clusters_of copy image.file.header.fields.cluster_bits * words_of_cluster image.file.header.fields ≡ length copy.words) where
     abbrev h : Fields
-    h = before.header.fields
+    h = image.file.header.fields
 
     abbrev clusters : ℕ
-    clusters = clusters_of copy before.header.fields.cluster_bits
+    clusters = clusters_of copy image.file.header.fields.cluster_bits
 
     there : MetadataCaches S → Metadata
-    there caches = metadata_of state fC caches table pending
+    there caches = metadata_of state fC caches image.table image.pending
 
-    found : Sound → IsFirstRoom table (counters_of_block h) (counted start) (room_from start mark) clusters room.first room.len
+    found : Sound → IsFirstRoom image.table (counters_of_block h) (counted start) (room_from start mark) clusters room.first room.len
     found known =
-        subst (λ (k : ℕ). IsFirstRoom table (counters_of_block h) (counted start) (room_from start mark) k room.first room.len) n_is
-        (subst (λ (f : ℕ). IsFirstRoom table (counters_of_block h) (counted start) f n room.first room.len) from_is (looks.found (safe-with known.0 known.2)))
+        subst (λ (k : ℕ). IsFirstRoom image.table (counters_of_block h) (counted start) (room_from start mark) k room.first room.len) n_is
+        (subst (λ (f : ℕ). IsFirstRoom image.table (counters_of_block h) (counted start) f n room.first room.len) from_is (looks.found (safe-with known.0 known.2)))
 
     room-to-grow : Sound → IsRoomToGrow start mark at room.first room.len clusters
     room-to-grow known = record { long = subst (λ (l : ℕ). IsGrownLength (words_of_cluster h) (counters_of_block h) at l) (sym whole) long; room = found known }
 
     -- It can't take it.
-    pub no-place : (fault : Fault) → 1 ≤ room.len → WhyNotPlaced fC.header.fields table room copy fault → GrowsTable state mark at (lent table old before pending) (failed fault) (lent table C fC pending)
+    pub no-place : (fault : Fault) → 1 ≤ room.len → WhyNotPlaced fC.header.fields image.table room copy fault → GrowsTable state mark at image (failed fault) (lent image.table C fC image.pending)
     no-place fault some why =
-        not-grown fault C fC (allocating-as state ⊤ (IsMild fault) (λ _. 0) (λ _. 0) table old before pending table C fC pending (λ mild. tt) (λ c. refl) (looked-allocates {T = Run} state table pending old before C fC (Ok room) looks.looked)) looks.looked.header
-        (λ keeps sound number is. looked-counts {T = Run} state table pending old before C fC (Ok room) looks.looked keeps sound tt)
-        (by-fault fault (subst (λ (H : Header). WhyNotPlaced H.fields table room copy fault) looks.looked.header why))
+        not-grown fault C fC (allocating-as state ⊤ (IsMild fault) (λ _. 0) (λ _. 0) image (lent image.table C fC image.pending) (λ mild. tt) (λ c. refl) (looked-allocates {T = Run} state image C fC (Ok room) looks.looked)) looks.looked.header
+        (λ keeps sound number is. looked-counts {T = Run} state image C fC (Ok room) looks.looked keeps sound tt)
+        (by-fault fault (subst (λ (H : Header). WhyNotPlaced H.fields image.table room copy fault) looks.looked.header why))
       where
         behind : Sound → room.first ≢ 0
         behind known none =
@@ -156,7 +155,7 @@ module _ {S : Type 0} (state : S → StorageState) (mark at : ℕ) (table : Tabl
             let one = first-counted start known.2 in
             omega (arith, first, one)
 
-        by-fault : (fault : Fault) → WhyNotPlaced h table room copy fault → WhyNotAllocated Sound (IsLoose table old) Full (state before.image).faults (state fC.image).faults fault
+        by-fault : (fault : Fault) → WhyNotPlaced h image.table room copy fault → WhyNotAllocated Sound (IsLoose image.table image.caches) Full (state image.file.image).faults (state fC.image).faults fault
         by-fault Memory why = tt
         by-fault DamagedTable why = λ known. why (behind known, can-name start known.2 (room.first + (room.len - 1)) (λ none. behind known (omega (arith, none))))
         by-fault (Limit number) why = (
@@ -173,44 +172,44 @@ module _ {S : Type 0} (state : S → StorageState) (mark at : ℕ) (table : Tabl
         by-fault other why = absurd why
 
     -- It takes it, as it was planned.
-    module _ (placed : TableValue) (plan_there : IsPlan fC.header.fields table room placed) (same : length placed.words ≡ length copy.words)
-        (result : Result Unit Fault) (table' : TableValue) (D : MetadataCaches S) (fD : ImageFile S) (pending' : List FreeEntry) (fills : EntersFree state room placed (lent table C fC pending) result (lent table' D fD pending'))
-        (waits : OnOk result (pending' ≡ pending ++ table_run fC.header.fields)) (kept : OnErr result (pending' ≡ pending)) where
+    module _ (placed : TableValue) (plan_there : IsPlan fC.header.fields image.table room placed) (same : length placed.words ≡ length copy.words)
+        (result : Result Unit Fault) (sD : ImageState S) (fills : EntersFree state room placed (lent image.table C fC image.pending) result sD)
+        (waits : OnOk result (sD.pending ≡ image.pending ++ table_run fC.header.fields)) (kept : OnErr result (sD.pending ≡ image.pending)) where
       abbrev mid : Metadata
-      mid = metadata_of state fC C table pending
+      mid = metadata_of state fC C image.table image.pending
 
       abbrev end : Metadata
-      end = metadata_of state fD D table' pending'
+      end = metadata state sD
 
-      abbrev looked : Looked state table old before (Ok room) C fC
+      abbrev looked : Looked state image.table image.caches image.file (Ok room) C fC
       looked = looks.looked
 
-      plan : IsPlan h table room placed
-      plan = subst (λ (H : Header). IsPlan H.fields table room placed) looked.header plan_there
+      plan : IsPlan h image.table room placed
+      plan = subst (λ (H : Header). IsPlan H.fields image.table room placed) looked.header plan_there
 
       abbrev Was : Type 0
-      Was = WasSound state (lent table old before pending)
+      Was = WasSound state image
 
-      free : Was → IsFreeIn state room (lent table C fC pending)
+      free : Was → IsFreeIn state room (lent image.table C fC image.pending)
       free known = (
         looked.order ∙ known.0,
-        λ c above below. looked-counts {T = Run} state table pending old before C fC (Ok room) looked known.1 known.2 tt c ∙ (found (known.1, known.0, known.2)).room.free c above below,
+        λ c above below. looked-counts {T = Run} state image C fC (Ok room) looked known.1 known.2 tt c ∙ (found (known.1, known.0, known.2)).room.free c above below,
       )
 
-      abbrev filled : FillsRoom state Was room placed (lent table C fC pending) result (lent table' D fD pending')
-      filled = fills old before free
+      abbrev filled : FillsRoom state Was room placed (lent image.table C fC image.pending) result sD
+      filled = fills image.caches image.file free
 
-      abbrev one : Allocating state ⊤ (λ _. 0) (lent table old before pending) (lent table C fC pending)
-      one = looked-allocates {T = Run} state table pending old before C fC (Ok room) looked
+      abbrev one : Allocating state ⊤ (λ _. 0) image (lent image.table C fC image.pending)
+      one = looked-allocates {T = Run} state image C fC (Ok room) looked
 
       on : Keeps → IsTrue (state fC.image).shape.keeps
-      on keeps = keeps_on (state before.image) (state fC.image) looked.going.shape keeps
+      on keeps = keeps_on (state image.file.image) (state fC.image) looked.going.shape keeps
 
-      mid-sound : order_of old ≡ L2DependsOnRb → Keeps → IsSound start → IsSound mid
+      mid-sound : order_of image.caches ≡ L2DependsOnRb → Keeps → IsSound start → IsSound mid
       mid-sound order keeps sound = ((one.quiet order).holds keeps sound tt).0
 
       mid-counts : Keeps → IsSound start → (c : ℕ) → counted mid c ≡ counted start c
-      mid-counts keeps sound = looked-counts {T = Run} state table pending old before C fC (Ok room) looked keeps sound tt
+      mid-counts keeps sound = looked-counts {T = Run} state image C fC (Ok room) looked keeps sound tt
 
       from-ok : (r : Result Unit Fault) {X : Type 0} → r ≡ Ok tt → OnOk r X → X
       from-ok (Ok done) is x = x
@@ -223,10 +222,10 @@ module _ {S : Type 0} (state : S → StorageState) (mark at : ℕ) (table : Tabl
       clusters-same : clusters_of placed h.cluster_bits ≡ clusters
       clusters-same = ap (λ l. (8 * l + (2 ^ h.cluster_bits - 1)) / 2 ^ h.cluster_bits) same
 
-      table-grown : order_of old ≡ L2DependsOnRb → Keeps → IsSound start → result ≡ Ok tt → TableGrown mark at start end
+      table-grown : order_of image.caches ≡ L2DependsOnRb → Keeps → IsSound start → result ≡ Ok tt → TableGrown mark at start end
       table-grown order keeps sound done =
-          let is : table' ≡ record placed { modified = false } = from-ok result done filled.table_is in
-          let words : (i : ℕ) → slice_index table'.words i ≡ slice_index placed.words i = λ i. ap (λ (t : TableValue). slice_index t.words i) is in
+          let is : sD.table ≡ record placed { modified = false } = from-ok result done filled.table_is in
+          let words : (i : ℕ) → slice_index sD.table.words i ≡ slice_index placed.words i = λ i. ap (λ (t : TableValue). slice_index t.words i) is in
           record {
             first = room.first;
             total = room.len;
@@ -236,26 +235,26 @@ module _ {S : Type 0} (state : S → StorageState) (mark at : ℕ) (table : Tabl
             long = ap (λ (t : TableValue). length t.words) is ∙ plan.grown.long ∙ ap (λ k. k * words_of_cluster h) clusters-same;
             placed = ap (λ (t : TableValue). t.cluster) is ∙ plan.grown.placed;
             news = λ i lack. ap block_offset (words i) ∙ plan.grown.news i lack;
-            olds = λ i not. ap block_offset (words i) ∙ plan.grown.olds i (elim (cases_Bool (lacks table (counters_of_block h) room.first room.len i)) [ inl lack ↦ absurd (not lack) | inr off ↦ off ]);
+            olds = λ i not. ap block_offset (words i) ∙ plan.grown.olds i (elim (cases_Bool (lacks image.table (counters_of_block h) room.first room.len i)) [ inl lack ↦ absurd (not lack) | inr off ↦ off ]);
             counts = λ c. from-ok result done (filled.counts (order, keeps, sound) (on keeps) (mid-sound order keeps sound)) c ∙ ap (λ k. k + covers c (run_of room.first room.len)) (mid-counts keeps sound c);
           }
 
-      pub grows : GrowsTable state mark at (lent table old before pending) result (lent table' D fD pending')
+      pub grows : GrowsTable state mark at image result sD
       grows = record {
         leaked = filled.leaked;
         leaks = record { none = filled.leaks.none; pinned = λ holds loose. filled.leaks.pinned (was-on holds) (looked.loose true loose) };
         step = record {
           faults = λ whole. faultless-then (one.faults tt) (filled.faults whole);
-          quiet = λ order. quietly-given (WasNotCutOff result) filled.leaked (λ _. 0) (state before.image) start (state fD.image) end (filled.shape ∙ looked.going.shape) (later_both _ _ _ looked.going.later filled.later) (λ keeps sound.
-              quietly-otherwise (WasNotCutOff result) (λ c. 0 + filled.leaked c) (λ c. 0 + 0) filled.leaked (λ _. 0) (state before.image) start (state fD.image) end (λ s c. omega arith) (λ s c used none. refl)
-              (quietly-then-given ⊤ (WasNotCutOff result) (λ _. 0) (λ _. 0) filled.leaked (λ _. 0) (state before.image) start (state fC.image) mid (state fD.image) end tt (λ s c some. refl) (one.quiet order) filled.shape filled.later
+          quiet = λ order. quietly-given (WasNotCutOff result) filled.leaked (λ _. 0) (state image.file.image) start (state sD.file.image) end (filled.shape ∙ looked.going.shape) (later_both _ _ _ looked.going.later filled.later) (λ keeps sound.
+              quietly-otherwise (WasNotCutOff result) (λ c. 0 + filled.leaked c) (λ c. 0 + 0) filled.leaked (λ _. 0) (state image.file.image) start (state sD.file.image) end (λ s c. omega arith) (λ s c used none. refl)
+              (quietly-then-given ⊤ (WasNotCutOff result) (λ _. 0) (λ _. 0) filled.leaked (λ _. 0) (state image.file.image) start (state fC.image) mid (state sD.file.image) end tt (λ s c some. refl) (one.quiet order) filled.shape filled.later
               (λ k s s1 quiet. filled.quiet (order, keeps, sound))));
           raised = λ order keeps sound ok c. elim (filled.raised (order, keeps, sound) (on keeps) (mid-sound order keeps sound) ok c) [
             | inl stays ↦ inl (stays ∙ mid-counts keeps sound c)
             | inr up ↦ inr (sym (mid-counts keeps sound c) ∙ up.0, up.1)
           ];
           order = filled.order ∙ looked.order;
-          moved = subst (λ (H : Header). MovedTable H fD.header) looked.header filled.moved;
+          moved = subst (λ (H : Header). MovedTable H sD.file.header) looked.header filled.moved;
           longer = filled.longer;
           loose = λ any loose. filled.loose any (looked.loose any loose);
           room = record { tables = filled.room.tables ∙ looked.room.tables; blocks = filled.room.blocks ∙ looked.room.blocks; entries = filled.room.entries ∙ looked.room.entries };
@@ -263,19 +262,19 @@ module _ {S : Type 0} (state : S → StorageState) (mark at : ℕ) (table : Tabl
         grown = λ order keeps sound. on-ok result (table-grown order keeps sound);
         barred = λ order keeps sound number is. absurd (never result number is filled.cause);
         enough = on-ok result (λ done. subst (λ (l : ℕ). IsGrownLength (words_of_cluster h) (counters_of_block h) at l) (sym (ap (λ (t : TableValue). length t.words) (from-ok result done filled.table_is) ∙ same)) long);
-        waits = subst (λ (H : Header). OnOk result (pending' ≡ pending ++ table_run H.fields)) looked.header waits;
+        waits = subst (λ (H : Header). OnOk result (sD.pending ≡ image.pending ++ table_run H.fields)) looked.header waits;
         kept = kept;
-        stays = subst (λ (H : Header). IfErr result (λ fault. IsMild fault → (table' ≡ table) × (fD.header ≡ H))) looked.header filled.stays;
+        stays = subst (λ (H : Header). IfErr result (λ fault. IsMild fault → (sD.table ≡ image.table) × (sD.file.header ≡ H))) looked.header filled.stays;
         cause = caused result filled.cause;
       }
         where
           was-on : Sound → Was × IsTrue (state fC.image).shape.keeps × IsSound mid
           was-on known = ((known.1, known.0, known.2), on known.0, mid-sound known.1 known.0 known.2)
 
-          never : (r : Result Unit Fault) (number : ℕ) → r ≡ Err (Limit number) → MatchResult r (λ _. (state fD.image).faults ≡ (state fC.image).faults) (WhyNotCounted (Was × IsTrue (state fC.image).shape.keeps × IsSound mid) (IsLoose table C) (state fC.image).faults (state fD.image).faults) → ⊥
-          never r number is why = subst (λ (x : Result Unit Fault). MatchResult x (λ _. (state fD.image).faults ≡ (state fC.image).faults) (WhyNotCounted (Was × IsTrue (state fC.image).shape.keeps × IsSound mid) (IsLoose table C) (state fC.image).faults (state fD.image).faults)) is why
+          never : (r : Result Unit Fault) (number : ℕ) → r ≡ Err (Limit number) → MatchResult r (λ _. (state sD.file.image).faults ≡ (state fC.image).faults) (WhyNotCounted (Was × IsTrue (state fC.image).shape.keeps × IsSound mid) (IsLoose image.table C) (state fC.image).faults (state sD.file.image).faults) → ⊥
+          never r number is why = subst (λ (x : Result Unit Fault). MatchResult x (λ _. (state sD.file.image).faults ≡ (state fC.image).faults) (WhyNotCounted (Was × IsTrue (state fC.image).shape.keeps × IsSound mid) (IsLoose image.table C) (state fC.image).faults (state sD.file.image).faults)) is why
 
-          caused : (r : Result Unit Fault) → MatchResult r (λ _. (state fD.image).faults ≡ (state fC.image).faults) (WhyNotCounted (Was × IsTrue (state fC.image).shape.keeps × IsSound mid) (IsLoose table C) (state fC.image).faults (state fD.image).faults)
-              → MatchResult r (λ _. (state fD.image).faults ≡ (state before.image).faults) (WhyNotAllocated Sound (IsLoose table old) Full (state before.image).faults (state fD.image).faults)
+          caused : (r : Result Unit Fault) → MatchResult r (λ _. (state sD.file.image).faults ≡ (state fC.image).faults) (WhyNotCounted (Was × IsTrue (state fC.image).shape.keeps × IsSound mid) (IsLoose image.table C) (state fC.image).faults (state sD.file.image).faults)
+              → MatchResult r (λ _. (state sD.file.image).faults ≡ (state image.file.image).faults) (WhyNotAllocated Sound (IsLoose image.table image.caches) Full (state image.file.image).faults (state sD.file.image).faults)
           caused (Ok done) count = count ∙ looked.cause
           caused (Err fault) why = counted-wider _ _ _ _ _ _ _ _ was-on looked.loose looked.cause fault why

@@ -1,5 +1,5 @@
 -- The room for a refcount table is taken: counted, flushed, forgotten and written, one step behind the other.
-use Rattle.std.proofs.Common.{◌≡◌, ℕ, ◌+◌, ◌*◌, ◌<◌, ◌≤◌, refl, arith, ap, sym, subst, ◌∙◌, List, inl, inr, Result, Ok, Err, None}
+use Rattle.std.proofs.Common.{◌≡◌, ℕ, ◌+◌, ◌*◌, ◌<◌, ◌≤◌, refl, arith, ap, sym, subst, ◌∙◌, inl, inr, Result, Ok, Err, None}
 use Rattle.std.specs.Prelude.{⊤, IsTrue, OnOk, IfErr, MatchResult, nat_eq}
 use Rattle.std.specs.Map.{lookup}
 use Rattle.std.proofs.lemmas.Bool.{cases_lt}
@@ -11,8 +11,6 @@ use Rattle.imago_storage.proofs.Composing.{keeps_on, later_both, later_same}
 use Rattle.qcow2_types.specs.Bytes.{bytes_of}
 use Rattle.qcow2_types.specs.Counts.{count, counters_of_block}
 use Rattle.qcow2_types.specs.Header.{Header}
-use Rattle.qcow2_types.specs.Pending.{FreeEntry}
-use Rattle.qcow2_metadata.specs.Tables.{TableValue}
 use Rattle.qcow2_alloc.specs.declared.allocation.searching.Run.{Run}
 use Rattle.qcow2_alloc.specs.declared.cache.CacheDependency.{CacheDependency}
 use Rattle.qcow2_alloc.specs.declared.cache.CacheDependency.TheVariants.{L2DependsOnRb}
@@ -32,7 +30,7 @@ use Rattle.qcow2_alloc.specs.MovingTables.{ForgetsRun, IsPinnedWithin, StaysInMe
 use Rattle.qcow2_alloc.specs.NewBlocks.{MayWrite, WritesLacking}
 use Rattle.qcow2_alloc.specs.Quiet.{Metadata, counted, named_at_all, IsUsed, IsSound, Quietly}
 use Rattle.qcow2_alloc.specs.Safety.{AreBlocksClean}
-use Rattle.qcow2_alloc.specs.State.{lent}
+use Rattle.qcow2_alloc.specs.State.{ImageState, lent}
 use Rattle.qcow2_alloc.proofs.Blocks.CountingClusters.{succeeded}
 use Rattle.qcow2_alloc.proofs.Blocks.CountingRuns.{covers-behind}
 use Rattle.qcow2_alloc.proofs.Flushing.Faultless.{faultless-then}
@@ -65,22 +63,22 @@ why-caused sound loose a b c same Memory why = tt
 why-caused sound loose a b c same Storage why = subst (λ n. Rose n c) same why
 why-caused sound loose a b c same other why = absurd why
 
-module _ {S : Type 0} (state : S → StorageState) (table : TableValue) (pending : List FreeEntry) (run : Run) (old : MetadataCaches S) (before : ImageFile S) where
+module _ {S : Type 0} (state : S → StorageState) (start : ImageState S) (run : Run) where
   abbrev At : MetadataCaches S → ImageFile S → Metadata
-  At caches file = metadata_of state file caches table pending
+  At caches file = metadata_of state file caches start.table start.pending
 
   abbrev m0 : Metadata
-  m0 = At old before
+  m0 = At start.caches start.file
 
   abbrev Keeps : Type 0
-  Keeps = IsTrue (state before.image).shape.keeps
+  Keeps = IsTrue (state start.file.image).shape.keeps
 
   -- what is known of the image before
   abbrev pub Given : Type 0
-  Given = Keeps × (order_of old ≡ L2DependsOnRb) × IsSound m0 × IsUncounted m0 run
+  Given = Keeps × (order_of start.caches ≡ L2DependsOnRb) × IsSound m0 × IsUncounted m0 run
 
   abbrev Counts : Result Unit Fault → MetadataCaches S → ImageFile S → Type 0
-  Counts result new after = CountsNamed state run.first run.len (lent table old before pending) result (lent table new after pending)
+  Counts result new after = CountsNamed state run.first run.len start result (lent start.table new after start.pending)
 
   -- the clusters of the run
   abbrev pub ours : ℕ → ℕ
@@ -103,11 +101,11 @@ module _ {S : Type 0} (state : S → StorageState) (table : TableValue) (pending
     pub faults : ok → IsFaultless (state fC.image) (state fD.image)
     pub quiet : Given → IsSound (At C fC) → Quietly ok ours ours (state fC.image) (At C fC) (state fD.image) (At D fD)
     pub same : Given → IsSound (At C fC) → ok → (c : ℕ) → counted (At D fD) c ≡ counted (At C fC) c
-    pub stays : StaysLoose table C fC D fD
+    pub stays : StaysLoose start.table C fC D fD
 
   module _ (C : MetadataCaches S) (fC : ImageFile S) (counts : Counts succeeded C fC) where
     on : Keeps → IsTrue (state fC.image).shape.keeps
-    on keeps = keeps_on (state before.image) (state fC.image) counts.shape keeps
+    on keeps = keeps_on (state start.file.image) (state fC.image) counts.shape keeps
 
     pub sound-then : Given → IsSound (At C fC)
     sound-then given = ((counts.quiet given.1 (λ s. given.3)).holds given.0 given.2 tt).0
@@ -116,16 +114,16 @@ module _ {S : Type 0} (state : S → StorageState) (table : TableValue) (pending
     pub unnamed-then : Given → (c : ℕ) → run.first ≤ c → c < run.first + run.len → named_at_all (At C fC) c ≡ 0
     unnamed-then given c from to =
         let held = (counts.quiet given.1 (λ s. given.3)).holds given.0 given.2 tt in
-        let less = quiet-names m0 (At C fC) (named_part table (counters_of_block before.header.fields) run.first counts.part) (λ _. 0) given.2 held.0 held.1 counts.header refl c in
+        let less = quiet-names m0 (At C fC) (named_part start.table (counters_of_block start.file.header.fields) run.first counts.part) (λ _. 0) given.2 held.0 held.1 counts.header refl c in
         let none = (uncounted-free m0 given.2 given.1 c (given.3 c from to)).0 in
         omega (arith, less, none)
 
     -- The next step goes on with it,
     pub counts-then : (result : Result Unit Fault) (D : MetadataCaches S) (fD : ImageFile S) → Next (WasNotCutOff result) C fC D fD
-        → MatchResult result (λ _. (state fD.image).faults ≡ (state fC.image).faults) (WhyNotCounted (Given × IsSound (At C fC)) (IsLoose table C) (state fC.image).faults (state fD.image).faults) → Counts result D fD
+        → MatchResult result (λ _. (state fD.image).faults ≡ (state fC.image).faults) (WhyNotCounted (Given × IsSound (At C fC)) (IsLoose start.table C) (state fC.image).faults (state fD.image).faults) → Counts result D fD
     counts-then result D fD next cause =
         let part = counts.part in
-        let handed = named_part table (counters_of_block before.header.fields) run.first counts.part in
+        let handed = named_part start.table (counters_of_block start.file.header.fields) run.first counts.part in
         record {
           part = counts.part;
           inside = counts.inside;
@@ -134,11 +132,11 @@ module _ {S : Type 0} (state : S → StorageState) (table : TableValue) (pending
           later = later_both _ _ _ counts.later next.later;
           faults = λ whole. faultless-then (counts.faults tt) (next.faults whole);
           quiet = λ order free.
-              quietly-given (WasNotCutOff result) handed (λ _. 0) (state before.image) m0 (state fD.image) (At D fD) (next.shape ∙ counts.shape) (later_both _ _ _ counts.later next.later) (λ keeps sound.
+              quietly-given (WasNotCutOff result) handed (λ _. 0) (state start.file.image) m0 (state fD.image) (At D fD) (next.shape ∙ counts.shape) (later_both _ _ _ counts.later next.later) (λ keeps sound.
               let given : Given = (keeps, order, sound, free sound) in
-              quietly-otherwise (WasNotCutOff result) (λ c. handed c + ours c) (λ c. 0 + ours c) handed (λ _. 0) (state before.image) m0 (state fD.image) (At D fD) (λ s c. omega arith)
+              quietly-otherwise (WasNotCutOff result) (λ c. handed c + ours c) (λ c. 0 + ours c) handed (λ _. 0) (state start.file.image) m0 (state fD.image) (At D fD) (λ s c. omega arith)
               (λ s c used none. let off = ours-unused (free s) c used in omega (arith, off))
-              (quietly-then-given (WasNotCutOff succeeded) (WasNotCutOff result) handed (λ _. 0) ours ours (state before.image) m0 (state fC.image) (At C fC) (state fD.image) (At D fD) tt (λ s c some. refl) (counts.quiet order free) next.shape next.later
+              (quietly-then-given (WasNotCutOff succeeded) (WasNotCutOff result) handed (λ _. 0) ours ours (state start.file.image) m0 (state fC.image) (At C fC) (state fD.image) (At D fD) tt (λ s c some. refl) (counts.quiet order free) next.shape next.later
               (λ k s s1 quiet. next.quiet given s1)));
           raised = λ order keeps sound free whole c.
               let given : Given = (keeps, order, sound, free) in
@@ -154,11 +152,11 @@ module _ {S : Type 0} (state : S → StorageState) (table : TableValue) (pending
         on-ok (Ok done) is = is
         on-ok (Err fault) is = tt
 
-        from : Keeps × (order_of old ≡ L2DependsOnRb) × IsSound m0 × ((c : ℕ) → run.first ≤ c → c < run.first + run.len → (counted m0 c ≡ 0) × ⊤) → Given × IsSound (At C fC)
+        from : Keeps × (order_of start.caches ≡ L2DependsOnRb) × IsSound m0 × ((c : ℕ) → run.first ≤ c → c < run.first + run.len → (counted m0 c ≡ 0) × ⊤) → Given × IsSound (At C fC)
         from holds = let given : Given = (holds.0, holds.1, holds.2, λ c above below. (holds.3 c above below).0) in (given, sound-then given)
 
-        wider : (fault : Fault) → WhyNotCounted (Given × IsSound (At C fC)) (IsLoose table C) (state fC.image).faults (state fD.image).faults fault
-            → WhyNotCounted (Keeps × (order_of old ≡ L2DependsOnRb) × IsSound m0 × ((c : ℕ) → run.first ≤ c → c < run.first + run.len → (counted m0 c ≡ 0) × ⊤)) (IsLoose table old) (state before.image).faults (state fD.image).faults fault
+        wider : (fault : Fault) → WhyNotCounted (Given × IsSound (At C fC)) (IsLoose start.table C) (state fC.image).faults (state fD.image).faults fault
+            → WhyNotCounted (Keeps × (order_of start.caches ≡ L2DependsOnRb) × IsSound m0 × ((c : ℕ) → run.first ≤ c → c < run.first + run.len → (counted m0 c ≡ 0) × ⊤)) (IsLoose start.table start.caches) (state start.file.image).faults (state fD.image).faults fault
         wider Memory why = tt
         wider Storage why = subst (λ n. Rose n (state fD.image).faults) counts.cause why
         wider DamagedTable why = λ holds. why (from holds)
@@ -166,9 +164,9 @@ module _ {S : Type 0} (state : S → StorageState) (table : TableValue) (pending
         wider CacheFull why = λ u. why (u.0, λ is. from (u.1 is), counts.loose u.0 u.2)
         wider other why = absurd why
 
-        caused : (r : Result Unit Fault) → MatchResult r (λ _. (state fD.image).faults ≡ (state fC.image).faults) (WhyNotCounted (Given × IsSound (At C fC)) (IsLoose table C) (state fC.image).faults (state fD.image).faults)
-            → MatchResult r (λ _. (state fD.image).faults ≡ (state before.image).faults)
-            (WhyNotCounted (Keeps × (order_of old ≡ L2DependsOnRb) × IsSound m0 × ((c : ℕ) → run.first ≤ c → c < run.first + run.len → (counted m0 c ≡ 0) × ⊤)) (IsLoose table old) (state before.image).faults (state fD.image).faults)
+        caused : (r : Result Unit Fault) → MatchResult r (λ _. (state fD.image).faults ≡ (state fC.image).faults) (WhyNotCounted (Given × IsSound (At C fC)) (IsLoose start.table C) (state fC.image).faults (state fD.image).faults)
+            → MatchResult r (λ _. (state fD.image).faults ≡ (state start.file.image).faults)
+            (WhyNotCounted (Keeps × (order_of start.caches ≡ L2DependsOnRb) × IsSound m0 × ((c : ℕ) → run.first ≤ c → c < run.first + run.len → (counted m0 c ≡ 0) × ⊤)) (IsLoose start.table start.caches) (state start.file.image).faults (state fD.image).faults)
         caused (Ok done) same = same ∙ counts.cause
         caused (Err fault) why = wider fault why
 
@@ -196,13 +194,13 @@ module _ {S : Type 0} (state : S → StorageState) (table : TableValue) (pending
         stays = record {
           header = others.1;
           order = others.0;
-          loose = loose-on table C D (pins-written written_block (λ e. e.0) (λ e. e.1.pins) (λ e. (refl, refl)) (cached_in C).blocks (cached_in D).blocks (ap (λ (c : Cached). c.blocks) kept)) room.blocks;
+          loose = loose-on start.table C D (pins-written written_block (λ e. e.0) (λ e. e.1.pins) (λ e. (refl, refl)) (cached_in C).blocks (cached_in D).blocks (ap (λ (c : Cached). c.blocks) kept)) room.blocks;
           room = kept-tables C D kept room;
         };
       }
 
       why : (r : Result Unit Fault) → CountsWrites (AreTablesInReach (cached_in C) × AreBlocksInReach (cached_in C)) (state fC.image).faults (state fD.image).faults r
-          → MatchResult r (λ _. (state fD.image).faults ≡ (state fC.image).faults) (WhyNotCounted (Given × IsSound (At C fC)) (IsLoose table C) (state fC.image).faults (state fD.image).faults)
+          → MatchResult r (λ _. (state fD.image).faults ≡ (state fC.image).faults) (WhyNotCounted (Given × IsSound (At C fC)) (IsLoose start.table C) (state fC.image).faults (state fD.image).faults)
       why (Ok done) same = same
       why (Err fault) not = why-written _ _ _ _ _ _ (λ holds. safe-reach (At C fC).file (At C fC).header (At C fC).cached (At C fC).order holds.1.safe) refl fault not
 
@@ -230,21 +228,21 @@ module _ {S : Type 0} (state : S → StorageState) (table : TableValue) (pending
             (quietly-otherwise (WasNotCutOff result) (λ _. 0) (λ _. 0) ours ours (state fC.image) (At C fC) (state fC.image) _ (λ s c. omega arith) (λ s c used none. refl)
             (memory-quietly (WasNotCutOff result) (λ _. 0) (λ _. 0) (state fC.image) (At C fC) _ (λ s whole. let stays = (forgotten-there given).0 in (stays.sound, stays.quiet))));
         same = λ given sound whole. forgotten-same given;
-        stays = record { header = refl; order = order; loose = loose-on table C D pins room.blocks; room = room };
+        stays = record { header = refl; order = order; loose = loose-on start.table C D pins room.blocks; room = room };
       }
 
       -- No block that the table names is in the run.
       why-full : (r : Result Unit Fault) → IfErr r (λ fault. (fault ≡ CacheFull) × IsPinnedWithin run.first n C)
-          → MatchResult r (λ _. (state fC.image).faults ≡ (state fC.image).faults) (WhyNotCounted (Given × IsSound (At C fC)) (IsLoose table C) (state fC.image).faults (state fC.image).faults)
+          → MatchResult r (λ _. (state fC.image).faults ≡ (state fC.image).faults) (WhyNotCounted (Given × IsSound (At C fC)) (IsLoose start.table C) (state fC.image).faults (state fC.image).faults)
       why-full (Ok done) none = refl
-      why-full (Err fault) (is, (d, from, to, pinned)) = subst (λ (f : Fault). WhyNotCounted (Given × IsSound (At C fC)) (IsLoose table C) (state fC.image).faults (state fC.image).faults f) (sym is)
+      why-full (Err fault) (is, (d, from, to, pinned)) = subst (λ (f : Fault). WhyNotCounted (Given × IsSound (At C fC)) (IsLoose start.table C) (state fC.image).faults (state fC.image).faults f) (sym is)
           (λ u. let there = u.2.named d pinned in let holds = u.1 there.0 in never-unnamed (At C fC) holds.1 d (unnamed-then holds.0 d from (omega (arith, to, few))) there.1)
 
       pub forgotten-then : Counts result D fC
       forgotten-then = counts-then result D fC forgetting (why-full result cause)
 
     -- or written.
-    module _ (result : Result Unit Fault) (fD : ImageFile S) (header : fD.header ≡ fC.header) (writes : WritesLacking fC.header table run (state fC.image) result (state fD.image)) where
+    module _ (result : Result Unit Fault) (fD : ImageFile S) (header : fD.header ≡ fC.header) (writes : WritesLacking fC.header start.table run (state fC.image) result (state fD.image)) where
       with-header : (P : Metadata → Type 0) → P (record (At C fC) { file = bytes_of (state fD.image).bytes }) → P (At C fD)
       with-header P p = subst (λ (h : Header). P (record (At C fC) { file = bytes_of (state fD.image).bytes; header = h })) (sym header) p
 
@@ -266,7 +264,7 @@ module _ {S : Type 0} (state : S → StorageState) (table : TableValue) (pending
       }
 
       why-cut : (r : Result Unit Fault) → MatchResult r (λ _. (state fD.image).faults ≡ (state fC.image).faults) (Cause (state fC.image).faults (state fD.image).faults)
-          → MatchResult r (λ _. (state fD.image).faults ≡ (state fC.image).faults) (WhyNotCounted (Given × IsSound (At C fC)) (IsLoose table C) (state fC.image).faults (state fD.image).faults)
+          → MatchResult r (λ _. (state fD.image).faults ≡ (state fC.image).faults) (WhyNotCounted (Given × IsSound (At C fC)) (IsLoose start.table C) (state fC.image).faults (state fD.image).faults)
       why-cut (Ok done) same = same
       why-cut (Err fault) why = why-caused _ _ _ _ _ refl fault why
 
@@ -275,8 +273,8 @@ module _ {S : Type 0} (state : S → StorageState) (table : TableValue) (pending
 
       -- Then the run is taken.
       pub run-taken : (Given → (c : ℕ) → count (At C fC).file (At C fC).header.fields c ≡ counted (At C fC) c) → (0 < counters_of_block fC.header.fields)
-          → lacking table (counters_of_block fC.header.fields) run.first run.len ≤ run.len
-          → (Given → (d : ℕ) → run.first ≤ d → d < run.first + lacking table (counters_of_block fC.header.fields) run.first run.len → lookup (nat_eq d) (cached_in C).blocks ≡ None)
+          → lacking start.table (counters_of_block fC.header.fields) run.first run.len ≤ run.len
+          → (Given → (d : ℕ) → run.first ≤ d → d < run.first + lacking start.table (counters_of_block fC.header.fields) run.first run.len → lookup (nat_eq d) (cached_in C).blocks ≡ None)
           → result ≡ Ok tt → Given → IsTaken (At C fD) run
       run-taken flushed some few uncached done given =
           let sound = sound-then given in
@@ -286,42 +284,42 @@ module _ {S : Type 0} (state : S → StorageState) (table : TableValue) (pending
             counters = writes.counters (At C fC) ours (may given) (on given.0) sound done;
             written = λ c. counts-same.file c ∙ flushed given c ∙ sym (counts-same.memory c);
             uncached = λ i is.
-                let to = (lacks-inside table (counters_of_block fC.header.fields) run.first run.len i is).1 in
+                let to = (lacks-inside start.table (counters_of_block fC.header.fields) run.first run.len i is).1 in
                 let le : i * 1 ≤ i * counters_of_block fC.header.fields = mul-le-mul (omega arith) some in
-                let behind = rank-before fC.header.fields table run i (run.first + run.len) (omega (arith, to, le)) is in
-                uncached given (run.first + rank (lacks table (counters_of_block fC.header.fields) run.first run.len) i) (omega arith) (omega (arith, behind));
+                let behind = rank-before fC.header.fields start.table run i (run.first + run.len) (omega (arith, to, le)) is in
+                uncached given (run.first + rank (lacks start.table (counters_of_block fC.header.fields) run.first run.len) i) (omega arith) (omega (arith, behind));
           })
 
 -- All of them, where the flush and the drop succeeded.
-module _ {S : Type 0} (state : S → StorageState) (table : TableValue) (pending : List FreeEntry) (run : Run) (old : MetadataCaches S) (before : ImageFile S) (C : MetadataCaches S) (fC : ImageFile S) (counts : CountsNamed state run.first run.len (lent table old before pending) succeeded (lent table C fC pending))
+module _ {S : Type 0} (state : S → StorageState) (image : ImageState S) (run : Run) (C : MetadataCaches S) (fC : ImageFile S) (counts : CountsNamed state run.first run.len image succeeded (lent image.table C fC image.pending))
     (D : MetadataCaches S) (fD : ImageFile S) (going : Going fC.header (order_of C) Always (succeeded ≡ Ok tt) (state fC.image) (cached_in C) (state fD.image) (cached_in D)) (kept : written (cached_in D) ≡ written (cached_in C))
     (others : (D.order ≡ C.order) × (fD.header ≡ fC.header)) (room : HasRoomOf C D) (cause : (state fD.image).faults ≡ (state fC.image).faults) (clean : AreBlocksClean (cached_in D)) (n : ℕ) (few : n ≤ run.len) where
-  pub counts-flushed : CountsNamed state run.first run.len (lent table old before pending) succeeded (lent table D fD pending)
-  counts-flushed = flushed-then state table pending run old before C fC counts succeeded D fD going kept others room cause (λ whole. going.faults refl)
+  pub counts-flushed : CountsNamed state run.first run.len image succeeded (lent image.table D fD image.pending)
+  counts-flushed = flushed-then state image run C fC counts succeeded D fD going kept others room cause (λ whole. going.faults refl)
 
-  pub header-there : fD.header ≡ before.header
+  pub header-there : fD.header ≡ image.file.header
   header-there = counts-flushed.header
 
   pub room-not-forgotten : (fault : Fault) (E : MetadataCaches S) → ForgetsRun run.first n (cached_in D) (failed fault) (cached_in E) → E.order ≡ D.order → PinsNothing (cached_in D).blocks (cached_in E).blocks → KeepsTables D E → (fault ≡ CacheFull) × IsPinnedWithin run.first n D
-      → TakesRoom state run (lent table old before pending) (Err fault) (lent table E fD pending)
+      → TakesRoom state run image (Err fault) (lent image.table E fD image.pending)
   room-not-forgotten fault E forgets order pins space why = record {
-    counts = forgotten-then state table pending run old before D fD counts-flushed (failed fault) E n few forgets order pins space why;
+    counts = forgotten-then state image run D fD counts-flushed (failed fault) E n few forgets order pins space why;
     taken = λ o k s z. tt;
   }
 
   module _ (E : MetadataCaches S) (forgets : ForgetsRun run.first n (cached_in D) succeeded (cached_in E)) (order : E.order ≡ D.order) (pins : PinsNothing (cached_in D).blocks (cached_in E).blocks) (space : KeepsTables D E) where
-    counts-forgotten : CountsNamed state run.first run.len (lent table old before pending) succeeded (lent table E fD pending)
-    counts-forgotten = forgotten-then state table pending run old before D fD counts-flushed succeeded E n few forgets order pins space tt
+    counts-forgotten : CountsNamed state run.first run.len image succeeded (lent image.table E fD image.pending)
+    counts-forgotten = forgotten-then state image run D fD counts-flushed succeeded E n few forgets order pins space tt
 
-    pub room-taken : n ≡ lacking table (counters_of_block fD.header.fields) run.first run.len → 0 < counters_of_block fD.header.fields → (result : Result Unit Fault) (fE : ImageFile S) → fE.header ≡ fD.header
-        → WritesLacking fD.header table run (state fD.image) result (state fE.image) → TakesRoom state run (lent table old before pending) result (lent table E fE pending)
+    pub room-taken : n ≡ lacking image.table (counters_of_block fD.header.fields) run.first run.len → 0 < counters_of_block fD.header.fields → (result : Result Unit Fault) (fE : ImageFile S) → fE.header ≡ fD.header
+        → WritesLacking fD.header image.table run (state fD.image) result (state fE.image) → TakesRoom state run image result (lent image.table E fE image.pending)
     room-taken all some result fE header writes = record {
-      counts = written-then state table pending run old before E fD counts-forgotten result fE header writes;
-      taken = λ o k s z. on-ok result (λ done. run-taken state table pending run old before E fD counts-forgotten result fE header writes
-          (λ given c. sym (forgotten-same state table pending run old before D fD counts-flushed succeeded E n few forgets order pins space tt given c
-          ∙ clean-counts (metadata_of state fD D table pending) (sound-then state table pending run old before D fD counts-flushed given) clean c))
+      counts = written-then state image run E fD counts-forgotten result fE header writes;
+      taken = λ o k s z. on-ok result (λ done. run-taken state image run E fD counts-forgotten result fE header writes
+          (λ given c. sym (forgotten-same state image run D fD counts-flushed succeeded E n few forgets order pins space tt given c
+          ∙ clean-counts (metadata_of state fD D image.table image.pending) (sound-then state image run D fD counts-flushed given) clean c))
           some (subst (λ m. m ≤ run.len) all few)
-          (λ given d from to. (forgotten-there state table pending run old before D fD counts-flushed succeeded E n few forgets order pins space tt given).1 d from (subst (λ m. d < run.first + m) (sym all) to))
+          (λ given d from to. (forgotten-there state image run D fD counts-flushed succeeded E n few forgets order pins space tt given).1 d from (subst (λ m. d < run.first + m) (sym all) to))
           done (k, o, s, z));
     }
       where

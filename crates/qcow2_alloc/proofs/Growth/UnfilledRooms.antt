@@ -23,7 +23,7 @@ use Rattle.qcow2_alloc.specs.Going.{IsMild}
 use Rattle.qcow2_alloc.specs.MakingRoom.{run_of}
 use Rattle.qcow2_alloc.specs.MovingTables.{IsUncounted, FillsRoom}
 use Rattle.qcow2_alloc.specs.Quiet.{Metadata, counted, IsSound}
-use Rattle.qcow2_alloc.specs.State.{lent}
+use Rattle.qcow2_alloc.specs.State.{ImageState, lent, metadata}
 use Rattle.qcow2_alloc.proofs.Handing.Allocating.{moved-none}
 use Rattle.qcow2_alloc.proofs.Blocks.CountingRuns.{covers-behind}
 use Rattle.qcow2_alloc.proofs.Freeing.FreeingEntries.{failed}
@@ -76,39 +76,39 @@ why-from sound sound' loose a b from Counter why = λ s. why (from s)
 why-from sound sound' loose a b from CacheFull why = λ u. why (u.0, λ is. from (u.1 is), u.2)
 why-from sound sound' loose a b from other why = absurd why
 
-module _ {S : Type 0} (state : S → StorageState) (table : TableValue) (pending : List FreeEntry) (run : Run) (copy : TableValue) (old : MetadataCaches S) (before : ImageFile S)
-    (known : Type 0) (free : known → (order_of old ≡ L2DependsOnRb) × IsUncounted (metadata_of state before old table pending) run) where
+module _ {S : Type 0} (state : S → StorageState) (was : ImageState S) (run : Run) (copy : TableValue)
+    (known : Type 0) (free : known → (order_of was.caches ≡ L2DependsOnRb) × IsUncounted (metadata state was) run) where
   abbrev m0 : Metadata
-  m0 = metadata_of state before old table pending
+  m0 = metadata state was
 
   abbrev Keeps : Type 0
-  Keeps = IsTrue (state before.image).shape.keeps
+  Keeps = IsTrue (state was.file.image).shape.keeps
 
   abbrev Sound : Type 0
   Sound = known × Keeps × IsSound m0
 
   -- Where the room wasn't filled the image has the table that it had.
-  module _ (fault : Fault) (D : MetadataCaches S) (fD : ImageFile S) (counts : CountsNamed state run.first run.len (lent table old before pending) (failed fault) (lent table D fD pending)) where
+  module _ (fault : Fault) (D : MetadataCaches S) (fD : ImageFile S) (counts : CountsNamed state run.first run.len was (failed fault) (lent was.table D fD was.pending)) where
     abbrev mD : Metadata
-    mD = metadata_of state fD D table pending
+    mD = metadata_of state fD D was.table was.pending
 
     abbrev handed : ℕ → ℕ
-    handed = named_part table (counters_of_block before.header.fields) run.first counts.part
+    handed = named_part was.table (counters_of_block was.file.header.fields) run.first counts.part
 
-    all-known : Sound → Keeps × (order_of old ≡ L2DependsOnRb) × IsSound m0 × ((c : ℕ) → run.first ≤ c → c < run.first + run.len → (counted m0 c ≡ 0) × ⊤)
+    all-known : Sound → Keeps × (order_of was.caches ≡ L2DependsOnRb) × IsSound m0 × ((c : ℕ) → run.first ≤ c → c < run.first + run.len → (counted m0 c ≡ 0) × ⊤)
     all-known s = (s.1, (free s.0).0, s.2, λ c from to. ((free s.0).1 c from to, tt))
 
-    why : WhyNotCounted Sound (IsLoose table old) (state before.image).faults (state fD.image).faults fault
+    why : WhyNotCounted Sound (IsLoose was.table was.caches) (state was.file.image).faults (state fD.image).faults fault
     why = why-from _ Sound _ _ _ all-known fault counts.cause
 
-    pub not-filled : FillsRoom state known run copy (lent table old before pending) (failed fault) (lent table D fD pending)
+    pub not-filled : FillsRoom state known run copy was (failed fault) (lent was.table D fD was.pending)
     not-filled = record {
       leaked = leaked-by fault handed;
-      leaks = record { none = leaked-none fault handed; pinned = λ sound loose. leaked-pinned Sound (IsLoose table old) _ _ fault handed sound loose why };
+      leaks = record { none = leaked-none fault handed; pinned = λ sound loose. leaked-pinned Sound (IsLoose was.table was.caches) _ _ fault handed sound loose why };
       shape = counts.shape;
       later = counts.later;
       faults = counts.faults;
-      quiet = λ e. quietly-given (IsMild fault) (leaked-by fault handed) (λ _. 0) (state before.image) m0 (state fD.image) mD counts.shape counts.later (λ keeps sound.
+      quiet = λ e. quietly-given (IsMild fault) (leaked-by fault handed) (λ _. 0) (state was.file.image) m0 (state fD.image) mD counts.shape counts.later (λ keeps sound.
           let q = counts.quiet (free e).0 (λ s. (free e).1) in
           record {
             shape = q.shape;
@@ -116,13 +116,13 @@ module _ {S : Type 0} (state : S → StorageState) (table : TableValue) (pending
             passes = q.passes;
             holds = λ k s mild.
                 let both = q.holds k s mild in
-                (both.0, quiet-otherwise m0 mD handed (λ _. 0) (leaked-by fault handed) (λ _. 0) (λ c. let is = leaked-same Sound (IsLoose table old) _ _ fault handed mild (e, keeps, sound) why c in omega (arith, is)) (λ c used none. refl) both.1);
+                (both.0, quiet-otherwise m0 mD handed (λ _. 0) (leaked-by fault handed) (λ _. 0) (λ c. let is = leaked-same Sound (IsLoose was.table was.caches) _ _ fault handed mild (e, keeps, sound) why c in omega (arith, is)) (λ c used none. refl) both.1);
           });
       raised = λ e keeps sound mild c.
-          part-raised (block_offset (slice_index table.words (c / counters_of_block before.header.fields))) 0 0 (counted m0 c) (counted mD c) run.first run.len counts.part c counts.inside ((free e).1 c)
+          part-raised (block_offset (slice_index was.table.words (c / counters_of_block was.file.header.fields))) 0 0 (counted m0 c) (counted mD c) run.first run.len counts.part c counts.inside ((free e).1 c)
           (counts.raised (free e).0 keeps sound (free e).1 mild c);
       order = counts.order;
-      moved = moved-none before.header fD.header counts.header;
+      moved = moved-none was.file.header fD.header counts.header;
       longer = omega arith;
       loose = counts.loose;
       room = counts.room;

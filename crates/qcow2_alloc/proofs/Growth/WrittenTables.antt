@@ -1,12 +1,11 @@
 -- A copy of the refcount table is written, where its room was taken.
-use Rattle.std.proofs.Common.{◌≡◌, ℕ, ◌+◌, ◌<◌, ◌≤◌, refl, arith, List, Result, Ok, Err}
+use Rattle.std.proofs.Common.{◌≡◌, ℕ, ◌+◌, ◌<◌, ◌≤◌, refl, arith, Result, Ok, Err}
 use Rattle.std.specs.Prelude.{IsTrue, MatchResult}
 use Rattle.imago_storage.specs.State.{StorageState}
 use Rattle.imago_storage.specs.Calls.{Cause}
 use Rattle.imago_storage.specs.Through.{Put}
 use Rattle.imago_storage.specs.declared.fault.Fault.{Fault}
 use Rattle.imago_storage.proofs.Composing.{keeps_on}
-use Rattle.qcow2_types.specs.Pending.{FreeEntry}
 use Rattle.qcow2_types.specs.TableBytes.{table_bytes}
 use Rattle.qcow2_metadata.specs.Tables.{TableValue, table_place}
 use Rattle.qcow2_alloc.specs.declared.allocation.searching.Run.{Run}
@@ -18,7 +17,7 @@ use Rattle.qcow2_alloc.specs.Freeing.{IsLoose, WhyNotCounted}
 use Rattle.qcow2_alloc.specs.Going.{WasNotCutOff}
 use Rattle.qcow2_alloc.specs.MovingTables.{clusters_of, IsPlan, IsTaken, TakesRoom}
 use Rattle.qcow2_alloc.specs.Quiet.{Metadata, IsSound}
-use Rattle.qcow2_alloc.specs.State.{lent}
+use Rattle.qcow2_alloc.specs.State.{ImageState, lent}
 use Rattle.qcow2_alloc.proofs.Blocks.CountingClusters.{succeeded}
 use Rattle.qcow2_alloc.proofs.Flushing.Faultless.{put-faultless}
 use Rattle.qcow2_alloc.proofs.Growth.GrownTables.{covers-inside}
@@ -29,35 +28,35 @@ use Rattle.qcow2_alloc.proofs.Growth.TakingRoom.{Given, Next, ours, sound-then, 
 use Rattle.qcow2_alloc.proofs.Blocks.WritingNewBlocks.{put-counts}
 
 -- The table is written, where the room was taken.
-module _ {S : Type 0} (state : S → StorageState) (table : TableValue) (pending : List FreeEntry) (run : Run) (copy : TableValue) (old : MetadataCaches S) (before : ImageFile S)
-    (C : MetadataCaches S) (fC : ImageFile S) (takes : TakesRoom state run (lent table old before pending) succeeded (lent table C fC pending)) (plan : IsPlan fC.header.fields table run copy)
+module _ {S : Type 0} (state : S → StorageState) (s : ImageState S) (run : Run) (copy : TableValue)
+    (C : MetadataCaches S) (fC : ImageFile S) (takes : TakesRoom state run s succeeded (lent s.table C fC s.pending)) (plan : IsPlan fC.header.fields s.table run copy)
     (mid : S) (done : Result Unit Fault) (put : Put (state fC.image) (state mid) (table_place copy) (table_bytes copy.words) done) where
   abbrev between : ImageFile S
   between = record { image = mid; header = fC.header }
 
   abbrev m4 : Metadata
-  m4 = metadata_of state fC C table pending
+  m4 = metadata_of state fC C s.table s.pending
 
   abbrev m5 : Metadata
-  m5 = metadata_of state between C table pending
+  m5 = metadata_of state between C s.table s.pending
 
   abbrev Known : Type 0
-  Known = Given state table pending run old before
+  Known = Given state s run
 
   abbrev n : ℕ
   n = clusters_of copy fC.header.fields.cluster_bits
 
   abbrev mine : ℕ → ℕ
-  mine = ours state table pending run old before
+  mine = ours state s run
 
   pub sound4 : Known → IsSound m4
-  sound4 = sound-then state table pending run old before C fC takes.counts
+  sound4 = sound-then state s run C fC takes.counts
 
   taken4 : Known → IsTaken m4 run
   taken4 given = takes.taken given.1 given.0 given.2 given.3
 
   keeps4 : Known → IsTrue (state fC.image).shape.keeps
-  keeps4 given = keeps_on (state before.image) (state fC.image) takes.counts.shape given.0
+  keeps4 given = keeps_on (state s.file.image) (state fC.image) takes.counts.shape given.0
 
   low4 : Known → 9 ≤ fC.header.fields.cluster_bits
   low4 given = (shaped-in m4.file m4.header (sound4 given).safe.consistent).low
@@ -65,7 +64,7 @@ module _ {S : Type 0} (state : S → StorageState) (table : TableValue) (pending
   used4 : (c : ℕ) → run.first ≤ c → c < run.first + run.len → 0 < mine c
   used4 c from to = let one = covers-inside c run.first run.len from to in omega (arith, one)
 
-  table-next : Next state table pending run old before (WasNotCutOff done) C fC C between
+  table-next : Next state s run (WasNotCutOff done) C fC C between
   table-next = record {
     shape = put.shape;
     later = put.later;
@@ -78,9 +77,9 @@ module _ {S : Type 0} (state : S → StorageState) (table : TableValue) (pending
   }
 
   why-put : (r : Result Unit Fault) → MatchResult r (λ _. (state mid).faults ≡ (state fC.image).faults) (Cause (state fC.image).faults (state mid).faults)
-      → MatchResult r (λ _. (state mid).faults ≡ (state fC.image).faults) (WhyNotCounted (Known × IsSound m4) (IsLoose table C) (state fC.image).faults (state mid).faults)
+      → MatchResult r (λ _. (state mid).faults ≡ (state fC.image).faults) (WhyNotCounted (Known × IsSound m4) (IsLoose s.table C) (state fC.image).faults (state mid).faults)
   why-put (Ok v) same = same
   why-put (Err fault) cause = why-caused _ _ _ _ _ refl fault cause
 
-  pub table-written : CountsNamed state run.first run.len (lent table old before pending) done (lent table C between pending)
-  table-written = counts-then state table pending run old before C fC takes.counts done C between table-next (why-put done (put-counts (state fC.image) (state mid) (table_place copy) (table_bytes copy.words) done put))
+  pub table-written : CountsNamed state run.first run.len s done (lent s.table C between s.pending)
+  table-written = counts-then state s run C fC takes.counts done C between table-next (why-put done (put-counts (state fC.image) (state mid) (table_place copy) (table_bytes copy.words) done put))

@@ -1,5 +1,5 @@
 -- One cluster is handed out where a search has found it free.
-use Rattle.std.proofs.Common.{◌≡◌, ◌≢◌, true, ℕ, ◌+◌, ◌*◌, ◌/◌, ◌<◌, ◌≤◌, false, refl, arith, ap, sym, subst, ◌∙◌, inl, inr, List, Option, Some, None, Result, Ok, Err}
+use Rattle.std.proofs.Common.{◌≡◌, ◌≢◌, true, ℕ, ◌+◌, ◌*◌, ◌/◌, ◌<◌, ◌≤◌, false, refl, arith, ap, sym, subst, ◌∙◌, inl, inr, Option, Some, None, Result, Ok, Err}
 use Rattle.std.specs.Prelude.{⊤, not, nat_eq, IsTrue, IfOk, OnOk, OnErr, slice_index, MatchResult, ◌⊎◌, ◌==◌, if◌then◌else◌}
 use Rattle.std.specs.Option.{option_eq}
 use Rattle.std.proofs.lemmas.Bool.{cases_eq, cases_lt, ne_eqb, eq-eqb}
@@ -11,7 +11,6 @@ use Rattle.qcow2_types.specs.Header.{Header}
 use Rattle.qcow2_types.specs.Pending.{FreeEntry}
 use Rattle.qcow2_types.specs.Words.{block_offset}
 use Rattle.qcow2_metadata.specs.Places.{IsInReach}
-use Rattle.qcow2_metadata.specs.Tables.{TableValue}
 use Rattle.qcow2_alloc.specs.declared.cache.CacheDependency.TheVariants.{L2DependsOnRb}
 use Rattle.qcow2_alloc.specs.declared.cache.MetadataCaches.{MetadataCaches}
 use Rattle.qcow2_alloc.specs.declared.file.ImageFile.{ImageFile}
@@ -26,7 +25,7 @@ use Rattle.qcow2_alloc.specs.HandingOutOne.{AllocatesAt, CountsOne, counting_of}
 use Rattle.qcow2_alloc.specs.MakingRoom.{run_of}
 use Rattle.qcow2_alloc.specs.Quiet.{Metadata, IsSound, Quietly, counted, one_at}
 use Rattle.qcow2_alloc.specs.SearchingClusters.{LooksForFree}
-use Rattle.qcow2_alloc.specs.State.{lent}
+use Rattle.qcow2_alloc.specs.State.{ImageState, lent, metadata, IsGuarded}
 use Rattle.qcow2_alloc.proofs.Flushing.Faultless.{faultless-then}
 use Rattle.qcow2_alloc.proofs.Space.KeepingRoom.{covered-inside}
 use Rattle.qcow2_alloc.proofs.Handing.Allocating.{moved-none}
@@ -55,25 +54,25 @@ same-place (Some d) c test = elim (cases_eq d c) [
   | inr apart ↦ absurd (let unequal = ne_eqb d c apart in let yes : not (nat_eq d c) ≡ true = rw unequal refl in let both = sym test ∙ yes in cc)
 ]
 
-module _ {S : Type 0} (state : S → StorageState) (mark cluster : ℕ) (table : TableValue) (old : MetadataCaches S) (before : ImageFile S) (pending : List FreeEntry) where
+module _ {S : Type 0} (state : S → StorageState) (mark cluster : ℕ) (s : ImageState S) where
   abbrev Old : Metadata
-  Old = metadata_of state before old table pending
+  Old = metadata state s
 
   abbrev k : ℕ
-  k = counters_of_block before.header.fields
+  k = counters_of_block s.file.header.fields
 
   abbrev Looks : Result (Option ℕ) Fault → MetadataCaches S → ImageFile S → Type 0
-  Looks result mid between = LooksForFree state table cluster ((cluster / k + 1) * k) old before result mid between
+  Looks result mid between = LooksForFree state s.table cluster ((cluster / k + 1) * k) s.caches s.file result mid between
 
   -- The search was refused,
-  pub search-refused : (fault : Fault) (mid : MetadataCaches S) (between : ImageFile S) → Looks (Err fault) mid between → AllocatesAt state (λ _. ⊥) mark cluster (lent table old before pending) (not_handed fault) (lent table mid between pending) mark
+  pub search-refused : (fault : Fault) (mid : MetadataCaches S) (between : ImageFile S) → Looks (Err fault) mid between → AllocatesAt state (λ _. ⊥) mark cluster s (not_handed fault) (lent s.table mid between s.pending) mark
   search-refused fault mid between looks = record {
     did = record {
       leaked = λ _. 0;
       leaks = leaks-none _ _ (not_handed fault);
-      step = looked-allocates state table pending old before (Option ℕ) (Err fault) mid between looks.looked;
+      step = looked-allocates state s (Option ℕ) (Err fault) mid between looks.looked;
       list = inl refl;
-      cause = allocated-wider _ _ _ _ _ _ _ _ (λ holds. sound-safe state table pending old before holds.0 holds.2) (loose-all table old) refl fault looks.looked.cause;
+      cause = allocated-wider _ _ _ _ _ _ _ _ (λ holds. sound-safe state s holds.0 holds.2) (loose-all s.table s.caches) refl fault looks.looked.cause;
     };
     one = tt;
     answer = λ order keeps sound. tt;
@@ -81,32 +80,32 @@ module _ {S : Type 0} (state : S → StorageState) (mark cluster : ℕ) (table :
     further = tt;
     stays = refl;
     marked = λ order keeps sound whole marked c below.
-        let same = counts-looked state table pending old before (Option ℕ) (Err fault) mid between looks.looked keeps sound whole c in
+        let same = counts-looked state s (Option ℕ) (Err fault) mid between looks.looked keeps sound whole c in
         let was = marked c below in
         omega (arith, same, was);
   }
 
-  module _ (some : block_offset (slice_index table.words (cluster / k)) ≢ 0) (found : Option ℕ) (mid : MetadataCaches S) (between : ImageFile S) (looks : Looks (Ok found) mid between) where
+  module _ (some : block_offset (slice_index s.table.words (cluster / k)) ≢ 0) (found : Option ℕ) (mid : MetadataCaches S) (between : ImageFile S) (looks : Looks (Ok found) mid between) where
     abbrev Mid : Metadata
-    Mid = metadata_of state between mid table pending
+    Mid = metadata_of state between mid s.table s.pending
 
-    counts-same : IsTrue (state before.image).shape.keeps → IsSound Old → (c : ℕ) → counted Mid c ≡ counted Old c
-    counts-same keeps sound c = counts-looked state table pending old before (Option ℕ) (Ok found) mid between looks.looked keeps sound tt c
+    counts-same : IsTrue (state s.file.image).shape.keeps → IsSound Old → (c : ℕ) → counted Mid c ≡ counted Old c
+    counts-same keeps sound c = counts-looked state s (Option ℕ) (Ok found) mid between looks.looked keeps sound tt c
 
     -- or has found that the cluster is counted,
-    pub counted-already : found ≢ Some cluster → AllocatesAt state (λ _. ⊥) mark cluster (lent table old before pending) (handed_so None) (lent table mid between pending) mark
+    pub counted-already : found ≢ Some cluster → AllocatesAt state (λ _. ⊥) mark cluster s (handed_so None) (lent s.table mid between s.pending) mark
     counted-already other = record {
       did = record {
         leaked = λ _. 0;
         leaks = leaks-none _ _ (handed_so None);
-        step = looked-allocates state table pending old before (Option ℕ) (Ok found) mid between looks.looked;
+        step = looked-allocates state s (Option ℕ) (Ok found) mid between looks.looked;
         list = inl refl;
         cause = looks.looked.cause;
       };
       one = tt;
       answer = λ order keeps sound.
           let same = counts-same keeps sound cluster in
-          let more = counted-found state table pending old before cluster some found mid between looks keeps sound other in
+          let more = counted-found state s cluster some found mid between looks keeps sound other in
           inl (omega (arith, same, more));
       near = λ order keeps sound c none some'. absurd (let same = counts-same keeps sound c in omega (arith, same, none, some'));
       further = refl;
@@ -114,19 +113,19 @@ module _ {S : Type 0} (state : S → StorageState) (mark cluster : ℕ) (table :
       marked = λ order keeps sound whole marked c below. let same = counts-same keeps sound c in let was = marked c below in omega (arith, same, was);
     }
 
-    module _ (is : found ≡ Some cluster) (reach : IsInReach before.header.fields.cluster_bits cluster) (result : Result (Option FreeEntry) Fault) (new : MetadataCaches S) (after : ImageFile S) (mark' : ℕ) (counted_one : CountsOne state cluster (lent table mid between pending) result (lent table new after pending))
+    module _ (is : found ≡ Some cluster) (reach : IsInReach s.file.header.fields.cluster_bits cluster) (result : Result (Option FreeEntry) Fault) (new : MetadataCaches S) (after : ImageFile S) (mark' : ℕ) (counted_one : CountsOne state cluster (lent s.table mid between s.pending) result (lent s.table new after s.pending))
         (further : IfOk result (λ o. mark' ≡ mark_past mark cluster o)) (stays : OnErr result (mark' ≡ mark)) where
       abbrev New : Metadata
-      New = metadata_of state after new table pending
+      New = metadata_of state after new s.table s.pending
 
-      free : IsTrue (state before.image).shape.keeps → IsSound Old → counted Mid cluster ≡ 0
-      free keeps sound = free-found state table pending old before cluster some found mid between looks keeps sound is
+      free : IsTrue (state s.file.image).shape.keeps → IsSound Old → counted Mid cluster ≡ 0
+      free keeps sound = free-found state s cluster some found mid between looks keeps sound is
 
-      was-free : IsTrue (state before.image).shape.keeps → IsSound Old → counted Old cluster ≡ 0
+      was-free : IsTrue (state s.file.image).shape.keeps → IsSound Old → counted Old cluster ≡ 0
       was-free keeps sound = let same = counts-same keeps sound cluster in let zero = free keeps sound in omega (arith, same, zero)
 
-      looked-step : Allocating state ⊤ (λ _. 0) (lent table old before pending) (lent table mid between pending)
-      looked-step = looked-allocates state table pending old before (Option ℕ) (Ok found) mid between looks.looked
+      looked-step : Allocating state ⊤ (λ _. 0) s (lent s.table mid between s.pending)
+      looked-step = looked-allocates state s (Option ℕ) (Ok found) mid between looks.looked
 
       abbrev given : ℕ → ℕ
       given d = covers d (run_of cluster counted_one.counts.part)
@@ -135,21 +134,21 @@ module _ {S : Type 0} (state : S → StorageState) (mark cluster : ℕ) (table :
       whole-as (Ok o) whole = tt
       whole-as (Err fault) whole = whole
 
-      only-here : IsTrue (state before.image).shape.keeps → IsSound Old → (c : ℕ) → cluster ≤ c → c < cluster + 1 → counted Mid c ≡ 0
+      only-here : IsTrue (state s.file.image).shape.keeps → IsSound Old → (c : ℕ) → cluster ≤ c → c < cluster + 1 → counted Mid c ≡ 0
       only-here keeps sound c le lt = let here : c ≡ cluster = omega (arith, le, lt) in subst (λ d. counted Mid d ≡ 0) (sym here) (free keeps sound)
 
-      counts-more : order_of old ≡ L2DependsOnRb → IsTrue (state before.image).shape.keeps → IsSound Old → WasNotCutOff result → (c : ℕ) → counted New c ≡ counted Old c + given c
+      counts-more : order_of s.caches ≡ L2DependsOnRb → IsTrue (state s.file.image).shape.keeps → IsSound Old → WasNotCutOff result → (c : ℕ) → counted New c ≡ counted Old c + given c
       counts-more order keeps sound whole c =
           let first = looked-step.quiet order in
-          let up = counted_one.counts.raised (looked-step.order ∙ order) (keeps_on (state before.image) (state between.image) first.shape keeps) (first.holds keeps sound tt).0 (only-here keeps sound) (whole-as result whole) c in
+          let up = counted_one.counts.raised (looked-step.order ∙ order) (keeps_on (state s.file.image) (state between.image) first.shape keeps) (first.holds keeps sound tt).0 (only-here keeps sound) (whole-as result whole) c in
           let same = counts-same keeps sound c in
           omega (arith, up, same)
 
-      quietly : order_of old ≡ L2DependsOnRb → Quietly (WasNotCutOff result) given (λ _. 0) (state before.image) Old (state after.image) New
+      quietly : order_of s.caches ≡ L2DependsOnRb → Quietly (WasNotCutOff result) given (λ _. 0) (state s.file.image) Old (state after.image) New
       quietly order =
           let first = looked-step.quiet order in
-          quietly-otherwise (WasNotCutOff result) (λ c. 0 + given c) (λ c. 0 + 0) given (λ _. 0) (state before.image) Old (state after.image) New (λ sound c. omega arith) (λ sound c used none. omega arith)
-          (quietly-then-given ⊤ (WasNotCutOff result) (λ _. 0) (λ _. 0) given (λ _. 0) (state before.image) Old (state between.image) Mid (state after.image) New tt (λ sound c more. refl) first counted_one.counts.shape counted_one.counts.later
+          quietly-otherwise (WasNotCutOff result) (λ c. 0 + given c) (λ c. 0 + 0) given (λ _. 0) (state s.file.image) Old (state after.image) New (λ sound c. omega arith) (λ sound c used none. omega arith)
+          (quietly-then-given ⊤ (WasNotCutOff result) (λ _. 0) (λ _. 0) given (λ _. 0) (state s.file.image) Old (state between.image) Mid (state after.image) New tt (λ sound c more. refl) first counted_one.counts.shape counted_one.counts.later
           (λ keeps sound sound' quiet. quietly-weaker (WasNotCutOff (counting_of result)) (WasNotCutOff result) given (λ _. 0) (state between.image) Mid (state after.image) New (λ s. whole-as result)
           (counted_one.counts.quiet (looked-step.order ∙ order) (λ s. only-here keeps sound))))
 
@@ -159,7 +158,7 @@ module _ {S : Type 0} (state : S → StorageState) (mark cluster : ℕ) (table :
       given-one : counted_one.counts.part ≡ 1 → (c : ℕ) → given c ≡ one_at cluster c
       given-one one c = ap (λ n. covers c (run_of cluster n)) one ∙ one-run cluster c
 
-      raised : order_of old ≡ L2DependsOnRb → IsTrue (state before.image).shape.keeps → IsSound Old → WasNotCutOff result → OnlyRaised Old New
+      raised : order_of s.caches ≡ L2DependsOnRb → IsTrue (state s.file.image).shape.keeps → IsSound Old → WasNotCutOff result → OnlyRaised Old New
       raised order keeps sound whole c =
           let up = counts-more order keeps sound whole c in
           let le = counted_one.counts.inside in
@@ -176,43 +175,43 @@ module _ {S : Type 0} (state : S → StorageState) (mark cluster : ℕ) (table :
                 ]
           ]
 
-      step : (handed : ℕ → ℕ) → ((c : ℕ) → given c ≡ handed c) → Allocating state (WasNotCutOff result) handed (lent table old before pending) (lent table new after pending)
+      step : (handed : ℕ → ℕ) → ((c : ℕ) → given c ≡ handed c) → Allocating state (WasNotCutOff result) handed s (lent s.table new after s.pending)
       step handed same = record {
         faults = λ whole. faultless-then (looked-step.faults tt) (counted_one.counts.faults (whole-as result whole));
-        quiet = λ order. quietly-otherwise (WasNotCutOff result) given (λ _. 0) handed (λ _. 0) (state before.image) Old (state after.image) New (λ sound c. let is' = same c in omega (arith, is')) (λ sound c used none. none) (quietly order);
+        quiet = λ order. quietly-otherwise (WasNotCutOff result) given (λ _. 0) handed (λ _. 0) (state s.file.image) Old (state after.image) New (λ sound c. let is' = same c in omega (arith, is')) (λ sound c used none. none) (quietly order);
         raised = raised;
         order = counted_one.counts.order ∙ looked-step.order;
-        moved = moved-none before.header after.header (counted_one.counts.header ∙ looks.looked.header);
+        moved = moved-none s.file.header after.header (counted_one.counts.header ∙ looks.looked.header);
         longer = omega arith;
         loose = λ any loose. counted_one.counts.loose any (looked-step.loose any loose);
         room = record { tables = counted_one.counts.room.tables ∙ looked-step.room.tables; blocks = counted_one.counts.room.blocks ∙ looked-step.room.blocks; entries = counted_one.counts.room.entries ∙ looked-step.room.entries };
       }
 
       caused : MatchResult (counting_of result) (λ _. (state after.image).faults ≡ (state between.image).faults)
-          (WhyNotCounted (IsTrue (state between.image).shape.keeps × (order_of mid ≡ L2DependsOnRb) × IsSound Mid × ((c : ℕ) → cluster ≤ c → c < cluster + 1 → (counted Mid c ≡ 0) × (block_offset (slice_index table.words (c / counters_of_block between.header.fields)) ≢ 0)))
-          (IsLoose table mid) (state between.image).faults (state after.image).faults)
+          (WhyNotCounted (IsTrue (state between.image).shape.keeps × (order_of mid ≡ L2DependsOnRb) × IsSound Mid × ((c : ℕ) → cluster ≤ c → c < cluster + 1 → (counted Mid c ≡ 0) × (block_offset (slice_index s.table.words (c / counters_of_block between.header.fields)) ≢ 0)))
+          (IsLoose s.table mid) (state between.image).faults (state after.image).faults)
       caused = counted_one.counts.cause
 
-      knows : IsTrue (state before.image).shape.keeps × (order_of old ≡ L2DependsOnRb) × IsSound Old → IsTrue (state between.image).shape.keeps × (order_of mid ≡ L2DependsOnRb) × IsSound Mid
-          × ((c : ℕ) → cluster ≤ c → c < cluster + 1 → (counted Mid c ≡ 0) × (block_offset (slice_index table.words (c / counters_of_block between.header.fields)) ≢ 0))
+      knows : IsGuarded state s → IsTrue (state between.image).shape.keeps × (order_of mid ≡ L2DependsOnRb) × IsSound Mid
+          × ((c : ℕ) → cluster ≤ c → c < cluster + 1 → (counted Mid c ≡ 0) × (block_offset (slice_index s.table.words (c / counters_of_block between.header.fields)) ≢ 0))
       knows holds =
           let first = looked-step.quiet holds.1 in (
-            keeps_on (state before.image) (state between.image) first.shape holds.0,
+            keeps_on (state s.file.image) (state between.image) first.shape holds.0,
             looked-step.order ∙ holds.1,
             (first.holds holds.0 holds.2 tt).0,
             λ c le lt. (
               only-here holds.0 holds.2 c le lt,
               let here : c ≡ cluster = omega (arith, le, lt) in
-                  subst (λ d. block_offset (slice_index table.words (d / counters_of_block between.header.fields)) ≢ 0) (sym here)
-                  (subst (λ (h : Header). block_offset (slice_index table.words (cluster / counters_of_block h.fields)) ≢ 0) (sym looks.looked.header) some),
+                  subst (λ d. block_offset (slice_index s.table.words (d / counters_of_block between.header.fields)) ≢ 0) (sym here)
+                  (subst (λ (h : Header). block_offset (slice_index s.table.words (cluster / counters_of_block h.fields)) ≢ 0) (sym looks.looked.header) some),
             ),
           )
 
-      further-marked : (mark'' : ℕ) → (mark'' ≤ mark) ⊎ ((mark'' ≡ cluster + 1) × (mark ≡ cluster) × (counted_one.counts.part ≡ 1)) → order_of old ≡ L2DependsOnRb → IsTrue (state before.image).shape.keeps → IsSound Old → WasNotCutOff result → IsMarked Old mark → IsMarked New mark''
+      further-marked : (mark'' : ℕ) → (mark'' ≤ mark) ⊎ ((mark'' ≡ cluster + 1) × (mark ≡ cluster) × (counted_one.counts.part ≡ 1)) → order_of s.caches ≡ L2DependsOnRb → IsTrue (state s.file.image).shape.keeps → IsSound Old → WasNotCutOff result → IsMarked Old mark → IsMarked New mark''
       further-marked mark'' near order keeps sound whole marked c below =
           let up = counts-more order keeps sound whole c in
           elim (cases_lt c mark) [
-            | inl before ↦ let was = marked c before in omega (arith, up, was)
+            | inl earlier ↦ let was = marked c earlier in omega (arith, up, was)
             | inr past ↦ elim near [
               | inl le ↦ absurd (omega (arith, below, le, past))
               | inr (at, here, one) ↦
@@ -224,17 +223,17 @@ module _ {S : Type 0} (state : S → StorageState) (mark cluster : ℕ) (table :
           ]
 
       -- or counted none,
-      pub refused-one : (fault : Fault) → result ≡ Err fault → AllocatesAt state (λ _. ⊥) mark cluster (lent table old before pending) result (lent table new after pending) mark'
-      refused-one fault refused = subst (λ (r : Result (Option FreeEntry) Fault). AllocatesAt state (λ _. ⊥) mark cluster (lent table old before pending) r (lent table new after pending) mark') (sym refused) record {
+      pub refused-one : (fault : Fault) → result ≡ Err fault → AllocatesAt state (λ _. ⊥) mark cluster s result (lent s.table new after s.pending) mark'
+      refused-one fault refused = subst (λ (r : Result (Option FreeEntry) Fault). AllocatesAt state (λ _. ⊥) mark cluster s r (lent s.table new after s.pending) mark') (sym refused) record {
         did = record {
           leaked = λ _. 0;
           leaks = leaks-none _ _ (not_handed fault);
-          step = subst (λ (r : Result (Option FreeEntry) Fault). Allocating state (WasNotCutOff r) (λ _. 0) (lent table old before pending) (lent table new after pending)) refused (step (λ _. 0) (given-none none));
+          step = subst (λ (r : Result (Option FreeEntry) Fault). Allocating state (WasNotCutOff r) (λ _. 0) s (lent s.table new after s.pending)) refused (step (λ _. 0) (given-none none));
           list = inl refl;
           cause = counted-wider _ _ _ _ _ _ _ _ knows looked-step.loose looks.looked.cause fault
               (subst (λ (r : Result (Option FreeEntry) Fault). MatchResult (counting_of r) (λ _. (state after.image).faults ≡ (state between.image).faults)
-              (WhyNotCounted (IsTrue (state between.image).shape.keeps × (order_of mid ≡ L2DependsOnRb) × IsSound Mid × ((c : ℕ) → cluster ≤ c → c < cluster + 1 → (counted Mid c ≡ 0) × (block_offset (slice_index table.words (c / counters_of_block between.header.fields)) ≢ 0)))
-              (IsLoose table mid) (state between.image).faults (state after.image).faults)) refused caused);
+              (WhyNotCounted (IsTrue (state between.image).shape.keeps × (order_of mid ≡ L2DependsOnRb) × IsSound Mid × ((c : ℕ) → cluster ≤ c → c < cluster + 1 → (counted Mid c ≡ 0) × (block_offset (slice_index s.table.words (c / counters_of_block between.header.fields)) ≢ 0)))
+              (IsLoose s.table mid) (state between.image).faults (state after.image).faults)) refused caused);
         };
         one = tt;
         answer = λ order keeps sound. tt;
@@ -256,12 +255,12 @@ module _ {S : Type 0} (state : S → StorageState) (mark cluster : ℕ) (table :
       itself = record { first = cluster; count = 1; metadata = false }
 
       -- or counted it, and hands it out.
-      pub handed-one : (entry : Option FreeEntry) → result ≡ Ok entry → AllocatesAt state (λ _. ⊥) mark cluster (lent table old before pending) result (lent table new after pending) mark'
-      handed-one entry ok = subst (λ (r : Result (Option FreeEntry) Fault). AllocatesAt state (λ _. ⊥) mark cluster (lent table old before pending) r (lent table new after pending) mark') (sym (ok ∙ ap (λ (o : Option FreeEntry). Ok o) entry-is)) record {
+      pub handed-one : (entry : Option FreeEntry) → result ≡ Ok entry → AllocatesAt state (λ _. ⊥) mark cluster s result (lent s.table new after s.pending) mark'
+      handed-one entry ok = subst (λ (r : Result (Option FreeEntry) Fault). AllocatesAt state (λ _. ⊥) mark cluster s r (lent s.table new after s.pending) mark') (sym (ok ∙ ap (λ (o : Option FreeEntry). Ok o) entry-is)) record {
         did = record {
           leaked = λ _. 0;
           leaks = leaks-none _ _ (handed_so (Some itself));
-          step = subst (λ (r : Result (Option FreeEntry) Fault). Allocating state (WasNotCutOff r) (one_at cluster) (lent table old before pending) (lent table new after pending)) ok (step (one_at cluster) (given-one one));
+          step = subst (λ (r : Result (Option FreeEntry) Fault). Allocating state (WasNotCutOff r) (one_at cluster) s (lent s.table new after s.pending)) ok (step (one_at cluster) (given-one one));
           list = inl refl;
           cause = faults ∙ looks.looked.cause;
         };
@@ -302,8 +301,8 @@ module _ {S : Type 0} (state : S → StorageState) (mark cluster : ℕ) (table :
 
           faults : (state after.image).faults ≡ (state between.image).faults
           faults = subst (λ (r : Result (Option FreeEntry) Fault). MatchResult (counting_of r) (λ _. (state after.image).faults ≡ (state between.image).faults)
-              (WhyNotCounted (IsTrue (state between.image).shape.keeps × (order_of mid ≡ L2DependsOnRb) × IsSound Mid × ((c : ℕ) → cluster ≤ c → c < cluster + 1 → (counted Mid c ≡ 0) × (block_offset (slice_index table.words (c / counters_of_block between.header.fields)) ≢ 0)))
-              (IsLoose table mid) (state between.image).faults (state after.image).faults)) ok caused
+              (WhyNotCounted (IsTrue (state between.image).shape.keeps × (order_of mid ≡ L2DependsOnRb) × IsSound Mid × ((c : ℕ) → cluster ≤ c → c < cluster + 1 → (counted Mid c ≡ 0) × (block_offset (slice_index s.table.words (c / counters_of_block between.header.fields)) ≢ 0)))
+              (IsLoose s.table mid) (state between.image).faults (state after.image).faults)) ok caused
 
           mark-is : mark' ≡ (if cluster == mark then cluster + 1 else mark)
           mark-is = subst (λ (o : Option FreeEntry). mark' ≡ mark_past mark cluster o) entry-is (subst (λ (r : Result (Option FreeEntry) Fault). IfOk r (λ o. mark' ≡ mark_past mark cluster o)) ok further)
@@ -314,9 +313,9 @@ module _ {S : Type 0} (state : S → StorageState) (mark cluster : ℕ) (table :
             | inr apart ↦ inl (let is' : mark' ≡ mark = mark-is ∙ rw (ne_eqb cluster mark apart) refl in omega (arith, is'))
           ]
 
-      pub counted-or-not : AllocatesAt state (λ _. ⊥) mark cluster (lent table old before pending) result (lent table new after pending) mark'
+      pub counted-or-not : AllocatesAt state (λ _. ⊥) mark cluster s result (lent s.table new after s.pending) mark'
       counted-or-not = by-result result refl
         where
-          by-result : (r : Result (Option FreeEntry) Fault) → result ≡ r → AllocatesAt state (λ _. ⊥) mark cluster (lent table old before pending) result (lent table new after pending) mark'
+          by-result : (r : Result (Option FreeEntry) Fault) → result ≡ r → AllocatesAt state (λ _. ⊥) mark cluster s result (lent s.table new after s.pending) mark'
           by-result (Ok entry) ok = handed-one entry ok
           by-result (Err fault) refused = refused-one fault refused

@@ -1,5 +1,5 @@
 -- A cluster gets a counter, and is handed out where it is free.
-use Rattle.std.proofs.Common.{◌≡◌, ℕ, ◌+◌, ◌/◌, ◌<◌, ◌≤◌, true, false, refl, arith, ap, sym, subst, ◌∙◌, inl, inr, List, Option, None, Some, Result, Ok, Err, length}
+use Rattle.std.proofs.Common.{◌≡◌, ℕ, ◌+◌, ◌/◌, ◌<◌, ◌≤◌, true, false, refl, arith, ap, sym, subst, ◌∙◌, inl, inr, Option, None, Some, Result, Ok, Err, length}
 use Rattle.std.specs.Prelude.{⊤, ◌⊎◌, IsTrue, IfOk, MatchResult}
 use Rattle.std.proofs.lemmas.Bool.{cases_eq, cases_lt}
 use Rattle.std.proofs.lemmas.List.{get_or_past}
@@ -12,7 +12,6 @@ use Rattle.qcow2_types.specs.Words.{block_offset}
 use Rattle.qcow2_types.specs.Pending.{FreeEntry}
 use Rattle.qcow2_types.specs.References.{structure, meets}
 use Rattle.qcow2_metadata.specs.Places.{IsInReach}
-use Rattle.qcow2_metadata.specs.Tables.{TableValue}
 use Rattle.qcow2_alloc.specs.declared.cache.CacheDependency.TheVariants.{L2DependsOnRb}
 use Rattle.qcow2_alloc.specs.declared.cache.MetadataCaches.{MetadataCaches}
 use Rattle.qcow2_alloc.specs.declared.file.ImageFile.{ImageFile}
@@ -25,7 +24,7 @@ use Rattle.qcow2_alloc.specs.GrowingTables.{IsTakenFor}
 use Rattle.qcow2_alloc.specs.HandingOut.{handed_at, IsBarred, IsHandedAt, IsOneAt}
 use Rattle.qcow2_alloc.specs.HandingOutOne.{AllocatesAt, ReadiesCounter, leaked_by}
 use Rattle.qcow2_alloc.specs.Quiet.{Metadata, IsSound, counted}
-use Rattle.qcow2_alloc.specs.State.{lent}
+use Rattle.qcow2_alloc.specs.State.{ImageState, lent, metadata, IsGuarded}
 use Rattle.qcow2_alloc.proofs.Handing.Allocating.{counted-still, allocating-none, allocating-as, allocating-then}
 use Rattle.qcow2_alloc.proofs.Blocks.ReadyingBlocks.{leaks-none}
 use Rattle.qcow2_alloc.proofs.Handing.HandedOut.{stands-there}
@@ -40,20 +39,20 @@ marked-raised m m' mark raised marked c below = counted-still m m' c raised (mar
 pub free-raised : (m m' : Metadata) (c : ℕ) → OnlyRaised m m' → counted m' c ≡ 0 → counted m c ≡ 0
 free-raised m m' c raised zero = elim (raised c) [ inl same ↦ omega (arith, same, zero) | inr up ↦ up.0 ]
 
-module _ {S : Type 0} (state : S → StorageState) (mark cluster : ℕ) (table : TableValue) (old : MetadataCaches S) (before : ImageFile S) (pending : List FreeEntry) where
+module _ {S : Type 0} (state : S → StorageState) (mark cluster : ℕ) (s : ImageState S) where
   abbrev Old : Metadata
-  Old = metadata_of state before old table pending
+  Old = metadata state s
 
   abbrev Barred : Metadata → Type 0
   Barred m = IsBarred m mark cluster
 
   -- A cluster that words can't name isn't handed out,
-  pub out-of-reach : (IsInReach before.header.fields.cluster_bits cluster → ⊥) → AllocatesAt state Barred mark cluster (lent table old before pending) (handed_so None) (lent table old before pending) mark
+  pub out-of-reach : (IsInReach s.file.header.fields.cluster_bits cluster → ⊥) → AllocatesAt state Barred mark cluster s (handed_so None) s mark
   out-of-reach far = record {
     did = record {
       leaked = λ _. 0;
       leaks = leaks-none _ _ (handed_so None);
-      step = allocating-none state table old before pending;
+      step = allocating-none state s;
       list = inl refl;
       cause = refl;
     };
@@ -65,12 +64,12 @@ module _ {S : Type 0} (state : S → StorageState) (mark cluster : ℕ) (table :
     marked = λ order keeps sound whole marked. marked;
   }
 
-  module _ (mid_table : TableValue) (mid : MetadataCaches S) (between : ImageFile S) (mid_pending : List FreeEntry) where
+  module _ (mid : ImageState S) where
     abbrev Mid : Metadata
-    Mid = metadata_of state between mid mid_table mid_pending
+    Mid = metadata state mid
 
     -- nor one that there is no counter for,
-    pub uncounted-at : ReadiesCounter state mark cluster (lent table old before pending) (so false) (lent mid_table mid between mid_pending) → AllocatesAt state Barred mark cluster (lent table old before pending) (handed_so None) (lent mid_table mid between mid_pending) mark
+    pub uncounted-at : ReadiesCounter state mark cluster s (so false) mid → AllocatesAt state Barred mark cluster s (handed_so None) mid mark
     uncounted-at counter = record {
       did = record { leaked = λ _. 0; leaks = leaks-none _ _ (handed_so None); step = counter.did.step; list = counter.did.list; cause = counter.did.cause };
       one = tt;
@@ -82,7 +81,7 @@ module _ {S : Type 0} (state : S → StorageState) (mark cluster : ℕ) (table :
     }
 
     -- nor any where that is refused.
-    pub refused-at : (fault : Fault) → ReadiesCounter state mark cluster (lent table old before pending) (refused fault) (lent mid_table mid between mid_pending) → AllocatesAt state Barred mark cluster (lent table old before pending) (not_handed fault) (lent mid_table mid between mid_pending) mark
+    pub refused-at : (fault : Fault) → ReadiesCounter state mark cluster s (refused fault) mid → AllocatesAt state Barred mark cluster s (not_handed fault) mid mark
     refused-at fault counter = record {
       did = record {
         leaked = counter.did.leaked;
@@ -99,20 +98,20 @@ module _ {S : Type 0} (state : S → StorageState) (mark cluster : ℕ) (table :
       marked = λ order keeps sound whole marked. marked-raised Old Mid mark (counter.did.step.raised order keeps sound whole) marked;
     }
 
-    module _ (counter : ReadiesCounter state mark cluster (lent table old before pending) (so true) (lent mid_table mid between mid_pending)) (result : Result (Option FreeEntry) Fault) (new : MetadataCaches S) (after : ImageFile S) (mark' : ℕ)
-        (one : AllocatesAt state (λ _. ⊥) mark cluster (lent mid_table mid between mid_pending) result (lent mid_table new after mid_pending) mark') where
+    module _ (counter : ReadiesCounter state mark cluster s (so true) mid) (result : Result (Option FreeEntry) Fault) (new : MetadataCaches S) (after : ImageFile S) (mark' : ℕ)
+        (one : AllocatesAt state (λ _. ⊥) mark cluster mid result (lent mid.table new after mid.pending) mark') where
       abbrev New : Metadata
-      New = metadata_of state after new mid_table mid_pending
+      New = metadata_of state after new mid.table mid.pending
 
-      holds-still : IsTrue (state before.image).shape.keeps × (order_of old ≡ L2DependsOnRb) × IsSound Old → IsTrue (state between.image).shape.keeps × (order_of mid ≡ L2DependsOnRb) × IsSound Mid
-      holds-still holds = let quiet = counter.did.step.quiet holds.1 in (keeps_on (state before.image) (state between.image) quiet.shape holds.0, counter.did.step.order ∙ holds.1, (quiet.holds holds.0 holds.2 tt).0)
+      holds-still : IsGuarded state s → IsGuarded state mid
+      holds-still holds = let quiet = counter.did.step.quiet holds.1 in (keeps_on (state s.file.image) (state mid.file.image) quiet.shape holds.0, counter.did.step.order ∙ holds.1, (quiet.holds holds.0 holds.2 tt).0)
 
-      both : Allocating state (WasNotCutOff result) (handed_at result one.did.leaked) (lent table old before pending) (lent mid_table new after mid_pending)
-      both = allocating-as state (WasNotCutOff result) (WasNotCutOff result) (λ c. leaked_by (so true) counter.did.leaked c + handed_at result one.did.leaked c) (handed_at result one.did.leaked) table old before pending mid_table new after mid_pending (λ w. w) (λ c. omega arith)
-          (allocating-then state ⊤ (WasNotCutOff result) (leaked_by (so true) counter.did.leaked) (handed_at result one.did.leaked) table old before pending mid_table mid between mid_pending mid_table new after mid_pending tt counter.did.step one.did.step)
+      both : Allocating state (WasNotCutOff result) (handed_at result one.did.leaked) s (lent mid.table new after mid.pending)
+      both = allocating-as state (WasNotCutOff result) (WasNotCutOff result) (λ c. leaked_by (so true) counter.did.leaked c + handed_at result one.did.leaked c) (handed_at result one.did.leaked) s (lent mid.table new after mid.pending) (λ w. w) (λ c. omega arith)
+          (allocating-then state ⊤ (WasNotCutOff result) (leaked_by (so true) counter.did.leaked) (handed_at result one.did.leaked) s mid (lent mid.table new after mid.pending) tt counter.did.step one.did.step)
 
       -- None is answered of a cluster that is counted by now: it was before, or something stands in it.
-      taken-by : result ≡ Ok None → order_of old ≡ L2DependsOnRb → IsTrue (state before.image).shape.keeps → IsSound Old → 0 < counted Mid cluster → (0 < counted Old cluster) ⊎ (0 < structure New.file New.header.fields (meets New.header.fields cluster))
+      taken-by : result ≡ Ok None → order_of s.caches ≡ L2DependsOnRb → IsTrue (state s.file.image).shape.keeps → IsSound Old → 0 < counted Mid cluster → (0 < counted Old cluster) ⊎ (0 < structure New.file New.header.fields (meets New.header.fields cluster))
       taken-by none order keeps sound more =
           let whole : WasNotCutOff result = subst (λ (r : Result (Option FreeEntry) Fault). WasNotCutOff r) (sym none) tt in
           let held = holds-still (keeps, order, sound) in
@@ -124,7 +123,7 @@ module _ {S : Type 0} (state : S → StorageState) (mark cluster : ℕ) (table :
                 (counted-still Mid New cluster (one.did.step.raised held.1 held.0 held.2 whole) more))
           ]
 
-      answered : (r : Result (Option FreeEntry) Fault) → result ≡ r → order_of old ≡ L2DependsOnRb → IsTrue (state before.image).shape.keeps → IsSound Old → IfOk r (IsHandedAt ⊥ cluster Mid New) → IfOk r (IsHandedAt (Barred Old) cluster Old New)
+      answered : (r : Result (Option FreeEntry) Fault) → result ≡ r → order_of s.caches ≡ L2DependsOnRb → IsTrue (state s.file.image).shape.keeps → IsSound Old → IfOk r (IsHandedAt ⊥ cluster Mid New) → IfOk r (IsHandedAt (Barred Old) cluster Old New)
       answered (Ok (Some entry)) is order keeps sound (zero, once, unnamed, free) = (free-raised Old Mid cluster (counter.did.step.raised order keeps sound tt) zero, once, unnamed, free)
       answered (Ok None) is order keeps sound (inl more) = elim (taken-by is order keeps sound more) [ inl was ↦ inl was | inr stands ↦ inr (inl stands) ]
       answered (Ok None) is order keeps sound (inr (inl stands)) = inr (inl stands)
@@ -132,13 +131,13 @@ module _ {S : Type 0} (state : S → StorageState) (mark cluster : ℕ) (table :
       answered (Err fault) is order keeps sound said = tt
 
       caused : (r : Result (Option FreeEntry) Fault)
-          → MatchResult r (λ _. (state after.image).faults ≡ (state between.image).faults) (WhyNotAllocated (IsTrue (state between.image).shape.keeps × (order_of mid ≡ L2DependsOnRb) × IsSound Mid) (IsLoose mid_table mid) (λ _. ⊥) (state between.image).faults (state after.image).faults)
-          → MatchResult r (λ _. (state after.image).faults ≡ (state before.image).faults) (WhyNotAllocated (IsTrue (state before.image).shape.keeps × (order_of old ≡ L2DependsOnRb) × IsSound Old) (IsLoose table old) (λ _. ⊥) (state before.image).faults (state after.image).faults)
+          → MatchResult r (λ _. (state after.image).faults ≡ (state mid.file.image).faults) (WhyNotAllocated (IsGuarded state mid) (IsLoose mid.table mid.caches) (λ _. ⊥) (state mid.file.image).faults (state after.image).faults)
+          → MatchResult r (λ _. (state after.image).faults ≡ (state s.file.image).faults) (WhyNotAllocated (IsGuarded state s) (IsLoose s.table s.caches) (λ _. ⊥) (state s.file.image).faults (state after.image).faults)
       caused (Ok found) same = same ∙ counter.did.cause
       caused (Err fault) why = why-allocated-wider _ _ _ _ _ _ _ _ _ holds-still counter.did.step.loose (λ n full. full) counter.did.cause fault why
 
       -- What was counted anew was so for its counter, or is the cluster.
-      nearby : (r : Result (Option FreeEntry) Fault) → order_of old ≡ L2DependsOnRb → IsTrue (state before.image).shape.keeps → IsSound Old → IfOk r (λ _. IsTakenFor mark cluster Mid New) → IfOk r (λ _. IsTakenFor mark cluster Old New)
+      nearby : (r : Result (Option FreeEntry) Fault) → order_of s.caches ≡ L2DependsOnRb → IsTrue (state s.file.image).shape.keeps → IsSound Old → IfOk r (λ _. IsTakenFor mark cluster Mid New) → IfOk r (λ _. IsTakenFor mark cluster Old New)
       nearby (Err fault) order keeps sound said = tt
       nearby (Ok found) order keeps sound said = λ c none more. elim (cases_eq (counted Mid c) 0) [
         | inr made ↦ counter.near order keeps sound c none (omega (arith, made))
@@ -148,13 +147,13 @@ module _ {S : Type 0} (state : S → StorageState) (mark cluster : ℕ) (table :
         ]
       ]
         where
-          never : length mid_table.words ≤ cluster / counters_of_block between.header.fields → ⊥
+          never : length mid.table.words ≤ cluster / counters_of_block mid.file.header.fields → ⊥
           never past =
-              let here : length mid_table.words ≤ cluster / counters_of_block before.header.fields = subst (λ (H : Header). length mid_table.words ≤ cluster / counters_of_block H.fields) counter.did.step.moved.2 past in
-              counter.there refl (ap block_offset (get_or_past mid_table.words (cluster / counters_of_block before.header.fields) 0 here))
+              let here : length mid.table.words ≤ cluster / counters_of_block s.file.header.fields = subst (λ (H : Header). length mid.table.words ≤ cluster / counters_of_block H.fields) counter.did.step.moved.2 past in
+              counter.there refl (ap block_offset (get_or_past mid.table.words (cluster / counters_of_block s.file.header.fields) 0 here))
 
       -- Else it is handed out where it is free.
-      pub readied-at : AllocatesAt state Barred mark cluster (lent table old before pending) result (lent mid_table new after mid_pending) mark'
+      pub readied-at : AllocatesAt state Barred mark cluster s result (lent mid.table new after mid.pending) mark'
       readied-at = record {
         did = record {
           leaked = one.did.leaked;

@@ -25,7 +25,7 @@ use Rattle.qcow2_alloc.specs.Going.{WasNotCutOff}
 use Rattle.qcow2_alloc.specs.MakingRoom.{run_of}
 use Rattle.qcow2_alloc.specs.Quiet.{Metadata, IsSound, counted}
 use Rattle.qcow2_alloc.specs.ReadyingRuns.{Allocates, IsRunCounted, ReadiesRun, handed_by, mark_behind}
-use Rattle.qcow2_alloc.specs.State.{lent}
+use Rattle.qcow2_alloc.specs.State.{ImageState, lent, metadata}
 use Rattle.qcow2_alloc.proofs.Handing.Allocating.{allocating-none, allocating-as, raised-then}
 use Rattle.qcow2_alloc.proofs.Flushing.Faultless.{faultless-then}
 use Rattle.qcow2_alloc.proofs.Space.GaplessRuns.{gapless-same}
@@ -104,20 +104,20 @@ lost-pinned : (sound : Type 0) (loose : Bool → Type 0) (a b : ℕ) (fault : Fa
 lost-pinned sound loose a b CacheFull first part why holds all c = absurd (why (true, λ is. holds, all))
 lost-pinned sound loose a b fault first part why holds all c = refl
 
-module _ {S : Type 0} (state : S → StorageState) (mark n : ℕ) (metadata : Bool) (table : TableValue) (old : MetadataCaches S) (before : ImageFile S) (pending : List FreeEntry) where
+module _ {S : Type 0} (state : S → StorageState) (mark n : ℕ) (is_metadata : Bool) (s : ImageState S) where
   abbrev mA : Metadata
-  mA = metadata_of state before old table pending
+  mA = metadata state s
 
   abbrev Keeps : Type 0
-  Keeps = IsTrue (state before.image).shape.keeps
+  Keeps = IsTrue (state s.file.image).shape.keeps
 
   abbrev Handing : Result FreeEntry Fault → TableValue → MetadataCaches S → ImageFile S → List FreeEntry → ℕ → Type 0
-  Handing result table' new after pending' mark' = Allocates state mark n metadata (lent table old before pending) result (lent table' new after pending') mark'
+  Handing result table' new after pending' mark' = Allocates state mark n is_metadata s result (lent table' new after pending') mark'
 
   -- What can't come about hands out what you like.
-  allocating-never : (ok : Type 0) (h h' : ℕ → ℕ) (table' : TableValue) (new : MetadataCaches S) (after : ImageFile S) (pending' : List FreeEntry) → (order_of old ≡ L2DependsOnRb → Keeps → IsSound mA → ok → ⊥)
-      → Allocating state ok h (lent table old before pending) (lent table' new after pending') → Allocating state ok h' (lent table old before pending) (lent table' new after pending')
-  allocating-never ok h h' table' new after pending' never step = record {
+  allocating-never : (ok : Type 0) (h h' : ℕ → ℕ) (s' : ImageState S) → (order_of s.caches ≡ L2DependsOnRb → Keeps → IsSound mA → ok → ⊥)
+      → Allocating state ok h s s' → Allocating state ok h' s s'
+  allocating-never ok h h' s' never step = record {
     faults = step.faults;
     quiet = λ order. let quiet = step.quiet order in record { shape = quiet.shape; later = quiet.later; passes = quiet.passes; holds = λ keeps sound done. absurd (never order keeps sound done) };
     raised = step.raised;
@@ -129,12 +129,12 @@ module _ {S : Type 0} (state : S → StorageState) (mark n : ℕ) (metadata : Bo
   }
 
   -- A run of no clusters is handed out at the mark.
-  pub none-allocated : n ≡ 0 → Handing (Ok (record { first = mark; count = n; metadata = metadata })) table old before pending mark
+  pub none-allocated : n ≡ 0 → Handing (Ok (record { first = mark; count = n; metadata = is_metadata })) s.table s.caches s.file s.pending mark
   none-allocated zero = record {
     leaked = λ _. 0;
     leaks = record { none = λ other c. refl; pinned = λ holds all c. refl };
-    step = allocating-as state ⊤ ⊤ (λ _. 0) (λ c. covers c (run_of mark n)) table old before pending table old before pending (λ whole. whole) (λ c. sym (covers-outside c mark n (λ above below. omega (arith, above, below, zero))))
-        (allocating-none state table old before pending);
+    step = allocating-as state ⊤ ⊤ (λ _. 0) (λ c. covers c (run_of mark n)) s s (λ whole. whole) (λ c. sym (covers-outside c mark n (λ above below. omega (arith, above, below, zero))))
+        (allocating-none state s);
     run = (refl, refl, λ some. absurd (omega (arith, some, zero)));
     taken = λ order keeps sound. record {
       behind = omega arith;
@@ -150,16 +150,16 @@ module _ {S : Type 0} (state : S → StorageState) (mark n : ℕ) (metadata : Bo
     cause = refl;
   }
 
-  module _ (tB : TableValue) (B : MetadataCaches S) (fB : ImageFile S) (pB : List FreeEntry) where
+  module _ (sB : ImageState S) where
     abbrev mB : Metadata
-    mB = metadata_of state fB B tB pB
+    mB = metadata state sB
 
     -- No run was made ready.
-    pub run-refused : (fault : Fault) → ReadiesRun state mark n (lent table old before pending) (Err fault) (lent tB B fB pB) → Handing (Err fault) tB B fB pB mark
+    pub run-refused : (fault : Fault) → ReadiesRun state mark n s (Err fault) sB → Handing (Err fault) sB.table sB.caches sB.file sB.pending mark
     run-refused fault ready = record {
       leaked = ready.leaked;
       leaks = leaks-on _ _ _ _ fault ready.leaked (λ holds. holds) (λ any loose. loose) ready.leaks;
-      step = allocating-as state (WasNotCutOff {T = ℕ} (Err fault)) (WasNotCutOff {T = FreeEntry} (Err fault)) ready.leaked (handed_by (Err fault) ready.leaked) table old before pending tB B fB pB (λ whole. whole) (λ c. refl) ready.step;
+      step = allocating-as state (WasNotCutOff {T = ℕ} (Err fault)) (WasNotCutOff {T = FreeEntry} (Err fault)) ready.leaked (handed_by (Err fault) ready.leaked) s sB (λ whole. whole) (λ c. refl) ready.step;
       run = tt;
       taken = λ order keeps sound. tt;
       fresh = λ order keeps sound. tt;
@@ -171,45 +171,45 @@ module _ {S : Type 0} (state : S → StorageState) (mark n : ℕ) (metadata : Bo
       cause = ready.cause;
     }
 
-    module _ (first : ℕ) (ready : ReadiesRun state mark n (lent table old before pending) (Ok first) (lent tB B fB pB)) where
+    module _ (first : ℕ) (ready : ReadiesRun state mark n s (Ok first) sB) where
       -- So far none was handed out.
-      begun : Allocating state ⊤ (λ _. 0) (lent table old before pending) (lent tB B fB pB)
-      begun = allocating-as state ⊤ ⊤ ready.leaked (λ _. 0) table old before pending tB B fB pB (λ whole. whole) (leaks-ok _ _ first ready.leaked ready.leaks) ready.step
+      begun : Allocating state ⊤ (λ _. 0) s sB
+      begun = allocating-as state ⊤ ⊤ ready.leaked (λ _. 0) s sB (λ whole. whole) (leaks-ok _ _ first ready.leaked ready.leaks) ready.step
 
-      free : order_of old ≡ L2DependsOnRb → Keeps → IsSound mA → (c : ℕ) → first ≤ c → c < first + n → counted mB c ≡ 0
+      free : order_of s.caches ≡ L2DependsOnRb → Keeps → IsSound mA → (c : ℕ) → first ≤ c → c < first + n → counted mB c ≡ 0
       free order keeps sound = (ready.found order keeps sound).free
 
       -- Each can be counted.
       abbrev CanCount : Type 0
-      CanCount = IsTrue (state fB.image).shape.keeps × (order_of B ≡ L2DependsOnRb) × IsSound mB
-          × ((c : ℕ) → first ≤ c → c < first + n → (counted mB c ≡ 0) × (block_offset (slice_index tB.words (c / counters_of_block fB.header.fields)) ≢ 0))
+      CanCount = IsTrue (state sB.file.image).shape.keeps × (order_of sB.caches ≡ L2DependsOnRb) × IsSound mB
+          × ((c : ℕ) → first ≤ c → c < first + n → (counted mB c ≡ 0) × (block_offset (slice_index sB.table.words (c / counters_of_block sB.file.header.fields)) ≢ 0))
 
-      holds-on : Keeps × (order_of old ≡ L2DependsOnRb) × IsSound mA → CanCount
+      holds-on : Keeps × (order_of s.caches ≡ L2DependsOnRb) × IsSound mA → CanCount
       holds-on holds =
           let quiet = begun.quiet holds.1 in (
-            keeps_on (state before.image) (state fB.image) quiet.shape holds.0,
+            keeps_on (state s.file.image) (state sB.file.image) quiet.shape holds.0,
             begun.order ∙ holds.1,
             (quiet.holds holds.0 holds.2 tt).0,
             λ c above below. (
               free holds.1 holds.0 holds.2 c above below,
-              subst (λ k. block_offset (slice_index tB.words (c / k)) ≢ 0) (sym (ap (λ (H : Header). counters_of_block H.fields) moved.2)) (ready.ready c above below),
+              subst (λ k. block_offset (slice_index sB.table.words (c / k)) ≢ 0) (sym (ap (λ (H : Header). counters_of_block H.fields) moved.2)) (ready.ready c above below),
             ),
           )
         where
-          moved : MovedTable before.header fB.header
+          moved : MovedTable s.file.header sB.file.header
           moved = begun.moved
 
       module _ (C : MetadataCaches S) (fC : ImageFile S) where
         abbrev mC : Metadata
-        mC = metadata_of state fC C tB pB
+        mC = metadata_of state fC C sB.table sB.pending
 
         -- A part of the run is counted, each cluster of it once.
-        counted-more : (result : Result Unit Fault) (counts : CountsRun state first n (lent tB B fB pB) result (lent tB C fC pB)) → order_of old ≡ L2DependsOnRb → Keeps → IsSound mA → WasNotCutOff result → (c : ℕ) → counted mC c ≡ counted mB c + covers c (run_of first counts.part)
+        counted-more : (result : Result Unit Fault) (counts : CountsRun state first n sB result (lent sB.table C fC sB.pending)) → order_of s.caches ≡ L2DependsOnRb → Keeps → IsSound mA → WasNotCutOff result → (c : ℕ) → counted mC c ≡ counted mB c + covers c (run_of first counts.part)
         counted-more result counts order keeps sound whole =
             let there = holds-on (keeps, order, sound) in
             counts.raised there.1 there.0 there.2 (free order keeps sound) whole
 
-        part-raised : (result : Result Unit Fault) → CountsRun state first n (lent tB B fB pB) result (lent tB C fC pB) → order_of old ≡ L2DependsOnRb → Keeps → IsSound mA → WasNotCutOff result → OnlyRaised mB mC
+        part-raised : (result : Result Unit Fault) → CountsRun state first n sB result (lent sB.table C fC sB.pending) → order_of s.caches ≡ L2DependsOnRb → Keeps → IsSound mA → WasNotCutOff result → OnlyRaised mB mC
         part-raised result counts order keeps sound whole c =
             let more = counted-more result counts order keeps sound whole c in
             let le = counts.inside in
@@ -221,29 +221,29 @@ module _ {S : Type 0} (state : S → StorageState) (mark n : ℕ) (metadata : Bo
               ]
             ]
 
-        part-allocates : (result : Result Unit Fault) (counts : CountsRun state first n (lent tB B fB pB) result (lent tB C fC pB)) → Allocating state (WasNotCutOff result) (λ c. covers c (run_of first counts.part)) (lent table old before pending) (lent tB C fC pB)
+        part-allocates : (result : Result Unit Fault) (counts : CountsRun state first n sB result (lent sB.table C fC sB.pending)) → Allocating state (WasNotCutOff result) (λ c. covers c (run_of first counts.part)) s (lent sB.table C fC sB.pending)
         part-allocates result counts =
             let part : ℕ → ℕ = λ c. covers c (run_of first counts.part) in record {
               faults = λ whole. faultless-then (begun.faults tt) (counts.faults whole);
-              quiet = λ order. quietly-otherwise (WasNotCutOff result) (λ c. 0 + part c) (λ c. 0 + 0) part (λ _. 0) (state before.image) mA (state fC.image) mC (λ sound c. omega arith) (λ sound c used none. omega arith)
-                  (quietly-then-given ⊤ (WasNotCutOff result) (λ _. 0) (λ _. 0) part (λ _. 0) (state before.image) mA (state fB.image) mB (state fC.image) mC tt (λ sound c some. refl) (begun.quiet order) counts.shape counts.later
+              quiet = λ order. quietly-otherwise (WasNotCutOff result) (λ c. 0 + part c) (λ c. 0 + 0) part (λ _. 0) (state s.file.image) mA (state fC.image) mC (λ sound c. omega arith) (λ sound c used none. omega arith)
+                  (quietly-then-given ⊤ (WasNotCutOff result) (λ _. 0) (λ _. 0) part (λ _. 0) (state s.file.image) mA (state sB.file.image) mB (state fC.image) mC tt (λ sound c some. refl) (begun.quiet order) counts.shape counts.later
                   (λ keeps sound there quiet. counts.quiet (begun.order ∙ order) (λ again. free order keeps sound)));
               raised = λ order keeps sound whole. raised-then mA mB mC (begun.raised order keeps sound tt) (part-raised result counts order keeps sound whole);
               order = counts.order ∙ begun.order;
-              moved = subst (λ (H : Header). MovedTable before.header H) (sym counts.header) begun.moved;
+              moved = subst (λ (H : Header). MovedTable s.file.header H) (sym counts.header) begun.moved;
               longer = begun.longer;
               loose = λ any loose. counts.loose any (begun.loose any loose);
               room = record { tables = counts.room.tables ∙ begun.room.tables; blocks = counts.room.blocks ∙ begun.room.blocks; entries = counts.room.entries ∙ begun.room.entries };
             }
 
         abbrev Stopped : Fault → (ℕ → ℕ) → Type 0
-        Stopped f h = Allocating state (WasNotCutOff {T = FreeEntry} (Err f)) h (lent table old before pending) (lent tB C fC pB)
+        Stopped f h = Allocating state (WasNotCutOff {T = FreeEntry} (Err f)) h s (lent sB.table C fC sB.pending)
 
         -- Counting is refused.
-        pub count-refused : (fault : Fault) → CountsRun state first n (lent tB B fB pB) (Err fault) (lent tB C fC pB) → Handing (Err fault) tB C fC pB mark
+        pub count-refused : (fault : Fault) → CountsRun state first n sB (Err fault) (lent sB.table C fC sB.pending) → Handing (Err fault) sB.table C fC sB.pending mark
         count-refused fault counts = record {
           leaked = lost fault first counts.part;
-          leaks = record { none = lost-none fault first counts.part; pinned = λ holds all. lost-pinned CanCount (IsLoose tB B) _ _ fault first counts.part counts.cause (holds-on holds) (begun.loose true all) };
+          leaks = record { none = lost-none fault first counts.part; pinned = λ holds all. lost-pinned CanCount (IsLoose sB.table sB.caches) _ _ fault first counts.part counts.cause (holds-on holds) (begun.loose true all) };
           step = stopped fault counts.cause (part-allocates (Err fault) counts);
           run = tt;
           taken = λ order keeps sound. tt;
@@ -256,23 +256,23 @@ module _ {S : Type 0} (state : S → StorageState) (mark n : ℕ) (metadata : Bo
           cause = counted-wider _ _ _ _ _ _ _ _ holds-on begun.loose ready.cause fault counts.cause;
         }
           where
-            stopped : (f : Fault) → WhyNotCounted CanCount (IsLoose tB B) (state fB.image).faults (state fC.image).faults f → Stopped f (λ c. covers c (run_of first counts.part)) → Stopped f (handed_by (Err f) (lost f first counts.part))
-            stopped CacheFull why step = allocating-as state (WasNotCutOff {T = FreeEntry} (Err CacheFull)) (WasNotCutOff {T = FreeEntry} (Err CacheFull)) _ _ table old before pending tB C fC pB (λ whole. whole) (λ c. refl) step
-            stopped Memory why step = allocating-never _ _ _ tB C fC pB (λ order keeps sound whole. whole) step
-            stopped Storage why step = allocating-never _ _ _ tB C fC pB (λ order keeps sound whole. whole) step
-            stopped DamagedTable why step = allocating-never _ _ _ tB C fC pB (λ order keeps sound whole. why (holds-on (keeps, order, sound))) step
-            stopped Counter why step = allocating-never _ _ _ tB C fC pB (λ order keeps sound whole. why (holds-on (keeps, order, sound))) step
+            stopped : (f : Fault) → WhyNotCounted CanCount (IsLoose sB.table sB.caches) (state sB.file.image).faults (state fC.image).faults f → Stopped f (λ c. covers c (run_of first counts.part)) → Stopped f (handed_by (Err f) (lost f first counts.part))
+            stopped CacheFull why step = allocating-as state (WasNotCutOff {T = FreeEntry} (Err CacheFull)) (WasNotCutOff {T = FreeEntry} (Err CacheFull)) _ _ s (lent sB.table C fC sB.pending) (λ whole. whole) (λ c. refl) step
+            stopped Memory why step = allocating-never _ _ _ (lent sB.table C fC sB.pending) (λ order keeps sound whole. whole) step
+            stopped Storage why step = allocating-never _ _ _ (lent sB.table C fC sB.pending) (λ order keeps sound whole. whole) step
+            stopped DamagedTable why step = allocating-never _ _ _ (lent sB.table C fC sB.pending) (λ order keeps sound whole. why (holds-on (keeps, order, sound))) step
+            stopped Counter why step = allocating-never _ _ _ (lent sB.table C fC sB.pending) (λ order keeps sound whole. why (holds-on (keeps, order, sound))) step
             stopped other why step = absurd why
 
         -- All are counted.
-        module _ (counts : CountsRun state first n (lent tB B fB pB) (Ok tt) (lent tB C fC pB)) where
+        module _ (counts : CountsRun state first n sB (Ok tt) (lent sB.table C fC sB.pending)) where
           abbrev entry : FreeEntry
-          entry = record { first = first; count = n; metadata = metadata }
+          entry = record { first = first; count = n; metadata = is_metadata }
 
-          once : order_of old ≡ L2DependsOnRb → Keeps → IsSound mA → (c : ℕ) → counted mC c ≡ counted mB c + covers c (run_of first n)
+          once : order_of s.caches ≡ L2DependsOnRb → Keeps → IsSound mA → (c : ℕ) → counted mC c ≡ counted mB c + covers c (run_of first n)
           once order keeps sound c = subst (λ k. counted mC c ≡ counted mB c + covers c (run_of first k)) counts.whole (counted-more (Ok tt) counts order keeps sound tt c)
 
-          run-counted : order_of old ≡ L2DependsOnRb → Keeps → IsSound mA → IsRunCounted mark n mC entry
+          run-counted : order_of s.caches ≡ L2DependsOnRb → Keeps → IsSound mA → IsRunCounted mark n mC entry
           run-counted order keeps sound =
               let found = ready.found order keeps sound in record {
                 behind = found.behind;
@@ -290,7 +290,7 @@ module _ {S : Type 0} (state : S → StorageState) (mark n : ℕ) (metadata : Bo
               }
 
           -- It is among the clusters that are enough,
-          run-early : order_of old ≡ L2DependsOnRb → Keeps → IsSound mA → (roomy : IsRoomy mA mark n) (c : ℕ) → roomy.first + room_for mA.header.fields n ≤ c → c < roomy.first + roomy.total → counted mC c ≡ 0
+          run-early : order_of s.caches ≡ L2DependsOnRb → Keeps → IsSound mA → (roomy : IsRoomy mA mark n) (c : ℕ) → roomy.first + room_for mA.header.fields n ≤ c → c < roomy.first + roomy.total → counted mC c ≡ 0
           run-early order keeps sound roomy c above below =
               let made = ready.little order keeps sound in
               let none = made.0.early roomy c above below in
@@ -300,7 +300,7 @@ module _ {S : Type 0} (state : S → StorageState) (mark n : ℕ) (metadata : Bo
               omega (arith, none, apart, more)
 
           -- and leaves no gap.
-          run-gapless : order_of old ≡ L2DependsOnRb → Keeps → IsSound mA → n ≤ 1 → IsGapless mark mA mC
+          run-gapless : order_of s.caches ≡ L2DependsOnRb → Keeps → IsSound mA → n ≤ 1 → IsGapless mark mA mC
           run-gapless order keeps sound one c none some d from to =
               let more = once order keeps sound c in
               let still : 0 < counted mB d → 0 < counted mC d = (λ was. let more' = once order keeps sound d in omega (arith, was, more')) in
@@ -316,11 +316,11 @@ module _ {S : Type 0} (state : S → StorageState) (mark n : ℕ) (metadata : Bo
                     still (subst (λ x. 0 < counted mB x) here met.3)
               ]
 
-          pub run-allocated : Handing (Ok entry) tB C fC pB (mark_behind mark n first)
+          pub run-allocated : Handing (Ok entry) sB.table C fC sB.pending (mark_behind mark n first)
           run-allocated = record {
             leaked = λ _. 0;
             leaks = record { none = λ other c. refl; pinned = λ holds all c. refl };
-            step = allocating-as state ⊤ ⊤ (λ c. covers c (run_of first counts.part)) (handed_by (Ok entry) (λ _. 0)) table old before pending tB C fC pB (λ whole. whole)
+            step = allocating-as state ⊤ ⊤ (λ c. covers c (run_of first counts.part)) (handed_by (Ok entry) (λ _. 0)) s (lent sB.table C fC sB.pending) (λ whole. whole)
                 (λ c. ap (λ k. covers c (run_of first k)) counts.whole) (part-allocates (Ok tt) counts);
             run = (refl, refl, λ some. (ready.some, ready.reach));
             taken = run-counted;

@@ -1,5 +1,5 @@
 -- Before clusters are counted it is announced that blocks are written before tables.
-use Rattle.std.proofs.Common.{◌≡◌, ℕ, ◌+◌, ◌*◌, ◌<◌, ◌≤◌, true, Some, ◌-◌, ◌^◌, refl, arith, ap, sym, subst, List, length, Result, Ok, Err, inl, inr, Bool}
+use Rattle.std.proofs.Common.{◌≡◌, ℕ, ◌+◌, ◌*◌, ◌<◌, ◌≤◌, true, Some, ◌-◌, ◌^◌, refl, arith, ap, sym, subst, length, Result, Ok, Err, inl, inr, Bool}
 use Rattle.std.specs.Prelude.{⊤, IsTrue, OnOk, min, slice_index}
 use Rattle.imago_storage.specs.Calls.{IsFaultless}
 use Rattle.imago_storage.specs.State.{StorageState}
@@ -10,7 +10,6 @@ use Rattle.qcow2_types.specs.Bytes.{Bytes, bytes_of}
 use Rattle.qcow2_types.specs.Header.{Header, cluster_size, words_of_cluster}
 use Rattle.qcow2_types.specs.Words.{block_offset}
 use Rattle.qcow2_types.specs.Counts.{count, counters_of_block}
-use Rattle.qcow2_types.specs.Pending.{FreeEntry}
 use Rattle.qcow2_metadata.specs.Growth.{IsEnough, IsGrownLength}
 use Rattle.qcow2_metadata.specs.Places.{IsInReach}
 use Rattle.qcow2_metadata.specs.Tables.{TableValue}
@@ -29,6 +28,7 @@ use Rattle.qcow2_alloc.specs.MakingRoom.{rank}
 use Rattle.qcow2_alloc.specs.Memory.{memory, written}
 use Rattle.qcow2_alloc.specs.Quiet.{Metadata, IsSound, Quietly, counted}
 use Rattle.qcow2_alloc.specs.Safety.{Safe}
+use Rattle.qcow2_alloc.specs.State.{ImageState, lent, metadata, IsKept}
 use Rattle.qcow2_alloc.proofs.Blocks.EnsuringBlocks.{why-allocated-wider}
 use Rattle.qcow2_alloc.proofs.Caching.Loose.{kept-tables, loose-on}
 use Rattle.qcow2_alloc.proofs.Caching.Pins.{pins-none}
@@ -38,23 +38,23 @@ use Rattle.qcow2_alloc.proofs.Quiet.QuietThen.{quietly-then, quietly-otherwise}
 use Rattle.qcow2_alloc.proofs.Memory.SafeLaws.{safe-reach}
 
 -- What the announcement does: it is quiet, and changes no count.
-pub record Announced {S : Type 0} (state : S → StorageState) (table : TableValue) (pending : List FreeEntry) (old : MetadataCaches S) (before : ImageFile S) (result : Result Unit Fault) (new : MetadataCaches S) (after : ImageFile S) : Type 0 where
-  pub faults : WasNotCutOff result → IsFaultless (state before.image) (state after.image)
-  pub quiet : Quietly (WasNotCutOff result) (λ _. 0) (λ _. 0) (state before.image) (metadata_of state before old table pending) (state after.image) (metadata_of state after new table pending)
-  pub counts : IsTrue (state before.image).shape.keeps → IsSound (metadata_of state before old table pending) → WasNotCutOff result → (c : ℕ) → counted (metadata_of state after new table pending) c ≡ counted (metadata_of state before old table pending) c
-  pub order : OnOk result (order_of new ≡ L2DependsOnRb)
-  pub header : after.header ≡ before.header
-  pub loose : (any : Bool) → IsLoose table old any → IsLoose table new any
-  pub room : KeepsTables old new
-  pub cause : CountsFreeing (IsTrue (state before.image).shape.keeps × IsSound (metadata_of state before old table pending)) (IsLoose table old true) (state before.image).faults (state after.image).faults result
+pub record Announced {S : Type 0} (state : S → StorageState) (s : ImageState S) (result : Result Unit Fault) (s' : ImageState S) : Type 0 where
+  pub faults : WasNotCutOff result → IsFaultless (state s.file.image) (state s'.file.image)
+  pub quiet : Quietly (WasNotCutOff result) (λ _. 0) (λ _. 0) (state s.file.image) (metadata state s) (state s'.file.image) (metadata state s')
+  pub counts : IsTrue (state s.file.image).shape.keeps → IsSound (metadata state s) → WasNotCutOff result → (c : ℕ) → counted (metadata state s') c ≡ counted (metadata state s) c
+  pub order : OnOk result (order_of s'.caches ≡ L2DependsOnRb)
+  pub header : s'.file.header ≡ s.file.header
+  pub loose : (any : Bool) → IsLoose s.table s.caches any → IsLoose s.table s'.caches any
+  pub room : KeepsTables s.caches s'.caches
+  pub cause : CountsFreeing (IsKept state s) (IsLoose s.table s.caches true) (state s.file.image).faults (state s'.file.image).faults result
 
 -- Nothing was announced, and nothing has changed, for want of memory.
-pub not-begun : {S : Type 0} (state : S → StorageState) (table : TableValue) (pending : List FreeEntry) (old : MetadataCaches S) (before : ImageFile S) → Announced state table pending old before (Err Memory) old before
-not-begun state table pending old before =
-    let m = metadata_of state before old table pending in
+pub not-begun : {S : Type 0} (state : S → StorageState) (s : ImageState S) → Announced state s (Err Memory) s
+not-begun state s =
+    let m = metadata state s in
     record {
       faults = λ whole. absurd whole;
-      quiet = memory-quietly (WasNotCutOff {T = Unit {0}} (Err Memory)) (λ _. 0) (λ _. 0) (state before.image) m m (λ sound whole. absurd whole);
+      quiet = memory-quietly (WasNotCutOff {T = Unit {0}} (Err Memory)) (λ _. 0) (λ _. 0) (state s.file.image) m m (λ sound whole. absurd whole);
       counts = λ keeps sound whole. absurd whole;
       order = tt;
       header = refl;
@@ -63,46 +63,46 @@ not-begun state table pending old before =
       cause = tt;
     }
 
-module _ {S : Type 0} (state : S → StorageState) (table : TableValue) (pending : List FreeEntry) (old : MetadataCaches S) (before : ImageFile S) (new : MetadataCaches S) (after : ImageFile S)
-    (kept : written (cached_in new) ≡ written (cached_in old)) (blocks : new.rb ≡ old.rb) (header : after.header ≡ before.header) (room : HasRoomOf old new) where
+module _ {S : Type 0} (state : S → StorageState) (s : ImageState S) (new : MetadataCaches S) (after : ImageFile S)
+    (kept : written (cached_in new) ≡ written (cached_in s.caches)) (blocks : new.rb ≡ s.caches.rb) (header : after.header ≡ s.file.header) (room : HasRoomOf s.caches new) where
   abbrev Old : Metadata
-  Old = metadata_of state before old table pending
+  Old = metadata state s
 
   abbrev Goes : Result Unit Fault → Type 0
-  Goes result = Going before.header (order_of old) Always (result ≡ Ok tt) (state before.image) (cached_in old) (state after.image) (cached_in new)
+  Goes result = Going s.file.header (order_of s.caches) Always (result ≡ Ok tt) (state s.file.image) (cached_in s.caches) (state after.image) (cached_in new)
 
-  loose-still : (any : Bool) → IsLoose table old any → IsLoose table new any
-  loose-still = loose-on table old new (pins-none (cached_in old).blocks (cached_in new).blocks (ap (λ l. l.slots.entries) blocks)) room.blocks
+  loose-still : (any : Bool) → IsLoose s.table s.caches any → IsLoose s.table new any
+  loose-still = loose-on s.table s.caches new (pins-none (cached_in s.caches).blocks (cached_in new).blocks (ap (λ l. l.slots.entries) blocks)) room.blocks
 
-  never : (fault : Fault) → IsSound Old → IsMild fault → WhyNotWritten (AreTablesInReach (cached_in old)) (state before.image).faults (state after.image).faults fault → ⊥
+  never : (fault : Fault) → IsSound Old → IsMild fault → WhyNotWritten (AreTablesInReach (cached_in s.caches)) (state s.file.image).faults (state after.image).faults fault → ⊥
   never Memory sound mild why = mild
   never Storage sound mild why = mild
   never DamagedTable sound mild why = why (safe-reach _ _ _ _ sound.safe).0
   never other sound mild why = why
 
-  caused : (fault : Fault) → WhyNotWritten (AreTablesInReach (cached_in old)) (state before.image).faults (state after.image).faults fault
-      → WhyNotFreed (IsTrue (state before.image).shape.keeps × IsSound Old) (IsLoose table old true) (state before.image).faults (state after.image).faults fault
+  caused : (fault : Fault) → WhyNotWritten (AreTablesInReach (cached_in s.caches)) (state s.file.image).faults (state after.image).faults fault
+      → WhyNotFreed (IsKept state s) (IsLoose s.table s.caches true) (state s.file.image).faults (state after.image).faults fault
   caused Memory why = tt
   caused Storage why = why
   caused DamagedTable why = λ holds. why (safe-reach _ _ _ _ holds.1.safe).0
   caused other why = absurd why
 
-  pub announced : (result : Result Unit Fault) → Goes result → OnOk result (order_of new ≡ L2DependsOnRb) → OnOk result ((f : Bytes) (H : Header) → Safe f H (cached_in new) (order_of old) → Safe f H (cached_in new) L2DependsOnRb)
-      → CountsWrites (AreTablesInReach (cached_in old)) (state before.image).faults (state after.image).faults result → (WasNotCutOff result → IsFaultless (state before.image) (state after.image)) → Announced state table pending old before result new after
+  pub announced : (result : Result Unit Fault) → Goes result → OnOk result (order_of new ≡ L2DependsOnRb) → OnOk result ((f : Bytes) (H : Header) → Safe f H (cached_in new) (order_of s.caches) → Safe f H (cached_in new) L2DependsOnRb)
+      → CountsWrites (AreTablesInReach (cached_in s.caches)) (state s.file.image).faults (state after.image).faults result → (WasNotCutOff result → IsFaultless (state s.file.image) (state after.image)) → Announced state s result (lent s.table new after s.pending)
   announced (Ok done) going order safe counts faultless =
-      let announces = announced-quietly Old L2DependsOnRb (Ok tt) (state before.image) (state after.image) (cached_in new) refl going safe in
-      let quiet = whole-quietly Old (AreTablesInReach (cached_in old)) (state before.image).faults (state after.image).faults (Ok tt) (λ _. 0) (λ _. 0) (state before.image) (state after.image) _ (λ reach. reach.0) counts announces in
+      let announces = announced-quietly Old L2DependsOnRb (Ok tt) (state s.file.image) (state after.image) (cached_in new) refl going safe in
+      let quiet = whole-quietly Old (AreTablesInReach (cached_in s.caches)) (state s.file.image).faults (state after.image).faults (Ok tt) (λ _. 0) (λ _. 0) (state s.file.image) (state after.image) _ (λ reach. reach.0) counts announces in
       record {
         faults = faultless;
-        quiet = subst (λ (h : Header). Quietly ⊤ (λ _. 0) (λ _. 0) (state before.image) Old (state after.image) (record Old { file = bytes_of (state after.image).bytes; header = h; cached = cached_in new; order = order_of new })) (sym header)
-            (subst (λ (o : CacheDependency). Quietly ⊤ (λ _. 0) (λ _. 0) (state before.image) Old (state after.image) (record Old { file = bytes_of (state after.image).bytes; cached = cached_in new; order = o })) (sym order) quiet);
+        quiet = subst (λ (h : Header). Quietly ⊤ (λ _. 0) (λ _. 0) (state s.file.image) Old (state after.image) (record Old { file = bytes_of (state after.image).bytes; header = h; cached = cached_in new; order = order_of new })) (sym header)
+            (subst (λ (o : CacheDependency). Quietly ⊤ (λ _. 0) (λ _. 0) (state s.file.image) Old (state after.image) (record Old { file = bytes_of (state after.image).bytes; cached = cached_in new; order = o })) (sym order) quiet);
         counts = λ keeps sound whole c.
             let settled = going.holds keeps sound.safe tt (inl refl) in
-            subst (λ (h : Header). count (memory (bytes_of (state after.image).bytes) h.fields (cached_in new)) h.fields c ≡ counted Old c) (sym header) (ap (λ (g : Bytes). count g before.header.fields c) settled.memory_same);
+            subst (λ (h : Header). count (memory (bytes_of (state after.image).bytes) h.fields (cached_in new)) h.fields c ≡ counted Old c) (sym header) (ap (λ (g : Bytes). count g s.file.header.fields c) settled.memory_same);
         order = order;
         header = header;
         loose = loose-still;
-        room = kept-tables old new kept room;
+        room = kept-tables s.caches new kept room;
         cause = counts;
       }
   announced (Err fault) going order safe why faultless = record {
@@ -110,14 +110,14 @@ module _ {S : Type 0} (state : S → StorageState) (table : TableValue) (pending
     quiet = record {
       shape = going.shape;
       later = going.later;
-      passes = (whole-quietly Old (AreTablesInReach (cached_in old)) (state before.image).faults (state after.image).faults (Err fault) (λ _. 0) (λ _. 0) (state before.image) (state after.image) _ (λ reach. reach.0) why (announced-quietly Old L2DependsOnRb (Err fault) (state before.image) (state after.image) (cached_in new) refl going tt)).passes;
+      passes = (whole-quietly Old (AreTablesInReach (cached_in s.caches)) (state s.file.image).faults (state after.image).faults (Err fault) (λ _. 0) (λ _. 0) (state s.file.image) (state after.image) _ (λ reach. reach.0) why (announced-quietly Old L2DependsOnRb (Err fault) (state s.file.image) (state after.image) (cached_in new) refl going tt)).passes;
       holds = λ keeps sound mild. absurd (never fault sound mild why);
     };
     counts = λ keeps sound mild. absurd (never fault sound mild why);
     order = tt;
     header = header;
     loose = loose-still;
-    room = kept-tables old new kept room;
+    room = kept-tables s.caches new kept room;
     cause = caused fault why;
   }
 
@@ -169,34 +169,34 @@ module _ (m m1 : Metadata) (header : m1.header ≡ m.header) (table : m1.table �
       both P p = subst (λ (t : TableValue). P t m.header) table (subst (λ (H : Header). P m1.table H) header p)
 
 -- An announcement, and what is done next while blocks are written before tables.
-module _ {S : Type 0} (state : S → StorageState) (table : TableValue) (pending : List FreeEntry) (old : MetadataCaches S) (before : ImageFile S) (mid : MetadataCaches S) (between : ImageFile S)
-    (first : Announced state table pending old before (Ok tt) mid between) where
+module _ {S : Type 0} (state : S → StorageState) (start : ImageState S) (mid : MetadataCaches S) (between : ImageFile S)
+    (first : Announced state start (Ok tt) (lent start.table mid between start.pending)) where
   abbrev Start : Metadata
-  Start = metadata_of state before old table pending
+  Start = metadata state start
 
   abbrev Mid : Metadata
-  Mid = metadata_of state between mid table pending
+  Mid = metadata_of state between mid start.table start.pending
 
-  pub quiet-behind : (ok : Type 0) (handed : ℕ → ℕ) (s : StorageState) (m : Metadata) → (order_of mid ≡ L2DependsOnRb → Quietly ok handed (λ _. 0) (state between.image) Mid s m) → Quietly ok handed (λ _. 0) (state before.image) Start s m
+  pub quiet-behind : (ok : Type 0) (handed : ℕ → ℕ) (s : StorageState) (m : Metadata) → (order_of mid ≡ L2DependsOnRb → Quietly ok handed (λ _. 0) (state between.image) Mid s m) → Quietly ok handed (λ _. 0) (state start.file.image) Start s m
   quiet-behind ok handed s m second =
-      quietly-otherwise ok (λ c. 0 + handed c) (λ c. 0 + 0) handed (λ _. 0) (state before.image) Start s m (λ sound c. omega arith) (λ sound c used none. omega arith)
-      (quietly-then ⊤ ok (λ _. 0) (λ _. 0) handed (λ _. 0) (state before.image) Start (state between.image) Mid s m tt (λ sound c some. refl) first.quiet (second first.order))
+      quietly-otherwise ok (λ c. 0 + handed c) (λ c. 0 + 0) handed (λ _. 0) (state start.file.image) Start s m (λ sound c. omega arith) (λ sound c used none. omega arith)
+      (quietly-then ⊤ ok (λ _. 0) (λ _. 0) handed (λ _. 0) (state start.file.image) Start (state between.image) Mid s m tt (λ sound c some. refl) first.quiet (second first.order))
 
   -- What holds of the storage and the image holds still,
-  pub sound-behind : IsTrue (state before.image).shape.keeps → IsSound Start → IsTrue (state between.image).shape.keeps × IsSound Mid
-  sound-behind keeps sound = (keeps_on (state before.image) (state between.image) first.quiet.shape keeps, (first.quiet.holds keeps sound tt).0)
+  pub sound-behind : IsTrue (state start.file.image).shape.keeps → IsSound Start → IsTrue (state between.image).shape.keeps × IsSound Mid
+  sound-behind keeps sound = (keeps_on (state start.file.image) (state between.image) first.quiet.shape keeps, (first.quiet.holds keeps sound tt).0)
 
-  pub raised-behind : (m : Metadata) → IsTrue (state before.image).shape.keeps → IsSound Start → OnlyRaised Mid m → OnlyRaised Start m
+  pub raised-behind : (m : Metadata) → IsTrue (state start.file.image).shape.keeps → IsSound Start → OnlyRaised Mid m → OnlyRaised Start m
   raised-behind m keeps sound raised c =
       let same = first.counts keeps sound tt c in
       elim (raised c) [ inl still ↦ inl (omega (arith, same, still)) | inr up ↦ inr (let zero = up.0 in omega (arith, same, zero), up.1) ]
 
-  pub marked-behind : (mark : ℕ) → IsTrue (state before.image).shape.keeps → IsSound Start → IsMarked Start mark → IsMarked Mid mark
+  pub marked-behind : (mark : ℕ) → IsTrue (state start.file.image).shape.keeps → IsSound Start → IsMarked Start mark → IsMarked Mid mark
   marked-behind mark keeps sound marked c below = let same = first.counts keeps sound tt c in let was = marked c below in omega (arith, same, was)
 
   -- and a refusal has its cause.
   pub caused-behind : (full full' : ℕ → Type 0) (after : ℕ) → ((n : ℕ) → full n → full' n) → (fault : Fault)
-      → WhyNotAllocated (IsTrue (state between.image).shape.keeps × (order_of mid ≡ L2DependsOnRb) × IsSound Mid) (IsLoose table mid) full (state between.image).faults after fault
-      → WhyNotAllocated (IsTrue (state before.image).shape.keeps × IsSound Start) (IsLoose table old) full' (state before.image).faults after fault
+      → WhyNotAllocated (IsTrue (state between.image).shape.keeps × (order_of mid ≡ L2DependsOnRb) × IsSound Mid) (IsLoose start.table mid) full (state between.image).faults after fault
+      → WhyNotAllocated (IsKept state start) (IsLoose start.table start.caches) full' (state start.file.image).faults after fault
   caused-behind full full' after to fault why =
       why-allocated-wider _ _ _ _ _ _ _ _ _ (λ holds. let still = sound-behind holds.0 holds.1 in (still.0, first.order, still.1)) first.loose to first.cause fault why

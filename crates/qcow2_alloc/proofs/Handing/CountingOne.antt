@@ -1,21 +1,19 @@
 -- One cluster is counted for who asked for it.
-use Rattle.std.proofs.Common.{false, ◌≡◌, ◌≢◌, ℕ, refl, arith, subst, List, Option, Some, Result, Ok, Err}
+use Rattle.std.proofs.Common.{false, ◌≡◌, ◌≢◌, ℕ, refl, arith, subst, Option, Some, Result, Ok, Err}
 use Rattle.imago_storage.specs.State.{StorageState}
 use Rattle.imago_storage.specs.declared.fault.Fault.{Fault}
 use Rattle.imago_storage.specs.declared.fault.Fault.TheVariants.{DamagedTable}
 use Rattle.imago_storage.proofs.Composing.{later_same}
 use Rattle.qcow2_types.specs.Pending.{FreeEntry}
-use Rattle.qcow2_metadata.specs.Tables.{TableValue}
 use Rattle.qcow2_alloc.specs.declared.cache.MetadataCaches.{MetadataCaches}
 use Rattle.qcow2_alloc.specs.declared.file.ImageFile.{ImageFile}
 use Rattle.qcow2_alloc.specs.Allocating.{RaisesCluster}
-use Rattle.qcow2_alloc.specs.Allocators.{metadata_of}
 use Rattle.qcow2_alloc.specs.Freeing.{IsLoose, WhyNotCounted}
 use Rattle.qcow2_alloc.specs.FreeList.{covers}
 use Rattle.qcow2_alloc.specs.HandingOutOne.{CountsOne}
 use Rattle.qcow2_alloc.specs.MakingRoom.{run_of}
 use Rattle.qcow2_alloc.specs.Quiet.{Metadata, IsSound, counted}
-use Rattle.qcow2_alloc.specs.State.{lent}
+use Rattle.qcow2_alloc.specs.State.{ImageState, lent, metadata}
 use Rattle.qcow2_alloc.proofs.Blocks.CountingClusters.{one-counted}
 use Rattle.qcow2_alloc.proofs.Freeing.Listed.{covers-none}
 use Rattle.qcow2_alloc.proofs.Blocks.MadeBlocks.{first-counted}
@@ -29,23 +27,23 @@ handed_so found = Ok found
 abbrev pub not_handed : Fault → Result (Option FreeEntry) Fault
 not_handed fault = Err fault
 
-module _ {S : Type 0} (state : S → StorageState) (table : TableValue) (pending : List FreeEntry) (c : ℕ) (old : MetadataCaches S) (before : ImageFile S) where
+module _ {S : Type 0} (state : S → StorageState) (s : ImageState S) (c : ℕ) where
   abbrev Old : Metadata
-  Old = metadata_of state before old table pending
+  Old = metadata state s
 
   -- Nothing was counted, for a reason that a sound image doesn't give where the cluster isn't counted.
-  uncounted : (fault : Fault) → ((sound : Type 0) → (sound → IsSound Old × (counted Old c ≡ 0)) → WhyNotCounted sound (IsLoose table old) (state before.image).faults (state before.image).faults fault)
-      → CountsOne state c (lent table old before pending) (not_handed fault) (lent table old before pending)
+  uncounted : (fault : Fault) → ((sound : Type 0) → (sound → IsSound Old × (counted Old c ≡ 0)) → WhyNotCounted sound (IsLoose s.table s.caches) (state s.file.image).faults (state s.file.image).faults fault)
+      → CountsOne state c s (not_handed fault) s
   uncounted fault why = record {
     counts = record {
       part = 0;
       inside = omega arith;
       whole = tt;
       shape = refl;
-      later = later_same (state before.image);
+      later = later_same (state s.file.image);
       faults = λ whole. (refl, refl);
-      quiet = λ order free. quietly-otherwise _ (λ _. 0) (λ _. 0) (λ d. covers d (run_of c 0)) (λ _. 0) (state before.image) Old (state before.image) Old (λ sound d. let zero = covers-none d (run_of c 0) refl in omega (arith, zero)) (λ sound d used none. omega arith)
-          (memory-quietly _ (λ _. 0) (λ _. 0) (state before.image) Old Old (λ sound whole. (sound, quiet-none Old sound)));
+      quiet = λ order free. quietly-otherwise _ (λ _. 0) (λ _. 0) (λ d. covers d (run_of c 0)) (λ _. 0) (state s.file.image) Old (state s.file.image) Old (λ sound d. let zero = covers-none d (run_of c 0) refl in omega (arith, zero)) (λ sound d used none. omega arith)
+          (memory-quietly _ (λ _. 0) (λ _. 0) (state s.file.image) Old Old (λ sound whole. (sound, quiet-none Old sound)));
       raised = λ order keeps sound free whole d. let zero = covers-none d (run_of c 0) refl in omega (arith, zero);
       order = refl;
       header = refl;
@@ -59,16 +57,16 @@ module _ {S : Type 0} (state : S → StorageState) (table : TableValue) (pending
   }
 
   -- The first cluster is counted for the header.
-  pub first-uncounted : c ≡ 0 → CountsOne state c (lent table old before pending) (not_handed DamagedTable) (lent table old before pending)
+  pub first-uncounted : c ≡ 0 → CountsOne state c s (not_handed DamagedTable) s
   first-uncounted first = uncounted DamagedTable (λ sound from holds. let both = from holds in let some = first-counted Old both.0 in let zero = subst (λ n. counted Old n ≡ 0) first both.1 in omega (arith, some, zero))
 
-  pub raised-one : (new : MetadataCaches S) (after : ImageFile S) → c ≢ 0 → (found : Option FreeEntry) → found ≡ Some (record { first = c; count = 1; metadata = false }) → RaisesCluster state table c old before (Ok tt) new after
-      → CountsOne state c (lent table old before pending) (handed_so found) (lent table new after pending)
+  pub raised-one : (new : MetadataCaches S) (after : ImageFile S) → c ≢ 0 → (found : Option FreeEntry) → found ≡ Some (record { first = c; count = 1; metadata = false }) → RaisesCluster state s.table c s.caches s.file (Ok tt) new after
+      → CountsOne state c s (handed_so found) (lent s.table new after s.pending)
   raised-one new after some found is raises =
-      let one = one-counted state table pending c old before (Ok tt) new after raises in
+      let one = one-counted state s.table s.pending c s.caches s.file (Ok tt) new after raises in
       record { counts = one.0; exact = tt; entry = is; some = some }
 
-  pub unraised-one : (new : MetadataCaches S) (after : ImageFile S) (fault : Fault) → RaisesCluster state table c old before (Err fault) new after → CountsOne state c (lent table old before pending) (not_handed fault) (lent table new after pending)
+  pub unraised-one : (new : MetadataCaches S) (after : ImageFile S) (fault : Fault) → RaisesCluster state s.table c s.caches s.file (Err fault) new after → CountsOne state c s (not_handed fault) (lent s.table new after s.pending)
   unraised-one new after fault raises =
-      let one = one-counted state table pending c old before (Err fault) new after raises in
+      let one = one-counted state s.table s.pending c s.caches s.file (Err fault) new after raises in
       record { counts = one.0; exact = one.1; entry = tt; some = tt }

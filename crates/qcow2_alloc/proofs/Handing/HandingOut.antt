@@ -10,7 +10,6 @@ use Rattle.qcow2_types.specs.Counts.{counters_of_block}
 use Rattle.qcow2_types.specs.Header.{Header}
 use Rattle.qcow2_types.specs.Pending.{FreeEntry}
 use Rattle.qcow2_metadata.specs.Places.{IsInReach}
-use Rattle.qcow2_metadata.specs.Tables.{TableValue}
 use Rattle.qcow2_alloc.specs.declared.cache.CacheDependency.TheVariants.{L2DependsOnRb}
 use Rattle.qcow2_alloc.specs.declared.cache.MetadataCaches.{MetadataCaches}
 use Rattle.qcow2_alloc.specs.declared.file.ImageFile.{ImageFile}
@@ -26,7 +25,7 @@ use Rattle.qcow2_alloc.specs.HandingOut.{AllocatesClusterAt, AllocatesClusters, 
 use Rattle.qcow2_alloc.specs.HandingOutOne.{AllocatesAt}
 use Rattle.qcow2_alloc.specs.Quiet.{Metadata, IsSound, Quietly, counted}
 use Rattle.qcow2_alloc.specs.ReadyingRuns.{Allocates, IsRunCounted, IsRunTold, handed_by}
-use Rattle.qcow2_alloc.specs.State.{lent}
+use Rattle.qcow2_alloc.specs.State.{ImageState, lent, metadata, IsKept}
 use Rattle.qcow2_alloc.proofs.Handing.Allocating.{moved-none}
 use Rattle.qcow2_alloc.proofs.Handing.AnnouncedOrders.{Announced, no-place-as, room-as, quiet-behind, sound-behind, raised-behind, marked-behind, caused-behind}
 use Rattle.qcow2_alloc.proofs.Handing.CountingOne.{not_handed}
@@ -42,15 +41,15 @@ use Rattle.qcow2_alloc.proofs.Quiet.QuietFlushes.{memory-quietly, quiet-none, qu
 use Rattle.qcow2_alloc.proofs.Quiet.QuietThen.{fewer-counted, quietly-then, quietly-otherwise}
 use Rattle.qcow2_alloc.proofs.Blocks.ReadyingBlocks.{leaks-none}
 
-module _ {S : Type 0} (state : S → StorageState) (mark cluster : ℕ) (table : TableValue) (old : MetadataCaches S) (before : ImageFile S) (pending : List FreeEntry) (mid : MetadataCaches S) (between : ImageFile S) where
+module _ {S : Type 0} (state : S → StorageState) (mark cluster : ℕ) (s : ImageState S) (mid : MetadataCaches S) (between : ImageFile S) where
   abbrev Start : Metadata
-  Start = metadata_of state before old table pending
+  Start = metadata state s
 
   abbrev Mid : Metadata
-  Mid = metadata_of state between mid table pending
+  Mid = metadata_of state between mid s.table s.pending
 
   -- One cluster isn't where that was refused,
-  pub at-not-announced : (fault : Fault) → Announced state table pending old before (failed fault) mid between → AllocatesClusterAt state mark cluster (lent table old before pending) (not_handed fault) (lent table mid between pending) mark
+  pub at-not-announced : (fault : Fault) → Announced state s (failed fault) (lent s.table mid between s.pending) → AllocatesClusterAt state mark cluster s (not_handed fault) (lent s.table mid between s.pending) mark
   at-not-announced fault first = record {
     leaked = λ _. 0;
     leaks = leaks-none _ _ (not_handed fault);
@@ -64,84 +63,84 @@ module _ {S : Type 0} (state : S → StorageState) (mark cluster : ℕ) (table :
     stays = refl;
     marked = λ keeps sound whole marked c below. let same = first.counts keeps sound whole c in let was = marked c below in omega (arith, same, was);
     order = tt;
-    shape = shape-behind state mark cluster table old before pending mid between (failed fault) table mid between first (moved-none between.header between.header refl) (λ any loose. loose) (record { tables = refl; blocks = refl; entries = refl });
+    shape = shape-behind state mark cluster s mid between (failed fault) (lent s.table mid between s.pending) first (moved-none between.header between.header refl) (λ any loose. loose) (record { tables = refl; blocks = refl; entries = refl });
     list = inl refl;
-    cause = allocated-wider _ _ _ _ _ _ _ _ (λ holds. holds) (loose-all table old) refl fault first.cause;
+    cause = allocated-wider _ _ _ _ _ _ _ _ (λ holds. holds) (loose-all s.table s.caches) refl fault first.cause;
   }
 
   -- and else as it is under that order.
-  module _ (first : Announced state table pending old before (Ok tt) mid between) (result : Result (Option FreeEntry) Fault) (table' : TableValue) (new : MetadataCaches S) (after : ImageFile S) (pending' : List FreeEntry) (mark' : ℕ)
-      (at : AllocatesAt state (λ m. IsBarred m mark cluster) mark cluster (lent table mid between pending) result (lent table' new after pending') mark') where
+  module _ (first : Announced state s (Ok tt) (lent s.table mid between s.pending)) (result : Result (Option FreeEntry) Fault) (s' : ImageState S) (mark' : ℕ)
+      (at : AllocatesAt state (λ m. IsBarred m mark cluster) mark cluster (lent s.table mid between s.pending) result s' mark') where
     abbrev End : Metadata
-    End = metadata_of state after new table' pending'
+    End = metadata state s'
 
-    answered : (r : Result (Option FreeEntry) Fault) → IsTrue (state before.image).shape.keeps → IsSound Start → IfOk r (IsHandedAt (IsBarred Mid mark cluster) cluster Mid End) → IfOk r (IsHandedAt (IsBarred Start mark cluster) cluster Start End)
+    answered : (r : Result (Option FreeEntry) Fault) → IsTrue (state s.file.image).shape.keeps → IsSound Start → IfOk r (IsHandedAt (IsBarred Mid mark cluster) cluster Mid End) → IfOk r (IsHandedAt (IsBarred Start mark cluster) cluster Start End)
     answered (Ok (Some entry)) keeps sound (zero, is, unnamed, free) = (let same = first.counts keeps sound tt cluster in omega (arith, same, zero), is, unnamed, free)
     answered (Ok None) keeps sound (inl more) = inl (let same = first.counts keeps sound tt cluster in omega (arith, same, more))
     answered (Ok None) keeps sound (inr (inl stands)) = inr (inl stands)
     answered (Ok None) keeps sound (inr (inr (inl far))) = inr (inr (inl (subst (λ (H : Header). IsInReach H.fields.cluster_bits cluster → ⊥) first.header far)))
     answered (Ok None) keeps sound (inr (inr (inr (past, number, none)))) = inr (inr (inr (
-      subst (λ (H : Header). length table.words ≤ cluster / counters_of_block H.fields) first.header past,
+      subst (λ (H : Header). length s.table.words ≤ cluster / counters_of_block H.fields) first.header past,
       number,
-      no-place-as Start Mid first.header refl (first.counts keeps sound tt) mark (cluster / counters_of_block before.header.fields) number (subst (λ (H : Header). NoPlaceToGrow Mid mark (cluster / counters_of_block H.fields) number) first.header none),
+      no-place-as Start Mid first.header refl (first.counts keeps sound tt) mark (cluster / counters_of_block s.file.header.fields) number (subst (λ (H : Header). NoPlaceToGrow Mid mark (cluster / counters_of_block H.fields) number) first.header none),
     )))
     answered (Err fault) keeps sound said = tt
 
-    room-there : IsTrue (state before.image).shape.keeps → IsSound Start → (c : ℕ) → IsInRoomToGrow Mid mark (cluster / counters_of_block between.header.fields) c → IsInRoomToGrow Start mark (cluster / counters_of_block before.header.fields) c
+    room-there : IsTrue (state s.file.image).shape.keeps → IsSound Start → (c : ℕ) → IsInRoomToGrow Mid mark (cluster / counters_of_block between.header.fields) c → IsInRoomToGrow Start mark (cluster / counters_of_block s.file.header.fields) c
     room-there keeps sound c (past, begin, total, clusters, room, from, to) = (
-      subst (λ (H : Header). length table.words ≤ cluster / counters_of_block H.fields) first.header past,
+      subst (λ (H : Header). length s.table.words ≤ cluster / counters_of_block H.fields) first.header past,
       begin,
       total,
       clusters,
-      room-as Start Mid first.header refl (first.counts keeps sound tt) mark (cluster / counters_of_block before.header.fields) begin total clusters (subst (λ (H : Header). IsRoomToGrow Mid mark (cluster / counters_of_block H.fields) begin total clusters) first.header room),
+      room-as Start Mid first.header refl (first.counts keeps sound tt) mark (cluster / counters_of_block s.file.header.fields) begin total clusters (subst (λ (H : Header). IsRoomToGrow Mid mark (cluster / counters_of_block H.fields) begin total clusters) first.header room),
       from,
       to,
     )
 
-    nearby : (r : Result (Option FreeEntry) Fault) → IsTrue (state before.image).shape.keeps → IsSound Start → IfOk r (λ _. IsTakenFor mark cluster Mid End) → IfOk r (λ _. IsTakenFor mark cluster Start End)
+    nearby : (r : Result (Option FreeEntry) Fault) → IsTrue (state s.file.image).shape.keeps → IsSound Start → IfOk r (λ _. IsTakenFor mark cluster Mid End) → IfOk r (λ _. IsTakenFor mark cluster Start End)
     nearby (Err fault) keeps sound said = tt
     nearby (Ok found) keeps sound said = λ c none more. elim (said c (let same = first.counts keeps sound tt c in omega (arith, same, none)) more) [ inl le ↦ inl le | inr room ↦ inr (room-there keeps sound c room) ]
 
-    ordered : (r : Result (Option FreeEntry) Fault) → OnOk r (order_of new ≡ L2DependsOnRb)
+    ordered : (r : Result (Option FreeEntry) Fault) → OnOk r (order_of s'.caches ≡ L2DependsOnRb)
     ordered (Ok found) = at.did.step.order ∙ first.order
     ordered (Err fault) = tt
 
     caused : (r : Result (Option FreeEntry) Fault)
-        → MatchResult r (λ _. (state after.image).faults ≡ (state between.image).faults)
-        (WhyNotAllocated (IsTrue (state between.image).shape.keeps × (order_of mid ≡ L2DependsOnRb) × IsSound Mid) (IsLoose table mid) (λ _. ⊥) (state between.image).faults (state after.image).faults)
-        → MatchResult r (λ _. (state after.image).faults ≡ (state before.image).faults)
-        (WhyNotAllocated (IsTrue (state before.image).shape.keeps × IsSound Start) (IsLoose table old) (λ _. ⊥) (state before.image).faults (state after.image).faults)
+        → MatchResult r (λ _. (state s'.file.image).faults ≡ (state between.image).faults)
+        (WhyNotAllocated (IsTrue (state between.image).shape.keeps × (order_of mid ≡ L2DependsOnRb) × IsSound Mid) (IsLoose s.table mid) (λ _. ⊥) (state between.image).faults (state s'.file.image).faults)
+        → MatchResult r (λ _. (state s'.file.image).faults ≡ (state s.file.image).faults)
+        (WhyNotAllocated (IsKept state s) (IsLoose s.table s.caches) (λ _. ⊥) (state s.file.image).faults (state s'.file.image).faults)
     caused (Ok found) same = same ∙ first.cause
-    caused (Err fault) why = caused-behind state table pending old before mid between first _ _ (state after.image).faults (λ n full. full) fault why
+    caused (Err fault) why = caused-behind state s mid between first _ _ (state s'.file.image).faults (λ n full. full) fault why
 
-    pub at-announced : AllocatesClusterAt state mark cluster (lent table old before pending) result (lent table' new after pending') mark'
+    pub at-announced : AllocatesClusterAt state mark cluster s result s' mark'
     at-announced = record {
       leaked = at.did.leaked;
-      leaks = record { none = at.did.leaks.none; pinned = λ holds loose. let still = sound-behind state table pending old before mid between first holds.0 holds.1 in at.did.leaks.pinned (still.0, first.order, still.1) (first.loose true loose) };
+      leaks = record { none = at.did.leaks.none; pinned = λ holds loose. let still = sound-behind state s mid between first holds.0 holds.1 in at.did.leaks.pinned (still.0, first.order, still.1) (first.loose true loose) };
       faults = λ whole. faultless-then (first.faults tt) (at.did.step.faults whole);
-      quiet = quiet-behind state table pending old before mid between first (WasNotCutOff result) (handed_at result at.did.leaked) (state after.image) End at.did.step.quiet;
-      raised = λ keeps sound whole. let still = sound-behind state table pending old before mid between first keeps sound in
-          raised-behind state table pending old before mid between first End keeps sound (at.did.step.raised first.order still.0 still.1 whole);
+      quiet = quiet-behind state s mid between first (WasNotCutOff result) (handed_at result at.did.leaked) (state s'.file.image) End at.did.step.quiet;
+      raised = λ keeps sound whole. let still = sound-behind state s mid between first keeps sound in
+          raised-behind state s mid between first End keeps sound (at.did.step.raised first.order still.0 still.1 whole);
       one = subst (λ (H : Header). IfOk result (IsOneAt cluster H.fields.cluster_bits)) first.header at.one;
-      answer = λ keeps sound. let still = sound-behind state table pending old before mid between first keeps sound in answered result keeps sound (at.answer first.order still.0 still.1);
-      near = λ keeps sound. let still = sound-behind state table pending old before mid between first keeps sound in nearby result keeps sound (at.near first.order still.0 still.1);
+      answer = λ keeps sound. let still = sound-behind state s mid between first keeps sound in answered result keeps sound (at.answer first.order still.0 still.1);
+      near = λ keeps sound. let still = sound-behind state s mid between first keeps sound in nearby result keeps sound (at.near first.order still.0 still.1);
       further = at.further;
       stays = at.stays;
-      marked = λ keeps sound whole marked. let still = sound-behind state table pending old before mid between first keeps sound in
-          at.marked first.order still.0 still.1 whole (marked-behind state table pending old before mid between first mark keeps sound marked);
+      marked = λ keeps sound whole marked. let still = sound-behind state s mid between first keeps sound in
+          at.marked first.order still.0 still.1 whole (marked-behind state s mid between first mark keeps sound marked);
       order = ordered result;
-      shape = shape-behind state mark cluster table old before pending mid between (Ok tt) table' new after first at.did.step.moved at.did.step.loose at.did.step.room;
-      list = subst (λ (H : Header). IsLengthenedByTable H.fields table table' pending pending') first.header at.did.list;
+      shape = shape-behind state mark cluster s mid between (Ok tt) s' first at.did.step.moved at.did.step.loose at.did.step.room;
+      list = subst (λ (H : Header). IsLengthenedByTable H.fields s.table s'.table s.pending s'.pending) first.header at.did.list;
       cause = caused result at.did.cause;
     }
 
 -- Nothing was freed, and nothing has changed, for want of memory.
-memory-unfreed : {S : Type 0} (state : S → StorageState) (table : TableValue) (old : MetadataCaches S) (before : ImageFile S) (mark : ℕ) (pending : List FreeEntry) → Frees state mark (lent table old before pending) (failed Memory) (lent table old before pending) mark
-memory-unfreed state table old before mark pending =
-    let m = metadata_of state before old table pending in
+memory-unfreed : {S : Type 0} (state : S → StorageState) (s : ImageState S) (mark : ℕ) → Frees state mark s (failed Memory) s mark
+memory-unfreed state s mark =
+    let m = metadata state s in
     record {
       faults = λ whole. absurd whole;
-      quiet = memory-quietly _ (λ _. 0) (λ _. 0) (state before.image) m m (λ sound whole. (sound, quiet-none m sound));
+      quiet = memory-quietly _ (λ _. 0) (λ _. 0) (state s.file.image) m m (λ sound whole. (sound, quiet-none m sound));
       marked = λ keeps sound whole marked. marked;
       lower = omega arith;
       fallen = inl refl;
@@ -165,28 +164,28 @@ covers-inside : (c : ℕ) (e : FreeEntry) → e.first ≤ c → c < e.first + e.
 covers-inside c e above below = rw (le-leb e.first c above, lt-ltb c (e.first + e.count) below) refl
 
 -- Clusters in a row are handed out: what waits is freed first.
-module _ {S : Type 0} (state : S → StorageState) (mark n : ℕ) (metadata : Bool) (table : TableValue) (old : MetadataCaches S) (before : ImageFile S) (pending : List FreeEntry) where
+module _ {S : Type 0} (state : S → StorageState) (mark n : ℕ) (is_metadata : Bool) (image : ImageState S) where
   abbrev First : Metadata
-  First = metadata_of state before old table pending
+  First = metadata state image
 
   -- That was refused,
-  module _ (fault : Fault) (mark1 : ℕ) (A : MetadataCaches S) (fA : ImageFile S) (pA : List FreeEntry) (frees : Frees state mark (lent table old before pending) (failed fault) (lent table A fA pA) mark1) (rest : IsRestInTurn pending pA) where
+  module _ (fault : Fault) (mark1 : ℕ) (A : MetadataCaches S) (fA : ImageFile S) (pA : List FreeEntry) (frees : Frees state mark image (failed fault) (lent image.table A fA pA) mark1) (rest : IsRestInTurn image.pending pA) where
     abbrev Rest : Metadata
-    Rest = metadata_of state fA A table pA
+    Rest = metadata_of state fA A image.table pA
 
-    not-limited : IsSearched (refused_run fault) → WhyNotFreed (IsTrue (state before.image).shape.keeps × IsSound First) (HasSpareRoom old) (state before.image).faults (state fA.image).faults fault → ⊥
+    not-limited : IsSearched (refused_run fault) → WhyNotFreed (IsKept state image) (HasSpareRoom image.caches) (state image.file.image).faults (state fA.image).faults fault → ⊥
     not-limited searched why = by-fault fault searched why
       where
-        by-fault : (f : Fault) → IsSearched (refused_run f) → WhyNotFreed (IsTrue (state before.image).shape.keeps × IsSound First) (HasSpareRoom old) (state before.image).faults (state fA.image).faults f → ⊥
+        by-fault : (f : Fault) → IsSearched (refused_run f) → WhyNotFreed (IsKept state image) (HasSpareRoom image.caches) (state image.file.image).faults (state fA.image).faults f → ⊥
         by-fault (Limit number) searched why = why
         by-fault f searched why = searched
 
-    pub run-not-freed : AllocatesClusters state mark n metadata (lent table old before pending) (refused_run fault) (lent table A fA pA) mark1
+    pub run-not-freed : AllocatesClusters state mark n is_metadata image (refused_run fault) (lent image.table A fA pA) mark1
     run-not-freed = record {
       leaked = λ _. 0;
       leaks = leaks-none _ _ (refused_run fault);
       faults = frees.faults;
-      quiet = quietly-weaker _ (WasNotCutOff (refused_run fault)) (λ _. 0) (λ _. 0) (state before.image) First (state fA.image) Rest (λ sound whole. inl whole) frees.quiet;
+      quiet = quietly-weaker _ (WasNotCutOff (refused_run fault)) (λ _. 0) (λ _. 0) (state image.file.image) First (state fA.image) Rest (λ sound whole. inl whole) frees.quiet;
       run = tt;
       unnamed = λ keeps sound. tt;
       answer = failed fault;
@@ -218,36 +217,36 @@ module _ {S : Type 0} (state : S → StorageState) (mark n : ℕ) (metadata : Bo
       further = tt;
       stays = refl;
       order = tt;
-      shape = record { moved = moved-none before.header fA.header frees.header; loose = loose-on table old A frees.pins frees.room.blocks; room = frees.room };
+      shape = record { moved = moved-none image.file.header fA.header frees.header; loose = loose-on image.table image.caches A frees.pins frees.room.blocks; room = frees.room };
       list = inl refl;
       cause = allocated-wider _ _ _ _ _ _ _ _ (λ holds. holds) (λ any loose. loose.room) refl fault frees.cause;
     }
 
   -- or not begun, for want of memory,
-  pub run-not-held : AllocatesClusters state mark n metadata (lent table old before pending) (refused_run Memory) (lent table old before pending) mark
-  run-not-held = run-not-freed Memory mark old before pending (memory-unfreed state table old before mark pending) (rest-all pending)
+  pub run-not-held : AllocatesClusters state mark n is_metadata image (refused_run Memory) image mark
+  run-not-held = run-not-freed Memory mark image.caches image.file image.pending (memory-unfreed state image mark) (rest-all image.pending)
 
   -- or there was nothing left.
-  module _ (mark1 : ℕ) (A : MetadataCaches S) (fA : ImageFile S) (frees : Frees state mark (lent table old before pending) (Ok tt) (lent table A fA []) mark1) (B : MetadataCaches S) (fB : ImageFile S) where
+  module _ (mark1 : ℕ) (A : MetadataCaches S) (fA : ImageFile S) (frees : Frees state mark image (Ok tt) (lent image.table A fA []) mark1) (B : MetadataCaches S) (fB : ImageFile S) where
     abbrev Freed : Metadata
-    Freed = metadata_of state fA A table []
+    Freed = metadata_of state fA A image.table []
 
     abbrev Ready : Metadata
-    Ready = metadata_of state fB B table []
+    Ready = metadata_of state fB B image.table []
 
-    freed-loose : (any : Bool) → IsLoose table old any → IsLoose table A any
-    freed-loose = loose-on table old A frees.pins frees.room.blocks
+    freed-loose : (any : Bool) → IsLoose image.table image.caches any → IsLoose image.table A any
+    freed-loose = loose-on image.table image.caches A frees.pins frees.room.blocks
 
-    still-sound : IsTrue (state before.image).shape.keeps → IsSound First → IsTrue (state fA.image).shape.keeps × IsSound Freed
-    still-sound keeps sound = (keeps_on (state before.image) (state fA.image) frees.quiet.shape keeps, (frees.quiet.holds keeps sound (inl tt)).0)
+    still-sound : IsTrue (state image.file.image).shape.keeps → IsSound First → IsTrue (state fA.image).shape.keeps × IsSound Freed
+    still-sound keeps sound = (keeps_on (state image.file.image) (state fA.image) frees.quiet.shape keeps, (frees.quiet.holds keeps sound (inl tt)).0)
 
-    quiet-on : (ok : Type 0) (handed : ℕ → ℕ) (s : StorageState) (m : Metadata) → Quietly ok handed (λ _. 0) (state fA.image) Freed s m → Quietly ok handed (λ _. 0) (state before.image) First s m
+    quiet-on : (ok : Type 0) (handed : ℕ → ℕ) (s : StorageState) (m : Metadata) → Quietly ok handed (λ _. 0) (state fA.image) Freed s m → Quietly ok handed (λ _. 0) (state image.file.image) First s m
     quiet-on ok handed s m second =
-        quietly-otherwise ok (λ c. 0 + handed c) (λ c. 0 + 0) handed (λ _. 0) (state before.image) First s m (λ sound c. omega arith) (λ sound c used none. omega arith)
-        (quietly-then _ ok (λ _. 0) (λ _. 0) handed (λ _. 0) (state before.image) First (state fA.image) Freed s m (inl tt) (λ sound c some. refl) frees.quiet second)
+        quietly-otherwise ok (λ c. 0 + handed c) (λ c. 0 + 0) handed (λ _. 0) (state image.file.image) First s m (λ sound c. omega arith) (λ sound c used none. omega arith)
+        (quietly-then _ ok (λ _. 0) (λ _. 0) handed (λ _. 0) (state image.file.image) First (state fA.image) Freed s m (inl tt) (λ sound c some. refl) frees.quiet second)
 
     -- The announcement was refused,
-    pub run-not-announced : (fault : Fault) → Announced state table [] A fA (failed fault) B fB → AllocatesClusters state mark n metadata (lent table old before pending) (refused_run fault) (lent table B fB []) mark1
+    pub run-not-announced : (fault : Fault) → Announced state (lent image.table A fA []) (failed fault) (lent image.table B fB []) → AllocatesClusters state mark n is_metadata image (refused_run fault) (lent image.table B fB []) mark1
     run-not-announced fault second = record {
       leaked = λ _. 0;
       leaks = leaks-none _ _ (refused_run fault);
@@ -261,7 +260,7 @@ module _ {S : Type 0} (state : S → StorageState) (mark n : ℕ) (metadata : Bo
       mid_mark = mark1;
       left = [];
       frees = frees;
-      rest = rest-none pending;
+      rest = rest-none image.pending;
       halted = λ other is. let e = is in absurd (cc e);
       mid = Ready;
       mid_left = refl;
@@ -285,41 +284,41 @@ module _ {S : Type 0} (state : S → StorageState) (mark n : ℕ) (metadata : Bo
       stays = refl;
       order = tt;
       shape = record {
-        moved = moved-none before.header fB.header (second.header ∙ frees.header);
+        moved = moved-none image.file.header fB.header (second.header ∙ frees.header);
         loose = λ any loose. second.loose any (freed-loose any loose);
         room = record { tables = second.room.tables ∙ frees.room.tables; blocks = second.room.blocks ∙ frees.room.blocks; entries = second.room.entries ∙ frees.room.entries };
       };
       list = inl refl;
-      cause = allocated-wider _ _ _ _ _ _ _ _ (λ holds. still-sound holds.0 holds.1) (λ any loose. loose-all table A any (freed-loose any loose)) frees.cause fault second.cause;
+      cause = allocated-wider _ _ _ _ _ _ _ _ (λ holds. still-sound holds.0 holds.1) (λ any loose. loose-all image.table A any (freed-loose any loose)) frees.cause fault second.cause;
     }
       where
-        quiet : Quietly (WasNotCutOff (refused_run fault)) (λ _. 0) (λ _. 0) (state before.image) First (state fB.image) Ready
+        quiet : Quietly (WasNotCutOff (refused_run fault)) (λ _. 0) (λ _. 0) (state image.file.image) First (state fB.image) Ready
         quiet = quiet-on (WasNotCutOff (refused_run fault)) (λ _. 0) (state fB.image) Ready second.quiet
 
-        marked : IsTrue (state before.image).shape.keeps → IsSound First → WasNotCutOff (refused_run fault) → IsMarked First mark → IsMarked Ready mark1
+        marked : IsTrue (state image.file.image).shape.keeps → IsSound First → WasNotCutOff (refused_run fault) → IsMarked First mark → IsMarked Ready mark1
         marked keeps sound whole was c below =
             let still = still-sound keeps sound in
             let same = second.counts still.0 still.1 whole c in
             let more = frees.marked keeps sound (inl tt) was c below in
             omega (arith, same, more)
 
-        never : (f : Fault) → IsSearched (refused_run f) → WhyNotFreed (IsTrue (state fA.image).shape.keeps × IsSound Freed) (IsLoose table A true) (state fA.image).faults (state fB.image).faults f → ⊥
+        never : (f : Fault) → IsSearched (refused_run f) → WhyNotFreed (IsTrue (state fA.image).shape.keeps × IsSound Freed) (IsLoose image.table A true) (state fA.image).faults (state fB.image).faults f → ⊥
         never (Limit number) searched why = why
         never f searched why = searched
 
     -- or a run was searched for.
-    module _ (second : Announced state table [] A fA (Ok tt) B fB) (result : Result FreeEntry Fault) (table' : TableValue) (new : MetadataCaches S) (after : ImageFile S) (pending' : List FreeEntry) (mark' : ℕ)
-        (third : Allocates state mark1 n metadata (lent table B fB []) result (lent table' new after pending') mark') where
+    module _ (second : Announced state (lent image.table A fA []) (Ok tt) (lent image.table B fB [])) (result : Result FreeEntry Fault) (s' : ImageState S) (mark' : ℕ)
+        (third : Allocates state mark1 n is_metadata (lent image.table B fB []) result s' mark') where
       abbrev Last : Metadata
-      Last = metadata_of state after new table' pending'
+      Last = metadata state s'
 
-      ready-sound : IsTrue (state before.image).shape.keeps → IsSound First → IsTrue (state fB.image).shape.keeps × IsSound Ready
-      ready-sound keeps sound = let still = still-sound keeps sound in sound-behind state table [] A fA B fB second still.0 still.1
+      ready-sound : IsTrue (state image.file.image).shape.keeps → IsSound First → IsTrue (state fB.image).shape.keeps × IsSound Ready
+      ready-sound keeps sound = let still = still-sound keeps sound in sound-behind state (lent image.table A fA []) B fB second still.0 still.1
 
-      ready-marked : IsTrue (state before.image).shape.keeps → IsSound First → IsMarked First mark → IsMarked Ready mark1
-      ready-marked keeps sound marked = let still = still-sound keeps sound in marked-behind state table [] A fA B fB second mark1 still.0 still.1 (frees.marked keeps sound (inl tt) marked)
+      ready-marked : IsTrue (state image.file.image).shape.keeps → IsSound First → IsMarked First mark → IsMarked Ready mark1
+      ready-marked keeps sound marked = let still = still-sound keeps sound in marked-behind state (lent image.table A fA []) B fB second mark1 still.0 still.1 (frees.marked keeps sound (inl tt) marked)
 
-      is-freed : IsTrue (state before.image).shape.keeps → IsSound First → IsFreed First mark Ready mark1
+      is-freed : IsTrue (state image.file.image).shape.keeps → IsSound First → IsFreed First mark Ready mark1
       is-freed keeps sound = let quiet = ((quiet-on ⊤ (λ _. 0) (state fB.image) Ready second.quiet).holds keeps sound tt).1 in record {
         sound = (ready-sound keeps sound).1;
         quiet = quiet;
@@ -330,55 +329,55 @@ module _ {S : Type 0} (state : S → StorageState) (mark n : ℕ) (metadata : Bo
         marked = ready-marked keeps sound;
       }
 
-      same-shape : StaysInShape table old before table' new after
+      same-shape : StaysInShape image s'
       same-shape = record {
-        moved = subst (λ (H : Header). MovedTable H after.header) (second.header ∙ frees.header) third.step.moved;
+        moved = subst (λ (H : Header). MovedTable H s'.file.header) (second.header ∙ frees.header) third.step.moved;
         loose = λ any loose. third.step.loose any (second.loose any (freed-loose any loose));
         room = record { tables = third.step.room.tables ∙ second.room.tables ∙ frees.room.tables; blocks = third.step.room.blocks ∙ second.room.blocks ∙ frees.room.blocks; entries = third.step.room.entries ∙ second.room.entries ∙ frees.room.entries };
       }
 
       abbrev RunIs : ℕ → FreeEntry → Type 0
-      RunIs bits entry = (entry.count ≡ n) × (entry.metadata ≡ metadata) × (0 < n → (entry.first ≢ 0) × IsInReach bits (entry.first + (n - 1)))
+      RunIs bits entry = (entry.count ≡ n) × (entry.metadata ≡ is_metadata) × (0 < n → (entry.first ≢ 0) × IsInReach bits (entry.first + (n - 1)))
 
-      runs : IfOk result (RunIs before.header.fields.cluster_bits)
+      runs : IfOk result (RunIs image.file.header.fields.cluster_bits)
       runs = subst (λ (H : Header). IfOk result (RunIs H.fields.cluster_bits)) (second.header ∙ frees.header) third.run
 
-      unnamed-run : IsTrue (state before.image).shape.keeps → IsSound First → (r : Result FreeEntry Fault) → result ≡ r → IfOk r (RunIs before.header.fields.cluster_bits) → IfOk r (IsRunCounted mark1 n Last)
+      unnamed-run : IsTrue (state image.file.image).shape.keeps → IsSound First → (r : Result FreeEntry Fault) → result ≡ r → IfOk r (RunIs image.file.header.fields.cluster_bits) → IfOk r (IsRunCounted mark1 n Last)
           → IfOk r (λ entry. (c : ℕ) → entry.first ≤ c → c < entry.first + n → counted Ready c ≡ 0) → IfOk r (AreUnnamed Last)
       unnamed-run keeps sound (Err fault) is run taken fresh = tt
       unnamed-run keeps sound (Ok entry) is run taken fresh = λ c above below.
           let still = ready-sound keeps sound in
-          let quiet : Quietly (WasNotCutOff (run_so entry)) (handed_by (run_so entry) third.leaked) (λ _. 0) (state fB.image) Ready (state after.image) Last =
-          subst (λ (r : Result FreeEntry Fault). Quietly (WasNotCutOff r) (handed_by r third.leaked) (λ _. 0) (state fB.image) Ready (state after.image) Last) is (third.step.quiet second.order) in
+          let quiet : Quietly (WasNotCutOff (run_so entry)) (handed_by (run_so entry) third.leaked) (λ _. 0) (state fB.image) Ready (state s'.file.image) Last =
+          subst (λ (r : Result FreeEntry Fault). Quietly (WasNotCutOff r) (handed_by r third.leaked) (λ _. 0) (state fB.image) Ready (state s'.file.image) Last) is (third.step.quiet second.order) in
           let held = quiet.holds still.0 still.1 tt in
           let length-is = run.0 in
           let inside : c < entry.first + n = omega (arith, below, length-is) in
           handed-unnamed Ready Last (λ d. covers d entry) c still.1 held.0 second.order held.1 (fresh c above inside) (taken.once c above inside) (covers-inside c entry above below)
 
-      run-ordered : (r : Result FreeEntry Fault) → OnOk r (order_of new ≡ L2DependsOnRb)
+      run-ordered : (r : Result FreeEntry Fault) → OnOk r (order_of s'.caches ≡ L2DependsOnRb)
       run-ordered (Ok entry) = third.step.order ∙ second.order
       run-ordered (Err fault) = tt
 
       run-caused : (r : Result FreeEntry Fault)
-          → MatchResult r (λ _. (state after.image).faults ≡ (state fB.image).faults)
-          (WhyNotAllocated (IsTrue (state fB.image).shape.keeps × (order_of B ≡ L2DependsOnRb) × IsSound Ready) (IsLoose table B)
-          (λ number. order_of B ≡ L2DependsOnRb → IsTrue (state fB.image).shape.keeps → IsSound Ready → IsCrowded Ready mark1 n × IsRunTold Last mark1 n number) (state fB.image).faults (state after.image).faults)
-          → MatchResult r (λ _. (state after.image).faults ≡ (state before.image).faults)
-          (WhyNotAllocated (IsTrue (state before.image).shape.keeps × IsSound First) (IsLoose table old)
-          (λ number. IsTrue (state before.image).shape.keeps → IsSound First → IsCrowded Ready mark1 n × IsRunTold Last mark1 n number) (state before.image).faults (state after.image).faults)
+          → MatchResult r (λ _. (state s'.file.image).faults ≡ (state fB.image).faults)
+          (WhyNotAllocated (IsTrue (state fB.image).shape.keeps × (order_of B ≡ L2DependsOnRb) × IsSound Ready) (IsLoose image.table B)
+          (λ number. order_of B ≡ L2DependsOnRb → IsTrue (state fB.image).shape.keeps → IsSound Ready → IsCrowded Ready mark1 n × IsRunTold Last mark1 n number) (state fB.image).faults (state s'.file.image).faults)
+          → MatchResult r (λ _. (state s'.file.image).faults ≡ (state image.file.image).faults)
+          (WhyNotAllocated (IsKept state image) (IsLoose image.table image.caches)
+          (λ number. IsTrue (state image.file.image).shape.keeps → IsSound First → IsCrowded Ready mark1 n × IsRunTold Last mark1 n number) (state image.file.image).faults (state s'.file.image).faults)
       run-caused (Ok entry) same = same ∙ second.cause ∙ frees.cause
       run-caused (Err fault) why =
           why-allocated-wider _ _ _ _ _ _ _ _ _ (λ holds. still-sound holds.0 holds.1) freed-loose (λ n full keeps sound. let still = still-sound keeps sound in full still.0 still.1) frees.cause fault
-          (caused-behind state table [] A fA B fB second _ (λ number. IsTrue (state fA.image).shape.keeps → IsSound Freed → IsCrowded Ready mark1 n × IsRunTold Last mark1 n number) (state after.image).faults
-          (λ n full keeps sound. let still = sound-behind state table [] A fA B fB second keeps sound in full second.order still.0 still.1) fault why)
+          (caused-behind state (lent image.table A fA []) B fB second _ (λ number. IsTrue (state fA.image).shape.keeps → IsSound Freed → IsCrowded Ready mark1 n × IsRunTold Last mark1 n number) (state s'.file.image).faults
+          (λ n full keeps sound. let still = sound-behind state (lent image.table A fA []) B fB second keeps sound in full second.order still.0 still.1) fault why)
 
-      pub run-announced : AllocatesClusters state mark n metadata (lent table old before pending) result (lent table' new after pending') mark'
+      pub run-announced : AllocatesClusters state mark n is_metadata image result s' mark'
       run-announced = record {
         leaked = third.leaked;
         leaks = record { none = third.leaks.none; pinned = λ holds loose. let still = ready-sound holds.0 holds.1 in third.leaks.pinned (still.0, second.order, still.1) (second.loose true (freed-loose true loose)) };
         faults = λ whole. faultless-then (frees.faults tt) (faultless-then (second.faults tt) (third.step.faults whole));
-        quiet = quiet-on (WasNotCutOff result) (handed_by result third.leaked) (state after.image) Last
-            (quiet-behind state table [] A fA B fB second (WasNotCutOff result) (handed_by result third.leaked) (state after.image) Last third.step.quiet);
+        quiet = quiet-on (WasNotCutOff result) (handed_by result third.leaked) (state s'.file.image) Last
+            (quiet-behind state (lent image.table A fA []) B fB second (WasNotCutOff result) (handed_by result third.leaked) (state s'.file.image) Last third.step.quiet);
         run = runs;
         unnamed = λ keeps sound. let still = ready-sound keeps sound in unnamed-run keeps sound result refl runs (third.taken second.order still.0 still.1) (third.fresh second.order still.0 still.1);
         answer = Ok tt;
@@ -387,7 +386,7 @@ module _ {S : Type 0} (state : S → StorageState) (mark n : ℕ) (metadata : Bo
         mid_mark = mark1;
         left = [];
         frees = frees;
-        rest = rest-none pending;
+        rest = rest-none image.pending;
         halted = λ other is. let e = is in absurd (cc e);
         mid = Ready;
         mid_left = refl;
@@ -403,6 +402,6 @@ module _ {S : Type 0} (state : S → StorageState) (mark n : ℕ) (metadata : Bo
         stays = third.stays;
         order = run-ordered result;
         shape = same-shape;
-        list = subst (λ (H : Header). IsLengthenedByTable H.fields table table' [] pending') (second.header ∙ frees.header) third.list;
+        list = subst (λ (H : Header). IsLengthenedByTable H.fields image.table s'.table [] s'.pending) (second.header ∙ frees.header) third.list;
         cause = run-caused result third.cause;
       }

@@ -1,5 +1,5 @@
 -- A search counts nothing, and may come before what does.
-use Rattle.std.proofs.Common.{◌≡◌, ◌≢◌, ℕ, ◌+◌, ◌*◌, ◌/◌, ◌<◌, refl, arith, ap, sym, subst, ◌∙◌, inl, inr, List, length, Option, Some, None, Result, Ok}
+use Rattle.std.proofs.Common.{◌≡◌, ◌≢◌, ℕ, ◌+◌, ◌*◌, ◌/◌, ◌<◌, refl, arith, ap, sym, subst, ◌∙◌, inl, inr, length, Option, Some, None, Result, Ok}
 use Rattle.std.specs.Prelude.{IsTrue, slice_index}
 use Rattle.std.proofs.lemmas.Bool.{cases_lt}
 use Rattle.std.proofs.lemmas.List.{get_or_past}
@@ -10,9 +10,7 @@ use Rattle.imago_storage.specs.declared.fault.Fault.{Fault}
 use Rattle.qcow2_types.specs.Bytes.{bytes_of}
 use Rattle.qcow2_types.specs.Counts.{counters_of_block}
 use Rattle.qcow2_types.specs.Header.{Header}
-use Rattle.qcow2_types.specs.Pending.{FreeEntry}
 use Rattle.qcow2_types.specs.Words.{block_offset}
-use Rattle.qcow2_metadata.specs.Tables.{TableValue}
 use Rattle.qcow2_alloc.specs.declared.cache.CacheDependency.{CacheDependency}
 use Rattle.qcow2_alloc.specs.declared.cache.MetadataCaches.{MetadataCaches}
 use Rattle.qcow2_alloc.specs.declared.file.ImageFile.{ImageFile}
@@ -22,22 +20,22 @@ use Rattle.qcow2_alloc.specs.Caches.{cached_in, order_of}
 use Rattle.qcow2_alloc.specs.Going.{WasNotCutOff}
 use Rattle.qcow2_alloc.specs.Quiet.{Metadata, counted, IsSound, Quietly}
 use Rattle.qcow2_alloc.specs.SearchingClusters.{FindsFree, HasCounter, IsSafeWith, Looked, LooksForFree, counts_in}
-use Rattle.qcow2_alloc.specs.State.{lent}
+use Rattle.qcow2_alloc.specs.State.{ImageState, lent, metadata}
 use Rattle.qcow2_alloc.proofs.Handing.Allocating.{moved-none}
 use Rattle.qcow2_alloc.proofs.Searching.FreeClusters.{flushes-count}
 use Rattle.qcow2_alloc.proofs.Memory.Patches.{shaped-in}
 use Rattle.qcow2_alloc.proofs.Quiet.QuietFlushes.{going-quietly}
 
-module _ {S : Type 0} (state : S → StorageState) (table : TableValue) (pending : List FreeEntry) (old : MetadataCaches S) (before : ImageFile S) where
+module _ {S : Type 0} (state : S → StorageState) (s : ImageState S) where
   abbrev Old : Metadata
-  Old = metadata_of state before old table pending
+  Old = metadata state s
 
-  pub sound-safe : IsTrue (state before.image).shape.keeps → IsSound Old → IsSafeWith state table old before
+  pub sound-safe : IsTrue (state s.file.image).shape.keeps → IsSound Old → IsSafeWith state s.table s.caches s.file
   sound-safe keeps sound = record { keeps = keeps; safe = sound.safe; table_of_file = sound.table }
 
-  module _ (T : Type 0) (result : Result T Fault) (new : MetadataCaches S) (after : ImageFile S) (looked : Looked state table old before result new after) where
+  module _ (T : Type 0) (result : Result T Fault) (new : MetadataCaches S) (after : ImageFile S) (looked : Looked state s.table s.caches s.file result new after) where
     abbrev New : Metadata
-    New = metadata_of state after new table pending
+    New = metadata_of state after new s.table s.pending
 
     moved : (P : Metadata → Type 0) → P (record Old { file = bytes_of (state after.image).bytes; cached = cached_in new }) → P New
     moved P p =
@@ -45,49 +43,49 @@ module _ {S : Type 0} (state : S → StorageState) (table : TableValue) (pending
         (subst (λ (o : CacheDependency). P (record Old { file = bytes_of (state after.image).bytes; cached = cached_in new; order = o })) (sym looked.order) p)
 
     -- Each cluster is counted as it was.
-    pub counts-looked : IsTrue (state before.image).shape.keeps → IsSound Old → WasNotCutOff result → (c : ℕ) → counted New c ≡ counted Old c
+    pub counts-looked : IsTrue (state s.file.image).shape.keeps → IsSound Old → WasNotCutOff result → (c : ℕ) → counted New c ≡ counted Old c
     counts-looked keeps sound whole c =
-        moved (λ m. counted m c ≡ counted Old c) (flushes-count Old (state before.image).bytes (state after.image).bytes (cached_in new) refl (looked.going.holds keeps sound.safe tt (inl whole)) c).0
+        moved (λ m. counted m c ≡ counted Old c) (flushes-count Old (state s.file.image).bytes (state after.image).bytes (cached_in new) refl (looked.going.holds keeps sound.safe tt (inl whole)) c).0
 
-    pub looked-allocates : Allocating state (WasNotCutOff result) (λ _. 0) (lent table old before pending) (lent table new after pending)
+    pub looked-allocates : Allocating state (WasNotCutOff result) (λ _. 0) s (lent s.table new after s.pending)
     looked-allocates = record {
       faults = looked.going.faults;
-      quiet = λ order. moved (λ m. Quietly (WasNotCutOff result) (λ _. 0) (λ _. 0) (state before.image) Old (state after.image) m) (going-quietly Old (WasNotCutOff result) (state before.image) (state after.image) (cached_in new) refl looked.going);
+      quiet = λ order. moved (λ m. Quietly (WasNotCutOff result) (λ _. 0) (λ _. 0) (state s.file.image) Old (state after.image) m) (going-quietly Old (WasNotCutOff result) (state s.file.image) (state after.image) (cached_in new) refl looked.going);
       raised = λ order keeps sound whole c. inl (counts-looked keeps sound whole c);
       order = looked.order;
-      moved = moved-none before.header after.header looked.header;
+      moved = moved-none s.file.header after.header looked.header;
       longer = omega arith;
       loose = looked.loose;
       room = looked.room;
     }
 
   -- A cluster whose block the refcount table names has a counter.
-  pub counter-there : IsSound Old → (c : ℕ) → block_offset (slice_index table.words (c / counters_of_block before.header.fields)) ≢ 0 → HasCounter (bytes_of (state before.image).bytes) before.header.fields c
-  counter-there sound c some none = elim (cases_lt (c / counters_of_block before.header.fields) (length table.words)) [
-    | inl inside ↦ let long = sound.table.long in some (sound.table.names (c / counters_of_block before.header.fields) (omega (arith, inside, long)) ∙ none)
-    | inr past ↦ some (ap block_offset (get_or_past table.words (c / counters_of_block before.header.fields) 0 past))
+  pub counter-there : IsSound Old → (c : ℕ) → block_offset (slice_index s.table.words (c / counters_of_block s.file.header.fields)) ≢ 0 → HasCounter (bytes_of (state s.file.image).bytes) s.file.header.fields c
+  counter-there sound c some none = elim (cases_lt (c / counters_of_block s.file.header.fields) (length s.table.words)) [
+    | inl inside ↦ let long = sound.table.long in some (sound.table.names (c / counters_of_block s.file.header.fields) (omega (arith, inside, long)) ∙ none)
+    | inr past ↦ some (ap block_offset (get_or_past s.table.words (c / counters_of_block s.file.header.fields) 0 past))
   ]
 
   -- What is found in the block of a cluster tells whether it is counted.
-  module _ (c : ℕ) (some : block_offset (slice_index table.words (c / counters_of_block before.header.fields)) ≢ 0) (found : Option ℕ) (new : MetadataCaches S) (after : ImageFile S)
-      (looks : LooksForFree state table c ((c / counters_of_block before.header.fields + 1) * counters_of_block before.header.fields) old before (Ok found) new after) (keeps : IsTrue (state before.image).shape.keeps) (sound : IsSound Old) where
-    same : counted (metadata_of state after new table pending) c ≡ counted Old c
+  module _ (c : ℕ) (some : block_offset (slice_index s.table.words (c / counters_of_block s.file.header.fields)) ≢ 0) (found : Option ℕ) (new : MetadataCaches S) (after : ImageFile S)
+      (looks : LooksForFree state s.table c ((c / counters_of_block s.file.header.fields + 1) * counters_of_block s.file.header.fields) s.caches s.file (Ok found) new after) (keeps : IsTrue (state s.file.image).shape.keeps) (sound : IsSound Old) where
+    same : counted (metadata_of state after new s.table s.pending) c ≡ counted Old c
     same = counts-looked (Option ℕ) (Ok found) new after looks.looked keeps sound tt c
 
-    behind : c < (c / counters_of_block before.header.fields + 1) * counters_of_block before.header.fields
-    behind = let shape = div-add-mod' c (counters_of_block before.header.fields) in let below = mod_below c (counters_of_block before.header.fields) (some-counters before.header.fields (shaped-in Old.file Old.header sound.safe.consistent)) in omega (arith, shape, below)
+    behind : c < (c / counters_of_block s.file.header.fields + 1) * counters_of_block s.file.header.fields
+    behind = let shape = div-add-mod' c (counters_of_block s.file.header.fields) in let below = mod_below c (counters_of_block s.file.header.fields) (some-counters s.file.header.fields (shaped-in Old.file Old.header sound.safe.consistent)) in omega (arith, shape, below)
 
-    pub counted-found : found ≢ Some c → 0 < counted (metadata_of state after new table pending) c
+    pub counted-found : found ≢ Some c → 0 < counted (metadata_of state after new s.table s.pending) c
     counted-found other = let more = by-found found (looks.found (sound-safe keeps sound)) other in let is = same in omega (arith, more, is)
       where
-        by-found : (o : Option ℕ) → FindsFree (bytes_of (state before.image).bytes) before.header.fields (counts_in state old before) c ((c / counters_of_block before.header.fields + 1) * counters_of_block before.header.fields) o → o ≢ Some c → 0 < counted Old c
+        by-found : (o : Option ℕ) → FindsFree (bytes_of (state s.file.image).bytes) s.file.header.fields (counts_in state s.caches s.file) c ((c / counters_of_block s.file.header.fields + 1) * counters_of_block s.file.header.fields) o → o ≢ Some c → 0 < counted Old c
         by-found None all apart = all c (omega arith) behind (counter-there sound c some)
         by-found (Some d) first apart = elim (cases_lt c d) [
-          | inl before ↦ first.least c (omega arith) before (counter-there sound c some)
+          | inl earlier ↦ first.least c (omega arith) earlier (counter-there sound c some)
           | inr past ↦ let ge = first.behind in absurd (apart (let at : d ≡ c = omega (arith, ge, past) in ap (λ (n : ℕ). Some n) at))
         ]
 
-    pub free-found : found ≡ Some c → counted (metadata_of state after new table pending) c ≡ 0
+    pub free-found : found ≡ Some c → counted (metadata_of state after new s.table s.pending) c ≡ 0
     free-found is =
-        let first = subst (λ (o : Option ℕ). FindsFree (bytes_of (state before.image).bytes) before.header.fields (counts_in state old before) c ((c / counters_of_block before.header.fields + 1) * counters_of_block before.header.fields) o) is (looks.found (sound-safe keeps sound)) in
+        let first = subst (λ (o : Option ℕ). FindsFree (bytes_of (state s.file.image).bytes) s.file.header.fields (counts_in state s.caches s.file) c ((c / counters_of_block s.file.header.fields + 1) * counters_of_block s.file.header.fields) o) is (looks.found (sound-safe keeps sound)) in
         same ∙ first.free

@@ -2,10 +2,10 @@ use Rattle.std.proofs.Common.{Bool, true, false, None, ◌≡◌, ℕ, sym, subs
 use Rattle.std.specs.Prelude.{IsTrue}
 use Rattle.qcow2_metadata.specs.Places.{IsInReach}
 use Rattle.qcow2_metadata.specs.Tables.{TableValue}
-use Rattle.qcow2_alloc.specs.Allocators.{table_of, mark_of}
+use Rattle.qcow2_alloc.specs.Allocators.{mark_of}
 use Rattle.qcow2_alloc.specs.HandingOut.{IsBarred}
 use Rattle.qcow2_alloc.specs.HandingOutOne.{AllocatesAt, ReadiesCounter}
-use Rattle.qcow2_alloc.specs.State.{lent}
+use Rattle.qcow2_alloc.specs.State.{lent, seen}
 use Rattle.qcow2_alloc.proofs.Handing.AllocatingReadied.{out-of-reach, uncounted-at, refused-at, readied-at}
 use Rattle.qcow2_alloc.proofs.Handing.CountingOne.{handed_so, not_handed}
 use Rattle.qcow2_alloc.proofs.Blocks.EnsuringBlocks.{so}
@@ -17,30 +17,36 @@ never true is holds = cc is
 
 pub returns-then-not-is_in_reach-clause-allocates : goal.returns-then-not-is_in_reach-clause-allocates
 returns-then-not-is_in_reach-clause-allocates g c =
-    out-of-reach g.S.Storage.state (mark_of c.args.self.now) c.args.cluster (table_of c.args.self.now) c.args.caches.now c.args.file.now c.args.list.now.entries
+    out-of-reach g.S.Storage.state (mark_of c.args.self.now) c.args.cluster (seen c.args.self.now c.args.caches.now c.args.file.now c.args.list.now)
     (λ near. never c.is_in_reach.result c.if-not-is_in_reach.true (c.is_in_reach.ensures.1 (subst (λ (b : ℕ). IsInReach b c.args.cluster) (sym c.cluster_bits.ensures.value) near)))
 
 pub returns-in-Ok-true-clause-allocates : goal.returns-in-Ok-true-clause-allocates
 returns-in-Ok-true-clause-allocates g c =
+    let s = seen c.args.self.now c.args.caches.now c.args.file.now c.args.list.now in
     let state = g.S.Storage.state in
     let mid = c.ensure_counter.new in
+    let between = seen mid.self mid.caches mid.file mid.list in
     let new = c.allocate_one.new in
-    let counter = subst (λ (b : Bool). ReadiesCounter state (mark_of c.args.self.now) c.args.cluster (lent (table_of c.args.self.now) c.args.caches.now c.args.file.now c.args.list.now.entries) (so b) (lent (table_of mid.self) mid.caches mid.file mid.list.entries)) c.in-Ok-true.field-0-test c.in-Ok-true.ensures.readies in
-    subst (λ (t : TableValue). AllocatesAt state (λ m. IsBarred m (mark_of c.args.self.now) c.args.cluster) (mark_of c.args.self.now) c.args.cluster (lent (table_of c.args.self.now) c.args.caches.now c.args.file.now c.args.list.now.entries) c.allocate_one.result (lent t new.caches new.file mid.list.entries) (mark_of new.self)) (sym c.allocate_one.ensures.table)
-    (readied-at state (mark_of c.args.self.now) c.args.cluster (table_of c.args.self.now) c.args.caches.now c.args.file.now c.args.list.now.entries (table_of mid.self) mid.caches mid.file mid.list.entries counter c.allocate_one.result new.caches new.file (mark_of new.self)
-    (subst (λ (m : ℕ). AllocatesAt state (λ _. ⊥) m c.args.cluster (lent (table_of mid.self) mid.caches mid.file mid.list.entries) c.allocate_one.result (lent (table_of mid.self) new.caches new.file mid.list.entries) (mark_of new.self)) c.in-Ok-true.ensures.mark (c.allocate_one.ensures.allocates mid.list.entries)))
+    let counter = subst (λ (b : Bool). ReadiesCounter state (mark_of c.args.self.now) c.args.cluster s (so b) between) c.in-Ok-true.field-0-test c.in-Ok-true.ensures.readies in
+    subst (λ (t : TableValue). AllocatesAt state (λ m. IsBarred m (mark_of c.args.self.now) c.args.cluster) (mark_of c.args.self.now) c.args.cluster s c.allocate_one.result (lent t new.caches new.file mid.list.entries) (mark_of new.self)) (sym c.allocate_one.ensures.table)
+    (readied-at state (mark_of c.args.self.now) c.args.cluster s between counter c.allocate_one.result new.caches new.file (mark_of new.self)
+    (subst (λ (m : ℕ). AllocatesAt state (λ _. ⊥) m c.args.cluster between c.allocate_one.result (seen mid.self new.caches new.file mid.list) (mark_of new.self)) c.in-Ok-true.ensures.mark (c.allocate_one.ensures.allocates mid.list.entries)))
 
 pub returns-in-Ok-false-clause-allocates : goal.returns-in-Ok-false-clause-allocates
 returns-in-Ok-false-clause-allocates g c =
+    let s = seen c.args.self.now c.args.caches.now c.args.file.now c.args.list.now in
     let state = g.S.Storage.state in
     let mid = c.ensure_counter.new in
-    subst (λ (m : ℕ). AllocatesAt state (λ m'. IsBarred m' (mark_of c.args.self.now) c.args.cluster) (mark_of c.args.self.now) c.args.cluster (lent (table_of c.args.self.now) c.args.caches.now c.args.file.now c.args.list.now.entries) (handed_so None) (lent (table_of mid.self) mid.caches mid.file mid.list.entries) m) (sym c.in-Ok-false.ensures.mark)
-    (uncounted-at state (mark_of c.args.self.now) c.args.cluster (table_of c.args.self.now) c.args.caches.now c.args.file.now c.args.list.now.entries (table_of mid.self) mid.caches mid.file mid.list.entries
-    (subst (λ (b : Bool). ReadiesCounter state (mark_of c.args.self.now) c.args.cluster (lent (table_of c.args.self.now) c.args.caches.now c.args.file.now c.args.list.now.entries) (so b) (lent (table_of mid.self) mid.caches mid.file mid.list.entries)) c.in-Ok-false.field-0-test c.in-Ok-false.ensures.readies))
+    let between = seen mid.self mid.caches mid.file mid.list in
+    subst (λ (m : ℕ). AllocatesAt state (λ m'. IsBarred m' (mark_of c.args.self.now) c.args.cluster) (mark_of c.args.self.now) c.args.cluster s (handed_so None) between m) (sym c.in-Ok-false.ensures.mark)
+    (uncounted-at state (mark_of c.args.self.now) c.args.cluster s between
+    (subst (λ (b : Bool). ReadiesCounter state (mark_of c.args.self.now) c.args.cluster s (so b) between) c.in-Ok-false.field-0-test c.in-Ok-false.ensures.readies))
 
 pub returns-in-Err-clause-allocates : goal.returns-in-Err-clause-allocates
 returns-in-Err-clause-allocates g c =
+    let s = seen c.args.self.now c.args.caches.now c.args.file.now c.args.list.now in
     let state = g.S.Storage.state in
     let mid = c.ensure_counter.new in
-    subst (λ (m : ℕ). AllocatesAt state (λ m'. IsBarred m' (mark_of c.args.self.now) c.args.cluster) (mark_of c.args.self.now) c.args.cluster (lent (table_of c.args.self.now) c.args.caches.now c.args.file.now c.args.list.now.entries) (not_handed c.in-Err.fault) (lent (table_of mid.self) mid.caches mid.file mid.list.entries) m) (sym c.in-Err.ensures.mark)
-    (refused-at state (mark_of c.args.self.now) c.args.cluster (table_of c.args.self.now) c.args.caches.now c.args.file.now c.args.list.now.entries (table_of mid.self) mid.caches mid.file mid.list.entries c.in-Err.fault c.in-Err.ensures.readies)
+    let between = seen mid.self mid.caches mid.file mid.list in
+    subst (λ (m : ℕ). AllocatesAt state (λ m'. IsBarred m' (mark_of c.args.self.now) c.args.cluster) (mark_of c.args.self.now) c.args.cluster s (not_handed c.in-Err.fault) between m) (sym c.in-Err.ensures.mark)
+    (refused-at state (mark_of c.args.self.now) c.args.cluster s between c.in-Err.fault c.in-Err.ensures.readies)

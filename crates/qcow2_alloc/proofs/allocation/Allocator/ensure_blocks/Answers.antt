@@ -56,7 +56,7 @@ loop-index-preserved g c = elim c.if-is_none.branch [
             (named-none (table_of l.self) l.index (ap (λ (o : Option ℕ). is_some o) (sym c.block_cluster.ensures) ∙ w.if-is_none.ensures)) l.auto.index succeeded (table_of new.self) new.caches new.file (w.in-Ok.ensures.makes pending)),
         w.in-Ok.ensures.mark ∙ l.invariant.1,
         λ pending order keeps sound.
-            turn-fills g.S.Storage.state (mark_of c.args.self.now) pending c.args.first l.index (table_of c.args.self.now) c.args.caches.now c.args.file.now l.made (table_of l.self) l.caches l.file (l.invariant.0 pending)
+            turn-fills g.S.Storage.state (mark_of c.args.self.now) (lent (table_of c.args.self.now) c.args.caches.now c.args.file.now pending) c.args.first l.index l.made (table_of l.self) l.caches l.file (l.invariant.0 pending)
             (named-none (table_of l.self) l.index (ap (λ (o : Option ℕ). is_some o) (sym c.block_cluster.ensures) ∙ w.if-is_none.ensures)) l.auto.index (table_of new.self) new.caches new.file (w.in-Ok.ensures.makes pending)
             (subst (λ (m : ℕ). order_of l.caches ≡ L2DependsOnRb → IsTrue (g.S.Storage.state l.file.image).shape.keeps → IsSound (metadata_of g.S.Storage.state l.file l.caches (table_of l.self) pending)
             → IsBlockPlaced m l.index (metadata_of g.S.Storage.state l.file l.caches (table_of l.self) pending) (metadata_of g.S.Storage.state new.file new.caches (table_of new.self) pending)) l.invariant.1 (w.in-Ok.ensures.placed pending))

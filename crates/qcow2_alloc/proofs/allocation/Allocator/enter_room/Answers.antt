@@ -8,7 +8,7 @@ use Rattle.qcow2_alloc.specs.FreeList.{FreeList}
 use Rattle.qcow2_alloc.specs.GrowingTables.{table_run}
 use Rattle.qcow2_alloc.specs.MakingRoom.{run_of}
 use Rattle.qcow2_alloc.specs.MovingTables.{FillsRoom, WasSound}
-use Rattle.qcow2_alloc.specs.State.{lent}
+use Rattle.qcow2_alloc.specs.State.{lent, seen}
 use Rattle.qcow2_alloc.proofs.Growth.FilledRooms.{some-clusters}
 use Rattle.qcow2_alloc.proofs.Freeing.FreeingEntries.{failed}
 use Rattle.qcow2_alloc.proofs.Growth.UnfilledRooms.{not-begun}
@@ -18,7 +18,7 @@ pub returns-then-clusters-eq0-clause-fills : goal.returns-then-clusters-eq0-clau
 returns-then-clusters-eq0-clause-fills g c = λ before file free.
     let state = g.S.Storage.state in
     let table = table_of c.args.self.now in
-    let known = WasSound g.S.Storage.state (lent (table_of c.args.self.now) before file c.args.list.now.entries) in
+    let known = WasSound g.S.Storage.state (seen c.args.self.now before file c.args.list.now) in
     subst (λ (es : List FreeEntry). FillsRoom state known c.args.room c.args.table (lent table c.args.caches.now c.args.file.now c.args.list.now.entries) (failed DamagedTable) (lent table c.args.caches.now c.args.file.now es))
     (sym (ap (λ (l : FreeList). l.entries) c.release.ensures))
     (not-begun state known table c.args.list.now.entries c.args.room c.args.table c.args.caches.now c.args.file.now DamagedTable
@@ -35,7 +35,7 @@ pub returns-in-Ok-clause-fills : goal.returns-in-Ok-clause-fills
 returns-in-Ok-clause-fills g c = λ before file free.
     let state = g.S.Storage.state in
     let table = table_of c.args.self.now in
-    let known = WasSound g.S.Storage.state (lent (table_of c.args.self.now) before file c.args.list.now.entries) in
+    let known = WasSound g.S.Storage.state (seen c.args.self.now before file c.args.list.now) in
     let h = c.args.file.now.header.fields in
     let new = c.fill_room.new in
     let pending = c.args.list.now.entries in
@@ -53,7 +53,7 @@ pub returns-in-Err-clause-fills : goal.returns-in-Err-clause-fills
 returns-in-Err-clause-fills g c = λ before file free.
     let state = g.S.Storage.state in
     let table = table_of c.args.self.now in
-    let known = WasSound g.S.Storage.state (lent (table_of c.args.self.now) before file c.args.list.now.entries) in
+    let known = WasSound g.S.Storage.state (seen c.args.self.now before file c.args.list.now) in
     let new = c.fill_room.new in
     let pending = c.args.list.now.entries in
     let entries : c.release-in-Err.new.self.entries ≡ pending = ap (λ (l : FreeList). l.entries) c.release-in-Err.ensures in

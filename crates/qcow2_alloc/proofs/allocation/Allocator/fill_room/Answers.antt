@@ -34,9 +34,9 @@ pub returns-in-Ok-clause-fills : goal.returns-in-Ok-clause-fills
 returns-in-Ok-clause-fills g c = λ pending first file free.
     let table = table_of c.args.self.now in
     let takes = c.in-Ok.ensures pending in
-    room-filled g.S.Storage.state table pending c.args.room c.args.table c.args.caches.now c.args.file.now (WasSound g.S.Storage.state (lent (table_of c.args.self.now) first file pending)) free c.take_room.new.caches c.take_room.new.file takes
+    room-filled g.S.Storage.state (lent table c.args.caches.now c.args.file.now pending) c.args.room c.args.table (WasSound g.S.Storage.state (lent (table_of c.args.self.now) first file pending)) free c.take_room.new.caches c.take_room.new.file takes
     (subst (λ (h : Header). IsPlan h.fields table c.args.room c.args.table) (sym takes.counts.header) c.requires) c.move_table.result (table_of c.move_table.new.self) c.move_table.new.file c.move_table.ensures.moves
 
 pub returns-in-Err-clause-fills : goal.returns-in-Err-clause-fills
 returns-in-Err-clause-fills g c = λ pending first file free.
-    not-filled g.S.Storage.state (table_of c.args.self.now) pending c.args.room c.args.table c.args.caches.now c.args.file.now (WasSound g.S.Storage.state (lent (table_of c.args.self.now) first file pending)) free c.in-Err.fault c.take_room.new.caches c.take_room.new.file (c.in-Err.ensures pending).counts
+    not-filled g.S.Storage.state (lent (table_of c.args.self.now) c.args.caches.now c.args.file.now pending) c.args.room c.args.table (WasSound g.S.Storage.state (lent (table_of c.args.self.now) first file pending)) free c.in-Err.fault c.take_room.new.caches c.take_room.new.file (c.in-Err.ensures pending).counts

@@ -8,7 +8,7 @@ use Rattle.qcow2_alloc.specs.FreeList.{FreeList}
 use Rattle.qcow2_alloc.specs.GrowingTables.{GrowsTable}
 use Rattle.qcow2_alloc.specs.HandingOut.{GrowsReftable}
 use Rattle.qcow2_alloc.specs.MovingTables.{IsGrownFor}
-use Rattle.qcow2_alloc.specs.State.{lent}
+use Rattle.qcow2_alloc.specs.State.{lent, seen}
 use Rattle.qcow2_alloc.proofs.Handing.AnnouncedOrders.{announced}
 use Rattle.qcow2_alloc.proofs.Blocks.CountingClusters.{succeeded}
 use Rattle.qcow2_alloc.proofs.Freeing.FreeingEntries.{failed}
@@ -17,7 +17,7 @@ use Rattle.qcow2_alloc.proofs.allocation.Allocator.grow_reftable.Goals as goal
 
 pub returns-in-Err-clause-grows : goal.returns-in-Err-clause-grows
 returns-in-Err-clause-grows g c =
-    not-copied g.S.Storage.state (mark_of c.args.self.now) c.args.index (table_of c.args.self.now) c.args.caches.now c.args.file.now c.args.list.now.entries c.args.caches.now c.args.file.now c.in-Err.fault c.in-Err.ensures.err
+    not-copied g.S.Storage.state (mark_of c.args.self.now) c.args.index (seen c.args.self.now c.args.caches.now c.args.file.now c.args.list.now) c.args.caches.now c.args.file.now c.in-Err.fault c.in-Err.ensures.err
 
 pub returns-in-Err-hold-clause-grows : goal.returns-in-Err-hold-clause-grows
 returns-in-Err-hold-clause-grows g c =
@@ -27,7 +27,7 @@ returns-in-Err-hold-clause-grows g c =
     let refused = c.in-Err-hold.ensures.err in
     subst (λ (l : FreeList). GrowsReftable state (mark_of c.args.self.now) c.args.index (lent t c.args.caches.now c.args.file.now entries) (failed c.in-Err-hold.fault) (lent t c.args.caches.now c.args.file.now l.entries)) (sym refused.1)
     (subst (λ (f : Fault). GrowsReftable state (mark_of c.args.self.now) c.args.index (lent t c.args.caches.now c.args.file.now entries) (failed f) (lent t c.args.caches.now c.args.file.now entries)) (sym refused.0)
-    (not-copied state (mark_of c.args.self.now) c.args.index t c.args.caches.now c.args.file.now entries c.args.caches.now c.args.file.now Memory tt))
+    (not-copied state (mark_of c.args.self.now) c.args.index (lent t c.args.caches.now c.args.file.now entries) c.args.caches.now c.args.file.now Memory tt))
 
 pub place_grown-requires-clause-grown : goal.place_grown-requires-clause-grown
 place_grown-requires-clause-grown g c = (c.args.index, c.requires.past, subst (λ (H : Header). IsGrownFor H.fields (table_of c.args.self.now) c.args.index c.in-Ok.copy) (sym c.in-Ok-l2_depends_on_rb.ensures.header) c.in-Ok.ensures.ok)
@@ -39,11 +39,12 @@ returns-in-Ok-l2_depends_on_rb-clause-grows g c =
     let entries = c.args.list.now.entries in
     let a = c.l2_depends_on_rb.new in
     let new = c.place_grown.new in
+    let s' = seen new.self new.caches new.file new.list in
     let done = c.in-Ok-l2_depends_on_rb.ensures in
-    let first = announced state t entries c.args.caches.now c.args.file.now a.self a.file done.kept done.blocks done.header done.room succeeded done.going done.announced done.safe done.cause done.faults in
+    let first = announced state (lent t c.args.caches.now c.args.file.now entries) a.self a.file done.kept done.blocks done.header done.room succeeded done.going done.announced done.safe done.cause done.faults in
     let grown = subst (λ (H : Header). IsGrownFor H.fields t c.args.index c.in-Ok.copy) (sym done.header) c.in-Ok.ensures.ok in
-    let grows = subst (λ (l : FreeList). GrowsTable state (mark_of c.args.self.now) c.args.index (lent t a.self a.file l.entries) c.place_grown.result (lent (table_of new.self) new.caches new.file new.list.entries)) c.in_default.ensures.ok (c.place_grown.ensures.grows c.args.index grown) in
-    announced-grows state (mark_of c.args.self.now) c.args.index t c.args.caches.now c.args.file.now entries a.self a.file first c.place_grown.result (table_of new.self) new.caches new.file new.list.entries grows
+    let grows = subst (λ (l : FreeList). GrowsTable state (mark_of c.args.self.now) c.args.index (lent t a.self a.file l.entries) c.place_grown.result s') c.in_default.ensures.ok (c.place_grown.ensures.grows c.args.index grown) in
+    announced-grows state (mark_of c.args.self.now) c.args.index (lent t c.args.caches.now c.args.file.now entries) a.self a.file first c.place_grown.result s' grows
 
 pub returns-in-Err-l2_depends_on_rb-clause-grows : goal.returns-in-Err-l2_depends_on_rb-clause-grows
 returns-in-Err-l2_depends_on_rb-clause-grows g c =
@@ -54,5 +55,5 @@ returns-in-Err-l2_depends_on_rb-clause-grows g c =
     let done = c.in-Err-l2_depends_on_rb.ensures in
     let still = ap (λ (l : FreeList). l.entries) c.release.ensures ∙ ap (λ (l : FreeList). l.entries) c.in_default.ensures.ok in
     subst (λ (es : List FreeEntry). GrowsReftable state (mark_of c.args.self.now) c.args.index (lent t c.args.caches.now c.args.file.now entries) (failed c.in-Err-l2_depends_on_rb.fault) (lent t a.self a.file es)) (sym still)
-    (not-announced state (mark_of c.args.self.now) c.args.index t c.args.caches.now c.args.file.now entries a.self a.file c.in-Err-l2_depends_on_rb.fault
-    (announced state t entries c.args.caches.now c.args.file.now a.self a.file done.kept done.blocks done.header done.room (failed c.in-Err-l2_depends_on_rb.fault) done.going tt tt done.cause done.faults))
+    (not-announced state (mark_of c.args.self.now) c.args.index (lent t c.args.caches.now c.args.file.now entries) a.self a.file c.in-Err-l2_depends_on_rb.fault
+    (announced state (lent t c.args.caches.now c.args.file.now entries) a.self a.file done.kept done.blocks done.header done.room (failed c.in-Err-l2_depends_on_rb.fault) done.going tt tt done.cause done.faults))

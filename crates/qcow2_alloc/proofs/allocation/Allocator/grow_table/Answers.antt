@@ -4,14 +4,14 @@ use Rattle.imago_storage.specs.declared.fault.Fault.TheVariants.{Memory}
 use Rattle.qcow2_alloc.specs.Allocators.{table_of, mark_of}
 use Rattle.qcow2_alloc.specs.FreeList.{FreeList}
 use Rattle.qcow2_alloc.specs.GrowingTables.{GrowsTable}
-use Rattle.qcow2_alloc.specs.State.{lent}
+use Rattle.qcow2_alloc.specs.State.{lent, seen}
 use Rattle.qcow2_alloc.proofs.Freeing.FreeingEntries.{failed}
 use Rattle.qcow2_alloc.proofs.Growth.GrowingTables.{no-copy}
 use Rattle.qcow2_alloc.proofs.allocation.Allocator.grow_table.Goals as goal
 
 pub returns-in-Err-clause-grows : goal.returns-in-Err-clause-grows
 returns-in-Err-clause-grows g c =
-    no-copy g.S.Storage.state (mark_of c.args.self.now) c.args.at (table_of c.args.self.now) c.args.list.now.entries c.args.caches.now c.args.file.now c.in-Err.fault c.in-Err.ensures.err
+    no-copy g.S.Storage.state (mark_of c.args.self.now) c.args.at (seen c.args.self.now c.args.caches.now c.args.file.now c.args.list.now) c.in-Err.fault c.in-Err.ensures.err
 
 pub returns-in-Err-hold-clause-grows : goal.returns-in-Err-hold-clause-grows
 returns-in-Err-hold-clause-grows g c =
@@ -20,7 +20,7 @@ returns-in-Err-hold-clause-grows g c =
     let refused = c.in-Err-hold.ensures.err in
     subst (λ (l : FreeList). GrowsTable state (mark_of c.args.self.now) c.args.at (lent t c.args.caches.now c.args.file.now c.args.list.now.entries) (failed c.in-Err-hold.fault) (lent t c.args.caches.now c.args.file.now l.entries)) (sym refused.1)
     (subst (λ (f : Fault). GrowsTable state (mark_of c.args.self.now) c.args.at (lent t c.args.caches.now c.args.file.now c.args.list.now.entries) (failed f) (lent t c.args.caches.now c.args.file.now c.args.list.now.entries)) (sym refused.0)
-    (no-copy state (mark_of c.args.self.now) c.args.at t c.args.list.now.entries c.args.caches.now c.args.file.now Memory tt))
+    (no-copy state (mark_of c.args.self.now) c.args.at (lent t c.args.caches.now c.args.file.now c.args.list.now.entries) Memory tt))
 
 pub place_grown-requires-clause-grown : goal.place_grown-requires-clause-grown
 place_grown-requires-clause-grown g c = (c.args.at, c.requires.past, c.in-Ok.ensures.ok)
@@ -28,5 +28,5 @@ place_grown-requires-clause-grown g c = (c.args.at, c.requires.past, c.in-Ok.ens
 pub returns-clause-grows : goal.returns-clause-grows
 returns-clause-grows g c =
     let new = c.place_grown.new in
-    subst (λ (l : FreeList). GrowsTable g.S.Storage.state (mark_of c.args.self.now) c.args.at (lent (table_of c.args.self.now) c.args.caches.now c.args.file.now l.entries) c.place_grown.result (lent (table_of new.self) new.caches new.file new.list.entries))
+    subst (λ (l : FreeList). GrowsTable g.S.Storage.state (mark_of c.args.self.now) c.args.at (seen c.args.self.now c.args.caches.now c.args.file.now l) c.place_grown.result (seen new.self new.caches new.file new.list))
     c.in_default.ensures.ok (c.place_grown.ensures.grows c.args.at c.in-Ok.ensures.ok)

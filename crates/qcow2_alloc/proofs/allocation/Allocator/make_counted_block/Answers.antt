@@ -6,6 +6,7 @@ use Rattle.qcow2_alloc.specs.Allocating.{RaisesCluster}
 use Rattle.qcow2_alloc.specs.Allocators.{table_of, metadata_of}
 use Rattle.qcow2_alloc.specs.MakingBlocks.{WhyNotNamed}
 use Rattle.qcow2_alloc.specs.Quiet.{counted}
+use Rattle.qcow2_alloc.specs.State.{lent}
 use Rattle.qcow2_alloc.specs.declared.cache.MetadataCaches.{MetadataCaches}
 use Rattle.qcow2_alloc.proofs.Blocks.CountingClusters.{succeeded}
 use Rattle.qcow2_alloc.proofs.Searching.FreeClusters.{uncounted-free}
@@ -22,7 +23,7 @@ returns-in-Err-clause-makes g c = λ pending first f begun free.
     let m = metadata_of state c.args.file.now c.args.caches.now table pending in
     let own = c.own_place.ensures.first in
     let below = c.if-place-own_place.false in
-    unmade-place state c.args.index table pending first f c.args.caches.now c.args.file.now begun c.args.place c.in-Err.fault (omega (arith, own, below))
+    unmade-place state c.args.index (lent table first f pending) c.args.caches.now c.args.file.now begun c.args.place c.in-Err.fault (omega (arith, own, below))
     (λ holds none.
     let zero : counted m c.args.place ≡ 0 = (free holds.1 holds.0 holds.2).uncounted in
     let at : counted m 0 ≡ 0 = subst (λ n. counted m n ≡ 0) none zero in
@@ -32,14 +33,14 @@ returns-in-Err-clause-makes g c = λ pending first f begun free.
 
 pub returns-in-Err-cleared_block-clause-makes : goal.returns-in-Err-cleared_block-clause-makes
 returns-in-Err-cleared_block-clause-makes g c = λ pending first f begun free.
-    unmade-memory g.S.Storage.state c.args.index (table_of c.args.self.now) pending first f c.args.caches.now c.args.file.now begun c.in-Err-cleared_block.fault c.in-Err-cleared_block.ensures.err
+    unmade-memory g.S.Storage.state c.args.index (lent (table_of c.args.self.now) first f pending) c.args.caches.now c.args.file.now begun c.in-Err-cleared_block.fault c.in-Err-cleared_block.ensures.err
 
 pub returns-in-Err-rb_forget-clause-makes : goal.returns-in-Err-rb_forget-clause-makes
 returns-in-Err-rb_forget-clause-makes g c = λ pending first f begun free.
     let state = g.S.Storage.state in
     let table = table_of c.args.self.now in
     let m = metadata_of state c.args.file.now c.args.caches.now table pending in
-    unforgotten state c.args.index table pending first f c.args.caches.now c.args.file.now begun c.args.place c.in-Err-rb_forget.fault c.rb_forget.new.self
+    unforgotten state c.args.index (lent table first f pending) c.args.caches.now c.args.file.now begun c.args.place c.in-Err-rb_forget.fault c.rb_forget.new.self
     (λ holds. (uncounted-free m ((begun.quiet holds.1).holds holds.0 holds.2 tt).0 (begun.order ∙ holds.1) c.args.place (free holds.1 holds.0 holds.2).uncounted).0) c.in-Err-rb_forget.ensures.err
 
 pub returns-in-Err-count_cluster-clause-makes : goal.returns-in-Err-count_cluster-clause-makes
@@ -47,7 +48,7 @@ returns-in-Err-count_cluster-clause-makes g c = λ pending first f begun free.
     let state = g.S.Storage.state in
     let table = table_of c.args.self.now in
     let new = c.count_cluster.new in
-    uncounted-made state table pending first f c.args.index c.args.place c.args.caches.now c.args.file.now begun free c.in-Err-count_cluster.fault new.caches new.file
+    uncounted-made state (lent table first f pending) c.args.index c.args.place c.args.caches.now c.args.file.now begun free c.in-Err-count_cluster.fault new.caches new.file
     (subst (λ (m : MetadataCaches _). RaisesCluster state table c.args.place m c.args.file.now (failed c.in-Err-count_cluster.fault) new.caches new.file) c.in_default-rb_forget.ensures.ok c.in-Err-count_cluster.ensures)
 
 pub write_block-requires-clause-namable : goal.write_block-requires-clause-namable
@@ -69,7 +70,7 @@ returns-in-Ok-flush_rb-clause-makes g c = λ pending first f begun free.
     let ge = c.if-place-own_place.false in
     let below : c.args.place < c.args.index * counters_of_block c.args.file.now.header.fields = omega (arith, own, ge) in
     let raises = subst (λ (m : MetadataCaches _). RaisesCluster state table c.args.place m c.args.file.now succeeded mid.caches mid.file) c.in_default-rb_forget.ensures.ok c.in_default-count_cluster.ensures in
-    taken-made-so state table pending first f c.args.index c.args.place c.args.caches.now c.args.file.now begun free mid.caches mid.file raises flushed.self flushed.file done.going done.kept done.others done.room done.cause done.clean
+    taken-made-so state (lent table first f pending) c.args.index c.args.place c.args.caches.now c.args.file.now begun free mid.caches mid.file raises flushed.self flushed.file done.going done.kept done.others done.room done.cause done.clean
     c.requires.inside c.requires.empty c.cluster_bits.ensures.shaped.low named.0.some reach below c.in-Ok.block c.in-Ok.ensures.ok c.write_block.result (table_of new.self) new.file c.write_block.ensures.header c.write_block.ensures.names
 
 pub returns-in-Err-flush_rb-clause-makes : goal.returns-in-Err-flush_rb-clause-makes
@@ -80,7 +81,7 @@ returns-in-Err-flush_rb-clause-makes g c = λ pending first f begun free.
     let flushed = c.flush_rb.new in
     let done = c.in-Err-flush_rb.ensures in
     let raises = subst (λ (m : MetadataCaches _). RaisesCluster state table c.args.place m c.args.file.now succeeded mid.caches mid.file) c.in_default-rb_forget.ensures.ok c.in_default-count_cluster.ensures in
-    unwritten-made state table pending first f c.args.index c.args.place c.args.caches.now c.args.file.now begun free mid.caches mid.file raises c.in-Err-flush_rb.fault flushed.self flushed.file done.going done.kept done.others done.room done.cause done.faults
+    unwritten-made state (lent table first f pending) c.args.index c.args.place c.args.caches.now c.args.file.now begun free mid.caches mid.file raises c.in-Err-flush_rb.fault flushed.self flushed.file done.going done.kept done.others done.room done.cause done.faults
 
 pub returns-in-Ok-flush_rb-clause-at : goal.returns-in-Ok-flush_rb-clause-at
 returns-in-Ok-flush_rb-clause-at g c =

@@ -3,6 +3,7 @@ use Rattle.qcow2_metadata.specs.Places.{IsInReach}
 use Rattle.qcow2_alloc.specs.Allocators.{table_of, metadata_of}
 use Rattle.qcow2_alloc.specs.MakingBlocks.{WhyNotNamed}
 use Rattle.qcow2_alloc.specs.Quiet.{IsSound, counted}
+use Rattle.qcow2_alloc.specs.State.{lent}
 use Rattle.qcow2_alloc.proofs.Searching.FreeClusters.{uncounted-free}
 use Rattle.qcow2_alloc.proofs.Blocks.MadeBlocks.{begins-none, first-counted, unmade-place, unforgotten}
 use Rattle.qcow2_alloc.proofs.Blocks.OwnBlocks.{own-uncounted, own-made-at}
@@ -20,7 +21,7 @@ returns-in-Err-clause-makes g c = λ pending.
     let d = c.own_place-place.result in
     let m = metadata_of state c.args.file.now c.args.caches.now table pending in
     let first = c.own_place-place.ensures.first in
-    unmade-place state c.args.index table pending c.args.caches.now c.args.file.now c.args.caches.now c.args.file.now (begins-none state c.args.index table pending c.args.caches.now c.args.file.now) d c.in-Err.fault (omega (arith, first))
+    unmade-place state c.args.index (lent table c.args.caches.now c.args.file.now pending) c.args.caches.now c.args.file.now (begins-none state c.args.index (lent table c.args.caches.now c.args.file.now pending)) d c.in-Err.fault (omega (arith, first))
     (λ holds none.
     let sound : IsSound m = holds.2 in
     let zero : counted m d ≡ 0 = own-uncounted m c.args.index d c.own_place-place.ensures.own c.requires.inside c.requires.empty sound in
@@ -39,7 +40,7 @@ returns-in-Ok-rb_forget-clause-makes g c = λ pending.
     let new = c.write_block.new in
     let named = c.in_default.ensures.ok in
     let reach : IsInReach before.header.fields.cluster_bits d = subst (λ b. IsInReach b d) c.cluster_bits.ensures.value named.1 in
-    own-made-at state table pending old before d c.args.index c.own_place-place.ensures.own c.requires.inside c.requires.empty c.cluster_bits.ensures.shaped.low named.0.some reach
+    own-made-at state (lent table old before pending) d c.args.index c.own_place-place.ensures.own c.requires.inside c.requires.empty c.cluster_bits.ensures.shaped.low named.0.some reach
     c.in-Ok.block c.in-Ok.ensures.ok c.rb_forget.new.self c.in-Ok-rb_forget.ensures.ok c.write_block.result (table_of new.self) new.file c.write_block.ensures.header c.write_block.ensures.names
 
 pub returns-in-Err-rb_forget-clause-makes : goal.returns-in-Err-rb_forget-clause-makes
@@ -48,7 +49,7 @@ returns-in-Err-rb_forget-clause-makes g c = λ pending.
     let table = table_of c.args.self.now in
     let d = c.own_place-place.result in
     let m = metadata_of state c.args.file.now c.args.caches.now table pending in
-    unforgotten state c.args.index table pending c.args.caches.now c.args.file.now c.args.caches.now c.args.file.now (begins-none state c.args.index table pending c.args.caches.now c.args.file.now) d c.in-Err-rb_forget.fault c.rb_forget.new.self
+    unforgotten state c.args.index (lent table c.args.caches.now c.args.file.now pending) c.args.caches.now c.args.file.now (begins-none state c.args.index (lent table c.args.caches.now c.args.file.now pending)) d c.in-Err-rb_forget.fault c.rb_forget.new.self
     (λ holds. (uncounted-free m holds.2 holds.1 d (own-uncounted m c.args.index d c.own_place-place.ensures.own c.requires.inside c.requires.empty holds.2)).0) c.in-Err-rb_forget.ensures.err
 
 pub returns-in-Ok-rb_forget-clause-at : goal.returns-in-Ok-rb_forget-clause-at

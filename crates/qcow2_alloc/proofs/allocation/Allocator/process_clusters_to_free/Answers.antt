@@ -21,7 +21,7 @@ returns-in-Ok-clause-frees g c =
     let a = c.rb_depends_on_l2.new in
     let n = c.free_all.new in
     let done = c.in-Ok.ensures in
-    let announced = announcing-frees state t m.caches m.file a.self a.file (mark_of m.self) m.list.entries done.kept done.header done.room freed done.going done.announced tt done.safe done.cause done.faults in
+    let announced = announcing-frees state (lent t m.caches m.file m.list.entries) a.self a.file (mark_of m.self) done.kept done.header done.room freed done.going done.announced tt done.safe done.cause done.faults in
     let rest = subst (λ (v : TableValue). Frees state (mark_of m.self) (lent v a.self a.file m.list.entries) c.free_all.result (lent v n.caches n.file n.list.entries) (mark_of n.self)) c.free_metadata.ensures.table (c.free_all.ensures.frees done.announced) in
     frees-then state t c.args.caches.now c.args.file.now (mark_of c.args.self.now) c.args.list.now.entries m.caches m.file (mark_of m.self) m.list.entries c.free_all.result n.caches n.file (mark_of n.self) n.list.entries c.in_default.ensures.frees
     (frees-then state t m.caches m.file (mark_of m.self) m.list.entries a.self a.file (mark_of m.self) m.list.entries c.free_all.result n.caches n.file (mark_of n.self) n.list.entries announced rest)
@@ -33,7 +33,7 @@ returns-in-Err-rb_depends_on_l2-clause-frees g c =
     let m = c.free_metadata.new in
     let a = c.rb_depends_on_l2.new in
     let done = c.in-Err-rb_depends_on_l2.ensures in
-    let announced = announcing-frees state t m.caches m.file a.self a.file (mark_of m.self) m.list.entries done.kept done.header done.room (failed c.in-Err-rb_depends_on_l2.fault) done.going tt done.stays tt done.cause done.faults in
+    let announced = announcing-frees state (lent t m.caches m.file m.list.entries) a.self a.file (mark_of m.self) done.kept done.header done.room (failed c.in-Err-rb_depends_on_l2.fault) done.going tt done.stays tt done.cause done.faults in
     frees-then state t c.args.caches.now c.args.file.now (mark_of c.args.self.now) c.args.list.now.entries m.caches m.file (mark_of m.self) m.list.entries (failed c.in-Err-rb_depends_on_l2.fault) a.self a.file (mark_of m.self) m.list.entries c.in_default.ensures.frees announced
 
 pub returns-in-Ok-clause-left : goal.returns-in-Ok-clause-left

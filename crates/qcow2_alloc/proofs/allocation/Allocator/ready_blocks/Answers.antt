@@ -2,7 +2,7 @@ use Rattle.std.proofs.Common.{arith, ℕ, ◌+◌, ◌/◌, subst}
 use Rattle.qcow2_alloc.specs.Allocators.{table_of, mark_of}
 use Rattle.qcow2_types.specs.Counts.{counters_of_block}
 use Rattle.qcow2_alloc.specs.GrowingTables.{GrowsTable}
-use Rattle.qcow2_alloc.specs.State.{lent}
+use Rattle.qcow2_alloc.specs.State.{seen}
 use Rattle.qcow2_alloc.proofs.Blocks.CountingClusters.{succeeded}
 use Rattle.qcow2_alloc.proofs.Freeing.FreeingEntries.{failed}
 use Rattle.qcow2_alloc.proofs.Blocks.ReadyingBlocks.{blocks-ready, table-ready, table-not-ready}
@@ -13,23 +13,27 @@ returns-then-last-entries-clause-readies g c =
     let new = c.ensure_blocks.new in
     let inside = c.if-last-entries.true in
     let long = c.entries.ensures.value in
-    blocks-ready g.S.Storage.state (mark_of c.args.self.now) (c.args.last + (c.args.count / counters_of_block c.args.file.now.header.fields + 2)) c.args.first c.args.last (table_of c.args.self.now) c.args.caches.now c.args.file.now c.args.list.now.entries (omega (arith, inside, long)) c.ensure_blocks.result (table_of new.self) new.caches new.file
+    blocks-ready g.S.Storage.state (mark_of c.args.self.now) (c.args.last + (c.args.count / counters_of_block c.args.file.now.header.fields + 2)) c.args.first c.args.last (seen c.args.self.now c.args.caches.now c.args.file.now c.args.list.now) (omega (arith, inside, long)) c.ensure_blocks.result (table_of new.self) new.caches new.file
     (c.ensure_blocks.ensures.makes c.args.list.now.entries) (c.ensure_blocks.ensures.fills c.args.list.now.entries)
 
 pub returns-in-Err-clause-readies : goal.returns-in-Err-clause-readies
 returns-in-Err-clause-readies g c =
+    let s = seen c.args.self.now c.args.caches.now c.args.file.now c.args.list.now in
     let new = c.grow_table.new in
+    let s' = seen new.self new.caches new.file new.list in
     let past = c.if-last-entries.false in
     let long = c.entries.ensures.value in
-    table-not-ready g.S.Storage.state (mark_of c.args.self.now) (c.args.last + (c.args.count / counters_of_block c.args.file.now.header.fields + 2)) c.args.first c.args.last (table_of c.args.self.now) c.args.caches.now c.args.file.now c.args.list.now.entries (omega (arith, past, long))
-    (table_of new.self) new.caches new.file new.list.entries c.in-Err.fault
-    (subst (λ (x : ℕ). GrowsTable g.S.Storage.state (mark_of c.args.self.now) (c.args.last + (c.args.count / x + 2)) (lent (table_of c.args.self.now) c.args.caches.now c.args.file.now c.args.list.now.entries) (failed c.in-Err.fault) (lent (table_of new.self) new.caches new.file new.list.entries)) c.rb_entries.ensures.value c.in-Err.ensures.grows)
+    table-not-ready g.S.Storage.state (mark_of c.args.self.now) (c.args.last + (c.args.count / counters_of_block c.args.file.now.header.fields + 2)) c.args.first c.args.last s (omega (arith, past, long))
+    s' c.in-Err.fault
+    (subst (λ (x : ℕ). GrowsTable g.S.Storage.state (mark_of c.args.self.now) (c.args.last + (c.args.count / x + 2)) s (failed c.in-Err.fault) s') c.rb_entries.ensures.value c.in-Err.ensures.grows)
 
 pub returns-in-Ok-clause-readies : goal.returns-in-Ok-clause-readies
 returns-in-Ok-clause-readies g c =
+    let s = seen c.args.self.now c.args.caches.now c.args.file.now c.args.list.now in
     let new = c.grow_table.new in
+    let s' = seen new.self new.caches new.file new.list in
     let past = c.if-last-entries.false in
     let long = c.entries.ensures.value in
-    table-ready g.S.Storage.state (mark_of c.args.self.now) (c.args.last + (c.args.count / counters_of_block c.args.file.now.header.fields + 2)) c.args.first c.args.last (table_of c.args.self.now) c.args.caches.now c.args.file.now c.args.list.now.entries (omega (arith, past, long))
-    (table_of new.self) new.caches new.file new.list.entries (omega arith)
-    (subst (λ (x : ℕ). GrowsTable g.S.Storage.state (mark_of c.args.self.now) (c.args.last + (c.args.count / x + 2)) (lent (table_of c.args.self.now) c.args.caches.now c.args.file.now c.args.list.now.entries) succeeded (lent (table_of new.self) new.caches new.file new.list.entries)) c.rb_entries.ensures.value c.in-Ok.ensures.grows)
+    table-ready g.S.Storage.state (mark_of c.args.self.now) (c.args.last + (c.args.count / counters_of_block c.args.file.now.header.fields + 2)) c.args.first c.args.last s (omega (arith, past, long))
+    s' (omega arith)
+    (subst (λ (x : ℕ). GrowsTable g.S.Storage.state (mark_of c.args.self.now) (c.args.last + (c.args.count / x + 2)) s succeeded s') c.rb_entries.ensures.value c.in-Ok.ensures.grows)

@@ -5,30 +5,33 @@ use Rattle.qcow2_types.specs.Counts.{counters_of_block}
 use Rattle.qcow2_alloc.specs.Allocators.{table_of, mark_of}
 use Rattle.qcow2_alloc.specs.ReadyingBlocks.{ReadiesBlocks, last_number}
 use Rattle.qcow2_alloc.specs.ReadyingRuns.{ReadiesRun}
-use Rattle.qcow2_alloc.specs.State.{lent}
+use Rattle.qcow2_alloc.specs.State.{seen}
 use Rattle.qcow2_alloc.proofs.Handing.ReadyingRuns.{Stays, stays-none, stays-found, stays-on, found-run, readying-none, readying-searched, readying-made, search-refused, making-refused, unfit-refused, grown-refused, run-ready, turns-fewer}
 use Rattle.qcow2_alloc.proofs.allocation.Allocator.ready_run.Goals as goal
 
 pub loop-first-init : goal.loop-first-init
-loop-first-init g c = (readying-none g.S.Storage.state (table_of c.args.self.now) c.args.caches.now c.args.file.now c.args.list.now.entries, refl, refl, c.entries-entries.ensures.value, stays-none g.S.Storage.state (table_of c.args.self.now) c.args.caches.now c.args.file.now c.args.list.now.entries (mark_of c.args.self.now) c.args.count c.requires.some)
+loop-first-init g c = (readying-none g.S.Storage.state (seen c.args.self.now c.args.caches.now c.args.file.now c.args.list.now), refl, refl, c.entries-entries.ensures.value, stays-none g.S.Storage.state (seen c.args.self.now c.args.caches.now c.args.file.now c.args.list.now) (mark_of c.args.self.now) c.args.count c.requires.some)
 
 pub returns-in-Err-clause-readies : goal.returns-in-Err-clause-readies
 returns-in-Err-clause-readies g c =
+    let s = seen c.args.self.now c.args.caches.now c.args.file.now c.args.list.now in
     let state = g.S.Storage.state in
     let l = c.loop-first in
     let new = c.find_run.new in
-    subst (λ (m : ℕ). ReadiesRun state m c.args.count (lent (table_of c.args.self.now) c.args.caches.now c.args.file.now c.args.list.now.entries) (Err c.in-Err.fault) (lent (table_of l.self) new.caches new.file l.list.entries)) l.invariant.1
-    (search-refused state (table_of c.args.self.now) c.args.caches.now c.args.file.now c.args.list.now.entries (table_of l.self) l.caches l.file l.list.entries l.invariant.0 (mark_of l.self) c.args.count c.in-Err.fault new.caches new.file c.in-Err.ensures)
+    subst (λ (m : ℕ). ReadiesRun state m c.args.count s (Err c.in-Err.fault) (seen l.self new.caches new.file l.list)) l.invariant.1
+    (search-refused state s (seen l.self l.caches l.file l.list) l.invariant.0 (mark_of l.self) c.args.count c.in-Err.fault new.caches new.file c.in-Err.ensures)
 
 pub returns-in-Err-last_index-clause-readies : goal.returns-in-Err-last_index-clause-readies
 returns-in-Err-last_index-clause-readies g c =
+    let s = seen c.args.self.now c.args.caches.now c.args.file.now c.args.list.now in
     let state = g.S.Storage.state in
     let l = c.loop-first in
+    let so_far = seen l.self l.caches l.file l.list in
     let new = c.find_run.new in
-    subst (λ (m : ℕ). ReadiesRun state m c.args.count (lent (table_of c.args.self.now) c.args.caches.now c.args.file.now c.args.list.now.entries) (Err c.in-Err-last_index.fault) (lent (table_of l.self) new.caches new.file l.list.entries)) l.invariant.1
-    (unfit-refused state (table_of c.args.self.now) c.args.caches.now c.args.file.now c.args.list.now.entries (table_of l.self) l.caches l.file l.list.entries l.invariant.0 (mark_of l.self) c.args.count c.in-Ok.first c.requires.some new.caches new.file c.in-Ok.ensures
+    subst (λ (m : ℕ). ReadiesRun state m c.args.count s (Err c.in-Err-last_index.fault) (seen l.self new.caches new.file l.list)) l.invariant.1
+    (unfit-refused state s so_far l.invariant.0 (mark_of l.self) c.args.count c.in-Ok.first c.requires.some new.caches new.file c.in-Ok.ensures
     c.in-Err-last_index.fault c.in-Err-last_index.ensures.err
-    (subst (λ (m : ℕ). Stays state (table_of c.args.self.now) c.args.caches.now c.args.file.now c.args.list.now.entries m c.args.count (table_of l.self) l.caches l.file l.list.entries) (sym l.invariant.1) l.invariant.4))
+    (subst (λ (m : ℕ). Stays state s m c.args.count so_far) (sym l.invariant.1) l.invariant.4))
 
 yes-true : (b : Bool) → b ≡ true → IsTrue b
 yes-true true is = refl
@@ -40,18 +43,20 @@ never-false true is holds = cc is
 
 pub returns-then-has_grown_short_of-clause-readies : goal.returns-then-has_grown_short_of-clause-readies
 returns-then-has_grown_short_of-clause-readies g c =
+    let s = seen c.args.self.now c.args.caches.now c.args.file.now c.args.list.now in
     let state = g.S.Storage.state in
     let l = c.loop-first in
+    let so_far = seen l.self l.caches l.file l.list in
     let new = c.find_run.new in
     let long = l.invariant.3 in
     let short = c.has_grown_short_of.ensures.0 (yes-true c.has_grown_short_of.result c.if-has_grown_short_of.true) in
     let more = short.0 in
     let less = short.1 in
     let index = c.in-Ok-last_index.ensures.index in
-    subst (λ (m : ℕ). ReadiesRun state m c.args.count (lent (table_of c.args.self.now) c.args.caches.now c.args.file.now c.args.list.now.entries) (Err (Limit c.saturating_add.result)) (lent (table_of l.self) new.caches new.file l.list.entries)) l.invariant.1
-    (grown-refused state (table_of c.args.self.now) c.args.caches.now c.args.file.now c.args.list.now.entries (table_of l.self) l.caches l.file l.list.entries l.invariant.0 (mark_of l.self) c.args.count c.in-Ok.first c.requires.some new.caches new.file c.in-Ok.ensures
+    subst (λ (m : ℕ). ReadiesRun state m c.args.count s (Err (Limit c.saturating_add.result)) (seen l.self new.caches new.file l.list)) l.invariant.1
+    (grown-refused state s so_far l.invariant.0 (mark_of l.self) c.args.count c.in-Ok.first c.requires.some new.caches new.file c.in-Ok.ensures
     c.saturating_add.result (subst (λ (z : ℕ). c.saturating_add.result ≡ last_number z c.args.count) c.first.view_is c.saturating_add.ensures) (omega (arith, long, more)) (omega (arith, less, index))
-    (subst (λ (m : ℕ). Stays state (table_of c.args.self.now) c.args.caches.now c.args.file.now c.args.list.now.entries m c.args.count (table_of l.self) l.caches l.file l.list.entries) (sym l.invariant.1) l.invariant.4))
+    (subst (λ (m : ℕ). Stays state s m c.args.count so_far) (sym l.invariant.1) l.invariant.4))
 
 -- The table that has grown has a word for the last cluster of the run where that wasn't refused.
 covers : (entries now last first : ℕ) (short : Bool) → short ≡ false → (entries < now → now ≤ last → IsTrue short) → entries ≡ first → first < now → last < now
@@ -68,55 +73,61 @@ loop-first-smaller g c =
 
 pub loop-first-preserved : goal.loop-first-preserved
 loop-first-preserved g c =
+    let s = seen c.args.self.now c.args.caches.now c.args.file.now c.args.list.now in
     let state = g.S.Storage.state in
     let l = c.loop-first in
+    let so_far = seen l.self l.caches l.file l.list in
     let searched = c.find_run.new in
     let new = c.ready_blocks.new in
+    let s' = seen new.self new.caches new.file new.list in
     let made = c.in-Ok-true.ensures in
     let bits = c.rb_bits.ensures in
     let k = counters_of_block searched.file.header.fields in
     let at = c.in-Ok-last_index.index + (c.args.count / k + 2) in
-    let found = readying-searched state (table_of c.args.self.now) c.args.caches.now c.args.file.now c.args.list.now.entries (table_of l.self) l.caches l.file l.list.entries l.invariant.0 (mark_of l.self) c.args.count c.in-Ok.first searched.caches searched.file c.in-Ok.ensures in
-    let kept = stays-found state (table_of c.args.self.now) c.args.caches.now c.args.file.now c.args.list.now.entries (table_of l.self) l.caches l.file l.list.entries l.invariant.0 (mark_of l.self) c.args.count c.in-Ok.first c.requires.some searched.caches searched.file c.in-Ok.ensures
-    (subst (λ (m : ℕ). Stays state (table_of c.args.self.now) c.args.caches.now c.args.file.now c.args.list.now.entries m c.args.count (table_of l.self) l.caches l.file l.list.entries) (sym l.invariant.1) l.invariant.4) in
+    let found = readying-searched state s so_far l.invariant.0 (mark_of l.self) c.args.count c.in-Ok.first searched.caches searched.file c.in-Ok.ensures in
+    let kept = stays-found state s so_far l.invariant.0 (mark_of l.self) c.args.count c.in-Ok.first c.requires.some searched.caches searched.file c.in-Ok.ensures
+    (subst (λ (m : ℕ). Stays state s m c.args.count so_far) (sym l.invariant.1) l.invariant.4) in
     let index : c.rt_index-first_index.result ≡ c.in-Ok.first / k = c.rt_index-first_index.ensures ∙ ap (λ (m : ℕ). c.in-Ok.first / m) bits.entries in
-    let readies = subst (λ (b : Bool). ReadiesBlocks state (mark_of l.self) at c.rt_index-first_index.result c.in-Ok-last_index.index (lent (table_of l.self) searched.caches searched.file l.list.entries) (Ok b) (lent (table_of new.self) new.caches new.file new.list.entries)) c.in-Ok-true.field-0-test made.readies in (
-      readying-made state (table_of c.args.self.now) c.args.caches.now c.args.file.now c.args.list.now.entries (table_of l.self) searched.caches searched.file l.list.entries found
-          (mark_of l.self) at c.rt_index-first_index.result c.in-Ok-last_index.index true (table_of new.self) new.caches new.file new.list.entries readies
+    let readies = subst (λ (b : Bool). ReadiesBlocks state (mark_of l.self) at c.rt_index-first_index.result c.in-Ok-last_index.index (seen l.self searched.caches searched.file l.list) (Ok b) s') c.in-Ok-true.field-0-test made.readies in (
+      readying-made state s (seen l.self searched.caches searched.file l.list) found
+          (mark_of l.self) at c.rt_index-first_index.result c.in-Ok-last_index.index true s' readies
           (covers _ (length (table_of l.self).words) c.in-Ok-last_index.index (length (table_of c.args.self.now).words) c.has_grown_short_of.result c.if-has_grown_short_of.false (λ a b. c.has_grown_short_of.ensures.1 (a, b)) l.invariant.3),
       made.mark ∙ l.invariant.1,
       made.held ∙ l.invariant.2,
       l.invariant.3,
-      subst (λ (m : ℕ). Stays state (table_of c.args.self.now) c.args.caches.now c.args.file.now c.args.list.now.entries m c.args.count (table_of new.self) new.caches new.file new.list.entries) l.invariant.1
-          (stays-on state (table_of c.args.self.now) c.args.caches.now c.args.file.now c.args.list.now.entries (table_of l.self) searched.caches searched.file l.list.entries found (mark_of l.self) c.args.count c.in-Ok.first c.rt_index-first_index.result c.in-Ok-last_index.index c.requires.some
-          (found-run state (table_of c.args.self.now) c.args.caches.now c.args.file.now c.args.list.now.entries (table_of l.self) l.caches l.file l.list.entries l.invariant.0 (mark_of l.self) c.args.count c.in-Ok.first c.requires.some searched.caches searched.file c.in-Ok.ensures)
-          index c.in-Ok-last_index.ensures.index kept (table_of new.self) new.caches new.file new.list.entries readies),
+      subst (λ (m : ℕ). Stays state s m c.args.count s') l.invariant.1
+          (stays-on state s (seen l.self searched.caches searched.file l.list) found (mark_of l.self) c.args.count c.in-Ok.first c.rt_index-first_index.result c.in-Ok-last_index.index c.requires.some
+          (found-run state s so_far l.invariant.0 (mark_of l.self) c.args.count c.in-Ok.first c.requires.some searched.caches searched.file c.in-Ok.ensures)
+          index c.in-Ok-last_index.ensures.index kept s' readies),
     )
 
 pub returns-in-Ok-false-clause-readies : goal.returns-in-Ok-false-clause-readies
 returns-in-Ok-false-clause-readies g c =
+    let s = seen c.args.self.now c.args.caches.now c.args.file.now c.args.list.now in
     let state = g.S.Storage.state in
     let l = c.loop-first in
+    let so_far = seen l.self l.caches l.file l.list in
     let searched = c.find_run.new in
     let new = c.ready_blocks.new in
+    let s' = seen new.self new.caches new.file new.list in
     let k = counters_of_block searched.file.header.fields in
     let at = c.in-Ok-last_index.index + (c.args.count / k + 2) in
     let bits = c.rb_bits.ensures in
     let index : c.rt_index-first_index.result ≡ c.in-Ok.first / k = c.rt_index-first_index.ensures ∙ ap (λ (m : ℕ). c.in-Ok.first / m) bits.entries in
     let last = c.in-Ok-last_index.ensures in
     let made = c.in-Ok-false.ensures in
-    let found = readying-searched state (table_of c.args.self.now) c.args.caches.now c.args.file.now c.args.list.now.entries (table_of l.self) l.caches l.file l.list.entries l.invariant.0 (mark_of l.self) c.args.count c.in-Ok.first searched.caches searched.file
+    let found = readying-searched state s so_far l.invariant.0 (mark_of l.self) c.args.count c.in-Ok.first searched.caches searched.file
     c.in-Ok.ensures in
-    let done = readying-made state (table_of c.args.self.now) c.args.caches.now c.args.file.now c.args.list.now.entries (table_of l.self) searched.caches searched.file l.list.entries found
-    (mark_of l.self) at c.rt_index-first_index.result c.in-Ok-last_index.index c.in-Ok-false.field-0 (table_of new.self) new.caches new.file new.list.entries made.readies
+    let done = readying-made state s (seen l.self searched.caches searched.file l.list) found
+    (mark_of l.self) at c.rt_index-first_index.result c.in-Ok-last_index.index c.in-Ok-false.field-0 s' made.readies
     (covers _ (length (table_of l.self).words) c.in-Ok-last_index.index (length (table_of c.args.self.now).words) c.has_grown_short_of.result c.if-has_grown_short_of.false (λ a b. c.has_grown_short_of.ensures.1 (a, b)) l.invariant.3) in
-    let none : ReadiesBlocks state (mark_of l.self) at (c.in-Ok.first / k) c.in-Ok-last_index.index (lent (table_of l.self) searched.caches searched.file l.list.entries) (Ok false) (lent (table_of new.self) new.caches new.file new.list.entries) =
-    subst (λ (m : ℕ). ReadiesBlocks state (mark_of l.self) at m c.in-Ok-last_index.index (lent (table_of l.self) searched.caches searched.file l.list.entries) (Ok false) (lent (table_of new.self) new.caches new.file new.list.entries)) index
-    (subst (λ (b : Bool). ReadiesBlocks state (mark_of l.self) at c.rt_index-first_index.result c.in-Ok-last_index.index (lent (table_of l.self) searched.caches searched.file l.list.entries) (Ok b) (lent (table_of new.self) new.caches new.file new.list.entries)) c.in-Ok-false.field-0-test made.readies) in
-    subst (λ (m : ℕ). ReadiesRun state m c.args.count (lent (table_of c.args.self.now) c.args.caches.now c.args.file.now c.args.list.now.entries) (Ok c.in-Ok.first) (lent (table_of new.self) new.caches new.file new.list.entries)) l.invariant.1
-    (run-ready state (table_of c.args.self.now) c.args.caches.now c.args.file.now c.args.list.now.entries (table_of l.self) l.caches l.file l.list.entries l.invariant.0 (mark_of l.self) c.args.count c.in-Ok.first c.requires.some searched.caches searched.file c.in-Ok.ensures
-    (table_of new.self) new.caches new.file new.list.entries k c.in-Ok-last_index.index refl at none done
-    (subst (λ (m : ℕ). Stays state (table_of c.args.self.now) c.args.caches.now c.args.file.now c.args.list.now.entries m c.args.count (table_of l.self) l.caches l.file l.list.entries) (sym l.invariant.1) l.invariant.4)
+    let none : ReadiesBlocks state (mark_of l.self) at (c.in-Ok.first / k) c.in-Ok-last_index.index (seen l.self searched.caches searched.file l.list) (Ok false) s' =
+    subst (λ (m : ℕ). ReadiesBlocks state (mark_of l.self) at m c.in-Ok-last_index.index (seen l.self searched.caches searched.file l.list) (Ok false) s') index
+    (subst (λ (b : Bool). ReadiesBlocks state (mark_of l.self) at c.rt_index-first_index.result c.in-Ok-last_index.index (seen l.self searched.caches searched.file l.list) (Ok b) s') c.in-Ok-false.field-0-test made.readies) in
+    subst (λ (m : ℕ). ReadiesRun state m c.args.count s (Ok c.in-Ok.first) s') l.invariant.1
+    (run-ready state s so_far l.invariant.0 (mark_of l.self) c.args.count c.in-Ok.first c.requires.some searched.caches searched.file c.in-Ok.ensures
+    s' k c.in-Ok-last_index.index refl at none done
+    (subst (λ (m : ℕ). Stays state s m c.args.count so_far) (sym l.invariant.1) l.invariant.4)
     (wide c.rb_bits.result k bits.entries) last.start last.reach last.index)
   where
     wide : (bits k : ℕ) → 2 ^ bits ≡ k → 0 < k
@@ -124,19 +135,22 @@ returns-in-Ok-false-clause-readies g c =
 
 pub returns-in-Err-ready_blocks-clause-readies : goal.returns-in-Err-ready_blocks-clause-readies
 returns-in-Err-ready_blocks-clause-readies g c =
+    let s = seen c.args.self.now c.args.caches.now c.args.file.now c.args.list.now in
     let state = g.S.Storage.state in
     let l = c.loop-first in
+    let so_far = seen l.self l.caches l.file l.list in
     let searched = c.find_run.new in
     let new = c.ready_blocks.new in
+    let s' = seen new.self new.caches new.file new.list in
     let bits = c.rb_bits.ensures in
     let k = counters_of_block searched.file.header.fields in
     let index : c.rt_index-first_index.result ≡ c.in-Ok.first / k = c.rt_index-first_index.ensures ∙ ap (λ (m : ℕ). c.in-Ok.first / m) bits.entries in
-    let kept = stays-found state (table_of c.args.self.now) c.args.caches.now c.args.file.now c.args.list.now.entries (table_of l.self) l.caches l.file l.list.entries l.invariant.0 (mark_of l.self) c.args.count c.in-Ok.first c.requires.some searched.caches searched.file c.in-Ok.ensures
-    (subst (λ (m : ℕ). Stays state (table_of c.args.self.now) c.args.caches.now c.args.file.now c.args.list.now.entries m c.args.count (table_of l.self) l.caches l.file l.list.entries) (sym l.invariant.1) l.invariant.4) in
-    subst (λ (m : ℕ). ReadiesRun state m c.args.count (lent (table_of c.args.self.now) c.args.caches.now c.args.file.now c.args.list.now.entries) (Err c.in-Err-ready_blocks.fault) (lent (table_of new.self) new.caches new.file new.list.entries)) l.invariant.1
-    (making-refused state (table_of c.args.self.now) c.args.caches.now c.args.file.now c.args.list.now.entries (table_of l.self) searched.caches searched.file l.list.entries
-    (readying-searched state (table_of c.args.self.now) c.args.caches.now c.args.file.now c.args.list.now.entries (table_of l.self) l.caches l.file l.list.entries l.invariant.0 (mark_of l.self) c.args.count c.in-Ok.first searched.caches searched.file c.in-Ok.ensures)
+    let kept = stays-found state s so_far l.invariant.0 (mark_of l.self) c.args.count c.in-Ok.first c.requires.some searched.caches searched.file c.in-Ok.ensures
+    (subst (λ (m : ℕ). Stays state s m c.args.count so_far) (sym l.invariant.1) l.invariant.4) in
+    subst (λ (m : ℕ). ReadiesRun state m c.args.count s (Err c.in-Err-ready_blocks.fault) s') l.invariant.1
+    (making-refused state s (seen l.self searched.caches searched.file l.list)
+    (readying-searched state s so_far l.invariant.0 (mark_of l.self) c.args.count c.in-Ok.first searched.caches searched.file c.in-Ok.ensures)
     (mark_of l.self) c.args.count c.in-Ok.first c.rt_index-first_index.result c.in-Ok-last_index.index c.requires.some
-    (found-run state (table_of c.args.self.now) c.args.caches.now c.args.file.now c.args.list.now.entries (table_of l.self) l.caches l.file l.list.entries l.invariant.0 (mark_of l.self) c.args.count c.in-Ok.first c.requires.some searched.caches searched.file c.in-Ok.ensures)
-    index c.in-Ok-last_index.ensures.index c.in-Ok-last_index.ensures.reach kept c.in-Err-ready_blocks.fault (table_of new.self) new.caches new.file new.list.entries c.in-Err-ready_blocks.ensures.readies
+    (found-run state s so_far l.invariant.0 (mark_of l.self) c.args.count c.in-Ok.first c.requires.some searched.caches searched.file c.in-Ok.ensures)
+    index c.in-Ok-last_index.ensures.index c.in-Ok-last_index.ensures.reach kept c.in-Err-ready_blocks.fault s' c.in-Err-ready_blocks.ensures.readies
     (covers _ (length (table_of l.self).words) c.in-Ok-last_index.index (length (table_of c.args.self.now).words) c.has_grown_short_of.result c.if-has_grown_short_of.false (λ a b. c.has_grown_short_of.ensures.1 (a, b)) l.invariant.3))

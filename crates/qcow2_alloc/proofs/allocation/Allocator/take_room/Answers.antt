@@ -10,6 +10,7 @@ use Rattle.qcow2_alloc.specs.Allocators.{table_of}
 use Rattle.qcow2_alloc.specs.Caches.{cached_in}
 use Rattle.qcow2_alloc.specs.Growing.{lacking}
 use Rattle.qcow2_alloc.specs.MovingTables.{ForgetsRun, IsPinnedWithin}
+use Rattle.qcow2_alloc.specs.State.{lent}
 use Rattle.qcow2_alloc.proofs.Blocks.WritingNewBlocks.{run-fits}
 use Rattle.qcow2_alloc.proofs.Growth.TakingRoom.{flushed-then, room-not-forgotten, room-taken}
 use Rattle.qcow2_alloc.proofs.allocation.Allocator.take_room.Goals as goal
@@ -22,7 +23,7 @@ returns-in-Err-flush_rb g c = λ pending.
     let D = c.flush_rb.new in
     let e = c.in-Err-flush_rb.ensures in
     record {
-      counts = flushed-then state table pending c.args.room c.args.caches.now c.args.file.now C.caches C.file (c.in_default.ensures pending) (Err c.in-Err-flush_rb.fault) D.self D.file e.going e.kept e.others e.room e.cause e.faults;
+      counts = flushed-then state (lent table c.args.caches.now c.args.file.now pending) c.args.room C.caches C.file (c.in_default.ensures pending) (Err c.in-Err-flush_rb.fault) D.self D.file e.going e.kept e.others e.room e.cause e.faults;
       taken = λ order keeps sound zero. tt;
     }
 
@@ -68,7 +69,7 @@ returns-in-Ok g c = λ pending.
     let some : 0 < counters_of_block D.file.header.fields = (let is = c.rb_bits.ensures.entries in let there = pow_pos c.rb_bits.result in omega (arith, is, there)) in
     let forgets : ForgetsRun c.args.room.first c.lacking_for-blocks.result (cached_in D.self) (Ok tt) (cached_in c.forget_run.new.caches) =
     subst (λ (d : ℕ). ForgetsRun d c.lacking_for-blocks.result (cached_in D.self) (Ok tt) (cached_in c.forget_run.new.caches)) c.first.ensures f.forgets in
-    room-taken state table pending c.args.room c.args.caches.now c.args.file.now C.caches C.file (c.in_default.ensures pending) D.self D.file e.going e.kept e.others e.room e.cause e.clean c.lacking_for-blocks.result n.1
+    room-taken state (lent table c.args.caches.now c.args.file.now pending) c.args.room C.caches C.file (c.in_default.ensures pending) D.self D.file e.going e.kept e.others e.room e.cause e.clean c.lacking_for-blocks.result n.1
     c.forget_run.new.caches forgets f.order f.pins f.room n.0 some c.write_new_blocks.result c.write_new_blocks.new.file c.write_new_blocks.ensures.header c.write_new_blocks.ensures.writes
 
 pub returns-in-Err-forget_run : goal.returns-in-Err-forget_run
@@ -83,5 +84,5 @@ returns-in-Err-forget_run g c = λ pending.
     let n = lacking-so table c.args.room c.args.file.now.header D.file.header c.rb_bits.result c.lacking_for-blocks.result header c.rb_bits.ensures.entries c.lacking_for-blocks.ensures c.requires.few in
     let forgets : ForgetsRun c.args.room.first c.lacking_for-blocks.result (cached_in D.self) (Err c.in-Err-forget_run.fault) (cached_in c.forget_run.new.caches) =
     subst (λ (d : ℕ). ForgetsRun d c.lacking_for-blocks.result (cached_in D.self) (Err c.in-Err-forget_run.fault) (cached_in c.forget_run.new.caches)) c.first.ensures f.forgets in
-    room-not-forgotten state table pending c.args.room c.args.caches.now c.args.file.now C.caches C.file (c.in_default.ensures pending) D.self D.file e.going e.kept e.others e.room e.cause e.clean c.lacking_for-blocks.result n.1
+    room-not-forgotten state (lent table c.args.caches.now c.args.file.now pending) c.args.room C.caches C.file (c.in_default.ensures pending) D.self D.file e.going e.kept e.others e.room e.cause e.clean c.lacking_for-blocks.result n.1
     c.in-Err-forget_run.fault c.forget_run.new.caches forgets f.order f.pins f.room (subst (λ (d : ℕ). (c.in-Err-forget_run.fault ≡ CacheFull) × IsPinnedWithin d c.lacking_for-blocks.result D.self) c.first.ensures f.err)
