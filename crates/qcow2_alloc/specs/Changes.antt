@@ -64,30 +64,47 @@ pub record SetsWord (f : Bytes) (h : Fields) (cached : Cached) (key i j w : ℕ)
   pub tables : cached'.tables ≡ hit (nat_eq key) cached.tables (with_word table j w)
   pub blocks : cached'.blocks ≡ cached.blocks
 
+-- A file with its header, and what is cached of it, in the order in which that is written.
+pub record CachedFile : Type 0 where
+  pub file : Bytes
+  pub header : Header
+  pub order : CacheDependency
+  pub cached : Cached
+
+abbrev pub file_with : Bytes → Header → CacheDependency → Cached → CachedFile
+file_with f H order cached = record { file = f; header = H; order = order; cached = cached }
+
+-- what is in memory over the file, with this cached of it
+abbrev pub memory_with : CachedFile → Cached → Bytes
+memory_with m cached = memory m.file m.header.fields cached
+
 -- What is cached stays safe. Word j of L2 table i meant `old` in memory, and means `new` then: what names a cluster changes by that, and
 -- nothing else.
-pub record WordChanged (f : Bytes) (H : Header) (order : CacheDependency) (cached : Cached) (i j : ℕ) (old new : Mapping) (cached' : Cached) : Type 0 where
-  pub safe : Safe f H cached' order
-  pub was : slot_in (memory f H.fields cached) H.fields i j ≡ old
-  pub written : SlotWritten (memory f H.fields cached) (memory f H.fields cached') H i j new
-  pub references : (c : ℕ) → refs (memory f H.fields cached') H.fields c + of_mapping H.fields (meets H.fields c) old ≡ refs (memory f H.fields cached) H.fields c + of_mapping H.fields (meets H.fields c) new
+pub record WordChanged (m : CachedFile) (i j : ℕ) (old new : Mapping) (cached' : Cached) : Type 0 where
+  pub safe : Safe m.file m.header cached' m.order
+  pub was : slot_in (memory_with m m.cached) m.header.fields i j ≡ old
+  pub written : SlotWritten (memory_with m m.cached) (memory_with m cached') m.header i j new
+  pub references : (c : ℕ) → refs (memory_with m cached') m.header.fields c + of_mapping m.header.fields (meets m.header.fields c) old
+      ≡ refs (memory_with m m.cached) m.header.fields c + of_mapping m.header.fields (meets m.header.fields c) new
 
 -- The new mapping names no cluster that the old one didn't, and none as copied that wasn't.
 abbrev pub NamesNoMore : Fields → Mapping → Mapping → Type 0
-NamesNoMore h old new = (c : ℕ) → (of_mapping h (meets h c) new ≤ of_mapping h (meets h c) old) × (of_copied h (meets h c) new ≤ of_copied h (meets h c) old)
+NamesNoMore h old new = (c : ℕ) → (of_mapping h (meets h c) new ≤ of_mapping h (meets h c) old)
+    × (of_copied h (meets h c) new ≤ of_copied h (meets h c) old)
 
 -- The same, where the new mapping names no more: no cluster is named more often.
-pub record NamesDropped (f : Bytes) (H : Header) (order : CacheDependency) (cached : Cached) (i j : ℕ) (old new : Mapping) (cached' : Cached) : Type 0 where
-  pub changed : WordChanged f H order cached i j old new cached'
-  pub references : (c : ℕ) → refs (memory f H.fields cached') H.fields c ≤ refs (memory f H.fields cached) H.fields c
-  pub names : (c : ℕ) → named f (memory f H.fields cached') H.fields c ≤ named f (memory f H.fields cached) H.fields c
+pub record NamesDropped (m : CachedFile) (i j : ℕ) (old new : Mapping) (cached' : Cached) : Type 0 where
+  pub changed : WordChanged m i j old new cached'
+  pub references : (c : ℕ) → refs (memory_with m cached') m.header.fields c ≤ refs (memory_with m m.cached) m.header.fields c
+  pub names : (c : ℕ) → named m.file (memory_with m cached') m.header.fields c ≤ named m.file (memory_with m m.cached) m.header.fields c
 
 -- The same, where it names cluster x, which nothing named: x is named once, and no other cluster more often than before.
-pub record ClusterNamed (f : Bytes) (H : Header) (order : CacheDependency) (cached : Cached) (i j : ℕ) (old : Mapping) (x : ℕ) (cached' : Cached) : Type 0 where
-  pub changed : WordChanged f H order cached i j old (data_at x true) cached'
-  pub references : refs (memory f H.fields cached') H.fields x ≡ 1
-  pub names : named f (memory f H.fields cached') H.fields x ≡ 1
-  pub others : (c : ℕ) → c ≢ x → named f (memory f H.fields cached') H.fields c ≤ named f (memory f H.fields cached) H.fields c
+pub record ClusterNamed (m : CachedFile) (i j : ℕ) (old : Mapping) (x : ℕ) (cached' : Cached) : Type 0 where
+  pub changed : WordChanged m i j old (data_at x true) cached'
+  pub references : refs (memory_with m cached') m.header.fields x ≡ 1
+  pub names : named m.file (memory_with m cached') m.header.fields x ≡ 1
+  pub others : (c : ℕ) → c ≢ x
+      → named m.file (memory_with m cached') m.header.fields c ≤ named m.file (memory_with m m.cached) m.header.fields c
 
 -- what a word means that is zeroed, and keeps this host cluster with its mark, or none
 abbrev pub zeroed : Option (ℕ × Bool) → Mapping

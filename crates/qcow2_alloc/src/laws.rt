@@ -32,7 +32,7 @@ ghost use Rattle.qcow2_alloc.specs.Allocators.{LoadsAllocator, table_of};
 ghost use Rattle.qcow2_alloc.specs.Cache.{hit};
 ghost use Rattle.qcow2_alloc.specs.Crowding.{space, IsRoomy};
 ghost use Rattle.qcow2_alloc.specs.HandingOut.{IsFreed};
-ghost use Rattle.qcow2_alloc.specs.Changes.{StaysAsItIs, CachesBlock, SetsCounter, CounterChanged, IsStillCovered, CachesTable, SetsWord, NamesNoMore, NamesDropped, ClusterNamed, zeroed};
+ghost use Rattle.qcow2_alloc.specs.Changes.{StaysAsItIs, CachesBlock, SetsCounter, CounterChanged, IsStillCovered, CachesTable, SetsWord, NamesNoMore, NamesDropped, ClusterNamed, zeroed, file_with};
 ghost use Rattle.qcow2_alloc.specs.Memory.{Cached, memory};
 ghost use Rattle.qcow2_alloc.specs.Safety.{Safe, IsLeft, IsCalm, AreTablesClean, AreBlocksClean, IsSettled};
 ghost use Rattle.qcow2_alloc.specs.Going.{Going, Always, CountsWrites, WasNotCutOff, AreTablesInReach, AreBlocksInReach};
@@ -101,25 +101,25 @@ pub fn lowering_a_counter()
 pub fn naming_less()
     ensures { (f : Bytes) (H : Header) (cached cached' : Cached) (order : CacheDependency) (key i j w : ℕ) → Safe f H cached order → (sets : SetsWord f H.fields cached key i j w cached') → w < 2 ^ 64
         → IsFalse (is_damaged (mapping_of (layout_of H.fields) w)) → NamesNoMore H.fields (mapping_in sets.table j) (mapping_of (layout_of H.fields) w)
-        → NamesDropped f H order cached i j (mapping_in sets.table j) (mapping_of (layout_of H.fields) w) cached' }
+        → NamesDropped (file_with f H order cached) i j (mapping_in sets.table j) (mapping_of (layout_of H.fields) w) cached' }
 {}
 
 /// So a guest cluster may be discarded,
 pub fn discarding_a_cluster()
     ensures { (f : Bytes) (H : Header) (cached cached' : Cached) (order : CacheDependency) (key i j : ℕ) → Safe f H cached order → (sets : SetsWord f H.fields cached key i j 0 cached')
-        → NamesDropped f H order cached i j (mapping_in sets.table j) unmapped cached' }
+        → NamesDropped (file_with f H order cached) i j (mapping_in sets.table j) unmapped cached' }
 {}
 
 /// zeroed, with its host cluster kept or not,
 pub fn zeroing_a_cluster()
     ensures { (f : Bytes) (H : Header) (cached cached' : Cached) (order : CacheDependency) (key i j : ℕ) → Safe f H cached order → (w : ℕ) (sets : SetsWord f H.fields cached key i j w cached') (keep : Bool) → H.fields.version ≡ 3
-        → w ≡ zeroed_word H.fields.cluster_bits (kept_where keep (mapping_in sets.table j)) → NamesDropped f H order cached i j (mapping_in sets.table j) (zeroed (kept_where keep (mapping_in sets.table j))) cached' }
+        → w ≡ zeroed_word H.fields.cluster_bits (kept_where keep (mapping_in sets.table j)) → NamesDropped (file_with f H order cached) i j (mapping_in sets.table j) (zeroed (kept_where keep (mapping_in sets.table j))) cached' }
 {}
 
 /// or mapped to the host cluster that is kept for its zeroes.
 pub fn mapping_a_kept_cluster()
     ensures { (f : Bytes) (H : Header) (cached cached' : Cached) (order : CacheDependency) (key i j : ℕ) → Safe f H cached order → (x : ℕ) (sets : SetsWord f H.fields cached key i j (2 ^ 63 + x * cluster_size H.fields) cached')
-        → x ≢ 0 → IsInReach H.fields.cluster_bits x → mapping_in sets.table j ≡ zeroes (Some x) true → NamesDropped f H order cached i j (zeroes (Some x) true) (data_at x true) cached' }
+        → x ≢ 0 → IsInReach H.fields.cluster_bits x → mapping_in sets.table j ≡ zeroes (Some x) true → NamesDropped (file_with f H order cached) i j (zeroes (Some x) true) (data_at x true) cached' }
 {}
 
 /// A word of a cached L2 table may be set to the one that `L2TableWriteGuard::map_cluster` writes for a data cluster that nothing names, in the
@@ -127,7 +127,7 @@ pub fn mapping_a_kept_cluster()
 pub fn naming_a_cluster()
     ensures { (f : Bytes) (H : Header) (cached cached' : Cached) (order : CacheDependency) (key i j x : ℕ) → Safe f H cached order → (sets : SetsWord f H.fields cached key i j (2 ^ 63 + x * cluster_size H.fields) cached')
         → x ≢ 0 → IsInReach H.fields.cluster_bits x → named f (memory f H.fields cached) H.fields x ≡ 0 → 1 ≤ count (memory f H.fields cached) H.fields x
-        → ClusterNamed f H order cached i j (mapping_in sets.table j) x cached' }
+        → ClusterNamed (file_with f H order cached) i j (mapping_in sets.table j) x cached' }
 {}
 
 /// How many entries of the list of clusters to free have a cluster, as the list changes. An entry has the clusters that its bytes meet.

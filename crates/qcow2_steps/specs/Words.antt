@@ -4,22 +4,22 @@ use Rattle.imago_storage.specs.Disk.{Value}
 use Rattle.qcow2_types.specs.Header.{Fields, cluster_size, words_of_cluster}
 use Rattle.qcow2_types.specs.References.{meets, of_mapping}
 use Rattle.qcow2_types.specs.Words.{Mapping}
-use Rattle.qcow2_alloc.specs.Changes.{ClusterNamed, NamesDropped, WordChanged}
+use Rattle.qcow2_alloc.specs.Changes.{ClusterNamed, NamesDropped, WordChanged, file_with}
 use Rattle.qcow2_alloc.specs.Memory.{Cached}
 use Rattle.qcow2_alloc.specs.Quiet.{Metadata, IsUsed, named_at_all, waiting}
 use Rattle.qcow2_steps.specs.Values.{own_value_by}
 
 -- Word j of L2 table i meant `old` in memory, and means `new` with this cached. Nothing else changes.
 abbrev pub ChangesWord : Metadata → ℕ → ℕ → Mapping → Mapping → Cached → Type 0
-ChangesWord m i j old new cached' = WordChanged m.file m.header m.order m.cached i j old new cached'
+ChangesWord m i j old new cached' = WordChanged (file_with m.file m.header m.order m.cached) i j old new cached'
 
 -- The same, where it names cluster x then, which nothing named,
 abbrev pub NamesCluster : Metadata → ℕ → ℕ → Mapping → ℕ → Cached → Type 0
-NamesCluster m i j old x cached' = ClusterNamed m.file m.header m.order m.cached i j old x cached'
+NamesCluster m i j old x cached' = ClusterNamed (file_with m.file m.header m.order m.cached) i j old x cached'
 
 -- or names no more than it did.
 abbrev pub DropsNames : Metadata → ℕ → ℕ → Mapping → Mapping → Cached → Type 0
-DropsNames m i j old new cached' = NamesDropped m.file m.header m.order m.cached i j old new cached'
+DropsNames m i j old new cached' = NamesDropped (file_with m.file m.header m.order m.cached) i j old new cached'
 
 -- how often a word that means this names cluster c
 abbrev pub names_at : Metadata → Mapping → ℕ → ℕ

@@ -39,7 +39,7 @@ use Rattle.qcow2_alloc.specs.declared.async_lru_cache.Slot.{Slot}
 use Rattle.qcow2_alloc.specs.declared.cache.CacheDependency.{CacheDependency}
 use Rattle.qcow2_alloc.specs.declared.cache.CacheDependency.TheVariants.{Unset, L2DependsOnRb, RbDependsOnL2}
 use Rattle.qcow2_alloc.specs.Cache.{hit}
-use Rattle.qcow2_alloc.specs.Changes.{CachesTable, SetsWord, WordChanged, NamesNoMore, NamesDropped, ClusterNamed}
+use Rattle.qcow2_alloc.specs.Changes.{CachesTable, SetsWord, WordChanged, NamesNoMore, NamesDropped, ClusterNamed, file_with}
 use Rattle.qcow2_alloc.specs.Memory.{Cached, memory}
 use Rattle.qcow2_alloc.specs.Safety.{IsCachedTable, IsOrdered, Safe}
 use Rattle.qcow2_alloc.proofs.Caching.CachedTables.{tables_with, patches-with}
@@ -343,7 +343,7 @@ module _ (f : Bytes) (H : Header) (order : CacheDependency) (front : List (ℕ �
               inr (others i (guest % words_of_cluster H.fields) (record { in_l1 = in_l1; is_there = there_in_memory; in_table = mod_below guest (words_of_cluster H.fields) some_words }) (inr other))
 
       -- What is cached stays safe.
-      pub word-changed : WordChanged f H order old i j (mapping_in slot.value j) (mapping_of (layout_of H.fields) w) cached'
+      pub word-changed : WordChanged (file_with f H order old) i j (mapping_in slot.value j) (mapping_of (layout_of H.fields) w) cached'
       word-changed = record {
         safe = record {
           consistent = safe.consistent;
@@ -375,7 +375,7 @@ module _ (f : Bytes) (H : Header) (order : CacheDependency) (front : List (ℕ �
             copies = copied-stays f g x H.fields i j changes c less';
           }
 
-      pub names-dropped : NamesDropped f H order old i j (mapping_in slot.value j) (mapping_of (layout_of H.fields) w) cached'
+      pub names-dropped : NamesDropped (file_with f H order old) i j (mapping_in slot.value j) (mapping_of (layout_of H.fields) w) cached'
       names-dropped = record {
         changed = word-changed (λ c. inl (no-more c));
         references = subst (λ (m : Bytes). (c : ℕ) → refs m H.fields c ≤ refs g H.fields c) (sym word-put) (λ c. (no-more c).references);
@@ -407,9 +407,9 @@ module _ (f : Bytes) (H : Header) (order : CacheDependency) (front : List (ℕ �
         | inr apart ↦ inl (no-other c apart)
       ]
 
-      pub cluster-named : ClusterNamed f H order old i j (mapping_in slot.value j) n cached'
+      pub cluster-named : ClusterNamed (file_with f H order old) i j (mapping_in slot.value j) n cached'
       cluster-named = record {
-        changed = subst (λ (m : Mapping). WordChanged f H order old i j (mapping_in slot.value j) m cached') means (word-changed few-names);
+        changed = subst (λ (m : Mapping). WordChanged (file_with f H order old) i j (mapping_in slot.value j) m cached') means (word-changed few-names);
         references = subst (λ (m : Bytes). refs m H.fields n ≡ 1) (sym word-put) (refs-first f g x H.fields i j changes places places' n unnamed own);
         names = subst (λ (m : Bytes). named f m H.fields n ≡ 1) (sym word-put) once;
         others = subst (λ (m : Bytes). (c : ℕ) → c ≢ n → named f m H.fields c ≤ named f g H.fields c) (sym word-put) (λ c apart. (no-other c apart).names);
@@ -479,20 +479,20 @@ module _ (f : Bytes) (H : Header) (cached cached' : Cached) (order : CacheDepend
   abbrev means : Mapping
   means = mapping_of (layout_of H.fields) w
 
-  pub word-drops : w < 2 ^ 64 → IsFalse (is_damaged means) → NamesNoMore H.fields (mapping_in sets.table j) means → NamesDropped f H order cached i j (mapping_in sets.table j) means cached'
-  word-drops fits sane fewer = of-entry (λ o m k. NamesDropped f H order o i j m (mapping_of (layout_of H.fields) w) k)
+  pub word-drops : w < 2 ^ 64 → IsFalse (is_damaged means) → NamesNoMore H.fields (mapping_in sets.table j) means → NamesDropped (file_with f H order cached) i j (mapping_in sets.table j) means cached'
+  word-drops fits sane fewer = of-entry (λ o m k. NamesDropped (file_with f H order o) i j m (mapping_of (layout_of H.fields) w) k)
       (names-dropped f H order q.front key s q.back cached.blocks (safe' f H cached order key i sets.table safe sets.caches) i sets.caches.inside sets.caches.place sets.caches.some j w sets.inside fits sane
       (subst (λ (t : TableValue). NamesNoMore H.fields (mapping_in t j) (mapping_of (layout_of H.fields) w)) (sym same) fewer))
 
-  pub word-names : (n : ℕ) → w < 2 ^ 64 → means ≡ data_at n true → named f (memory f H.fields cached) H.fields n ≡ 0 → 1 ≤ count (memory f H.fields cached) H.fields n → ClusterNamed f H order cached i j (mapping_in sets.table j) n cached'
-  word-names n fits is unnamed counted = of-entry (λ o m k. ClusterNamed f H order o i j m n k)
+  pub word-names : (n : ℕ) → w < 2 ^ 64 → means ≡ data_at n true → named f (memory f H.fields cached) H.fields n ≡ 0 → 1 ≤ count (memory f H.fields cached) H.fields n → ClusterNamed (file_with f H order cached) i j (mapping_in sets.table j) n cached'
+  word-names n fits is unnamed counted = of-entry (λ o m k. ClusterNamed (file_with f H order o) i j m n k)
       (cluster-named f H order q.front key s q.back cached.blocks (safe' f H cached order key i sets.table safe sets.caches) i sets.caches.inside sets.caches.place sets.caches.some j w sets.inside fits (ap is_damaged is) n is
       (subst (λ (o : Cached). named f (memory f H.fields o) H.fields n ≡ 0) was-so unnamed) (subst (λ (o : Cached). 1 ≤ count (memory f H.fields o) H.fields n) was-so counted))
 
 -- The word of a data cluster with its mark, as a table writes it.
 pub cluster-mapped : (f : Bytes) (H : Header) (cached cached' : Cached) (order : CacheDependency) (key i j n : ℕ) → Safe f H cached order → (sets : SetsWord f H.fields cached key i j (2 ^ 63 + n * cluster_size H.fields) cached')
     → n ≢ 0 → IsInReach H.fields.cluster_bits n → named f (memory f H.fields cached) H.fields n ≡ 0 → 1 ≤ count (memory f H.fields cached) H.fields n
-    → ClusterNamed f H order cached i j (mapping_in sets.table j) n cached'
+    → ClusterNamed (file_with f H order cached) i j (mapping_in sets.table j) n cached'
 cluster-mapped f H cached cached' order key i j n safe sets some near unnamed counted =
     let shaped : Shaped H.fields = shaped-in f H safe.consistent in
     word-names f H cached cached' order key i j (2 ^ 63 + n * cluster_size H.fields) safe sets n (mapped_fits H.fields.cluster_bits n near)

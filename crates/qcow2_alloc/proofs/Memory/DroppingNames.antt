@@ -12,7 +12,7 @@ use Rattle.qcow2_metadata.specs.Allocations.{kept_for_zero, kept_where, zeroed_w
 use Rattle.qcow2_metadata.proofs.Conservation.{kept_means, zero_means, mapped_means}
 use Rattle.qcow2_metadata.proofs.L2Words.{mapped_fits, zeroed_fits}
 use Rattle.qcow2_alloc.specs.declared.cache.CacheDependency.{CacheDependency}
-use Rattle.qcow2_alloc.specs.Changes.{SetsWord, NamesNoMore, NamesDropped, zeroed}
+use Rattle.qcow2_alloc.specs.Changes.{SetsWord, NamesNoMore, NamesDropped, zeroed, file_with}
 use Rattle.qcow2_alloc.specs.Memory.{Cached}
 use Rattle.qcow2_alloc.specs.Safety.{Safe}
 use Rattle.qcow2_alloc.proofs.Memory.ChangingWords.{cached-layout, word-drops}
@@ -54,23 +54,23 @@ module _ (f : Bytes) (H : Header) (cached cached' : Cached) (order : CacheDepend
   shaped = shaped-in f H safe.consistent
 
   drops : (w : ℕ) (sets : SetsWord f H.fields cached key i j w cached') (new : Mapping) → w < 2 ^ 64 → mapping_of (layout_of H.fields) w ≡ new → is_damaged new ≡ false → NamesNoMore H.fields (mapping_in sets.table j) new
-      → NamesDropped f H order cached i j (mapping_in sets.table j) new cached'
+      → NamesDropped (file_with f H order cached) i j (mapping_in sets.table j) new cached'
   drops w sets new fits means sane fewer =
-      subst (λ (m : Mapping). NamesDropped f H order cached i j (mapping_in sets.table j) m cached') means
+      subst (λ (m : Mapping). NamesDropped (file_with f H order cached) i j (mapping_in sets.table j) m cached') means
       (word-drops f H cached cached' order key i j w safe sets fits (ap is_damaged means ∙ sane) (subst (λ (m : Mapping). NamesNoMore H.fields (mapping_in sets.table j) m) (sym means) fewer))
 
   -- or discarded,
-  pub discard-drops : (sets : SetsWord f H.fields cached key i j 0 cached') → NamesDropped f H order cached i j (mapping_in sets.table j) unmapped cached'
+  pub discard-drops : (sets : SetsWord f H.fields cached key i j 0 cached') → NamesDropped (file_with f H order cached) i j (mapping_in sets.table j) unmapped cached'
   discard-drops sets = drops 0 sets unmapped (omega arith) (zero-word (layout_of H.fields)) refl (λ c. (omega arith, omega arith))
 
   pub zero-drops : (w : ℕ) (sets : SetsWord f H.fields cached key i j w cached') (keep : Bool) → H.fields.version ≡ 3 → w ≡ zeroed_word H.fields.cluster_bits (kept_where keep (mapping_in sets.table j))
-      → NamesDropped f H order cached i j (mapping_in sets.table j) (zeroed (kept_where keep (mapping_in sets.table j))) cached'
+      → NamesDropped (file_with f H order cached) i j (mapping_in sets.table j) (zeroed (kept_where keep (mapping_in sets.table j))) cached'
   zero-drops w sets keep newer is = by-kept (kept_where keep (mapping_in sets.table j)) refl
     where
-      unkept : w ≡ zeroed_word H.fields.cluster_bits None → NamesDropped f H order cached i j (mapping_in sets.table j) (zeroed None) cached'
+      unkept : w ≡ zeroed_word H.fields.cluster_bits None → NamesDropped (file_with f H order cached) i j (mapping_in sets.table j) (zeroed None) cached'
       unkept e = drops w sets (zeroes None false) (rw e (omega arith)) (rw e (zero_means (layout_of H.fields) newer)) refl (λ c. (omega arith, omega arith))
 
-      keeps : (kept : ℕ × Bool) → kept_for_zero (mapping_in sets.table j) ≡ Some kept → w ≡ zeroed_word H.fields.cluster_bits (Some kept) → NamesDropped f H order cached i j (mapping_in sets.table j) (zeroed (Some kept)) cached'
+      keeps : (kept : ℕ × Bool) → kept_for_zero (mapping_in sets.table j) ≡ Some kept → w ≡ zeroed_word H.fields.cluster_bits (Some kept) → NamesDropped (file_with f H order cached) i j (mapping_in sets.table j) (zeroed (Some kept)) cached'
       keeps kept has e =
           let near : IsInReach H.fields.cluster_bits kept.0 = subst (λ (l : Layout). IsInReach l.cluster_bits kept.0) (cached-layout f H cached order key i sets.table safe sets.caches) (kept-near sets.table.layout (slice_index sets.table.words j) kept has) in
           drops w sets (zeroes (Some kept.0) kept.1) (rw e (zeroed_fits H.fields.cluster_bits (Some kept) near))
@@ -82,14 +82,14 @@ module _ (f : Bytes) (H : Header) (cached cached' : Cached) (order : CacheDepend
       kept-of true kept e = e
       kept-of false kept e = absurd (cc)
 
-      by-kept : (kept : Option (ℕ × Bool)) → kept_where keep (mapping_in sets.table j) ≡ kept → NamesDropped f H order cached i j (mapping_in sets.table j) (zeroed (kept_where keep (mapping_in sets.table j))) cached'
+      by-kept : (kept : Option (ℕ × Bool)) → kept_where keep (mapping_in sets.table j) ≡ kept → NamesDropped (file_with f H order cached) i j (mapping_in sets.table j) (zeroed (kept_where keep (mapping_in sets.table j))) cached'
       by-kept None e = rw e (unkept (rw e at is))
       by-kept (Some kept) e = rw e (keeps kept (kept-of keep kept e) (rw e at is))
 
   -- or where the cluster that is kept for zeroes holds data again.
   pub data-drops : (n : ℕ) (sets : SetsWord f H.fields cached key i j (2 ^ 63 + n * cluster_size H.fields) cached') → n ≢ 0 → IsInReach H.fields.cluster_bits n → mapping_in sets.table j ≡ zeroes (Some n) true
-      → NamesDropped f H order cached i j (zeroes (Some n) true) (data_at n true) cached'
+      → NamesDropped (file_with f H order cached) i j (zeroes (Some n) true) (data_at n true) cached'
   data-drops n sets some near is =
-      subst (λ (m : Mapping). NamesDropped f H order cached i j m (data_at n true) cached') is
+      subst (λ (m : Mapping). NamesDropped (file_with f H order cached) i j m (data_at n true) cached') is
       (drops (2 ^ 63 + n * cluster_size H.fields) sets (data_at n true) (mapped_fits H.fields.cluster_bits n near) (mapped_means (layout_of H.fields) n shaped.low near (inl (omega (arith, some)))) refl
       (subst (λ (m : Mapping). NamesNoMore H.fields m (data_at n true)) (sym is) (λ c. (omega arith, omega arith))))
