@@ -17,16 +17,16 @@ use Rattle.qcow2_types.specs.Entries.{l2_table_sound}
 use Rattle.qcow2_types.specs.References.{meets, of_mapping, of_copied, of_table}
 use Rattle.qimg_core.specs.declared.check.CheckFault.{CheckFault}
 use Rattle.qimg_core.specs.declared.check.CheckFault.TheVariants.{Header, Snapshots, External, Table, SharedTable, FalseCopied, UnderCounted, Memory, Storage}
-use Rattle.qimg_core.specs.declared.check.names.Tally.{Tally}
+use Rattle.qimg_core.specs.declared.check.names.Tallies.{Tallies}
 use Rattle.qimg_core.specs.Files.{file}
-use Rattle.qimg_core.specs.Names.{Adds, SameParts, nothing_named, named_by, structure_part, mapped_part, copied_part}
+use Rattle.qimg_core.specs.Names.{Adds, nothing_named, named_by, structure_part, mapped_part, copied_part}
 use Rattle.qimg_core.specs.CheckParts.{IsDamagedTable, IsOneDamaged, AreTables, sum_over}
 use Rattle.qimg_core.specs.Check.{Found}
 use Rattle.qimg_core.proofs.PlacesNamed.{places-step}
 use Rattle.qimg_core.proofs.TableNamed.{AddsTable}
 
 -- What the tables at the first i places name is entered, but for the last of them, so many, which are all at the place that follows.
-pub record NamedTo (old now : StorageState) (h : Fields) (before names : List Tally) (places : List ℕ) (times i : ℕ) : Type 0 where
+pub record NamedTo (old now : StorageState) (h : Fields) (before names : Tallies) (places : List ℕ) (times i : ℕ) : Type 0 where
   pub kept : Kept old now
   pub faults : now.faults ≡ old.faults
   pub few : times ≤ i
@@ -37,7 +37,7 @@ pub record NamedTo (old now : StorageState) (h : Fields) (before names : List Ta
   pub sound : (k : ℕ) → k < i → IsTrue (l2_table_sound (file old) h (slice_index places k)) ⊎ ((0 < times) × (slice_index places k ≡ slice_index places i))
 
 -- nothing is entered
-pub named-none : (old now : StorageState) (h : Fields) (names : List Tally) (places : List ℕ) → Kept old now → now.faults ≡ old.faults → NamedTo old now h names names places 0 0
+pub named-none : (old now : StorageState) (h : Fields) (names : Tallies) (places : List ℕ) → Kept old now → now.faults ≡ old.faults → NamedTo old now h names names places 0 0
 named-none old now h names places kept faults = record {
   kept = kept;
   faults = faults;
@@ -49,7 +49,7 @@ named-none old now h names places kept faults = record {
   sound = λ k lt. absurd (omega arith);
 }
 
-module _ (old now : StorageState) (h : Fields) (before names : List Tally) (places : List ℕ) (times i : ℕ) (so_far : NamedTo old now h before names places times i) where
+module _ (old now : StorageState) (h : Fields) (before names : Tallies) (places : List ℕ) (times i : ℕ) (so_far : NamedTo old now h before names places times i) where
   -- the file is the same
   pub same-file : file now ≡ file old
   same-file = ap bytes_of so_far.kept.bytes
@@ -80,7 +80,7 @@ module _ (old now : StorageState) (h : Fields) (before names : List Tally) (plac
       one-more of a b sum = ap (λ p. a + (times + 1) * of p) same ∙ step a b _ _ (of (slice_index places i)) times (places-step of places i (omega arith)) sum
 
   -- It is entered with those that wait.
-  pub named-now : (new : StorageState) (names' : List Tally) → i < length places → Kept now new → new.faults ≡ now.faults → AddsTable (file now) h (times + 1) names names' (slice_index places i) → IsTrue (l2_table_sound (file now) h (slice_index places i))
+  pub named-now : (new : StorageState) (names' : Tallies) → i < length places → Kept now new → new.faults ≡ now.faults → AddsTable (file now) h (times + 1) names names' (slice_index places i) → IsTrue (l2_table_sound (file now) h (slice_index places i))
       → NamedTo old new h before names' places 0 (i + 1)
   named-now new names' inside kept faults adds sound = record {
     kept = record {
@@ -166,16 +166,3 @@ module _ (old now : StorageState) (h : Fields) (before names : List Tally) (plac
 -- each place is one of a cluster, in any order
 pub placed-at : (bits : ℕ) (given places : List ℕ) (i : ℕ) → IsPermutation given places → i < length places → AreTables bits given → IsTrue (is_place bits (slice_index places i))
 placed-at bits given places i permuted inside are = All-get_or (λ place. IsTrue (is_place bits place)) places i 0 inside (All-permutation (λ place. IsTrue (is_place bits place)) given places permuted are)
-
--- the same of another list that holds the same
-pub named-same : (old now : StorageState) (h : Fields) (before names names' : List Tally) (places : List ℕ) (times i : ℕ) → SameParts names names' → NamedTo old now h before names places times i → NamedTo old now h before names' places times i
-named-same old now h before names names' places times i same to = record {
-  kept = to.kept;
-  faults = to.faults;
-  few = to.few;
-  last = to.last;
-  structure = λ c. same.structure c ∙ to.structure c;
-  mapped = λ c. ap (λ n. n + times * of_table (file old) h (of_mapping h (meets h c)) (slice_index places i)) (same.mapped c) ∙ to.mapped c;
-  copied = λ c. ap (λ n. n + times * of_table (file old) h (of_copied h (meets h c)) (slice_index places i)) (same.copied c) ∙ to.copied c;
-  sound = to.sound;
-}

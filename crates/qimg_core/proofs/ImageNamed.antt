@@ -1,4 +1,4 @@
--- What an image names, as a list of entries tells it.
+-- What an image names, as the checker counts it.
 use Rattle.std.proofs.Common.{◌≡◌, ℕ, zero, suc, ◌+◌, ◌*◌, ◌^◌, ◌<◌, ◌≤◌, refl, arith, ap, sym, subst, ◌∙◌, List, [], length}
 use Rattle.std.specs.Prelude.{Bool, true, false, ◌==◌, nat_lt, if◌then◌else◌, ◌&&◌, slice_index, Some, None, Ok}
 use Rattle.std.specs.List.{sum_by}
@@ -13,10 +13,9 @@ use Rattle.qcow2_types.specs.References.{Weight, meets, of_cluster, of_mapping, 
 use Rattle.qcow2_types.proofs.HeaderLimits.{fields-shaped, header-limited}
 use Rattle.qcow2_types.proofs.Sums.{sum-same, sum-none, sum-more}
 use Rattle.qcow2_metadata.proofs.GrowthLemmas.{cluster_words_bounds}
-use Rattle.qimg_core.specs.declared.check.names.Tally.{Tally}
-use Rattle.qimg_core.specs.Names.{Adds, SameParts, IsFew, nothing_named, named_by, structure_part, mapped_part, copied_part, named}
+use Rattle.qimg_core.specs.declared.check.names.Tallies.{Tallies}
+use Rattle.qimg_core.specs.Names.{Adds, IsFew, TellsNothing, nothing_named, named_by, structure_part, mapped_part, copied_part, named}
 use Rattle.qimg_core.specs.CheckParts.{Tells, HoldsPlaces, tables_of, sum_over, structure_over}
-use Rattle.qimg_core.proofs.RisingLemmas.{named-empty}
 use Rattle.qimg_core.proofs.ScanLemmas.{not-same}
 use Rattle.qimg_core.proofs.TablesListed.{sum-tables, sum-list, tables-few}
 
@@ -129,12 +128,12 @@ module _ (f : Bytes) (H : Header) (loads : header_of true f ≡ Ok H) (tables bl
       let is : sum_over (of_table f H.fields of) tables ≡ contents f H.fields of = contents-listed of in
       omega (arith, each, most, is, few-tables)
 
-  module _ (start between given added : List Tally) (none : start ≡ []) (adds-structure : Adds H.fields start between (λ w. structure_over H.fields tables blocks w) nothing_named nothing_named)
+  module _ (start between given : Tallies) (none : TellsNothing start) (adds-structure : Adds H.fields start between (λ w. structure_over H.fields tables blocks w) nothing_named nothing_named)
       (adds-contents : Adds H.fields between given nothing_named (λ w. sum_over (of_table f H.fields (of_mapping H.fields w)) tables) (λ w. sum_over (of_table f H.fields (of_copied H.fields w)) tables)) where
     -- What is entered then is what the image names.
     told-structure : (c : ℕ) → named_by structure_part c given ≡ structure f H.fields (meets H.fields c)
     told-structure c =
-        let a : named_by structure_part c start ≡ 0 = ap (named_by structure_part c) none ∙ named-empty structure_part c in
+        let a : named_by structure_part c start ≡ 0 = ap structure_part (none c) in
         let b : named_by structure_part c between ≡ named_by structure_part c start + structure_over H.fields tables blocks (meets H.fields c) = adds-structure.structure c in
         let d : named_by structure_part c given ≡ named_by structure_part c between + 0 = adds-contents.structure c in
         let e : structure_over H.fields tables blocks (meets H.fields c) ≡ structure f H.fields (meets H.fields c) = structure-listed (meets H.fields c) in
@@ -142,7 +141,7 @@ module _ (f : Bytes) (H : Header) (loads : header_of true f ≡ Ok H) (tables bl
 
     told-mapped : (c : ℕ) → named_by mapped_part c given ≡ contents f H.fields (of_mapping H.fields (meets H.fields c))
     told-mapped c =
-        let a : named_by mapped_part c start ≡ 0 = ap (named_by mapped_part c) none ∙ named-empty mapped_part c in
+        let a : named_by mapped_part c start ≡ 0 = ap mapped_part (none c) in
         let b : named_by mapped_part c between ≡ named_by mapped_part c start + 0 = adds-structure.mapped c in
         let d : named_by mapped_part c given ≡ named_by mapped_part c between + sum_over (of_table f H.fields (of_mapping H.fields (meets H.fields c))) tables = adds-contents.mapped c in
         let e : sum_over (of_table f H.fields (of_mapping H.fields (meets H.fields c))) tables ≡ contents f H.fields (of_mapping H.fields (meets H.fields c)) = contents-listed (of_mapping H.fields (meets H.fields c)) in
@@ -150,7 +149,7 @@ module _ (f : Bytes) (H : Header) (loads : header_of true f ≡ Ok H) (tables bl
 
     told-copied : (c : ℕ) → named_by copied_part c given ≡ contents f H.fields (of_copied H.fields (meets H.fields c))
     told-copied c =
-        let a : named_by copied_part c start ≡ 0 = ap (named_by copied_part c) none ∙ named-empty copied_part c in
+        let a : named_by copied_part c start ≡ 0 = ap copied_part (none c) in
         let b : named_by copied_part c between ≡ named_by copied_part c start + 0 = adds-structure.copied c in
         let d : named_by copied_part c given ≡ named_by copied_part c between + sum_over (of_table f H.fields (of_copied H.fields (meets H.fields c))) tables = adds-contents.copied c in
         let e : sum_over (of_table f H.fields (of_copied H.fields (meets H.fields c))) tables ≡ contents f H.fields (of_copied H.fields (meets H.fields c)) = contents-listed (of_copied H.fields (meets H.fields c)) in
@@ -173,25 +172,5 @@ module _ (f : Bytes) (H : Header) (loads : header_of true f ≡ Ok H) (tables bl
           omega arith;
     }
 
-    -- and the same where they are added up.
-    module _ (same : SameParts given added) where
-      pub added-tells : Tells f H.fields added
-      added-tells = record {
-        structure = λ c. same.structure c ∙ told-structure c;
-        mapped = λ c. same.mapped c ∙ told-mapped c;
-        copied = λ c. same.copied c ∙ told-copied c;
-      }
-
-      few-added : (c : ℕ) → named added c < 0x8000_0000_0000_0000
-      unfolding named
-      few-added c =
-          let a : named_by structure_part c added ≡ named_by structure_part c given = same.structure c in
-          let b : named_by mapped_part c added ≡ named_by mapped_part c given = same.mapped c in
-          let d : named_by structure_part c given + named_by mapped_part c given < 0x8000_0000_0000_0000 = few-named c in
-          omega arith
-
-      pub added-few : IsFew added
-      added-few = record {
-        all = few-added;
-        copied = λ c. let a : named_by copied_part c added ≡ named_by copied_part c given = same.copied c in let b : named_by copied_part c given < 0x8000_0000_0000_0000 = given-few.copied c in omega arith;
-      }
+    pub given-tells : Tells f H.fields given
+    given-tells = record { structure = told-structure; mapped = told-mapped; copied = told-copied }

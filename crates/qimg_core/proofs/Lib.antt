@@ -21,11 +21,7 @@ pub mod PlainImage
 pub mod PlainFiles
 pub mod NameLemmas
 pub mod RangeLemmas
-pub mod RisingLemmas
-pub mod SharedLemmas
-pub mod MergeLemmas
-pub mod AddUpLemmas
-pub mod GatheringLemmas
+pub mod SearchLemmas
 pub mod WordsNamed
 pub mod PlacesNamed
 pub mod FewerWords
@@ -34,8 +30,7 @@ pub mod BlockPlaces
 pub mod TableNamed
 pub mod ContentsNamed
 pub mod CountedBlocks
-pub mod CountsCompared
-pub mod SurplusLemmas
+pub mod Compared
 pub mod TablesListed
 pub mod ImageNamed
 pub mod Verdicts

@@ -1,51 +1,154 @@
--- Sums over the entries of the checker's list.
-use Rattle.std.proofs.Common.{◌≡◌, ℕ, ◌+◌, ◌*◌, ◌≤◌, arith, ap, ◌∙◌, List, [], ◌∷◌, ◌++◌}
-use Rattle.std.specs.Prelude.{◌==◌, if◌then◌else◌}
-use Rattle.std.proofs.lemmas.List.Sums.{sum_by_push}
-use Rattle.qimg_core.specs.declared.check.names.Tally.{Tally}
+-- One cluster and one more are entered.
+use Rattle.std.proofs.Common.{◌≡◌, ◌≢◌, ℕ, ◌+◌, ◌*◌, ◌^◌, ◌<◌, ◌≤◌, false, arith, ap, refl, sym, subst, ◌∙◌, [], length, inl, inr}
+use Rattle.std.specs.Prelude.{Some, slice_index_or, slice_set, unwrap_or, replicate}
+use Rattle.std.specs.Map.{lookup}
+use Rattle.std.specs.BTreeMap.{BTreeMap, Updates}
+use Rattle.std.specs.declared.cmp.Ordering.{Ordering}
+use Rattle.std.specs.declared.cmp.Ordering.TheVariants.{Less, Equal, Greater}
+use Rattle.std.specs.Ordering.{nat_cmp, is_eq, MatchOrdering}
+use Rattle.std.proofs.lemmas.Cmp.{ranked}
+use Rattle.std.proofs.lemmas.Bool.{cases_eq, cases_lt}
+use Rattle.std.proofs.lemmas.List.{get_or-set_same, get_or-set_other, get_or_default, get_or-replicate, get_or_past, length-replicate}
 use Rattle.qimg_core.specs.declared.check.names.Times.{Times}
-use Rattle.qimg_core.specs.Names.{part_at, named_by, structure_part, mapped_part, copied_part, is_between, AddsClusters}
-
--- one more entry
-pub named-push : (part : Tally → ℕ) (c : ℕ) (xs : List Tally) (n : Tally) → named_by part c (xs ++ n ∷ []) ≡ named_by part c xs + part_at part c n
-unfolding named_by
-named-push part c xs n = sum_by_push (part_at part c) xs n
+use Rattle.qimg_core.specs.declared.check.names.FewTimes.{FewTimes}
+use Rattle.qimg_core.specs.declared.check.names.Tallies.{Tallies}
+use Rattle.qimg_core.specs.Names.{structure_part, mapped_part, copied_part, no_times, no_few_times, cell_at, other_at, together, times_at, named_by, named, is_between, IsSum, IsFewSum, IsFew, TellsNothing, AddsClusters, AddsEntry}
 
 -- a range of no clusters
-pub between-none : (low c : ℕ) → is_between low low c ≡ 0
-between-none low c = grind arith
+pub adds-none : (names : Tallies) (low : ℕ) (times : Times) → AddsClusters names names low low times
+adds-none names low times = record {
+  structure = λ c. none (named_by structure_part c names) times.structure c;
+  mapped = λ c. none (named_by mapped_part c names) times.mapped c;
+  copied = λ c. none (named_by copied_part c names) times.copied c;
+}
+  where
+    between : (c : ℕ) → is_between low low c ≡ 0
+    between c = grind arith
+
+    none : (n x c : ℕ) → n ≡ n + x * is_between low low c
+    none n x c = rw (between c) (omega arith)
 
 -- one more cluster
-pub between-more : (low k c x : ℕ) → low ≤ k → x * is_between low (k + 1) c ≡ x * is_between low k c + (if k == c then x else 0)
-between-more low k c x le = grind arith
-
--- the entries for no clusters
-pub adds-none : (xs : List Tally) (low : ℕ) (times : Times) → AddsClusters xs xs low low times
-adds-none xs low times = record {
-  structure = λ c. none (named_by structure_part c xs) times.structure c;
-  mapped = λ c. none (named_by mapped_part c xs) times.mapped c;
-  copied = λ c. none (named_by copied_part c xs) times.copied c;
+pub adds-more : (old now new : Tallies) (low k : ℕ) (times : Times) → low ≤ k → AddsClusters old now low k times → AddsClusters now new k (k + 1) times → AddsClusters old new low (k + 1) times
+adds-more old now new low k times le before here = record {
+  structure = λ c. more times.structure c _ _ _ (before.structure c) (here.structure c);
+  mapped = λ c. more times.mapped c _ _ _ (before.mapped c) (here.mapped c);
+  copied = λ c. more times.copied c _ _ _ (before.copied c) (here.copied c);
 }
   where
-    none : (n x c : ℕ) → n ≡ n + x * is_between low low c
-    none n x c = rw (between-none low c) (omega arith)
+    between : (x c : ℕ) → x * is_between low (k + 1) c ≡ x * is_between low k c + x * is_between k (k + 1) c
+    between x c = grind arith
 
--- the entry for one more cluster
-pub adds-more : (old now new : List Tally) (low k : ℕ) (times : Times) (n : Tally) → low ≤ k → n.cluster ≡ k → n.structure ≡ times.structure → n.mapped ≡ times.mapped → n.copied ≡ times.copied
-    → new ≡ now ++ n ∷ [] → AddsClusters old now low k times → AddsClusters old new low (k + 1) times
-adds-more old now new low k times n le at s m p is adds = record {
-  structure = λ c. more structure_part times.structure c s (adds.structure c);
-  mapped = λ c. more mapped_part times.mapped c m (adds.mapped c);
-  copied = λ c. more copied_part times.copied c p (adds.copied c);
+    more : (x c a b d : ℕ) → b ≡ a + x * is_between low k c → d ≡ b + x * is_between k (k + 1) c → d ≡ a + x * is_between low (k + 1) c
+    more x c a b d p q = omega (arith, p, q, between x c)
+
+-- One cluster is entered, where no other changes.
+module _ (old new : Tallies) (k : ℕ) (times : Times) (sum : IsSum (times_at old k) times (times_at new k)) (apart : (c : ℕ) → c ≢ k → times_at new c ≡ times_at old c) where
+  at-one : (part : Times → ℕ) (x : ℕ) → part (times_at new k) ≡ part (times_at old k) + x → (c : ℕ) → part (times_at new c) ≡ part (times_at old c) + x * is_between k (k + 1) c
+  at-one part x here c = elim (cases_eq c k) [
+    | inl is ↦
+        let one : is_between k (k + 1) c ≡ 1 = grind arith in
+        let at : part (times_at new c) ≡ part (times_at new k) = ap (λ i. part (times_at new i)) is in
+        let was : part (times_at old c) ≡ part (times_at old k) = ap (λ i. part (times_at old i)) is in
+        rw one (omega arith)
+    | inr ne ↦
+        let none : is_between k (k + 1) c ≡ 0 = grind arith in
+        let same : part (times_at new c) ≡ part (times_at old c) = ap part (apart c ne) in
+        rw none (omega arith)
+  ]
+
+  pub adds-one : AddsClusters old new k (k + 1) times
+  adds-one = record {
+    structure = at-one structure_part times.structure sum.structure;
+    mapped = at-one mapped_part times.mapped sum.mapped;
+    copied = at-one copied_part times.copied sum.copied;
+  }
+
+-- in its cell
+pub adds-in-cell : (old new : Tallies) (k : ℕ) (times : Times) (cell sum : FewTimes) → k < length old.cells.items → cell ≡ slice_index_or old.cells.items k cell → IsFewSum cell times sum → new.cells.items ≡ slice_set old.cells.items k sum → new.others ≡ old.others
+    → AddsClusters old new k (k + 1) times
+unfolding times_at cell_at
+adds-in-cell old new k times cell sum lt is room cells others =
+    adds-one old new k times
+    (record {
+      structure = step _ _ _ _ _ _ _ (ap (λ (n : FewTimes). n.structure) here) (ap (λ (n : FewTimes). n.structure) was) (ap (λ (n : Times). n.structure) same) room.structure;
+      mapped = step _ _ _ _ _ _ _ (ap (λ (n : FewTimes). n.mapped) here) (ap (λ (n : FewTimes). n.mapped) was) (ap (λ (n : Times). n.mapped) same) room.mapped;
+      copied = step _ _ _ _ _ _ _ (ap (λ (n : FewTimes). n.copied) here) (ap (λ (n : FewTimes). n.copied) was) (ap (λ (n : Times). n.copied) same) room.copied;
+    })
+    (λ c ne.
+    ap (λ x. together x (other_at new.others c)) (ap (λ l. cell_at l c) cells ∙ get_or-set_other old.cells.items k c sum no_few_times ne)
+    ∙ ap (λ o. together (cell_at old.cells.items c) (other_at o c)) others)
+  where
+    here : cell_at new.cells.items k ≡ sum
+    here = ap (λ l. slice_index_or l k no_few_times) cells ∙ get_or-set_same old.cells.items k sum no_few_times lt
+
+    was : cell_at old.cells.items k ≡ cell
+    was = sym (is ∙ get_or_default old.cells.items k cell no_few_times lt)
+
+    same : other_at new.others k ≡ other_at old.others k
+    same = ap (λ o. other_at o k) others
+
+    step : (a b d e s r x : ℕ) → a ≡ s → b ≡ r → d ≡ e → s ≡ r + x → a + d ≡ b + e + x
+    step a b d e s r x p q u t = omega (arith, p, q, u, t)
+
+-- in its entry
+pub adds-in-entry : (old new : Tallies) (k : ℕ) (times : Times) → AddsEntry old.others new.others k times → new.cells.items ≡ old.cells.items → AddsClusters old new k (k + 1) times
+unfolding times_at
+adds-in-entry old new k times adds cells =
+    adds-one old new k times
+    (record {
+      structure = step _ _ _ _ _ (ap (λ (n : FewTimes). n.structure) same) adds.here.structure;
+      mapped = step _ _ _ _ _ (ap (λ (n : FewTimes). n.mapped) same) adds.here.mapped;
+      copied = step _ _ _ _ _ (ap (λ (n : FewTimes). n.copied) same) adds.here.copied;
+    })
+    (λ c ne. ap (λ x. together x (other_at new.others c)) (ap (λ l. cell_at l c) cells) ∙ ap (together (cell_at old.cells.items c)) (adds.others c ne))
+  where
+    same : cell_at new.cells.items k ≡ cell_at old.cells.items k
+    same = ap (λ l. cell_at l k) cells
+
+    step : (a b d e x : ℕ) → a ≡ b → d ≡ e + x → a + d ≡ b + e + x
+    step a b d e x p q = omega (arith, p, q)
+
+-- an entry is written
+pub adds-entry : (old new : BTreeMap ℕ Times) (k : ℕ) (times sum : Times) → Updates nat_cmp old new k (Some sum) → IsSum (other_at old k) times sum → AddsEntry old new k times
+unfolding other_at
+adds-entry old new k times sum written is = record {
+  here = subst (IsSum (other_at old k) times) (sym (ap (λ o. unwrap_or o no_times) written.1)) is;
+  others = λ d ne. ap (λ o. unwrap_or o no_times) (written.2 d (apart d ne));
 }
   where
-    step : (a b d x y e : ℕ) → a ≡ b + x → b ≡ d + y → e ≡ y + x → a ≡ d + e
-    step a b d x y e p q r = omega arith
+    apart : (d : ℕ) → d ≢ k → is_eq (nat_cmp k d) ≡ false
+    apart d ne = by-order (nat_cmp k d) (ranked k d (nat_cmp k d) refl)
+      where
+        by-order : (r : Ordering) → MatchOrdering r (k < d) (k ≡ d) (d < k) → is_eq r ≡ false
+        by-order Less less = refl
+        by-order Equal same = absurd (ne (sym same))
+        by-order Greater more = refl
 
-    entry : (part : Tally → ℕ) (x c : ℕ) → part n ≡ x → part_at part c n ≡ (if k == c then x else 0)
-    entry part x c e = ap (λ y. if n.cluster == c then y else 0) e ∙ ap (λ a. if a == c then x else 0) at
+-- no name, with n cells
+pub no-names : (names : Tallies) (n : ℕ) → names.cells.items ≡ replicate n no_few_times → names.others.entries ≡ [] → TellsNothing names
+unfolding times_at cell_at other_at
+no-names names n cells entries c =
+    ap (λ x. together x (other_at names.others c)) (ap (λ l. slice_index_or l c no_few_times) cells ∙ blank) ∙ ap (λ es. together no_few_times (unwrap_or (lookup (λ q. is_eq (nat_cmp c q)) es) no_times)) entries
+  where
+    blank : slice_index_or (replicate n no_few_times) c no_few_times ≡ no_few_times
+    blank = elim (cases_lt c n) [
+      | inl lt ↦ get_or-replicate n c no_few_times no_few_times lt
+      | inr ge ↦ get_or_past (replicate n no_few_times) c no_few_times (omega (arith, length-replicate n no_few_times))
+    ]
 
-    more : (part : Tally → ℕ) (x c : ℕ) → part n ≡ x → named_by part c now ≡ named_by part c old + x * is_between low k c → named_by part c new ≡ named_by part c old + x * is_between low (k + 1) c
-    more part x c e before =
-        let pushed : named_by part c new ≡ named_by part c now + (if k == c then x else 0) = ap (named_by part c) is ∙ named-push part c now n ∙ ap (λ y. named_by part c now + y) (entry part x c e) in
-        step _ _ _ _ _ _ pushed before (between-more low k c x le)
+-- the sums of a cell and an entry fit, where all are small
+module _ (names : Tallies) (c : ℕ) (cell : FewTimes) (entry : Times) (is-cell : cell ≡ cell_at names.cells.items c) (is-entry : entry ≡ other_at names.others c) where
+  pub together-is : together cell entry ≡ times_at names c
+  unfolding times_at
+  together-is = ap (λ x. together x entry) is-cell ∙ ap (together (cell_at names.cells.items c)) is-entry
+
+  pub together-few : IsFew names → (cell.structure + entry.structure < 2 ^ 64) × (cell.mapped + entry.mapped < 2 ^ 64) × (cell.copied + entry.copied < 2 ^ 64)
+  unfolding named
+  together-few few =
+      let all : named_by structure_part c names + named_by mapped_part c names < 0x8000_0000_0000_0000 = few.all c in
+      let some : named_by copied_part c names < 0x8000_0000_0000_0000 = few.copied c in
+      let s : cell.structure + entry.structure ≡ named_by structure_part c names = ap structure_part together-is in
+      let m : cell.mapped + entry.mapped ≡ named_by mapped_part c names = ap mapped_part together-is in
+      let p : cell.copied + entry.copied ≡ named_by copied_part c names = ap copied_part together-is in
+      (omega (arith, all, s), omega (arith, all, m), omega (arith, some, p))

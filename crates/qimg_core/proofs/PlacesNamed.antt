@@ -7,19 +7,19 @@ use Rattle.std.proofs.lemmas.List.Sums.{sum_by_push}
 use Rattle.std.proofs.lemmas.Bool.{ne_eqb}
 use Rattle.qcow2_types.specs.Header.{Fields, cluster_size}
 use Rattle.qcow2_types.specs.References.{meets, of_cluster}
-use Rattle.qimg_core.specs.declared.check.names.Tally.{Tally}
-use Rattle.qimg_core.specs.Names.{Adds, SameParts, nothing_named}
+use Rattle.qimg_core.specs.declared.check.names.Tallies.{Tallies}
+use Rattle.qimg_core.specs.Names.{Adds, nothing_named}
 use Rattle.qimg_core.specs.CheckParts.{sum_over, structure_over}
 
 -- the clusters at these places are added
-abbrev pub AddsPlaces : Fields → List Tally → List Tally → List ℕ → Type 0
+abbrev pub AddsPlaces : Fields → Tallies → Tallies → List ℕ → Type 0
 AddsPlaces h old new places = Adds h old new (λ w. sum_over (of_cluster h w) places) nothing_named nothing_named
 
 pub places-step : (of : ℕ → ℕ) (places : List ℕ) (i : ℕ) → i < length places → sum_over of (take (i + 1) places) ≡ sum_over of (take i places) + of (slice_index places i)
 places-step of places i lt = ap (sum_by of) (take_more places i 0 lt) ∙ sum_by_push of (take i places) (slice_index places i)
 
 -- one more place, where 0 is none
-pub adds-no-place : (h : Fields) (old now : List Tally) (places : List ℕ) (i : ℕ) → i < length places → slice_index places i ≡ 0 → AddsPlaces h old now (take i places) → AddsPlaces h old now (take (i + 1) places)
+pub adds-no-place : (h : Fields) (old now : Tallies) (places : List ℕ) (i : ℕ) → i < length places → slice_index places i ≡ 0 → AddsPlaces h old now (take i places) → AddsPlaces h old now (take (i + 1) places)
 adds-no-place h old now places i lt none adds = record {
   structure = λ c. nothing c _ _ (adds.structure c) (places-step (of_cluster h (meets h c)) places i lt);
   mapped = adds.mapped;
@@ -30,34 +30,34 @@ adds-no-place h old now places i lt none adds = record {
         → a ≡ b + sum_over (of_cluster h (meets h c)) (take (i + 1) places)
     nothing c a b p q = let zero : of_cluster h (meets h c) (slice_index places i) ≡ 0 = ap (of_cluster h (meets h c)) none in omega arith
 
-pub adds-place : (h : Fields) (old now grown new : List Tally) (places : List ℕ) (i place : ℕ) → i < length places → slice_index places i ≡ place → place ≢ 0 → AddsPlaces h old now (take i places)
-    → Adds h now grown (λ w. 1 * w place (cluster_size h)) (λ w. 0 * w place (cluster_size h)) (λ w. 0 * w place (cluster_size h)) → SameParts grown new → AddsPlaces h old new (take (i + 1) places)
-adds-place h old now grown new places i place lt is some before here same = record {
-  structure = λ c. more c _ _ _ _ (same.structure c) (here.structure c) (before.structure c);
-  mapped = λ c. as-before _ _ _ _ _ (same.mapped c) (here.mapped c) (before.mapped c);
-  copied = λ c. as-before _ _ _ _ _ (same.copied c) (here.copied c) (before.copied c);
+pub adds-place : (h : Fields) (old now new : Tallies) (places : List ℕ) (i place : ℕ) → i < length places → slice_index places i ≡ place → place ≢ 0 → AddsPlaces h old now (take i places)
+    → Adds h now new (λ w. 1 * w place (cluster_size h)) (λ w. 0 * w place (cluster_size h)) (λ w. 0 * w place (cluster_size h)) → AddsPlaces h old new (take (i + 1) places)
+adds-place h old now new places i place lt is some before here = record {
+  structure = λ c. more c _ _ _ (here.structure c) (before.structure c);
+  mapped = λ c. as-before _ _ _ _ (here.mapped c) (before.mapped c);
+  copied = λ c. as-before _ _ _ _ (here.copied c) (before.copied c);
 }
   where
     own : (c : ℕ) → of_cluster h (meets h c) (slice_index places i) ≡ meets h c place (cluster_size h)
     own c = ap (of_cluster h (meets h c)) is ∙ rw (ne_eqb place 0 some) refl
 
-    step : (a b d e x s s' : ℕ) → a ≡ b → b ≡ d + 1 * x → d ≡ e + s → s' ≡ s + x → a ≡ e + s'
-    step a b d e x s s' p q r t = omega arith
+    step : (b d e x s s' : ℕ) → b ≡ d + 1 * x → d ≡ e + s → s' ≡ s + x → b ≡ e + s'
+    step b d e x s s' q r t = omega arith
 
-    more : (c a b d e : ℕ) → a ≡ b → b ≡ d + 1 * meets h c place (cluster_size h) → d ≡ e + sum_over (of_cluster h (meets h c)) (take i places) → a ≡ e + sum_over (of_cluster h (meets h c)) (take (i + 1) places)
-    more c a b d e p q r = step a b d e (meets h c place (cluster_size h)) _ _ p q r (places-step (of_cluster h (meets h c)) places i lt ∙ ap (λ n. sum_over (of_cluster h (meets h c)) (take i places) + n) (own c))
+    more : (c b d e : ℕ) → b ≡ d + 1 * meets h c place (cluster_size h) → d ≡ e + sum_over (of_cluster h (meets h c)) (take i places) → b ≡ e + sum_over (of_cluster h (meets h c)) (take (i + 1) places)
+    more c b d e q r = step b d e (meets h c place (cluster_size h)) _ _ q r (places-step (of_cluster h (meets h c)) places i lt ∙ ap (λ n. sum_over (of_cluster h (meets h c)) (take i places) + n) (own c))
 
-    as-before : (a b d e x : ℕ) → a ≡ b → b ≡ d + 0 * x → d ≡ e + 0 → a ≡ e + 0
-    as-before a b d e x p q r = omega arith
+    as-before : (b d e x : ℕ) → b ≡ d + 0 * x → d ≡ e + 0 → b ≡ e + 0
+    as-before b d e x q r = omega arith
 
-pub adds-no-places : (h : Fields) (xs : List Tally) (places : List ℕ) → AddsPlaces h xs xs (take 0 places)
+pub adds-no-places : (h : Fields) (xs : Tallies) (places : List ℕ) → AddsPlaces h xs xs (take 0 places)
 adds-no-places h xs places = record { structure = λ c. omega arith; mapped = λ c. omega arith; copied = λ c. omega arith }
 
-pub adds-all-places : (h : Fields) (old new : List Tally) (places : List ℕ) (i : ℕ) → i ≡ length places → AddsPlaces h old new (take i places) → AddsPlaces h old new places
+pub adds-all-places : (h : Fields) (old new : Tallies) (places : List ℕ) (i : ℕ) → i ≡ length places → AddsPlaces h old new (take i places) → AddsPlaces h old new places
 adds-all-places h old new places i all adds = subst (AddsPlaces h old new) (take_all i places (omega arith)) adds
 
 -- The start, the blocks and the tables, one after the other, are the structure.
-pub adds_structure : (h : Fields) (old start with_blocks new : List Tally) (tables blocks : List ℕ)
+pub adds_structure : (h : Fields) (old start with_blocks new : Tallies) (tables blocks : List ℕ)
     → Adds h old start (λ w. w 0 (cluster_size h) + w h.l1_offset (h.l1_entries * 8) + w h.refcount_table_offset (h.refcount_table_clusters * cluster_size h)) nothing_named nothing_named
     → Adds h start with_blocks (λ w. sum_over (of_cluster h w) blocks) nothing_named nothing_named
     → Adds h with_blocks new (λ w. sum_over (of_cluster h w) tables) nothing_named nothing_named

@@ -6,7 +6,7 @@ use Rattle.std.proofs.Math.Nat.{div-mul-le_self, lt-div-mul-add}
 use Rattle.std.proofs.lemmas.Nat.{pow_pos, mul-le}
 use Rattle.qcow2_types.specs.Header.{Fields, cluster_size}
 use Rattle.qcow2_types.specs.References.{meets}
-use Rattle.qimg_core.specs.declared.check.names.Tally.{Tally}
+use Rattle.qimg_core.specs.declared.check.names.Tallies.{Tallies}
 use Rattle.qimg_core.specs.declared.check.names.Times.{Times}
 use Rattle.qimg_core.specs.Names.{named_by, structure_part, mapped_part, copied_part, is_between, AddsClusters, Adds}
 
@@ -41,7 +41,7 @@ pub meets-between : (h : Fields) (c first length : ℕ) → 0 < length → meets
 meets-between h c first length long = between (2 ^ h.cluster_bits) c first length (pow_pos h.cluster_bits) long
 
 -- so the clusters of a range are what it adds
-pub adds-range : (h : Fields) (old new : List Tally) (first length low high : ℕ) (times : Times) → 0 < length → low ≡ first / cluster_size h → high ≡ (first + (length - 1)) / cluster_size h
+pub adds-range : (h : Fields) (old new : Tallies) (first length low high : ℕ) (times : Times) → 0 < length → low ≡ first / cluster_size h → high ≡ (first + (length - 1)) / cluster_size h
     → AddsClusters old new low (high + 1) times
     → Adds h old new (λ w. times.structure * w first length) (λ w. times.mapped * w first length) (λ w. times.copied * w first length)
 adds-range h old new first length low high times long at til adds = record {
@@ -54,7 +54,7 @@ adds-range h old new first length low high times long at til adds = record {
     same c = meets-between h c first length long ∙ ap (λ a. is_between a ((first + (length - 1)) / cluster_size h + 1) c) (sym at) ∙ ap (λ b. is_between low (b + 1) c) (sym til)
 
 -- no range meets a cluster with no bytes
-pub adds-nothing : (h : Fields) (xs : List Tally) (first : ℕ) (times : Times)
+pub adds-nothing : (h : Fields) (xs : Tallies) (first : ℕ) (times : Times)
     → Adds h xs xs (λ w. times.structure * w first 0) (λ w. times.mapped * w first 0) (λ w. times.copied * w first 0)
 adds-nothing h xs first times = record {
   structure = λ c. omega arith;

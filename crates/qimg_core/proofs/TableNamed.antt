@@ -18,7 +18,7 @@ use Rattle.qcow2_types.proofs.WordLemmas.{zero-word}
 use Rattle.qcow2_metadata.specs.Tables.{TableValue, WhyNotLoaded, words_in, table_in, l2_words}
 use Rattle.qcow2_metadata.proofs.TableFacts.{words_long, words_more}
 use Rattle.qimg_core.specs.declared.check.CheckFault.TheVariants.{Table}
-use Rattle.qimg_core.specs.declared.check.names.Tally.{Tally}
+use Rattle.qimg_core.specs.declared.check.names.Tallies.{Tallies}
 use Rattle.qimg_core.specs.Files.{file}
 use Rattle.qimg_core.specs.Names.{Adds, nothing_named, named_by, mapped_part, copied_part}
 use Rattle.qimg_core.specs.CheckParts.{IsDamagedTable, words_over, fault_of_load}
@@ -28,7 +28,7 @@ use Rattle.qimg_core.proofs.L2Words.{l2-unsound}
 use Rattle.qcow2_types.proofs.WriteBack.{place-whole}
 
 -- what an L2 table names is added, so often
-abbrev pub AddsTable : Bytes → Fields → ℕ → List Tally → List Tally → ℕ → Type 0
+abbrev pub AddsTable : Bytes → Fields → ℕ → Tallies → Tallies → ℕ → Type 0
 AddsTable f h times old new place = Adds h old new nothing_named (λ w. times * of_table f h (of_mapping h w) place) (λ w. times * of_table f h (of_copied h w) place)
 
 -- the sum over the first n words
@@ -55,7 +55,7 @@ unfolding of_table
 table-summed f h of place words is = ap (words_over h of) is ∙ words-summed f h of place (words_of_cluster h)
 
 -- So the words that are entered are the table's.
-pub adds-table : (f : Bytes) (h : Fields) (times : ℕ) (old new : List Tally) (place : ℕ) (words : List ℕ) → words ≡ words_in f place (words_of_cluster h)
+pub adds-table : (f : Bytes) (h : Fields) (times : ℕ) (old new : Tallies) (place : ℕ) (words : List ℕ) → words ≡ words_in f place (words_of_cluster h)
     → Adds h old new nothing_named (λ w. times * words_over h (of_mapping h w) words) (λ w. times * words_over h (of_copied h w) words) → AddsTable f h times old new place
 adds-table f h times old new place words is adds = record {
   structure = adds.structure;
@@ -74,7 +74,7 @@ module _ (bytes : List ℕ) (h : Fields) (place : ℕ) (past : length bytes ≤ 
   unfolding of_table
   past-table of none = sum-zero (words_of_cluster h) (λ i. of (l2_mapping (bytes_of bytes) h place i)) (λ i lt. ap of (past-mapping i) ∙ none)
 
-  pub adds-past : (times : ℕ) (names : List Tally) → AddsTable (bytes_of bytes) h times names names place
+  pub adds-past : (times : ℕ) (names : Tallies) → AddsTable (bytes_of bytes) h times names names place
   adds-past times names = record {
     structure = λ c. omega arith;
     mapped = λ c. nothing _ _ (past-table (of_mapping h (meets h c)) refl);

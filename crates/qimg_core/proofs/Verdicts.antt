@@ -1,36 +1,43 @@
--- From what a list of entries says to the verdict on the file.
-use Rattle.std.proofs.Common.{◌≡◌, ℕ, ap, sym, subst, ◌∙◌, List, Ok}
+-- From what is counted to the verdict on the file.
+use Rattle.std.proofs.Common.{◌≡◌, ℕ, ◌+◌, arith, ap, sym, subst, ◌∙◌, List, Ok}
 use Rattle.std.specs.Prelude.{Bool, true, false, ◌&&◌, not, ◌==◌, nat_lt, IsTrue}
 use Rattle.imago_storage.specs.State.{StorageState, Rose}
 use Rattle.imago_storage.specs.Calls.{Kept}
 use Rattle.qcow2_types.specs.Bytes.{Bytes}
 use Rattle.qcow2_types.specs.Header.{Fields, Header, header_of, has_external_data}
-use Rattle.qcow2_types.specs.Counts.{count}
-use Rattle.qcow2_types.specs.References.{structure, contents, of_copied, meets}
+use Rattle.qcow2_types.specs.References.{structure, contents, of_mapping, of_copied, meets, refs}
 use Rattle.qcow2_types.specs.Consistency.{tables_sound, shares_structure, is_false_copied, is_under_counted, Nowhere, IsLeast, IsVerdict, leaks}
 use Rattle.qimg_core.specs.declared.check.CheckFault.{CheckFault}
 use Rattle.qimg_core.specs.declared.check.CheckFault.TheVariants as fault
-use Rattle.qimg_core.specs.declared.check.names.Tally.{Tally}
+use Rattle.qimg_core.specs.declared.check.names.Tallies.{Tallies}
 use Rattle.qimg_core.specs.Files.{file}
-use Rattle.qimg_core.specs.Names.{named, is_shared, is_falsely_copied}
-use Rattle.qimg_core.specs.CheckParts.{Tells, IsUnsound, SharesFirst, is_under, IsUnder}
+use Rattle.qimg_core.specs.declared.check.search.Question.TheVariants.{Shared, FalselyCopied, AtAll}
+use Rattle.qimg_core.specs.Names.{named_by, structure_part, mapped_part, copied_part, times_at}
+use Rattle.qimg_core.specs.Searches.{is_such}
+use Rattle.qimg_core.specs.CheckParts.{Tells, IsUnsound, SharesFirst, IsUnder}
 use Rattle.qimg_core.specs.Check.{Found, IsFinding}
 use Rattle.qimg_core.proofs.ScanLemmas.{kept-both, kept-file}
-use Rattle.qimg_core.proofs.SurplusLemmas.{named-refs}
 
--- What is asked of the list is what is asked of the file.
-module _ (f : Bytes) (h : Fields) (names : List Tally) (told : Tells f h names) where
-  pub shared-same : (c : ℕ) → is_shared names c ≡ shares_structure f h c
-  unfolding is_shared shares_structure
-  shared-same c = ap (λ n. nat_lt 0 n && not (named names c == 1)) (told.structure c) ∙ ap (λ n. nat_lt 0 (structure f h (meets h c)) && not (n == 1)) (named-refs f h names told c)
+-- What is asked of the names is what is asked of the file.
+module _ (f : Bytes) (h : Fields) (names : Tallies) (told : Tells f h names) where
+  pub named-refs : (c : ℕ) → (times_at names c).structure + (times_at names c).mapped ≡ refs f h c
+  unfolding refs
+  named-refs c =
+      let a : named_by structure_part c names ≡ structure f h (meets h c) = told.structure c in
+      let b : named_by mapped_part c names ≡ contents f h (of_mapping h (meets h c)) = told.mapped c in
+      omega arith
 
-  pub false-same : (c : ℕ) → is_falsely_copied names c ≡ is_false_copied f h c
-  unfolding is_falsely_copied is_false_copied
-  false-same c = ap (λ n. nat_lt 0 n && not (named names c == 1)) (told.copied c) ∙ ap (λ n. nat_lt 0 (contents f h (of_copied h (meets h c))) && not (n == 1)) (named-refs f h names told c)
+  pub shared-same : (c : ℕ) → is_such Shared names c ≡ shares_structure f h c
+  unfolding is_such shares_structure
+  shared-same c = ap (λ n. nat_lt 0 n && not ((times_at names c).structure + (times_at names c).mapped == 1)) (told.structure c) ∙ ap (λ n. nat_lt 0 (structure f h (meets h c)) && not (n == 1)) (named-refs c)
 
-  pub under-same : (c : ℕ) → is_under f h names c ≡ is_under_counted f h c
-  unfolding is_under is_under_counted
-  under-same c = ap (nat_lt (count f h c)) (named-refs f h names told c)
+  pub false-same : (c : ℕ) → is_such FalselyCopied names c ≡ is_false_copied f h c
+  unfolding is_such is_false_copied
+  false-same c = ap (λ n. nat_lt 0 n && not ((times_at names c).structure + (times_at names c).mapped == 1)) (told.copied c) ∙ ap (λ n. nat_lt 0 (contents f h (of_copied h (meets h c))) && not (n == 1)) (named-refs c)
+
+  pub named-same : (c : ℕ) → is_such AtAll names c ≡ nat_lt 0 (refs f h c)
+  unfolding is_such
+  named-same c = ap (nat_lt 0) (named-refs c)
 
 -- tests that are the same pass at the same clusters
 nowhere-same : (p q : ℕ → Bool) → ((c : ℕ) → p c ≡ q c) → Nowhere p → Nowhere q
@@ -62,23 +69,23 @@ module _ (old : StorageState) (H : Header) (can : CanCheck (file old) H) where
   table-verdict now new kept same fault.Memory found = found ∙ same
   table-verdict now new kept same fault.Storage found = rose-since old now new same found
 
-  module _ (names : List Tally) (sound : IsTrue (tables_sound (file old) H.fields)) (told : Tells (file old) H.fields names) where
+  module _ (names : Tallies) (sound : IsTrue (tables_sound (file old) H.fields)) (told : Tells (file old) H.fields names) where
     -- a cluster is named more than once
     pub shared-verdict : (now : StorageState) → now.faults ≡ old.faults → (fault : CheckFault) → SharesFirst names fault → Found old now (IsFinding (file old)) fault
     shared-verdict now same fault.Header found = absurd found
     shared-verdict now same fault.Snapshots found = absurd found
     shared-verdict now same fault.External found = absurd found
     shared-verdict now same fault.Table found = absurd found
-    shared-verdict now same (fault.SharedTable c) found = ((H, can.loads, (can.no_snapshots, can.data_inside, sound, least-same (is_shared names) (shares_structure (file old) H.fields) (shared-same (file old) H.fields names told) c found)), same)
+    shared-verdict now same (fault.SharedTable c) found = ((H, can.loads, (can.no_snapshots, can.data_inside, sound, least-same (is_such Shared names) (shares_structure (file old) H.fields) (shared-same (file old) H.fields names told) c found)), same)
     shared-verdict now same (fault.FalseCopied c) found =
-        ((H, can.loads, (can.no_snapshots, can.data_inside, sound, nowhere-same (is_shared names) (shares_structure (file old) H.fields) (shared-same (file old) H.fields names told) found.0, least-same (is_falsely_copied names) (is_false_copied (file old) H.fields) (false-same (file old) H.fields names told) c found.1)), same)
+        ((H, can.loads, (can.no_snapshots, can.data_inside, sound, nowhere-same (is_such Shared names) (shares_structure (file old) H.fields) (shared-same (file old) H.fields names told) found.0, least-same (is_such FalselyCopied names) (is_false_copied (file old) H.fields) (false-same (file old) H.fields names told) c found.1)), same)
     shared-verdict now same (fault.UnderCounted c) found = absurd found
     shared-verdict now same fault.Memory found = absurd found
     shared-verdict now same fault.Storage found = absurd found
 
-    module _ (apart : Nowhere (is_shared names)) (true_copies : Nowhere (is_falsely_copied names)) where
+    module _ (apart : Nowhere (is_such Shared names)) (true_copies : Nowhere (is_such FalselyCopied names)) where
       -- a cluster is counted too little
-      pub under-verdict : (now new : StorageState) → Kept old now → now.faults ≡ old.faults → (fault : CheckFault) → Found now new (IsUnder (file now) H.fields names) fault → Found old new (IsFinding (file old)) fault
+      pub under-verdict : (now new : StorageState) → Kept old now → now.faults ≡ old.faults → (fault : CheckFault) → Found now new (IsUnder (file now) H.fields) fault → Found old new (IsFinding (file old)) fault
       under-verdict now new kept same fault.Header found = absurd found.0
       under-verdict now new kept same fault.Snapshots found = absurd found.0
       under-verdict now new kept same fault.External found = absurd found.0
@@ -93,9 +100,9 @@ module _ (old : StorageState) (H : Header) (can : CanCheck (file old) H) where
             can.no_snapshots,
             can.data_inside,
             sound,
-            nowhere-same (is_shared names) (shares_structure (file old) H.fields) (shared-same (file old) H.fields names told) apart,
-            nowhere-same (is_falsely_copied names) (is_false_copied (file old) H.fields) (false-same (file old) H.fields names told) true_copies,
-            least-same (is_under (file now) H.fields names) (is_under_counted (file old) H.fields) (λ d. ap (λ f. is_under f H.fields names d) (kept-file old now kept) ∙ under-same (file old) H.fields names told d) c found.0,
+            nowhere-same (is_such Shared names) (shares_structure (file old) H.fields) (shared-same (file old) H.fields names told) apart,
+            nowhere-same (is_such FalselyCopied names) (is_false_copied (file old) H.fields) (false-same (file old) H.fields names told) true_copies,
+            least-same (is_under_counted (file now) H.fields) (is_under_counted (file old) H.fields) (λ d. ap (λ f. is_under_counted f H.fields d) (kept-file old now kept)) c found.0,
           ),
         ),
         found.1 ∙ same,
@@ -104,20 +111,20 @@ module _ (old : StorageState) (H : Header) (can : CanCheck (file old) H) where
       under-verdict now new kept same fault.Storage found = rose-since old now new same found
 
       -- nothing is wrong
-      pub sound-verdict : (now : StorageState) → Kept old now → Nowhere (is_under (file now) H.fields names) → (found : List (ℕ × ℕ)) → found ≡ leaks (file old) H.fields → IsVerdict (file old) (Ok found)
+      pub sound-verdict : (now : StorageState) → Kept old now → Nowhere (is_under_counted (file now) H.fields) → (found : List (ℕ × ℕ)) → found ≡ leaks (file old) H.fields → IsVerdict (file old) (Ok found)
       sound-verdict now kept counted found is = (
         H,
         record {
           readable = record { loads = can.loads; no_snapshots = can.no_snapshots; data_inside = can.data_inside; tables = sound };
-          structure_apart = nowhere-same (is_shared names) (shares_structure (file old) H.fields) (shared-same (file old) H.fields names told) apart;
-          copied_apart = nowhere-same (is_falsely_copied names) (is_false_copied (file old) H.fields) (false-same (file old) H.fields names told) true_copies;
-          counted = nowhere-same (is_under (file now) H.fields names) (is_under_counted (file old) H.fields) (λ d. ap (λ f. is_under f H.fields names d) (kept-file old now kept) ∙ under-same (file old) H.fields names told d) counted;
+          structure_apart = nowhere-same (is_such Shared names) (shares_structure (file old) H.fields) (shared-same (file old) H.fields names told) apart;
+          copied_apart = nowhere-same (is_such FalselyCopied names) (is_false_copied (file old) H.fields) (false-same (file old) H.fields names told) true_copies;
+          counted = nowhere-same (is_under_counted (file now) H.fields) (is_under_counted (file old) H.fields) (λ d. ap (λ f. is_under_counted f H.fields d) (kept-file old now kept)) counted;
         },
         is,
       )
 
--- The list tells what the file names, whose tables are sound, and nothing has changed.
-pub record Named (old now : StorageState) (H : Header) (names : List Tally) : Type 0 where
+-- What is counted is what the file names, whose tables are sound, and nothing has changed.
+pub record Named (old now : StorageState) (H : Header) (names : Tallies) : Type 0 where
   pub can : CanCheck (file old) H
   pub kept : Kept old now
   pub faults : now.faults ≡ old.faults
@@ -125,7 +132,7 @@ pub record Named (old now : StorageState) (H : Header) (names : List Tally) : Ty
   pub told : Tells (file old) H.fields names
 
 -- as it is after the stages that enter the names
-pub named-since : (old first second now : StorageState) (H : Header) (names : List Tally) → CanCheck (file old) H → Kept old first → first.faults ≡ old.faults → Kept first second → second.faults ≡ first.faults → Kept second now → now.faults ≡ second.faults
+pub named-since : (old first second now : StorageState) (H : Header) (names : Tallies) → CanCheck (file old) H → Kept old first → first.faults ≡ old.faults → Kept first second → second.faults ≡ first.faults → Kept second now → now.faults ≡ second.faults
     → IsTrue (tables_sound (file second) H.fields) → Tells (file second) H.fields names → Named old now H names
 named-since old first second now H names can kept same kept-2 same-2 kept-3 same-3 sound told =
     let before : Kept old second = kept-both old first second kept kept-2 in

@@ -9,12 +9,12 @@ use Rattle.std.proofs.lemmas.List.Sums.{sum_by_push}
 use Rattle.qcow2_types.specs.Words.{Mapping, Layout, mapping_of}
 use Rattle.qcow2_types.specs.Header.{Fields, layout_of, words_of_cluster}
 use Rattle.qcow2_types.specs.References.{meets, of_mapping, of_copied}
-use Rattle.qimg_core.specs.declared.check.names.Tally.{Tally}
+use Rattle.qimg_core.specs.declared.check.names.Tallies.{Tallies}
 use Rattle.qimg_core.specs.Names.{Adds, nothing_named, named_by, mapped_part, copied_part}
 use Rattle.qimg_core.specs.CheckParts.{words_over}
 
 -- what these words name is added, so often
-abbrev pub AddsWords : Fields → ℕ → List Tally → List Tally → List ℕ → Type 0
+abbrev pub AddsWords : Fields → ℕ → Tallies → Tallies → List ℕ → Type 0
 AddsWords h times old new words = Adds h old new nothing_named (λ w. times * words_over h (of_mapping h w) words) (λ w. times * words_over h (of_copied h w) words)
 
 -- no words
@@ -29,7 +29,7 @@ words-step h of words i lt =
     ap (sum_by (λ w. of (mapping_of (layout_of h) w))) (take_more words i 0 lt)
     ∙ sum_by_push (λ w. of (mapping_of (layout_of h) w)) (take i words) (slice_index words i)
 
-pub adds-no-words : (h : Fields) (times : ℕ) (xs : List Tally) (words : List ℕ) → AddsWords h times xs xs (take 0 words)
+pub adds-no-words : (h : Fields) (times : ℕ) (xs : Tallies) (words : List ℕ) → AddsWords h times xs xs (take 0 words)
 adds-no-words h times xs words = record {
   structure = λ c. omega arith;
   mapped = λ c. none (named_by mapped_part c xs) (words-none h (of_mapping h (meets h c)) words);
@@ -39,7 +39,7 @@ adds-no-words h times xs words = record {
     none : (n : ℕ) {x : ℕ} → x ≡ 0 → n ≡ n + times * x
     none n {x} e = rw e (grind arith)
 
-pub adds-word : (h : Fields) (times : ℕ) (old now new : List Tally) (words : List ℕ) (i : ℕ) (m : Mapping) → i < length words → m ≡ mapping_of (layout_of h) (slice_index words i) → AddsWords h times old now (take i words)
+pub adds-word : (h : Fields) (times : ℕ) (old now new : Tallies) (words : List ℕ) (i : ℕ) (m : Mapping) → i < length words → m ≡ mapping_of (layout_of h) (slice_index words i) → AddsWords h times old now (take i words)
     → Adds h now new nothing_named (λ w. times * of_mapping h w m) (λ w. times * of_copied h w m) → AddsWords h times old new (take (i + 1) words)
 adds-word h times old now new words i m lt is before here = record {
   structure = λ c. here.structure c ∙ ap (λ n. n + 0) (before.structure c) ∙ omega arith;
@@ -59,5 +59,5 @@ word-meant h layout words i m same lt is =
     is ∙ ap (λ (l : Layout). mapping_of l (slice_index words (i % l2_entries l.cluster_bits))) same ∙ ap (λ k. mapping_of (layout_of h) (slice_index words k)) (mod-eq_of_lt lt)
 
 -- all words
-pub adds-all-words : (h : Fields) (times : ℕ) (old new : List Tally) (words : List ℕ) (i : ℕ) → i ≡ length words → AddsWords h times old new (take i words) → AddsWords h times old new words
+pub adds-all-words : (h : Fields) (times : ℕ) (old new : Tallies) (words : List ℕ) (i : ℕ) → i ≡ length words → AddsWords h times old new (take i words) → AddsWords h times old new words
 adds-all-words h times old new words i all adds = subst (AddsWords h times old new) (take_all i words (omega arith)) adds

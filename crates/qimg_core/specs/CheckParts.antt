@@ -9,15 +9,17 @@ use Rattle.qcow2_types.specs.Header.{Fields, cluster_size, layout_of, refcount_t
 use Rattle.qcow2_types.specs.Entries.{l2_table, l1_table_sound, l2_table_sound}
 use Rattle.qcow2_types.specs.Counts.{block_at, count, counters_of_block, refcount_table_sound}
 use Rattle.qcow2_types.specs.References.{meets, of_cluster, of_mapping, of_copied, structure, contents}
-use Rattle.qcow2_types.specs.Consistency.{Finding, table, under_counted, tables_sound, Nowhere, IsLeast}
+use Rattle.qcow2_types.specs.Consistency.{Finding, table, under_counted, tables_sound, is_under_counted, leaks_below, Nowhere, IsLeast}
 use Rattle.qcow2_metadata.specs.Blocks.{Block}
-use Rattle.qimg_core.specs.Names.{Total, named_by, structure_part, mapped_part, copied_part, named, is_shared, is_falsely_copied}
-use Rattle.qimg_core.specs.declared.check.names.Tally.{Tally}
+use Rattle.qimg_core.specs.Names.{Total, named_by, structure_part, mapped_part, copied_part}
+use Rattle.qimg_core.specs.Searches.{is_such, IsFirstWithin}
+use Rattle.qimg_core.specs.declared.check.names.Tallies.{Tallies}
+use Rattle.qimg_core.specs.declared.check.search.Question.TheVariants as question
 use Rattle.qimg_core.specs.declared.check.CheckFault.{CheckFault}
-use Rattle.qimg_core.specs.declared.check.CheckFault.TheVariants.{SharedTable, FalseCopied, Memory, Storage}
+use Rattle.qimg_core.specs.declared.check.CheckFault.TheVariants.{SharedTable, FalseCopied, UnderCounted, Memory, Storage}
 
--- a list holds what the image names, for each cluster
-pub record Tells (f : Bytes) (h : Fields) (names : List Tally) : Type 0 where
+-- this is what the image names, for each cluster
+pub record Tells (f : Bytes) (h : Fields) (names : Tallies) : Type 0 where
   pub structure : (c : ℕ) → named_by structure_part c names ≡ structure f h (meets h c)
   pub mapped : (c : ℕ) → named_by mapped_part c names ≡ contents f h (of_mapping h (meets h c))
   pub copied : (c : ℕ) → named_by copied_part c names ≡ contents f h (of_copied h (meets h c))
@@ -93,29 +95,26 @@ pub record HoldsCounters (f : Bytes) (h : Fields) (index : ℕ) (block : Option 
   pub counts : (j : ℕ) → j < counters_of_block h → counter_in block j ≡ count f h (index * counters_of_block h + j)
   pub whole : (j : ℕ) → j < counters_of_block h → IsIn block j
 
--- A cluster is counted less often than the entries name it.
-unfoldable pub is_under : Bytes → Fields → List Tally → ℕ → Bool
-is_under f h names c = nat_lt (count f h c) (named names c)
-
--- The finding is the least such cluster.
-abbrev pub IsUnder : Bytes → Fields → List Tally → Finding → Type 0
-IsUnder f h names (under_counted c) = IsLeast (is_under f h names) c
-IsUnder f h names finding = ⊥
+-- The finding is the least cluster that is counted less often than it is named.
+abbrev pub IsUnder : Bytes → Fields → Finding → Type 0
+IsUnder f h (under_counted c) = IsLeast (is_under_counted f h) c
+IsUnder f h finding = ⊥
 
 -- The first finding among clusters that are named more than once.
-abbrev pub SharesFirst : List Tally → CheckFault → Type 0
-SharesFirst names (SharedTable c) = IsLeast (is_shared names) c
-SharesFirst names (FalseCopied c) = Nowhere (is_shared names) × IsLeast (is_falsely_copied names) c
+abbrev pub SharesFirst : Tallies → CheckFault → Type 0
+SharesFirst names (SharedTable c) = IsLeast (is_such question.Shared names) c
+SharesFirst names (FalseCopied c) = Nowhere (is_such question.Shared names) × IsLeast (is_such question.FalselyCopied names) c
 SharesFirst names fault = ⊥
 
--- by how much a cluster is counted more often than the entries name it, where it is
-abbrev pub surplus_at : List Tally → ℕ → ℕ → List (ℕ × ℕ)
-surplus_at names c n = if nat_lt (named names c) n then (c, n - named names c) ∷ [] else []
+-- The first cluster between two bounds that is named.
+abbrev pub NamesFirst : Tallies → ℕ → Option ℕ → CheckFault → Type 0
+NamesFirst names low high (UnderCounted c) = IsFirstWithin (is_such question.AtAll names) low high c
+NamesFirst names low high fault = ⊥
 
--- the surplus of the first n counters of a block, which are those of the clusters from this one on
-unfoldable pub surplus_below : List Tally → List ℕ → ℕ → ℕ → List (ℕ × ℕ)
-surplus_below names counters first zero = []
-surplus_below names counters first (suc n) = surplus_below names counters first n ++ surplus_at names (first + n) (slice_index counters n)
+-- The clusters before this one are counted often enough, and these are their leaks.
+pub record AreCompared (f : Bytes) (h : Fields) (found : List (ℕ × ℕ)) (c : ℕ) : Type 0 where
+  pub enough : (d : ℕ) → d < c → IsFalse (is_under_counted f h d)
+  pub are_leaks : found ≡ leaks_below f h c
 
 -- what the checker answers where something isn't loaded: the same, or this in place of any other fault
 abbrev pub fault_of_load : CheckFault → Fault → CheckFault

@@ -12,7 +12,7 @@ pub mod Opening
 pub mod Opens
 pub mod Plain
 pub mod Names
-pub mod Gathering
+pub mod Searches
 pub mod CheckParts
 pub mod Check
 pub mod Worked

@@ -4,10 +4,12 @@ ghost use Rattle.imago_storage.specs.Calls.{Kept};
 ghost use Rattle.qcow2_types.specs.Header.{header_of, has_external_data};
 ghost use Rattle.qcow2_types.specs.Consistency.{IsVerdict, Nowhere, tables_sound};
 ghost use Rattle.qimg_core.specs.Files.{file};
-ghost use Rattle.qimg_core.specs.Names.{IsRising, IsFew, is_shared, is_falsely_copied};
+ghost use Rattle.qimg_core.specs.Names.{IsFew};
+ghost use Rattle.qimg_core.specs.Searches.{is_such};
 ghost use Rattle.qimg_core.specs.CheckParts.{Tells, HoldsPlaces, IsUnsound, SharesFirst, fault_of_load};
 ghost use Rattle.qimg_core.specs.Check.{Found, IsFinding};
 ghost use Rattle.qimg_core.specs.declared.check.CheckFault.TheVariants.{Memory};
+ghost use Rattle.qimg_core.specs.declared.check.search.Question.TheVariants as question;
 
 use imago_storage::{Fault, Storage};
 use qcow2_metadata::Header;
@@ -16,10 +18,12 @@ use thiserror::Error;
 
 mod counts;
 mod names;
+mod search;
 mod tables;
 
-use counts::{check_counted, leaks_of};
-use names::{Tally, add_up, first_falsely_copied, first_shared};
+use counts::compare;
+use names::{Tallies, no_names};
+use search::{Question, least_such};
 use tables::{Places, name_contents, name_structure, places_of};
 
 /// What is wrong with an image, or why it wasn't checked. It is displayed as `error N`.
@@ -103,44 +107,55 @@ fn readable_header<S: Storage>(alloc: Global, image: &mut S) -> Result<Header, C
     Ok(header)
 }
 
-/// How often each cluster is named, by rising cluster.
+/// How many cells to count in: one for each cluster of the file, as far as the blocks count them. A sound image names few others.
+fn cell_count(header: &Header, size: u64, blocks: &[u64]) -> usize {
+    let mut words: u64 = 0;
+    for i in 0..blocks.len() {
+        if blocks[i] != 0 {
+            words = i as u64 + 1;
+        }
+    }
+    let counted = words.saturating_mul(header.rb_entries() as u64);
+    let clusters = size.div_ceil(header.cluster_size() as u64);
+    clusters.min(counted) as usize
+}
+
+/// How often each cluster is named, and the places of the blocks.
 fn names_of<S: Storage>(
     alloc: Global,
     image: &mut S,
     header: &Header,
     places: Places,
-) -> Result<(Vec<Tally>, Vec<u64>), CheckFault>
+) -> Result<(Tallies, Vec<u64>), CheckFault>
     requires loads { header_of true (file (S.state image.old)) ≡ Ok header.now }
     requires places { HoldsPlaces (file (S.state image.old)) header.now.fields places.tables.items places.blocks.items }
-    ensures told { IfOk result (λ found. Tells (file (S.state image.old)) header.now.fields found.0.items) }
-    ensures rising { IfOk result (λ found. IsRising found.0.items) }
-    ensures few { IfOk result (λ found. IsFew found.0.items) }
+    ensures told { IfOk result (λ found. Tells (file (S.state image.old)) header.now.fields found.0) }
+    ensures few { IfOk result (λ found. IsFew found.0) }
     ensures blocks { IfOk result (λ found. found.1.items ≡ places.blocks.items) }
     ensures sound { OnOk result (IsTrue (tables_sound (file (S.state image.old)) header.now.fields)) }
     ensures err { IfErr result (Found (S.state image.old) (S.state image.new) (IsUnsound (file (S.state image.old)) header.now.fields)) }
     ensures kept { Kept (S.state image.old) (S.state image.new) }
     ensures faults { OnOk result ((S.state image.new).faults ≡ (S.state image.old).faults) }
 {
-    let mut names = Vec::new(alloc);
-    let mut last = 0;
-    name_structure(alloc, &mut names, header, &places, &mut last)?;
+    let count = cell_count(header, image.size(), &places.blocks);
+    let mut names = no_names(alloc, count)?;
+    name_structure(&mut names, header, &places)?;
     let Places { tables, blocks } = places;
-    name_contents(alloc, image, header, tables, &mut names, &mut last)?;
-    Ok((add_up(alloc, names)?, blocks))
+    name_contents(alloc, image, header, tables, &mut names)?;
+    Ok((names, blocks))
 }
 
 /// The first finding among clusters that are named more than once, if there is one.
-fn check_shared(names: &[Tally]) -> Result<(), CheckFault>
-    requires rising { IsRising names.now }
-    requires few { IsFew names.now }
-    ensures shared { OnOk result (Nowhere (is_shared names.now)) }
-    ensures copied { OnOk result (Nowhere (is_falsely_copied names.now)) }
+fn check_shared(names: &Tallies) -> Result<(), CheckFault>
+    requires { IsFew names.now }
+    ensures shared { OnOk result (Nowhere (is_such question.Shared names.now)) }
+    ensures copied { OnOk result (Nowhere (is_such question.FalselyCopied names.now)) }
     ensures err { IfErr result (SharesFirst names.now) }
 {
-    if let Some(cluster) = first_shared(names) {
+    if let Some(cluster) = least_such(names, Question::Shared) {
         return Err(CheckFault::SharedTable(cluster));
     }
-    if let Some(cluster) = first_falsely_copied(names) {
+    if let Some(cluster) = least_such(names, Question::FalselyCopied) {
         return Err(CheckFault::FalseCopied(cluster));
     }
     Ok(())
@@ -169,6 +184,5 @@ pub fn check<S: Storage>(alloc: Global, image: &mut S) -> Result<Vec<(u64, u64)>
     let places = places_of(alloc, image, &header)?;
     let (names, blocks) = names_of(alloc, image, &header, places)?;
     check_shared(&names)?;
-    check_counted(alloc, image, &header, &blocks, &names)?;
-    leaks_of(alloc, image, &header, &blocks, &names)
+    compare(alloc, image, &header, &blocks, &names)
 }

@@ -1,15 +1,18 @@
 // Counters against what is named.
-ghost use Rattle.std.specs.Prelude.{◌≡◌, ℕ, true, Ok, ◌+◌, ◌*◌, ◌<◌, ◌^◌, ◌++◌, length, OnOk, IfOk, IfErr, IsOkUnless};
+ghost use Rattle.std.specs.Prelude.{◌≡◌, ℕ, true, Ok, ◌+◌, ◌*◌, ◌<◌, ◌≤◌, ◌^◌, OnOk, IfOk, IfErr};
 ghost use Rattle.imago_storage.specs.Calls.{Kept};
 ghost use Rattle.qcow2_types.specs.Header.{header_of};
 ghost use Rattle.qcow2_types.specs.Counts.{counters_of_block};
-ghost use Rattle.qcow2_types.specs.Consistency.{Nowhere, leaks};
+ghost use Rattle.qcow2_types.specs.Consistency.{Nowhere, is_under_counted, leaks};
 ghost use Rattle.qimg_core.specs.Files.{file};
-ghost use Rattle.qimg_core.specs.Names.{IsRising, IsFew};
-ghost use Rattle.qimg_core.specs.CheckParts.{Tells, IsBlocks, HoldsCounters, IsIn, counter_in, is_under, IsUnder, surplus_below, NoFinding};
+ghost use Rattle.qimg_core.specs.Names.{IsFew};
+ghost use Rattle.qimg_core.specs.Searches.{is_such, NoneWithin};
+ghost use Rattle.qimg_core.specs.CheckParts.{Tells, IsBlocks, HoldsCounters, AreCompared, IsUnder, NamesFirst, NoFinding};
+ghost use Rattle.qimg_core.specs.declared.check.search.Question.TheVariants as question;
 ghost use Rattle.qimg_core.specs.Check.{Found};
 
-use super::names::{Tally, named};
+use super::names::{Tallies, times_at};
+use super::search::{Question, first_such};
 use super::{CheckFault, load_fault};
 use imago_storage::Storage;
 use qcow2_metadata::{Header, RefBlock};
@@ -41,102 +44,90 @@ fn block_of<S: Storage>(
     }
 }
 
-/// A counter of a block, 0 where there is none.
-fn counter(block: &Option<RefBlock>, index: usize) -> u64
-    requires { IsIn block.now index }
-    ensures { result ≡ counter_in block.now index }
+/// The first cluster that the block at an index counts.
+fn first_counted(header: &Header, index: usize) -> u64
+    requires { index < 2 ^ 21 }
+    ensures { result ≡ index * counters_of_block header.now.fields }
 {
-    match block {
-        Some(block) => block.get(index),
-        None => 0,
+    let HostCluster(cluster) = HostCluster::from_ref_indices(index, 0, header.rb_bits());
+    cluster
+}
+
+/// Looks for a cluster that is named, from `low` on and up to `high`, if that is given.
+fn check_unnamed(names: &Tallies, low: u64, high: Option<u64>) -> Result<(), CheckFault>
+    requires { IsFew names.now }
+    ensures ok { OnOk result (NoneWithin (is_such question.AtAll names.now) low high) }
+    ensures err { IfErr result (NamesFirst names.now low high) }
+{
+    match first_such(names, Question::AtAll, low, high) {
+        Some(cluster) => Err(CheckFault::UnderCounted(cluster)),
+        None => Ok(()),
     }
 }
 
-/// Looks for the least cluster that is counted less often than the entries name it. Each block that counts one is read once.
-pub fn check_counted<S: Storage>(
+/// Compares the counters of one block with the names of the clusters that they count, and enters the leaks among them.
+fn compare_block<S: Storage>(
     alloc: Global,
     image: &mut S,
     header: &Header,
     blocks: &[u64],
-    names: &[Tally],
+    index: usize,
+    names: &Tallies,
+    leaks: &mut Vec<(u64, u64)>,
 ) -> Result<(), CheckFault>
     requires blocks { IsBlocks (file (S.state image.old)) header.now.fields blocks.now }
-    requires rising { IsRising names.now }
+    requires told { Tells (file (S.state image.old)) header.now.fields names.now }
     requires few { IsFew names.now }
-    ensures ok { OnOk result (Nowhere (is_under (file (S.state image.old)) header.now.fields names.now)) }
-    ensures err { IfErr result (Found (S.state image.old) (S.state image.new) (IsUnder (file (S.state image.old)) header.now.fields names.now)) }
+    requires index { index < 2 ^ 20 }
+    requires before { AreCompared (file (S.state image.old)) header.now.fields leaks.old.items (index * counters_of_block header.now.fields) }
+    ensures ok { OnOk result (AreCompared (file (S.state image.old)) header.now.fields leaks.new.items ((index + 1) * counters_of_block header.now.fields)) }
+    ensures err { IfErr result (Found (S.state image.old) (S.state image.new) (IsUnder (file (S.state image.old)) header.now.fields)) }
     ensures kept { Kept (S.state image.old) (S.state image.new) }
     ensures faults { OnOk result ((S.state image.new).faults ≡ (S.state image.old).faults) }
 {
-    let rb_bits = header.rb_bits();
-    let mut held = 0;
-    let mut block = block_of(alloc, image, header, blocks, held)?;
-    for i in 0..names.len() {
-        let tally = names[i];
-        let (index, place) = HostCluster(tally.cluster).rt_rb_indices(rb_bits);
-        if index != held {
-            block = block_of(alloc, image, header, blocks, index)?;
-            held = index;
-        }
-        if counter(&block, place) < tally.structure + tally.mapped {
-            return Err(CheckFault::UnderCounted(tally.cluster));
-        }
-    }
-    Ok(())
-}
-
-/// Enters the leaks of the clusters that one block counts.
-fn leaks_of_block(
-    header: &Header,
-    block: &RefBlock,
-    index: usize,
-    names: &[Tally],
-    leaks: &mut Vec<(u64, u64)>,
-) -> Result<(), CheckFault>
-    requires rising { IsRising names.now }
-    requires few { IsFew names.now }
-    requires index { index < 2 ^ 20 }
-    requires whole { (j : ℕ) → j < counters_of_block header.now.fields → j < length block.now.counters }
-    ensures ok { OnOk result (leaks.new.items ≡ leaks.old.items ++ surplus_below names.now block.now.counters (index * counters_of_block header.now.fields) (counters_of_block header.now.fields)) }
-    ensures err { IsOkUnless result CheckFault.Memory }
-{
-    let rb_bits = header.rb_bits();
+    let low = first_counted(header, index);
+    let Some(block) = block_of(alloc, image, header, blocks, index)? else {
+        return check_unnamed(names, low, Some(first_counted(header, index + 1)));
+    };
     for place in 0..header.rb_entries() {
+        let cluster = low + place as u64;
         let count = block.get(place);
-        if count > 0 {
-            let HostCluster(cluster) = HostCluster::from_ref_indices(index, place, rb_bits);
-            let references = named(names, cluster);
-            if references < count {
-                leaks.push((cluster, count - references))?;
-            }
+        let times = times_at(names, cluster);
+        let references = times.structure + times.mapped;
+        if count < references {
+            return Err(CheckFault::UnderCounted(cluster));
+        }
+        if references < count {
+            leaks.push((cluster, count - references))?;
         }
     }
     Ok(())
 }
 
-/// The leaks, by rising cluster: the clusters that are counted more often than the entries name them.
-pub fn leaks_of<S: Storage>(
+/// Looks for the least cluster that is counted less often than it is named. The answer is the leaks where there is none, by rising
+/// cluster: the clusters that are counted more often than they are named. Each block is read once.
+pub fn compare<S: Storage>(
     alloc: Global,
     image: &mut S,
     header: &Header,
     blocks: &[u64],
-    names: &[Tally],
+    names: &Tallies,
 ) -> Result<Vec<(u64, u64)>, CheckFault>
     requires loads { header_of true (file (S.state image.old)) ≡ Ok header.now }
     requires blocks { IsBlocks (file (S.state image.old)) header.now.fields blocks.now }
-    requires rising { IsRising names.now }
-    requires few { IsFew names.now }
     requires told { Tells (file (S.state image.old)) header.now.fields names.now }
+    requires few { IsFew names.now }
     ensures ok { IfOk result (λ found. found.items ≡ leaks (file (S.state image.old)) header.now.fields) }
-    ensures err { IfErr result (Found (S.state image.old) (S.state image.new) NoFinding) }
+    ensures counted { OnOk result (Nowhere (is_under_counted (file (S.state image.old)) header.now.fields)) }
+    ensures err { IfErr result (Found (S.state image.old) (S.state image.new) (IsUnder (file (S.state image.old)) header.now.fields)) }
     ensures kept { Kept (S.state image.old) (S.state image.new) }
     ensures faults { OnOk result ((S.state image.new).faults ≡ (S.state image.old).faults) }
 {
     let mut leaks = Vec::new(alloc);
     for index in 0..blocks.len() {
-        if let Some(block) = block_of(alloc, image, header, blocks, index)? {
-            leaks_of_block(header, &block, index, names, &mut leaks)?;
-        }
+        compare_block(alloc, image, header, blocks, index, names, &mut leaks)?;
     }
+    let end = first_counted(header, blocks.len());
+    check_unnamed(names, end, None)?;
     Ok(leaks)
 }

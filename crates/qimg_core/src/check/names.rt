@@ -1,44 +1,166 @@
 // How often each host cluster is named.
-ghost use Rattle.std.specs.Prelude.{◌≡◌, ℕ, ◌+◌, ◌*◌, ◌<◌, ◌≤◌, ◌^◌, ◌++◌, [], ◌∷◌, length, OnOk, IfOk, IsOkUnless, MatchOption};
-ghost use Rattle.std.specs.List.Sorted.{IsNonDecreasingBy};
-ghost use Rattle.qcow2_types.specs.Consistency.{Nowhere, IsLeast};
-ghost use Rattle.qimg_core.specs.Names.{Adds, AddsClusters, EndsBy, Fits, SameParts, SumsFit, IsSum, IsRising, IsFew, named as named_of, is_shared, is_falsely_copied};
-ghost use Rattle.qimg_core.specs.Gathering.{Reaches, KeepsEntries, room_for};
+ghost use Rattle.std.specs.Prelude.{◌≡◌, ℕ, ◌+◌, ◌*◌, ◌<◌, ◌≤◌, ◌^◌, OnOk, IfOk, IfSome, IsOkUnless, MatchOption, Some};
+ghost use Rattle.qimg_core.specs.Names.{Adds, AddsClusters, AddsEntry, IsFewSum, SumsFit, IsSum, IsFew, TellsNothing, cell_at, other_at, no_times, times_at as times_told};
 
 use super::CheckFault;
 use qcow2_metadata::Header;
 use qcow2_types::{HostCluster, HostOffset};
 use std::alloc::Global;
+use std::collections::BTreeMap;
 
-/// How often a cluster is named: as a part of the structure, by words of L2 tables, and by those that are marked as copied.
-#[derive(Clone, Copy, Debug)]
-pub struct Tally {
-    pub cluster: u64,
-    pub structure: u64,
-    pub mapped: u64,
-    /// These are counted in `mapped` too.
-    pub copied: u64,
-}
-
-/// How often a range is named, and how.
+/// How often something is named, and how.
 #[derive(Clone, Copy, Debug)]
 pub struct Times {
+    /// As a part of the structure.
     pub structure: u64,
+    /// By words of L2 tables.
     pub mapped: u64,
+    /// By those of them that are marked as copied.
     pub copied: u64,
 }
 
-/// Enters a range of bytes: one entry for each cluster that it meets.
+/// The same in few bytes.
+#[derive(Clone, Copy, Debug)]
+pub struct FewTimes {
+    pub mapped: u16,
+    pub structure: u8,
+    pub copied: u8,
+}
+
+/// Not named.
+const NO_TIMES: Times = Times {
+    structure: 0,
+    mapped: 0,
+    copied: 0,
+};
+
+const NO_FEW_TIMES: FewTimes = FewTimes {
+    mapped: 0,
+    structure: 0,
+    copied: 0,
+};
+
+/// How often each cluster is named: what its cell and its entry say, together.
+#[derive(Drop)]
+pub struct Tallies {
+    /// Four bytes for each cluster, from the first one of the file on.
+    pub cells: Vec<FewTimes>,
+    /// What has no room in the cells, by cluster: names behind them, and more of a cluster than a cell can count.
+    pub others: BTreeMap<u64, Times>,
+}
+
+/// Nothing is named, with so many cells.
+pub fn no_names(alloc: Global, count: usize) -> Result<Tallies, CheckFault>
+    ensures ok { IfOk result TellsNothing }
+    ensures err { IsOkUnless result CheckFault.Memory }
+{
+    Ok(Tallies {
+        cells: vec![in alloc; NO_FEW_TIMES; count]?,
+        others: BTreeMap::new(alloc),
+    })
+}
+
+/// What a cell counts with more, if there is room.
+fn cell_with(cell: FewTimes, more: Times) -> Option<FewTimes>
+    ensures { IfSome result (IsFewSum cell more) }
+{
+    if more.structure > (u8::MAX - cell.structure) as u64
+        || more.mapped > (u16::MAX - cell.mapped) as u64
+        || more.copied > (u8::MAX - cell.copied) as u64
+    {
+        return None;
+    }
+    Some(FewTimes {
+        mapped: cell.mapped + more.mapped as u16,
+        structure: cell.structure + more.structure as u8,
+        copied: cell.copied + more.copied as u8,
+    })
+}
+
+/// Two of a cluster together, where the sums fit.
+fn sum_of(one: Times, other: Times) -> Option<Times>
+    ensures { MatchOption result (SumsFit one other → ⊥) (IsSum one other) }
+{
+    Some(Times {
+        structure: one.structure.checked_add(other.structure)?,
+        mapped: one.mapped.checked_add(other.mapped)?,
+        copied: one.copied.checked_add(other.copied)?,
+    })
+}
+
+/// What a cluster's entry says.
+fn entry_of(others: &BTreeMap<u64, Times>, cluster: u64) -> Times
+    ensures { result ≡ other_at others.now cluster }
+{
+    others.get(&cluster).copied().unwrap_or(NO_TIMES)
+}
+
+/// What a cluster's cell says.
+fn cell_of(cells: &[FewTimes], cluster: u64) -> FewTimes
+    ensures { result ≡ cell_at cells.now cluster }
+{
+    if cluster < cells.len() as u64 {
+        cells[cluster as usize]
+    } else {
+        NO_FEW_TIMES
+    }
+}
+
+/// Adds to a cluster's entry. No image has so many words that the sums don't fit.
+fn add_to_entry(
+    others: &mut BTreeMap<u64, Times>,
+    cluster: u64,
+    times: Times,
+) -> Result<(), CheckFault>
+    ensures ok { OnOk result (AddsEntry others.old others.new cluster times) }
+    ensures err { IsOkUnless result CheckFault.Memory }
+{
+    match sum_of(entry_of(others, cluster), times) {
+        Some(sum) => {
+            others.insert(cluster, sum)?;
+            Ok(())
+        }
+        None => Err(CheckFault::Memory),
+    }
+}
+
+/// Enters one cluster: in its cell, if that has room.
+fn name_cluster(names: &mut Tallies, cluster: u64, times: Times) -> Result<(), CheckFault>
+    ensures ok { OnOk result (AddsClusters names.old names.new cluster (cluster + 1) times) }
+    ensures err { IsOkUnless result CheckFault.Memory }
+{
+    if cluster < names.cells.len() as u64 {
+        let index = cluster as usize;
+        if let Some(cell) = cell_with(names.cells[index], times) {
+            names.cells[index] = cell;
+            return Ok(());
+        }
+    }
+    add_to_entry(&mut names.others, cluster, times)
+}
+
+/// Enters the clusters from `low` up to `end`, which isn't one of them.
+fn name_clusters(names: &mut Tallies, low: u64, end: u64, times: Times) -> Result<(), CheckFault>
+    requires { low ≤ end }
+    ensures ok { OnOk result (AddsClusters names.old names.new low end times) }
+    ensures err { IsOkUnless result CheckFault.Memory }
+{
+    for cluster in low..end {
+        name_cluster(names, cluster, times)?;
+    }
+    Ok(())
+}
+
+/// Enters a range of bytes: each cluster that it meets.
 pub fn name_range(
-    names: &mut Vec<Tally>,
+    names: &mut Tallies,
     header: &Header,
     first: u64,
     length: u64,
     times: Times,
 ) -> Result<(), CheckFault>
     requires { first + length < 2 ^ 63 }
-    ensures ok { OnOk result (Adds header.now.fields names.old.items names.new.items (λ w. times.structure * w first length) (λ w. times.mapped * w first length) (λ w. times.copied * w first length)) }
-    ensures keeps { OnOk result (KeepsEntries names.old.items names.new.items) }
+    ensures ok { OnOk result (Adds header.now.fields names.old names.new (λ w. times.structure * w first length) (λ w. times.mapped * w first length) (λ w. times.copied * w first length)) }
     ensures err { IsOkUnless result CheckFault.Memory }
 {
     if length == 0 {
@@ -50,133 +172,16 @@ pub fn name_range(
     name_clusters(names, low, high + 1, times)
 }
 
-/// Enters the clusters from `low` up to `end`, which isn't one of them.
-fn name_clusters(names: &mut Vec<Tally>, low: u64, end: u64, times: Times) -> Result<(), CheckFault>
-    requires { low ≤ end }
-    ensures ok { OnOk result (AddsClusters names.old.items names.new.items low end times) }
-    ensures keeps { OnOk result (KeepsEntries names.old.items names.new.items) }
-    ensures err { IsOkUnless result CheckFault.Memory }
+/// How often a cluster is named.
+pub fn times_at(names: &Tallies, cluster: u64) -> Times
+    requires { IsFew names.now }
+    ensures { result ≡ times_told names.now cluster }
 {
-    for cluster in low..end {
-        names.push(Tally {
-            cluster,
-            structure: times.structure,
-            mapped: times.mapped,
-            copied: times.copied,
-        })?;
+    let cell = cell_of(&names.cells, cluster);
+    let entry = entry_of(&names.others, cluster);
+    Times {
+        structure: cell.structure as u64 + entry.structure,
+        mapped: cell.mapped as u64 + entry.mapped,
+        copied: cell.copied as u64 + entry.copied,
     }
-    Ok(())
-}
-
-/// Two entries of one cluster as one, where the sums fit.
-fn sum_of(one: Tally, other: Tally) -> Option<Tally>
-    ensures { MatchOption result (SumsFit one other → ⊥) (IsSum one other) }
-{
-    Some(Tally {
-        cluster: other.cluster,
-        structure: one.structure.checked_add(other.structure)?,
-        mapped: one.mapped.checked_add(other.mapped)?,
-        copied: one.copied.checked_add(other.copied)?,
-    })
-}
-
-/// Adds the entry to the last one, if that is for its cluster and the sums fit, or puts it behind it.
-fn merge(merged: &mut Vec<Tally>, tally: Tally) -> Result<(), CheckFault>
-    ensures rising { OnOk result (IsRising merged.old.items → EndsBy merged.old.items tally.cluster → Fits merged.old.items tally → IsRising merged.new.items) }
-    ensures last { OnOk result (EndsBy merged.old.items tally.cluster → EndsBy merged.new.items tally.cluster) }
-    ensures same { OnOk result (SameParts (merged.old.items ++ tally ∷ []) merged.new.items) }
-    ensures err { IsOkUnless result CheckFault.Memory }
-{
-    let count = merged.len();
-    if count > 0 && merged[count - 1].cluster == tally.cluster {
-        if let Some(sum) = sum_of(merged[count - 1], tally) {
-            merged[count - 1] = sum;
-            return Ok(());
-        }
-    }
-    merged.push(tally)?;
-    Ok(())
-}
-
-/// Sorts the entries by cluster, and adds up those of one cluster as far as their sums fit.
-pub fn add_up(alloc: Global, mut names: Vec<Tally>) -> Result<Vec<Tally>, CheckFault>
-    ensures rising { IfOk result (λ added. IsFew names.items → IsRising added.items) }
-    ensures same { IfOk result (λ added. SameParts names.items added.items) }
-    ensures err { IsOkUnless result CheckFault.Memory }
-{
-    names.sort_unstable_by_key(|tally| tally.cluster);
-    let mut merged = Vec::new(alloc);
-    for i in 0..names.len() {
-        merge(&mut merged, names[i])?;
-    }
-    Ok(merged)
-}
-
-/// How many clusters' entries have room at least before entries are added up.
-const FEW: usize = 4_096;
-
-/// Adds the entries up where they are more than twice as many as when they were last added up. So what is kept are a few numbers for
-/// each cluster that is named, however often it is. `CheckFault::Memory` comes where there is no room for that; the entries are gone
-/// then.
-pub fn compact_where_grown(
-    alloc: Global,
-    names: &mut Vec<Tally>,
-    last: &mut usize,
-) -> Result<(), CheckFault>
-    ensures same { OnOk result (SameParts names.old.items names.new.items) }
-    ensures reached { OnOk result (IsFew names.old.items → Reaches names.old.items last.old → Reaches names.new.items last.new) }
-    ensures short { OnOk result (length names.new.items ≤ room_for last.new) }
-    ensures idle { OnOk result (length names.old.items ≤ room_for last.old → names.new.items ≡ names.old.items) }
-    ensures err { IsOkUnless result CheckFault.Memory }
-{
-    if names.len() / 2 > (*last).max(FEW) {
-        let all = std::mem::replace(names, Vec::new(alloc));
-        *names = add_up(alloc, all)?;
-        *last = names.len();
-    }
-    Ok(())
-}
-
-/// How often the entries name a cluster.
-pub fn named(names: &[Tally], cluster: u64) -> u64
-    requires rising { IsRising names.now }
-    requires few { IsFew names.now }
-    ensures { result ≡ named_of names.now cluster }
-{
-    let at = names.partition_point(|tally| tally.cluster < cluster);
-    if at < names.len() && names[at].cluster == cluster {
-        names[at].structure + names[at].mapped
-    } else {
-        0
-    }
-}
-
-/// The least cluster of the structure that is named more than once.
-pub fn first_shared(names: &[Tally]) -> Option<u64>
-    requires rising { IsRising names.now }
-    requires few { IsFew names.now }
-    ensures { MatchOption result (Nowhere (is_shared names.now)) (IsLeast (is_shared names.now)) }
-{
-    for i in 0..names.len() {
-        let tally = names[i];
-        if tally.structure > 0 && tally.structure + tally.mapped != 1 {
-            return Some(tally.cluster);
-        }
-    }
-    None
-}
-
-/// The least cluster that is named as copied, and named more than once.
-pub fn first_falsely_copied(names: &[Tally]) -> Option<u64>
-    requires rising { IsRising names.now }
-    requires few { IsFew names.now }
-    ensures { MatchOption result (Nowhere (is_falsely_copied names.now)) (IsLeast (is_falsely_copied names.now)) }
-{
-    for i in 0..names.len() {
-        let tally = names[i];
-        if tally.copied > 0 && tally.structure + tally.mapped != 1 {
-            return Some(tally.cluster);
-        }
-    }
-    None
 }

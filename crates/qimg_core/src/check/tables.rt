@@ -8,12 +8,11 @@ ghost use Rattle.qcow2_types.specs.Counts.{refcount_table_sound};
 ghost use Rattle.qcow2_types.specs.References.{of_mapping, of_copied, of_cluster, of_table};
 ghost use Rattle.qcow2_metadata.specs.MappingView.{mapping_seen, IsNamed};
 ghost use Rattle.qimg_core.specs.Files.{file};
-ghost use Rattle.qimg_core.specs.Names.{Adds, IsFew, nothing_named};
-ghost use Rattle.qimg_core.specs.Gathering.{KeepsEntries, Reaches, IsSpare, StaysSpare};
+ghost use Rattle.qimg_core.specs.Names.{Adds, nothing_named};
 ghost use Rattle.qimg_core.specs.CheckParts.{tables_of, sum_over, structure_over, words_over, AreTables, IsBlocks, HoldsPlaces, IsUnsound, IsDamagedTable, IsOneDamaged};
 ghost use Rattle.qimg_core.specs.Check.{Found};
 
-use super::names::{Tally, Times, compact_where_grown, name_range};
+use super::names::{Tallies, Times, name_range};
 use super::{CheckFault, load_fault};
 use crate::file_end::words_before;
 use imago_storage::Storage;
@@ -113,34 +112,25 @@ pub fn places_of<S: Storage>(
 }
 
 /// Enters the clusters at these places, as parts of the structure. A place of 0 is none.
-pub fn name_places(
-    alloc: Global,
-    names: &mut Vec<Tally>,
-    header: &Header,
-    places: &[u64],
-    last: &mut usize,
-) -> Result<(), CheckFault>
+pub fn name_places(names: &mut Tallies, header: &Header, places: &[u64]) -> Result<(), CheckFault>
     requires { (i : ℕ) → slice_index places.now i ≤ max_offset }
-    ensures ok { OnOk result (Adds header.now.fields names.old.items names.new.items (λ w. sum_over (of_cluster header.now.fields w) places.now) nothing_named nothing_named) }
-    ensures spare { OnOk result (StaysSpare names.old.items last.old names.new.items last.new) }
+    ensures ok { OnOk result (Adds header.now.fields names.old names.new (λ w. sum_over (of_cluster header.now.fields w) places.now) nothing_named nothing_named) }
     ensures err { IsOkUnless result CheckFault.Memory }
 {
     let size = header.cluster_size() as u64;
     for i in 0..places.len() {
         if places[i] != 0 {
             name_range(names, header, places[i], size, STRUCTURE)?;
-            compact_where_grown(alloc, names, last)?;
         }
     }
     Ok(())
 }
 
 /// Enters the first cluster, the L1 table and the refcount table.
-fn name_start(names: &mut Vec<Tally>, header: &Header) -> Result<(), CheckFault>
+fn name_start(names: &mut Tallies, header: &Header) -> Result<(), CheckFault>
     requires l1 { header.now.fields.l1_offset + header.now.fields.l1_entries * 8 < 2 ^ 63 }
     requires refcounts { header.now.fields.refcount_table_offset + header.now.fields.refcount_table_clusters * cluster_size header.now.fields < 2 ^ 63 }
-    ensures ok { OnOk result (Adds header.now.fields names.old.items names.new.items (λ w. w 0 (cluster_size header.now.fields) + w header.now.fields.l1_offset (header.now.fields.l1_entries * 8) + w header.now.fields.refcount_table_offset (header.now.fields.refcount_table_clusters * cluster_size header.now.fields)) nothing_named nothing_named) }
-    ensures keeps { OnOk result (KeepsEntries names.old.items names.new.items) }
+    ensures ok { OnOk result (Adds header.now.fields names.old names.new (λ w. w 0 (cluster_size header.now.fields) + w header.now.fields.l1_offset (header.now.fields.l1_entries * 8) + w header.now.fields.refcount_table_offset (header.now.fields.refcount_table_clusters * cluster_size header.now.fields)) nothing_named nothing_named) }
     ensures err { IsOkUnless result CheckFault.Memory }
 {
     let size = header.cluster_size() as u64;
@@ -155,48 +145,43 @@ fn name_start(names: &mut Vec<Tally>, header: &Header) -> Result<(), CheckFault>
 
 /// Enters the structure of the image.
 pub fn name_structure(
-    alloc: Global,
-    names: &mut Vec<Tally>,
+    names: &mut Tallies,
     header: &Header,
     places: &Places,
-    last: &mut usize,
 ) -> Result<(), CheckFault>
     requires l1 { header.now.fields.l1_offset + header.now.fields.l1_entries * 8 < 2 ^ 63 }
     requires refcounts { header.now.fields.refcount_table_offset + header.now.fields.refcount_table_clusters * cluster_size header.now.fields < 2 ^ 63 }
     requires tables { (i : ℕ) → slice_index places.now.tables.items i ≤ max_offset }
     requires blocks { (i : ℕ) → slice_index places.now.blocks.items i ≤ max_offset }
-    ensures ok { OnOk result (Adds header.now.fields names.old.items names.new.items (λ w. structure_over header.now.fields places.now.tables.items places.now.blocks.items w) nothing_named nothing_named) }
-    ensures spare { OnOk result (IsFew names.new.items → Reaches names.old.items last.old → IsSpare names.new.items last.new) }
+    ensures ok { OnOk result (Adds header.now.fields names.old names.new (λ w. structure_over header.now.fields places.now.tables.items places.now.blocks.items w) nothing_named nothing_named) }
     ensures err { IsOkUnless result CheckFault.Memory }
 {
     name_start(names, header)?;
-    compact_where_grown(alloc, names, last)?;
-    name_places(alloc, names, header, &places.blocks, last)?;
-    name_places(alloc, names, header, &places.tables, last)
+    name_places(names, header, &places.blocks)?;
+    name_places(names, header, &places.tables)
 }
 
 /// Enters what a word of an L2 table names, so often.
 fn name_mapping(
-    names: &mut Vec<Tally>,
+    names: &mut Tallies,
     header: &Header,
     mapping: L2Mapping,
     times: u64,
 ) -> Result<(), CheckFault>
     requires { IsNamed header.now.fields.cluster_bits mapping }
-    ensures ok { OnOk result (Adds header.now.fields names.old.items names.new.items nothing_named (λ w. times * of_mapping header.now.fields w (mapping_seen mapping)) (λ w. times * of_copied header.now.fields w (mapping_seen mapping))) }
-    ensures keeps { OnOk result (KeepsEntries names.old.items names.new.items) }
+    ensures ok { OnOk result (Adds header.now.fields names.old names.new nothing_named (λ w. times * of_mapping header.now.fields w (mapping_seen mapping)) (λ w. times * of_copied header.now.fields w (mapping_seen mapping))) }
     ensures err { IsOkUnless result CheckFault.Memory }
 {
     match mapping {
         L2Mapping::DataFile {
             host_cluster,
             copied,
-        } => name_cluster(names, header, host_cluster, copied, times),
+        } => name_data(names, header, host_cluster, copied, times),
         L2Mapping::Zero {
             host_cluster,
             copied,
         } => match host_cluster {
-            Some(cluster) => name_cluster(names, header, cluster, copied, times),
+            Some(cluster) => name_data(names, header, cluster, copied, times),
             None => Ok(()),
         },
         L2Mapping::Compressed {
@@ -215,16 +200,15 @@ fn name_mapping(
 }
 
 /// Enters a cluster that a word of an L2 table names, so often.
-fn name_cluster(
-    names: &mut Vec<Tally>,
+fn name_data(
+    names: &mut Tallies,
     header: &Header,
     cluster: HostCluster,
     copied: bool,
     times: u64,
 ) -> Result<(), CheckFault>
     requires { cluster * 2 ^ header.now.fields.cluster_bits ≤ max_offset }
-    ensures ok { OnOk result (Adds header.now.fields names.old.items names.new.items nothing_named (λ w. times * of_mapping header.now.fields w (data_at cluster copied)) (λ w. times * of_copied header.now.fields w (data_at cluster copied))) }
-    ensures keeps { OnOk result (KeepsEntries names.old.items names.new.items) }
+    ensures ok { OnOk result (Adds header.now.fields names.old names.new nothing_named (λ w. times * of_mapping header.now.fields w (data_at cluster copied)) (λ w. times * of_copied header.now.fields w (data_at cluster copied))) }
     ensures err { IsOkUnless result CheckFault.Memory }
 {
     let HostOffset(place) = cluster.offset(header.cluster_bits());
@@ -238,15 +222,14 @@ fn name_cluster(
 
 /// Enters what the words of an L2 table name, so often.
 fn name_words(
-    names: &mut Vec<Tally>,
+    names: &mut Tallies,
     header: &Header,
     table: &L2Table,
     times: u64,
 ) -> Result<(), CheckFault>
     requires layout { table.now.layout ≡ layout_of header.now.fields }
     requires whole { length table.now.words ≡ words_of_cluster header.now.fields }
-    ensures ok { OnOk result (Adds header.now.fields names.old.items names.new.items nothing_named (λ w. times * words_over header.now.fields (of_mapping header.now.fields w) table.now.words) (λ w. times * words_over header.now.fields (of_copied header.now.fields w) table.now.words)) }
-    ensures keeps { OnOk result (KeepsEntries names.old.items names.new.items) }
+    ensures ok { OnOk result (Adds header.now.fields names.old names.new nothing_named (λ w. times * words_over header.now.fields (of_mapping header.now.fields w) table.now.words) (λ w. times * words_over header.now.fields (of_copied header.now.fields w) table.now.words)) }
     ensures err { IsOkUnless result CheckFault.Memory }
 {
     for index in 0..table.entries() {
@@ -263,11 +246,10 @@ fn name_table<S: Storage>(
     header: &Header,
     place: u64,
     times: u64,
-    names: &mut Vec<Tally>,
+    names: &mut Tallies,
 ) -> Result<(), CheckFault>
     requires place { IsTrue (is_place header.now.fields.cluster_bits place) }
-    ensures ok { OnOk result (Adds header.now.fields names.old.items names.new.items nothing_named (λ w. times * of_table (file (S.state image.old)) header.now.fields (of_mapping header.now.fields w) place) (λ w. times * of_table (file (S.state image.old)) header.now.fields (of_copied header.now.fields w) place)) }
-    ensures keeps { OnOk result (KeepsEntries names.old.items names.new.items) }
+    ensures ok { OnOk result (Adds header.now.fields names.old names.new nothing_named (λ w. times * of_table (file (S.state image.old)) header.now.fields (of_mapping header.now.fields w) place) (λ w. times * of_table (file (S.state image.old)) header.now.fields (of_copied header.now.fields w) place)) }
     ensures sound { OnOk result (IsTrue (l2_table_sound (file (S.state image.old)) header.now.fields place)) }
     ensures err { IfErr result (Found (S.state image.old) (S.state image.new) (IsDamagedTable (file (S.state image.old)) header.now.fields place)) }
     ensures kept { Kept (S.state image.old) (S.state image.new) }
@@ -289,13 +271,11 @@ pub fn name_contents<S: Storage>(
     image: &mut S,
     header: &Header,
     mut places: Vec<u64>,
-    names: &mut Vec<Tally>,
-    last: &mut usize,
+    names: &mut Tallies,
 ) -> Result<(), CheckFault>
     requires places { AreTables header.now.fields.cluster_bits places.items }
     requires few { length places.items ≤ 2 ^ 22 }
-    ensures ok { OnOk result (Adds header.now.fields names.old.items names.new.items nothing_named (λ w. sum_over (of_table (file (S.state image.old)) header.now.fields (of_mapping header.now.fields w)) places.items) (λ w. sum_over (of_table (file (S.state image.old)) header.now.fields (of_copied header.now.fields w)) places.items)) }
-    ensures spare { OnOk result (StaysSpare names.old.items last.old names.new.items last.new) }
+    ensures ok { OnOk result (Adds header.now.fields names.old names.new nothing_named (λ w. sum_over (of_table (file (S.state image.old)) header.now.fields (of_mapping header.now.fields w)) places.items) (λ w. sum_over (of_table (file (S.state image.old)) header.now.fields (of_copied header.now.fields w)) places.items)) }
     ensures sound { OnOk result (All (λ place. IsTrue (l2_table_sound (file (S.state image.old)) header.now.fields place)) places.items) }
     ensures err { IfErr result (Found (S.state image.old) (S.state image.new) (IsOneDamaged (file (S.state image.old)) header.now.fields places.items)) }
     ensures kept { Kept (S.state image.old) (S.state image.new) }
@@ -307,7 +287,6 @@ pub fn name_contents<S: Storage>(
         times += 1;
         if i + 1 == places.len() || places[i + 1] != places[i] {
             name_table(alloc, image, header, places[i], times, names)?;
-            compact_where_grown(alloc, names, last)?;
             times = 0;
         }
     }

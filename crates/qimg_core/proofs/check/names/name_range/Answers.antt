@@ -6,4 +6,4 @@ use Rattle.qimg_core.proofs.check.names.name_range.Goals as goal
 pub returns-clause-ok : goal.returns-clause-ok
 returns-clause-ok c =
     let some : 0 < c.args.length = omega arith in
-    on_ok_weaker c.name_clusters.result (adds-range c.args.header.now.fields c.args.names.now.items c.name_clusters.new.names.items c.args.first c.args.length c.low.inside.0 c.high.inside.0 c.args.times some (c.low.view_is ∙ c.cluster.ensures ∙ ap (λ k. c.args.first / 2 ^ k) c.cluster_bits-cluster_bits.ensures.value) (c.high.view_is ∙ c.cluster-2.ensures ∙ ap (λ k. (c.args.first + (c.args.length - 1)) / 2 ^ k) c.cluster_bits-cluster_bits.ensures.value)) c.name_clusters.ensures.ok
+    on_ok_weaker c.name_clusters.result (adds-range c.args.header.now.fields c.args.names.now c.name_clusters.new.names c.args.first c.args.length c.low.inside.0 c.high.inside.0 c.args.times some (c.low.view_is ∙ c.cluster.ensures ∙ ap (λ k. c.args.first / 2 ^ k) c.cluster_bits-cluster_bits.ensures.value) (c.high.view_is ∙ c.cluster-2.ensures ∙ ap (λ k. (c.args.first + (c.args.length - 1)) / 2 ^ k) c.cluster_bits-cluster_bits.ensures.value)) c.name_clusters.ensures.ok

@@ -6,10 +6,9 @@ use Rattle.qcow2_types.specs.Words.{is_place}
 use Rattle.qimg_core.specs.Files.{file}
 use Rattle.qimg_core.specs.CheckParts.{IsDamagedTable}
 use Rattle.qimg_core.specs.Check.{Found}
-use Rattle.qimg_core.proofs.ContentsNamed.{named-now, named-same, named-later, named-all, all-sound, one-damaged, placed-at}
-use Rattle.qimg_core.proofs.GatheringLemmas.{stays-more}
+use Rattle.qimg_core.proofs.ContentsNamed.{named-now, named-later, named-all, all-sound, one-damaged, placed-at}
 use Rattle.qimg_core.proofs.check.tables.name_contents.Goals as goal
-use Rattle.qimg_core.proofs.check.tables.name_contents.Goals.{then-i-len+in_ok-name_table+in_ok-compact_where_grown, else-i-len+else-index}
+use Rattle.qimg_core.proofs.check.tables.name_contents.Goals.{then-i-len+in_ok-name_table, else-i-len+else-index}
 
 -- a place as it is read
 read : (places : List ℕ) (i place : ℕ) → i < length places → place ≡ get_or places i place → place ≡ slice_index places i
@@ -30,7 +29,7 @@ returns-in_err-name_table-clause-err g c =
     let inside : c.loop-i.i < length c.sort_unstable.new.self.items = omega (arith, c.len-i-end.ensures, c.loop-i-test.true) in
     let here : c.index-then-i-len.result.now ≡ slice_index c.sort_unstable.new.self.items c.loop-i.i = read c.sort_unstable.new.self.items c.loop-i.i c.index-then-i-len.result.now inside c.index-then-i-len.ensures in
     let found = subst (λ (place : ℕ). Found now new (IsDamagedTable (file now) c.args.header.now.fields place) c.in_err-name_table.field-0.0) here c.in_err-name_table.ensures.err in
-    rw (p.1, p.2) (one-damaged old now c.args.header.now.fields c.args.names.now.items c.loop-i.names.items c.sort_unstable.new.self.items c.loop-i.times c.loop-i.i c.loop-i.invariant.0 new c.args.places.items c.sort_unstable.ensures.permutation inside c.in_err-name_table.field-0.0 found)
+    rw (p.1, p.2) (one-damaged old now c.args.header.now.fields c.args.names.now c.loop-i.names c.sort_unstable.new.self.items c.loop-i.times c.loop-i.i c.loop-i.invariant new c.args.places.items c.sort_unstable.ensures.permutation inside c.in_err-name_table.field-0.0 found)
 
 pub loop-i-preserved : goal.loop-i-preserved
 loop-i-preserved g c =
@@ -38,36 +37,29 @@ loop-i-preserved g c =
     let now = g.S.Storage.state c.loop-i.image in
     let inside : c.loop-i.i < length c.sort_unstable.new.self.items = omega (arith, c.len-i-end.ensures, c.loop-i-test.true) in
     elim c.if-i-len.branch [
-      | then-i-len+in_ok-name_table+in_ok-compact_where_grown w ↦
+      | then-i-len+in_ok-name_table w ↦
           let here : w.index-then-i-len.result.now ≡ slice_index c.sort_unstable.new.self.items c.loop-i.i = read c.sort_unstable.new.self.items c.loop-i.i w.index-then-i-len.result.now inside w.index-then-i-len.ensures in
-          rw (w.times-is, w.image-is, w.names-is, w.last-is) (
-            named-same old (g.S.Storage.state w.name_table.new.image) c.args.header.now.fields c.args.names.now.items w.name_table.new.names.items w.compact_where_grown.new.names.items c.sort_unstable.new.self.items 0 (c.loop-i.i + 1) w.in_ok-compact_where_grown.ensures.same
-                (named-now old now c.args.header.now.fields c.args.names.now.items c.loop-i.names.items c.sort_unstable.new.self.items c.loop-i.times c.loop-i.i c.loop-i.invariant.0
-                (g.S.Storage.state w.name_table.new.image) w.name_table.new.names.items inside w.in_ok-name_table.ensures.kept w.in_ok-name_table.ensures.faults (rw (← here) w.in_ok-name_table.ensures.ok) (rw (← here) w.in_ok-name_table.ensures.sound)),
-            stays-more c.args.header.now.fields c.loop-i.names.items w.name_table.new.names.items w.compact_where_grown.new.names.items c.loop-i.last w.compact_where_grown.new.last _ _ _ w.in_ok-name_table.ensures.ok w.in_ok-name_table.ensures.keeps w.in_ok-compact_where_grown.ensures.same w.in_ok-compact_where_grown.ensures.reached w.in_ok-compact_where_grown.ensures.short
-                c.args.names.now.items c.args.last.now c.loop-i.invariant.1,
-          )
+          rw (w.times-is, w.image-is, w.names-is)
+          (named-now old now c.args.header.now.fields c.args.names.now c.loop-i.names c.sort_unstable.new.self.items c.loop-i.times c.loop-i.i c.loop-i.invariant
+          (g.S.Storage.state w.name_table.new.image) w.name_table.new.names inside w.in_ok-name_table.ensures.kept w.in_ok-name_table.ensures.faults (rw (← here) w.in_ok-name_table.ensures.ok) (rw (← here) w.in_ok-name_table.ensures.sound))
       | else-i-len+else-index w ↦
           let next : c.loop-i.i + 1 < length c.sort_unstable.new.self.items = omega (arith, inside, c.len.ensures, w.if-i-len.false) in
           let here : w.index-else-i-len.result.now ≡ slice_index c.sort_unstable.new.self.items c.loop-i.i = read c.sort_unstable.new.self.items c.loop-i.i w.index-else-i-len.result.now inside w.index-else-i-len.ensures in
           let there : w.index.result.now ≡ slice_index c.sort_unstable.new.self.items (c.loop-i.i + 1) = read c.sort_unstable.new.self.items (c.loop-i.i + 1) w.index.result.now next w.index.ensures in
           let same : slice_index c.sort_unstable.new.self.items (c.loop-i.i + 1) ≡ slice_index c.sort_unstable.new.self.items c.loop-i.i = sym there ∙ (w.if-index.false ∙ here) in
-          rw (w.times-is, w.image-is, w.names-is, w.last-is) (named-later old now c.args.header.now.fields c.args.names.now.items c.loop-i.names.items c.sort_unstable.new.self.items c.loop-i.times c.loop-i.i c.loop-i.invariant.0 next same, c.loop-i.invariant.1)
+          rw (w.times-is, w.image-is, w.names-is) (named-later old now c.args.header.now.fields c.args.names.now c.loop-i.names c.sort_unstable.new.self.items c.loop-i.times c.loop-i.i c.loop-i.invariant next same)
     ]
-
-pub returns-clause-spare : goal.returns-clause-spare
-returns-clause-spare g c = c.loop-i.invariant.1
 
 pub returns-clause-ok : goal.returns-clause-ok
 returns-clause-ok g c =
     let old = g.S.Storage.state c.args.image.now in
     let now = g.S.Storage.state c.loop-i.image in
     let all : c.loop-i.i ≡ length c.sort_unstable.new.self.items = omega (arith, c.len-i-end.ensures, c.loop-i-test.false, c.loop-i.auto.i-end) in
-    named-all old now c.args.header.now.fields c.args.names.now.items c.loop-i.names.items c.sort_unstable.new.self.items c.loop-i.times c.loop-i.i c.loop-i.invariant.0 all c.args.places.items c.sort_unstable.ensures.permutation
+    named-all old now c.args.header.now.fields c.args.names.now c.loop-i.names c.sort_unstable.new.self.items c.loop-i.times c.loop-i.i c.loop-i.invariant all c.args.places.items c.sort_unstable.ensures.permutation
 
 pub returns-clause-sound : goal.returns-clause-sound
 returns-clause-sound g c =
     let old = g.S.Storage.state c.args.image.now in
     let now = g.S.Storage.state c.loop-i.image in
     let all : c.loop-i.i ≡ length c.sort_unstable.new.self.items = omega (arith, c.len-i-end.ensures, c.loop-i-test.false, c.loop-i.auto.i-end) in
-    all-sound old now c.args.header.now.fields c.args.names.now.items c.loop-i.names.items c.sort_unstable.new.self.items c.loop-i.times c.loop-i.i c.loop-i.invariant.0 all c.args.places.items c.sort_unstable.ensures.permutation
+    all-sound old now c.args.header.now.fields c.args.names.now c.loop-i.names c.sort_unstable.new.self.items c.loop-i.times c.loop-i.i c.loop-i.invariant all c.args.places.items c.sort_unstable.ensures.permutation

@@ -1,7 +1,6 @@
-use Rattle.qimg_core.specs.Gathering.{StaysSpare}
 use Rattle.qimg_core.proofs.ContentsNamed.{NamedTo}
 use Rattle.qimg_core.proofs.check.tables.name_contents.Given as goal
 
 -- the tables at the places before this one are named
 abbrev pub invariant-loop-i : goal.invariant-loop-i
-invariant-loop-i g l = NamedTo (g.S.Storage.state l.fn.image) (g.S.Storage.state l.image) l.header.fields l.fn.names.items l.names.items l.places.items l.times l.i × StaysSpare l.fn.names.items l.fn.last l.names.items l.last
+invariant-loop-i g l = NamedTo (g.S.Storage.state l.fn.image) (g.S.Storage.state l.image) l.header.fields l.fn.names l.names l.places.items l.times l.i

@@ -1,8 +1,7 @@
 use Rattle.std.proofs.Common.{take}
-use Rattle.qimg_core.specs.Gathering.{StaysSpare}
 use Rattle.qimg_core.proofs.PlacesNamed.{AddsPlaces}
 use Rattle.qimg_core.proofs.check.tables.name_places.Given as goal
 
 -- the clusters at the places before this one are entered
 abbrev pub invariant-loop-i : goal.invariant-loop-i
-invariant-loop-i l = AddsPlaces l.header.fields l.fn.names.items l.names.items (take l.i l.places) × StaysSpare l.fn.names.items l.fn.last l.names.items l.last
+invariant-loop-i l = AddsPlaces l.header.fields l.fn.names l.names (take l.i l.places)

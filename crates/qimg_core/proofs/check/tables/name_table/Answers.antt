@@ -7,7 +7,7 @@ use Rattle.qimg_core.proofs.TableNamed.{adds-table, adds-past, past-sound, l2-be
 use Rattle.qimg_core.proofs.check.tables.name_table.Goals as goal
 
 pub returns-then-size-place-clause-ok : goal.returns-then-size-place-clause-ok
-returns-then-size-place-clause-ok g c = adds-past (g.S.Storage.state c.args.image.now).bytes c.args.header.now.fields c.args.place (omega (arith, c.size.ensures.value, c.if-size-place.true)) c.args.times c.args.names.now.items
+returns-then-size-place-clause-ok g c = adds-past (g.S.Storage.state c.args.image.now).bytes c.args.header.now.fields c.args.place (omega (arith, c.size.ensures.value, c.if-size-place.true)) c.args.times c.args.names.now
 
 pub returns-then-size-place-clause-sound : goal.returns-then-size-place-clause-sound
 returns-then-size-place-clause-sound g c = past-sound (g.S.Storage.state c.args.image.now).bytes c.args.header.now.fields c.args.place (omega (arith, c.size.ensures.value, c.if-size-place.true))
@@ -18,7 +18,7 @@ returns-in-Ok-clause-ok g c =
     let h = c.args.header.now.fields in
     let at = cluster-at c.cluster-cluster.result c.args.place _ _ _ c.cluster-cluster.ensures refl c.cluster_bits.ensures.value in
     on_ok_weaker c.name_words.result
-    (adds-table f h c.args.times c.args.names.now.items c.name_words.new.names.items c.args.place c.in-Ok.table.words (l2-words f h c.args.place c.cluster-cluster.result c.requires.place at c.l2_entries.result c.l2_entries.ensures c.in-Ok.table c.in-Ok.ensures.ok))
+    (adds-table f h c.args.times c.args.names.now c.name_words.new.names c.args.place c.in-Ok.table.words (l2-words f h c.args.place c.cluster-cluster.result c.requires.place at c.l2_entries.result c.l2_entries.ensures c.in-Ok.table c.in-Ok.ensures.ok))
     c.name_words.ensures.ok
 
 pub returns-in-Ok-clause-sound : goal.returns-in-Ok-clause-sound

@@ -1,8 +1,7 @@
 use Rattle.std.proofs.Common.{take}
-use Rattle.qimg_core.specs.Gathering.{KeepsEntries}
 use Rattle.qimg_core.proofs.WordsNamed.{AddsWords}
 use Rattle.qimg_core.proofs.check.tables.name_words.Given as goal
 
 -- what the words before this one name is entered
 abbrev pub invariant-loop-index : goal.invariant-loop-index
-invariant-loop-index l = AddsWords l.header.fields l.times l.fn.names.items l.names.items (take l.index l.table.words) × KeepsEntries l.fn.names.items l.names.items
+invariant-loop-index l = AddsWords l.header.fields l.times l.fn.names l.names (take l.index l.table.words)

@@ -1,0 +1,50 @@
+-- Each counter is compared, or the names where there is none.
+use Rattle.std.proofs.Common.{◌≡◌, ◌+◌, ◌*◌, ◌^◌, ◌≤◌, ℕ, arith, ap, sym, subst, ◌∙◌, Vec, Global}
+use Rattle.std.specs.Prelude.{Some, None}
+use Rattle.std.proofs.lemmas.Nat.{mul-le}
+use Rattle.std.proofs.lemmas.Result.{on_ok_weaker, MatchResult-weaker}
+use Rattle.qcow2_types.specs.Counts.{counters_of_block}
+use Rattle.qimg_core.specs.declared.check.search.Question.TheVariants.{AtAll}
+use Rattle.qimg_core.specs.Files.{file}
+use Rattle.qimg_core.specs.CheckParts.{HoldsCounters, AreCompared}
+use Rattle.qimg_core.proofs.SearchLemmas.{told-few}
+use Rattle.qimg_core.proofs.Compared.{gap-under, gap-compared, counter-under, counter-leak, counter-equal, uncounted-finding}
+use Rattle.qimg_core.proofs.check.counts.compare_block.Goals as goal
+use Rattle.qimg_core.proofs.check.counts.compare_block.Goals.{then-references-count+in_ok-push, else-references-count}
+
+pub loop-place-init : goal.loop-place-init
+loop-place-init g c = subst (AreCompared (file (g.S.Storage.state c.args.image.now)) c.args.header.now.fields c.args.leaks.now.items) (let none : c.args.index * counters_of_block c.args.header.now.fields ≡ c.args.index * counters_of_block c.args.header.now.fields + 0 = omega arith in none) c.requires.before
+
+pub get-count-requires : goal.get-count-requires
+get-count-requires g c =
+    let holds = subst (HoldsCounters (file (g.S.Storage.state c.args.image.now)) c.args.header.now.fields c.args.index) c.in-Some.is c.in_ok-block.ensures.ok in
+    holds.whole c.loop-place.place (omega (arith, c.loop-place-test.true, c.rb_entries-place-end.ensures.value))
+
+pub overflow_add-cluster : goal.overflow_add-cluster
+overflow_add-cluster g c =
+    let most : c.args.index * counters_of_block c.args.header.now.fields ≤ 2 ^ 20 * 2 ^ 24 = mul-le c.args.index (counters_of_block c.args.header.now.fields) (2 ^ 20) (2 ^ 24) (omega (arith, c.requires.index)) (omega (arith, c.rb_entries-place-end.ensures.value, c.rb_entries-place-end.ensures.bounds.1)) in
+    omega (arith, most, c.first_counted-low.ensures, c.loop-place-test.true, c.rb_entries-place-end.ensures.bounds.1)
+
+pub overflow_add-references : goal.overflow_add-references
+overflow_add-references g c = omega (arith, told-few AtAll c.args.names.now _ c.times_at-times.result c.requires.few c.times_at-times.ensures)
+
+pub returns-then-count-references-clause-err : goal.returns-then-count-references-clause-err
+returns-then-count-references-clause-err g c = (counter-under (file (g.S.Storage.state c.args.image.now)) c.args.header.now.fields c.args.names.now c.requires.told c.loop-place.leaks.items c.args.index c.loop-place.place _ c.get-count.result c.times_at-times.result c.in-Some.block (ap (λ n. n + c.loop-place.place) c.first_counted-low.ensures) (subst (HoldsCounters (file (g.S.Storage.state c.args.image.now)) c.args.header.now.fields c.args.index) c.in-Some.is c.in_ok-block.ensures.ok) (omega (arith, c.loop-place-test.true, c.rb_entries-place-end.ensures.value)) c.get-count.ensures c.times_at-times.ensures c.loop-place.invariant c.if-count-references.true, c.in_ok-block.ensures.faults)
+
+pub loop-place-preserved : goal.loop-place-preserved
+loop-place-preserved g c = elim c.if-references-count.branch [
+  | then-references-count+in_ok-push w ↦ counter-leak (file (g.S.Storage.state c.args.image.now)) c.args.header.now.fields c.args.names.now c.requires.told c.loop-place.leaks.items c.args.index c.loop-place.place _ c.get-count.result c.times_at-times.result c.in-Some.block (ap (λ n. n + c.loop-place.place) c.first_counted-low.ensures) (subst (HoldsCounters (file (g.S.Storage.state c.args.image.now)) c.args.header.now.fields c.args.index) c.in-Some.is c.in_ok-block.ensures.ok) (omega (arith, c.loop-place-test.true, c.rb_entries-place-end.ensures.value)) c.get-count.ensures c.times_at-times.ensures c.loop-place.invariant c.if-references-count.leaks.items w.if-references-count.true (ap (λ (v : Vec (ℕ × ℕ) Global). v.items) w.leaks-is ∙ w.in_ok-push.ensures.items)
+  | else-references-count w ↦ subst (λ l. AreCompared (file (g.S.Storage.state c.args.image.now)) c.args.header.now.fields l (c.args.index * counters_of_block c.args.header.now.fields + (c.loop-place.place + 1))) (ap (λ (v : Vec (ℕ × ℕ) Global). v.items) (sym w.leaks-is)) (counter-equal (file (g.S.Storage.state c.args.image.now)) c.args.header.now.fields c.args.names.now c.requires.told c.loop-place.leaks.items c.args.index c.loop-place.place _ c.get-count.result c.times_at-times.result c.in-Some.block (ap (λ n. n + c.loop-place.place) c.first_counted-low.ensures) (subst (HoldsCounters (file (g.S.Storage.state c.args.image.now)) c.args.header.now.fields c.args.index) c.in-Some.is c.in_ok-block.ensures.ok) (omega (arith, c.loop-place-test.true, c.rb_entries-place-end.ensures.value)) c.get-count.ensures c.times_at-times.ensures c.loop-place.invariant c.if-count-references.false w.if-references-count.false)
+]
+
+pub returns-clause-ok : goal.returns-clause-ok
+returns-clause-ok g c = subst (AreCompared (file (g.S.Storage.state c.args.image.now)) c.args.header.now.fields c.loop-place.leaks.items) (let all : c.args.index * counters_of_block c.args.header.now.fields + c.loop-place.place ≡ (c.args.index + 1) * counters_of_block c.args.header.now.fields = omega (arith, c.loop-place-test.false, c.loop-place.auto.place-end, c.rb_entries-place-end.ensures.value) in all) c.loop-place.invariant
+
+pub returns-in_default-clause-ok : goal.returns-in_default-clause-ok
+returns-in_default-clause-ok g c = on_ok_weaker c.check_unnamed.result (gap-compared (file (g.S.Storage.state c.args.image.now)) c.args.header.now.fields c.args.names.now c.requires.told c.args.leaks.now.items c.args.index c.first_counted-low.result c.first_counted.result c.first_counted-low.ensures c.first_counted.ensures (subst (HoldsCounters (file (g.S.Storage.state c.args.image.now)) c.args.header.now.fields c.args.index) c.in_default.is c.in_ok-block.ensures.ok) c.requires.before) c.check_unnamed.ensures.ok
+
+pub returns-in_default-clause-err : goal.returns-in_default-clause-err
+returns-in_default-clause-err g c =
+    MatchResult-weaker c.check_unnamed.result c.check_unnamed.ensures.err (λ x y. y)
+    (uncounted-finding (g.S.Storage.state c.args.image.now) (g.S.Storage.state c.block_of.new.image) c.args.header.now.fields c.args.names.now c.first_counted-low.result (Some c.first_counted.result) c.in_ok-block.ensures.faults
+    (gap-under (file (g.S.Storage.state c.args.image.now)) c.args.header.now.fields c.args.names.now c.requires.told c.args.leaks.now.items c.args.index c.first_counted-low.result c.first_counted.result c.first_counted-low.ensures c.first_counted.ensures (subst (HoldsCounters (file (g.S.Storage.state c.args.image.now)) c.args.header.now.fields c.args.index) c.in_default.is c.in_ok-block.ensures.ok) c.requires.before))

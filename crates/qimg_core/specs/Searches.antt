@@ -1,0 +1,43 @@
+-- Searches for the least cluster whose names are of some kind.
+use Rattle.std.specs.Prelude.{◌≡◌, ℕ, ◌+◌, ◌<◌, ◌≤◌, ⊤, Bool, ◌&&◌, not, ◌==◌, nat_lt, IsTrue, IsFalse, Option, Some, None}
+use Rattle.std.specs.BTreeMap.{BTreeMap}
+use Rattle.qimg_core.specs.declared.check.names.Times.{Times}
+use Rattle.qimg_core.specs.declared.check.names.Tallies.{Tallies}
+use Rattle.qimg_core.specs.declared.check.search.Question.{Question}
+use Rattle.qimg_core.specs.declared.check.search.Question.TheVariants.{Shared, FalselyCopied, AtAll}
+use Rattle.qimg_core.specs.Names.{no_times, other_at, times_at}
+
+-- What is asked is so: a part of the structure is named more than once, one that is named as copied is, or something is named.
+abbrev pub passes : Question → Times → Bool
+passes Shared n = nat_lt 0 n.structure && not (n.structure + n.mapped == 1)
+passes FalselyCopied n = nat_lt 0 n.copied && not (n.structure + n.mapped == 1)
+passes AtAll n = nat_lt 0 (n.structure + n.mapped)
+
+-- of how often cluster c is named
+unfoldable pub is_such : Question → Tallies → ℕ → Bool
+is_such question names c = passes question (times_at names c)
+
+-- below a bound, if there is one
+abbrev pub IsBelow : Option ℕ → ℕ → Type 0
+IsBelow None c = ⊤
+IsBelow (Some end) c = c < end
+
+-- The test passes at no cluster between two bounds.
+pub record NoneWithin (test : ℕ → Bool) (low : ℕ) (high : Option ℕ) : Type 0 where
+  pub none : (c : ℕ) → low ≤ c → IsBelow high c → IsFalse (test c)
+
+-- It passes at cluster c, and at none between the bounds before it.
+pub record IsFirstWithin (test : ℕ → Bool) (low : ℕ) (high : Option ℕ) (c : ℕ) : Type 0 where
+  pub from : low ≤ c
+  pub below : IsBelow high c
+  pub is : IsTrue (test c)
+  pub before : (d : ℕ) → low ≤ d → d < c → IsFalse (test d)
+
+-- No cluster from this one on has an entry that says something.
+pub record NoEntryFrom (others : BTreeMap ℕ Times) (low : ℕ) : Type 0 where
+  pub none : (c : ℕ) → low ≤ c → other_at others c ≡ no_times
+
+-- nor has one before cluster c
+pub record IsEntryFrom (others : BTreeMap ℕ Times) (low c : ℕ) : Type 0 where
+  pub from : low ≤ c
+  pub before : (d : ℕ) → low ≤ d → d < c → other_at others d ≡ no_times

@@ -1,0 +1,130 @@
+// The least cluster whose names are of some kind.
+ghost use Rattle.std.specs.Prelude.{◌≡◌, ℕ, ◌+◌, ◌<◌, ◌≤◌, ◌^◌, length, MatchOption, IsSomeAnd, Some, IsTrue, IsFalse};
+ghost use Rattle.qcow2_types.specs.Consistency.{Nowhere, IsLeast};
+ghost use Rattle.qimg_core.specs.Names.{IsFew};
+ghost use Rattle.qimg_core.specs.Searches.{passes as passes_of, is_such, IsBelow, NoneWithin, IsFirstWithin, NoEntryFrom, IsEntryFrom};
+
+use super::names::{Tallies, Times, times_at};
+use std::collections::BTreeMap;
+use std::ops::Bound;
+
+/// What is asked of how often a cluster is named.
+#[derive(Clone, Copy, Debug)]
+pub enum Question {
+    /// As a part of the structure, and more than once?
+    Shared,
+    /// As copied, and more than once?
+    FalselyCopied,
+    /// At all?
+    AtAll,
+}
+
+/// Whether the answer is yes.
+fn passes(question: Question, times: Times) -> bool
+    requires { times.structure + times.mapped < 2 ^ 64 }
+    ensures { result ≡ passes_of question times }
+{
+    let all = times.structure + times.mapped;
+    match question {
+        Question::Shared => times.structure > 0 && all != 1,
+        Question::FalselyCopied => times.copied > 0 && all != 1,
+        Question::AtAll => all > 0,
+    }
+}
+
+/// The least cluster from this one on that has an entry.
+fn entry_from(others: &BTreeMap<u64, Times>, low: u64) -> Option<u64>
+    ensures { MatchOption result (NoEntryFrom others.now low) (IsEntryFrom others.now low) }
+{
+    match others.range(low..).next() {
+        Some((cluster, _)) => Some(*cluster),
+        None => None,
+    }
+}
+
+/// The least cluster behind this one that has an entry.
+fn entry_after(others: &BTreeMap<u64, Times>, cluster: u64) -> Option<u64>
+    ensures { MatchOption result (NoEntryFrom others.now (cluster + 1)) (IsEntryFrom others.now (cluster + 1)) }
+{
+    match others
+        .range((Bound::Excluded(cluster), Bound::Unbounded))
+        .next()
+    {
+        Some((next, _)) => Some(*next),
+        None => None,
+    }
+}
+
+/// Whether a cluster isn't below the bound, if there is one.
+fn is_past(high: Option<u64>, cluster: u64) -> bool
+    ensures below { IsFalse result → IsBelow high cluster }
+    ensures past { IsTrue result → IsSomeAnd high (λ end. end ≤ cluster) }
+{
+    match high {
+        Some(high) => cluster >= high,
+        None => false,
+    }
+}
+
+/// The end of the cells, or the bound, if that is lower.
+fn cells_end(cells: u64, high: Option<u64>) -> u64
+    ensures inside { (c : ℕ) → c < cells → IsBelow high c → c < result }
+    ensures below { (c : ℕ) → c < result → (c < cells) × IsBelow high c }
+{
+    match high {
+        Some(high) => cells.min(high),
+        None => cells,
+    }
+}
+
+/// The least cluster behind the cells, from `low` up to `high`, which isn't one of them, that passes.
+fn first_entry(names: &Tallies, question: Question, low: u64, high: Option<u64>) -> Option<u64>
+    requires few { IsFew names.now }
+    requires behind { length names.now.cells.items ≤ low }
+    ensures { MatchOption result (NoneWithin (is_such question names.now) low high) (IsFirstWithin (is_such question names.now) low high) }
+{
+    let mut next = entry_from(&names.others, low);
+    while let Some(cluster) = next {
+        if is_past(high, cluster) {
+            return None;
+        }
+        if passes(question, times_at(names, cluster)) {
+            return Some(cluster);
+        }
+        next = entry_after(&names.others, cluster);
+    }
+    None
+}
+
+/// The least cluster from `low` up to `end`, which isn't one of them, that passes.
+fn first_cell(names: &Tallies, question: Question, low: u64, end: u64) -> Option<u64>
+    requires { IsFew names.now }
+    ensures { MatchOption result (NoneWithin (is_such question names.now) low (Some end)) (IsFirstWithin (is_such question names.now) low (Some end)) }
+{
+    for cluster in low..end {
+        if passes(question, times_at(names, cluster)) {
+            return Some(cluster);
+        }
+    }
+    None
+}
+
+/// The least cluster from `low` on that passes, up to `high`, which isn't one of them, if that is given.
+pub fn first_such(names: &Tallies, question: Question, low: u64, high: Option<u64>) -> Option<u64>
+    requires { IsFew names.now }
+    ensures { MatchOption result (NoneWithin (is_such question names.now) low high) (IsFirstWithin (is_such question names.now) low high) }
+{
+    let cells = names.cells.len() as u64;
+    match first_cell(names, question, low, cells_end(cells, high)) {
+        Some(cluster) => Some(cluster),
+        None => first_entry(names, question, low.max(cells), high),
+    }
+}
+
+/// The least cluster that passes.
+pub fn least_such(names: &Tallies, question: Question) -> Option<u64>
+    requires { IsFew names.now }
+    ensures { MatchOption result (Nowhere (is_such question names.now)) (IsLeast (is_such question names.now)) }
+{
+    first_such(names, question, 0, None)
+}
