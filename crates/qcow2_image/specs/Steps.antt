@@ -8,7 +8,7 @@ use Rattle.imago_storage.specs.declared.storage.Storage.{Ghosts}
 use Rattle.qcow2_types.specs.Bytes.{Bytes}
 use Rattle.qcow2_types.specs.Header.{Header, header_of}
 use Rattle.qcow2_metadata.specs.Updates.{with_places_of}
-use Rattle.qcow2_alloc.specs.Caches.{cached_in}
+use Rattle.qcow2_alloc.specs.Caches.{HasRoomOf, cached_in}
 use Rattle.qcow2_image.specs.declared.tables.Tables.{Tables}
 use Rattle.qcow2_image.specs.Opening.{header_for_reading}
 use Rattle.qcow2_image.specs.Seen.{IsSeen, file_of}
@@ -60,6 +60,7 @@ pub record Reloads {S : Type 0} (g : Ghosts S) (old : Tables S g) (result : Resu
   pub places : with_places_of new.file.header old.file.header ≡ new.file.header
   pub anew : OnOk result (IsSeen g new)
   pub empty : OnOk result (cached_in new.caches ≡ record { tables = []; blocks = [] })
+  pub room : HasRoomOf old.caches new.caches
   pub same : IsSeen g old → OnOk result (new.file.header ≡ old.file.header)
   pub left : OnErr result ((new.file.header ≡ old.file.header) × (new.l1 ≡ old.l1) × (new.caches ≡ old.caches))
   pub cause : IfErr result (WhyNotReloaded (file_of g old) old.file.header (g.state old.file.image).faults (g.state new.file.image).faults)

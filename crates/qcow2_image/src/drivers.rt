@@ -1,17 +1,18 @@
 // A qcow2 image as the driver of a chain.
-ghost use Rattle.std.specs.Prelude.{◌≡◌, ◌<◌, ⊤, false, refl, length, IsTrue, IsOk, OnOk, IfOk, IfErr};
+ghost use Rattle.std.specs.Prelude.{◌≡◌, ◌<◌, ⊤, None, List, false, refl, length, IsTrue, IsErrOf, IsOk, OnOk, IfOk, IfErr};
 ghost use Rattle.std.proofs.lemmas.Nat.{pow_pos};
-ghost use Rattle.imago_access.specs.Failing.{Fails, RefusesLookup, RefusesReload};
-ghost use Rattle.imago_access.specs.Files.{IsKept, IsStale, Pairs, WasNotCutOff, files};
+ghost use Rattle.imago_access.specs.Failing.{Fails, RefusesFlush, RefusesLookup, RefusesRead, RefusesReload};
+ghost use Rattle.imago_access.specs.Files.{AreRead, IsKept, IsStale, OverflowsIn, Pairs, WasNotCutOff, files};
 ghost use Rattle.imago_access.specs.Going.{AtOnce, KeepsWhatIsFlushed, Looked, Marks, Went};
-ghost use Rattle.imago_access.specs.Layer.{IsFree};
+ghost use Rattle.imago_access.specs.Layer.{IsFree, IsLike, Layer};
 ghost use Rattle.imago_access.specs.Mappings.{IsOneOf, IsRun, LooksIn, NamesRoomIn};
 ghost use Rattle.imago_access.specs.PreparingCalls.{Commits, CommitRefused, Cancels};
 ghost use Rattle.imago_access.specs.Refusals.{barrier};
+ghost use Rattle.imago_access.specs.Stops.{GivesNone, IsWritten, KeepsStops, MakesNone};
 ghost use Rattle.qcow2_image.specs.ImageLayer.{blanks};
 ghost use Rattle.qcow2_image.specs.Looking.{IsWholeRunIn, answer_at};
 ghost use Rattle.qcow2_image.specs.Rooms.{not_both, covered, of_storages};
-ghost use Rattle.qcow2_image.specs.Steps.{Reloads};
+ghost use Rattle.qcow2_image.specs.Steps.{Reloads, failed_anew, failed_behind, failed_by};
 
 use crate::qcow2::{PreparedMappingState, Qcow2};
 use crate::reloading::reload;
@@ -120,6 +121,8 @@ impl<S: Storage> FormatDriverInstance for Qcow2<S> {
         ensures marks { IfErr result (Marks ⟦<Qcow2<S> as Seen>⟧ self.old self.new) }
         ensures cause { let d = ⟦<Qcow2<S> as Seen>⟧ in
             d.sees self.old → IfErr result (RefusesLookup d offset max_length self.old self.new) }
+        // It is marked as failed behind a storage's fault alone.
+        ensures marked { self.new.failed ≡ failed_behind failed_by result self.old.failed }
         // It makes no request but reads.
         ensures reads { let d = ⟦<Qcow2<S> as Seen>⟧ in Pairs IsKept (files d self.old) (files d self.new) }
         // It answers the entry of the guest cluster, for as long a run as goes on under one L2 table.
@@ -147,7 +150,20 @@ impl<S: Storage> FormatDriverInstance for Qcow2<S> {
         storage: usize,
         place: u64,
         buf: &mut [u8],
-    ) -> Result<(), Fault> {
+    ) -> Result<(), Fault>
+        ensures bytes { OnOk result (AreRead (files ⟦<Qcow2<S> as Seen>⟧ self.old) storage place (length buf.old) buf.new) }
+        ensures at_once { let d = ⟦<Qcow2<S> as Seen>⟧ in AtOnce d (barrier (d.layer self.old)) (length buf.old ≡ 0) result self.old self.new }
+        ensures looked { Looked ⟦<Qcow2<S> as Seen>⟧ (WasNotCutOff result) self.old self.new }
+        ensures began { let d = ⟦<Qcow2<S> as Seen>⟧ in
+            OnOk result ((e : _) (call : _) → d.began e call self.old → d.began e call self.new) }
+        ensures none { let d = ⟦<Qcow2<S> as Seen>⟧ in MakesNone (d.image self.old) (d.image self.new) }
+        ensures overflow { let d = ⟦<Qcow2<S> as Seen>⟧ in barrier (d.layer self.old) ≡ None
+            → OverflowsIn (files d self.old) storage place (length buf.old) → IsErrOf result Fault.RangeOverflow }
+        ensures marks { IfErr result (Marks ⟦<Qcow2<S> as Seen>⟧ self.old self.new) }
+        ensures cause { IfErr result (RefusesRead ⟦<Qcow2<S> as Seen>⟧ place (length buf.old) self.old self.new) }
+        // It is marked as failed behind a storage's fault alone.
+        ensures marked { self.new.failed ≡ failed_behind failed_by result self.old.failed }
+    {
         if self.failed {
             return Err(Fault::Failed);
         }
@@ -284,7 +300,22 @@ impl<S: Storage> FormatDriverInstance for Qcow2<S> {
         self.refuse(offset, length)
     }
 
-    fn flush(&mut self, _alloc: Global) -> Result<(), Fault> {
+    fn flush(&mut self, _alloc: Global) -> Result<(), Fault>
+        ensures sees { let d = ⟦<Qcow2<S> as Seen>⟧ in
+            d.sees self.old → OnOk result ((d.layer self.new ≡ d.layer self.old) × d.sees self.new) }
+        ensures still { OnOk result (⟦<Qcow2<S> as Seen>⟧.still self.new) }
+        ensures written { let d = ⟦<Qcow2<S> as Seen>⟧ in d.safe self.old → IsFree (d.layer self.old) → OnOk result (IsWritten d self.new) }
+        ensures stops { let d = ⟦<Qcow2<S> as Seen>⟧ in
+            d.safe self.old → (below : List Layer) → KeepsStops d below GivesNone self.old self.new }
+        ensures at_once { let d = ⟦<Qcow2<S> as Seen>⟧ in AtOnce d (barrier (d.layer self.old)) ⊥ result self.old self.new }
+        ensures like { let d = ⟦<Qcow2<S> as Seen>⟧ in IsLike (d.layer self.old) (d.layer self.new) }
+        ensures went { Went ⟦<Qcow2<S> as Seen>⟧ (WasNotCutOff result) (WasNotCutOff result) self.old self.new }
+        ensures failed { IfErr result (Fails ⟦<Qcow2<S> as Seen>⟧ self.old self.new) }
+        ensures marks { IfErr result (Marks ⟦<Qcow2<S> as Seen>⟧ self.old self.new) }
+        ensures cause { let d = ⟦<Qcow2<S> as Seen>⟧ in d.safe self.old → IfErr result (RefusesFlush d self.old self.new) }
+        // It is marked as failed behind a storage's fault alone.
+        ensures marked { self.new.failed ≡ failed_behind failed_by result self.old.failed }
+    {
         if self.failed {
             return Err(Fault::Failed);
         }
@@ -292,7 +323,19 @@ impl<S: Storage> FormatDriverInstance for Qcow2<S> {
         self.settle(answer)
     }
 
-    fn sync(&mut self) -> Result<(), Fault> {
+    fn sync(&mut self) -> Result<(), Fault>
+        ensures same { let d = ⟦<Qcow2<S> as Seen>⟧ in OnOk result (d.layer self.new ≡ d.layer self.old) }
+        ensures kept { let d = ⟦<Qcow2<S> as Seen>⟧ in Pairs IsKept (files d self.old) (files d self.new) }
+        ensures sees { ⟦<Qcow2<S> as Seen>⟧.sees self.old → ⟦<Qcow2<S> as Seen>⟧.sees self.new }
+        ensures still { ⟦<Qcow2<S> as Seen>⟧.still self.old → ⟦<Qcow2<S> as Seen>⟧.still self.new }
+        ensures at_once { let d = ⟦<Qcow2<S> as Seen>⟧ in AtOnce d (barrier (d.layer self.old)) ⊥ result self.old self.new }
+        ensures like { let d = ⟦<Qcow2<S> as Seen>⟧ in IsLike (d.layer self.old) (d.layer self.new) }
+        ensures went { Went ⟦<Qcow2<S> as Seen>⟧ (WasNotCutOff result) (WasNotCutOff result) self.old self.new }
+        ensures marks { IfErr result (Marks ⟦<Qcow2<S> as Seen>⟧ self.old self.new) }
+        ensures cause { IfErr result (RefusesFlush ⟦<Qcow2<S> as Seen>⟧ self.old self.new) }
+        // It is marked as failed behind a storage's fault alone.
+        ensures marked { self.new.failed ≡ failed_behind failed_by result self.old.failed }
+    {
         if self.failed {
             return Err(Fault::Failed);
         }
@@ -310,6 +353,8 @@ impl<S: Storage> FormatDriverInstance for Qcow2<S> {
         ensures failed { IfErr result (λ e. IsStale e → IsTrue (⟦<Qcow2<S> as Seen>⟧.layer self.new).failed) }
         ensures marks { IfErr result (Marks ⟦<Qcow2<S> as Seen>⟧ self.old self.new) }
         ensures cause { IfErr result (RefusesReload ⟦<Qcow2<S> as Seen>⟧ self.old self.new) }
+        // It is marked as failed behind each refusal but want of memory.
+        ensures marked { self.new.failed ≡ failed_behind failed_anew result self.old.failed }
         // What is in memory is then what the file says, whatever it was before, and nothing else is cached; a refusal leaves what it was.
         ensures reloads { self.old.failed ≡ false → Reloads S.Storage self.old.tables result self.new.tables }
     {

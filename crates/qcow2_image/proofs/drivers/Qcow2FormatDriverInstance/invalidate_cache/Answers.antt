@@ -17,3 +17,7 @@ returns-clause-marks g c =
 pub returns-clause-reloads : goal.returns-clause-reloads
 returns-clause-reloads g c = λ runs.
     (reloads-settled g.S.Storage c.args.self.now c.settle_anew.new.self c.reload-answer.new.tables c.reload-answer.result c.settle_anew.result c.reload-answer.ensures c.settle_anew.ensures.same c.settle_anew.ensures.marks).0
+
+pub returns-clause-marked : goal.returns-clause-marked
+returns-clause-marked g c =
+    (reloads-settled g.S.Storage c.args.self.now c.settle_anew.new.self c.reload-answer.new.tables c.reload-answer.result c.settle_anew.result c.reload-answer.ensures c.settle_anew.ensures.same c.settle_anew.ensures.marks).3
