@@ -1,5 +1,5 @@
 -- Scripts that are run line by line.
-use Rattle.std.proofs.Common.{◌≡◌, ℕ, ◌+◌, ◌∙◌, List, [], ◌∷◌, ◌++◌, length, refl, ap, subst, sym, arith, length-append}
+use Rattle.std.proofs.Common.{◌≡◌, ℕ, ◌+◌, ◌∙◌, List, [], ◌∷◌, ◌++◌, length, refl, ap, subst, sym, arith, inl, inr, length-append}
 use Rattle.std.proofs.lemmas.List.{append-nil}
 use mathlib.Core.List.{append_assoc}
 use Rattle.std.specs.Prelude.{map, Option, Some, None, IfSome, OnOk, Result, Ok, Err, Vec}
@@ -19,7 +19,7 @@ use Rattle.qimg_core.specs.declared.first.worked.RunFault.{RunFault}
 use Rattle.qimg_core.specs.declared.first.worked.RunFault.TheVariants as run_fault
 use Rattle.qimg_chain.specs.ScriptAnswers.{answer_text}
 use Rattle.qimg_chain.specs.ScriptLimits.{AreAnswered, IsAnswerCount, most_bytes}
-use Rattle.qimg_chain.specs.ScriptRuns.{IsAllWritten, IsTellingFault, Reply, Standing, standing, Replies, RunsAll, Scripted, calls_of, answers_of, text_of}
+use Rattle.qimg_chain.specs.ScriptRuns.{AreWritten, IsTellingFault, Reply, Standing, standing, Replies, RunsAll, Scripted, calls_of, answers_of, text_of}
 use Rattle.qimg_chain.proofs.ScriptBytes.{EndsEarly, ReadSoFar, read-cut, read-then}
 
 abbrev pub text : Reply → List ℕ
@@ -52,15 +52,30 @@ pub record RanSoFar {D St : Type 0} (g : Ghosts D St) (names : D → ℕ → Lis
   pub made : MadeSoFar g names io.input io.left io.room count old now
   pub written : Appends io.before io.after (text_of made.replies)
 
--- behind a fault in the telling of an answer not all is written
-pub not-written : {A : Type 0} (result : Result (Option (Vec ℕ Global)) RunFault) (fault : RunFault) → IsTellingFault fault → result ≡ Err fault → IsAllWritten result → A
-not-written result fault telling is all = absurd (at fault telling (rw (is) at all))
+-- all that was answered is written
+pub all-written : (result : Result (Option (Vec ℕ Global)) RunFault) (before after : Option (List ℕ)) (replies : List Reply) →
+    Appends before after (text_of replies) → AreWritten result before after replies
+all-written (Ok kept) before after replies all = all
+all-written (Err run_fault.Write) before after replies all = tt
+all-written (Err run_fault.Memory) before after replies all = inl all
+all-written (Err run_fault.Read) before after replies all = all
+all-written (Err run_fault.Lines) before after replies all = all
+
+-- the last answer isn't told, by this fault: for want of memory nothing of it is written
+pub last-untold : (result : Result (Option (Vec ℕ Global)) RunFault) (fault : RunFault) (before mid after : Option (List ℕ)) (told : List Reply) (last : Reply) →
+    IsTellingFault fault → result ≡ Err fault → (fault ≡ run_fault.Memory → after ≡ mid) → Appends before mid (text_of told) → AreWritten result before after (told ++ last ∷ [])
+last-untold result fault before mid after told last telling is quiet all = rw (is) (at fault telling quiet)
   where
-    at : (fault : RunFault) → IsTellingFault fault → IsAllWritten (Err fault) → ⊥
-    at run_fault.Write telling all = all
-    at run_fault.Memory telling all = all
-    at run_fault.Read telling all = telling
-    at run_fault.Lines telling all = telling
+    at : (fault : RunFault) → IsTellingFault fault → (fault ≡ run_fault.Memory → after ≡ mid) → AreWritten (Err fault) before after (told ++ last ∷ [])
+    at run_fault.Write telling quiet = tt
+    at run_fault.Memory telling quiet = inr (record {
+      told = told;
+      last = last;
+      are = refl;
+      written = subst (λ known. Appends before known (text_of told)) (sym (quiet refl)) all;
+    })
+    at run_fault.Read telling quiet = absurd telling
+    at run_fault.Lines telling quiet = absurd telling
 
 pub append-none : (known : Option (List ℕ)) → Appends known known []
 append-none None = tt
@@ -77,15 +92,15 @@ text-then [] r = append-nil (answer_text r.answer ++ 10 ∷ [])
 text-then (a ∷ replies) r = ap (λ xs. (answer_text a.answer ++ 10 ∷ []) ++ xs) (text-then replies r)
     ∙ sym (append_assoc (answer_text a.answer ++ 10 ∷ []) (text_of replies) (answer_text r.answer ++ 10 ∷ []))
 
-map-then : (replies : List Reply) (r : Reply) → map text (replies ++ r ∷ []) ≡ map text replies ++ (r.text ∷ [])
+pub map-then : (replies : List Reply) (r : Reply) → map text (replies ++ r ∷ []) ≡ map text replies ++ (r.text ∷ [])
 map-then [] r = refl
 map-then (a ∷ replies) r = ap (λ xs. a.text ∷ xs) (map-then replies r)
 
-length-then : (replies : List Reply) (r : Reply) (count : ℕ) → length replies ≡ count → length (replies ++ r ∷ []) ≡ count + 1
+pub length-then : (replies : List Reply) (r : Reply) (count : ℕ) → length replies ≡ count → length (replies ++ r ∷ []) ≡ count + 1
 length-then replies r count is = omega (arith, length-append replies (r ∷ []), is)
 
 module _ {D St : Type 0} (g : Ghosts D St) (names : D → ℕ → List ℕ) where
-  runs-then : (replies : List Reply) (r : Reply) (old mid new : Standing D) → RunsAll g names replies old mid → Replies g names r mid new → RunsAll g names (replies ++ r ∷ []) old new
+  pub runs-then : (replies : List Reply) (r : Reply) (old mid new : Standing D) → RunsAll g names replies old mid → Replies g names r mid new → RunsAll g names (replies ++ r ∷ []) old new
   runs-then [] r old mid new same one = (new, subst (λ s. Replies g names r s new) same one, refl)
   runs-then (a ∷ replies) r old mid new all one = (all.0, all.1, runs-then replies r all.0 mid new all.2 one)
 
@@ -108,7 +123,7 @@ module _ {D St : Type 0} (g : Ghosts D St) (names : D → ℕ → List ℕ) wher
   }
 
 -- one more line is read and made
-pub made-then : {D St : Type 0} {g : Ghosts D St} {names : D → ℕ → List ℕ} {input left : Option (List ℕ)} {room count : ℕ} {old : D × List D} {now : Standing D}
+unfoldable pub made-then : {D St : Type 0} {g : Ghosts D St} {names : D → ℕ → List ℕ} {input left : Option (List ℕ)} {room count : ℕ} {old : D × List D} {now : Standing D}
     → (next : Option (List ℕ)) (less : ℕ) (new : Standing D) (r : Reply) (line rest : List ℕ) → MadeSoFar g names input left room count old now
     → IfSome left (λ bytes. line ≡ take_through 10 bytes) → DropsThrough left next 10 → length line + less ≡ room → lines line ≡ r.text ∷ lines rest → Replies g names r now new
     → MadeSoFar g names input next less (count + 1) old new
@@ -136,21 +151,21 @@ pub scripted : {D St : Type 0} {g : Ghosts D St} {names : D → ℕ → List ℕ
     → RanSoFar g names io count old (standing new saved) → IsAnswerCount result count
     → ((texts : List (List ℕ)) → ReadSoFar io.input io.left io.room texts → IfSome io.input (λ bytes. AreAnswered result bytes texts)) → OnOk result (result ≡ Ok saved)
     → Scripted g names io.input io.before io.after result old new
-scripted {g = g} {names = names} {old = old} {new = new} {saved = saved} {result = result} ran counts all kept = record {
+scripted {g = g} {names = names} {io = io} {old = old} {new = new} {saved = saved} {result = result} ran counts all kept = record {
   replies = ran.made.replies;
   saved = saved;
   runs = ran.made.runs;
   driven = λ since ready stands. driven-all g names ran.made.replies old new saved since ran.made.rests ran.made.runs ready stands;
   count = subst (IsAnswerCount result) (sym ran.made.counted) counts;
   lines = all (map text ran.made.replies) ran.made.read;
-  written = λ _. ran.written;
+  written = all-written result io.before io.after ran.made.replies ran.written;
   kept = kept;
 }
 
 -- the same, where it ends early for a fault that is no limit of lines
 pub scripted-cut : {D St : Type 0} {g : Ghosts D St} {names : D → ℕ → List ℕ} {input left : Option (List ℕ)} {room count : ℕ} {old new : D × List D} {saved : Option (Vec ℕ Global)}
     → (before after : Option (List ℕ)) (result : Result (Option (Vec ℕ Global)) RunFault) (fault : RunFault) (made : MadeSoFar g names input left room count old (standing new saved)) → EndsEarly fault count
-    → result ≡ Err fault → (IsAllWritten result → Appends before after (text_of made.replies)) → Scripted g names input before after result old new
+    → result ≡ Err fault → AreWritten result before after made.replies → Scripted g names input before after result old new
 scripted-cut {g = g} {names = names} {input = input} {left = left} {room = room} {count = count} {old = old} {new = new} {saved = saved} before after result fault made cut is written = record {
   replies = made.replies;
   saved = saved;

@@ -86,11 +86,19 @@ IsTellingFault run_fault.Write = ⊤
 IsTellingFault run_fault.Memory = ⊤
 IsTellingFault fault = ⊥
 
--- all that was answered is written: the script has ended, or its reader failed, or it has too many lines
-abbrev pub IsAllWritten : Result (Option (Vec ℕ Global)) RunFault → Type 0
-IsAllWritten (Err run_fault.Write) = ⊥
-IsAllWritten (Err run_fault.Memory) = ⊥
-IsAllWritten result = ⊤
+-- the answers before the last are written, and nothing of it
+pub record IsLastUntold (before after : Option (List ℕ)) (replies : List Reply) : Type 0 where
+  pub told : List Reply
+  pub last : Reply
+  pub are : replies ≡ told ++ last ∷ []
+  pub written : Appends before after (text_of told)
+
+-- Which answers are written: all, where the script has ended, its reader failed or it has too many lines; all, or all but the last, where
+-- memory was wanting. Of a writer that failed nothing is said.
+abbrev pub AreWritten : Result (Option (Vec ℕ Global)) RunFault → (before after : Option (List ℕ)) → List Reply → Type 0
+AreWritten (Err run_fault.Write) before after replies = ⊤
+AreWritten (Err run_fault.Memory) before after replies = Appends before after (text_of replies) ⊎ IsLastUntold before after replies
+AreWritten result before after replies = Appends before after (text_of replies)
 
 -- What a script does that is run over a chain, by the bytes that its reader has and that its writer holds, where these are known: each line
 -- makes the call that it asks for, and what all of them do is what the list of these calls does.
@@ -103,5 +111,5 @@ pub record Scripted {D St : Type 0} (g : Ghosts D St) (names : D → ℕ → Lis
   -- its lines are the first that the reader has, all of them where it ends, as many as a script has at most; and its text is their answers
   pub count : IsAnswerCount result (length replies)
   pub lines : IfSome input (λ bytes. AreAnswered result bytes (map (λ (r : Reply). r.text) replies))
-  pub written : IsAllWritten result → Appends before after (text_of replies)
+  pub written : AreWritten result before after replies
   pub kept : OnOk result (result ≡ Ok saved)

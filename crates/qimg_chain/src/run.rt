@@ -69,10 +69,11 @@ fn answer_to<D: FormatDriverInstance<Storage = MemStorage> + NamesFiles>(
     }
 }
 
-/// Writes the line of an answer.
+/// Writes the line of an answer. For want of memory nothing of it is written.
 fn tell<W: Write>(alloc: Global, writer: &mut W, answer: &Answer) -> Result<(), RunFault>
     ensures ok { OnOk result (Appends (W.contents writer.old) (W.contents writer.new) (answer_text answer.now ++ 10 ∷ [])) }
     ensures err { IfErr result IsTellingFault }
+    ensures quiet { IfErr result (λ fault. fault ≡ RunFault.Memory → W.contents writer.new ≡ W.contents writer.old) }
 {
     let line = answer.to_line(alloc)?;
     match writer.write_all(line.as_bytes()) {

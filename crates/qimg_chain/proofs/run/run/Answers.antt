@@ -4,7 +4,7 @@ use Rattle.std.specs.Io.Take.{take_remaining}
 use Rattle.qimg_core.specs.declared.first.worked.RunFault.{RunFault}
 use Rattle.qimg_chain.specs.ScriptRuns.{reply, standing}
 use Rattle.qimg_chain.proofs.ScriptBytes.{cut-reading, cut-telling, read-all, read-more, read-none}
-use Rattle.qimg_chain.proofs.ScriptRunLemmas.{made-then, not-written, ran-none, ran-then, scripted, scripted-cut}
+use Rattle.qimg_chain.proofs.ScriptRunLemmas.{all-written, last-untold, made-then, ran-none, ran-then, scripted, scripted-cut}
 use Rattle.qimg_chain.proofs.run.run.Goals as goal
 
 -- what is handed on is the fault that came
@@ -34,12 +34,12 @@ loop-preserved g c = (
 pub returns-in_err-next_line-clause-scripted : goal.returns-in_err-next_line-clause-scripted
 returns-in_err-next_line-clause-scripted g c =
     scripted-cut (g.W.Write.contents c.args.writer.now) (g.W.Write.contents c.loop.writer) c.from_residual.result _ c.loop.invariant.1.made (cut-reading _ _ c.in_err-next_line.ensures.err (omega arith))
-    (handed-on c.from_residual.result _ c.from_residual.ensures.1) (λ all. c.loop.invariant.1.written)
+    (handed-on c.from_residual.result _ c.from_residual.ensures.1) (all-written _ _ _ _ c.loop.invariant.1.written)
 
 pub returns-in_err-next_line-2-clause-scripted : goal.returns-in_err-next_line-2-clause-scripted
 returns-in_err-next_line-2-clause-scripted g c =
     scripted-cut (g.W.Write.contents c.args.writer.now) (g.W.Write.contents c.loop.writer) c.from_residual-in_err-next_line-2.result _ c.loop.invariant.1.made (cut-reading _ _ c.in_err-next_line-2.ensures.err (omega arith))
-    (handed-on c.from_residual-in_err-next_line-2.result _ c.from_residual-in_err-next_line-2.ensures.1) (λ all. c.loop.invariant.1.written)
+    (handed-on c.from_residual-in_err-next_line-2.result _ c.from_residual-in_err-next_line-2.ensures.1) (all-written _ _ _ _ c.loop.invariant.1.written)
 
 pub returns-in_default-clause-scripted : goal.returns-in_default-clause-scripted
 returns-in_default-clause-scripted g c = scripted c.loop.invariant.1 (omega arith)
@@ -47,6 +47,7 @@ returns-in_default-clause-scripted g c = scripted c.loop.invariant.1 (omega arit
     (rw (c.deref.ensures.value) at c.in_default.ensures.lines)) refl
 
 pub returns-in_err-tell-clause-scripted : goal.returns-in_err-tell-clause-scripted
+unfolding made-then
 returns-in_err-tell-clause-scripted g c =
     let result = c.from_residual-in_err-tell.result in
     let failed = handed-on result c.in_err-tell.field-0.0 c.from_residual-in_err-tell.ensures.1 in
@@ -54,7 +55,8 @@ returns-in_err-tell-clause-scripted g c =
     (made-then (take_remaining g.R.Read.remaining c.next_line.new.input) c.next_line.new.room (standing c.answer_to-answer.new.chain c.answer_to-answer.new.saved)
     (reply c.in-Some.text.now c.answer_to-answer.ensures.replied.0 c.answer_to-answer.result) c.next_line.new.line.items c.in-Some.field-0-1.now c.loop.invariant.1.made c.in_ok-next_line.ensures.line c.in_ok-next_line.ensures.rest
     c.in_ok-next_line.ensures.room (rw (c.deref.ensures.value) at c.in-Some.ensures.lines) c.answer_to-answer.ensures.replied.1)
-    (cut-telling c.in_err-tell.field-0.0 _ c.in_err-tell.ensures.err (omega arith) (omega arith)) failed (λ all. not-written result c.in_err-tell.field-0.0 c.in_err-tell.ensures.err failed all)
+    (cut-telling c.in_err-tell.field-0.0 _ c.in_err-tell.ensures.err (omega arith) (omega arith)) failed
+    (last-untold result c.in_err-tell.field-0.0 _ (g.W.Write.contents c.loop.writer) _ _ _ c.in_err-tell.ensures.err failed c.in_err-tell.ensures.quiet c.loop.invariant.1.written)
 
 pub returns-in-Some-split_line-clause-scripted : goal.returns-in-Some-split_line-clause-scripted
 returns-in-Some-split_line-clause-scripted g c = scripted c.loop.invariant.1 (omega arith)
