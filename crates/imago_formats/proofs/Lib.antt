@@ -6,9 +6,11 @@ mod LineOrder
 mod ExtentLines
 mod SettingLines
 mod WorkedDescriptors
+pub mod Failing
 mod FileLemmas
 mod ExtentLemmas
 pub mod OpeningLemmas
+pub mod SaidFaults
 pub mod StorageLemmas
 pub mod Quiet
 pub mod VmdkSteps

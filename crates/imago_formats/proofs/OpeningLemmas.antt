@@ -8,13 +8,14 @@ use Rattle.std.specs.declared.string.String.{String}
 use Rattle.std.specs.declared.alloc.Global.{Global}
 use Rattle.std.proofs.lemmas.Bool.{cases_lt}
 use Rattle.imago_storage.specs.State.{StorageState}
+use Rattle.imago_formats.proofs.Failing.{may-fail}
 use Rattle.imago_storage.specs.Through.{round_up}
 use Rattle.imago_storage.specs.declared.fault.Fault.{Fault}
-use Rattle.imago_storage.specs.declared.fault.Fault.TheVariants.{Memory}
+use Rattle.imago_storage.specs.declared.fault.Fault.TheVariants.{Memory, Storage}
 use Rattle.imago_storage.proofs.Rounding.{round_up_whole}
 use Rattle.imago_access.specs.Layer.{unit_of_layer}
 use Rattle.imago_formats.specs.Descriptor.{descriptor_of}
-use Rattle.imago_formats.specs.DescriptorView.{kept_extent, kept_extents, kept_names, source_with}
+use Rattle.imago_formats.specs.DescriptorView.{NotRead, RefusesOpening, kept_extent, kept_extents, kept_names, source_with}
 use Rattle.imago_formats.specs.VmdkFiles.{unit_of_all}
 use Rattle.imago_formats.specs.VmdkLayer.{AreInReach, asks_file, end_in_file, file_names, files_asked, has_file, name_in, vmdk_layer}
 use Rattle.imago_formats.specs.VmdkOpening.{FilesRefused, MayRefuse, NotAllOpened, Opens, OpensNext, StopsOpening, Unread}
@@ -166,11 +167,19 @@ none_beyond unit (x ∷ xs) some none =
     let low : round_up unit 0 < 2 ^ 64 = omega (arith, round_up_whole unit 0 some (omega (arith, some))) in
     (subst (λ (n : ℕ). round_up unit n < 2 ^ 64) (sym end) low, none_beyond unit xs some rest)
 
-pub unread_refused : (writable : Bool) (said : Result (List (Extent (List ℕ))) Fault) (fault : Fault) → Unread writable said fault →
-    MayRefuse writable said fault
-unread_refused true said fault why = why
-unread_refused false (Ok xs) fault why = elim why [ inl memory ↦ inr (inl memory) | inr rest ↦ elim rest [ inl storage ↦ inr (inr storage) | inr told ↦ absurd (cc told) ] ]
-unread_refused false (Err e) fault why = elim why [ inl memory ↦ inr (inl memory) | inr rest ↦ elim rest [ inl storage ↦ inr (inr storage) | inr told ↦ inl (cc told) ] ]
+-- why a descriptor isn't read is why it isn't opened
+pub unread_unopened : {S : Type 0} (state : S → StorageState) (said : Result (List (Extent (List ℕ))) Fault) (old new : S) (fault : Fault) →
+    NotRead said (state old) (state new) fault → RefusesOpening state said fault
+unread_unopened state said old new fault (inr told) = inr (inr told.0)
+unread_unopened state said old new Memory (inl cause) = inl refl
+unread_unopened state said old new Storage (inl cause) = inr (inl (refl, may-fail state old new cause))
+unread_unopened state said old new fault (inl cause) = absurd cause
+
+pub unread_refused : {S : Type 0} (state : S → StorageState) (writable : Bool) (said : Result (List (Extent (List ℕ))) Fault) (fault : Fault) →
+    Unread state writable said fault → MayRefuse state writable said fault
+unread_refused state true said fault why = why
+unread_refused state false (Ok xs) fault why = elim why [ inl memory ↦ inr (inl memory) | inr rest ↦ elim rest [ inl storage ↦ inr (inr storage) | inr told ↦ absurd (cc told) ] ]
+unread_refused state false (Err e) fault why = elim why [ inl memory ↦ inr (inl memory) | inr rest ↦ elim rest [ inl storage ↦ inr (inr storage) | inr told ↦ inl (cc told) ] ]
 
 -- the same, where reads reach less
 pub not_all_weaker : {G S : Type 0} (answers : G → List ℕ → Result S Fault → G → Type 0) (names : List (List ℕ)) (Reach Reach' : Type 0)
@@ -182,9 +191,9 @@ not_all_weaker answers names Reach Reach' old new fault less (inr over) =
 -- an image that is read is refused for its files only where it asks for one
 pub refused_files : {G S : Type 0} (state : S → StorageState) (answers : G → List ℕ → Result S Fault → G → Type 0) (image : StorageState) (gate now : G)
     (fault : Fault) → ((files : List StorageState) → 0 < unit_of_all (image ∷ files)) → FilesRefused state answers image gate now fault →
-    MayRefuse false (descriptor_of image.bytes) fault
+    MayRefuse state false (descriptor_of image.bytes) fault
 refused_files state answers image gate now fault some why =
-    subst (λ (r : Result (List (Extent (List ℕ))) Fault). MayRefuse false r fault) (sym why.said) (inl (subst (λ (n : ℕ). 0 < n) (sym (asked_kept why.extents)) asks))
+    subst (λ (r : Result (List (Extent (List ℕ))) Fault). MayRefuse state false r fault) (sym why.said) (inl (subst (λ (n : ℕ). 0 < n) (sym (asked_kept why.extents)) asks))
   where
     asks : 0 < files_asked why.extents
     asks = elim why.cause [

@@ -1,7 +1,7 @@
 -- How the program keeps extents, as contracts see them.
 use Rattle.std.specs.Prelude.{◌≡◌, List, ℕ, map, ◌++◌, Option, Result, Ok, Err, ◌⊎◌}
 use Rattle.imago_storage.specs.Calls.{Cause}
-use Rattle.imago_storage.specs.State.{StorageState}
+use Rattle.imago_storage.specs.State.{MayFail, StorageState}
 use Rattle.imago_storage.specs.declared.fault.Fault.{Fault}
 use Rattle.imago_storage.specs.declared.fault.Fault.TheVariants.{Memory, Storage}
 use Rattle.imago_formats.specs.DescriptorWords.{◌>>=◌}
@@ -54,6 +54,6 @@ after_those before read = read >>= λ xs. Ok (before ++ xs)
 abbrev pub NotRead : Result (List (Extent (List ℕ))) Fault → StorageState → StorageState → Fault → Type 0
 NotRead said old new fault = Cause old.faults new.faults fault ⊎ ((said ≡ Err fault) × (new.faults ≡ old.faults))
 
--- why a descriptor isn't opened, whose file is gone then
-abbrev pub RefusesOpening : Result (List (Extent (List ℕ))) Fault → Fault → Type 0
-RefusesOpening said fault = (fault ≡ Memory) ⊎ ((fault ≡ Storage) ⊎ (said ≡ Err fault))
+-- Why a descriptor isn't opened, whose file is gone then: want of memory, a storage that failed, of a kind that may, or what its text says.
+abbrev pub RefusesOpening : {S : Type 0} → (S → StorageState) → Result (List (Extent (List ℕ))) Fault → Fault → Type 0
+RefusesOpening state said fault = (fault ≡ Memory) ⊎ (((fault ≡ Storage) × MayFail state) ⊎ (said ≡ Err fault))

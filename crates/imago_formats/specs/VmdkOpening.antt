@@ -2,7 +2,7 @@
 use Rattle.std.specs.Prelude.{map, ◌≡◌, ◌⊎◌, ℕ, ◌+◌, ◌<◌, ◌≤◌, Bool, true, false, List, [], ◌∷◌, ◌++◌, length, slice_index_or, Result, Ok, Err}
 use Rattle.std.specs.declared.string.String.{String}
 use Rattle.std.specs.declared.alloc.Global.{Global}
-use Rattle.imago_storage.specs.State.{StorageState}
+use Rattle.imago_storage.specs.State.{MayFail, StorageState}
 use Rattle.imago_storage.specs.declared.fault.Fault.{Fault}
 use Rattle.imago_storage.specs.declared.fault.Fault.TheVariants.{Memory, Storage, DamagedDescriptor, Unsupported}
 use Rattle.imago_formats.specs.Descriptor.{descriptor_of}
@@ -50,9 +50,9 @@ abbrev pub NotAllOpened : {G S : Type 0} → (G → List ℕ → Result S Fault 
 NotAllOpened answers names Reach old new fault = StopsOpening answers names old new fault ⊎ Overreaches answers names Reach old new fault
 
 -- why an image isn't read, to be written or not, by what its descriptor says
-abbrev pub Unread : Bool → Result (List (Extent (List ℕ))) Fault → Fault → Type 0
-Unread true said fault = fault ≡ Unsupported
-Unread false said fault = RefusesOpening said fault
+abbrev pub Unread : {S : Type 0} → (S → StorageState) → Bool → Result (List (Extent (List ℕ))) Fault → Fault → Type 0
+Unread state true said fault = fault ≡ Unsupported
+Unread state false said fault = RefusesOpening state said fault
 
 -- The descriptor is read, and not all files that its extents ask for are opened, or reads don't reach an extent's end.
 pub record FilesRefused {G S : Type 0} (state : S → StorageState) (answers : G → List ℕ → Result S Fault → G → Type 0)
@@ -66,12 +66,12 @@ pub record FilesRefused {G S : Type 0} (state : S → StorageState) (answers : G
 abbrev pub NotBuilt : {G S : Type 0} → (S → StorageState) → (G → List ℕ → Result S Fault → G → Type 0) → Bool → StorageState
     → G → G → Fault → Type 0
 NotBuilt state answers writable image gate now fault =
-    ((now ≡ gate) × Unread writable (descriptor_of image.bytes) fault)
+    ((now ≡ gate) × Unread state writable (descriptor_of image.bytes) fault)
     ⊎ ((writable ≡ false) × FilesRefused state answers image gate now fault)
 
 -- Why an image may not be opened, whatever the gate answers: one that is read and asks for no file is refused for want of memory and by a
--- storage alone.
-abbrev pub MayRefuse : {N : Type 0} → Bool → Result (List (Extent N)) Fault → Fault → Type 0
-MayRefuse true said fault = fault ≡ Unsupported
-MayRefuse false (Err e) fault = (fault ≡ e) ⊎ ((fault ≡ Memory) ⊎ (fault ≡ Storage))
-MayRefuse false (Ok xs) fault = (0 < files_asked xs) ⊎ ((fault ≡ Memory) ⊎ (fault ≡ Storage))
+-- storage alone, of a kind that may fail.
+abbrev pub MayRefuse : {S N : Type 0} → (S → StorageState) → Bool → Result (List (Extent N)) Fault → Fault → Type 0
+MayRefuse state true said fault = fault ≡ Unsupported
+MayRefuse state false (Err e) fault = (fault ≡ e) ⊎ ((fault ≡ Memory) ⊎ ((fault ≡ Storage) × MayFail state))
+MayRefuse state false (Ok xs) fault = (0 < files_asked xs) ⊎ ((fault ≡ Memory) ⊎ ((fault ≡ Storage) × MayFail state))

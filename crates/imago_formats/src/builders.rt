@@ -107,7 +107,7 @@ impl<S: Storage> FormatDriverBuilder<S> for RawOpenBuilder<S> {
 ///
 /// It refuses with `Fault::Unsupported` where it is to be for writing, before anything is done, and else as `Vmdk::open_image` and
 /// `Vmdk::open_implicit_dependencies_gated` do: where no extent asks for a file, with what the descriptor says, `Fault::Memory` and
-/// `Fault::Storage` alone.
+/// `Fault::Storage` alone, the last by a storage that may fail.
 #[derive(Drop)]
 pub struct VmdkOpenBuilder<S> {
     base: FormatDriverBuilderBase<S>,
@@ -134,7 +134,7 @@ impl<S: Storage> FormatDriverBuilder<S> for VmdkOpenBuilder<S> {
         × (descriptor_of (S.state b.base.image).bytes ≡ Ok (kept_extents d.disk.extents.items))
         × (barrier (⟦<Vmdk<S> as Seen>⟧.layer d) ≡ None) × ⟦<Vmdk<S> as Seen>⟧.sees d };
 
-    ghost refuses = { λ b fault. MayRefuse b.base.writable (descriptor_of (S.state b.base.image).bytes) fault };
+    ghost refuses = { λ b fault. MayRefuse S.state b.base.writable (descriptor_of (S.state b.base.image).bytes) fault };
 
     ghost opened = { λ b d opens.
         let kept = kept_same (S.state b.base.image) (S.state d.image) opens.1 in

@@ -1,8 +1,8 @@
 -- Which rule keeps a file from being opened for reading, and what is loaded where none does.
-use Rattle.std.proofs.Common.{◌≡◌, ◌≢◌, ℕ, ◌*◌, ◌/◌, ◌<◌, ◌≤◌, refl, arith, ap, sym, subst, ◌∙◌, Bool, true, false, Result, Ok, Err, List, [], ◌∷◌, length, inl, inr}
+use Rattle.std.proofs.Common.{◌≡◌, ◌≢◌, ℕ, ◌+◌, ◌^◌, ◌*◌, ◌/◌, ◌<◌, ◌≤◌, refl, arith, ap, sym, subst, ◌∙◌, Bool, true, false, Result, Ok, Err, List, [], ◌∷◌, length, inl, inr}
 use Rattle.std.specs.Prelude.{⊤, not, slice_index}
 use Rattle.std.proofs.lemmas.Bool.{cases_Bool}
-use Rattle.imago_storage.specs.State.{StorageState}
+use Rattle.imago_storage.specs.State.{MayFail, Rose, StorageState}
 use Rattle.imago_storage.specs.declared.fault.Fault.{Fault}
 use Rattle.imago_storage.specs.declared.fault.Fault.TheVariants.{Memory, Storage, Unsupported, DamagedTable, Limit}
 use Rattle.qcow2_types.specs.Bytes.{Bytes, word}
@@ -47,12 +47,20 @@ pub reading-refusal : (f : Bytes) (fault : Fault) → header_for_reading f ≡ E
 unfolding header_for_reading
 reading-refusal f fault is = subst OnlyReading is (only-reading f (header_of false f) (λ why same. header-refusal false f why same))
 
+-- a storage whose count of faults has risen may fail
+may-fail : {S : Type 0} (state : S → StorageState) (old new : S) → Rose (state old).faults (state new).faults → MayFail state
+may-fail state old new rose = λ never.
+    let more : (state new).faults + 1 < 2 ^ 64 = omega (arith, never new) in
+    let less : (state old).faults < (state new).faults = rose.rose more in
+    absurd (omega (arith, never old, never new, less))
+
 module _ (f : Bytes) where
   -- Where the file says why, that is why; else memory was wanting, or the storage failed.
-  pub not-opened : (old new : StorageState) (fault : Fault) → NotLoaded (header_for_reading f) old new fault → WhyNotOpened f fault
-  not-opened old new Memory why = tt
-  not-opened old new Storage why = tt
-  not-opened old new fault why = why.0
+  pub not-opened : {S : Type 0} (state : S → StorageState) (old new : S) (fault : Fault)
+      → NotLoaded (header_for_reading f) (state old) (state new) fault → WhyNotOpened state f fault
+  not-opened state old new Memory why = tt
+  not-opened state old new Storage why = may-fail state old new why
+  not-opened state old new fault why = why.0
 
   -- The header's rules come first,
   pub header-refused : (old new : StorageState) (fault : Fault) → NotLoaded (header_of false f) old new fault → NotLoaded (header_for_reading f) old new fault

@@ -1,6 +1,6 @@
 -- What an image is right after it was opened for reading, and why it isn't opened.
 use Rattle.std.specs.Prelude.{◌≡◌, ⊤, ℕ, Bool, true, false, not, ◌&&◌, ◌||◌, ◌==◌, List, [], ◌∷◌, Option, Some, None, Ok, Err, Result, is_some}
-use Rattle.imago_storage.specs.State.{StorageState}
+use Rattle.imago_storage.specs.State.{MayFail, StorageState}
 use Rattle.imago_storage.specs.declared.fault.Fault.{Fault}
 use Rattle.imago_storage.specs.declared.fault.Fault.TheVariants.{DamagedTable, Memory, Storage, Unsupported}
 use Rattle.imago_storage.specs.declared.storage.Storage.{Ghosts}
@@ -29,16 +29,16 @@ rules_of_opening f h =
 unfoldable pub header_for_reading : Bytes → Result Header Fault
 header_for_reading f = header_of false f >>= λ H. first_fault (rules_of_opening f H.fields) and-then Ok H
 
--- Why it isn't opened: by that rule, unless memory was wanting or the storage has failed.
-abbrev pub WhyNotOpened : Bytes → Fault → Type 0
-WhyNotOpened f Memory = ⊤
-WhyNotOpened f Storage = ⊤
-WhyNotOpened f fault = header_for_reading f ≡ Err fault
+-- Why it isn't opened: by that rule, unless memory was wanting or the storage has failed, which is of a kind that may.
+abbrev pub WhyNotOpened : {S : Type 0} → (S → StorageState) → Bytes → Fault → Type 0
+WhyNotOpened state f Memory = ⊤
+WhyNotOpened state f Storage = MayFail state
+WhyNotOpened state f fault = header_for_reading f ≡ Err fault
 
 -- Why it isn't opened for writing, or for reading alone: the former isn't carried yet.
-abbrev pub WhyNotOpenedFor : Bool → Bytes → Fault → Type 0
-WhyNotOpenedFor true f fault = fault ≡ Unsupported
-WhyNotOpenedFor false f fault = WhyNotOpened f fault
+abbrev pub WhyNotOpenedFor : {S : Type 0} → (S → StorageState) → Bool → Bytes → Fault → Type 0
+WhyNotOpenedFor state true f fault = fault ≡ Unsupported
+WhyNotOpenedFor state false f fault = WhyNotOpened state f fault
 
 -- The storage is as it was, what is in memory is what its file says, and nothing is cached, with room for so many tables and blocks.
 pub record IsJustOpened {S : Type 0} (g : Ghosts S) (before : StorageState) (l2_tables refcount_blocks : ℕ) (t : Tables S g) : Type 0 where

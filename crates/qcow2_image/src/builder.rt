@@ -97,7 +97,7 @@ impl<S: Storage> FormatDriverBuilder<S> for Qcow2OpenBuilder<S> {
         IsOpenedAs S.Storage image b.backing b.number b.entries.l2_tables b.entries.refcount_blocks d
         × IsOpened ⟦<Qcow2<S> as Seen>⟧ format.Qcow2 b.base.writable b.number image d };
 
-    ghost refuses = { λ b fault. WhyNotOpenedFor b.base.writable (bytes_of (S.state b.base.image).bytes) fault };
+    ghost refuses = { λ b fault. WhyNotOpenedFor S.state b.base.writable (bytes_of (S.state b.base.image).bytes) fault };
 
     ghost opened = { λ b d opens. opens.1 };
 

@@ -85,7 +85,7 @@ fn open_tables<S: Storage>(
     entries: CacheEntries,
 ) -> Result<Tables<S>, Fault>
     ensures ok { IfOk result (IsJustOpened S.Storage (S.state image) entries.l2_tables entries.refcount_blocks) }
-    ensures err { IfErr result (WhyNotOpened (file (S.state image))) }
+    ensures err { IfErr result (WhyNotOpened S.state (file (S.state image))) }
 {
     let (header, l1) = match load_metadata(alloc, &mut image) {
         Ok(loaded) => loaded,
@@ -113,7 +113,7 @@ pub(crate) fn open_for_reading<S: Storage>(
 ) -> Result<Qcow2<S>, Fault>
     ensures ok { IfOk result (IsOpenedAs S.Storage (S.state image) backing number entries.l2_tables entries.refcount_blocks) }
     ensures seen { IfOk result (IsOpened ⟦<Qcow2<S> as Seen>⟧ format.Qcow2 false number (S.state image)) }
-    ensures err { IfErr result (WhyNotOpened (file (S.state image))) }
+    ensures err { IfErr result (WhyNotOpened S.state (file (S.state image))) }
 {
     let tables = match open_tables(alloc, image, entries) {
         Ok(tables) => tables,
@@ -151,7 +151,7 @@ impl<S: Storage> Qcow2<S> {
     ///   `Fault::Unsupported` or `Fault::Limit`;
     /// - with `Fault::Unsupported` where the data is in an external file, which isn't carried yet;
     /// - with `Fault::DamagedTable` where a word of the L1 table has no meaning;
-    /// - with `Fault::Memory` and `Fault::Storage`.
+    /// - with `Fault::Memory`, and with `Fault::Storage` where the storage may fail.
     ///
     /// What the tables below the L1 table say doesn't matter here: a place under a damaged one is refused when it is looked up.
     pub fn open_image(alloc: Global, image: S, writable: bool) -> Result<Self, Fault>
@@ -160,7 +160,7 @@ impl<S: Storage> Qcow2<S> {
         ensures seen { IfOk result (IsOpened ⟦<Qcow2<S> as Seen>⟧ format.Qcow2 writable 0 (S.state image)) }
         // What opens begins as an image does.
         ensures begins { OnOk result (IsTrue (is_qcow2 (file (S.state image)))) }
-        ensures err { IfErr result (WhyNotOpenedFor writable (file (S.state image))) }
+        ensures err { IfErr result (WhyNotOpenedFor S.state writable (file (S.state image))) }
     {
         if writable {
             return Err(Fault::Unsupported);

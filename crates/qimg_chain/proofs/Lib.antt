@@ -2,6 +2,7 @@
 mod ArgumentLemmas
 mod CallsThrough
 mod Copies
+mod Failing
 mod FilesShown
 mod FilesTaken
 mod FirstCauses

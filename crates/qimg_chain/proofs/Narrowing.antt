@@ -9,23 +9,26 @@ use Rattle.imago_storage.specs.declared.fault.Fault.{Fault}
 use Rattle.imago_storage.proofs.Rounding.{round_up_part, round_up_whole}
 use Rattle.imago_storage.specs.declared.fault.Fault.TheVariants.{Barred, DamagedTable, Failed, Memory, MissingData, RangeOverflow, Storage}
 use Rattle.imago_access.specs.Chain.{at, unit_of_chain}
-use Rattle.imago_access.specs.Files.{IsMild}
+use Rattle.imago_access.specs.Files.{IsMild, SomeRose}
 use Rattle.imago_access.specs.Layer.{Layer}
 use Rattle.imago_access.specs.Refusals.{ReadCause, SomeUnusable}
+use Rattle.imago_access.specs.declared.seen.Seen.{Ghosts}
 use Rattle.qimg_core.specs.Plain.{IsFirstFault, value_fault}
-use Rattle.qimg_chain.specs.PlainReads.{HasFault, IsNarrowed, IsOfPlace, NotReadInOrder}
+use Rattle.qimg_chain.specs.PlainReads.{HasFault, IsNarrowed, IsOfPlace, NotReadInOrder, SomeFileMayFail}
 
-overflow_is_none : (v : Value) → value_fault v ≡ Some RangeOverflow → ⊥
-overflow_is_none (byte n) is = cc is
-overflow_is_none barred is = cc is
-overflow_is_none damaged_place is = cc is
+-- a value that can't be read has no other fault
+pub not_of_value : (v : Value) (fault : Fault) → (IsOfPlace fault → ⊥) → value_fault v ≡ Some fault → ⊥
+not_of_value (byte n) fault other is = cc is
+not_of_value barred fault other is = let same : Barred ≡ fault = cc is in other (subst IsOfPlace same tt)
+not_of_value damaged_place fault other is = let same : DamagedTable ≡ fault = cc is in other (subst IsOfPlace same tt)
 
 -- the first value that can't be read is why none behind it is
-pub in_order : (value : ℕ → Value) (offset n : ℕ) (fault : Fault) → IsFirstFault value offset n fault → NotReadInOrder value offset n fault
-in_order value offset n Memory first = tt
-in_order value offset n Storage first = tt
-in_order value offset n RangeOverflow first = absurd (overflow_is_none (value (offset + first.place)) first.faulty)
-in_order value offset n fault first = first
+pub in_order : {D St : Type 0} (g : Ghosts D St) (value : ℕ → Value) (offset n : ℕ) (fault : Fault) → IsFirstFault value offset n fault
+    → NotReadInOrder g value offset n fault
+in_order g value offset n Memory first = tt
+in_order g value offset n Storage first = absurd (not_of_value (value (offset + first.place)) Storage (λ place. place) first.faulty)
+in_order g value offset n RangeOverflow first = absurd (not_of_value (value (offset + first.place)) RangeOverflow (λ place. place) first.faulty)
+in_order g value offset n fault first = first
 
 -- an end that passes 64 bits where it is padded is near that
 near_end : (unit k : ℕ) → IsAlignment unit → 2 ^ 64 ≤ round_up unit k → 2 ^ 64 ≤ k + 2 ^ 20
@@ -53,17 +56,18 @@ module _ (layers : List Layer) (value : ℕ → Value) (unit : ℕ) (usable : (f
   met begin m fault place why = absurd place
 
   -- and one of a part that is refused otherwise is why the whole isn't read
-  pub otherwise : IsAlignment unit → (offset n begin m : ℕ) (fault : Fault) → offset ≤ begin → begin + m ≤ offset + n → (IsOfPlace fault → ⊥)
-      → ReadCause layers value unit begin m olds news fault → NotReadInOrder value offset n fault
-  otherwise aligned offset n begin m Failed low most place why = absurd (usable Failed why)
-  otherwise aligned offset n begin m MissingData low most place why = absurd (usable MissingData why)
-  otherwise aligned offset n begin m RangeOverflow low most place why =
+  pub otherwise : {D St : Type 0} (g : Ghosts D St) → (SomeRose olds news → SomeFileMayFail g) → IsAlignment unit → (offset n begin m : ℕ) (fault : Fault)
+      → offset ≤ begin → begin + m ≤ offset + n → (IsOfPlace fault → ⊥) → ReadCause layers value unit begin m olds news fault
+      → NotReadInOrder g value offset n fault
+  otherwise g fails aligned offset n begin m Failed low most place why = absurd (usable Failed why)
+  otherwise g fails aligned offset n begin m MissingData low most place why = absurd (usable MissingData why)
+  otherwise g fails aligned offset n begin m RangeOverflow low most place why =
       (omega (arith, why.0, low, most), omega (arith, near_end unit (begin + m) aligned why.1, most))
-  otherwise aligned offset n begin m DamagedTable low most place why = absurd (place tt)
-  otherwise aligned offset n begin m Barred low most place why = absurd (place tt)
-  otherwise aligned offset n begin m Memory low most place why = tt
-  otherwise aligned offset n begin m Storage low most place why = tt
-  otherwise aligned offset n begin m fault low most place why = absurd why
+  otherwise g fails aligned offset n begin m DamagedTable low most place why = absurd (place tt)
+  otherwise g fails aligned offset n begin m Barred low most place why = absurd (place tt)
+  otherwise g fails aligned offset n begin m Memory low most place why = tt
+  otherwise g fails aligned offset n begin m Storage low most place why = fails why
+  otherwise g fails aligned offset n begin m fault low most place why = absurd why
 
 module _ (value : ℕ → Value) (offset n : ℕ) where
   -- at first nothing is known but that one can't be read

@@ -3,7 +3,7 @@ use Rattle.std.proofs.Common.{◌≡◌, ◌⊎◌, ◌∙◌, ◌∷◌, ◌<�
 use Rattle.std.specs.Prelude.{Bool, IfErr, OnOk, Result, Err, Ok, false, min, slice_index}
 use Rattle.std.proofs.lemmas.Bool.{cases_lt, le-ltb}
 use Rattle.imago_storage.specs.Disk.{Disk, Shows, Value, byte}
-use Rattle.imago_storage.specs.State.{StorageState}
+use Rattle.imago_storage.specs.State.{MayFail, StorageState}
 use Rattle.imago_storage.specs.declared.fault.Fault.{Fault}
 use Rattle.imago_storage.specs.declared.fault.Fault.TheVariants.{Memory, RangeOverflow, Storage}
 use Rattle.imago_access.specs.Chain.{Each}
@@ -13,7 +13,7 @@ use Rattle.qimg_core.specs.Plain.{IsFirstFault, value_fault}
 use Rattle.qimg_core.specs.declared.plain.ChainFile.{ChainFile}
 use Rattle.qimg_chain.specs.Chains.{AreLayers}
 use Rattle.qimg_chain.specs.FileMeanings.{FileBytes, IsDiskOf, files_bytes, size_of, value_of}
-use Rattle.qimg_chain.specs.PlainReads.{IsOutOfReach, IsPlainlyRead, NotPlainlyRead, NotReadInOrder}
+use Rattle.qimg_chain.specs.PlainReads.{IsOutOfReach, IsPlainlyRead, NotPlainlyRead, NotReadInOrder, SomeFileMayFail}
 use Rattle.qimg_chain.specs.Refusals.{FormChain, IsCutOff}
 
 module _ {S D St : Type 0} (g : Ghosts D St) (state : S → StorageState) where
@@ -69,19 +69,19 @@ module _ {S : Type 0} (state : S → StorageState) (files : List (ChainFile S)) 
     before = λ i less. ap value_fault (sym (same (offset + i))) ∙ first.before i less;
   }
 
-  refused_range : (disk : Disk) (inside n : ℕ) (fault : Fault) → IsDiskOf disk (files_bytes state files) → inside ≡ min (size_of (files_bytes state files) - offset) n
-      → NotReadInOrder disk.value offset inside fault
-      → IsCutOff fault ⊎ (IsFirstFault (value_of (files_bytes state files)) offset n fault ⊎ (IsOutOfReach (files_bytes state files) offset n × (fault ≡ RangeOverflow)))
-  refused_range disk inside n Memory means is why = inl (inl refl)
-  refused_range disk inside n Storage means is why = inl (inr refl)
-  refused_range disk inside n RangeOverflow means is why = inr (inr ((omega (arith, is, why.0), omega (arith, is, why.0), omega (arith, is, why.0, why.1)), refl))
-  refused_range disk inside n fault means is why = inr (inl (first_in disk.value inside n fault means.value (omega (arith, is)) why))
+  refused_range : {D St : Type 0} (g : Ghosts D St) → (SomeFileMayFail g → MayFail state) → (disk : Disk) (inside n : ℕ) (fault : Fault) → IsDiskOf disk (files_bytes state files) → inside ≡ min (size_of (files_bytes state files) - offset) n
+      → NotReadInOrder g disk.value offset inside fault
+      → IsCutOff state fault ⊎ (IsFirstFault (value_of (files_bytes state files)) offset n fault ⊎ (IsOutOfReach (files_bytes state files) offset n × (fault ≡ RangeOverflow)))
+  refused_range g fails disk inside n Memory means is why = inl (inl refl)
+  refused_range g fails disk inside n Storage means is why = inl (inr (refl, fails why))
+  refused_range g fails disk inside n RangeOverflow means is why = inr (inr ((omega (arith, is, why.0), omega (arith, is, why.0), omega (arith, is, why.0, why.1)), refl))
+  refused_range g fails disk inside n fault means is why = inr (inl (first_in disk.value inside n fault means.value (omega (arith, is)) why))
 
   -- why the front isn't read is why the files aren't
-  pub not_read : {T : Type 0} (result : Result T Fault) (disk : Disk) (inside n : ℕ) → FormChain state false files → offset + n < 2 ^ 64 → IsDiskOf disk (files_bytes state files)
-      → inside ≡ min (size_of (files_bytes state files) - offset) n → IfErr result (NotReadInOrder disk.value offset inside) → IfErr result (NotPlainlyRead state files offset n)
-  not_read (Ok done) disk inside n formed fits means is why = tt
-  not_read (Err fault) disk inside n formed fits means is why = elim (refused_range disk inside n fault means is why) [
+  pub not_read : {T D St : Type 0} (g : Ghosts D St) → (SomeFileMayFail g → MayFail state) → (result : Result T Fault) (disk : Disk) (inside n : ℕ) → FormChain state false files → offset + n < 2 ^ 64 → IsDiskOf disk (files_bytes state files)
+      → inside ≡ min (size_of (files_bytes state files) - offset) n → IfErr result (NotReadInOrder g disk.value offset inside) → IfErr result (NotPlainlyRead state files offset n)
+  not_read g fails (Ok done) disk inside n formed fits means is why = tt
+  not_read g fails (Err fault) disk inside n formed fits means is why = elim (refused_range g fails disk inside n fault means is why) [
     | inl cut ↦ inl cut
     | inr first ↦ inr (inr (formed, inr (fits, first)))
   ]

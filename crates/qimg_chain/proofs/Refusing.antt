@@ -36,15 +36,15 @@ vmdk_said true bytes extents closed means = absurd (cc closed)
 vmdk_said false bytes extents closed means = ap (asked_of (λ (xs : List (Extent (List ℕ))). false)) means
 
 module _ {S : Type 0} (state : S → StorageState) where
-  vmdk_unread : (writable : Bool) (image : StorageState) (handed : List (String Global × S)) (e : Fault) → Unread writable (descriptor_of image.bytes) e
-      → IsCutOff e ⊎ WhyNotAs state Vmdk writable image handed e
+  vmdk_unread : (writable : Bool) (image : StorageState) (handed : List (String Global × S)) (e : Fault) → Unread state writable (descriptor_of image.bytes) e
+      → IsCutOff state e ⊎ WhyNotAs state Vmdk writable image handed e
   vmdk_unread true image handed e why = inr (inl (ap Err (sym why)))
   vmdk_unread false image handed e (inl memory) = inl (inl memory)
   vmdk_unread false image handed e (inr (inl failed)) = inl (inr failed)
   vmdk_unread false image handed e (inr (inr said)) = inr (inl (ap (asked_of (λ (xs : List (Extent (List ℕ))). false)) said))
 
   pub vmdk_refused : (writable : Bool) (image : StorageState) (handed left : Extras S) (e : Fault) → NotBuilt state Answers writable image handed left e
-      → IsCutOff e ⊎ WhyNotAs state Vmdk writable image handed.files.items e
+      → IsCutOff state e ⊎ WhyNotAs state Vmdk writable image handed.files.items e
   vmdk_refused writable image handed left e (inl unread) = vmdk_unread writable image handed.files.items e unread.1
   vmdk_refused writable image handed left e (inr why) = elim (lacks_files state image handed left e why.1) [
     | inl memory ↦ inl (inl memory)
@@ -56,16 +56,16 @@ module _ {S : Type 0} (state : S → StorageState) where
 module _ {S : Type 0} (state : S → StorageState) (writable : Bool) (file : ChainFile S) (below : List (ChainFile S)) where
   -- the first of files is out of its place, or one below it is refused
   pub at_place : (e : Fault) (named : Bool) (further : List StorageState) → IsLayer state writable file named further → misplaced named below ≡ Some e
-      → IsCutOff e ⊎ WhyNotLayers state writable (file ∷ below) e
+      → IsCutOff state e ⊎ WhyNotLayers state writable (file ∷ below) e
   at_place e named further is out = inr (inr (inl (named, further, is, out)))
 
   pub at_below : (e : Fault) (named : Bool) (further : List StorageState) → IsLayer state writable file named further → misplaced named below ≡ None
-      → IsCutOff e ⊎ WhyNotLayers state false below e → IsCutOff e ⊎ WhyNotLayers state writable (file ∷ below) e
+      → IsCutOff state e ⊎ WhyNotLayers state false below e → IsCutOff state e ⊎ WhyNotLayers state writable (file ∷ below) e
   at_below e named further is here (inl cut) = inl cut
   at_below e named further is here (inr why) = inr (inr (inr ((named, further, is, here), why)))
 
-  pub first_of : length (file ∷ below) ≤ 64 → (e : Fault) → IsCutOff e ⊎ WhyNotLayers state writable (file ∷ below) e
-      → IsCutOff e ⊎ FirstCause state writable (file ∷ below) e
+  pub first_of : length (file ∷ below) ≤ 64 → (e : Fault) → IsCutOff state e ⊎ WhyNotLayers state writable (file ∷ below) e
+      → IsCutOff state e ⊎ FirstCause state writable (file ∷ below) e
   first_of few e (inl cut) = inl cut
   first_of few e (inr why) = inr (inr (few, why))
 

@@ -1,8 +1,9 @@
 -- A script that is run over files, from their opening as a chain on.
-use Rattle.std.specs.Prelude.{◌⊎◌, ℕ, Bool, List, [], map, Option, Result, Err, Vec}
+use Rattle.std.specs.Prelude.{◌≡◌, ◌≢◌, ◌⊎◌, ℕ, Bool, List, [], map, Option, Result, Err, Vec}
 use Rattle.std.specs.Global.{Global}
 use Rattle.std.specs.Io.KnownBytes.{Appends}
 use Rattle.imago_storage.specs.MemStorage.{mem_state}
+use Rattle.imago_storage.specs.declared.fault.Fault.TheVariants.{Memory, Storage}
 use Rattle.imago_storage.specs.declared.memory.MemStorage.{MemStorage}
 use Rattle.imago_access.specs.Layers.{chain}
 use Rattle.imago_access.specs.Running.{chain_disk}
@@ -13,7 +14,7 @@ use Rattle.qimg_core.specs.declared.first.worked.RunFault.{RunFault}
 use Rattle.qimg_core.specs.declared.plain.ChainFile.{ChainFile}
 use Rattle.qimg_chain.specs.Chains.{AreInPlace, AreLayers, IsFit, OfTop}
 use Rattle.qimg_chain.specs.FileMeanings.{IsDiskOf, files_bytes}
-use Rattle.qimg_chain.specs.Refusals.{FirstCause, FormChain, IsCutOff}
+use Rattle.qimg_chain.specs.Refusals.{FirstCause, FormChain}
 use Rattle.qimg_chain.specs.ScriptRuns.{Scripted, answers_of, calls_of}
 use Rattle.qimg_chain.specs.declared.run.opened.ScriptFault.{ScriptFault}
 use Rattle.qimg_chain.specs.declared.run.opened.ScriptFault.TheVariants.{Opening, Running}
@@ -42,9 +43,10 @@ pub record RunFrom {D St : Type 0} (g : Ghosts D St) (names : D → ℕ → List
   pub headline : OfTop (IsFit mem_state) what.files
       → Driven g (flushed (chain_disk g.layer opened)) (calls_of scripted.replies) (answers_of scripted.replies) opened last
 
--- Why a script isn't run to its end: the files aren't opened, and nothing is written; or they are, and it is run to this fault.
+-- Why a script isn't run to its end: the files, in memory, aren't opened for want of memory or for the first cause that they give, never by
+-- a storage that failed, and nothing is written; or they are, and it is run to this fault.
 abbrev pub NotRun : {D St : Type 0} → Ghosts D St → (D → ℕ → List ℕ) → ToOpen → Option (List ℕ) → Option (List ℕ) → Option (List ℕ)
     → ScriptFault → Type 0
 NotRun g names what input before after (Opening fault) =
-    (IsCutOff fault ⊎ FirstCause mem_state what.writable what.files fault) × Appends before after []
+    (fault ≢ Storage) × ((fault ≡ Memory) ⊎ FirstCause mem_state what.writable what.files fault) × Appends before after []
 NotRun g names what input before after (Running fault) = RunFrom g names what input before after (Err fault)

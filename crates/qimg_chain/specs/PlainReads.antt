@@ -4,18 +4,29 @@ use Rattle.imago_storage.specs.State.{StorageState}
 use Rattle.imago_storage.specs.Disk.{Value, Shows}
 use Rattle.imago_storage.specs.declared.fault.Fault.{Fault}
 use Rattle.imago_storage.specs.declared.fault.Fault.TheVariants.{Barred, DamagedTable, Memory, RangeOverflow, Storage}
+use Rattle.imago_access.specs.Chain.{Each}
+use Rattle.imago_access.specs.Files.{files}
+use Rattle.imago_access.specs.declared.seen.Seen.{Ghosts}
 use Rattle.qimg_core.specs.Plain.{IsFirstFault, value_fault}
 use Rattle.qimg_core.specs.declared.plain.ChainFile.{ChainFile}
 use Rattle.qimg_chain.specs.FileMeanings.{FileBytes, files_bytes, size_of, value_of}
 use Rattle.qimg_chain.specs.Refusals.{FirstCause, FormChain, IsCutOff}
 
--- Why n values from an offset on aren't read: want of memory, a storage that failed, an end so near that of 64 bits that padded requests
--- don't reach it, or the first value that can't be read.
-abbrev pub NotReadInOrder : (ℕ → Value) → (offset n : ℕ) → Fault → Type 0
-NotReadInOrder value offset n Memory = ⊤
-NotReadInOrder value offset n Storage = ⊤
-NotReadInOrder value offset n RangeOverflow = (0 < n) × (2 ^ 64 ≤ offset + n + 2 ^ 20)
-NotReadInOrder value offset n fault = IsFirstFault value offset n fault
+-- no file of a driver of this kind ever fails
+abbrev pub NoFileFails : {D St : Type 0} → Ghosts D St → Type 0
+NoFileFails {D} g = (d : D) → Each (λ s. s.faults ≡ 0) (files g d)
+
+-- one may fail
+abbrev pub SomeFileMayFail : {D St : Type 0} → Ghosts D St → Type 0
+SomeFileMayFail g = NoFileFails g → ⊥
+
+-- Why n values from an offset on aren't read by such drivers: want of memory, a file that failed, an end so near that of 64 bits that
+-- padded requests don't reach it, or the first value that can't be read.
+abbrev pub NotReadInOrder : {D St : Type 0} → Ghosts D St → (ℕ → Value) → (offset n : ℕ) → Fault → Type 0
+NotReadInOrder g value offset n Memory = ⊤
+NotReadInOrder g value offset n Storage = SomeFileMayFail g
+NotReadInOrder g value offset n RangeOverflow = (0 < n) × (2 ^ 64 ≤ offset + n + 2 ^ 20)
+NotReadInOrder g value offset n fault = IsFirstFault value offset n fault
 
 -- a value that can't be read has such a fault
 abbrev pub IsOfPlace : Fault → Type 0
@@ -45,11 +56,11 @@ RefusesRange files offset n fault =
     ⊎ ((offset + n < 2 ^ 64)
     × (IsFirstFault (value_of files) offset n fault ⊎ (IsOutOfReach files offset n × (fault ≡ RangeOverflow))))
 
--- Why files aren't read: for want of memory or by a storage that failed; for the first cause why they aren't opened for reading; or for the
--- range's own sake.
+-- Why files aren't read: for want of memory or by a storage that may fail; for the first cause why they aren't opened for reading; or for
+-- the range's own sake.
 abbrev pub NotPlainlyRead : {S : Type 0} → (S → StorageState) → List (ChainFile S) → (offset n : ℕ) → Fault → Type 0
 NotPlainlyRead state files offset n fault =
-    IsCutOff fault
+    IsCutOff state fault
     ⊎ (FirstCause state false files fault ⊎ (FormChain state false files × RefusesRange (files_bytes state files) offset n fault))
 
 -- The files are opened for reading, the range's end fits 64 bits, and the buffer holds what their disk shows.

@@ -1,14 +1,14 @@
 -- Which files form a chain of layers, and else the first cause why they don't.
 use Rattle.std.specs.Prelude.{◌≡◌, ◌⊎◌, ◌<◌, ◌≤◌, ⊤, Bool, true, false, List, [], ◌∷◌, length, Option, Some, None}
-use Rattle.imago_storage.specs.State.{StorageState}
+use Rattle.imago_storage.specs.State.{MayFail, StorageState}
 use Rattle.imago_storage.specs.declared.fault.Fault.{Fault}
 use Rattle.imago_storage.specs.declared.fault.Fault.TheVariants.{ExtraLayer, Limit, Memory, MissingBelow, Storage}
 use Rattle.qimg_core.specs.declared.plain.ChainFile.{ChainFile}
 use Rattle.qimg_chain.specs.FileLayers.{IsLayer, WhyNotLayer}
 
--- memory was wanting, or a storage failed
-abbrev pub IsCutOff : Fault → Type 0
-IsCutOff fault = (fault ≡ Memory) ⊎ (fault ≡ Storage)
+-- memory was wanting, or a storage failed, of a kind that may
+abbrev pub IsCutOff : {S : Type 0} → (S → StorageState) → Fault → Type 0
+IsCutOff state fault = (fault ≡ Memory) ⊎ ((fault ≡ Storage) × MayFail state)
 
 -- Why a file is out of its place, by whether it names a layer below and by the files behind it.
 abbrev pub misplaced : {F : Type 0} → Bool → List F → Option Fault

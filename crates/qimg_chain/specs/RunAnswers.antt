@@ -3,7 +3,7 @@ use Rattle.std.specs.Prelude.{◌≡◌, ◌≢◌, ⊤, ℕ, ◌<◌, ◌≤◌
 use Rattle.std.specs.Global.{Global}
 use Rattle.imago_storage.specs.MemStorage.{mem_state}
 use Rattle.imago_storage.specs.declared.fault.Fault.{Fault}
-use Rattle.imago_storage.specs.declared.fault.Fault.TheVariants.{BadArgument, Memory as WantOfMemory, Unsupported}
+use Rattle.imago_storage.specs.declared.fault.Fault.TheVariants.{BadArgument, Memory as WantOfMemory, Storage, Unsupported}
 use Rattle.imago_storage.specs.declared.memory.MemStorage.{MemStorage}
 use Rattle.imago_access.specs.declared.seen.Seen.{Ghosts}
 use Rattle.imago_access.specs.Layers.{chain}
@@ -66,11 +66,11 @@ NotReadPlainly g names offset n fault c = ((32768 < n) × (fault ≡ BadArgument
     ⊎ ((n ≤ 32768) × ((fault ≡ WantOfMemory) ⊎ OfCopies g names (λ copies. NotPlainlyRead mem_state copies offset n fault) c))
 
 -- A plain read of the chain, as one of copies of its files: the bytes that they mean as they stand, where they form a chain and the
--- range's end fits 64 bits.
+-- range's end fits 64 bits. Copies are in memory, where no storage fails.
 abbrev pub ReadsPlainly : {D St : Type 0} → Ghosts D St → (D → ℕ → List ℕ) → ℕ → ℕ → Result (List ℕ) Fault → D × List D → Type 0
 ReadsPlainly g names offset n (Ok bytes) c =
     IsLength n bytes × OfCopies g names (λ copies. IsPlainlyRead mem_state copies offset n bytes) c
-ReadsPlainly g names offset n (Err fault) c = NotReadPlainly g names offset n fault c
+ReadsPlainly g names offset n (Err fault) c = (fault ≢ Storage) × NotReadPlainly g names offset n fault c
 
 -- what a plain read is answered with
 abbrev pub bytes_told_of : Result (List ℕ) Fault → Answer

@@ -51,12 +51,12 @@ impl<S: Storage> Vmdk<S> {
     /// Opens a descriptor, without the files that it names: while one is missing, each call but getters is refused with
     /// `Fault::MissingData`.
     ///
-    /// It refuses with `Fault::DamagedDescriptor`, `Fault::Unsupported`, `Fault::Memory` and `Fault::Storage`.
+    /// It refuses with `Fault::DamagedDescriptor`, `Fault::Unsupported`, `Fault::Memory`, and `Fault::Storage` where the storage may fail.
     pub fn open_image(alloc: Global, image: S) -> Result<Self, Fault>
         ensures said { IfOk result (λ d. descriptor_of (S.state image).bytes ≡ Ok (kept_extents d.disk.extents.items)) }
         ensures image { IfOk result (λ d. S.state d.image ≡ S.state image) }
         ensures files { IfOk result (λ d. d.files.items ≡ []) }
-        ensures err { IfErr result (RefusesOpening (descriptor_of (S.state image).bytes)) }
+        ensures err { IfErr result (RefusesOpening S.state (descriptor_of (S.state image).bytes)) }
     {
         let mut image = image;
         match read_descriptor(alloc, &mut image) {

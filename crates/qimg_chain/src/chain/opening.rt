@@ -36,8 +36,8 @@ const MOST_LAYERS: usize = 64;
 /// It refuses with `Fault::MissingBelow` where there is no file, and with `Fault::Limit` where there are more than 64. Then it goes from
 /// the top downward, and refuses for the first cause: as the builder of each file's format does, with `Fault::MissingData` for a further
 /// file that wasn't handed in, and behind that with `Fault::MissingBelow` for the last file, where it names a backing file, and with
-/// `Fault::ExtraLayer` for another that names none. `Fault::Memory` and `Fault::Storage` come at any time from there on. Nothing is
-/// written, and the files are dropped where it refuses.
+/// `Fault::ExtraLayer` for another that names none. `Fault::Memory` comes at any time from there on, and so does
+/// `Fault::Storage` where the storages may fail. Nothing is written, and the files are dropped where it refuses.
 ///
 /// Calls may begin on a chain just opened, as `qimg_calls::drive` makes them, with the disk that its files mean as the one last flushed:
 /// where the top's storages keep what is written, a stop would leave its file as it is, and it is sound. A raw and a VMDK image always is,
@@ -61,7 +61,7 @@ pub fn open_chain<S: Storage>(
         IfOk result (λ c. OfTop (λ file. InStep (S.state file.image)) files.items → StandsSince d (flushed (chain_disk d.layer c)) c) }
     // Files that form a chain have no cause against that: it is refused exactly for the first cause, or cut off.
     ensures formed { IfOk result (λ _. FormChain S.state writable files.items) }
-    ensures err { IfErr result (λ e. IsCutOff e ⊎ FirstCause S.state writable files.items e) }
+    ensures err { IfErr result (λ e. IsCutOff S.state e ⊎ FirstCause S.state writable files.items e) }
     ensures none { length files.items ≡ 0 → IsErrOf result Fault.MissingBelow }
     ensures many { 64 < length files.items → IsErrOf result (Fault.Limit (length files.items)) }
 {
@@ -90,7 +90,7 @@ fn open_over<S: Storage>(
     ensures places { let d = ⟦<ImageDriver<S> as Seen>⟧ in IfOk result (λ c. AreInPlace (map d.layer (chain c))) }
     ensures means { let d = ⟦<ImageDriver<S> as Seen>⟧ in
         IfOk result (λ c. IsDiskOf (chain_disk d.layer c) (files_bytes S.state (top ∷ reverse below.old.items))) }
-    ensures err { IfErr result (λ e. IsCutOff e ⊎ WhyNotLayers S.state writable (top ∷ reverse below.old.items) e) }
+    ensures err { IfErr result (λ e. IsCutOff S.state e ⊎ WhyNotLayers S.state writable (top ∷ reverse below.old.items) e) }
 {
     let driver = open_layer(alloc, top, writable, number)?;
     let next = match below.pop() {
@@ -124,7 +124,7 @@ fn open_layer<S: Storage>(
     ensures layer { let d = ⟦<ImageDriver<S> as Seen>⟧ in
         IfOk result (λ l. IsLayer S.state writable file (shows_below (d.layer l)) (d.extras l)) }
     ensures means { let d = ⟦<ImageDriver<S> as Seen>⟧ in IfOk result (λ l. ShowsFile (d.layer l) (file_bytes S.state file)) }
-    ensures err { IfErr result (λ e. IsCutOff e ⊎ WhyNotLayer S.state writable file e) }
+    ensures err { IfErr result (λ e. IsCutOff S.state e ⊎ WhyNotLayer S.state writable file e) }
 {
     let ChainFile {
         format,
@@ -172,7 +172,7 @@ fn open_vmdk<S: Storage>(
         IfOk result (λ l. IsLayerAs S.state format.Vmdk writable (S.state image) handed (shows_below (d.layer l)) (d.extras l)) }
     ensures means { let d = ⟦<ImageDriver<S> as Seen>⟧ in IfOk result (λ l. ShowsFile (d.layer l)
         (record { format = format.Vmdk; bytes = (S.state image).bytes; extras = map (extra_bytes S.state) extras.old.files.items })) }
-    ensures err { IfErr result (λ e. IsCutOff e ⊎ WhyNotAs S.state format.Vmdk writable (S.state image) extras.old.files.items e) }
+    ensures err { IfErr result (λ e. IsCutOff S.state e ⊎ WhyNotAs S.state format.Vmdk writable (S.state image) extras.old.files.items e) }
 {
     let builder = Vmdk::builder(image).write(writable);
     match builder.open(alloc, extras) {
@@ -194,7 +194,7 @@ fn open_qcow2<S: Storage>(
         IfOk result (λ l. IsLayerAs S.state format.Qcow2 writable (S.state image) handed (shows_below (d.layer l)) (d.extras l)) }
     ensures means { let d = ⟦<ImageDriver<S> as Seen>⟧ in IfOk result (λ l. ShowsFile (d.layer l)
         (record { format = format.Qcow2; bytes = (S.state image).bytes; extras = map (extra_bytes S.state) extras.old.files.items })) }
-    ensures err { IfErr result (λ e. IsCutOff e ⊎ WhyNotAs S.state format.Qcow2 writable (S.state image) extras.old.files.items e) }
+    ensures err { IfErr result (λ e. IsCutOff S.state e ⊎ WhyNotAs S.state format.Qcow2 writable (S.state image) extras.old.files.items e) }
 {
     let builder = Qcow2::builder(image).number(number).write(writable);
     match open_by(alloc, builder, extras) {

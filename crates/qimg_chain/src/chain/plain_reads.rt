@@ -18,8 +18,8 @@ use std::alloc::Global;
 /// It is refused with the first of these: what `open_chain` refuses for reading; `Fault::RangeOverflow` where the range's end passes
 /// `u64`; and where a place of the range can't be read, what the first such place asks for: `Fault::DamagedTable` where its table is
 /// damaged, `Fault::Barred` where it is compressed or has no access. `Fault::RangeOverflow` comes too where what the disk has of the range
-/// ends so near the end of `u64` that requests of whole units don't reach its end: that is within 2^20 bytes. `Fault::Memory` and
-/// `Fault::Storage` come whenever they are met. A refusal leaves the buffer open.
+/// ends so near the end of `u64` that requests of whole units don't reach its end: that is within 2^20 bytes. `Fault::Memory`
+/// comes whenever it is met, and `Fault::Storage` too where the storages may fail. A refusal leaves the buffer open.
 pub fn plain_read<S: Storage>(
     alloc: Global,
     files: Vec<ChainFile<S>>,
@@ -61,7 +61,7 @@ fn read_in_order<D: FormatDriverInstance>(
     requires sees { Each D.sees (chain.old.0 ∷ chain.old.1) }
     requires usable { (f : Fault) → SomeUnusable (map D.layer (chain.old.0 ∷ chain.old.1)) f → ⊥ }
     ensures ok { OnOk result (Shows (at (map D.layer (chain.old.0 ∷ chain.old.1))) offset buf.new) }
-    ensures err { IfErr result (NotReadInOrder (at (map D.layer (chain.old.0 ∷ chain.old.1))) offset (length buf.old)) }
+    ensures err { IfErr result (NotReadInOrder D.Seen (at (map D.layer (chain.old.0 ∷ chain.old.1))) offset (length buf.old)) }
 {
     match chain.read(alloc, buf, offset) {
         Ok(()) => Ok(()),
@@ -94,7 +94,7 @@ fn first_place_fault<D: FormatDriverInstance>(
     requires sees { Each D.sees (chain.old.0 ∷ chain.old.1) }
     requires usable { (f : Fault) → SomeUnusable (map D.layer (chain.old.0 ∷ chain.old.1)) f → ⊥ }
     requires faulty { HasFault (at (map D.layer (chain.old.0 ∷ chain.old.1))) offset (length buf.old) fault }
-    ensures { NotReadInOrder (at (map D.layer (chain.old.0 ∷ chain.old.1))) offset (length buf.old) result }
+    ensures { NotReadInOrder D.Seen (at (map D.layer (chain.old.0 ∷ chain.old.1))) offset (length buf.old) result }
 {
     let mut fault = fault;
     let mut good = 0;

@@ -5,8 +5,7 @@ use Rattle.qcow2_image.proofs.opening.open_tables.Goals as goal
 
 pub returns-in-Err-clause-err : goal.returns-in-Err-clause-err
 returns-in-Err-clause-err g c =
-    let old = g.S.Storage.state c.args.image in
-    not-opened (file old) old (g.S.Storage.state c.load_metadata.new.image) c.in-Err.fault c.in-Err.ensures.err
+    not-opened (file (g.S.Storage.state c.args.image)) g.S.Storage.state c.args.image c.load_metadata.new.image c.in-Err.fault c.in-Err.ensures.err
 
 pub returns-clause-ok : goal.returns-clause-ok
 returns-clause-ok g c =

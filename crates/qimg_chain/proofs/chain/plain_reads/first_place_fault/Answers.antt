@@ -8,6 +8,7 @@ use Rattle.imago_access.specs.Refusals.{ReadCause}
 use Rattle.imago_access.proofs.Looking.{chain_same, chain_sees}
 use Rattle.imago_access.proofs.Reading.{shown_of_step}
 use Rattle.imago_access.proofs.Units.{unit_aligned}
+use Rattle.qimg_chain.proofs.Failing.{file_may_fail}
 use Rattle.qimg_chain.proofs.Narrowing.{alone, begun, found, in_order, met, mild, moved, otherwise, passed}
 use Rattle.qimg_chain.proofs.chain.plain_reads.first_place_fault.Goals as goal
 
@@ -39,8 +40,8 @@ returns-then-not-is_of_place g c =
     let layers = map d.layer (c.args.chain.now.0 ∷ c.args.chain.now.1) in
     let other = c.in-Err.other in
     let long : length c.read.new.buf ≡ (l.end - l.good) / 2 = omega (arith, c.read.auto.buf, l.auto.buf, l.invariant.narrowed.most, c.loop-end-test.true) in
-    otherwise layers (at layers) (unit_of_chain layers) c.requires.usable (files_of d olds) (files_of d news)
-    (unit_aligned d.layer g.met.D.FormatDriverInstance.aligned (c.args.chain.now.0 ∷ c.args.chain.now.1)) c.args.offset (length c.args.buf.now)
+    otherwise layers (at layers) (unit_of_chain layers) c.requires.usable (files_of d olds) (files_of d news) d
+    (file_may_fail d olds news) (unit_aligned d.layer g.met.D.FormatDriverInstance.aligned (c.args.chain.now.0 ∷ c.args.chain.now.1)) c.args.offset (length c.args.buf.now)
     (c.args.offset + l.good) (length c.read.new.buf) other (omega arith) (omega (arith, long, l.invariant.narrowed.most, c.loop-end-test.true)) (λ place. grind (arith, c.is_of_place.ensures.1 place, c.if-not-is_of_place.true))
     (subst (λ m. ReadCause layers (at layers) (unit_of_chain layers) (c.args.offset + l.good) m (files_of d olds) (files_of d news) other) (sym c.read.auto.buf)
     (moved (map d.layer olds) layers (c.args.offset + l.good) _ (files_of d olds) (files_of d news) other l.invariant.same (c.in-Err.ensures.cause l.invariant.sees)))
@@ -67,5 +68,5 @@ pub returns : goal.returns
 returns g c =
     let d = g.D.Seen in let l = c.loop-end in
     let layers = map d.layer (c.args.chain.now.0 ∷ c.args.chain.now.1) in
-    in_order (at layers) c.args.offset (length c.args.buf.now) l.fault
+    in_order d (at layers) c.args.offset (length c.args.buf.now) l.fault
     (alone (at layers) c.args.offset (length c.args.buf.now) l.good l.end l.fault l.invariant.narrowed (omega (arith, c.loop-end-test.false)))

@@ -3,6 +3,7 @@ use Rattle.std.proofs.lemmas.Grind.{common_steps}
 use Rattle.std.specs.Prelude.{false}
 use Rattle.imago_access.specs.Running.{chain_disk}
 use Rattle.qimg_chain.specs.contracts.chain.image_driver.ImageDriverSeen.TheImpl as image_seen
+use Rattle.qimg_chain.proofs.Failing.{fails}
 use Rattle.qimg_chain.proofs.PlainlyRead.{not_read, read_plainly, seen, usable}
 use Rattle.qimg_chain.proofs.chain.plain_reads.plain_read.Goals as goal
 
@@ -30,7 +31,7 @@ returns-clause-err g c =
     let d = image_seen.ghosts g.row.S g.S.Storage g.S.Storage-dict g.S.Destruct-dict in
     let opened = c.in-Ok.ensures in
     let inside = c.min-inside.result in
-    not_read g.S.Storage.state c.args.files.items c.args.offset c.read_in_order.result (chain_disk d.layer c.in-Ok.chain) _ (length c.args.buf.now)
+    not_read g.S.Storage.state c.args.files.items c.args.offset d (fails g.row.S g.S.Storage g.S.Storage-dict g.S.Destruct-dict) c.read_in_order.result (chain_disk d.layer c.in-Ok.chain) _ (length c.args.buf.now)
     opened.formed (grind (arith, common_steps)) opened.means
     (omega (arith, length-take inside c.blank.new.buf, c.blank.auto.buf, c.min-inside.ensures, c.saturating_sub.ensures, c.size.ensures, opened.means.size))
     c.read_in_order.ensures.err

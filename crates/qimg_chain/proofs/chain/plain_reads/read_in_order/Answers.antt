@@ -6,6 +6,7 @@ use Rattle.imago_access.specs.Refusals.{SomeUnusable}
 use Rattle.imago_access.proofs.Looking.{chain_same, chain_sees}
 use Rattle.imago_access.proofs.Units.{unit_aligned}
 use Rattle.qimg_chain.specs.PlainReads.{HasFault, NotReadInOrder}
+use Rattle.qimg_chain.proofs.Failing.{file_may_fail}
 use Rattle.qimg_chain.proofs.Narrowing.{met, mild, otherwise}
 use Rattle.qimg_chain.proofs.chain.plain_reads.read_in_order.Goals as goal
 
@@ -41,14 +42,14 @@ returns-then-is_of_place-clause-err g c =
     let layers = map d.layer olds in
     let place = c.is_of_place.ensures.0 (grind (arith, c.if-is_of_place.true)) in
     let same = chain_same d (IsMild c.in-Err.fault) olds news (mild c.in-Err.fault place) c.requires.sees c.in-Err.ensures.looked in
-    subst (λ (n : ℕ). NotReadInOrder (at layers) c.args.offset n c.first_place_fault.result) c.read.auto.buf
-    (subst (λ (ls : List Layer). NotReadInOrder (at ls) c.args.offset (length c.read.new.buf) c.first_place_fault.result) same c.first_place_fault.ensures)
+    subst (λ (n : ℕ). NotReadInOrder d (at layers) c.args.offset n c.first_place_fault.result) c.read.auto.buf
+    (subst (λ (ls : List Layer). NotReadInOrder d (at ls) c.args.offset (length c.read.new.buf) c.first_place_fault.result) same c.first_place_fault.ensures)
 
 pub returns-else-is_of_place-clause-err : goal.returns-else-is_of_place-clause-err
 returns-else-is_of_place-clause-err g c =
     let d = g.D.Seen in
     let olds = c.args.chain.now.0 ∷ c.args.chain.now.1 in let news = c.read.new.self.0 ∷ c.read.new.self.1 in
     let layers = map d.layer olds in
-    otherwise layers (at layers) (unit_of_chain layers) c.requires.usable (files_of d olds) (files_of d news)
-    (unit_aligned d.layer g.met.D.FormatDriverInstance.aligned olds) c.args.offset (length c.args.buf.now) c.args.offset (length c.args.buf.now) c.in-Err.fault
+    otherwise layers (at layers) (unit_of_chain layers) c.requires.usable (files_of d olds) (files_of d news) d
+    (file_may_fail d olds news) (unit_aligned d.layer g.met.D.FormatDriverInstance.aligned olds) c.args.offset (length c.args.buf.now) c.args.offset (length c.args.buf.now) c.in-Err.fault
     (omega arith) (omega arith) (λ place. grind (arith, c.is_of_place.ensures.1 place, c.if-is_of_place.false)) (c.in-Err.ensures.cause c.requires.sees)

@@ -1,6 +1,8 @@
 use Rattle.std.proofs.Common.{◌≡◌, ◌∙◌, List, ap, arith, inr, length, subst, sym, ℕ}
 use Rattle.imago_storage.specs.MemStorage.{mem_state}
 use Rattle.qimg_chain.specs.PlainReads.{IsPlainlyRead, NotPlainlyRead}
+use Rattle.imago_formats.proofs.Failing.{mem_never}
+use Rattle.qimg_chain.proofs.Failing.{unread}
 use Rattle.qimg_chain.proofs.RunAnswerLemmas.{front_of}
 use Rattle.qimg_chain.proofs.run.files.read_plainly.Goals as goal
 
@@ -22,12 +24,14 @@ returns-in-Ok-plain_read g c =
 pub returns-in-Err-plain_read : goal.returns-in-Err-plain_read
 returns-in-Err-plain_read g c =
     let copies = c.in-Ok-snapshot.files.items in
-    let long = ap (λ bytes. length bytes) c.deref_mut.ensures.value ∙ c.in-Ok.ensures.ok.1 in
-    inr (
-      c.in-Ok.ensures.ok.0,
+    let long = ap (λ bytes. length bytes) c.deref_mut.ensures.value ∙ c.in-Ok.ensures.ok.1 in (
+      unread mem_state mem_never copies c.args.offset _ c.in-Err-plain_read.fault c.in-Err-plain_read.ensures.err,
       inr (
-        copies,
-        c.in-Ok-snapshot.ensures.ok,
-        subst (λ (n : ℕ). NotPlainlyRead mem_state copies c.args.offset n c.in-Err-plain_read.fault) long c.in-Err-plain_read.ensures.err,
+        c.in-Ok.ensures.ok.0,
+        inr (
+          copies,
+          c.in-Ok-snapshot.ensures.ok,
+          subst (λ (n : ℕ). NotPlainlyRead mem_state copies c.args.offset n c.in-Err-plain_read.fault) long c.in-Err-plain_read.ensures.err,
+        ),
       ),
     )

@@ -17,6 +17,8 @@ use Rattle.qimg_chain.specs.FileMeanings.{IsDiskOf, files_bytes}
 use Rattle.qimg_chain.specs.Headline.{RunFrom, ToOpen}
 use Rattle.qimg_chain.specs.Refusals.{FormChain}
 use Rattle.qimg_chain.specs.ScriptRuns.{Scripted}
+use Rattle.imago_formats.proofs.Failing.{mem_never}
+use Rattle.qimg_chain.proofs.Failing.{unopened}
 use Rattle.qimg_chain.proofs.ScriptRunLemmas.{append-none}
 use Rattle.qimg_chain.proofs.run.opened.run_files.Goals as goal
 
@@ -57,4 +59,6 @@ returns-clause-err g c =
     from-opening c.in-Ok.chain c.run.new.chain made.formed made.layers made.places made.means c.in-Err-run.ensures.scripted made.ready made.stands
 
 pub returns-in-Err-clause-err : goal.returns-in-Err-clause-err
-returns-in-Err-clause-err g c = (c.in-Err.ensures.err, append-none (g.W.Write.contents c.args.writer.now))
+returns-in-Err-clause-err g c =
+    let refused = unopened mem_state mem_never c.args.writable c.args.files.items c.in-Err.fault c.in-Err.ensures.err in
+    (refused.0, refused.1, append-none (g.W.Write.contents c.args.writer.now))

@@ -1,0 +1,134 @@
+-- Which files of a chain may fail, and that no cause that files give is a storage that failed.
+use Rattle.std.proofs.Common.{◌≡◌, ◌≢◌, ◌⊎◌, ◌∙◌, ◌∷◌, ◌++◌, [], ℕ, List, ap, inl, inr, map, subst, sym}
+use Rattle.std.specs.Prelude.{Bool, Err, Ok, Result, Some, false, true}
+use Rattle.std.specs.Borrow.{RattleType}
+use Rattle.std.specs.declared.string.String.{String}
+use Rattle.std.specs.declared.alloc.Global.{Global}
+use Rattle.imago_storage.specs.State.{MayFail, NeverFails, StorageState}
+use Rattle.imago_storage.specs.declared.fault.Fault.{Fault}
+use Rattle.imago_storage.specs.declared.fault.Fault.TheVariants.{Memory, Storage}
+use Rattle.imago_storage.specs.declared.storage.Storage.{Ghosts as StorageGhosts}
+use Rattle.imago_formats.proofs.Failing.{at_rest}
+use Rattle.imago_access.specs.Chain.{Each}
+use Rattle.imago_access.specs.Files.{SomeRose, files, files_of}
+use Rattle.imago_access.specs.declared.format.Format.{Format}
+use Rattle.imago_access.specs.declared.format.Format.TheVariants.{Qcow2, Raw, Vmdk}
+use Rattle.imago_access.specs.declared.seen.Seen.{Ghosts}
+use Rattle.imago_formats.specs.Descriptor.{descriptor_of}
+use Rattle.imago_formats.proofs.SaidFaults.{never_storage}
+use Rattle.qcow2_types.specs.Bytes.{bytes_of}
+use Rattle.qcow2_image.specs.Opening.{header_for_reading}
+use Rattle.qcow2_image.proofs.OpeningRules.{reading-refusal}
+use Rattle.qimg_core.specs.declared.plain.ChainFile.{ChainFile}
+use Rattle.qimg_chain.specs.FileLayers.{asked_of, said_of}
+use Rattle.qimg_chain.specs.FileMeanings.{FileBytes, files_bytes}
+use Rattle.qimg_chain.specs.FurtherFiles.{WhyNotFurther}
+use Rattle.qimg_chain.specs.PlainReads.{NoFileFails, NotPlainlyRead, RefusesRange, SomeFileMayFail}
+use Rattle.qimg_chain.specs.Refusals.{FirstCause, IsCutOff, WhyNotLayers, misplaced}
+use Rattle.qimg_chain.proofs.Narrowing.{not_of_value}
+use Rattle.qimg_chain.specs.contracts.chain.image_driver.ImageDriverSeen.TheImpl as image_seen
+use Rattle.qimg_chain.specs.declared.chain.image_driver.ImageDriver.{ImageDriver}
+use Rattle.qimg_chain.specs.declared.chain.image_driver.ImageDriver.TheVariants as variant
+
+-- none of these has ever failed
+abbrev AtRest : List StorageState → Type 0
+AtRest ss = Each (λ s. s.faults ≡ 0) ss
+
+none_rose : (olds news : List StorageState) → AtRest olds → AtRest news → SomeRose olds news → ⊥
+none_rose [] news resting rested rose = rose
+none_rose (old ∷ olds) [] resting rested rose = rose
+none_rose (old ∷ olds) (new ∷ news) resting rested (inl rose) = at_rest old.faults new.faults resting.0 rested.0 rose
+none_rose (old ∷ olds) (new ∷ news) resting rested (inr rose) = none_rose olds news resting.1 rested.1 rose
+
+both_rest : (xs ys : List StorageState) → AtRest xs → AtRest ys → AtRest (xs ++ ys)
+both_rest [] ys resting rested = rested
+both_rest (x ∷ xs) ys resting rested = (resting.0, both_rest xs ys resting.1 rested)
+
+all_rest : {S : Type 0} (state : S → StorageState) → NeverFails state → (files : List S) → AtRest (map state files)
+all_rest state never [] = tt
+all_rest state never (file ∷ files) = (never file, all_rest state never files)
+
+module _ {D St : Type 0} (g : Ghosts D St) where
+  chain_rests : NoFileFails g → (ds : List D) → AtRest (files_of g ds)
+  chain_rests none [] = tt
+  chain_rests none (d ∷ ds) = both_rest (files g d) (files_of g ds) (none d) (chain_rests none ds)
+
+  -- where a file of a chain has failed, one may
+  pub file_may_fail : (olds news : List D) → SomeRose (files_of g olds) (files_of g news) → SomeFileMayFail g
+  file_may_fail olds news rose = λ none. none_rose (files_of g olds) (files_of g news) (chain_rests none olds) (chain_rests none news) rose
+
+module _ (R : RattleType) (st : StorageGhosts R.Denot) (sd : mir.Syntax.Dict) (dd : mir.Syntax.Dict) where
+  driver_rests : NeverFails st.state → NoFileFails (image_seen.ghosts R st sd dd)
+  driver_rests never (variant.Raw d) = (never d.storage, tt)
+  driver_rests never (variant.Vmdk d) = (never d.image, all_rest st.state never d.files.items)
+  driver_rests never (variant.Qcow2 d) = (never d.tables.file.image, tt)
+
+  -- the files of image drivers are storages: where one may fail, these may
+  pub fails : SomeFileMayFail (image_seen.ghosts R st sd dd) → MayFail st.state
+  fails may = λ never. may (driver_rests never)
+
+-- ---- What files say.
+
+not_memory : Storage ≡ Memory → ⊥
+not_memory is = cc is
+
+asked_never : {A : Type 0} (r : Result A Fault) (asks : A → Bool) → (r ≡ Err Storage → ⊥) → asked_of asks r ≡ Err Storage → ⊥
+asked_never (Ok x) asks never said = cc said
+asked_never (Err fault) asks never said = let same : fault ≡ Storage = cc said in never (ap Err same)
+
+said_never : (format : Format) (writable : Bool) (bytes : List ℕ) → said_of format writable bytes ≡ Err Storage → ⊥
+said_never Raw writable bytes said = cc said
+said_never Vmdk true bytes said = cc said
+said_never Vmdk false bytes said = asked_never (descriptor_of bytes) _ (never_storage bytes) said
+said_never Qcow2 true bytes said = cc said
+said_never Qcow2 false bytes said = asked_never (header_for_reading (bytes_of bytes)) _ (reading-refusal (bytes_of bytes) Storage) said
+
+misplaced_never : {F : Type 0} (named : Bool) (below : List F) → misplaced named below ≡ Some Storage → ⊥
+misplaced_never true [] out = cc out
+misplaced_never true (next ∷ below) out = cc out
+misplaced_never false [] out = cc out
+misplaced_never false (next ∷ below) out = cc out
+
+range_never : (files : List FileBytes) (offset n : ℕ) → RefusesRange files offset n Storage → ⊥
+range_never files offset n (inl past) = cc past.1
+range_never files offset n (inr why) = elim why.1 [ inl first ↦ not_of_value _ Storage (λ place. place) first.faulty | inr far ↦ cc far.1 ]
+
+module _ {S : Type 0} (state : S → StorageState) where
+  further_never : (format : Format) (image : StorageState) (handed : List (String Global × S)) → WhyNotFurther state format image handed Storage → ⊥
+  further_never Vmdk image handed why = elim why.2 [ inl lacking ↦ cc lacking.0 | inr beyond ↦ cc beyond.0 ]
+  further_never Raw image handed why = why
+  further_never Qcow2 image handed why = why
+
+  layers_never : (writable : Bool) (files : List (ChainFile S)) → WhyNotLayers state writable files Storage → ⊥
+  layers_never writable [] why = why
+  layers_never writable (file ∷ below) (inl (inl said)) = said_never file.format writable (state file.image).bytes said
+  layers_never writable (file ∷ below) (inl (inr why)) = further_never file.format (state file.image) file.extras.items why.1
+  layers_never writable (file ∷ below) (inr (inl out)) = misplaced_never out.0 below out.3
+  layers_never writable (file ∷ below) (inr (inr why)) = layers_never false below why.1
+
+  first_never : (writable : Bool) (files : List (ChainFile S)) → FirstCause state writable files Storage → ⊥
+  first_never writable [] why = cc why
+  first_never writable (file ∷ below) (inl many) = cc many.1
+  first_never writable (file ∷ below) (inr why) = layers_never writable (file ∷ below) why.1
+
+  -- ---- Files of which none ever fails.
+
+  module _ (never : NeverFails state) where
+    by_memory : (fault : Fault) → IsCutOff state fault → fault ≡ Memory
+    by_memory fault (inl memory) = memory
+    by_memory fault (inr failed) = absurd (failed.1 never)
+
+    -- they aren't opened for want of memory or for a cause that they give,
+    pub unopened : (writable : Bool) (files : List (ChainFile S)) (fault : Fault) → IsCutOff state fault ⊎ FirstCause state writable files fault
+        → (fault ≢ Storage) × ((fault ≡ Memory) ⊎ FirstCause state writable files fault)
+    unopened writable files fault (inl cut) = let memory = by_memory fault cut in (λ is. absurd (not_memory (sym is ∙ memory)), inl memory)
+    unopened writable files fault (inr first) = (λ is. first_never writable files (subst (FirstCause state writable files) is first), inr first)
+
+    unread_never : (files : List (ChainFile S)) (offset n : ℕ) → NotPlainlyRead state files offset n Storage → ⊥
+    unread_never files offset n (inl cut) = not_memory (by_memory Storage cut)
+    unread_never files offset n (inr (inl first)) = first_never false files first
+    unread_never files offset n (inr (inr range)) = range_never (files_bytes state files) offset n range.1
+
+    -- and neither are they read
+    pub unread : (files : List (ChainFile S)) (offset n : ℕ) (fault : Fault) → NotPlainlyRead state files offset n fault → fault ≢ Storage
+    unread files offset n fault why = λ is. unread_never files offset n (subst (NotPlainlyRead state files offset n) is why)
