@@ -59,7 +59,7 @@ front_passes q (x ∷ xs) = ap (λ l. list_all q l) (take_while-cons q x xs) ∙
     at_first true e later = and_from (q x) (list_all q (take_while q xs)) e later
     at_first false e later = refl
 
-rest_meets : (p : ℕ → Bool) (xs : List ℕ) → Meets p (drop (position_or_len p xs) xs)
+pub rest_meets : (p : ℕ → Bool) (xs : List ℕ) → Meets p (drop (position_or_len p xs) xs)
 rest_meets p [] = tt
 rest_meets p (x ∷ xs) = at_first (p x) refl (rest_meets p xs)
   where
@@ -90,7 +90,7 @@ pub blanks_end : (xs : List ℕ) → AreBlanks xs → Ends xs
 blanks_end [] blanks = tt
 blanks_end (x ∷ xs) blanks = (both (is_blank x) (list_all is_blank xs) blanks).0
 
-gap_ends : (gap rest : List ℕ) → IsGap gap → Ends (gap ++ rest)
+pub gap_ends : (gap rest : List ℕ) → IsGap gap → Ends (gap ++ rest)
 gap_ends [] rest gap = absurd (omega (arith, gap.0))
 gap_ends (x ∷ xs) rest gap = (both (is_blank x) (list_all is_blank xs) gap.1).0
 
@@ -109,7 +109,7 @@ pub behind_word : (one rest : List ℕ) → NoBlanks one → Ends rest → past_
 behind_word one rest none ends = ap (λ n. past_blanks (drop n (one ++ rest))) (first_at is_blank one rest none ends) ∙ ap past_blanks (drop_front one rest)
 
 -- the same of a word with a gap behind it
-next_word : (one gap rest : List ℕ) → NoBlanks one → IsGap gap → Starts rest → past_word (one ++ (gap ++ rest)) ≡ rest
+pub next_word : (one gap rest : List ℕ) → NoBlanks one → IsGap gap → Starts rest → past_word (one ++ (gap ++ rest)) ≡ rest
 next_word one gap rest none is starts = behind_word one (gap ++ rest) none (gap_ends gap rest is) ∙ blanks_off gap rest is.1 starts
 
 -- a text as its first word, a gap, and the rest
@@ -156,18 +156,18 @@ digits_bare (x ∷ xs) digits =
     bare : is_ascii_digit x ≡ true → not (is_blank x) ≡ true
     bare digit = grind (arith, nat_tests)
 
-number_bare : (n : ℕ) (xs : List ℕ) → AreDigitsOf n xs → NoBlanks xs
+pub number_bare : (n : ℕ) (xs : List ℕ) → AreDigitsOf n xs → NoBlanks xs
 number_bare n xs number = digits_bare xs (both (list_all is_ascii_digit xs) _ number.0).0
 
-number_some : (n : ℕ) (xs : List ℕ) → AreDigitsOf n xs → 0 < length xs
+pub number_some : (n : ℕ) (xs : List ℕ) → AreDigitsOf n xs → 0 < length xs
 number_some n xs number = ltb-true _ _ (both (ltb 0 (length xs)) _ (both (list_all is_ascii_digit xs) _ number.0).1).0
 
 -- a word that isn't empty begins with no blank
-bare_starts : (xs rest : List ℕ) → NoBlanks xs → 0 < length xs → Starts (xs ++ rest)
+pub bare_starts : (xs rest : List ℕ) → NoBlanks xs → 0 < length xs → Starts (xs ++ rest)
 bare_starts [] rest none some = absurd (omega (arith, some))
 bare_starts (x ∷ xs) rest none some = (both (not (is_blank x)) (list_all (λ b. not (is_blank b)) xs) none).0
 
-number_read : (n : ℕ) (xs : List ℕ) → AreDigitsOf n xs → decimal xs ≡ Ok n
+pub number_read : (n : ℕ) (xs : List ℕ) → AreDigitsOf n xs → decimal xs ≡ Ok n
 number_read n xs number =
     ap (λ t. cond t (Ok (digits_value 10 xs)) (Err DamagedDescriptor)) number.0 ∙ ap (λ v. Ok v) (sym number.1)
 
@@ -258,7 +258,7 @@ named_read sectors name end sector bare utf8 read fits =
     behind : (xs : List ℕ) → drop (length xs + 1) (xs ++ 34 ∷ end) ≡ end
     behind xs = ap (λ n. drop n (xs ++ 34 ∷ end)) (add-one (length xs)) ∙ from xs
 
-abbrev by_type : ℕ → List ℕ → List ℕ → Result (Source (List ℕ)) Fault
+abbrev pub by_type : ℕ → List ℕ → List ℕ → Result (Source (List ℕ)) Fault
 by_type sectors one rest = cond (bytes_eq one (codes "FLAT")) (flat_of sectors rest)
     (cond (bytes_eq one (codes "ZERO")) (zero_of rest) (Err (cond (is_empty one) DamagedDescriptor Unsupported)))
 
@@ -282,12 +282,12 @@ source_starts sectors Zero text s = subst (λ (l : List ℕ). Starts l) (sym s.m
 abbrev pub said_from : List ℕ → Result (Option (Extent (List ℕ))) Fault
 said_from text = cond (is_skipped text) (Ok None) (said_with (access_of (word text)) text)
 
-by_access : (access : Access) → NoBlanks (access_word access)
+pub by_access : (access : Access) → NoBlanks (access_word access)
 by_access ReadWrite = refl
 by_access ReadOnly = refl
 by_access NoAccess = refl
 
-access_starts : (access : Access) (rest : List ℕ) → Starts (access_word access ++ rest)
+pub access_starts : (access : Access) (rest : List ℕ) → Starts (access_word access ++ rest)
 access_starts ReadWrite rest = refl
 access_starts ReadOnly rest = refl
 access_starts NoAccess rest = refl
@@ -298,7 +298,7 @@ unskipped b bs other =
     ap (λ t. cond (t || eqb b 35) (Ok None) (said_with (access_of (word (b ∷ bs))) (b ∷ bs))) (some_byte b bs)
     ∙ ap (λ t. cond t (Ok None) (said_with (access_of (word (b ∷ bs))) (b ∷ bs))) other
 
-access_said : (access : Access) (rest : List ℕ) → Ends rest → said_from (access_word access ++ rest) ≡ said_with (Some access) (access_word access ++ rest)
+pub access_said : (access : Access) (rest : List ℕ) → Ends rest → said_from (access_word access ++ rest) ≡ said_with (Some access) (access_word access ++ rest)
 access_said ReadWrite rest ends =
     unskipped 82 (codes "W" ++ rest) refl ∙ ap (λ w. said_with (access_of w) (codes "RW" ++ rest)) (word_is (codes "RW") rest refl ends)
 access_said ReadOnly rest ends =

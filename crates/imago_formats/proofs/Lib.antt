@@ -5,6 +5,7 @@ pub mod LineLemmas
 mod LineOrder
 mod ExtentLines
 mod SettingLines
+mod RefusedLines
 mod WorkedDescriptors
 pub mod Failing
 mod FileLemmas

@@ -7,6 +7,7 @@ pub mod DescriptorWords
 pub mod Descriptor
 pub mod DescriptorLines
 pub mod SettingLines
+pub mod RefusedLines
 pub mod DescriptorView
 pub mod WorkedDescriptor
 pub mod VmdkLayer

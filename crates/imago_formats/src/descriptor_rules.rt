@@ -7,6 +7,7 @@ ghost use Rattle.imago_storage.specs.declared.fault.Fault.{Fault};
 ghost use Rattle.imago_storage.specs.declared.fault.Fault.TheVariants.{DamagedDescriptor, Unsupported};
 ghost use Rattle.imago_formats.specs.Descriptor.{descriptor_of, extents_of, said_by, size_of};
 ghost use Rattle.imago_formats.specs.DescriptorLines.{IsExtentLine};
+ghost use Rattle.imago_formats.specs.RefusedLines.{IsAccessLine, IsOtherExtent};
 ghost use Rattle.imago_formats.specs.SettingLines.{HasNoSign, IsCarriedSetting, IsOtherLine, IsSettingLine, IsSilent};
 ghost use Rattle.imago_formats.specs.WorkedDescriptor.{descriptor_with, extent, other_extents, other_text, quoted, two_extents, two_sectors};
 ghost use Rattle.imago_formats.specs.declared.vmdk.descriptor.Access.TheVariants.{ReadWrite};
@@ -52,10 +53,14 @@ pub fn lines_in_order()
         → map said_by before ≡ map (λ o. Ok o) found → said_by line ≡ Err fault → extents_of (before ++ line ∷ rest) ≡ Err fault }
 {}
 
-/// A line names an extent exactly where it is made as such a line is.
+/// A line names an extent exactly where it is made as such a line is. Another that begins with an access is refused: as one that isn't
+/// carried where its number of sectors is followed by the name of another type, and else as damage.
 pub fn extent_lines()
     ensures read { (x : Extent (List ℕ)) (line : List ℕ) → said_by line ≡ Ok (Some x) → IsExtentLine x line }
     ensures made { (x : Extent (List ℕ)) (line : List ℕ) → IsExtentLine x line → said_by line ≡ Ok (Some x) }
+    ensures uncarried { (line : List ℕ) → IsOtherExtent line → said_by line ≡ Err Unsupported }
+    ensures damaged { (line : List ℕ) → IsAccessLine line → ((x : Extent (List ℕ)) → IsExtentLine x line → ⊥) → (IsOtherExtent line → ⊥)
+        → said_by line ≡ Err DamagedDescriptor }
 {}
 
 /// A line that names no extent, and isn't refused as one: blanks alone and comments say nothing, a setting is carried or it isn't, by its
