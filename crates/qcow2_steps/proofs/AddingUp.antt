@@ -7,12 +7,13 @@ use Rattle.qcow2_types.specs.Header.{Header, cluster_size}
 use Rattle.qcow2_alloc.specs.Quiet.{Metadata, IsUsed}
 use Rattle.qcow2_steps.specs.Advancing.{Advances, MayBeLeft}
 use Rattle.qcow2_steps.specs.Words.{IsReserved}
+use Rattle.qcow2_steps.proofs.Headers.{header-bits, header-then}
 
 -- What may be left where this is given may be left where more is.
 pub left-weaker : (gives more : ℕ → Option Value → Type 0) → ((p : ℕ) (v : Option Value) → gives p v → more p v) → (m : Metadata) (x : Bytes) (H : Header) → MayBeLeft gives m x H → MayBeLeft more m x H
 left-weaker gives more from m x H left = record {
   consistent = left.consistent;
-  size = left.size;
+  header = left.header;
   shows = λ p. elim (left.shows p) [
     | inl file ↦ inl file
     | inr other ↦ inr (elim other [ inl memory ↦ inl memory | inr given ↦ inr (from p _ given) ])
@@ -26,7 +27,7 @@ pub advances-weaker : (gives more : ℕ → Option Value → Type 0) (written wi
     → Advances gives written set handed taken m m' → Advances more wider further h t m m'
 advances-weaker gives more written wider set further handed taken h t m m' given place word same spared step = record {
   sound = step.sound;
-  bits = step.bits;
+  header = step.header;
   file = left-weaker gives more given m m'.file m'.header step.file;
   memory = λ p. elim (step.memory p) [ inl was ↦ inl was | inr now ↦ inr (given p _ now) ];
   words = λ guest. elim (step.words guest) [ inl was ↦ inl was | inr now ↦ inr (word guest now) ];
@@ -37,8 +38,7 @@ advances-weaker gives more written wider set further handed taken h t m m' given
   law = λ c. let law = step.law c in let e = same c in omega (arith, law, e);
 }
 
-module _ (gives gives' : ℕ → Option Value → Type 0) (written written' set set' : ℕ → Type 0) (handed taken handed' taken' : ℕ → ℕ) (m m1 m2 : Metadata)
-    (first : Advances gives written set handed taken m m1) where
+module _ (gives gives' : ℕ → Option Value → Type 0) (written set : ℕ → Type 0) (handed taken : ℕ → ℕ) (m m1 : Metadata) (first : Advances gives written set handed taken m m1) where
   abbrev Either : ℕ → Option Value → Type 0
   Either p v = gives p v ⊎ gives' p v
 
@@ -46,7 +46,7 @@ module _ (gives gives' : ℕ → Option Value → Type 0) (written written' set 
   pub left-then : (x : Bytes) (H : Header) → MayBeLeft gives' m1 x H → MayBeLeft Either m x H
   left-then x H left = record {
     consistent = left.consistent;
-    size = left.size ∙ first.file.size;
+    header = header-then m.header m1.header H first.header left.header;
     shows = λ p. elim (left.shows p) [
       | inl file ↦ elim (first.file.shows p) [
         | inl was ↦ inl (file ∙ was)
@@ -65,17 +65,17 @@ module _ (gives gives' : ℕ → Option Value → Type 0) (written written' set 
     ];
   }
 
-  module _ (second : Advances gives' written' set' handed' taken' m1 m2) where
+  module _ (written' set' : ℕ → Type 0) (handed' taken' : ℕ → ℕ) (m2 : Metadata) (second : Advances gives' written' set' handed' taken' m1 m2) where
     still-used : (c : ℕ) → IsUsed m c → taken c + taken' c ≡ 0 → IsUsed m1 c × (taken c ≡ 0) × (taken' c ≡ 0)
     still-used c used none = (first.used c used (omega (arith, none)), omega (arith, none), omega (arith, none))
 
     size-same : cluster_size m1.header.fields ≡ cluster_size m.header.fields
-    size-same = ap (λ b. 2 ^ b) first.bits
+    size-same = ap (λ b. 2 ^ b) (header-bits m.header m1.header first.header)
 
     pub advances-then : Advances Either (λ q. written q ⊎ written' q) (λ guest. set guest ⊎ set' guest) (λ c. handed c + handed' c) (λ c. taken c + taken' c) m m2
     advances-then = record {
       sound = second.sound;
-      bits = second.bits ∙ first.bits;
+      header = header-then m.header m1.header m2.header first.header second.header;
       file = left-then m2.file m2.header second.file;
       memory = λ p. elim (second.memory p) [
         | inl same ↦ elim (first.memory p) [

@@ -159,20 +159,25 @@ module _ (f : Bytes) (H : Header) (was : IsConsistent f H) (i c w : ℕ) (inside
   pub swapped : TableSwapped f x H i t
   swapped = table-swapped-spliced f H was i inside w fits sane c t names there refl unnamed plain covered apart-still
 
-  -- Each guest cluster has its mapping, but for the mark.
-  pub entry-unmarked : (guest : ℕ) → unmarked_mapping (entry x h guest) ≡ unmarked_mapping (entry f h guest)
-  entry-unmarked guest = elim (cases_eq (guest / words_of_cluster h) i) [
-    | inr apart ↦ ap unmarked_mapping (swapped.elsewhere guest (inl apart)).mapping
-    | inl row ↦
-        let less : guest % words_of_cluster h < words_of_cluster h = mod_below guest (words_of_cluster h) (some-words h (consistent-shaped f H was)) in
-        ap unmarked_mapping (swapped.entries guest row ∙ copies (guest % words_of_cluster h) less)
-        ∙ unmarked-twice (slot_or_none f h i (guest % words_of_cluster h))
-        ∙ ap (λ k. unmarked_mapping (slot_or_none f h k (guest % words_of_cluster h))) (sym row)
-        ∙ ap unmarked_mapping (sym (entry-slot f h guest was.readable.tables))
-  ]
+  -- A guest cluster of the table has its mapping with no mark,
+  pub entry-copied : (guest : ℕ) → guest / words_of_cluster h ≡ i → entry x h guest ≡ unmarked_mapping (entry f h guest)
+  entry-copied guest row =
+      let less : guest % words_of_cluster h < words_of_cluster h = mod_below guest (words_of_cluster h) (some-words h (consistent-shaped f H was)) in
+      swapped.entries guest row
+      ∙ copies (guest % words_of_cluster h) less
+      ∙ ap (λ k. unmarked_mapping (slot_or_none f h k (guest % words_of_cluster h))) (sym row)
+      ∙ ap unmarked_mapping (sym (entry-slot f h guest was.readable.tables))
 
+  -- any other its own,
   pub entry-elsewhere : (guest : ℕ) → guest / words_of_cluster h ≢ i → entry x h guest ≡ entry f h guest
   entry-elsewhere guest apart = (swapped.elsewhere guest (inl apart)).mapping
+
+  -- and so each has its own but for the mark.
+  pub entry-unmarked : (guest : ℕ) → unmarked_mapping (entry x h guest) ≡ unmarked_mapping (entry f h guest)
+  entry-unmarked guest = elim (cases_eq (guest / words_of_cluster h) i) [
+    | inr apart ↦ ap unmarked_mapping (entry-elsewhere guest apart)
+    | inl row ↦ ap unmarked_mapping (entry-copied guest row) ∙ unmarked-twice (entry f h guest)
+  ]
 
   -- A word of the new table means what the old one's did, but for the mark.
   pub slot-new : (j : ℕ) → j < words_of_cluster h → slot x h i j ≡ unmarked_mapping (slot_or_none f h i j)

@@ -1,4 +1,5 @@
 pub mod Values
+pub mod Headers
 pub mod WordSteps
 pub mod DataRuns
 pub mod OwnClusters

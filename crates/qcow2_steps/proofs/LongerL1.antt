@@ -40,6 +40,7 @@ use Rattle.qcow2_alloc.proofs.Quiet.QuietShows.{in-cluster, memory-same, named-a
 use Rattle.qcow2_steps.specs.Advancing.{Advances}
 use Rattle.qcow2_steps.specs.LongerL1.{IsReadyL1Table, NamesL1Table, new_l1, old_l1, with_longer_l1}
 use Rattle.qcow2_steps.specs.Values.{file_value, memory_value, own_value_by}
+use Rattle.qcow2_steps.proofs.Headers.{header-l1}
 use Rattle.qcow2_steps.proofs.QuietValues.{data-used}
 use Rattle.qcow2_steps.proofs.Values.{places-there, value-same, within}
 use Rattle.qcow2_steps.proofs.WrittenValues.{data-slot}
@@ -277,6 +278,11 @@ module _ (m : Metadata) (o more : ℕ) (x : Bytes) (sound : IsSound m) (ready : 
       let one = ap (of_mapping h (meets h d)) there.1 ∙ meets-own h d in
       named-apart f g h d (guest / words_of_cluster h) (guest % words_of_cluster h) (slot f h (guest / words_of_cluster h) (guest % words_of_cluster h)) sound.safe.apart there.0 (inl refl) (omega (arith, one))
 
+  -- Each guest cluster has its word,
+  pub words-kept : (guest : ℕ) → (entry y new guest ≡ entry g h guest) × (entry x new guest ≡ entry f h guest)
+  words-kept guest = (over-there.entries guest, in-file.entries guest)
+
+  -- and each place shows what it did.
   pub file-shows-same : (p : ℕ) → file_value later p ≡ file_value m p
   file-shows-same p =
       ap (own_value_by x h p) (in-file.entries (p / cluster_size h)) ∙ value-same f x h p (entry f h (p / cluster_size h)) (λ d k is. byte-kept p d (file-apart (p / cluster_size h) d k is))
@@ -289,8 +295,8 @@ module _ (m : Metadata) (o more : ℕ) (x : Bytes) (sound : IsSound m) (ready : 
   pub longer-advances : Advances (λ p v. ⊥) (λ q. ⊥) (λ guest. ⊥) (old_l1 m) (new_l1 m o more) m later
   longer-advances = record {
     sound = longer-sound;
-    bits = refl;
-    file = record { consistent = in-file.consistent; size = refl; shows = λ p. inl (file-shows-same p) };
+    header = header-l1 m.header o (m.header.fields.l1_entries + more);
+    file = record { consistent = in-file.consistent; header = header-l1 m.header o (m.header.fields.l1_entries + more); shows = λ p. inl (file-shows-same p) };
     memory = λ p. inl (memory-shows-same p);
     words = λ guest. inl (over-there.entries guest);
     used = λ d used none. record {

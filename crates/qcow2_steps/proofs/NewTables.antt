@@ -39,7 +39,8 @@ use Rattle.qcow2_alloc.proofs.Quiet.QuietShows.{in-cluster, memory-same, named-a
 use Rattle.qcow2_steps.specs.Advancing.{Advances}
 use Rattle.qcow2_steps.specs.NewTables.{IsOfTable, IsReadyL2Table, NamesTable, old_table, slot_or_none, with_l1_word}
 use Rattle.qcow2_steps.specs.Values.{file_value, memory_value, own_value_by}
-use Rattle.qcow2_steps.proofs.CopiedTables.{entry-elsewhere, entry-unmarked, none-there, references, replaced, slot-new, slot-there, swapped, unmarked-free, unmarked-weighs}
+use Rattle.qcow2_steps.proofs.CopiedTables.{entry-copied, entry-elsewhere, entry-unmarked, none-there, references, replaced, slot-new, slot-there, swapped, unmarked-free, unmarked-weighs}
+use Rattle.qcow2_steps.proofs.Headers.{header-same}
 use Rattle.qcow2_steps.proofs.QuietValues.{data-used}
 use Rattle.qcow2_steps.proofs.Steps.{meets-one}
 use Rattle.qcow2_steps.proofs.Values.{places-there, value-same, within}
@@ -387,18 +388,35 @@ module _ (m : Metadata) (i c w : ℕ) (sound : IsSound m) (ready : IsReadyL2Tabl
       ∙ same-value x h p (entry y h (p / cluster_size h)) (entry g h (p / cluster_size h)) same
       ∙ value-same f x h p (entry g h (p / cluster_size h)) (λ d copied is. byte-kept p d (data-used m sound (p / cluster_size h) d copied is).apart)
 
+  -- Its words mean what they did with no mark, in the file and in memory, and those of other tables what they did.
+  pub file-copied : (guest : ℕ) → IsOfTable h i guest → entry x h guest ≡ unmarked_mapping (entry f h guest)
+  file-copied = entry-copied f m.header sound.safe.consistent i c w ready.inside by.fits by.sane by.names ready.some unnamed-file ready.counts ready.words
+
+  pub memory-copied : (guest : ℕ) → IsOfTable h i guest → entry (in_memory later) h guest ≡ unmarked_mapping (entry g h guest)
+  memory-copied guest own =
+      ap (λ (z : Bytes). entry z h guest) memory-is
+      ∙ entry-copied g m.header (within m sound) i c w ready.inside by.fits by.sane by.names ready.some unnamed-there counted-there copies-there guest own
+
+  pub file-elsewhere : (guest : ℕ) → guest / words_of_cluster h ≢ i → entry x h guest ≡ entry f h guest
+  file-elsewhere = entry-elsewhere f m.header sound.safe.consistent i c w ready.inside by.fits by.sane by.names ready.some unnamed-file ready.counts ready.words
+
+  pub memory-elsewhere : (guest : ℕ) → guest / words_of_cluster h ≢ i → entry (in_memory later) h guest ≡ entry g h guest
+  memory-elsewhere guest apart =
+      ap (λ (z : Bytes). entry z h guest) memory-is
+      ∙ entry-elsewhere g m.header (within m sound) i c w ready.inside by.fits by.sane by.names ready.some unnamed-there counted-there copies-there guest apart
+
   one-new : (d : ℕ) → meets h d t (cluster_size h) ≡ one_at c d
   one-new d = meets-one h c d
 
   pub table-advances : Advances (λ p v. ⊥) (λ q. ⊥) (IsOfTable h i) (old_table m i) (one_at c) m later
   table-advances = record {
     sound = table-sound;
-    bits = refl;
-    file = record { consistent = in-file.consistent; size = refl; shows = λ p. inl (file-shows-same p) };
+    header = header-same m.header;
+    file = record { consistent = in-file.consistent; header = header-same m.header; shows = λ p. inl (file-shows-same p) };
     memory = λ p. inl (memory-shows-same p);
     words = λ guest. elim (cases_eq (guest / words_of_cluster h) i) [
       | inl own ↦ inr own
-      | inr apart ↦ inl (ap (λ (z : Bytes). entry z h guest) memory-is ∙ entry-elsewhere g m.header (within m sound) i c w ready.inside by.fits by.sane by.names ready.some unnamed-there counted-there copies-there guest apart)
+      | inr apart ↦ inl (memory-elsewhere guest apart)
     ];
     used = λ d used none. record {
       apart = let all = base d in let new = one-new d in let was = used.apart in omega (arith, all, new, was, none);

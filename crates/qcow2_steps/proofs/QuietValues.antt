@@ -22,6 +22,7 @@ use Rattle.qcow2_alloc.proofs.Memory.WordsKept.{word-contents}
 use Rattle.qcow2_alloc.proofs.Quiet.QuietShows.{named-apart}
 use Rattle.qcow2_steps.specs.Advancing.{MayBeLeft}
 use Rattle.qcow2_steps.specs.Values.{file_value, memory_value, own_value, own_value_by}
+use Rattle.qcow2_steps.proofs.Headers.{header-counts}
 use Rattle.qcow2_steps.proofs.Values.{places-there, value-same, within}
 use Rattle.qcow2_steps.proofs.WrittenValues.{data-slot}
 
@@ -151,7 +152,7 @@ quiet-left gives m x H sound shows = subst (MayBeLeft gives m x) (sym shows.move
     by : (o n : ℕ) → ShowsEither m x (with_refcount_table m.header o n) → MayBeLeft gives m x (with_refcount_table m.header o n)
     by o n shows' = record {
       consistent = shows'.consistent;
-      size = refl;
+      header = header-counts m.header (with_refcount_table m.header o n) (o, n, refl);
       shows = λ p. elim (left-value m sound x o n shows' p) [
         | inl file ↦ inl file
         | inr memory ↦ inr (inl memory)

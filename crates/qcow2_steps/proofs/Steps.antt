@@ -6,7 +6,7 @@ use Rattle.std.proofs.lemmas.Bool.Decides.{nat_tests}
 use Rattle.imago_storage.specs.Steps.{IsIn}
 use Rattle.qcow2_types.specs.Bytes.{Bytes}
 use Rattle.qcow2_types.specs.Entries.{entry}
-use Rattle.qcow2_types.specs.Header.{Fields, Header, cluster_size, words_of_cluster}
+use Rattle.qcow2_types.specs.Header.{Fields, cluster_size, words_of_cluster}
 use Rattle.qcow2_types.specs.Pending.{FreeEntry}
 use Rattle.qcow2_types.specs.References.{meets, of_mapping}
 use Rattle.qcow2_types.specs.Words.{Mapping, data_at}
@@ -25,6 +25,7 @@ use Rattle.qcow2_steps.specs.Values.{memory_value, own_value_by}
 use Rattle.qcow2_steps.specs.Words.{ChangesWord, DropsNames, GivesWord, IsOfOther, IsOfWord, IsReserved, NamesCluster}
 use Rattle.qcow2_steps.proofs.AddingUp.{advances-then, advances-weaker}
 use Rattle.qcow2_steps.proofs.DataRuns.{beside-sound, beside-used, beside-words}
+use Rattle.qcow2_steps.proofs.Headers.{header-counts, header-same}
 use Rattle.qcow2_steps.proofs.QuietValues.{quiet-entries, quiet-left, quiet-values}
 use Rattle.qcow2_steps.proofs.WordSteps.{dropped-owed, dropped-sound, named-sound, used-after}
 use Rattle.qcow2_steps.proofs.WrittenValues.{written-memory, written-stops}
@@ -33,7 +34,7 @@ pub quiet-advances : (m m' : Metadata) (handed taken : ℕ → ℕ) → IsSound 
     → Advances (λ p v. ⊥) (λ q. ⊥) (λ guest. ⊥) handed taken m m'
 quiet-advances m m' handed taken sound sound' quiet spared = record {
   sound = sound';
-  bits = ap (λ (H : Header). H.fields.cluster_bits) quiet.shows.moved.2;
+  header = header-counts m.header m'.header quiet.shows.moved;
   file = quiet-left (λ p v. ⊥) m m'.file m'.header sound quiet.shows;
   memory = λ p. inl (quiet-values m m' handed taken sound sound' quiet spared p);
   words = λ guest. inl (quiet-entries m m' handed taken sound sound' quiet guest);
@@ -50,7 +51,7 @@ written-advances m first c k at n x sound writes own =
     let words = beside-words m sound c k at n x writes in
     record {
       sound = beside-sound m sound c k at n x writes;
-      bits = refl;
+      header = header-same m.header;
       file = written-stops m first c k at n x x sound writes own (λ q. inr refl);
       memory = written-memory m first c k at n x sound writes own;
       words = λ guest. inl (words.memory_entries guest);
@@ -74,8 +75,8 @@ put-off-advances m e sound enough unnamed =
     let both = push-quiet m e sound enough unnamed in
     record {
       sound = both.0;
-      bits = refl;
-      file = record { consistent = sound.safe.consistent; size = refl; shows = λ p. inl refl };
+      header = header-same m.header;
+      file = record { consistent = sound.safe.consistent; header = header-same m.header; shows = λ p. inl refl };
       memory = λ p. inl refl;
       words = λ guest. inl refl;
       used = λ c used none. record { apart = used.apart; taken = let more = listed_push m.pending e c in let taken = used.taken in omega (arith, more, taken, none) };
@@ -114,8 +115,8 @@ module _ (m : Metadata) (i j : ℕ) (old new : Mapping) (cached' : Cached) (chan
       → Advances (GivesWord m i j new) (λ q. ⊥) (IsOfWord m.header.fields i j) handed taken m later
   set-advances handed taken sound sound' fewer law = record {
     sound = sound';
-    bits = refl;
-    file = record { consistent = sound.safe.consistent; size = refl; shows = λ p. inl refl };
+    header = header-same m.header;
+    file = record { consistent = sound.safe.consistent; header = header-same m.header; shows = λ p. inl refl };
     memory = λ p. elim (own-or-other (p / cluster_size m.header.fields)) [
       | inl own ↦ inr (own, value-here p own)
       | inr other ↦ inl (value-elsewhere p other)
@@ -171,9 +172,9 @@ freed-advances m i j old new e cached' sound drops guest back =
     (λ q given. elim given [ inl never ↦ never | inr never ↦ never ])
     (λ g given. elim given [ inl is ↦ is | inr never ↦ absurd never ])
     (λ c. omega arith) (λ c used none. omega (arith, none))
-    (advances-then (GivesWord m i j new) (λ p v. ⊥) (λ q. ⊥) (λ q. ⊥) (IsOfWord m.header.fields i j) (λ g. ⊥) (λ c. covers c e) (λ _. 0) (λ _. 0) (λ c. covers c e)
-    m (record m { cached = cached' }) (record m { cached = cached'; pending = m.pending ++ e ∷ [] })
+    (advances-then (GivesWord m i j new) (λ p v. ⊥) (λ q. ⊥) (IsOfWord m.header.fields i j) (λ c. covers c e) (λ _. 0) m (record m { cached = cached' })
     (dropped-advances m i j old new (λ c. covers c e) cached' sound drops back)
+    (λ q. ⊥) (λ g. ⊥) (λ _. 0) (λ c. covers c e) (record m { cached = cached'; pending = m.pending ++ e ∷ [] })
     (put-off-advances (record m { cached = cached' }) e (dropped-sound m i j old cached' sound new drops)
     (λ c. let owed = dropped-owed m i j old cached' sound new drops c in let same = drops.changed.written.counts c in let less = back c in omega (arith, owed, same, less))
     (λ c some. absurd (let none : covers_metadata c e ≡ 0 = rw guest refl in omega (arith, some, none)))))

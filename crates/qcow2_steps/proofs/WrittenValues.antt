@@ -21,6 +21,7 @@ use Rattle.qcow2_steps.specs.Advancing.{MayBeLeft}
 use Rattle.qcow2_steps.specs.Data.{AreNamedFor, GivesData, WritesBeside}
 use Rattle.qcow2_steps.specs.Values.{file_value, memory_value, own_value, own_value_by}
 use Rattle.qcow2_steps.proofs.DataRuns.{beside-words, stop-writes}
+use Rattle.qcow2_steps.proofs.Headers.{header-same}
 use Rattle.qcow2_steps.proofs.Values.{places-there, within}
 
 -- The word of a guest cluster that maps it to data is one of a table that there is.
@@ -152,7 +153,7 @@ pub written-stops : (m : Metadata) (first c k at n : ℕ) (x y : Bytes) → IsSo
     → ((q : ℕ) → (y q ≡ m.file q) ⊎ (y q ≡ x q)) → MayBeLeft (GivesData m.header.fields first c at n x) m y m.header
 written-stops m first c k at n x y sound writes own either = record {
   consistent = (beside-words m sound c k at n y (stop-writes m c k at n x y writes either)).consistent;
-  size = refl;
+  header = header-same m.header;
   shows = λ p. elim (file-written m first c k at n x y sound writes own either p) [
     | inl same ↦ inl same
     | inr given ↦ inr (inr given)

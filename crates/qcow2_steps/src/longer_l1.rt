@@ -2,7 +2,8 @@
 
 ghost use Rattle.std.specs.Prelude.{◌≡◌, ℕ};
 ghost use Rattle.qcow2_types.specs.Bytes.{Bytes};
-ghost use Rattle.qcow2_alloc.specs.Quiet.{Metadata, IsSound, named_at_all};
+ghost use Rattle.qcow2_types.specs.Entries.{entry};
+ghost use Rattle.qcow2_alloc.specs.Quiet.{Metadata, IsSound, in_memory, named_at_all};
 ghost use Rattle.qcow2_steps.specs.Advancing.{Advances};
 ghost use Rattle.qcow2_steps.specs.LongerL1.{IsReadyL1Table, NamesL1Table, new_l1, old_l1, with_longer_l1};
 ghost use Rattle.qcow2_steps.specs.Values.{file_value, memory_value};
@@ -20,6 +21,11 @@ pub fn naming_a_longer_l1_table()
         → (p : ℕ) → file_value (with_longer_l1 m offset more x) p ≡ file_value m p }
     ensures memory { (m : Metadata) (offset more : ℕ) (x : Bytes) → IsSound m → IsReadyL1Table m offset more → NamesL1Table m offset more x
         → (p : ℕ) → memory_value (with_longer_l1 m offset more x) p ≡ memory_value m p }
+    ensures words { (m : Metadata) (offset more guest : ℕ) (x : Bytes) → IsSound m → IsReadyL1Table m offset more
+        → NamesL1Table m offset more x
+        → (entry (in_memory (with_longer_l1 m offset more x)) (with_longer_l1 m offset more x).header.fields guest
+        ≡ entry (in_memory m) m.header.fields guest)
+        × (entry x (with_longer_l1 m offset more x).header.fields guest ≡ entry m.file m.header.fields guest) }
     ensures old { (m : Metadata) (offset more d : ℕ) (x : Bytes) → IsSound m → IsReadyL1Table m offset more → NamesL1Table m offset more x
         → old_l1 m d ≡ 1 → named_at_all (with_longer_l1 m offset more x) d ≡ 0 }
 {}

@@ -1,4 +1,4 @@
-use Rattle.qcow2_steps.proofs.LongerL1.{file-shows-same, longer-advances, longer-sound, memory-shows-same, old-unnamed}
+use Rattle.qcow2_steps.proofs.LongerL1.{file-shows-same, longer-advances, longer-sound, memory-shows-same, old-unnamed, words-kept}
 use Rattle.qcow2_steps.proofs.longer_l1.naming_a_longer_l1_table.Goals as goal
 
 pub returns : goal.returns
@@ -7,5 +7,6 @@ returns g = record {
   advances = λ m o more x sound ready by. longer-advances m o more x sound ready by;
   file = λ m o more x sound ready by. file-shows-same m o more x sound ready by;
   memory = λ m o more x sound ready by. memory-shows-same m o more x sound ready by;
+  words = λ m o more guest x sound ready by. words-kept m o more x sound ready by guest;
   old = λ m o more d x sound ready by. old-unnamed m o more x sound ready by d;
 }

@@ -1,4 +1,4 @@
-use Rattle.qcow2_steps.proofs.NewTables.{file-shows-same, memory-shows-same, old-unnamed, table-advances, table-sound}
+use Rattle.qcow2_steps.proofs.NewTables.{file-copied, file-elsewhere, file-shows-same, memory-copied, memory-elsewhere, memory-shows-same, old-unnamed, table-advances, table-sound}
 use Rattle.qcow2_steps.proofs.new_tables.naming_a_new_table.Goals as goal
 
 pub returns : goal.returns
@@ -7,5 +7,8 @@ returns g = record {
   advances = λ m i c w sound ready by. table-advances m i c w sound ready by;
   file = λ m i c w sound ready by. file-shows-same m i c w sound ready by;
   memory = λ m i c w sound ready by. memory-shows-same m i c w sound ready by;
+  words = λ m i c w guest sound ready by. memory-copied m i c w sound ready by guest;
+  file_words = λ m i c w guest sound ready by. file-copied m i c w sound ready by guest;
+  other_words = λ m i c w guest sound ready by apart. (memory-elsewhere m i c w sound ready by guest apart, file-elsewhere m i c w sound ready by guest apart);
   old = λ m i c w d sound ready by. old-unnamed m i c w sound ready by d;
 }
