@@ -1,8 +1,8 @@
 //! Each step in the words of what adds up: what it may show, and what is left of the clusters. The functions do nothing, and their
-//! contracts are the laws. That two steps add up is a lemma, since a clause can't speak of any values that a step may give
-//! (`Rattle.qcow2_steps.proofs.AddingUp`).
+//! contracts are the laws.
 
-ghost use Rattle.std.specs.Prelude.{◌≡◌, ◌+◌, ◌<◌, ◌≤◌, ◌++◌, ◌∷◌, [], ℕ, false, true};
+ghost use Rattle.std.specs.Prelude.{◌≡◌, ◌⊎◌, ◌+◌, ◌<◌, ◌≤◌, ◌++◌, ◌∷◌, [], ℕ, Option, false, true};
+ghost use Rattle.imago_storage.specs.Disk.{Value};
 ghost use Rattle.imago_storage.specs.Steps.{IsIn};
 ghost use Rattle.qcow2_types.specs.Bytes.{Bytes};
 ghost use Rattle.qcow2_types.specs.Header.{Header};
@@ -14,6 +14,41 @@ ghost use Rattle.qcow2_alloc.specs.Quiet.{Metadata, IsQuiet, IsSound, ShowsEithe
 ghost use Rattle.qcow2_steps.specs.Advancing.{Advances, MayBeLeft};
 ghost use Rattle.qcow2_steps.specs.Data.{AreNamedFor, GivesData, WritesBeside};
 ghost use Rattle.qcow2_steps.specs.Words.{DropsNames, GivesWord, IsOfWord, IsReserved, NamesCluster, names_at};
+
+use std::marker::Brand;
+
+/// What a step may come to show at which place, which bytes it writes, and of which guest clusters it sets the words.
+pub trait Step {
+    ghost gives: { ℕ → Option Value → Type 0 };
+
+    ghost written: { ℕ → Type 0 };
+
+    ghost set: { ℕ → Type 0 };
+}
+
+// Stands for any step: the proof of a call picks what it gives, writes and sets.
+impl Step for Brand {
+    ghost gives = { λ p v. ⊥ };
+
+    ghost written = { λ q. ⊥ };
+
+    ghost set = { λ guest. ⊥ };
+}
+
+/// Two steps add up, whatever they give: together they give, write and set what either does, and hand out and take what both do. A stop in
+/// the second is one in both. What was reserved before a step and isn't taken by it is so after it.
+pub fn steps_add_up<First: Step, Second: Step>()
+    ensures both { (handed taken handed' taken' : ℕ → ℕ) (m m1 m2 : Metadata)
+        → Advances First.gives First.written First.set handed taken m m1
+        → Advances Second.gives Second.written Second.set handed' taken' m1 m2
+        → Advances (λ p v. First.gives p v ⊎ Second.gives p v) (λ q. First.written q ⊎ Second.written q)
+        (λ guest. First.set guest ⊎ Second.set guest) (λ c. handed c + handed' c) (λ c. taken c + taken' c) m m2 }
+    ensures stops { (handed taken : ℕ → ℕ) (m m1 : Metadata) (x : Bytes) (H : Header)
+        → Advances First.gives First.written First.set handed taken m m1 → MayBeLeft Second.gives m1 x H
+        → MayBeLeft (λ p v. First.gives p v ⊎ Second.gives p v) m x H }
+    ensures reserved { (handed taken : ℕ → ℕ) (m m1 : Metadata) → Advances First.gives First.written First.set handed taken m m1
+        → (c : ℕ) → IsReserved m c → taken c ≡ 0 → IsReserved m1 c }
+{}
 
 /// What is quiet, and takes nothing that is named, gives nothing.
 pub fn what_is_quiet_advances()
