@@ -1,5 +1,6 @@
 // The files and the disk of a case, and the calls of its lines.
 use crate::files::{NamedFiles, making_of};
+use crate::images::probe;
 use crate::layers::{Disk, add, counts, image_of};
 use crate::openings;
 use crate::prefixes::{Looked, prefixes};
@@ -267,6 +268,7 @@ impl<'a> Layer for Chains<'a> {
             ["prefixes", format, name, first, last, rest @ ..] => {
                 self.prefixes(alloc, (*format, *name), [*first, *last], rest)
             }
+            ["probe", format, name] => probe(alloc, &mut self.files, format, name),
             ["layer", rest @ ..] => self.add(alloc, rest),
             ["chain", rest @ ..] => self.open_chain(alloc, rest),
             ["in_memory", rest @ ..] => self.open_in_memory(alloc, rest),

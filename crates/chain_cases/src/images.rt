@@ -69,6 +69,15 @@ pub fn open_qcow2<'a>(
     Ok(builder.open(alloc, files)?)
 }
 
+// Opens a storage as a qcow2 image without a builder: `[writing]`.
+fn open_plain<'a>(
+    alloc: Global,
+    storage: Base<'a>,
+    words: &[&str],
+) -> Result<Qcow2<Base<'a>>, Trouble> {
+    Ok(Qcow2::open_image(alloc, storage, access_alone(words)?)?)
+}
+
 /// Opens a storage as a VMDK descriptor, whose extents are files of the case: `[writing]`.
 ///
 /// # Errors
@@ -105,7 +114,7 @@ pub fn raw<'a>(files: &mut NamedFiles<'a>, words: &[&str]) -> Result<Raw<Base<'a
     Ok(Raw::open_image(storage, access_alone(rest)?))
 }
 
-/// Opens a file of the case as a qcow2 image: `NAME`, and the words of `open_qcow2`.
+/// Opens a file of the case as a qcow2 image: `NAME`, and the words of `open_qcow2`, or `plain [writing]`.
 ///
 /// # Errors
 ///
@@ -116,7 +125,10 @@ pub fn qcow2<'a>(
     words: &[&str],
 ) -> Result<Qcow2<Base<'a>>, Trouble> {
     let (storage, rest) = opened(files, words)?;
-    open_qcow2(alloc, storage, files, rest)
+    match rest {
+        ["plain", rest @ ..] => open_plain(alloc, storage, rest),
+        _ => open_qcow2(alloc, storage, files, rest),
+    }
 }
 
 /// Opens a file of the case as a VMDK descriptor: `NAME`, and the words of `open_vmdk`.
@@ -131,4 +143,24 @@ pub fn vmdk<'a>(
 ) -> Result<Vmdk<Base<'a>>, Trouble> {
     let (storage, rest) = opened(files, words)?;
     open_vmdk(alloc, storage, files, rest)
+}
+
+/// Whether a file of the case begins as an image of a format does.
+///
+/// # Errors
+///
+/// `Trouble::NoCall` where the format has no such test, and where there is no such file; `Trouble::Refused` as the call.
+pub fn probe<'a>(
+    alloc: Global,
+    files: &mut NamedFiles<'a>,
+    format: &str,
+    name: &str,
+) -> Result<String, Trouble> {
+    let mut storage = files.open(name)?;
+    let begins = match format {
+        "qcow2" => Qcow2::probe(alloc, &mut storage)?,
+        "vmdk" => Vmdk::probe(alloc, &mut storage)?,
+        _ => return Err(Trouble::NoCall),
+    };
+    Ok(begins.to_string(alloc)?)
 }

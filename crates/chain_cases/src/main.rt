@@ -7,6 +7,7 @@
 //!   for what opens it from then on.
 //! - `prefixes qcow2 | vmdk NAME FIRST LAST [OFFSET N]`: what the openings of its first bytes answer, of each length from the first to the
 //!   last: the size of the disk, or a refusal, where all answer the same. With a range it is what reads of the disk answer there.
+//! - `probe qcow2 | vmdk NAME`: whether it begins as an image of this format does: `true` or `false`.
 //!
 //! # Layers
 //!
@@ -15,6 +16,7 @@
 //! - `layer raw NAME [writing]`: a file as a raw image.
 //! - `layer qcow2 NAME [writing] [backed | alone] [caches L R]`: a file as a qcow2 image, by its builder. Layers are below it, or none, by
 //!   what is said; its caches have room for so many L2 tables and refcount blocks.
+//! - `layer qcow2 NAME plain [writing]`: the same without a builder, by `open_image`.
 //! - `layer vmdk NAME [writing]`: a descriptor, whose extents are files of the case.
 //! - `close` lets go of the disk.
 //! - `chain [writing] [number N] [LAYER [over LAYER] ..]`: files that are opened as a chain all at once, the top first, in the place of the
