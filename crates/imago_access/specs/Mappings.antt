@@ -49,7 +49,8 @@ NamesHome layer offset asked mapping = IsFree layer → 0 < asked
 -- where a layer says of places what room they have, one that is vacant or zeroed isn't answered as a place of a storage, nor as one that
 -- can't be read
 abbrev pub HasStoredRoom : Layer → (vacant zeroed : ℕ → Type 0) → ℕ → ℕ → Type 0
-HasStoredRoom layer vacant zeroed offset n = IsTrue layer.fixed.states_room → (i : ℕ) → i < n → (vacant (offset + i) ⊎ zeroed (offset + i)) → ⊥
+HasStoredRoom layer vacant zeroed offset n =
+    IsTrue layer.fixed.states_room → (i : ℕ) → i < n → (vacant (offset + i) ⊎ zeroed (offset + i)) → ⊥
 
 abbrev pub NamesRoom : Layer → (vacant zeroed : ℕ → Type 0) → ℕ → ℕ → ShallowMapping → Type 0
 NamesRoom layer vacant zeroed offset n (shallow.Raw storage place writable) = HasStoredRoom layer vacant zeroed offset n

@@ -7,7 +7,6 @@ mod ExtentLines
 mod SettingLines
 mod RefusedLines
 mod WorkedDescriptors
-pub mod Failing
 mod FileLemmas
 mod ExtentLemmas
 pub mod OpeningLemmas

@@ -8,7 +8,7 @@ use Rattle.std.specs.declared.string.String.{String}
 use Rattle.std.specs.declared.alloc.Global.{Global}
 use Rattle.std.proofs.lemmas.Bool.{cases_lt}
 use Rattle.imago_storage.specs.State.{StorageState}
-use Rattle.imago_formats.proofs.Failing.{may-fail}
+use Rattle.imago_storage.proofs.Failing.{may-fail}
 use Rattle.imago_storage.specs.Through.{round_up}
 use Rattle.imago_storage.specs.declared.fault.Fault.{Fault}
 use Rattle.imago_storage.specs.declared.fault.Fault.TheVariants.{Memory, Storage}

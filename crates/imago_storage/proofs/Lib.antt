@@ -17,3 +17,4 @@ pub mod Around
 pub mod Laying
 pub mod Untouched
 pub mod GivingUp
+pub mod Failing

@@ -1,6 +1,6 @@
 -- What a storage with a log is: requests, replayed over the bytes that it was made over.
-use Rattle.std.specs.Prelude.{◌≡◌, ◌⊎◌, ℕ, ◌+◌, ◌-◌, List, [], ◌∷◌, ◌++◌, length, take, drop, replicate, true, refl, IsTrue, IfErr, Result, MatchResult}
-use Rattle.imago_storage.specs.State.{StorageState, Rose, IsAligned}
+use Rattle.std.specs.Prelude.{◌≡◌, ◌⊎◌, ℕ, ◌+◌, ◌-◌, List, [], ◌∷◌, ◌++◌, length, take, drop, replicate, slice_get, true, refl, Option, Some, IsTrue, IfErr, Result, MatchResult}
+use Rattle.imago_storage.specs.State.{StorageState, Rose, InStep, IsAligned}
 use Rattle.imago_storage.specs.declared.fault.Fault.{Fault}
 use Rattle.imago_storage.specs.declared.fault.Fault.TheVariants.{Memory, Storage}
 use Rattle.imago_storage.specs.declared.log.Request.{Request}
@@ -74,6 +74,14 @@ log_tells state log = refl
 abbrev pub telling : StorageState → StorageState
 telling s = record s { shape = record s.shape { tells = true }; stop = s.bytes; past = [] }
 
+-- the file that a stop leaves, so many requests before the last
+abbrev pub IsStop : StorageState → ℕ → List ℕ → Type 0
+IsStop s back file = slice_get (s.stop ∷ s.past) back ≡ Some file
+
+-- while no change was refused, a stop now has the bytes
+abbrev pub ShowsBytes : StorageState → List ℕ → Type 0
+ShowsBytes s file = InStep s → IsTrue s.shape.keeps → file ≡ s.bytes
+
 -- why no log can be made: want of memory, or a storage that failed
 abbrev pub NotLogged : Fault → Type 0
 NotLogged Memory = Unit
@@ -94,5 +102,10 @@ IsWrite offset bytes request = ⊥
 -- the log stays, and the storage below has counted a refused change, or nothing has changed but how many the log has counted.
 pub record Noted {S T : Type 0} (state : S → StorageState) (IsSo : Request → Type 0) (old new : LogStorage S) (result : Result T Fault) : Type 0 where
   pub base : log_base new ≡ log_base old
-  pub requests : MatchResult result (λ _. (request : Request) × IsSo request × (log_requests new ≡ log_requests old ++ request ∷ [])) (λ _. log_requests new ≡ log_requests old)
-  pub refused : IfErr result (λ _. Rose (state (log_inner old)).refusals (state (log_inner new)).refusals ⊎ (log_state state new ≡ record (log_state state old) { refusals = (log_state state new).refusals }))
+  pub requests :
+      MatchResult result (λ _. (request : Request) × IsSo request × (log_requests new ≡ log_requests old ++ request ∷ []))
+      (λ _. log_requests new ≡ log_requests old)
+  pub refused :
+      IfErr result (λ _.
+      Rose (state (log_inner old)).refusals (state (log_inner new)).refusals ⊎
+      (log_state state new ≡ record (log_state state old) { refusals = (log_state state new).refusals }))

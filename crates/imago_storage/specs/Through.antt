@@ -1,7 +1,7 @@
 -- What a padded call does, by any number of requests.
 use Rattle.std.specs.Prelude.{◌≡◌, ◌⊎◌, ℕ, ◌+◌, ◌-◌, ◌*◌, ◌/◌, ◌%◌, ◌<◌, ◌≤◌, ◌^◌, max, List, ◌∷◌, ◌++◌, length, replicate, All, IsTrue, Result, MatchResult}
 use Rattle.imago_storage.specs.State.{StorageState, Rose, InStep, unit_of}
-use Rattle.imago_storage.specs.Calls.{Spliced, Mixed, Cause, Kept, Later, Discarded, NotDiscarded}
+use Rattle.imago_storage.specs.Calls.{Spliced, Mixed, Cause, Kept, Later, Discarded, NotDiscarded, SameOutside}
 use Rattle.imago_storage.specs.declared.fault.Fault.{Fault}
 use Rattle.imago_storage.specs.declared.fault.Fault.TheVariants.{RangeOverflow, Unsupported}
 
@@ -100,7 +100,17 @@ UnlessOverflow P old new Q fault = Q fault
 
 -- one request where the call succeeds and has bytes to write, and none where it is refused
 abbrev pub RequestsOnce : {T : Type 0} → StorageState → StorageState → ℕ → Result T Fault → Type 0
-RequestsOnce old new n result = MatchResult result (λ _. 0 < n → IsTrue old.shape.tells → new.past ≡ old.stop ∷ old.past) (λ _. (new.stop ≡ old.stop) × (new.past ≡ old.past))
+RequestsOnce old new n result =
+    MatchResult result (λ _. 0 < n → IsTrue old.shape.tells → new.past ≡ old.stop ∷ old.past)
+    (λ _. (new.stop ≡ old.stop) × (new.past ≡ old.past))
+
+-- a range of whole units, or one in a single unit, is written by one request
+abbrev pub WritesAtOnce : {T : Type 0} → StorageState → StorageState → (at n : ℕ) → Result T Fault → Type 0
+WritesAtOnce old new at n result = IsAtOnce (unit_of old.shape) at n → RequestsOnce old new n result
+
+-- a range of whole units of the alignment of zeroing is zeroed by one request
+abbrev pub ZeroesAtOnce : {T : Type 0} → StorageState → StorageState → (at n : ℕ) → Result T Fault → Type 0
+ZeroesAtOnce old new at n result = IsUnits (max (unit_of old.shape) old.shape.zero_align) at n → RequestsOnce old new n result
 
 -- at most one of three parts has bytes
 abbrev pub IsOnePart : ℕ → ℕ → ℕ → Type 0
@@ -123,7 +133,8 @@ WrittenThrough old new at bytes = Through (unit_of old.shape) old new at bytes
 
 -- a refused `write`
 abbrev pub NotWrittenThrough : StorageState → StorageState → ℕ → List ℕ → Fault → Type 0
-NotWrittenThrough old new at bytes = UnlessOverflow (Overflows (unit_of old.shape) at (length bytes)) old new (NotThrough (unit_of old.shape) old new at bytes)
+NotWrittenThrough old new at bytes =
+    UnlessOverflow (Overflows (unit_of old.shape) at (length bytes)) old new (NotThrough (unit_of old.shape) old new at bytes)
 
 -- a range that isn't zeroed; `Unsupported` comes where it has whole units of the alignment of zeroing, and leaves all as it was
 abbrev pub NotZeroed : StorageState → StorageState → ℕ → ℕ → Fault → Type 0
@@ -149,6 +160,10 @@ GivenUp old new at n = (new ≡ old) ⊎ (HasWhole (discard_unit old) at n × Di
 abbrev pub NotGivenUp : StorageState → StorageState → ℕ → ℕ → Fault → Type 0
 NotGivenUp old new at n RangeOverflow = Overflows (unit_of old.shape) at n × (new ≡ old)
 NotGivenUp old new at n fault = HasWhole (discard_unit old) at n × NotDiscarded old new (whole_start old at) (whole_size old at n) fault
+
+-- each file that a stop inside a `discard` leaves is the old one but for the whole units of the range
+abbrev pub GivesUpAtStops : StorageState → StorageState → (at n : ℕ) → Type 0
+GivesUpAtStops old new at n = Stops (SameOutside old.bytes (whole_start old at) (whole_size old at n)) old new
 
 -- the clause of a refused `read`
 abbrev pub NotRead : StorageState → StorageState → ℕ → ℕ → Fault → Type 0

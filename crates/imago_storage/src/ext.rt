@@ -1,9 +1,9 @@
 // Calls on any range, padded to whole units.
-ghost use Rattle.std.specs.Prelude.{◌≡◌, ℕ, ◌+◌, ◌-◌, ◌%◌, ◌<◌, ◌≤◌, ◌^◌, max, ◌∷◌, ◌++◌, length, slice_index, replicate, IsOk, OnOk, OnErr, IfErr, IsErrOf, IsTrue};
+ghost use Rattle.std.specs.Prelude.{◌≡◌, ℕ, ◌+◌, ◌-◌, ◌%◌, ◌<◌, ◌≤◌, ◌^◌, max, ◌++◌, length, slice_index, replicate, IsOk, OnOk, OnErr, IfErr, IsErrOf, IsTrue};
 ghost use Rattle.std.specs.Option.{SomeIff};
 ghost use Rattle.imago_storage.specs.State.{unit_of, IsAlignment, IsWhole};
-ghost use Rattle.imago_storage.specs.Calls.{Cause, CountsFaults, Kept, Later, Mixed, Reads, SameOutside};
-ghost use Rattle.imago_storage.specs.Through.{round_up, round_down, HasWhole, IsUnits, Overflows, IsAtOnce, Through, NotThrough, OneRequest, NoRequest, IsOnePart, Parts, RequestsOnce, Stops, StopsAsLong, UnlessOverflow, WrittenThrough, NotWrittenThrough, NotZeroed, GivenUp, NotGivenUp, whole_start, whole_size, NotRead};
+ghost use Rattle.imago_storage.specs.Calls.{Cause, CountsFaults, Kept, Later, Mixed, Reads};
+ghost use Rattle.imago_storage.specs.Through.{round_up, round_down, HasWhole, Overflows, Through, OneRequest, NoRequest, IsOnePart, Parts, WritesAtOnce, ZeroesAtOnce, Stops, StopsAsLong, WrittenThrough, NotWrittenThrough, NotZeroed, GivenUp, NotGivenUp, GivesUpAtStops, NotRead};
 
 use crate::discarding::discard_whole;
 use crate::edits::take_part;
@@ -61,10 +61,9 @@ fn write_padded<S: Storage>(
     offset: u64,
 ) -> Result<(), Fault>
     ensures ok { OnOk result (Through (unit_of (S.state storage.old).shape) (S.state storage.old) (S.state storage.new) offset «data».now) }
-    ensures err { IfErr result (UnlessOverflow (Overflows (unit_of (S.state storage.old).shape) offset (length «data».now)) (S.state storage.old) (S.state storage.new)
-        (NotThrough (unit_of (S.state storage.old).shape) (S.state storage.old) (S.state storage.new) offset «data».now)) }
+    ensures err { IfErr result (NotWrittenThrough (S.state storage.old) (S.state storage.new) offset «data».now) }
     ensures overflow { Overflows (unit_of (S.state storage.old).shape) offset (length «data».now) → IsErrOf result Fault.RangeOverflow }
-    ensures once { IsAtOnce (unit_of (S.state storage.old).shape) offset (length «data».now) → RequestsOnce (S.state storage.old) (S.state storage.new) (length «data».now) result }
+    ensures once { WritesAtOnce (S.state storage.old) (S.state storage.new) offset (length «data».now) result }
     ensures empty { length «data».now ≡ 0 → IsOk result × (S.state storage.new ≡ S.state storage.old) }
     ensures unit { IsAlignment (unit_of (S.state storage.old).shape) }
 {
@@ -112,7 +111,7 @@ fn read_padded<S: Storage>(
     ensures ok { OnOk result (Reads (S.state storage.old).bytes offset buf.new) }
     ensures kept { Kept (S.state storage.old) (S.state storage.new) }
     ensures faults { OnOk result ((S.state storage.new).faults ≡ (S.state storage.old).faults) }
-    ensures err { IfErr result (UnlessOverflow (Overflows (unit_of (S.state storage.old).shape) offset (length buf.old)) (S.state storage.old) (S.state storage.new) (Cause (S.state storage.old).faults (S.state storage.new).faults)) }
+    ensures err { IfErr result (NotRead (S.state storage.old) (S.state storage.new) offset (length buf.old)) }
     ensures overflow { Overflows (unit_of (S.state storage.old).shape) offset (length buf.old) → IsErrOf result Fault.RangeOverflow }
     ensures empty { length buf.old ≡ 0 → IsOk result × (S.state storage.new ≡ S.state storage.old) }
     ensures unit { IsAlignment (unit_of (S.state storage.old).shape) }
@@ -190,7 +189,7 @@ pub trait StorageExt: Storage {
         ensures stops { Stops (Mixed (Self.state self.old).bytes offset «data».now) (Self.state self.old) (Self.state self.new) }
         ensures as_long { StopsAsLong (Self.state self.old) (Self.state self.new) }
         // A range of whole units, or one in a single unit, is one request.
-        ensures once { IsAtOnce (unit_of (Self.state self.old).shape) offset (length «data».now) → RequestsOnce (Self.state self.old) (Self.state self.new) (length «data».now) result }
+        ensures once { WritesAtOnce (Self.state self.old) (Self.state self.new) offset (length «data».now) result }
         // An empty range is never refused, and nothing is asked of the storage.
         ensures empty { length «data».now ≡ 0 → IsOk result × (Self.state self.new ≡ Self.state self.old) }
         // What is known of each storage: so the range of a power of two bytes at a multiple of it is one request.
@@ -233,7 +232,7 @@ pub trait StorageExt: Storage {
         ensures stops { Stops (Mixed (Self.state self.old).bytes offset (replicate length 0)) (Self.state self.old) (Self.state self.new) }
         ensures as_long { StopsAsLong (Self.state self.old) (Self.state self.new) }
         // A range of whole units of the alignment of zeroing is one request.
-        ensures once { IsUnits (max (unit_of (Self.state self.old).shape) (Self.state self.old).shape.zero_align) offset length → RequestsOnce (Self.state self.old) (Self.state self.new) length result }
+        ensures once { ZeroesAtOnce (Self.state self.old) (Self.state self.new) offset length result }
         ensures empty { length ≡ 0 → IsOk result × (Self.state self.new ≡ Self.state self.old) }
         ensures unit { IsAlignment (unit_of (Self.state self.old).shape) };
 
@@ -250,7 +249,7 @@ pub trait StorageExt: Storage {
         ensures shape { (Self.state self.new).shape ≡ (Self.state self.old).shape }
         ensures later { Later (Self.state self.old) (Self.state self.new) }
         // Each file that a stop inside the call leaves is the old one but for these units.
-        ensures stops { Stops (SameOutside (Self.state self.old).bytes (whole_start (Self.state self.old) offset) (whole_size (Self.state self.old) offset length)) (Self.state self.old) (Self.state self.new) }
+        ensures stops { GivesUpAtStops (Self.state self.old) (Self.state self.new) offset length }
         ensures as_long { StopsAsLong (Self.state self.old) (Self.state self.new) }
         ensures empty { length ≡ 0 → IsOk result × (Self.state self.new ≡ Self.state self.old) }
         ensures unit { IsAlignment (unit_of (Self.state self.old).shape) };

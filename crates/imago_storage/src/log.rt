@@ -1,8 +1,8 @@
 // A storage that keeps a log of its requests.
-ghost use Rattle.std.specs.Prelude.{◌≡◌, ◌≤◌, ◌-◌, ◌∷◌, ◌++◌, [], List, length, take, replicate, slice_get, true, OnOk, IfOk, IfErr, IsErrOf, IsOkUnless, IsTrue};
+ghost use Rattle.std.specs.Prelude.{◌≡◌, ◌≤◌, ◌-◌, ◌∷◌, ◌++◌, [], List, length, take, replicate, true, OnOk, IfOk, IfErr, IsErrOf, IsOkUnless, IsTrue};
 ghost use Rattle.imago_storage.specs.State.{InStep, IsWhole, Rose, unit_of};
 ghost use Rattle.imago_storage.specs.Calls.{CountsFaults, Kept, Later, NotWritten, Reads, RequestsOne, ResizeRefused, Resized, Written, ZeroingRefused};
-ghost use Rattle.imago_storage.specs.Log.{apply, NotLogged, replay};
+ghost use Rattle.imago_storage.specs.Log.{apply, IsStop, NotLogged, replay, ShowsBytes};
 
 use crate::edits::{splice, splice_zeroes};
 use crate::{Fault, PreallocateMode, Storage, StorageExt};
@@ -141,9 +141,9 @@ impl<S: Storage> LogStorage<S> {
         ensures first { k ≡ 0 → IfOk result (λ file. file.items ≡ log_base self.old) }
         ensures last { k ≡ length (log_requests self.old) → IfOk result (λ file. file.items ≡ (log_state S.state self.old).stop) }
         // While no change was refused, the last stop has the bytes.
-        ensures now { k ≡ length (log_requests self.old) → InStep (log_state S.state self.old) → IsTrue (log_state S.state self.old).shape.keeps → IfOk result (λ file. file.items ≡ (log_state S.state self.old).bytes) }
+        ensures now { k ≡ length (log_requests self.old) → IfOk result (λ file. ShowsBytes (log_state S.state self.old) file.items) }
         // It is the file that the log's state has for this stop.
-        ensures told { IfOk result (λ file. slice_get ((log_state S.state self.old).stop ∷ (log_state S.state self.old).past) (length (log_requests self.old) - k) ≡ Some file.items) }
+        ensures told { IfOk result (λ file. IsStop (log_state S.state self.old) (length (log_requests self.old) - k) file.items) }
         ensures err { IsOkUnless result Fault.Memory }
         ensures same { self.new ≡ self.old }
     {

@@ -132,7 +132,8 @@ fn write_units<S: Storage>(
     requires last { IsWhole unit (start + length first.now + length mid.now) (length last.now) }
     ensures ok { OnOk result (Through unit (S.state storage.old) (S.state storage.new) start ((first.now ++ mid.now) ++ last.now)) }
     ensures err { IfErr result (Halted unit (S.state storage.old) (S.state storage.new) start ((first.now ++ mid.now) ++ last.now)) }
-    ensures once { IsOnePart (length first.now) (length mid.now) (length last.now) → RequestsOnce (S.state storage.old) (S.state storage.new) (length first.now + length mid.now + length last.now) result }
+    ensures once { IsOnePart (length first.now) (length mid.now) (length last.now) →
+        RequestsOnce (S.state storage.old) (S.state storage.new) (length first.now + length mid.now + length last.now) result }
 {
     write_whole(storage, first, start)?;
     let middle = start + first.len() as u64;

@@ -2,7 +2,7 @@
 ghost use Rattle.std.specs.Prelude.{◌≡◌, ℕ, ◌+◌, ◌-◌, ◌%◌, ◌<◌, ◌≤◌, ◌^◌, ◌++◌, max, min, length, slice_index, replicate, IsOk, OnOk, IfOk, IfErr, IsErrOf, IsOkUnless};
 ghost use Rattle.imago_storage.specs.State.{unit_of, IsAlignment, IsWhole};
 ghost use Rattle.imago_storage.specs.Calls.{CountsFaults, Kept, Later, Mixed, RequestsOne};
-ghost use Rattle.imago_storage.specs.Through.{round_up, IsUnits, Overflows, RequestsOnce, Parts, Through, Halted, NotThrough, WrittenThrough, NotWrittenThrough, Stops, StopsAsLong};
+ghost use Rattle.imago_storage.specs.Through.{round_up, Overflows, ZeroesAtOnce, Parts, Through, Halted, NotThrough, WrittenThrough, NotWrittenThrough, Stops, StopsAsLong};
 ghost use Rattle.imago_storage.specs.Edges.{ZeroesLaid, IsEdge, unit_start};
 ghost use Rattle.imago_storage.specs.Zeroings.{UnlessLeft, NotZeroedBy};
 
@@ -309,7 +309,7 @@ pub fn zero_padded<S: Storage>(
 ) -> Result<(), Fault>
     ensures ok { OnOk result (Through (unit_of (S.state storage.old).shape) (S.state storage.old) (S.state storage.new) offset (replicate n 0)) }
     ensures err { IfErr result (NotZeroedBy zeroing (S.state storage.old) (S.state storage.new) offset n) }
-    ensures once { zeroing ≡ Zeroing.Allocated → IsUnits (max (unit_of (S.state storage.old).shape) (S.state storage.old).shape.zero_align) offset n → RequestsOnce (S.state storage.old) (S.state storage.new) n result }
+    ensures once { zeroing ≡ Zeroing.Allocated → ZeroesAtOnce (S.state storage.old) (S.state storage.new) offset n result }
     ensures overflow { Overflows (unit_of (S.state storage.old).shape) offset n → IsErrOf result Fault.RangeOverflow }
     ensures empty { n ≡ 0 → IsOk result × (S.state storage.new ≡ S.state storage.old) }
     ensures unit { IsAlignment (unit_of (S.state storage.old).shape) }

@@ -2,9 +2,10 @@
 use Rattle.std.proofs.Common.{◌≡◌, ◌≢◌, ℕ, ◌+◌, ◌^◌, ◌*◌, ◌/◌, ◌<◌, ◌≤◌, refl, arith, ap, sym, subst, ◌∙◌, Bool, true, false, Result, Ok, Err, List, [], ◌∷◌, length, inl, inr}
 use Rattle.std.specs.Prelude.{⊤, not, slice_index}
 use Rattle.std.proofs.lemmas.Bool.{cases_Bool}
-use Rattle.imago_storage.specs.State.{MayFail, Rose, StorageState}
+use Rattle.imago_storage.specs.State.{StorageState}
 use Rattle.imago_storage.specs.declared.fault.Fault.{Fault}
 use Rattle.imago_storage.specs.declared.fault.Fault.TheVariants.{Memory, Storage, Unsupported, DamagedTable, Limit}
+use Rattle.imago_storage.proofs.Failing.{may-fail}
 use Rattle.qcow2_types.specs.Bytes.{Bytes, word}
 use Rattle.qcow2_types.specs.Words.{l1_word_sound, max_offset}
 use Rattle.qcow2_types.specs.Header.{Header, Limited, first_fault, header_of, has_external_data, cluster_size, layout_of, ◌and-then◌, ◌>>=◌}
@@ -46,13 +47,6 @@ only-reading f (Ok H) only = from (has_external_data H.fields) (l1_table_sound f
 pub reading-refusal : (f : Bytes) (fault : Fault) → header_for_reading f ≡ Err fault → IsReadingRefusal fault
 unfolding header_for_reading
 reading-refusal f fault is = subst OnlyReading is (only-reading f (header_of false f) (λ why same. header-refusal false f why same))
-
--- a storage whose count of faults has risen may fail
-may-fail : {S : Type 0} (state : S → StorageState) (old new : S) → Rose (state old).faults (state new).faults → MayFail state
-may-fail state old new rose = λ never.
-    let more : (state new).faults + 1 < 2 ^ 64 = omega (arith, never new) in
-    let less : (state old).faults < (state new).faults = rose.rose more in
-    absurd (omega (arith, never old, never new, less))
 
 module _ (f : Bytes) where
   -- Where the file says why, that is why; else memory was wanting, or the storage failed.

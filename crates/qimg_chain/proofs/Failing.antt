@@ -8,7 +8,7 @@ use Rattle.imago_storage.specs.State.{MayFail, NeverFails, StorageState}
 use Rattle.imago_storage.specs.declared.fault.Fault.{Fault}
 use Rattle.imago_storage.specs.declared.fault.Fault.TheVariants.{Memory, Storage}
 use Rattle.imago_storage.specs.declared.storage.Storage.{Ghosts as StorageGhosts}
-use Rattle.imago_formats.proofs.Failing.{at_rest}
+use Rattle.imago_storage.proofs.Failing.{at_rest}
 use Rattle.imago_access.specs.Chain.{Each}
 use Rattle.imago_access.specs.Files.{SomeRose, files, files_of}
 use Rattle.imago_access.specs.declared.format.Format.{Format}

@@ -1,7 +1,7 @@
 use Rattle.std.proofs.Common.{◌≡◌, ◌∙◌, List, ap, arith, inr, length, subst, sym, ℕ}
 use Rattle.imago_storage.specs.MemStorage.{mem_state}
 use Rattle.qimg_chain.specs.PlainReads.{IsPlainlyRead, NotPlainlyRead}
-use Rattle.imago_formats.proofs.Failing.{mem_never}
+use Rattle.imago_storage.proofs.Failing.{mem_never}
 use Rattle.qimg_chain.proofs.Failing.{unread}
 use Rattle.qimg_chain.proofs.RunAnswerLemmas.{front_of}
 use Rattle.qimg_chain.proofs.run.files.read_plainly.Goals as goal

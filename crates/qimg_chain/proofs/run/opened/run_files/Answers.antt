@@ -17,7 +17,7 @@ use Rattle.qimg_chain.specs.FileMeanings.{IsDiskOf, files_bytes}
 use Rattle.qimg_chain.specs.Headline.{RunFrom, ToOpen}
 use Rattle.qimg_chain.specs.Refusals.{FormChain}
 use Rattle.qimg_chain.specs.ScriptRuns.{Scripted}
-use Rattle.imago_formats.proofs.Failing.{mem_never}
+use Rattle.imago_storage.proofs.Failing.{mem_never}
 use Rattle.qimg_chain.proofs.Failing.{unopened}
 use Rattle.qimg_chain.proofs.ScriptRunLemmas.{append-none}
 use Rattle.qimg_chain.proofs.run.opened.run_files.Goals as goal
