@@ -1,10 +1,11 @@
 -- Which files of a chain may fail, and that no cause that files give is a storage that failed.
-use Rattle.std.proofs.Common.{◌≡◌, ◌≢◌, ◌⊎◌, ◌∙◌, ◌∷◌, ◌++◌, [], ℕ, List, ap, inl, inr, map, subst, sym}
+use Rattle.std.proofs.Common.{◌≡◌, ◌≢◌, ◌⊎◌, ◌∙◌, ◌∷◌, ◌++◌, [], ℕ, List, ap, inl, inr, map, refl, subst, sym}
 use Rattle.std.specs.Prelude.{Bool, Err, Ok, Result, Some, false, true}
 use Rattle.std.specs.Borrow.{RattleType}
 use Rattle.std.specs.declared.string.String.{String}
 use Rattle.std.specs.declared.alloc.Global.{Global}
 use Rattle.imago_storage.specs.State.{MayFail, NeverFails, StorageState}
+use Rattle.imago_storage.specs.View.{view_state}
 use Rattle.imago_storage.specs.declared.fault.Fault.{Fault}
 use Rattle.imago_storage.specs.declared.fault.Fault.TheVariants.{Memory, Storage}
 use Rattle.imago_storage.specs.declared.storage.Storage.{Ghosts as StorageGhosts}
@@ -29,6 +30,11 @@ use Rattle.qimg_chain.proofs.Narrowing.{not_of_value}
 use Rattle.qimg_chain.specs.contracts.chain.image_driver.ImageDriverSeen.TheImpl as image_seen
 use Rattle.qimg_chain.specs.declared.chain.image_driver.ImageDriver.{ImageDriver}
 use Rattle.qimg_chain.specs.declared.chain.image_driver.ImageDriver.TheVariants as variant
+
+-- bytes that are lent never fail
+pub view_never : NeverFails view_state
+unfolding view_state
+view_never = λ v. refl
 
 -- none of these has ever failed
 abbrev AtRest : List StorageState → Type 0

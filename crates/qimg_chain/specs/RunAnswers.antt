@@ -1,10 +1,10 @@
 -- What lines of a script are answered with, and what they do to a chain, by its drivers before and after, the top first.
 use Rattle.std.specs.Prelude.{◌≡◌, ◌≢◌, ⊤, ℕ, ◌<◌, ◌≤◌, ◌⊎◌, List, length, Option, Result, Ok, Err, MatchOption, Vec, map}
 use Rattle.std.specs.Global.{Global}
-use Rattle.imago_storage.specs.MemStorage.{mem_state}
+use Rattle.imago_storage.specs.View.{view_state}
 use Rattle.imago_storage.specs.declared.fault.Fault.{Fault}
 use Rattle.imago_storage.specs.declared.fault.Fault.TheVariants.{BadArgument, Memory as WantOfMemory, Storage, Unsupported}
-use Rattle.imago_storage.specs.declared.memory.MemStorage.{MemStorage}
+use Rattle.imago_storage.specs.declared.view.MemoryView.{MemoryView}
 use Rattle.imago_access.specs.declared.seen.Seen.{Ghosts}
 use Rattle.imago_access.specs.Layers.{chain}
 use Rattle.imago_access.specs.declared.format.Format.{Format}
@@ -54,22 +54,21 @@ Checks format f (told.Unsound finding) = (format ≡ Qcow2) × IsUnsoundBy f fin
 Checks format f (told.Refused Unsupported) = format ≢ Qcow2
 Checks format f answer = ⊥
 
--- of some copies of the chain's files, by the names of its further files, this holds
-abbrev pub OfCopies : {D St : Type 0} → Ghosts D St → (D → ℕ → List ℕ) → (List (ChainFile MemStorage) → Type 0) → D × List D → Type 0
-OfCopies g names P c =
-    (copies : List (ChainFile MemStorage)) × (files_bytes mem_state copies ≡ map (driver_bytes g names) (chain c)) × P copies
+-- of the bytes of the chain's files, lent as files by the names of its further files, this holds
+abbrev pub OfLent : {D St : Type 0} → Ghosts D St → (D → ℕ → List ℕ) → (List (ChainFile MemoryView) → Type 0) → D × List D → Type 0
+OfLent g names P c = (lent : List (ChainFile MemoryView)) × (files_bytes view_state lent ≡ map (driver_bytes g names) (chain c)) × P lent
 
--- Why what the chain's files show isn't read: there are too many bytes for a line; or else there was want of memory, or as copies of these
--- files are refused.
+-- Why what the chain's files show isn't read: there are too many bytes for a line; or else there was want of memory, or as these files'
+-- bytes are refused.
 abbrev pub NotReadPlainly : {D St : Type 0} → Ghosts D St → (D → ℕ → List ℕ) → ℕ → ℕ → Fault → D × List D → Type 0
 NotReadPlainly g names offset n fault c = ((32768 < n) × (fault ≡ BadArgument))
-    ⊎ ((n ≤ 32768) × ((fault ≡ WantOfMemory) ⊎ OfCopies g names (λ copies. NotPlainlyRead mem_state copies offset n fault) c))
+    ⊎ ((n ≤ 32768) × ((fault ≡ WantOfMemory) ⊎ OfLent g names (λ lent. NotPlainlyRead view_state lent offset n fault) c))
 
--- A plain read of the chain, as one of copies of its files: the bytes that they mean as they stand, where they form a chain and the
--- range's end fits 64 bits. Copies are in memory, where no storage fails.
+-- A plain read of the chain, as one of its files' bytes: those that they mean as they stand, where they form a chain and the range's end
+-- fits 64 bits. Bytes that are lent are in memory, where no storage fails.
 abbrev pub ReadsPlainly : {D St : Type 0} → Ghosts D St → (D → ℕ → List ℕ) → ℕ → ℕ → Result (List ℕ) Fault → D × List D → Type 0
 ReadsPlainly g names offset n (Ok bytes) c =
-    IsLength n bytes × OfCopies g names (λ copies. IsPlainlyRead mem_state copies offset n bytes) c
+    IsLength n bytes × OfLent g names (λ lent. IsPlainlyRead view_state lent offset n bytes) c
 ReadsPlainly g names offset n (Err fault) c = (fault ≢ Storage) × NotReadPlainly g names offset n fault c
 
 -- what a plain read is answered with

@@ -12,4 +12,5 @@ pub use image_driver::ImageDriver;
 pub use naming::NamesFiles;
 pub use opening::open_chain;
 pub use plain_reads::plain_read;
+pub(crate) use snapshots::lend;
 pub use snapshots::snapshot;

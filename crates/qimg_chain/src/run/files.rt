@@ -4,7 +4,7 @@ ghost use Rattle.qimg_core.specs.Files.{file};
 ghost use Rattle.qimg_chain.specs.RunAnswers.{Checks, IsLength, ReadsPlainly, WhyNoBuffer};
 
 use super::calls::MOST_READ;
-use crate::chain::{NamesFiles, plain_read, snapshot};
+use crate::chain::{NamesFiles, lend, plain_read};
 use crate::script::{Answer, Bytes};
 use imago_access::{Format, FormatAccess, FormatDriverInstance};
 use imago_storage::{Fault, MemStorage, MemoryView};
@@ -45,7 +45,7 @@ pub fn check_top<D: FormatDriverInstance<Storage = MemStorage>>(
     }
 }
 
-/// What the files themselves show in a range: a plain read of copies of them.
+/// What the files themselves show in a range: a plain read of their bytes where they lie.
 ///
 /// `Fault::BadArgument` for more than 32,768 bytes, `Fault::Memory` for want of memory, and else what `plain_read` refuses.
 pub fn read_plainly<D: FormatDriverInstance<Storage = MemStorage> + NamesFiles>(
@@ -60,7 +60,7 @@ pub fn read_plainly<D: FormatDriverInstance<Storage = MemStorage> + NamesFiles>(
         Ok(buf) => buf,
         Err(fault) => return Err(fault),
     };
-    let files = match snapshot(alloc, chain) {
+    let files = match lend(alloc, chain) {
         Ok(files) => files,
         Err(fault) => return Err(fault),
     };

@@ -3,17 +3,17 @@ use Rattle.imago_storage.specs.MemStorage.{mem_state}
 use Rattle.imago_storage.specs.State.{StorageState}
 use Rattle.qimg_chain.specs.FileMeanings.{extra_bytes}
 use Rattle.qimg_chain.proofs.Copies.{all_named, pushed, same_file}
-use Rattle.qimg_chain.proofs.chain.snapshots.copy_layer.Goals.{in-Some+in-Ok-copy_named+in_ok-push-in-Ok-copy_named, in_default}
-use Rattle.qimg_chain.proofs.chain.snapshots.copy_layer.Goals as goal
+use Rattle.qimg_chain.proofs.chain.snapshots.layer_file.Goals.{in-Some+in-Ok-named_file+in_ok-push-in-Ok-named_file, in_default}
+use Rattle.qimg_chain.proofs.chain.snapshots.layer_file.Goals as goal
 
 pub loop-index-preserved : goal.loop-index-preserved
 loop-index-preserved g c = elim c.match-extra_file.branch [
-  | in-Some+in-Ok-copy_named+in_ok-push-in-Ok-copy_named w ↦
-      ap (λ v. map (extra_bytes mem_state) v.items) w.extras-is
-      ∙ ap (λ items. map (extra_bytes mem_state) items) w.in_ok-push-in-Ok-copy_named.ensures.items
-      ∙ pushed mem_state c.loop-index.extras.items w.in-Ok-copy_named.extra (g.D.NamesFiles.names c.args.driver.now) (g.D.Seen.extras c.args.driver.now) c.loop-index.index _
+  | in-Some+in-Ok-named_file+in_ok-push-in-Ok-named_file w ↦
+      ap (λ v. map (extra_bytes g.S.Storage.state) v.items) w.extras-is
+      ∙ ap (λ items. map (extra_bytes g.S.Storage.state) items) w.in_ok-push-in-Ok-named_file.ensures.items
+      ∙ pushed g.S.Storage.state c.loop-index.extras.items w.in-Ok-named_file.extra (g.D.NamesFiles.names c.args.driver.now) (g.D.Seen.extras c.args.driver.now) c.loop-index.index _
       c.loop-index.invariant w.in-Some.ensures
-      (w.in-Ok-copy_named.ensures.ok ∙ ap (λ name. (name, (mem_state w.in-Some.file.now).bytes)) w.extra_name.ensures)
+      (w.in-Ok-named_file.ensures.ok ∙ ap (λ name. (name, (mem_state w.in-Some.file.now).bytes)) w.extra_name.ensures)
   | in_default w ↦ absurd (omega (arith, w.in_default.ensures, c.loop-index-test.true, c.extra_count-index-end.ensures))
 ]
 

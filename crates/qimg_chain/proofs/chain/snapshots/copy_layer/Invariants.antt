@@ -1,8 +1,0 @@
-use Rattle.std.proofs.Common.{◌≡◌, map, take}
-use Rattle.imago_storage.specs.MemStorage.{mem_state}
-use Rattle.qimg_chain.specs.FileMeanings.{extra_bytes, with_names}
-use Rattle.qimg_chain.proofs.chain.snapshots.copy_layer.Given as goal
-
--- so many of the further files are copied
-abbrev pub invariant-loop-index : goal.invariant-loop-index
-invariant-loop-index g l = map (extra_bytes mem_state) l.extras.items ≡ take l.index (with_names (g.D.NamesFiles.names l.driver) 0 (g.D.Seen.extras l.driver))
