@@ -78,7 +78,8 @@ AskForNone words fault = ⊥
 -- The words are these files and the rest: where they are files and then layers, the rest is these layers.
 pub record IsExtras (words : List (List ℕ)) (extras : List (List ℕ × List ℕ)) (rest : List (List ℕ)) : Type 0 where
   pub words_are : words ≡ flat_map extra_words extras ++ rest
-  pub leaves : (others : List (List ℕ × List ℕ)) (layers : List AskedLayer) → words ≡ flat_map extra_words others ++ flat_map layer_words layers → rest ≡ flat_map layer_words layers
+  pub leaves : (others : List (List ℕ × List ℕ)) (layers : List AskedLayer)
+      → words ≡ flat_map extra_words others ++ flat_map layer_words layers → rest ≡ flat_map layer_words layers
 
 -- The words don't begin with a file that a layer is given.
 abbrev pub AreNoFile : List (List ℕ) → Type 0

@@ -11,7 +11,8 @@ abbrev pub IsOther : {S : Type 0} → List ℕ → String Global × S → Type 0
 IsOther name file = string_bytes file.0 ≡ name → ⊥
 
 -- The first of these files with a name is taken; the others stay, in their order.
-pub record TakesFirst {S : Type 0} (files : List (String Global × S)) (name : List ℕ) (taken : S) (left : List (String Global × S)) : Type 0 where
+pub record TakesFirst {S : Type 0} (files : List (String Global × S)) (name : List ℕ) (taken : S)
+    (left : List (String Global × S)) : Type 0 where
   pub before : List (String Global × S)
   pub behind : List (String Global × S)
   pub given : String Global

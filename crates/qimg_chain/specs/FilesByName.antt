@@ -1,5 +1,7 @@
--- What a driver's files mean when its further files are found by their names.
-use Rattle.std.proofs.Common.{◌≡◌, ◌⊎◌, ◌∙◌, ◌∷◌, ◌++◌, ◌<◌, ◌≤◌, ◌+◌, ◌-◌, ◌*◌, ◌/◌, [], ℕ, zero, suc, List, ap, arith, inl, inr, length, refl, subst, sym}
+-- What a driver's files mean when its further files are found by their names: why the law of `NamesFiles` holds of image drivers, whose
+-- code cites these.
+use Rattle.std.proofs.Common.{◌≡◌, ◌⊎◌, ◌∙◌, ◌∷◌, ◌++◌, ◌<◌, ◌≤◌, ◌+◌, ◌-◌, ◌*◌, ◌/◌, [], ℕ, zero, suc, List}
+use Rattle.std.proofs.Common.{ap, arith, inl, inr, length, refl, subst, sym}
 use Rattle.std.specs.Prelude.{Bool, Err, Ok, Result, cond, false, ltb, map, slice_index_or, true}
 use Rattle.std.specs.Str.{bytes_eq}
 use Rattle.std.specs.String.{string_bytes}
@@ -52,34 +54,42 @@ qcow2_through true bytes p v known = refl
 qcow2_through false bytes p v (inl hides) = absurd (cc hides)
 qcow2_through false bytes p v (inr is) = blank_meant (bytes_of bytes) (header_of false (bytes_of bytes)) p v is
 
-pub sized : (backed : Bool) (f : Bytes) (said : Result Header Fault) → (image_layer.meaning_of (blank_of backed) f said).size ≡ (image_layer.meaning_of unmapped f said).size
+pub sized : (backed : Bool) (f : Bytes) (said : Result Header Fault)
+    → (image_layer.meaning_of (blank_of backed) f said).size ≡ (image_layer.meaning_of unmapped f said).size
 sized backed f (Ok H) = refl
 sized backed f (Err fault) = refl
 
 -- ---- VMDK images: extents show the same over files that agree where they are asked for.
 
+-- the bytes of n files from a number on are the same
+abbrev Agree : (f e : ℕ → ℕ → ℕ) (k n : ℕ) → Type 0
+Agree f e k n = (j q : ℕ) → k ≤ j → j < k + n → f j q ≡ e j q
+
 pub alike : (f e : ℕ → ℕ → ℕ) (xs : List (Extent (List ℕ))) (k p : ℕ)
-    → ((j q : ℕ) → k ≤ j → j < k + length (file_names xs) → f j q ≡ e j q) → in_extents f xs k p ≡ in_extents e xs k p
+    → Agree f e k (length (file_names xs)) → in_extents f xs k p ≡ in_extents e xs k p
 alike f e [] k p same = refl
 alike f e (x ∷ xs) k p same = by_access x.access x.source (ltb p (512 * x.sectors)) (λ n. alike f e xs n (p - 512 * x.sectors)) same where
   by_access : (a : Access) (s : Source (List ℕ)) (t : Bool)
-      → ((n : ℕ) → ((j q : ℕ) → n ≤ j → j < n + length (file_names xs) → f j q ≡ e j q) → in_extents f xs n (p - 512 * x.sectors) ≡ in_extents e xs n (p - 512 * x.sectors))
-      → ((j q : ℕ) → k ≤ j → j < k + length (name_in a s ++ file_names xs) → f j q ≡ e j q)
+      → ((n : ℕ) → Agree f e n (length (file_names xs))
+      → in_extents f xs n (p - 512 * x.sectors) ≡ in_extents e xs n (p - 512 * x.sectors))
+      → Agree f e k (length (name_in a s ++ file_names xs))
       → cond t (in_source a s (f k) p) (in_extents f xs (cond (asks_file a s) (k + 1) k) (p - 512 * x.sectors))
       ≡ cond t (in_source a s (e k) p) (in_extents e xs (cond (asks_file a s) (k + 1) k) (p - 512 * x.sectors))
   by_access NoAccess s true later agree = refl
   by_access NoAccess s false later agree = later k agree
   by_access ReadWrite (Flat name sector) true later agree = ap (λ b. own (byte b)) (agree k (512 * sector + p) (omega arith) (omega arith))
-  by_access ReadWrite (Flat name sector) false later agree = later (k + 1) (λ j q low high. agree j q (omega (arith, low)) (omega (arith, high)))
+  by_access ReadWrite (Flat name sector) false later agree =
+      later (k + 1) (λ j q low high. agree j q (omega (arith, low)) (omega (arith, high)))
   by_access ReadWrite Zero true later agree = refl
   by_access ReadWrite Zero false later agree = later k agree
   by_access ReadOnly (Flat name sector) true later agree = ap (λ b. own (byte b)) (agree k (512 * sector + p) (omega arith) (omega arith))
-  by_access ReadOnly (Flat name sector) false later agree = later (k + 1) (λ j q low high. agree j q (omega (arith, low)) (omega (arith, high)))
+  by_access ReadOnly (Flat name sector) false later agree =
+      later (k + 1) (λ j q low high. agree j q (omega (arith, low)) (omega (arith, high)))
   by_access ReadOnly Zero true later agree = refl
   by_access ReadOnly Zero false later agree = later k agree
 
-pub same_extents : (f e : ℕ → ℕ → ℕ) (said : Result (List (Extent (List ℕ))) Fault) (p : ℕ) → ((j q : ℕ) → 1 ≤ j → j < 1 + length (names_said said) → f j q ≡ e j q)
-    → (meaning_of said f).cell p ≡ (meaning_of said e).cell p
+pub same_extents : (f e : ℕ → ℕ → ℕ) (said : Result (List (Extent (List ℕ))) Fault) (p : ℕ)
+    → Agree f e 1 (length (names_said said)) → (meaning_of said f).cell p ≡ (meaning_of said e).cell p
 same_extents f e (Ok xs) p same = alike f e xs 1 p same
 same_extents f e (Err fault) p same = refl
 
@@ -92,7 +102,8 @@ pub names_kept : (xs : List (Extent (String Global))) → file_names (kept_exten
 names_kept [] = refl
 names_kept (x ∷ xs) = by_access x.access x.source (names_kept xs) where
   by_access : (a : Access) (s : Source (String Global)) → file_names (kept_extents xs) ≡ kept_names xs
-      → name_in a (source_with (λ name. string_bytes name) s) ++ file_names (kept_extents xs) ≡ map (λ name. string_bytes name) (name_in a s ++ file_names xs)
+      → name_in a (source_with (λ name. string_bytes name) s) ++ file_names (kept_extents xs)
+      ≡ map (λ name. string_bytes name) (name_in a s ++ file_names xs)
   by_access NoAccess s rest = rest
   by_access ReadWrite (Flat name sector) rest = ap (λ names. string_bytes name ∷ names) rest
   by_access ReadWrite Zero rest = rest
@@ -107,8 +118,8 @@ none_taken (name ∷ names) zero q = refl
 none_taken (name ∷ names) (suc i) q = none_taken names i q
 
 -- the first of them has the first name
-found : (f : ℕ → List ℕ) (name : List ℕ) (names : List (List ℕ)) (k : ℕ) → ((i : ℕ) → i < length (name ∷ names) → f (k + i) ≡ slice_index_or (name ∷ names) i [])
-    → bytes_eq (f k) name ≡ true
+found : (f : ℕ → List ℕ) (name : List ℕ) (names : List (List ℕ)) (k : ℕ)
+    → ((i : ℕ) → i < length (name ∷ names) → f (k + i) ≡ slice_index_or (name ∷ names) i []) → bytes_eq (f k) name ≡ true
 found f name names k same =
     let here : k ≡ k + 0 = omega arith in
     (bytes_eq-Decides (f k) name).1 (ap f here ∙ same 0 (omega arith))
@@ -121,28 +132,34 @@ in_order f [] k ss same i q inside = absurd (omega (arith, inside))
 in_order f (name ∷ names) k [] same i q inside = sym (none_taken (name ∷ names) i q)
 in_order f (name ∷ names) k (s ∷ ss) same zero q inside = rw (found f name names k same) refl
 in_order f (name ∷ names) k (s ∷ ss) same (suc i) q inside = rw (found f name names k same) (in_order f names (suc k) ss
-    (λ n small. let more : suc k + n ≡ k + suc n = omega arith in ap f more ∙ same (suc n) (omega (arith, small))) i q (omega (arith, inside)))
+    (λ n small. let more : suc k + n ≡ k + suc n = omega arith in ap f more ∙ same (suc n) (omega (arith, small)))
+    i q (omega (arith, inside)))
 
 -- ---- What is asked of the drivers.
 
-pub vmdk_named : (xs : List (Extent (String Global))) (image : StorageState) (ss : List StorageState) → descriptor_of image.bytes ≡ Ok (kept_extents xs)
-    → MeansFile (vmdk_layer xs image ss) image.bytes
+-- the names of extents, by their order
+abbrev name_at : List (Extent (String Global)) → ℕ → List ℕ
+name_at xs i = slice_index_or (kept_names xs) i []
+
+-- these files, in the order of the extents' names, are those that are found by them
+numbered : (xs : List (Extent (String Global))) (image : StorageState) (ss : List StorageState)
+    → let taken = taken_for (file_names (kept_extents xs)) (with_names (name_at xs) 0 ss) in
+    Agree (byte_in (image ∷ ss)) (byte_at (image.bytes ∷ taken)) 1 (length (file_names (kept_extents xs)))
+numbered xs image ss zero q low high = absurd (omega (arith, low))
+numbered xs image ss (suc j) q low high = in_order (name_at xs) (file_names (kept_extents xs)) 0 ss
+    (λ i small. let here : 0 + i ≡ i = omega arith in
+    ap (name_at xs) here ∙ ap (λ names. slice_index_or names i []) (sym (names_kept xs))) j q (omega (arith, high))
+
+pub vmdk_named : (xs : List (Extent (String Global))) (image : StorageState) (ss : List StorageState)
+    → descriptor_of image.bytes ≡ Ok (kept_extents xs) → MeansFile (vmdk_layer xs image ss) image.bytes
     (record { format = format.Vmdk; bytes = image.bytes; extras = with_names (λ i. slice_index_or (kept_names xs) i []) 0 ss })
-vmdk_named xs image ss said =
-    let f = λ (i : ℕ). slice_index_or (kept_names xs) i [] in
+vmdk_named xs image ss says =
     let in_files = byte_in (image ∷ ss) in
-    let by_names = λ (r : Result (List (Extent (List ℕ))) Fault). byte_at (image.bytes ∷ taken_for (names_said r) (with_names f 0 ss)) in
-    record {
-      size = same_size in_files (by_names (descriptor_of image.bytes)) (descriptor_of image.bytes);
-      cell = λ p below backed. ap (λ c. through c below) (same_extents in_files (by_names (descriptor_of image.bytes)) (descriptor_of image.bytes) p
-          (subst (λ (r : Result (List (Extent (List ℕ))) Fault). (j q : ℕ) → 1 ≤ j → j < 1 + length (names_said r) → in_files j q ≡ by_names r j q) (sym said)
-          (numbered xs image ss)));
+    let found_for = λ (said : Result (List (Extent (List ℕ))) Fault).
+    byte_at (image.bytes ∷ taken_for (names_said said) (with_names (name_at xs) 0 ss)) in
+    let said = descriptor_of image.bytes in
+    let same = subst (λ (r : Result (List (Extent (List ℕ))) Fault). Agree in_files (found_for r) 1 (length (names_said r))) (sym says)
+    (numbered xs image ss) in record {
+      size = same_size in_files (found_for said) said;
+      cell = λ p below backed. ap (λ c. through c below) (same_extents in_files (found_for said) said p same);
     }
-  where
-    numbered : (xs : List (Extent (String Global))) (image : StorageState) (ss : List StorageState) (j q : ℕ) → 1 ≤ j → j < 1 + length (file_names (kept_extents xs))
-        → byte_in (image ∷ ss) j q
-        ≡ byte_at (image.bytes ∷ taken_for (file_names (kept_extents xs)) (with_names (λ (i : ℕ). slice_index_or (kept_names xs) i []) 0 ss)) j q
-    numbered xs image ss zero q low high = absurd (omega (arith, low))
-    numbered xs image ss (suc j) q low high = in_order (λ (i : ℕ). slice_index_or (kept_names xs) i []) (file_names (kept_extents xs)) 0 ss
-        (λ i small. let here : 0 + i ≡ i = omega arith in
-        ap (λ n. slice_index_or (kept_names xs) n []) here ∙ ap (λ names. slice_index_or names i []) (sym (names_kept xs))) j q (omega (arith, high))

@@ -66,7 +66,8 @@ fn file_at<'a>(words: &[&'a str], at: usize) -> Option<(&'a str, &'a str)>
 fn parse_extras(alloc: Global, words: &[&str], at: usize) -> Result<Vec<(String, String)>, Fault>
     requires inside { at ≤ length words.now }
     ensures few { IfOk result (λ r. at + 3 * length r.items ≤ length words.now) }
-    ensures taken { IfOk result (λ r. IsExtras (words_from at words.now) (map extra_of r.items) (words_from (at + 3 * length r.items) words.now)) }
+    ensures taken { IfOk result (λ r. IsExtras (words_from at words.now) (map extra_of r.items)
+        (words_from (at + 3 * length r.items) words.now)) }
     ensures err { IsOkUnless result Fault.Memory }
 {
     let mut extras = Vec::new(alloc);
@@ -82,7 +83,8 @@ fn parse_extras(alloc: Global, words: &[&str], at: usize) -> Result<Vec<(String,
 fn parse_layer(alloc: Global, words: &[&str], at: usize) -> Result<LayerArgument, Fault>
     requires inside { at < length words.now }
     ensures few { IfOk result (λ r. at + 2 + 3 * length r.extras.items ≤ length words.now) }
-    ensures ok { IfOk result (λ r. IsLayer (words_from at words.now) (layer_of r) (words_from (at + 2 + 3 * length r.extras.items) words.now)) }
+    ensures ok { IfOk result (λ r. IsLayer (words_from at words.now) (layer_of r)
+        (words_from (at + 2 + 3 * length r.extras.items) words.now)) }
     ensures err { IfErr result (SayNoLayers (words_from at words.now)) }
 {
     if words.len() - at < 2 {
