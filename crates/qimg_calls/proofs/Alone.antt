@@ -12,7 +12,7 @@ use Rattle.qimg_calls.specs.declared.call.Answer.TheVariants as told
 use Rattle.qimg_calls.specs.Calls.{Fits, is_of_mapping, is_out_of_place}
 use Rattle.qimg_calls.specs.Since.{Since}
 use Rattle.qimg_calls.specs.Held.{Holding, holding, IsReady}
-use Rattle.qimg_calls.specs.Making.{Makes, Answers, AnswersAll, AnswersAlone, GivesUp, MadeAll}
+use Rattle.qimg_calls.specs.Making.{Makes, Answers, AnswersAll, AnswersAlone, CancelsKept, MadeAll}
 use Rattle.qimg_calls.specs.Runs.{CutShort, Driven, StandsSince}
 use Rattle.qimg_calls.proofs.Driven.{driven-made}
 use Rattle.qimg_calls.proofs.Lists.{either-cases}
@@ -26,7 +26,7 @@ module _ {D St : Type 0} (g : Ghosts D St) where
         | inr made ↦ made.1.same other
       ]
 
-  none-given : (call : Call) (answer : Answer) (old d new : D × List D) (kept : Option (PreparedDataMapping St)) → kept ≡ None → Answers g call answer (holding old None) (holding d kept) → GivesUp g (holding d kept) new
+  none-given : (call : Call) (answer : Answer) (old d new : D × List D) (kept : Option (PreparedDataMapping St)) → kept ≡ None → Answers g call answer (holding old None) (holding d kept) → CancelsKept g (holding d kept) new
       → AnswersAlone g (call ∷ []) (answer ∷ []) old new
   none-given call answer old d new None none one same = (holding d None, one, ap (λ (c : D × List D). holding {St = St} c None) same)
   none-given call answer old d new (Some m) none one same = absurd (cc none)
@@ -35,11 +35,11 @@ module _ {D St : Type 0} (g : Ghosts D St) where
   alone-one call answer old new other made =
       let mid = made.1.0 in
       let one = made.1.1 in
-      none-given call answer old mid.drivers new mid.kept (none-behind call answer old mid other one) one (subst (λ (h : Holding D St). GivesUp g h new) made.1.2 made.2)
+      none-given call answer old mid.drivers new mid.kept (none-behind call answer old mid other one) one (subst (λ (h : Holding D St). CancelsKept g h new) made.1.2 made.2)
 
   -- no call leaves all as it was
   pub alone-none : (answers : List Answer) (old new : D × List D) → MadeAll g [] answers old new → new ≡ old
-  alone-none [] old new made = subst (λ (h : Holding D St). GivesUp g h new) made.1 made.2
+  alone-none [] old new made = subst (λ (h : Holding D St). CancelsKept g h new) made.1 made.2
   alone-none (answer ∷ answers) old new made = absurd made.1
 
   both-all : (first second : List Call) (one other : List Answer) (a b c : Holding D St) → AnswersAll g first one a b → AnswersAll g second other b c → AnswersAll g (first ++ second) (one ++ other) a c

@@ -17,7 +17,7 @@ use Rattle.qimg_calls.specs.declared.call.Answer.{Answer}
 use Rattle.qimg_calls.specs.declared.call.Answer.TheVariants as told
 use Rattle.qimg_calls.specs.Since.{Since, Begun, begun, IsSince}
 use Rattle.qimg_calls.specs.Held.{Holding, holding, IsKept, IsReady, disk_call}
-use Rattle.qimg_calls.specs.Making.{Makes, AnswersAll, GivesUp, MadeAll}
+use Rattle.qimg_calls.specs.Making.{Makes, AnswersAll, CancelsKept, MadeAll}
 use Rattle.qimg_calls.specs.Runs.{StandsSince, Driven}
 use Rattle.qimg_calls.proofs.Lists.{Going, going-all, going-both, going-made, going-same, ran-all, stands-next}
 use Rattle.qimg_calls.proofs.Stops.{none-given}
@@ -68,7 +68,7 @@ module _ {D St : Type 0} (g : Ghosts D St) (safe_sees : (d : D) → g.safe d →
 
   -- the same, whatever is kept at the end
   driven : (list : List Call) (answers : List Answer) (old d : D × List D) (kept : Option (PreparedDataMapping St)) (new : D × List D) (since : Since) → AnswersAll g list answers (holding old None) (holding d kept)
-      → GivesUp g (holding d kept) new → IsKept g (holding old None) → IsReady g old → StandsSince g since old → Driven g since list answers old new
+      → CancelsKept g (holding d kept) new → IsKept g (holding old None) → IsReady g old → StandsSince g since old → Driven g since list answers old new
   driven list answers old d None new since all same is_kept ready stands = rw (same) (driven-free list answers old d since all is_kept ready stands)
   driven list answers old d (Some m) new since all up is_kept ready stands = driven-kept list answers old d new m since all up.0 up.1 is_kept ready stands
 
@@ -79,7 +79,7 @@ module _ {D St : Type 0} (g : Ghosts D St) (safe_sees : (d : D) → g.safe d →
       driven list answers old made.0.drivers made.0.kept new since made.1 made.2 (record { mine = tt; free = λ _. none }) ready stands
 
 -- what a mapping that is given up leaves
-pub given-up : {D St : Type 0} (g : Ghosts D St) (d : D × List D) (kept : Option (PreparedDataMapping St)) (new : D × List D) → GivesUp g (holding d kept) new → Going g (holding d kept) (holding new None)
+pub given-up : {D St : Type 0} (g : Ghosts D St) (d : D × List D) (kept : Option (PreparedDataMapping St)) (new : D × List D) → CancelsKept g (holding d kept) new → Going g (holding d kept) (holding new None)
 given-up g d None new same = rw (same) (going-same g (holding d None))
 given-up g d (Some m) new up = going-made g calls.Cancel told.Done (holding d (Some m)) (holding new None) up.0
 

@@ -17,7 +17,7 @@ use Rattle.qimg_calls.specs.declared.call.Answer.TheVariants as told
 use Rattle.qimg_calls.specs.Calls.{Fits, GoesOn, IfRefused, WasDone, tells_something}
 use Rattle.qimg_calls.specs.Held.{Holding, disk_call}
 use Rattle.qimg_calls.specs.Making.{done_or_refused}
-use Rattle.qimg_calls.specs.Moves.{Moves, Does, Keeps, Names, Refuses, Leaves, TopStays}
+use Rattle.qimg_calls.specs.Moves.{Moves, Does, KeepsMapping, Names, Refuses, Leaves, TopStays}
 use Rattle.qimg_calls.proofs.Leading.{whole-ok}
 
 -- an answer that goes on is that of a call that was not cut off
@@ -30,7 +30,7 @@ nothing-named (Ok unit) = tt
 nothing-named (Err fault) = tt
 
 pub told-moves : {D St : Type 0} (g : Ghosts D St) (call : Call) (result : Result Unit Fault) (old new : Holding D St)
-    → Keeps g call (done_or_refused result) old new
+    → KeepsMapping g call (done_or_refused result) old new
     → OnOk result (ChainSteps g (disk_call g old call) done old.drivers new.drivers) → OnOk result (Names g call told.Done old.drivers new.drivers)
     → IfErr result (λ fault. Refuses g call fault old new) → IfMild result (Leaves g call old new)
     → Moves g call (done_or_refused result) old new

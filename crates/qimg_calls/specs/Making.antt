@@ -60,14 +60,14 @@ AnswersAll {D} {St} g (call ∷ calls) (answer ∷ answers) old new =
 AnswersAll g _ _ old new = ⊥
 
 -- The mapping that is kept is cancelled, and nothing is asked of the top's file.
-abbrev pub GivesUp : {D St : Type 0} → Ghosts D St → Holding D St → D × List D → Type 0
-GivesUp g h new = MatchOption h.kept (new ≡ h.drivers)
+abbrev pub CancelsKept : {D St : Type 0} → Ghosts D St → Holding D St → D × List D → Type 0
+CancelsKept g h new = MatchOption h.kept (new ≡ h.drivers)
     (λ m. Makes g calls.Cancel told.Done h (holding new None) × (g.image new.0 ≡ g.image h.drivers.0))
 
 -- A list of calls is made with nothing kept at first, and what is kept at its end is given up.
 abbrev pub MadeAll : {D St : Type 0} → Ghosts D St → List Call → List Answer → D × List D → D × List D → Type 0
 MadeAll {D} {St} g list answers old new =
-    (last : Holding D St) × AnswersAll g list answers (holding old None) last × GivesUp g last new
+    (last : Holding D St) × AnswersAll g list answers (holding old None) last × CancelsKept g last new
 
 -- a list of calls that is made with nothing kept before it and behind it
 abbrev pub AnswersAlone : {D St : Type 0} → Ghosts D St → List Call → List Answer → D × List D → D × List D → Type 0

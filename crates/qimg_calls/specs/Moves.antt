@@ -69,16 +69,16 @@ pub record IsTold {St : Type 0} (m : PreparedDataMapping St) (storage place n : 
 
 -- What becomes of the mapping that is kept: one that is prepared is kept, with its places writable where it says, one that is committed or
 -- cancelled is spent, and else it stays.
-abbrev pub Keeps : {D St : Type 0} → Ghosts D St → Call → Answer → Holding D St → Holding D St → Type 0
-Keeps {D} {St} g (calls.PrepareDataMapping offset asked overwrite) (told.Prepared storage place n state) old new =
+abbrev pub KeepsMapping : {D St : Type 0} → Ghosts D St → Call → Answer → Holding D St → Holding D St → Type 0
+KeepsMapping {D} {St} g (calls.PrepareDataMapping offset asked overwrite) (told.Prepared storage place n state) old new =
     (m : PreparedDataMapping St)
     × (new.kept ≡ Some m)
     × IsTold m storage place n state
     × CanWriteRun (g.layer new.drivers.0) offset m
     × (asked ≡ 0 → m ≡ nowhere)
-Keeps g calls.CommitDataMapping told.Done old new = new.kept ≡ None
-Keeps g calls.Cancel told.Done old new = new.kept ≡ None
-Keeps g call answer old new = new.kept ≡ old.kept
+KeepsMapping g calls.CommitDataMapping told.Done old new = new.kept ≡ None
+KeepsMapping g calls.Cancel told.Done old new = new.kept ≡ None
+KeepsMapping g call answer old new = new.kept ≡ old.kept
 
 -- a call that was done is a step of the disk
 abbrev pub Does : {D St : Type 0} → Ghosts D St → Call → Answer → Holding D St → Holding D St → Type 0
@@ -127,8 +127,8 @@ Leaves g call old new = ChainStays g old.drivers new.drivers
 -- or a storage's fault.
 abbrev pub Moves : {D St : Type 0} → Ghosts D St → Call → Answer → Holding D St → Holding D St → Type 0
 Moves g call (told.Refused fault) old new =
-    Refuses g call fault old new × (IsMild fault → Leaves g call old new × Keeps g call (told.Refused fault) old new)
-Moves g call answer old new = Does g call answer old new × Keeps g call answer old new
+    Refuses g call fault old new × (IsMild fault → Leaves g call old new × KeepsMapping g call (told.Refused fault) old new)
+Moves g call answer old new = Does g call answer old new × KeepsMapping g call answer old new
 
 -- What it rests on that a call moves the disk so: for one that only looks, that lookups are true, and for any other, that the chain is
 -- intact.

@@ -5,7 +5,7 @@ ghost use Rattle.imago_access.specs.Chain.{Each};
 ghost use Rattle.imago_access.specs.Files.{Pairs, IsKept as IsKeptFile, files_of};
 ghost use Rattle.qimg_calls.specs.Since.{Since};
 ghost use Rattle.qimg_calls.specs.Held.{holding, IsKept, IsReady};
-ghost use Rattle.qimg_calls.specs.Making.{Answers, AnswersAll, GivesUp, MadeAll};
+ghost use Rattle.qimg_calls.specs.Making.{Answers, AnswersAll, CancelsKept, MadeAll};
 ghost use Rattle.qimg_calls.specs.Runs.{CutShort, Driven, StandsSince};
 
 use crate::call::{Answer, Call};
@@ -62,7 +62,7 @@ pub fn drive<D: FormatDriverInstance>(
 /// Gives up the mapping that is kept, if one is.
 fn give_up<D: FormatDriverInstance>(chain: &mut FormatAccess<D>, kept: Kept<D::State>)
     requires kept { IsKept D.Seen (holding chain.old kept) }
-    ensures { GivesUp D.Seen (holding chain.old kept) chain.new }
+    ensures { CancelsKept D.Seen (holding chain.old kept) chain.new }
 {
     if let Some(mapping) = kept {
         cancel(chain, mapping);

@@ -16,7 +16,7 @@ use Rattle.qimg_core.specs.declared.plain.ChainFile.{ChainFile}
 use Rattle.qimg_chain.specs.Extras.{IsOther, LacksOne, TakesEach, TakesFirst}
 use Rattle.qimg_chain.specs.FurtherFiles.{HasFiles, HasFurther, WhyNotFiles, WhyNotFurther}
 use Rattle.qimg_chain.specs.FileLayers.{IsLayer, WhyNotLayer}
-use Rattle.qimg_chain.specs.Refusals.{ArePlaced, FirstCause, FormChain, IsPlaced, WhyNotLayers, misplaced}
+use Rattle.qimg_chain.specs.Refusals.{ArePlaced, FirstCause, FormChain, IsPlacedLayer, WhyNotLayers, misplaced}
 
 -- ---- Lists.
 
@@ -145,8 +145,8 @@ module _ {S : Type 0} (state : S → StorageState) where
   layer_there writable file named further fault is (inr a) =
       further_there file.format (state file.image) file.extras.items further fault is.has a.1
 
-  placed_once : (writable : Bool) (file : ChainFile S) (below : List (ChainFile S)) (one other : Option Fault) → IsPlaced state writable file below one
-      → IsPlaced state writable file below other → one ≡ other
+  placed_once : (writable : Bool) (file : ChainFile S) (below : List (ChainFile S)) (one other : Option Fault) → IsPlacedLayer state writable file below one
+      → IsPlacedLayer state writable file below other → one ≡ other
   placed_once writable file below one other a b =
       let same : a.0 ≡ b.0 = same_ok _ a.0 b.0 a.2.says b.2.says in
       sym a.3 ∙ ap (λ (named : Bool). misplaced named below) same ∙ b.3

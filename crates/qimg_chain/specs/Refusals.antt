@@ -17,20 +17,21 @@ misplaced false (next ∷ below) = Some ExtraLayer
 misplaced named below = None
 
 -- A file is a layer, and this is why it is out of its place over those below, if it is.
-abbrev pub IsPlaced : {S : Type 0} → (S → StorageState) → Bool → ChainFile S → List (ChainFile S) → Option Fault → Type 0
-IsPlaced state writable file below why =
+abbrev pub IsPlacedLayer : {S : Type 0} → (S → StorageState) → Bool → ChainFile S → List (ChainFile S) → Option Fault → Type 0
+IsPlacedLayer state writable file below why =
     (named : Bool) × (further : List StorageState) × IsLayer state writable file named further × (misplaced named below ≡ why)
 
 -- Each of the files is a layer and in its place, where only the first may be for writing.
 abbrev pub ArePlaced : {S : Type 0} → (S → StorageState) → Bool → List (ChainFile S) → Type 0
 ArePlaced state writable [] = ⊤
-ArePlaced state writable (file ∷ below) = IsPlaced state writable file below None × ArePlaced state false below
+ArePlaced state writable (file ∷ below) = IsPlacedLayer state writable file below None × ArePlaced state false below
 
 -- The first cause from the top downward why files aren't layers in their places.
 abbrev pub WhyNotLayers : {S : Type 0} → (S → StorageState) → Bool → List (ChainFile S) → Fault → Type 0
 WhyNotLayers state writable [] fault = ⊥
 WhyNotLayers state writable (file ∷ below) fault = WhyNotLayer state writable file fault
-    ⊎ (IsPlaced state writable file below (Some fault) ⊎ (IsPlaced state writable file below None × WhyNotLayers state false below fault))
+    ⊎ (IsPlacedLayer state writable file below (Some fault)
+    ⊎ (IsPlacedLayer state writable file below None × WhyNotLayers state false below fault))
 
 -- Files form a chain: there are some, 64 at most, and each is a layer in its place.
 abbrev pub FormChain : {S : Type 0} → (S → StorageState) → Bool → List (ChainFile S) → Type 0

@@ -99,9 +99,9 @@ pub record Answered {D St : Type 0} (g : Ghosts D St) (names : D → ℕ → Lis
   pub tells : TellsLine g names line turn answer old
 
 -- Where it is a `save` that is done, the bytes of the top file are kept, and else what was kept before.
-abbrev pub Keeps : Line → Answer → List ℕ → Option (Vec ℕ Global) → Option (Vec ℕ Global) → Type 0
-Keeps Save told.Done bytes old new = MatchOption new ⊥ (λ kept. kept.items ≡ bytes)
-Keeps line answer bytes old new = new ≡ old
+abbrev pub KeepsSaved : Line → Answer → List ℕ → Option (Vec ℕ Global) → Option (Vec ℕ Global) → Type 0
+KeepsSaved Save told.Done bytes old new = MatchOption new ⊥ (λ kept. kept.items ≡ bytes)
+KeepsSaved line answer bytes old new = new ≡ old
 
 -- a line doesn't read more than it may
 abbrev pub IsShort : Line → Type 0

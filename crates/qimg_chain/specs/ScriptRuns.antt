@@ -12,7 +12,7 @@ use Rattle.qimg_calls.specs.declared.call.Call.{Call}
 use Rattle.qimg_calls.specs.declared.call.Answer.{Answer as CallAnswer}
 use Rattle.qimg_core.specs.declared.first.worked.RunFault.{RunFault}
 use Rattle.qimg_core.specs.declared.first.worked.RunFault.TheVariants as run_fault
-use Rattle.qimg_chain.specs.RunAnswers.{Keeps, TellsLine}
+use Rattle.qimg_chain.specs.RunAnswers.{KeepsSaved, TellsLine}
 use Rattle.qimg_chain.specs.RunCalls.{Turn, unmade}
 use Rattle.qimg_chain.specs.Script.{IsLine, NotLine}
 use Rattle.qimg_chain.specs.ScriptAnswers.{answer_text}
@@ -43,7 +43,7 @@ pub record RunsLine {D St : Type 0} (g : Ghosts D St) (names : D → ℕ → Lis
   pub line : Line
   pub is_line : IsLine r.text line
   pub tells : TellsLine g names line r.turn r.answer old.drivers
-  pub keeps : Keeps line r.answer (g.image new.drivers.0).bytes old.saved new.saved
+  pub keeps : KeepsSaved line r.answer (g.image new.drivers.0).bytes old.saved new.saved
 
 -- a text isn't taken as a line, and nothing is done
 pub record RunsNothing {D St : Type 0} (g : Ghosts D St) (r : Reply) (old new : Standing D) : Type 0 where

@@ -1,7 +1,7 @@
 // What each line of a script is answered with.
 ghost use Rattle.std.specs.Prelude.{◌≡◌, IsTrue};
 ghost use Rattle.imago_access.specs.Layer.{IsFree};
-ghost use Rattle.qimg_chain.specs.RunAnswers.{bytes_told_of, Answered, IsShort, Keeps};
+ghost use Rattle.qimg_chain.specs.RunAnswers.{bytes_told_of, Answered, IsShort, KeepsSaved};
 ghost use Rattle.qimg_chain.specs.RunCalls.{asks_for_call};
 
 use super::calls::{MOST_READ, call_of, make, told};
@@ -53,7 +53,7 @@ fn save<D: FormatDriverInstance<Storage = MemStorage> + NamesFiles>(
     requires free { IsFree (D.layer chain.old.0) }
     ensures free { IsFree (D.layer chain.new.0) }
     ensures saves { Answered D.Seen D.names Line.Save result chain.old chain.new }
-    ensures kept { Keeps Line.Save result (D.image chain.new.0).bytes saved.old saved.new }
+    ensures kept { KeepsSaved Line.Save result (D.image chain.new.0).bytes saved.old saved.new }
 {
     match make(alloc, chain, Call::Flush) {
         Ok(CallAnswer::Done) => match chain.inner().image_file().bytes() {
@@ -79,7 +79,7 @@ pub fn answer_line<D: FormatDriverInstance<Storage = MemStorage> + NamesFiles>(
     requires free { IsFree (D.layer chain.old.0) }
     ensures free { IsFree (D.layer chain.new.0) }
     ensures answered { Answered D.Seen D.names line result chain.old chain.new }
-    ensures kept { Keeps line result (D.image chain.new.0).bytes saved.old saved.new }
+    ensures kept { KeepsSaved line result (D.image chain.new.0).bytes saved.old saved.new }
 {
     match line {
         Line::Size => Answer::Number(chain.size()),
