@@ -110,6 +110,10 @@ pub record MeansFile (layer : Layer) (bytes : List ℕ) (file : FileBytes) : Typ
   pub cell : (p : ℕ) (below : Value) → (layer.fixed.blank ≡ unmapped) ⊎ (below ≡ byte 0)
       → through ((layer.fixed.means bytes).cell p) below ≡ through ((file_meaning file).cell p) below
 
+-- what a driver's image file means to it is what it means with the further files that are found by these names
+abbrev pub FindsByNames : {D St : Type 0} → Ghosts D St → (D → ℕ → List ℕ) → D → Type 0
+FindsByNames g names d = MeansFile (g.layer d) (g.image d).bytes (driver_bytes g names d)
+
 -- The disk is as long as that of the files, and shows the same.
 pub record IsDiskOf (disk : Disk) (files : List FileBytes) : Type 0 where
   pub size : disk.size ≡ size_of files

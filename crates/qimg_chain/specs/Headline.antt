@@ -5,6 +5,7 @@ use Rattle.std.specs.Io.KnownBytes.{Appends}
 use Rattle.imago_storage.specs.MemStorage.{mem_state}
 use Rattle.imago_storage.specs.declared.fault.Fault.TheVariants.{Memory, Storage}
 use Rattle.imago_storage.specs.declared.memory.MemStorage.{MemStorage}
+use Rattle.imago_access.specs.Chain.{Each}
 use Rattle.imago_access.specs.Layers.{chain}
 use Rattle.imago_access.specs.Running.{chain_disk}
 use Rattle.imago_access.specs.declared.seen.Seen.{Ghosts}
@@ -13,7 +14,7 @@ use Rattle.qimg_calls.specs.Since.{flushed}
 use Rattle.qimg_core.specs.declared.first.worked.RunFault.{RunFault}
 use Rattle.qimg_core.specs.declared.plain.ChainFile.{ChainFile}
 use Rattle.qimg_chain.specs.Chains.{AreInPlace, AreLayers, IsFit, OfTop}
-use Rattle.qimg_chain.specs.FileMeanings.{IsDiskOf, files_bytes}
+use Rattle.qimg_chain.specs.FileMeanings.{FindsByNames, IsDiskOf, files_bytes}
 use Rattle.qimg_chain.specs.Refusals.{FirstCause, FormChain}
 use Rattle.qimg_chain.specs.ScriptRuns.{Scripted, answers_of, calls_of}
 use Rattle.qimg_chain.specs.declared.run.opened.ScriptFault.{ScriptFault}
@@ -29,6 +30,7 @@ abbrev pub to_open : List (ChainFile MemStorage) → Bool → ℕ → ToOpen
 to_open files writable number = record { files = files; writable = writable; number = number }
 
 -- The files are opened as the layers of a chain, whose disk is the one that their bytes mean, and the script is run over it to this result.
+-- To each layer its file means what it means with the further files found by their names.
 -- Where the top is sound and its storages keep what is written, the calls of all lines do what a list of calls does, with that disk as the
 -- one last flushed.
 pub record RunFrom {D St : Type 0} (g : Ghosts D St) (names : D → ℕ → List ℕ) (what : ToOpen) (input before after : Option (List ℕ))
@@ -39,6 +41,7 @@ pub record RunFrom {D St : Type 0} (g : Ghosts D St) (names : D → ℕ → List
   pub layers : AreLayers g mem_state what.writable what.number what.files (chain opened)
   pub places : AreInPlace (map g.layer (chain opened))
   pub means : IsDiskOf (chain_disk g.layer opened) (files_bytes mem_state what.files)
+  pub named : Each (FindsByNames g names) (chain opened)
   pub scripted : Scripted g names input before after result opened last
   pub headline : OfTop (IsFit mem_state) what.files
       → Driven g (flushed (chain_disk g.layer opened)) (calls_of scripted.replies) (answers_of scripted.replies) opened last

@@ -3,7 +3,7 @@ ghost use Rattle.std.specs.Prelude.{◌≡◌, ◌<◌, ℕ, List, [], false, le
 ghost use Rattle.imago_formats.specs.DescriptorView.{kept_names};
 ghost use Rattle.qcow2_types.specs.Bytes.{bytes_of};
 ghost use Rattle.qcow2_types.specs.Header.{header_of};
-ghost use Rattle.qimg_chain.specs.FileMeanings.{MeansFile, driver_bytes};
+ghost use Rattle.qimg_chain.specs.FileMeanings.{FindsByNames};
 ghost use Rattle.qimg_chain.specs.FilesByName.{qcow2_through, sized, vmdk_named};
 ghost use Rattle.qimg_chain.specs.declared.chain.image_driver.ImageDriver.TheVariants as variant;
 
@@ -26,7 +26,7 @@ pub trait NamesFiles: FormatDriverInstance {
         ensures { result.now ≡ Self.names self.now index };
 
     /// What the image file of a safe driver means to it is what it means with the further files that are found by these names.
-    ghost named: { (d : Self) → Self.safe d → MeansFile (Self.layer d) (Self.image d).bytes (driver_bytes Self.Seen names d) };
+    ghost named: { (d : Self) → Self.safe d → FindsByNames Self.Seen names d };
 }
 
 impl<S: Storage> NamesFiles for ImageDriver<S> {

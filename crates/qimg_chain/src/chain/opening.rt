@@ -11,12 +11,13 @@ ghost use Rattle.qimg_calls.specs.Held.{IsReady};
 ghost use Rattle.qimg_calls.specs.Runs.{StandsSince};
 ghost use Rattle.qimg_calls.specs.Since.{flushed};
 ghost use Rattle.qimg_chain.specs.Chains.{AreInPlace, AreLayers, IsFit, OfTop, number_for};
-ghost use Rattle.qimg_chain.specs.FileMeanings.{IsDiskOf, ShowsFile, extra_bytes, file_bytes, files_bytes};
+ghost use Rattle.qimg_chain.specs.FileMeanings.{FindsByNames, IsDiskOf, ShowsFile, extra_bytes, file_bytes, files_bytes};
 ghost use Rattle.qimg_chain.specs.FileLayers.{IsLayer, IsLayerAs, WhyNotAs, WhyNotLayer, shows_below};
 ghost use Rattle.qimg_chain.specs.Refusals.{FirstCause, FormChain, IsCutOff, WhyNotLayers};
 
 use crate::chain::extras::Extras;
 use crate::chain::image_driver::ImageDriver;
+use crate::chain::naming::NamesFiles;
 use imago_access::{
     Format, FormatAccess, FormatDriverBuilder, FormatDriverInstance, ImplicitOpenGate, Seen,
 };
@@ -52,6 +53,9 @@ pub fn open_chain<S: Storage>(
     ensures places { let d = ⟦<ImageDriver<S> as Seen>⟧ in IfOk result (λ c. AreInPlace (map d.layer (chain c))) }
     ensures means { let d = ⟦<ImageDriver<S> as Seen>⟧ in
         IfOk result (λ c. IsDiskOf (chain_disk d.layer c) (files_bytes S.state files.items)) }
+    // To each layer its file means what it means with the further files found by the names that the layer tells.
+    ensures named { let d = ⟦<ImageDriver<S> as Seen>⟧ in
+        IfOk result (λ c. Each (FindsByNames d ⟦<ImageDriver<S> as NamesFiles>⟧.names) (chain c)) }
     // Nothing is prepared in the top, and nothing waits to be written below it.
     ensures free { let d = ⟦<ImageDriver<S> as Seen>⟧ in IfOk result (λ c. IsFree (d.layer c.0)) }
     ensures still { let d = ⟦<ImageDriver<S> as Seen>⟧ in IfOk result (λ c. Each d.still c.1) }
@@ -90,6 +94,8 @@ fn open_over<S: Storage>(
     ensures places { let d = ⟦<ImageDriver<S> as Seen>⟧ in IfOk result (λ c. AreInPlace (map d.layer (chain c))) }
     ensures means { let d = ⟦<ImageDriver<S> as Seen>⟧ in
         IfOk result (λ c. IsDiskOf (chain_disk d.layer c) (files_bytes S.state (top ∷ reverse below.old.items))) }
+    ensures named { let d = ⟦<ImageDriver<S> as Seen>⟧ in
+        IfOk result (λ c. Each (FindsByNames d ⟦<ImageDriver<S> as NamesFiles>⟧.names) (chain c)) }
     ensures err { IfErr result (λ e. IsCutOff S.state e ⊎ WhyNotLayers S.state writable (top ∷ reverse below.old.items) e) }
 {
     let driver = open_layer(alloc, top, writable, number)?;
@@ -124,6 +130,7 @@ fn open_layer<S: Storage>(
     ensures layer { let d = ⟦<ImageDriver<S> as Seen>⟧ in
         IfOk result (λ l. IsLayer S.state writable file (shows_below (d.layer l)) (d.extras l)) }
     ensures means { let d = ⟦<ImageDriver<S> as Seen>⟧ in IfOk result (λ l. ShowsFile (d.layer l) (file_bytes S.state file)) }
+    ensures named { IfOk result (FindsByNames ⟦<ImageDriver<S> as Seen>⟧ ⟦<ImageDriver<S> as NamesFiles>⟧.names) }
     ensures err { IfErr result (λ e. IsCutOff S.state e ⊎ WhyNotLayer S.state writable file e) }
 {
     let ChainFile {
@@ -151,6 +158,7 @@ fn open_raw<S: Storage>(
         IfOk result (λ l. IsLayerAs S.state format.Raw writable (S.state image) handed (shows_below (d.layer l)) (d.extras l)) }
     ensures means { let d = ⟦<ImageDriver<S> as Seen>⟧ in IfOk result (λ l. ShowsFile (d.layer l)
         (record { format = format.Raw; bytes = (S.state image).bytes; extras = map (extra_bytes S.state) extras.old.files.items })) }
+    ensures named { IfOk result (FindsByNames ⟦<ImageDriver<S> as Seen>⟧ ⟦<ImageDriver<S> as NamesFiles>⟧.names) }
     ensures err { IfErr result (λ _. ⊥) }
 {
     let builder = Raw::builder(image).write(writable);
@@ -172,6 +180,7 @@ fn open_vmdk<S: Storage>(
         IfOk result (λ l. IsLayerAs S.state format.Vmdk writable (S.state image) handed (shows_below (d.layer l)) (d.extras l)) }
     ensures means { let d = ⟦<ImageDriver<S> as Seen>⟧ in IfOk result (λ l. ShowsFile (d.layer l)
         (record { format = format.Vmdk; bytes = (S.state image).bytes; extras = map (extra_bytes S.state) extras.old.files.items })) }
+    ensures named { IfOk result (FindsByNames ⟦<ImageDriver<S> as Seen>⟧ ⟦<ImageDriver<S> as NamesFiles>⟧.names) }
     ensures err { IfErr result (λ e. IsCutOff S.state e ⊎ WhyNotAs S.state format.Vmdk writable (S.state image) extras.old.files.items e) }
 {
     let builder = Vmdk::builder(image).write(writable);
@@ -194,6 +203,7 @@ fn open_qcow2<S: Storage>(
         IfOk result (λ l. IsLayerAs S.state format.Qcow2 writable (S.state image) handed (shows_below (d.layer l)) (d.extras l)) }
     ensures means { let d = ⟦<ImageDriver<S> as Seen>⟧ in IfOk result (λ l. ShowsFile (d.layer l)
         (record { format = format.Qcow2; bytes = (S.state image).bytes; extras = map (extra_bytes S.state) extras.old.files.items })) }
+    ensures named { IfOk result (FindsByNames ⟦<ImageDriver<S> as Seen>⟧ ⟦<ImageDriver<S> as NamesFiles>⟧.names) }
     ensures err { IfErr result (λ e. IsCutOff S.state e ⊎ WhyNotAs S.state format.Qcow2 writable (S.state image) extras.old.files.items e) }
 {
     let builder = Qcow2::builder(image).number(number).write(writable);

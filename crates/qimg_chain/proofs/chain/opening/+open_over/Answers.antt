@@ -56,3 +56,9 @@ pub returns-in-Ok-clause-means : goal.returns-in-Ok-clause-means
 returns-in-Ok-clause-means g t c =
     rw (c.in-Ok.ensures.ok, begins c.args.below.now.items c.pop.new.self.items c.in-Some.next c.in-Some.ensures.items)
     (over _ (map (image_seen.ghosts g.row.S g.S.Storage g.S.Storage-dict g.S.Destruct-dict).layer (c.in_ok-rest.rest.0 ∷ c.in_ok-rest.rest.1)) (file_bytes g.S.Storage.state c.args.top) (files_bytes g.S.Storage.state (c.in-Some.next ∷ reverse c.pop.new.self.items)) c.in_ok-driver.ensures.means c.in_ok-rest.ensures.means.value (λ p. inl (c.shows_below-2.ensures.0 (grind (arith, c.if-not-shows_below.false)))))
+
+pub returns-in-None-clause-named : goal.returns-in-None-clause-named
+returns-in-None-clause-named g t c = rw (c.new.ensures) (c.in_ok-driver.ensures.named, tt)
+
+pub returns-in-Ok-clause-named : goal.returns-in-Ok-clause-named
+returns-in-Ok-clause-named g t c = rw (c.in-Ok.ensures.ok) (c.in_ok-driver.ensures.named, c.in_ok-rest.ensures.named)

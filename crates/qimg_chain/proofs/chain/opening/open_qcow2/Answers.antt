@@ -1,8 +1,17 @@
 use Rattle.std.proofs.Common.{rules}
-use Rattle.std.specs.Prelude.{map}
+use Rattle.std.specs.Prelude.{false, map}
+use Rattle.qcow2_types.specs.Bytes.{bytes_of}
+use Rattle.qcow2_types.specs.Header.{header_of}
 use Rattle.qimg_chain.specs.FileMeanings.{extra_bytes}
+use Rattle.qimg_chain.specs.FilesByName.{qcow2_through, sized}
 use Rattle.qimg_chain.proofs.FilesShown.{qcow2_shown}
 use Rattle.qimg_chain.proofs.chain.opening.open_qcow2.Goals as goal
 
 pub returns-in-Ok-clause-means : goal.returns-in-Ok-clause-means
 returns-in-Ok-clause-means g c = qcow2_shown g.row.S g.S.Storage g.S.Storage-dict g.S.Destruct-dict c.args.writable c.args.number (g.S.Storage.state c.args.image) (map (extra_bytes g.S.Storage.state) c.args.extras.now.files.items) c.in-Ok.qcow2 (search rules)
+
+pub returns-in-Ok-clause-named : goal.returns-in-Ok-clause-named
+returns-in-Ok-clause-named g c =
+    let d = c.in-Ok.qcow2 in
+    let bytes = (g.S.Storage.state d.tables.file.image).bytes in
+    record { size = sized d.backing (bytes_of bytes) (header_of false (bytes_of bytes)); cell = qcow2_through d.backing bytes }

@@ -1,4 +1,4 @@
-use Rattle.std.proofs.Common.{rules}
+use Rattle.std.proofs.Common.{refl, rules}
 use Rattle.std.specs.Prelude.{map}
 use Rattle.qimg_chain.specs.FileMeanings.{extra_bytes}
 use Rattle.qimg_chain.proofs.FilesShown.{raw_shown}
@@ -6,3 +6,6 @@ use Rattle.qimg_chain.proofs.chain.opening.open_raw.Goals as goal
 
 pub returns-in-Ok-clause-means : goal.returns-in-Ok-clause-means
 returns-in-Ok-clause-means g c = raw_shown g.row.S g.S.Storage g.S.Storage-dict g.S.Destruct-dict c.args.writable 0 (g.S.Storage.state c.args.image) (map (extra_bytes g.S.Storage.state) c.args.extras.now.files.items) c.in-Ok.raw (search rules)
+
+pub returns-in-Ok-clause-named : goal.returns-in-Ok-clause-named
+returns-in-Ok-clause-named g c = record { size = refl; cell = λ p below backed. refl }

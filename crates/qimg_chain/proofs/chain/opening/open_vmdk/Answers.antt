@@ -5,6 +5,7 @@ use Rattle.imago_access.specs.declared.format.Format.TheVariants.{Vmdk}
 use Rattle.imago_formats.specs.Descriptor.{descriptor_of}
 use Rattle.imago_formats.specs.DescriptorView.{kept_extents}
 use Rattle.imago_formats.specs.RawOpening.{kept_same}
+use Rattle.qimg_chain.specs.FilesByName.{vmdk_named}
 use Rattle.qimg_chain.specs.FurtherFiles.{HasFurther}
 use Rattle.qimg_chain.proofs.FurtherTaken.{has_files}
 use Rattle.qimg_chain.proofs.FilesShown.{vmdk_shown}
@@ -43,3 +44,12 @@ returns-in-Ok-clause-means g c =
     let state = g.S.Storage.state in
     let vmdk = c.in-Ok.vmdk in
     vmdk_shown state vmdk.disk.extents.items (state c.args.image) vmdk.image c.args.extras.now c.open.new.gate vmdk.files.items ok.1 ok.2 ok.3 c.in-Ok.ensures.files
+
+pub returns-in-Ok-clause-named : goal.returns-in-Ok-clause-named
+returns-in-Ok-clause-named g c =
+    let ok = rw (c.write-builder.ensures.made, c.builder.ensures) at c.in-Ok.ensures.ok in
+    let state = g.S.Storage.state in
+    let d = c.in-Ok.vmdk in
+    let extents = d.disk.extents.items in
+    vmdk_named extents (state d.image) (map state d.files.items)
+    (subst (λ (s : StorageState). descriptor_of s.bytes ≡ Ok (kept_extents extents)) (sym ok.1) ok.2)

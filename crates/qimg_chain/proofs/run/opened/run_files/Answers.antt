@@ -6,6 +6,7 @@ use Rattle.imago_storage.specs.State.{InStep}
 use Rattle.imago_storage.specs.declared.memory.MemStorage.{MemStorage}
 use Rattle.qimg_core.specs.declared.plain.ChainFile.{ChainFile}
 use Rattle.qimg_core.specs.declared.first.worked.RunFault.{RunFault}
+use Rattle.imago_access.specs.Chain.{Each}
 use Rattle.imago_access.specs.Layers.{chain}
 use Rattle.imago_access.specs.Running.{chain_disk}
 use Rattle.imago_access.specs.declared.seen.Seen.{Ghosts}
@@ -13,7 +14,7 @@ use Rattle.qimg_calls.specs.Held.{IsReady}
 use Rattle.qimg_calls.specs.Runs.{StandsSince}
 use Rattle.qimg_calls.specs.Since.{flushed}
 use Rattle.qimg_chain.specs.Chains.{AreInPlace, AreLayers, IsFit, OfTop}
-use Rattle.qimg_chain.specs.FileMeanings.{IsDiskOf, files_bytes}
+use Rattle.qimg_chain.specs.FileMeanings.{FindsByNames, IsDiskOf, files_bytes}
 use Rattle.qimg_chain.specs.Headline.{RunFrom, ToOpen}
 use Rattle.qimg_chain.specs.Refusals.{FormChain}
 use Rattle.qimg_chain.specs.ScriptRuns.{Scripted}
@@ -34,16 +35,18 @@ in-step (file ∷ below) fit = λ tells keeps. absurd (silent file.image tells)
 -- the script is run over the chain just opened
 from-opening : {D St : Type 0} {g : Ghosts D St} {names : D → ℕ → List ℕ} {what : ToOpen} {input before after : Option (List ℕ)} {result : Result (Option (Vec ℕ Global)) RunFault}
     → (opened last : D × List D) → FormChain mem_state what.writable what.files → AreLayers g mem_state what.writable what.number what.files (chain opened) → AreInPlace (map g.layer (chain opened))
-    → IsDiskOf (chain_disk g.layer opened) (files_bytes mem_state what.files) → Scripted g names input before after result opened last
+    → IsDiskOf (chain_disk g.layer opened) (files_bytes mem_state what.files) → Each (FindsByNames g names) (chain opened)
+    → Scripted g names input before after result opened last
     → (OfTop (IsFit mem_state) what.files → IsReady g opened) → (OfTop (λ file. InStep (mem_state file.image)) what.files → StandsSince g (flushed (chain_disk g.layer opened)) opened)
     → RunFrom g names what input before after result
-from-opening {what = what} opened last formed layers places means scripted ready stands = record {
+from-opening {what = what} opened last formed layers places means named scripted ready stands = record {
   opened = opened;
   last = last;
   formed = formed;
   layers = layers;
   places = places;
   means = means;
+  named = named;
   scripted = scripted;
   headline = λ fit. scripted.driven _ (ready fit) (stands (in-step what.files fit));
 }
@@ -51,12 +54,12 @@ from-opening {what = what} opened last formed layers places means scripted ready
 pub returns-in-Ok-run-clause-headline : goal.returns-in-Ok-run-clause-headline
 returns-in-Ok-run-clause-headline g c =
     let made = c.in-Ok.ensures in
-    from-opening c.in-Ok.chain c.run.new.chain made.formed made.layers made.places made.means c.in-Ok-run.ensures.scripted made.ready made.stands
+    from-opening c.in-Ok.chain c.run.new.chain made.formed made.layers made.places made.means made.named c.in-Ok-run.ensures.scripted made.ready made.stands
 
 pub returns-clause-err : goal.returns-clause-err
 returns-clause-err g c =
     let made = c.in-Ok.ensures in
-    from-opening c.in-Ok.chain c.run.new.chain made.formed made.layers made.places made.means c.in-Err-run.ensures.scripted made.ready made.stands
+    from-opening c.in-Ok.chain c.run.new.chain made.formed made.layers made.places made.means made.named c.in-Err-run.ensures.scripted made.ready made.stands
 
 pub returns-in-Err-clause-err : goal.returns-in-Err-clause-err
 returns-in-Err-clause-err g c =
