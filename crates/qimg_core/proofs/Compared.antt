@@ -172,25 +172,13 @@ module _ (f : Bytes) (h : Fields) (names : Tallies) (told : Tells f h names) (fo
 
 -- A finding after a state that is the same.
 pub under-since : (old now new : StorageState) (h : Fields) → Kept old now → now.faults ≡ old.faults → (fault : CheckFault) → Found now new (IsUnder (file now) h) fault → Found old new (IsUnder (file old) h) fault
-under-since old now new h kept same fault.Header found = absurd found.0
-under-since old now new h kept same fault.Snapshots found = absurd found.0
-under-since old now new h kept same fault.External found = absurd found.0
-under-since old now new h kept same fault.Table found = absurd found.0
-under-since old now new h kept same (fault.SharedTable c) found = absurd found.0
-under-since old now new h kept same (fault.FalseCopied c) found = absurd found.0
 under-since old now new h kept same (fault.UnderCounted c) found = (subst (λ f. IsLeast (is_under_counted f h) c) (kept-file old now kept) found.0, found.1 ∙ same)
 under-since old now new h kept same fault.Memory found = found ∙ same
 under-since old now new h kept same fault.Storage found = subst (λ n. Rose n new.faults) same found
+under-since old now new h kept same fault found = absurd found.0
 
 -- A named cluster that isn't counted is the finding.
 pub uncounted-finding : (old new : StorageState) (h : Fields) (names : Tallies) (low : ℕ) (high : Option ℕ) → new.faults ≡ old.faults → ((c : ℕ) → IsFirstWithin (is_such AtAll names) low high c → IsLeast (is_under_counted (file old) h) c)
     → (fault : CheckFault) → NamesFirst names low high fault → Found old new (IsUnder (file old) h) fault
-uncounted-finding old new h names low high same least fault.Header first = absurd first
-uncounted-finding old new h names low high same least fault.Snapshots first = absurd first
-uncounted-finding old new h names low high same least fault.External first = absurd first
-uncounted-finding old new h names low high same least fault.Table first = absurd first
-uncounted-finding old new h names low high same least (fault.SharedTable c) first = absurd first
-uncounted-finding old new h names low high same least (fault.FalseCopied c) first = absurd first
 uncounted-finding old new h names low high same least (fault.UnderCounted c) first = (least c first, same)
-uncounted-finding old new h names low high same least fault.Memory first = absurd first
-uncounted-finding old new h names low high same least fault.Storage first = absurd first
+uncounted-finding old new h names low high same least fault first = absurd first

@@ -16,7 +16,7 @@ use Rattle.qcow2_types.specs.Header.{Fields}
 use Rattle.qcow2_types.specs.Entries.{l2_table_sound}
 use Rattle.qcow2_types.specs.References.{meets, of_mapping, of_copied, of_table}
 use Rattle.qimg_core.specs.declared.check.CheckFault.{CheckFault}
-use Rattle.qimg_core.specs.declared.check.CheckFault.TheVariants.{Header, Snapshots, External, Table, SharedTable, FalseCopied, UnderCounted, Memory, Storage}
+use Rattle.qimg_core.specs.declared.check.CheckFault.TheVariants.{Table, Memory, Storage}
 use Rattle.qimg_core.specs.declared.check.names.Tallies.{Tallies}
 use Rattle.qimg_core.specs.Files.{file}
 use Rattle.qimg_core.specs.Names.{Adds, nothing_named, named_by, structure_part, mapped_part, copied_part}
@@ -144,9 +144,6 @@ module _ (old now : StorageState) (h : Fields) (before names : Tallies) (places 
 
   -- a table that isn't entered
   pub one-damaged : (new : StorageState) (given : List ℕ) → IsPermutation given places → i < length places → (fault : CheckFault) → Found now new (IsDamagedTable (file now) h (slice_index places i)) fault → Found old new (IsOneDamaged (file old) h given) fault
-  one-damaged new given permuted inside Header found = absurd found.0
-  one-damaged new given permuted inside Snapshots found = absurd found.0
-  one-damaged new given permuted inside External found = absurd found.0
   one-damaged new given permuted inside Table found = (damaged, found.1 ∙ so_far.faults)
     where
       there : Contains given (slice_index places i)
@@ -154,14 +151,12 @@ module _ (old now : StorageState) (h : Fields) (before names : Tallies) (places 
 
       damaged : Any (λ place. IsFalse (l2_table_sound (file old) h place)) given
       damaged = (there.0, slice_index places i, there.1, there.2, sym (ap (λ (f : Bytes). l2_table_sound f h (slice_index places i)) same-file) ∙ found.0)
-  one-damaged new given permuted inside (SharedTable c) found = absurd found.0
-  one-damaged new given permuted inside (FalseCopied c) found = absurd found.0
-  one-damaged new given permuted inside (UnderCounted c) found = absurd found.0
   one-damaged new given permuted inside Memory found = found ∙ so_far.faults
   one-damaged new given permuted inside Storage found = rose
     where
       rose : Rose old.faults new.faults
       rose = record { kept = omega (arith, found.kept, so_far.faults); rose = λ few. let more = found.rose few in omega (arith, more, so_far.faults) }
+  one-damaged new given permuted inside fault found = absurd found.0
 
 -- each place is one of a cluster, in any order
 pub placed-at : (bits : ℕ) (given places : List ℕ) (i : ℕ) → IsPermutation given places → i < length places → AreTables bits given → IsTrue (is_place bits (slice_index places i))

@@ -1,73 +1,20 @@
 -- What an image names, as the checker counts it.
-use Rattle.std.proofs.Common.{◌≡◌, ℕ, zero, suc, ◌+◌, ◌*◌, ◌^◌, ◌<◌, ◌≤◌, refl, arith, ap, sym, subst, ◌∙◌, List, [], length}
-use Rattle.std.specs.Prelude.{Bool, true, false, ◌==◌, nat_lt, if◌then◌else◌, ◌&&◌, slice_index, Some, None, Ok}
+use Rattle.std.proofs.Common.{◌≡◌, ℕ, ◌+◌, ◌^◌, ◌≤◌, refl, arith, ap, sym, subst, ◌∙◌, List, length}
+use Rattle.std.specs.Prelude.{true, if◌then◌else◌, slice_index, Ok}
 use Rattle.std.specs.List.{sum_by}
-use Rattle.std.proofs.lemmas.List.Sums.{sum_by-le}
-use Rattle.std.proofs.Math.Nat.{mul-le-mul_left}
 use Rattle.qcow2_types.specs.Bytes.{Bytes, sum_below}
-use Rattle.qcow2_types.specs.Words.{Mapping, data_at, zeroes, packed, unmapped, damaged}
-use Rattle.qcow2_types.specs.Header.{Fields, Header, header_of, Limited, cluster_size, words_of_cluster, refcount_table_entries}
-use Rattle.qcow2_types.specs.Entries.{l2_table, l2_mapping}
+use Rattle.qcow2_types.specs.Words.{Mapping}
+use Rattle.qcow2_types.specs.Header.{Header, header_of, Limited, refcount_table_entries}
+use Rattle.qcow2_types.specs.Entries.{l2_table}
 use Rattle.qcow2_types.specs.Counts.{block_at}
 use Rattle.qcow2_types.specs.References.{Weight, meets, of_cluster, of_mapping, of_copied, of_table, of_table_or_none, structure, contents}
-use Rattle.qcow2_types.proofs.HeaderLimits.{fields-shaped, header-limited}
-use Rattle.qcow2_types.proofs.Sums.{sum-same, sum-none, sum-more}
-use Rattle.qcow2_metadata.proofs.GrowthLemmas.{cluster_words_bounds}
+use Rattle.qcow2_types.proofs.HeaderLimits.{header-limited}
+use Rattle.qcow2_types.proofs.Sums.{sum-same}
 use Rattle.qimg_core.specs.declared.check.names.Tallies.{Tallies}
-use Rattle.qimg_core.specs.Names.{Adds, IsFew, TellsNothing, nothing_named, named_by, structure_part, mapped_part, copied_part, named}
+use Rattle.qimg_core.specs.Names.{Adds, TellsNothing, nothing_named, named_by, structure_part, mapped_part, copied_part}
 use Rattle.qimg_core.specs.CheckParts.{Tells, HoldsPlaces, tables_of, sum_over, structure_over}
 use Rattle.qimg_core.proofs.ScanLemmas.{not-same}
 use Rattle.qimg_core.proofs.TablesListed.{sum-tables, sum-list, tables-few}
-
--- a range meets a cluster once at most
-meets-once : (h : Fields) (c first length : ℕ) → meets h c first length ≤ 1
-meets-once h c first length = once (nat_lt 0 length && nat_lt first ((c + 1) * cluster_size h) && nat_lt (c * cluster_size h) (first + length))
-  where
-    once : (b : Bool) → (if b then 1 else 0) ≤ 1
-    once true = omega arith
-    once false = omega arith
-
--- and so does what a mapping names
-mapping-once : (h : Fields) (c : ℕ) (m : Mapping) → of_mapping h (meets h c) m ≤ 1
-mapping-once h c (data_at cluster copied) = meets-once h c (cluster * cluster_size h) (cluster_size h)
-mapping-once h c (zeroes (Some cluster) copied) = meets-once h c (cluster * cluster_size h) (cluster_size h)
-mapping-once h c (zeroes None copied) = omega arith
-mapping-once h c (packed offset length) = meets-once h c offset length
-mapping-once h c unmapped = omega arith
-mapping-once h c damaged = omega arith
-
-copied-once : (h : Fields) (c : ℕ) (m : Mapping) → of_copied h (meets h c) m ≤ 1
-copied-once h c (data_at cluster true) = meets-once h c (cluster * cluster_size h) (cluster_size h)
-copied-once h c (data_at cluster false) = omega arith
-copied-once h c (zeroes (Some cluster) true) = meets-once h c (cluster * cluster_size h) (cluster_size h)
-copied-once h c (zeroes (Some cluster) false) = omega arith
-copied-once h c (zeroes None true) = omega arith
-copied-once h c (zeroes None false) = omega arith
-copied-once h c (packed offset length) = omega arith
-copied-once h c unmapped = omega arith
-copied-once h c damaged = omega arith
-
--- a cluster meets once at most, or is none
-cluster-once : (h : Fields) (c place : ℕ) → of_cluster h (meets h c) place ≤ 1
-cluster-once h c place = pick (place == 0)
-  where
-    pick : (b : Bool) → (if b then 0 else meets h c place (cluster_size h)) ≤ 1
-    pick true = omega arith
-    pick false = meets-once h c place (cluster_size h)
-
--- a sum of terms that are at most 1
-sum-ones : (n : ℕ) (f : ℕ → ℕ) → ((i : ℕ) → f i ≤ 1) → sum_below n f ≤ n
-sum-ones zero f least = let none : sum_below 0 f ≡ 0 = sum-none f in omega arith
-sum-ones (suc n) f least = subst (λ m. sum_below m f ≤ m) (let next : n + 1 ≡ suc n = omega arith in next) (
-    let before : sum_below n f ≤ n = sum-ones n f least in
-    let more : sum_below (n + 1) f ≡ f n + sum_below n f = sum-more n f in
-    let here : f n ≤ 1 = least n in
-    omega arith)
-
--- the words of a table name a cluster once each at most
-table-small : (f : Bytes) (h : Fields) (of : Mapping → ℕ) (place : ℕ) → ((m : Mapping) → of m ≤ 1) → of_table f h of place ≤ words_of_cluster h
-unfolding of_table
-table-small f h of place once = sum-ones (words_of_cluster h) (λ i. of (l2_mapping f h place i)) (λ i. once (l2_mapping f h place i))
 
 module _ (f : Bytes) (H : Header) (loads : header_of true f ≡ Ok H) (tables blocks : List ℕ) (holds : HoldsPlaces f H.fields tables blocks) where
   -- by the list of tables, the sum over all L2 tables
@@ -102,32 +49,6 @@ module _ (f : Bytes) (H : Header) (loads : header_of true f ≡ Ok H) (tables bl
       let limited : Limited H.fields = header-limited true f H loads in
       omega (arith, all, limited.l1_entries)
 
-  few-blocks : length blocks ≤ 2 ^ 20
-  few-blocks = let limited : Limited H.fields = header-limited true f H loads in omega (arith, holds.are_blocks.few, limited.refcount_entries)
-
-  -- No cluster is part of the structure too often for a number,
-  listed-small : (c : ℕ) → structure_over H.fields tables blocks (meets H.fields c) ≤ 3 + 2 ^ 20 + 2 ^ 22
-  unfolding structure_over
-  listed-small c =
-      let a : meets H.fields c 0 (cluster_size H.fields) ≤ 1 = meets-once H.fields c 0 (cluster_size H.fields) in
-      let b : meets H.fields c H.fields.l1_offset (H.fields.l1_entries * 8) ≤ 1 = meets-once H.fields c H.fields.l1_offset (H.fields.l1_entries * 8) in
-      let d : meets H.fields c H.fields.refcount_table_offset (H.fields.refcount_table_clusters * cluster_size H.fields) ≤ 1 = meets-once H.fields c H.fields.refcount_table_offset (H.fields.refcount_table_clusters * cluster_size H.fields) in
-      let e : sum_over (of_cluster H.fields (meets H.fields c)) blocks ≤ length blocks * 1 = sum_by-le (of_cluster H.fields (meets H.fields c)) 1 blocks (λ k x lt. cluster-once H.fields c _) in
-      let g : sum_over (of_cluster H.fields (meets H.fields c)) tables ≤ length tables * 1 = sum_by-le (of_cluster H.fields (meets H.fields c)) 1 tables (λ k x lt. cluster-once H.fields c _) in
-      omega (arith, a, b, d, e, g, few-blocks, few-tables)
-
-  structure-small : (c : ℕ) → structure f H.fields (meets H.fields c) ≤ 3 + 2 ^ 20 + 2 ^ 22
-  structure-small c = subst (λ n. n ≤ 3 + 2 ^ 20 + 2 ^ 22) (structure-listed (meets H.fields c)) (listed-small c)
-
-  -- nor do words name one so often.
-  contents-small : (of : Mapping → ℕ) → ((m : Mapping) → of m ≤ 1) → contents f H.fields of ≤ 2 ^ 40
-  contents-small of once =
-      let bounds = cluster_words_bounds H.fields (fields-shaped true f H loads) in
-      let each : sum_over (of_table f H.fields of) tables ≤ length tables * words_of_cluster H.fields = sum_by-le (of_table f H.fields of) (words_of_cluster H.fields) tables (λ k d lt. table-small f H.fields of _ once) in
-      let most : length tables * words_of_cluster H.fields ≤ length tables * 2 ^ 18 = mul-le-mul_left (length tables) bounds.1 in
-      let is : sum_over (of_table f H.fields of) tables ≡ contents f H.fields of = contents-listed of in
-      omega (arith, each, most, is, few-tables)
-
   module _ (start between given : Tallies) (none : TellsNothing start) (adds-structure : Adds H.fields start between (λ w. structure_over H.fields tables blocks w) nothing_named nothing_named)
       (adds-contents : Adds H.fields between given nothing_named (λ w. sum_over (of_table f H.fields (of_mapping H.fields w)) tables) (λ w. sum_over (of_table f H.fields (of_copied H.fields w)) tables)) where
     -- What is entered then is what the image names.
@@ -154,23 +75,6 @@ module _ (f : Bytes) (H : Header) (loads : header_of true f ≡ Ok H) (tables bl
         let d : named_by copied_part c given ≡ named_by copied_part c between + sum_over (of_table f H.fields (of_copied H.fields (meets H.fields c))) tables = adds-contents.copied c in
         let e : sum_over (of_table f H.fields (of_copied H.fields (meets H.fields c))) tables ≡ contents f H.fields (of_copied H.fields (meets H.fields c)) = contents-listed (of_copied H.fields (meets H.fields c)) in
         omega arith
-
-    few-named : (c : ℕ) → named given c < 0x8000_0000_0000_0000
-    unfolding named
-    few-named c =
-        let a : named_by structure_part c given ≡ structure f H.fields (meets H.fields c) = told-structure c in
-        let b : named_by mapped_part c given ≡ contents f H.fields (of_mapping H.fields (meets H.fields c)) = told-mapped c in
-        let d : structure f H.fields (meets H.fields c) ≤ 3 + 2 ^ 20 + 2 ^ 22 = structure-small c in
-        let e : contents f H.fields (of_mapping H.fields (meets H.fields c)) ≤ 2 ^ 40 = contents-small (of_mapping H.fields (meets H.fields c)) (mapping-once H.fields c) in
-        omega arith
-
-    pub given-few : IsFew given
-    given-few = record {
-      all = λ c. few-named c;
-      copied = λ c. let a : named_by copied_part c given ≡ contents f H.fields (of_copied H.fields (meets H.fields c)) = told-copied c in
-          let b : contents f H.fields (of_copied H.fields (meets H.fields c)) ≤ 2 ^ 40 = contents-small (of_copied H.fields (meets H.fields c)) (copied-once H.fields c) in
-          omega arith;
-    }
 
     pub given-tells : Tells f H.fields given
     given-tells = record { structure = told-structure; mapped = told-mapped; copied = told-copied }

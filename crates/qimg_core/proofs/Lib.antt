@@ -19,6 +19,7 @@ pub mod L2Words
 pub mod PlainTables
 pub mod PlainImage
 pub mod PlainFiles
+pub mod EntryLemmas
 pub mod NameLemmas
 pub mod RangeLemmas
 pub mod SearchLemmas

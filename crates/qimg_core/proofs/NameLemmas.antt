@@ -1,18 +1,18 @@
 -- One cluster and one more are entered.
-use Rattle.std.proofs.Common.{◌≡◌, ◌≢◌, ℕ, ◌+◌, ◌*◌, ◌^◌, ◌<◌, ◌≤◌, false, arith, ap, refl, sym, subst, ◌∙◌, [], length, inl, inr}
-use Rattle.std.specs.Prelude.{Some, slice_index_or, slice_set, unwrap_or, replicate}
-use Rattle.std.specs.Map.{lookup}
-use Rattle.std.specs.BTreeMap.{BTreeMap, Updates}
-use Rattle.std.specs.declared.cmp.Ordering.{Ordering}
-use Rattle.std.specs.declared.cmp.Ordering.TheVariants.{Less, Equal, Greater}
-use Rattle.std.specs.Ordering.{nat_cmp, is_eq, MatchOrdering}
-use Rattle.std.proofs.lemmas.Cmp.{ranked}
+use Rattle.std.proofs.Common.{◌≡◌, ◌≢◌, ℕ, ◌+◌, ◌*◌, ◌<◌, ◌≤◌, arith, ap, sym, ◌∙◌, List, [], length, inl, inr}
+use Rattle.std.specs.Prelude.{slice_index_or, slice_set, replicate}
+use Rattle.std.specs.List.{sum_by}
+use Rattle.std.specs.List.Sorted.{IsPermutation, IsSorted}
+use Rattle.std.specs.Ordering.{nat_cmp}
 use Rattle.std.proofs.lemmas.Bool.{cases_eq, cases_lt}
 use Rattle.std.proofs.lemmas.List.{get_or-set_same, get_or-set_other, get_or_default, get_or-replicate, get_or_past, length-replicate}
+use Rattle.std.proofs.lemmas.List.Sorted.{sum_by-IsPermutation, IsNonDecreasingBy-from_sort}
+use Rattle.qcow2_types.specs.Header.{Fields}
 use Rattle.qimg_core.specs.declared.check.names.Times.{Times}
 use Rattle.qimg_core.specs.declared.check.names.FewTimes.{FewTimes}
 use Rattle.qimg_core.specs.declared.check.names.Tallies.{Tallies}
-use Rattle.qimg_core.specs.Names.{structure_part, mapped_part, copied_part, no_times, no_few_times, cell_at, other_at, together, times_at, named_by, named, is_between, IsSum, IsFewSum, IsFew, TellsNothing, AddsClusters, AddsEntry}
+use Rattle.qimg_core.specs.declared.check.names.Others.{Others}
+use Rattle.qimg_core.specs.Names.{structure_part, mapped_part, copied_part, no_few_times, cell_at, weight_in, weight_of, other_at, together, times_at, named_by, is_between, IsSum, IsFewSum, IsRising, TellsNothing, Total, Adds, AddsClusters, AddsWeight, AddsEntry}
 
 -- a range of no clusters
 pub adds-none : (names : Tallies) (low : ℕ) (times : Times) → AddsClusters names names low low times
@@ -41,6 +41,12 @@ adds-more old now new low k times le before here = record {
 
     more : (x c a b d : ℕ) → b ≡ a + x * is_between low k c → d ≡ b + x * is_between k (k + 1) c → d ≡ a + x * is_between low (k + 1) c
     more x c a b d p q = omega (arith, p, q, between x c)
+
+abbrev pub times-of : ℕ → ℕ → ℕ → Times
+times-of s m p = record { structure = s; mapped = m; copied = p }
+
+pub as-times : {s t m n p q : ℕ} → s ≡ t → m ≡ n → p ≡ q → times-of s m p ≡ times-of t n q
+as-times {s} {t} {m} {n} {p} {q} is is-2 is-3 = ap (λ x. times-of x m p) is ∙ (ap (λ x. times-of t x p) is-2 ∙ ap (times-of t n) is-3)
 
 -- One cluster is entered, where no other changes.
 module _ (old new : Tallies) (k : ℕ) (times : Times) (sum : IsSum (times_at old k) times (times_at new k)) (apart : (c : ℕ) → c ≢ k → times_at new c ≡ times_at old c) where
@@ -109,27 +115,20 @@ adds-in-entry old new k times adds cells =
     step : (a b d e x : ℕ) → a ≡ b → d ≡ e + x → a + d ≡ b + e + x
     step a b d e x p q = omega (arith, p, q)
 
--- an entry is written
-pub adds-entry : (old new : BTreeMap ℕ Times) (k : ℕ) (times sum : Times) → Updates nat_cmp old new k (Some sum) → IsSum (other_at old k) times sum → AddsEntry old new k times
+-- it is entered in each list
+pub adds-entry : (old new : Others) (k : ℕ) (times : Times) → AddsWeight old.structure.items new.structure.items k times.structure → AddsWeight old.mapped.items new.mapped.items k times.mapped → AddsWeight old.copied.items new.copied.items k times.copied → AddsEntry old new k times
 unfolding other_at
-adds-entry old new k times sum written is = record {
-  here = subst (IsSum (other_at old k) times) (sym (ap (λ o. unwrap_or o no_times) written.1)) is;
-  others = λ d ne. ap (λ o. unwrap_or o no_times) (written.2 d (apart d ne));
+adds-entry old new k times structure mapped copied = record {
+  here = record { structure = structure.here; mapped = mapped.here; copied = copied.here };
+  others = λ d ne. as-times (structure.others d ne) (mapped.others d ne) (copied.others d ne);
 }
-  where
-    apart : (d : ℕ) → d ≢ k → is_eq (nat_cmp k d) ≡ false
-    apart d ne = by-order (nat_cmp k d) (ranked k d (nat_cmp k d) refl)
-      where
-        by-order : (r : Ordering) → MatchOrdering r (k < d) (k ≡ d) (d < k) → is_eq r ≡ false
-        by-order Less less = refl
-        by-order Equal same = absurd (ne (sym same))
-        by-order Greater more = refl
 
 -- no name, with n cells
-pub no-names : (names : Tallies) (n : ℕ) → names.cells.items ≡ replicate n no_few_times → names.others.entries ≡ [] → TellsNothing names
+pub no-names : (names : Tallies) (n : ℕ) → names.cells.items ≡ replicate n no_few_times → names.others.structure.items ≡ [] → names.others.mapped.items ≡ [] → names.others.copied.items ≡ [] → TellsNothing names
 unfolding times_at cell_at other_at
-no-names names n cells entries c =
-    ap (λ x. together x (other_at names.others c)) (ap (λ l. slice_index_or l c no_few_times) cells ∙ blank) ∙ ap (λ es. together no_few_times (unwrap_or (lookup (λ q. is_eq (nat_cmp c q)) es) no_times)) entries
+no-names names n cells structure mapped copied c =
+    ap (λ x. together x (other_at names.others c)) (ap (λ l. slice_index_or l c no_few_times) cells ∙ blank)
+    ∙ ap (together no_few_times) (as-times (ap (sum_by (weight_in c)) structure) (ap (sum_by (weight_in c)) mapped) (ap (sum_by (weight_in c)) copied))
   where
     blank : slice_index_or (replicate n no_few_times) c no_few_times ≡ no_few_times
     blank = elim (cases_lt c n) [
@@ -137,18 +136,21 @@ no-names names n cells entries c =
       | inr ge ↦ get_or_past (replicate n no_few_times) c no_few_times (omega (arith, length-replicate n no_few_times))
     ]
 
--- the sums of a cell and an entry fit, where all are small
-module _ (names : Tallies) (c : ℕ) (cell : FewTimes) (entry : Times) (is-cell : cell ≡ cell_at names.cells.items c) (is-entry : entry ≡ other_at names.others c) where
-  pub together-is : together cell entry ≡ times_at names c
-  unfolding times_at
-  together-is = ap (λ x. together x entry) is-cell ∙ ap (together (cell_at names.cells.items c)) is-entry
+-- the lists are put in order
+pub sorted-same : (old new : Tallies) → new.cells.items ≡ old.cells.items → IsPermutation old.others.structure.items new.others.structure.items → IsPermutation old.others.mapped.items new.others.mapped.items → IsPermutation old.others.copied.items new.others.copied.items → (c : ℕ) → times_at new c ≡ times_at old c
+unfolding times_at other_at
+sorted-same old new cells structure mapped copied c =
+    ap (λ l. together (cell_at l c) (other_at new.others c)) cells
+    ∙ ap (together (cell_at old.cells.items c)) (as-times (sum_by-IsPermutation (weight_in c) _ _ structure) (sum_by-IsPermutation (weight_in c) _ _ mapped) (sum_by-IsPermutation (weight_in c) _ _ copied))
 
-  pub together-few : IsFew names → (cell.structure + entry.structure < 2 ^ 64) × (cell.mapped + entry.mapped < 2 ^ 64) × (cell.copied + entry.copied < 2 ^ 64)
-  unfolding named
-  together-few few =
-      let all : named_by structure_part c names + named_by mapped_part c names < 0x8000_0000_0000_0000 = few.all c in
-      let some : named_by copied_part c names < 0x8000_0000_0000_0000 = few.copied c in
-      let s : cell.structure + entry.structure ≡ named_by structure_part c names = ap structure_part together-is in
-      let m : cell.mapped + entry.mapped ≡ named_by mapped_part c names = ap mapped_part together-is in
-      let p : cell.copied + entry.copied ≡ named_by copied_part c names = ap copied_part together-is in
-      (omega (arith, all, s), omega (arith, all, m), omega (arith, some, p))
+pub adds-since : (h : Fields) (old now new : Tallies) (s m p : Total) → ((c : ℕ) → times_at new c ≡ times_at now c) → Adds h old now s m p → Adds h old new s m p
+adds-since h old now new s m p same adds = record { structure = λ c. ap structure_part (same c) ∙ adds.structure c; mapped = λ c. ap mapped_part (same c) ∙ adds.mapped c; copied = λ c. ap copied_part (same c) ∙ adds.copied c }
+
+pub sorted-rising : (list : List ℕ) → IsSorted nat_cmp list → IsRising list
+sorted-rising list sorted i j d le lt = let up = IsNonDecreasingBy-from_sort (λ n. n) list sorted i j d le lt in omega (arith, up)
+
+-- a cell and the lists together
+pub together-is : (names : Tallies) (c : ℕ) (cell : FewTimes) (s m p : ℕ) → cell ≡ cell_at names.cells.items c → s ≡ weight_of names.others.structure.items c → m ≡ weight_of names.others.mapped.items c → p ≡ weight_of names.others.copied.items c
+    → times-of (cell.structure + s) (cell.mapped + m) (cell.copied + p) ≡ times_at names c
+unfolding times_at other_at
+together-is names c cell s m p is structure mapped copied = ap (λ x. together x (times-of s m p)) is ∙ ap (together (cell_at names.cells.items c)) (as-times structure mapped copied)

@@ -2,7 +2,7 @@
 use Rattle.std.proofs.Common.{◌≡◌, ℕ, ◌+◌, ◌-◌, ◌*◌, ◌/◌, ◌^◌, ◌<◌, ◌≤◌, refl, arith, ap, sym, ◌∙◌, inl, inr, List}
 use Rattle.std.specs.Prelude.{◌&&◌, nat_lt, if◌then◌else◌}
 use Rattle.std.proofs.lemmas.Bool.{cases_lt, lt-ltb, le-ltb, le-leb, lt-leb}
-use Rattle.std.proofs.Math.Nat.{div-mul-le_self, lt-div-mul-add}
+use Rattle.std.proofs.Math.Nat.{div-mul-le_self, lt-div-mul-add, pow-le-pow_right, mul-le-mul_left}
 use Rattle.std.proofs.lemmas.Nat.{pow_pos, mul-le}
 use Rattle.qcow2_types.specs.Header.{Fields, cluster_size}
 use Rattle.qcow2_types.specs.References.{meets}
@@ -61,3 +61,10 @@ adds-nothing h xs first times = record {
   mapped = λ c. omega arith;
   copied = λ c. omega arith;
 }
+
+-- the cluster of an offset below 2 to the 62 leaves room for a digit and its place
+pub cluster-small : (n k : ℕ) → 9 ≤ k → n < 2 ^ 62 → n / 2 ^ k + 1 ≤ 2 ^ 53
+cluster-small n k low lt =
+    let least : 2 ^ 9 ≤ 2 ^ k = pow-le-pow_right (omega arith) low in
+    let less : n / 2 ^ k * 2 ^ 9 ≤ n / 2 ^ k * 2 ^ k = mul-le-mul_left (n / 2 ^ k) least in
+    omega (arith, less, div-mul-le_self n (2 ^ k), lt)

@@ -1,80 +1,36 @@
 -- Searches for the least cluster that passes a test.
-use Rattle.std.proofs.Common.{◌≡◌, ℕ, suc, ◌+◌, ◌-◌, ◌^◌, ◌<◌, ◌≤◌, refl, true, false, arith, ap, sym, subst, ◌∙◌, List, [], ◌∷◌, length, inl, inr}
-use Rattle.std.specs.Prelude.{Bool, Option, Some, None, IsSome, IfSome, IsSomeAnd, MatchOption, slice_get, unwrap_or, max}
-use Rattle.std.specs.declared.cmp.Ordering.{Ordering}
-use Rattle.std.specs.declared.cmp.Ordering.TheVariants.{Less, Equal, Greater}
-use Rattle.std.specs.Ordering.{nat_cmp, is_gt, MatchOrdering}
-use Rattle.std.specs.declared.ops.Bound.{Bound}
-use Rattle.std.specs.declared.ops.Bound.TheVariants.{Included, Excluded, Unbounded}
-use Rattle.std.specs.BTreeMap.{BTreeMap, get}
-use Rattle.std.specs.BTreeMap.Range.{IsFromStart, IsEntryInRange, IsRangeOf, IsLeBy}
+use Rattle.std.proofs.Common.{◌≡◌, ◌⊎◌, ℕ, suc, ◌+◌, ◌-◌, ◌^◌, ◌<◌, ◌≤◌, refl, true, false, arith, ap, sym, subst, ◌∙◌, length, inl, inr}
+use Rattle.std.specs.Prelude.{Bool, Option, Some, None, IfSome, IsSomeAnd, MatchOption, max}
 use Rattle.std.proofs.lemmas.Bool.{cases_lt, cases_order}
-use Rattle.std.proofs.lemmas.Cmp.{ranked}
 use Rattle.std.proofs.lemmas.List.{get_or_past}
-use Rattle.std.proofs.lemmas.Map.Keys.{le_from_not_gt}
 use Rattle.qcow2_types.specs.Consistency.{Nowhere, IsLeast}
 use Rattle.qimg_core.specs.declared.check.names.Times.{Times}
 use Rattle.qimg_core.specs.declared.check.names.Tallies.{Tallies}
+use Rattle.qimg_core.specs.declared.check.names.Others.{Others}
 use Rattle.qimg_core.specs.declared.check.search.Question.{Question}
 use Rattle.qimg_core.specs.declared.check.search.Question.TheVariants.{Shared, FalselyCopied, AtAll}
-use Rattle.qimg_core.specs.Names.{no_times, no_few_times, cell_at, other_at, together, times_at, named, named_by, structure_part, mapped_part, IsFew}
-use Rattle.qimg_core.specs.Searches.{passes, is_such, IsBelow, NoneWithin, IsFirstWithin, NoEntryFrom, IsEntryFrom}
+use Rattle.qimg_core.specs.Names.{no_times, no_few_times, cell_at, other_at, together, times_at}
+use Rattle.qimg_core.specs.Searches.{passes, is_such, IsBelow, NoneWithin, IsFirstWithin, IsNextEntry, IsNextIn}
+use Rattle.qimg_core.proofs.NameLemmas.{as-times}
 
--- no entry
-nothing-there : (o : Option Times) → (IsSome o → ⊥) → unwrap_or o no_times ≡ no_times
-nothing-there None none = refl
-nothing-there (Some n) none = absurd (none refl)
-
--- what a bound that a range starts at says
-pub from-included : (a q : ℕ) → a ≤ q → IsFromStart nat_cmp (Included a) q
-from-included a q le = up (nat_cmp a q) (ranked a q (nat_cmp a q) refl)
+-- the least of the next clusters of the lists is the next one of all
+pub next-entry : (others : Others) (low : ℕ) (next structure rest mapped copied : Option ℕ) → ((c : ℕ) → IsBelow next c → IsBelow structure c × IsBelow rest c) → (next ≡ structure) ⊎ (next ≡ rest) → ((c : ℕ) → IsBelow rest c → IsBelow mapped c × IsBelow copied c) → (rest ≡ mapped) ⊎ (rest ≡ copied)
+    → IsNextIn others.structure.items low structure → IsNextIn others.mapped.items low mapped → IsNextIn others.copied.items low copied → IsNextEntry others low next
+unfolding other_at
+next-entry others low next structure rest mapped copied below is below-rest is-rest of-structure of-mapped of-copied = record {
+  none = λ c le lt. let both = below-rest c (below c lt).1 in as-times (of-structure.none c le (below c lt).0) (of-mapped.none c le both.0) (of-copied.none c le both.1);
+  from = one-of next structure rest is of-structure.from (one-of rest mapped copied is-rest of-mapped.from of-copied.from);
+}
   where
-    up : (r : Ordering) → MatchOrdering r (a < q) (a ≡ q) (q < a) → is_gt r ≡ false
-    up Less x = refl
-    up Equal x = refl
-    up Greater x = absurd (omega arith)
-
-pub from-excluded : (a q : ℕ) → a + 1 ≤ q → IsFromStart nat_cmp (Excluded a) q
-from-excluded a q le = up (nat_cmp a q) (ranked a q (nat_cmp a q) refl)
-  where
-    up : (r : Ordering) → MatchOrdering r (a < q) (a ≡ q) (q < a) → r ≡ Less
-    up Less x = refl
-    up Equal x = absurd (omega arith)
-    up Greater x = absurd (omega arith)
-
-pub past-excluded : (a q : ℕ) → IsFromStart nat_cmp (Excluded a) q → a + 1 ≤ q
-past-excluded a q is = let lt : a < q = ranked a q Less (sym is) in omega arith
-
--- What a range of entries with no end begins with.
-module _ (others : BTreeMap ℕ Times) (start : Bound ℕ) (low : ℕ) (inside : (q : ℕ) → low ≤ q → IsFromStart nat_cmp start q) (within : (q : ℕ) → IsFromStart nat_cmp start q → low ≤ q) (r : List (ℕ × Times)) (range : IsRangeOf nat_cmp start Unbounded others r) where
-  pub next-entry : (t : List (ℕ × Times)) (c : ℕ) (n : Times) → r ≡ (c, n) ∷ t → IsEntryFrom others low c
-  unfolding other_at
-  next-entry t c n is = record {
-    from = within c (subst (λ l. IfSome (slice_get l 0) (IsEntryInRange nat_cmp start Unbounded others)) is range.1).0.0;
-    before = λ d le lt. nothing-there (get nat_cmp others d) (λ some. late d lt (subst (λ l. IfSome (slice_get l 0) (λ (e : ℕ × Times). IsLeBy nat_cmp e.0 d)) is (range.2 d (inside d le, tt) some)));
-  }
-    where
-      late : (d : ℕ) → d < c → is_gt (nat_cmp c d) ≡ false → ⊥
-      late d lt up = let le : c ≤ d = le_from_not_gt c d up in omega arith
-
-  pub no-entry : r ≡ [] → NoEntryFrom others low
-  unfolding other_at
-  no-entry none = record { none = λ d le. ap (λ o. unwrap_or o no_times) (range.5 none d (inside d le, tt)) }
+    one-of : (a b d : Option ℕ) → (a ≡ b) ⊎ (a ≡ d) → IfSome b (λ c. (low ≤ c) × (c < 2 ^ 53)) → IfSome d (λ c. (low ≤ c) × (c < 2 ^ 53)) → IfSome a (λ c. (low ≤ c) × (c < 2 ^ 53))
+    one-of a b d (inl same) p q = subst (λ o. IfSome o (λ c. (low ≤ c) × (c < 2 ^ 53))) (sym same) p
+    one-of a b d (inr same) p q = subst (λ o. IfSome o (λ c. (low ≤ c) × (c < 2 ^ 53))) (sym same) q
 
 module _ (question : Question) (names : Tallies) where
   -- the test, by what is told of a cluster
   pub such-is : (c : ℕ) (n : Times) {answer b : Bool} → n ≡ times_at names c → answer ≡ passes question n → answer ≡ b → is_such question names c ≡ b
   unfolding is_such
   such-is c n told is so = ap (passes question) (sym told) ∙ (sym is ∙ so)
-
-  -- whose sum is small
-  pub told-few : (c : ℕ) (n : Times) → IsFew names → n ≡ times_at names c → n.structure + n.mapped < 2 ^ 64
-  unfolding named
-  told-few c n few told =
-      let all : named_by structure_part c names + named_by mapped_part c names < 0x8000_0000_0000_0000 = few.all c in
-      let s : n.structure ≡ named_by structure_part c names = ap structure_part told in
-      let m : n.mapped ≡ named_by mapped_part c names = ap mapped_part told in
-      omega arith
 
   -- It fails where nothing is named, as behind the cells without an entry.
   fails : (q : Question) → passes q no_times ≡ false
@@ -86,36 +42,37 @@ module _ (question : Question) (names : Tallies) where
   unfolding is_such times_at cell_at
   such-none c past none = ap (passes question) (ap (λ x. together x (other_at names.others c)) (get_or_past names.cells.items c no_few_times past) ∙ ap (together no_few_times) none) ∙ fails question
 
-  -- how far a search through the entries has come
+  -- how far a search through the lists has come
   abbrev pub IsAhead : ℕ → Option ℕ → Type 0
-  IsAhead low next = MatchOption next (NoneWithin (is_such question names) low None) (λ c. (low ≤ c) × NoneWithin (is_such question names) low (Some c))
+  IsAhead low next = NoneWithin (is_such question names) low next × IfSome next (λ c. (low ≤ c) × (c < 2 ^ 53))
 
-  pub ahead-first : (low : ℕ) (next : Option ℕ) → length names.cells.items ≤ low → MatchOption next (NoEntryFrom names.others low) (IsEntryFrom names.others low) → IsAhead low next
-  ahead-first low None past found = record { none = λ d le below. such-none d (omega arith) (found.none d le) }
-  ahead-first low (Some c) past found = (found.from, record { none = λ d le lt. such-none d (omega arith) (found.before d le lt) })
+  pub ahead-first : (low : ℕ) (next : Option ℕ) → length names.cells.items ≤ low → IsNextEntry names.others low next → IsAhead low next
+  ahead-first low next past found = (record { none = λ d le below. such-none d (omega arith) (found.none d le below) }, found.from)
 
-  pub ahead-next : (low c : ℕ) (next : Option ℕ) → length names.cells.items ≤ low → IsAhead low (Some c) → is_such question names c ≡ false → MatchOption next (NoEntryFrom names.others (c + 1)) (IsEntryFrom names.others (c + 1)) → IsAhead low next
-  ahead-next low c next past so_far here = more next
-    where
-      up-to : (d : ℕ) → low ≤ d → (c + 1 ≤ d → other_at names.others d ≡ no_times) → is_such question names d ≡ false
-      up-to d le behind = elim (cases_order d c) [
+  pub ahead-next : (low c : ℕ) (next : Option ℕ) → length names.cells.items ≤ low → IsAhead low (Some c) → is_such question names c ≡ false → IsNextEntry names.others (c + 1) next → IsAhead low next
+  ahead-next low c next past so_far here found = (
+    record {
+      none = λ d le below. elim (cases_order d c) [
         | inl is ↦ ap (is_such question names) is ∙ here
-        | inr (inl lt) ↦ so_far.1.none d le lt
-        | inr (inr gt) ↦ such-none d (omega arith) (behind (omega arith))
-      ]
-
-      more : (next : Option ℕ) → MatchOption next (NoEntryFrom names.others (c + 1)) (IsEntryFrom names.others (c + 1)) → IsAhead low next
-      more None found = record { none = λ d le below. up-to d le (found.none d) }
-      more (Some e) found = (let from : c + 1 ≤ e = found.from in omega (arith, from, so_far.0), record { none = λ d le lt. up-to d le (λ more. found.before d more lt) })
+        | inr (inl lt) ↦ so_far.0.none d le lt
+        | inr (inr gt) ↦ such-none d (omega arith) (found.none d (omega arith) below)
+      ];
+    },
+    further next found.from,
+  )
+    where
+      further : (next : Option ℕ) → IfSome next (λ e. (c + 1 ≤ e) × (e < 2 ^ 53)) → IfSome next (λ e. (low ≤ e) × (e < 2 ^ 53))
+      further None from = tt
+      further (Some e) from = (omega (arith, from.0, so_far.1.0), from.1)
 
 -- how many clusters there are from the next one on, and the end
 abbrev pub left : Option ℕ → ℕ
 left None = 0
-left (Some c) = suc (2 ^ 64 - c)
+left (Some c) = suc (2 ^ 53 - c)
 
-pub left-less : (others : BTreeMap ℕ Times) (c : ℕ) (next : Option ℕ) → ((e : ℕ) → next ≡ Some e → e < 2 ^ 64) → MatchOption next (NoEntryFrom others (c + 1)) (IsEntryFrom others (c + 1)) → left next < left (Some c)
-left-less others c None fits found = omega arith
-left-less others c (Some e) fits found = let from : c + 1 ≤ e = found.from in let most : e < 2 ^ 64 = fits e refl in omega arith
+pub left-less : (c : ℕ) (next : Option ℕ) → IfSome next (λ e. (c + 1 ≤ e) × (e < 2 ^ 53)) → left next < left (Some c)
+left-less c None from = omega arith
+left-less c (Some e) from = omega (arith, from.0, from.1)
 
 module _ (test : ℕ → Bool) (low : ℕ) where
   -- nothing was tested

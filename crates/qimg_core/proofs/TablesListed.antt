@@ -21,7 +21,7 @@ use Rattle.qcow2_types.proofs.Sums.{sum-none, sum-more}
 use Rattle.qcow2_metadata.proofs.TableSteps.{past_end}
 use Rattle.imago_storage.specs.State.{StorageState}
 use Rattle.qimg_core.specs.declared.check.CheckFault.{CheckFault}
-use Rattle.qimg_core.specs.declared.check.CheckFault.TheVariants.{Header, Snapshots, External, Table, SharedTable, FalseCopied, UnderCounted, Memory, Storage}
+use Rattle.qimg_core.specs.declared.check.CheckFault.TheVariants.{Table, Memory, Storage}
 use Rattle.qimg_core.specs.Files.{file}
 use Rattle.qimg_core.specs.CheckParts.{tables_of, sum_over, AreTables, IsUnsound, IsOneDamaged}
 use Rattle.qimg_core.specs.Check.{Found}
@@ -186,12 +186,7 @@ table-bytes h shaped =
 
 -- So that is the finding.
 pub damaged-finding : (old new : StorageState) (h : Fields) (tables : List ℕ) → tables ≡ tables_of (file old) h → (fault : CheckFault) → Found old new (IsOneDamaged (file old) h tables) fault → Found old new (IsUnsound (file old) h) fault
-damaged-finding old new h tables is Header found = absurd found.0
-damaged-finding old new h tables is Snapshots found = absurd found.0
-damaged-finding old new h tables is External found = absurd found.0
 damaged-finding old new h tables is Table found = (damaged-by-list (file old) h (subst (Any (λ place. IsFalse (l2_table_sound (file old) h place))) is found.0), found.1)
-damaged-finding old new h tables is (SharedTable c) found = absurd found.0
-damaged-finding old new h tables is (FalseCopied c) found = absurd found.0
-damaged-finding old new h tables is (UnderCounted c) found = absurd found.0
 damaged-finding old new h tables is Memory found = found
 damaged-finding old new h tables is Storage found = found
+damaged-finding old new h tables is fault found = absurd found.0

@@ -59,39 +59,22 @@ pub record CanCheck (f : Bytes) (H : Header) : Type 0 where
 module _ (old : StorageState) (H : Header) (can : CanCheck (file old) H) where
   -- a table is damaged
   pub table-verdict : (now new : StorageState) → Kept old now → now.faults ≡ old.faults → (fault : CheckFault) → Found now new (IsUnsound (file now) H.fields) fault → Found old new (IsFinding (file old)) fault
-  table-verdict now new kept same fault.Header found = absurd found.0
-  table-verdict now new kept same fault.Snapshots found = absurd found.0
-  table-verdict now new kept same fault.External found = absurd found.0
   table-verdict now new kept same fault.Table found = ((H, can.loads, (can.no_snapshots, can.data_inside, ap (λ f. tables_sound f H.fields) (sym (kept-file old now kept)) ∙ found.0)), found.1 ∙ same)
-  table-verdict now new kept same (fault.SharedTable c) found = absurd found.0
-  table-verdict now new kept same (fault.FalseCopied c) found = absurd found.0
-  table-verdict now new kept same (fault.UnderCounted c) found = absurd found.0
   table-verdict now new kept same fault.Memory found = found ∙ same
   table-verdict now new kept same fault.Storage found = rose-since old now new same found
+  table-verdict now new kept same fault found = absurd found.0
 
   module _ (names : Tallies) (sound : IsTrue (tables_sound (file old) H.fields)) (told : Tells (file old) H.fields names) where
     -- a cluster is named more than once
     pub shared-verdict : (now : StorageState) → now.faults ≡ old.faults → (fault : CheckFault) → SharesFirst names fault → Found old now (IsFinding (file old)) fault
-    shared-verdict now same fault.Header found = absurd found
-    shared-verdict now same fault.Snapshots found = absurd found
-    shared-verdict now same fault.External found = absurd found
-    shared-verdict now same fault.Table found = absurd found
     shared-verdict now same (fault.SharedTable c) found = ((H, can.loads, (can.no_snapshots, can.data_inside, sound, least-same (is_such Shared names) (shares_structure (file old) H.fields) (shared-same (file old) H.fields names told) c found)), same)
     shared-verdict now same (fault.FalseCopied c) found =
         ((H, can.loads, (can.no_snapshots, can.data_inside, sound, nowhere-same (is_such Shared names) (shares_structure (file old) H.fields) (shared-same (file old) H.fields names told) found.0, least-same (is_such FalselyCopied names) (is_false_copied (file old) H.fields) (false-same (file old) H.fields names told) c found.1)), same)
-    shared-verdict now same (fault.UnderCounted c) found = absurd found
-    shared-verdict now same fault.Memory found = absurd found
-    shared-verdict now same fault.Storage found = absurd found
+    shared-verdict now same fault found = absurd found
 
     module _ (apart : Nowhere (is_such Shared names)) (true_copies : Nowhere (is_such FalselyCopied names)) where
       -- a cluster is counted too little
       pub under-verdict : (now new : StorageState) → Kept old now → now.faults ≡ old.faults → (fault : CheckFault) → Found now new (IsUnder (file now) H.fields) fault → Found old new (IsFinding (file old)) fault
-      under-verdict now new kept same fault.Header found = absurd found.0
-      under-verdict now new kept same fault.Snapshots found = absurd found.0
-      under-verdict now new kept same fault.External found = absurd found.0
-      under-verdict now new kept same fault.Table found = absurd found.0
-      under-verdict now new kept same (fault.SharedTable c) found = absurd found.0
-      under-verdict now new kept same (fault.FalseCopied c) found = absurd found.0
       under-verdict now new kept same (fault.UnderCounted c) found = (
         (
           H,
@@ -109,6 +92,7 @@ module _ (old : StorageState) (H : Header) (can : CanCheck (file old) H) where
       )
       under-verdict now new kept same fault.Memory found = found ∙ same
       under-verdict now new kept same fault.Storage found = rose-since old now new same found
+      under-verdict now new kept same fault found = absurd found.0
 
       -- nothing is wrong
       pub sound-verdict : (now : StorageState) → Kept old now → Nowhere (is_under_counted (file now) H.fields) → (found : List (ℕ × ℕ)) → found ≡ leaks (file old) H.fields → IsVerdict (file old) (Ok found)

@@ -1,5 +1,6 @@
 -- What the parts of the checker read of an image, and what they find.
-use Rattle.std.specs.Prelude.{◌≡◌, ℕ, zero, suc, ◌+◌, ◌-◌, ◌*◌, ◌<◌, ◌≤◌, ⊤, Bool, not, ◌==◌, nat_lt, if◌then◌else◌, IsTrue, IsFalse, List, [], ◌∷◌, ◌++◌, map, length, slice_index, All, Any, Option, Some, None}
+use Rattle.std.specs.Prelude.{◌≡◌, ◌≢◌, ℕ, zero, suc, ◌+◌, ◌-◌, ◌*◌, ◌<◌, ◌≤◌, ⊤, Bool, not, ◌==◌, nat_lt, min, if◌then◌else◌, IsTrue, IsFalse, List, [], ◌∷◌, ◌++◌, map, length, slice_index, All, Any, Option, Some, None}
+use Rattle.std.specs.Int.{div_ceil}
 use Rattle.std.specs.List.{sum_by, filter, range_with_len}
 use Rattle.imago_storage.specs.declared.fault.Fault.{Fault}
 use Rattle.imago_storage.specs.declared.fault.Fault.TheVariants as fault
@@ -77,6 +78,15 @@ pub record IsBlocks (f : Bytes) (h : Fields) (blocks : List ℕ) : Type 0 where
   pub each : (i : ℕ) → slice_index blocks i ≡ block_at f h i
   pub few : length blocks ≤ refcount_table_entries h
   pub placed : (i : ℕ) → IsTrue (is_place h.cluster_bits (slice_index blocks i))
+
+-- All the blocks that there are stand before this index, and one of them just before it.
+pub record IsBlocksEnd (blocks : List ℕ) (end : ℕ) : Type 0 where
+  pub after : (i : ℕ) → end ≤ i → slice_index blocks i ≡ 0
+  pub last : (i : ℕ) → i + 1 ≡ end → slice_index blocks i ≢ 0
+
+-- how many clusters of a file of so many bytes the first so many blocks count
+abbrev pub counted_clusters : Fields → ℕ → ℕ → ℕ
+counted_clusters h size blocks = min (div_ceil size (cluster_size h)) (blocks * counters_of_block h)
 
 -- The places of the tables and of the blocks.
 pub record HoldsPlaces (f : Bytes) (h : Fields) (tables blocks : List ℕ) : Type 0 where

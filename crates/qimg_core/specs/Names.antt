@@ -1,12 +1,14 @@
--- How often each cluster is named, as the checker keeps it: by cells and entries, which are summed.
-use Rattle.std.specs.Prelude.{◌≡◌, ◌≢◌, ℕ, ◌+◌, ◌*◌, ◌<◌, ◌≤◌, ◌^◌, Bool, ◌&&◌, nat_lt, nat_le, if◌then◌else◌, List, slice_index_or, unwrap_or}
-use Rattle.std.specs.Ordering.{nat_cmp}
-use Rattle.std.specs.BTreeMap.{BTreeMap, get}
+-- How often each cluster is named, as the checker keeps it: by cells and lists of names, which are summed.
+use Rattle.std.specs.Prelude.{◌≡◌, ◌≢◌, ℕ, ◌+◌, ◌*◌, ◌/◌, ◌%◌, ◌^◌, ◌&&◌, ◌==◌, nat_lt, nat_le, if◌then◌else◌, List, slice_index_or}
+use Rattle.std.specs.List.{sum_by}
+use Rattle.std.specs.List.Sorted.{IsNonDecreasingBy}
 use Rattle.qcow2_types.specs.Header.{Fields}
 use Rattle.qcow2_types.specs.References.{Weight, meets}
 use Rattle.qimg_core.specs.declared.check.names.Times.{Times}
 use Rattle.qimg_core.specs.declared.check.names.FewTimes.{FewTimes}
+use Rattle.qimg_core.specs.declared.check.names.AllTimes.{AllTimes}
 use Rattle.qimg_core.specs.declared.check.names.Tallies.{Tallies}
+use Rattle.qimg_core.specs.declared.check.names.Others.{Others}
 
 -- the parts of how often a cluster is named
 abbrev pub structure_part : Times → ℕ
@@ -17,6 +19,10 @@ mapped_part n = n.mapped
 
 abbrev pub copied_part : Times → ℕ
 copied_part n = n.copied
+
+-- as it is read
+abbrev pub all_times : AllTimes → Times
+all_times n = record { structure = n.structure; mapped = n.mapped; copied = n.copied }
 
 -- not named
 abbrev pub no_times : Times
@@ -29,9 +35,34 @@ no_few_times = record { mapped = 0; structure = 0; copied = 0 }
 unfoldable pub cell_at : List FewTimes → ℕ → FewTimes
 cell_at cells c = slice_index_or cells c no_few_times
 
--- what its entry says, if it has one
-unfoldable pub other_at : BTreeMap ℕ Times → ℕ → Times
-other_at others c = unwrap_or (get nat_cmp others c) no_times
+-- the cluster of a name in a list
+abbrev pub cluster_of : ℕ → ℕ
+cluster_of name = name / 2048
+
+-- for how much it counts: a digit at a place of a number to the base of 256
+abbrev pub count_of : ℕ → ℕ
+count_of name = name % 256 * 2 ^ (8 * (name / 256 % 8))
+
+-- how often a name names cluster c
+abbrev pub weight_in : ℕ → ℕ → ℕ
+weight_in c name = if cluster_of name == c then count_of name else 0
+
+-- how often a list of names does
+abbrev pub weight_of : List ℕ → ℕ → ℕ
+weight_of list c = sum_by (weight_in c) list
+
+-- what the lists say of it
+unfoldable pub other_at : Others → ℕ → Times
+other_at others c = record { structure = weight_of others.structure.items c; mapped = weight_of others.mapped.items c; copied = weight_of others.copied.items c }
+
+-- a list in the order of its clusters
+abbrev pub IsRising : List ℕ → Type 0
+IsRising list = IsNonDecreasingBy cluster_of list
+
+pub record AreRising (others : Others) : Type 0 where
+  pub structure : IsRising others.structure.items
+  pub mapped : IsRising others.mapped.items
+  pub copied : IsRising others.copied.items
 
 -- a cell and an entry together
 abbrev pub together : FewTimes → Times → Times
@@ -73,12 +104,6 @@ pub record AddsClusters (old new : Tallies) (low end : ℕ) (times : Times) : Ty
   pub mapped : (c : ℕ) → named_by mapped_part c new ≡ named_by mapped_part c old + times.mapped * is_between low end c
   pub copied : (c : ℕ) → named_by copied_part c new ≡ named_by copied_part c old + times.copied * is_between low end c
 
--- each sum of two fits 64 bits
-pub record SumsFit (one other : Times) : Type 0 where
-  pub structure : one.structure + other.structure < 2 ^ 64
-  pub mapped : one.mapped + other.mapped < 2 ^ 64
-  pub copied : one.copied + other.copied < 2 ^ 64
-
 -- two together
 pub record IsSum (one other sum : Times) : Type 0 where
   pub structure : sum.structure ≡ one.structure + other.structure
@@ -91,16 +116,12 @@ pub record IsFewSum (cell : FewTimes) (more : Times) (sum : FewTimes) : Type 0 w
   pub mapped : sum.mapped ≡ cell.mapped + more.mapped
   pub copied : sum.copied ≡ cell.copied + more.copied
 
--- so much is entered in the entry of cluster c, and no other changes
-pub record AddsEntry (old new : BTreeMap ℕ Times) (c : ℕ) (times : Times) : Type 0 where
+-- so much is entered for cluster c in a list, and no other changes
+pub record AddsWeight (old new : List ℕ) (c times : ℕ) : Type 0 where
+  pub here : weight_of new c ≡ weight_of old c + times
+  pub others : (d : ℕ) → d ≢ c → weight_of new d ≡ weight_of old d
+
+-- and in the lists
+pub record AddsEntry (old new : Others) (c : ℕ) (times : Times) : Type 0 where
   pub here : IsSum (other_at old c) times (other_at new c)
   pub others : (d : ℕ) → d ≢ c → other_at new d ≡ other_at old d
-
--- how often cluster c is named in all
-unfoldable pub named : Tallies → ℕ → ℕ
-named names c = named_by structure_part c names + named_by mapped_part c names
-
--- no sum is too large for a number of 64 bits
-pub record IsFew (names : Tallies) : Type 0 where
-  pub all : (c : ℕ) → named names c < 0x8000_0000_0000_0000
-  pub copied : (c : ℕ) → named_by copied_part c names < 0x8000_0000_0000_0000

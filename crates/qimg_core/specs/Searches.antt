@@ -1,11 +1,11 @@
 -- Searches for the least cluster whose names are of some kind.
-use Rattle.std.specs.Prelude.{◌≡◌, ℕ, ◌+◌, ◌<◌, ◌≤◌, ⊤, Bool, ◌&&◌, not, ◌==◌, nat_lt, IsTrue, IsFalse, Option, Some, None}
-use Rattle.std.specs.BTreeMap.{BTreeMap}
+use Rattle.std.specs.Prelude.{◌≡◌, ℕ, ◌+◌, ◌<◌, ◌≤◌, ◌^◌, ⊤, Bool, ◌&&◌, not, ◌==◌, nat_lt, IsTrue, IsFalse, List, Option, Some, None, IfSome}
 use Rattle.qimg_core.specs.declared.check.names.Times.{Times}
 use Rattle.qimg_core.specs.declared.check.names.Tallies.{Tallies}
+use Rattle.qimg_core.specs.declared.check.names.Others.{Others}
 use Rattle.qimg_core.specs.declared.check.search.Question.{Question}
 use Rattle.qimg_core.specs.declared.check.search.Question.TheVariants.{Shared, FalselyCopied, AtAll}
-use Rattle.qimg_core.specs.Names.{no_times, other_at, times_at}
+use Rattle.qimg_core.specs.Names.{no_times, weight_of, other_at, times_at}
 
 -- What is asked is so: a part of the structure is named more than once, one that is named as copied is, or something is named.
 abbrev pub passes : Question → Times → Bool
@@ -33,11 +33,12 @@ pub record IsFirstWithin (test : ℕ → Bool) (low : ℕ) (high : Option ℕ) (
   pub is : IsTrue (test c)
   pub before : (d : ℕ) → low ≤ d → d < c → IsFalse (test d)
 
--- No cluster from this one on has an entry that says something.
-pub record NoEntryFrom (others : BTreeMap ℕ Times) (low : ℕ) : Type 0 where
-  pub none : (c : ℕ) → low ≤ c → other_at others c ≡ no_times
+-- The lists name no cluster from this one on before the next.
+pub record IsNextEntry (others : Others) (low : ℕ) (next : Option ℕ) : Type 0 where
+  pub none : (c : ℕ) → low ≤ c → IsBelow next c → other_at others c ≡ no_times
+  pub from : IfSome next (λ c. (low ≤ c) × (c < 2 ^ 53))
 
--- nor has one before cluster c
-pub record IsEntryFrom (others : BTreeMap ℕ Times) (low c : ℕ) : Type 0 where
-  pub from : low ≤ c
-  pub before : (d : ℕ) → low ≤ d → d < c → other_at others d ≡ no_times
+-- nor does one list
+pub record IsNextIn (list : List ℕ) (low : ℕ) (next : Option ℕ) : Type 0 where
+  pub none : (c : ℕ) → low ≤ c → IsBelow next c → weight_of list c ≡ 0
+  pub from : IfSome next (λ c. (low ≤ c) × (c < 2 ^ 53))

@@ -4,9 +4,9 @@ ghost use Rattle.imago_storage.specs.Calls.{Kept};
 ghost use Rattle.qcow2_types.specs.Header.{header_of, has_external_data};
 ghost use Rattle.qcow2_types.specs.Consistency.{IsVerdict, Nowhere, tables_sound};
 ghost use Rattle.qimg_core.specs.Files.{file};
-ghost use Rattle.qimg_core.specs.Names.{IsFew};
+ghost use Rattle.qimg_core.specs.Names.{AreRising};
 ghost use Rattle.qimg_core.specs.Searches.{is_such};
-ghost use Rattle.qimg_core.specs.CheckParts.{Tells, HoldsPlaces, IsUnsound, SharesFirst, fault_of_load};
+ghost use Rattle.qimg_core.specs.CheckParts.{Tells, IsBlocksEnd, counted_clusters, HoldsPlaces, IsUnsound, SharesFirst, fault_of_load};
 ghost use Rattle.qimg_core.specs.Check.{Found, IsFinding};
 ghost use Rattle.qimg_core.specs.declared.check.CheckFault.TheVariants.{Memory};
 ghost use Rattle.qimg_core.specs.declared.check.search.Question.TheVariants as question;
@@ -17,12 +17,13 @@ use std::alloc::{AllocError, AllocFailed, Global};
 use thiserror::Error;
 
 mod counts;
+mod entries;
 mod names;
 mod search;
 mod tables;
 
 use counts::compare;
-use names::{Tallies, no_names};
+use names::{Tallies, no_names, sort_names};
 use search::{Question, least_such};
 use tables::{Places, name_contents, name_structure, places_of};
 
@@ -107,15 +108,26 @@ fn readable_header<S: Storage>(alloc: Global, image: &mut S) -> Result<Header, C
     Ok(header)
 }
 
-/// How many cells to count in: one for each cluster of the file, as far as the blocks count them. A sound image names few others.
-fn cell_count(header: &Header, size: u64, blocks: &[u64]) -> usize {
-    let mut words: u64 = 0;
-    for i in 0..blocks.len() {
-        if blocks[i] != 0 {
-            words = i as u64 + 1;
+/// How many blocks there are up to the last one, where a place of 0 is none.
+fn blocks_end(blocks: &[u64]) -> usize
+    ensures { IsBlocksEnd blocks.now result }
+{
+    let mut end = blocks.len();
+    while end > 0 {
+        if blocks[end - 1] != 0 {
+            return end;
         }
+        end -= 1;
     }
-    let counted = words.saturating_mul(header.rb_entries() as u64);
+    0
+}
+
+/// How many cells to count in: one for each cluster of a file of so many bytes, as far as so many blocks count them. A sound image
+/// names few others.
+fn cell_count(header: &Header, size: u64, blocks: usize) -> usize
+    ensures { result ≡ counted_clusters header.now.fields size blocks }
+{
+    let counted = (blocks as u64).saturating_mul(header.rb_entries() as u64);
     let clusters = size.div_ceil(header.cluster_size() as u64);
     clusters.min(counted) as usize
 }
@@ -130,24 +142,25 @@ fn names_of<S: Storage>(
     requires loads { header_of true (file (S.state image.old)) ≡ Ok header.now }
     requires places { HoldsPlaces (file (S.state image.old)) header.now.fields places.tables.items places.blocks.items }
     ensures told { IfOk result (λ found. Tells (file (S.state image.old)) header.now.fields found.0) }
-    ensures few { IfOk result (λ found. IsFew found.0) }
+    ensures rising { IfOk result (λ found. AreRising found.0.others) }
     ensures blocks { IfOk result (λ found. found.1.items ≡ places.blocks.items) }
     ensures sound { OnOk result (IsTrue (tables_sound (file (S.state image.old)) header.now.fields)) }
     ensures err { IfErr result (Found (S.state image.old) (S.state image.new) (IsUnsound (file (S.state image.old)) header.now.fields)) }
     ensures kept { Kept (S.state image.old) (S.state image.new) }
     ensures faults { OnOk result ((S.state image.new).faults ≡ (S.state image.old).faults) }
 {
-    let count = cell_count(header, image.size(), &places.blocks);
+    let count = cell_count(header, image.size(), blocks_end(&places.blocks));
     let mut names = no_names(alloc, count)?;
     name_structure(&mut names, header, &places)?;
     let Places { tables, blocks } = places;
     name_contents(alloc, image, header, tables, &mut names)?;
+    sort_names(&mut names);
     Ok((names, blocks))
 }
 
 /// The first finding among clusters that are named more than once, if there is one.
 fn check_shared(names: &Tallies) -> Result<(), CheckFault>
-    requires { IsFew names.now }
+    requires { AreRising names.now.others }
     ensures shared { OnOk result (Nowhere (is_such question.Shared names.now)) }
     ensures copied { OnOk result (Nowhere (is_such question.FalselyCopied names.now)) }
     ensures err { IfErr result (SharesFirst names.now) }

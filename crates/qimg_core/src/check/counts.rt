@@ -5,7 +5,7 @@ ghost use Rattle.qcow2_types.specs.Header.{header_of};
 ghost use Rattle.qcow2_types.specs.Counts.{counters_of_block};
 ghost use Rattle.qcow2_types.specs.Consistency.{Nowhere, is_under_counted, leaks};
 ghost use Rattle.qimg_core.specs.Files.{file};
-ghost use Rattle.qimg_core.specs.Names.{IsFew};
+ghost use Rattle.qimg_core.specs.Names.{AreRising};
 ghost use Rattle.qimg_core.specs.Searches.{is_such, NoneWithin};
 ghost use Rattle.qimg_core.specs.CheckParts.{Tells, IsBlocks, HoldsCounters, AreCompared, IsUnder, NamesFirst, NoFinding};
 ghost use Rattle.qimg_core.specs.declared.check.search.Question.TheVariants as question;
@@ -55,7 +55,7 @@ fn first_counted(header: &Header, index: usize) -> u64
 
 /// Looks for a cluster that is named, from `low` on and up to `high`, if that is given.
 fn check_unnamed(names: &Tallies, low: u64, high: Option<u64>) -> Result<(), CheckFault>
-    requires { IsFew names.now }
+    requires { AreRising names.now.others }
     ensures ok { OnOk result (NoneWithin (is_such question.AtAll names.now) low high) }
     ensures err { IfErr result (NamesFirst names.now low high) }
 {
@@ -77,7 +77,7 @@ fn compare_block<S: Storage>(
 ) -> Result<(), CheckFault>
     requires blocks { IsBlocks (file (S.state image.old)) header.now.fields blocks.now }
     requires told { Tells (file (S.state image.old)) header.now.fields names.now }
-    requires few { IsFew names.now }
+    requires rising { AreRising names.now.others }
     requires index { index < 2 ^ 20 }
     requires before { AreCompared (file (S.state image.old)) header.now.fields leaks.old.items (index * counters_of_block header.now.fields) }
     ensures ok { OnOk result (AreCompared (file (S.state image.old)) header.now.fields leaks.new.items ((index + 1) * counters_of_block header.now.fields)) }
@@ -91,14 +91,14 @@ fn compare_block<S: Storage>(
     };
     for place in 0..header.rb_entries() {
         let cluster = low + place as u64;
-        let count = block.get(place);
+        let count = block.get(place) as u128;
         let times = times_at(names, cluster);
         let references = times.structure + times.mapped;
         if count < references {
             return Err(CheckFault::UnderCounted(cluster));
         }
         if references < count {
-            leaks.push((cluster, count - references))?;
+            leaks.push((cluster, (count - references) as u64))?;
         }
     }
     Ok(())
@@ -116,7 +116,7 @@ pub fn compare<S: Storage>(
     requires loads { header_of true (file (S.state image.old)) ≡ Ok header.now }
     requires blocks { IsBlocks (file (S.state image.old)) header.now.fields blocks.now }
     requires told { Tells (file (S.state image.old)) header.now.fields names.now }
-    requires few { IsFew names.now }
+    requires rising { AreRising names.now.others }
     ensures ok { IfOk result (λ found. found.items ≡ leaks (file (S.state image.old)) header.now.fields) }
     ensures counted { OnOk result (Nowhere (is_under_counted (file (S.state image.old)) header.now.fields)) }
     ensures err { IfErr result (Found (S.state image.old) (S.state image.new) (IsUnder (file (S.state image.old)) header.now.fields)) }

@@ -1,12 +1,12 @@
 // How often each host cluster is named.
-ghost use Rattle.std.specs.Prelude.{◌≡◌, ℕ, ◌+◌, ◌*◌, ◌<◌, ◌≤◌, ◌^◌, OnOk, IfOk, IfSome, IsOkUnless, MatchOption, Some};
-ghost use Rattle.qimg_core.specs.Names.{Adds, AddsClusters, AddsEntry, IsFewSum, SumsFit, IsSum, IsFew, TellsNothing, cell_at, other_at, no_times, times_at as times_told};
+ghost use Rattle.std.specs.Prelude.{◌≡◌, ℕ, ◌+◌, ◌*◌, ◌<◌, ◌≤◌, ◌^◌, length, OnOk, IfOk, IfSome, IsOkUnless};
+ghost use Rattle.qimg_core.specs.Names.{Adds, AddsClusters, AddsEntry, IsFewSum, AreRising, TellsNothing, all_times, cell_at, times_at as times_told};
 
 use super::CheckFault;
+use super::entries::{enter, weight_at};
 use qcow2_metadata::Header;
 use qcow2_types::{HostCluster, HostOffset};
 use std::alloc::Global;
-use std::collections::BTreeMap;
 
 /// How often something is named, and how.
 #[derive(Clone, Copy, Debug)]
@@ -19,20 +19,21 @@ pub struct Times {
     pub copied: u64,
 }
 
-/// The same in few bytes.
+/// How often something is named in all, however many names there are.
+#[derive(Clone, Copy, Debug)]
+pub struct AllTimes {
+    pub structure: u128,
+    pub mapped: u128,
+    pub copied: u128,
+}
+
+/// The same as `Times`, in few bytes.
 #[derive(Clone, Copy, Debug)]
 pub struct FewTimes {
     pub mapped: u16,
     pub structure: u8,
     pub copied: u8,
 }
-
-/// Not named.
-const NO_TIMES: Times = Times {
-    structure: 0,
-    mapped: 0,
-    copied: 0,
-};
 
 const NO_FEW_TIMES: FewTimes = FewTimes {
     mapped: 0,
@@ -45,18 +46,32 @@ const NO_FEW_TIMES: FewTimes = FewTimes {
 pub struct Tallies {
     /// Four bytes for each cluster, from the first one of the file on.
     pub cells: Vec<FewTimes>,
-    /// What has no room in the cells, by cluster: names behind them, and more of a cluster than a cell can count.
-    pub others: BTreeMap<u64, Times>,
+    /// What has no room in the cells: names behind them, and more of a cluster than a cell can count.
+    pub others: Others,
+}
+
+/// How often each cluster is named, by lists of names of eight bytes each, which `sort_names` puts in order. A name by a word that is
+/// marked as copied stands in two.
+#[derive(Drop)]
+pub struct Others {
+    pub structure: Vec<u64>,
+    pub mapped: Vec<u64>,
+    pub copied: Vec<u64>,
 }
 
 /// Nothing is named, with so many cells.
 pub fn no_names(alloc: Global, count: usize) -> Result<Tallies, CheckFault>
     ensures ok { IfOk result TellsNothing }
+    ensures cells { IfOk result (λ names. length names.cells.items ≡ count) }
     ensures err { IsOkUnless result CheckFault.Memory }
 {
     Ok(Tallies {
         cells: vec![in alloc; NO_FEW_TIMES; count]?,
-        others: BTreeMap::new(alloc),
+        others: Others {
+            structure: Vec::new(alloc),
+            mapped: Vec::new(alloc),
+            copied: Vec::new(alloc),
+        },
     })
 }
 
@@ -77,24 +92,6 @@ fn cell_with(cell: FewTimes, more: Times) -> Option<FewTimes>
     })
 }
 
-/// Two of a cluster together, where the sums fit.
-fn sum_of(one: Times, other: Times) -> Option<Times>
-    ensures { MatchOption result (SumsFit one other → ⊥) (IsSum one other) }
-{
-    Some(Times {
-        structure: one.structure.checked_add(other.structure)?,
-        mapped: one.mapped.checked_add(other.mapped)?,
-        copied: one.copied.checked_add(other.copied)?,
-    })
-}
-
-/// What a cluster's entry says.
-fn entry_of(others: &BTreeMap<u64, Times>, cluster: u64) -> Times
-    ensures { result ≡ other_at others.now cluster }
-{
-    others.get(&cluster).copied().unwrap_or(NO_TIMES)
-}
-
 /// What a cluster's cell says.
 fn cell_of(cells: &[FewTimes], cluster: u64) -> FewTimes
     ensures { result ≡ cell_at cells.now cluster }
@@ -106,26 +103,20 @@ fn cell_of(cells: &[FewTimes], cluster: u64) -> FewTimes
     }
 }
 
-/// Adds to a cluster's entry. No image has so many words that the sums don't fit.
-fn add_to_entry(
-    others: &mut BTreeMap<u64, Times>,
-    cluster: u64,
-    times: Times,
-) -> Result<(), CheckFault>
+/// Adds to a cluster's names in the lists.
+fn enter_other(others: &mut Others, cluster: u64, times: Times) -> Result<(), CheckFault>
+    requires { cluster < 2 ^ 53 }
     ensures ok { OnOk result (AddsEntry others.old others.new cluster times) }
     ensures err { IsOkUnless result CheckFault.Memory }
 {
-    match sum_of(entry_of(others, cluster), times) {
-        Some(sum) => {
-            others.insert(cluster, sum)?;
-            Ok(())
-        }
-        None => Err(CheckFault::Memory),
-    }
+    enter(&mut others.structure, cluster, times.structure)?;
+    enter(&mut others.mapped, cluster, times.mapped)?;
+    enter(&mut others.copied, cluster, times.copied)
 }
 
 /// Enters one cluster: in its cell, if that has room.
 fn name_cluster(names: &mut Tallies, cluster: u64, times: Times) -> Result<(), CheckFault>
+    requires { cluster < 2 ^ 53 }
     ensures ok { OnOk result (AddsClusters names.old names.new cluster (cluster + 1) times) }
     ensures err { IsOkUnless result CheckFault.Memory }
 {
@@ -136,12 +127,13 @@ fn name_cluster(names: &mut Tallies, cluster: u64, times: Times) -> Result<(), C
             return Ok(());
         }
     }
-    add_to_entry(&mut names.others, cluster, times)
+    enter_other(&mut names.others, cluster, times)
 }
 
 /// Enters the clusters from `low` up to `end`, which isn't one of them.
 fn name_clusters(names: &mut Tallies, low: u64, end: u64, times: Times) -> Result<(), CheckFault>
-    requires { low ≤ end }
+    requires from { low ≤ end }
+    requires below { end ≤ 2 ^ 53 }
     ensures ok { OnOk result (AddsClusters names.old names.new low end times) }
     ensures err { IsOkUnless result CheckFault.Memory }
 {
@@ -159,7 +151,7 @@ pub fn name_range(
     length: u64,
     times: Times,
 ) -> Result<(), CheckFault>
-    requires { first + length < 2 ^ 63 }
+    requires { first + length < 2 ^ 62 }
     ensures ok { OnOk result (Adds header.now.fields names.old names.new (λ w. times.structure * w first length) (λ w. times.mapped * w first length) (λ w. times.copied * w first length)) }
     ensures err { IsOkUnless result CheckFault.Memory }
 {
@@ -172,16 +164,26 @@ pub fn name_range(
     name_clusters(names, low, high + 1, times)
 }
 
+/// Puts the lists in order.
+pub fn sort_names(names: &mut Tallies)
+    ensures same { (c : ℕ) → times_told names.new c ≡ times_told names.old c }
+    ensures rising { AreRising names.new.others }
+{
+    names.others.structure.sort_unstable();
+    names.others.mapped.sort_unstable();
+    names.others.copied.sort_unstable();
+}
+
 /// How often a cluster is named.
-pub fn times_at(names: &Tallies, cluster: u64) -> Times
-    requires { IsFew names.now }
-    ensures { result ≡ times_told names.now cluster }
+pub fn times_at(names: &Tallies, cluster: u64) -> AllTimes
+    requires { AreRising names.now.others }
+    ensures value { all_times result ≡ times_told names.now cluster }
+    ensures few { result.structure + result.mapped < 2 ^ 128 }
 {
     let cell = cell_of(&names.cells, cluster);
-    let entry = entry_of(&names.others, cluster);
-    Times {
-        structure: cell.structure as u64 + entry.structure,
-        mapped: cell.mapped as u64 + entry.mapped,
-        copied: cell.copied as u64 + entry.copied,
+    AllTimes {
+        structure: cell.structure as u128 + weight_at(&names.others.structure, cluster),
+        mapped: cell.mapped as u128 + weight_at(&names.others.mapped, cluster),
+        copied: cell.copied as u128 + weight_at(&names.others.copied, cluster),
     }
 }

@@ -1,12 +1,11 @@
 // The least cluster whose names are of some kind.
-ghost use Rattle.std.specs.Prelude.{◌≡◌, ℕ, ◌+◌, ◌<◌, ◌≤◌, ◌^◌, length, MatchOption, IsSomeAnd, Some, IsTrue, IsFalse};
+ghost use Rattle.std.specs.Prelude.{◌≡◌, ◌⊎◌, ℕ, ◌+◌, ◌<◌, ◌≤◌, ◌^◌, length, MatchOption, IsSomeAnd, Some, IsTrue, IsFalse};
 ghost use Rattle.qcow2_types.specs.Consistency.{Nowhere, IsLeast};
-ghost use Rattle.qimg_core.specs.Names.{IsFew};
-ghost use Rattle.qimg_core.specs.Searches.{passes as passes_of, is_such, IsBelow, NoneWithin, IsFirstWithin, NoEntryFrom, IsEntryFrom};
+ghost use Rattle.qimg_core.specs.Names.{AreRising, all_times};
+ghost use Rattle.qimg_core.specs.Searches.{passes as passes_of, is_such, IsBelow, NoneWithin, IsFirstWithin, IsNextEntry};
 
-use super::names::{Tallies, Times, times_at};
-use std::collections::BTreeMap;
-use std::ops::Bound;
+use super::entries::next_from;
+use super::names::{AllTimes, Others, Tallies, times_at};
 
 /// What is asked of how often a cluster is named.
 #[derive(Clone, Copy, Debug)]
@@ -20,9 +19,9 @@ pub enum Question {
 }
 
 /// Whether the answer is yes.
-fn passes(question: Question, times: Times) -> bool
-    requires { times.structure + times.mapped < 2 ^ 64 }
-    ensures { result ≡ passes_of question times }
+fn passes(question: Question, times: AllTimes) -> bool
+    requires { times.structure + times.mapped < 2 ^ 128 }
+    ensures { result ≡ passes_of question (all_times times) }
 {
     let all = times.structure + times.mapped;
     match question {
@@ -32,27 +31,28 @@ fn passes(question: Question, times: Times) -> bool
     }
 }
 
-/// The least cluster from this one on that has an entry.
-fn entry_from(others: &BTreeMap<u64, Times>, low: u64) -> Option<u64>
-    ensures { MatchOption result (NoEntryFrom others.now low) (IsEntryFrom others.now low) }
+/// The lesser of two bounds, where none is past all clusters.
+fn lesser(one: Option<u64>, other: Option<u64>) -> Option<u64>
+    ensures below { (c : ℕ) → IsBelow result c → IsBelow one c × IsBelow other c }
+    ensures is { (result ≡ one) ⊎ (result ≡ other) }
 {
-    match others.range(low..).next() {
-        Some((cluster, _)) => Some(*cluster),
-        None => None,
+    match (one, other) {
+        (Some(cluster), Some(end)) => Some(cluster.min(end)),
+        (Some(cluster), None) => Some(cluster),
+        (None, _) => other,
     }
 }
 
-/// The least cluster behind this one that has an entry.
-fn entry_after(others: &BTreeMap<u64, Times>, cluster: u64) -> Option<u64>
-    ensures { MatchOption result (NoEntryFrom others.now (cluster + 1)) (IsEntryFrom others.now (cluster + 1)) }
+/// The least cluster from this one on that is in a list.
+fn entry_from(others: &Others, low: u64) -> Option<u64>
+    requires { AreRising others.now }
+    ensures { IsNextEntry others.now low result }
 {
-    match others
-        .range((Bound::Excluded(cluster), Bound::Unbounded))
-        .next()
-    {
-        Some((next, _)) => Some(*next),
-        None => None,
-    }
+    let mapped = lesser(
+        next_from(&others.mapped, low),
+        next_from(&others.copied, low),
+    );
+    lesser(next_from(&others.structure, low), mapped)
 }
 
 /// Whether a cluster isn't below the bound, if there is one.
@@ -79,7 +79,7 @@ fn cells_end(cells: u64, high: Option<u64>) -> u64
 
 /// The least cluster behind the cells, from `low` up to `high`, which isn't one of them, that passes.
 fn first_entry(names: &Tallies, question: Question, low: u64, high: Option<u64>) -> Option<u64>
-    requires few { IsFew names.now }
+    requires rising { AreRising names.now.others }
     requires behind { length names.now.cells.items ≤ low }
     ensures { MatchOption result (NoneWithin (is_such question names.now) low high) (IsFirstWithin (is_such question names.now) low high) }
 {
@@ -91,14 +91,14 @@ fn first_entry(names: &Tallies, question: Question, low: u64, high: Option<u64>)
         if passes(question, times_at(names, cluster)) {
             return Some(cluster);
         }
-        next = entry_after(&names.others, cluster);
+        next = entry_from(&names.others, cluster + 1);
     }
     None
 }
 
 /// The least cluster from `low` up to `end`, which isn't one of them, that passes.
 fn first_cell(names: &Tallies, question: Question, low: u64, end: u64) -> Option<u64>
-    requires { IsFew names.now }
+    requires { AreRising names.now.others }
     ensures { MatchOption result (NoneWithin (is_such question names.now) low (Some end)) (IsFirstWithin (is_such question names.now) low (Some end)) }
 {
     for cluster in low..end {
@@ -111,7 +111,7 @@ fn first_cell(names: &Tallies, question: Question, low: u64, end: u64) -> Option
 
 /// The least cluster from `low` on that passes, up to `high`, which isn't one of them, if that is given.
 pub fn first_such(names: &Tallies, question: Question, low: u64, high: Option<u64>) -> Option<u64>
-    requires { IsFew names.now }
+    requires { AreRising names.now.others }
     ensures { MatchOption result (NoneWithin (is_such question names.now) low high) (IsFirstWithin (is_such question names.now) low high) }
 {
     let cells = names.cells.len() as u64;
@@ -123,7 +123,7 @@ pub fn first_such(names: &Tallies, question: Question, low: u64, high: Option<u6
 
 /// The least cluster that passes.
 pub fn least_such(names: &Tallies, question: Question) -> Option<u64>
-    requires { IsFew names.now }
+    requires { AreRising names.now.others }
     ensures { MatchOption result (Nowhere (is_such question names.now)) (IsLeast (is_such question names.now)) }
 {
     first_such(names, question, 0, None)

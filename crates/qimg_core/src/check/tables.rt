@@ -128,8 +128,8 @@ pub fn name_places(names: &mut Tallies, header: &Header, places: &[u64]) -> Resu
 
 /// Enters the first cluster, the L1 table and the refcount table.
 fn name_start(names: &mut Tallies, header: &Header) -> Result<(), CheckFault>
-    requires l1 { header.now.fields.l1_offset + header.now.fields.l1_entries * 8 < 2 ^ 63 }
-    requires refcounts { header.now.fields.refcount_table_offset + header.now.fields.refcount_table_clusters * cluster_size header.now.fields < 2 ^ 63 }
+    requires l1 { header.now.fields.l1_offset + header.now.fields.l1_entries * 8 < 2 ^ 62 }
+    requires refcounts { header.now.fields.refcount_table_offset + header.now.fields.refcount_table_clusters * cluster_size header.now.fields < 2 ^ 62 }
     ensures ok { OnOk result (Adds header.now.fields names.old names.new (λ w. w 0 (cluster_size header.now.fields) + w header.now.fields.l1_offset (header.now.fields.l1_entries * 8) + w header.now.fields.refcount_table_offset (header.now.fields.refcount_table_clusters * cluster_size header.now.fields)) nothing_named nothing_named) }
     ensures err { IsOkUnless result CheckFault.Memory }
 {
@@ -149,8 +149,8 @@ pub fn name_structure(
     header: &Header,
     places: &Places,
 ) -> Result<(), CheckFault>
-    requires l1 { header.now.fields.l1_offset + header.now.fields.l1_entries * 8 < 2 ^ 63 }
-    requires refcounts { header.now.fields.refcount_table_offset + header.now.fields.refcount_table_clusters * cluster_size header.now.fields < 2 ^ 63 }
+    requires l1 { header.now.fields.l1_offset + header.now.fields.l1_entries * 8 < 2 ^ 62 }
+    requires refcounts { header.now.fields.refcount_table_offset + header.now.fields.refcount_table_clusters * cluster_size header.now.fields < 2 ^ 62 }
     requires tables { (i : ℕ) → slice_index places.now.tables.items i ≤ max_offset }
     requires blocks { (i : ℕ) → slice_index places.now.blocks.items i ≤ max_offset }
     ensures ok { OnOk result (Adds header.now.fields names.old names.new (λ w. structure_over header.now.fields places.now.tables.items places.now.blocks.items w) nothing_named nothing_named) }

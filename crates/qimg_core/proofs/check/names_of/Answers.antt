@@ -9,7 +9,8 @@ use Rattle.qimg_core.specs.Files.{file}
 use Rattle.qimg_core.specs.CheckParts.{AreTables}
 use Rattle.qcow2_types.proofs.WriteBack.{place-near}
 use Rattle.qimg_core.proofs.TablesListed.{tables-placed, places-bounded, table-bytes, sound-by-list, damaged-finding}
-use Rattle.qimg_core.proofs.ImageNamed.{few-tables, given-few, given-tells}
+use Rattle.qimg_core.proofs.ImageNamed.{few-tables, given-tells}
+use Rattle.qimg_core.proofs.NameLemmas.{adds-since}
 use Rattle.qimg_core.proofs.check.names_of.Goals as goal
 
 pub name_structure-requires-clause-l1 : goal.name_structure-requires-clause-l1
@@ -37,10 +38,7 @@ returns-in_err-name_contents-clause-err g c =
     rw (p.1, p.2) (damaged-finding (g.S.Storage.state c.args.image.now) (g.S.Storage.state c.name_contents.new.image) c.args.header.now.fields c.args.places.tables.items c.requires.places.in_order c.in_err-name_contents.field-0.0 c.in_err-name_contents.ensures.err)
 
 pub returns-clause-told : goal.returns-clause-told
-returns-clause-told g c = given-tells _ c.args.header.now c.requires.loads _ _ c.requires.places c.in_ok-names.names _ _ c.in_ok-names.ensures.ok c.in_ok-name_structure.ensures.ok c.in_ok-name_contents.ensures.ok
-
-pub returns-clause-few : goal.returns-clause-few
-returns-clause-few g c = given-few _ c.args.header.now c.requires.loads _ _ c.requires.places c.in_ok-names.names _ _ c.in_ok-names.ensures.ok c.in_ok-name_structure.ensures.ok c.in_ok-name_contents.ensures.ok
+returns-clause-told g c = given-tells _ c.args.header.now c.requires.loads _ _ c.requires.places c.in_ok-names.names _ c.sort_names.new.names c.in_ok-names.ensures.ok c.in_ok-name_structure.ensures.ok (adds-since _ _ c.name_contents.new.names _ _ _ _ c.sort_names.ensures.same c.in_ok-name_contents.ensures.ok)
 
 pub returns-clause-sound : goal.returns-clause-sound
 returns-clause-sound g c = sound-by-list (file (g.S.Storage.state c.args.image.now)) c.args.header.now.fields c.requires.places.l1_sound c.requires.places.refcounts_sound (subst (All (λ place. IsTrue (l2_table_sound (file (g.S.Storage.state c.args.image.now)) c.args.header.now.fields place))) c.requires.places.in_order c.in_ok-name_contents.ensures.sound)

@@ -1,13 +1,12 @@
 -- Each counter is compared, or the names where there is none.
 use Rattle.std.proofs.Common.{◌≡◌, ◌+◌, ◌*◌, ◌^◌, ◌≤◌, ℕ, arith, ap, sym, subst, ◌∙◌, Vec, Global}
-use Rattle.std.specs.Prelude.{Some, None}
+use Rattle.std.specs.Prelude.{Some}
 use Rattle.std.proofs.lemmas.Nat.{mul-le}
 use Rattle.std.proofs.lemmas.Result.{on_ok_weaker, MatchResult-weaker}
 use Rattle.qcow2_types.specs.Counts.{counters_of_block}
-use Rattle.qimg_core.specs.declared.check.search.Question.TheVariants.{AtAll}
+use Rattle.qimg_core.specs.Names.{all_times}
 use Rattle.qimg_core.specs.Files.{file}
 use Rattle.qimg_core.specs.CheckParts.{HoldsCounters, AreCompared}
-use Rattle.qimg_core.proofs.SearchLemmas.{told-few}
 use Rattle.qimg_core.proofs.Compared.{gap-under, gap-compared, counter-under, counter-leak, counter-equal, uncounted-finding}
 use Rattle.qimg_core.proofs.check.counts.compare_block.Goals as goal
 use Rattle.qimg_core.proofs.check.counts.compare_block.Goals.{then-references-count+in_ok-push, else-references-count}
@@ -25,16 +24,13 @@ overflow_add-cluster g c =
     let most : c.args.index * counters_of_block c.args.header.now.fields ≤ 2 ^ 20 * 2 ^ 24 = mul-le c.args.index (counters_of_block c.args.header.now.fields) (2 ^ 20) (2 ^ 24) (omega (arith, c.requires.index)) (omega (arith, c.rb_entries-place-end.ensures.value, c.rb_entries-place-end.ensures.bounds.1)) in
     omega (arith, most, c.first_counted-low.ensures, c.loop-place-test.true, c.rb_entries-place-end.ensures.bounds.1)
 
-pub overflow_add-references : goal.overflow_add-references
-overflow_add-references g c = omega (arith, told-few AtAll c.args.names.now _ c.times_at-times.result c.requires.few c.times_at-times.ensures)
-
 pub returns-then-count-references-clause-err : goal.returns-then-count-references-clause-err
-returns-then-count-references-clause-err g c = (counter-under (file (g.S.Storage.state c.args.image.now)) c.args.header.now.fields c.args.names.now c.requires.told c.loop-place.leaks.items c.args.index c.loop-place.place _ c.get-count.result c.times_at-times.result c.in-Some.block (ap (λ n. n + c.loop-place.place) c.first_counted-low.ensures) (subst (HoldsCounters (file (g.S.Storage.state c.args.image.now)) c.args.header.now.fields c.args.index) c.in-Some.is c.in_ok-block.ensures.ok) (omega (arith, c.loop-place-test.true, c.rb_entries-place-end.ensures.value)) c.get-count.ensures c.times_at-times.ensures c.loop-place.invariant c.if-count-references.true, c.in_ok-block.ensures.faults)
+returns-then-count-references-clause-err g c = (counter-under (file (g.S.Storage.state c.args.image.now)) c.args.header.now.fields c.args.names.now c.requires.told c.loop-place.leaks.items c.args.index c.loop-place.place _ c.get-count.result (all_times c.times_at-times.result) c.in-Some.block (ap (λ n. n + c.loop-place.place) c.first_counted-low.ensures) (subst (HoldsCounters (file (g.S.Storage.state c.args.image.now)) c.args.header.now.fields c.args.index) c.in-Some.is c.in_ok-block.ensures.ok) (omega (arith, c.loop-place-test.true, c.rb_entries-place-end.ensures.value)) c.get-count.ensures c.times_at-times.ensures.value c.loop-place.invariant c.if-count-references.true, c.in_ok-block.ensures.faults)
 
 pub loop-place-preserved : goal.loop-place-preserved
 loop-place-preserved g c = elim c.if-references-count.branch [
-  | then-references-count+in_ok-push w ↦ counter-leak (file (g.S.Storage.state c.args.image.now)) c.args.header.now.fields c.args.names.now c.requires.told c.loop-place.leaks.items c.args.index c.loop-place.place _ c.get-count.result c.times_at-times.result c.in-Some.block (ap (λ n. n + c.loop-place.place) c.first_counted-low.ensures) (subst (HoldsCounters (file (g.S.Storage.state c.args.image.now)) c.args.header.now.fields c.args.index) c.in-Some.is c.in_ok-block.ensures.ok) (omega (arith, c.loop-place-test.true, c.rb_entries-place-end.ensures.value)) c.get-count.ensures c.times_at-times.ensures c.loop-place.invariant c.if-references-count.leaks.items w.if-references-count.true (ap (λ (v : Vec (ℕ × ℕ) Global). v.items) w.leaks-is ∙ w.in_ok-push.ensures.items)
-  | else-references-count w ↦ subst (λ l. AreCompared (file (g.S.Storage.state c.args.image.now)) c.args.header.now.fields l (c.args.index * counters_of_block c.args.header.now.fields + (c.loop-place.place + 1))) (ap (λ (v : Vec (ℕ × ℕ) Global). v.items) (sym w.leaks-is)) (counter-equal (file (g.S.Storage.state c.args.image.now)) c.args.header.now.fields c.args.names.now c.requires.told c.loop-place.leaks.items c.args.index c.loop-place.place _ c.get-count.result c.times_at-times.result c.in-Some.block (ap (λ n. n + c.loop-place.place) c.first_counted-low.ensures) (subst (HoldsCounters (file (g.S.Storage.state c.args.image.now)) c.args.header.now.fields c.args.index) c.in-Some.is c.in_ok-block.ensures.ok) (omega (arith, c.loop-place-test.true, c.rb_entries-place-end.ensures.value)) c.get-count.ensures c.times_at-times.ensures c.loop-place.invariant c.if-count-references.false w.if-references-count.false)
+  | then-references-count+in_ok-push w ↦ counter-leak (file (g.S.Storage.state c.args.image.now)) c.args.header.now.fields c.args.names.now c.requires.told c.loop-place.leaks.items c.args.index c.loop-place.place _ c.get-count.result (all_times c.times_at-times.result) c.in-Some.block (ap (λ n. n + c.loop-place.place) c.first_counted-low.ensures) (subst (HoldsCounters (file (g.S.Storage.state c.args.image.now)) c.args.header.now.fields c.args.index) c.in-Some.is c.in_ok-block.ensures.ok) (omega (arith, c.loop-place-test.true, c.rb_entries-place-end.ensures.value)) c.get-count.ensures c.times_at-times.ensures.value c.loop-place.invariant c.if-references-count.leaks.items w.if-references-count.true (ap (λ (v : Vec (ℕ × ℕ) Global). v.items) w.leaks-is ∙ w.in_ok-push.ensures.items)
+  | else-references-count w ↦ subst (λ l. AreCompared (file (g.S.Storage.state c.args.image.now)) c.args.header.now.fields l (c.args.index * counters_of_block c.args.header.now.fields + (c.loop-place.place + 1))) (ap (λ (v : Vec (ℕ × ℕ) Global). v.items) (sym w.leaks-is)) (counter-equal (file (g.S.Storage.state c.args.image.now)) c.args.header.now.fields c.args.names.now c.requires.told c.loop-place.leaks.items c.args.index c.loop-place.place _ c.get-count.result (all_times c.times_at-times.result) c.in-Some.block (ap (λ n. n + c.loop-place.place) c.first_counted-low.ensures) (subst (HoldsCounters (file (g.S.Storage.state c.args.image.now)) c.args.header.now.fields c.args.index) c.in-Some.is c.in_ok-block.ensures.ok) (omega (arith, c.loop-place-test.true, c.rb_entries-place-end.ensures.value)) c.get-count.ensures c.times_at-times.ensures.value c.loop-place.invariant c.if-count-references.false w.if-references-count.false)
 ]
 
 pub returns-clause-ok : goal.returns-clause-ok

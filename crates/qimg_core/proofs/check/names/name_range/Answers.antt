@@ -1,7 +1,10 @@
 use Rattle.std.proofs.Common.{◌<◌, ◌+◌, ◌-◌, ◌/◌, ◌^◌, arith, ap, ◌∙◌}
 use Rattle.std.proofs.lemmas.Result.{on_ok_weaker}
-use Rattle.qimg_core.proofs.RangeLemmas.{adds-range}
+use Rattle.qimg_core.proofs.RangeLemmas.{adds-range, cluster-small}
 use Rattle.qimg_core.proofs.check.names.name_range.Goals as goal
+
+pub name_clusters-requires-clause-below : goal.name_clusters-requires-clause-below
+name_clusters-requires-clause-below c = rw (c.high.view_is ∙ c.cluster-2.ensures ∙ ap (λ k. (c.args.first + (c.args.length - 1)) / 2 ^ k) c.cluster_bits-cluster_bits.ensures.value) (cluster-small _ _ c.cluster_bits-cluster_bits.ensures.shaped.low (omega (arith, c.requires)))
 
 pub returns-clause-ok : goal.returns-clause-ok
 returns-clause-ok c =

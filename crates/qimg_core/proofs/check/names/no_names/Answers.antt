@@ -2,4 +2,4 @@ use Rattle.qimg_core.proofs.NameLemmas.{no-names}
 use Rattle.qimg_core.proofs.check.names.no_names.Goals as goal
 
 pub returns-clause-ok : goal.returns-clause-ok
-returns-clause-ok c = no-names _ c.args.count (c.in_ok-vec.ensures.items_if_clones_equal (λ y e. e)) c.new.ensures.empty
+returns-clause-ok c = no-names _ c.args.count (c.in_ok-vec.ensures.items_if_clones_equal (λ y e. e)) c.new.ensures.items c.new-2.ensures.items c.new-3.ensures.items

@@ -1,10 +1,8 @@
-use Rattle.std.specs.declared.ops.Bound.TheVariants.{Included}
-use Rattle.std.proofs.lemmas.Map.Keys.{le_from_not_gt}
-use Rattle.qimg_core.proofs.SearchLemmas.{from-included, next-entry, no-entry}
+use Rattle.std.proofs.Common.{subst}
+use Rattle.qimg_core.specs.Searches.{IsNextIn}
+use Rattle.qimg_core.proofs.SearchLemmas.{next-entry}
 use Rattle.qimg_core.proofs.check.search.entry_from.Goals as goal
 
-pub returns-in-Some : goal.returns-in-Some
-returns-in-Some c = next-entry c.args.others.now (Included c.args.low) c.args.low (from-included c.args.low) (le_from_not_gt c.args.low) c.range.result (c.range.ensures.in_range tt) _ _ _ c.in-Some.ensures.steps
-
-pub returns-in-None : goal.returns-in-None
-returns-in-None c = no-entry c.args.others.now (Included c.args.low) c.args.low (from-included c.args.low) (le_from_not_gt c.args.low) c.range.result (c.range.ensures.in_range tt) c.in-None.ensures.steps.0
+pub returns : goal.returns
+returns c = next-entry c.args.others.now c.args.low c.lesser.result c.next_from-3.result c.lesser-mapped.result c.next_from.result c.next_from-2.result c.lesser.ensures.below c.lesser.ensures.is c.lesser-mapped.ensures.below c.lesser-mapped.ensures.is
+    (subst (λ l. IsNextIn l c.args.low c.next_from-3.result) c.deref-3.ensures.value c.next_from-3.ensures) (subst (λ l. IsNextIn l c.args.low c.next_from.result) c.deref.ensures.value c.next_from.ensures) (subst (λ l. IsNextIn l c.args.low c.next_from-2.result) c.deref-2.ensures.value c.next_from-2.ensures)
