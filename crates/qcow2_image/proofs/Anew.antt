@@ -15,7 +15,7 @@ use Rattle.qcow2_alloc.specs.Cache.{kept_pinned}
 use Rattle.qcow2_alloc.specs.Dropping.{Dropped}
 use Rattle.qcow2_alloc.specs.Finding.{pinned_in}
 use Rattle.qcow2_alloc.specs.declared.async_lru_cache.Slot.{Slot}
-use Rattle.qcow2_image.specs.Opening.{header_for_reading}
+use Rattle.qcow2_image.specs.Opening.{header_for}
 use Rattle.qcow2_image.specs.Steps.{DiffersElsewhere, IsFirstFault, WhyNotReloaded}
 use Rattle.qcow2_image.proofs.OpeningRules.{reading-refusal}
 
@@ -37,7 +37,7 @@ refused-why r s s' Storage why = why
 refused-why r s s' fault why = absurd why
 
 -- Why the header isn't loaded,
-pub header-why : (f : Bytes) (H : Header) (s s' : StorageState) (fault : Fault) → NotLoaded (header_for_reading f) s s' fault → fault ≢ DamagedTable
+pub header-why : (f : Bytes) (H : Header) (s s' : StorageState) (fault : Fault) → NotLoaded (header_for false f) s s' fault → fault ≢ DamagedTable
     → WhyNotReloaded f H s.faults s'.faults fault
 header-why f H s s' DamagedHeader why before = why.0
 header-why f H s s' DamagedTable why before = absurd (before refl)
@@ -45,20 +45,20 @@ header-why f H s s' Unsupported why before = inl why.0
 header-why f H s s' (Limit n) why before = why.0
 header-why f H s s' Memory why before = tt
 header-why f H s s' Storage why before = why
-header-why f H s s' fault why before = absurd (reading-refusal f fault why.0)
+header-why f H s s' fault why before = absurd (reading-refusal false f fault why.0)
 
 -- why one isn't taken over whose L1 table isn't loaded: first because it can't change so,
 pub first-why : (f : Bytes) (H H' : Header) (s s' : StorageState) (fault first : Fault) → header_of false f ≡ Ok H' → IsFirstFault H' H fault first
-    → NotLoaded (header_for_reading f) s s' fault → WhyNotReloaded f H s.faults s'.faults first
+    → NotLoaded (header_for false f) s s' fault → WhyNotReloaded f H s.faults s'.faults first
 first-why f H H' s s' fault first loads (inl same) why = subst (WhyNotReloaded f H s.faults s'.faults) (sym same.1) (from fault why) where
-  from : (fault : Fault) → NotLoaded (header_for_reading f) s s' fault → WhyNotReloaded f H s.faults s'.faults fault
+  from : (fault : Fault) → NotLoaded (header_for false f) s s' fault → WhyNotReloaded f H s.faults s'.faults fault
   from DamagedTable why = (why.0, λ differs. subst (λ r. DiffersElsewhere r H) loads differs same.0)
   from DamagedHeader why = why.0
   from Unsupported why = inl why.0
   from (Limit n) why = why.0
   from Memory why = tt
   from Storage why = why
-  from fault why = absurd (reading-refusal f fault why.0)
+  from fault why = absurd (reading-refusal false f fault why.0)
 first-why f H H' s s' fault first loads (inr other) why =
     subst (WhyNotReloaded f H s.faults s'.faults) (sym other.1) (inr (subst (λ r. DiffersElsewhere r H) (sym loads) other.0))
 

@@ -1,8 +1,9 @@
 -- From a look at words to what a lookup of the driver answers.
 use Rattle.std.proofs.Common.{◌≡◌, ℕ, ◌+◌, ◌-◌, ◌*◌, ◌/◌, ◌%◌, ◌^◌, ◌<◌, ◌≤◌, refl, arith, ap, sym, subst, ◌∙◌, List, [], ◌∷◌, Bool, true, false, Some, None, Option, inl, inr}
-use Rattle.std.specs.Prelude.{⊤, ◌⊎◌, IsTrue, IfOk, slice_index, max, min, zero, suc}
-use Rattle.std.proofs.lemmas.Bool.{lt-ltb}
+use Rattle.std.specs.Prelude.{⊤, ◌⊎◌, ◌&&◌, IsTrue, IfOk, slice_index, max, min, zero, suc}
+use Rattle.std.proofs.lemmas.Bool.{and_parts, lt-ltb}
 use Rattle.std.proofs.lemmas.Nat.{pow_pos, mod_below}
+use Rattle.std.proofs.Math.Nat.{pow-le-pow_right}
 use Rattle.imago_storage.specs.State.{StorageState, Rose, IsAlignment}
 use Rattle.imago_storage.specs.Disk.{Value, byte, barred, damaged_place}
 use Rattle.imago_storage.specs.declared.fault.Fault.{Fault}
@@ -22,27 +23,29 @@ use Rattle.qcow2_types.specs.Entries.{entry}
 use Rattle.qcow2_metadata.specs.MappingView.{mapping_seen, IsNamed}
 use Rattle.qcow2_metadata.specs.declared.mapping.L2Mapping.{L2Mapping}
 use Rattle.qcow2_metadata.specs.declared.mapping.L2Mapping.TheVariants.{DataFile, Backing, Zero, Compressed}
-use Rattle.qcow2_image.specs.ImageLayer.{blank_of, cell_by, cells, qcow2_layer, shallow_of}
-use Rattle.qcow2_image.specs.Looking.{Follows, IsRunOf, WhyNotLooked}
+use Rattle.qcow2_image.specs.ImageLayer.{blank_of, cell_by, cells, home_by, qcow2_layer, shallow_of, unmapped_answer}
+use Rattle.qcow2_image.specs.declared.mode.OpenMode.{OpenMode}
+use Rattle.qcow2_image.specs.Looking.{EndsNear, Follows, IsRunOf, WhyNotLooked}
 use Rattle.qcow2_image.specs.Rooms.{TakesNone, ReadsNone, IsVacant, IsZeroed}
+use Rattle.qcow2_image.specs.Homes.{home-there}
 use Rattle.qcow2_image.proofs.Ranges.{cluster-of, place-of, in-run, byte-place}
 
 -- The mapping of the guest cluster so many behind another of its run.
 abbrev IsOn : Mapping → ℕ → Mapping → Type 0
-IsOn (data_at c mark) k (data_at c' mark') = c' ≡ c + k
+IsOn (data_at c mark) k (data_at c' mark') = (c' ≡ c + k) × (mark' ≡ mark)
 IsOn (zeroes c mark) k (zeroes c' mark') = ⊤
 IsOn words.unmapped k words.unmapped = ⊤
 IsOn (packed o n) k (packed o' n') = ⊤
 IsOn m k m' = ⊥
 
 on-first : (m : L2Mapping) → IsOn (mapping_seen m) 0 (mapping_seen m)
-on-first (DataFile c mark) = omega arith
+on-first (DataFile c mark) = (omega arith, refl)
 on-first (Backing o) = tt
 on-first (Zero c mark) = tt
 on-first (Compressed o n) = tt
 
 on-data : (m b : Mapping) (d : ℕ) (y : Bool) (k : ℕ) → IsOn m k (data_at d y) → Follows (data_at d y) b → IsOn m (k + 1) b
-on-data (data_at c x) (data_at e z) d y k on next = omega (arith, on, next.0)
+on-data (data_at c x) (data_at e z) d y k on next = (omega (arith, on.0, next.0), next.1 ∙ on.1)
 on-data (data_at c x) b d y k on next = absurd next
 on-data m b d y k on next = absurd on
 
@@ -86,7 +89,7 @@ cell_on blank f h k p words.unmapped = blank
 cell_on blank f h k p damaged = own damaged_place
 
 says-on : (blank : Cell) (f : Bytes) (h : Fields) (k p : ℕ) (m m' : Mapping) → IsOn m k m' → cell_by blank f h p m' ≡ cell_on blank f h k p m
-says-on blank f h k p (data_at c x) (data_at d y) on = ap (λ x. own (byte (f (x * cluster_size h + p % cluster_size h)))) on
+says-on blank f h k p (data_at c x) (data_at d y) on = ap (λ x. own (byte (f (x * cluster_size h + p % cluster_size h)))) on.0
 says-on blank f h k p (zeroes c x) (zeroes d y) on = refl
 says-on blank f h k p (packed o n) (packed o' n') on = refl
 says-on blank f h k p words.unmapped words.unmapped on = refl
@@ -95,6 +98,26 @@ says-on blank f h k p (zeroes c x) m' on = absurd on
 says-on blank f h k p (packed o n) m' on = absurd on
 says-on blank f h k p words.unmapped m' on = absurd on
 says-on blank f h k p damaged m' on = absurd on
+
+-- Where a place can be written whose mapping goes on from copied data.
+home-on : (h : Fields) (c : ℕ) (mark : Bool) (k p : ℕ) (m : Mapping) → mark ≡ true → IsOn (data_at c mark) k m
+    → home_by h p m ≡ Some (0, (c + k) * cluster_size h + p % cluster_size h)
+home-on h c mark k p (data_at d y) marked on =
+    let copied : y ≡ true = on.1 ∙ marked in
+    rw copied (ap (λ x. Some (0, x * cluster_size h + p % cluster_size h)) on.0)
+home-on h c mark k p m marked on = absurd on
+
+-- A place that can be written is answered as such.
+home-named : (mode : OpenMode) (h : Fields) (p storage place : ℕ) (m : Mapping) → mode.writable ≡ true → home_by h p m ≡ Some (storage, place)
+    → shallow_of mode h.cluster_bits p (p % cluster_size h) m ≡ shallow.Raw storage place true
+home-named mode h p storage place (data_at c true) writable is =
+    let same : ◌≡◌ {A = ℕ × ℕ} (0, c * cluster_size h + p % cluster_size h) (storage, place) = cc is in
+    rw writable (ap (λ (x : ℕ × ℕ). shallow.Raw x.0 x.1 true) same)
+home-named mode h p storage place (data_at c false) writable is = absurd (cc is)
+home-named mode h p storage place (zeroes c x) writable is = absurd (cc is)
+home-named mode h p storage place (packed o n) writable is = absurd (cc is)
+home-named mode h p storage place words.unmapped writable is = absurd (cc is)
+home-named mode h p storage place damaged writable is = absurd (cc is)
 
 -- Data isn't vacant, nor zeroed.
 data-taken : (c k : ℕ) (mark : Bool) (m : Mapping) → IsOn (data_at c mark) k m → (TakesNone m ⊎ ReadsNone m) → ⊥
@@ -109,30 +132,47 @@ packed-taken o l k (packed o' l') on (inr none) = none
 packed-taken o l k m on which = absurd on
 
 -- What a lookup answers is a run.
-pub is-run : (layer : Layer) (backed : Bool) (bits offset within n asked : ℕ) (m : L2Mapping) → offset < layer.size → n ≤ asked → offset + n ≤ layer.size → (0 < asked → 0 < n) → IsRun layer offset asked (shallow_of backed bits offset within (mapping_seen m)) n
-is-run layer backed bits offset within n asked (DataFile c mark) lt few inside one = (lt, few, inside, one)
-is-run layer backed bits offset within n asked (Zero c mark) lt few inside one = (lt, few, inside, one)
-is-run layer backed bits offset within n asked (Compressed o l) lt few inside one = (lt, few, inside, one)
-is-run layer true bits offset within n asked (Backing o) lt few inside one = (lt, few, inside, one)
-is-run layer false bits offset within n asked (Backing o) lt few inside one = (lt, few, inside, one)
+pub is-run : (layer : Layer) (mode : OpenMode) (bits offset within n asked : ℕ) (m : L2Mapping) → offset < layer.size → n ≤ asked → offset + n ≤ layer.size → (0 < asked → 0 < n) → IsRun layer offset asked (shallow_of mode bits offset within (mapping_seen m)) n
+is-run layer mode bits offset within n asked (DataFile c mark) lt few inside one = (lt, few, inside, one)
+is-run layer mode bits offset within n asked (Zero c mark) lt few inside one = (lt, few, inside, one)
+is-run layer mode bits offset within n asked (Compressed o l) lt few inside one = (lt, few, inside, one)
+is-run layer mode bits offset within n asked (Backing o) lt few inside one = by mode.backing where
+  by : (b : Bool) → IsRun layer offset asked (unmapped_answer b offset) n
+  by true = (lt, few, inside, one)
+  by false = (lt, few, inside, one)
 
 -- It names the one storage that there is.
-pub names-one : (backed : Bool) (bits offset within : ℕ) (m : L2Mapping) → IsOneOf 1 (shallow_of backed bits offset within (mapping_seen m))
-names-one backed bits offset within (DataFile c mark) = omega arith
-names-one backed bits offset within (Zero c mark) = tt
-names-one backed bits offset within (Compressed o l) = tt
-names-one true bits offset within (Backing o) = tt
-names-one false bits offset within (Backing o) = tt
+pub names-one : (mode : OpenMode) (bits offset within : ℕ) (m : L2Mapping) → IsOneOf 1 (shallow_of mode bits offset within (mapping_seen m))
+names-one mode bits offset within (DataFile c mark) = omega arith
+names-one mode bits offset within (Zero c mark) = tt
+names-one mode bits offset within (Compressed o l) = tt
+names-one mode bits offset within (Backing o) = by mode.backing where
+  by : (b : Bool) → IsOneOf 1 (unmapped_answer b offset)
+  by true = tt
+  by false = tt
+
+-- It ends far below 2^64.
+pub ends-near : (mode : OpenMode) (bits offset within n : ℕ) (m : L2Mapping) → within < 2 ^ bits → IsNamed bits m → n ≤ 2 ^ 42 → bits ≤ 21
+    → EndsNear (shallow_of mode bits offset within (mapping_seen m)) n
+ends-near mode bits offset within n (DataFile c mark) inside near few small =
+    let power : 2 ^ bits ≤ 2 ^ 21 = pow-le-pow_right (omega arith) small in
+    omega (arith, inside, near, few, power)
+ends-near mode bits offset within n (Zero c mark) inside near few small = tt
+ends-near mode bits offset within n (Compressed o l) inside near few small = tt
+ends-near mode bits offset within n (Backing o) inside near few small = by mode.backing where
+  by : (b : Bool) → EndsNear (unmapped_answer b offset) n
+  by true = tt
+  by false = tt
 
 -- The answer of a lookup, over the places from an offset on in some clusters of a run.
-module _ (s : StorageState) (words-there : Bytes) (h : Fields) (backed : Bool) (number : ℕ) (failed : Bool) (offset n most : ℕ) (run : L2Mapping × ℕ)
+module _ (s : StorageState) (words-there : Bytes) (h : Fields) (mode : OpenMode) (number : ℕ) (failed : Bool) (offset n most : ℕ) (run : L2Mapping × ℕ)
     (clean : words-there ≡ bytes_of s.bytes) (inside : offset + n ≤ h.size) (short : n ≤ run.1 * cluster_size h - offset % cluster_size h)
     (is : IsRunOf (offset / cluster_size h) most (entry (bytes_of s.bytes) h) run) where
   abbrev f : Bytes
   f = bytes_of s.bytes
 
   abbrev layer : Layer
-  layer = qcow2_layer s words-there h backed number failed
+  layer = qcow2_layer s words-there h mode number failed
 
   abbrev within : ℕ
   within = offset % cluster_size h
@@ -145,32 +185,39 @@ module _ (s : StorageState) (words-there : Bytes) (h : Fields) (backed : Bool) (
   on-place i lt = subst (λ x. IsOn (mapping_seen run.0) ((within + i) / cluster_size h) (entry f h x)) (sym (cluster-of (cluster_size h) offset i some))
       (on-run (offset / cluster_size h) most (entry f h) run is ((within + i) / cluster_size h) (in-run (cluster_size h) offset i some run.1 n short lt))
 
-  cell-at : (i : ℕ) → i < n → layer.cell (offset + i) ≡ cell_on (blank_of backed) f h ((within + i) / cluster_size h) (offset + i) (mapping_seen run.0)
+  cell-at : (i : ℕ) → i < n → layer.cell (offset + i) ≡ cell_on (blank_of mode.backing) f h ((within + i) / cluster_size h) (offset + i) (mapping_seen run.0)
   cell-at i lt =
       let there = lt-ltb (offset + i) h.size (omega (arith, inside, lt)) in
-      rw there (rw clean (says-on (blank_of backed) f h ((within + i) / cluster_size h) (offset + i) (mapping_seen run.0) (entry f h ((offset + i) / cluster_size h)) (on-place i lt)))
+      rw there (rw clean (says-on (blank_of mode.backing) f h ((within + i) / cluster_size h) (offset + i) (mapping_seen run.0) (entry f h ((offset + i) / cluster_size h)) (on-place i lt)))
 
   -- it names what each place says,
-  pub names-run : (ss : List StorageState) (s' : StorageState) → s'.bytes ≡ s.bytes → Names layer (byte_in (s' ∷ ss)) offset n (shallow_of backed h.cluster_bits offset within (mapping_seen run.0))
-  names-run ss s' bytes = from run.0 cell-at where
-    backing : (b : Bool) → ((i : ℕ) → i < n → layer.cell (offset + i) ≡ blank_of b) → blank_of b ≡ layer.fixed.blank → Names layer (byte_in (s' ∷ ss)) offset n (shallow_of b h.cluster_bits offset within words.unmapped)
+  pub names-run : (ss : List StorageState) (s' : StorageState) → s'.bytes ≡ s.bytes → Names layer (byte_in (s' ∷ ss)) offset n (shallow_of mode h.cluster_bits offset within (mapping_seen run.0))
+  names-run ss s' bytes = from run.0 cell-at on-place where
+    backing : (b : Bool) → ((i : ℕ) → i < n → layer.cell (offset + i) ≡ blank_of b) → blank_of b ≡ layer.fixed.blank → Names layer (byte_in (s' ∷ ss)) offset n (unmapped_answer b offset)
     backing true each blank = (each, refl, refl, (λ no. absurd (cc no)))
     backing false each blank = (each, (λ e. sym blank))
 
-    from : (m : L2Mapping) → ((i : ℕ) → i < n → layer.cell (offset + i) ≡ cell_on (blank_of backed) f h ((within + i) / cluster_size h) (offset + i) (mapping_seen m)) → Names layer (byte_in (s' ∷ ss)) offset n (shallow_of backed h.cluster_bits offset within (mapping_seen m))
-    from (DataFile c mark) each = (
+    from : (m : L2Mapping) → ((i : ℕ) → i < n → layer.cell (offset + i) ≡ cell_on (blank_of mode.backing) f h ((within + i) / cluster_size h) (offset + i) (mapping_seen m))
+        → ((i : ℕ) → i < n → IsOn (mapping_seen m) ((within + i) / cluster_size h) (entry f h ((offset + i) / cluster_size h)))
+        → Names layer (byte_in (s' ∷ ss)) offset n (shallow_of mode h.cluster_bits offset within (mapping_seen m))
+    from (DataFile c mark) each on = (
       λ i lt. each i lt ∙ ap (λ x. own (byte (slice_index s.bytes x))) (byte-place (cluster_size h) offset i some c) ∙ ap (λ (l : List ℕ). own (byte (slice_index l (c * cluster_size h + within + i)))) (sym bytes),
-      λ no. absurd (cc no),
-      λ no. absurd (cc no),
+      λ both. (and_parts mode.writable mark both).0,
+      λ both i lt.
+          let parts = and_parts mode.writable mark both in
+          let there = lt-ltb (offset + i) h.size (omega (arith, inside, lt)) in
+          rw (parts.0, there, clean)
+          (home-on h c mark ((within + i) / cluster_size h) (offset + i) (entry f h ((offset + i) / cluster_size h)) parts.1 (on i lt)
+          ∙ ap (λ x. Some (0, x)) (byte-place (cluster_size h) offset i some c)),
     )
-    from (Zero c mark) each = (each, (λ no. absurd (cc no)))
-    from (Compressed o l) each = (each, refl)
-    from (Backing o) each = backing backed each refl
+    from (Zero c mark) each on = (each, (λ no. absurd (cc no)))
+    from (Compressed o l) each on = (each, refl)
+    from (Backing o) each on = backing mode.backing each refl
 
   -- and no vacant or zeroed place as one of the file or as compressed.
-  pub room-run : NamesRoom layer (IsVacant words-there h) (IsZeroed words-there h) offset n (shallow_of backed h.cluster_bits offset within (mapping_seen run.0))
+  pub room-run : NamesRoom layer (IsVacant words-there h) (IsZeroed words-there h) offset n (shallow_of mode h.cluster_bits offset within (mapping_seen run.0))
   room-run = from run.0 on-place where
-    backing : (b : Bool) → NamesRoom layer (IsVacant words-there h) (IsZeroed words-there h) offset n (shallow_of b h.cluster_bits offset within words.unmapped)
+    backing : (b : Bool) → NamesRoom layer (IsVacant words-there h) (IsZeroed words-there h) offset n (unmapped_answer b offset)
     backing true = tt
     backing false = tt
 
@@ -180,44 +227,48 @@ module _ (s : StorageState) (words-there : Bytes) (h : Fields) (backed : Bool) (
       | inr zeroed ↦ elim zeroed [ inl behind ↦ absurd (omega (arith, behind, inside, lt)) | inr none ↦ taken i lt (inr (rw (sym clean) none)) ]
     ]
 
-    from : (m : L2Mapping) → ((i : ℕ) → i < n → IsOn (mapping_seen m) ((within + i) / cluster_size h) (entry f h ((offset + i) / cluster_size h))) → NamesRoom layer (IsVacant words-there h) (IsZeroed words-there h) offset n (shallow_of backed h.cluster_bits offset within (mapping_seen m))
+    from : (m : L2Mapping) → ((i : ℕ) → i < n → IsOn (mapping_seen m) ((within + i) / cluster_size h) (entry f h ((offset + i) / cluster_size h))) → NamesRoom layer (IsVacant words-there h) (IsZeroed words-there h) offset n (shallow_of mode h.cluster_bits offset within (mapping_seen m))
     from (DataFile c mark) each = roomy (λ i lt. data-taken c ((within + i) / cluster_size h) mark (entry f h ((offset + i) / cluster_size h)) (each i lt))
     from (Zero c mark) each = tt
     from (Compressed o l) each = roomy (λ i lt. packed-taken o l ((within + i) / cluster_size h) (entry f h ((offset + i) / cluster_size h)) (each i lt))
-    from (Backing o) each = backing backed
+    from (Backing o) each = backing mode.backing
 
   -- Places that words can name are in reach of requests.
-  pub reach-run : IsAlignment s.shape.req_align → IsAlignment s.shape.mem_align → IsNamed h.cluster_bits run.0 → n ≤ 2 ^ 42 → cluster_size h ≤ 2 ^ 21 → IsInReach layer offset (shallow_of backed h.cluster_bits offset within (mapping_seen run.0)) n
+  pub reach-run : IsAlignment s.shape.req_align → IsAlignment s.shape.mem_align → IsNamed h.cluster_bits run.0 → n ≤ 2 ^ 42 → cluster_size h ≤ 2 ^ 21 → IsInReach layer offset (shallow_of mode h.cluster_bits offset within (mapping_seen run.0)) n
   reach-run requests memory named few small = from run.0 named where
-    backing : (b : Bool) → IsInReach layer offset (shallow_of b h.cluster_bits offset within words.unmapped) n
+    backing : (b : Bool) → IsInReach layer offset (unmapped_answer b offset) n
     backing true = tt
     backing false = tt
 
-    from : (m : L2Mapping) → IsNamed h.cluster_bits m → IsInReach layer offset (shallow_of backed h.cluster_bits offset within (mapping_seen m)) n
+    from : (m : L2Mapping) → IsNamed h.cluster_bits m → IsInReach layer offset (shallow_of mode h.cluster_bits offset within (mapping_seen m)) n
     from (DataFile c mark) near = λ over.
         let below : within < cluster_size h = mod_below offset (cluster_size h) some in
         absurd (overflows_late (max s.shape.req_align s.shape.mem_align) (c * cluster_size h + within) n (alignment_max s.shape.req_align s.shape.mem_align requests memory) (omega (arith, near, below, few, small)) over)
     from (Zero c mark) near = tt
     from (Compressed o l) near = tt
-    from (Backing o) near = backing backed
+    from (Backing o) near = backing mode.backing
 
   -- So it is what a lookup answers.
   pub looks-run : (asked : ℕ) (ss : List StorageState) (s' : StorageState) → s'.bytes ≡ s.bytes → IsAlignment s.shape.req_align → IsAlignment s.shape.mem_align → IsNamed h.cluster_bits run.0 → n ≤ 2 ^ 42 → cluster_size h ≤ 2 ^ 21
-      → Looks layer (byte_in (s' ∷ ss)) offset asked (shallow_of backed h.cluster_bits offset within (mapping_seen run.0)) n
+      → Looks layer (byte_in (s' ∷ ss)) offset asked (shallow_of mode h.cluster_bits offset within (mapping_seen run.0)) n
   looks-run asked ss s' bytes requests memory named few small = record {
     names = names-run ss s' bytes;
     reach = reach-run requests memory named few small;
-    home = λ free some storage place no. absurd (cc no);
+    home = λ free some storage place at.
+        let there = home-there mode.writable words-there h offset (storage, place) at in
+        let here : home_by h offset (mapping_seen run.0) ≡ Some (storage, place) =
+        ap (home_by h offset) (is.first ∙ ap (λ m. entry m h (offset / cluster_size h)) (sym clean)) ∙ there.2 in
+        home-named mode h offset storage place (mapping_seen run.0) there.0 here;
   }
 
 -- Why a lookup is refused.
-pub look-cause : (s s' : StorageState) (ss ss' : List StorageState) (words-there : Bytes) (h : Fields) (backed : Bool) (number : ℕ) (failed : Bool) (offset asked : ℕ) (fault : Fault) → words-there ≡ bytes_of s.bytes → offset < h.size → 0 < asked
-    → WhyNotLooked (entry (bytes_of s.bytes) h (offset / cluster_size h) ≡ damaged) s.faults s'.faults fault → LookCause (qcow2_layer s words-there h backed number failed) offset asked (s ∷ ss) (s' ∷ ss') fault
-look-cause s s' ss ss' words-there h backed number failed offset asked DamagedTable clean lt some why =
+pub look-cause : (s s' : StorageState) (ss ss' : List StorageState) (words-there : Bytes) (h : Fields) (mode : OpenMode) (number : ℕ) (failed : Bool) (offset asked : ℕ) (fault : Fault) → words-there ≡ bytes_of s.bytes → offset < h.size → 0 < asked
+    → WhyNotLooked (entry (bytes_of s.bytes) h (offset / cluster_size h) ≡ damaged) s.faults s'.faults fault → LookCause (qcow2_layer s words-there h mode number failed) offset asked (s ∷ ss) (s' ∷ ss') fault
+look-cause s s' ss ss' words-there h mode number failed offset asked DamagedTable clean lt some why =
     let there = lt-ltb offset h.size lt in
-    let here : cells (blank_of backed) words-there (bytes_of s.bytes) h offset ≡ own damaged_place = rw there (rw clean (ap (cell_by (blank_of backed) (bytes_of s.bytes) h offset) why)) in
+    let here : cells (blank_of mode.backing) words-there (bytes_of s.bytes) h offset ≡ own damaged_place = rw there (rw clean (ap (cell_by (blank_of mode.backing) (bytes_of s.bytes) h offset) why)) in
     let place : offset + 0 ≡ offset = omega arith in
-    (0, some, omega (arith, lt), subst (λ x. cells (blank_of backed) words-there (bytes_of s.bytes) h x ≡ own damaged_place) (sym place) here)
-look-cause s s' ss ss' words-there h backed number failed offset asked Memory clean lt some why = tt
-look-cause s s' ss ss' words-there h backed number failed offset asked Storage clean lt some why = inl why
-look-cause s s' ss ss' words-there h backed number failed offset asked fault clean lt some why = absurd why
+    (0, some, omega (arith, lt), subst (λ x. cells (blank_of mode.backing) words-there (bytes_of s.bytes) h x ≡ own damaged_place) (sym place) here)
+look-cause s s' ss ss' words-there h mode number failed offset asked Memory clean lt some why = tt
+look-cause s s' ss ss' words-there h mode number failed offset asked Storage clean lt some why = inl why
+look-cause s s' ss ss' words-there h mode number failed offset asked fault clean lt some why = absurd why

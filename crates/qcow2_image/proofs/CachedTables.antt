@@ -14,7 +14,7 @@ use Rattle.qcow2_alloc.specs.Finding.{Sought, with_room}
 use Rattle.qcow2_alloc.specs.Memory.{written_table}
 use Rattle.qcow2_alloc.specs.declared.async_lru_cache.Slot.{Slot}
 use Rattle.qcow2_alloc.proofs.Caching.Places.{Place, place-of-key, place-hit, slot-of}
-use Rattle.qcow2_image.specs.Seen.{IsOfFile}
+use Rattle.qcow2_image.specs.Seen.{IsOfFile, IsTableAt}
 
 -- An entry that is used goes first: each is as it was.
 all-move : {X : Type 0} (P : X → Type 0) (front : List X) (x : X) (back : List X) → AllByRecursion P (front ++ x ∷ back) → AllByRecursion P (x ∷ front ++ back)
@@ -64,14 +64,15 @@ of-written f h (x ∷ xs) (y ∷ ys) same all =
     let tail : map written_table xs ≡ map written_table ys = cc same in
     let key : x.0 ≡ y.0 = ap (λ e. e.0) head in (
       record {
+        named = subst (λ k. IsTableAt f h (k * cluster_size h)) (sym key) all.0.named;
         layout = ap (λ e. e.1.value.layout) head ∙ all.0.layout;
         words = ap (λ e. e.1.value.words) head ∙ all.0.words ∙ ap (λ k. words_in f (k * cluster_size h) (words_of_cluster h)) (sym key);
       },
       of-written f h xs ys tail all.1,
     )
 
-pub of-search : (f : Bytes) (h : Fields) (cap key : ℕ) (es es' : List (ℕ × Slot TableValue)) (answer : Result Unit Fault) → Sought written_table cap key (table_in f h key (words_of_cluster h)) es answer es' → AllByRecursion (IsOfFile f h) es → AllByRecursion (IsOfFile f h) es'
-of-search f h cap key es es' answer sought all = elim (found-or-not (lookup (nat_eq key) es)) [
+pub of-search : (f : Bytes) (h : Fields) (cap key : ℕ) (es es' : List (ℕ × Slot TableValue)) (answer : Result Unit Fault) → IsTableAt f h (key * cluster_size h) → Sought written_table cap key (table_in f h key (words_of_cluster h)) es answer es' → AllByRecursion (IsOfFile f h) es → AllByRecursion (IsOfFile f h) es'
+of-search f h cap key es es' answer named sought all = elim (found-or-not (lookup (nat_eq key) es)) [
   | inl is ↦ subst (AllByRecursion (IsOfFile f h)) (sym (sought.there is)) all
   | inr none ↦ by-answer answer sought.loaded sought.refused none
 ] where
@@ -81,7 +82,7 @@ of-search f h cap key es es' answer sought all = elim (found-or-not (lookup (nat
 
   by-answer : (a : Result Unit Fault) → (lookup (nat_eq key) es ≡ None → OnOk a (es' ≡ (key, record { value = table_in f h key (words_of_cluster h); pins = 0 }) ∷ with_room cap es))
       → OnErr a ((map written_table es' ≡ map written_table es) ⊎ (es' ≡ with_room cap es)) → lookup (nat_eq key) es ≡ None → AllByRecursion (IsOfFile f h) es'
-  by-answer (Ok done) loaded refused none = subst (AllByRecursion (IsOfFile f h)) (sym (loaded none)) (record { layout = refl; words = refl }, all-with-room (IsOfFile f h) cap es all)
+  by-answer (Ok done) loaded refused none = subst (AllByRecursion (IsOfFile f h)) (sym (loaded none)) (record { named = named; layout = refl; words = refl }, all-with-room (IsOfFile f h) cap es all)
   by-answer (Err fault) loaded refused none = elim refused [
     | inl written ↦ of-written f h es' es written all
     | inr room ↦ subst (AllByRecursion (IsOfFile f h)) (sym room) (all-with-room (IsOfFile f h) cap es all)

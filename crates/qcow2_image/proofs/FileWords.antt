@@ -1,5 +1,5 @@
 -- What the words of a file say, by the L1 table in memory and an L2 table of the file.
-use Rattle.std.proofs.Common.{◌≡◌, ℕ, ◌*◌, ◌/◌, ◌%◌, ◌^◌, ◌<◌, ◌≤◌, refl, arith, ap, sym, subst, ◌∙◌, true, false, Some, None, length, List, inl, inr}
+use Rattle.std.proofs.Common.{◌≡◌, ◌≢◌, ℕ, ◌*◌, ◌/◌, ◌%◌, ◌^◌, ◌<◌, ◌≤◌, refl, arith, ap, sym, subst, ◌∙◌, true, false, Some, None, length, List, inl, inr}
 use Rattle.std.specs.Prelude.{IsTrue, slice_index, ◌==◌, ◌&&◌, not}
 use Rattle.std.proofs.lemmas.Bool.{cases_lt, lt-ltb, le-ltb, cases_Bool, and_parts}
 use Rattle.std.proofs.lemmas.List.{get_or_past}
@@ -16,6 +16,7 @@ use Rattle.qcow2_metadata.specs.Places.{IsInReach}
 use Rattle.qcow2_metadata.proofs.TableFacts.{words_long, words_at}
 use Rattle.qcow2_alloc.specs.Opening.{IsL1Of}
 use Rattle.qcow2_image.specs.Looking.{place_of_table}
+use Rattle.qcow2_image.specs.Seen.{IsTableAt}
 
 -- The words of a file.
 module _ (f : Bytes) (h : Fields) (top : TableValue) (of : IsL1Of f h top) where
@@ -72,6 +73,22 @@ module _ (f : Bytes) (h : Fields) (top : TableValue) (of : IsL1Of f h top) where
 
       place-named : offset ≡ table * cluster_size h
       place-named = sym (place-whole h.cluster_bits offset (sound-word (guest / words_of_cluster h))) ∙ ap (λ c. c * 2 ^ h.cluster_bits) cluster-named
+
+      -- The file names it, too.
+      pub table-named : IsTableAt f h (table * cluster_size h)
+      table-named = record {
+        row = guest / words_of_cluster h;
+        in_l1 = elim (cases_lt (guest / words_of_cluster h) h.l1_entries) [
+          | inl inside ↦ inside
+          | inr behind ↦
+              let none : l2_table f h (guest / words_of_cluster h) ≡ 0 = rw (le-ltb (guest / words_of_cluster h) h.l1_entries behind) refl in
+              absurd (not-zero (sym (place-in-file (guest / words_of_cluster h)) ∙ none))
+        ];
+        is_there = λ none. not-zero (sym (place-in-file (guest / words_of_cluster h)) ∙ none);
+        at = place-in-file (guest / words_of_cluster h) ∙ place-named;
+      } where
+        not-zero : offset ≢ 0
+        not-zero none = let is : (offset == 0) ≡ true = rw none refl in cc (sym some-offset ∙ is)
 
       pub named-in-reach : IsInReach h.cluster_bits table
       named-in-reach = subst (λ x. x ≤ max_offset) place-named (place-near h.cluster_bits offset (sound-word (guest / words_of_cluster h)))

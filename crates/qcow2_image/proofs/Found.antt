@@ -41,7 +41,7 @@ use Rattle.qcow2_image.specs.Caching.{IsUnpinned}
 use Rattle.qcow2_image.specs.Seen.{IsOfFile, IsSeen, file_of}
 use Rattle.qcow2_image.specs.Looking.{cluster_named, place_of_table, Follows, IsRunOf, ReadsRun, LooksAt, WhyNotLooked}
 use Rattle.qcow2_image.proofs.Runs.{run-same}
-use Rattle.qcow2_image.proofs.FileWords.{entry-of-file, entry-of-unsound, entry-of-none, named-in-reach}
+use Rattle.qcow2_image.proofs.FileWords.{table-named, entry-of-file, entry-of-unsound, entry-of-none, named-in-reach}
 use Rattle.qcow2_image.proofs.CachedTables.{all-hit, one-hit, of-search}
 
 -- Why it was refused: no cache is ever full.
@@ -90,6 +90,7 @@ module _ {S : Type 0} (g : Ghosts S) (guest most table : ℕ) (old new : Tables 
 
     tables-found : IsSeen g old → AllByRecursion (IsOfFile (file_of g old) H.fields) (cached_in mid).tables
     tables-found seen = of-search (file_of g old) H.fields old.caches.l2.slots.cap table (cached_in old.caches).tables (cached_in mid).tables answer
+        (table-named (file_of g old) H.fields old.l1 seen.l1 guest table named)
         (subst (λ (b : List ℕ). Sought written_table old.caches.l2.slots.cap table (table_in (bytes_of b) H.fields table (words_of_cluster H.fields)) (cached_in old.caches).tables answer (cached_in mid).tables) still.0.bytes found.sought) seen.tables
 
     -- What is cached was cached or is the file's, so that all is seen still.

@@ -1,6 +1,6 @@
 -- What is in memory of an image right after it was opened for reading.
 use Rattle.std.proofs.Common.{◌≡◌, ℕ, ◌<◌, ◌≤◌, refl, arith, sym, subst, ap, [], false, Ok}
-use Rattle.std.specs.Prelude.{IsTrue}
+use Rattle.std.specs.Prelude.{Bool, IsTrue}
 use Rattle.std.specs.List.{AllByRecursion}
 use Rattle.std.proofs.Math.Nat.{le_refl}
 use Rattle.imago_storage.specs.State.{StorageState}
@@ -23,20 +23,21 @@ use Rattle.qcow2_image.specs.Rooms.{IsSafe}
 use Rattle.qcow2_image.specs.Opening.{IsJustOpened, is_qcow2}
 use Rattle.qcow2_image.specs.declared.qcow2.Qcow2.{Qcow2}
 use Rattle.qcow2_image.specs.declared.tables.Tables.{Tables}
-use Rattle.qcow2_image.proofs.OpeningRules.{none-refused}
+use Rattle.qcow2_image.proofs.OpeningRules.{none-refused, reads-too}
 use Rattle.qcow2_image.proofs.Probing.{header-begins}
 
-module _ {S : Type 0} (g : Ghosts S) (before : StorageState) (l2_tables refcount_blocks : ℕ) (t : Tables S g) (same : g.state t.file.image ≡ before)
-    (loads : header_of false (bytes_of before.bytes) ≡ Ok t.file.header) (inside : has_external_data t.file.header.fields ≡ false) (l1 : IsL1Of (bytes_of before.bytes) t.file.header.fields t.l1)
+module _ {S : Type 0} (g : Ghosts S) (before : StorageState) (writable : Bool) (l2_tables refcount_blocks : ℕ) (t : Tables S g) (same : g.state t.file.image ≡ before)
+    (loads : header_of writable (bytes_of before.bytes) ≡ Ok t.file.header) (inside : has_external_data t.file.header.fields ≡ false) (l1 : IsL1Of (bytes_of before.bytes) t.file.header.fields t.l1)
     (empty : cached_in t.caches ≡ record { tables = []; blocks = [] }) (unordered : order_of t.caches ≡ Unset)
     (tables : t.caches.l2.slots.cap ≡ l2_tables) (blocks : t.caches.rb.slots.cap ≡ refcount_blocks) where
   -- The metadata, by what was loaded of the file.
-  pub just-opened : IsJustOpened g before l2_tables refcount_blocks t
+  pub just-opened : IsJustOpened g before writable l2_tables refcount_blocks t
   just-opened = record {
     same = same;
-    allowed = none-refused (bytes_of before.bytes) t.file.header loads inside l1.sound;
+    allowed = none-refused writable (bytes_of before.bytes) t.file.header loads inside l1.sound;
     seen = record {
-      loads = subst (λ (s : StorageState). header_of false (bytes_of s.bytes) ≡ Ok t.file.header) (sym same) loads;
+      loads = subst (λ (s : StorageState). header_of false (bytes_of s.bytes) ≡ Ok t.file.header) (sym same)
+          (reads-too writable (bytes_of before.bytes) t.file.header loads);
       inside = inside;
       l1 = subst (λ (s : StorageState). IsL1Of (bytes_of s.bytes) t.file.header.fields t.l1) (sym same) l1;
       tables = subst (λ (c : Cached). AllByRecursion (IsOfFile (file_of g t) t.file.header.fields) c.tables) (sym empty) tt;
@@ -52,8 +53,8 @@ memory-empty : (f : Bytes) (h : Fields) (cached : Cached) → cached ≡ record 
 unfolding over
 memory-empty f h cached empty = ap (λ (c : Cached). memory f h c) empty
 
-module _ {S : Type 0} (g : Ghosts S) (before : StorageState) (l2_tables refcount_blocks : ℕ) (d : Qcow2 S g)
-    (now : IsJustOpened g before l2_tables refcount_blocks d.tables) where
+module _ {S : Type 0} (g : Ghosts S) (before : StorageState) (writable : Bool) (l2_tables refcount_blocks : ℕ) (d : Qcow2 S g)
+    (now : IsJustOpened g before writable l2_tables refcount_blocks d.tables) where
   abbrev state : StorageState
   state = g.state d.tables.file.image
 
@@ -65,12 +66,12 @@ module _ {S : Type 0} (g : Ghosts S) (before : StorageState) (l2_tables refcount
   opened-kept = subst (λ (s : StorageState). IsKept before s) (sym now.same) (record { shape = refl; bytes = refl; refusals = refl; stop = refl; past = refl }, le_refl before.faults)
 
   -- It means the disk,
-  pub opened-meant : IsMeant (qcow2_layer state (memory_of g d.tables) H.fields d.backing d.number d.failed) state.bytes
-  opened-meant = subst (λ (m : Bytes). IsMeant (qcow2_layer state m H.fields d.backing d.number d.failed) state.bytes) (sym (memory-empty (bytes_of state.bytes) H.fields (cached_in d.tables.caches) now.empty))
+  pub opened-meant : IsMeant (qcow2_layer state (memory_of g d.tables) H.fields d.mode d.number d.failed) state.bytes
+  opened-meant = subst (λ (m : Bytes). IsMeant (qcow2_layer state m H.fields d.mode d.number d.failed) state.bytes) (sym (memory-empty (bytes_of state.bytes) H.fields (cached_in d.tables.caches) now.empty))
       record {
-        size = subst (λ r. H.fields.size ≤ (meaning_of (blank_of d.backing) (bytes_of state.bytes) r).size) (sym now.seen.loads) (le_refl H.fields.size);
-        exactly = λ exact. ap (λ r. (meaning_of (blank_of d.backing) (bytes_of state.bytes) r).size) now.seen.loads;
-        cell = λ p low. ap (λ r. (meaning_of (blank_of d.backing) (bytes_of state.bytes) r).cell p) now.seen.loads;
+        size = subst (λ r. H.fields.size ≤ (meaning_of (blank_of d.mode.backing) (bytes_of state.bytes) r).size) (sym now.seen.loads) (le_refl H.fields.size);
+        exactly = λ exact. ap (λ r. (meaning_of (blank_of d.mode.backing) (bytes_of state.bytes) r).size) now.seen.loads;
+        cell = λ p low. ap (λ r. (meaning_of (blank_of d.mode.backing) (bytes_of state.bytes) r).cell p) now.seen.loads;
       }
 
   -- of which nothing waits to be written,

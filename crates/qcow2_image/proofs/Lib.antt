@@ -13,3 +13,7 @@ pub mod Lending
 pub mod OpeningRules
 pub mod JustOpened
 pub mod Probing
+pub mod Rewriting
+pub mod Mapped
+pub mod Written
+pub mod Preparing

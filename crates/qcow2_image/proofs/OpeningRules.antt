@@ -11,6 +11,7 @@ use Rattle.qcow2_types.specs.Words.{l1_word_sound, max_offset}
 use Rattle.qcow2_types.specs.Header.{Header, Limited, first_fault, header_of, has_external_data, cluster_size, layout_of, ◌and-then◌, ◌>>=◌}
 use Rattle.qcow2_types.specs.Entries.{l1_table_sound}
 use Rattle.qcow2_types.proofs.Bounded.{all-below}
+use Rattle.qcow2_types.proofs.Consistent.{header-reading}
 use Rattle.qcow2_types.proofs.HeaderLimits.{header-limited}
 use Rattle.qcow2_types.proofs.Sound.{all-below-holds}
 use Rattle.qcow2_types.proofs.WriteBack.{place-near, place-whole}
@@ -20,7 +21,7 @@ use Rattle.qcow2_metadata.specs.Tables.{TableValue, AreSound, HasUnsound, WhyNot
 use Rattle.qcow2_metadata.proofs.Refusals.{IsRefusal, header-refusal}
 use Rattle.qcow2_metadata.proofs.TableFacts.{words_long, words_at}
 use Rattle.qcow2_alloc.specs.Opening.{IsL1Of}
-use Rattle.qcow2_image.specs.Opening.{WhyNotOpened, header_for_reading, rules_of_opening}
+use Rattle.qcow2_image.specs.Opening.{WhyNotOpened, header_for, rules_of_opening}
 
 -- the refusals of a header by its bytes, and of an L1 table
 abbrev pub IsReadingRefusal : Fault → Type 0
@@ -43,48 +44,54 @@ only-reading f (Ok H) only = from (has_external_data H.fields) (l1_table_sound f
   from false false = tt
   from false true = tt
 
--- By its bytes a file isn't opened for reading for nothing else.
-pub reading-refusal : (f : Bytes) (fault : Fault) → header_for_reading f ≡ Err fault → IsReadingRefusal fault
-unfolding header_for_reading
-reading-refusal f fault is = subst OnlyReading is (only-reading f (header_of false f) (λ why same. header-refusal false f why same))
+-- By its bytes a file isn't opened for nothing else.
+pub reading-refusal : (writable : Bool) (f : Bytes) (fault : Fault) → header_for writable f ≡ Err fault → IsReadingRefusal fault
+unfolding header_for
+reading-refusal writable f fault is =
+    subst OnlyReading is (only-reading f (header_of writable f) (λ why same. header-refusal writable f why same))
 
-module _ (f : Bytes) where
+-- A file that loads for writing loads for reading.
+pub reads-too : (writable : Bool) (f : Bytes) (H : Header) → header_of writable f ≡ Ok H → header_of false f ≡ Ok H
+reads-too true f H loads = header-reading f H loads
+reads-too false f H loads = loads
+
+module _ (writable : Bool) (f : Bytes) where
   -- Where the file says why, that is why; else memory was wanting, or the storage failed.
   pub not-opened : {S : Type 0} (state : S → StorageState) (old new : S) (fault : Fault)
-      → NotLoaded (header_for_reading f) (state old) (state new) fault → WhyNotOpened state f fault
+      → NotLoaded (header_for writable f) (state old) (state new) fault → WhyNotOpened state writable f fault
   not-opened state old new Memory why = tt
   not-opened state old new Storage why = may-fail state old new why
   not-opened state old new fault why = why.0
 
   -- The header's rules come first,
-  pub header-refused : (old new : StorageState) (fault : Fault) → NotLoaded (header_of false f) old new fault → NotLoaded (header_for_reading f) old new fault
-  unfolding header_for_reading
+  pub header-refused : (old new : StorageState) (fault : Fault) → NotLoaded (header_of writable f) old new fault → NotLoaded (header_for writable f) old new fault
+  unfolding header_for
   header-refused old new Memory why = why
   header-refused old new Storage why = why
   header-refused old new fault why = (rw why.0 refl, why.1)
 
   -- and know no L1 table,
-  pub before-table : (old new : StorageState) (fault : Fault) → NotLoaded (header_of false f) old new fault → fault ≢ DamagedTable
-  before-table old new fault why is = absurd (header-refusal false f DamagedTable (subst (NotLoaded (header_of false f) old new) is why).0)
+  pub before-table : (old new : StorageState) (fault : Fault) → NotLoaded (header_of writable f) old new fault → fault ≢ DamagedTable
+  before-table old new fault why is = absurd (header-refusal writable f DamagedTable (subst (NotLoaded (header_of writable f) old new) is why).0)
 
-  module _ (H : Header) (loads : header_of false f ≡ Ok H) where
+  module _ (H : Header) (loads : header_of writable f ≡ Ok H) where
     -- then that on the data's place,
-    pub external-refused : has_external_data H.fields ≡ true → header_for_reading f ≡ Err Unsupported
-    unfolding header_for_reading
+    pub external-refused : has_external_data H.fields ≡ true → header_for writable f ≡ Err Unsupported
+    unfolding header_for
     external-refused is = rw (loads, is) refl
 
     module _ (inside : has_external_data H.fields ≡ false) where
       -- and then that on the L1 table.
-      pub table-refused : l1_table_sound f H.fields ≡ false → header_for_reading f ≡ Err DamagedTable
-      unfolding header_for_reading
+      pub table-refused : l1_table_sound f H.fields ≡ false → header_for writable f ≡ Err DamagedTable
+      unfolding header_for
       table-refused bad = rw (loads, inside, bad) refl
 
-      pub none-refused : l1_table_sound f H.fields ≡ true → header_for_reading f ≡ Ok H
-      unfolding header_for_reading
+      pub none-refused : l1_table_sound f H.fields ≡ true → header_for writable f ≡ Ok H
+      unfolding header_for
       none-refused sound = rw (loads, inside, sound) refl
 
       limited : Limited H.fields
-      limited = header-limited false f H loads
+      limited = header-limited writable f H loads
 
       whole : H.fields.l1_offset / cluster_size H.fields * cluster_size H.fields ≡ H.fields.l1_offset
       whole = place-whole H.fields.cluster_bits H.fields.l1_offset limited.l1_place
@@ -129,7 +136,7 @@ module _ (f : Bytes) where
         ]
 
         pub table-not-loaded : (old new : StorageState) (fault : Fault) → WhyNotLoaded l1_words (layout_of H.fields) words old.faults new.faults fault
-            → NotLoaded (header_for_reading f) old new fault
+            → NotLoaded (header_for writable f) old new fault
         table-not-loaded old new Memory why = why
         table-not-loaded old new Storage why = why
         table-not-loaded old new DamagedTable why = (table-refused (unsound why.0), why.1)

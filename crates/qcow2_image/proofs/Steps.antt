@@ -1,16 +1,20 @@
 -- What calls that write nothing leave of an image, in the words of the driver.
 use Rattle.std.proofs.Common.{◌≡◌, ℕ, refl, ap, sym, subst, ◌∙◌, Bool, true, false, Some, None, Result, Ok, Err, inl, inr}
+use Rattle.std.proofs.Math.Nat.{le_refl}
 use Rattle.std.specs.Prelude.{⊤, ◌⊎◌, IsTrue, IfErr, OnOk}
 use Rattle.std.specs.Borrow.{RattleType}
 use Rattle.imago_storage.specs.State.{Shape, StorageState}
 use Rattle.imago_storage.specs.Calls.{Kept, Later, IsFaultless}
+use Rattle.imago_storage.specs.Steps.{Call}
 use Rattle.imago_storage.specs.declared.fault.Fault.{Fault}
 use Rattle.imago_storage.specs.declared.fault.Fault.TheVariants.{Memory, Storage}
 use Rattle.imago_storage.specs.declared.storage.Storage.{Ghosts}
 use Rattle.imago_access.specs.Files.{WasNotCutOff, IsMild}
 use Rattle.imago_access.specs.Going.{IsKnown, IsSpared, Looked, Marks, Went}
 use Rattle.imago_access.specs.Layer.{Layer, Fixed, loose}
+use Rattle.imago_access.specs.Room.{Takes}
 use Rattle.imago_access.specs.Stops.{GivesNone, Left}
+use Rattle.imago_storage.proofs.Composing.{later_both}
 use Rattle.imago_access.proofs.Stopping.{passes_none}
 use Rattle.qcow2_types.specs.Bytes.{Bytes, bytes_of}
 use Rattle.qcow2_types.specs.Header.{Fields, Header}
@@ -20,36 +24,22 @@ use Rattle.qcow2_image.specs.contracts.qcow2.Qcow2Seen.TheImpl.{ghosts}
 use Rattle.imago_access.specs.declared.seen.Seen.{Ghosts as SeenGhosts}
 use Rattle.qcow2_image.specs.declared.qcow2.Qcow2.{Qcow2}
 use Rattle.qcow2_image.specs.declared.qcow2.PreparedMappingState.{PreparedMappingState}
+use Rattle.qcow2_image.specs.declared.mode.OpenMode.{OpenMode}
 use Rattle.qcow2_image.specs.declared.tables.Tables.{Tables}
-use Rattle.qcow2_image.specs.ImageLayer.{blank_of, cells, qcow2_fixed, qcow2_layer}
+use Rattle.qcow2_image.specs.ImageLayer.{blank_of, cells, homes, qcow2_fixed, qcow2_layer}
 use Rattle.qcow2_image.specs.Rooms.{HasRoom, IsVacant, IsZeroed, IsSafe, is_sound}
 use Rattle.qcow2_image.specs.Seen.{IsSeen, file_of, memory_of}
-use Rattle.qcow2_image.specs.Steps.{failed_by, failed_behind}
-
--- A call that writes nothing, and drops nothing that was read.
-pub record KeepsTables {S T : Type 0} (g : Ghosts S) (old : Tables S g) (result : Result T Fault) (new : Tables S g) : Type 0 where
-  pub kept : Kept (g.state old.file.image) (g.state new.file.image)
-  pub later : Later (g.state old.file.image) (g.state new.file.image)
-  pub faults : WasNotCutOff result → IsFaultless (g.state old.file.image) (g.state new.file.image)
-  pub header : new.file.header ≡ old.file.header
-  pub seen : IsSeen g old → IsSeen g new
-
--- The same of a call of the driver, which a storage's fault marks.
-pub record KeepsImage {S T : Type 0} (g : Ghosts S) (old : Qcow2 S g) (result : Result T Fault) (new : Qcow2 S g) : Type 0 where
-  pub tables : KeepsTables g old.tables result new.tables
-  pub backing : new.backing ≡ old.backing
-  pub number : new.number ≡ old.number
-  pub failed : new.failed ≡ failed_behind failed_by result old.failed
+use Rattle.qcow2_image.specs.Steps.{KeepsTables, KeepsImage, failed_by, failed_behind}
 
 -- The layer is what its parts make it.
-pub layer-by : (s s' : StorageState) (m m' : Bytes) (h h' : Fields) (b b' : Bool) (n n' : ℕ) (f f' : Bool) → s'.shape ≡ s.shape → s'.bytes ≡ s.bytes → m' ≡ m → h' ≡ h → b' ≡ b → n' ≡ n → f' ≡ f
+pub layer-by : (s s' : StorageState) (m m' : Bytes) (h h' : Fields) (b b' : OpenMode) (n n' : ℕ) (f f' : Bool) → s'.shape ≡ s.shape → s'.bytes ≡ s.bytes → m' ≡ m → h' ≡ h → b' ≡ b → n' ≡ n → f' ≡ f
     → qcow2_layer s' m' h' b' n' f' ≡ qcow2_layer s m h b n f
-layer-by s s' m m' h h' b b' n n' f f' shape bytes words fields backed number failed = λ i. record {
-  fixed = qcow2_fixed (shape i) (fields i) (backed i) (number i);
+layer-by s s' m m' h h' b b' n n' f f' shape bytes words fields mode number failed = λ i. record {
+  fixed = qcow2_fixed (shape i) (fields i) (mode i) (number i);
   size = (fields i).size;
   failed = failed i;
-  cell = cells (blank_of (backed i)) (words i) (bytes_of (bytes i)) (fields i);
-  home = λ p. None;
+  cell = cells (blank_of (mode i).backing) (words i) (bytes_of (bytes i)) (fields i);
+  home = homes (mode i).writable (words i) (fields i);
   held = λ p. loose;
   unspent = None;
 }
@@ -80,9 +70,65 @@ module _ {T : Type 0} where
 pub keeps-marked : {S T : Type 0} (g : Ghosts S) (old new : Qcow2 S g) (mid : Tables S g) (result : Result T Fault) → KeepsTables g old.tables result mid → new ≡ record old { tables = mid; failed = failed_behind failed_by result old.failed } → KeepsImage g old result new
 keeps-marked g old new mid result kept is = record {
   tables = subst (KeepsTables g old.tables result) (sym (ap (λ (x : Qcow2 _ g). x.tables) is)) kept;
-  backing = ap (λ (x : Qcow2 _ g). x.backing) is;
+  mode = ap (λ (x : Qcow2 _ g). x.mode) is;
   number = ap (λ (x : Qcow2 _ g). x.number) is;
   failed = ap (λ (x : Qcow2 _ g). x.failed) is;
+}
+
+-- Two such calls, one behind the other.
+pub keeps-both : {S T : Type 0} (g : Ghosts S) (a b c : Qcow2 S g) (r : Result T Fault) → KeepsImage {T = Unit} g a (Ok tt) b → KeepsImage g b r c
+    → KeepsImage g a r c
+keeps-both g a b c r first second = record {
+  tables = record {
+    kept = record {
+      shape = second.tables.kept.shape ∙ first.tables.kept.shape;
+      bytes = second.tables.kept.bytes ∙ first.tables.kept.bytes;
+      refusals = second.tables.kept.refusals ∙ first.tables.kept.refusals;
+      stop = second.tables.kept.stop ∙ first.tables.kept.stop;
+      past = second.tables.kept.past ∙ first.tables.kept.past;
+    };
+    later = later_both (g.state a.tables.file.image) (g.state b.tables.file.image) (g.state c.tables.file.image) first.tables.later second.tables.later;
+    faults = λ whole.
+        let one = first.tables.faults tt in
+        let two = second.tables.faults whole in
+        (two.0 ∙ one.0, two.1 ∙ one.1);
+    header = second.tables.header ∙ first.tables.header;
+    seen = λ seen. second.tables.seen (first.tables.seen seen);
+  };
+  mode = second.mode ∙ first.mode;
+  number = second.number ∙ first.number;
+  failed = second.failed ∙ ap (failed_behind failed_by r) first.failed;
+}
+
+-- One that answers something else, and is cut off by no less.
+pub keeps-as : {S T U : Type 0} (g : Ghosts S) (a b : Qcow2 S g) (r : Result T Fault) (r' : Result U Fault) → (WasNotCutOff r' → WasNotCutOff r)
+    → ((f : Bool) → failed_behind failed_by r f ≡ failed_behind failed_by r' f) → KeepsImage g a r b → KeepsImage g a r' b
+keeps-as g a b r r' whole marks k = record {
+  tables = record {
+    kept = k.tables.kept;
+    later = k.tables.later;
+    faults = λ w. k.tables.faults (whole w);
+    header = k.tables.header;
+    seen = k.tables.seen;
+  };
+  mode = k.mode;
+  number = k.number;
+  failed = k.failed ∙ marks a.failed;
+}
+
+-- One that does nothing.
+pub keeps-same : {S : Type 0} (g : Ghosts S) (a : Qcow2 S g) → KeepsImage {T = Unit} g a (Ok tt) a
+keeps-same g a = record {
+  tables = record {
+    kept = record { shape = refl; bytes = refl; refusals = refl; stop = refl; past = refl };
+    later = record { faults = le_refl (g.state a.tables.file.image).faults; refusals = le_refl (g.state a.tables.file.image).refusals };
+    faults = λ whole. (refl, refl);
+    header = refl;
+    seen = λ seen. seen;
+  };
+  mode = refl;
+  number = refl;
+  failed = refl;
 }
 
 module _ (R : RattleType) (st : Ghosts R.Denot) (sd : mir.Syntax.Dict) (dd : mir.Syntax.Dict) {T : Type 0} (old new : Qcow2 R.Denot st) (result : Result T Fault) (k : KeepsImage st old result new) where
@@ -90,7 +136,7 @@ module _ (R : RattleType) (st : Ghosts R.Denot) (sd : mir.Syntax.Dict) (dd : mir
   sees = ghosts R st sd dd
 
   abbrev layer_of : Qcow2 R.Denot st → Layer
-  layer_of d = qcow2_layer (st.state d.tables.file.image) (memory_of st d.tables) d.tables.file.header.fields d.backing d.number d.failed
+  layer_of d = qcow2_layer (st.state d.tables.file.image) (memory_of st d.tables) d.tables.file.header.fields d.mode d.number d.failed
 
   abbrev s : StorageState
   s = st.state old.tables.file.image
@@ -102,10 +148,10 @@ module _ (R : RattleType) (st : Ghosts R.Denot) (sd : mir.Syntax.Dict) (dd : mir
   memory-same = memory-is st new.tables ∙ ap bytes_of k.tables.kept.bytes ∙ sym (memory-is st old.tables)
 
   fixed-same : (layer_of new).fixed ≡ (layer_of old).fixed
-  fixed-same = ap (λ (l : Layer). l.fixed) (layer-by s s' (file_of st old.tables) (file_of st old.tables) old.tables.file.header.fields new.tables.file.header.fields old.backing new.backing old.number new.number false false k.tables.kept.shape k.tables.kept.bytes refl (ap (λ (H : Header). H.fields) k.tables.header) k.backing k.number refl)
+  fixed-same = ap (λ (l : Layer). l.fixed) (layer-by s s' (file_of st old.tables) (file_of st old.tables) old.tables.file.header.fields new.tables.file.header.fields old.mode new.mode old.number new.number false false k.tables.kept.shape k.tables.kept.bytes refl (ap (λ (H : Header). H.fields) k.tables.header) k.mode k.number refl)
 
   layer-same : new.failed ≡ old.failed → layer_of new ≡ layer_of old
-  layer-same failed = layer-by s s' (memory_of st old.tables) (memory_of st new.tables) old.tables.file.header.fields new.tables.file.header.fields old.backing new.backing old.number new.number old.failed new.failed k.tables.kept.shape k.tables.kept.bytes memory-same (ap (λ (H : Header). H.fields) k.tables.header) k.backing k.number failed
+  layer-same failed = layer-by s s' (memory_of st old.tables) (memory_of st new.tables) old.tables.file.header.fields new.tables.file.header.fields old.mode new.mode old.number new.number old.failed new.failed k.tables.kept.shape k.tables.kept.bytes memory-same (ap (λ (H : Header). H.fields) k.tables.header) k.mode k.number failed
 
   safe-same : new.failed ≡ old.failed → IsSafe st old.tables old.failed → IsSafe st new.tables new.failed
   safe-same failed safe = record {
@@ -122,17 +168,29 @@ module _ (R : RattleType) (st : Ghosts R.Denot) (sd : mir.Syntax.Dict) (dd : mir
   as-was : (P : Bytes → Fields → Type 0) → P (memory_of st old.tables) old.tables.file.header.fields → P (memory_of st new.tables) new.tables.file.header.fields
   as-was P was = subst (λ m. P m new.tables.file.header.fields) (sym memory-same) (subst (λ (H : Header). P (memory_of st old.tables) H.fields) (sym k.tables.header) was)
 
+  pub takes-kept : Takes sees (λ _. ⊤) old new
+  takes-kept = record {
+    kept = λ p left. as-was (λ m h. HasRoom m h p);
+    free = λ p left. as-was (λ m h. IsVacant m h p);
+    zeroes = λ p left free. as-was (λ m h. IsZeroed m h p);
+  }
+
+  -- Each place can be written where it could.
+  homes-same : (p : ℕ) → (layer_of new).home p ≡ (layer_of old).home p
+  homes-same p = λ i. homes (k.mode i).writable (memory-same i) (k.tables.header i).fields p
+
+  begun-kept : new.failed ≡ old.failed → (e : Qcow2 R.Denot st) (call : Call) → sees.began e call old → sees.began e call new
+  begun-kept failed e call begun = λ safe.
+      let now = begun safe in
+      (safe-same failed now.0, λ p. homes-same p ∙ now.1 p)
+
   spared : new.failed ≡ old.failed → IsSpared sees old new
   spared failed = record {
     known = known failed;
     kept = ((k.tables.kept, k.tables.later.faults), tt);
     stilled = λ still. new.tables.clean;
-    room = λ safe. record {
-      kept = λ p left. as-was (λ m h. HasRoom m h p);
-      free = λ p left. as-was (λ m h. IsVacant m h p);
-      zeroes = λ p left free. as-was (λ m h. IsZeroed m h p);
-    };
-    began = λ d call begun. tt;
+    room = λ safe. takes-kept;
+    began = begun-kept failed;
   }
 
   whole-same : WasNotCutOff result → new.failed ≡ old.failed
@@ -140,6 +198,9 @@ module _ (R : RattleType) (st : Ghosts R.Denot) (sd : mir.Syntax.Dict) (dd : mir
 
   marks-on : IsTrue old.failed → IsTrue new.failed
   marks-on was = subst IsTrue (sym k.failed) (still-marked result old.failed was)
+
+  pub began-kept : WasNotCutOff result → (e : Qcow2 R.Denot st) (call : Call) → sees.began e call old → sees.began e call new
+  began-kept whole = begun-kept (whole-same whole)
 
   pub looked-kept : Looked sees (WasNotCutOff result) old new
   looked-kept = record {

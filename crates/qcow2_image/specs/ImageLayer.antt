@@ -1,6 +1,6 @@
 -- A qcow2 image as a layer of a chain: what its words and bytes say of each place.
 use Rattle.std.proofs.Common.{inl, inr, refl}
-use Rattle.std.specs.Prelude.{◌≡◌, ◌⊎◌, ℕ, ◌+◌, ◌*◌, ◌/◌, ◌%◌, ◌^◌, Bool, true, false, Option, Some, None, List, Result, Ok, Err, if◌then◌else◌, ltb, codes, ◌++◌}
+use Rattle.std.specs.Prelude.{◌≡◌, ◌⊎◌, ℕ, ◌+◌, ◌*◌, ◌/◌, ◌%◌, ◌^◌, Bool, true, false, Option, Some, None, List, Result, Ok, Err, if◌then◌else◌, ltb, ◌&&◌, codes, ◌++◌}
 use Rattle.imago_storage.specs.State.{Shape, StorageState}
 use Rattle.imago_storage.specs.Disk.{byte, barred, damaged_place}
 use Rattle.imago_storage.specs.declared.fault.Fault.{Fault}
@@ -13,6 +13,7 @@ use Rattle.qcow2_types.specs.Header.{Fields, Header, header_of, cluster_size}
 use Rattle.qcow2_types.specs.Words.{Mapping, data_at, zeroes, packed, damaged}
 use Rattle.qcow2_types.specs.Words as words
 use Rattle.qcow2_types.specs.Entries.{entry}
+use Rattle.qcow2_image.specs.declared.mode.OpenMode.{OpenMode}
 
 -- what a place says that no word maps, with or without layers below
 abbrev pub blank_of : Bool → Cell
@@ -43,35 +44,44 @@ qcow2_meaning blank bytes = meaning_of blank (bytes_of bytes) (header_of false (
 abbrev pub granularity_of : Fields → Option ℕ
 granularity_of h = if ltb 2 h.version then Some (cluster_size h) else None
 
--- what never changes of an image over a storage of this shape, by the number of its open image, and by whether layers are below it
-abbrev pub qcow2_fixed : Shape → Fields → Bool → ℕ → Fixed
-qcow2_fixed shape h backed number = record {
+-- what never changes of an image over a storage of this shape, by how it was opened and the number of its open image
+abbrev pub qcow2_fixed : Shape → Fields → OpenMode → ℕ → Fixed
+qcow2_fixed shape h mode number = record {
   format = format.Qcow2;
-  writable = false;
+  writable = mode.writable;
   lets_through = false;
   keeps = shape.keeps;
   missing = false;
   number = number;
-  blank = blank_of backed;
+  blank = blank_of mode.backing;
   req_align = shape.req_align;
   mem_align = shape.mem_align;
   granularity = granularity_of h;
   kind = 1;
-  means = qcow2_meaning (blank_of backed);
+  means = qcow2_meaning (blank_of mode.backing);
   exact = true;
   marks = true;
   states_room = true;
   unit = cluster_size h;
 }
 
--- an image that was opened for reading, with these words in memory
-abbrev pub qcow2_layer : StorageState → Bytes → Fields → Bool → ℕ → Bool → Layer
-qcow2_layer state memory h backed number failed = record {
-  fixed = qcow2_fixed state.shape h backed number;
+-- where a place can be written in the file, by the mapping of its guest cluster: in its own cluster alone
+abbrev pub home_by : Fields → ℕ → Mapping → Option (ℕ × ℕ)
+home_by h p (data_at cluster true) = Some (0, cluster * cluster_size h + p % cluster_size h)
+home_by h p mapping = None
+
+-- where each place of an image can be written, by the words in memory, if it was opened for writing
+abbrev pub homes : Bool → Bytes → Fields → ℕ → Option (ℕ × ℕ)
+homes writable memory h p = if writable && ltb p h.size then home_by h p (entry memory h (p / cluster_size h)) else None
+
+-- an image, with these words in memory
+abbrev pub qcow2_layer : StorageState → Bytes → Fields → OpenMode → ℕ → Bool → Layer
+qcow2_layer state memory h mode number failed = record {
+  fixed = qcow2_fixed state.shape h mode number;
   size = h.size;
   failed = failed;
-  cell = cells (blank_of backed) memory (bytes_of state.bytes) h;
-  home = λ p. None;
+  cell = cells (blank_of mode.backing) memory (bytes_of state.bytes) h;
+  home = homes mode.writable memory h;
   held = λ p. loose;
   unspent = None;
 }
@@ -81,13 +91,18 @@ abbrev pub qcow2_text : Option (List ℕ) → List ℕ
 qcow2_text None = codes "qcow2[]"
 qcow2_text (Some name) = codes "qcow2[" ++ name ++ codes "]"
 
--- how a lookup answers a mapping, of a place that lies so far within its cluster, in an image that isn't writable
-abbrev pub shallow_of : Bool → ℕ → ℕ → ℕ → Mapping → ShallowMapping
-shallow_of backed cluster_bits offset within (data_at cluster copied) = shallow.Raw 0 (cluster * 2 ^ cluster_bits + within) false
-shallow_of true cluster_bits offset within words.unmapped = shallow.Indirect offset false
-shallow_of false cluster_bits offset within words.unmapped = shallow.Zero false
-shallow_of backed cluster_bits offset within (zeroes cluster copied) = shallow.Zero true
-shallow_of backed cluster_bits offset within mapping = shallow.Special offset
+-- how a lookup answers a place that no table maps, with or without layers below
+abbrev pub unmapped_answer : Bool → ℕ → ShallowMapping
+unmapped_answer true offset = shallow.Indirect offset false
+unmapped_answer false offset = shallow.Zero false
+
+-- how a lookup answers a mapping, of a place that lies so far within its cluster
+abbrev pub shallow_of : OpenMode → ℕ → ℕ → ℕ → Mapping → ShallowMapping
+shallow_of mode cluster_bits offset within (data_at cluster copied) =
+    shallow.Raw 0 (cluster * 2 ^ cluster_bits + within) (mode.writable && copied)
+shallow_of mode cluster_bits offset within words.unmapped = unmapped_answer mode.backing offset
+shallow_of mode cluster_bits offset within (zeroes cluster copied) = shallow.Zero true
+shallow_of mode cluster_bits offset within mapping = shallow.Special offset
 
 pub blanks : (backed : Bool) → (blank_of backed ≡ unmapped) ⊎ (blank_of backed ≡ own (byte 0))
 blanks true = inl refl

@@ -6,3 +6,5 @@ pub mod Steps
 pub mod Lent
 pub mod Caching
 pub mod Opening
+pub mod Homes
+pub mod Writing

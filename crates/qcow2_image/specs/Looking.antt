@@ -1,5 +1,5 @@
 -- What a look at the words of guest clusters in a row does.
-use Rattle.std.specs.Prelude.{◌≡◌, ◌≢◌, ◌⊎◌, ⊤, ℕ, min, ◌+◌, ◌-◌, ◌/◌, ◌%◌, ◌<◌, ◌≤◌, ◌^◌, ◌==◌, if◌then◌else◌, Bool, ◌*◌, List, slice_index, Result, IfOk, IfErr, Option, Some, None}
+use Rattle.std.specs.Prelude.{◌≡◌, ◌≢◌, ◌⊎◌, ⊤, ℕ, min, ◌+◌, ◌-◌, ◌/◌, ◌%◌, ◌<◌, ◌≤◌, ◌^◌, ◌==◌, if◌then◌else◌, Bool, true, ◌*◌, List, slice_index, Result, IfOk, IfErr, Option, Some, None}
 use Rattle.imago_storage.specs.State.{Rose}
 use Rattle.imago_storage.specs.Calls.{Kept, Later, IsFaultless}
 use Rattle.imago_storage.specs.declared.fault.Fault.{Fault}
@@ -14,10 +14,12 @@ use Rattle.qcow2_metadata.specs.Tables.{TableValue, IsTable, l2_words, mapping_i
 use Rattle.qcow2_metadata.specs.MappingView.{mapping_seen, IsNamed}
 use Rattle.qcow2_metadata.specs.declared.mapping.L2Mapping.{L2Mapping}
 use Rattle.imago_storage.specs.declared.storage.Storage.{Ghosts}
+use Rattle.qcow2_image.specs.declared.mode.OpenMode.{OpenMode}
 use Rattle.qcow2_image.specs.declared.tables.Tables.{Tables}
 use Rattle.qcow2_image.specs.Seen.{IsSeen, file_of}
 use Rattle.qcow2_image.specs.ImageLayer.{shallow_of}
 use Rattle.imago_access.specs.declared.mapping.ShallowMapping.{ShallowMapping}
+use Rattle.imago_access.specs.declared.mapping.ShallowMapping.TheVariants as shallow
 
 -- the cluster that a word of the L1 table names, if it names one
 abbrev pub cluster_named : ℕ → ℕ → Option ℕ
@@ -62,10 +64,20 @@ pub record IsWholeRun (h : Fields) (mapped : ℕ → Mapping) (offset asked n : 
 abbrev pub IsWholeRunIn : {S : Type 0} (g : Ghosts S) → Tables S g → ℕ → ℕ → ℕ → Type 0
 IsWholeRunIn g t = IsWholeRun t.file.header.fields (entry (file_of g t) t.file.header.fields)
 
--- how a lookup answers the entry of the guest cluster at an offset, of an image over layers or not
-abbrev pub answer_at : {S : Type 0} (g : Ghosts S) → Tables S g → Bool → ℕ → ShallowMapping
-answer_at g t backed offset = let h = t.file.header.fields in
-    shallow_of backed h.cluster_bits offset (offset % cluster_size h) (entry (file_of g t) h (offset / cluster_size h))
+-- how a lookup answers the entry of the guest cluster at an offset, of an image that was opened so
+abbrev pub answer_at : {S : Type 0} (g : Ghosts S) → Tables S g → OpenMode → ℕ → ShallowMapping
+answer_at g t mode offset = let h = t.file.header.fields in
+    shallow_of mode h.cluster_bits offset (offset % cluster_size h) (entry (file_of g t) h (offset / cluster_size h))
+
+-- places of the file that words can name end far below 2^64
+abbrev pub EndsNear : ShallowMapping → ℕ → Type 0
+EndsNear (shallow.Raw storage place writable) n = place + n ≤ 2 ^ 60
+EndsNear mapping n = ⊤
+
+-- where the run of an answer can be written, if it can
+abbrev pub writable_place_of : ShallowMapping → Option ℕ
+writable_place_of (shallow.Raw storage place true) = Some place
+writable_place_of mapping = None
 
 -- The run is read of a table, which stays; one for clusters of another size is damaged.
 pub record ReadsRun (cluster_bits guest most : ℕ) (table : TableValue) (result : Result (L2Mapping × ℕ) Fault)

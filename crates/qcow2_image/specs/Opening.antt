@@ -1,4 +1,4 @@
--- What an image is right after it was opened for reading, and why it isn't opened.
+-- What an image is right after it was opened, and why it isn't opened.
 use Rattle.std.specs.Prelude.{◌≡◌, ⊤, ℕ, Bool, true, false, not, ◌&&◌, ◌||◌, ◌==◌, List, [], ◌∷◌, Option, Some, None, Ok, Err, Result, is_some}
 use Rattle.imago_storage.specs.State.{MayFail, StorageState}
 use Rattle.imago_storage.specs.declared.fault.Fault.{Fault}
@@ -25,25 +25,21 @@ rules_of_opening f h =
     ∷ (not (l1_table_sound f h), DamagedTable)
     ∷ []
 
--- The header by which a file is opened for reading, or the first rule that it breaks.
-unfoldable pub header_for_reading : Bytes → Result Header Fault
-header_for_reading f = header_of false f >>= λ H. first_fault (rules_of_opening f H.fields) and-then Ok H
+-- The header by which a file is opened for reading, or also for writing, or the first rule that it breaks.
+unfoldable pub header_for : Bool → Bytes → Result Header Fault
+header_for writable f = header_of writable f >>= λ H. first_fault (rules_of_opening f H.fields) and-then Ok H
 
 -- Why it isn't opened: by that rule, unless memory was wanting or the storage has failed, which is of a kind that may.
-abbrev pub WhyNotOpened : {S : Type 0} → (S → StorageState) → Bytes → Fault → Type 0
-WhyNotOpened state f Memory = ⊤
-WhyNotOpened state f Storage = MayFail state
-WhyNotOpened state f fault = header_for_reading f ≡ Err fault
-
--- Why it isn't opened for writing, or for reading alone: the former isn't carried yet.
-abbrev pub WhyNotOpenedFor : {S : Type 0} → (S → StorageState) → Bool → Bytes → Fault → Type 0
-WhyNotOpenedFor state true f fault = fault ≡ Unsupported
-WhyNotOpenedFor state false f fault = WhyNotOpened state f fault
+abbrev pub WhyNotOpened : {S : Type 0} → (S → StorageState) → Bool → Bytes → Fault → Type 0
+WhyNotOpened state writable f Memory = ⊤
+WhyNotOpened state writable f Storage = MayFail state
+WhyNotOpened state writable f fault = header_for writable f ≡ Err fault
 
 -- The storage is as it was, what is in memory is what its file says, and nothing is cached, with room for so many tables and blocks.
-pub record IsJustOpened {S : Type 0} (g : Ghosts S) (before : StorageState) (l2_tables refcount_blocks : ℕ) (t : Tables S g) : Type 0 where
+pub record IsJustOpened {S : Type 0} (g : Ghosts S) (before : StorageState) (writable : Bool) (l2_tables refcount_blocks : ℕ)
+    (t : Tables S g) : Type 0 where
   pub same : g.state t.file.image ≡ before
-  pub allowed : header_for_reading (bytes_of before.bytes) ≡ Ok t.file.header
+  pub allowed : header_for writable (bytes_of before.bytes) ≡ Ok t.file.header
   pub seen : IsSeen g t
   pub empty : cached_in t.caches ≡ record { tables = []; blocks = [] }
   pub unordered : order_of t.caches ≡ Unset
@@ -55,10 +51,11 @@ abbrev pub is_backed : Option Bool → Header → Bool
 is_backed (Some backed) H = backed
 is_backed None H = is_some H.backing_name
 
--- Its metadata was just opened, over layers or not, and it has this number and has not failed.
-pub record IsOpenedAs {S : Type 0} (g : Ghosts S) (before : StorageState) (backing : Option Bool) (number l2_tables refcount_blocks : ℕ)
-    (d : Qcow2 S g) : Type 0 where
-  pub tables : IsJustOpened g before l2_tables refcount_blocks d.tables
-  pub backing_is : d.backing ≡ is_backed backing d.tables.file.header
+-- Its metadata was just opened, for writing or not, over layers or not, and it has this number and has not failed.
+pub record IsOpenedAs {S : Type 0} (g : Ghosts S) (before : StorageState) (writable : Bool) (backing : Option Bool)
+    (number l2_tables refcount_blocks : ℕ) (d : Qcow2 S g) : Type 0 where
+  pub tables : IsJustOpened g before writable l2_tables refcount_blocks d.tables
+  pub writable_is : d.mode.writable ≡ writable
+  pub backing_is : d.mode.backing ≡ is_backed backing d.tables.file.header
   pub number_is : d.number ≡ number
   pub runs : d.failed ≡ false

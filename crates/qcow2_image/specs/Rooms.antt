@@ -14,6 +14,7 @@ use Rattle.qcow2_types.specs.Consistency.{IsConsistent, Consistent}
 use Rattle.qcow2_image.specs.ImageLayer.{blank_of, meaning_of}
 use Rattle.qcow2_image.specs.Seen.{IsSeen, file_of, layer_in}
 use Rattle.imago_storage.specs.declared.storage.Storage.{Ghosts}
+use Rattle.qcow2_image.specs.declared.mode.OpenMode.{OpenMode}
 use Rattle.qcow2_image.specs.declared.tables.Tables.{Tables}
 
 -- nothing is allocated for the guest cluster
@@ -70,18 +71,18 @@ pub record IsSafe {S : Type 0} (g : Ghosts S) (t : Tables S g) (failed : Bool) :
   pub seen : IsSeen g t
 
 -- its file is sound, and not shorter than the disk
-pub covered : {S : Type 0} (g : Ghosts S) (t : Tables S g) (backed failed : Bool) (number : ℕ) → IsSafe g t failed
-    → IsCovered (layer_in g t backed number failed) is_sound (g.state t.file.image).bytes
-covered g t backed failed number safe = record {
+pub covered : {S : Type 0} (g : Ghosts S) (t : Tables S g) (mode : OpenMode) (failed : Bool) (number : ℕ) → IsSafe g t failed
+    → IsCovered (layer_in g t mode number failed) is_sound (g.state t.file.image).bytes
+covered g t mode failed number safe = record {
   is_sound = (t.file.header, safe.consistent);
-  size = subst (λ r. t.file.header.fields.size ≤ (meaning_of (blank_of backed) (file_of g t) r).size) (sym safe.seen.loads)
+  size = subst (λ r. t.file.header.fields.size ≤ (meaning_of (blank_of mode.backing) (file_of g t) r).size) (sym safe.seen.loads)
       (Prim.omega arith);
 }
 
 -- Its alignments are its file's, as is whether it keeps what is written, and it zeroes by itself by its clusters, if it can.
-pub of_storages : {S : Type 0} (g : Ghosts S) (t : Tables S g) (backed failed : Bool) (number : ℕ)
-    → IsOfStorages (layer_in g t backed number failed) (g.state t.file.image) []
-of_storages g t backed failed number = record {
+pub of_storages : {S : Type 0} (g : Ghosts S) (t : Tables S g) (mode : OpenMode) (failed : Bool) (number : ℕ)
+    → IsOfStorages (layer_in g t mode number failed) (g.state t.file.image) []
+of_storages g t mode failed number = record {
   requests = refl;
   memory = refl;
   keeps = refl;

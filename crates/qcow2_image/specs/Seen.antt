@@ -1,8 +1,9 @@
 -- When what is in memory of an image is what its file says.
-use Rattle.std.specs.Prelude.{◌≡◌, ℕ, Bool, ◌*◌, false, Ok}
+use Rattle.std.specs.Prelude.{◌≡◌, ◌≢◌, ◌<◌, ℕ, Bool, ◌*◌, false, Ok}
 use Rattle.std.specs.List.{AllByRecursion}
 use Rattle.qcow2_types.specs.Bytes.{Bytes, bytes_of}
 use Rattle.qcow2_types.specs.Header.{Fields, header_of, has_external_data, words_of_cluster, layout_of, cluster_size}
+use Rattle.qcow2_types.specs.Entries.{l2_table}
 use Rattle.qcow2_metadata.specs.Tables.{TableValue, words_in}
 use Rattle.qcow2_alloc.specs.declared.async_lru_cache.Slot.{Slot}
 use Rattle.qcow2_alloc.specs.Memory.{Cached, memory}
@@ -11,6 +12,7 @@ use Rattle.qcow2_alloc.specs.Opening.{IsL1Of}
 use Rattle.imago_storage.specs.declared.storage.Storage.{Ghosts}
 use Rattle.imago_access.specs.Layer.{Layer}
 use Rattle.qcow2_image.specs.ImageLayer.{qcow2_layer}
+use Rattle.qcow2_image.specs.declared.mode.OpenMode.{OpenMode}
 use Rattle.qcow2_image.specs.declared.tables.Tables.{Tables}
 
 -- the bytes of the file
@@ -22,11 +24,19 @@ abbrev pub memory_of : {S : Type 0} (g : Ghosts S) → Tables S g → Bytes
 memory_of g t = memory (file_of g t) t.file.header.fields (cached_in t.caches)
 
 -- the layer that an open image shows
-abbrev pub layer_in : {S : Type 0} (g : Ghosts S) → Tables S g → Bool → ℕ → Bool → Layer
-layer_in g t backed number failed = qcow2_layer (g.state t.file.image) (memory_of g t) t.file.header.fields backed number failed
+abbrev pub layer_in : {S : Type 0} (g : Ghosts S) → Tables S g → OpenMode → ℕ → Bool → Layer
+layer_in g t mode number failed = qcow2_layer (g.state t.file.image) (memory_of g t) t.file.header.fields mode number failed
 
--- A cached table has the words that the file has in its cluster.
+-- a word of the L1 table names the table at this place
+pub record IsTableAt (f : Bytes) (h : Fields) (place : ℕ) : Type 0 where
+  pub row : ℕ
+  pub in_l1 : row < h.l1_entries
+  pub is_there : l2_table f h row ≢ 0
+  pub at : l2_table f h row ≡ place
+
+-- A cached table is one that the L1 table names, and has the words that the file has in its cluster.
 pub record IsOfFile (f : Bytes) (h : Fields) (e : ℕ × Slot TableValue) : Type 0 where
+  pub named : IsTableAt f h (e.0 * cluster_size h)
   pub layout : e.1.value.layout ≡ layout_of h
   pub words : e.1.value.words ≡ words_in f (e.0 * cluster_size h) (words_of_cluster h)
 

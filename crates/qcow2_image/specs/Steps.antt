@@ -5,12 +5,14 @@ use Rattle.imago_storage.specs.Calls.{Kept, Later, IsFaultless, Cause}
 use Rattle.imago_storage.specs.declared.fault.Fault.{Fault}
 use Rattle.imago_storage.specs.declared.fault.Fault.TheVariants.{DamagedHeader, DamagedTable, Unsupported, Limit, Memory, Storage}
 use Rattle.imago_storage.specs.declared.storage.Storage.{Ghosts}
+use Rattle.imago_access.specs.Files.{WasNotCutOff}
 use Rattle.qcow2_types.specs.Bytes.{Bytes}
 use Rattle.qcow2_types.specs.Header.{Header, header_of}
 use Rattle.qcow2_metadata.specs.Updates.{with_places_of}
 use Rattle.qcow2_alloc.specs.Caches.{HasRoomOf, cached_in}
+use Rattle.qcow2_image.specs.declared.qcow2.Qcow2.{Qcow2}
 use Rattle.qcow2_image.specs.declared.tables.Tables.{Tables}
-use Rattle.qcow2_image.specs.Opening.{header_for_reading}
+use Rattle.qcow2_image.specs.Opening.{header_for}
 use Rattle.qcow2_image.specs.Seen.{IsSeen, file_of}
 
 -- whether an image has failed behind a refusal: a storage's fault marks it
@@ -42,10 +44,10 @@ IsFirstFault loaded H fault first =
 -- Why the tables of an image with this header can't be read anew: by what keeps its file from being opened, by what can't change in an open
 -- image, which comes before the L1 table, for want of memory, or by a storage that failed.
 abbrev pub WhyNotReloaded : Bytes → Header → ℕ → ℕ → Fault → Type 0
-WhyNotReloaded f H before after DamagedHeader = header_for_reading f ≡ Err DamagedHeader
-WhyNotReloaded f H before after DamagedTable = (header_for_reading f ≡ Err DamagedTable) × (DiffersElsewhere (header_of false f) H → ⊥)
-WhyNotReloaded f H before after Unsupported = (header_for_reading f ≡ Err Unsupported) ⊎ DiffersElsewhere (header_of false f) H
-WhyNotReloaded f H before after (Limit bound) = header_for_reading f ≡ Err (Limit bound)
+WhyNotReloaded f H before after DamagedHeader = header_for false f ≡ Err DamagedHeader
+WhyNotReloaded f H before after DamagedTable = (header_for false f ≡ Err DamagedTable) × (DiffersElsewhere (header_of false f) H → ⊥)
+WhyNotReloaded f H before after Unsupported = (header_for false f ≡ Err Unsupported) ⊎ DiffersElsewhere (header_of false f) H
+WhyNotReloaded f H before after (Limit bound) = header_for false f ≡ Err (Limit bound)
 WhyNotReloaded f H before after Memory = ⊤
 WhyNotReloaded f H before after Storage = Rose before after
 WhyNotReloaded f H before after fault = ⊥
@@ -65,3 +67,18 @@ pub record Reloads {S : Type 0} (g : Ghosts S) (old : Tables S g) (result : Resu
   pub left : OnErr result ((new.file.header ≡ old.file.header) × (new.l1 ≡ old.l1) × (new.caches ≡ old.caches))
   pub cause : IfErr result (WhyNotReloaded (file_of g old) old.file.header (g.state old.file.image).faults (g.state new.file.image).faults)
   pub known : IsSeen g old → IfErr result (Cause (g.state old.file.image).faults (g.state new.file.image).faults)
+
+-- A call that writes nothing, and drops nothing that was read.
+pub record KeepsTables {S T : Type 0} (g : Ghosts S) (old : Tables S g) (result : Result T Fault) (new : Tables S g) : Type 0 where
+  pub kept : Kept (g.state old.file.image) (g.state new.file.image)
+  pub later : Later (g.state old.file.image) (g.state new.file.image)
+  pub faults : WasNotCutOff result → IsFaultless (g.state old.file.image) (g.state new.file.image)
+  pub header : new.file.header ≡ old.file.header
+  pub seen : IsSeen g old → IsSeen g new
+
+-- The same of a call of the driver, which a storage's fault marks.
+pub record KeepsImage {S T : Type 0} (g : Ghosts S) (old : Qcow2 S g) (result : Result T Fault) (new : Qcow2 S g) : Type 0 where
+  pub tables : KeepsTables g old.tables result new.tables
+  pub mode : new.mode ≡ old.mode
+  pub number : new.number ≡ old.number
+  pub failed : new.failed ≡ failed_behind failed_by result old.failed

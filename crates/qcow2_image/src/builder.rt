@@ -5,16 +5,16 @@ ghost use Rattle.imago_access.specs.Building.{IsOpened};
 ghost use Rattle.imago_access.specs.declared.format.Format.TheVariants as format;
 ghost use Rattle.qcow2_types.specs.Bytes.{bytes_of};
 ghost use Rattle.qcow2_image.specs.Caching.{AreCacheSizes};
-ghost use Rattle.qcow2_image.specs.Opening.{IsOpenedAs, WhyNotOpenedFor};
+ghost use Rattle.qcow2_image.specs.Opening.{IsOpenedAs, WhyNotOpened};
 
 use crate::cache_entries::CacheEntries;
-use crate::opening::open_for_reading;
+use crate::opening::open_with;
 use crate::qcow2::Qcow2;
 use imago_access::{Format, FormatDriverBuilder, FormatDriverBuilderBase, ImplicitOpenGate, Seen};
 use imago_storage::{Fault, Storage, StorageOpenOptions};
 use std::alloc::Global;
 
-/// Opens a qcow2 image, as `Qcow2::open_image` does: for reading alone, and refused as there.
+/// Opens a qcow2 image, as `Qcow2::open_image` does, and refused as there.
 ///
 /// No file is asked of the gate: an image whose data is in an external file isn't carried yet, and a backing file is a layer of its own.
 #[derive(Drop)]
@@ -94,10 +94,10 @@ impl<S: Storage> FormatDriverBuilder<S> for Qcow2OpenBuilder<S> {
 
     ghost opens = { λ b d.
         let image = S.state b.base.image in
-        IsOpenedAs S.Storage image b.backing b.number b.entries.l2_tables b.entries.refcount_blocks d
+        IsOpenedAs S.Storage image b.base.writable b.backing b.number b.entries.l2_tables b.entries.refcount_blocks d
         × IsOpened ⟦<Qcow2<S> as Seen>⟧ format.Qcow2 b.base.writable b.number image d };
 
-    ghost refuses = { λ b fault. WhyNotOpenedFor S.state b.base.writable (bytes_of (S.state b.base.image).bytes) fault };
+    ghost refuses = { λ b fault. WhyNotOpened S.state b.base.writable (bytes_of (S.state b.base.image).bytes) fault };
 
     ghost opened = { λ b d opens. opens.1 };
 
@@ -142,11 +142,9 @@ impl<S: Storage> FormatDriverBuilder<S> for Qcow2OpenBuilder<S> {
             number,
             entries,
         } = self;
-        if base.get_writable() {
-            return Err(Fault::Unsupported);
-        }
+        let writable = base.get_writable();
         let image = base.open_image(gate)?;
-        open_for_reading(alloc, image, backing, number, entries)
+        open_with(alloc, image, writable, backing, number, entries)
     }
 
     fn get_writable(&self) -> bool {

@@ -11,6 +11,7 @@ ghost use Rattle.imago_access.specs.Refusals.{barrier};
 ghost use Rattle.imago_access.specs.Stops.{GivesNone, IsWritten, KeepsStops, MakesNone};
 ghost use Rattle.qcow2_image.specs.ImageLayer.{blanks};
 ghost use Rattle.qcow2_image.specs.Looking.{IsWholeRunIn, answer_at};
+ghost use Rattle.qcow2_image.specs.Homes.{homeless, housed, one_home};
 ghost use Rattle.qcow2_image.specs.Rooms.{not_both, covered, of_storages};
 ghost use Rattle.qcow2_image.specs.Steps.{Reloads, failed_anew, failed_behind, failed_by};
 
@@ -32,15 +33,15 @@ impl<S: Storage> FormatDriverInstance for Qcow2<S> {
 
     ghost safe_keeps = { λ d safe. safe.keeps };
 
-    ghost safe_sound = { λ d safe. covered S.Storage.own d.tables d.backing d.failed d.number safe };
+    ghost safe_sound = { λ d safe. covered S.Storage.own d.tables d.mode d.failed d.number safe };
 
-    ghost one_home = { λ d p q at safe first second. absurd (Prim.cc first) };
+    ghost one_home = { λ d p q at safe. one_home S.Storage.own d.tables d.mode p q at safe };
 
-    ghost blanks = { λ d. blanks d.backing };
+    ghost blanks = { λ d. blanks d.mode.backing };
 
     ghost aligned = { λ d. let shape = S.aligned d.tables.file.image in (shape.requests, shape.memory) };
 
-    ghost of_storages = { λ d. of_storages S.Storage.own d.tables d.backing d.failed d.number };
+    ghost of_storages = { λ d. of_storages S.Storage.own d.tables d.mode d.failed d.number };
 
     ghost marked = { λ d is. refl };
 
@@ -48,13 +49,13 @@ impl<S: Storage> FormatDriverInstance for Qcow2<S> {
 
     ghost units = { λ d. pow_pos d.tables.file.header.fields.cluster_bits };
 
-    ghost begins = { λ d call. tt };
+    ghost begins = { λ d call safe. (safe, λ p. refl) };
 
     ghost free_loose = { λ d free p. refl };
 
     ghost bare = { λ d p free has. not_both _ _ p free has };
 
-    ghost rooms = { λ d p free states. record { homeless = λ given. refl; housed = λ some. absurd (Prim.cc some) } };
+    ghost rooms = { λ d p free states. record { homeless = homeless d.mode.writable _ _ p; housed = housed d.mode.writable _ _ p } };
 
     fn image_file(&self) -> &S {
         &self.tables.file.image
@@ -73,7 +74,7 @@ impl<S: Storage> FormatDriverInstance for Qcow2<S> {
     }
 
     fn writable(&self) -> bool {
-        false
+        self.mode.writable
     }
 
     fn zero_granularity(&self) -> Option<u64> {
@@ -127,7 +128,7 @@ impl<S: Storage> FormatDriverInstance for Qcow2<S> {
         ensures reads { let d = ⟦<Qcow2<S> as Seen>⟧ in Pairs IsKept (files d self.old) (files d self.new) }
         // It answers the entry of the guest cluster, for as long a run as goes on under one L2 table.
         ensures entry { let t = self.old.tables in 0 < max_length → offset < t.file.header.fields.size
-            → ⟦<Qcow2<S> as Seen>⟧.sees self.old → IfOk result (λ r. r.0 ≡ answer_at S.Storage t self.old.backing offset) }
+            → ⟦<Qcow2<S> as Seen>⟧.sees self.old → IfOk result (λ r. r.0 ≡ answer_at S.Storage t self.old.mode offset) }
         ensures whole { let t = self.old.tables in
             ⟦<Qcow2<S> as Seen>⟧.sees self.old → IfOk result (λ r. IsWholeRunIn S.Storage t offset max_length r.1) }
     {
@@ -193,8 +194,19 @@ impl<S: Storage> FormatDriverInstance for Qcow2<S> {
         length: u64,
         _overwrite: bool,
     ) -> Result<PreparedDataMapping<PreparedMappingState>, Fault> {
-        match self.refuse(offset, length) {
-            Ok(_) => Ok(PreparedDataMapping::existing(0, 0, 0)),
+        if self.failed {
+            return Err(Fault::Failed);
+        }
+        if length == 0 {
+            return Ok(PreparedDataMapping::existing(0, 0, 0));
+        }
+        match self.check_change(offset, length) {
+            Ok(()) => {}
+            Err(fault) => return Err(fault),
+        }
+        match self.home_run(offset, length) {
+            Ok(Some((place, count))) => Ok(PreparedDataMapping::existing(0, place, count)),
+            Ok(None) => Err(Fault::Limit(offset)),
             Err(fault) => Err(fault),
         }
     }
@@ -219,9 +231,18 @@ impl<S: Storage> FormatDriverInstance for Qcow2<S> {
                 Ok(())
             }
             Some(state) => {
-                let fault = self.refuse_commit(&state);
-                let mapping = PreparedDataMapping::to_commit(storage, offset, length, state);
-                Err((fault, Some(mapping)))
+                match self.check_state(&state) {
+                    Ok(()) => {
+                        state.give_up();
+                        Ok(())
+                    }
+                    Err(fault) => {
+                        let mapping = PreparedDataMapping::to_commit(
+                            storage, offset, length, state,
+                        );
+                        Err((fault, Some(mapping)))
+                    }
+                }
             }
         }
     }
@@ -253,13 +274,25 @@ impl<S: Storage> FormatDriverInstance for Qcow2<S> {
 
     fn write_mapped(
         &mut self,
-        _alloc: Global,
+        alloc: Global,
         guest: u64,
-        _place: u64,
+        place: u64,
         bytes: &[u8],
     ) -> Result<(), Fault> {
-        match self.refuse(guest, bytes.len() as u64) {
-            Ok(_) => Ok(()),
+        if self.failed {
+            return Err(Fault::Failed);
+        }
+        let length = bytes.len() as u64;
+        if length == 0 {
+            return Ok(());
+        }
+        match self.check_change(guest, length) {
+            Ok(()) => {}
+            Err(fault) => return Err(fault),
+        }
+        match self.is_mapped_at(guest, place, length) {
+            Ok(true) => self.write_at(alloc, place, bytes),
+            Ok(false) => Err(Fault::Outdated),
             Err(fault) => Err(fault),
         }
     }
@@ -270,7 +303,7 @@ impl<S: Storage> FormatDriverInstance for Qcow2<S> {
         offset: u64,
         length: u64,
     ) -> Result<(u64, u64), Fault> {
-        self.refuse(offset, length)
+        self.decline(offset, length)
     }
 
     fn discard_to_zero(
@@ -279,7 +312,7 @@ impl<S: Storage> FormatDriverInstance for Qcow2<S> {
         offset: u64,
         length: u64,
     ) -> Result<(u64, u64), Fault> {
-        self.refuse(offset, length)
+        self.decline(offset, length)
     }
 
     fn discard_to_any(
@@ -288,7 +321,7 @@ impl<S: Storage> FormatDriverInstance for Qcow2<S> {
         offset: u64,
         length: u64,
     ) -> Result<(u64, u64), Fault> {
-        self.refuse(offset, length)
+        self.decline(offset, length)
     }
 
     fn discard_to_backing(
@@ -297,7 +330,7 @@ impl<S: Storage> FormatDriverInstance for Qcow2<S> {
         offset: u64,
         length: u64,
     ) -> Result<(u64, u64), Fault> {
-        self.refuse(offset, length)
+        self.decline(offset, length)
     }
 
     fn flush(&mut self, _alloc: Global) -> Result<(), Fault>
@@ -378,7 +411,7 @@ impl<S: Storage> FormatDriverInstance for Qcow2<S> {
         if size <= self.tables.file.header.size() {
             return Ok(());
         }
-        Err(Fault::ReadOnly)
+        Err(self.resize_refusal())
     }
 
     fn resize_shrink(&mut self, _alloc: Global, size: u64) -> Result<(), Fault> {
@@ -388,6 +421,6 @@ impl<S: Storage> FormatDriverInstance for Qcow2<S> {
         if size >= self.tables.file.header.size() {
             return Ok(());
         }
-        Err(Fault::ReadOnly)
+        Err(self.resize_refusal())
     }
 }

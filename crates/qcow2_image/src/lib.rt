@@ -6,12 +6,14 @@ mod cache_entries;
 mod drivers;
 pub mod laws;
 mod lookup;
+mod mode;
 mod opening;
 mod qcow2;
 mod reading;
 mod refusing;
 mod reloading;
 mod tables;
+mod writing;
 
 pub use builder::Qcow2OpenBuilder;
 pub use qcow2::{PreparedMappingState, Qcow2};

@@ -1,4 +1,4 @@
-// How the metadata of an image is opened for reading: its header, its L1 table, and caches of which nothing is filled.
+// How the metadata of an image is opened: its header, its L1 table, and caches of which nothing is filled.
 ghost use Rattle.std.specs.Prelude.{◌≡◌, ◌≢◌, false, None, Ok, OnOk, IfOk, IfErr, IsTrue, length};
 ghost use Rattle.imago_storage.specs.Calls.{CountsFaults, Kept};
 ghost use Rattle.imago_storage.specs.declared.fault.Fault.TheVariants.{DamagedTable};
@@ -8,9 +8,10 @@ ghost use Rattle.qcow2_types.specs.Bytes.{bytes_of};
 ghost use Rattle.qcow2_types.specs.Header.{header_of, has_external_data};
 ghost use Rattle.qcow2_metadata.specs.Loading.{file, NotLoaded};
 ghost use Rattle.qcow2_alloc.specs.Opening.{IsL1Of};
-ghost use Rattle.qcow2_image.specs.Opening.{header_for_reading, WhyNotOpened, WhyNotOpenedFor, IsJustOpened, IsOpenedAs, is_qcow2};
+ghost use Rattle.qcow2_image.specs.Opening.{header_for, WhyNotOpened, IsJustOpened, IsOpenedAs, is_qcow2};
 
 use crate::cache_entries::CacheEntries;
+use crate::mode::OpenMode;
 use crate::qcow2::Qcow2;
 use crate::tables::Tables;
 use imago_access::Seen;
@@ -20,16 +21,20 @@ use qcow2_metadata::{Header, L1Table, Table};
 use qcow2_types::{MAGIC, OnDiskStruct, V2Header};
 use std::alloc::Global;
 
-// The header of an image that is to be read, with its data in this file.
-pub(crate) fn load_header<S: Storage>(alloc: Global, image: &mut S) -> Result<Header, Fault>
-    ensures loads { IfOk result (λ header. header_of false (file (S.state image.old)) ≡ Ok header) }
+// The header of an image that is to be read, or also written, with its data in this file.
+pub(crate) fn load_header<S: Storage>(
+    alloc: Global,
+    image: &mut S,
+    writable: bool,
+) -> Result<Header, Fault>
+    ensures loads { IfOk result (λ header. header_of writable (file (S.state image.old)) ≡ Ok header) }
     ensures inside { IfOk result (λ header. has_external_data header.fields ≡ false) }
-    ensures err { IfErr result (NotLoaded (header_for_reading (file (S.state image.old))) (S.state image.old) (S.state image.new)) }
+    ensures err { IfErr result (NotLoaded (header_for writable (file (S.state image.old))) (S.state image.old) (S.state image.new)) }
     ensures first { IfErr result (λ fault. fault ≢ DamagedTable) }
     ensures same { OnOk result (S.state image.new ≡ S.state image.old) }
     ensures kept { Kept (S.state image.old) (S.state image.new) }
 {
-    let header = match Header::load(alloc, image, false) {
+    let header = match Header::load(alloc, image, writable) {
         Ok(header) => header,
         Err(fault) => return Err(fault),
     };
@@ -48,7 +53,8 @@ pub(crate) fn load_l1<S: Storage>(
     requires loads { header_of false (file (S.state image.old)) ≡ Ok header.now }
     requires inside { has_external_data header.now.fields ≡ false }
     ensures ok { IfOk result (IsL1Of (file (S.state image.old)) header.now.fields) }
-    ensures err { IfErr result (NotLoaded (header_for_reading (file (S.state image.old))) (S.state image.old) (S.state image.new)) }
+    ensures err { (writable : _) → header_of writable (file (S.state image.old)) ≡ Ok header.now
+        → IfErr result (NotLoaded (header_for writable (file (S.state image.old))) (S.state image.old) (S.state image.new)) }
     ensures same { OnOk result (S.state image.new ≡ S.state image.old) }
     ensures kept { Kept (S.state image.old) (S.state image.new) }
 {
@@ -60,15 +66,19 @@ pub(crate) fn load_l1<S: Storage>(
 }
 
 // Both of them. Nothing but reads is asked of the storage.
-fn load_metadata<S: Storage>(alloc: Global, image: &mut S) -> Result<(Header, L1Table), Fault>
-    ensures loads { IfOk result (λ r. header_of false (file (S.state image.old)) ≡ Ok r.0) }
+fn load_metadata<S: Storage>(
+    alloc: Global,
+    image: &mut S,
+    writable: bool,
+) -> Result<(Header, L1Table), Fault>
+    ensures loads { IfOk result (λ r. header_of writable (file (S.state image.old)) ≡ Ok r.0) }
     ensures inside { IfOk result (λ r. has_external_data r.0.fields ≡ false) }
     ensures l1 { IfOk result (λ r. IsL1Of (file (S.state image.old)) r.0.fields r.1) }
-    ensures err { IfErr result (NotLoaded (header_for_reading (file (S.state image.old))) (S.state image.old) (S.state image.new)) }
+    ensures err { IfErr result (NotLoaded (header_for writable (file (S.state image.old))) (S.state image.old) (S.state image.new)) }
     ensures same { OnOk result (S.state image.new ≡ S.state image.old) }
     ensures kept { Kept (S.state image.old) (S.state image.new) }
 {
-    let header = match load_header(alloc, image) {
+    let header = match load_header(alloc, image, writable) {
         Ok(header) => header,
         Err(fault) => return Err(fault),
     };
@@ -82,12 +92,13 @@ fn load_metadata<S: Storage>(alloc: Global, image: &mut S) -> Result<(Header, L1
 fn open_tables<S: Storage>(
     alloc: Global,
     mut image: S,
+    writable: bool,
     entries: CacheEntries,
 ) -> Result<Tables<S>, Fault>
-    ensures ok { IfOk result (IsJustOpened S.Storage (S.state image) entries.l2_tables entries.refcount_blocks) }
-    ensures err { IfErr result (WhyNotOpened S.state (file (S.state image))) }
+    ensures ok { IfOk result (IsJustOpened S.Storage (S.state image) writable entries.l2_tables entries.refcount_blocks) }
+    ensures err { IfErr result (WhyNotOpened S.state writable (file (S.state image))) }
 {
-    let (header, l1) = match load_metadata(alloc, &mut image) {
+    let (header, l1) = match load_metadata(alloc, &mut image, writable) {
         Ok(loaded) => loaded,
         Err(fault) => return Err(fault),
     };
@@ -102,20 +113,21 @@ fn open_tables<S: Storage>(
     })
 }
 
-// Opens an image for reading, with this number. Places that no table maps are what layers below show, or else 0, as `backing` says, and
-// where it says nothing as the header does, by naming a backing file.
-pub(crate) fn open_for_reading<S: Storage>(
+// Opens an image for reading, or also for writing, with this number. Places that no table maps are what layers below show, or else 0, as
+// `backing` says, and where it says nothing as the header does, by naming a backing file.
+pub(crate) fn open_with<S: Storage>(
     alloc: Global,
     image: S,
+    writable: bool,
     backing: Option<bool>,
     number: u64,
     entries: CacheEntries,
 ) -> Result<Qcow2<S>, Fault>
-    ensures ok { IfOk result (IsOpenedAs S.Storage (S.state image) backing number entries.l2_tables entries.refcount_blocks) }
-    ensures seen { IfOk result (IsOpened ⟦<Qcow2<S> as Seen>⟧ format.Qcow2 false number (S.state image)) }
-    ensures err { IfErr result (WhyNotOpened S.state (file (S.state image))) }
+    ensures ok { IfOk result (IsOpenedAs S.Storage (S.state image) writable backing number entries.l2_tables entries.refcount_blocks) }
+    ensures seen { IfOk result (IsOpened ⟦<Qcow2<S> as Seen>⟧ format.Qcow2 writable number (S.state image)) }
+    ensures err { IfErr result (WhyNotOpened S.state writable (file (S.state image))) }
 {
-    let tables = match open_tables(alloc, image, entries) {
+    let tables = match open_tables(alloc, image, writable, entries) {
         Ok(tables) => tables,
         Err(fault) => return Err(fault),
     };
@@ -125,7 +137,7 @@ pub(crate) fn open_for_reading<S: Storage>(
     };
     Ok(Qcow2 {
         tables,
-        backing,
+        mode: OpenMode { writable, backing },
         number,
         failed: false,
     })
@@ -141,31 +153,27 @@ fn begins_image(start: &[u8]) -> bool
 }
 
 impl<S: Storage> Qcow2<S> {
-    /// Opens an image for reading, with the number 0 and caches of 128 L2 tables and 32 refcount blocks. Layers are below where its header
-    /// names a backing file.
+    /// Opens an image for reading, or also for writing, with the number 0 and caches of 128 L2 tables and 32 refcount blocks. Layers are
+    /// below where its header names a backing file.
     ///
     /// It reads the header and the L1 table, and nothing else is asked of the storage. It is refused, and the storage dropped then:
     ///
-    /// - with `Fault::Unsupported` where it is to be opened for writing, which isn't carried yet, before anything is asked;
     /// - by the first of the header's rules that the file breaks, as `Header::load` has them: with `Fault::DamagedHeader`,
-    ///   `Fault::Unsupported` or `Fault::Limit`;
+    ///   `Fault::Unsupported` or `Fault::Limit`; to be written it may have neither the dirty nor the corrupt bit, nor any autoclear bit;
     /// - with `Fault::Unsupported` where the data is in an external file, which isn't carried yet;
     /// - with `Fault::DamagedTable` where a word of the L1 table has no meaning;
     /// - with `Fault::Memory`, and with `Fault::Storage` where the storage may fail.
     ///
     /// What the tables below the L1 table say doesn't matter here: a place under a damaged one is refused when it is looked up.
     pub fn open_image(alloc: Global, image: S, writable: bool) -> Result<Self, Fault>
-        ensures ok { IfOk result (IsOpenedAs S.Storage (S.state image) None 0 128 32) }
+        ensures ok { IfOk result (IsOpenedAs S.Storage (S.state image) writable None 0 128 32) }
         // As a driver it shows what the file means, and where the file is a consistent image it is safe.
         ensures seen { IfOk result (IsOpened ⟦<Qcow2<S> as Seen>⟧ format.Qcow2 writable 0 (S.state image)) }
         // What opens begins as an image does.
         ensures begins { OnOk result (IsTrue (is_qcow2 (file (S.state image)))) }
-        ensures err { IfErr result (WhyNotOpenedFor S.state writable (file (S.state image))) }
+        ensures err { IfErr result (WhyNotOpened S.state writable (file (S.state image))) }
     {
-        if writable {
-            return Err(Fault::Unsupported);
-        }
-        open_for_reading(alloc, image, None, 0, CacheEntries::usual())
+        open_with(alloc, image, writable, None, 0, CacheEntries::usual())
     }
 
     /// Whether a storage begins as an image does: with the magic number, and version 2 or 3.

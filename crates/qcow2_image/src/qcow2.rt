@@ -3,6 +3,7 @@ ghost use Rattle.std.specs.Prelude.{◌≡◌, ⊤, List, [], Some, None};
 ghost use Rattle.std.specs.Option.{option_copied};
 ghost use Rattle.imago_storage.specs.Steps.{Call};
 ghost use Rattle.imago_storage.specs.declared.fault.Fault.{Fault};
+ghost use Rattle.imago_storage.specs.declared.fault.Fault.TheVariants.{Unsupported};
 ghost use Rattle.std.specs.Borrow.{Lends, sem};
 ghost use Rattle.qcow2_types.specs.Header.{has_external_data};
 ghost use Rattle.qcow2_image.specs.contracts.qcow2.Qcow2.{the_row};
@@ -12,7 +13,9 @@ ghost use Rattle.qcow2_alloc.specs.Safety.{AreTablesClean, AreBlocksClean};
 ghost use Rattle.qcow2_image.specs.ImageLayer.{qcow2_text};
 ghost use Rattle.qcow2_image.specs.Seen.{IsSeen, layer_in, memory_of};
 ghost use Rattle.qcow2_image.specs.Rooms.{IsVacant, HasRoom, IsZeroed, IsSafe, is_sound};
+ghost use Rattle.qcow2_image.specs.Writing.{HasBegun, WhyUnwritten, layer_of};
 
+use crate::mode::OpenMode;
 use crate::tables::Tables;
 use imago_access::Seen;
 use imago_storage::Storage;
@@ -42,13 +45,18 @@ impl PreparedMappingState {
     }
 }
 
-/// A qcow2 image that was opened for reading: each place of the disk is what the tables of its file say of it.
+/// A qcow2 image: each place of the disk is what the tables of its file say of it.
 ///
-/// Its one storage, the image file, has the number 0. A fault of that storage marks it as failed.
+/// Its one storage, the image file, has the number 0. A fault of that storage marks it as failed, and so does want of memory that may have
+/// left a part of a write.
+///
+/// One that was opened for writing is written where a place has a host cluster of its own, which its L2 entry marks as copied: bytes go
+/// there at once, and no table changes. So far nothing is allocated: other places can't be written, zeroing and discards are declined
+/// (a chain writes zeroes then, where it may), and the size stays.
 #[derive(Drop)]
 pub struct Qcow2<S: Storage> {
     pub(crate) tables: Tables<S>,
-    pub(crate) backing: bool,
+    pub(crate) mode: OpenMode,
     pub(crate) number: u64,
     pub(crate) failed: bool,
 }
@@ -56,7 +64,7 @@ pub struct Qcow2<S: Storage> {
 impl<S: Storage> Seen for Qcow2<S> {
     type State = PreparedMappingState;
 
-    ghost layer = { λ d. layer_in S.Storage d.tables d.backing d.number d.failed };
+    ghost layer = { λ d. layer_in S.Storage d.tables d.mode d.number d.failed };
 
     ghost image = { λ d. S.state d.tables.file.image };
 
@@ -82,11 +90,11 @@ impl<S: Storage> Seen for Qcow2<S> {
 
     ghost sound = { λ kind f. is_sound kind f };
 
-    ghost began = { λ d call now. ⊤ };
+    ghost began = { λ d call now. HasBegun S.Storage d now };
 
-    ghost own_cause = { λ d below call fault. ⊥ };
+    ghost own_cause = { λ d below call fault. IsSafe S.Storage d.tables d.failed → WhyUnwritten (layer_of S.Storage d) call fault };
 
-    ghost growth_cause = { λ d below size mode fault. ⊥ };
+    ghost growth_cause = { λ d below size mode fault. fault ≡ Unsupported };
 }
 
 impl<S: Storage> Qcow2<S> {
@@ -99,9 +107,9 @@ impl<S: Storage> Qcow2<S> {
 
     /// Whether layers are below it: places that no table maps are what these show, and else they are 0.
     pub fn backing(&self) -> bool
-        ensures { result ≡ self.now.backing }
+        ensures { result ≡ self.now.mode.backing }
     {
-        self.backing
+        self.mode.backing
     }
 
     /// The image file.
@@ -141,7 +149,7 @@ impl<S: Storage> Qcow2<S> {
     {
         let Qcow2 {
             tables,
-            backing: _backing,
+            mode: _mode,
             number: _number,
             failed: _failed,
         } = self;
@@ -178,9 +186,9 @@ impl<S: Storage> Qcow2<S> {
 
     /// Says whether layers are below it: places that no table maps are what these show, and else they are 0.
     pub fn set_backing(&mut self, backing: bool)
-        ensures { self.new ≡ record self.old { backing = backing } }
+        ensures { self.new ≡ record self.old { mode = record self.old.mode { backing = backing } } }
     {
-        self.backing = backing;
+        self.mode.backing = backing;
     }
 }
 

@@ -6,20 +6,21 @@ ghost use Rattle.imago_access.specs.Going.{Looked, Marks};
 ghost use Rattle.imago_access.specs.Mappings.{IsOneOf, IsRun, LooksIn, NamesRoomIn};
 ghost use Rattle.qcow2_metadata.specs.MappingView.{mapping_seen, IsNamed};
 ghost use Rattle.qcow2_image.specs.ImageLayer.{shallow_of};
-ghost use Rattle.qcow2_image.specs.Looking.{IsWholeRunIn, answer_at};
-ghost use Rattle.qcow2_image.specs.Steps.{failed_by, failed_anew, failed_behind};
+ghost use Rattle.qcow2_image.specs.Looking.{EndsNear, IsWholeRunIn, answer_at};
+ghost use Rattle.qcow2_image.specs.Steps.{KeepsImage, failed_by, failed_anew, failed_behind};
 
 use crate::lookup::look_up;
+use crate::mode::OpenMode;
 use crate::qcow2::Qcow2;
 use imago_access::{Seen, ShallowMapping};
 use imago_storage::{Fault, Storage};
 use qcow2_metadata::L2Mapping;
 use qcow2_types::GuestOffset;
 
-// How a lookup of an image that isn't writable answers a mapping, at an offset that lies so far within its cluster.
+// How a lookup answers a mapping, at an offset that lies so far within its cluster.
 fn shallow(
     mapping: L2Mapping,
-    backing: bool,
+    mode: OpenMode,
     cluster_bits: u32,
     offset: u64,
     within: u64,
@@ -27,16 +28,19 @@ fn shallow(
     requires bits { (9 ≤ cluster_bits) × (cluster_bits ≤ 21) }
     requires named { IsNamed cluster_bits mapping }
     requires within { within < 2 ^ cluster_bits }
-    ensures { result ≡ shallow_of backing cluster_bits offset within (mapping_seen mapping) }
+    ensures { result ≡ shallow_of mode cluster_bits offset within (mapping_seen mapping) }
 {
     match mapping {
-        L2Mapping::DataFile { host_cluster, .. } => ShallowMapping::Raw {
+        L2Mapping::DataFile {
+            host_cluster,
+            copied,
+        } => ShallowMapping::Raw {
             storage: 0,
             offset: host_cluster.offset(cluster_bits).0 + within,
-            writable: false,
+            writable: mode.writable && copied,
         },
         L2Mapping::Backing { .. } => {
-            if backing {
+            if mode.backing {
                 ShallowMapping::Indirect {
                     offset,
                     writable: false,
@@ -123,10 +127,14 @@ impl<S: Storage> Qcow2<S> {
         ensures looks { let d = ⟦<Qcow2<S> as Seen>⟧ in d.sees self.old → IfOk result (LooksIn d offset max_length self.old self.new) }
         ensures room { let d = ⟦<Qcow2<S> as Seen>⟧ in d.sees self.old → IfOk result (NamesRoomIn d offset self.old) }
         ensures there { IfOk result (λ r. IsOneOf 1 r.0) }
+        ensures near { IfOk result (λ r. EndsNear r.0 r.1) }
         ensures entry { let t = self.old.tables in
-            ⟦<Qcow2<S> as Seen>⟧.sees self.old → IfOk result (λ r. r.0 ≡ answer_at S.Storage t self.old.backing offset) }
+            ⟦<Qcow2<S> as Seen>⟧.sees self.old → IfOk result (λ r. r.0 ≡ answer_at S.Storage t self.old.mode offset) }
         ensures whole { let t = self.old.tables in
             ⟦<Qcow2<S> as Seen>⟧.sees self.old → IfOk result (λ r. IsWholeRunIn S.Storage t offset max_length r.1) }
+        ensures keeps { KeepsImage S.Storage self.old result self.new }
+        ensures began { let d = ⟦<Qcow2<S> as Seen>⟧ in
+            WasNotCutOff result → (e : _) (call : _) → d.began e call self.old → d.began e call self.new }
         ensures marked { self.new.failed ≡ failed_behind failed_by result self.old.failed }
         ensures looked { Looked ⟦<Qcow2<S> as Seen>⟧ (WasNotCutOff result) self.old self.new }
         ensures failed { IfErr result (Fails ⟦<Qcow2<S> as Seen>⟧ self.old self.new) }
@@ -145,7 +153,7 @@ impl<S: Storage> Qcow2<S> {
             Ok((mapping, count)) => {
                 let length = bytes_met(count, within, length, cluster_bits);
                 Ok((
-                    shallow(mapping, self.backing, cluster_bits, offset, within),
+                    shallow(mapping, self.mode, cluster_bits, offset, within),
                     length,
                 ))
             }

@@ -1,6 +1,8 @@
-// Why calls that change a qcow2 image are refused: it was opened for reading.
-ghost use Rattle.std.specs.Prelude.{◌≡◌, Some, None, List, IfOk, IfErr, IsOk, IsErrOf};
+// Why calls that change a qcow2 image are refused before anything is done.
+ghost use Rattle.std.specs.Prelude.{◌≡◌, ◌<◌, ◌≤◌, ◌+◌, ◌^◌, if◌then◌else◌, false, Some, None, List, IsTrue, IfOk, IfErr, IsOk, OnOk, IsErrOf};
 ghost use Rattle.imago_storage.specs.State.{StorageState};
+ghost use Rattle.imago_storage.specs.Steps.{Call};
+ghost use Rattle.imago_storage.specs.declared.fault.Fault.{Fault};
 ghost use Rattle.imago_access.specs.Files.{IsMild, ImageCause};
 ghost use Rattle.imago_access.specs.Parts.{DeclinableCause};
 ghost use Rattle.imago_access.specs.Refusals.{own_refusal, barrier};
@@ -11,42 +13,70 @@ use imago_access::{FormatDriverInstance, Seen, check_commit, check_range};
 use imago_storage::{Fault, Storage, larger_alignment};
 
 impl<S: Storage> Qcow2<S> {
-    // Why a change of a range is refused. One of no bytes isn't: it is done then.
-    pub(crate) fn refuse(&self, offset: u64, length: u64) -> Result<(u64, u64), Fault>
-        ensures ok { IfOk result (λ r. (r ≡ (offset, 0)) × (length ≡ 0)) }
-        ensures at_once { (f : _) → own_refusal (⟦<Qcow2<S> as Seen>⟧.layer self.now) offset length ≡ Some f → IsErrOf result f }
-        ensures idle { let d = ⟦<Qcow2<S> as Seen>⟧ in length ≡ 0 → barrier (d.layer self.now) ≡ None → IsOk result }
-        ensures mild { IfErr result IsMild }
-        ensures failed { (olds news : List StorageState) → IfErr result (ImageCause olds news) }
-        ensures cause { let d = ⟦<Qcow2<S> as Seen>⟧ in (below : _) (olds news : _) →
-            IfErr result (DeclinableCause below (d.layer self.now) offset length (λ _. ⊥) olds news) }
+    // Why a change of a range that isn't empty is refused before anything is done.
+    pub(crate) fn check_change(&self, offset: u64, length: u64) -> Result<(), Fault>
+        requires { 0 < length }
+        ensures ok { let d = ⟦<Qcow2<S> as Seen>⟧ in OnOk result (own_refusal (d.layer self.now) offset length ≡ None) }
+        ensures writable { OnOk result (IsTrue self.now.mode.writable) }
+        ensures inside { OnOk result (offset + length ≤ self.now.tables.file.header.fields.size) }
+        ensures fits { OnOk result (offset + length < 2 ^ 64) }
+        ensures runs { OnOk result (self.now.failed ≡ false) }
+        ensures err { let d = ⟦<Qcow2<S> as Seen>⟧ in IfErr result (λ e. own_refusal (d.layer self.now) offset length ≡ Some e) }
     {
         if self.failed {
             return Err(Fault::Failed);
         }
         let image = &self.tables.file.image;
         let unit = larger_alignment(image.req_align(), image.mem_align());
-        match check_range(
-            false,
-            unit as u64,
-            self.tables.file.header.size(),
-            offset,
-            length,
-        ) {
-            Ok(()) => Ok((offset, 0)),
+        let size = self.tables.file.header.size();
+        match check_range(self.mode.writable, unit as u64, size, offset, length) {
+            Ok(()) => Ok(()),
             Err(fault) => Err(fault),
         }
     }
 
-    // Why a mapping with state that is to be committed is given back, as each is.
-    pub(crate) fn refuse_commit(&self, state: &PreparedMappingState) -> Fault
-        ensures at_once { let d = ⟦<Qcow2<S> as Seen>⟧ in commit_refusal d (Some state.now) (d.layer self.now) ≡ Some result }
-        ensures back { let d = ⟦<Qcow2<S> as Seen>⟧ in GivenBack d.tag (Some state.now) (d.layer self.now) result }
-        ensures failed { (olds news : List StorageState) → ImageCause olds news result }
+    // Declines to zero or to discard a range. One of no bytes is done.
+    pub(crate) fn decline(&self, offset: u64, length: u64) -> Result<(u64, u64), Fault>
+        ensures ok { IfOk result (λ r. (r ≡ (offset, 0)) × (length ≡ 0)) }
+        ensures at_once { (f : _) → own_refusal (⟦<Qcow2<S> as Seen>⟧.layer self.now) offset length ≡ Some f → IsErrOf result f }
+        ensures idle { let d = ⟦<Qcow2<S> as Seen>⟧ in length ≡ 0 → barrier (d.layer self.now) ≡ None → IsOk result }
+        ensures mild { IfErr result IsMild }
+        ensures failed { (olds news : List StorageState) → IfErr result (ImageCause olds news) }
+        ensures cause { let d = ⟦<Qcow2<S> as Seen>⟧ in (below : _) (e : _) (whole : Call) (olds news : _) →
+            IfErr result (DeclinableCause below (d.layer self.now) offset length (d.own_cause e below whole) olds news) }
     {
-        match check_commit(self.ready(), self.writable(), self.number, state.number) {
-            Ok(()) => unreachable!(),
-            Err(fault) => fault,
+        if self.failed {
+            return Err(Fault::Failed);
+        }
+        if length == 0 {
+            return Ok((offset, 0));
+        }
+        match self.check_change(offset, length) {
+            Ok(()) => Err(Fault::Unsupported),
+            Err(fault) => Err(fault),
+        }
+    }
+
+    // Why a mapping with state that is to be committed is given back, if it is.
+    pub(crate) fn check_state(&self, state: &PreparedMappingState) -> Result<(), Fault>
+        ensures ok { let d = ⟦<Qcow2<S> as Seen>⟧ in OnOk result (commit_refusal d (Some state.now) (d.layer self.now) ≡ None) }
+        ensures own { OnOk result (state.now.number ≡ self.now.number) }
+        ensures at_once { let d = ⟦<Qcow2<S> as Seen>⟧ in
+            IfErr result (λ e. commit_refusal d (Some state.now) (d.layer self.now) ≡ Some e) }
+        ensures back { let d = ⟦<Qcow2<S> as Seen>⟧ in IfErr result (GivenBack d.tag (Some state.now) (d.layer self.now)) }
+        ensures failed { (olds news : List StorageState) → IfErr result (ImageCause olds news) }
+    {
+        check_commit(self.ready(), self.mode.writable, self.number, state.number)
+    }
+
+    // Why a resize that has something to do is refused.
+    pub(crate) fn resize_refusal(&self) -> Fault
+        ensures { result ≡ (if self.now.mode.writable then Fault.Unsupported else Fault.ReadOnly) }
+    {
+        if self.mode.writable {
+            Fault::Unsupported
+        } else {
+            Fault::ReadOnly
         }
     }
 }

@@ -7,7 +7,7 @@ ghost use Rattle.qcow2_metadata.specs.Loading.{file, NotLoaded};
 ghost use Rattle.qcow2_alloc.specs.Caches.{cached_in, HasRoomOf};
 ghost use Rattle.qcow2_alloc.specs.Opening.{IsL1Of};
 ghost use Rattle.qcow2_image.specs.Caching.{IsUnpinned};
-ghost use Rattle.qcow2_image.specs.Opening.{header_for_reading};
+ghost use Rattle.qcow2_image.specs.Opening.{header_for};
 ghost use Rattle.qcow2_image.specs.Steps.{IsFirstFault, Reloads, WhyNotReloaded};
 
 use crate::opening::{load_header, load_l1};
@@ -21,13 +21,13 @@ use std::alloc::Global;
 fn load_header_anew<S: Storage>(alloc: Global, image: &mut S) -> Result<Header, Fault>
     ensures loads { IfOk result (λ header. header_of false (file (S.state image.old)) ≡ Ok header) }
     ensures inside { IfOk result (λ header. has_external_data header.fields ≡ false) }
-    ensures err { IfErr result (NotLoaded (header_for_reading (file (S.state image.old))) (S.state image.old) (S.state image.new)) }
+    ensures err { IfErr result (NotLoaded (header_for false (file (S.state image.old))) (S.state image.old) (S.state image.new)) }
     ensures first { IfErr result (λ fault. fault ≢ DamagedTable) }
     ensures same { OnOk result (S.state image.new ≡ S.state image.old) }
     ensures kept { Kept (S.state image.old) (S.state image.new) }
 {
     match image.invalidate_cache() {
-        Ok(()) => load_header(alloc, image),
+        Ok(()) => load_header(alloc, image, false),
         Err(fault) => Err(fault),
     }
 }
@@ -53,7 +53,7 @@ fn load_anew<S: Storage>(
     ensures inside { IfOk result (λ r. has_external_data r.0.fields ≡ false) }
     ensures l1 { IfOk result (λ r. IsL1Of (file (S.state image.old)) r.0.fields r.1) }
     ensures err { IfErr result (WhyNotReloaded (file (S.state image.old)) opened.now (S.state image.old).faults (S.state image.new).faults) }
-    ensures known { header_of false (file (S.state image.old)) ≡ Ok opened.now → header_for_reading (file (S.state image.old)) ≡ Ok opened.now
+    ensures known { header_of false (file (S.state image.old)) ≡ Ok opened.now → header_for false (file (S.state image.old)) ≡ Ok opened.now
         → IfErr result (Cause (S.state image.old).faults (S.state image.new).faults) }
     ensures same { OnOk result (S.state image.new ≡ S.state image.old) }
     ensures kept { Kept (S.state image.old) (S.state image.new) }

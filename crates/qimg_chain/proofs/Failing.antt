@@ -18,7 +18,7 @@ use Rattle.imago_access.specs.declared.seen.Seen.{Ghosts}
 use Rattle.imago_formats.specs.Descriptor.{descriptor_of}
 use Rattle.imago_formats.proofs.SaidFaults.{never_storage}
 use Rattle.qcow2_types.specs.Bytes.{bytes_of}
-use Rattle.qcow2_image.specs.Opening.{header_for_reading}
+use Rattle.qcow2_image.specs.Opening.{header_for}
 use Rattle.qcow2_image.proofs.OpeningRules.{reading-refusal}
 use Rattle.qimg_core.specs.declared.plain.ChainFile.{ChainFile}
 use Rattle.qimg_chain.specs.FileLayers.{asked_of, said_of}
@@ -86,8 +86,7 @@ said_never : (format : Format) (writable : Bool) (bytes : List ℕ) → said_of 
 said_never Raw writable bytes said = cc said
 said_never Vmdk true bytes said = cc said
 said_never Vmdk false bytes said = asked_never (descriptor_of bytes) _ (never_storage bytes) said
-said_never Qcow2 true bytes said = cc said
-said_never Qcow2 false bytes said = asked_never (header_for_reading (bytes_of bytes)) _ (reading-refusal (bytes_of bytes) Storage) said
+said_never Qcow2 writable bytes said = asked_never (header_for writable (bytes_of bytes)) _ (reading-refusal writable (bytes_of bytes) Storage) said
 
 misplaced_never : {F : Type 0} (named : Bool) (below : List F) → misplaced named below ≡ Some Storage → ⊥
 misplaced_never true [] out = cc out

@@ -114,8 +114,8 @@ module _ (R : RattleType) (st : Ghosts R.Denot) (sd : mir.Syntax.Dict) (dd : mir
   qcow2_shown writable number before extras d opened =
       let image = (qcow2_seen.ghosts R st sd dd).image d in
       record {
-        size = opened.size_is ∙ sized d.backing (bytes_of image.bytes) (header_of false (bytes_of image.bytes)) ∙ ap (λ bytes. (qcow2_meaning unmapped bytes).size) opened.kept.0.bytes;
+        size = opened.size_is ∙ sized d.mode.backing (bytes_of image.bytes) (header_of false (bytes_of image.bytes)) ∙ ap (λ bytes. (qcow2_meaning unmapped bytes).size) opened.kept.0.bytes;
         cell = λ p below inside backed. ap (λ c. through c below) (sym (opened.meant.cell p inside))
-            ∙ qcow2_through d.backing image.bytes p below backed
+            ∙ qcow2_through d.mode.backing image.bytes p below backed
             ∙ ap (λ bytes. through ((qcow2_meaning unmapped bytes).cell p) below) opened.kept.0.bytes;
       }

@@ -9,9 +9,9 @@ use Rattle.qcow2_types.specs.Bytes.{Bytes, bytes_of}
 use Rattle.qcow2_types.specs.Consistency.{IsConsistent, tables_sound}
 use Rattle.qcow2_types.specs.Counts.{refcount_table_sound}
 use Rattle.qcow2_types.specs.Entries.{l1_table_sound}
-use Rattle.qcow2_types.specs.Header.{Header}
+use Rattle.qcow2_types.specs.Header.{Header, header_of}
 use Rattle.qcow2_types.proofs.Consistent.{header-reading}
-use Rattle.qcow2_image.specs.Opening.{header_for_reading}
+use Rattle.qcow2_image.specs.Opening.{header_for}
 use Rattle.qimg_core.specs.declared.plain.ChainFile.{ChainFile}
 use Rattle.qimg_chain.specs.Chains.{IsFit, IsSoundAs, OfTop}
 use Rattle.qimg_chain.specs.FileLayers.{IsLayer, asked_of}
@@ -31,18 +31,23 @@ alone writable file layer = (omega arith, omega arith, ((false, [], layer, refl)
 pub raw-fits : (file : ChainFile MemStorage) → file.format ≡ Raw → FormChain mem_state true (file ∷ []) × OfTop (IsFit mem_state) (file ∷ [])
 raw-fits file is = (alone true file (record { says = rw (is) refl; has = rw (is) refl }), fit file (rw (is) tt))
 
--- a consistent image opens for reading by its header
-reads : (f : Bytes) (h : Header) → IsConsistent f h → header_for_reading f ≡ Ok h
-unfolding header_for_reading tables_sound
-reads f h sound =
+-- a consistent image loads, for reading and for writing,
+loads : (writable : Bool) (f : Bytes) (h : Header) → IsConsistent f h → header_of writable f ≡ Ok h
+loads true f h sound = sound.readable.loads
+loads false f h sound = header-reading f h sound.readable.loads
+
+-- and opens by its header
+opens : (writable : Bool) (f : Bytes) (h : Header) → IsConsistent f h → header_for writable f ≡ Ok h
+unfolding header_for tables_sound
+opens writable f h sound =
     let tables = and_parts (l1_table_sound f h.fields && refcount_table_sound f h.fields) _ sound.readable.tables in
     let l1 : IsTrue (l1_table_sound f h.fields) = (and_parts (l1_table_sound f h.fields) (refcount_table_sound f h.fields) tables.0).0 in
-    rw (header-reading f h sound.readable.loads, sound.readable.data_inside, l1) refl
+    rw (loads writable f h sound, sound.readable.data_inside, l1) refl
 
-pub image-fits : (file : ChainFile MemStorage) (h : Header) → file.format ≡ Qcow2 → IsConsistent (bytes_of (mem_state file.image).bytes) h → h.backing_name ≡ None
-    → FormChain mem_state false (file ∷ []) × OfTop (IsFit mem_state) (file ∷ [])
-image-fits file h is sound none =
-    let opens = reads (bytes_of (mem_state file.image).bytes) h sound in (
-      alone false file (record { says = rw (is) (ap (asked_of (λ H. is_some H.backing_name)) opens ∙ ap (λ name. Ok (is_some name)) none); has = rw (is) refl }),
+pub image-fits : (writable : Bool) (file : ChainFile MemStorage) (h : Header) → file.format ≡ Qcow2 → IsConsistent (bytes_of (mem_state file.image).bytes) h → h.backing_name ≡ None
+    → FormChain mem_state writable (file ∷ []) × OfTop (IsFit mem_state) (file ∷ [])
+image-fits writable file h is sound none =
+    let said = opens writable (bytes_of (mem_state file.image).bytes) h sound in (
+      alone writable file (record { says = rw (is) (ap (asked_of (λ H. is_some H.backing_name)) said ∙ ap (λ name. Ok (is_some name)) none); has = rw (is) refl }),
       fit file (rw (is) (h, sound)),
     )

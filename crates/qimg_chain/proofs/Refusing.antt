@@ -1,16 +1,18 @@
 -- Why files aren't opened as layers.
 use Rattle.std.proofs.Common.{◌≡◌, ◌≤◌, ◌⊎◌, ◌∷◌, ℕ, List, ap, inl, inr, length, refl, sym}
-use Rattle.std.specs.Prelude.{◌↔◌, Bool, Err, IfErr, IsTrue, None, Ok, Result, Some, false, true}
+use Rattle.std.specs.Prelude.{◌↔◌, Bool, Err, IfErr, IsTrue, is_some, None, Ok, Result, Some, false, true}
 use Rattle.std.specs.declared.string.String.{String}
 use Rattle.std.specs.declared.alloc.Global.{Global}
 use Rattle.imago_storage.specs.State.{StorageState}
 use Rattle.imago_storage.specs.declared.fault.Fault.{Fault}
-use Rattle.imago_storage.specs.declared.fault.Fault.TheVariants.{ExtraLayer}
+use Rattle.imago_storage.specs.declared.fault.Fault.TheVariants.{ExtraLayer, Memory, Storage}
 use Rattle.imago_access.specs.Layer.{Cell, own, unmapped}
-use Rattle.imago_access.specs.declared.format.Format.TheVariants.{Vmdk}
+use Rattle.imago_access.specs.declared.format.Format.TheVariants.{Qcow2, Vmdk}
 use Rattle.imago_formats.specs.Descriptor.{descriptor_of}
 use Rattle.imago_formats.specs.VmdkOpening.{NotBuilt, Unread}
 use Rattle.imago_formats.specs.declared.vmdk.descriptor.Extent.{Extent}
+use Rattle.qcow2_types.specs.Bytes.{bytes_of}
+use Rattle.qcow2_image.specs.Opening.{WhyNotOpened}
 use Rattle.qimg_core.specs.declared.plain.ChainFile.{ChainFile}
 use Rattle.qimg_chain.specs.FileLayers.{IsLayer, WhyNotAs, asked_of, is_unmapped, said_of}
 use Rattle.qimg_chain.specs.Refusals.{FirstCause, IsCutOff, WhyNotLayers, misplaced}
@@ -75,3 +77,11 @@ upper_misplaced named next below names = rw names refl
 
 pub upper_placed : {F : Type 0} (named : Bool) (next : F) (below : List F) → named ≡ true → misplaced named (next ∷ below) ≡ None
 upper_placed named next below names = rw names refl
+
+-- ---- Why a qcow2 image is refused.
+
+pub qcow2_refused : {S : Type 0} (state : S → StorageState) (writable : Bool) (image : StorageState) (handed : List (String Global × S)) (e : Fault)
+    → WhyNotOpened state writable (bytes_of image.bytes) e → IsCutOff state e ⊎ WhyNotAs state Qcow2 writable image handed e
+qcow2_refused state writable image handed Memory why = inl (inl refl)
+qcow2_refused state writable image handed Storage why = inl (inr (refl, why))
+qcow2_refused state writable image handed e why = inr (inl (ap (asked_of (λ H. is_some H.backing_name)) why))

@@ -10,7 +10,7 @@ use Rattle.imago_access.specs.declared.format.Format.{Format}
 use Rattle.imago_access.specs.declared.format.Format.TheVariants.{Qcow2, Raw, Vmdk}
 use Rattle.imago_formats.specs.Descriptor.{descriptor_of}
 use Rattle.qcow2_types.specs.Bytes.{bytes_of}
-use Rattle.qcow2_image.specs.Opening.{header_for_reading}
+use Rattle.qcow2_image.specs.Opening.{header_for}
 use Rattle.qimg_core.specs.declared.plain.ChainFile.{ChainFile}
 use Rattle.qimg_chain.specs.FurtherFiles.{HasFurther, WhyNotFurther}
 
@@ -19,14 +19,13 @@ abbrev pub asked_of : {A : Type 0} → (A → Bool) → Result A Fault → Resul
 asked_of asks (Ok x) = Ok (asks x)
 asked_of asks (Err fault) = Err fault
 
--- What a file's own bytes say of it as a layer: whether it names a layer below, or why it isn't opened. Only raw images are opened for
+-- What a file's own bytes say of it as a layer: whether it names a layer below, or why it isn't opened. VMDK images aren't opened for
 -- writing, and only qcow2 images name a layer below.
 abbrev pub said_of : Format → Bool → List ℕ → Result Bool Fault
 said_of Raw writable bytes = Ok false
 said_of Vmdk true bytes = Err Unsupported
 said_of Vmdk false bytes = asked_of (λ _. false) (descriptor_of bytes)
-said_of Qcow2 true bytes = Err Unsupported
-said_of Qcow2 false bytes = asked_of (λ H. is_some H.backing_name) (header_for_reading (bytes_of bytes))
+said_of Qcow2 writable bytes = asked_of (λ H. is_some H.backing_name) (header_for writable (bytes_of bytes))
 
 -- the same, as a layer shows it: what it gives up is what the layer below shows
 abbrev pub is_unmapped : Cell → Bool

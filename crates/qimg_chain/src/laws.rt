@@ -46,9 +46,9 @@ pub fn a_raw_file_may_be_written()
         → FormChain mem_state true (file ∷ []) × OfTop (IsFit mem_state) (file ∷ []) }
 {}
 
-/// So is a consistent qcow2 image that names no backing file, for reading. One is `qcow2_types::worked_image`.
-pub fn a_consistent_image_may_be_read()
-    ensures { (file : ChainFile MemStorage) (h : Header) → file.format ≡ Qcow2
+/// So is a consistent qcow2 image that names no backing file, for reading and for writing. One is `qcow2_types::worked_image`.
+pub fn a_consistent_image_may_be_written()
+    ensures { (writable : Bool) (file : ChainFile MemStorage) (h : Header) → file.format ≡ Qcow2
         → IsConsistent (bytes_of (mem_state file.image).bytes) h → h.backing_name ≡ None
-        → FormChain mem_state false (file ∷ []) × OfTop (IsFit mem_state) (file ∷ []) }
+        → FormChain mem_state writable (file ∷ []) × OfTop (IsFit mem_state) (file ∷ []) }
 {}

@@ -6,6 +6,7 @@ ghost use Rattle.std.proofs.lemmas.Nat.{pow_pos};
 ghost use Rattle.imago_access.specs.PreparingCalls.{Commits, CommitRefused, Cancels};
 ghost use Rattle.imago_formats.specs.RawHome as raw_home;
 ghost use Rattle.imago_formats.specs.VmdkLaws as vmdk_laws;
+ghost use Rattle.qcow2_image.specs.Homes as qcow2_homes;
 ghost use Rattle.qcow2_image.specs.ImageLayer as qcow2_layers;
 ghost use Rattle.qcow2_image.specs.Rooms as qcow2_rooms;
 ghost use Rattle.qimg_chain.specs.declared.chain.image_driver.ImageDriver.TheVariants as variant;
@@ -46,19 +47,19 @@ impl<S: Storage> FormatDriverInstance for ImageDriver<S> {
       | variant.Vmdk d ↦ λ safe.
           let cover = vmdk_laws.covered d.disk.extents.items (S.state d.image) (map S.state d.files.items) safe.2 in
           record { is_sound = tt; size = cover.size }
-      | variant.Qcow2 d ↦ λ safe. qcow2_rooms.covered S.Storage.own d.tables d.backing d.failed d.number safe
+      | variant.Qcow2 d ↦ λ safe. qcow2_rooms.covered S.Storage.own d.tables d.mode d.failed d.number safe
     ] };
 
     ghost one_home = { elim [
       | variant.Raw d ↦ λ p q at safe. raw_home.one_home d.size d.writable p q at
       | variant.Vmdk d ↦ λ p q at safe. vmdk_laws.no_home p q at
-      | variant.Qcow2 d ↦ λ p q at safe first second. absurd (Prim.cc first)
+      | variant.Qcow2 d ↦ λ p q at safe. qcow2_homes.one_home S.Storage.own d.tables d.mode p q at safe
     ] };
 
     ghost blanks = { elim [
       | variant.Raw d ↦ inr refl
       | variant.Vmdk d ↦ inr refl
-      | variant.Qcow2 d ↦ qcow2_layers.blanks d.backing
+      | variant.Qcow2 d ↦ qcow2_layers.blanks d.mode.backing
     ] };
 
     ghost aligned = { elim [
@@ -70,7 +71,7 @@ impl<S: Storage> FormatDriverInstance for ImageDriver<S> {
     ghost of_storages = { elim [
       | variant.Raw d ↦ record { requests = refl; memory = refl; keeps = refl; zeroing = refl }
       | variant.Vmdk d ↦ record { requests = refl; memory = refl; keeps = refl; zeroing = refl }
-      | variant.Qcow2 d ↦ qcow2_rooms.of_storages S.Storage.own d.tables d.backing d.failed d.number
+      | variant.Qcow2 d ↦ qcow2_rooms.of_storages S.Storage.own d.tables d.mode d.failed d.number
     ] };
 
     ghost marked = { elim [
@@ -94,7 +95,7 @@ impl<S: Storage> FormatDriverInstance for ImageDriver<S> {
     ghost begins = { elim [
       | variant.Raw d ↦ λ call. tt
       | variant.Vmdk d ↦ λ call. tt
-      | variant.Qcow2 d ↦ λ call. tt
+      | variant.Qcow2 d ↦ λ call safe. (safe, λ p. refl)
     ] };
 
     ghost free_loose = { elim [
@@ -112,7 +113,8 @@ impl<S: Storage> FormatDriverInstance for ImageDriver<S> {
     ghost rooms = { elim [
       | variant.Raw d ↦ λ p free states. raw_home.never states
       | variant.Vmdk d ↦ λ p free states. raw_home.never states
-      | variant.Qcow2 d ↦ λ p free states. record { homeless = λ given. refl; housed = λ some. absurd (Prim.cc some) }
+      | variant.Qcow2 d ↦ λ p free states.
+          record { homeless = qcow2_homes.homeless d.mode.writable _ _ p; housed = qcow2_homes.housed d.mode.writable _ _ p }
     ] };
 
     fn image_file(&self) -> &S {

@@ -1,7 +1,8 @@
-use Rattle.std.proofs.Common.{subst}
+use Rattle.std.proofs.Common.{◌≡◌, subst, sym, false, Ok}
 use Rattle.imago_storage.specs.State.{StorageState}
+use Rattle.qcow2_types.specs.Header.{header_of}
 use Rattle.qcow2_metadata.specs.Loading.{file, NotLoaded}
-use Rattle.qcow2_image.specs.Opening.{header_for_reading}
+use Rattle.qcow2_image.specs.Opening.{header_for}
 use Rattle.qcow2_image.proofs.Anew.{header-why, first-why}
 use Rattle.qcow2_image.proofs.reloading.load_anew.Goals as goal
 
@@ -14,5 +15,6 @@ pub returns-in-Err-load_l1-clause-err : goal.returns-in-Err-load_l1-clause-err
 returns-in-Err-load_l1-clause-err g c =
     let old = g.S.Storage.state c.args.image.now in
     let new = g.S.Storage.state c.load_l1.new.image in
-    let why = subst (λ (s : StorageState). NotLoaded (header_for_reading (file s)) s new c.in-Err-load_l1.fault) c.in-Ok.ensures.same c.in-Err-load_l1.ensures.err in
+    let why = subst (λ (s : StorageState). NotLoaded (header_for false (file s)) s new c.in-Err-load_l1.fault) c.in-Ok.ensures.same
+    (c.in-Err-load_l1.ensures.err false (subst (λ (s : StorageState). header_of false (file s) ≡ Ok c.in-Ok.header) (sym c.in-Ok.ensures.same) c.in-Ok.ensures.loads)) in
     first-why (file old) c.args.opened.now c.in-Ok.header old new c.in-Err-load_l1.fault c.first_fault.result c.in-Ok.ensures.loads c.first_fault.ensures why

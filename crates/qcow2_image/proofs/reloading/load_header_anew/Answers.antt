@@ -4,7 +4,7 @@ use Rattle.imago_storage.specs.State.{StorageState}
 use Rattle.imago_storage.specs.Calls.{Kept}
 use Rattle.qcow2_types.specs.Header.{header_of}
 use Rattle.qcow2_metadata.specs.Loading.{file, NotLoaded}
-use Rattle.qcow2_image.specs.Opening.{header_for_reading}
+use Rattle.qcow2_image.specs.Opening.{header_for}
 use Rattle.qcow2_image.proofs.Anew.{same-state, refused-why}
 use Rattle.qcow2_image.proofs.reloading.load_header_anew.Goals as goal
 
@@ -18,7 +18,7 @@ pub returns-in-Ok-clause-err : goal.returns-in-Ok-clause-err
 returns-in-Ok-clause-err g c =
     let old = g.S.Storage.state c.args.image.now in
     let same = same-state old _ c.invalidate_cache.ensures.kept c.in-Ok.ensures.faults in
-    subst (λ s. IfErr c.load_header.result (NotLoaded (header_for_reading (file s)) s (g.S.Storage.state c.load_header.new.image))) same c.load_header.ensures.err
+    subst (λ s. IfErr c.load_header.result (NotLoaded (header_for false (file s)) s (g.S.Storage.state c.load_header.new.image))) same c.load_header.ensures.err
 
 pub returns-in-Ok-clause-same : goal.returns-in-Ok-clause-same
 returns-in-Ok-clause-same g c =
@@ -35,4 +35,4 @@ returns-in-Ok-clause-kept g c =
 pub returns-in-Err-clause-err : goal.returns-in-Err-clause-err
 returns-in-Err-clause-err g c =
     let old = g.S.Storage.state c.args.image.now in
-    refused-why (header_for_reading (file old)) old (g.S.Storage.state c.invalidate_cache.new.self) c.in-Err.fault c.in-Err.ensures.faults
+    refused-why (header_for false (file old)) old (g.S.Storage.state c.invalidate_cache.new.self) c.in-Err.fault c.in-Err.ensures.faults

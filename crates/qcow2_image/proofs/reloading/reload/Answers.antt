@@ -1,4 +1,4 @@
-use Rattle.std.proofs.Common.{rules, ◌≡◌, refl, arith, ap}
+use Rattle.std.proofs.Common.{false, rules, ◌≡◌, refl, arith, ap}
 use Rattle.imago_storage.specs.State.{StorageState}
 use Rattle.qcow2_metadata.specs.Loading.{file}
 use Rattle.qcow2_image.proofs.Anew.{updating-why, never-differs}
@@ -18,7 +18,7 @@ returns-in-Err g c =
       same = search rules;
       left = search rules;
       cause = c.in-Err.ensures.err;
-      known = λ seen. c.in-Err.ensures.known seen.loads (none-refused (file old) c.args.tables.now.file.header seen.loads seen.inside seen.l1.sound);
+      known = λ seen. c.in-Err.ensures.known seen.loads (none-refused false (file old) c.args.tables.now.file.header seen.loads seen.inside seen.l1.sound);
     }
 
 pub returns : goal.returns

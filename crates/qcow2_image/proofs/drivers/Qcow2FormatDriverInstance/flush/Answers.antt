@@ -12,4 +12,4 @@ returns-clause-written g c = λ safe free.
     let is = c.settle.ensures.marks in
     let state : g.S.Storage.state d.tables.file.image ≡ g.S.Storage.state c.flush-answer.new.self = ap (λ (x : Qcow2 g.row.S.Denot g.S.Storage). g.S.Storage.state x.tables.file.image) is in
     let seen = seen-same g.S.Storage q.tables d.tables (subst (Kept s) (sym state) c.flush-answer.ensures.kept) (subst (Later s) (sym state) c.flush-answer.ensures.later) (ap (λ (x : Qcow2 g.row.S.Denot g.S.Storage). x.tables.file.header) is) (ap (λ (x : Qcow2 g.row.S.Denot g.S.Storage). x.tables.l1) is) (ap (λ (x : Qcow2 g.row.S.Denot g.S.Storage). x.tables.caches) is) safe.seen in
-    on-ok c.settle.result _ (meant g.S.Storage d.tables d.backing d.failed d.number seen)
+    on-ok c.settle.result _ (meant g.S.Storage d.tables d.mode d.failed d.number seen)

@@ -5,6 +5,7 @@ use Rattle.qcow2_types.specs.Header.{header_of}
 use Rattle.qimg_chain.specs.FileMeanings.{extra_bytes}
 use Rattle.qimg_chain.specs.FilesByName.{qcow2_through, sized}
 use Rattle.qimg_chain.proofs.FilesShown.{qcow2_shown}
+use Rattle.qimg_chain.proofs.Refusing.{qcow2_refused}
 use Rattle.qimg_chain.proofs.chain.opening.open_qcow2.Goals as goal
 
 pub returns-in-Ok-clause-means : goal.returns-in-Ok-clause-means
@@ -14,4 +15,9 @@ pub returns-in-Ok-clause-named : goal.returns-in-Ok-clause-named
 returns-in-Ok-clause-named g c =
     let d = c.in-Ok.qcow2 in
     let bytes = (g.S.Storage.state d.tables.file.image).bytes in
-    record { size = sized d.backing (bytes_of bytes) (header_of false (bytes_of bytes)); cell = qcow2_through d.backing bytes }
+    record { size = sized d.mode.backing (bytes_of bytes) (header_of false (bytes_of bytes)); cell = qcow2_through d.mode.backing bytes }
+
+pub returns-in-Err-clause-err : goal.returns-in-Err-clause-err
+returns-in-Err-clause-err g c =
+    let why = rw (c.write-builder.ensures.made, c.number.ensures, c.builder.ensures.base) at c.in-Err.ensures.err in
+    qcow2_refused g.S.Storage.state c.args.writable (g.S.Storage.state c.args.image) c.args.extras.now.files.items c.in-Err.fault why

@@ -1,0 +1,185 @@
+-- What a preparation leaves that only looks where a run can be written.
+use Rattle.std.proofs.Common.{◌≡◌, ◌≢◌, ℕ, ◌+◌, ◌-◌, ◌*◌, ◌/◌, ◌%◌, ◌<◌, ◌≤◌, refl, arith, ap, sym, subst, ◌∙◌, inl, inr, Bool, false, true, List, [], ◌∷◌, Option, Some, None, Result, Ok, Err}
+use Rattle.std.specs.Prelude.{⊤, ◌⊎◌, ◌++◌, min, ltb, IfErr}
+use Rattle.std.specs.Borrow.{RattleType}
+use Rattle.std.proofs.lemmas.Bool.{cases_eq, cases_lt, lt-ltb}
+use Rattle.std.proofs.lemmas.Nat.{div-add-mod', pow_pos}
+use Rattle.std.proofs.Math.Nat.{mul-le-mul_right}
+use Rattle.imago_storage.specs.State.{StorageState}
+use Rattle.imago_storage.specs.Disk.{byte, damaged_place}
+use Rattle.imago_storage.specs.Steps.{Call}
+use Rattle.imago_storage.specs.declared.fault.Fault.{Fault}
+use Rattle.imago_storage.specs.declared.fault.Fault.TheVariants.{DamagedTable, Failed, MissingData, Memory, Storage, Limit}
+use Rattle.imago_storage.specs.declared.storage.Storage.{Ghosts}
+use Rattle.imago_access.specs.declared.seen.Seen.{Ghosts as SeenGhosts}
+use Rattle.imago_access.specs.declared.seen.SeenBelow.{Ghosts as GhostsBelow}
+use Rattle.imago_access.specs.declared.mapping.PreparedDataMapping.{PreparedDataMapping}
+use Rattle.imago_access.specs.Changes.{Asked}
+use Rattle.imago_access.specs.Files.{ImageCause, IsMild, SomeRose, WasNotCutOff, files}
+use Rattle.imago_access.specs.Going.{Looked, Went}
+use Rattle.imago_access.specs.Layer.{Cell, Layer, own, unmapped}
+use Rattle.imago_access.specs.Mappings.{IsMappedRun}
+use Rattle.imago_access.specs.Parts.{IsPartOf, IsUncutPart, PartCause, announces}
+use Rattle.imago_access.specs.PreparingCalls.{Prepares}
+use Rattle.imago_access.specs.Refusals.{LookCause, barrier}
+use Rattle.imago_access.specs.Room.{IsUncutAt, IsWholeUnit}
+use Rattle.imago_access.proofs.ImageCauses.{failed_left}
+use Rattle.imago_access.proofs.Marking.{over_plain}
+use Rattle.qcow2_types.specs.Bytes.{Bytes, bytes_of}
+use Rattle.qcow2_types.specs.Header.{Fields, Header, cluster_size, words_of_cluster}
+use Rattle.qcow2_types.specs.Words.{Mapping, data_at, zeroes, packed, damaged, is_damaged}
+use Rattle.qcow2_types.specs.Words as words
+use Rattle.qcow2_types.specs.Entries.{entry, l2_table}
+use Rattle.qcow2_types.specs.Consistency.{IsConsistent}
+use Rattle.qcow2_types.specs.Slots.{Live, SoundWords, slot}
+use Rattle.qcow2_types.proofs.Consistent.{some-words, consistent-shaped}
+use Rattle.qcow2_types.proofs.Shows.{guest-slot-there, guest-slot-none, guest-live}
+use Rattle.qcow2_types.proofs.Sound.{sound-words}
+use Rattle.qcow2_types.proofs.Values.{entry-slot}
+use Rattle.qcow2_image.specs.contracts.qcow2.Qcow2Seen.TheImpl.{ghosts}
+use Rattle.qcow2_image.specs.declared.qcow2.Qcow2.{Qcow2}
+use Rattle.qcow2_image.specs.declared.qcow2.PreparedMappingState.{PreparedMappingState}
+use Rattle.qcow2_image.specs.Homes.{memory_is}
+use Rattle.qcow2_image.specs.ImageLayer.{blank_of, blanks, cell_by}
+use Rattle.qcow2_image.specs.Looking.{IsWholeRun, IsWholeRunIn}
+use Rattle.qcow2_image.specs.Rooms.{IsSafe}
+use Rattle.qcow2_image.specs.Seen.{IsSeen, file_of}
+use Rattle.qcow2_image.specs.Steps.{KeepsImage}
+use Rattle.qcow2_image.specs.Writing.{IsHomeAt, WhyUnwritten, layer_of}
+use Rattle.qcow2_image.proofs.Steps.{began-kept, looked-kept, marks-kept, takes-kept}
+
+-- No guest cluster of a consistent image is damaged,
+never-damaged : (f : Bytes) (H : Header) → IsConsistent f H → (g : ℕ) → entry f H.fields g ≢ damaged
+never-damaged f H was g is = elim (cases_eq (l2_table f H.fields (g / words_of_cluster H.fields)) 0) [
+  | inl none ↦
+      let bad : words.unmapped ≡ damaged = sym (guest-slot-none f H.fields g none) ∙ (sym (entry-slot f H.fields g was.readable.tables) ∙ is) in
+      absurd (cc bad)
+  | inr there ↦
+      let live = guest-live f H.fields g (some-words H.fields (consistent-shaped f H was)) there in
+      let sound = (sound-words f H.fields was.readable.tables).slots (g / words_of_cluster H.fields) (g % words_of_cluster H.fields) live in
+      let bad = sym (guest-slot-there f H.fields g there) ∙ (sym (entry-slot f H.fields g was.readable.tables) ∙ is) in
+      absurd (cc (sym (ap is_damaged bad) ∙ sound))
+]
+
+damaged-by : (blank : Cell) → (blank ≡ unmapped) ⊎ (blank ≡ own (byte 0)) → (f : Bytes) (h : Fields) (p : ℕ) (m : Mapping) → cell_by blank f h p m ≡ own damaged_place → m ≡ damaged
+damaged-by blank which f h p damaged is = refl
+damaged-by blank which f h p (data_at c x) is = absurd (cc is)
+damaged-by blank which f h p (zeroes c x) is = absurd (cc is)
+damaged-by blank which f h p (packed o n) is = absurd (cc is)
+damaged-by blank which f h p words.unmapped is = elim which [
+  | inl none ↦ absurd (cc (sym none ∙ is))
+  | inr zero ↦ absurd (cc (sym zero ∙ is))
+]
+
+-- so that no place of a safe one is.
+pub safe-undamaged : {S : Type 0} (g : Ghosts S) (d : Qcow2 S g) → IsSafe g d.tables d.failed → (p : ℕ) → p < (layer_of g d).size → (layer_of g d).cell p ≢ own damaged_place
+safe-undamaged g d safe p inside is =
+    let h = d.tables.file.header.fields in
+    let here : cell_by (blank_of d.mode.backing) (file_of g d.tables) h p (entry (file_of g d.tables) h (p / cluster_size h)) ≡ own damaged_place =
+    subst (λ m. cell_by (blank_of d.mode.backing) (file_of g d.tables) h p (entry m h (p / cluster_size h)) ≡ own damaged_place) (memory_is g d.tables)
+    (rw (lt-ltb p h.size inside) at is) in
+    never-damaged (file_of g d.tables) d.tables.file.header safe.consistent (p / cluster_size h)
+    (damaged-by (blank_of d.mode.backing) (blanks d.mode.backing) (file_of g d.tables) h p _ here)
+
+-- A run of whole clusters cuts none that the range covers.
+pub uncut-run : (h : Fields) (mapped : ℕ → Mapping) (offset asked n : ℕ) → offset < h.size → offset + n ≤ h.size → IsWholeRun h mapped offset asked n
+    → IsUncutAt (cluster_size h) h.size offset asked (offset + n)
+uncut-run h mapped offset asked n low inside is u unit = elim is.ends [
+  | inl all ↦ inr (omega (arith, all, unit.end, low))
+  | inr cut ↦
+      let c : ℕ = cluster_size h in
+      let k : ℕ = (offset + n) / c in
+      let place : offset + n ≡ k * c = omega (arith, div-add-mod' (offset + n) c, cut.cluster) in
+      elim (cases_lt u k) [
+        | inl more ↦
+            let le : (u + 1) * c ≤ k * c = mul-le-mul_right c (omega (arith, more)) in
+            let product : (u + 1) * c ≡ u * c + c = omega arith in
+            inr (omega (arith, le, product, place))
+        | inr less ↦ let le : k * c ≤ u * c = mul-le-mul_right c less in inl (omega (arith, le, place))
+      ]
+]
+
+module _ (R : RattleType) (st : Ghosts R.Denot) (sd : mir.Syntax.Dict) (dd : mir.Syntax.Dict) (old new : Qcow2 R.Denot st) where
+  abbrev sees : SeenGhosts (Qcow2 R.Denot st) PreparedMappingState
+  sees = ghosts R st sd dd
+
+  pub went-kept : {T : Type 0} (r : Result T Fault) → KeepsImage st old r new → (ok whole : Type 0) → (ok → WasNotCutOff r) → (whole → WasNotCutOff r)
+      → Went sees ok whole old new
+  went-kept {T} r k ok whole from-ok from-whole =
+      let looked = looked-kept R st sd dd {T = T} old new r k in record {
+        fixed = looked.like.fixed;
+        failed = looked.like.failed;
+        later = looked.later;
+        faults = λ w. looked.faults (from-ok w);
+        safely = λ w. looked.safely (from-whole w);
+        lasting = looked.lasting;
+      }
+
+  module _ {B : Type 0} (u : GhostsBelow B) (x : B) (asked : Asked) where
+    -- why it is refused, in the words of the driver, where it was in those of a lookup,
+    pub part-why : (e : Fault) → old.failed ≡ false → LookCause (layer_of st old) asked.offset asked.length (files sees old) (files sees new) e → IsSafe st old.tables old.failed → (d : Qcow2 R.Denot st) (call : Call)
+        → PartCause (u.under x) (layer_of st old) asked.offset asked.length (sees.own_cause d (u.under x) call) (files sees old ++ u.files_under x) (files sees new ++ u.files_under x) e
+    part-why DamagedTable runs why safe d call = absurd (safe-undamaged st old safe (asked.offset + why.0) why.2 why.3)
+    part-why Failed runs why safe d call = inl why
+    part-why MissingData runs why safe d call = inl why
+    part-why Memory runs why safe d call = tt
+    part-why Storage runs why safe d call = elim why [
+      | inl rose ↦ inl rose
+      | inr none ↦ absurd none
+    ]
+    part-why e runs why safe d call = absurd why
+
+    -- and where the first place can't be written.
+    pub part-nowhere : (layer_of st old).home asked.offset ≡ None → 0 < asked.length → (d : Qcow2 R.Denot st) (call : Call) → sees.began d call old → IsUncutPart (layer_of st old) call asked.offset asked.length
+        → PartCause (u.under x) (layer_of st old) asked.offset asked.length (sees.own_cause d (u.under x) call) (files sees old ++ u.files_under x) (files sees new ++ u.files_under x) (Limit asked.offset)
+    part-nowhere none some d call begun part = λ safe.
+        ((part.part.start, omega (arith, some, part.part.end)), sym ((begun safe).1 asked.offset) ∙ none)
+
+    pub prepares-refused : (e : Fault) → KeepsImage {T = Option (ℕ × ℕ)} st old (Err e) new → ImageCause (files sees old) (files sees new) e
+        → (IsSafe st old.tables old.failed → u.sees_under x → (d : Qcow2 R.Denot st) (call : Call) → sees.began d call old
+        → IsUncutPart (layer_of st old) call asked.offset asked.length → asked.overwrite ≡ announces call
+        → PartCause (u.under x) (layer_of st old) asked.offset asked.length (sees.own_cause d (u.under x) call) (files sees old ++ u.files_under x) (files sees new ++ u.files_under x) e)
+        → Prepares sees u asked (Err e) (old, x) (new, x)
+    prepares-refused e k failed why =
+        let looked = looked-kept R st sd dd {T = Option (ℕ × ℕ)} old new (Err e) k in record {
+          ok = λ safe under. tt;
+          err = λ safe under mild. record { like = looked.like; cell = ap (λ (l : Layer). l.cell) (looked.stays mild safe.seen).0; held = refl };
+          uncut = λ safe under. tt;
+          near = λ safe under. tt;
+          room = λ safe under whole. takes-kept R st sd dd {T = Option (ℕ × ℕ)} old new (Err e) k;
+          stops = λ safe under. looked.stops safe (u.under x);
+          went = went-kept {T = Option (ℕ × ℕ)} (Err e) k (IsMild e) (IsMild e × u.sees_under x) (λ w. w) (λ w. w.0);
+          began = λ d call begun part whole. began-kept R st sd dd {T = Option (ℕ × ℕ)} old new (Err e) k whole d call begun;
+          refused = record {
+            failed = failed_left (files sees old) (files sees new) (u.files_under x) (u.files_under x) e failed;
+            marks = over_plain sees old new e (marks-kept R st sd dd {T = Option (ℕ × ℕ)} old new (Err e) k);
+            cause = why;
+          };
+        }
+
+    pub prepares-mapped : (place n : ℕ) → KeepsImage {T = Option (ℕ × ℕ)} st old (Ok (Some (place, n))) new → asked.offset + asked.length ≤ (layer_of st old).size → 0 < asked.length
+        → IsMappedRun (layer_of st old) asked.offset asked.length n → (IsSeen st old.tables → IsHomeAt (layer_of st old) asked.offset place n)
+        → (IsSeen st old.tables → IsWholeRunIn st old.tables asked.offset asked.length n)
+        → Prepares sees u asked (Ok (record { storage = 0; offset = place; length = n; state = None })) (old, x) (new, x)
+    prepares-mapped place n k inside some run home whole =
+        let looked = looked-kept R st sd dd {T = Option (ℕ × ℕ)} old new (Ok (Some (place, n))) k in record {
+          ok = λ safe under.
+              let same = (looked.stays tt safe.seen).0 in record {
+                fixed = ap (λ (l : Layer). l.fixed) same;
+                size = ap (λ (l : Layer). l.size) same;
+                cell = ap (λ (l : Layer). l.cell) same;
+                home = λ i lt. ap (λ (l : Layer). l.home (asked.offset + i)) same ∙ home safe.seen i lt;
+                unspent = refl;
+                holds = λ p. tt;
+                some_held = λ c is. absurd (cc is);
+              };
+          err = λ safe under. tt;
+          uncut = λ safe under. uncut-run old.tables.file.header.fields (entry (file_of st old.tables) old.tables.file.header.fields) asked.offset asked.length n
+              (omega (arith, inside, some)) (run.2 some) (whole safe.seen);
+          near = λ safe under p apart. refl;
+          room = λ safe under done. takes-kept R st sd dd {T = Option (ℕ × ℕ)} old new (Ok (Some (place, n))) k;
+          stops = λ safe under. looked.stops safe (u.under x);
+          went = went-kept {T = Option (ℕ × ℕ)} (Ok (Some (place, n))) k ⊤ (⊤ × u.sees_under x) (λ w. w) (λ w. w.0);
+          began = λ d call begun part done. began-kept R st sd dd {T = Option (ℕ × ℕ)} old new (Ok (Some (place, n))) k tt d call begun;
+          refused = record { failed = tt; marks = tt; cause = λ safe under d call begun part same. tt };
+        }

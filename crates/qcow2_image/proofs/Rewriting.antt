@@ -1,0 +1,182 @@
+-- What a write into data clusters, in place, leaves of a consistent image.
+use Rattle.std.proofs.Common.{refl, arith, ap, sym, ◌∙◌, inl, inr}
+use Rattle.std.specs.Prelude.{◌≡◌, ◌≢◌, ℕ, zero, suc, ◌+◌, ◌-◌, ◌*◌, ◌/◌, ◌%◌, ◌<◌, ◌≤◌, Bool, true, false, Option, Some, None, ◌⊎◌}
+use Rattle.std.proofs.lemmas.Bool.{cases_eq, cases_lt}
+use Rattle.std.proofs.lemmas.Nat.{div-mul-add, mod-mul-add, div-add-mod', mod_below, pow_pos, le-div}
+use Rattle.std.proofs.Math.Nat.{div-mul-le_self, lt-div-mul-add, mul-le-mul_right}
+use Rattle.imago_storage.specs.Disk.{byte}
+use Rattle.imago_storage.specs.Steps.{IsOut}
+use Rattle.imago_access.specs.Layer.{Cell, own}
+use Rattle.qcow2_types.specs.Bytes.{Bytes, word, all_below}
+use Rattle.qcow2_types.specs.Words.{Mapping, unmapped, data_at, zeroes, packed, damaged, l1_word_sound}
+use Rattle.qcow2_types.specs.Header.{Fields, Header, cluster_size, words_of_cluster}
+use Rattle.qcow2_types.specs.Entries.{entry, l2_table, l1_table_sound}
+use Rattle.qcow2_types.specs.Counts.{block_at}
+use Rattle.qcow2_types.specs.References.{structure, contents, of_mapping, of_copied, meets, refs}
+use Rattle.qcow2_types.specs.Consistency.{IsConsistent}
+use Rattle.qcow2_types.specs.Slots.{slot, Live}
+use Rattle.qcow2_types.specs.Frames.{Outside, Kept, nothing}
+use Rattle.qcow2_types.proofs.Consistent.{some-words, meets-own, consistent-shaped}
+use Rattle.qcow2_types.proofs.Slots.{contents-slots}
+use Rattle.qcow2_types.proofs.Frames.{word-same}
+use Rattle.qcow2_types.proofs.Shows.{guest-slot-there, guest-slot-none, guest-live, guest-kept, entries-same}
+use Rattle.qcow2_types.proofs.Values.{entry-slot}
+use Rattle.qcow2_types.proofs.DataWrites.{slots-two}
+use Rattle.qcow2_types.proofs.DataSteps.{marked-named-once, marked-apart-from-structure, untouched-keeps, untouched-consistent, run-written}
+use Rattle.qcow2_metadata.specs.Tables.{words_in}
+use Rattle.qcow2_metadata.proofs.TableFacts.{words_same}
+use Rattle.qcow2_image.specs.ImageLayer.{cell_by, home_by}
+use Rattle.qcow2_image.specs.Homes.{mapped, place_in, home-of, cluster-there, data-apart-from-structure, one-place}
+
+module _ (f : Bytes) (H : Header) (was : IsConsistent f H) where
+  abbrev h : Fields
+  h = H.fields
+
+  abbrev per_table : ℕ
+  per_table = words_of_cluster h
+
+  -- A write of n bytes at a place of the file, where each of n places of the disk is written.
+  module _ (guest place n : ℕ) (each : (i : ℕ) → i < n → home_by h (guest + i) (mapped f h (guest + i)) ≡ Some (0, place + i))
+      (x : Bytes) (out : Outside f x place n) where
+    -- The cluster that a byte of it lies in holds no table, block or header.
+    apart-at : (i : ℕ) → i < n → structure f h (meets h ((place + i) / cluster_size h)) ≡ 0
+    apart-at i lt =
+        let found = home-of h (guest + i) (place + i) (mapped f h (guest + i)) (each i lt) in
+        let cluster : (place + i) / cluster_size h ≡ found.0 = cluster-there h (place + i) found.0 (guest + i) found.2 in
+        ap (λ c. structure f h (meets h c)) cluster ∙ data-apart-from-structure f H was ((guest + i) / cluster_size h) found.0 found.1
+
+    -- Nor does a cluster from its first to its last: a byte of it lies in each.
+    apart-in : 0 < n → (d : ℕ) → place / cluster_size h ≤ d → d ≤ (place + (n - 1)) / cluster_size h
+        → structure f h (meets h d) ≡ 0
+    apart-in some d from upto = elim (cases_eq (place / cluster_size h) d) [
+      | inl first ↦ ap free (sym first ∙ ap (λ p. p / cluster_size h) (omega arith)) ∙ apart-at 0 some
+      | inr later ↦
+          let more : place / cluster_size h + 1 ≤ d = omega (arith, later, from) in
+          let next : (place / cluster_size h + 1) * cluster_size h ≤ d * cluster_size h = mul-le-mul_right (cluster_size h) more in
+          let low : place < place / cluster_size h * cluster_size h + cluster_size h = lt-div-mul-add (pow_pos h.cluster_bits) in
+          let last : (place + (n - 1)) / cluster_size h * cluster_size h ≤ place + (n - 1) =
+          div-mul-le_self (place + (n - 1)) (cluster_size h) in
+          let high : d * cluster_size h ≤ (place + (n - 1)) / cluster_size h * cluster_size h =
+          mul-le-mul_right (cluster_size h) upto in
+          let begin : place + (d * cluster_size h - place) ≡ d * cluster_size h + 0 = omega (arith, next, low) in
+          let is : (place + (d * cluster_size h - place)) / cluster_size h ≡ d =
+          ap (λ p. p / cluster_size h) begin ∙ div-mul-add d (cluster_size h) 0 (pow_pos h.cluster_bits) in
+          let lt : d * cluster_size h - place < n = omega (arith, next, low, last, high, some) in
+          ap free (sym is) ∙ apart-at (d * cluster_size h - place) lt
+    ]
+      where
+        free : ℕ → ℕ
+        free c = structure f h (meets h c)
+
+    -- Where it has a byte, its clusters are a run.
+    written-run : 0 < n → Kept f x h nothing
+    written-run some =
+        let first : ℕ = place / cluster_size h in
+        let last : ℕ = (place + (n - 1)) / cluster_size h in
+        let k : ℕ = last - first in
+        let low : first * cluster_size h ≤ place = div-mul-le_self place (cluster_size h) in
+        let above : place + (n - 1) < last * cluster_size h + cluster_size h = lt-div-mul-add (pow_pos h.cluster_bits) in
+        let order : first ≤ last = le-div first (place + (n - 1)) (cluster_size h) (pow_pos h.cluster_bits) (omega (arith, low)) in
+        let end : first + k ≡ last = omega (arith, order) in
+        let product : (first + k + 1) * cluster_size h ≡ last * cluster_size h + cluster_size h =
+        ap (λ l. (l + 1) * cluster_size h) end ∙ omega arith in
+        let apart : (d : ℕ) → first ≤ d → d ≤ first + k → structure f h (meets h d) ≡ 0 =
+        λ d from upto. apart-in some d from (omega (arith, upto, end)) in
+        (run-written f H was first k apart x place n out low (omega (arith, above, product, some))).kept
+
+    -- Where it has none, each byte stays.
+    all-stay : n ≡ 0 → (p : ℕ) → x p ≡ f p
+    all-stay none p = out p (elim (cases_lt p place) [ inl lt ↦ inl lt | inr le ↦ inr (omega (arith, le, none)) ])
+
+    word-stays : n ≡ 0 → (table i : ℕ) → word x table i ≡ word f table i
+    word-stays none table i = word-same f x table (8 * i + 8) i (λ k _. all-stay none (table + k)) (omega arith)
+
+    written-none : n ≡ 0 → Kept f x h nothing
+    written-none none = record {
+      start = λ _ k lt. all-stay none (0 + k);
+      l1 = λ i lt _. word-stays none h.l1_offset i;
+      blocks = λ i lt _. word-stays none h.refcount_table_offset i;
+      counters = λ i lt there _ k less. all-stay none (block_at f h i + k);
+      words = λ i j live _. word-stays none (l2_table f h i) j;
+    }
+
+    -- No part of the structure is touched,
+    pub rewritten-kept : Kept f x h nothing
+    rewritten-kept = elim (cases_eq n 0) [ inl none ↦ written-none none | inr some ↦ written-run (omega (arith, some)) ]
+
+    -- the image stays consistent,
+    pub rewritten-consistent : IsConsistent x H
+    rewritten-consistent = untouched-consistent f x H was rewritten-kept
+
+    -- and each guest cluster has the mapping that it had.
+    pub rewritten-entries : (g : ℕ) → entry x h g ≡ entry f h g
+    rewritten-entries g =
+        let words : 0 < per_table = some-words h (consistent-shaped f H was) in
+        let kept = guest-kept f x h (untouched-keeps f x H was rewritten-kept) words g in
+        entries-same f x h was.readable.tables rewritten-consistent.readable.tables words g kept
+
+    -- Data of a place that isn't written stays.
+    byte-beside : (p d : ℕ) (mark : Bool) → IsOut guest n p → mapped f h p ≡ data_at d mark → x (place_in h d p) ≡ f (place_in h d p)
+    byte-beside p d mark beside is =
+        let at : ℕ = place_in h d p in
+        elim (cases_lt at place) [
+          | inl before ↦ out at (inl before)
+          | inr from ↦ elim (cases_lt at (place + n)) [
+            | inr behind ↦ out at (inr behind)
+            | inl inside ↦
+                let back : at ≡ place + (at - place) = omega (arith, from) in
+                let lt : at - place < n = omega (arith, from, inside) in
+                let one : guest + (at - place) ≡ p =
+                one-place f H was (guest + (at - place)) p (place + (at - place)) d mark (each (at - place) lt) is (sym back) in
+                absurd (elim beside [ inl low ↦ omega (arith, low, one) | inr high ↦ omega (arith, high, one, lt) ])
+          ]
+        ]
+
+    -- So a place that isn't written says what it did,
+    pub rewritten-others : (blank : Cell) (p : ℕ) → IsOut guest n p
+        → cell_by blank x h p (mapped x h p) ≡ cell_by blank f h p (mapped f h p)
+    rewritten-others blank p beside =
+        ap (cell_by blank x h p) (rewritten-entries (p / cluster_size h))
+        ∙ by (mapped f h p) (λ d mark is. byte-beside p d mark beside is)
+      where
+        by : (m : Mapping) → ((d : ℕ) (mark : Bool) → m ≡ data_at d mark → x (place_in h d p) ≡ f (place_in h d p))
+            → cell_by blank x h p m ≡ cell_by blank f h p m
+        by (data_at d mark) same = ap (λ b. own (byte b)) (same d mark refl)
+        by (zeroes cluster copied) same = refl
+        by (packed offset length) same = refl
+        by unmapped same = refl
+        by damaged same = refl
+
+    -- and one that is written says its byte.
+    pub rewritten-range : (blank : Cell) (i : ℕ) → i < n
+        → cell_by blank x h (guest + i) (mapped x h (guest + i)) ≡ own (byte (x (place + i)))
+    rewritten-range blank i lt =
+        let found = home-of h (guest + i) (place + i) (mapped f h (guest + i)) (each i lt) in
+        ap (cell_by blank x h (guest + i)) (rewritten-entries ((guest + i) / cluster_size h) ∙ found.1)
+        ∙ ap (λ p. own (byte (x p))) (sym found.2)
+
+-- A test of each word below n gives the same where it does of each.
+below-same : (n : ℕ) (p q : ℕ → Bool) → ((k : ℕ) → k < n → p k ≡ q k) → all_below n p ≡ all_below n q
+unfolding all_below
+below-same zero p q same = refl
+below-same (suc n) p q same =
+    let here : p n ≡ q n = same n (omega arith) in
+    let below : all_below n p ≡ all_below n q = below-same n p q (λ k lt. same k (omega arith)) in
+    rw (here, below) refl
+
+-- Where the structure is kept, so are the tables, word for word.
+module _ (f x : Bytes) (h : Fields) (kept : Kept f x h nothing) where
+  pub kept-l1-words : words_in x h.l1_offset h.l1_entries ≡ words_in f h.l1_offset h.l1_entries
+  kept-l1-words = words_same x f h.l1_offset h.l1_offset h.l1_entries (λ i lt. kept.l1 i lt (λ e. cc))
+
+  pub kept-l2-words : (i : ℕ) → i < h.l1_entries → l2_table f h i ≢ 0
+      → words_in x (l2_table f h i) (words_of_cluster h) ≡ words_in f (l2_table f h i) (words_of_cluster h)
+  kept-l2-words i lt there = words_same x f (l2_table f h i) (l2_table f h i) (words_of_cluster h)
+      (λ j less. kept.words i j record { in_l1 = lt; is_there = there; in_table = less } (λ e. cc))
+
+  pub kept-l1-sound : l1_table_sound x h ≡ l1_table_sound f h
+  unfolding l1_table_sound
+  kept-l1-sound = below-same h.l1_entries (sound x) (sound f) (λ i lt. ap (l1_word_sound h.cluster_bits) (kept.l1 i lt (λ e. cc)))
+    where
+      sound : Bytes → ℕ → Bool
+      sound file i = l1_word_sound h.cluster_bits (word file h.l1_offset i)

@@ -1,0 +1,45 @@
+use Rattle.std.proofs.Common.{◌≡◌, true, false, refl, Ok, Err, arith}
+use Rattle.std.specs.Prelude.{Bool}
+use Rattle.imago_storage.specs.declared.fault.Fault.TheVariants.{Outdated}
+use Rattle.qcow2_image.proofs.Written.{told-why, unwritten, writes-mapped, writing-refused}
+use Rattle.qcow2_image.proofs.Steps.{keeps-as, marks-kept}
+use Rattle.qcow2_image.proofs.drivers.Qcow2FormatDriverInstance.write_mapped.Goals as goal
+
+pub returns-in-Ok-true-clause-writes : goal.returns-in-Ok-true-clause-writes
+returns-in-Ok-true-clause-writes g c =
+    let st = g.S.Storage in
+    let told = c.in-Ok-true.field-0-test in
+    writes-mapped g.row.S st g.S.Storage-dict g.S.Destruct-dict c.args.self.now c.is_mapped_at.new.self c.write_at.new.self c.args.guest c.args.place c.args.bytes.now c.write_at.result
+    (rw told at c.in-Ok-true.ensures.keeps) c.write_at.ensures c.in-Ok.ensures.runs (λ seen. (rw told at (c.in-Ok-true.ensures.yes seen)) refl) c.if-length-eq0.false
+
+pub returns-in-Ok-true-clause-refused : goal.returns-in-Ok-true-clause-refused
+returns-in-Ok-true-clause-refused g c =
+    let st = g.S.Storage in
+    let told = c.in-Ok-true.field-0-test in
+    writing-refused g.row.S st g.S.Storage-dict g.S.Destruct-dict c.args.self.now c.is_mapped_at.new.self c.write_at.new.self c.args.guest c.args.place c.args.bytes.now c.write_at.result
+    (rw told at c.in-Ok-true.ensures.keeps) c.write_at.ensures c.in-Ok.ensures.runs (λ seen. (rw told at (c.in-Ok-true.ensures.yes seen)) refl)
+
+pub returns-in-Ok-false-clause-writes : goal.returns-in-Ok-false-clause-writes
+returns-in-Ok-false-clause-writes g c =
+    let st = g.S.Storage in
+    unwritten g.row.S st g.S.Storage-dict g.S.Destruct-dict c.args.self.now c.is_mapped_at.new.self c.args.guest c.args.place c.args.bytes.now Outdated
+    (keeps-as {T = Bool} {U = Bool} st c.args.self.now c.is_mapped_at.new.self (Ok c.in-Ok-false.field-0) (Err Outdated) (λ w. tt) (λ f. refl) c.in-Ok-false.ensures.keeps)
+    c.if-length-eq0.false
+
+pub returns-in-Err-is_mapped_at-clause-writes : goal.returns-in-Err-is_mapped_at-clause-writes
+returns-in-Err-is_mapped_at-clause-writes g c =
+    let st = g.S.Storage in
+    unwritten g.row.S st g.S.Storage-dict g.S.Destruct-dict c.args.self.now c.is_mapped_at.new.self c.args.guest c.args.place c.args.bytes.now c.in-Err-is_mapped_at.fault
+    c.in-Err-is_mapped_at.ensures.keeps c.if-length-eq0.false
+
+pub returns-in-Err-is_mapped_at-clause-refused : goal.returns-in-Err-is_mapped_at-clause-refused
+returns-in-Err-is_mapped_at-clause-refused g c =
+    let st = g.S.Storage in
+    let old = c.args.self.now in
+    let new = c.is_mapped_at.new.self in
+    let e = c.in-Err-is_mapped_at.fault in record {
+      failed = c.in-Err-is_mapped_at.ensures.failed;
+      marks = marks-kept g.row.S st g.S.Storage-dict g.S.Destruct-dict {T = Bool} old new (Err e) c.in-Err-is_mapped_at.ensures.keeps;
+      cause = told-why g.row.S st g.S.Storage-dict g.S.Destruct-dict old new c.args.guest c.args.place c.args.bytes.now e c.in-Err-is_mapped_at.ensures.keeps
+          (λ safe. c.in-Err-is_mapped_at.ensures.cause safe.seen);
+    }

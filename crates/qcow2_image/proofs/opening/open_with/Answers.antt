@@ -1,0 +1,26 @@
+use Rattle.std.proofs.Common.{refl, sym}
+use Rattle.std.specs.Prelude.{false}
+use Rattle.qcow2_image.specs.declared.qcow2.Qcow2.{Qcow2}
+use Rattle.qcow2_image.proofs.JustOpened.{opened-kept, opened-meant, opened-still, opened-safe}
+use Rattle.qcow2_image.proofs.opening.open_with.Goals as goal
+
+pub returns-clause-seen : goal.returns-clause-seen
+returns-clause-seen g c =
+    let before = g.S.Storage.state c.args.image in
+    let l2 = c.args.entries.l2_tables in
+    let rb = c.args.entries.refcount_blocks in
+    let d : Qcow2 g.row.S.Denot g.S.Storage = record { tables = c.in-Ok.tables; mode = record { writable = c.args.writable; backing = c.match-backing.backing }; number = c.args.number; failed = false } in
+    record {
+      format_is = refl;
+      writable_is = refl;
+      number_is = refl;
+      size_is = let meant = opened-meant g.S.Storage before c.args.writable l2 rb d c.in-Ok.ensures.ok in sym (meant.exactly refl);
+      meant = opened-meant g.S.Storage before c.args.writable l2 rb d c.in-Ok.ensures.ok;
+      kept = opened-kept g.S.Storage before c.args.writable l2 rb d c.in-Ok.ensures.ok;
+      free = refl;
+      usable = refl;
+      sees = c.in-Ok.ensures.ok.seen;
+      still = opened-still g.S.Storage before c.args.writable l2 rb d c.in-Ok.ensures.ok;
+      lasting = tt;
+      safe = λ keeps sound. opened-safe g.S.Storage before c.args.writable l2 rb d c.in-Ok.ensures.ok refl keeps sound;
+    }

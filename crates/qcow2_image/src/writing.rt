@@ -1,0 +1,108 @@
+// Writes where the places of a disk are.
+ghost use Rattle.std.specs.Prelude.{◌≡◌, ◌<◌, ◌≤◌, ◌+◌, ◌^◌, false, None, length, IsTrue, IsFalse, IfOk, IfErr, IfSome};
+ghost use Rattle.imago_access.specs.Failing.{Fails, RefusesLookup};
+ghost use Rattle.imago_access.specs.Mappings.{IsMappedRun};
+ghost use Rattle.imago_access.specs.Parts.{IsMappedAt};
+ghost use Rattle.qcow2_image.specs.Looking.{IsWholeRunIn, writable_place_of};
+ghost use Rattle.qcow2_image.specs.Steps.{KeepsImage};
+ghost use Rattle.qcow2_image.specs.Writing.{IsHomeAt, WhyNotTold, WritesAt};
+
+use crate::qcow2::Qcow2;
+use imago_access::{Seen, ShallowMapping};
+use imago_storage::{Fault, Storage, StorageExt};
+use std::alloc::Global;
+
+// The place of the image file where a run can be written, if it can.
+fn writable_place(mapping: ShallowMapping) -> Option<u64>
+    ensures { result ≡ writable_place_of mapping }
+{
+    match mapping {
+        ShallowMapping::Raw {
+            offset,
+            writable: true,
+            ..
+        } => Some(offset),
+        _ => None,
+    }
+}
+
+impl<S: Storage> Qcow2<S> {
+    // Where the run from an offset on can be written, if it can, and how long it is.
+    pub(crate) fn home_run(&mut self, offset: u64, length: u64) -> Result<Option<(u64, u64)>, Fault>
+        requires inside { offset + length ≤ self.old.tables.file.header.fields.size }
+        requires some { 0 < length }
+        requires runs { self.old.failed ≡ false }
+        ensures run { let d = ⟦<Qcow2<S> as Seen>⟧ in
+            IfOk result (λ o. IfSome o (λ r. IsMappedRun (d.layer self.old) offset length r.1)) }
+        ensures near { IfOk result (λ o. IfSome o (λ r. r.0 + r.1 ≤ 2 ^ 60)) }
+        ensures home { let d = ⟦<Qcow2<S> as Seen>⟧ in
+            d.sees self.old → IfOk result (λ o. IfSome o (λ r. IsHomeAt (d.layer self.old) offset r.0 r.1)) }
+        ensures none { let d = ⟦<Qcow2<S> as Seen>⟧ in
+            d.sees self.old → IfOk result (λ o. o ≡ None → (d.layer self.old).home offset ≡ None) }
+        ensures whole { let t = self.old.tables in
+            ⟦<Qcow2<S> as Seen>⟧.sees self.old → IfOk result (λ o. IfSome o (λ r. IsWholeRunIn S.Storage t offset length r.1)) }
+        ensures keeps { KeepsImage S.Storage self.old result self.new }
+        ensures failed { IfErr result (Fails ⟦<Qcow2<S> as Seen>⟧ self.old self.new) }
+        ensures cause { let d = ⟦<Qcow2<S> as Seen>⟧ in
+            d.sees self.old → IfErr result (RefusesLookup d offset length self.old self.new) }
+    {
+        let (mapping, count) = match self.run_from(offset, length) {
+            Ok(run) => run,
+            Err(fault) => return Err(fault),
+        };
+        match writable_place(mapping) {
+            Some(place) => Ok(Some((place, count))),
+            None => Ok(None),
+        }
+    }
+
+    // Whether a range is mapped from a place of the image file on, and can be written there.
+    pub(crate) fn is_mapped_at(
+        &mut self,
+        guest: u64,
+        place: u64,
+        length: u64,
+    ) -> Result<bool, Fault>
+        requires inside { guest + length ≤ self.old.tables.file.header.fields.size }
+        requires fits { guest + length < 2 ^ 64 }
+        requires runs { self.old.failed ≡ false }
+        ensures yes { let d = ⟦<Qcow2<S> as Seen>⟧ in
+            d.sees self.old → IfOk result (λ is. IsTrue is → IsHomeAt (d.layer self.old) guest place length) }
+        ensures no { let d = ⟦<Qcow2<S> as Seen>⟧ in
+            d.sees self.old → IfOk result (λ is. IsFalse is → IsMappedAt (d.layer self.old) guest place length → ⊥) }
+        ensures near { IfOk result (λ is. IsTrue is → 0 < length → place + length ≤ 2 ^ 60) }
+        ensures keeps { KeepsImage S.Storage self.old result self.new }
+        ensures failed { IfErr result (Fails ⟦<Qcow2<S> as Seen>⟧ self.old self.new) }
+        ensures cause { ⟦<Qcow2<S> as Seen>⟧.sees self.old → IfErr result (WhyNotTold S.Storage self.old self.new) }
+    {
+        let mut done = 0;
+        while done < length {
+            match self.home_run(guest + done, length - done) {
+                Ok(Some((at, count))) => {
+                    if at != place + done {
+                        return Ok(false);
+                    }
+                    done += count;
+                }
+                Ok(None) => return Ok(false),
+                Err(fault) => return Err(fault),
+            }
+        }
+        Ok(true)
+    }
+
+    // Writes bytes to the image file, from a place on. Whatever keeps it from that marks the image as failed: a part may be written.
+    pub(crate) fn write_at(&mut self, alloc: Global, place: u64, bytes: &[u8]) -> Result<(), Fault>
+        requires near { place + length bytes.now ≤ 2 ^ 60 }
+        requires runs { self.old.failed ≡ false }
+        ensures { WritesAt S.Storage place bytes.now self.old result self.new }
+    {
+        match self.tables.file.image.write(alloc, bytes, place) {
+            Ok(()) => Ok(()),
+            Err(fault) => {
+                self.failed = true;
+                Err(fault)
+            }
+        }
+    }
+}
