@@ -1,4 +1,4 @@
--- What is in memory of an image right after it was opened for reading.
+-- What is in memory of an image right after it was opened.
 use Rattle.std.proofs.Common.{◌≡◌, ℕ, ◌<◌, ◌≤◌, refl, arith, sym, subst, ap, [], false, Ok}
 use Rattle.std.specs.Prelude.{Bool, IsTrue}
 use Rattle.std.specs.List.{AllByRecursion}

@@ -1,4 +1,4 @@
--- How many tables and blocks may be kept in memory, and what the caches of an image that is only read are.
+-- How many tables and blocks may be kept in memory, and what the caches of an image are.
 use Rattle.std.specs.Prelude.{◌≡◌, ℕ, ◌<◌, ◌≤◌}
 use Rattle.qcow2_alloc.specs.Caches.{cached_in}
 use Rattle.qcow2_alloc.specs.Finding.{pinned_in}

@@ -1,4 +1,4 @@
--- What is allocated for the places of an image, and which files are sound; laws of a driver that was opened for reading alone.
+-- What is allocated for the places of an image, and which files are sound; laws of the driver.
 use Rattle.std.proofs.Common.{inl, inr, sym, subst, refl, arith}
 use Rattle.std.specs.Prelude.{◌≡◌, ◌⊎◌, ⊤, ℕ, zero, suc, ◌/◌, ◌<◌, ◌≤◌, ltb, Bool, true, false, List, [], IsTrue, Some, None}
 use Rattle.std.proofs.lemmas.Bool.{cases_Bool}

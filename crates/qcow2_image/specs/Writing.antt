@@ -23,7 +23,7 @@ HasBegun g d now = IsSafe g d.tables d.failed
     → IsSafe g now.tables now.failed × ((p : ℕ) → (layer_of g now).home p ≡ (layer_of g d).home p)
 
 -- Why an image isn't changed, by causes of its own: zeroing, discards and resizes are declined, and bytes are written only where each place
--- of the range can be written where it is; the first that can't is said.
+-- of the range can be written where it is; such a place is said.
 abbrev pub WhyUnwritten : Layer → Call → Fault → Type 0
 WhyUnwritten layer call Unsupported = ⊤
 WhyUnwritten layer call (Limit place) = IsIn (offset_of call) (length_of call) place × (layer.home place ≡ None)

@@ -1,13 +1,16 @@
 // A qcow2 image as the driver of a chain.
-ghost use Rattle.std.specs.Prelude.{◌≡◌, ◌<◌, ⊤, None, List, false, refl, length, IsTrue, IsErrOf, IsOk, OnOk, IfOk, IfErr};
+ghost use Rattle.std.specs.Prelude.{◌≡◌, ◌<◌, ◌+◌, ◌^◌, ◌⊎◌, ⊤, None, List, false, refl, length, IsTrue, IsErr, IsErrOf, IsOk, IsSome, OnOk, IfOk, IfErr};
 ghost use Rattle.std.proofs.lemmas.Nat.{pow_pos};
+ghost use Rattle.imago_storage.specs.Calls.{Mixed};
+ghost use Rattle.imago_storage.specs.declared.fault.Fault.TheVariants.{Limit};
+ghost use Rattle.imago_access.specs.Changes.{asking};
 ghost use Rattle.imago_access.specs.Failing.{Fails, RefusesFlush, RefusesLookup, RefusesRead, RefusesReload};
 ghost use Rattle.imago_access.specs.Files.{AreRead, IsKept, IsStale, OverflowsIn, Pairs, WasNotCutOff, files};
-ghost use Rattle.imago_access.specs.Going.{AtOnce, KeepsWhatIsFlushed, Looked, Marks, Went};
+ghost use Rattle.imago_access.specs.Going.{AtOnce, KeepsWhatIsFlushed, Looked, LookedUnder, Marks, RangeAtOnce, Went};
 ghost use Rattle.imago_access.specs.Layer.{IsFree, IsLike, Layer};
-ghost use Rattle.imago_access.specs.Mappings.{IsOneOf, IsRun, LooksIn, NamesRoomIn};
-ghost use Rattle.imago_access.specs.PreparingCalls.{Commits, CommitRefused, Cancels};
-ghost use Rattle.imago_access.specs.Refusals.{barrier};
+ghost use Rattle.imago_access.specs.Mappings.{IsMappedRun, IsOneOf, IsRun, LooksIn, NamesRoomIn};
+ghost use Rattle.imago_access.specs.PreparingCalls.{Cancels, Commits, CommitRefused, IsHeldBy, Prepares, WritesMapped, WritingRefused, nowhere};
+ghost use Rattle.imago_access.specs.Refusals.{barrier, own_refusal};
 ghost use Rattle.imago_access.specs.Stops.{GivesNone, IsWritten, KeepsStops, MakesNone};
 ghost use Rattle.qcow2_image.specs.ImageLayer.{blanks};
 ghost use Rattle.qcow2_image.specs.Looking.{IsWholeRunIn, answer_at};
@@ -193,7 +196,29 @@ impl<S: Storage> FormatDriverInstance for Qcow2<S> {
         offset: u64,
         length: u64,
         _overwrite: bool,
-    ) -> Result<PreparedDataMapping<PreparedMappingState>, Fault> {
+    ) -> Result<PreparedDataMapping<PreparedMappingState>, Fault>
+        requires free { IsFree (⟦<Qcow2<S> as Seen>⟧.layer self.old) }
+        ensures run { let d = ⟦<Qcow2<S> as Seen>⟧ in
+            IfOk result (λ m. IsMappedRun (d.layer self.old) offset length m.length × (m.offset + m.length < 2 ^ 64)) }
+        ensures mine { let d = ⟦<Qcow2<S> as Seen>⟧ in IfOk result (λ m. IsHeldBy d m.state (d.layer self.new)) }
+        ensures empty { let d = ⟦<Qcow2<S> as Seen>⟧ in
+            length ≡ 0 → IfOk result (λ m. (m ≡ nowhere) × (d.layer self.new ≡ d.layer self.old)) }
+        ensures size { let d = ⟦<Qcow2<S> as Seen>⟧ in (d.layer self.new).size ≡ (d.layer self.old).size }
+        ensures free { IsErr result → IsFree (⟦<Qcow2<S> as Seen>⟧.layer self.new) }
+        ensures does { let d = ⟦<Qcow2<S> as Seen>⟧ in
+            Prepares d B.SeenBelow (asking offset length _overwrite) result (self.old, _below.old) (self.new, _below.new) }
+        ensures below { LookedUnder B.SeenBelow (WasNotCutOff result) _below.old _below.new }
+        ensures at_once { RangeAtOnce ⟦<Qcow2<S> as Seen>⟧ offset length result self.old self.new }
+        ensures unread { let d = ⟦<Qcow2<S> as Seen>⟧ in
+            (length ≡ 0) ⊎ IsSome (own_refusal (d.layer self.old) offset length) → _below.new ≡ _below.old }
+        // It makes no request but reads.
+        ensures reads { let d = ⟦<Qcow2<S> as Seen>⟧ in Pairs IsKept (files d self.old) (files d self.new) }
+        // It answers all of the run that can be written, or says the offset where none can.
+        ensures whole { let t = self.old.tables in
+            ⟦<Qcow2<S> as Seen>⟧.sees self.old → IfOk result (λ m. 0 < length → IsWholeRunIn S.Storage t offset length m.length) }
+        ensures limit { let d = ⟦<Qcow2<S> as Seen>⟧ in
+            d.sees self.old → IfErr result (λ e. (n : _) → e ≡ Limit n → (n ≡ offset) × ((d.layer self.old).home offset ≡ None)) }
+    {
         if self.failed {
             return Err(Fault::Failed);
         }
@@ -278,7 +303,14 @@ impl<S: Storage> FormatDriverInstance for Qcow2<S> {
         guest: u64,
         place: u64,
         bytes: &[u8],
-    ) -> Result<(), Fault> {
+    ) -> Result<(), Fault>
+        ensures writes { WritesMapped ⟦<Qcow2<S> as Seen>⟧ guest place bytes.now result self.old self.new }
+        ensures at_once { RangeAtOnce ⟦<Qcow2<S> as Seen>⟧ guest (length bytes.now) result self.old self.new }
+        ensures refused { WritingRefused ⟦<Qcow2<S> as Seen>⟧ guest place (length bytes.now) result self.old self.new }
+        // Its file is as it was, but for these bytes at their place: each of them is there, or what was.
+        ensures file { let s = S.state self.old.tables.file.image in
+            IsTrue s.shape.keeps → Mixed s.bytes place bytes.now (S.state self.new.tables.file.image).bytes }
+    {
         if self.failed {
             return Err(Fault::Failed);
         }

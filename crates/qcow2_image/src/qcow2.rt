@@ -50,8 +50,8 @@ impl PreparedMappingState {
 /// Its one storage, the image file, has the number 0. A fault of that storage marks it as failed, and so does want of memory that may have
 /// left a part of a write.
 ///
-/// One that was opened for writing is written where a place has a host cluster of its own, which its L2 entry marks as copied: bytes go
-/// there at once, and no table changes. So far nothing is allocated: other places can't be written, zeroing and discards are declined
+/// One that was opened for writing is written where a place has data in a host cluster of its own, which its L2 entry marks as copied: bytes
+/// go there at once, and no table changes. So far nothing is allocated: other places can't be written, zeroing and discards are declined
 /// (a chain writes zeroes then, where it may), and the size stays.
 #[derive(Drop)]
 pub struct Qcow2<S: Storage> {
@@ -98,7 +98,7 @@ impl<S: Storage> Seen for Qcow2<S> {
 }
 
 impl<S: Storage> Qcow2<S> {
-    /// Whether it has failed: after a storage's fault it has to be opened again.
+    /// Whether it has failed: after a fault of a storage, or want of memory that may have left a part of a write, it has to be opened again.
     pub fn failed(&self) -> bool
         ensures { result ≡ (⟦<Qcow2<S> as Seen>⟧.layer self.now).failed }
     {

@@ -25,8 +25,7 @@ pub enum ScriptFault {
 ///
 /// Where the top file is sound (a qcow2 image that `qimg_core::check` accepts, or one of another format) and its storages keep what is
 /// written, the calls of all lines read and change one flat disk, at opening the one that the files' bytes mean; and no file below changes.
-/// Of stops in a call that changes a file nothing is said yet: storages in memory tell none, raw files don't state the size of their disk,
-/// and qcow2 and VMDK images are only read.
+/// Of stops in a call that changes a file nothing is said: storages in memory tell none.
 ///
 /// `ScriptFault::Opening` as `open_chain` refuses: then nothing is written. `ScriptFault::Running` as `run` refuses, over the chain.
 pub fn run_files<R: BufRead + Drop, W: Write>(
