@@ -219,7 +219,8 @@ pub trait FormatDriverInstance: Seen {
     /// mapping, to which they are noted.
     ///
     /// It refuses with `Fault::Outdated` where the range isn't mapped there, with `Fault::ReadOnly`, `Fault::RangeOverflow`,
-    /// `Fault::PastEnd`, `Fault::Memory` and `Fault::Storage`. A refusal for another cause than the last two leaves the layer as it was.
+    /// `Fault::PastEnd`, `Fault::Memory` and `Fault::Storage`, and an image that isn't sound also with `Fault::DamagedTable`. A refusal for
+    /// another cause than `Fault::Memory` and `Fault::Storage` leaves the layer as it was.
     fn write_mapped(
         &mut self,
         alloc: Global,

@@ -32,7 +32,7 @@ pub enum Fault {
     Foreign,
     /// Format version 2 where version 3 is needed.
     VersionLimit,
-    /// A stated limit, with the size, index or count that passed it.
+    /// A stated limit, with the size, offset, index or count that passed it.
     Limit(u64),
     /// An empty chain, or a named backing file that wasn't handed in.
     MissingBelow,
