@@ -1,0 +1,88 @@
+-- What waits is freed, and that is settled.
+use Rattle.std.proofs.Common.{◌≡◌, ℕ, ◌≤◌, [], refl, ◌∙◌, inl, Result, Ok, Err}
+use Rattle.std.specs.Prelude.{IfErr, OnOk}
+use Rattle.imago_storage.specs.State.{StorageState}
+use Rattle.imago_storage.specs.declared.fault.Fault.{Fault}
+use Rattle.imago_storage.specs.declared.fault.Fault.TheVariants.{CacheFull, Counter, DamagedTable, Memory, Storage}
+use Rattle.imago_storage.proofs.Composing.{rose_behind}
+use Rattle.qcow2_alloc.specs.declared.cache.MetadataCaches.{MetadataCaches}
+use Rattle.qcow2_alloc.specs.declared.file.ImageFile.{ImageFile}
+use Rattle.qcow2_alloc.specs.Allocators.{table_of}
+use Rattle.qcow2_alloc.specs.Caches.{cached_in}
+use Rattle.qcow2_alloc.specs.Freeing.{CountsFreeing, Frees, HasSpareRoom, IsWholeOrCalm}
+use Rattle.qcow2_alloc.specs.Freeing.{WhyNotFreed as WhyNotCountedDown}
+use Rattle.qcow2_alloc.specs.Going.{AreBlocksInReach, AreTablesInReach, WasNotCutOff}
+use Rattle.qcow2_alloc.specs.Quiet.{Quietly}
+use Rattle.qcow2_alloc.specs.State.{IsKept}
+use Rattle.qcow2_alloc.proofs.Memory.SafeLaws.{safe-reach}
+use Rattle.qcow2_alloc.proofs.Quiet.QuietFlushes.{quietly-weaker}
+use Rattle.qcow2_clusters.specs.Freeing.{FreesWaiting, WhyNotFreed}
+use Rattle.qcow2_clusters.specs.Rest.{AreEmpty, Clusters, HasEntries, IsReady, changed, lent, resting, storage}
+use Rattle.qcow2_clusters.specs.Settling.{Settles, WhyNotSettled}
+use Rattle.qcow2_clusters.proofs.Adding.{quiet-progresses}
+use Rattle.qcow2_clusters.proofs.Ending.{begun, begun-then, ready-kept, settled-cause, settled-faultless, settled-ok, settled-quietly}
+use Rattle.qcow2_clusters.proofs.Resting.{empty-loose, l1-kept}
+
+-- why what waits wasn't counted down
+why-freed : (sound ready loose : Type 0) → (ready → sound) → loose → (before after : ℕ) (fault : Fault) → WhyNotCountedDown sound loose before after fault → WhyNotFreed ready before after fault
+why-freed sound ready loose is room before after Memory why = why
+why-freed sound ready loose is room before after Storage why = why
+why-freed sound ready loose is room before after DamagedTable why = λ here. why (is here)
+why-freed sound ready loose is room before after Counter why = λ here. why (is here)
+why-freed sound ready loose is room before after CacheFull why = absurd (why room)
+why-freed sound ready loose is room before after _ why = absurd why
+
+-- why it wasn't written then
+why-flushed : (reach ready : Type 0) → (ready → reach) → (before mid after : ℕ) → before ≤ mid → (fault : Fault) → WhyNotSettled reach mid after fault → WhyNotFreed ready before after fault
+why-flushed reach ready is before mid after later Memory why = why
+why-flushed reach ready is before mid after later Storage why = rose_behind before mid after later why
+why-flushed reach ready is before mid after later DamagedTable why = λ here. why (is here)
+why-flushed reach ready is before mid after later _ why = absurd why
+
+module _ {S : Type 0} (state : S → StorageState) (c : Clusters S) (empty : AreEmpty c.caches) (room : HasEntries c.caches) (mark : ℕ) (mid : Clusters S) (mark' : ℕ)
+    (freed : Result Unit Fault) (frees : Frees state mark (begun c) freed (begun mid) mark')
+    (result : Result Unit Fault) (after : ImageFile S) (new : MetadataCaches S) (settles : Settles state freed mid.file mid.caches result after new) where
+  abbrev c' : Clusters S
+  c' = lent after new mid.space
+
+  freed-quietly : Quietly (WasNotCutOff freed) (λ _. 0) (λ _. 0) (storage state c) (resting state c) (storage state mid) (changed state mid)
+  freed-quietly =
+      begun-then state c empty (WasNotCutOff freed) (λ _. 0) (storage state mid) (changed state mid)
+      (quietly-weaker (IsWholeOrCalm freed (storage state c) (storage state mid)) (WasNotCutOff freed) (λ _. 0) (λ _. 0) (storage state c) (changed state c) (storage state mid) (changed state mid)
+      (λ sound whole. inl whole) frees.quiet)
+
+  all-quietly : Quietly (WasNotCutOff result) (λ _. 0) (λ _. 0) (storage state c) (resting state c) (storage state c') (resting state c')
+  all-quietly = settled-quietly state freed mid.file mid.caches result after new settles (table_of mid.space.allocator) mid.space.to_free.entries (storage state c) (resting state c) (λ _. 0) freed-quietly
+
+  first-cause : (r : Result Unit Fault) → CountsFreeing (IsKept state (begun c)) (HasSpareRoom c.caches) (storage state c).faults (storage state mid).faults r
+      → IfErr r (WhyNotFreed (IsReady state c) (storage state c).faults (storage state mid).faults)
+  first-cause (Ok done) counts = tt
+  first-cause (Err fault) counts =
+      why-freed (IsKept state (begun c)) (IsReady state c) (HasSpareRoom c.caches) (ready-kept state c empty) (empty-loose (table_of c.space.allocator) c.caches empty room).room
+      (storage state c).faults (storage state mid).faults fault counts
+
+  flush-cause : WasNotCutOff freed → (fault : Fault)
+      → WhyNotSettled (AreTablesInReach (cached_in mid.caches) × AreBlocksInReach (cached_in mid.caches)) (storage state mid).faults (state after.image).faults fault
+      → WhyNotFreed (IsReady state c) (storage state c).faults (state after.image).faults fault
+  flush-cause whole fault why =
+      why-flushed (AreTablesInReach (cached_in mid.caches) × AreBlocksInReach (cached_in mid.caches)) (IsReady state c)
+      (λ ready. safe-reach (changed state mid).file mid.file.header (cached_in mid.caches) mid.caches.order (freed-quietly.holds ready.keeps ready.sound whole).0.safe)
+      (storage state c).faults (storage state mid).faults (state after.image).faults frees.quiet.later.faults fault why
+
+  pub frees-waiting : OnOk freed (mid.space.to_free.entries ≡ []) → mid.space.to_free.held ≡ c.space.to_free.held → FreesWaiting state c result c'
+  frees-waiting emptied held = record {
+    progress = quiet-progresses (WasNotCutOff result) (λ _. 0) (λ _. 0) (storage state c) (resting state c) (storage state c') (resting state c') (λ sound k some. refl) all-quietly;
+    rests = record {
+      empty = settles.empty;
+      room = record { tables = settles.room.tables ∙ frees.room.tables; blocks = settles.room.blocks ∙ frees.room.blocks };
+      header = (c.file.header.fields.refcount_table_offset, c.file.header.fields.refcount_table_clusters, settles.header ∙ frees.header);
+      shape = all-quietly.shape;
+      later = all-quietly.later;
+      faults = settled-faultless state freed mid.file mid.caches result after new settles (storage state c) frees.faults;
+    };
+    held = held;
+    l1 = l1-kept state c result c' (λ _. 0) (λ _. 0) all-quietly;
+    emptied = settled-ok state freed mid.file mid.caches result after new settles (mid.space.to_free.entries ≡ []) emptied;
+    header = settles.header ∙ frees.header;
+    cause = settled-cause state freed mid.file mid.caches result after new settles (WhyNotFreed (IsReady state c) (storage state c).faults) (first-cause freed frees.cause) flush-cause;
+  }

@@ -1,0 +1,13 @@
+pub mod Adding
+pub mod Settled
+pub mod Resting
+pub mod Ending
+pub mod FreeingWaiting
+pub mod AllocatingOne
+pub mod StoringOne
+pub mod StoringSettled
+pub mod LoneTables
+pub mod NamedWords
+pub mod NamedAtRest
+pub mod NamingTables
+pub mod MakingTables

@@ -1,0 +1,395 @@
+-- How a guest cluster comes to name a cluster that was reserved: the search of its table, its word, and what is written then.
+use Rattle.std.proofs.Common.{◌≡◌, ◌≢◌, ℕ, ◌+◌, ◌*◌, ◌/◌, ◌%◌, ◌^◌, ◌≤◌, refl, arith, ap, sym, subst, ◌∙◌, true, Some, None, Option, Result, Ok, Err, inl, inr}
+use Rattle.std.specs.Prelude.{⊤, IfErr, IsTrue, OnOk, nat_eq}
+use Rattle.imago_storage.specs.State.{StorageState}
+use Rattle.imago_storage.specs.Calls.{IsFaultless, Later}
+use Rattle.imago_storage.specs.declared.fault.Fault.{Fault}
+use Rattle.imago_storage.specs.declared.fault.Fault.TheVariants.{CacheFull, DamagedTable, Memory, Storage}
+use Rattle.imago_storage.proofs.Composing.{keeps_on, later_both, rose_behind}
+use Rattle.qcow2_types.specs.Bytes.{Bytes, bytes_of}
+use Rattle.qcow2_types.specs.Entries.{entry}
+use Rattle.qcow2_types.specs.Header.{Header, cluster_size, words_of_cluster}
+use Rattle.qcow2_types.specs.Pending.{FreeEntry}
+use Rattle.qcow2_types.specs.Words.{data_at}
+use Rattle.qcow2_metadata.specs.Allocations.{freed, replaced}
+use Rattle.qcow2_metadata.specs.Places.{IsInReach}
+use Rattle.qcow2_metadata.specs.Tables.{TableValue, mapping_in, table_in, with_word}
+use Rattle.qcow2_alloc.specs.declared.cache.MetadataCaches.{MetadataCaches}
+use Rattle.qcow2_alloc.specs.declared.file.ImageFile.{ImageFile}
+use Rattle.qcow2_alloc.specs.Allocators.{TableUsed, UsesTable, metadata_of, table_of}
+use Rattle.qcow2_alloc.specs.Cache.{hit}
+use Rattle.qcow2_alloc.specs.Caches.{HasRoomOf, cached_in, order_of}
+use Rattle.qcow2_alloc.specs.FreeList.{FreeList}
+use Rattle.qcow2_alloc.specs.Finding.{TableFound, WhyNotFound}
+use Rattle.qcow2_alloc.specs.Going.{AreBlocksInReach, AreTablesInReach, IsMild, WasNotCutOff}
+use Rattle.qcow2_alloc.specs.Memory.{Cached}
+use Rattle.qcow2_alloc.specs.Opening.{IsL1Of}
+use Rattle.qcow2_alloc.specs.Quiet.{IsQuiet, IsSound, IsUsed, Metadata, Quietly, in_memory}
+use Rattle.qcow2_alloc.proofs.Memory.SafeLaws.{clean-memory}
+use Rattle.qcow2_alloc.proofs.Quiet.QuietFlushes.{going-quietly}
+use Rattle.qcow2_alloc.proofs.Quiet.QuietShows.{in-cluster}
+use Rattle.qcow2_alloc.proofs.Quiet.QuietThen.{quietly-then}
+use Rattle.qcow2_steps.proofs.QuietValues.{quiet-entries}
+use Rattle.qcow2_clusters.specs.Naming.{IsNameable, Names, NamesIn, PutsOff, WhyNotNamed, naming}
+use Rattle.qcow2_clusters.specs.Progress.{Kind, Progresses, both, handing}
+use Rattle.qcow2_clusters.specs.Rest.{AreEmpty, Clusters, HasEntries, IsReady, nothing_cached, resting, storage}
+use Rattle.qcow2_clusters.specs.Settling.{Settles, WhyNotSettled}
+use Rattle.qcow2_clusters.proofs.Adding.{AdvancesBy, IsWider, progresses-halted, progresses-in-memory, progresses-then, progresses-weaker, quiet-progresses, wider-both, wider-handing}
+use Rattle.qcow2_clusters.proofs.Ending.{settled-cause, settled-faultless}
+use Rattle.qcow2_clusters.proofs.LoneTables.{lone_table, never-full, only-read, refused-empty, used-alone, used-read}
+use Rattle.qcow2_clusters.proofs.NamedWords.{old-allocated, old-named, stepping, table-fine, table-near, word-named}
+use Rattle.qcow2_clusters.proofs.Resting.{begun-quietly, l1-stays}
+
+-- Why the search was refused is why the call is: no cache is full.
+why-found : (fine full ready : Type 0) (a b : ℕ) (fault : Fault) → (ready → fine) → (full → ⊥) → WhyNotFound fine full a b fault → WhyNotNamed ready a b fault
+why-found fine full ready a b Memory is never why = tt
+why-found fine full ready a b Storage is never why = why
+why-found fine full ready a b DamagedTable is never why = λ ready. why (is ready)
+why-found fine full ready a b CacheFull is never why = absurd (never why)
+why-found fine full ready a b fault is never why = absurd why
+
+-- So is what refused the writes behind it.
+why-settled : (reach ready : Type 0) (a b d : ℕ) (fault : Fault) → (ready → reach) → a ≤ b → WhyNotSettled reach b d fault → WhyNotNamed ready a d fault
+why-settled reach ready a b d Memory is later why = tt
+why-settled reach ready a b d Storage is later why = rose_behind a b d later why
+why-settled reach ready a b d DamagedTable is later why = λ ready. why (is ready)
+why-settled reach ready a b d fault is later why = absurd why
+
+-- Where the image is sound, a call that wasn't cut off succeeded.
+never-mild : (ready : Type 0) (a b : ℕ) (fault : Fault) → ready → WhyNotNamed ready a b fault → IsMild fault → ⊥
+never-mild ready a b Memory holds why mild = mild
+never-mild ready a b Storage holds why mild = mild
+never-mild ready a b DamagedTable holds why mild = why holds
+never-mild ready a b fault holds why mild = why
+
+-- What is shown of a sound image in a storage that keeps what is written.
+progresses-ready : (ok : Type 0) (kind : Kind) (s : StorageState) (m : Metadata) (s' : StorageState) (m' : Metadata) → s'.shape ≡ s.shape → Later s s'
+    → (IsTrue s.shape.keeps → IsSound m → Progresses ok kind s m s' m') → Progresses ok kind s m s' m'
+progresses-ready ok kind s m s' m' shape later progress = record {
+  shape = shape;
+  later = later;
+  passes = λ keeps sound. (progress keeps sound).passes keeps sound;
+  holds = λ keeps sound. (progress keeps sound).holds keeps sound;
+}
+
+module _ {S : Type 0} (state : S → StorageState) (table guest x : ℕ) (c c' : Clusters S) (mid : MetadataCaches S) (between : ImageFile S)
+    (done result : Result Unit Fault) where
+  abbrev Ready : Type 0
+  Ready = IsReady state c × IsNameable (resting state c) table guest x
+
+  abbrev s0 : StorageState
+  s0 = storage state c
+
+  abbrev s1 : StorageState
+  s1 = state between.image
+
+  abbrev s2 : StorageState
+  s2 = storage state c'
+
+  abbrev m0 : Metadata
+  m0 = resting state c
+
+  abbrev m2 : Metadata
+  m2 = resting state c'
+
+  -- What came before the writes, and what holds then of a sound image.
+  pub record Begun : Type 0 where
+    pub shape : s1.shape ≡ s0.shape
+    pub later : Later s0 s1
+    pub faults : WasNotCutOff done → IsFaultless s0 s1
+    pub header : between.header ≡ c.file.header
+    pub room : HasRoomOf c.caches mid
+    pub held : c'.space.to_free.held ≡ c.space.to_free.held
+    pub reach : Ready → AreTablesInReach (cached_in mid) × AreBlocksInReach (cached_in mid)
+    pub why : IfErr done (WhyNotNamed Ready s0.faults s1.faults)
+    pub waits : Ready → c'.space.to_free.entries ≡ c.space.to_free.entries
+    pub progress : Ready → Progresses (result ≡ Ok tt) (naming m0 guest x) s0 m0 s2 m2
+    pub l1 : Ready → result ≡ Ok tt → (l1 : TableValue) → IsL1Of m0.file c.file.header.fields l1 → IsL1Of m2.file c'.file.header.fields l1
+    pub named : Ready → result ≡ Ok tt → entry m2.file c.file.header.fields guest ≡ data_at x true
+    pub bytes : Ready → result ≡ Ok tt → (q : ℕ) → q / cluster_size c.file.header.fields ≡ x → m2.file q ≡ m0.file q
+
+  module _ (settles : Settles state done between mid result c'.file c'.caches) where
+    behind : Later s1 s2
+    behind = (settles.quiet (table_of c'.space.allocator) c'.space.to_free.entries).later
+
+    why-refused : Begun → IfErr result (WhyNotNamed Ready s0.faults s2.faults)
+    why-refused begun = settled-cause state done between mid result c'.file c'.caches settles (WhyNotNamed Ready s0.faults) begun.why
+        (λ whole fault. why-settled _ Ready s0.faults s1.faults s2.faults fault begun.reach begun.later.faults)
+
+    succeeded : Begun → Ready → WasNotCutOff result → result ≡ Ok tt
+    succeeded begun ready whole = by result (why-refused begun) whole where
+      by : (r : Result Unit Fault) → IfErr r (WhyNotNamed Ready s0.faults s2.faults) → WasNotCutOff r → r ≡ Ok tt
+      by (Ok v) why whole = refl
+      by (Err fault) why mild = absurd (never-mild Ready s0.faults s2.faults fault ready why mild)
+
+    on-ok : (r : Result Unit Fault) (P : Type 0) → (r ≡ Ok tt → P) → OnOk r P
+    on-ok (Ok v) P from = from refl
+    on-ok (Err fault) P from = tt
+
+    pub names-begun : Begun → Names state table guest x c result c'
+    names-begun begun = record {
+      progress = λ able.
+          progresses-ready (result ≡ Ok tt) (naming m0 guest x) s0 m0 s2 m2 ((settles.quiet (table_of c'.space.allocator) c'.space.to_free.entries).shape ∙ begun.shape)
+          (later_both s0 s1 s2 begun.later behind) (λ keeps sound. begun.progress (record { keeps = keeps; sound = sound }, able));
+      rests = record {
+        shape = (settles.quiet (table_of c'.space.allocator) c'.space.to_free.entries).shape ∙ begun.shape;
+        later = later_both s0 s1 s2 begun.later behind;
+        empty = settles.empty;
+        room = record { tables = settles.room.tables ∙ begun.room.tables; blocks = settles.room.blocks ∙ begun.room.blocks };
+        header = (c.file.header.fields.refcount_table_offset, c.file.header.fields.refcount_table_clusters, settles.header ∙ begun.header);
+        faults = settled-faultless state done between mid result c'.file c'.caches settles s0 begun.faults;
+      };
+      header = settles.header ∙ begun.header;
+      held = begun.held;
+      l1 = λ able ready whole. begun.l1 (ready, able) (succeeded begun (ready, able) whole);
+      waits = λ ready able. begun.waits (ready, able);
+      named = λ ready able. on-ok result _ (begun.named (ready, able));
+      bytes = λ ready able. on-ok result _ (begun.bytes (ready, able));
+      cause = why-refused begun;
+    }
+
+  module _ (rest : AreEmpty c.caches) (room : HasEntries c.caches) where
+    reach-of-none : AreTablesInReach (cached_in c.caches) × AreBlocksInReach (cached_in c.caches)
+    reach-of-none = subst (λ (k : Cached). AreTablesInReach k × AreBlocksInReach k) (sym rest) (tt, tt)
+
+    abbrev awake : Metadata
+    awake = record m0 { cached = cached_in c.caches; order = order_of c.caches }
+
+    abbrev found-as : MetadataCaches S → Metadata
+    found-as caches = record m0 { file = bytes_of s1.bytes; cached = cached_in caches; order = order_of c.caches }
+
+    -- The search leaves the disk as it is.
+    searched : (answer : Result Unit Fault) (caches : MetadataCaches S) → TableFound state table c.caches c.file answer caches between
+        → Quietly (WasNotCutOff answer) (λ _. 0) (λ _. 0) s0 m0 s1 (found-as caches)
+    searched answer caches found =
+        quietly-then ⊤ (WasNotCutOff answer) (λ _. 0) (λ _. 0) (λ _. 0) (λ _. 0) s0 m0 s0 awake s1 (found-as caches) tt (λ sound d named. refl)
+        (begun-quietly ⊤ s0 awake rest)
+        (going-quietly awake (WasNotCutOff answer) s0 s1 (cached_in caches) refl found.going)
+
+    -- It was refused.
+    module _ (fault : Fault) (found : TableFound state table c.caches c.file (Err fault) mid between) (is : done ≡ Err fault)
+        (list : c'.space.to_free ≡ c.space.to_free) (settles : Settles state done between mid result c'.file c'.caches) where
+      refused-why : WhyNotNamed Ready s0.faults s1.faults fault
+      refused-why = why-found _ _ Ready s0.faults s1.faults fault
+          (λ ready. (
+            table-fine m0 table guest x ready.0.sound ready.1 (bytes_of s1.bytes)
+                (ap bytes_of (only-read state table c.caches c.file rest (Err fault) mid between found).bytes),
+            reach-of-none.0,
+            reach-of-none.1,
+          ))
+          (never-full state table c.caches c.file rest room) found.cause
+
+      refused-cut : Ready → (result ≡ done) × (c'.file ≡ between)
+      refused-cut ready = settles.cut (λ whole. never-mild Ready s0.faults s1.faults fault ready refused-why (subst WasNotCutOff is whole))
+
+      refused-never : Ready → result ≡ Ok tt → ⊥
+      refused-never ready ok = let bad : Ok tt ≡ Err fault = sym ok ∙ (refused-cut ready).0 ∙ is in absurd cc
+
+      refused-progress : Ready → Progresses (result ≡ Ok tt) (naming m0 guest x) s0 m0 s2 m2
+      refused-progress ready =
+          subst (λ (f : ImageFile S). Progresses (result ≡ Ok tt) (naming m0 guest x) s0 m0 (state f.image) m2) (sym (refused-cut ready).1)
+          (progresses-halted (IsMild fault) (result ≡ Ok tt) (handing (λ _. 0) (λ _. 0)) (naming m0 guest x) s0 m0 s1 (found-as mid) m2
+          (wider-handing (λ _. 0) (λ _. 0) (naming m0 guest x)) (λ keeps sound ok. refused-never ready ok)
+          (quiet-progresses (IsMild fault) (λ _. 0) (λ _. 0) s0 m0 s1 (found-as mid) (λ sound d named. refl) (searched (Err fault) mid found)))
+
+      refused-begun : Begun
+      refused-begun = record {
+        shape = found.going.shape;
+        later = found.going.later;
+        faults = λ whole. found.going.faults (subst WasNotCutOff is whole);
+        header = found.others.1;
+        room = found.room;
+        held = ap (λ (l : FreeList). l.held) list;
+        reach = λ ready. subst (λ (k : Cached). AreTablesInReach k × AreBlocksInReach k) (sym (refused-empty state table c.caches c.file rest fault mid between found)) (tt, tt);
+        why = subst (λ r. IfErr r (WhyNotNamed Ready s0.faults s1.faults)) (sym is) refused-why;
+        waits = λ ready. ap (λ (l : FreeList). l.entries) list;
+        progress = refused-progress;
+        l1 = λ ready ok. absurd (refused-never ready ok);
+        named = λ ready ok. absurd (refused-never ready ok);
+        bytes = λ ready ok. absurd (refused-never ready ok);
+      }
+
+    -- The table was found, and its word set.
+    module _ (some : x ≢ 0) (near : IsInReach c.file.header.fields.cluster_bits x) (before : Option FreeEntry)
+        (u : TableUsed state table (NamesIn c.file.header.fields.cluster_bits guest x) c.caches c.file (Ok before) mid between) where
+      abbrev read : TableValue
+      read = table_in (bytes_of s1.bytes) c.file.header.fields table (words_of_cluster c.file.header.fields)
+
+      bytes-same : bytes_of s1.bytes ≡ bytes_of s0.bytes
+      bytes-same = ap bytes_of (only-read state table c.caches c.file rest (Ok tt) u.mid between u.found).bytes
+
+      is-read : u.table ≡ read
+      is-read = used-read state table c.caches c.file rest u.mid between u.found u.table u.there
+
+      is-file's : u.table ≡ table_in m0.file c.file.header.fields table (words_of_cluster c.file.header.fields)
+      is-file's = is-read ∙ ap (λ (b : Bytes). table_in b c.file.header.fields table (words_of_cluster c.file.header.fields)) bytes-same
+
+      left-alone : cached_in mid ≡ lone_table table u.table'
+      left-alone = used-alone state table c.caches c.file rest u.mid between u.table' mid u.found u.left
+
+      -- Nothing had been allocated.
+      none-freed : Ready → before ≡ None
+      none-freed ready =
+          u.used.ok.2 ∙ ap (λ o. freed (replaced x o)) (old-allocated m0 table guest x ready.0.sound ready.1 u.table is-file's c.file.header.fields.cluster_bits)
+
+      set-reach : Ready → AreTablesInReach (cached_in mid) × AreBlocksInReach (cached_in mid)
+      set-reach ready =
+          let bits : u.table'.layout.cluster_bits ≡ c.file.header.fields.cluster_bits =
+          ap (λ (t : TableValue). t.layout.cluster_bits) (u.used.ok.1 ∙ ap (λ t. with_word t _ _) is-read) in
+          subst (λ (k : Cached). AreTablesInReach k × AreBlocksInReach k) (sym left-alone)
+          (((λ modified. subst (λ b. IsInReach b table) (sym bits) (table-near m0 table guest x ready.0.sound ready.1)), tt), tt)
+
+      module _ (ready : Ready) (allocator : c'.space.allocator ≡ c.space.allocator) (list : c'.space.to_free ≡ c.space.to_free) (is : done ≡ Ok tt)
+          (settles : Settles state done between mid result c'.file c'.caches) where
+        abbrev able : IsNameable m0 table guest x
+        able = ready.1
+
+        abbrev row : ℕ
+        row = guest / words_of_cluster c.file.header.fields
+
+        abbrev column : ℕ
+        column = guest % words_of_cluster c.file.header.fields
+
+        abbrev m1 : Metadata
+        m1 = metadata_of state between mid (table_of c'.space.allocator) c'.space.to_free.entries
+
+        abbrev set-image : Metadata
+        set-image = record (found-as u.mid) { cached = cached_in mid }
+
+        same-image : set-image ≡ m1
+        same-image =
+            let header : c.file.header ≡ between.header = sym u.found.others.1 in
+            let order : order_of c.caches ≡ order_of mid = sym (ap order_of u.left ∙ u.found.others.0) in
+            let refcounts : table_of c.space.allocator ≡ table_of c'.space.allocator = ap table_of (sym allocator) in
+            let pending : c.space.to_free.entries ≡ c'.space.to_free.entries = ap (λ (l : FreeList). l.entries) (sym list) in
+            λ k. record { file = bytes_of s1.bytes; header = header k; cached = cached_in mid; order = order k; table = refcounts k; pending = pending k }
+
+        first : IsSound (found-as u.mid) × IsQuiet (λ _. 0) (λ _. 0) m0 (found-as u.mid)
+        first = (searched (Ok tt) u.mid u.found).holds ready.0.keeps ready.0.sound tt
+
+        abbrev step-kind : Kind
+        step-kind = stepping (found-as u.mid) row column x (mapping_in u.table column)
+
+        tables-set : (cached_in mid).tables ≡ hit (nat_eq table) (cached_in u.mid).tables (with_word u.table column (2 ^ 63 + x * cluster_size c.file.header.fields))
+        tables-set = ap (λ (k : MetadataCaches S). (cached_in k).tables) u.left ∙ ap (hit (nat_eq table) (cached_in u.mid).tables) u.used.ok.1
+
+        blocks-set : (cached_in mid).blocks ≡ (cached_in u.mid).blocks
+        blocks-set = ap (λ (k : MetadataCaches S). (cached_in k).blocks) u.left
+
+        word-set : AdvancesBy step-kind (found-as u.mid) set-image
+            × (entry (in_memory set-image) c.file.header.fields guest ≡ data_at x true)
+            × IsWider step-kind (naming m0 guest x)
+            × IsUsed set-image x
+        word-set =
+            word-named m0 table guest x ready.0.sound able some near (bytes_of s1.bytes) (cached_in u.mid) (order_of c.caches) bytes-same first.0 first.1
+            u.table u.there (cached_in mid) tables-set blocks-set
+
+        set-sound : IsSound m1
+        set-sound = subst IsSound same-image word-set.0.sound
+
+        settled : Quietly (WasNotCutOff result) (λ _. 0) (λ _. 0) s1 m1 s2 m2
+        settled = settles.quiet (table_of c'.space.allocator) c'.space.to_free.entries
+
+        last : result ≡ Ok tt → IsSound m2 × IsQuiet (λ _. 0) (λ _. 0) m1 m2
+        last ok = settled.holds (keeps_on s0 s1 u.found.going.shape ready.0.keeps) set-sound (subst WasNotCutOff (sym ok) tt)
+
+        -- The search, the word and what is written then, one behind the other.
+        set-progress : Progresses (result ≡ Ok tt) (naming m0 guest x) s0 m0 s2 m2
+        set-progress =
+            let none : Kind = handing (λ _. 0) (λ _. 0) in
+            let one = quiet-progresses ⊤ (λ _. 0) (λ _. 0) s0 m0 s1 (found-as u.mid) (λ sound d named. refl) (searched (Ok tt) u.mid u.found) in
+            let two : Progresses ⊤ step-kind s1 (found-as u.mid) s1 m1 =
+            subst (Progresses ⊤ step-kind s1 (found-as u.mid) s1) same-image (progresses-in-memory ⊤ step-kind s1 (found-as u.mid) set-image (λ sound yes. word-set.0)) in
+            let three = quiet-progresses (WasNotCutOff result) (λ _. 0) (λ _. 0) s1 m1 s2 m2 (λ sound d named. refl) settled in
+            let behind = progresses-then (WasNotCutOff result) ⊤ step-kind none s1 (found-as u.mid) s1 m1 s2 m2 tt two three in
+            let all = progresses-then (WasNotCutOff result) ⊤ none (both step-kind none) s0 m0 s1 (found-as u.mid) s2 m2 tt one behind in
+            progresses-weaker (WasNotCutOff result) (result ≡ Ok tt) (both none (both step-kind none)) (naming m0 guest x) s0 m0 s2 m2
+            (wider-both none (both step-kind none) (naming m0 guest x) (wider-handing (λ _. 0) (λ _. 0) (naming m0 guest x))
+            (wider-both step-kind none (naming m0 guest x) word-set.2 (wider-handing (λ _. 0) (λ _. 0) (naming m0 guest x))))
+            (λ ok. subst WasNotCutOff (sym ok) tt)
+            (λ d. let old = old-named m0 table guest x ready.0.sound able u.table is-file's d in omega (arith, old))
+            (λ d. omega arith) all
+
+        set-l1 : result ≡ Ok tt → (l1 : TableValue) → IsL1Of m0.file c.file.header.fields l1 → IsL1Of m2.file c'.file.header.fields l1
+        set-l1 ok l1 of =
+            let both = last ok in
+            l1-stays m1.file m2.file m1.header m2.header l1 both.1.shows.moved both.1.shows.l1
+            (subst (λ (m : Metadata). IsL1Of m.file m.header.fields l1) same-image (subst (λ (b : Bytes). IsL1Of b c.file.header.fields l1) (sym bytes-same) of))
+
+        set-named : result ≡ Ok tt → entry m2.file c.file.header.fields guest ≡ data_at x true
+        set-named ok =
+            let both = last ok in
+            let same : entry (in_memory m2) m2.header.fields guest ≡ entry (in_memory m1) m1.header.fields guest =
+            quiet-entries m1 m2 (λ _. 0) (λ _. 0) set-sound both.0 both.1 guest in
+            let clean : in_memory m2 ≡ m2.file = clean-memory m2.file m2.header.fields nothing_cached tt tt in
+            ap (λ (b : Bytes). entry b c.file.header.fields guest) (sym clean)
+            ∙ ap (λ (H : Header). entry (in_memory m2) H.fields guest) (sym (settles.header ∙ u.found.others.1))
+            ∙ same
+            ∙ ap (λ (m : Metadata). entry (in_memory m) m.header.fields guest) (sym same-image)
+            ∙ word-set.1
+
+        -- What is written then leaves what is used.
+        set-bytes : result ≡ Ok tt → (q : ℕ) → q / cluster_size c.file.header.fields ≡ x → m2.file q ≡ m0.file q
+        set-bytes ok q at =
+            let quiet : IsQuiet (λ _. 0) (λ _. 0) set-image m2 = subst (λ m. IsQuiet (λ _. 0) (λ _. 0) m m2) (sym same-image) (last ok).1 in
+            let used : IsUsed set-image (q / cluster_size c.file.header.fields) = subst (IsUsed set-image) (sym at) word-set.3 in
+            in-cluster c.file.header.fields (bytes_of s1.bytes) m2.file q (quiet.kept (q / cluster_size c.file.header.fields) used refl)
+            ∙ ap (λ (b : Bytes). b q) bytes-same
+
+      -- What it named before waits, if it named anything.
+      module _ (held : c'.space.to_free.held ≡ c.space.to_free.held) (why : IfErr done (WhyNotNamed Ready s0.faults s1.faults))
+          (waits : Ready → (done ≡ Ok tt) × (c'.space.to_free ≡ c.space.to_free)) (allocator : c'.space.allocator ≡ c.space.allocator)
+          (settles : Settles state done between mid result c'.file c'.caches) where
+        set-begun : Begun
+        set-begun = record {
+          shape = u.found.going.shape;
+          later = u.found.going.later;
+          faults = λ whole. u.found.going.faults tt;
+          header = u.found.others.1;
+          room = record {
+            tables = ap (λ (k : MetadataCaches S). k.l2.slots.cap) u.left ∙ u.found.room.tables;
+            blocks = ap (λ (k : MetadataCaches S). k.rb.slots.cap) u.left ∙ u.found.room.blocks;
+          };
+          held = held;
+          reach = set-reach;
+          why = why;
+          waits = λ ready. ap (λ (l : FreeList). l.entries) (waits ready).1;
+          progress = λ ready. set-progress ready allocator (waits ready).1 (waits ready).0 settles;
+          l1 = λ ready. set-l1 ready allocator (waits ready).1 (waits ready).0 settles;
+          named = λ ready. set-named ready allocator (waits ready).1 (waits ready).0 settles;
+          bytes = λ ready. set-bytes ready allocator (waits ready).1 (waits ready).0 settles;
+        }
+
+    -- Of the three calls.
+    module _ (some : x ≢ 0) (near : IsInReach c.file.header.fields.cluster_bits x) (allocator : c'.space.allocator ≡ c.space.allocator)
+        (settles : Settles state done between mid result c'.file c'.caches) where
+      -- The table that is found is one of this image.
+      bits-same : (fault : Fault) (u : TableUsed state table (NamesIn c.file.header.fields.cluster_bits guest x) c.caches c.file (Err fault) mid between) → ⊥
+      bits-same fault u =
+          u.used.err.1 (ap (λ (t : TableValue). t.layout.cluster_bits) (used-read state table c.caches c.file rest u.mid between u.found u.table u.there))
+
+      held-by : {list : FreeList} → c'.space.to_free ≡ list → c'.space.to_free.held ≡ list.held
+      held-by same = ap (λ (l : FreeList). l.held) same
+
+      put-why : (answer : Result Unit Fault) → done ≡ answer → IfErr answer (WhyNotNamed Ready s0.faults s1.faults) → IfErr done (WhyNotNamed Ready s0.faults s1.faults)
+      put-why answer is why = subst (λ r. IfErr r (WhyNotNamed Ready s0.faults s1.faults)) (sym is) why
+
+      some-freed : (e : FreeEntry) → TableUsed state table (NamesIn c.file.header.fields.cluster_bits guest x) c.caches c.file (Ok (Some e)) mid between → Ready → ⊥
+      some-freed e u ready = let none = none-freed some near (Some e) u ready in cc
+
+      begun-by : (named : Result (Option FreeEntry) Fault) → UsesTable state table (NamesIn c.file.header.fields.cluster_bits guest x) c.caches c.file named mid between
+          → PutsOff named c.space.to_free done c'.space.to_free → Begun
+      begun-by (Err fault) (inl r) puts =
+          let same : fault ≡ r.0 = cc r.1 in
+          refused-begun fault (subst (λ f. TableFound state table c.caches c.file (Err f) mid between) (sym same) r.2) puts.0 puts.1 settles
+      begun-by (Err fault) (inr u) puts = absurd (bits-same fault u)
+      begun-by (Ok before) (inl r) puts = absurd (let is = r.1 in cc)
+      begun-by (Ok None) (inr u) puts = set-begun some near None u (held-by puts.1) (put-why (Ok tt) puts.0 tt) (λ ready. puts) allocator settles
+      begun-by (Ok (Some e)) (inr u) (inl puts) =
+          set-begun some near (Some e) u (held-by puts.1) (put-why (Ok tt) puts.0 tt) (λ ready. absurd (some-freed e u ready)) allocator settles
+      begun-by (Ok (Some e)) (inr u) (inr puts) =
+          set-begun some near (Some e) u (held-by puts.1) (put-why (Err Memory) puts.0 tt) (λ ready. absurd (some-freed e u ready)) allocator settles
+
+      pub names-by : (named : Result (Option FreeEntry) Fault) → UsesTable state table (NamesIn c.file.header.fields.cluster_bits guest x) c.caches c.file named mid between
+          → PutsOff named c.space.to_free done c'.space.to_free → Names state table guest x c result c'
+      names-by named used puts = names-begun settles (begun-by named used puts)

@@ -1,0 +1,143 @@
+-- What was stored is settled.
+use Rattle.std.proofs.Common.{◌≡◌, ℕ, ◌+◌, ◌*◌, ◌<◌, ◌≤◌, refl, arith, ap, sym, subst, ◌∙◌, inl, inr, List, length, Result, Ok, Err}
+use Rattle.std.specs.Prelude.{IfOk, OnOk, slice_index}
+use Rattle.imago_storage.specs.State.{StorageState}
+use Rattle.imago_storage.specs.declared.fault.Fault.{Fault}
+use Rattle.imago_storage.specs.declared.fault.Fault.TheVariants.{DamagedTable, Memory, Storage}
+use Rattle.imago_storage.proofs.Composing.{keeps_on, rose_behind}
+use Rattle.qcow2_types.specs.Frames.{Same}
+use Rattle.qcow2_types.specs.Header.{Header, cluster_size}
+use Rattle.qcow2_alloc.specs.declared.cache.MetadataCaches.{MetadataCaches}
+use Rattle.qcow2_alloc.specs.declared.file.ImageFile.{ImageFile}
+use Rattle.qcow2_alloc.specs.Allocators.{table_of}
+use Rattle.qcow2_alloc.specs.Caches.{cached_in}
+use Rattle.qcow2_alloc.specs.Going.{AreBlocksInReach, AreTablesInReach, IsMild, WasNotCutOff}
+use Rattle.qcow2_alloc.specs.Quiet.{IsQuiet, IsSound, Quietly}
+use Rattle.qcow2_alloc.proofs.Memory.SafeLaws.{safe-reach}
+use Rattle.qcow2_alloc.proofs.Quiet.QuietGiven.{quietly-given}
+use Rattle.qcow2_steps.specs.Words.{IsReserved}
+use Rattle.qcow2_steps.proofs.AddingUp.{reserved-still}
+use Rattle.qcow2_steps.proofs.Steps.{quiet-advances}
+use Rattle.qcow2_clusters.specs.Rest.{Clusters, IsReady, changed, lent, resting, storage}
+use Rattle.qcow2_clusters.specs.Settling.{Settles, WhyNotSettled}
+use Rattle.qcow2_clusters.specs.Storing.{Stores, StoresUnsettled, WhyNotAllocated, handed_by, held_by}
+use Rattle.qcow2_clusters.proofs.Adding.{quiet-progresses}
+use Rattle.qcow2_clusters.proofs.Ending.{quiet-halted, settled-cases, settled-cause, settled-faultless, settled-if-ok, settled-quietly}
+use Rattle.qcow2_clusters.proofs.Resting.{l1-kept}
+
+-- why what was stored couldn't be settled
+why-flushed : (reach ready : Type 0) → (ready → reach) → (before mid after : ℕ) → before ≤ mid → (fault : Fault) → WhyNotSettled reach mid after fault → WhyNotAllocated ready before after fault
+why-flushed reach ready is before mid after later Memory why = tt
+why-flushed reach ready is before mid after later Storage why = rose_behind before mid after later why
+why-flushed reach ready is before mid after later DamagedTable why = λ here. why (is here)
+why-flushed reach ready is before mid after later _ why = absurd why
+
+-- A mild one comes only where something is out of reach.
+mild-reach : (reach : Type 0) (mid after : ℕ) (fault : Fault) → WhyNotSettled reach mid after fault → reach → IsMild fault → ⊥
+mild-reach reach mid after Memory why near mild = mild
+mild-reach reach mid after Storage why near mild = mild
+mild-reach reach mid after DamagedTable why near mild = why near
+mild-reach reach mid after _ why near mild = why
+
+module _ {S : Type 0} (state : S → StorageState) (content : List ℕ) (c : Clusters S) (long : length content ≡ cluster_size c.file.header.fields) (was : Result ℕ Fault) (mid : Clusters S)
+    (stored : StoresUnsettled state content c was mid) (result : Result ℕ Fault) (after : ImageFile S) (new : MetadataCaches S) (settles : Settles state was mid.file mid.caches result after new)
+    (held : ℕ) where
+  abbrev c' : Clusters S
+  c' = lent after new (record { allocator = mid.space.allocator; to_free = record { entries = mid.space.to_free.entries; held = held } })
+
+  abbrev Reach : Type 0
+  Reach = AreTablesInReach (cached_in mid.caches) × AreBlocksInReach (cached_in mid.caches)
+
+  in-reach : IsReady state c → WasNotCutOff was → Reach
+  in-reach ready whole = safe-reach (changed state mid).file mid.file.header (cached_in mid.caches) mid.caches.order (stored.quiet.holds ready.keeps ready.sound whole).0.safe
+
+  -- The image stays as it was to the disk, with what was handed out,
+  as-was : Quietly (WasNotCutOff result) (handed_by was) (λ _. 0) (storage state c) (resting state c) (storage state c') (resting state c')
+  as-was =
+      settled-quietly state was mid.file mid.caches result after new settles (table_of mid.space.allocator) mid.space.to_free.entries (storage state c) (resting state c) (handed_by was) stored.quiet
+
+  -- which is nothing where it is refused.
+  all-quietly : Quietly (WasNotCutOff result) (handed_by result) (λ _. 0) (storage state c) (resting state c) (storage state c') (resting state c')
+  all-quietly = elim (settled-cases state was mid.file mid.caches result after new settles) [
+    | inl same ↦
+        subst (λ (r : Result ℕ Fault). Quietly (WasNotCutOff result) (handed_by r) (λ _. 0) (storage state c) (resting state c) (storage state c') (resting state c')) (sym same) as-was
+    | inr refused ↦
+        subst (λ (r : Result ℕ Fault). Quietly (WasNotCutOff r) (handed_by r) (λ _. 0) (storage state c) (resting state c) (storage state c') (resting state c')) (sym refused.2)
+        (quietly-given (IsMild refused.1) (λ _. 0) (λ _. 0) (storage state c) (resting state c) (storage state c') (resting state c') as-was.shape as-was.later (λ keeps sound.
+        quiet-halted (WasNotCutOff result) (IsMild refused.1) (handed_by was) (λ _. 0) (λ _. 0) (λ _. 0) (storage state c) (resting state c) (storage state c') (resting state c') (resting state c')
+        (λ mild. mild-reach Reach (storage state mid).faults (storage state c').faults refused.1 refused.3 (in-reach (record { keeps = keeps; sound = sound }) refused.0) mild) as-was))
+  ]
+
+  -- What is settled keeps what is reserved, with its bytes.
+  module _ (x : ℕ) (is : result ≡ Ok x) (ready : IsReady state c) where
+    stays : result ≡ was
+    stays = elim (settled-cases state was mid.file mid.caches result after new settles) [
+      | inl same ↦ same
+      | inr refused ↦ absurd (let no = sym is ∙ refused.2 in cc no)
+    ]
+
+    before : was ≡ Ok x
+    before = sym stays ∙ is
+
+    done : WasNotCutOff result
+    done = subst (λ (r : Result ℕ Fault). WasNotCutOff r) (sym is) tt
+
+    sound : IsSound (changed state mid)
+    sound = (stored.quiet.holds ready.keeps ready.sound (subst (λ (r : Result ℕ Fault). WasNotCutOff r) (sym before) tt)).0
+
+    step : IsSound (resting state c') × IsQuiet (λ _. 0) (λ _. 0) (changed state mid) (resting state c')
+    step = (settles.quiet (table_of mid.space.allocator) mid.space.to_free.entries).holds (keeps_on (storage state c) (storage state mid) stored.quiet.shape ready.keeps) sound done
+
+    reserved : IsReserved (changed state mid) x
+    reserved = subst (λ (r : Result ℕ Fault). IfOk r (IsReserved (changed state mid))) before (stored.reserved ready)
+
+    reserved-there : IsReserved (resting state c') x
+    reserved-there =
+        reserved-still (λ p v. ⊥) (λ q. ⊥) (λ guest. ⊥) (λ _. 0) (λ _. 0) (changed state mid) (resting state c')
+        (quiet-advances (changed state mid) (resting state c') (λ _. 0) (λ _. 0) sound step.0 step.1 (λ k some. refl)) x reserved refl
+
+    bytes : (i : ℕ) → i < length content → (changed state mid).file (x * cluster_size c.file.header.fields + i) ≡ slice_index content i
+    bytes = subst (λ (r : Result ℕ Fault). IfOk r (λ x. (i : ℕ) → i < length content → (changed state mid).file (x * cluster_size c.file.header.fields + i) ≡ slice_index content i)) before (stored.stored ready)
+
+    size : cluster_size mid.file.header.fields ≡ cluster_size c.file.header.fields
+    size = ap (λ (H : Header). cluster_size H.fields) stored.header.2
+
+    kept : Same (changed state mid).file (resting state c').file (x * cluster_size c.file.header.fields) (cluster_size c.file.header.fields)
+    kept = subst (λ n. Same (changed state mid).file (resting state c').file (x * n) n) size (step.1.kept x reserved.used refl)
+
+    bytes-there : (i : ℕ) → i < length content → (resting state c').file (x * cluster_size c.file.header.fields + i) ≡ slice_index content i
+    bytes-there i lt = kept i (omega (arith, lt, long)) ∙ bytes i lt
+
+  reserved-if : (r : Result ℕ Fault) → result ≡ r → IsReady state c → IfOk r (IsReserved (resting state c'))
+  reserved-if (Ok x) is ready = reserved-there x is ready
+  reserved-if (Err fault) is ready = tt
+
+  bytes-if : (r : Result ℕ Fault) → result ≡ r → IsReady state c
+      → IfOk r (λ x. (i : ℕ) → i < length content → (resting state c').file (x * cluster_size c.file.header.fields + i) ≡ slice_index content i)
+  bytes-if (Ok x) is ready = bytes-there x is ready
+  bytes-if (Err fault) is ready = tt
+
+  pub stored-settled : held ≡ held_by result c.space.to_free.held → Stores state content c result c'
+  stored-settled room = record {
+    progress = quiet-progresses (WasNotCutOff result) (handed_by result) (λ _. 0) (storage state c) (resting state c) (storage state c') (resting state c') (λ sound k some. refl) all-quietly;
+    rests = record {
+      empty = settles.empty;
+      room = record { tables = settles.room.tables ∙ stored.room.tables; blocks = settles.room.blocks ∙ stored.room.blocks };
+      header = (stored.header.0, stored.header.1, settles.header ∙ stored.header.2);
+      shape = all-quietly.shape;
+      later = all-quietly.later;
+      faults = settled-faultless state was mid.file mid.caches result after new settles (storage state c) stored.faults;
+    };
+    held = room;
+    l1 = l1-kept state c result c' (handed_by result) (λ _. 0) all-quietly;
+    named = settled-if-ok state was mid.file mid.caches result after new settles _ stored.named;
+    reserved = reserved-if result refl;
+    stored = bytes-if result refl;
+    cause = settled-cause state was mid.file mid.caches result after new settles (WhyNotAllocated (IsReady state c) (storage state c).faults) stored.cause (λ whole fault why.
+        why-flushed Reach (IsReady state c) (λ ready. in-reach ready whole) (storage state c).faults (storage state mid).faults (storage state c').faults stored.quiet.later.faults fault why);
+  }
+
+-- No room is held for what was refused before.
+pub held-refused : (fault : Fault) (r : Result ℕ Fault) (held : ℕ) → OnOk r (r ≡ Err fault) → held_by r held ≡ held
+held-refused fault (Ok x) held is = absurd (cc is)
+held-refused fault (Err _) held is = refl

@@ -1,0 +1,20 @@
+use Rattle.std.proofs.Common.{◌≡◌, ℕ, ◌+◌, ◌*◌, ◌^◌, ◌≤◌, arith, length, subst}
+use Rattle.std.proofs.Math.Pow.{pow_mono}
+use Rattle.imago_storage.proofs.Once.{put-below}
+use Rattle.imago_storage.specs.Through.{Put}
+use Rattle.qcow2_types.specs.Header.{cluster_size}
+use Rattle.qcow2_clusters.proofs.storing.write_cluster.Goals as goal
+
+pub returns-clause-put : goal.returns-clause-put
+returns-clause-put g c =
+    let h = c.args.file.now.header.fields in
+    let before = g.S.Storage.state c.args.file.now.image in
+    let after = g.S.Storage.state c.write.new.self in
+    let w = c.write in
+    let most : 2 ^ h.cluster_bits ≤ 2 ^ 21 = pow_mono c.cluster_bits.ensures.shaped.high in
+    let reach = c.requires.reach in
+    let whole = c.requires.whole in
+    let at : c.place.inside.0 ≡ c.args.cluster * cluster_size h = cc in
+    let low : c.place.inside.0 + length c.args.content.now ≤ 2 ^ 63 = omega (arith, most, reach, whole, at) in
+    subst (λ (n : ℕ). Put before after n c.args.content.now w.result) at
+    (put-below w.result before after c.place.inside.0 c.args.content.now w.ensures.unit low w.ensures.ok w.ensures.err w.ensures.stops w.ensures.shape w.ensures.later)

@@ -1,0 +1,29 @@
+-- How what waits to be freed is freed.
+use Rattle.std.specs.Prelude.{◌≡◌, [], ⊤, ℕ, Result, OnOk, IfErr}
+use Rattle.imago_storage.specs.State.{StorageState, Rose}
+use Rattle.imago_storage.specs.declared.fault.Fault.{Fault}
+use Rattle.imago_storage.specs.declared.fault.Fault.TheVariants.{Counter, DamagedTable, Memory, Storage}
+use Rattle.qcow2_alloc.specs.Going.{WasNotCutOff}
+use Rattle.qcow2_clusters.specs.Progress.{Progresses, handing}
+use Rattle.qcow2_clusters.specs.Rest.{Clusters, IsReady, KeepsL1, resting, storage}
+use Rattle.qcow2_clusters.specs.Storing.{Rests}
+
+-- Why a call is refused that frees: for want of memory or by a storage that failed; else only where the image isn't ready.
+abbrev pub WhyNotFreed : (ready : Type 0) → (before after : ℕ) → Fault → Type 0
+WhyNotFreed ready before after Memory = ⊤
+WhyNotFreed ready before after Storage = Rose before after
+WhyNotFreed ready before after DamagedTable = ready → ⊥
+WhyNotFreed ready before after Counter = ready → ⊥
+WhyNotFreed ready before after fault = ⊥
+
+-- What waits is freed: the disk stays as it was.
+pub record FreesWaiting {S : Type 0} (state : S → StorageState) (c : Clusters S) (result : Result Unit Fault)
+    (c' : Clusters S) : Type 0 where
+  pub progress : Progresses (WasNotCutOff result) (handing (λ _. 0) (λ _. 0)) (storage state c) (resting state c)
+      (storage state c') (resting state c')
+  pub rests : Rests state c result c'
+  pub held : c'.space.to_free.held ≡ c.space.to_free.held
+  pub l1 : KeepsL1 state c result c'
+  pub emptied : OnOk result (c'.space.to_free.entries ≡ [])
+  pub header : c'.file.header ≡ c.file.header
+  pub cause : IfErr result (WhyNotFreed (IsReady state c) (storage state c).faults (storage state c').faults)

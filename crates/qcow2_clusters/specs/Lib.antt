@@ -1,0 +1,7 @@
+pub mod Rest
+pub mod Progress
+pub mod Settling
+pub mod Storing
+pub mod Naming
+pub mod Freeing
+pub mod MakingTables

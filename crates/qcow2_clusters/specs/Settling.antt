@@ -1,0 +1,49 @@
+-- How changes end at rest.
+use Rattle.std.specs.Prelude.{◌≡◌, ◌⊎◌, ⊤, ℕ, List, Result, Err, OnOk}
+use Rattle.std.specs.List.{AllByRecursion}
+use Rattle.imago_storage.specs.State.{StorageState, Rose}
+use Rattle.imago_storage.specs.Calls.{IsFaultless}
+use Rattle.imago_storage.specs.declared.fault.Fault.{Fault}
+use Rattle.imago_storage.specs.declared.fault.Fault.TheVariants.{DamagedTable, Memory, Storage}
+use Rattle.qcow2_types.specs.Pending.{FreeEntry}
+use Rattle.qcow2_metadata.specs.Tables.{TableValue}
+use Rattle.qcow2_alloc.specs.declared.cache.CacheDependency.TheVariants.{Unset}
+use Rattle.qcow2_alloc.specs.declared.cache.MetadataCaches.{MetadataCaches}
+use Rattle.qcow2_alloc.specs.declared.file.ImageFile.{ImageFile}
+use Rattle.qcow2_alloc.specs.Allocators.{metadata_of}
+use Rattle.qcow2_alloc.specs.Caches.{cached_in, HasRoomOf}
+use Rattle.qcow2_alloc.specs.Going.{AreBlocksInReach, AreTablesInReach, WasNotCutOff}
+use Rattle.qcow2_alloc.specs.Quiet.{Metadata, Quietly}
+use Rattle.qcow2_clusters.specs.Rest.{AreEmpty, nothing_cached}
+
+-- nothing of the caches is pinned
+pub record AreUnpinned {S : Type 0} (caches : MetadataCaches S) : Type 0 where
+  pub tables : AllByRecursion (λ e. e.1.pins ≡ 0) (cached_in caches).tables
+  pub blocks : AllByRecursion (λ e. e.1.pins ≡ 0) (cached_in caches).blocks
+
+-- the image with nothing cached
+abbrev pub at_rest : Metadata → Metadata
+at_rest m = record m { cached = nothing_cached; order = Unset }
+
+-- Why what is modified can't be written, of an image whose tables and blocks words can name or not.
+abbrev pub WhyNotSettled : Type 0 → (before after : ℕ) → Fault → Type 0
+WhyNotSettled reach before after Memory = ⊤
+WhyNotSettled reach before after Storage = Rose before after
+WhyNotSettled reach before after DamagedTable = reach → ⊥
+WhyNotSettled reach before after fault = ⊥
+
+-- A change that was answered so ends: unless it was cut off, what is modified is written, and a fault of that takes the place of the
+-- answer; then nothing is cached. The disk stays as it was.
+pub record Settles {S T : Type 0} (state : S → StorageState) (given : Result T Fault) (before : ImageFile S) (old : MetadataCaches S)
+    (result : Result T Fault) (after : ImageFile S) (new : MetadataCaches S) : Type 0 where
+  pub empty : AreEmpty new
+  pub room : HasRoomOf old new
+  pub header : after.header ≡ before.header
+  pub quiet : (table : TableValue) (pending : List FreeEntry) → Quietly (WasNotCutOff result) (λ _. 0) (λ _. 0) (state before.image)
+      (metadata_of state before old table pending) (state after.image) (at_rest (metadata_of state after old table pending))
+  pub faults : WasNotCutOff result → IsFaultless (state before.image) (state after.image)
+  pub cut : (WasNotCutOff given → ⊥) → (result ≡ given) × (after ≡ before)
+  pub ok : OnOk result (result ≡ given)
+  pub answer : (result ≡ given) ⊎ ((fault : Fault) × (result ≡ Err fault)
+      × WhyNotSettled (AreTablesInReach (cached_in old) × AreBlocksInReach (cached_in old)) (state before.image).faults
+      (state after.image).faults fault)

@@ -1,0 +1,75 @@
+-- How bytes are stored in a cluster that was free.
+use Rattle.std.specs.Prelude.{◌≡◌, ◌≢◌, ⊤, ◌+◌, ◌*◌, ◌<◌, ℕ, List, length, slice_index, Result, Ok, Err, IfOk, IfErr}
+use Rattle.imago_storage.specs.State.{StorageState, Rose}
+use Rattle.imago_storage.specs.Calls.{IsFaultless, Later}
+use Rattle.imago_storage.specs.declared.fault.Fault.{Fault}
+use Rattle.imago_storage.specs.declared.fault.Fault.TheVariants.{Counter, DamagedTable, Limit, Memory, Storage}
+use Rattle.qcow2_types.specs.Header.{cluster_size}
+use Rattle.qcow2_metadata.specs.Places.{IsInReach}
+use Rattle.qcow2_alloc.specs.Allocating.{MovedTable}
+use Rattle.qcow2_alloc.specs.Caches.{HasRoomOf}
+use Rattle.qcow2_alloc.specs.Going.{WasNotCutOff}
+use Rattle.qcow2_alloc.specs.Quiet.{Quietly, one_at}
+use Rattle.qcow2_steps.specs.Words.{IsReserved}
+use Rattle.qcow2_clusters.specs.Progress.{Progresses, handing}
+use Rattle.qcow2_clusters.specs.Rest.{Clusters, AreEmpty, IsReady, KeepsL1, changed, resting, storage}
+use Rattle.qcow2_clusters.specs.Settling.{AreUnpinned}
+
+-- Why a call is refused that allocates: for want of memory, by a storage that failed, or since there is no place left; as a damaged table
+-- or a counter that can't change only where the image isn't ready.
+abbrev pub WhyNotAllocated : (ready : Type 0) → (before after : ℕ) → Fault → Type 0
+WhyNotAllocated ready before after Memory = ⊤
+WhyNotAllocated ready before after Storage = Rose before after
+WhyNotAllocated ready before after (Limit number) = ⊤
+WhyNotAllocated ready before after DamagedTable = ready → ⊥
+WhyNotAllocated ready before after Counter = ready → ⊥
+WhyNotAllocated ready before after fault = ⊥
+
+-- what a call hands out that answers a cluster
+abbrev pub handed_by : Result ℕ Fault → ℕ → ℕ
+handed_by (Ok cluster) c = one_at cluster c
+handed_by (Err fault) c = 0
+
+-- room is held for its entry on the list of clusters to free
+abbrev pub held_by : Result ℕ Fault → ℕ → ℕ
+held_by (Ok cluster) held = held + 1
+held_by (Err fault) held = held
+
+-- What every call leaves that begins and ends at rest, whatever it answers.
+pub record Rests {S T : Type 0} (state : S → StorageState) (c : Clusters S) (result : Result T Fault) (c' : Clusters S) : Type 0 where
+  pub empty : AreEmpty c'.caches
+  pub room : HasRoomOf c.caches c'.caches
+  pub header : MovedTable c.file.header c'.file.header
+  pub shape : (storage state c').shape ≡ (storage state c).shape
+  pub later : Later (storage state c) (storage state c')
+  pub faults : WasNotCutOff result → IsFaultless (storage state c) (storage state c')
+
+-- The same before that is settled: what is modified waits to be written.
+pub record StoresUnsettled {S : Type 0} (state : S → StorageState) (content : List ℕ) (c : Clusters S) (result : Result ℕ Fault)
+    (c' : Clusters S) : Type 0 where
+  pub quiet : Quietly (WasNotCutOff result) (handed_by result) (λ _. 0) (storage state c) (resting state c) (storage state c')
+      (changed state c')
+  pub unpinned : AreUnpinned c'.caches
+  pub room : HasRoomOf c.caches c'.caches
+  pub header : MovedTable c.file.header c'.file.header
+  pub faults : WasNotCutOff result → IsFaultless (storage state c) (storage state c')
+  pub held : c'.space.to_free.held ≡ held_by result c.space.to_free.held
+  pub named : IfOk result (λ x. (x ≢ 0) × IsInReach c.file.header.fields.cluster_bits x)
+  pub reserved : IsReady state c → IfOk result (IsReserved (changed state c'))
+  pub stored : IsReady state c → IfOk result (λ x. (i : ℕ) → i < length content
+      → (changed state c').file (x * cluster_size c.file.header.fields + i) ≡ slice_index content i)
+  pub cause : IfErr result (WhyNotAllocated (IsReady state c) (storage state c).faults (storage state c').faults)
+
+-- Bytes are stored in a cluster that was free, and that is reserved then: nothing names it, and the disk stays as it was.
+pub record Stores {S : Type 0} (state : S → StorageState) (content : List ℕ) (c : Clusters S) (result : Result ℕ Fault)
+    (c' : Clusters S) : Type 0 where
+  pub progress : Progresses (WasNotCutOff result) (handing (handed_by result) (λ _. 0)) (storage state c)
+      (resting state c) (storage state c') (resting state c')
+  pub rests : Rests state c result c'
+  pub held : c'.space.to_free.held ≡ held_by result c.space.to_free.held
+  pub l1 : KeepsL1 state c result c'
+  pub named : IfOk result (λ x. (x ≢ 0) × IsInReach c.file.header.fields.cluster_bits x)
+  pub reserved : IsReady state c → IfOk result (IsReserved (resting state c'))
+  pub stored : IsReady state c → IfOk result (λ x. (i : ℕ) → i < length content
+      → (resting state c').file (x * cluster_size c.file.header.fields + i) ≡ slice_index content i)
+  pub cause : IfErr result (WhyNotAllocated (IsReady state c) (storage state c).faults (storage state c').faults)

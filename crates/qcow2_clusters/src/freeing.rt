@@ -1,0 +1,27 @@
+// What waits to be freed is freed.
+ghost use Rattle.qcow2_clusters.specs.Freeing.{FreesWaiting};
+ghost use Rattle.qcow2_clusters.specs.Rest.{AreEmpty, HasEntries, lent};
+
+use crate::settling::settle;
+use crate::space::Space;
+use imago_storage::{Fault, Storage};
+use qcow2_alloc::{ImageFile, MetadataCaches};
+
+/// Counts down what waits to be freed, and writes what that changed. Nothing may be cached before, and nothing is then.
+///
+/// It refuses with `Fault::Memory` and `Fault::Storage`, and with `Fault::Counter` and `Fault::DamagedTable`, which no sound image has.
+/// Unless it was cut off, what wasn't counted down stays on the list.
+pub fn free_waiting<S: Storage>(
+    file: &mut ImageFile<S>,
+    caches: &mut MetadataCaches<S>,
+    space: &mut Space,
+) -> Result<(), Fault>
+    requires rest { AreEmpty caches.old }
+    requires room { HasEntries caches.old }
+    ensures { FreesWaiting S.state (lent file.old caches.old space.old) result (lent file.new caches.new space.new) }
+{
+    let freed = space
+        .allocator
+        .process_clusters_to_free(file, caches, &mut space.to_free);
+    settle(file, caches, freed)
+}

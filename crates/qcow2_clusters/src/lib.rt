@@ -1,0 +1,18 @@
+//! Single changes of an image's clusters, each begun and ended at rest: with nothing cached, and nothing that waits in memory to be
+//! written.
+//!
+//! Each call says what the image becomes, and which files a stop of the machine may leave in it.
+#![tactic(auto)]
+
+mod freeing;
+mod making_tables;
+mod naming;
+mod settling;
+mod space;
+mod storing;
+
+pub use freeing::free_waiting;
+pub use making_tables::make_table;
+pub use naming::name;
+pub use space::Space;
+pub use storing::store;

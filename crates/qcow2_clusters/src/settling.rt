@@ -1,0 +1,47 @@
+// Ends changes at rest: what is modified is written, and then nothing is cached.
+ghost use Rattle.std.specs.Prelude.{MatchBool};
+ghost use Rattle.qcow2_alloc.specs.Caches.{HasRoomOf};
+ghost use Rattle.qcow2_alloc.specs.Going.{WasNotCutOff};
+ghost use Rattle.qcow2_clusters.specs.Rest.{AreEmpty};
+ghost use Rattle.qcow2_clusters.specs.Settling.{AreUnpinned, Settles};
+
+use imago_storage::{Fault, Storage};
+use qcow2_alloc::{ImageFile, MetadataCaches};
+
+// Drops all that is cached: as nothing of it is pinned, nothing stays.
+fn drop_cached<S: Storage>(caches: &mut MetadataCaches<S>)
+    requires loose { AreUnpinned caches.old }
+    ensures empty { AreEmpty caches.new }
+    ensures room { HasRoomOf caches.old caches.new }
+{
+    let _tables = caches.invalidate_l2();
+    let _blocks = caches.invalidate_rb();
+}
+
+// Whether an answer is none of want of memory or of a storage that failed.
+fn was_not_cut_off<T>(answer: &Result<T, Fault>) -> bool
+    ensures { MatchBool result (WasNotCutOff answer.now) (WasNotCutOff answer.now → ⊥) }
+{
+    !matches!(answer, Err(Fault::Memory) | Err(Fault::Storage))
+}
+
+// Ends a change that was answered so: unless it was cut off, what is modified is written. Then nothing is cached.
+pub(crate) fn settle<S: Storage, T: Drop>(
+    file: &mut ImageFile<S>,
+    caches: &mut MetadataCaches<S>,
+    given: Result<T, Fault>,
+) -> Result<T, Fault>
+    requires loose { AreUnpinned caches.old }
+    ensures { Settles S.state given file.old caches.old result file.new caches.new }
+{
+    if !was_not_cut_off(&given) {
+        drop_cached(caches);
+        return given;
+    }
+    let flushed = caches.flush_all(file);
+    drop_cached(caches);
+    match flushed {
+        Ok(()) => given,
+        Err(fault) => Err(fault),
+    }
+}

@@ -1,0 +1,91 @@
+// Bytes are stored in clusters that were free.
+ghost use Rattle.std.specs.Prelude.{◌≡◌, ◌*◌, length};
+ghost use Rattle.imago_storage.specs.Through.{Put};
+ghost use Rattle.qcow2_types.specs.Header.{cluster_size};
+ghost use Rattle.qcow2_metadata.specs.Places.{IsInReach};
+ghost use Rattle.qcow2_clusters.specs.Rest.{AreEmpty, HasEntries, lent};
+ghost use Rattle.qcow2_clusters.specs.Storing.{Stores, StoresUnsettled};
+
+use crate::settling::settle;
+use crate::space::Space;
+use imago_storage::{Fault, Storage, StorageExt};
+use qcow2_alloc::{ImageFile, MetadataCaches};
+use qcow2_types::{ClusterCount, HostCluster};
+use std::alloc::Global;
+
+// Writes the content of a cluster that words can name.
+fn write_cluster<S: Storage>(
+    alloc: Global,
+    file: &mut ImageFile<S>,
+    cluster: HostCluster,
+    content: &[u8],
+) -> Result<(), Fault>
+    requires reach { IsInReach file.old.header.fields.cluster_bits cluster }
+    requires whole { length content.now ≡ cluster_size file.old.header.fields }
+    ensures put { Put (S.state file.old.image) (S.state file.new.image) (cluster * cluster_size file.old.header.fields) content.now result }
+    ensures header { file.new.header ≡ file.old.header }
+{
+    let place = cluster.offset(file.header.cluster_bits());
+    file.image.write(alloc, content, place.0)
+}
+
+// Writes the content of a guest cluster to a host cluster that it allocates.
+fn allocate_and_write<S: Storage>(
+    alloc: Global,
+    file: &mut ImageFile<S>,
+    caches: &mut MetadataCaches<S>,
+    space: &mut Space,
+    content: &[u8],
+) -> Result<HostCluster, Fault>
+    requires rest { AreEmpty caches.old }
+    requires room { HasEntries caches.old }
+    requires whole { length content.now ≡ cluster_size file.old.header.fields }
+    ensures { StoresUnsettled S.state content.now (lent file.old caches.old space.old) result (lent file.new caches.new space.new) }
+{
+    match space
+        .allocator
+        .allocate_clusters(file, caches, &mut space.to_free, ClusterCount(1), false)
+    {
+        Ok(pending) => {
+            let cluster = pending.cluster();
+            let _parts = pending.into_entry().into_parts();
+            match write_cluster(alloc, file, cluster, content) {
+                Ok(()) => Ok(cluster),
+                Err(fault) => {
+                    space.to_free.release();
+                    Err(fault)
+                }
+            }
+        }
+        Err(fault) => Err(fault),
+    }
+}
+
+/// Stores the content of a guest cluster in a host cluster that was free, which nothing names yet. Room is held for it then on the list of
+/// clusters to free, as `ClustersToFreeList::hold` does. Nothing may be cached before, and nothing is then.
+///
+/// It refuses with `Fault::Limit` where there is no place left; with `Fault::Memory` and `Fault::Storage`; and with `Fault::Counter` and
+/// `Fault::DamagedTable`, which no sound image has. No room is held then.
+pub fn store<S: Storage>(
+    alloc: Global,
+    file: &mut ImageFile<S>,
+    caches: &mut MetadataCaches<S>,
+    space: &mut Space,
+    content: &[u8],
+) -> Result<HostCluster, Fault>
+    requires rest { AreEmpty caches.old }
+    requires room { HasEntries caches.old }
+    requires whole { length content.now ≡ cluster_size file.old.header.fields }
+    ensures { Stores S.state content.now (lent file.old caches.old space.old) result (lent file.new caches.new space.new) }
+{
+    match allocate_and_write(alloc, file, caches, space, content) {
+        Ok(cluster) => match settle(file, caches, Ok(cluster)) {
+            Ok(cluster) => Ok(cluster),
+            Err(fault) => {
+                space.to_free.release();
+                Err(fault)
+            }
+        },
+        Err(fault) => settle(file, caches, Err(fault)),
+    }
+}
