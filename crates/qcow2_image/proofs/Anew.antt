@@ -1,10 +1,10 @@
 -- What reading the tables of an image anew leaves, and why it is refused.
-use Rattle.std.proofs.Common.{◌≡◌, ◌≢◌, ◌≤◌, ℕ, ◌+◌, refl, arith, ap, subst, sym, ◌∙◌, Bool, true, false, cond, List, [], ◌∷◌, Result, Ok, Err, inl, inr}
+use Rattle.std.proofs.Common.{◌≡◌, ◌≢◌, ℕ, ◌+◌, refl, arith, ap, subst, sym, ◌∙◌, false, cond, List, [], ◌∷◌, Result, Ok, Err, inl, inr}
 use Rattle.std.specs.Prelude.{IfErr, IsOk, nat_lt}
 use Rattle.std.proofs.lemmas.Bool.{cases_Bool}
 use Rattle.std.proofs.lemmas.List.Sums.{sum_by-cons}
 use Rattle.imago_storage.specs.State.{StorageState}
-use Rattle.imago_storage.specs.Calls.{Cause, Kept, Later}
+use Rattle.imago_storage.specs.Calls.{Cause, Kept}
 use Rattle.imago_storage.specs.declared.fault.Fault.{Fault}
 use Rattle.imago_storage.specs.declared.fault.Fault.TheVariants.{DamagedHeader, DamagedTable, Unsupported, Limit, CacheFull, Memory, Storage}
 use Rattle.qcow2_types.specs.Bytes.{Bytes}

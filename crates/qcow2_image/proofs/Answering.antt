@@ -1,18 +1,17 @@
 -- From a look at words to what a lookup of the driver answers.
-use Rattle.std.proofs.Common.{◌≡◌, ℕ, ◌+◌, ◌-◌, ◌*◌, ◌/◌, ◌%◌, ◌^◌, ◌<◌, ◌≤◌, refl, arith, ap, sym, subst, ◌∙◌, List, [], ◌∷◌, Bool, true, false, Some, None, Option, inl, inr}
-use Rattle.std.specs.Prelude.{⊤, ◌⊎◌, ◌&&◌, IsTrue, IfOk, slice_index, max, min, zero, suc}
+use Rattle.std.proofs.Common.{◌≡◌, ℕ, ◌+◌, ◌-◌, ◌*◌, ◌/◌, ◌%◌, ◌^◌, ◌<◌, ◌≤◌, refl, arith, ap, sym, subst, ◌∙◌, List, ◌∷◌, Bool, true, false, Some, None, Option, inl, inr}
+use Rattle.std.specs.Prelude.{⊤, ◌⊎◌, slice_index, max, zero, suc, Option}
 use Rattle.std.proofs.lemmas.Bool.{and_parts, lt-ltb}
 use Rattle.std.proofs.lemmas.Nat.{pow_pos, mod_below}
 use Rattle.std.proofs.Math.Nat.{pow-le-pow_right}
-use Rattle.imago_storage.specs.State.{StorageState, Rose, IsAlignment}
-use Rattle.imago_storage.specs.Disk.{Value, byte, barred, damaged_place}
+use Rattle.imago_storage.specs.State.{StorageState, IsAlignment}
+use Rattle.imago_storage.specs.Disk.{byte, barred, damaged_place}
 use Rattle.imago_storage.specs.declared.fault.Fault.{Fault}
 use Rattle.imago_storage.specs.declared.fault.Fault.TheVariants.{DamagedTable, Memory, Storage}
 use Rattle.imago_access.specs.Files.{byte_in}
-use Rattle.imago_access.specs.Layer.{Layer, Cell, own, unmapped, unit_of_layer}
+use Rattle.imago_access.specs.Layer.{Layer, Cell, own}
 use Rattle.imago_access.specs.Mappings.{IsOneOf, IsRun, IsInReach, HasStoredRoom, Looks, Names, NamesRoom}
 use Rattle.imago_access.specs.Refusals.{LookCause}
-use Rattle.imago_access.specs.declared.mapping.ShallowMapping.{ShallowMapping}
 use Rattle.imago_access.specs.declared.mapping.ShallowMapping.TheVariants as shallow
 use Rattle.imago_access.proofs.Units.{overflows_late, alignment_max}
 use Rattle.qcow2_types.specs.Bytes.{Bytes, bytes_of}
@@ -23,12 +22,15 @@ use Rattle.qcow2_types.specs.Entries.{entry}
 use Rattle.qcow2_metadata.specs.MappingView.{mapping_seen, IsNamed}
 use Rattle.qcow2_metadata.specs.declared.mapping.L2Mapping.{L2Mapping}
 use Rattle.qcow2_metadata.specs.declared.mapping.L2Mapping.TheVariants.{DataFile, Backing, Zero, Compressed}
-use Rattle.qcow2_image.specs.ImageLayer.{blank_of, cell_by, cells, home_by, qcow2_layer, shallow_of, unmapped_answer}
+use Rattle.qcow2_image.specs.ImageLayer.{blank_of, cell_by, cells, home_by, qcow2_layer, shallow_of, unmapped_answer, homes}
 use Rattle.qcow2_image.specs.declared.mode.OpenMode.{OpenMode}
 use Rattle.qcow2_image.specs.Looking.{EndsNear, Follows, IsRunOf, WhyNotLooked}
-use Rattle.qcow2_image.specs.Rooms.{TakesNone, ReadsNone, IsVacant, IsZeroed}
+use Rattle.qcow2_clusters.specs.Naming.{TakesNone}
+use Rattle.qcow2_image.specs.HeldHomes.{free-homes, words-first}
+use Rattle.qcow2_image.specs.Holding.{Holding}
+use Rattle.qcow2_image.specs.Rooms.{ReadsNone, IsVacant, IsZeroed}
 use Rattle.qcow2_image.specs.Homes.{home-there}
-use Rattle.qcow2_image.proofs.Ranges.{cluster-of, place-of, in-run, byte-place}
+use Rattle.qcow2_image.proofs.Ranges.{cluster-of, in-run, byte-place}
 
 -- The mapping of the guest cluster so many behind another of its run.
 abbrev IsOn : Mapping → ℕ → Mapping → Type 0
@@ -165,14 +167,14 @@ ends-near mode bits offset within n (Backing o) inside near few small = by mode.
   by false = tt
 
 -- The answer of a lookup, over the places from an offset on in some clusters of a run.
-module _ (s : StorageState) (words-there : Bytes) (h : Fields) (mode : OpenMode) (number : ℕ) (failed : Bool) (offset n most : ℕ) (run : L2Mapping × ℕ)
+module _ (s : StorageState) (words-there : Bytes) (h : Fields) (mode : OpenMode) (number : ℕ) (failed : Bool) (hold : Option Holding) (offset n most : ℕ) (run : L2Mapping × ℕ)
     (clean : words-there ≡ bytes_of s.bytes) (inside : offset + n ≤ h.size) (short : n ≤ run.1 * cluster_size h - offset % cluster_size h)
     (is : IsRunOf (offset / cluster_size h) most (entry (bytes_of s.bytes) h) run) where
   abbrev f : Bytes
   f = bytes_of s.bytes
 
   abbrev layer : Layer
-  layer = qcow2_layer s words-there h mode number failed
+  layer = qcow2_layer s words-there h mode number failed hold
 
   abbrev within : ℕ
   within = offset % cluster_size h
@@ -206,9 +208,9 @@ module _ (s : StorageState) (words-there : Bytes) (h : Fields) (mode : OpenMode)
       λ both i lt.
           let parts = and_parts mode.writable mark both in
           let there = lt-ltb (offset + i) h.size (omega (arith, inside, lt)) in
-          rw (parts.0, there, clean)
+          words-first hold (homes mode.writable words-there h) (offset + i) _ (rw (parts.0, there, clean)
           (home-on h c mark ((within + i) / cluster_size h) (offset + i) (entry f h ((offset + i) / cluster_size h)) parts.1 (on i lt)
-          ∙ ap (λ x. Some (0, x)) (byte-place (cluster_size h) offset i some c)),
+          ∙ ap (λ x. Some (0, x)) (byte-place (cluster_size h) offset i some c))),
     )
     from (Zero c mark) each on = (each, (λ no. absurd (cc no)))
     from (Compressed o l) each on = (each, refl)
@@ -255,20 +257,21 @@ module _ (s : StorageState) (words-there : Bytes) (h : Fields) (mode : OpenMode)
     names = names-run ss s' bytes;
     reach = reach-run requests memory named few small;
     home = λ free some storage place at.
-        let there = home-there mode.writable words-there h offset (storage, place) at in
+        let word : homes mode.writable words-there h offset ≡ Some (storage, place) = sym (free-homes hold (homes mode.writable words-there h) offset free) ∙ at in
+        let there = home-there mode.writable words-there h offset (storage, place) word in
         let here : home_by h offset (mapping_seen run.0) ≡ Some (storage, place) =
         ap (home_by h offset) (is.first ∙ ap (λ m. entry m h (offset / cluster_size h)) (sym clean)) ∙ there.2 in
         home-named mode h offset storage place (mapping_seen run.0) there.0 here;
   }
 
 -- Why a lookup is refused.
-pub look-cause : (s s' : StorageState) (ss ss' : List StorageState) (words-there : Bytes) (h : Fields) (mode : OpenMode) (number : ℕ) (failed : Bool) (offset asked : ℕ) (fault : Fault) → words-there ≡ bytes_of s.bytes → offset < h.size → 0 < asked
-    → WhyNotLooked (entry (bytes_of s.bytes) h (offset / cluster_size h) ≡ damaged) s.faults s'.faults fault → LookCause (qcow2_layer s words-there h mode number failed) offset asked (s ∷ ss) (s' ∷ ss') fault
-look-cause s s' ss ss' words-there h mode number failed offset asked DamagedTable clean lt some why =
+pub look-cause : (s s' : StorageState) (ss ss' : List StorageState) (words-there : Bytes) (h : Fields) (mode : OpenMode) (number : ℕ) (failed : Bool) (hold : Option Holding) (offset asked : ℕ) (fault : Fault) → words-there ≡ bytes_of s.bytes → offset < h.size → 0 < asked
+    → WhyNotLooked (entry (bytes_of s.bytes) h (offset / cluster_size h) ≡ damaged) s.faults s'.faults fault → LookCause (qcow2_layer s words-there h mode number failed hold) offset asked (s ∷ ss) (s' ∷ ss') fault
+look-cause s s' ss ss' words-there h mode number failed hold offset asked DamagedTable clean lt some why =
     let there = lt-ltb offset h.size lt in
     let here : cells (blank_of mode.backing) words-there (bytes_of s.bytes) h offset ≡ own damaged_place = rw there (rw clean (ap (cell_by (blank_of mode.backing) (bytes_of s.bytes) h offset) why)) in
     let place : offset + 0 ≡ offset = omega arith in
     (0, some, omega (arith, lt), subst (λ x. cells (blank_of mode.backing) words-there (bytes_of s.bytes) h x ≡ own damaged_place) (sym place) here)
-look-cause s s' ss ss' words-there h mode number failed offset asked Memory clean lt some why = tt
-look-cause s s' ss ss' words-there h mode number failed offset asked Storage clean lt some why = inl why
-look-cause s s' ss ss' words-there h mode number failed offset asked fault clean lt some why = absurd why
+look-cause s s' ss ss' words-there h mode number failed hold offset asked Memory clean lt some why = tt
+look-cause s s' ss ss' words-there h mode number failed hold offset asked Storage clean lt some why = inl why
+look-cause s s' ss ss' words-there h mode number failed hold offset asked fault clean lt some why = absurd why

@@ -20,14 +20,14 @@ use Rattle.qcow2_image.specs.Seen.{IsTableAt}
 
 -- The words of a file.
 module _ (f : Bytes) (h : Fields) (top : TableValue) (of : IsL1Of f h top) where
-  top-long : length top.words ≡ h.l1_entries
+  pub top-long : length top.words ≡ h.l1_entries
   top-long = ap length of.words ∙ words_long f h.l1_offset h.l1_entries
 
   top-word : (i : ℕ) → i < h.l1_entries → slice_index top.words i ≡ word f h.l1_offset i
   top-word i inside = ap (λ (ws : List ℕ). slice_index ws i) of.words ∙ words_at f h.l1_offset h.l1_entries i inside
 
   -- The L1 table in memory says where the L2 tables are.
-  place-in-file : (i : ℕ) → l2_table f h i ≡ table_offset (slice_index top.words i)
+  pub place-in-file : (i : ℕ) → l2_table f h i ≡ table_offset (slice_index top.words i)
   place-in-file i = elim (cases_lt i h.l1_entries) [
     | inl inside ↦ rw (lt-ltb i h.l1_entries inside) (ap table_offset (sym (top-word i inside)))
     | inr behind ↦ rw (le-ltb i h.l1_entries behind) (ap table_offset (sym (get_or_past top.words i 0 (omega (arith, top-long, behind)))))
@@ -62,7 +62,7 @@ module _ (f : Bytes) (h : Fields) (top : TableValue) (of : IsL1Of f h top) where
     ]
 
     module _ (table : ℕ) (named : place_of_table top.words h.cluster_bits guest ≡ Some table) where
-      some-offset : (offset == 0) ≡ false
+      pub some-offset : (offset == 0) ≡ false
       some-offset = elim (cases_Bool (offset == 0)) [
         | inl zero ↦ let is : place_of_table top.words h.cluster_bits guest ≡ None = rw zero refl in absurd (cc (sym is ∙ named))
         | inr some ↦ some
@@ -71,7 +71,7 @@ module _ (f : Bytes) (h : Fields) (top : TableValue) (of : IsL1Of f h top) where
       cluster-named : offset / 2 ^ h.cluster_bits ≡ table
       cluster-named = let is : place_of_table top.words h.cluster_bits guest ≡ Some (offset / 2 ^ h.cluster_bits) = rw some-offset refl in cc (sym is ∙ named)
 
-      place-named : offset ≡ table * cluster_size h
+      pub place-named : offset ≡ table * cluster_size h
       place-named = sym (place-whole h.cluster_bits offset (sound-word (guest / words_of_cluster h))) ∙ ap (λ c. c * 2 ^ h.cluster_bits) cluster-named
 
       -- The file names it, too.

@@ -1,9 +1,7 @@
 -- What a look at words leaves, behind a search of their table.
-use Rattle.std.proofs.Common.{◌≡◌, ◌≢◌, ℕ, ◌+◌, ◌*◌, ◌/◌, ◌%◌, ◌^◌, ◌<◌, ◌≤◌, refl, arith, ap, sym, subst, ◌∙◌, List, [], ◌∷◌, true, false, Some, None, Result, Ok, Err, inl, inr}
-use Rattle.std.specs.Prelude.{⊤, nat_eq, slice_index, Option, ◌==◌, if◌then◌else◌}
+use Rattle.std.proofs.Common.{◌≡◌, ℕ, ◌+◌, ◌*◌, ◌/◌, ◌%◌, ◌^◌, ◌<◌, ◌≤◌, refl, arith, ap, sym, subst, ◌∙◌, List, [], ◌∷◌, true, false, Some, None, Result, Ok, Err, inl, inr}
+use Rattle.std.specs.Prelude.{⊤, nat_eq, slice_index}
 use Rattle.std.specs.List.{AllByRecursion}
-use Rattle.std.specs.Option.{option_map}
-use Rattle.std.specs.Map.{lookup}
 use Rattle.std.proofs.lemmas.Nat.{div-mul-add, div-add-mod', mod_below}
 use Rattle.imago_storage.specs.State.{StorageState}
 use Rattle.imago_storage.specs.Calls.{Kept}
@@ -12,14 +10,12 @@ use Rattle.imago_storage.specs.declared.fault.Fault.TheVariants.{DamagedTable, C
 use Rattle.imago_storage.specs.declared.storage.Storage.{Ghosts}
 use Rattle.imago_access.specs.Files.{IsMild}
 use Rattle.qcow2_types.specs.Bytes.{bytes_of}
-use Rattle.qcow2_types.specs.Header.{Fields, Header, words_of_cluster, cluster_size, layout_of}
-use Rattle.qcow2_types.specs.Words.{Mapping, Layout, damaged, unmapped, table_offset}
+use Rattle.qcow2_types.specs.Header.{Header, words_of_cluster, cluster_size, layout_of}
+use Rattle.qcow2_types.specs.Words.{Layout, damaged, unmapped}
 use Rattle.qcow2_types.specs.Entries.{entry}
-use Rattle.qcow2_types.specs.Places.{l2_entries}
 use Rattle.qcow2_metadata.specs.Tables.{TableValue, IsTable, HasUnsound, l2_words, table_in, words_in, mapping_in}
 use Rattle.qcow2_metadata.specs.Blocks.{Block}
 use Rattle.qcow2_metadata.specs.Places.{IsInReach}
-use Rattle.qcow2_metadata.specs.MappingView.{IsNamed}
 use Rattle.qcow2_metadata.specs.declared.mapping.L2Mapping.{L2Mapping}
 use Rattle.qcow2_metadata.specs.declared.mapping.L2Mapping.TheVariants.{Backing}
 use Rattle.qcow2_alloc.specs.Cache.{hit}
@@ -30,7 +26,6 @@ use Rattle.qcow2_alloc.specs.Going as Going
 use Rattle.qcow2_alloc.specs.Going.{AreTablesInReach, AreBlocksInReach}
 use Rattle.qcow2_alloc.specs.Allocators.{UsesTable, TableUsed}
 use Rattle.qcow2_alloc.specs.Memory.{Cached, written_table, written_block}
-use Rattle.qcow2_alloc.specs.Opening.{IsL1Of}
 use Rattle.qcow2_alloc.specs.Safety.{AreTablesClean, AreBlocksClean}
 use Rattle.qcow2_alloc.specs.declared.async_lru_cache.Slot.{Slot}
 use Rattle.qcow2_alloc.specs.declared.cache.MetadataCaches.{MetadataCaches}
@@ -39,7 +34,7 @@ use Rattle.qcow2_alloc.proofs.Caching.Pins.{pins-hit, pins-written, full-pinned}
 use Rattle.qcow2_image.specs.declared.tables.Tables.{Tables}
 use Rattle.qcow2_image.specs.Caching.{IsUnpinned}
 use Rattle.qcow2_image.specs.Seen.{IsOfFile, IsSeen, file_of}
-use Rattle.qcow2_image.specs.Looking.{cluster_named, place_of_table, Follows, IsRunOf, ReadsRun, LooksAt, WhyNotLooked}
+use Rattle.qcow2_image.specs.Looking.{cluster_named, place_of_table, ReadsRun, LooksAt, WhyNotLooked}
 use Rattle.qcow2_image.proofs.Runs.{run-same}
 use Rattle.qcow2_image.proofs.FileWords.{table-named, entry-of-file, entry-of-unsound, entry-of-none, named-in-reach}
 use Rattle.qcow2_image.proofs.CachedTables.{all-hit, one-hit, of-search}
@@ -80,7 +75,7 @@ module _ (guest most e k : ℕ) (whole : guest % e + most ≤ e) (lt : k < most)
   in-row = mod_below (guest + k) e (omega (arith, whole, lt))
 
 -- A search of the table that the L1 table names, and what is cached then. No request but reads is made.
-module _ {S : Type 0} (g : Ghosts S) (guest most table : ℕ) (old new : Tables S g) (l1 : new.l1 ≡ old.l1) (named : place_of_table old.l1.words old.file.header.fields.cluster_bits guest ≡ Some table) where
+module _ {S : Type 0} (g : Ghosts S) (guest most table : ℕ) (old new : Tables S g) (l1 : new.l1 ≡ old.l1) (space : new.space ≡ old.space) (named : place_of_table old.l1.words old.file.header.fields.cluster_bits guest ≡ Some table) where
   abbrev H : Header
   H = old.file.header
 
@@ -137,6 +132,7 @@ module _ {S : Type 0} (g : Ghosts S) (guest most table : ℕ) (old new : Tables 
         faults = λ ok. u.found.going.faults tt;
         header = u.found.others.1;
         l1 = l1;
+        space = space;
         seen = seen-used (ReadsRun H.fields.cluster_bits guest most) (Ok run) u u.used.same;
         says = λ seen. run-same guest most _ _ run (words-used (ReadsRun H.fields.cluster_bits guest most) (Ok run) u u.used.same u.used.fits whole seen) used.0;
         named = (used.1, used.0.some, used.0.few);
@@ -168,6 +164,7 @@ module _ {S : Type 0} (g : Ghosts S) (guest most table : ℕ) (old new : Tables 
         faults = λ mild. found.going.faults (cut-off fault mild);
         header = found.others.1;
         l1 = l1;
+        space = space;
         seen = λ seen. seen-then new.caches (Err fault) found (tables-found new.caches (Err fault) found seen) seen;
         says = λ seen. tt;
         named = tt;
@@ -181,6 +178,7 @@ module _ {S : Type 0} (g : Ghosts S) (guest most table : ℕ) (old new : Tables 
         faults = λ mild. u.found.going.faults tt;
         header = u.found.others.1;
         l1 = l1;
+        space = space;
         seen = seen-used (ReadsRun H.fields.cluster_bits guest most) (Err fault) u u.used.same;
         says = λ seen. tt;
         named = tt;
@@ -208,6 +206,7 @@ module _ {S : Type 0} (state : S → StorageState) (table : ℕ) (old : Metadata
     (let less = found.sought.pinned.among (λ _. true) in omega (arith, less, loose.0)),
     (let less = (pins-written written_block (λ e. e.0) (λ e. e.1.pins) (λ e. (refl, refl)) (cached_in old).blocks (cached_in new).blocks found.blocks).among (λ _. true) in omega (arith, less, loose.1)),
     omega (arith, found.room.tables, loose.2),
+    omega (arith, found.room.blocks, loose.3),
   )
 
   pub loose-used : {T : Type 0} (does : TableValue → Result T Fault → TableValue → Type 0) (result : Result T Fault) (new : MetadataCaches S) (after : ImageFile S) → IsUnpinned old → UsesTable state table does old before result new after → IsUnpinned new
@@ -215,7 +214,7 @@ module _ {S : Type 0} (state : S → StorageState) (table : ℕ) (old : Metadata
   loose-used does result new after loose (inr u) =
       let mid = loose-found (Ok tt) u.mid after u.found loose in
       let less = (pins-hit table (cached_in u.mid).tables u.table').among (λ _. true) in
-      rw u.left (omega (arith, less, mid.0), mid.1, mid.2)
+      rw u.left (omega (arith, less, mid.0), mid.1, mid.2, mid.3)
 
 -- Where the L1 table names none, all that it would map is unmapped.
 pub looks-none : {S : Type 0} (g : Ghosts S) (guest most offset : ℕ) (old : Tables S g) → offset ≡ guest * 2 ^ old.file.header.fields.cluster_bits → 0 < most → guest % words_of_cluster old.file.header.fields + most ≤ words_of_cluster old.file.header.fields
@@ -227,6 +226,7 @@ looks-none g guest most offset old at some whole none =
       faults = λ ok. (refl, refl);
       header = refl;
       l1 = refl;
+      space = refl;
       seen = λ seen. seen;
       says = λ seen.
           let each : (k : ℕ) → k < most → entry (file_of g old) h (guest + k) ≡ unmapped = λ k lt. entry-of-none (file_of g old) h old.l1 seen.l1 (guest + k) (ap (λ x. cluster_named h.cluster_bits (slice_index old.l1.words x)) (one-row guest most (words_of_cluster h) k whole lt) ∙ none) in

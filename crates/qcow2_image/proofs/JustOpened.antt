@@ -1,6 +1,6 @@
 -- What is in memory of an image right after it was opened.
-use Rattle.std.proofs.Common.{◌≡◌, ℕ, ◌<◌, ◌≤◌, refl, arith, sym, subst, ap, [], false, Ok}
-use Rattle.std.specs.Prelude.{Bool, IsTrue}
+use Rattle.std.proofs.Common.{◌≡◌, ℕ, ◌≤◌, refl, sym, subst, ap, [], false, Ok, None}
+use Rattle.std.specs.Prelude.{Bool, IsTrue, IsSome}
 use Rattle.std.specs.List.{AllByRecursion}
 use Rattle.std.proofs.Math.Nat.{le_refl}
 use Rattle.imago_storage.specs.State.{StorageState}
@@ -21,6 +21,7 @@ use Rattle.qcow2_image.specs.Seen.{IsOfFile, file_of, memory_of}
 use Rattle.qcow2_image.specs.ImageLayer.{qcow2_layer, meaning_of, blank_of}
 use Rattle.qcow2_image.specs.Rooms.{IsSafe}
 use Rattle.qcow2_image.specs.Opening.{IsJustOpened, is_qcow2}
+use Rattle.qcow2_image.specs.Unspent.{holding_in}
 use Rattle.qcow2_image.specs.declared.qcow2.Qcow2.{Qcow2}
 use Rattle.qcow2_image.specs.declared.tables.Tables.{Tables}
 use Rattle.qcow2_image.proofs.OpeningRules.{none-refused, reads-too}
@@ -28,7 +29,7 @@ use Rattle.qcow2_image.proofs.Probing.{header-begins}
 
 module _ {S : Type 0} (g : Ghosts S) (before : StorageState) (writable : Bool) (l2_tables refcount_blocks : ℕ) (t : Tables S g) (same : g.state t.file.image ≡ before)
     (loads : header_of writable (bytes_of before.bytes) ≡ Ok t.file.header) (inside : has_external_data t.file.header.fields ≡ false) (l1 : IsL1Of (bytes_of before.bytes) t.file.header.fields t.l1)
-    (empty : cached_in t.caches ≡ record { tables = []; blocks = [] }) (unordered : order_of t.caches ≡ Unset)
+    (empty : cached_in t.caches ≡ record { tables = []; blocks = [] }) (unordered : order_of t.caches ≡ Unset) (spaceless : t.space ≡ None)
     (tables : t.caches.l2.slots.cap ≡ l2_tables) (blocks : t.caches.rb.slots.cap ≡ refcount_blocks) where
   -- The metadata, by what was loaded of the file.
   pub just-opened : IsJustOpened g before writable l2_tables refcount_blocks t
@@ -44,6 +45,7 @@ module _ {S : Type 0} (g : Ghosts S) (before : StorageState) (writable : Bool) (
     };
     empty = empty;
     unordered = unordered;
+    spaceless = spaceless;
     tables = tables;
     blocks = blocks;
   }
@@ -66,8 +68,8 @@ module _ {S : Type 0} (g : Ghosts S) (before : StorageState) (writable : Bool) (
   opened-kept = subst (λ (s : StorageState). IsKept before s) (sym now.same) (record { shape = refl; bytes = refl; refusals = refl; stop = refl; past = refl }, le_refl before.faults)
 
   -- It means the disk,
-  pub opened-meant : IsMeant (qcow2_layer state (memory_of g d.tables) H.fields d.mode d.number d.failed) state.bytes
-  opened-meant = subst (λ (m : Bytes). IsMeant (qcow2_layer state m H.fields d.mode d.number d.failed) state.bytes) (sym (memory-empty (bytes_of state.bytes) H.fields (cached_in d.tables.caches) now.empty))
+  pub opened-meant : IsMeant (qcow2_layer state (memory_of g d.tables) H.fields d.mode d.number d.failed (holding_in g d.unspent)) state.bytes
+  opened-meant = subst (λ (m : Bytes). IsMeant (qcow2_layer state m H.fields d.mode d.number d.failed (holding_in g d.unspent)) state.bytes) (sym (memory-empty (bytes_of state.bytes) H.fields (cached_in d.tables.caches) now.empty))
       record {
         size = subst (λ r. H.fields.size ≤ (meaning_of (blank_of d.mode.backing) (bytes_of state.bytes) r).size) (sym now.seen.loads) (le_refl H.fields.size);
         exactly = λ exact. ap (λ r. (meaning_of (blank_of d.mode.backing) (bytes_of state.bytes) r).size) now.seen.loads;
@@ -79,12 +81,15 @@ module _ {S : Type 0} (g : Ghosts S) (before : StorageState) (writable : Bool) (
   opened-still = subst (λ (c : Cached). AreTablesClean c × AreBlocksClean c) (sym now.empty) (tt, tt)
 
   -- and which is safe where the file is consistent, by whatever header.
-  pub opened-safe : d.failed ≡ false → IsTrue state.shape.keeps → Consistent (bytes_of state.bytes) → IsSafe g d.tables d.failed
-  opened-safe runs keeps sound = record {
+  pub opened-safe : d.failed ≡ false → d.unspent ≡ None → IsTrue state.shape.keeps → Consistent (bytes_of state.bytes) → IsSafe g d
+  opened-safe runs free keeps sound = record {
     runs = runs;
     keeps = keeps;
     consistent = verdict-consistent (bytes_of state.bytes) (leaks (bytes_of state.bytes) sound.0.fields) false H (sound.0, sound.1, refl) now.seen.loads;
     seen = now.seen;
+    sound = rw now.spaceless tt;
+    held = rw free tt;
+    writable = λ some. absurd (Prim.cc (subst IsSome free some));
   }
 
   -- Its file begins as an image does.

@@ -1,5 +1,5 @@
 -- Which rule keeps a file from being opened, and what is loaded where none does.
-use Rattle.std.proofs.Common.{◌≡◌, ◌≢◌, ℕ, ◌+◌, ◌^◌, ◌*◌, ◌/◌, ◌<◌, ◌≤◌, refl, arith, ap, sym, subst, ◌∙◌, Bool, true, false, Result, Ok, Err, List, [], ◌∷◌, length, inl, inr}
+use Rattle.std.proofs.Common.{◌≡◌, ◌≢◌, ℕ, ◌*◌, ◌/◌, ◌<◌, ◌≤◌, refl, arith, ap, sym, subst, ◌∙◌, Bool, true, false, Result, Ok, Err, List, [], ◌∷◌, length, inl, inr}
 use Rattle.std.specs.Prelude.{⊤, not, slice_index}
 use Rattle.std.proofs.lemmas.Bool.{cases_Bool}
 use Rattle.imago_storage.specs.State.{StorageState}

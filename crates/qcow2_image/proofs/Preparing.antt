@@ -1,11 +1,10 @@
--- What a preparation leaves that only looks where a run can be written.
-use Rattle.std.proofs.Common.{◌≡◌, ◌≢◌, ℕ, ◌+◌, ◌-◌, ◌*◌, ◌/◌, ◌%◌, ◌<◌, ◌≤◌, refl, arith, ap, sym, subst, ◌∙◌, inl, inr, Bool, false, true, List, [], ◌∷◌, Option, Some, None, Result, Ok, Err}
-use Rattle.std.specs.Prelude.{⊤, ◌⊎◌, ◌++◌, min, ltb, IfErr}
+-- What a preparation leaves: of a run that can be written where it is, and of one that is held.
+use Rattle.std.proofs.Common.{◌≡◌, ◌≢◌, ℕ, ◌+◌, ◌*◌, ◌/◌, ◌%◌, ◌<◌, ◌≤◌, refl, arith, ap, sym, subst, ◌∙◌, inl, inr, false, Option, Some, None, Result, Ok, Err}
+use Rattle.std.specs.Prelude.{⊤, ◌⊎◌, ◌++◌}
 use Rattle.std.specs.Borrow.{RattleType}
 use Rattle.std.proofs.lemmas.Bool.{cases_eq, cases_lt, lt-ltb}
-use Rattle.std.proofs.lemmas.Nat.{div-add-mod', pow_pos}
+use Rattle.std.proofs.lemmas.Nat.{div-add-mod'}
 use Rattle.std.proofs.Math.Nat.{mul-le-mul_right}
-use Rattle.imago_storage.specs.State.{StorageState}
 use Rattle.imago_storage.specs.Disk.{byte, damaged_place}
 use Rattle.imago_storage.specs.Steps.{Call}
 use Rattle.imago_storage.specs.declared.fault.Fault.{Fault}
@@ -13,25 +12,24 @@ use Rattle.imago_storage.specs.declared.fault.Fault.TheVariants.{DamagedTable, F
 use Rattle.imago_storage.specs.declared.storage.Storage.{Ghosts}
 use Rattle.imago_access.specs.declared.seen.Seen.{Ghosts as SeenGhosts}
 use Rattle.imago_access.specs.declared.seen.SeenBelow.{Ghosts as GhostsBelow}
-use Rattle.imago_access.specs.declared.mapping.PreparedDataMapping.{PreparedDataMapping}
-use Rattle.imago_access.specs.Changes.{Asked}
-use Rattle.imago_access.specs.Files.{ImageCause, IsMild, SomeRose, WasNotCutOff, files}
-use Rattle.imago_access.specs.Going.{Looked, Went}
-use Rattle.imago_access.specs.Layer.{Cell, Layer, own, unmapped}
+use Rattle.imago_access.specs.Chain.{at}
+use Rattle.imago_access.specs.Changes.{Asked, IsHolding}
+use Rattle.imago_access.specs.Files.{ImageCause, IsMild, WasNotCutOff, files}
+use Rattle.imago_access.specs.Going.{Went}
+use Rattle.imago_access.specs.Layer.{Cell, IsFree, Layer, loose, own, unmapped}
 use Rattle.imago_access.specs.Mappings.{IsMappedRun}
-use Rattle.imago_access.specs.Parts.{IsPartOf, IsUncutPart, PartCause, announces}
+use Rattle.imago_access.specs.Parts.{IsUncutPart, PartCause, announces}
 use Rattle.imago_access.specs.PreparingCalls.{Prepares}
-use Rattle.imago_access.specs.Refusals.{LookCause, barrier}
-use Rattle.imago_access.specs.Room.{IsUncutAt, IsWholeUnit}
+use Rattle.imago_access.specs.Refusals.{LookCause}
+use Rattle.imago_access.specs.Room.{IsUncutAt}
 use Rattle.imago_access.proofs.ImageCauses.{failed_left}
 use Rattle.imago_access.proofs.Marking.{over_plain}
-use Rattle.qcow2_types.specs.Bytes.{Bytes, bytes_of}
+use Rattle.qcow2_types.specs.Bytes.{Bytes}
 use Rattle.qcow2_types.specs.Header.{Fields, Header, cluster_size, words_of_cluster}
 use Rattle.qcow2_types.specs.Words.{Mapping, data_at, zeroes, packed, damaged, is_damaged}
 use Rattle.qcow2_types.specs.Words as words
 use Rattle.qcow2_types.specs.Entries.{entry, l2_table}
 use Rattle.qcow2_types.specs.Consistency.{IsConsistent}
-use Rattle.qcow2_types.specs.Slots.{Live, SoundWords, slot}
 use Rattle.qcow2_types.proofs.Consistent.{some-words, consistent-shaped}
 use Rattle.qcow2_types.proofs.Shows.{guest-slot-there, guest-slot-none, guest-live}
 use Rattle.qcow2_types.proofs.Sound.{sound-words}
@@ -39,17 +37,20 @@ use Rattle.qcow2_types.proofs.Values.{entry-slot}
 use Rattle.qcow2_image.specs.contracts.qcow2.Qcow2Seen.TheImpl.{ghosts}
 use Rattle.qcow2_image.specs.declared.qcow2.Qcow2.{Qcow2}
 use Rattle.qcow2_image.specs.declared.qcow2.PreparedMappingState.{PreparedMappingState}
+use Rattle.qcow2_image.specs.HeldHomes.{free_loose}
+use Rattle.qcow2_image.specs.Holding.{Holding, claim_held, held_home, home_or, homes_with}
 use Rattle.qcow2_image.specs.Homes.{memory_is}
 use Rattle.qcow2_image.specs.ImageLayer.{blank_of, blanks, cell_by}
 use Rattle.qcow2_image.specs.Looking.{IsWholeRun, IsWholeRunIn}
-use Rattle.qcow2_image.specs.Rooms.{IsSafe}
-use Rattle.qcow2_image.specs.Seen.{IsSeen, file_of}
+use Rattle.qcow2_image.specs.Rooms.{IsSafe, was_safe}
+use Rattle.qcow2_image.specs.Seen.{IsSeen, file_of, homes_of, layer_of}
 use Rattle.qcow2_image.specs.Steps.{KeepsImage}
-use Rattle.qcow2_image.specs.Writing.{IsHomeAt, WhyUnwritten, layer_of}
+use Rattle.qcow2_image.specs.Unspent.{holding_in}
+use Rattle.qcow2_image.specs.Writing.{IsHomeAt}
 use Rattle.qcow2_image.proofs.Steps.{began-kept, looked-kept, marks-kept, takes-kept}
 
 -- No guest cluster of a consistent image is damaged,
-never-damaged : (f : Bytes) (H : Header) → IsConsistent f H → (g : ℕ) → entry f H.fields g ≢ damaged
+pub never-damaged : (f : Bytes) (H : Header) → IsConsistent f H → (g : ℕ) → entry f H.fields g ≢ damaged
 never-damaged f H was g is = elim (cases_eq (l2_table f H.fields (g / words_of_cluster H.fields)) 0) [
   | inl none ↦
       let bad : words.unmapped ≡ damaged = sym (guest-slot-none f H.fields g none) ∙ (sym (entry-slot f H.fields g was.readable.tables) ∙ is) in
@@ -72,7 +73,7 @@ damaged-by blank which f h p words.unmapped is = elim which [
 ]
 
 -- so that no place of a safe one is.
-pub safe-undamaged : {S : Type 0} (g : Ghosts S) (d : Qcow2 S g) → IsSafe g d.tables d.failed → (p : ℕ) → p < (layer_of g d).size → (layer_of g d).cell p ≢ own damaged_place
+pub safe-undamaged : {S : Type 0} (g : Ghosts S) (d : Qcow2 S g) → IsSafe g d → (p : ℕ) → p < (layer_of g d).size → (layer_of g d).cell p ≢ own damaged_place
 safe-undamaged g d safe p inside is =
     let h = d.tables.file.header.fields in
     let here : cell_by (blank_of d.mode.backing) (file_of g d.tables) h p (entry (file_of g d.tables) h (p / cluster_size h)) ≡ own damaged_place =
@@ -99,6 +100,18 @@ uncut-run h mapped offset asked n low inside is u unit = elim is.ends [
       ]
 ]
 
+-- Where a place has no home, it has none by its word; and it had none before, where each that there was is there.
+words-none : (hold : Option Holding) (home : ℕ → Option (ℕ × ℕ)) (p : ℕ) → homes_with hold home p ≡ None → home p ≡ None
+words-none None home p is = is
+words-none (Some hold) home p is = from (home p) refl is where
+  from : (a : Option (ℕ × ℕ)) → home p ≡ a → home_or a (held_home hold p) ≡ None → home p ≡ None
+  from None same none = same
+  from (Some at) same none = absurd (cc none)
+
+none-before : (was now : Option (ℕ × ℕ)) → ((at : ℕ × ℕ) → was ≡ Some at → now ≡ Some at) → now ≡ None → was ≡ None
+none-before None now keeps none = refl
+none-before (Some at) now keeps none = absurd (cc (sym none ∙ keeps at refl))
+
 module _ (R : RattleType) (st : Ghosts R.Denot) (sd : mir.Syntax.Dict) (dd : mir.Syntax.Dict) (old new : Qcow2 R.Denot st) where
   abbrev sees : SeenGhosts (Qcow2 R.Denot st) PreparedMappingState
   sees = ghosts R st sd dd
@@ -117,7 +130,7 @@ module _ (R : RattleType) (st : Ghosts R.Denot) (sd : mir.Syntax.Dict) (dd : mir
 
   module _ {B : Type 0} (u : GhostsBelow B) (x : B) (asked : Asked) where
     -- why it is refused, in the words of the driver, where it was in those of a lookup,
-    pub part-why : (e : Fault) → old.failed ≡ false → LookCause (layer_of st old) asked.offset asked.length (files sees old) (files sees new) e → IsSafe st old.tables old.failed → (d : Qcow2 R.Denot st) (call : Call)
+    pub part-why : (e : Fault) → old.failed ≡ false → LookCause (layer_of st old) asked.offset asked.length (files sees old) (files sees new) e → IsSafe st old → (d : Qcow2 R.Denot st) (call : Call)
         → PartCause (u.under x) (layer_of st old) asked.offset asked.length (sees.own_cause d (u.under x) call) (files sees old ++ u.files_under x) (files sees new ++ u.files_under x) e
     part-why DamagedTable runs why safe d call = absurd (safe-undamaged st old safe (asked.offset + why.0) why.2 why.3)
     part-why Failed runs why safe d call = inl why
@@ -130,20 +143,24 @@ module _ (R : RattleType) (st : Ghosts R.Denot) (sd : mir.Syntax.Dict) (dd : mir
     part-why e runs why safe d call = absurd why
 
     -- and where the first place can't be written.
-    pub part-nowhere : (layer_of st old).home asked.offset ≡ None → 0 < asked.length → (d : Qcow2 R.Denot st) (call : Call) → sees.began d call old → IsUncutPart (layer_of st old) call asked.offset asked.length
-        → PartCause (u.under x) (layer_of st old) asked.offset asked.length (sees.own_cause d (u.under x) call) (files sees old ++ u.files_under x) (files sees new ++ u.files_under x) (Limit asked.offset)
-    part-nowhere none some d call begun part = λ safe.
-        ((part.part.start, omega (arith, some, part.part.end)), sym ((begun safe).1 asked.offset) ∙ none)
+    pub part-nowhere : (number : ℕ) → (layer_of st old).home asked.offset ≡ None → 0 < asked.length → (d : Qcow2 R.Denot st) (call : Call) → sees.began d call old → IsUncutPart (layer_of st old) call asked.offset asked.length
+        → PartCause (u.under x) (layer_of st old) asked.offset asked.length (sees.own_cause d (u.under x) call) (files sees old ++ u.files_under x) (files sees new ++ u.files_under x) (Limit number)
+    part-nowhere number none some d call begun part = λ safe. (
+      asked.offset,
+      (part.part.start, omega (arith, some, part.part.end)),
+      none-before (homes_of st d asked.offset) (homes_of st old asked.offset) ((begun safe).1 asked.offset) (words-none (holding_in st old.unspent) (homes_of st old) asked.offset none),
+    )
 
     pub prepares-refused : (e : Fault) → KeepsImage {T = Option (ℕ × ℕ)} st old (Err e) new → ImageCause (files sees old) (files sees new) e
-        → (IsSafe st old.tables old.failed → u.sees_under x → (d : Qcow2 R.Denot st) (call : Call) → sees.began d call old
+        → (IsSafe st old → u.sees_under x → (d : Qcow2 R.Denot st) (call : Call) → sees.began d call old
         → IsUncutPart (layer_of st old) call asked.offset asked.length → asked.overwrite ≡ announces call
         → PartCause (u.under x) (layer_of st old) asked.offset asked.length (sees.own_cause d (u.under x) call) (files sees old ++ u.files_under x) (files sees new ++ u.files_under x) e)
         → Prepares sees u asked (Err e) (old, x) (new, x)
     prepares-refused e k failed why =
         let looked = looked-kept R st sd dd {T = Option (ℕ × ℕ)} old new (Err e) k in record {
           ok = λ safe under. tt;
-          err = λ safe under mild. record { like = looked.like; cell = ap (λ (l : Layer). l.cell) (looked.stays mild safe.seen).0; held = refl };
+          err = λ safe under mild.
+              let same = (looked.stays mild (record { seen = safe.seen; sure = inr (was_safe st old safe) })).0 in record { like = looked.like; cell = ap (λ (l : Layer). l.cell) same; held = ap (λ (l : Layer). l.held) same };
           uncut = λ safe under. tt;
           near = λ safe under. tt;
           room = λ safe under whole. takes-kept R st sd dd {T = Option (ℕ × ℕ)} old new (Err e) k;
@@ -157,26 +174,30 @@ module _ (R : RattleType) (st : Ghosts R.Denot) (sd : mir.Syntax.Dict) (dd : mir
           };
         }
 
-    pub prepares-mapped : (place n : ℕ) → KeepsImage {T = Option (ℕ × ℕ)} st old (Ok (Some (place, n))) new → asked.offset + asked.length ≤ (layer_of st old).size → 0 < asked.length
+    pub prepares-mapped : (place n : ℕ) → KeepsImage {T = Option (ℕ × ℕ)} st old (Ok (Some (place, n))) new → IsFree (layer_of st old)
+        → asked.offset + asked.length ≤ (layer_of st old).size → 0 < asked.length
         → IsMappedRun (layer_of st old) asked.offset asked.length n → (IsSeen st old.tables → IsHomeAt (layer_of st old) asked.offset place n)
         → (IsSeen st old.tables → IsWholeRunIn st old.tables asked.offset asked.length n)
         → Prepares sees u asked (Ok (record { storage = 0; offset = place; length = n; state = None })) (old, x) (new, x)
-    prepares-mapped place n k inside some run home whole =
-        let looked = looked-kept R st sd dd {T = Option (ℕ × ℕ)} old new (Ok (Some (place, n))) k in record {
+    prepares-mapped place n k free inside some run home whole =
+        let looked = looked-kept R st sd dd {T = Option (ℕ × ℕ)} old new (Ok (Some (place, n))) k in
+        let now-free : claim_held (holding_in st new.unspent) ≡ None = ap (λ v. claim_held (holding_in st v)) k.unspent ∙ free in
+        let empty : (p : ℕ) → (layer_of st new).held p ≡ loose = λ p. free_loose new.tables.file.header.fields (file_of st new.tables) (holding_in st new.unspent) p now-free in
+        record {
           ok = λ safe under.
-              let same = (looked.stays tt safe.seen).0 in record {
+              let same = (looked.stays tt (record { seen = safe.seen; sure = inr (was_safe st old safe) })).0 in record {
                 fixed = ap (λ (l : Layer). l.fixed) same;
                 size = ap (λ (l : Layer). l.size) same;
                 cell = ap (λ (l : Layer). l.cell) same;
                 home = λ i lt. ap (λ (l : Layer). l.home (asked.offset + i)) same ∙ home safe.seen i lt;
-                unspent = refl;
-                holds = λ p. tt;
+                unspent = now-free;
+                holds = λ p. subst (IsHolding (at (u.under x)) (layer_of st new) asked.offset n asked.overwrite p) (sym (empty p)) tt;
                 some_held = λ c is. absurd (cc is);
               };
           err = λ safe under. tt;
           uncut = λ safe under. uncut-run old.tables.file.header.fields (entry (file_of st old.tables) old.tables.file.header.fields) asked.offset asked.length n
               (omega (arith, inside, some)) (run.2 some) (whole safe.seen);
-          near = λ safe under p apart. refl;
+          near = λ safe under p apart. empty p;
           room = λ safe under done. takes-kept R st sd dd {T = Option (ℕ × ℕ)} old new (Ok (Some (place, n))) k;
           stops = λ safe under. looked.stops safe (u.under x);
           went = went-kept {T = Option (ℕ × ℕ)} (Ok (Some (place, n))) k ⊤ (⊤ × u.sees_under x) (λ w. w) (λ w. w.0);

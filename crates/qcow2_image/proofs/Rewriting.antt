@@ -1,8 +1,8 @@
 -- What a write into data clusters, in place, leaves of a consistent image.
-use Rattle.std.proofs.Common.{refl, arith, ap, sym, ◌∙◌, inl, inr}
-use Rattle.std.specs.Prelude.{◌≡◌, ◌≢◌, ℕ, zero, suc, ◌+◌, ◌-◌, ◌*◌, ◌/◌, ◌%◌, ◌<◌, ◌≤◌, Bool, true, false, Option, Some, None, ◌⊎◌}
+use Rattle.std.proofs.Common.{refl, arith, ap, sym, subst, ◌∙◌, inl, inr}
+use Rattle.std.specs.Prelude.{◌≡◌, ◌≢◌, ℕ, zero, suc, ◌+◌, ◌-◌, ◌*◌, ◌/◌, ◌<◌, ◌≤◌, Bool, Some, None, ◌⊎◌}
 use Rattle.std.proofs.lemmas.Bool.{cases_eq, cases_lt}
-use Rattle.std.proofs.lemmas.Nat.{div-mul-add, mod-mul-add, div-add-mod', mod_below, pow_pos, le-div}
+use Rattle.std.proofs.lemmas.Nat.{div-mul-add, pow_pos, le-div}
 use Rattle.std.proofs.Math.Nat.{div-mul-le_self, lt-div-mul-add, mul-le-mul_right}
 use Rattle.imago_storage.specs.Disk.{byte}
 use Rattle.imago_storage.specs.Steps.{IsOut}
@@ -12,21 +12,34 @@ use Rattle.qcow2_types.specs.Words.{Mapping, unmapped, data_at, zeroes, packed, 
 use Rattle.qcow2_types.specs.Header.{Fields, Header, cluster_size, words_of_cluster}
 use Rattle.qcow2_types.specs.Entries.{entry, l2_table, l1_table_sound}
 use Rattle.qcow2_types.specs.Counts.{block_at}
-use Rattle.qcow2_types.specs.References.{structure, contents, of_mapping, of_copied, meets, refs}
+use Rattle.qcow2_types.specs.References.{structure, meets, refs}
 use Rattle.qcow2_types.specs.Consistency.{IsConsistent}
-use Rattle.qcow2_types.specs.Slots.{slot, Live}
 use Rattle.qcow2_types.specs.Frames.{Outside, Kept, nothing}
-use Rattle.qcow2_types.proofs.Consistent.{some-words, meets-own, consistent-shaped}
-use Rattle.qcow2_types.proofs.Slots.{contents-slots}
+use Rattle.qcow2_types.proofs.Consistent.{some-words, consistent-shaped}
 use Rattle.qcow2_types.proofs.Frames.{word-same}
-use Rattle.qcow2_types.proofs.Shows.{guest-slot-there, guest-slot-none, guest-live, guest-kept, entries-same}
-use Rattle.qcow2_types.proofs.Values.{entry-slot}
-use Rattle.qcow2_types.proofs.DataWrites.{slots-two}
-use Rattle.qcow2_types.proofs.DataSteps.{marked-named-once, marked-apart-from-structure, untouched-keeps, untouched-consistent, run-written}
+use Rattle.qcow2_types.proofs.Shows.{guest-kept, entries-same}
+use Rattle.qcow2_types.proofs.DataSteps.{data-named, untouched-keeps, untouched-consistent, run-written}
 use Rattle.qcow2_metadata.specs.Tables.{words_in}
 use Rattle.qcow2_metadata.proofs.TableFacts.{words_same}
+use Rattle.qcow2_image.specs.Holding.{place_in}
 use Rattle.qcow2_image.specs.ImageLayer.{cell_by, home_by}
-use Rattle.qcow2_image.specs.Homes.{mapped, place_in, home-of, cluster-there, data-apart-from-structure, one-place}
+use Rattle.qcow2_image.specs.Homes.{mapped, home-of, cluster-there, data-apart-from-structure, one-place}
+
+-- A place of the disk is written at a place of the file: where its word says, or where its word says none, in a cluster that none names.
+abbrev pub IsWrittenAt : Bytes → Fields → (p at : ℕ) → Type 0
+IsWrittenAt f h p at =
+    (home_by h p (mapped f h p) ≡ Some (0, at)) ⊎ ((home_by h p (mapped f h p) ≡ None) × (refs f h (at / cluster_size h) ≡ 0))
+
+-- A cluster that none names holds no table, block or header,
+unnamed-apart : (f : Bytes) (h : Fields) (c : ℕ) → refs f h c ≡ 0 → structure f h (meets h c) ≡ 0
+unfolding refs
+unnamed-apart f h c none = omega (arith, none)
+
+-- and no data.
+pub unnamed-empty : (f : Bytes) (H : Header) → IsConsistent f H → (guest c : ℕ) (copied : Bool) → refs f H.fields c ≡ 0
+    → entry f H.fields guest ≡ data_at c copied → ⊥
+unfolding refs
+unnamed-empty f H was guest c copied none is = let some = data-named f H was guest c copied is in omega (arith, none, some)
 
 module _ (f : Bytes) (H : Header) (was : IsConsistent f H) where
   abbrev h : Fields
@@ -36,14 +49,17 @@ module _ (f : Bytes) (H : Header) (was : IsConsistent f H) where
   per_table = words_of_cluster h
 
   -- A write of n bytes at a place of the file, where each of n places of the disk is written.
-  module _ (guest place n : ℕ) (each : (i : ℕ) → i < n → home_by h (guest + i) (mapped f h (guest + i)) ≡ Some (0, place + i))
+  module _ (guest place n : ℕ) (each : (i : ℕ) → i < n → IsWrittenAt f h (guest + i) (place + i))
       (x : Bytes) (out : Outside f x place n) where
     -- The cluster that a byte of it lies in holds no table, block or header.
     apart-at : (i : ℕ) → i < n → structure f h (meets h ((place + i) / cluster_size h)) ≡ 0
-    apart-at i lt =
-        let found = home-of h (guest + i) (place + i) (mapped f h (guest + i)) (each i lt) in
-        let cluster : (place + i) / cluster_size h ≡ found.0 = cluster-there h (place + i) found.0 (guest + i) found.2 in
-        ap (λ c. structure f h (meets h c)) cluster ∙ data-apart-from-structure f H was ((guest + i) / cluster_size h) found.0 found.1
+    apart-at i lt = elim (each i lt) [
+      | inl home ↦
+          let found = home-of h (guest + i) (place + i) (mapped f h (guest + i)) home in
+          let cluster : (place + i) / cluster_size h ≡ found.0 = cluster-there h (place + i) found.0 (guest + i) found.2 in
+          ap (λ c. structure f h (meets h c)) cluster ∙ data-apart-from-structure f H was ((guest + i) / cluster_size h) found.0 found.1
+      | inr held ↦ unnamed-apart f h ((place + i) / cluster_size h) held.1
+    ]
 
     -- Nor does a cluster from its first to its last: a byte of it lies in each.
     apart-in : 0 < n → (d : ℕ) → place / cluster_size h ≤ d → d ≤ (place + (n - 1)) / cluster_size h
@@ -68,21 +84,29 @@ module _ (f : Bytes) (H : Header) (was : IsConsistent f H) where
         free : ℕ → ℕ
         free c = structure f h (meets h c)
 
-    -- Where it has a byte, its clusters are a run.
-    written-run : 0 < n → Kept f x h nothing
-    written-run some =
-        let first : ℕ = place / cluster_size h in
+    abbrev first : ℕ
+    first = place / cluster_size h
+
+    abbrev more : ℕ
+    more = (place + (n - 1)) / cluster_size h - place / cluster_size h
+
+    -- Where it has a byte, its clusters are a run, and none of them holds any.
+    pub written-beside : 0 < n → ((d : ℕ) → first ≤ d → d ≤ first + more → structure f h (meets h d) ≡ 0)
+        × (first * cluster_size h ≤ place) × (place + n ≤ (first + more + 1) * cluster_size h)
+    written-beside some =
         let last : ℕ = (place + (n - 1)) / cluster_size h in
-        let k : ℕ = last - first in
         let low : first * cluster_size h ≤ place = div-mul-le_self place (cluster_size h) in
         let above : place + (n - 1) < last * cluster_size h + cluster_size h = lt-div-mul-add (pow_pos h.cluster_bits) in
         let order : first ≤ last = le-div first (place + (n - 1)) (cluster_size h) (pow_pos h.cluster_bits) (omega (arith, low)) in
-        let end : first + k ≡ last = omega (arith, order) in
-        let product : (first + k + 1) * cluster_size h ≡ last * cluster_size h + cluster_size h =
+        let end : first + more ≡ last = omega (arith, order) in
+        let product : (first + more + 1) * cluster_size h ≡ last * cluster_size h + cluster_size h =
         ap (λ l. (l + 1) * cluster_size h) end ∙ omega arith in
-        let apart : (d : ℕ) → first ≤ d → d ≤ first + k → structure f h (meets h d) ≡ 0 =
-        λ d from upto. apart-in some d from (omega (arith, upto, end)) in
-        (run-written f H was first k apart x place n out low (omega (arith, above, product, some))).kept
+        (λ d from upto. apart-in some d from (omega (arith, upto, end)), low, omega (arith, above, product, some))
+
+    written-run : 0 < n → Kept f x h nothing
+    written-run some =
+        let run = written-beside some in
+        (run-written f H was first more run.0 x place n out run.1 run.2).kept
 
     -- Where it has none, each byte stays.
     all-stay : n ≡ 0 → (p : ℕ) → x p ≡ f p
@@ -115,25 +139,36 @@ module _ (f : Bytes) (H : Header) (was : IsConsistent f H) where
         let kept = guest-kept f x h (untouched-keeps f x H was rewritten-kept) words g in
         entries-same f x h was.readable.tables rewritten-consistent.readable.tables words g kept
 
-    -- Data of a place that isn't written stays.
-    byte-beside : (p d : ℕ) (mark : Bool) → IsOut guest n p → mapped f h p ≡ data_at d mark → x (place_in h d p) ≡ f (place_in h d p)
-    byte-beside p d mark beside is =
-        let at : ℕ = place_in h d p in
-        elim (cases_lt at place) [
-          | inl before ↦ out at (inl before)
-          | inr from ↦ elim (cases_lt at (place + n)) [
-            | inr behind ↦ out at (inr behind)
-            | inl inside ↦
-                let back : at ≡ place + (at - place) = omega (arith, from) in
-                let lt : at - place < n = omega (arith, from, inside) in
-                let one : guest + (at - place) ≡ p =
-                one-place f H was (guest + (at - place)) p (place + (at - place)) d mark (each (at - place) lt) is (sym back) in
-                absurd (elim beside [ inl low ↦ omega (arith, low, one) | inr high ↦ omega (arith, high, one, lt) ])
-          ]
-        ]
+    -- A byte that isn't written stays.
+    pub byte-stays : (at : ℕ) → ((i : ℕ) → i < n → at ≡ place + i → ⊥) → x at ≡ f at
+    byte-stays at none = elim (cases_lt at place) [
+      | inl before ↦ out at (inl before)
+      | inr from ↦ elim (cases_lt at (place + n)) [
+        | inr behind ↦ out at (inr behind)
+        | inl inside ↦ absurd (none (at - place) (omega (arith, from, inside)) (omega (arith, from)))
+      ]
+    ]
 
-    -- So a place that isn't written says what it did,
-    pub rewritten-others : (blank : Cell) (p : ℕ) → IsOut guest n p
+    -- So does data of a place that isn't in the range, or that no word says to be written.
+    byte-beside : (p d : ℕ) (mark : Bool) → IsOut guest n p ⊎ (home_by h p (mapped f h p) ≡ None) → mapped f h p ≡ data_at d mark
+        → x (place_in h d p) ≡ f (place_in h d p)
+    byte-beside p d mark beside is = byte-stays (place_in h d p) (λ i lt at. elim (each i lt) [
+      | inl home ↦
+          let one : guest + i ≡ p = one-place f H was (guest + i) p (place + i) d mark home is (sym at) in
+          elim beside [
+            | inl off ↦ elim off [ inl low ↦ omega (arith, low, one) | inr high ↦ omega (arith, high, one, lt) ]
+            | inr none ↦
+                let there : home_by h p (mapped f h p) ≡ Some (0, place + i) = subst (λ q. home_by h q (mapped f h q) ≡ Some (0, place + i)) one home in
+                let bad : None ≡ Some (0, place + i) = sym none ∙ there in
+                cc
+          ]
+      | inr held ↦
+          let cluster : (place + i) / cluster_size h ≡ d = cluster-there h (place + i) d p (sym at) in
+          unnamed-empty f H was (p / cluster_size h) d mark (ap (refs f h) (sym cluster) ∙ held.1) is
+    ])
+
+    -- So such a place says what it did,
+    pub rewritten-others : (blank : Cell) (p : ℕ) → IsOut guest n p ⊎ (home_by h p (mapped f h p) ≡ None)
         → cell_by blank x h p (mapped x h p) ≡ cell_by blank f h p (mapped f h p)
     rewritten-others blank p beside =
         ap (cell_by blank x h p) (rewritten-entries (p / cluster_size h))
@@ -147,11 +182,11 @@ module _ (f : Bytes) (H : Header) (was : IsConsistent f H) where
         by unmapped same = refl
         by damaged same = refl
 
-    -- and one that is written says its byte.
-    pub rewritten-range : (blank : Cell) (i : ℕ) → i < n
+    -- and one that a word says to be written says its byte.
+    pub rewritten-range : (blank : Cell) (i : ℕ) → home_by h (guest + i) (mapped f h (guest + i)) ≡ Some (0, place + i)
         → cell_by blank x h (guest + i) (mapped x h (guest + i)) ≡ own (byte (x (place + i)))
-    rewritten-range blank i lt =
-        let found = home-of h (guest + i) (place + i) (mapped f h (guest + i)) (each i lt) in
+    rewritten-range blank i home =
+        let found = home-of h (guest + i) (place + i) (mapped f h (guest + i)) home in
         ap (cell_by blank x h (guest + i)) (rewritten-entries ((guest + i) / cluster_size h) ∙ found.1)
         ∙ ap (λ p. own (byte (x p))) (sym found.2)
 

@@ -1,9 +1,9 @@
 -- Runs of guest clusters in a table.
-use Rattle.std.proofs.Common.{◌≡◌, ℕ, ◌+◌, ◌-◌, ◌*◌, ◌%◌, ◌^◌, ◌<◌, ◌≤◌, refl, arith, ap, sym, subst, ◌∙◌, true, false, Some, None, inl, inr}
-use Rattle.std.specs.Prelude.{Bool, ◌&&◌, ◌==◌, not, if◌then◌else◌}
+use Rattle.std.proofs.Common.{◌≡◌, ℕ, ◌+◌, ◌-◌, ◌*◌, ◌^◌, ◌<◌, refl, arith, ap, sym, subst, ◌∙◌, true, false, Some, None, inl, inr}
+use Rattle.std.specs.Prelude.{Bool, ◌&&◌, ◌==◌}
 use Rattle.std.proofs.lemmas.Bool.{cases_lt, and_parts, and_from, eqb-true, eq-eqb}
 use Rattle.qcow2_types.specs.Words.{Mapping}
-use Rattle.qcow2_metadata.specs.MappingView.{mapping_seen, IsNamed, BacksAt, follows, same_mark}
+use Rattle.qcow2_metadata.specs.MappingView.{mapping_seen, BacksAt, follows, same_mark}
 use Rattle.qcow2_metadata.specs.declared.mapping.L2Mapping.{L2Mapping}
 use Rattle.qcow2_metadata.specs.declared.mapping.L2Mapping.TheVariants.{DataFile, Backing, Zero, Compressed}
 use Rattle.qcow2_image.specs.Looking.{Follows, IsRunOf}

@@ -3,7 +3,7 @@ use Rattle.std.proofs.Common.{◌≡◌, ◌∙◌, ℕ, ◌<◌, ◌/◌, ap, r
 use Rattle.std.proofs.lemmas.Bool.{lt-ltb}
 use Rattle.imago_storage.specs.Disk.{Value}
 use Rattle.imago_storage.specs.declared.fault.Fault.{Fault}
-use Rattle.imago_access.specs.Layer.{Cell, Meaning, through}
+use Rattle.imago_access.specs.Layer.{Cell, through}
 use Rattle.qcow2_types.specs.Bytes.{Bytes, bytes_of}
 use Rattle.qcow2_types.specs.Disk.{in_qcow2, shown_by, host_byte, size_in_header}
 use Rattle.qcow2_types.specs.Entries.{entry}

@@ -1,17 +1,15 @@
 -- What calls that write nothing leave of an image, in the words of the driver.
-use Rattle.std.proofs.Common.{◌≡◌, ℕ, refl, ap, sym, subst, ◌∙◌, Bool, true, false, Some, None, Result, Ok, Err, inl, inr}
+use Rattle.std.proofs.Common.{◌≡◌, ℕ, refl, ap, sym, subst, ◌∙◌, Bool, false, Some, None, Result, Ok, Err, inl, inr}
 use Rattle.std.proofs.Math.Nat.{le_refl}
-use Rattle.std.specs.Prelude.{⊤, ◌⊎◌, IsTrue, IfErr, OnOk}
+use Rattle.std.specs.Prelude.{⊤, ◌⊎◌, IsTrue, IfErr, Option, IfSome, IsSome, []}
 use Rattle.std.specs.Borrow.{RattleType}
 use Rattle.imago_storage.specs.State.{Shape, StorageState}
-use Rattle.imago_storage.specs.Calls.{Kept, Later, IsFaultless}
 use Rattle.imago_storage.specs.Steps.{Call}
 use Rattle.imago_storage.specs.declared.fault.Fault.{Fault}
 use Rattle.imago_storage.specs.declared.fault.Fault.TheVariants.{Memory, Storage}
 use Rattle.imago_storage.specs.declared.storage.Storage.{Ghosts}
-use Rattle.imago_access.specs.Files.{WasNotCutOff, IsMild}
-use Rattle.imago_access.specs.Going.{IsKnown, IsSpared, Looked, Marks, Went}
-use Rattle.imago_access.specs.Layer.{Layer, Fixed, loose}
+use Rattle.imago_access.specs.Files.{WasNotCutOff}
+use Rattle.imago_access.specs.Going.{IsKnown, IsSpared, Looked, Marks}
 use Rattle.imago_access.specs.Room.{Takes}
 use Rattle.imago_access.specs.Stops.{GivesNone, Left}
 use Rattle.imago_storage.proofs.Composing.{later_both}
@@ -27,36 +25,43 @@ use Rattle.qcow2_image.specs.declared.qcow2.PreparedMappingState.{PreparedMappin
 use Rattle.qcow2_image.specs.declared.mode.OpenMode.{OpenMode}
 use Rattle.qcow2_image.specs.declared.tables.Tables.{Tables}
 use Rattle.qcow2_image.specs.ImageLayer.{blank_of, cells, homes, qcow2_fixed, qcow2_layer}
-use Rattle.qcow2_image.specs.Rooms.{HasRoom, IsVacant, IsZeroed, IsSafe, is_sound}
-use Rattle.qcow2_image.specs.Seen.{IsSeen, file_of, memory_of}
+use Rattle.qcow2_alloc.specs.Quiet.{IsSound}
+use Rattle.qcow2_clusters.specs.declared.space.Space.{Space}
+use Rattle.qcow2_image.specs.Holding.{Holding, claim_held, held_with, homes_with}
+use Rattle.qcow2_image.specs.Rooms.{HasRoom, HoldsIn, IsVacant, IsZeroed, IsSafe, IsUntouched, Sees, is_sound, rest_of}
+use Rattle.qcow2_image.specs.Seen.{file_of, homes_of, layer_of, memory_of}
+use Rattle.qcow2_image.specs.Unspent.{holding_in}
 use Rattle.qcow2_image.specs.Steps.{KeepsTables, KeepsImage, failed_by, failed_behind}
 
 -- The layer is what its parts make it.
-pub layer-by : (s s' : StorageState) (m m' : Bytes) (h h' : Fields) (b b' : OpenMode) (n n' : ℕ) (f f' : Bool) → s'.shape ≡ s.shape → s'.bytes ≡ s.bytes → m' ≡ m → h' ≡ h → b' ≡ b → n' ≡ n → f' ≡ f
-    → qcow2_layer s' m' h' b' n' f' ≡ qcow2_layer s m h b n f
-layer-by s s' m m' h h' b b' n n' f f' shape bytes words fields mode number failed = λ i. record {
+pub layer-by : (s s' : StorageState) (m m' : Bytes) (h h' : Fields) (b b' : OpenMode) (n n' : ℕ) (f f' : Bool) (k k' : Option Holding) → s'.shape ≡ s.shape → s'.bytes ≡ s.bytes → m' ≡ m → h' ≡ h → b' ≡ b → n' ≡ n → f' ≡ f → k' ≡ k
+    → qcow2_layer s' m' h' b' n' f' k' ≡ qcow2_layer s m h b n f k
+layer-by s s' m m' h h' b b' n n' f f' k k' shape bytes words fields mode number failed hold = λ i. record {
   fixed = qcow2_fixed (shape i) (fields i) (mode i) (number i);
   size = (fields i).size;
   failed = failed i;
   cell = cells (blank_of (mode i).backing) (words i) (bytes_of (bytes i)) (fields i);
-  home = homes (mode i).writable (words i) (fields i);
-  held = λ p. loose;
-  unspent = None;
+  home = homes_with (hold i) (homes (mode i).writable (words i) (fields i));
+  held = held_with (fields i) (bytes_of (bytes i)) (hold i);
+  unspent = claim_held (hold i);
 }
 
 -- Nothing waits in memory, so that it is what the file is.
 pub memory-is : {S : Type 0} (g : Ghosts S) (t : Tables S g) → memory_of g t ≡ file_of g t
 memory-is g t = clean-memory (file_of g t) t.file.header.fields (cached_in t.caches) t.clean.0 t.clean.1
 
+some-same : {A : Type 0} (a b : A) → Some b ≡ Some a → b ≡ a
+some-same a b is = cc is
+
 module _ {T : Type 0} where
   -- A call that wasn't cut off marks nothing, and none takes a mark away.
-  unmarked : (r : Result T Fault) (f : Bool) → WasNotCutOff r → failed_behind failed_by r f ≡ f
+  pub unmarked : (r : Result T Fault) (f : Bool) → WasNotCutOff r → failed_behind failed_by r f ≡ f
   unmarked (Ok v) f whole = refl
   unmarked (Err Memory) f whole = absurd whole
   unmarked (Err Storage) f whole = absurd whole
   unmarked (Err fault) f whole = refl
 
-  still-marked : (r : Result T Fault) (f : Bool) → IsTrue f → IsTrue (failed_behind failed_by r f)
+  pub still-marked : (r : Result T Fault) (f : Bool) → IsTrue f → IsTrue (failed_behind failed_by r f)
   still-marked (Ok v) f was = was
   still-marked (Err Storage) f was = refl
   still-marked (Err fault) f was = was
@@ -72,6 +77,7 @@ keeps-marked g old new mid result kept is = record {
   tables = subst (KeepsTables g old.tables result) (sym (ap (λ (x : Qcow2 _ g). x.tables) is)) kept;
   mode = ap (λ (x : Qcow2 _ g). x.mode) is;
   number = ap (λ (x : Qcow2 _ g). x.number) is;
+  unspent = ap (λ (x : Qcow2 _ g). x.unspent) is;
   failed = ap (λ (x : Qcow2 _ g). x.failed) is;
 }
 
@@ -93,10 +99,12 @@ keeps-both g a b c r first second = record {
         let two = second.tables.faults whole in
         (two.0 ∙ one.0, two.1 ∙ one.1);
     header = second.tables.header ∙ first.tables.header;
+    space = second.tables.space ∙ first.tables.space;
     seen = λ seen. second.tables.seen (first.tables.seen seen);
   };
   mode = second.mode ∙ first.mode;
   number = second.number ∙ first.number;
+  unspent = second.unspent ∙ first.unspent;
   failed = second.failed ∙ ap (failed_behind failed_by r) first.failed;
 }
 
@@ -109,10 +117,12 @@ keeps-as g a b r r' whole marks k = record {
     later = k.tables.later;
     faults = λ w. k.tables.faults (whole w);
     header = k.tables.header;
+    space = k.tables.space;
     seen = k.tables.seen;
   };
   mode = k.mode;
   number = k.number;
+  unspent = k.unspent;
   failed = k.failed ∙ marks a.failed;
 }
 
@@ -124,19 +134,18 @@ keeps-same g a = record {
     later = record { faults = le_refl (g.state a.tables.file.image).faults; refusals = le_refl (g.state a.tables.file.image).refusals };
     faults = λ whole. (refl, refl);
     header = refl;
+    space = refl;
     seen = λ seen. seen;
   };
   mode = refl;
   number = refl;
+  unspent = refl;
   failed = refl;
 }
 
 module _ (R : RattleType) (st : Ghosts R.Denot) (sd : mir.Syntax.Dict) (dd : mir.Syntax.Dict) {T : Type 0} (old new : Qcow2 R.Denot st) (result : Result T Fault) (k : KeepsImage st old result new) where
   abbrev sees : SeenGhosts (Qcow2 R.Denot st) PreparedMappingState
   sees = ghosts R st sd dd
-
-  abbrev layer_of : Qcow2 R.Denot st → Layer
-  layer_of d = qcow2_layer (st.state d.tables.file.image) (memory_of st d.tables) d.tables.file.header.fields d.mode d.number d.failed
 
   abbrev s : StorageState
   s = st.state old.tables.file.image
@@ -147,22 +156,69 @@ module _ (R : RattleType) (st : Ghosts R.Denot) (sd : mir.Syntax.Dict) (dd : mir
   memory-same : memory_of st new.tables ≡ memory_of st old.tables
   memory-same = memory-is st new.tables ∙ ap bytes_of k.tables.kept.bytes ∙ sym (memory-is st old.tables)
 
-  fixed-same : (layer_of new).fixed ≡ (layer_of old).fixed
-  fixed-same = ap (λ (l : Layer). l.fixed) (layer-by s s' (file_of st old.tables) (file_of st old.tables) old.tables.file.header.fields new.tables.file.header.fields old.mode new.mode old.number new.number false false k.tables.kept.shape k.tables.kept.bytes refl (ap (λ (H : Header). H.fields) k.tables.header) k.mode k.number refl)
+  fixed-same : (layer_of st new).fixed ≡ (layer_of st old).fixed
+  fixed-same = λ i. qcow2_fixed (k.tables.kept.shape i) (k.tables.header i).fields (k.mode i) (k.number i)
 
-  layer-same : new.failed ≡ old.failed → layer_of new ≡ layer_of old
-  layer-same failed = layer-by s s' (memory_of st old.tables) (memory_of st new.tables) old.tables.file.header.fields new.tables.file.header.fields old.mode new.mode old.number new.number old.failed new.failed k.tables.kept.shape k.tables.kept.bytes memory-same (ap (λ (H : Header). H.fields) k.tables.header) k.mode k.number failed
+  layer-same : new.failed ≡ old.failed → layer_of st new ≡ layer_of st old
+  layer-same failed = layer-by s s' (memory_of st old.tables) (memory_of st new.tables) old.tables.file.header.fields new.tables.file.header.fields old.mode new.mode old.number new.number old.failed new.failed (holding_in st old.unspent) (holding_in st new.unspent) k.tables.kept.shape k.tables.kept.bytes memory-same (ap (λ (H : Header). H.fields) k.tables.header) k.mode k.number failed (ap (holding_in st) k.unspent)
 
-  safe-same : new.failed ≡ old.failed → IsSafe st old.tables old.failed → IsSafe st new.tables new.failed
-  safe-same failed safe = record {
-    runs = failed ∙ safe.runs;
+  -- Its clusters are at rest what they were.
+  rest-same : (space : Space) → rest_of st new.tables space ≡ rest_of st old.tables space
+  rest-same space = λ i. record (rest_of st old.tables space) { file = bytes_of (k.tables.kept.bytes i); header = k.tables.header i }
+
+  sound-same : IfSome old.tables.space (λ space. IsSound (rest_of st old.tables space)) → IfSome new.tables.space (λ space. IsSound (rest_of st new.tables space))
+  sound-same = from old.tables.space new.tables.space k.tables.space where
+    from : (a b : Option Space) → b ≡ a → IfSome a (λ space. IsSound (rest_of st old.tables space)) → IfSome b (λ space. IsSound (rest_of st new.tables space))
+    from None None is sound = tt
+    from (Some a) (Some b) is sound = subst IsSound (ap (rest_of st old.tables) (sym (some-same a b is)) ∙ sym (rest-same b)) sound
+    from None (Some b) is sound = absurd (cc is)
+    from (Some a) None is sound = absurd (cc is)
+
+  holds-same : (hold : Holding) → HoldsIn st old.tables hold → HoldsIn st new.tables hold
+  holds-same hold holds = record {
+    space = holds.space;
+    there = k.tables.space ∙ holds.there;
+    held = rw (rest-same holds.space) holds.held;
+    room = holds.room;
+  }
+
+  held-same : IfSome (holding_in st old.unspent) (HoldsIn st old.tables) → IfSome (holding_in st new.unspent) (HoldsIn st new.tables)
+  held-same = from (holding_in st old.unspent) (holding_in st new.unspent) (ap (holding_in st) k.unspent) where
+    from : (a b : Option Holding) → b ≡ a → IfSome a (HoldsIn st old.tables) → IfSome b (HoldsIn st new.tables)
+    from None None is held = tt
+    from (Some a) (Some b) is held = holds-same b (subst (HoldsIn st old.tables) (sym (some-same a b is)) held)
+    from None (Some b) is held = absurd (cc is)
+    from (Some a) None is held = absurd (cc is)
+
+  safe-parts : (was now : Bool) → now ≡ false → IsSafe st (record old { failed = was }) → IsSafe st (record new { failed = now })
+  safe-parts was now runs safe = record {
+    runs = runs;
     keeps = subst (λ (x : Shape). IsTrue x.keeps) (sym k.tables.kept.shape) safe.keeps;
     consistent = rw (ap bytes_of k.tables.kept.bytes, k.tables.header) safe.consistent;
     seen = k.tables.seen safe.seen;
+    sound = sound-same safe.sound;
+    held = held-same safe.held;
+    writable = λ some. subst IsTrue (sym (ap (λ (m : OpenMode). m.writable) k.mode)) (safe.writable (subst IsSome k.unspent some));
+  }
+
+  safe-same : new.failed ≡ old.failed → IsSafe st old → IsSafe st new
+  safe-same failed safe = safe-parts old.failed new.failed (failed ∙ safe.runs) safe
+
+  untouched-same : IsUntouched st old → IsUntouched st new
+  untouched-same was = (k.unspent ∙ was.0, subst (λ space. IfSome space (λ x. x.to_free.entries ≡ [])) (sym k.tables.space) was.1)
+
+  -- What is in memory is what the file says, where it was.
+  pub sees-same : Sees st old → Sees st new
+  sees-same was = record {
+    seen = k.tables.seen was.seen;
+    sure = elim was.sure [
+      | inl untouched ↦ inl (untouched-same untouched)
+      | inr safe ↦ inr (safe-parts false false refl safe)
+    ];
   }
 
   known : new.failed ≡ old.failed → IsKnown sees old new
-  known failed = record { seen = λ seen. (layer-same failed, k.tables.seen seen); safely = safe-same failed }
+  known failed = record { seen = λ seen. (layer-same failed, sees-same seen); safely = safe-same failed }
 
   -- What is allocated is what was.
   as-was : (P : Bytes → Fields → Type 0) → P (memory_of st old.tables) old.tables.file.header.fields → P (memory_of st new.tables) new.tables.file.header.fields
@@ -176,13 +232,13 @@ module _ (R : RattleType) (st : Ghosts R.Denot) (sd : mir.Syntax.Dict) (dd : mir
   }
 
   -- Each place can be written where it could.
-  homes-same : (p : ℕ) → (layer_of new).home p ≡ (layer_of old).home p
+  homes-same : (p : ℕ) → homes_of st new p ≡ homes_of st old p
   homes-same p = λ i. homes (k.mode i).writable (memory-same i) (k.tables.header i).fields p
 
   begun-kept : new.failed ≡ old.failed → (e : Qcow2 R.Denot st) (call : Call) → sees.began e call old → sees.began e call new
   begun-kept failed e call begun = λ safe.
       let now = begun safe in
-      (safe-same failed now.0, λ p. homes-same p ∙ now.1 p)
+      (safe-same failed now.0, λ p at is. homes-same p ∙ now.1 p at is)
 
   spared : new.failed ≡ old.failed → IsSpared sees old new
   spared failed = record {
@@ -204,10 +260,10 @@ module _ (R : RattleType) (st : Ghosts R.Denot) (sd : mir.Syntax.Dict) (dd : mir
 
   pub looked-kept : Looked sees (WasNotCutOff result) old new
   looked-kept = record {
-    like = record { fixed = fixed-same; size = ap (λ (H : Header). H.fields.size) k.tables.header; unspent = refl; failed = marks-on };
+    like = record { fixed = fixed-same; size = ap (λ (H : Header). H.fields.size) k.tables.header; unspent = ap (λ u. claim_held (holding_in st u)) k.unspent; failed = marks-on };
     later = ((k.tables.kept.shape, k.tables.later), tt);
     faults = λ whole. (k.tables.faults whole, tt);
-    stays = λ whole seen. (layer-same (whole-same whole), k.tables.seen seen);
+    stays = λ whole seen. (layer-same (whole-same whole), sees-same seen);
     safely = λ whole safe. safe-same (whole-same whole) safe;
     cut = elim (marked-or-not result old.failed) [
       | inl marked ↦ inl (subst IsTrue (sym k.failed) marked)
@@ -215,7 +271,7 @@ module _ (R : RattleType) (st : Ghosts R.Denot) (sd : mir.Syntax.Dict) (dd : mir
     ];
     lasting = λ l. l;
     kept = λ still. (((k.tables.kept, k.tables.later.faults), tt), new.tables.clean);
-    stops = λ safe below. passes_none (Left below (layer_of old) s.bytes is_sound (layer_of old).size (layer_of old).size GivesNone) s s' k.tables.kept.shape (k.tables.kept.stop, k.tables.kept.past, k.tables.kept.bytes, k.tables.kept.refusals);
+    stops = λ safe below. passes_none (Left below (layer_of st old) s.bytes is_sound (layer_of st old).size (layer_of st old).size GivesNone) s s' k.tables.kept.shape (k.tables.kept.stop, k.tables.kept.past, k.tables.kept.bytes, k.tables.kept.refusals);
   }
 
   pub marks-kept : IfErr result (Marks sees old new)

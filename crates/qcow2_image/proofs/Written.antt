@@ -1,23 +1,22 @@
 -- What a write leaves that goes where a range of the disk is.
-use Rattle.std.proofs.Common.{◌≡◌, ◌≢◌, ℕ, ◌+◌, ◌-◌, ◌*◌, ◌/◌, ◌<◌, ◌≤◌, refl, arith, ap, sym, subst, ◌∙◌, inl, inr, Bool, true, false, List, [], ◌∷◌, length, Option, Some, None, Result, Ok, Err}
-use Rattle.std.specs.Prelude.{⊤, ◌⊎◌, ◌++◌, ◌&&◌, ltb, if◌then◌else◌, slice_index, is_err, IsTrue, IfErr, OnOk, MatchResult}
+use Rattle.std.proofs.Common.{◌≡◌, ℕ, ◌+◌, ◌-◌, ◌/◌, ◌<◌, refl, arith, ap, sym, subst, ◌∙◌, inl, inr, Bool, true, false, List, [], ◌∷◌, length, Option, Some, None, Result, Ok, Err}
+use Rattle.std.specs.Prelude.{⊤, ◌⊎◌, ◌++◌, ◌&&◌, ◌||◌, ltb, nat_le, if◌then◌else◌, slice_index, is_err, IsTrue, IsSome, IfSome, IfErr, OnOk, MatchResult}
 use Rattle.std.specs.List.{AllByRecursion}
 use Rattle.std.specs.Borrow.{RattleType}
 use Rattle.std.proofs.lemmas.Bool.{cases_lt, cases_Bool, lt-ltb}
 use Rattle.imago_storage.specs.State.{Shape, StorageState, InStep, Rose, unit_of}
 use Rattle.imago_storage.specs.Calls.{Kept as KeptStorage, Later, Mixed, Spliced, Cause, IsFaultless}
-use Rattle.imago_storage.specs.Through.{Put, NotThrough, Stops, StopsIn, WrittenThrough}
+use Rattle.imago_storage.specs.Through.{Put, NotThrough, Stops, WrittenThrough}
 use Rattle.imago_storage.specs.Passing.{Passes}
 use Rattle.imago_storage.specs.Disk.{Value, byte}
-use Rattle.imago_storage.specs.Steps.{Call, IsIn, IsOut}
+use Rattle.imago_storage.specs.Steps.{Call, IsOut}
 use Rattle.imago_storage.specs.declared.fault.Fault.{Fault}
 use Rattle.imago_storage.specs.declared.fault.Fault.TheVariants.{DamagedTable, Memory, Storage}
 use Rattle.imago_storage.specs.declared.storage.Storage.{Ghosts}
 use Rattle.imago_storage.proofs.Composing.{later_both, stops_weaker}
 use Rattle.imago_access.specs.Chain.{at}
-use Rattle.imago_access.specs.Changes.{Wrote}
+use Rattle.imago_access.specs.Changes.{TakesByte, Wrote}
 use Rattle.imago_access.specs.Files.{IsMild, WasNotCutOff}
-use Rattle.imago_access.specs.Going.{Went}
 use Rattle.imago_access.specs.Layer.{Cell, Layer, Meaning, IsLike, own, through}
 use Rattle.imago_access.specs.Room.{Takes}
 use Rattle.imago_access.specs.PreparingCalls.{WritesMapped, WritingRefused}
@@ -27,7 +26,7 @@ use Rattle.imago_access.specs.Stops.{GivesBytes, GivesNone, Left, May, KeepsStop
 use Rattle.qcow2_types.specs.Bytes.{Bytes, bytes_of}
 use Rattle.qcow2_types.specs.Header.{Fields, Header, cluster_size, words_of_cluster, header_of}
 use Rattle.qcow2_types.specs.Words.{Mapping}
-use Rattle.qcow2_types.specs.Entries.{entry, l2_table, l1_table_sound}
+use Rattle.qcow2_types.specs.Entries.{entry, l2_table}
 use Rattle.qcow2_types.specs.Consistency.{IsConsistent}
 use Rattle.qcow2_types.specs.Frames.{Outside, Kept, nothing}
 use Rattle.qcow2_types.proofs.Consistent.{header-reading}
@@ -36,12 +35,21 @@ use Rattle.qcow2_metadata.specs.Tables.{TableValue, words_in}
 use Rattle.qcow2_alloc.specs.declared.async_lru_cache.Slot.{Slot}
 use Rattle.qcow2_alloc.specs.Caches.{cached_in}
 use Rattle.qcow2_alloc.specs.Opening.{IsL1Of}
+use Rattle.qcow2_alloc.specs.Quiet.{IsSound, Metadata}
+use Rattle.qcow2_steps.proofs.DataRuns.{beside-sound}
+use Rattle.qcow2_clusters.specs.declared.space.Space.{Space}
+use Rattle.qcow2_image.specs.declared.mode.OpenMode.{OpenMode}
 use Rattle.qcow2_image.specs.declared.qcow2.Qcow2.{Qcow2}
-use Rattle.qcow2_image.specs.ImageLayer.{blank_of, cell_by, cells, home_by, homes, meaning_of, qcow2_fixed, qcow2_meaning}
-use Rattle.qcow2_image.specs.Homes.{home-there, mapped, memory_is}
-use Rattle.qcow2_image.specs.Rooms.{HasCluster, IsSafe, ReadsNone, TakesNone, is_sound}
-use Rattle.qcow2_image.specs.Seen.{IsOfFile, IsSeen, IsTableAt, file_of, memory_of}
-use Rattle.qcow2_image.specs.Writing.{IsHomeAt, WhyNotTold, WritesAt, layer_of}
+use Rattle.qcow2_image.specs.declared.tables.Tables.{Tables}
+use Rattle.qcow2_image.specs.declared.unspent.Unspent.{Unspent}
+use Rattle.qcow2_image.specs.Holding.{Holding, IsHeld, Notes, claim_held, held_with, homes_with}
+use Rattle.qcow2_image.specs.ImageLayer.{blank_of, cells, home_by, homes, meaning_of, qcow2_fixed, qcow2_meaning}
+use Rattle.qcow2_image.specs.Homes.{mapped, memory_is}
+use Rattle.qcow2_clusters.specs.Naming.{TakesNone}
+use Rattle.qcow2_image.specs.Rooms.{HasCluster, HoldsIn, IsSafe, ReadsNone, is_sound, rest_of, was_safe}
+use Rattle.qcow2_image.specs.Seen.{IsOfFile, IsSeen, file_of, homes_of, layer_of, memory_of}
+use Rattle.qcow2_image.specs.Unspent.{holding_in}
+use Rattle.qcow2_image.specs.Writing.{IsHomeAt, WhyNotTold, WritesAt}
 use Rattle.qcow2_image.proofs.Preparing.{safe-undamaged, went-kept}
 use Rattle.qcow2_image.proofs.Settling.{on-ok}
 use Rattle.qcow2_image.proofs.Steps.{looked-kept, takes-kept}
@@ -49,7 +57,8 @@ use Rattle.qcow2_image.specs.Steps.{KeepsImage}
 use Rattle.qcow2_image.specs.contracts.qcow2.Qcow2Seen.TheImpl.{ghosts}
 use Rattle.imago_access.specs.declared.seen.Seen.{Ghosts as SeenGhosts}
 use Rattle.qcow2_image.specs.declared.qcow2.PreparedMappingState.{PreparedMappingState}
-use Rattle.qcow2_image.proofs.Rewriting.{rewritten-kept, rewritten-consistent, rewritten-entries, rewritten-others, rewritten-range, kept-l1-words, kept-l2-words, kept-l1-sound}
+use Rattle.qcow2_image.proofs.Noted.{IsWrittenIn, held-beside, held-range, held-still, noted-claim, noted-homes, unnamed-in, written-at, written-in}
+use Rattle.qcow2_image.proofs.Rewriting.{IsWrittenAt, written-beside, rewritten-kept, rewritten-consistent, rewritten-entries, rewritten-others, rewritten-range, kept-l1-words, kept-l2-words, kept-l1-sound}
 
 -- What a call leaves of each stop, of a storage of which nothing but the count of faults was another before.
 pub passes-kept : (P : List ℕ → Type 0) (s t u : StorageState) → KeptStorage s t → Passes P t u → Passes P s u
@@ -91,7 +100,7 @@ spliced-outside old place bytes new spliced p (inr behind) = spliced.after p beh
 
 -- A consistent image, a range of its disk that can be written from a place of the file on, and a file that was written there.
 module _ (f : Bytes) (H : Header) (was : IsConsistent f H) (guest place n : ℕ)
-    (each : (i : ℕ) → i < n → home_by H.fields (guest + i) (mapped f H.fields (guest + i)) ≡ Some (0, place + i))
+    (each : (i : ℕ) → i < n → IsWrittenAt f H.fields (guest + i) (place + i))
     (x : Bytes) (out : Outside f x place n) where
   abbrev h : Fields
   h = H.fields
@@ -100,16 +109,17 @@ module _ (f : Bytes) (H : Header) (was : IsConsistent f H) (guest place n : ℕ)
   loads-still : header_of false x ≡ Ok H
   loads-still = header-reading x H (rewritten-consistent f H was guest place n each x out).readable.loads
 
-  -- each place beside the range says what it did,
-  cell-beside : (blank : Cell) (p : ℕ) → IsOut guest n p → cells blank x x h p ≡ cells blank f f h p
+  -- each place beside the range says what it did, and one that no word says to be written,
+  cell-beside : (blank : Cell) (p : ℕ) → IsOut guest n p ⊎ (home_by h p (mapped f h p) ≡ None) → cells blank x x h p ≡ cells blank f f h p
   cell-beside blank p beside = elim (cases_Bool (ltb p h.size)) [
     | inl t ↦ rw t (rewritten-others f H was guest place n each x out blank p beside)
     | inr t ↦ rw t refl
   ]
 
-  -- and each place of it its byte.
-  cell-within : (blank : Cell) (i : ℕ) → i < n → guest + i < h.size → cells blank x x h (guest + i) ≡ own (byte (x (place + i)))
-  cell-within blank i lt inside = rw (lt-ltb (guest + i) h.size inside) (rewritten-range f H was guest place n each x out blank i lt)
+  -- and each that a word does its byte.
+  cell-within : (blank : Cell) (i : ℕ) → home_by h (guest + i) (mapped f h (guest + i)) ≡ Some (0, place + i) → guest + i < h.size
+      → cells blank x x h (guest + i) ≡ own (byte (x (place + i)))
+  cell-within blank i home inside = rw (lt-ltb (guest + i) h.size inside) (rewritten-range f H was guest place n each x out blank i home)
 
   -- The tables in memory are still the file's.
   l1-still : (top : TableValue) → IsL1Of f h top → IsL1Of x h top
@@ -145,7 +155,7 @@ module _ (f : Bytes) (H : Header) (was : IsConsistent f H) (guest place n : ℕ)
 
 -- A file that a stop may leave: it is sound, as long, and shows at each place what the layer's file did, or a byte that is written.
 module _ (f : List ℕ) (H : Header) (was : IsConsistent (bytes_of f) H) (guest place : ℕ) (bytes : List ℕ)
-    (each : (i : ℕ) → i < length bytes → home_by H.fields (guest + i) (mapped (bytes_of f) H.fields (guest + i)) ≡ Some (0, place + i))
+    (each : (i : ℕ) → i < length bytes → IsWrittenAt (bytes_of f) H.fields (guest + i) (place + i))
     (y : List ℕ) (mixed : Mixed f place bytes y) (entry : Layer) (below : List Layer) (blank : Cell)
     (size : entry.size ≡ H.fields.size) (means : entry.fixed.means ≡ qcow2_meaning blank) (kind : entry.fixed.kind ≡ 1) where
   out : Outside (bytes_of f) (bytes_of y) place (length bytes)
@@ -172,14 +182,14 @@ module _ (f : List ℕ) (H : Header) (was : IsConsistent (bytes_of f) H) (guest 
   value-same : (p : ℕ) → cells blank (bytes_of y) (bytes_of y) H.fields p ≡ cells blank (bytes_of f) (bytes_of f) H.fields p → value y p ≡ value f p
   value-same p same = ap (λ c. if ltb p H.fields.size then through c (at below p) else byte 0) same
 
-  may-beside : (p : ℕ) → IsOut guest (length bytes) p → May below entry f (GivesBytes guest bytes) p (shown below entry.fixed.means y p)
+  may-beside : (p : ℕ) → IsOut guest (length bytes) p ⊎ (home_by H.fields p (mapped (bytes_of f) H.fields p) ≡ None) → May below entry f (GivesBytes guest bytes) p (shown below entry.fixed.means y p)
   may-beside p beside = inl (shown-y p ∙ value-same p (cell-beside (bytes_of f) H was guest place (length bytes) each (bytes_of y) out blank p beside) ∙ sym (shown-f p))
 
-  may-within : (i : ℕ) → i < length bytes → guest + i < H.fields.size
-      → May below entry f (GivesBytes guest bytes) (guest + i) (shown below entry.fixed.means y (guest + i))
-  may-within i lt inside = elim (mixed.inside (place + i) (omega arith) (omega (arith, lt))) [
+  may-within : (i : ℕ) → i < length bytes → home_by H.fields (guest + i) (mapped (bytes_of f) H.fields (guest + i)) ≡ Some (0, place + i)
+      → guest + i < H.fields.size → May below entry f (GivesBytes guest bytes) (guest + i) (shown below entry.fixed.means y (guest + i))
+  may-within i lt home inside = elim (mixed.inside (place + i) (omega arith) (omega (arith, lt))) [
     | inl old ↦
-        let before = cell-within (bytes_of f) H was guest place (length bytes) each (bytes_of f) (λ p off. refl) blank i lt inside in
+        let before = cell-within (bytes_of f) H was guest place (length bytes) each (bytes_of f) (λ p off. refl) blank i home inside in
         inl (shown-y (guest + i) ∙ value-same (guest + i) (now ∙ ap (λ b. own (byte b)) old ∙ sym before) ∙ sym (shown-f (guest + i)))
     | inr new ↦
         let index : place + i - place ≡ i = omega arith in
@@ -189,7 +199,7 @@ module _ (f : List ℕ) (H : Header) (was : IsConsistent (bytes_of f) H) (guest 
         inr (inr (i, lt, refl, shown-y (guest + i) ∙ there ∙ ap byte is))
   ] where
     now : cells blank (bytes_of y) (bytes_of y) H.fields (guest + i) ≡ own (byte (slice_index y (place + i)))
-    now = cell-within (bytes_of f) H was guest place (length bytes) each (bytes_of y) out blank i lt inside
+    now = cell-within (bytes_of f) H was guest place (length bytes) each (bytes_of y) out blank i home inside
 
   pub stop-left : Left below entry f is_sound entry.size entry.size (GivesBytes guest bytes) y
   stop-left = record {
@@ -197,22 +207,78 @@ module _ (f : List ℕ) (H : Header) (was : IsConsistent (bytes_of f) H) (guest 
     size = omega (arith, size, ap (λ (m : Meaning). m.size) means-y);
     no_longer = λ exact. omega (arith, size, ap (λ (m : Meaning). m.size) means-y);
     shows = λ p inside low. elim (cases_lt p guest) [
-      | inl before ↦ may-beside p (inl before)
+      | inl before ↦ may-beside p (inl (inl before))
       | inr from ↦ elim (cases_lt p (guest + length bytes)) [
-        | inr behind ↦ may-beside p (inr behind)
+        | inr behind ↦ may-beside p (inl (inr behind))
         | inl within ↦
             let i : ℕ = p - guest in
             let is : guest + i ≡ p = omega (arith, from) in
+            let lt : i < length bytes = omega (arith, within, from) in
             subst (λ q. May below entry f (GivesBytes guest bytes) q (shown below entry.fixed.means y q)) is
-            (may-within i (omega (arith, within, from)) (omega (arith, low, size, is)))
+            (elim (each (p - guest) lt) [
+              | inl home ↦ may-within (p - guest) lt home (omega (arith, low, size, is))
+              | inr held ↦ may-beside (guest + (p - guest)) (inr held.0)
+            ])
       ]
     ];
   }
 
+-- What a write leaves once it is noted to what is prepared.
+pub record WritesNoting {S : Type 0} (g : Ghosts S) (guest place : ℕ) (bytes : List ℕ) (old : Qcow2 S g) (result : Result Unit Fault)
+    (new : Qcow2 S g) : Type 0 where
+  pub put : Put (g.state old.tables.file.image) (g.state new.tables.file.image) place bytes result
+  pub header : new.tables.file.header ≡ old.tables.file.header
+  pub l1 : new.tables.l1 ≡ old.tables.l1
+  pub caches : new.tables.caches ≡ old.tables.caches
+  pub space : new.tables.space ≡ old.tables.space
+  pub mode : new.mode ≡ old.mode
+  pub number : new.number ≡ old.number
+  pub failed : new.failed ≡ is_err result
+  pub claim : claim_held (holding_in g new.unspent) ≡ claim_held (holding_in g old.unspent)
+  pub notes : OnOk result (Notes guest (length bytes) (holding_in g old.unspent) (holding_in g new.unspent))
+
+-- It is noted where the bytes were written,
+pub noted : {S : Type 0} (g : Ghosts S) (guest place : ℕ) (bytes : List ℕ) (old wrote new : Qcow2 S g) → WritesAt g place bytes old (Ok tt) wrote
+    → Notes guest (length bytes) (holding_in g wrote.unspent) (holding_in g new.unspent) → new ≡ record wrote { unspent = new.unspent }
+    → WritesNoting g guest place bytes old (Ok tt) new
+noted g guest place bytes old wrote new w notes rest =
+    let tables : new.tables ≡ wrote.tables = ap (λ (d : Qcow2 _ g). d.tables) rest in
+    let was : Notes guest (length bytes) (holding_in g old.unspent) (holding_in g new.unspent) =
+    subst (λ u. Notes guest (length bytes) (holding_in g u) (holding_in g new.unspent)) w.unspent notes in
+    record {
+      put = subst (λ (t : Tables _ g). Put (g.state old.tables.file.image) (g.state t.file.image) place bytes (Ok tt)) (sym tables) w.put;
+      header = ap (λ (t : Tables _ g). t.file.header) tables ∙ w.header;
+      l1 = ap (λ (t : Tables _ g). t.l1) tables ∙ w.l1;
+      caches = ap (λ (t : Tables _ g). t.caches) tables ∙ w.caches;
+      space = ap (λ (t : Tables _ g). t.space) tables ∙ w.space;
+      mode = ap (λ (d : Qcow2 _ g). d.mode) rest ∙ w.mode;
+      number = ap (λ (d : Qcow2 _ g). d.number) rest ∙ w.number;
+      failed = ap (λ (d : Qcow2 _ g). d.failed) rest ∙ w.failed;
+      claim = noted-claim guest (length bytes) (holding_in g old.unspent) (holding_in g new.unspent) was;
+      notes = was;
+    }
+
+-- and not where they weren't.
+pub unnoted : {S : Type 0} (g : Ghosts S) (guest place : ℕ) (bytes : List ℕ) (old new : Qcow2 S g) (e : Fault) → WritesAt g place bytes old (Err e) new
+    → WritesNoting g guest place bytes old (Err e) new
+unnoted g guest place bytes old new e w = record {
+  put = w.put;
+  header = w.header;
+  l1 = w.l1;
+  caches = w.caches;
+  space = w.space;
+  mode = w.mode;
+  number = w.number;
+  failed = w.failed;
+  claim = ap (λ u. claim_held (holding_in g u)) w.unspent;
+  notes = tt;
+}
+
 -- An image that looked where a range is, and then wrote bytes there.
 module _ (R : RattleType) (st : Ghosts R.Denot) (sd : mir.Syntax.Dict) (dd : mir.Syntax.Dict) (old mid new : Qcow2 R.Denot st) (guest place : ℕ)
-    (bytes : List ℕ) (result : Result Unit Fault) (looked : KeepsImage {T = Bool} st old (Ok true) mid) (w : WritesAt st place bytes mid result new)
-    (runs : old.failed ≡ false) (yes : IsSeen st old.tables → IsHomeAt (layer_of st old) guest place (length bytes)) where
+    (bytes : List ℕ) (result : Result Unit Fault) (looked : KeepsImage {T = Bool} st old (Ok true) mid)
+    (w : WritesNoting st guest place bytes mid result new) (runs : old.failed ≡ false) (some : length bytes ≡ 0 → ⊥)
+    (yes : IsSeen st old.tables → IsHomeAt (layer_of st old) guest place (length bytes)) where
   abbrev sees : SeenGhosts (Qcow2 R.Denot st) PreparedMappingState
   sees = ghosts R st sd dd
 
@@ -228,11 +294,20 @@ module _ (R : RattleType) (st : Ghosts R.Denot) (sd : mir.Syntax.Dict) (dd : mir
   abbrev H : Header
   H = old.tables.file.header
 
+  abbrev hold : Option Holding
+  hold = holding_in st old.unspent
+
+  abbrev hold' : Option Holding
+  hold' = holding_in st new.unspent
+
   header-same : new.tables.file.header ≡ H
   header-same = w.header ∙ looked.tables.header
 
   mode-same : new.mode ≡ old.mode
   mode-same = w.mode ∙ looked.mode
+
+  space-same : new.tables.space ≡ old.tables.space
+  space-same = w.space ∙ looked.tables.space
 
   shape-same : u.shape ≡ s.shape
   shape-same = w.put.shape ∙ looked.tables.kept.shape
@@ -244,20 +319,19 @@ module _ (R : RattleType) (st : Ghosts R.Denot) (sd : mir.Syntax.Dict) (dd : mir
   like-written = record {
     fixed = fixed-same;
     size = ap (λ (h : Header). h.fields.size) header-same;
-    unspent = refl;
+    unspent = w.claim ∙ ap (λ u. claim_held (holding_in st u)) looked.unspent;
     failed = λ was. absurd (cc (sym was ∙ runs));
   }
 
-  -- Each place of the range is written where it is, by the words of the file.
-  each-of : IsSafe st old.tables old.failed → (i : ℕ) → i < length bytes → home_by H.fields (guest + i) (mapped (file_of st old.tables) H.fields (guest + i)) ≡ Some (0, place + i)
-  each-of safe i lt = subst (λ m. home_by H.fields (guest + i) (mapped m H.fields (guest + i)) ≡ Some (0, place + i)) (memory_is st old.tables)
-      (home-there old.mode.writable (memory_of st old.tables) H.fields (guest + i) (0, place + i) (yes safe.seen i lt)).2
+  -- Each place of the range is written where it is, by the words of the file or in the run.
+  in-of : IsSafe st old → (i : ℕ) → i < length bytes → (guest + i < H.fields.size) × IsWrittenIn (file_of st old.tables) H.fields hold (guest + i) (place + i)
+  in-of safe i lt = written-in st old safe (guest + i) (place + i) (yes safe.seen i lt)
 
-  low-of : IsSafe st old.tables old.failed → (i : ℕ) → i < length bytes → guest + i < H.fields.size
-  low-of safe i lt = (home-there old.mode.writable (memory_of st old.tables) H.fields (guest + i) (0, place + i) (yes safe.seen i lt)).1
+  each-of : IsSafe st old → (i : ℕ) → i < length bytes → IsWrittenAt (file_of st old.tables) H.fields (guest + i) (place + i)
+  each-of safe i lt = written-at (file_of st old.tables) H.fields hold (guest + i) (place + i) (unnamed-in st old safe) (in-of safe i lt).1
 
   -- Each stop shows what the disk did, or bytes that are written.
-  pub stops-written : IsSafe st old.tables old.failed → (below : List Layer) → KeepsStops sees below (GivesBytes guest bytes) old new
+  pub stops-written : IsSafe st old → (below : List Layer) → KeepsStops sees below (GivesBytes guest bytes) old new
   stops-written safe below =
       passes-kept (Left below (layer_of st old) s.bytes is_sound H.fields.size H.fields.size (GivesBytes guest bytes)) s t u looked.tables.kept
       (passes-put (Left below (layer_of st old) s.bytes is_sound H.fields.size H.fields.size (GivesBytes guest bytes)) t u place bytes result w.put
@@ -265,9 +339,13 @@ module _ (R : RattleType) (st : Ghosts R.Denot) (sd : mir.Syntax.Dict) (dd : mir
       (layer_of st old) below (blank_of old.mode.backing) refl refl refl))
 
   -- Where the bytes are written:
-  module _ (done : WrittenThrough t u place bytes) (safe : IsSafe st old.tables old.failed) (failed : new.failed ≡ false) where
+  module _ (done : WrittenThrough t u place bytes) (safe : IsSafe st old) (failed : new.failed ≡ false)
+      (notes' : Notes guest (length bytes) (holding_in st mid.unspent) hold') where
     abbrev x : Bytes
     x = file_of st new.tables
+
+    notes : Notes guest (length bytes) hold hold'
+    notes = subst (λ u. Notes guest (length bytes) (holding_in st u) hold') looked.unspent notes'
 
     spliced : Spliced s.bytes place bytes u.bytes
     spliced = subst (λ (b : List ℕ). Spliced b place bytes u.bytes) looked.tables.kept.bytes
@@ -275,6 +353,11 @@ module _ (R : RattleType) (st : Ghosts R.Denot) (sd : mir.Syntax.Dict) (dd : mir
 
     off : Outside (file_of st old.tables) x place (length bytes)
     off = spliced-outside s.bytes place bytes u.bytes spliced
+
+    byte-there : (i : ℕ) → i < length bytes → x (place + i) ≡ slice_index bytes i
+    byte-there i lt =
+        let index : place + i - place ≡ i = omega arith in
+        spliced.inside (place + i) (omega arith) (omega (arith, lt)) ∙ ap (slice_index bytes) index
 
     entries : (g : ℕ) → entry x H.fields g ≡ entry (file_of st old.tables) H.fields g
     entries = rewritten-entries (file_of st old.tables) H safe.consistent guest place (length bytes) (each-of safe) x off
@@ -287,38 +370,132 @@ module _ (R : RattleType) (st : Ghosts R.Denot) (sd : mir.Syntax.Dict) (dd : mir
     cells-old = λ i. cells (blank_of old.mode.backing) (memory_is st old.tables i) (file_of st old.tables) H.fields
 
     -- each place can be written where it could,
-    pub homes-written : (layer_of st new).home ≡ (layer_of st old).home
-    homes-written =
+    words-written : homes_of st new ≡ homes_of st old
+    words-written =
         (λ i. homes (mode-same i).writable (memory_is st new.tables i) (header-same i).fields)
         ∙ (λ i p. if old.mode.writable && ltb p H.fields.size then home_by H.fields p (entries (p / cluster_size H.fields) i) else None)
         ∙ (λ i. homes old.mode.writable (sym (memory_is st old.tables) i) H.fields)
+
+    homes-written : (layer_of st new).home ≡ (layer_of st old).home
+    homes-written = ap (homes_with hold') words-written ∙ noted-homes guest (length bytes) hold hold' notes (homes_of st old)
+
+    -- and where it isn't written by its word, says what it did.
+    cell-same : (p : ℕ) → IsOut guest (length bytes) p ⊎ (home_by H.fields p (mapped (file_of st old.tables) H.fields p) ≡ None)
+        → (layer_of st new).cell p ≡ (layer_of st old).cell p
+    cell-same p beside =
+        ap (λ c. c p) cells-new
+        ∙ cell-beside (file_of st old.tables) H safe.consistent guest place (length bytes) (each-of safe) x off (blank_of old.mode.backing) p beside
+        ∙ sym (ap (λ c. c p) cells-old)
+
+    cell-byte : (i : ℕ) → i < length bytes → home_by H.fields (guest + i) (mapped (file_of st old.tables) H.fields (guest + i)) ≡ Some (0, place + i)
+        → (layer_of st new).cell (guest + i) ≡ own (byte (slice_index bytes i))
+    cell-byte i lt home =
+        ap (λ c. c (guest + i)) cells-new
+        ∙ cell-within (file_of st old.tables) H safe.consistent guest place (length bytes) (each-of safe) x off (blank_of old.mode.backing) i home (in-of safe i lt).0
+        ∙ ap (λ b. own (byte b)) (byte-there i lt)
+
+    -- What is held is over the new file what was noted makes it.
+    held-now : (p : ℕ) → (layer_of st new).held p ≡ held_with H.fields x hold' p
+    held-now p = λ i. held_with (header-same i).fields x hold' p
+
+    abbrev Taken : ℕ → Option Holding → Option Holding → Type 0
+    Taken i old-hold new-hold = TakesByte (slice_index bytes i) (held_with H.fields (file_of st old.tables) old-hold (guest + i)) ((layer_of st old).cell (guest + i))
+        (held_with H.fields x new-hold (guest + i)) ((layer_of st new).cell (guest + i))
+
+    -- The clusters of the image are at rest what they were, but for its file.
+    rest-new : (space : Space) → rest_of st new.tables space ≡ record (rest_of st old.tables space) { file = x }
+    rest-new space = λ i. record (rest_of st old.tables space) { file = x; header = header-same i }
+
+    sound-there : (space : Space) → IsSound (rest_of st old.tables space) → IsSound (record (rest_of st old.tables space) { file = x })
+    sound-there space sound =
+        let run = written-beside (file_of st old.tables) H safe.consistent guest place (length bytes) (each-of safe) x off (omega (arith, some)) in
+        beside-sound (rest_of st old.tables space) sound (place / cluster_size H.fields)
+        ((place + (length bytes - 1)) / cluster_size H.fields - place / cluster_size H.fields) place (length bytes) x
+        (record { apart = run.0; low = run.1; high = run.2; outside = off })
+
+    sound-new : IfSome new.tables.space (λ space. IsSound (rest_of st new.tables space))
+    sound-new = subst (λ o. IfSome o (λ space. IsSound (rest_of st new.tables space))) (sym space-same) (from old.tables.space safe.sound) where
+      from : (o : Option Space) → IfSome o (λ space. IsSound (rest_of st old.tables space)) → IfSome o (λ space. IsSound (rest_of st new.tables space))
+      from None sound = tt
+      from (Some space) sound = subst IsSound (sym (rest-new space)) (sound-there space sound)
+
+    module _ (one : Holding) (is : hold ≡ Some one) (holds : HoldsIn st old.tables one) where
+      abbrev m : Metadata
+      m = rest_of st old.tables holds.space
+
+      sound-one : IsSound m
+      sound-one = subst (λ o. IfSome o (λ space. IsSound (rest_of st old.tables space))) holds.there safe.sound
+
+      in-one : (i : ℕ) → i < length bytes → IsWrittenIn (file_of st old.tables) H.fields (Some one) (guest + i) (place + i)
+      in-one i lt = subst (λ o. IsWrittenIn (file_of st old.tables) H.fields o (guest + i) (place + i)) is (in-of safe i lt).1
+
+      module _ (written : ℕ → Bool) (more : (p : ℕ) → written p ≡ ((nat_le guest p && ltb p (guest + length bytes)) || one.written p)) where
+        abbrev now : Holding
+        now = record one { written = written }
+
+        one-takes : (i : ℕ) → i < length bytes → Taken i (Some one) (Some now)
+        one-takes i lt = held-range m sound-one one holds.held guest place (length bytes) in-one x off written more i (slice_index bytes i)
+            ((layer_of st old).cell (guest + i)) ((layer_of st new).cell (guest + i)) lt (byte-there i lt)
+            (λ home. cell-byte i lt home) (λ none. cell-same (guest + i) (inr none))
+
+        one-beside : (p : ℕ) → IsOut guest (length bytes) p → held_with H.fields x (Some now) p ≡ held_with H.fields (file_of st old.tables) (Some one) p
+        one-beside p beside = held-beside m sound-one one holds.held guest place (length bytes) in-one x off written more p beside
+
+        one-holds : HoldsIn st new.tables now
+        one-holds = record {
+          space = holds.space;
+          there = space-same ∙ holds.there;
+          held = subst (λ (r : Metadata). IsHeld r now) (sym (rest-new holds.space))
+              (held-still m sound-one one holds.held guest place (length bytes) in-one x off written more (omega (arith, some)));
+          room = holds.room;
+        }
+
+    takes-byte : (i : ℕ) → i < length bytes → Taken i hold hold'
+    takes-byte i lt = from hold hold' refl safe.held notes (in-of safe i lt).1 where
+      from : (a b : Option Holding) → hold ≡ a → IfSome a (HoldsIn st old.tables) → Notes guest (length bytes) a b
+          → IsWrittenIn (file_of st old.tables) H.fields a (guest + i) (place + i) → Taken i a b
+      from None b is holds more (inl home) = subst (Taken i None) (sym more) (cell-byte i lt home, refl)
+      from None b is holds more (inr run) = absurd run.1
+      from (Some one) b is holds more way = subst (Taken i (Some one)) (sym more.1) (one-takes one is holds more.0 more.2 i lt)
+
+    held-out : (p : ℕ) → IsOut guest (length bytes) p → held_with H.fields x hold' p ≡ held_with H.fields (file_of st old.tables) hold p
+    held-out p beside = from hold hold' refl safe.held notes where
+      from : (a b : Option Holding) → hold ≡ a → IfSome a (HoldsIn st old.tables) → Notes guest (length bytes) a b
+          → held_with H.fields x b p ≡ held_with H.fields (file_of st old.tables) a p
+      from None b is holds more = ap (λ o. held_with H.fields x o p) more
+      from (Some one) b is holds more = ap (λ o. held_with H.fields x o p) more.1 ∙ one-beside one is holds more.0 more.2 p beside
+
+    holds-new : IfSome hold' (HoldsIn st new.tables)
+    holds-new = from hold hold' refl safe.held notes where
+      from : (a b : Option Holding) → hold ≡ a → IfSome a (HoldsIn st old.tables) → Notes guest (length bytes) a b → IfSome b (HoldsIn st new.tables)
+      from None b is holds more = subst (λ o. IfSome o (HoldsIn st new.tables)) (sym more) tt
+      from (Some one) b is holds more = subst (λ o. IfSome o (HoldsIn st new.tables)) (sym more.1) (one-holds one is holds more.0 more.2)
 
     -- the bytes are there, and nothing else has changed,
     pub wrote : Wrote (layer_of st old) (layer_of st new) guest bytes
     wrote = record {
       like = like-written;
       home = homes-written;
-      range = λ i lt.
-          let index : place + i - place ≡ i = omega arith in
-          let is : x (place + i) ≡ slice_index bytes i = spliced.inside (place + i) (omega arith) (omega (arith, lt)) ∙ ap (slice_index bytes) index in (
-            ap (λ c. c (guest + i)) cells-new
-                ∙ cell-within (file_of st old.tables) H safe.consistent guest place (length bytes) (each-of safe) x off (blank_of old.mode.backing) i lt (low-of safe i lt)
-                ∙ ap (λ b. own (byte b)) is,
-            refl,
-          );
-      others = λ p beside. (
-        ap (λ c. c p) cells-new
-            ∙ cell-beside (file_of st old.tables) H safe.consistent guest place (length bytes) (each-of safe) x off (blank_of old.mode.backing) p beside
-            ∙ sym (ap (λ c. c p) cells-old),
-        refl,
-      );
+      range = λ i lt. subst (λ h. TakesByte (slice_index bytes i) ((layer_of st old).held (guest + i)) ((layer_of st old).cell (guest + i)) h ((layer_of st new).cell (guest + i)))
+          (sym (held-now (guest + i))) (takes-byte i lt);
+      others = λ p beside. (cell-same p (inl beside), held-now p ∙ held-out p beside);
     }
 
     seen-mid : IsSeen st mid.tables
     seen-mid = looked.tables.seen safe.seen
 
+    some-old : IsSome new.unspent → IsSome old.unspent
+    some-old some = unheld old.unspent (subst IsSome (w.claim ∙ ap (λ u. claim_held (holding_in st u)) looked.unspent) (held-some new.unspent some)) where
+      held-some : (o : Option (Unspent R.Denot st)) → IsSome o → IsSome (claim_held (holding_in st o))
+      held-some None some = some
+      held-some (Some o) some = refl
+
+      unheld : (o : Option (Unspent R.Denot st)) → IsSome (claim_held (holding_in st o)) → IsSome o
+      unheld None some = some
+      unheld (Some o) some = refl
+
     -- and it is safe still.
-    pub safe-written : IsSafe st new.tables new.failed
+    pub safe-written : IsSafe st new
     safe-written = record {
       runs = failed;
       keeps = subst (λ (z : Shape). IsTrue z.keeps) (sym shape-same) safe.keeps;
@@ -331,6 +508,9 @@ module _ (R : RattleType) (st : Ghosts R.Denot) (sd : mir.Syntax.Dict) (dd : mir
         tables = rw (header-same, w.caches) (tables-still (file_of st old.tables) H safe.consistent guest place (length bytes) (each-of safe) x off (cached_in mid.tables.caches).tables
             (subst (λ (b : List ℕ). AllByRecursion (IsOfFile (bytes_of b) H.fields) (cached_in mid.tables.caches).tables) looked.tables.kept.bytes (rw looked.tables.header at seen-mid.tables)));
       };
+      sound = sound-new;
+      held = holds-new;
+      writable = λ some. subst IsTrue (sym (ap (λ (m : OpenMode). m.writable) mode-same)) (safe.writable (some-old some));
     }
 
     -- What is allocated is what was.
@@ -363,17 +543,20 @@ module _ (R : RattleType) (st : Ghosts R.Denot) (sd : mir.Syntax.Dict) (dd : mir
   later-written : (u.shape ≡ s.shape) × Later s u
   later-written = (shape-same, later_both s t u looked.tables.later w.put.later)
 
-  ok-written : (r : Result Unit Fault) → Answer r → new.failed ≡ is_err r → IsSafe st old.tables old.failed → OnOk r (Wrote (layer_of st old) (layer_of st new) guest bytes)
-  ok-written (Ok v) answer failed safe = wrote answer safe failed
-  ok-written (Err e) answer failed safe = tt
+  abbrev Noted : Result Unit Fault → Type 0
+  Noted r = OnOk r (Notes guest (length bytes) (holding_in st mid.unspent) hold')
+
+  ok-written : (r : Result Unit Fault) → Answer r → Noted r → new.failed ≡ is_err r → IsSafe st old → OnOk r (Wrote (layer_of st old) (layer_of st new) guest bytes)
+  ok-written (Ok v) answer told failed safe = wrote answer safe failed told
+  ok-written (Err e) answer told failed safe = tt
 
   err-written : (r : Result Unit Fault) → Answer r → IfErr r (λ e. IsMild e → layer_of st new ≡ layer_of st old)
   err-written (Ok v) answer = tt
   err-written (Err e) answer = λ mild. absurd (never-mild t.faults u.faults e answer.cause mild)
 
-  room-written : (r : Result Unit Fault) → Answer r → new.failed ≡ is_err r → IsSafe st old.tables old.failed → WasNotCutOff r → Takes sees (λ _. ⊤) old new
-  room-written (Ok v) answer failed safe whole = takes-written answer safe failed
-  room-written (Err e) answer failed safe whole = absurd (never-mild t.faults u.faults e answer.cause whole)
+  room-written : (r : Result Unit Fault) → Answer r → Noted r → new.failed ≡ is_err r → IsSafe st old → WasNotCutOff r → Takes sees (λ _. ⊤) old new
+  room-written (Ok v) answer told failed safe whole = takes-written answer safe failed told
+  room-written (Err e) answer told failed safe whole = absurd (never-mild t.faults u.faults e answer.cause whole)
 
   faults-written : (r : Result Unit Fault) → Answer r → WasNotCutOff r → IsFaultless s u
   faults-written (Ok v) answer whole =
@@ -381,34 +564,36 @@ module _ (R : RattleType) (st : Ghosts R.Denot) (sd : mir.Syntax.Dict) (dd : mir
       (answer.faults ∙ before.0, answer.refusals ∙ before.1)
   faults-written (Err e) answer whole = absurd (never-mild t.faults u.faults e answer.cause whole)
 
-  safely-written : (r : Result Unit Fault) → Answer r → new.failed ≡ is_err r → WasNotCutOff r → IsSafe st old.tables old.failed → IsSafe st new.tables new.failed
-  safely-written (Ok v) answer failed whole safe = safe-written answer safe failed
-  safely-written (Err e) answer failed whole safe = absurd (never-mild t.faults u.faults e answer.cause whole)
+  safely-written : (r : Result Unit Fault) → Answer r → Noted r → new.failed ≡ is_err r → WasNotCutOff r → IsSafe st old → IsSafe st new
+  safely-written (Ok v) answer told failed whole safe = safe-written answer safe failed told
+  safely-written (Err e) answer told failed whole safe = absurd (never-mild t.faults u.faults e answer.cause whole)
 
-  began-written : (r : Result Unit Fault) → Answer r → new.failed ≡ is_err r → (d : Qcow2 R.Denot st) (call : Call) → sees.began d call old → OnOk r (sees.began d call new)
-  began-written (Ok v) answer failed d call begun = λ safe.
-      let now = begun safe in
-      (safe-written answer now.0 failed, λ p. ap (λ (h : ℕ → Option (ℕ × ℕ)). h p) (homes-written answer now.0 failed) ∙ now.1 p)
-  began-written (Err e) answer failed d call begun = tt
+  began-written : (r : Result Unit Fault) → Answer r → Noted r → new.failed ≡ is_err r → (d : Qcow2 R.Denot st) (call : Call) → sees.began d call old → OnOk r (sees.began d call new)
+  began-written (Ok v) answer told failed d call begun = λ safe.
+      let now = begun safe in (
+        safe-written answer now.0 failed told,
+        λ p at is. ap (λ (h : ℕ → Option (ℕ × ℕ)). h p) (words-written answer now.0 failed told) ∙ now.1 p at is,
+      )
+  began-written (Err e) answer told failed d call begun = tt
 
-  pub writes-mapped : (length bytes ≡ 0 → ⊥) → WritesMapped sees guest place bytes result old new
-  writes-mapped some = record {
-    mapped = λ seen. on-ok result _ (λ more. (0, yes seen));
+  pub writes-mapped : WritesMapped sees guest place bytes result old new
+  writes-mapped = record {
+    mapped = λ seen. on-ok result _ (λ more. (0, yes seen.seen));
     empty = λ none. absurd (some none);
     like = like-written;
-    ok = ok-written result w.put.answer w.failed;
+    ok = ok-written result w.put.answer w.notes w.failed;
     err = λ safe. err-written result w.put.answer;
-    room = room-written result w.put.answer w.failed;
+    room = room-written result w.put.answer w.notes w.failed;
     stops = stops-written;
     went = record {
       fixed = fixed-same;
       failed = λ was. absurd (cc (sym was ∙ runs));
       later = (later-written, tt);
       faults = λ whole. (faults-written result w.put.answer whole, tt);
-      safely = λ whole. safely-written result w.put.answer w.failed whole;
+      safely = λ whole. safely-written result w.put.answer w.notes w.failed whole;
       lasting = λ l. l;
     };
-    began = began-written result w.put.answer w.failed;
+    began = began-written result w.put.answer w.notes w.failed;
   }
 
   rose-written : Rose t.faults u.faults → Rose s.faults u.faults
@@ -432,7 +617,7 @@ module _ (R : RattleType) (st : Ghosts R.Denot) (sd : mir.Syntax.Dict) (dd : mir
         empty = λ none. absurd (some none);
         like = looked.like;
         ok = λ safe. tt;
-        err = λ safe mild. (looked.stays mild safe.seen).0;
+        err = λ safe mild. (looked.stays mild (record { seen = safe.seen; sure = inr (was_safe st old safe) })).0;
         room = λ safe whole. takes-kept R st sd dd {T = Bool} old new (Err e) k;
         stops = λ safe below. passes_weaker _ _ (st.state old.tables.file.image) (st.state new.tables.file.image)
             (λ f. left_weaker below is_sound (layer_of st old) (st.state old.tables.file.image).bytes (layer_of st old).size (layer_of st old).size GivesNone (GivesBytes guest bytes) (λ p v inside none. absurd none) f)
@@ -442,7 +627,7 @@ module _ (R : RattleType) (st : Ghosts R.Denot) (sd : mir.Syntax.Dict) (dd : mir
       }
 
   -- why, in the words of a write, where it was in those of a lookup
-  pub told-why : (cause : IsSafe st old.tables old.failed → WhyNotTold st old new e) → IsSafe st old.tables old.failed
+  pub told-why : (cause : IsSafe st old → WhyNotTold st old new e) → IsSafe st old
       → MappedCause (layer_of st old) guest place (length bytes) (st.state old.tables.file.image ∷ []) (st.state new.tables.file.image ∷ []) e
   told-why cause safe = from e (cause safe) where
     from : (e : Fault) → WhyNotTold st old new e → MappedCause (layer_of st old) guest place (length bytes) (st.state old.tables.file.image ∷ []) (st.state new.tables.file.image ∷ []) e

@@ -14,6 +14,7 @@ AreCacheSizes l2_tables refcount_blocks = (2 ≤ l2_tables) × (l2_tables ≤ 65
 abbrev pub IsClean : Cached → Type 0
 IsClean cached = AreTablesClean cached × AreBlocksClean cached
 
--- Nothing that is cached is pinned, and a table may be: so there always is room for one more, and all can be dropped.
+-- Nothing that is cached is pinned, and a table and a block may be: so there always is room for one more, and all can be dropped.
 abbrev pub IsUnpinned : {S : Type 0} → MetadataCaches S → Type 0
 IsUnpinned caches = (pinned_in (cached_in caches).tables ≡ 0) × (pinned_in (cached_in caches).blocks ≡ 0) × (0 < caches.l2.slots.cap)
+    × (0 < caches.rb.slots.cap)

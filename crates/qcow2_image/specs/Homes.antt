@@ -1,6 +1,6 @@
 -- Where the places of an image can be written: laws of a driver that was opened for writing.
 use Rattle.std.proofs.Common.{inl, inr, sym, subst, ap, refl, arith, ◌∙◌}
-use Rattle.std.specs.Prelude.{◌≡◌, ◌≢◌, ◌⊎◌, ⊤, ℕ, ◌+◌, ◌*◌, ◌/◌, ◌%◌, ◌<◌, ltb, ◌&&◌, Bool, true, false, Option, Some, None, IsSome, if◌then◌else◌}
+use Rattle.std.specs.Prelude.{◌≡◌, ◌≢◌, ◌⊎◌, ℕ, ◌+◌, ◌*◌, ◌/◌, ◌%◌, ◌<◌, ltb, Bool, true, false, Option, Some, None, IsSome}
 use Rattle.std.proofs.lemmas.Bool.{cases_Bool, cases_eq, ltb-true, le-ltb}
 use Rattle.std.proofs.lemmas.Nat.{div-mul-add, mod-mul-add, div-add-mod', mod_below, pow_pos}
 use Rattle.imago_storage.specs.declared.storage.Storage.{Ghosts}
@@ -21,9 +21,10 @@ use Rattle.qcow2_types.specs.Consistency.{IsConsistent}
 use Rattle.qcow2_alloc.specs.Caches.{cached_in}
 use Rattle.qcow2_alloc.proofs.Memory.SafeLaws.{clean-memory}
 use Rattle.qcow2_image.specs.ImageLayer.{home_by, homes}
-use Rattle.qcow2_image.specs.Rooms.{TakesNone, HasCluster, ReadsNone, IsVacant, IsZeroed, HasRoom, IsSafe}
+use Rattle.qcow2_clusters.specs.Naming.{TakesNone}
+use Rattle.qcow2_image.specs.Holding.{place_in}
+use Rattle.qcow2_image.specs.Rooms.{HasCluster, ReadsNone, IsVacant, IsZeroed, HasRoom}
 use Rattle.qcow2_image.specs.Seen.{file_of, memory_of}
-use Rattle.qcow2_image.specs.declared.mode.OpenMode.{OpenMode}
 use Rattle.qcow2_image.specs.declared.tables.Tables.{Tables}
 
 -- Nothing waits in memory, so that it is what the file is.
@@ -86,10 +87,6 @@ housed writable m h p some =
 -- the mapping of the guest cluster in which a place of the disk lies
 abbrev pub mapped : Bytes → Fields → ℕ → Mapping
 mapped f h p = entry f h (p / cluster_size h)
-
--- the place of cluster c at which a place of the disk lies
-abbrev pub place_in : Fields → ℕ → ℕ → ℕ
-place_in h c p = c * cluster_size h + p % cluster_size h
 
 -- the place in the file, if there is one
 abbrev file_place : Option (ℕ × ℕ) → ℕ
@@ -207,13 +204,13 @@ module _ (f : Bytes) (H : Header) (was : IsConsistent f H) where
       let found = home-of h q at.1 (mapped f h q) (there ∙ ap Some own-file) in
       one-place p q at.1 found.0 true (here ∙ ap Some own-file) found.1 found.2
 
-pub one_home : {S : Type 0} (g : Ghosts S) (t : Tables S g) (mode : OpenMode) (p q : ℕ) (at : ℕ × ℕ) {failed : Bool} → IsSafe g t failed
-    → homes mode.writable (memory_of g t) t.file.header.fields p ≡ Some at
-    → homes mode.writable (memory_of g t) t.file.header.fields q ≡ Some at → p ≡ q
-one_home g t mode p q at safe first second =
+pub words-home : {S : Type 0} (g : Ghosts S) (t : Tables S g) (writable : Bool) (p q : ℕ) (at : ℕ × ℕ)
+    → IsConsistent (file_of g t) t.file.header → homes writable (memory_of g t) t.file.header.fields p ≡ Some at
+    → homes writable (memory_of g t) t.file.header.fields q ≡ Some at → p ≡ q
+words-home g t writable p q at consistent first second =
     let h = t.file.header.fields in
-    let one = home-there mode.writable (memory_of g t) h p at first in
-    let two = home-there mode.writable (memory_of g t) h q at second in
+    let one = home-there writable (memory_of g t) h p at first in
+    let two = home-there writable (memory_of g t) h q at second in
     let in-file = λ (x : ℕ) (is : home_by h x (entry (memory_of g t) h (x / cluster_size h)) ≡ Some at).
     subst (λ m. home_by h x (entry m h (x / cluster_size h)) ≡ Some at) (memory_is g t) is in
-    one-home (file_of g t) t.file.header safe.consistent p q at (in-file p one.2) (in-file q two.2)
+    one-home (file_of g t) t.file.header consistent p q at (in-file p one.2) (in-file q two.2)

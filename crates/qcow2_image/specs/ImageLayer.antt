@@ -4,7 +4,7 @@ use Rattle.std.specs.Prelude.{◌≡◌, ◌⊎◌, ℕ, ◌+◌, ◌*◌, ◌/�
 use Rattle.imago_storage.specs.State.{Shape, StorageState}
 use Rattle.imago_storage.specs.Disk.{byte, barred, damaged_place}
 use Rattle.imago_storage.specs.declared.fault.Fault.{Fault}
-use Rattle.imago_access.specs.Layer.{Cell, own, unmapped, Layer, Fixed, Meaning, loose}
+use Rattle.imago_access.specs.Layer.{Cell, own, unmapped, Layer, Fixed, Meaning}
 use Rattle.imago_access.specs.declared.format.Format.TheVariants as format
 use Rattle.imago_access.specs.declared.mapping.ShallowMapping.{ShallowMapping}
 use Rattle.imago_access.specs.declared.mapping.ShallowMapping.TheVariants as shallow
@@ -13,6 +13,7 @@ use Rattle.qcow2_types.specs.Header.{Fields, Header, header_of, cluster_size}
 use Rattle.qcow2_types.specs.Words.{Mapping, data_at, zeroes, packed, damaged}
 use Rattle.qcow2_types.specs.Words as words
 use Rattle.qcow2_types.specs.Entries.{entry}
+use Rattle.qcow2_image.specs.Holding.{Holding, claim_held, held_with, homes_with}
 use Rattle.qcow2_image.specs.declared.mode.OpenMode.{OpenMode}
 
 -- what a place says that no word maps, with or without layers below
@@ -74,16 +75,16 @@ home_by h p mapping = None
 abbrev pub homes : Bool → Bytes → Fields → ℕ → Option (ℕ × ℕ)
 homes writable memory h p = if writable && ltb p h.size then home_by h p (entry memory h (p / cluster_size h)) else None
 
--- an image, with these words in memory
-abbrev pub qcow2_layer : StorageState → Bytes → Fields → OpenMode → ℕ → Bool → Layer
-qcow2_layer state memory h mode number failed = record {
+-- an image, with these words in memory, and what a mapping holds of it, if one is prepared
+abbrev pub qcow2_layer : StorageState → Bytes → Fields → OpenMode → ℕ → Bool → Option Holding → Layer
+qcow2_layer state memory h mode number failed hold = record {
   fixed = qcow2_fixed state.shape h mode number;
   size = h.size;
   failed = failed;
   cell = cells (blank_of mode.backing) memory (bytes_of state.bytes) h;
-  home = homes mode.writable memory h;
-  held = λ p. loose;
-  unspent = None;
+  home = homes_with hold (homes mode.writable memory h);
+  held = held_with h (bytes_of state.bytes) hold;
+  unspent = claim_held hold;
 }
 
 -- what an image is printed as

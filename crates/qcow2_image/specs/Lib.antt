@@ -1,4 +1,6 @@
+pub mod Holding
 pub mod ImageLayer
+pub mod Unspent
 pub mod Seen
 pub mod Looking
 pub mod Rooms
@@ -7,4 +9,9 @@ pub mod Lent
 pub mod Caching
 pub mod Opening
 pub mod Homes
+pub mod HeldHomes
 pub mod Writing
+pub mod KeepsDisk
+pub mod Allocating
+pub mod Committing
+pub mod Preparing

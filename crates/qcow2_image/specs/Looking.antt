@@ -1,5 +1,5 @@
 -- What a look at the words of guest clusters in a row does.
-use Rattle.std.specs.Prelude.{◌≡◌, ◌≢◌, ◌⊎◌, ⊤, ℕ, min, ◌+◌, ◌-◌, ◌/◌, ◌%◌, ◌<◌, ◌≤◌, ◌^◌, ◌==◌, if◌then◌else◌, Bool, true, ◌*◌, List, slice_index, Result, IfOk, IfErr, Option, Some, None}
+use Rattle.std.specs.Prelude.{◌≡◌, ◌≢◌, ◌⊎◌, ⊤, ℕ, min, ◌+◌, ◌-◌, ◌/◌, ◌%◌, ◌<◌, ◌≤◌, ◌^◌, ◌==◌, if◌then◌else◌, true, ◌*◌, List, slice_index, Result, IfOk, IfErr, Option, Some, None}
 use Rattle.imago_storage.specs.State.{Rose}
 use Rattle.imago_storage.specs.Calls.{Kept, Later, IsFaultless}
 use Rattle.imago_storage.specs.declared.fault.Fault.{Fault}
@@ -102,6 +102,7 @@ pub record LooksAt {S : Type 0} (g : Ghosts S) (guest most : ℕ) (old : Tables 
   pub faults : WasNotCutOff result → IsFaultless (g.state old.file.image) (g.state new.file.image)
   pub header : new.file.header ≡ old.file.header
   pub l1 : new.l1 ≡ old.l1
+  pub space : new.space ≡ old.space
   pub seen : IsSeen g old → IsSeen g new
   pub says : IsSeen g old → IfOk result (IsRunOf guest most (entry (file_of g old) old.file.header.fields))
   pub named : IfOk result (λ run. IsNamed old.file.header.fields.cluster_bits run.0 × (0 < run.1) × (run.1 ≤ most))

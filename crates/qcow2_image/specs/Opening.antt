@@ -1,5 +1,5 @@
 -- What an image is right after it was opened, and why it isn't opened.
-use Rattle.std.specs.Prelude.{◌≡◌, ⊤, ℕ, Bool, true, false, not, ◌&&◌, ◌||◌, ◌==◌, List, [], ◌∷◌, Option, Some, None, Ok, Err, Result, is_some}
+use Rattle.std.specs.Prelude.{◌≡◌, ⊤, ℕ, Bool, false, not, ◌&&◌, ◌||◌, ◌==◌, List, [], ◌∷◌, Option, Some, None, Ok, Err, Result, is_some}
 use Rattle.imago_storage.specs.State.{MayFail, StorageState}
 use Rattle.imago_storage.specs.declared.fault.Fault.{Fault}
 use Rattle.imago_storage.specs.declared.fault.Fault.TheVariants.{DamagedTable, Memory, Storage, Unsupported}
@@ -35,7 +35,8 @@ WhyNotOpened state writable f Memory = ⊤
 WhyNotOpened state writable f Storage = MayFail state
 WhyNotOpened state writable f fault = header_for writable f ≡ Err fault
 
--- The storage is as it was, what is in memory is what its file says, and nothing is cached, with room for so many tables and blocks.
+-- The storage is as it was, what is in memory is what its file says, and nothing is cached, with room for so many tables and blocks. Its free
+-- space isn't known yet.
 pub record IsJustOpened {S : Type 0} (g : Ghosts S) (before : StorageState) (writable : Bool) (l2_tables refcount_blocks : ℕ)
     (t : Tables S g) : Type 0 where
   pub same : g.state t.file.image ≡ before
@@ -43,6 +44,7 @@ pub record IsJustOpened {S : Type 0} (g : Ghosts S) (before : StorageState) (wri
   pub seen : IsSeen g t
   pub empty : cached_in t.caches ≡ record { tables = []; blocks = [] }
   pub unordered : order_of t.caches ≡ Unset
+  pub spaceless : t.space ≡ None
   pub tables : t.caches.l2.slots.cap ≡ l2_tables
   pub blocks : t.caches.rb.slots.cap ≡ refcount_blocks
 
@@ -51,7 +53,7 @@ abbrev pub is_backed : Option Bool → Header → Bool
 is_backed (Some backed) H = backed
 is_backed None H = is_some H.backing_name
 
--- Its metadata was just opened, for writing or not, over layers or not, and it has this number and has not failed.
+-- Its metadata was just opened, for writing or not, over layers or not, it has this number and has not failed, and nothing is prepared.
 pub record IsOpenedAs {S : Type 0} (g : Ghosts S) (before : StorageState) (writable : Bool) (backing : Option Bool)
     (number l2_tables refcount_blocks : ℕ) (d : Qcow2 S g) : Type 0 where
   pub tables : IsJustOpened g before writable l2_tables refcount_blocks d.tables
@@ -59,3 +61,4 @@ pub record IsOpenedAs {S : Type 0} (g : Ghosts S) (before : StorageState) (writa
   pub backing_is : d.mode.backing ≡ is_backed backing d.tables.file.header
   pub number_is : d.number ≡ number
   pub runs : d.failed ≡ false
+  pub free : d.unspent ≡ None

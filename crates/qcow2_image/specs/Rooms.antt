@@ -1,27 +1,26 @@
 -- What is allocated for the places of an image, and which files are sound; laws of the driver.
 use Rattle.std.proofs.Common.{inl, inr, sym, subst, refl, arith}
-use Rattle.std.specs.Prelude.{◌≡◌, ◌⊎◌, ⊤, ℕ, zero, suc, ◌/◌, ◌<◌, ◌≤◌, ltb, Bool, true, false, List, [], IsTrue, Some, None}
+use Rattle.std.specs.Prelude.{◌≡◌, ◌⊎◌, ⊤, ℕ, zero, suc, ◌/◌, ◌<◌, ◌≤◌, ltb, false, List, [], IsTrue, IsSome, IfSome, Some, None}
 use Rattle.std.proofs.lemmas.Bool.{cases_Bool}
-use Rattle.imago_storage.specs.State.{StorageState}
 use Rattle.imago_access.specs.Refusals.{IsOfStorages}
 use Rattle.imago_access.specs.Stops.{IsCovered}
 use Rattle.qcow2_types.specs.Bytes.{Bytes, bytes_of}
-use Rattle.qcow2_types.specs.Header.{Fields, Header, cluster_size}
+use Rattle.qcow2_types.specs.Header.{Fields, cluster_size}
 use Rattle.qcow2_types.specs.Words.{Mapping, data_at, zeroes, packed, damaged}
 use Rattle.qcow2_types.specs.Words as words
 use Rattle.qcow2_types.specs.Entries.{entry}
 use Rattle.qcow2_types.specs.Consistency.{IsConsistent, Consistent}
 use Rattle.qcow2_image.specs.ImageLayer.{blank_of, meaning_of}
-use Rattle.qcow2_image.specs.Seen.{IsSeen, file_of, layer_in}
+use Rattle.qcow2_alloc.specs.Quiet.{IsSound, Metadata}
+use Rattle.qcow2_clusters.specs.Naming.{TakesNone}
+use Rattle.qcow2_clusters.specs.Rest.{Clusters, lent, resting}
+use Rattle.qcow2_clusters.specs.declared.space.Space.{Space}
+use Rattle.qcow2_image.specs.Holding.{Holding, IsHeld}
+use Rattle.qcow2_image.specs.Seen.{IsSeen, file_of, layer_of}
+use Rattle.qcow2_image.specs.Unspent.{holding_in}
 use Rattle.imago_storage.specs.declared.storage.Storage.{Ghosts}
-use Rattle.qcow2_image.specs.declared.mode.OpenMode.{OpenMode}
+use Rattle.qcow2_image.specs.declared.qcow2.Qcow2.{Qcow2}
 use Rattle.qcow2_image.specs.declared.tables.Tables.{Tables}
-
--- nothing is allocated for the guest cluster
-abbrev pub TakesNone : Mapping → Type 0
-TakesNone words.unmapped = ⊤
-TakesNone (zeroes None copied) = ⊤
-TakesNone mapping = ⊥
 
 -- it has a host cluster of its own
 abbrev pub HasCluster : Mapping → Type 0
@@ -63,30 +62,71 @@ abbrev pub is_sound : ℕ → List ℕ → Type 0
 is_sound (suc zero) f = Consistent (bytes_of f)
 is_sound kind f = ⊤
 
--- An image that has not failed, and whose file is a consistent image and keeps what is written.
-pub record IsSafe {S : Type 0} (g : Ghosts S) (t : Tables S g) (failed : Bool) : Type 0 where
-  pub runs : failed ≡ false
-  pub keeps : IsTrue (g.state t.file.image).shape.keeps
-  pub consistent : IsConsistent (file_of g t) t.file.header
-  pub seen : IsSeen g t
+-- what an image is to changes of its clusters, with this free space
+abbrev pub clusters_of : {S : Type 0} (g : Ghosts S) → Tables S g → Space → Clusters S
+clusters_of g t space = lent t.file t.caches space
+
+-- and its metadata, as nothing of it waits in memory
+abbrev pub rest_of : {S : Type 0} (g : Ghosts S) → Tables S g → Space → Metadata
+rest_of g t space = resting g.state (clusters_of g t space)
+
+-- What a mapping holds of an image can be named, and there is room on the list of clusters to free in case it never is.
+pub record HoldsIn {S : Type 0} (g : Ghosts S) (t : Tables S g) (hold : Holding) : Type 0 where
+  pub space : Space
+  pub there : t.space ≡ Some space
+  pub held : IsHeld (rest_of g t space) hold
+  pub room : 0 < space.to_free.held
+
+-- An image that has not failed, and whose file is a consistent image and keeps what is written. Its free space is sound, if it is known,
+-- and so is what a mapping holds.
+pub record IsSafe {S : Type 0} (g : Ghosts S) (d : Qcow2 S g) : Type 0 where
+  pub runs : d.failed ≡ false
+  pub keeps : IsTrue (g.state d.tables.file.image).shape.keeps
+  pub consistent : IsConsistent (file_of g d.tables) d.tables.file.header
+  pub seen : IsSeen g d.tables
+  pub sound : IfSome d.tables.space (λ space. IsSound (rest_of g d.tables space))
+  pub held : IfSome (holding_in g d.unspent) (HoldsIn g d.tables)
+  pub writable : IsSome d.unspent → IsTrue d.mode.writable
+
+-- nothing was prepared or freed that waits
+abbrev pub IsUntouched : {S : Type 0} (g : Ghosts S) → Qcow2 S g → Type 0
+IsUntouched g d = (d.unspent ≡ None) × IfSome d.tables.space (λ space. space.to_free.entries ≡ [])
+
+-- It is safe, but that it may have failed.
+abbrev pub WasSafe : {S : Type 0} (g : Ghosts S) → Qcow2 S g → Type 0
+WasSafe g d = IsSafe g (record d { failed = false })
+
+pub was_safe : {S : Type 0} (g : Ghosts S) (d : Qcow2 S g) → IsSafe g d → WasSafe g d
+was_safe g d safe = record {
+  runs = refl;
+  keeps = safe.keeps;
+  consistent = safe.consistent;
+  seen = safe.seen;
+  sound = safe.sound;
+  held = safe.held;
+  writable = safe.writable;
+}
+
+-- What is in memory is what its file says, and stays so when what waits is freed.
+pub record Sees {S : Type 0} (g : Ghosts S) (d : Qcow2 S g) : Type 0 where
+  pub seen : IsSeen g d.tables
+  pub sure : IsUntouched g d ⊎ WasSafe g d
 
 -- its file is sound, and not shorter than the disk
-pub covered : {S : Type 0} (g : Ghosts S) (t : Tables S g) (mode : OpenMode) (failed : Bool) (number : ℕ) → IsSafe g t failed
-    → IsCovered (layer_in g t mode number failed) is_sound (g.state t.file.image).bytes
-covered g t mode failed number safe = record {
-  is_sound = (t.file.header, safe.consistent);
-  size = subst (λ r. t.file.header.fields.size ≤ (meaning_of (blank_of mode.backing) (file_of g t) r).size) (sym safe.seen.loads)
-      (Prim.omega arith);
+pub covered : {S : Type 0} (g : Ghosts S) (d : Qcow2 S g) → IsSafe g d → IsCovered (layer_of g d) is_sound (g.state d.tables.file.image).bytes
+covered g d safe = record {
+  is_sound = (d.tables.file.header, safe.consistent);
+  size = subst (λ r. d.tables.file.header.fields.size ≤ (meaning_of (blank_of d.mode.backing) (file_of g d.tables) r).size)
+      (sym safe.seen.loads) (Prim.omega arith);
 }
 
 -- Its alignments are its file's, as is whether it keeps what is written, and it zeroes by itself by its clusters, if it can.
-pub of_storages : {S : Type 0} (g : Ghosts S) (t : Tables S g) (mode : OpenMode) (failed : Bool) (number : ℕ)
-    → IsOfStorages (layer_in g t mode number failed) (g.state t.file.image) []
-of_storages g t mode failed number = record {
+pub of_storages : {S : Type 0} (g : Ghosts S) (d : Qcow2 S g) → IsOfStorages (layer_of g d) (g.state d.tables.file.image) []
+of_storages g d = record {
   requests = refl;
   memory = refl;
   keeps = refl;
-  zeroing = elim (cases_Bool (ltb 2 t.file.header.fields.version)) [
+  zeroing = elim (cases_Bool (ltb 2 d.tables.file.header.fields.version)) [
     | inl newer ↦ inr (rw newer refl)
     | inr older ↦ inl (rw older refl)
   ];

@@ -1,5 +1,5 @@
 -- When what is in memory of an image is what its file says.
-use Rattle.std.specs.Prelude.{◌≡◌, ◌≢◌, ◌<◌, ℕ, Bool, ◌*◌, false, Ok}
+use Rattle.std.specs.Prelude.{◌≡◌, ◌≢◌, ◌<◌, ℕ, Bool, ◌*◌, false, Ok, Option}
 use Rattle.std.specs.List.{AllByRecursion}
 use Rattle.qcow2_types.specs.Bytes.{Bytes, bytes_of}
 use Rattle.qcow2_types.specs.Header.{Fields, header_of, has_external_data, words_of_cluster, layout_of, cluster_size}
@@ -11,7 +11,10 @@ use Rattle.qcow2_alloc.specs.Caches.{cached_in}
 use Rattle.qcow2_alloc.specs.Opening.{IsL1Of}
 use Rattle.imago_storage.specs.declared.storage.Storage.{Ghosts}
 use Rattle.imago_access.specs.Layer.{Layer}
-use Rattle.qcow2_image.specs.ImageLayer.{qcow2_layer}
+use Rattle.qcow2_image.specs.Holding.{Holding}
+use Rattle.qcow2_image.specs.ImageLayer.{homes, qcow2_layer}
+use Rattle.qcow2_image.specs.Unspent.{holding_in}
+use Rattle.qcow2_image.specs.declared.qcow2.Qcow2.{Qcow2}
 use Rattle.qcow2_image.specs.declared.mode.OpenMode.{OpenMode}
 use Rattle.qcow2_image.specs.declared.tables.Tables.{Tables}
 
@@ -24,8 +27,16 @@ abbrev pub memory_of : {S : Type 0} (g : Ghosts S) → Tables S g → Bytes
 memory_of g t = memory (file_of g t) t.file.header.fields (cached_in t.caches)
 
 -- the layer that an open image shows
-abbrev pub layer_in : {S : Type 0} (g : Ghosts S) → Tables S g → OpenMode → ℕ → Bool → Layer
-layer_in g t mode number failed = qcow2_layer (g.state t.file.image) (memory_of g t) t.file.header.fields mode number failed
+abbrev pub layer_in : {S : Type 0} (g : Ghosts S) → Tables S g → OpenMode → ℕ → Bool → Option Holding → Layer
+layer_in g t mode number failed hold = qcow2_layer (g.state t.file.image) (memory_of g t) t.file.header.fields mode number failed hold
+
+-- an open image as a layer
+abbrev pub layer_of : {S : Type 0} (g : Ghosts S) → Qcow2 S g → Layer
+layer_of g d = layer_in g d.tables d.mode d.number d.failed (holding_in g d.unspent)
+
+-- where each place of an image can be written, by its words
+abbrev pub homes_of : {S : Type 0} (g : Ghosts S) → Qcow2 S g → ℕ → Option (ℕ × ℕ)
+homes_of g d = homes d.mode.writable (memory_of g d.tables) d.tables.file.header.fields
 
 -- a word of the L1 table names the table at this place
 pub record IsTableAt (f : Bytes) (h : Fields) (place : ℕ) : Type 0 where

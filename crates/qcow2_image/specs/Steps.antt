@@ -1,5 +1,5 @@
 -- When an image has failed behind a call, and what reading its tables anew does.
-use Rattle.std.specs.Prelude.{◌≡◌, ◌≢◌, ◌⊎◌, ⊤, [], ℕ, Bool, true, false, Result, Ok, Err, OnOk, OnErr, IfErr}
+use Rattle.std.specs.Prelude.{◌≡◌, ◌≢◌, ◌⊎◌, ⊤, [], ℕ, Bool, true, false, None, Result, Ok, Err, OnOk, OnErr, IfErr}
 use Rattle.imago_storage.specs.State.{Rose}
 use Rattle.imago_storage.specs.Calls.{Kept, Later, IsFaultless, Cause}
 use Rattle.imago_storage.specs.declared.fault.Fault.{Fault}
@@ -52,9 +52,9 @@ WhyNotReloaded f H before after Memory = ⊤
 WhyNotReloaded f H before after Storage = Rose before after
 WhyNotReloaded f H before after fault = ⊥
 
--- They are read anew: what is in memory is then what the file says, whatever it was, and nothing else is cached. The header stays but for
--- the size and the places of tables. A refusal leaves what was in memory. Where that was what the file says, the header stays whole, and
--- only want of memory and a storage that failed refuse.
+-- They are read anew: what is in memory is then what the file says, whatever it was, and nothing else is cached or known of the free
+-- space. The header stays but for the size and the places of tables. A refusal leaves what was in memory. Where that was what the file
+-- says, the header stays whole, and only want of memory and a storage that failed refuse.
 pub record Reloads {S : Type 0} (g : Ghosts S) (old : Tables S g) (result : Result Unit Fault) (new : Tables S g) : Type 0 where
   pub kept : Kept (g.state old.file.image) (g.state new.file.image)
   pub later : Later (g.state old.file.image) (g.state new.file.image)
@@ -63,8 +63,9 @@ pub record Reloads {S : Type 0} (g : Ghosts S) (old : Tables S g) (result : Resu
   pub anew : OnOk result (IsSeen g new)
   pub empty : OnOk result (cached_in new.caches ≡ record { tables = []; blocks = [] })
   pub room : HasRoomOf old.caches new.caches
+  pub space : OnOk result (new.space ≡ None)
   pub same : IsSeen g old → OnOk result (new.file.header ≡ old.file.header)
-  pub left : OnErr result ((new.file.header ≡ old.file.header) × (new.l1 ≡ old.l1) × (new.caches ≡ old.caches))
+  pub left : OnErr result ((new.file.header ≡ old.file.header) × (new.l1 ≡ old.l1) × (new.caches ≡ old.caches) × (new.space ≡ old.space))
   pub cause : IfErr result (WhyNotReloaded (file_of g old) old.file.header (g.state old.file.image).faults (g.state new.file.image).faults)
   pub known : IsSeen g old → IfErr result (Cause (g.state old.file.image).faults (g.state new.file.image).faults)
 
@@ -74,6 +75,7 @@ pub record KeepsTables {S T : Type 0} (g : Ghosts S) (old : Tables S g) (result 
   pub later : Later (g.state old.file.image) (g.state new.file.image)
   pub faults : WasNotCutOff result → IsFaultless (g.state old.file.image) (g.state new.file.image)
   pub header : new.file.header ≡ old.file.header
+  pub space : new.space ≡ old.space
   pub seen : IsSeen g old → IsSeen g new
 
 -- The same of a call of the driver, which a storage's fault marks.
@@ -81,4 +83,5 @@ pub record KeepsImage {S T : Type 0} (g : Ghosts S) (old : Qcow2 S g) (result : 
   pub tables : KeepsTables g old.tables result new.tables
   pub mode : new.mode ≡ old.mode
   pub number : new.number ≡ old.number
+  pub unspent : new.unspent ≡ old.unspent
   pub failed : new.failed ≡ failed_behind failed_by result old.failed

@@ -1,5 +1,5 @@
 -- What a change of an image that was opened for writing rests on, and why it is refused.
-use Rattle.std.specs.Prelude.{◌≡◌, ⊤, ℕ, ◌+◌, ◌<◌, List, Some, None, Result, is_err}
+use Rattle.std.specs.Prelude.{◌≡◌, ⊤, ℕ, ◌+◌, ◌<◌, List, Option, Some, None, Result, is_err}
 use Rattle.imago_storage.specs.State.{Rose}
 use Rattle.imago_storage.specs.Causes.{offset_of, length_of}
 use Rattle.imago_storage.specs.Steps.{Call, IsIn}
@@ -10,24 +10,23 @@ use Rattle.imago_storage.specs.declared.storage.Storage.{Ghosts}
 use Rattle.imago_storage.specs.Disk.{damaged_place}
 use Rattle.imago_access.specs.Layer.{Layer, own}
 use Rattle.qcow2_image.specs.Rooms.{IsSafe}
-use Rattle.qcow2_image.specs.Seen.{layer_in}
+use Rattle.qcow2_image.specs.Seen.{homes_of, layer_of}
 use Rattle.qcow2_image.specs.declared.qcow2.Qcow2.{Qcow2}
 
--- an open image as a layer
-abbrev pub layer_of : {S : Type 0} (g : Ghosts S) → Qcow2 S g → Layer
-layer_of g d = layer_in g d.tables d.mode d.number d.failed
+-- Each place that can be written by the words of an image can be so later.
+abbrev pub KeepsHomes : {S : Type 0} (g : Ghosts S) → Qcow2 S g → Qcow2 S g → Type 0
+KeepsHomes g d now = (p : ℕ) (at : ℕ × ℕ) → homes_of g d p ≡ Some at → homes_of g now p ≡ Some at
 
 -- A call has begun on a safe image: that is safe still, and each place can be written where it could.
 abbrev pub HasBegun : {S : Type 0} (g : Ghosts S) → Qcow2 S g → Qcow2 S g → Type 0
-HasBegun g d now = IsSafe g d.tables d.failed
-    → IsSafe g now.tables now.failed × ((p : ℕ) → (layer_of g now).home p ≡ (layer_of g d).home p)
+HasBegun g d now = IsSafe g d → IsSafe g now × KeepsHomes g d now
 
--- Why an image isn't changed, by causes of its own: zeroing, discards and resizes are declined, and bytes are written only where each place
--- of the range can be written where it is; such a place is said.
-abbrev pub WhyUnwritten : Layer → Call → Fault → Type 0
-WhyUnwritten layer call Unsupported = ⊤
-WhyUnwritten layer call (Limit place) = IsIn (offset_of call) (length_of call) place × (layer.home place ≡ None)
-WhyUnwritten layer call fault = ⊥
+-- Why an image isn't changed, by causes of its own: zeroing, discards and resizes are declined, and bytes aren't written where a place of
+-- the range has no cluster of its own, for which none could be allocated.
+abbrev pub WhyUnwritten : (ℕ → Option (ℕ × ℕ)) → Call → Fault → Type 0
+WhyUnwritten home call Unsupported = ⊤
+WhyUnwritten home call (Limit number) = (p : ℕ) × IsIn (offset_of call) (length_of call) p × (home p ≡ None)
+WhyUnwritten home call fault = ⊥
 
 -- each place of the range can be written in the image file, from a place of it on
 abbrev pub IsHomeAt : Layer → (offset place n : ℕ) → Type 0
@@ -47,6 +46,8 @@ pub record WritesAt {S : Type 0} (g : Ghosts S) (place : ℕ) (bytes : List ℕ)
   pub header : new.tables.file.header ≡ old.tables.file.header
   pub l1 : new.tables.l1 ≡ old.tables.l1
   pub caches : new.tables.caches ≡ old.tables.caches
+  pub space : new.tables.space ≡ old.tables.space
   pub mode : new.mode ≡ old.mode
   pub number : new.number ≡ old.number
+  pub unspent : new.unspent ≡ old.unspent
   pub failed : new.failed ≡ is_err result

@@ -1,5 +1,6 @@
 // A qcow2 image as the driver of a chain.
-ghost use Rattle.std.specs.Prelude.{◌≡◌, ◌<◌, ◌+◌, ◌^◌, ◌⊎◌, ⊤, None, List, false, refl, length, IsTrue, IsErr, IsErrOf, IsOk, IsSome, OnOk, IfOk, IfErr};
+ghost use Rattle.std.proofs.Common.{inr};
+ghost use Rattle.std.specs.Prelude.{◌≡◌, ◌<◌, ◌+◌, ◌-◌, ◌%◌, ◌^◌, min, ◌⊎◌, ⊤, None, List, false, refl, length, IsTrue, IsErr, IsErrOf, IsOk, IsSome, OnOk, IfOk, IfErr};
 ghost use Rattle.std.proofs.lemmas.Nat.{pow_pos};
 ghost use Rattle.imago_storage.specs.Calls.{Mixed};
 ghost use Rattle.imago_storage.specs.declared.fault.Fault.TheVariants.{Limit};
@@ -12,10 +13,13 @@ ghost use Rattle.imago_access.specs.Mappings.{IsMappedRun, IsOneOf, IsRun, Looks
 ghost use Rattle.imago_access.specs.PreparingCalls.{Cancels, Commits, CommitRefused, IsHeldBy, Prepares, WritesMapped, WritingRefused, nowhere};
 ghost use Rattle.imago_access.specs.Refusals.{barrier, own_refusal};
 ghost use Rattle.imago_access.specs.Stops.{GivesNone, IsWritten, KeepsStops, MakesNone};
+ghost use Rattle.qcow2_types.specs.Bytes.{bytes_of};
+ghost use Rattle.qcow2_types.specs.Header.{cluster_size};
 ghost use Rattle.qcow2_image.specs.ImageLayer.{blanks};
 ghost use Rattle.qcow2_image.specs.Looking.{IsWholeRunIn, answer_at};
-ghost use Rattle.qcow2_image.specs.Homes.{homeless, housed, one_home};
-ghost use Rattle.qcow2_image.specs.Rooms.{not_both, covered, of_storages};
+ghost use Rattle.qcow2_image.specs.HeldHomes.{free_loose, one_home, says_room};
+ghost use Rattle.qcow2_image.specs.Unspent.{holding_in};
+ghost use Rattle.qcow2_image.specs.Rooms.{IsUntouched, not_both, covered, of_storages, was_safe};
 ghost use Rattle.qcow2_image.specs.Steps.{Reloads, failed_anew, failed_behind, failed_by};
 
 use crate::qcow2::{PreparedMappingState, Qcow2};
@@ -30,21 +34,21 @@ use std::alloc::Global;
 impl<S: Storage> FormatDriverInstance for Qcow2<S> {
     type Storage = S;
 
-    ghost safe_sees = { λ d safe. safe.seen };
+    ghost safe_sees = { λ d safe. record { seen = safe.seen; sure = inr (was_safe S.Storage.own d safe) } };
 
     ghost safe_runs = { λ d safe. safe.runs };
 
     ghost safe_keeps = { λ d safe. safe.keeps };
 
-    ghost safe_sound = { λ d safe. covered S.Storage.own d.tables d.mode d.failed d.number safe };
+    ghost safe_sound = { λ d safe. covered S.Storage.own d safe };
 
-    ghost one_home = { λ d p q at safe. one_home S.Storage.own d.tables d.mode p q at safe };
+    ghost one_home = { λ d p q at safe. one_home S.Storage.own d safe p q at };
 
     ghost blanks = { λ d. blanks d.mode.backing };
 
     ghost aligned = { λ d. let shape = S.aligned d.tables.file.image in (shape.requests, shape.memory) };
 
-    ghost of_storages = { λ d. of_storages S.Storage.own d.tables d.mode d.failed d.number };
+    ghost of_storages = { λ d. of_storages S.Storage.own d };
 
     ghost marked = { λ d is. refl };
 
@@ -52,13 +56,14 @@ impl<S: Storage> FormatDriverInstance for Qcow2<S> {
 
     ghost units = { λ d. pow_pos d.tables.file.header.fields.cluster_bits };
 
-    ghost begins = { λ d call safe. (safe, λ p. refl) };
+    ghost begins = { λ d call safe. (safe, λ p at is. is) };
 
-    ghost free_loose = { λ d free p. refl };
+    ghost free_loose = { λ d free p. let held = holding_in S.Storage.own d.unspent in
+        free_loose d.tables.file.header.fields (bytes_of (S.Storage.own.state d.tables.file.image).bytes) held p free };
 
     ghost bare = { λ d p free has. not_both _ _ p free has };
 
-    ghost rooms = { λ d p free states. record { homeless = homeless d.mode.writable _ _ p; housed = housed d.mode.writable _ _ p } };
+    ghost rooms = { λ d p free states. let room = says_room S.Storage.own d free p in record { homeless = room.0; housed = room.1 } };
 
     fn image_file(&self) -> &S {
         &self.tables.file.image
@@ -104,7 +109,7 @@ impl<S: Storage> FormatDriverInstance for Qcow2<S> {
     }
 
     fn prepared(&self) -> bool {
-        false
+        self.unspent.is_some()
     }
 
     fn get_mapping(
@@ -191,11 +196,11 @@ impl<S: Storage> FormatDriverInstance for Qcow2<S> {
 
     fn prepare_data_mapping<B: ReadBelow>(
         &mut self,
-        _alloc: Global,
+        alloc: Global,
         _below: &mut B,
         offset: u64,
         length: u64,
-        _overwrite: bool,
+        overwrite: bool,
     ) -> Result<PreparedDataMapping<PreparedMappingState>, Fault>
         requires free { IsFree (⟦<Qcow2<S> as Seen>⟧.layer self.old) }
         ensures run { let d = ⟦<Qcow2<S> as Seen>⟧ in
@@ -206,18 +211,19 @@ impl<S: Storage> FormatDriverInstance for Qcow2<S> {
         ensures size { let d = ⟦<Qcow2<S> as Seen>⟧ in (d.layer self.new).size ≡ (d.layer self.old).size }
         ensures free { IsErr result → IsFree (⟦<Qcow2<S> as Seen>⟧.layer self.new) }
         ensures does { let d = ⟦<Qcow2<S> as Seen>⟧ in
-            Prepares d B.SeenBelow (asking offset length _overwrite) result (self.old, _below.old) (self.new, _below.new) }
+            Prepares d B.SeenBelow (asking offset length overwrite) result (self.old, _below.old) (self.new, _below.new) }
         ensures below { LookedUnder B.SeenBelow (WasNotCutOff result) _below.old _below.new }
         ensures at_once { RangeAtOnce ⟦<Qcow2<S> as Seen>⟧ offset length result self.old self.new }
         ensures unread { let d = ⟦<Qcow2<S> as Seen>⟧ in
             (length ≡ 0) ⊎ IsSome (own_refusal (d.layer self.old) offset length) → _below.new ≡ _below.old }
-        // It makes no request but reads.
-        ensures reads { let d = ⟦<Qcow2<S> as Seen>⟧ in Pairs IsKept (files d self.old) (files d self.new) }
-        // It answers all of the run that can be written, or says the offset where none can.
-        ensures whole { let t = self.old.tables in
-            ⟦<Qcow2<S> as Seen>⟧.sees self.old → IfOk result (λ m. 0 < length → IsWholeRunIn S.Storage t offset length m.length) }
+        // It answers all of the run that can be written, or prepares what lies in the first guest cluster.
+        ensures whole { let t = self.old.tables in ⟦<Qcow2<S> as Seen>⟧.sees self.old
+            → IfOk result (λ m. 0 < length → m.state ≡ None → IsWholeRunIn S.Storage t offset length m.length) }
+        ensures part { let c = cluster_size self.old.tables.file.header.fields in
+            IfOk result (λ m. IsSome m.state → m.length ≡ min length (c - offset % c)) }
+        // It is refused with a limit only where the first place can't be written.
         ensures limit { let d = ⟦<Qcow2<S> as Seen>⟧ in
-            d.sees self.old → IfErr result (λ e. (n : _) → e ≡ Limit n → (n ≡ offset) × ((d.layer self.old).home offset ≡ None)) }
+            d.sees self.old → IfErr result (λ e. (n : _) → e ≡ Limit n → (d.layer self.old).home offset ≡ None) }
     {
         if self.failed {
             return Err(Fault::Failed);
@@ -231,7 +237,7 @@ impl<S: Storage> FormatDriverInstance for Qcow2<S> {
         }
         match self.home_run(offset, length) {
             Ok(Some((place, count))) => Ok(PreparedDataMapping::existing(0, place, count)),
-            Ok(None) => Err(Fault::Limit(offset)),
+            Ok(None) => self.prepare_fresh(alloc, offset, length, overwrite),
             Err(fault) => Err(fault),
         }
     }
@@ -257,10 +263,7 @@ impl<S: Storage> FormatDriverInstance for Qcow2<S> {
             }
             Some(state) => {
                 match self.check_state(&state) {
-                    Ok(()) => {
-                        state.give_up();
-                        Ok(())
-                    }
+                    Ok(()) => self.commit_unspent(state),
                     Err(fault) => {
                         let mapping = PreparedDataMapping::to_commit(
                             storage, offset, length, state,
@@ -288,10 +291,7 @@ impl<S: Storage> FormatDriverInstance for Qcow2<S> {
                     let mapping = PreparedDataMapping::to_commit(storage, offset, length, state);
                     return Err((Fault::Foreign, mapping));
                 }
-                let PreparedMappingState {
-                    number: _number,
-                    claim: _claim,
-                } = state;
+                self.cancel_unspent(state);
                 Ok(())
             }
         }
@@ -323,7 +323,13 @@ impl<S: Storage> FormatDriverInstance for Qcow2<S> {
             Err(fault) => return Err(fault),
         }
         match self.is_mapped_at(guest, place, length) {
-            Ok(true) => self.write_at(alloc, place, bytes),
+            Ok(true) => match self.write_at(alloc, place, bytes) {
+                Ok(()) => {
+                    self.note(guest, length);
+                    Ok(())
+                }
+                Err(fault) => Err(fault),
+            },
             Ok(false) => Err(Fault::Outdated),
             Err(fault) => Err(fault),
         }
@@ -378,11 +384,14 @@ impl<S: Storage> FormatDriverInstance for Qcow2<S> {
         ensures failed { IfErr result (Fails ⟦<Qcow2<S> as Seen>⟧ self.old self.new) }
         ensures marks { IfErr result (Marks ⟦<Qcow2<S> as Seen>⟧ self.old self.new) }
         ensures cause { let d = ⟦<Qcow2<S> as Seen>⟧ in d.safe self.old → IfErr result (RefusesFlush d self.old self.new) }
-        // It is marked as failed behind a storage's fault alone.
-        ensures marked { self.new.failed ≡ failed_behind failed_by result self.old.failed }
+        // Where nothing waits to be freed and nothing is prepared, it is marked as failed behind a storage's fault alone.
+        ensures marked { IsUntouched S.Storage self.old → self.new.failed ≡ failed_behind failed_by result self.old.failed }
     {
         if self.failed {
             return Err(Fault::Failed);
+        }
+        if self.has_waiting() {
+            return self.flush_freed();
         }
         let answer = self.tables.file.image.flush();
         self.settle(answer)
@@ -409,6 +418,7 @@ impl<S: Storage> FormatDriverInstance for Qcow2<S> {
     }
 
     fn invalidate_cache(&mut self, alloc: Global) -> Result<(), Fault>
+        requires free { IsFree (⟦<Qcow2<S> as Seen>⟧.layer self.old) }
         ensures same { KeepsWhatIsFlushed ⟦<Qcow2<S> as Seen>⟧ result self.old self.new }
         ensures kept { let d = ⟦<Qcow2<S> as Seen>⟧ in Pairs IsKept (files d self.old) (files d self.new) }
         ensures still { OnOk result (⟦<Qcow2<S> as Seen>⟧.still self.new) }

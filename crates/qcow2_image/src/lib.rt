@@ -1,18 +1,23 @@
 //! The qcow2 driver: an image file, with its metadata cached, as a layer of a chain.
 #![tactic(auto)]
 
+mod allocating;
 mod builder;
 mod cache_entries;
+mod committing;
 mod drivers;
 pub mod laws;
 mod lookup;
+mod mappings;
 mod mode;
+mod noting;
 mod opening;
 mod qcow2;
 mod reading;
 mod refusing;
 mod reloading;
 mod tables;
+mod unspent;
 mod writing;
 
 pub use builder::Qcow2OpenBuilder;

@@ -13,7 +13,11 @@ use qcow2_metadata::{L1Table, L2Mapping, L2Table, Table};
 use qcow2_types::{GuestCluster, HostCluster};
 
 // The cluster of the L2 table over a guest cluster, if the L1 table names one.
-fn l2_cluster(l1: &L1Table, guest: GuestCluster, cluster_bits: u32) -> Option<HostCluster>
+pub(crate) fn l2_cluster(
+    l1: &L1Table,
+    guest: GuestCluster,
+    cluster_bits: u32,
+) -> Option<HostCluster>
     requires { (9 ≤ cluster_bits) × (cluster_bits ≤ 21) }
     ensures { result ≡ place_of_table l1.now.words cluster_bits guest }
 {

@@ -110,6 +110,7 @@ fn open_tables<S: Storage>(
         file: ImageFile { image, header },
         l1,
         caches,
+        space: None,
     })
 }
 
@@ -140,6 +141,8 @@ pub(crate) fn open_with<S: Storage>(
         mode: OpenMode { writable, backing },
         number,
         failed: false,
+        claims: 0,
+        unspent: None,
     })
 }
 

@@ -11,12 +11,13 @@ ghost use Rattle.qcow2_image.specs.Lent.{with_image};
 ghost use Rattle.qcow2_alloc.specs.Caches.{cached_in};
 ghost use Rattle.qcow2_alloc.specs.Safety.{AreTablesClean, AreBlocksClean};
 ghost use Rattle.qcow2_image.specs.ImageLayer.{qcow2_text};
-ghost use Rattle.qcow2_image.specs.Seen.{IsSeen, layer_in, memory_of};
-ghost use Rattle.qcow2_image.specs.Rooms.{IsVacant, HasRoom, IsZeroed, IsSafe, is_sound};
-ghost use Rattle.qcow2_image.specs.Writing.{HasBegun, WhyUnwritten, layer_of};
+ghost use Rattle.qcow2_image.specs.Seen.{homes_of, layer_of, memory_of};
+ghost use Rattle.qcow2_image.specs.Rooms.{IsVacant, HasRoom, IsZeroed, IsSafe, Sees, is_sound};
+ghost use Rattle.qcow2_image.specs.Writing.{HasBegun, WhyUnwritten};
 
 use crate::mode::OpenMode;
 use crate::tables::Tables;
+use crate::unspent::Unspent;
 use imago_access::Seen;
 use imago_storage::Storage;
 use qcow2_alloc::ImageFile;
@@ -36,7 +37,7 @@ impl PreparedMappingState {
         self.number
     }
 
-    /// Lets go of it. That is for an image which has not prepared the mapping, and so has nothing to undo.
+    /// Lets go of it. That is for a state that no image holds: one that is let go so leaves its image prepared for good.
     pub fn give_up(self) {
         let PreparedMappingState {
             number: _number,
@@ -47,32 +48,37 @@ impl PreparedMappingState {
 
 /// A qcow2 image: each place of the disk is what the tables of its file say of it.
 ///
-/// Its one storage, the image file, has the number 0. A fault of that storage marks it as failed, and so does want of memory that may have
-/// left a part of a write.
+/// Its one storage, the image file, has the number 0. A fault of that storage marks it as failed, and so does a commit that was cut off,
+/// and want of memory in a change.
 ///
-/// One that was opened for writing is written where a place has data in a host cluster of its own, which its L2 entry marks as copied: bytes
-/// go there at once, and no table changes. So far nothing is allocated: other places can't be written, zeroing and discards are declined
-/// (a chain writes zeroes then, where it may), and the size stays.
+/// One that was opened for writing is written where a place has data in a host cluster of its own, which its L2 entry marks as copied:
+/// bytes go there at once, and no table changes. Where nothing is allocated for a place, a cluster is: it is reserved, filled with what the
+/// place shows, then written, and named by the L2 entry as the mapping is committed. What was reserved and is given up waits for the next
+/// allocation or flush, which frees it. What the layers below show isn't copied so far: such a place is written as a whole cluster alone,
+/// or refused, as one is whose cluster isn't copied. Zeroing and discards are declined (a chain writes zeroes then, where it may), and the
+/// size stays.
 #[derive(Drop)]
 pub struct Qcow2<S: Storage> {
     pub(crate) tables: Tables<S>,
     pub(crate) mode: OpenMode,
     pub(crate) number: u64,
     pub(crate) failed: bool,
+    pub(crate) claims: u64,
+    pub(crate) unspent: Option<Unspent<S>>,
 }
 
 impl<S: Storage> Seen for Qcow2<S> {
     type State = PreparedMappingState;
 
-    ghost layer = { λ d. layer_in S.Storage d.tables d.mode d.number d.failed };
+    ghost layer = { λ d. layer_of S.Storage d };
 
     ghost image = { λ d. S.state d.tables.file.image };
 
     ghost extras = { λ _. [] };
 
-    ghost sees = { λ d. IsSeen S.Storage d.tables };
+    ghost sees = { λ d. Sees S.Storage d };
 
-    ghost safe = { λ d. IsSafe S.Storage d.tables d.failed };
+    ghost safe = { λ d. IsSafe S.Storage d };
 
     ghost still = { λ d. AreTablesClean (cached_in d.tables.caches) × AreBlocksClean (cached_in d.tables.caches) };
 
@@ -92,13 +98,14 @@ impl<S: Storage> Seen for Qcow2<S> {
 
     ghost began = { λ d call now. HasBegun S.Storage d now };
 
-    ghost own_cause = { λ d below call fault. IsSafe S.Storage d.tables d.failed → WhyUnwritten (layer_of S.Storage d) call fault };
+    ghost own_cause = { λ d below call fault. IsSafe S.Storage d → WhyUnwritten (homes_of S.Storage d) call fault };
 
     ghost growth_cause = { λ d below size mode fault. fault ≡ Unsupported };
 }
 
 impl<S: Storage> Qcow2<S> {
-    /// Whether it has failed: after a fault of a storage, or want of memory that may have left a part of a write, it has to be opened again.
+    /// Whether it has failed: after a fault of a storage, a commit that was cut off, tables that couldn't be read anew, or want of memory
+    /// in a change it has to be opened again.
     pub fn failed(&self) -> bool
         ensures { result ≡ (⟦<Qcow2<S> as Seen>⟧.layer self.now).failed }
     {
@@ -143,7 +150,7 @@ impl<S: Storage> Qcow2<S> {
         ""
     }
 
-    /// The image file again. Nothing waits to be written to it.
+    /// The image file again. Nothing should be prepared. What waits to be freed stays counted: flush before.
     pub fn into_image(self) -> S
         ensures { result ≡ self.tables.file.image }
     {
@@ -152,6 +159,8 @@ impl<S: Storage> Qcow2<S> {
             mode: _mode,
             number: _number,
             failed: _failed,
+            claims: _claims,
+            unspent: _unspent,
         } = self;
         into_file(tables)
     }
@@ -184,7 +193,8 @@ impl<S: Storage> Qcow2<S> {
         self.tables.file.header.backing_format()
     }
 
-    /// Says whether layers are below it: places that no table maps are what these show, and else they are 0.
+    /// Says whether layers are below it: places that no table maps are what these show, and else they are 0. Nothing should be prepared: a
+    /// prepared cluster has what its places showed before.
     pub fn set_backing(&mut self, backing: bool)
         ensures { self.new ≡ record self.old { mode = record self.old.mode { backing = backing } } }
     {
@@ -200,6 +210,7 @@ fn into_file<S: Storage>(tables: Tables<S>) -> S
         file,
         l1: _l1,
         caches: _caches,
+        space: _space,
     } = tables;
     let ImageFile {
         image,

@@ -8,6 +8,7 @@ ghost use Rattle.qcow2_metadata.specs.MappingView.{mapping_seen, IsNamed};
 ghost use Rattle.qcow2_image.specs.ImageLayer.{shallow_of};
 ghost use Rattle.qcow2_image.specs.Looking.{EndsNear, IsWholeRunIn, answer_at};
 ghost use Rattle.qcow2_image.specs.Steps.{KeepsImage, failed_by, failed_anew, failed_behind};
+ghost use Rattle.qcow2_image.specs.Seen.{IsSeen};
 
 use crate::lookup::look_up;
 use crate::mode::OpenMode;
@@ -76,7 +77,7 @@ fn bytes_met(count: u64, within: u64, length: u64, cluster_bits: u32) -> u64
 
 impl<S: Storage> Qcow2<S> {
     // Marks it as failed behind a storage's fault.
-    fn mark(&mut self, fault: Fault)
+    pub(crate) fn mark(&mut self, fault: Fault)
         ensures { self.new ≡ record self.old { failed = failed_by fault self.old.failed } }
     {
         if matches!(fault, Fault::Storage) {
@@ -124,14 +125,15 @@ impl<S: Storage> Qcow2<S> {
         requires some { 0 < max_length }
         requires runs { self.old.failed ≡ false }
         ensures run { let d = ⟦<Qcow2<S> as Seen>⟧ in IfOk result (λ r. IsRun (d.layer self.old) offset max_length r.0 r.1) }
-        ensures looks { let d = ⟦<Qcow2<S> as Seen>⟧ in d.sees self.old → IfOk result (LooksIn d offset max_length self.old self.new) }
-        ensures room { let d = ⟦<Qcow2<S> as Seen>⟧ in d.sees self.old → IfOk result (NamesRoomIn d offset self.old) }
+        ensures looks { let d = ⟦<Qcow2<S> as Seen>⟧ in
+            IsSeen S.Storage self.old.tables → IfOk result (LooksIn d offset max_length self.old self.new) }
+        ensures room { let d = ⟦<Qcow2<S> as Seen>⟧ in IsSeen S.Storage self.old.tables → IfOk result (NamesRoomIn d offset self.old) }
         ensures there { IfOk result (λ r. IsOneOf 1 r.0) }
         ensures near { IfOk result (λ r. EndsNear r.0 r.1) }
         ensures entry { let t = self.old.tables in
-            ⟦<Qcow2<S> as Seen>⟧.sees self.old → IfOk result (λ r. r.0 ≡ answer_at S.Storage t self.old.mode offset) }
+            IsSeen S.Storage self.old.tables → IfOk result (λ r. r.0 ≡ answer_at S.Storage t self.old.mode offset) }
         ensures whole { let t = self.old.tables in
-            ⟦<Qcow2<S> as Seen>⟧.sees self.old → IfOk result (λ r. IsWholeRunIn S.Storage t offset max_length r.1) }
+            IsSeen S.Storage self.old.tables → IfOk result (λ r. IsWholeRunIn S.Storage t offset max_length r.1) }
         ensures keeps { KeepsImage S.Storage self.old result self.new }
         ensures began { let d = ⟦<Qcow2<S> as Seen>⟧ in
             WasNotCutOff result → (e : _) (call : _) → d.began e call self.old → d.began e call self.new }
@@ -140,7 +142,7 @@ impl<S: Storage> Qcow2<S> {
         ensures failed { IfErr result (Fails ⟦<Qcow2<S> as Seen>⟧ self.old self.new) }
         ensures marks { IfErr result (Marks ⟦<Qcow2<S> as Seen>⟧ self.old self.new) }
         ensures cause { let d = ⟦<Qcow2<S> as Seen>⟧ in
-            d.sees self.old → IfErr result (RefusesLookup d offset max_length self.old self.new) }
+            IsSeen S.Storage self.old.tables → IfErr result (RefusesLookup d offset max_length self.old self.new) }
     {
         let size = self.tables.file.header.size();
         let cluster_bits = self.tables.file.header.cluster_bits();

@@ -70,7 +70,7 @@ fn load_anew<S: Storage>(
 }
 
 // Drops all that is cached. Nothing of it is to be written, and nothing of it is pinned, so that nothing stays.
-fn drop_cached<S: Storage>(caches: &mut MetadataCaches<S>) -> Result<(), Fault>
+pub(crate) fn drop_cached<S: Storage>(caches: &mut MetadataCaches<S>) -> Result<(), Fault>
     requires loose { IsUnpinned caches.old }
     ensures ok { IsOk result }
     ensures empty { cached_in caches.new ≡ record { tables = []; blocks = [] } }
@@ -82,8 +82,9 @@ fn drop_cached<S: Storage>(caches: &mut MetadataCaches<S>) -> Result<(), Fault>
     }
 }
 
-// Reads the header and the L1 table anew, and drops what is cached. It refuses what opening does, and before the L1 table a header that
-// differs in more than the size and the places of tables. What is in memory changes only once nothing can refuse any more.
+// Reads the header and the L1 table anew, and drops what is cached and what is known of the free space. It refuses what opening does, and
+// before the L1 table a header that differs in more than the size and the places of tables. What is in memory changes only once nothing
+// can refuse any more.
 pub(crate) fn reload<S: Storage>(tables: &mut Tables<S>, alloc: Global) -> Result<(), Fault>
     ensures { Reloads S.Storage tables.old result tables.new }
 {
@@ -94,6 +95,7 @@ pub(crate) fn reload<S: Storage>(tables: &mut Tables<S>, alloc: Global) -> Resul
     match tables.file.header.update(&header) {
         Ok(()) => {
             tables.l1 = l1;
+            tables.space = None;
             drop_cached(&mut tables.caches)
         }
         Err(fault) => Err(fault),

@@ -3,9 +3,13 @@ ghost use Rattle.std.specs.Prelude.{◌≡◌, ◌<◌, ◌≤◌, ◌+◌, ◌^
 ghost use Rattle.imago_access.specs.Failing.{Fails, RefusesLookup};
 ghost use Rattle.imago_access.specs.Mappings.{IsMappedRun};
 ghost use Rattle.imago_access.specs.Parts.{IsMappedAt};
+ghost use Rattle.imago_access.specs.Layer.{IsFree};
+ghost use Rattle.qcow2_image.specs.Holding.{HoldsRun, Notes};
 ghost use Rattle.qcow2_image.specs.Looking.{IsWholeRunIn, writable_place_of};
+ghost use Rattle.qcow2_image.specs.Unspent.{holding_in};
 ghost use Rattle.qcow2_image.specs.Steps.{KeepsImage};
 ghost use Rattle.qcow2_image.specs.Writing.{IsHomeAt, WhyNotTold, WritesAt};
+ghost use Rattle.qcow2_image.specs.Seen.{IsSeen};
 
 use crate::qcow2::Qcow2;
 use imago_access::{Seen, ShallowMapping};
@@ -36,15 +40,15 @@ impl<S: Storage> Qcow2<S> {
             IfOk result (λ o. IfSome o (λ r. IsMappedRun (d.layer self.old) offset length r.1)) }
         ensures near { IfOk result (λ o. IfSome o (λ r. r.0 + r.1 ≤ 2 ^ 60)) }
         ensures home { let d = ⟦<Qcow2<S> as Seen>⟧ in
-            d.sees self.old → IfOk result (λ o. IfSome o (λ r. IsHomeAt (d.layer self.old) offset r.0 r.1)) }
+            IsSeen S.Storage self.old.tables → IfOk result (λ o. IfSome o (λ r. IsHomeAt (d.layer self.old) offset r.0 r.1)) }
         ensures none { let d = ⟦<Qcow2<S> as Seen>⟧ in
-            d.sees self.old → IfOk result (λ o. o ≡ None → (d.layer self.old).home offset ≡ None) }
-        ensures whole { let t = self.old.tables in
-            ⟦<Qcow2<S> as Seen>⟧.sees self.old → IfOk result (λ o. IfSome o (λ r. IsWholeRunIn S.Storage t offset length r.1)) }
+            IsSeen S.Storage self.old.tables → IfOk result (λ o. o ≡ None → (d.layer self.old).home offset ≡ None) }
+        ensures whole { let t = self.old.tables in IsFree (⟦<Qcow2<S> as Seen>⟧.layer self.old) →
+            IsSeen S.Storage self.old.tables → IfOk result (λ o. IfSome o (λ r. IsWholeRunIn S.Storage t offset length r.1)) }
         ensures keeps { KeepsImage S.Storage self.old result self.new }
         ensures failed { IfErr result (Fails ⟦<Qcow2<S> as Seen>⟧ self.old self.new) }
         ensures cause { let d = ⟦<Qcow2<S> as Seen>⟧ in
-            d.sees self.old → IfErr result (RefusesLookup d offset length self.old self.new) }
+            IsSeen S.Storage self.old.tables → IfErr result (RefusesLookup d offset length self.old self.new) }
     {
         let (mapping, count) = match self.run_from(offset, length) {
             Ok(run) => run,
@@ -52,7 +56,18 @@ impl<S: Storage> Qcow2<S> {
         };
         match writable_place(mapping) {
             Some(place) => Ok(Some((place, count))),
-            None => Ok(None),
+            None => Ok(self.held_run(offset, count)),
+        }
+    }
+
+    // Where a place lies that a prepared mapping holds in its run, and how much of the run goes on from it, up to so many bytes.
+    fn held_run(&self, offset: u64, most: u64) -> Option<(u64, u64)>
+        ensures run { HoldsRun (holding_in S.Storage self.now.unspent) offset most result }
+        ensures near { IfSome result (λ r. r.0 + r.1 ≤ 2 ^ 60) }
+    {
+        match &self.unspent {
+            Some(unspent) => unspent.run_from(offset, most),
+            None => None,
         }
     }
 
@@ -67,13 +82,13 @@ impl<S: Storage> Qcow2<S> {
         requires fits { guest + length < 2 ^ 64 }
         requires runs { self.old.failed ≡ false }
         ensures yes { let d = ⟦<Qcow2<S> as Seen>⟧ in
-            d.sees self.old → IfOk result (λ is. IsTrue is → IsHomeAt (d.layer self.old) guest place length) }
+            IsSeen S.Storage self.old.tables → IfOk result (λ is. IsTrue is → IsHomeAt (d.layer self.old) guest place length) }
         ensures no { let d = ⟦<Qcow2<S> as Seen>⟧ in
-            d.sees self.old → IfOk result (λ is. IsFalse is → IsMappedAt (d.layer self.old) guest place length → ⊥) }
+            IsSeen S.Storage self.old.tables → IfOk result (λ is. IsFalse is → IsMappedAt (d.layer self.old) guest place length → ⊥) }
         ensures near { IfOk result (λ is. IsTrue is → 0 < length → place + length ≤ 2 ^ 60) }
         ensures keeps { KeepsImage S.Storage self.old result self.new }
         ensures failed { IfErr result (Fails ⟦<Qcow2<S> as Seen>⟧ self.old self.new) }
-        ensures cause { ⟦<Qcow2<S> as Seen>⟧.sees self.old → IfErr result (WhyNotTold S.Storage self.old self.new) }
+        ensures cause { IsSeen S.Storage self.old.tables → IfErr result (WhyNotTold S.Storage self.old self.new) }
     {
         let mut done = 0;
         while done < length {
@@ -103,6 +118,17 @@ impl<S: Storage> Qcow2<S> {
                 self.failed = true;
                 Err(fault)
             }
+        }
+    }
+
+    // Notes to a prepared mapping that a range was written.
+    pub(crate) fn note(&mut self, at: u64, length: u64)
+        ensures notes { Notes at length (holding_in S.Storage self.old.unspent) (holding_in S.Storage self.new.unspent) }
+        ensures others { self.new ≡ record self.old { unspent = self.new.unspent } }
+    {
+        match &mut self.unspent {
+            Some(unspent) => unspent.written.note(at, length),
+            None => {}
         }
     }
 }

@@ -17,6 +17,9 @@ use Rattle.imago_formats.specs.declared.raw.Raw.{Raw}
 use Rattle.imago_formats.specs.declared.vmdk.driver.Vmdk.{Vmdk}
 use Rattle.imago_formats.specs.contracts.raw.RawSeen.TheImpl as raw_seen
 use Rattle.imago_formats.specs.contracts.vmdk.driver.VmdkSeen.TheImpl as vmdk_seen
+use Rattle.qcow2_types.specs.Bytes.{bytes_of}
+use Rattle.qcow2_image.specs.HeldHomes.{free_loose}
+use Rattle.qcow2_image.specs.Unspent.{holding_in}
 use Rattle.qcow2_image.specs.declared.qcow2.Qcow2.{Qcow2}
 use Rattle.qcow2_image.specs.contracts.qcow2.Qcow2Seen.TheImpl as qcow2_seen
 use Rattle.qimg_chain.specs.Chains.{IsSoundAs}
@@ -57,7 +60,8 @@ module _ (R : RattleType) (st : Ghosts R.Denot) (sd : mir.Syntax.Dict) (dd : mir
   pub none_held : (d : ImageDriver R.Denot st) → IsFree ((image_seen.ghosts R st sd dd).layer d) → (p : ℕ) → ((image_seen.ghosts R st sd dd).layer d).held p ≡ loose
   none_held (variant.Raw d) free p = refl
   none_held (variant.Vmdk d) free p = refl
-  none_held (variant.Qcow2 d) free p = refl
+  none_held (variant.Qcow2 d) free p =
+      free_loose d.tables.file.header.fields (bytes_of (st.state d.tables.file.image).bytes) (holding_in st d.unspent) p free
 
   -- whether it keeps what is written, its storages say, and whether a file is sound for it, its format
   pub keeps_so : (d : ImageDriver R.Denot st) → ((image_seen.ghosts R st sd dd).layer d).fixed.keeps

@@ -6,9 +6,11 @@ ghost use Rattle.std.proofs.lemmas.Nat.{pow_pos};
 ghost use Rattle.imago_access.specs.PreparingCalls.{Commits, CommitRefused, Cancels};
 ghost use Rattle.imago_formats.specs.RawHome as raw_home;
 ghost use Rattle.imago_formats.specs.VmdkLaws as vmdk_laws;
-ghost use Rattle.qcow2_image.specs.Homes as qcow2_homes;
+ghost use Rattle.qcow2_types.specs.Bytes.{bytes_of};
+ghost use Rattle.qcow2_image.specs.HeldHomes as qcow2_homes;
 ghost use Rattle.qcow2_image.specs.ImageLayer as qcow2_layers;
 ghost use Rattle.qcow2_image.specs.Rooms as qcow2_rooms;
+ghost use Rattle.qcow2_image.specs.Unspent.{holding_in};
 ghost use Rattle.qimg_chain.specs.declared.chain.image_driver.ImageDriver.TheVariants as variant;
 
 use crate::chain::image_driver::ImageDriver;
@@ -27,7 +29,7 @@ impl<S: Storage> FormatDriverInstance for ImageDriver<S> {
     ghost safe_sees = { elim [
       | variant.Raw d ↦ λ safe. tt
       | variant.Vmdk d ↦ λ safe. safe.1
-      | variant.Qcow2 d ↦ λ safe. safe.seen
+      | variant.Qcow2 d ↦ λ safe. record { seen = safe.seen; sure = inr (qcow2_rooms.was_safe S.Storage.own d safe) }
     ] };
 
     ghost safe_runs = { elim [
@@ -47,13 +49,13 @@ impl<S: Storage> FormatDriverInstance for ImageDriver<S> {
       | variant.Vmdk d ↦ λ safe.
           let cover = vmdk_laws.covered d.disk.extents.items (S.state d.image) (map S.state d.files.items) safe.2 in
           record { is_sound = tt; size = cover.size }
-      | variant.Qcow2 d ↦ λ safe. qcow2_rooms.covered S.Storage.own d.tables d.mode d.failed d.number safe
+      | variant.Qcow2 d ↦ λ safe. qcow2_rooms.covered S.Storage.own d safe
     ] };
 
     ghost one_home = { elim [
       | variant.Raw d ↦ λ p q at safe. raw_home.one_home d.size d.writable p q at
       | variant.Vmdk d ↦ λ p q at safe. vmdk_laws.no_home p q at
-      | variant.Qcow2 d ↦ λ p q at safe. qcow2_homes.one_home S.Storage.own d.tables d.mode p q at safe
+      | variant.Qcow2 d ↦ λ p q at safe. qcow2_homes.one_home S.Storage.own d safe p q at
     ] };
 
     ghost blanks = { elim [
@@ -71,7 +73,7 @@ impl<S: Storage> FormatDriverInstance for ImageDriver<S> {
     ghost of_storages = { elim [
       | variant.Raw d ↦ record { requests = refl; memory = refl; keeps = refl; zeroing = refl }
       | variant.Vmdk d ↦ record { requests = refl; memory = refl; keeps = refl; zeroing = refl }
-      | variant.Qcow2 d ↦ qcow2_rooms.of_storages S.Storage.own d.tables d.mode d.failed d.number
+      | variant.Qcow2 d ↦ qcow2_rooms.of_storages S.Storage.own d
     ] };
 
     ghost marked = { elim [
@@ -95,13 +97,14 @@ impl<S: Storage> FormatDriverInstance for ImageDriver<S> {
     ghost begins = { elim [
       | variant.Raw d ↦ λ call. tt
       | variant.Vmdk d ↦ λ call. tt
-      | variant.Qcow2 d ↦ λ call safe. (safe, λ p. refl)
+      | variant.Qcow2 d ↦ λ call safe. (safe, λ p at is. is)
     ] };
 
     ghost free_loose = { elim [
       | variant.Raw d ↦ λ free p. refl
       | variant.Vmdk d ↦ λ free p. refl
-      | variant.Qcow2 d ↦ λ free p. refl
+      | variant.Qcow2 d ↦ λ free p. let held = holding_in S.Storage.own d.unspent in
+          qcow2_homes.free_loose d.tables.file.header.fields (bytes_of (S.Storage.own.state d.tables.file.image).bytes) held p free
     ] };
 
     ghost bare = { elim [
@@ -114,7 +117,7 @@ impl<S: Storage> FormatDriverInstance for ImageDriver<S> {
       | variant.Raw d ↦ λ p free states. raw_home.never states
       | variant.Vmdk d ↦ λ p free states. raw_home.never states
       | variant.Qcow2 d ↦ λ p free states.
-          record { homeless = qcow2_homes.homeless d.mode.writable _ _ p; housed = qcow2_homes.housed d.mode.writable _ _ p }
+          let room = qcow2_homes.says_room S.Storage.own d free p in record { homeless = room.0; housed = room.1 }
     ] };
 
     fn image_file(&self) -> &S {

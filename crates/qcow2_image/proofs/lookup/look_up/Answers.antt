@@ -1,4 +1,4 @@
-use Rattle.std.proofs.Common.{◌≡◌, refl, ◌*◌, ◌^◌, ap, sym, ◌∙◌}
+use Rattle.std.proofs.Common.{refl, ◌*◌, ◌^◌, ap, sym, ◌∙◌}
 use Rattle.qcow2_image.specs.Looking.{place_of_table, ReadsRun}
 use Rattle.qcow2_image.proofs.Found.{looks-used, looks-none, clean-used, loose-used}
 use Rattle.qcow2_image.proofs.lookup.look_up.Goals as goal
@@ -14,7 +14,7 @@ invariant_of-tables g c =
 pub returns-in-Some : goal.returns-in-Some
 returns-in-Some g c =
     let b = c.cluster_bits-cluster_bits.ensures.value in
-    looks-used g.S.Storage c.args.guest c.args.most c.in-Some.table c.args.tables.now _ refl (ap (λ x. place_of_table c.args.tables.now.l1.words x c.args.guest) (sym b) ∙ sym c.l2_cluster.ensures ∙ c.in-Some.is)
+    looks-used g.S.Storage c.args.guest c.args.most c.in-Some.table c.args.tables.now _ refl refl (ap (λ x. place_of_table c.args.tables.now.l1.words x c.args.guest) (sym b) ∙ sym c.l2_cluster.ensures ∙ c.in-Some.is)
     c.in_table.result c.requires.one_table c.in_table.ensures
 
 pub returns-in-None : goal.returns-in-None

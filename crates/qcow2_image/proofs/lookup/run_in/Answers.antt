@@ -1,4 +1,4 @@
-use Rattle.std.proofs.Common.{◌≡◌, ◌+◌, ◌-◌, ◌*◌, ◌%◌, ◌^◌, ◌<◌, ◌≤◌, ℕ, arith, ap, sym, subst, ◌∙◌, true, false}
+use Rattle.std.proofs.Common.{◌≡◌, ◌+◌, ◌-◌, ◌*◌, ◌%◌, ◌^◌, ◌<◌, ℕ, arith, ap, sym, subst, ◌∙◌, true, false}
 use Rattle.std.proofs.lemmas.Nat.{pow_pos}
 use Rattle.qcow2_types.specs.Places.{l2_entries}
 use Rattle.qcow2_types.specs.Words.{Mapping}

@@ -1,4 +1,4 @@
-use Rattle.std.proofs.Common.{◌≡◌, subst, sym, false, Ok}
+use Rattle.std.proofs.Common.{◌≡◌, subst, sym, Ok}
 use Rattle.imago_storage.specs.State.{StorageState}
 use Rattle.qcow2_types.specs.Header.{header_of}
 use Rattle.qcow2_metadata.specs.Loading.{file, NotLoaded}

@@ -1,4 +1,4 @@
-use Rattle.std.proofs.Common.{refl, sym}
+use Rattle.std.proofs.Common.{refl, sym, inl, None}
 use Rattle.std.specs.Prelude.{false}
 use Rattle.qcow2_image.specs.declared.qcow2.Qcow2.{Qcow2}
 use Rattle.qcow2_image.proofs.JustOpened.{opened-kept, opened-meant, opened-still, opened-safe}
@@ -9,7 +9,7 @@ returns-clause-seen g c =
     let before = g.S.Storage.state c.args.image in
     let l2 = c.args.entries.l2_tables in
     let rb = c.args.entries.refcount_blocks in
-    let d : Qcow2 g.row.S.Denot g.S.Storage = record { tables = c.in-Ok.tables; mode = record { writable = c.args.writable; backing = c.match-backing.backing }; number = c.args.number; failed = false } in
+    let d : Qcow2 g.row.S.Denot g.S.Storage = record { tables = c.in-Ok.tables; mode = record { writable = c.args.writable; backing = c.match-backing.backing }; number = c.args.number; failed = false; claims = 0; unspent = None } in
     record {
       format_is = refl;
       writable_is = refl;
@@ -19,8 +19,8 @@ returns-clause-seen g c =
       kept = opened-kept g.S.Storage before c.args.writable l2 rb d c.in-Ok.ensures.ok;
       free = refl;
       usable = refl;
-      sees = c.in-Ok.ensures.ok.seen;
+      sees = record { seen = c.in-Ok.ensures.ok.seen; sure = inl (refl, rw c.in-Ok.ensures.ok.spaceless tt) };
       still = opened-still g.S.Storage before c.args.writable l2 rb d c.in-Ok.ensures.ok;
       lasting = tt;
-      safe = λ keeps sound. opened-safe g.S.Storage before c.args.writable l2 rb d c.in-Ok.ensures.ok refl keeps sound;
+      safe = λ keeps sound. opened-safe g.S.Storage before c.args.writable l2 rb d c.in-Ok.ensures.ok refl refl keeps sound;
     }

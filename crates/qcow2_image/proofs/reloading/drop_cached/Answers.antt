@@ -1,6 +1,5 @@
-use Rattle.std.proofs.Common.{◌≡◌, ap, sym, subst, ◌∙◌}
+use Rattle.std.proofs.Common.{ap, subst, ◌∙◌}
 use Rattle.qcow2_alloc.specs.Dropping.{Dropped}
-use Rattle.qcow2_alloc.specs.Memory.{Cached}
 use Rattle.qcow2_image.proofs.Anew.{drops-all, drops-ok}
 use Rattle.qcow2_image.proofs.reloading.drop_cached.Goals as goal
 

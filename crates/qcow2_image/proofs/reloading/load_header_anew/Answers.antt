@@ -1,6 +1,5 @@
-use Rattle.std.proofs.Common.{◌≡◌, ◌∙◌, subst, Ok}
+use Rattle.std.proofs.Common.{◌≡◌, subst, Ok}
 use Rattle.std.specs.Prelude.{false, IfOk, IfErr, OnOk}
-use Rattle.imago_storage.specs.State.{StorageState}
 use Rattle.imago_storage.specs.Calls.{Kept}
 use Rattle.qcow2_types.specs.Header.{header_of}
 use Rattle.qcow2_metadata.specs.Loading.{file, NotLoaded}

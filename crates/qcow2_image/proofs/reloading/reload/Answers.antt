@@ -1,5 +1,4 @@
-use Rattle.std.proofs.Common.{false, rules, ◌≡◌, refl, arith, ap}
-use Rattle.imago_storage.specs.State.{StorageState}
+use Rattle.std.proofs.Common.{false, rules, ◌≡◌, refl}
 use Rattle.qcow2_metadata.specs.Loading.{file}
 use Rattle.qcow2_image.proofs.Anew.{updating-why, never-differs}
 use Rattle.qcow2_image.proofs.OpeningRules.{none-refused}
@@ -15,6 +14,7 @@ returns-in-Err g c =
       anew = search rules;
       empty = search rules;
       room = search rules;
+      space = search rules;
       same = search rules;
       left = search rules;
       cause = c.in-Err.ensures.err;
@@ -36,8 +36,9 @@ returns g c =
       anew = tt;
       empty = tt;
       room = search rules;
+      space = tt;
       same = λ seen. tt;
-      left = (refused.err, refl, refl);
+      left = (refused.err, refl, refl, refl);
       cause = updating-why (file old) t.file.header c.in-Ok.loaded.0 old.faults new.faults c.in-Err-update.fault
           loaded.loads (λ is. absurd (let ok = refused.allowed.1 is in cc)) refused.fault;
       known = λ seen. absurd (never-differs (file old) t.file.header c.in-Ok.loaded.0 seen.loads loaded.loads (λ is. absurd (let ok = refused.allowed.1 is in cc)));

@@ -1,15 +1,114 @@
-use Rattle.std.proofs.Common.{◌≡◌, ap, sym, subst}
-use Rattle.imago_storage.specs.Calls.{Kept, Later}
+use Rattle.std.proofs.Common.{ap, sym, subst, ◌∙◌}
+use Rattle.imago_access.specs.Files.{WasNotCutOff}
 use Rattle.qcow2_image.specs.declared.qcow2.Qcow2.{Qcow2}
-use Rattle.qcow2_image.proofs.Settling.{on-ok, meant, seen-same}
+use Rattle.qcow2_image.specs.Steps.{KeepsImage, failed_behind, failed_by}
+use Rattle.qcow2_image.specs.Unspent.{holding_in}
+use Rattle.qcow2_image.proofs.ClusterSteps.{idle-waits}
+use Rattle.qcow2_image.proofs.Flushing.{freed-cause, freed-failed, freed-like, freed-marks, freed-sees, freed-went, freed-written}
+use Rattle.qcow2_image.proofs.Settling.{asked-keeps, counted-faultless, meant, ok-whole}
+use Rattle.qcow2_image.proofs.Steps.{looked-kept, marks-kept}
 use Rattle.qcow2_image.proofs.drivers.Qcow2FormatDriverInstance.flush.Goals as goal
 
-pub returns-clause-written : goal.returns-clause-written
-returns-clause-written g c = λ safe free.
+pub returns-clause-sees : goal.returns-clause-sees
+returns-clause-sees g c =
     let q = c.args.self.now in
     let d = c.settle.new.self in
-    let s = g.S.Storage.state q.tables.file.image in
     let is = c.settle.ensures.marks in
-    let state : g.S.Storage.state d.tables.file.image ≡ g.S.Storage.state c.flush-answer.new.self = ap (λ (x : Qcow2 g.row.S.Denot g.S.Storage). g.S.Storage.state x.tables.file.image) is in
-    let seen = seen-same g.S.Storage q.tables d.tables (subst (Kept s) (sym state) c.flush-answer.ensures.kept) (subst (Later s) (sym state) c.flush-answer.ensures.later) (ap (λ (x : Qcow2 g.row.S.Denot g.S.Storage). x.tables.file.header) is) (ap (λ (x : Qcow2 g.row.S.Denot g.S.Storage). x.tables.l1) is) (ap (λ (x : Qcow2 g.row.S.Denot g.S.Storage). x.tables.caches) is) safe.seen in
-    on-ok c.settle.result _ (meant g.S.Storage d.tables d.mode d.failed d.number seen)
+    let same = c.settle.ensures.same in
+    let s = g.S.Storage.state q.tables.file.image in
+    let t = g.S.Storage.state c.flush-answer.new.self in
+    let keeps : KeepsImage {T = Unit} g.S.Storage q c.settle.result d =
+    asked-keeps g.S.Storage q d t c.settle.result c.flush-answer.ensures.kept c.flush-answer.ensures.later
+    (λ whole. let ok = subst WasNotCutOff same whole in counted-faultless s t c.flush-answer.result c.flush-answer.ensures.kept c.flush-answer.ensures.faults ok)
+    (ap (λ (x : Qcow2 g.row.S.Denot g.S.Storage). g.S.Storage.state x.tables.file.image) is) (ap (λ (x : Qcow2 g.row.S.Denot g.S.Storage). x.tables.file.header) is)
+    (ap (λ (x : Qcow2 g.row.S.Denot g.S.Storage). x.tables.l1) is) (ap (λ (x : Qcow2 g.row.S.Denot g.S.Storage). x.tables.caches) is)
+    (ap (λ (x : Qcow2 g.row.S.Denot g.S.Storage). x.tables.space) is) (ap (λ (x : Qcow2 g.row.S.Denot g.S.Storage). x.mode) is)
+    (ap (λ (x : Qcow2 g.row.S.Denot g.S.Storage). x.number) is) (ap (λ (x : Qcow2 g.row.S.Denot g.S.Storage). x.unspent) is)
+    (ap (λ (x : Qcow2 g.row.S.Denot g.S.Storage). x.failed) is ∙ ap (λ r. failed_behind failed_by r q.failed) (sym same)) in
+    λ seen. ok-whole c.settle.result _ (λ whole. (looked-kept g.row.S g.S.Storage g.S.Storage-dict g.S.Destruct-dict {T = Unit} q d c.settle.result keeps).stays whole seen)
+
+pub returns-clause-stops : goal.returns-clause-stops
+returns-clause-stops g c =
+    let q = c.args.self.now in
+    let d = c.settle.new.self in
+    let is = c.settle.ensures.marks in
+    let same = c.settle.ensures.same in
+    let s = g.S.Storage.state q.tables.file.image in
+    let t = g.S.Storage.state c.flush-answer.new.self in
+    let keeps : KeepsImage {T = Unit} g.S.Storage q c.settle.result d =
+    asked-keeps g.S.Storage q d t c.settle.result c.flush-answer.ensures.kept c.flush-answer.ensures.later
+    (λ whole. let ok = subst WasNotCutOff same whole in counted-faultless s t c.flush-answer.result c.flush-answer.ensures.kept c.flush-answer.ensures.faults ok)
+    (ap (λ (x : Qcow2 g.row.S.Denot g.S.Storage). g.S.Storage.state x.tables.file.image) is) (ap (λ (x : Qcow2 g.row.S.Denot g.S.Storage). x.tables.file.header) is)
+    (ap (λ (x : Qcow2 g.row.S.Denot g.S.Storage). x.tables.l1) is) (ap (λ (x : Qcow2 g.row.S.Denot g.S.Storage). x.tables.caches) is)
+    (ap (λ (x : Qcow2 g.row.S.Denot g.S.Storage). x.tables.space) is) (ap (λ (x : Qcow2 g.row.S.Denot g.S.Storage). x.mode) is)
+    (ap (λ (x : Qcow2 g.row.S.Denot g.S.Storage). x.number) is) (ap (λ (x : Qcow2 g.row.S.Denot g.S.Storage). x.unspent) is)
+    (ap (λ (x : Qcow2 g.row.S.Denot g.S.Storage). x.failed) is ∙ ap (λ r. failed_behind failed_by r q.failed) (sym same)) in
+    λ safe below. (looked-kept g.row.S g.S.Storage g.S.Storage-dict g.S.Destruct-dict {T = Unit} q d c.settle.result keeps).stops safe below
+
+pub returns-clause-written : goal.returns-clause-written
+returns-clause-written g c =
+    let q = c.args.self.now in
+    let d = c.settle.new.self in
+    let is = c.settle.ensures.marks in
+    let same = c.settle.ensures.same in
+    let s = g.S.Storage.state q.tables.file.image in
+    let t = g.S.Storage.state c.flush-answer.new.self in
+    let keeps : KeepsImage {T = Unit} g.S.Storage q c.settle.result d =
+    asked-keeps g.S.Storage q d t c.settle.result c.flush-answer.ensures.kept c.flush-answer.ensures.later
+    (λ whole. let ok = subst WasNotCutOff same whole in counted-faultless s t c.flush-answer.result c.flush-answer.ensures.kept c.flush-answer.ensures.faults ok)
+    (ap (λ (x : Qcow2 g.row.S.Denot g.S.Storage). g.S.Storage.state x.tables.file.image) is) (ap (λ (x : Qcow2 g.row.S.Denot g.S.Storage). x.tables.file.header) is)
+    (ap (λ (x : Qcow2 g.row.S.Denot g.S.Storage). x.tables.l1) is) (ap (λ (x : Qcow2 g.row.S.Denot g.S.Storage). x.tables.caches) is)
+    (ap (λ (x : Qcow2 g.row.S.Denot g.S.Storage). x.tables.space) is) (ap (λ (x : Qcow2 g.row.S.Denot g.S.Storage). x.mode) is)
+    (ap (λ (x : Qcow2 g.row.S.Denot g.S.Storage). x.number) is) (ap (λ (x : Qcow2 g.row.S.Denot g.S.Storage). x.unspent) is)
+    (ap (λ (x : Qcow2 g.row.S.Denot g.S.Storage). x.failed) is ∙ ap (λ r. failed_behind failed_by r q.failed) (sym same)) in
+    λ safe free. ok-whole c.settle.result _ (λ whole. meant g.S.Storage d.tables d.mode d.failed d.number (holding_in g.S.Storage d.unspent) (keeps.tables.seen safe.seen))
+
+pub returns-clause-marks : goal.returns-clause-marks
+returns-clause-marks g c =
+    let q = c.args.self.now in
+    let d = c.settle.new.self in
+    let is = c.settle.ensures.marks in
+    let same = c.settle.ensures.same in
+    let s = g.S.Storage.state q.tables.file.image in
+    let t = g.S.Storage.state c.flush-answer.new.self in
+    let keeps : KeepsImage {T = Unit} g.S.Storage q c.settle.result d =
+    asked-keeps g.S.Storage q d t c.settle.result c.flush-answer.ensures.kept c.flush-answer.ensures.later
+    (λ whole. let ok = subst WasNotCutOff same whole in counted-faultless s t c.flush-answer.result c.flush-answer.ensures.kept c.flush-answer.ensures.faults ok)
+    (ap (λ (x : Qcow2 g.row.S.Denot g.S.Storage). g.S.Storage.state x.tables.file.image) is) (ap (λ (x : Qcow2 g.row.S.Denot g.S.Storage). x.tables.file.header) is)
+    (ap (λ (x : Qcow2 g.row.S.Denot g.S.Storage). x.tables.l1) is) (ap (λ (x : Qcow2 g.row.S.Denot g.S.Storage). x.tables.caches) is)
+    (ap (λ (x : Qcow2 g.row.S.Denot g.S.Storage). x.tables.space) is) (ap (λ (x : Qcow2 g.row.S.Denot g.S.Storage). x.mode) is)
+    (ap (λ (x : Qcow2 g.row.S.Denot g.S.Storage). x.number) is) (ap (λ (x : Qcow2 g.row.S.Denot g.S.Storage). x.unspent) is)
+    (ap (λ (x : Qcow2 g.row.S.Denot g.S.Storage). x.failed) is ∙ ap (λ r. failed_behind failed_by r q.failed) (sym same)) in
+    marks-kept g.row.S g.S.Storage g.S.Storage-dict g.S.Destruct-dict {T = Unit} q d c.settle.result keeps
+
+pub returns-then-has_waiting-clause-sees : goal.returns-then-has_waiting-clause-sees
+returns-then-has_waiting-clause-sees g c =
+    freed-sees g.row.S g.S.Storage g.S.Storage-dict g.S.Destruct-dict c.args.self.now c.flush_freed.new.self c.flush_freed.result c.flush_freed.ensures c.if-self.false (sym c.has_waiting.ensures ∙ c.if-has_waiting.true)
+
+pub returns-then-has_waiting-clause-written : goal.returns-then-has_waiting-clause-written
+returns-then-has_waiting-clause-written g c =
+    λ safe free. freed-written g.row.S g.S.Storage g.S.Storage-dict g.S.Destruct-dict c.args.self.now c.flush_freed.new.self c.flush_freed.result c.flush_freed.ensures c.if-self.false (sym c.has_waiting.ensures ∙ c.if-has_waiting.true) safe
+
+pub returns-then-has_waiting-clause-like : goal.returns-then-has_waiting-clause-like
+returns-then-has_waiting-clause-like g c =
+    freed-like g.row.S g.S.Storage g.S.Storage-dict g.S.Destruct-dict c.args.self.now c.flush_freed.new.self c.flush_freed.result c.flush_freed.ensures c.if-self.false (sym c.has_waiting.ensures ∙ c.if-has_waiting.true)
+
+pub returns-then-has_waiting-clause-went : goal.returns-then-has_waiting-clause-went
+returns-then-has_waiting-clause-went g c =
+    freed-went g.row.S g.S.Storage g.S.Storage-dict g.S.Destruct-dict c.args.self.now c.flush_freed.new.self c.flush_freed.result c.flush_freed.ensures c.if-self.false (sym c.has_waiting.ensures ∙ c.if-has_waiting.true)
+
+pub returns-then-has_waiting-clause-failed : goal.returns-then-has_waiting-clause-failed
+returns-then-has_waiting-clause-failed g c =
+    freed-failed g.row.S g.S.Storage g.S.Storage-dict g.S.Destruct-dict c.args.self.now c.flush_freed.new.self c.flush_freed.result c.flush_freed.ensures c.if-self.false (sym c.has_waiting.ensures ∙ c.if-has_waiting.true)
+
+pub returns-then-has_waiting-clause-marks : goal.returns-then-has_waiting-clause-marks
+returns-then-has_waiting-clause-marks g c =
+    freed-marks g.row.S g.S.Storage g.S.Storage-dict g.S.Destruct-dict c.args.self.now c.flush_freed.new.self c.flush_freed.result c.flush_freed.ensures c.if-self.false (sym c.has_waiting.ensures ∙ c.if-has_waiting.true)
+
+pub returns-then-has_waiting-clause-cause : goal.returns-then-has_waiting-clause-cause
+returns-then-has_waiting-clause-cause g c =
+    freed-cause g.row.S g.S.Storage g.S.Storage-dict g.S.Destruct-dict c.args.self.now c.flush_freed.new.self c.flush_freed.result c.flush_freed.ensures c.if-self.false (sym c.has_waiting.ensures ∙ c.if-has_waiting.true)
+
+pub returns-then-has_waiting-clause-marked : goal.returns-then-has_waiting-clause-marked
+returns-then-has_waiting-clause-marked g c =
+    λ untouched. absurd (cc (sym (idle-waits c.args.self.now.tables.space untouched.1) ∙ (sym c.has_waiting.ensures ∙ c.if-has_waiting.true)))

@@ -3,3 +3,18 @@ use Rattle.qcow2_image.proofs.drivers.Qcow2FormatDriverInstance.get_mapping.Goal
 
 pub returns-clause-began : goal.returns-clause-began
 returns-clause-began g c = ok-whole c.run_from.result _ c.run_from.ensures.began
+
+pub returns-clause-looks : goal.returns-clause-looks
+returns-clause-looks g c = λ sees. c.run_from.ensures.looks sees.seen
+
+pub returns-clause-room : goal.returns-clause-room
+returns-clause-room g c = λ sees. c.run_from.ensures.room sees.seen
+
+pub returns-clause-cause : goal.returns-clause-cause
+returns-clause-cause g c = λ sees. c.run_from.ensures.cause sees.seen
+
+pub returns-clause-whole : goal.returns-clause-whole
+returns-clause-whole g c = λ sees. c.run_from.ensures.whole sees.seen
+
+pub returns-clause-entry : goal.returns-clause-entry
+returns-clause-entry g c = λ some inside sees. c.run_from.ensures.entry sees.seen

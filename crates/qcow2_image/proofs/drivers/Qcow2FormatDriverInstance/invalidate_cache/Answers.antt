@@ -1,18 +1,18 @@
-use Rattle.std.proofs.Common.{◌≡◌, ap, sym, subst}
-use Rattle.qcow2_image.specs.declared.qcow2.Qcow2.{Qcow2}
-use Rattle.qcow2_image.specs.Steps.{Reloads, failed_behind, failed_anew}
+use Rattle.std.proofs.Common.{ap, ◌∙◌}
+use Rattle.qcow2_image.specs.Holding.{claim_held}
+use Rattle.qcow2_image.specs.Unspent.{holding_in}
 use Rattle.qcow2_image.proofs.Settling.{anew-same, anew-marks, reloads-settled}
 use Rattle.qcow2_image.proofs.drivers.Qcow2FormatDriverInstance.invalidate_cache.Goals as goal
 
 pub returns-clause-same : goal.returns-clause-same
 returns-clause-same g c = λ keeps seen still.
     let all = reloads-settled g.S.Storage c.args.self.now c.settle_anew.new.self c.reload-answer.new.tables c.reload-answer.result c.settle_anew.result c.reload-answer.ensures c.settle_anew.ensures.same c.settle_anew.ensures.marks in
-    anew-same g.row.S g.S.Storage g.S.Storage-dict g.S.Destruct-dict c.args.self.now c.settle_anew.new.self c.settle_anew.result all.0 all.1 all.2 all.3 seen
+    anew-same g.row.S g.S.Storage g.S.Storage-dict g.S.Destruct-dict c.args.self.now c.settle_anew.new.self c.settle_anew.result all.0 all.1 all.2 all.3 c.requires.free all.4 seen.seen
 
 pub returns-clause-marks : goal.returns-clause-marks
 returns-clause-marks g c =
     let all = reloads-settled g.S.Storage c.args.self.now c.settle_anew.new.self c.reload-answer.new.tables c.reload-answer.result c.settle_anew.result c.reload-answer.ensures c.settle_anew.ensures.same c.settle_anew.ensures.marks in
-    anew-marks g.row.S g.S.Storage g.S.Storage-dict g.S.Destruct-dict c.args.self.now c.settle_anew.new.self c.settle_anew.result all.0 all.1 all.2 all.3
+    anew-marks g.row.S g.S.Storage g.S.Storage-dict g.S.Destruct-dict c.args.self.now c.settle_anew.new.self c.settle_anew.result all.0 all.1 all.2 all.3 c.requires.free all.4
 
 pub returns-clause-reloads : goal.returns-clause-reloads
 returns-clause-reloads g c = λ runs.
@@ -20,4 +20,9 @@ returns-clause-reloads g c = λ runs.
 
 pub returns-clause-marked : goal.returns-clause-marked
 returns-clause-marked g c =
-    (reloads-settled g.S.Storage c.args.self.now c.settle_anew.new.self c.reload-answer.new.tables c.reload-answer.result c.settle_anew.result c.reload-answer.ensures c.settle_anew.ensures.same c.settle_anew.ensures.marks).3
+    (reloads-settled g.S.Storage c.args.self.now c.settle_anew.new.self c.reload-answer.new.tables c.reload-answer.result c.settle_anew.result c.reload-answer.ensures c.settle_anew.ensures.same c.settle_anew.ensures.marks).4
+
+pub returns-clause-free : goal.returns-clause-free
+returns-clause-free g c =
+    let all = reloads-settled g.S.Storage c.args.self.now c.settle_anew.new.self c.reload-answer.new.tables c.reload-answer.result c.settle_anew.result c.reload-answer.ensures c.settle_anew.ensures.same c.settle_anew.ensures.marks in
+    ap (λ u. claim_held (holding_in g.S.Storage u)) all.3 ∙ c.requires.free

@@ -1,23 +1,35 @@
-use Rattle.std.proofs.Common.{◌≡◌, true, false, refl, Ok, Err, arith}
+use Rattle.std.proofs.Common.{refl, Ok, Err}
 use Rattle.std.specs.Prelude.{Bool}
 use Rattle.imago_storage.specs.declared.fault.Fault.TheVariants.{Outdated}
-use Rattle.qcow2_image.proofs.Written.{told-why, unwritten, writes-mapped, writing-refused}
+use Rattle.qcow2_image.proofs.Written.{noted, told-why, unnoted, unwritten, writes-mapped, writing-refused}
 use Rattle.qcow2_image.proofs.Steps.{keeps-as, marks-kept}
 use Rattle.qcow2_image.proofs.drivers.Qcow2FormatDriverInstance.write_mapped.Goals as goal
 
-pub returns-in-Ok-true-clause-writes : goal.returns-in-Ok-true-clause-writes
-returns-in-Ok-true-clause-writes g c =
+pub returns-in-Ok-write_at-clause-writes : goal.returns-in-Ok-write_at-clause-writes
+returns-in-Ok-write_at-clause-writes g c =
     let st = g.S.Storage in
     let told = c.in-Ok-true.field-0-test in
-    writes-mapped g.row.S st g.S.Storage-dict g.S.Destruct-dict c.args.self.now c.is_mapped_at.new.self c.write_at.new.self c.args.guest c.args.place c.args.bytes.now c.write_at.result
-    (rw told at c.in-Ok-true.ensures.keeps) c.write_at.ensures c.in-Ok.ensures.runs (λ seen. (rw told at (c.in-Ok-true.ensures.yes seen)) refl) c.if-length-eq0.false
+    let w = noted st c.args.guest c.args.place c.args.bytes.now c.is_mapped_at.new.self c.write_at.new.self c.note.new.self (c.in-Ok-write_at.ensures {u = tt}) c.note.ensures.notes c.note.ensures.others in
+    writes-mapped g.row.S st g.S.Storage-dict g.S.Destruct-dict c.args.self.now c.is_mapped_at.new.self c.note.new.self c.args.guest c.args.place c.args.bytes.now (Ok tt)
+    (rw told at c.in-Ok-true.ensures.keeps) w c.in-Ok.ensures.runs c.if-length-eq0.false (λ seen. (rw told at (c.in-Ok-true.ensures.yes seen)) refl)
 
-pub returns-in-Ok-true-clause-refused : goal.returns-in-Ok-true-clause-refused
-returns-in-Ok-true-clause-refused g c =
+pub returns-in-Err-write_at-clause-writes : goal.returns-in-Err-write_at-clause-writes
+returns-in-Err-write_at-clause-writes g c =
     let st = g.S.Storage in
     let told = c.in-Ok-true.field-0-test in
-    writing-refused g.row.S st g.S.Storage-dict g.S.Destruct-dict c.args.self.now c.is_mapped_at.new.self c.write_at.new.self c.args.guest c.args.place c.args.bytes.now c.write_at.result
-    (rw told at c.in-Ok-true.ensures.keeps) c.write_at.ensures c.in-Ok.ensures.runs (λ seen. (rw told at (c.in-Ok-true.ensures.yes seen)) refl)
+    let e = c.in-Err-write_at.fault in
+    let w = unnoted st c.args.guest c.args.place c.args.bytes.now c.is_mapped_at.new.self c.write_at.new.self e c.in-Err-write_at.ensures in
+    writes-mapped g.row.S st g.S.Storage-dict g.S.Destruct-dict c.args.self.now c.is_mapped_at.new.self c.write_at.new.self c.args.guest c.args.place c.args.bytes.now (Err e)
+    (rw told at c.in-Ok-true.ensures.keeps) w c.in-Ok.ensures.runs c.if-length-eq0.false (λ seen. (rw told at (c.in-Ok-true.ensures.yes seen)) refl)
+
+pub returns-in-Err-write_at-clause-refused : goal.returns-in-Err-write_at-clause-refused
+returns-in-Err-write_at-clause-refused g c =
+    let st = g.S.Storage in
+    let told = c.in-Ok-true.field-0-test in
+    let e = c.in-Err-write_at.fault in
+    let w = unnoted st c.args.guest c.args.place c.args.bytes.now c.is_mapped_at.new.self c.write_at.new.self e c.in-Err-write_at.ensures in
+    writing-refused g.row.S st g.S.Storage-dict g.S.Destruct-dict c.args.self.now c.is_mapped_at.new.self c.write_at.new.self c.args.guest c.args.place c.args.bytes.now (Err e)
+    (rw told at c.in-Ok-true.ensures.keeps) w c.in-Ok.ensures.runs c.if-length-eq0.false (λ seen. (rw told at (c.in-Ok-true.ensures.yes seen)) refl)
 
 pub returns-in-Ok-false-clause-writes : goal.returns-in-Ok-false-clause-writes
 returns-in-Ok-false-clause-writes g c =

@@ -1,11 +1,11 @@
-use Rattle.std.proofs.Common.{◌≡◌, ◌≢◌, ℕ, ◌+◌, ◌-◌, ◌<◌, arith, ap, sym, subst, ◌∙◌, refl, Result, Ok, Err, Option, Some, None}
+use Rattle.std.proofs.Common.{◌≡◌, ℕ, ◌+◌, ◌-◌, ◌<◌, arith, subst, ◌∙◌, refl, Ok, Err, Option, Some, None}
 use Rattle.std.specs.Prelude.{Bool, [], ◌∷◌}
 use Rattle.imago_access.specs.Layer.{Layer}
 use Rattle.imago_access.proofs.ImageCauses.{failed_behind}
-use Rattle.qcow2_image.specs.Steps.{KeepsImage}
-use Rattle.qcow2_image.specs.Writing.{IsHomeAt, layer_of}
-use Rattle.qcow2_image.proofs.Mapped.{home-both, homeless-unmapped, elsewhere-unmapped, why-told}
-use Rattle.qcow2_image.proofs.Steps.{keeps-as, keeps-both, looked-kept}
+use Rattle.qcow2_image.specs.Writing.{IsHomeAt}
+use Rattle.qcow2_image.specs.Seen.{layer_of}
+use Rattle.qcow2_image.proofs.Mapped.{home-both, homeless-unmapped, elsewhere-unmapped, kept-seen, why-told}
+use Rattle.qcow2_image.proofs.Steps.{keeps-as, keeps-both}
 use Rattle.qcow2_image.proofs.qcow2.Qcow2.is_mapped_at.Goals as goal
 
 pub loop-done-preserved : goal.loop-done-preserved
@@ -24,7 +24,7 @@ loop-done-preserved g c =
       keeps-both {T = Unit} st entry now c.home_run.new.self (Ok tt) inv.2
           (keeps-as {T = Option (ℕ × ℕ)} {U = Unit} st now c.home_run.new.self (Ok (Some (c.in-Ok-Some.at, c.in-Ok-Some.count))) (Ok tt) (λ w. w) (λ f. refl) keeps),
       λ seen.
-          let same = (looked-kept g.row.S st g.S.Storage-dict g.S.Destruct-dict {T = Unit} entry now (Ok tt) inv.2).stays tt seen in
+          let same = kept-seen st entry now inv.2 seen in
           home-both (layer_of st entry) c.args.guest c.args.place c.loop-done.done c.in-Ok-Some.count c.in-Ok-Some.at (omega (arith, c.if-at-place.false)) (inv.3 seen)
           (subst (λ (l : Layer). IsHomeAt l (c.args.guest + c.loop-done.done) c.in-Ok-Some.at c.in-Ok-Some.count) same.0 (rw is at (next.home same.1))),
     )
@@ -33,7 +33,7 @@ pub returns-in-Ok-None-clause-no : goal.returns-in-Ok-None-clause-no
 returns-in-Ok-None-clause-no g c = λ seen no.
     let st = g.S.Storage in
     let entry = c.args.self.now in
-    let same = (looked-kept g.row.S st g.S.Storage-dict g.S.Destruct-dict {T = Unit} entry c.loop-done.self (Ok tt) c.loop-done.invariant.2).stays tt seen in
+    let same = kept-seen st entry c.loop-done.self c.loop-done.invariant.2 seen in
     homeless-unmapped (layer_of st entry) c.args.guest c.args.place c.args.length c.loop-done.done c.loop-done-test.true
     (subst (λ (l : Layer). l.home (c.args.guest + c.loop-done.done) ≡ None) same.0 (c.in-Ok-None.ensures.none same.1 c.in-Ok-None.field-0-is))
 
@@ -43,7 +43,7 @@ returns-then-at-place-clause-no g c = λ seen no.
     let entry = c.args.self.now in
     let done = c.loop-done.done in
     let at = c.in-Ok-Some.at in
-    let same = (looked-kept g.row.S st g.S.Storage-dict g.S.Destruct-dict {T = Unit} entry c.loop-done.self (Ok tt) c.loop-done.invariant.2).stays tt seen in
+    let same = kept-seen st entry c.loop-done.self c.loop-done.invariant.2 seen in
     let some : 0 < c.in-Ok-Some.count = (rw c.in-Ok-Some.field-0-is at c.in-Ok-Some.ensures.run).1 (omega (arith, c.loop-done-test.true)) in
     let here : (layer_of st entry).home (c.args.guest + done + 0) ≡ Some (0, at + 0) =
     subst (λ (l : Layer). l.home (c.args.guest + done + 0) ≡ Some (0, at + 0)) same.0 ((rw c.in-Ok-Some.field-0-is at (c.in-Ok-Some.ensures.home same.1)) 0 some) in
@@ -66,7 +66,7 @@ returns-in-Err g c =
       failed = failed_behind (st.state entry.tables.file.image ∷ []) (st.state now.tables.file.image ∷ []) (st.state new.tables.file.image ∷ []) c.in-Err.fault
           ((inv.2.tables.kept.shape, inv.2.tables.later), tt) c.in-Err.ensures.failed;
       cause = λ seen.
-          let same = (looked-kept g.row.S st g.S.Storage-dict g.S.Destruct-dict {T = Unit} entry now (Ok tt) inv.2).stays tt seen in
+          let same = kept-seen st entry now inv.2 seen in
           why-told st entry now new (c.args.guest + c.loop-done.done) (c.args.length - c.loop-done.done) c.in-Err.fault same.0 (inv.2.failed ∙ c.requires.runs)
           (inv.2.tables.faults tt).0 (c.in-Err.ensures.cause same.1);
     }

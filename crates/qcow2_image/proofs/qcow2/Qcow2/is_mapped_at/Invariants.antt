@@ -1,8 +1,8 @@
 -- The range is mapped so far from the place on, and nothing was done but lookups.
 use Rattle.std.proofs.Common.{◌+◌, ◌-◌, ◌<◌, ◌≤◌, ◌^◌, Ok}
-use Rattle.qcow2_image.specs.Seen.{IsSeen}
+use Rattle.qcow2_image.specs.Seen.{IsSeen, layer_of}
 use Rattle.qcow2_image.specs.Steps.{KeepsImage}
-use Rattle.qcow2_image.specs.Writing.{IsHomeAt, layer_of}
+use Rattle.qcow2_image.specs.Writing.{IsHomeAt}
 use Rattle.qcow2_image.proofs.qcow2.Qcow2.is_mapped_at.Given as goal
 
 abbrev pub invariant-loop-done : goal.invariant-loop-done

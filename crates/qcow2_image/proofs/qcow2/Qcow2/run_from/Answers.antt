@@ -11,6 +11,7 @@ use Rattle.qcow2_metadata.specs.declared.mapping.L2Mapping.{L2Mapping}
 use Rattle.imago_access.specs.Mappings.{IsOneOf, IsRun, Looks, NamesRoom}
 use Rattle.imago_access.specs.Files.{byte_in}
 use Rattle.imago_access.specs.Refusals.{LookCause}
+use Rattle.qcow2_image.specs.Unspent.{holding_in}
 use Rattle.qcow2_image.specs.declared.qcow2.Qcow2.{Qcow2}
 use Rattle.imago_access.specs.declared.mapping.ShallowMapping.{ShallowMapping}
 use Rattle.qcow2_image.specs.ImageLayer.{qcow2_layer, shallow_of}
@@ -77,7 +78,7 @@ returns-in-Ok-clause-run g c =
     let first = range-within c.cluster_bits-cluster_bits.result c.args.offset c.size-size.result c.args.max_length c.remaining_in_l2_table.result c.min-rest.result c.min-length.result c.in_cluster_offset-within.result c.clusters_met-most.result
     (low-bits c.cluster_bits-cluster_bits.result _ c.cluster_bits-cluster_bits.ensures.value c.cluster_bits-cluster_bits.ensures.shaped) (high-bits c.cluster_bits-cluster_bits.result _ c.cluster_bits-cluster_bits.ensures.value c.cluster_bits-cluster_bits.ensures.shaped)
     c.remaining_in_l2_table.ensures c.min-rest.ensures c.min-length.ensures c.in_cluster_offset-within.ensures c.clusters_met-most.ensures (omega (arith, c.size-size.ensures, c.requires.inside)) c.requires.some c.in-Ok.count named.1 in
-    let layer = qcow2_layer s (memory_of g.S.Storage t) h q.mode q.number q.failed in
+    let layer = qcow2_layer s (memory_of g.S.Storage t) h q.mode q.number q.failed (holding_in g.S.Storage q.unspent) in
     subst (λ x. IsRun layer c.args.offset c.args.max_length x n) (sym c.shallow.ensures)
     (is-run layer q.mode c.cluster_bits-cluster_bits.result c.args.offset c.in_cluster_offset-within.result n c.args.max_length c.in-Ok.mapping c.requires.inside (omega (arith, c.bytes_met-length.ensures, few)) (omega (arith, c.bytes_met-length.ensures, near, c.size-size.ensures)) (λ asked. omega (arith, c.bytes_met-length.ensures, positive, first)))
 
@@ -114,14 +115,14 @@ returns-in-Ok-clause-looks g c = λ seen.
     let within : c.in_cluster_offset-within.result ≡ c.args.offset % cluster_size h = c.in_cluster_offset-within.ensures ∙ ap (λ x. c.args.offset % x) power in
     let guest : c.cluster.result ≡ c.args.offset / cluster_size h = c.cluster.ensures ∙ ap (λ x. c.args.offset / x) power in
     let end : c.in-Ok.count * 2 ^ c.cluster_bits-cluster_bits.result ≡ c.in-Ok.count * cluster_size h = ap (λ x. c.in-Ok.count * x) power in
-    let layer = qcow2_layer s (memory_of g.S.Storage t) h q.mode q.number q.failed in
+    let layer = qcow2_layer s (memory_of g.S.Storage t) h q.mode q.number q.failed (holding_in g.S.Storage q.unspent) in
     let is = subst (λ x. IsRunOf x c.clusters_met-most.result (entry (file_of g.S.Storage t) h) run) guest (c.in-Ok.ensures.says seen) in
     let aligned = g.met.S.Storage.aligned t.file.image in
     let stored = byte_in (g.S.Storage.state c.look_up.new.tables.file.image ∷ []) in
     let answer : c.shallow.result ≡ shallow_of q.mode h.cluster_bits c.args.offset (c.args.offset % cluster_size h) (mapping_seen c.in-Ok.mapping) =
     c.shallow.ensures ∙ ap (λ x. shallow_of q.mode x c.args.offset c.in_cluster_offset-within.result (mapping_seen c.in-Ok.mapping)) b ∙ ap (λ x. shallow_of q.mode h.cluster_bits c.args.offset x (mapping_seen c.in-Ok.mapping)) within in
     subst (λ x. Looks layer stored c.args.offset c.args.max_length x n) (sym answer)
-    (looks-run s (memory_of g.S.Storage t) h q.mode q.number q.failed c.args.offset n c.clusters_met-most.result run (memory-is g.S.Storage t) (omega (arith, c.bytes_met-length.ensures, near, c.size-size.ensures)) (omega (arith, c.bytes_met-length.ensures, within, end)) is
+    (looks-run s (memory_of g.S.Storage t) h q.mode q.number q.failed (holding_in g.S.Storage q.unspent) c.args.offset n c.clusters_met-most.result run (memory-is g.S.Storage t) (omega (arith, c.bytes_met-length.ensures, near, c.size-size.ensures)) (omega (arith, c.bytes_met-length.ensures, within, end)) is
     c.args.max_length [] (g.S.Storage.state c.look_up.new.tables.file.image) c.look_up.ensures.kept.bytes aligned.requests aligned.memory named.0 (omega (arith, c.bytes_met-length.ensures, small)) (pow-le-pow_right (omega arith) c.cluster_bits-cluster_bits.ensures.shaped.high))
 
 pub returns-in-Ok-clause-room : goal.returns-in-Ok-clause-room
@@ -141,12 +142,12 @@ returns-in-Ok-clause-room g c = λ seen.
     let within : c.in_cluster_offset-within.result ≡ c.args.offset % cluster_size h = c.in_cluster_offset-within.ensures ∙ ap (λ x. c.args.offset % x) power in
     let guest : c.cluster.result ≡ c.args.offset / cluster_size h = c.cluster.ensures ∙ ap (λ x. c.args.offset / x) power in
     let end : c.in-Ok.count * 2 ^ c.cluster_bits-cluster_bits.result ≡ c.in-Ok.count * cluster_size h = ap (λ x. c.in-Ok.count * x) power in
-    let layer = qcow2_layer s (memory_of g.S.Storage t) h q.mode q.number q.failed in
+    let layer = qcow2_layer s (memory_of g.S.Storage t) h q.mode q.number q.failed (holding_in g.S.Storage q.unspent) in
     let is = subst (λ x. IsRunOf x c.clusters_met-most.result (entry (file_of g.S.Storage t) h) run) guest (c.in-Ok.ensures.says seen) in
     let answer : c.shallow.result ≡ shallow_of q.mode h.cluster_bits c.args.offset (c.args.offset % cluster_size h) (mapping_seen c.in-Ok.mapping) =
     c.shallow.ensures ∙ ap (λ x. shallow_of q.mode x c.args.offset c.in_cluster_offset-within.result (mapping_seen c.in-Ok.mapping)) b ∙ ap (λ x. shallow_of q.mode h.cluster_bits c.args.offset x (mapping_seen c.in-Ok.mapping)) within in
     subst (λ x. NamesRoom layer (IsVacant (memory_of g.S.Storage t) h) (IsZeroed (memory_of g.S.Storage t) h) c.args.offset n x) (sym answer)
-    (room-run s (memory_of g.S.Storage t) h q.mode q.number q.failed c.args.offset n c.clusters_met-most.result run (memory-is g.S.Storage t) (omega (arith, c.bytes_met-length.ensures, near, c.size-size.ensures)) (omega (arith, c.bytes_met-length.ensures, within, end)) is)
+    (room-run s (memory_of g.S.Storage t) h q.mode q.number q.failed (holding_in g.S.Storage q.unspent) c.args.offset n c.clusters_met-most.result run (memory-is g.S.Storage t) (omega (arith, c.bytes_met-length.ensures, near, c.size-size.ensures)) (omega (arith, c.bytes_met-length.ensures, within, end)) is)
 
 pub returns-in-Ok-clause-whole : goal.returns-in-Ok-clause-whole
 returns-in-Ok-clause-whole g c = λ seen.
@@ -200,19 +201,19 @@ pub returns-in-Ok-clause-looked : goal.returns-in-Ok-clause-looked
 returns-in-Ok-clause-looked g c =
     let la = c.look_up.ensures in
     looked-kept g.row.S g.S.Storage g.S.Storage-dict g.S.Destruct-dict {T = ShallowMapping × ℕ} c.args.self.now _ (Ok (c.shallow.result, c.bytes_met-length.result))
-    (record { tables = record { kept = la.kept; later = la.later; faults = λ ok. c.in-Ok.ensures.faults tt; header = la.header; seen = la.seen }; mode = refl; number = refl; failed = refl })
+    (record { tables = record { kept = la.kept; later = la.later; faults = λ ok. c.in-Ok.ensures.faults tt; header = la.header; space = la.space; seen = la.seen }; mode = refl; number = refl; unspent = refl; failed = refl })
 
 pub returns-in-Err-clause-looked : goal.returns-in-Err-clause-looked
 returns-in-Err-clause-looked g c =
     let la = c.look_up.ensures in
     looked-kept g.row.S g.S.Storage g.S.Storage-dict g.S.Destruct-dict {T = ShallowMapping × ℕ} c.args.self.now c.mark.new.self (Err c.in-Err.fault)
-    (keeps-marked g.S.Storage c.args.self.now c.mark.new.self c.look_up.new.tables (Err c.in-Err.fault) (record { kept = la.kept; later = la.later; faults = c.in-Err.ensures.faults; header = la.header; seen = la.seen }) c.mark.ensures)
+    (keeps-marked g.S.Storage c.args.self.now c.mark.new.self c.look_up.new.tables (Err c.in-Err.fault) (record { kept = la.kept; later = la.later; faults = c.in-Err.ensures.faults; header = la.header; space = la.space; seen = la.seen }) c.mark.ensures)
 
 pub returns-in-Err-clause-marks : goal.returns-in-Err-clause-marks
 returns-in-Err-clause-marks g c =
     let la = c.look_up.ensures in
     marks-kept g.row.S g.S.Storage g.S.Storage-dict g.S.Destruct-dict {T = ShallowMapping × ℕ} c.args.self.now c.mark.new.self (Err c.in-Err.fault)
-    (keeps-marked g.S.Storage c.args.self.now c.mark.new.self c.look_up.new.tables (Err c.in-Err.fault) (record { kept = la.kept; later = la.later; faults = c.in-Err.ensures.faults; header = la.header; seen = la.seen }) c.mark.ensures)
+    (keeps-marked g.S.Storage c.args.self.now c.mark.new.self c.look_up.new.tables (Err c.in-Err.fault) (record { kept = la.kept; later = la.later; faults = c.in-Err.ensures.faults; header = la.header; space = la.space; seen = la.seen }) c.mark.ensures)
 
 pub returns-in-Err-clause-cause : goal.returns-in-Err-clause-cause
 returns-in-Err-clause-cause g c = λ seen.
@@ -224,8 +225,8 @@ returns-in-Err-clause-cause g c = λ seen.
     let guest : c.cluster.result ≡ c.args.offset / cluster_size h = c.cluster.ensures ∙ ap (λ x. c.args.offset / 2 ^ x) c.cluster_bits-cluster_bits.ensures.value in
     let why = subst (λ x. WhyNotLooked (entry (file_of g.S.Storage t) h x ≡ damaged) s.faults s'.faults c.in-Err.fault) guest (c.in-Err.ensures.cause seen) in
     let after : g.S.Storage.state c.mark.new.self.tables.file.image ≡ s' = ap (λ (x : Qcow2 g.row.S.Denot g.S.Storage). g.S.Storage.state x.tables.file.image) c.mark.ensures in
-    subst (λ x. LookCause (qcow2_layer s (memory_of g.S.Storage t) h q.mode q.number q.failed) c.args.offset c.args.max_length (s ∷ []) (x ∷ []) c.in-Err.fault) (sym after)
-    (look-cause s s' [] [] (memory_of g.S.Storage t) h q.mode q.number q.failed c.args.offset c.args.max_length c.in-Err.fault (memory-is g.S.Storage t) c.requires.inside c.requires.some why)
+    subst (λ x. LookCause (qcow2_layer s (memory_of g.S.Storage t) h q.mode q.number q.failed (holding_in g.S.Storage q.unspent)) c.args.offset c.args.max_length (s ∷ []) (x ∷ []) c.in-Err.fault) (sym after)
+    (look-cause s s' [] [] (memory_of g.S.Storage t) h q.mode q.number q.failed (holding_in g.S.Storage q.unspent) c.args.offset c.args.max_length c.in-Err.fault (memory-is g.S.Storage t) c.requires.inside c.requires.some why)
 
 pub returns-in-Ok-clause-near : goal.returns-in-Ok-clause-near
 returns-in-Ok-clause-near g c =
@@ -243,21 +244,21 @@ returns-in-Ok-clause-near g c =
 pub returns-in-Ok-clause-keeps : goal.returns-in-Ok-clause-keeps
 returns-in-Ok-clause-keeps g c =
     let la = c.look_up.ensures in
-    record { tables = record { kept = la.kept; later = la.later; faults = λ ok. c.in-Ok.ensures.faults tt; header = la.header; seen = la.seen }; mode = refl; number = refl; failed = refl }
+    record { tables = record { kept = la.kept; later = la.later; faults = λ ok. c.in-Ok.ensures.faults tt; header = la.header; space = la.space; seen = la.seen }; mode = refl; number = refl; unspent = refl; failed = refl }
 
 pub returns-in-Err-clause-keeps : goal.returns-in-Err-clause-keeps
 returns-in-Err-clause-keeps g c =
     let la = c.look_up.ensures in
-    keeps-marked g.S.Storage c.args.self.now c.mark.new.self c.look_up.new.tables (Err c.in-Err.fault) (record { kept = la.kept; later = la.later; faults = c.in-Err.ensures.faults; header = la.header; seen = la.seen }) c.mark.ensures
+    keeps-marked g.S.Storage c.args.self.now c.mark.new.self c.look_up.new.tables (Err c.in-Err.fault) (record { kept = la.kept; later = la.later; faults = c.in-Err.ensures.faults; header = la.header; space = la.space; seen = la.seen }) c.mark.ensures
 
 pub returns-in-Ok-clause-began : goal.returns-in-Ok-clause-began
 returns-in-Ok-clause-began g c =
     let la = c.look_up.ensures in
     began-kept g.row.S g.S.Storage g.S.Storage-dict g.S.Destruct-dict {T = ShallowMapping × ℕ} c.args.self.now _ (Ok (c.shallow.result, c.bytes_met-length.result))
-    (record { tables = record { kept = la.kept; later = la.later; faults = λ ok. c.in-Ok.ensures.faults tt; header = la.header; seen = la.seen }; mode = refl; number = refl; failed = refl })
+    (record { tables = record { kept = la.kept; later = la.later; faults = λ ok. c.in-Ok.ensures.faults tt; header = la.header; space = la.space; seen = la.seen }; mode = refl; number = refl; unspent = refl; failed = refl })
 
 pub returns-in-Err-clause-began : goal.returns-in-Err-clause-began
 returns-in-Err-clause-began g c =
     let la = c.look_up.ensures in
     began-kept g.row.S g.S.Storage g.S.Storage-dict g.S.Destruct-dict {T = ShallowMapping × ℕ} c.args.self.now c.mark.new.self (Err c.in-Err.fault)
-    (keeps-marked g.S.Storage c.args.self.now c.mark.new.self c.look_up.new.tables (Err c.in-Err.fault) (record { kept = la.kept; later = la.later; faults = c.in-Err.ensures.faults; header = la.header; seen = la.seen }) c.mark.ensures)
+    (keeps-marked g.S.Storage c.args.self.now c.mark.new.self c.look_up.new.tables (Err c.in-Err.fault) (record { kept = la.kept; later = la.later; faults = c.in-Err.ensures.faults; header = la.header; space = la.space; seen = la.seen }) c.mark.ensures)

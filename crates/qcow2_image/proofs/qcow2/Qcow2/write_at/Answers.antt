@@ -8,8 +8,10 @@ returns-in-Ok g c = record {
   header = refl;
   l1 = refl;
   caches = refl;
+  space = refl;
   mode = refl;
   number = refl;
+  unspent = refl;
   failed = c.requires.runs;
 }
 
@@ -19,7 +21,9 @@ returns-in-Err g c = record {
   header = refl;
   l1 = refl;
   caches = refl;
+  space = refl;
   mode = refl;
   number = refl;
+  unspent = refl;
   failed = refl;
 }

@@ -65,3 +65,6 @@ returns-in-Qcow2-clause-marks g c =
 
 pub returns-in-Vmdk-clause-sees : goal.returns-in-Vmdk-clause-sees
 returns-in-Vmdk-clause-sees g c = rw (c.in-Vmdk.is) c.flush-in-Vmdk.ensures.sees
+
+pub returns-in-Qcow2-clause-sees : goal.returns-in-Qcow2-clause-sees
+returns-in-Qcow2-clause-sees g c = rw (c.in-Qcow2.is) c.flush-in-Qcow2.ensures.sees

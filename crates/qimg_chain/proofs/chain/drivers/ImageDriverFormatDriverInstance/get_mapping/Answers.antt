@@ -64,3 +64,6 @@ returns-in-Qcow2-clause-marks g c =
 
 pub returns-in-Vmdk-clause-cause : goal.returns-in-Vmdk-clause-cause
 returns-in-Vmdk-clause-cause g c = rw (c.in-Vmdk.is) c.get_mapping-in-Vmdk.ensures.cause
+
+pub returns-in-Qcow2-clause-looks : goal.returns-in-Qcow2-clause-looks
+returns-in-Qcow2-clause-looks g c = rw (c.in-Qcow2.is) c.get_mapping-in-Qcow2.ensures.looks

@@ -49,3 +49,6 @@ returns-in-Qcow2-clause-marks g c =
 
 pub returns-in-Vmdk-clause-same : goal.returns-in-Vmdk-clause-same
 returns-in-Vmdk-clause-same g c = rw (c.in-Vmdk.is) c.invalidate_cache-in-Vmdk.ensures.same
+
+pub returns-in-Qcow2-clause-same : goal.returns-in-Qcow2-clause-same
+returns-in-Qcow2-clause-same g c = rw (c.in-Qcow2.is) c.invalidate_cache-in-Qcow2.ensures.same

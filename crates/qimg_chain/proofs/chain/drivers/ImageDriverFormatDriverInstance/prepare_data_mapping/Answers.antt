@@ -86,3 +86,6 @@ returns-in-Qcow2-clause-at_once g c =
     let kind = qcow2_kind g.row.S g.S.Storage g.S.Storage-dict g.S.Destruct-dict in
     rw (c.in-Qcow2.is) (at_once kind
     c.in-Qcow2.qcow2 c.prepare_data_mapping-in-Qcow2.new.self _ _ _ c.prepare_data_mapping-in-Qcow2.ensures.at_once)
+
+pub returns-in-Qcow2-clause-empty : goal.returns-in-Qcow2-clause-empty
+returns-in-Qcow2-clause-empty g c = rw (c.in-Qcow2.is) c.prepare_data_mapping-in-Qcow2.ensures.empty

@@ -1,0 +1,369 @@
+-- What single changes of its clusters leave of an image.
+use Rattle.std.proofs.Common.{◌≡◌, ◌≢◌, ℕ, ◌*◌, ◌/◌, ◌^◌, ◌<◌, refl, arith, ap, sym, subst, ◌∙◌, inl, inr, Bool, true, false, List, [], length, Option, Some, None, Result, Ok, Err}
+use Rattle.std.proofs.lemmas.Bool.{cases_eq, cases_lt, le-ltb, ne_eqb}
+use Rattle.std.specs.Prelude.{⊤, IsTrue, IsSome, IfSome, is_some, IfOk, IfErr, slice_index, ◌==◌, if◌then◌else◌}
+use Rattle.imago_storage.specs.State.{StorageState}
+use Rattle.imago_storage.specs.Calls.{Cause}
+use Rattle.imago_storage.specs.declared.fault.Fault.{Fault}
+use Rattle.imago_storage.specs.declared.fault.Fault.TheVariants.{Counter, DamagedTable, Limit, Memory, Storage}
+use Rattle.imago_storage.specs.declared.storage.Storage.{Ghosts}
+use Rattle.imago_access.specs.Files.{WasNotCutOff}
+use Rattle.qcow2_types.specs.Bytes.{Bytes}
+use Rattle.qcow2_types.specs.Entries.{l1_table_sound, l2_table}
+use Rattle.qcow2_types.specs.Header.{Fields, Header, cluster_size, words_of_cluster}
+use Rattle.qcow2_types.specs.Words.{table_offset}
+use Rattle.qcow2_metadata.specs.Tables.{TableValue}
+use Rattle.qcow2_alloc.specs.Allocating.{MovedTable}
+use Rattle.qcow2_alloc.specs.Allocators.{LoadsAllocator}
+use Rattle.qcow2_alloc.specs.Going as going
+use Rattle.qcow2_alloc.specs.Opening.{IsL1Of}
+use Rattle.qcow2_alloc.specs.Quiet.{Metadata}
+use Rattle.qcow2_alloc.specs.declared.allocation.Allocator.{Allocator}
+use Rattle.qcow2_alloc.specs.declared.cache.MetadataCaches.{MetadataCaches}
+use Rattle.qcow2_alloc.proofs.Growth.LoadingTable.{allocator-refused}
+use Rattle.qcow2_steps.specs.Words.{IsReserved}
+use Rattle.qcow2_clusters.specs.Freeing.{FreesWaiting}
+use Rattle.qcow2_clusters.specs.Freeing as freeing
+use Rattle.qcow2_clusters.specs.MakingTables.{IsTableless, MakesTable}
+use Rattle.qcow2_clusters.specs.Progress.{Kind, Progresses, handing}
+use Rattle.qcow2_clusters.specs.Rest.{IsReady, lent}
+use Rattle.qcow2_clusters.specs.Storing.{Rests, Stores, handed_by, held_by}
+use Rattle.qcow2_clusters.specs.Storing as clusters
+use Rattle.qcow2_clusters.specs.declared.space.Space.{Space}
+use Rattle.qcow2_image.specs.Allocating.{EnsuresTable, FreesPending, LoadsSpace, StoresContent, WhyNotAllocated, WhyNotFreed, failed_cut, waits_in}
+use Rattle.qcow2_image.specs.Holding.{Holding}
+use Rattle.qcow2_image.specs.KeepsDisk.{KeepsDisk}
+use Rattle.qcow2_image.specs.Looking.{place_of_table}
+use Rattle.qcow2_image.specs.Rooms.{IsSafe, rest_of}
+use Rattle.qcow2_image.specs.Seen.{file_of}
+use Rattle.qcow2_image.specs.Steps.{KeepsImage, failed_by}
+use Rattle.qcow2_image.specs.Unspent.{holding_in}
+use Rattle.qcow2_image.specs.declared.qcow2.Qcow2.{Qcow2}
+use Rattle.qcow2_image.specs.declared.tables.Tables.{Tables}
+use Rattle.qcow2_image.proofs.FileWords.{place-in-file, place-named, some-offset, top-long}
+use Rattle.qcow2_image.proofs.KeepingDisks.{Spares, WhyNoSpace, keeps-disk-same, keeps-image-disk, later-refused, progress-keeps, safe-sound, space-refused, whole-below}
+use Rattle.qcow2_image.proofs.Settling.{seen-same}
+use Rattle.qcow2_image.proofs.Steps.{keeps-marked}
+
+pub none-there : {A : Type 0} (o : Option A) → is_some o ≡ false → o ≡ None
+none-there None is = refl
+none-there (Some a) is = absurd (cc is)
+
+pub none-named : {A : Type 0} (o : Option A) → ((a : A) → o ≡ Some a → ⊥) → o ≡ None
+none-named None none = refl
+none-named (Some a) none = absurd (none a refl)
+
+none-some : {A : Type 0} (o : Option Space) → o ≡ None → IsSome o → A
+none-some None is some = absurd (cc some)
+none-some (Some x) is some = absurd (cc is)
+
+-- An image whose free space wasn't loaded: what was in memory is what was, and a storage's fault marks it.
+module _ {S : Type 0} (g : Ghosts S) (old new : Qcow2 S g) (fault : Fault) (mid : Tables S g)
+    (is : new ≡ record old { tables = mid; failed = failed_by fault old.failed }) (none : old.tables.space ≡ None)
+    (header : mid.file.header ≡ old.tables.file.header) (l1 : mid.l1 ≡ old.tables.l1) (caches : mid.caches ≡ old.tables.caches)
+    (space : mid.space ≡ old.tables.space)
+    (loads : LoadsAllocator (g.state old.tables.file.image) old.tables.file.header.fields (Err fault) (g.state mid.file.image)) where
+  abbrev unloaded_from : StorageState
+  unloaded_from = g.state old.tables.file.image
+
+  abbrev unloaded_to : StorageState
+  unloaded_to = g.state mid.file.image
+
+  state-same : g.state new.tables.file.image ≡ unloaded_to
+  state-same = ap (λ (x : Qcow2 S g). g.state x.tables.file.image) is
+
+  keeps-unloaded : KeepsImage {T = Unit} g old (Err fault) new
+  keeps-unloaded =
+      let later = later-refused unloaded_from unloaded_to old.tables.file.header.fields fault loads in
+      keeps-marked {T = Unit} g old new mid (Err fault) (record {
+        kept = loads.kept;
+        later = later;
+        faults = λ whole. loads.faults (whole-below {T = Allocator} (Err fault) whole);
+        header = header;
+        space = space;
+        seen = seen-same g old.tables mid loads.kept later header l1 caches;
+      }) is
+
+  why-from : (e : Fault) → WhyNoSpace unloaded_from.faults (g.state new.tables.file.image).faults e → WhyNotAllocated g old new e
+  why-from Memory why = tt
+  why-from Storage why = why
+  why-from (Limit number) why = tt
+  why-from DamagedTable why = λ known. none-some old.tables.space none known.1
+  why-from e why = absurd why
+
+  pub unloaded : LoadsSpace g old (Err fault) new
+  unloaded = record {
+    keeps = keeps-image-disk {T = Unit} g old new (Err fault) keeps-unloaded;
+    known = tt;
+    same = keeps-unloaded;
+    cause = why-from fault (subst (λ (s : StorageState). WhyNoSpace unloaded_from.faults s.faults fault) (sym state-same)
+        (space-refused unloaded_from unloaded_to old.tables.file.header.fields fault loads));
+    known_cause = λ safe. subst (λ (s : StorageState). Cause unloaded_from.faults s.faults fault) (sym state-same)
+        (allocator-refused (file_of g old.tables) old.tables.file.header safe.consistent unloaded_from unloaded_to fault refl loads);
+    faults = tt;
+  }
+
+-- Want of memory and a storage's fault mark an image in a change, and nothing takes a mark away.
+still-cut : {T : Type 0} (r : Result T Fault) (f : Bool) → IsTrue f → IsTrue (failed_cut r f)
+still-cut (Ok v) f was = was
+still-cut (Err Memory) f was = refl
+still-cut (Err Storage) f was = refl
+still-cut (Err fault) f was = was
+
+whole-cut : {T : Type 0} (r : Result T Fault) (f : Bool) → WasNotCutOff r → failed_cut r f ≡ f
+whole-cut (Ok v) f whole = refl
+whole-cut (Err Memory) f whole = absurd whole
+whole-cut (Err Storage) f whole = absurd whole
+whole-cut (Err fault) f whole = refl
+
+progresses-as : (ok ok' : Type 0) (kind : Kind) (s s' : StorageState) (m m' : Metadata) → (ok' → ok) → Progresses ok kind s m s' m' → Progresses ok' kind s m s' m'
+progresses-as ok ok' kind s s' m m' from p = record {
+  shape = p.shape;
+  later = p.later;
+  passes = p.passes;
+  holds = λ keeps sound whole. p.holds keeps sound (from whole);
+}
+
+-- The words of one L1 table say where the L2 tables are, of both files,
+tables-same : (f f' : Bytes) (h h' : Fields) (top : TableValue) → IsL1Of f h top → IsL1Of f' h' top → (i : ℕ) → l2_table f' h' i ≡ l2_table f h i
+tables-same f f' h h' top one two i = place-in-file f' h' top two i ∙ sym (place-in-file f h top one i)
+
+-- also where the refcount table has moved.
+l1-moved : (f : Bytes) (H H' : Header) (top : TableValue) → MovedTable H H' → IsL1Of f H.fields top → IsL1Of f H'.fields top
+unfolding l1_table_sound
+l1-moved f H H' top moved of =
+    subst (λ (K : Header). IsL1Of f K.fields top) (sym moved.2) (record { layout = of.layout; words = of.words; sound = of.sound })
+
+-- Where the L1 table in memory names an L2 table, that is over the guest cluster;
+table-over : (f : Bytes) (h : Fields) (top : TableValue) → IsL1Of f h top → (guest table : ℕ) → place_of_table top.words h.cluster_bits guest ≡ Some table
+    → (table ≢ 0) × (guest / words_of_cluster h < h.l1_entries) × (l2_table f h (guest / words_of_cluster h) ≡ table * cluster_size h)
+table-over f h top of guest table named = (
+  λ none. let e : table * cluster_size h ≡ 0 * cluster_size h = ap (λ t. t * cluster_size h) none in some (omega (arith, e)),
+  elim (cases_lt (guest / words_of_cluster h) h.l1_entries) [
+    | inl inside ↦ inside
+    | inr behind ↦ absurd (some (sym there ∙ rw (le-ltb (guest / words_of_cluster h) h.l1_entries behind) refl))
+  ],
+  there,
+) where
+  there : l2_table f h (guest / words_of_cluster h) ≡ table * cluster_size h
+  there = place-in-file f h top of (guest / words_of_cluster h) ∙ place-named f h top of guest table named
+
+  some : table * cluster_size h ≢ 0
+  some none =
+      let is : (table_offset (slice_index top.words (guest / words_of_cluster h)) == 0) ≡ true = rw (place-named f h top of guest table named ∙ none) refl in
+      cc (sym (some-offset f h top of guest table named) ∙ is)
+
+-- and where it names none, there is none.
+table-none : (f : Bytes) (h : Fields) (top : TableValue) → IsL1Of f h top → (guest : ℕ) → place_of_table top.words h.cluster_bits guest ≡ None
+    → l2_table f h (guest / words_of_cluster h) ≡ 0
+table-none f h top of guest none = place-in-file f h top of (guest / words_of_cluster h) ∙ from _ none where
+  from : (n : ℕ) → (if n == 0 then None else Some (n / 2 ^ h.cluster_bits)) ≡ None → n ≡ 0
+  from n is = elim (cases_eq n 0) [
+    | inl zero ↦ zero
+    | inr some ↦ absurd (let there : (if n == 0 then None else Some (n / 2 ^ h.cluster_bits)) ≡ Some (n / 2 ^ h.cluster_bits) = rw (ne_eqb n 0 some) refl in cc (sym is ∙ there))
+  ]
+
+-- A call of changes has left an image at rest again.
+module _ {S T : Type 0} (g : Ghosts S) (old : Qcow2 S g) (mid : Tables S g) (space space' : Space) (caches : MetadataCaches S)
+    (result : Result T Fault) (there : old.tables.space ≡ Some space) (there' : mid.space ≡ Some space')
+    (rests : Rests g.state (lent old.tables.file caches space) result (lent mid.file mid.caches space')) where
+  abbrev pub now : Qcow2 S g
+  now = record old { tables = mid; failed = failed_cut result old.failed }
+
+  pub ready : IsSafe g old → IsReady g.state (lent old.tables.file caches space)
+  ready safe = record { keeps = safe.keeps; sound = safe-sound g old space there safe }
+
+  pub advanced : (handed taken : ℕ → ℕ) → IfSome (holding_in g old.unspent) (Spares g (WasNotCutOff result) taken old now space space')
+      → (IsSafe g old → WasNotCutOff result → IsL1Of (file_of g mid) mid.file.header.fields mid.l1)
+      → (IsSafe g old → Progresses (going.WasNotCutOff result) (handing handed taken) (g.state old.tables.file.image)
+      (rest_of g old.tables space) (g.state mid.file.image) (rest_of g mid space'))
+      → KeepsDisk g (WasNotCutOff result) old now
+  advanced handed taken spares l1 progress = progress-keeps g (WasNotCutOff result) handed taken old now (record {
+    space = space;
+    space' = space';
+    there = there;
+    there' = there';
+    mode = refl;
+    number = refl;
+    unspent = refl;
+    spares = spares;
+    shape = rests.shape;
+    later = rests.later;
+    header = rests.header;
+    failed = still-cut result old.failed;
+    whole = whole-cut result old.failed;
+    faults = λ whole. rests.faults (whole-below result whole);
+    empty = rests.empty;
+    l1 = l1;
+    progress = λ safe. progresses-as (going.WasNotCutOff result) (WasNotCutOff result) (handing handed taken) (g.state old.tables.file.image)
+        (g.state mid.file.image) (rest_of g old.tables space) (rest_of g mid space') (whole-below result) (progress safe);
+  })
+
+-- While nothing is prepared nothing has to be spared.
+none-spared : {S : Type 0} (g : Ghosts S) (old : Qcow2 S g) (P : Holding → Type 0) → old.unspent ≡ None → IfSome (holding_in g old.unspent) P
+none-spared g old P free = subst (λ u. IfSome (holding_in g u) P) (sym free) tt
+
+allocated-why : {S : Type 0} (g : Ghosts S) (old new : Qcow2 S g) (is-ready : Type 0) (before after : ℕ) (fault : Fault) → (IsSafe g old → is-ready)
+    → before ≡ (g.state old.tables.file.image).faults → after ≡ (g.state new.tables.file.image).faults
+    → clusters.WhyNotAllocated is-ready before after fault → WhyNotAllocated g old new fault
+allocated-why g old new is-ready before after Memory from was is why = tt
+allocated-why g old new is-ready before after Storage from was is why = rw (sym was, sym is) why
+allocated-why g old new is-ready before after (Limit number) from was is why = tt
+allocated-why g old new is-ready before after DamagedTable from was is why = λ known. why (from known.0)
+allocated-why g old new is-ready before after Counter from was is why = λ known. why (from known.0)
+allocated-why g old new is-ready before after fault from was is why = absurd why
+
+if-err : {T : Type 0} (r : Result T Fault) (P Q : Fault → Type 0) → ((e : Fault) → P e → Q e) → IfErr r P → IfErr r Q
+if-err (Ok v) P Q each holds = tt
+if-err (Err e) P Q each holds = each e holds
+
+-- Bytes were stored.
+module _ {S : Type 0} (g : Ghosts S) (old : Qcow2 S g) (mid : Tables S g) (space space' : Space) (caches : MetadataCaches S) (bytes : List ℕ)
+    (result : Result ℕ Fault) (there : old.tables.space ≡ Some space) (there' : mid.space ≡ Some space') (l1 : mid.l1 ≡ old.tables.l1)
+    (free : old.unspent ≡ None)
+    (stores : Stores g.state bytes (lent old.tables.file caches space) result (lent mid.file mid.caches space')) where
+  abbrev stored_now : Qcow2 S g
+  stored_now = record old { tables = mid; failed = failed_cut result old.failed }
+
+  l1-stored : IsSafe g old → WasNotCutOff result → IsL1Of (file_of g mid) mid.file.header.fields old.tables.l1
+  l1-stored safe whole = stores.l1 (ready g old mid space space' caches result there there' stores.rests safe) (whole-below result whole) old.tables.l1 safe.seen.l1
+
+  reserved-now : (r : Result ℕ Fault) → IfOk r (IsReserved (rest_of g mid space')) → space'.to_free.held ≡ held_by r space.to_free.held
+      → IfOk r (λ x. (s : Space) × (mid.space ≡ Some s) × IsReserved (rest_of g mid s) x × (0 < s.to_free.held))
+  reserved-now (Ok x) reserved held = (space', there', reserved, omega (arith, held))
+  reserved-now (Err fault) reserved held = tt
+
+  pub stored : StoresContent g bytes old result stored_now
+  stored = record {
+    keeps = advanced g old mid space space' caches result there there' stores.rests (handed_by result) (λ c. 0)
+        (none-spared g old (Spares g (WasNotCutOff result) (λ c. 0) old stored_now space space') free)
+        (λ safe whole. subst (IsL1Of (file_of g mid) mid.file.header.fields) (sym l1) (l1-stored safe whole))
+        (λ safe. stores.progress);
+    marks = refl;
+    entries = ap (λ (K : Header). K.fields.l1_entries) stores.rests.header.2;
+    named = stores.named;
+    tables = λ safe whole. tables-same (file_of g old.tables) (file_of g mid) old.tables.file.header.fields mid.file.header.fields old.tables.l1
+        safe.seen.l1 (l1-stored safe whole);
+    reserved = λ safe. reserved-now result (stores.reserved (ready g old mid space space' caches result there there' stores.rests safe)) stores.held;
+    content = λ safe. stores.stored (ready g old mid space space' caches result there there' stores.rests safe);
+    cause = if-err result _ (WhyNotAllocated g old stored_now) (λ e. allocated-why g old stored_now (IsReady g.state (lent old.tables.file caches space))
+        (g.state old.tables.file.image).faults (g.state mid.file.image).faults e
+        (ready g old mid space space' caches result there there' stores.rests) refl refl) stores.cause;
+  }
+
+-- A table was made.
+module _ {S : Type 0} (g : Ghosts S) (old : Qcow2 S g) (mid : Tables S g) (space space' : Space) (caches : MetadataCaches S) (guest i : ℕ)
+    (result : Result ℕ Fault) (there : old.tables.space ≡ Some space) (there' : mid.space ≡ Some space') (free : old.unspent ≡ None)
+    (index : i ≡ guest / words_of_cluster old.tables.file.header.fields) (inside : i < length old.tables.l1.words)
+    (none : place_of_table old.tables.l1.words old.tables.file.header.fields.cluster_bits guest ≡ None)
+    (makes : MakesTable g.state old.tables.l1 i (lent old.tables.file caches space) result mid.l1 (lent mid.file mid.caches space')) where
+  abbrev made_now : Qcow2 S g
+  made_now = record old { tables = mid; failed = failed_cut result old.failed }
+
+  tableless : IsSafe g old → IsTableless g.state old.tables.l1 i (lent old.tables.file caches space)
+  tableless safe = record {
+    l1 = safe.seen.l1;
+    inside = omega (arith, inside, top-long (file_of g old.tables) old.tables.file.header.fields old.tables.l1 safe.seen.l1);
+    none = ap (l2_table (file_of g old.tables) old.tables.file.header.fields) index
+        ∙ table-none (file_of g old.tables) old.tables.file.header.fields old.tables.l1 safe.seen.l1 guest none;
+  }
+
+  is-ready : IsSafe g old → IsReady g.state (lent old.tables.file caches space)
+  is-ready = ready g old mid space space' caches result there there' makes.rests
+
+  there-now : IsSafe g old → (r : Result ℕ Fault)
+      → IfOk r (λ t. (t ≢ 0) × (l2_table (file_of g mid) old.tables.file.header.fields i ≡ t * cluster_size old.tables.file.header.fields))
+      → let h = mid.file.header.fields in IfOk r (λ t. (t ≢ 0) × (guest / words_of_cluster h < h.l1_entries)
+      × (l2_table (file_of g mid) h (guest / words_of_cluster h) ≡ t * cluster_size h))
+  there-now safe (Ok t) is = (
+    is.0,
+    subst (λ (K : Header). guest / words_of_cluster K.fields < K.fields.l1_entries) (sym makes.rests.header.2)
+        (subst (λ n. n < old.tables.file.header.fields.l1_entries) index (tableless safe).inside),
+    subst (λ (K : Header). l2_table (file_of g mid) K.fields (guest / words_of_cluster K.fields) ≡ t * cluster_size K.fields) (sym makes.rests.header.2)
+        (ap (l2_table (file_of g mid) old.tables.file.header.fields) (sym index) ∙ is.1),
+  )
+  there-now safe (Err fault) is = tt
+
+  pub made : EnsuresTable g guest old result made_now
+  made = record {
+    keeps = advanced g old mid space space' caches result there there' makes.rests (handed_by result) (handed_by result)
+        (none-spared g old (Spares g (WasNotCutOff result) (handed_by result) old made_now space space') free)
+        (λ safe whole. l1-moved (file_of g mid) old.tables.file.header mid.file.header mid.l1 makes.rests.header
+        (makes.l1 (is-ready safe) (tableless safe) (whole-below result whole)))
+        (λ safe. makes.progress (tableless safe));
+    marks = refl;
+    known = λ was. subst IsSome (sym there') refl;
+    there = λ safe some. there-now safe result (makes.there (is-ready safe) (tableless safe));
+    cause = if-err result _ (WhyNotAllocated g old made_now) (λ e. allocated-why g old made_now
+        (IsReady g.state (lent old.tables.file caches space) × IsTableless g.state old.tables.l1 i (lent old.tables.file caches space))
+        (g.state old.tables.file.image).faults (g.state mid.file.image).faults e (λ safe. (is-ready safe, tableless safe)) refl refl) makes.cause;
+  }
+
+-- There was one.
+pub table-there : {S : Type 0} (g : Ghosts S) (d : Qcow2 S g) (guest table : ℕ)
+    → place_of_table d.tables.l1.words d.tables.file.header.fields.cluster_bits guest ≡ Some table → EnsuresTable g guest d (Ok table) d
+table-there g d guest table named = record {
+  keeps = keeps-disk-same g ⊤ d;
+  marks = refl;
+  known = λ some. some;
+  there = λ safe some. table-over (file_of g d.tables) d.tables.file.header.fields d.tables.l1 safe.seen.l1 guest table named;
+  cause = tt;
+}
+
+pub none-waits : (o : Option Space) → o ≡ None → waits_in o ≡ true → ⊥
+none-waits None none waits = absurd (cc waits)
+none-waits (Some space) none waits = absurd (cc none)
+
+pub idle-waits : (o : Option Space) → IfSome o (λ space. space.to_free.entries ≡ []) → waits_in o ≡ false
+idle-waits None idle = refl
+idle-waits (Some space) idle = rw idle refl
+
+if-each : {A : Type 0} (o : Option A) (P : A → Type 0) → ((a : A) → P a) → IfSome o P
+if-each None P each = tt
+if-each (Some a) P each = each a
+
+-- Nothing waited to be freed.
+pub none-freed : {S : Type 0} (g : Ghosts S) (d : Qcow2 S g) → FreesPending g d (Ok tt) d
+none-freed g d = record { keeps = keeps-disk-same g ⊤ d; marks = refl; idle = λ untouched. (refl, refl); cause = tt }
+
+freed-why : {S : Type 0} (g : Ghosts S) (old new : Qcow2 S g) (is-ready : Type 0) (fault : Fault) → (IsSafe g old → is-ready)
+    → freeing.WhyNotFreed is-ready (g.state old.tables.file.image).faults (g.state new.tables.file.image).faults fault → WhyNotFreed g old new fault
+freed-why g old new is-ready Memory from why = tt
+freed-why g old new is-ready Storage from why = why
+freed-why g old new is-ready DamagedTable from why = λ safe. why (from safe)
+freed-why g old new is-ready Counter from why = λ safe. why (from safe)
+freed-why g old new is-ready fault from why = absurd why
+
+-- What waited was freed.
+module _ {S : Type 0} (g : Ghosts S) (old : Qcow2 S g) (mid : Tables S g) (space space' : Space) (caches : MetadataCaches S)
+    (result : Result Unit Fault) (there : old.tables.space ≡ Some space) (there' : mid.space ≡ Some space') (l1 : mid.l1 ≡ old.tables.l1)
+    (waits : waits_in old.tables.space ≡ true)
+    (frees : FreesWaiting g.state (lent old.tables.file caches space) result (lent mid.file mid.caches space')) where
+  abbrev freed_now : Qcow2 S g
+  freed_now = record old { tables = mid; failed = failed_cut result old.failed }
+
+  freed-ready : IsSafe g old → IsReady g.state (lent old.tables.file caches space)
+  freed-ready = ready g old mid space space' caches result there there' frees.rests
+
+  l1-freed : IsSafe g old → WasNotCutOff result → IsL1Of (file_of g mid) mid.file.header.fields old.tables.l1
+  l1-freed safe whole = frees.l1 (freed-ready safe) (whole-below result whole) old.tables.l1 safe.seen.l1
+
+  spares-each : (hold : Holding) → Spares g (WasNotCutOff result) (λ c. 0) old freed_now space space' hold
+  spares-each hold = record {
+    spared = refl;
+    room = λ some. omega (arith, some, frees.held);
+    tables = λ safe whole. tables-same (file_of g old.tables) (file_of g mid) old.tables.file.header.fields mid.file.header.fields old.tables.l1
+        safe.seen.l1 (l1-freed safe whole);
+  }
+
+  pub freed : FreesPending g old result freed_now
+  freed = record {
+    keeps = advanced g old mid space space' caches result there there' frees.rests (λ c. 0) (λ c. 0)
+        (if-each (holding_in g old.unspent) (Spares g (WasNotCutOff result) (λ c. 0) old freed_now space space') spares-each)
+        (λ safe whole. subst (IsL1Of (file_of g mid) mid.file.header.fields) (sym l1) (l1-freed safe whole))
+        (λ safe. frees.progress);
+    marks = refl;
+    idle = λ untouched. absurd (cc (sym (idle-waits old.tables.space untouched.1) ∙ waits));
+    cause = if-err result _ (WhyNotFreed g old freed_now)
+        (λ e. freed-why g old freed_now (IsReady g.state (lent old.tables.file caches space)) e freed-ready) frees.cause;
+  }

@@ -1,0 +1,460 @@
+-- What a commit leaves of the image whose prepared mapping it spends.
+use Rattle.std.proofs.Common.{◌≡◌, ℕ, ◌+◌, ◌-◌, ◌*◌, ◌/◌, ◌%◌, ◌<◌, ◌≤◌, refl, arith, ap, sym, subst, ◌∙◌, inl, inr, Bool, true, false, List, Option, Some, None, Result, Ok, Err}
+use Rattle.std.proofs.lemmas.Bool.{cases_Bool, cases_lt, eq-eqb, eqb-true, le-ltb, lt-ltb, ltb-true}
+use Rattle.std.proofs.lemmas.Nat.{div-add-mod'}
+use Rattle.std.specs.Prelude.{◌⊎◌, IsTrue, IsSome, IfSome, IfErr, OnOk, EachIndex, slice_index, length, ltb, ◌&&◌, ◌==◌, if◌then◌else◌}
+use Rattle.std.specs.List.{AllByRecursion}
+use Rattle.imago_storage.specs.State.{Shape}
+use Rattle.imago_storage.specs.Disk.{Value, byte}
+use Rattle.imago_storage.specs.Passing.{Passes}
+use Rattle.imago_storage.specs.declared.fault.Fault.{Fault}
+use Rattle.imago_storage.specs.declared.fault.Fault.TheVariants.{DamagedTable, Memory, Storage}
+use Rattle.imago_storage.specs.declared.storage.Storage.{Ghosts}
+use Rattle.imago_access.specs.Chain.{at}
+use Rattle.imago_access.specs.Changes.{Committed, Settles}
+use Rattle.imago_access.specs.Files.{IsMild}
+use Rattle.imago_access.specs.Layer.{Cell, Layer, beside, inside, loose, own}
+use Rattle.imago_access.specs.Stops.{GivesSettled, Left, May}
+use Rattle.imago_access.specs.declared.mapping.PreparedDataMapping.{PreparedDataMapping}
+use Rattle.imago_access.proofs.Stopping.{passes_weaker}
+use Rattle.qcow2_types.specs.Bytes.{Bytes, bytes_of}
+use Rattle.qcow2_types.specs.Header.{Fields, Header, cluster_size, words_of_cluster}
+use Rattle.qcow2_types.specs.Words.{Mapping, data_at}
+use Rattle.qcow2_types.specs.Entries.{entry}
+use Rattle.qcow2_types.specs.Consistency.{IsConsistent}
+use Rattle.qcow2_types.proofs.Consistent.{header-reading}
+use Rattle.qcow2_metadata.proofs.TableSteps.{past_end}
+use Rattle.qcow2_alloc.specs.Allocators.{table_of}
+use Rattle.qcow2_alloc.specs.Going.{WasNotCutOff}
+use Rattle.qcow2_alloc.specs.Memory.{Cached}
+use Rattle.qcow2_alloc.specs.Opening.{IsL1Of}
+use Rattle.qcow2_alloc.specs.Quiet.{Metadata, IsSound, in_memory, one_at}
+use Rattle.qcow2_alloc.proofs.Memory.SafeLaws.{clean-memory}
+use Rattle.qcow2_steps.specs.Advancing.{Advances, MayBeLeft}
+use Rattle.qcow2_steps.specs.Values.{own_value}
+use Rattle.qcow2_steps.specs.Words.{GivesWord, IsOfWord}
+use Rattle.qcow2_alloc.specs.declared.cache.MetadataCaches.{MetadataCaches}
+use Rattle.qcow2_clusters.specs.Naming.{IsNameable, Names, TakesNone, WhyNotNamed, naming}
+use Rattle.qcow2_clusters.specs.Progress.{Progresses}
+use Rattle.qcow2_clusters.specs.declared.space.Space.{Space}
+use Rattle.qcow2_clusters.specs.Rest.{Clusters, IsReady, lent, nothing_cached, resting}
+use Rattle.qcow2_image.specs.Committing.{CommitsUnspent, NamesHost, NamesWith, SpendsUnspent, answer_of, failed_behind_any}
+use Rattle.qcow2_image.specs.Holding.{Holding, claim_held, copied_to, held_home, held_of, held_with, home_or, homes_with, in_cluster, in_run, place_in, written_to}
+use Rattle.qcow2_image.specs.HeldHomes.{free-homes, held-at, run-from, run-guest}
+use Rattle.qcow2_image.specs.Homes.{cluster-there, homeless}
+use Rattle.qcow2_image.specs.ImageLayer.{blank_of, cell_by, cells, home_by, homes, qcow2_fixed}
+use Rattle.qcow2_image.specs.Rooms.{HasCluster, HasRoom, HoldsIn, IsSafe, is_sound, rest_of}
+use Rattle.qcow2_image.specs.Seen.{IsOfFile, IsSeen, file_of, homes_of, layer_of, memory_of}
+use Rattle.qcow2_image.specs.Unspent.{holding, holding_in}
+use Rattle.qcow2_image.specs.declared.qcow2.PreparedMappingState.{PreparedMappingState}
+use Rattle.qcow2_image.specs.declared.qcow2.Qcow2.{Qcow2}
+use Rattle.qcow2_image.specs.declared.tables.Tables.{Tables}
+use Rattle.qcow2_image.specs.declared.unspent.Unspent.{Unspent}
+use Rattle.qcow2_image.proofs.KeepingDisks.{cell-shown, cell_of, may-left, rest-memory, safe-sound, seen_as}
+use Rattle.qcow2_image.proofs.Steps.{memory-is}
+
+-- numbers with the same quotient and rest
+same-parts : (a b d : ℕ) → a / d ≡ b / d → a % d ≡ b % d → a ≡ b
+same-parts a b d rows columns =
+    let product : a / d * d ≡ b / d * d = ap (λ x. x * d) rows in
+    omega (arith, product, columns, div-add-mod' a d, div-add-mod' b d)
+
+-- a place of the guest cluster is one of the disk
+cluster-from : (h : Fields) (hold : Holding) (p : ℕ) → in_cluster h hold p ≡ true → (p / cluster_size h ≡ hold.guest) × (p < h.size)
+cluster-from h hold p is = from (p / cluster_size h == hold.guest) (ltb p h.size) refl refl is where
+  from : (a b : Bool) → (p / cluster_size h == hold.guest) ≡ a → ltb p h.size ≡ b → (a && b) ≡ true
+      → (p / cluster_size h ≡ hold.guest) × (p < h.size)
+  from true true same low both = (eqb-true (p / cluster_size h) hold.guest same, ltb-true p h.size low)
+  from true false same low both = absurd (cc both)
+  from false b same low both = absurd (cc both)
+
+cluster-of : (h : Fields) (hold : Holding) (p : ℕ) → p / cluster_size h ≡ hold.guest → p < h.size → in_cluster h hold p ≡ true
+cluster-of h hold p is low = rw (eq-eqb (p / cluster_size h) hold.guest is, lt-ltb p h.size low) refl
+
+-- What stands in the host cluster is what was written or copied, or it was announced that all is going to be written.
+by-hold : (overwrite written : Bool) (copied there : ℕ) (was : Cell) → (written ≡ false → there ≡ copied) → there < 256
+    → Settles (inside (if overwrite then None else Some copied) (if written then Some there else None) overwrite) was (own (byte there))
+by-hold true true copied there was same fits = refl
+by-hold false true copied there was same fits = refl
+by-hold true false copied there was same fits = inr (byte there, (there, fits, refl), refl)
+by-hold false false copied there was same fits = ap (λ b. own (byte b)) (same refl)
+
+each-byte : (bytes : List ℕ) → EachIndex bytes (λ k. slice_index bytes k < 256) → (k : ℕ) → slice_index bytes k < 256
+each-byte bytes fit k = elim (cases_lt k (length bytes)) [
+  | inl below ↦ fit k below
+  | inr behind ↦ let none = past_end bytes k behind in omega (arith, none)
+]
+
+run-home : (hold : Holding) (p : ℕ) (at : ℕ × ℕ) → held_home hold p ≡ Some at → (in_run hold p ≡ true) × (at ≡ (0, hold.place + (p - hold.offset)))
+run-home hold p at is = from (in_run hold p) refl is where
+  from : (b : Bool) → in_run hold p ≡ b → (if b then Some (0, hold.place + (p - hold.offset)) else None) ≡ Some at
+      → (in_run hold p ≡ true) × (at ≡ (0, hold.place + (p - hold.offset)))
+  from true same there = (same, cc (sym there))
+  from false same there = absurd (cc there)
+
+module _ {S : Type 0} (g : Ghosts S) (claim : ℕ) (old new : Qcow2 S g)
+    (result : Result Unit (Fault × Option (PreparedDataMapping PreparedMappingState))) (s : SpendsUnspent g claim old result new) where
+  abbrev hold : Holding
+  hold = holding g s.spent
+
+  pub hold-is : holding_in g old.unspent ≡ Some hold
+  hold-is = ap (holding_in g) s.there
+
+  abbrev f : Bytes
+  f = file_of g old.tables
+
+  abbrev f' : Bytes
+  f' = file_of g new.tables
+
+  abbrev h : Fields
+  h = old.tables.file.header.fields
+
+  abbrev h' : Fields
+  h' = new.tables.file.header.fields
+
+  abbrev cs : ℕ
+  cs = cluster_size h
+
+  fields-same : h' ≡ h
+  fields-same = ap (λ (K : Header). K.fields) s.names.header
+
+  mode-same : new.mode ≡ old.mode
+  mode-same = ap (λ (d : Qcow2 S g). d.mode) s.others
+
+  number-same : new.number ≡ old.number
+  number-same = ap (λ (d : Qcow2 S g). d.number) s.others
+
+  pub failed-is : new.failed ≡ failed_behind_any s.named old.failed
+  failed-is = ap (λ (d : Qcow2 S g). d.failed) s.others
+
+  free-now : new.unspent ≡ None
+  free-now = ap (λ (d : Qcow2 S g). d.unspent) s.others
+
+  none-held : holding_in g new.unspent ≡ None
+  none-held = ap (holding_in g) free-now
+
+  pub is-free : (layer_of g new).unspent ≡ None
+  is-free = ap claim_held none-held
+
+  pub fixed-same : (layer_of g new).fixed ≡ (layer_of g old).fixed
+  fixed-same = λ i. qcow2_fixed (s.names.shape i) (fields-same i) (mode-same i) (number-same i)
+
+  pub size-same : (layer_of g new).size ≡ (layer_of g old).size
+  size-same = ap (λ (k : Fields). k.size) fields-same
+
+  -- Of a safe image.
+  module _ (safe : IsSafe g old) where
+    holds : HoldsIn g old.tables hold
+    holds = subst (λ o. IfSome o (HoldsIn g old.tables)) hold-is safe.held
+
+    abbrev before : Metadata
+    before = rest_of g old.tables holds.space
+
+    sound : IsSound before
+    sound = safe-sound g old holds.space holds.there safe
+
+    able : IsNameable before hold.table hold.guest hold.host
+    able = holds.held.nameable
+
+    with-space : NamesWith g hold.table hold.guest hold.host old.tables holds.space s.named new.tables
+    with-space = s.names.known holds.space holds.there (let some = holds.held.some in omega (arith, some), holds.held.reach)
+
+    abbrev c : Clusters S
+    c = lent old.tables.file with-space.caches holds.space
+
+    abbrev c' : Clusters S
+    c' = lent new.tables.file new.tables.caches with-space.between
+
+    ready : IsReady g.state c
+    ready = record { keeps = safe.keeps; sound = sound }
+
+    progress : Progresses (s.named ≡ Ok tt) (naming before hold.guest hold.host) (g.state old.tables.file.image) before
+        (g.state new.tables.file.image) (resting g.state c')
+    progress = with-space.names.progress able
+
+    -- It is refused for want of memory or by a storage alone.
+    pub refused-hard : (fault : Fault) → s.named ≡ Err fault → IsMild fault → ⊥
+    refused-hard fault is mild =
+        never fault (subst (λ r. IfErr r (WhyNotNamed (IsReady g.state c × IsNameable before hold.table hold.guest hold.host)
+        (g.state old.tables.file.image).faults (g.state new.tables.file.image).faults)) is with-space.names.cause) mild where
+          never : (e : Fault) → WhyNotNamed (IsReady g.state c × IsNameable before hold.table hold.guest hold.host)
+              (g.state old.tables.file.image).faults (g.state new.tables.file.image).faults e → IsMild e → ⊥
+          never Memory why mild = mild
+          never Storage why mild = mild
+          never DamagedTable why mild = why (ready, able)
+          never e why mild = why
+
+    -- What a place of the guest cluster shows then is what stands in the host cluster, which settles what is held of it.
+    settled-byte : (p : ℕ) → p / cs ≡ hold.guest → p < h.size → (was : Cell)
+        → Settles ((layer_of g old).held p) was (own (byte (f (place_in h hold.host p))))
+    settled-byte p is low was =
+        subst (λ o. Settles (held_with h f o p) was (own (byte (f (place_in h hold.host p))))) (sym hold-is) (elim (cases_Bool (in_run hold p)) [
+          | inl run ↦ rw (there, run) (by-hold hold.overwrite (hold.written p) (hold.copied (place_in h hold.host p))
+              (f (place_in h hold.host p)) was (holds.held.kept p there)
+              (each-byte (g.state old.tables.file.image).bytes s.bytes (place_in h hold.host p)))
+          | inr out ↦ rw (there, out) (ap (λ b. own (byte b)) (holds.held.kept p there (holds.held.beside p there out)))
+        ]) where
+          there : in_cluster h hold p ≡ true
+          there = cluster-of h hold p is low
+
+    not-loose : (p : ℕ) → p / cs ≡ hold.guest → p < h.size → (layer_of g old).held p ≡ loose → ⊥
+    not-loose p is low none =
+        let there = cluster-of h hold p is low in
+        let held : held_of h f hold p ≡ loose = ap (λ o. held_with h f o p) (sym hold-is) ∙ none in
+        from (in_run hold p) (let e : (if in_run hold p then inside (copied_to h hold p) (written_to h f hold p) hold.overwrite
+        else beside (hold.copied (place_in h hold.host p))) ≡ loose = rw there at held in e) where
+          from : (b : Bool) → (if b then inside (copied_to h hold p) (written_to h f hold p) hold.overwrite
+              else beside (hold.copied (place_in h hold.host p))) ≡ loose → ⊥
+          from true bad = cc bad
+          from false bad = cc bad
+
+    abbrev GivenOnce : ℕ → Option Value → Type 0
+    GivenOnce = GivesWord before (hold.guest / words_of_cluster h) (hold.guest % words_of_cluster h) (data_at hold.host true)
+
+    -- A stop in it shows that too.
+    pub stops-settled : (below : List Layer) → Passes (Left below (layer_of g old) (g.state old.tables.file.image).bytes is_sound
+        (layer_of g old).size (layer_of g old).size (GivesSettled below (layer_of g old)))
+        (g.state old.tables.file.image) (g.state new.tables.file.image)
+    stops-settled below =
+        passes_weaker (λ x. (K : Header) × MayBeLeft GivenOnce before (bytes_of x) K)
+        (Left below (layer_of g old) (g.state old.tables.file.image).bytes is_sound h.size h.size (GivesSettled below (layer_of g old)))
+        (g.state old.tables.file.image) (g.state new.tables.file.image)
+        (may-left g old holds.space safe below GivenOnce (GivesSettled below (layer_of g old)) shows)
+        (progress.passes safe.keeps sound) where
+          shows : (p : ℕ) (v : Option Value) → p < h.size → GivenOnce p v
+              → May below (layer_of g old) (g.state old.tables.file.image).bytes (GivesSettled below (layer_of g old)) p (seen_as g old holds.space safe below p v)
+          shows p v low given =
+              let guest = same-parts (p / cs) hold.guest (words_of_cluster h) given.0.0 given.0.1 in
+              inr (inr (
+                own (byte (f (place_in h hold.host p))),
+                settled-byte p guest low ((layer_of g old).cell p),
+                ap (seen_as g old holds.space safe below p) given.1 ∙ rw (lt-ltb p h.size low) refl,
+              ))
+
+    -- It succeeded.
+    module _ (ok : s.named ≡ Ok tt) where
+      abbrev after : Metadata
+      after = resting g.state c'
+
+      advances : Advances GivenOnce (λ q. ⊥) (IsOfWord h (hold.guest / words_of_cluster h) (hold.guest % words_of_cluster h))
+          (λ _. 0) (one_at hold.host) before after
+      advances = progress.holds safe.keeps sound ok
+
+      word-named : entry f' h hold.guest ≡ data_at hold.host true
+      word-named = subst (λ r. OnOk r (entry f' h hold.guest ≡ data_at hold.host true)) ok (with-space.names.named ready able)
+
+      byte-kept : (q : ℕ) → q / cs ≡ hold.host → f' q ≡ f q
+      byte-kept = subst (λ r. OnOk r ((q : ℕ) → q / cs ≡ hold.host → f' q ≡ f q)) ok (with-space.names.bytes ready able)
+
+      memory-now : in_memory after ≡ f'
+      memory-now = clean-memory f' h' nothing_cached tt tt
+
+      memory-then : in_memory before ≡ f
+      memory-then = rest-memory g old.tables holds.space
+
+      word-is : (x : ℕ) → (x ≡ hold.guest) ⊎ (entry f' h x ≡ entry f h x)
+      word-is x = elim (advances.words x) [
+        | inl same ↦ inr (ap (λ k. entry f' k x) (sym fields-same) ∙ ap (λ b. entry b h' x) (sym memory-now) ∙ same
+            ∙ ap (λ b. entry b h x) memory-then)
+        | inr set ↦ inl (same-parts x hold.guest (words_of_cluster h) set.0 set.1)
+      ]
+
+      value-is : (p : ℕ) → (p / cs ≡ hold.guest) ⊎ (own_value f' f' h p ≡ own_value f f h p)
+      value-is p = elim (advances.memory p) [
+        | inl same ↦ inr (ap (λ k. own_value f' f' k p) (sym fields-same) ∙ ap (λ b. own_value b f' h' p) (sym memory-now) ∙ same
+            ∙ ap (λ b. own_value b f h p) memory-then)
+        | inr gave ↦ inl (same-parts (p / cs) hold.guest (words_of_cluster h) gave.0.0 gave.0.1)
+      ]
+
+      cell-now : (p : ℕ) → (layer_of g new).cell p ≡ cells (blank_of old.mode.backing) f' f' h p
+      cell-now p = λ i. cells (blank_of (mode-same i).backing) (memory-is g new.tables i) f' (fields-same i) p
+
+      cell-then : (p : ℕ) → (layer_of g old).cell p ≡ cells (blank_of old.mode.backing) f f h p
+      cell-then p = λ i. cells (blank_of old.mode.backing) (memory-is g old.tables i) f h p
+
+      -- What a place says: in the guest cluster what stands in the host cluster,
+      cell-there : (p : ℕ) → p / cs ≡ hold.guest → p < h.size → (layer_of g new).cell p ≡ own (byte (f (place_in h hold.host p)))
+      cell-there p is low =
+          cell-now p ∙ (rw (lt-ltb p h.size low) (ap (λ x. cell_by (blank_of old.mode.backing) f' h p (entry f' h x)) is
+          ∙ ap (cell_by (blank_of old.mode.backing) f' h p) word-named
+          ∙ ap (λ b. own (byte b)) (byte-kept (place_in h hold.host p) (cluster-there h (place_in h hold.host p) hold.host p refl))))
+
+      -- and elsewhere what it did.
+      cell-elsewhere : (p : ℕ) → (p / cs ≡ hold.guest → p < h.size → ⊥) → (layer_of g new).cell p ≡ (layer_of g old).cell p
+      cell-elsewhere p out = cell-now p ∙ elim (cases_lt p h.size) [
+        | inr behind ↦ rw (le-ltb p h.size behind) refl
+        | inl low ↦ rw (lt-ltb p h.size low) (elim (value-is p) [
+          | inl guest ↦ absurd (out guest low)
+          | inr same ↦ cell-shown (blank_of old.mode.backing) f' h p (entry f' h (p / cs)) ∙ ap (cell_of (blank_of old.mode.backing)) same
+              ∙ sym (cell-shown (blank_of old.mode.backing) f h p (entry f h (p / cs)))
+        ])
+      ] ∙ sym (cell-then p)
+
+      cell-settles : (p : ℕ) → Settles ((layer_of g old).held p) ((layer_of g old).cell p) ((layer_of g new).cell p)
+      cell-settles p = elim (cases_Bool (in_cluster h hold p)) [
+        | inl there ↦
+            let place = cluster-from h hold p there in
+            subst (Settles ((layer_of g old).held p) ((layer_of g old).cell p)) (sym (cell-there p place.0 place.1))
+            (settled-byte p place.0 place.1 ((layer_of g old).cell p))
+        | inr out ↦
+            let same = cell-elsewhere p (λ is low. let there = cluster-of h hold p is low in cc (sym out ∙ there)) in
+            let none : loose ≡ (layer_of g old).held p = sym (ap (λ o. held_with h f o p) hold-is ∙ rw out refl) in
+            subst (λ k. Settles k ((layer_of g old).cell p) ((layer_of g new).cell p)) none same
+      ]
+
+      home-now : (p : ℕ) → homes_of g new p ≡ homes old.mode.writable f' h p
+      home-now p = λ i. homes (mode-same i).writable (memory-is g new.tables i) (fields-same i) p
+
+      home-then : (p : ℕ) → homes_of g old p ≡ homes old.mode.writable f h p
+      home-then p = λ i. homes old.mode.writable (memory-is g old.tables i) h p
+
+      -- A place that could be written by its word can be so still,
+      pub home-grows : (p : ℕ) (at : ℕ × ℕ) → homes_of g old p ≡ Some at → homes_of g new p ≡ Some at
+      home-grows p at is = elim (word-is (p / cs)) [
+        | inl guest ↦
+            let free : TakesNone (entry f h (p / cs)) = subst (λ x. TakesNone (entry f h x)) (sym guest) able.free in
+            absurd (let none : None ≡ Some at = sym (homeless old.mode.writable f h p (inl (inr free))) ∙ sym (home-then p) ∙ is in cc none)
+        | inr same ↦
+            home-now p ∙ ap (λ w. if old.mode.writable && ltb p h.size then home_by h p w else None) same ∙ sym (home-then p) ∙ is
+      ]
+
+      -- and so can one of the run, by its word now.
+      home-held-now : (p : ℕ) (at : ℕ × ℕ) → held_home hold p ≡ Some at → homes_of g new p ≡ Some at
+      home-held-now p at is =
+          let there = run-home hold p at is in
+          let guest = run-guest before hold holds.held p there.0 in
+          let place = held-at before hold holds.held p there.0 in
+          let low : p < h.size = let in-run = run-from hold p there.0 in let end = holds.held.on_disk in omega (arith, in-run.1, end) in
+          let writable : old.mode.writable ≡ true = safe.writable (subst IsSome (sym s.there) refl) in
+          let here : homes old.mode.writable f' h p ≡ Some (0, place_in h hold.host p) =
+          rw (writable, lt-ltb p h.size low) (ap (λ x. home_by h p (entry f' h x)) guest ∙ ap (home_by h p) word-named) in
+          home-now p ∙ here ∙ ap (λ (x : ℕ). Some (0, x)) (sym place) ∙ ap Some (sym there.1)
+
+      home-settles : (p : ℕ) (at : ℕ × ℕ) → (layer_of g old).home p ≡ Some at → (layer_of g new).home p ≡ Some at
+      home-settles p at is =
+          free-homes (holding_in g new.unspent) (homes_of g new) p is-free
+          ∙ from (homes_of g old p) refl (subst (λ o. homes_with o (homes_of g old) p ≡ Some at) hold-is is) where
+            from : (o : Option (ℕ × ℕ)) → homes_of g old p ≡ o → home_or o (held_home hold p) ≡ Some at → homes_of g new p ≡ Some at
+            from None same held = home-held-now p at held
+            from (Some home) same there = home-grows p at (same ∙ there)
+
+      pub committed : Committed (layer_of g old) (layer_of g new)
+      committed = record { fixed = fixed-same; size = size-same; is_free = is-free; cell = cell-settles; home = home-settles }
+
+      -- What is allocated stays so, and what isn't held stays vacant.
+      room-now : (P : Bytes → Fields → Type 0) → P f' h → P (memory_of g new.tables) h'
+      room-now P is = subst (λ b. P b h') (sym (memory-is g new.tables)) (subst (P f') (sym fields-same) is)
+
+      room-then : (P : Bytes → Fields → Type 0) → P (memory_of g old.tables) h → P f h
+      room-then P = subst (λ b. P b h) (memory-is g old.tables)
+
+      pub room-kept : (p : ℕ) → HasRoom (memory_of g old.tables) h p → HasRoom (memory_of g new.tables) h' p
+      room-kept p has = room-now (λ b k. HasRoom b k p) (
+          let was : HasRoom f h p = room-then (λ b k. HasRoom b k p) has in record {
+            inside = was.inside;
+            own = elim (word-is (p / cs)) [
+              | inl guest ↦ subst HasCluster (sym (ap (entry f' h) guest ∙ word-named)) tt
+              | inr same ↦ subst HasCluster (sym same) was.own
+            ];
+          })
+
+      pub stays-so : (P : Mapping → Type 0) (p : ℕ) → (layer_of g old).held p ≡ loose
+          → (h.size ≤ p) ⊎ P (entry (memory_of g old.tables) h (p / cs))
+          → (h'.size ≤ p) ⊎ P (entry (memory_of g new.tables) h' (p / cluster_size h'))
+      stays-so P p none was = room-now (λ b k. (k.size ≤ p) ⊎ P (entry b k (p / cluster_size k)))
+          (elim (room-then (λ b k. (k.size ≤ p) ⊎ P (entry b k (p / cluster_size k))) was) [
+            | inl behind ↦ inl behind
+            | inr is ↦ elim (word-is (p / cs)) [
+              | inr same ↦ inr (subst P (sym same) is)
+              | inl guest ↦ elim (cases_lt p h.size) [
+                | inl low ↦ absurd (not-loose p guest low none)
+                | inr behind ↦ inl behind
+              ]
+            ]
+          ])
+
+      consistent-now : IsConsistent f' new.tables.file.header
+      consistent-now = advances.sound.safe.consistent
+
+      seen-now : IsSeen g new.tables
+      seen-now = record {
+        loads = header-reading f' new.tables.file.header consistent-now.readable.loads;
+        inside = consistent-now.readable.data_inside;
+        l1 = with-space.names.l1 able ready (subst WasNotCutOff (sym ok) tt) new.tables.l1 (subst (IsL1Of f h) (sym s.names.l1) safe.seen.l1);
+        tables = subst (λ (k : Cached). AllByRecursion (IsOfFile f' h') k.tables) (sym with-space.names.rests.empty) tt;
+      }
+
+      rest-now : rest_of g new.tables with-space.after ≡ after
+      rest-now = λ i. record after { table = table_of (with-space.allocator i); pending = with-space.entries i }
+
+      pub safe-now : IsSafe g new
+      safe-now = record {
+        runs = failed-is ∙ ap (λ r. failed_behind_any r old.failed) ok ∙ safe.runs;
+        keeps = subst (λ (x : Shape). IsTrue x.keeps) (sym s.names.shape) safe.keeps;
+        consistent = consistent-now;
+        seen = seen-now;
+        sound = subst (λ o. IfSome o (λ x. IsSound (rest_of g new.tables x))) (sym with-space.there) (subst IsSound (sym rest-now) advances.sound);
+        held = subst (λ o. IfSome o (HoldsIn g new.tables)) (sym none-held) tt;
+        writable = λ some. absurd (cc (subst IsSome free-now some));
+      }
+
+-- What a commit is by its two calls: the mapping was taken out, and its cluster named.
+pub spends-by : {S : Type 0} (g : Ghosts S) (claim : ℕ) (old mid : Qcow2 S g) (u : Unspent S g)
+    → (u.claim ≡ claim) × (old.unspent ≡ Some u) × (mid ≡ record old { unspent = None }) → (named : Result Unit Fault) (tables : Tables S g)
+    → NamesHost g u.table u.guest u.host mid.tables named tables → (new : Qcow2 S g)
+    → new ≡ record mid { tables = tables; failed = failed_behind_any named mid.failed }
+    → (result : Result Unit (Fault × Option (PreparedDataMapping PreparedMappingState))) → result ≡ answer_of named
+    → (let file = (g.state mid.tables.file.image).bytes in EachIndex file (λ k. slice_index file k < 256))
+    → CommitsUnspent g claim old result new
+spends-by g claim old mid u taken named tables names new is result answer bytes = inr (record {
+  spent = u;
+  there = taken.1;
+  mine = taken.0;
+  bytes = subst (λ (t : Tables _ g). let file = (g.state t.file.image).bytes in EachIndex file (λ k. slice_index file k < 256)) tables-same bytes;
+  named = named;
+  names = subst (λ t. NamesHost g u.table u.guest u.host t named new.tables) tables-same
+      (subst (NamesHost g u.table u.guest u.host mid.tables named) (sym (ap (λ (d : Qcow2 _ g). d.tables) is)) names);
+  answer = answer;
+  others = is
+      ∙ ap (λ (d : Qcow2 _ g). record d { tables = tables; failed = failed_behind_any named d.failed }) taken.2
+      ∙ ap (λ t. record old { tables = t; unspent = None; failed = failed_behind_any named old.failed }) (sym (ap (λ (d : Qcow2 _ g). d.tables) is));
+}) where
+  tables-same : mid.tables ≡ old.tables
+  tables-same = ap (λ (d : Qcow2 _ g). d.tables) taken.2
+
+-- What naming a host cluster is by the call that does it, where words can name the cluster.
+module _ {S : Type 0} (g : Ghosts S) (table guest host : ℕ) (old new : Tables S g) (result : Result Unit Fault) (space : Space)
+    (caches : MetadataCaches S) (between after : Space) (there : old.space ≡ Some space)
+    (names : Names g.state table guest host (lent old.file caches space) result (lent new.file new.caches between)) (l1 : new.l1 ≡ old.l1)
+    (there' : new.space ≡ Some after) (allocator : after.allocator ≡ between.allocator) (entries : after.to_free.entries ≡ between.to_free.entries) where
+  why-any : (sure : Type 0) (a b : ℕ) (fault : Fault) → WhyNotNamed sure a b fault → WhyNotNamed ⊥ a b fault
+  why-any sure a b Memory why = tt
+  why-any sure a b Storage why = why
+  why-any sure a b DamagedTable why = λ none. none
+  why-any sure a b fault why = absurd why
+
+  if-err : (r : Result Unit Fault) (P Q : Fault → Type 0) → ((fault : Fault) → P fault → Q fault) → IfErr r P → IfErr r Q
+  if-err (Ok done) P Q each is = tt
+  if-err (Err fault) P Q each is = each fault is
+
+  pub names-by : NamesHost g table guest host old result new
+  names-by = record {
+    shape = names.rests.shape;
+    later = names.rests.later;
+    faults = names.rests.faults;
+    header = names.header;
+    l1 = l1;
+    known = λ known is namable. record {
+      caches = caches;
+      between = between;
+      after = after;
+      names = subst (λ x. Names g.state table guest host (lent old.file caches x) result (lent new.file new.caches between))
+          (some-same known space (sym is ∙ there)) names;
+      there = there';
+      allocator = allocator;
+      entries = entries;
+    };
+    cause = if-err result _ _ (why-any _ (g.state old.file.image).faults (g.state new.file.image).faults) names.cause;
+  } where
+    some-same : (a b : Space) → Some a ≡ Some b → b ≡ a
+    some-same a b is = cc (sym is)

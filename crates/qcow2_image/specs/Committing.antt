@@ -1,0 +1,105 @@
+-- How a prepared mapping is committed or given up.
+use Rattle.std.specs.Prelude.{◌≡◌, ◌≢◌, ◌⊎◌, ◌∷◌, [], ◌++◌, ◌<◌, ◌-◌, ℕ, Bool, false, true, Option, Some, None, Result, Ok, Err, IfErr, EachIndex, slice_index}
+use Rattle.imago_storage.specs.Calls.{IsFaultless, Later}
+use Rattle.imago_storage.specs.declared.fault.Fault.{Fault}
+use Rattle.imago_storage.specs.declared.storage.Storage.{Ghosts}
+use Rattle.imago_access.specs.declared.mapping.PreparedDataMapping.{PreparedDataMapping}
+use Rattle.qcow2_metadata.specs.Places.{IsInReach}
+use Rattle.qcow2_alloc.specs.declared.cache.MetadataCaches.{MetadataCaches}
+use Rattle.qcow2_alloc.specs.Going.{WasNotCutOff}
+use Rattle.qcow2_clusters.specs.Naming.{Names, WhyNotNamed}
+use Rattle.qcow2_clusters.specs.Rest.{lent}
+use Rattle.qcow2_clusters.specs.declared.space.Space.{Space}
+use Rattle.qcow2_image.specs.Holding.{claim_held}
+use Rattle.qcow2_image.specs.Unspent.{holding_in}
+use Rattle.qcow2_image.specs.declared.qcow2.PreparedMappingState.{PreparedMappingState}
+use Rattle.qcow2_image.specs.declared.qcow2.Qcow2.{Qcow2}
+use Rattle.qcow2_image.specs.declared.tables.Tables.{Tables}
+use Rattle.qcow2_image.specs.declared.unspent.Unspent.{Unspent}
+
+-- The prepared mapping is taken out, if it has this claim.
+abbrev pub TakesUnspent : {S : Type 0} (g : Ghosts S) → ℕ → Qcow2 S g → Option (Unspent S g) → Qcow2 S g → Type 0
+TakesUnspent g claim old None new = (new ≡ old) × (claim_held (holding_in g old.unspent) ≢ Some claim)
+TakesUnspent g claim old (Some u) new = (u.claim ≡ claim) × (old.unspent ≡ Some u) × (new ≡ record old { unspent = None })
+
+-- words can name the cluster
+abbrev pub IsNamable : (cluster_bits cluster : ℕ) → Type 0
+IsNamable cluster_bits cluster = (0 < cluster) × IsInReach cluster_bits cluster
+
+-- What naming a cluster did to the free space, by what it is then: but for room that isn't held any more that is it.
+pub record NamesWith {S : Type 0} (g : Ghosts S) (table guest host : ℕ) (old : Tables S g) (space : Space) (result : Result Unit Fault)
+    (new : Tables S g) : Type 0 where
+  pub caches : MetadataCaches S
+  pub between : Space
+  pub after : Space
+  pub names : Names g.state table guest host (lent old.file caches space) result (lent new.file new.caches between)
+  pub there : new.space ≡ Some after
+  pub allocator : after.allocator ≡ between.allocator
+  pub entries : after.to_free.entries ≡ between.to_free.entries
+
+-- A guest cluster comes to name a host cluster, as far as that may be done: where free space is known, and words can name it.
+pub record NamesHost {S : Type 0} (g : Ghosts S) (table guest host : ℕ) (old : Tables S g) (result : Result Unit Fault) (new : Tables S g)
+    : Type 0 where
+  pub shape : (g.state new.file.image).shape ≡ (g.state old.file.image).shape
+  pub later : Later (g.state old.file.image) (g.state new.file.image)
+  pub faults : WasNotCutOff result → IsFaultless (g.state old.file.image) (g.state new.file.image)
+  pub header : new.file.header ≡ old.file.header
+  pub l1 : new.l1 ≡ old.l1
+  pub known : (space : Space) → old.space ≡ Some space → IsNamable old.file.header.fields.cluster_bits host
+      → NamesWith g table guest host old space result new
+  pub cause : IfErr result (WhyNotNamed ⊥ (g.state old.file.image).faults (g.state new.file.image).faults)
+
+-- what a commit answers, by what naming did: a refusal has spent the mapping
+abbrev pub answer_of : Result Unit Fault → Result Unit (Fault × Option (PreparedDataMapping PreparedMappingState))
+answer_of (Ok done) = Ok done
+answer_of (Err fault) = Err (fault, None)
+
+-- and whether the image has failed then
+abbrev pub failed_behind_any : Result Unit Fault → Bool → Bool
+failed_behind_any (Ok done) failed = failed
+failed_behind_any (Err fault) failed = true
+
+-- The prepared mapping is spent, and its guest cluster names its host cluster, or the image has failed.
+pub record SpendsUnspent {S : Type 0} (g : Ghosts S) (claim : ℕ) (old : Qcow2 S g)
+    (result : Result Unit (Fault × Option (PreparedDataMapping PreparedMappingState))) (new : Qcow2 S g) : Type 0 where
+  pub spent : Unspent S g
+  pub there : old.unspent ≡ Some spent
+  pub mine : spent.claim ≡ claim
+  pub bytes : let file = (g.state old.tables.file.image).bytes in EachIndex file (λ k. slice_index file k < 256)
+  pub named : Result Unit Fault
+  pub names : NamesHost g spent.table spent.guest spent.host old.tables named new.tables
+  pub answer : result ≡ answer_of named
+  pub others : new ≡ record old { tables = new.tables; unspent = None; failed = failed_behind_any named old.failed }
+
+-- The prepared mapping is committed, if it has this claim, and else nothing is done.
+abbrev pub CommitsUnspent : {S : Type 0} (g : Ghosts S) → ℕ → Qcow2 S g
+    → Result Unit (Fault × Option (PreparedDataMapping PreparedMappingState)) → Qcow2 S g → Type 0
+CommitsUnspent g claim old result new =
+    ((claim_held (holding_in g old.unspent) ≢ Some claim) × (result ≡ Ok tt) × (new ≡ old)) ⊎ SpendsUnspent g claim old result new
+
+-- A host cluster waits to be freed then, where room is held for that, and else it leaks.
+abbrev pub GivesBack : ℕ → Option Space → Option Space → Type 0
+GivesBack host None new = new ≡ None
+GivesBack host (Some space) new = ((space.to_free.held ≡ 0) × (new ≡ Some space)) ⊎ ((0 < space.to_free.held) × (new ≡ Some (record space {
+  to_free = record {
+    entries = space.to_free.entries ++ record { first = host; count = 1; metadata = false } ∷ [];
+    held = space.to_free.held - 1;
+  };
+})))
+
+-- The prepared mapping is given up.
+pub record DropsUnspent {S : Type 0} (g : Ghosts S) (claim : ℕ) (old new : Qcow2 S g) : Type 0 where
+  pub spent : Unspent S g
+  pub there : old.unspent ≡ Some spent
+  pub mine : spent.claim ≡ claim
+  pub space : Option Space
+  pub given : GivesBack spent.host old.tables.space space
+  pub file : new.tables.file ≡ old.tables.file
+  pub l1 : new.tables.l1 ≡ old.tables.l1
+  pub caches : new.tables.caches ≡ old.tables.caches
+  pub known : new.tables.space ≡ space
+  pub others : new ≡ record old { tables = new.tables; unspent = None }
+
+-- It is, if it has this claim, and else nothing is done.
+abbrev pub CancelsUnspent : {S : Type 0} (g : Ghosts S) → ℕ → Qcow2 S g → Qcow2 S g → Type 0
+CancelsUnspent g claim old new = ((claim_held (holding_in g old.unspent) ≢ Some claim) × (new ≡ old)) ⊎ DropsUnspent g claim old new

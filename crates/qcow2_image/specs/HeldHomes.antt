@@ -1,0 +1,169 @@
+-- Where the places of an image can be written while a mapping is prepared: laws of the driver.
+use Rattle.std.proofs.Common.{inl, inr, sym, subst, ap, refl, arith, ◌∙◌}
+use Rattle.std.specs.Prelude.{◌≡◌, ◌⊎◌, ℕ, ◌+◌, ◌-◌, ◌*◌, ◌/◌, ◌<◌, ◌≤◌, ltb, nat_le, ◌&&◌, Bool, true, false, Option, Some, None, IsSome, IfSome}
+use Rattle.std.proofs.lemmas.Bool.{cases_Bool, leb-true, ltb-true, le-leb, lt-ltb}
+use Rattle.std.proofs.lemmas.Nat.{div-mul-add, div-add-mod'}
+use Rattle.imago_storage.specs.declared.storage.Storage.{Ghosts}
+use Rattle.imago_access.specs.Layer.{loose}
+use Rattle.qcow2_types.specs.Bytes.{Bytes}
+use Rattle.qcow2_types.specs.Header.{Fields, cluster_size}
+use Rattle.qcow2_types.specs.References.{refs}
+use Rattle.qcow2_types.specs.Words.{data_at}
+use Rattle.qcow2_types.proofs.Either.{refs-file}
+use Rattle.qcow2_alloc.specs.Quiet.{Metadata, in_memory, named_at_all}
+use Rattle.qcow2_image.specs.Holding.{Holding, IsHeld, claim_held, held_home, held_with, home_or, homes_with, in_run, place_in}
+use Rattle.qcow2_image.specs.Homes.{cluster-there, data-once, home-of, home-there, homeless, housed, mapped, memory_is, words-home}
+use Rattle.qcow2_image.specs.Rooms.{HoldsIn, IsSafe, IsVacant, IsZeroed, HasRoom, rest_of}
+use Rattle.qcow2_image.specs.Seen.{file_of, homes_of, layer_of, memory_of}
+use Rattle.qcow2_image.specs.Unspent.{holding_in}
+use Rattle.qcow2_image.specs.declared.qcow2.Qcow2.{Qcow2}
+use Rattle.qcow2_image.specs.declared.unspent.Unspent.{Unspent}
+
+-- Where nothing is prepared nothing is held,
+pub none-held : (hold : Option Holding) → claim_held hold ≡ None → hold ≡ None
+none-held None free = refl
+none-held (Some hold) free = absurd (Prim.cc free)
+
+pub none-unspent : {S : Type 0} (g : Ghosts S) (u : Option (Unspent S g)) → holding_in g u ≡ None → u ≡ None
+none-unspent g None is = refl
+none-unspent g (Some u) is = absurd (Prim.cc is)
+
+pub free_loose : (h : Fields) (file : Bytes) (hold : Option Holding) (p : ℕ) → claim_held hold ≡ None → held_with h file hold p ≡ loose
+free_loose h file None p free = refl
+free_loose h file (Some hold) p free = absurd (Prim.cc free)
+
+-- and each place can be written where its word says.
+pub free-homes : (hold : Option Holding) (home : ℕ → Option (ℕ × ℕ)) (p : ℕ) → claim_held hold ≡ None → homes_with hold home p ≡ home p
+free-homes None home p free = refl
+free-homes (Some hold) home p free = absurd (Prim.cc free)
+
+-- A place that can be written by its word can be so, whatever is prepared.
+pub words-first : (hold : Option Holding) (home : ℕ → Option (ℕ × ℕ)) (p : ℕ) (at : ℕ × ℕ) → home p ≡ Some at
+    → homes_with hold home p ≡ Some at
+words-first None home p at is = is
+words-first (Some hold) home p at is = ap (λ x. home_or x (held_home hold p)) is
+
+-- the place lies in the run
+pub run-from : (hold : Holding) (p : ℕ) → in_run hold p ≡ true → (hold.offset ≤ p) × (p < hold.offset + hold.length)
+run-from hold p is = from (nat_le hold.offset p) (ltb p (hold.offset + hold.length)) refl refl is where
+  from : (a b : Bool) → nat_le hold.offset p ≡ a → ltb p (hold.offset + hold.length) ≡ b → (a && b) ≡ true
+      → (hold.offset ≤ p) × (p < hold.offset + hold.length)
+  from true true low high both = (leb-true hold.offset p low, ltb-true p (hold.offset + hold.length) high)
+  from true false low high both = absurd (Prim.cc both)
+  from false b low high both = absurd (Prim.cc both)
+
+-- The first place is one of it.
+pub first-in : (hold : Holding) → 0 < hold.length → in_run hold hold.offset ≡ true
+first-in hold some =
+    rw (le-leb hold.offset hold.offset (Prim.omega arith), lt-ltb hold.offset (hold.offset + hold.length) (Prim.omega (arith, some))) refl
+
+-- A place of the run lies in the guest cluster.
+pub run-guest : (m : Metadata) (hold : Holding) → IsHeld m hold → (p : ℕ) → in_run hold p ≡ true
+    → p / cluster_size m.header.fields ≡ hold.guest
+run-guest m hold held p is =
+    let c : ℕ = cluster_size m.header.fields in
+    let inside = run-from hold p is in
+    let rest : ℕ = p - hold.guest * c in
+    let low : hold.guest * c ≤ p = Prim.omega (arith, held.first, inside.0) in
+    let high : p - hold.guest * c < c = Prim.omega (arith, held.last, inside.1, low) in
+    let split : p ≡ hold.guest * c + (p - hold.guest * c) = Prim.omega (arith, low) in
+    ap (λ x. x / c) split ∙ div-mul-add hold.guest c (p - hold.guest * c) high
+
+-- The place of the file for a place of the run.
+pub held-at : (m : Metadata) (hold : Holding) → IsHeld m hold → (p : ℕ) → in_run hold p ≡ true
+    → hold.place + (p - hold.offset) ≡ place_in m.header.fields hold.host p
+held-at m hold held p is =
+    let c : ℕ = cluster_size m.header.fields in
+    let inside = run-from hold p is in
+    let one = run-guest m hold held p is in
+    let first = run-guest m hold held hold.offset (first-in hold held.long) in
+    let split = div-add-mod' p c in
+    let split' = div-add-mod' hold.offset c in
+    Prim.omega (arith, held.placed, ap (λ x. x * c) one, ap (λ x. x * c) first, split, split', inside.0)
+
+-- A place that is held in the run,
+home-held : (hold : Holding) (p : ℕ) (at : ℕ × ℕ) → held_home hold p ≡ Some at
+    → (in_run hold p ≡ true) × (at ≡ (0, hold.place + (p - hold.offset)))
+home-held hold p at is = elim (cases_Bool (in_run hold p)) [
+  | inl there ↦ (there, let here : Some (0, hold.place + (p - hold.offset)) ≡ Some at = rw there at is in Prim.cc (sym here))
+  | inr away ↦ absurd (let none : None ≡ Some at = rw away at is in Prim.cc none)
+]
+
+module _ {S : Type 0} (g : Ghosts S) (d : Qcow2 S g) (safe : IsSafe g d) where
+  abbrev h : Fields
+  h = d.tables.file.header.fields
+
+  module _ (hold : Holding) (holds : HoldsIn g d.tables hold) where
+    -- What is held for it no word names,
+    unnamed : refs (file_of g d.tables) h hold.host ≡ 0
+    unnamed =
+        let m = rest_of g d.tables holds.space in
+        let le : refs m.file m.header.fields hold.host ≤ named_at_all m hold.host = refs-file m.file (in_memory m) m.header.fields hold.host in
+        let none = holds.held.nameable.reserved.unnamed in
+        Prim.omega (arith, le, none)
+
+    -- so that no place has its home there by its word.
+    elsewhere : (p q at : ℕ) → homes_of g d p ≡ Some (0, at) → at ≡ place_in h hold.host q → ⊥
+    elsewhere p q at home there =
+        let is = home-there d.mode.writable (memory_of g d.tables) h p (0, at) home in
+        let found = home-of h p at (mapped (memory_of g d.tables) h p) is.2 in
+        let same : found.0 ≡ hold.host = sym (cluster-there h at found.0 p found.2) ∙ cluster-there h at hold.host q there in
+        let word : mapped (file_of g d.tables) h p ≡ data_at found.0 true =
+        subst (λ (m : Bytes). mapped m h p ≡ data_at found.0 true) (memory_is g d.tables) found.1 in
+        let once = data-once (file_of g d.tables) d.tables.file.header safe.consistent (p / cluster_size h) found.0 word in
+        let none : refs (file_of g d.tables) h found.0 ≡ 0 = ap (refs (file_of g d.tables) h) same ∙ unnamed in
+        Prim.omega (arith, once, none)
+
+  -- No two places are written at one place of the file: both by their words,
+  module _ (p q : ℕ) (at : ℕ × ℕ) where
+    abbrev word : ℕ → Option (ℕ × ℕ)
+    word = homes_of g d
+
+    by-words : word p ≡ Some at → word q ≡ Some at → p ≡ q
+    by-words = words-home g d.tables d.mode.writable p q at safe.consistent
+
+    -- or both in the run,
+    in-held : (hold : Holding) → HoldsIn g d.tables hold → held_home hold p ≡ Some at → held_home hold q ≡ Some at → p ≡ q
+    in-held hold holds one two =
+        let here = home-held hold p at one in
+        let there = home-held hold q at two in
+        let low = run-from hold p here.0 in
+        let low' = run-from hold q there.0 in
+        let same : ◌≡◌ {A = ℕ × ℕ} (0, hold.place + (p - hold.offset)) (0, hold.place + (q - hold.offset)) = sym here.1 ∙ there.1 in
+        let places : hold.place + (p - hold.offset) ≡ hold.place + (q - hold.offset) = ap (λ (x : ℕ × ℕ). x.1) same in
+        Prim.omega (arith, places, low.0, low'.0)
+
+  -- for a home by a word is none of the run.
+  apart : (hold : Holding) → HoldsIn g d.tables hold → (p q : ℕ) (at : ℕ × ℕ) → homes_of g d p ≡ Some at → held_home hold q ≡ Some at → ⊥
+  apart hold holds p q at one two =
+      let there = home-held hold q at two in
+      let place = held-at (rest_of g d.tables holds.space) hold holds.held q there.0 in
+      elsewhere hold holds p q (hold.place + (q - hold.offset)) (one ∙ ap Some there.1) place
+
+  either : (hold : Holding) → HoldsIn g d.tables hold → (p q : ℕ) (at : ℕ × ℕ)
+      → homes_with (Some hold) (homes_of g d) p ≡ Some at → homes_with (Some hold) (homes_of g d) q ≡ Some at → p ≡ q
+  either hold holds p q at one two = from (homes_of g d p) (homes_of g d q) refl refl one two where
+    from : (a b : Option (ℕ × ℕ)) → homes_of g d p ≡ a → homes_of g d q ≡ b → home_or a (held_home hold p) ≡ Some at
+        → home_or b (held_home hold q) ≡ Some at → p ≡ q
+    from (Some a) (Some b) is is' one two = by-words p q at (is ∙ one) (is' ∙ two)
+    from (Some a) None is is' one two = absurd (apart hold holds p q at (is ∙ one) two)
+    from None (Some b) is is' one two = absurd (apart hold holds q p at (is' ∙ two) one)
+    from None None is is' one two = in-held p q at hold holds one two
+
+  pub one_home : (p q : ℕ) (at : ℕ × ℕ) → (layer_of g d).home p ≡ Some at → (layer_of g d).home q ≡ Some at → p ≡ q
+  one_home p q at = from (holding_in g d.unspent) refl safe.held where
+    from : (hold : Option Holding) → holding_in g d.unspent ≡ hold → IfSome hold (HoldsIn g d.tables)
+        → homes_with hold (homes_of g d) p ≡ Some at → homes_with hold (homes_of g d) q ≡ Some at → p ≡ q
+    from None is holds one two = by-words p q at one two
+    from (Some hold) is holds one two = either hold holds p q at one two
+
+-- While nothing is prepared, a place that can be written has room, and one that is vacant or zeroed can't be.
+pub says_room : {S : Type 0} (g : Ghosts S) (d : Qcow2 S g) → claim_held (holding_in g d.unspent) ≡ None → (p : ℕ) →
+    let h = d.tables.file.header.fields in
+    (IsVacant (memory_of g d.tables) h p ⊎ IsZeroed (memory_of g d.tables) h p → (layer_of g d).home p ≡ None)
+    × (IsSome ((layer_of g d).home p) → HasRoom (memory_of g d.tables) h p)
+says_room g d free p =
+    let same : (layer_of g d).home p ≡ homes_of g d p = free-homes (holding_in g d.unspent) (homes_of g d) p free in (
+      λ states. same ∙ homeless d.mode.writable (memory_of g d.tables) d.tables.file.header.fields p states,
+      λ some. housed d.mode.writable (memory_of g d.tables) d.tables.file.header.fields p (subst IsSome same some),
+    )

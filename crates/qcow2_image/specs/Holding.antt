@@ -1,0 +1,100 @@
+-- What a prepared mapping holds of an image that was opened for writing: a run of one guest cluster, for which a host cluster is reserved.
+use Rattle.std.specs.Prelude.{◌≡◌, ◌≢◌, ℕ, ◌+◌, ◌-◌, ◌*◌, ◌/◌, ◌%◌, ◌<◌, ◌≤◌, Bool, true, false, Option, Some, None, if◌then◌else◌, min, ltb, nat_le, ◌==◌, ◌&&◌, ◌||◌}
+use Rattle.imago_access.specs.Layer.{Held, loose, beside, inside}
+use Rattle.qcow2_types.specs.Bytes.{Bytes}
+use Rattle.qcow2_types.specs.Header.{Fields, cluster_size}
+use Rattle.qcow2_metadata.specs.Places.{IsInReach}
+use Rattle.qcow2_alloc.specs.Quiet.{Metadata}
+use Rattle.qcow2_clusters.specs.Naming.{IsNameable}
+
+-- The mapping with this claim: its run in bytes, and where that is in the file; its guest cluster and the cluster of the L2 table over that,
+-- the host cluster, whether all of the run is going to be written, the file as it was when all was copied, and what was written since.
+pub record Holding : Type 0 where
+  pub claim : ℕ
+  pub offset : ℕ
+  pub length : ℕ
+  pub place : ℕ
+  pub guest : ℕ
+  pub table : ℕ
+  pub host : ℕ
+  pub overwrite : Bool
+  pub copied : Bytes
+  pub written : ℕ → Bool
+
+-- the place of a cluster at which a place of the disk lies
+abbrev pub place_in : Fields → ℕ → ℕ → ℕ
+place_in h c p = c * cluster_size h + p % cluster_size h
+
+-- the place is one of the run
+abbrev pub in_run : Holding → ℕ → Bool
+in_run hold p = nat_le hold.offset p && ltb p (hold.offset + hold.length)
+
+-- the place is one of the guest cluster, on a disk of this size
+abbrev pub in_cluster : Fields → Holding → ℕ → Bool
+in_cluster h hold p = (p / cluster_size h == hold.guest) && ltb p h.size
+
+-- what was copied to a place of the run, unless all of it is going to be written
+abbrev pub copied_to : Fields → Holding → ℕ → Option ℕ
+copied_to h hold p = if hold.overwrite then None else Some (hold.copied (place_in h hold.host p))
+
+-- what was written to it
+abbrev pub written_to : Fields → Bytes → Holding → ℕ → Option ℕ
+written_to h file hold p = if hold.written p then Some (file (place_in h hold.host p)) else None
+
+-- what is held of a place, over this file
+abbrev pub held_of : Fields → Bytes → Holding → ℕ → Held
+held_of h file hold p =
+    if in_cluster h hold p
+    then (if in_run hold p then inside (copied_to h hold p) (written_to h file hold p) hold.overwrite
+    else beside (hold.copied (place_in h hold.host p)))
+    else loose
+
+abbrev pub held_with : Fields → Bytes → Option Holding → ℕ → Held
+held_with h file None p = loose
+held_with h file (Some hold) p = held_of h file hold p
+
+-- where a place of the run can be written
+abbrev pub held_home : Holding → ℕ → Option (ℕ × ℕ)
+held_home hold p = if in_run hold p then Some (0, hold.place + (p - hold.offset)) else None
+
+-- where each place can be written: by the words, or else in the run
+abbrev pub home_or : Option (ℕ × ℕ) → Option (ℕ × ℕ) → Option (ℕ × ℕ)
+home_or (Some home) held = Some home
+home_or None held = held
+
+abbrev pub homes_with : Option Holding → (ℕ → Option (ℕ × ℕ)) → ℕ → Option (ℕ × ℕ)
+homes_with None home p = home p
+homes_with (Some hold) home p = home_or (home p) (held_home hold p)
+
+abbrev pub claim_held : Option Holding → Option ℕ
+claim_held None = None
+claim_held (Some hold) = Some hold.claim
+
+-- Of an image at rest: what the mapping names is reserved and can be named, the run lies in the guest cluster, and what wasn't written has
+-- the bytes that were copied.
+pub record IsHeld (m : Metadata) (hold : Holding) : Type 0 where
+  pub nameable : IsNameable m hold.table hold.guest hold.host
+  pub some : hold.host ≢ 0
+  pub reach : IsInReach m.header.fields.cluster_bits hold.host
+  pub placed : hold.place ≡ place_in m.header.fields hold.host hold.offset
+  pub long : 0 < hold.length
+  pub first : hold.guest * cluster_size m.header.fields ≤ hold.offset
+  pub last : hold.offset + hold.length ≤ hold.guest * cluster_size m.header.fields + cluster_size m.header.fields
+  pub on_disk : hold.offset + hold.length ≤ m.header.fields.size
+  pub kept : (p : ℕ) → in_cluster m.header.fields hold p ≡ true → hold.written p ≡ false
+      → m.file (place_in m.header.fields hold.host p) ≡ hold.copied (place_in m.header.fields hold.host p)
+  pub beside : (p : ℕ) → in_cluster m.header.fields hold p ≡ true → in_run hold p ≡ false → hold.written p ≡ false
+
+-- A place of the run that is held, if one is: where it lies in the file, and for how many bytes, up to so many, the run goes on from it.
+abbrev pub HoldsRun : Option Holding → (offset most : ℕ) → Option (ℕ × ℕ) → Type 0
+HoldsRun None offset most answer = answer ≡ None
+HoldsRun (Some hold) offset most answer =
+    answer ≡ (if in_run hold offset
+    then Some (hold.place + (offset - hold.offset), min most (hold.length - (offset - hold.offset)))
+    else None)
+
+-- It was noted that a range was written.
+abbrev pub Notes : (at n : ℕ) → Option Holding → Option Holding → Type 0
+Notes at n None new = new ≡ None
+Notes at n (Some hold) new = (written : ℕ → Bool) × (new ≡ Some (record hold { written = written }))
+    × ((p : ℕ) → written p ≡ ((nat_le at p && ltb p (at + n)) || hold.written p))

@@ -1,0 +1,32 @@
+-- What calls leave of an image that change its file and not its disk.
+use Rattle.std.specs.Prelude.{◌≡◌, ℕ, List, IsTrue}
+use Rattle.imago_storage.specs.Calls.{Later, IsFaultless}
+use Rattle.imago_storage.specs.Passing.{Passes}
+use Rattle.imago_storage.specs.declared.storage.Storage.{Ghosts}
+use Rattle.imago_access.specs.Layer.{Layer}
+use Rattle.imago_access.specs.Stops.{GivesNone, Left}
+use Rattle.qcow2_types.specs.Entries.{entry}
+use Rattle.qcow2_image.specs.Rooms.{IsSafe, is_sound}
+use Rattle.qcow2_image.specs.Seen.{file_of, layer_of}
+use Rattle.qcow2_image.specs.declared.qcow2.Qcow2.{Qcow2}
+
+-- An image that has become another: the disk is what it was, each word means what it did, and what is prepared stays. Each stop shows what
+-- the disk did. It wasn't cut off where `ok` holds, and is safe then.
+pub record KeepsDisk {S : Type 0} (g : Ghosts S) (ok : Type 0) (old new : Qcow2 S g) : Type 0 where
+  pub mode : new.mode ≡ old.mode
+  pub number : new.number ≡ old.number
+  pub unspent : new.unspent ≡ old.unspent
+  pub shape : (g.state new.tables.file.image).shape ≡ (g.state old.tables.file.image).shape
+  pub later : Later (g.state old.tables.file.image) (g.state new.tables.file.image)
+  pub failed : IsTrue old.failed → IsTrue new.failed
+  pub size : new.tables.file.header.fields.size ≡ old.tables.file.header.fields.size
+  pub bits : new.tables.file.header.fields.cluster_bits ≡ old.tables.file.header.fields.cluster_bits
+  pub version : new.tables.file.header.fields.version ≡ old.tables.file.header.fields.version
+  pub faults : ok → IsFaultless (g.state old.tables.file.image) (g.state new.tables.file.image)
+  pub stops : IsSafe g old → (below : List Layer)
+      → Passes (Left below (layer_of g old) (g.state old.tables.file.image).bytes is_sound (layer_of g old).size (layer_of g old).size
+      GivesNone) (g.state old.tables.file.image) (g.state new.tables.file.image)
+  pub safely : IsSafe g old → ok → IsSafe g new
+  pub layer : IsSafe g old → ok → layer_of g new ≡ layer_of g old
+  pub words : IsSafe g old → ok → (guest : ℕ)
+      → entry (file_of g new.tables) new.tables.file.header.fields guest ≡ entry (file_of g old.tables) old.tables.file.header.fields guest

@@ -1,0 +1,42 @@
+-- What contracts see of a prepared mapping.
+use Rattle.std.specs.Prelude.{ℕ, ◌+◌, Bool, false, Option, Some, None, ltb, nat_le, ◌&&◌, ◌||◌}
+use Rattle.std.specs.declared.snapshot.Snapshot.{Snapshot}
+use Rattle.imago_storage.specs.declared.storage.Storage.{Ghosts}
+use Rattle.qcow2_types.specs.Bytes.{bytes_of}
+use Rattle.qcow2_image.specs.declared.unspent.Unspent.{Unspent}
+use Rattle.qcow2_image.specs.declared.unspent.Writes.{Writes, fold-Writes}
+use Rattle.qcow2_image.specs.declared.unspent.Writes.TheOpen.{Writes-F}
+use Rattle.qcow2_image.specs.Holding.{Holding}
+
+-- the place lies in the range
+abbrev pub here : (at n p : ℕ) → Bool
+here at n p = nat_le at p && ltb p (at + n)
+
+abbrev pub earlier : Option (Snapshot (ℕ → Bool)) → ℕ → Bool
+earlier None p = false
+earlier (Some s) p = s.value p
+
+-- a place was written, by the last range or by those before
+abbrev pub covered_by : Writes-F (ℕ → Bool) → ℕ → Bool
+covered_by layer p = here layer.at layer.length p || earlier layer.before p
+
+unfoldable pub covers : Writes → ℕ → Bool
+covers = fold-Writes (ℕ → Bool) covered_by
+
+abbrev pub holding : {S : Type 0} (g : Ghosts S) → Unspent S g → Holding
+holding g u = record {
+  claim = u.claim;
+  offset = u.offset;
+  length = u.length;
+  place = u.place;
+  guest = u.guest;
+  table = u.table;
+  host = u.host;
+  overwrite = u.overwrite;
+  copied = bytes_of (g.state u.copied.value).bytes;
+  written = covers u.written;
+}
+
+abbrev pub holding_in : {S : Type 0} (g : Ghosts S) → Option (Unspent S g) → Option Holding
+holding_in g None = None
+holding_in g (Some u) = Some (holding g u)

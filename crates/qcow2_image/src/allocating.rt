@@ -1,0 +1,172 @@
+// Clusters are allocated for guest clusters that have none.
+ghost use Rattle.std.specs.Prelude.{◌≡◌, ◌<◌, ◌+◌, ◌*◌, ◌^◌, false, None, length, IsTrue};
+ghost use Rattle.qcow2_types.specs.Header.{cluster_size};
+ghost use Rattle.qcow2_image.specs.Allocating.{EnsuresTable, FlushesFreed, FreesPending, IsFreshFor, LoadsSpace, StoresContent, TellsFresh, failed_cut, waits_in};
+ghost use Rattle.qcow2_metadata.specs.MappingView.{mapping_seen};
+
+use crate::lookup::{l2_cluster, look_up};
+use crate::qcow2::Qcow2;
+use crate::reloading::drop_cached;
+use imago_storage::{Fault, Storage};
+use qcow2_clusters::{Space, free_waiting, make_table, store};
+use qcow2_metadata::{L2Mapping, Table};
+use qcow2_types::{GuestCluster, HostCluster};
+use std::alloc::Global;
+
+// Whether a guest cluster that is mapped so has nothing allocated for it, and nothing of it has to be read of the layers below.
+fn is_fresh(mapping: L2Mapping, reads_below: bool) -> bool
+    ensures { IsTrue result → IsFreshFor reads_below (mapping_seen mapping) }
+{
+    match mapping {
+        L2Mapping::Backing { .. } => !reads_below,
+        L2Mapping::Zero { host_cluster, .. } => host_cluster.is_none(),
+        _ => false,
+    }
+}
+
+impl<S: Storage> Qcow2<S> {
+    // Answers what a change did that may have left a part, and marks the image as failed where that was cut off.
+    fn settle_change<T>(&mut self, answer: Result<T, Fault>) -> Result<T, Fault>
+        ensures same { result ≡ answer }
+        ensures marks { self.new ≡ record self.old { failed = failed_cut answer self.old.failed } }
+    {
+        if matches!(answer, Err(Fault::Memory) | Err(Fault::Storage)) {
+            self.failed = true;
+        }
+        answer
+    }
+
+    // Whether nothing is allocated for a guest cluster, and nothing of it has to be read of the layers below, of which only what isn't
+    // overwritten is needed.
+    pub(crate) fn is_fresh_at(
+        &mut self,
+        guest: GuestCluster,
+        is_overwritten: bool,
+    ) -> Result<bool, Fault>
+        requires fits { let bits = self.old.tables.file.header.fields.cluster_bits in (guest + 1) * 2 ^ bits < 2 ^ 64 + 2 ^ bits }
+        requires runs { self.old.failed ≡ false }
+        ensures { TellsFresh S.Storage guest is_overwritten self.old result self.new }
+    {
+        let reads_below = self.mode.backing && !is_overwritten;
+        prove!(self.tables.file.header.cluster_bits() >= 9);
+        match look_up(&mut self.tables, guest, 1) {
+            Ok((mapping, _count)) => Ok(is_fresh(mapping, reads_below)),
+            Err(fault) => {
+                self.mark(fault);
+                Err(fault)
+            }
+        }
+    }
+
+    // The free space is loaded where it isn't known yet.
+    pub(crate) fn load_space(&mut self, alloc: Global) -> Result<(), Fault>
+        ensures { LoadsSpace S.Storage self.old result self.new }
+    {
+        if self.tables.space.is_some() {
+            return Ok(());
+        }
+        match Space::load(alloc, &mut self.tables.file) {
+            Ok(space) => {
+                self.tables.space = Some(space);
+                Ok(())
+            }
+            Err(fault) => {
+                self.mark(fault);
+                Err(fault)
+            }
+        }
+    }
+
+    // The cluster of the L2 table over a guest cluster, which is made where there is none.
+    pub(crate) fn ensure_table(
+        &mut self,
+        alloc: Global,
+        guest: GuestCluster,
+    ) -> Result<HostCluster, Fault>
+        requires free { self.old.unspent ≡ None }
+        ensures { EnsuresTable S.Storage guest self.old result self.new }
+    {
+        let cluster_bits = self.tables.file.header.cluster_bits();
+        if let Some(table) = l2_cluster(&self.tables.l1, guest, cluster_bits) {
+            return Ok(table);
+        }
+        let index = guest.l1_index(cluster_bits);
+        if index >= self.tables.l1.entries() {
+            return Err(Fault::Limit(index as u64));
+        }
+        let Some(space) = &mut self.tables.space else {
+            return Err(Fault::DamagedTable);
+        };
+        let _dropped = drop_cached(&mut self.tables.caches);
+        let made = make_table(
+            alloc,
+            &mut self.tables.file,
+            &mut self.tables.caches,
+            space,
+            &mut self.tables.l1,
+            index,
+        );
+        self.settle_change(made)
+    }
+
+    // Stores the content of a guest cluster in a host cluster that was free.
+    pub(crate) fn store_content(
+        &mut self,
+        alloc: Global,
+        content: &[u8],
+    ) -> Result<HostCluster, Fault>
+        requires whole { length content.now ≡ cluster_size self.old.tables.file.header.fields }
+        requires free { self.old.unspent ≡ None }
+        ensures { StoresContent S.Storage content.now self.old result self.new }
+    {
+        let Some(space) = &mut self.tables.space else {
+            return Err(Fault::DamagedTable);
+        };
+        let _dropped = drop_cached(&mut self.tables.caches);
+        let stored = store(
+            alloc,
+            &mut self.tables.file,
+            &mut self.tables.caches,
+            space,
+            content,
+        );
+        self.settle_change(stored)
+    }
+
+    // Whether something waits to be freed.
+    pub(crate) fn has_waiting(&self) -> bool
+        ensures { result ≡ waits_in self.now.tables.space }
+    {
+        match &self.tables.space {
+            Some(space) => !space.to_free.is_empty(),
+            None => false,
+        }
+    }
+
+    // What waits to be freed is freed.
+    pub(crate) fn free_pending(&mut self) -> Result<(), Fault>
+        ensures { FreesPending S.Storage self.old result self.new }
+    {
+        if !self.has_waiting() {
+            return Ok(());
+        }
+        let Some(space) = &mut self.tables.space else {
+            return Ok(());
+        };
+        let _dropped = drop_cached(&mut self.tables.caches);
+        let freed = free_waiting(&mut self.tables.file, &mut self.tables.caches, space);
+        self.settle_change(freed)
+    }
+
+    // What waits to be freed is freed, and then the file is flushed. Whatever cuts that off marks the image as failed.
+    pub(crate) fn flush_freed(&mut self) -> Result<(), Fault>
+        ensures { FlushesFreed S.Storage self.old result self.new }
+    {
+        match self.free_pending() {
+            Ok(()) => {}
+            Err(fault) => return Err(fault),
+        }
+        let answer = self.tables.file.image.flush();
+        self.settle_change(answer)
+    }
+}

@@ -1,0 +1,130 @@
+// Prepared mappings are committed or given up.
+ghost use Rattle.std.specs.Prelude.{◌≡◌, ◌≤◌, ◌↔◌, IsTrue};
+ghost use Rattle.qcow2_image.specs.Committing.{CancelsUnspent, CommitsUnspent, GivesBack, IsNamable, NamesHost, TakesUnspent};
+
+use crate::qcow2::{PreparedMappingState, Qcow2};
+use crate::reloading::drop_cached;
+use crate::tables::Tables;
+use crate::unspent::Unspent;
+use imago_access::PreparedDataMapping;
+use imago_storage::{Fault, Storage};
+use qcow2_alloc::ClustersToFreeList;
+use qcow2_clusters::{Space, name};
+use qcow2_types::{
+    ClusterCount, ClustersToFreeEntry, GuestCluster, HostCluster, MAX_OFFSET, PendingClusters,
+};
+
+// Whether words can name the cluster.
+fn is_nameable(cluster: HostCluster, cluster_bits: u32) -> bool
+    requires { cluster_bits ≤ 21 }
+    ensures { IsTrue result ↔ IsNamable cluster_bits cluster }
+{
+    cluster.0 > 0 && cluster.0 <= MAX_OFFSET >> cluster_bits
+}
+
+// Lets the room for one entry go, where any is held.
+fn let_go(to_free: &mut ClustersToFreeList)
+    ensures { to_free.new.entries ≡ to_free.old.entries }
+{
+    if to_free.held() > 0 {
+        to_free.release();
+    }
+}
+
+// Has a guest cluster name a host cluster that is reserved for it, in its L2 table, which is in this cluster.
+fn name_host<S: Storage>(
+    tables: &mut Tables<S>,
+    table: HostCluster,
+    guest: GuestCluster,
+    host: HostCluster,
+) -> Result<(), Fault>
+    ensures { NamesHost S.Storage table guest host tables.old result tables.new }
+{
+    if !is_nameable(host, tables.file.header.cluster_bits()) {
+        return Err(Fault::DamagedTable);
+    }
+    let Some(mut space) = tables.space.take() else {
+        return Err(Fault::DamagedTable);
+    };
+    let _dropped = drop_cached(&mut tables.caches);
+    let named = name(
+        &mut tables.file,
+        &mut tables.caches,
+        &mut space,
+        table,
+        guest,
+        host,
+    );
+    match named {
+        Ok(()) => {
+            let_go(&mut space.to_free);
+            tables.space = Some(space);
+            Ok(())
+        }
+        Err(fault) => {
+            tables.space = Some(space);
+            Err(fault)
+        }
+    }
+}
+
+// Puts a host cluster that nothing is going to name among what waits to be freed, where room is held for that.
+fn give_back(space: &mut Option<Space>, host: HostCluster)
+    ensures { GivesBack host space.old space.new }
+{
+    let Some(space) = space else {
+        return;
+    };
+    if space.to_free.held() > 0 {
+        let entry = ClustersToFreeEntry::data(host, ClusterCount(1));
+        space.to_free.give_back(PendingClusters::new(entry));
+    }
+}
+
+impl<S: Storage> Qcow2<S> {
+    // Takes the prepared mapping out, if it has this state.
+    fn take_unspent(&mut self, state: PreparedMappingState) -> Option<Unspent<S>>
+        ensures { TakesUnspent S.Storage state.claim self.old result self.new }
+    {
+        let PreparedMappingState {
+            number: _number,
+            claim,
+        } = state;
+        let is_it = match &self.unspent {
+            Some(unspent) => unspent.claim == claim,
+            None => false,
+        };
+        if is_it { self.unspent.take() } else { None }
+    }
+
+    // Has the guest cluster of a prepared mapping name its host cluster. Whatever keeps it from that marks the image as failed: a part may
+    // be written.
+    pub(crate) fn commit_unspent(
+        &mut self,
+        state: PreparedMappingState,
+    ) -> Result<(), (Fault, Option<PreparedDataMapping<PreparedMappingState>>)>
+        ensures { CommitsUnspent S.Storage state.claim self.old result self.new }
+    {
+        let Some(unspent) = self.take_unspent(state) else {
+            return Ok(());
+        };
+        // Its contract bounds the bytes.
+        let _bytes = self.tables.file.image.size();
+        match name_host(&mut self.tables, unspent.table, unspent.guest, unspent.host) {
+            Ok(()) => Ok(()),
+            Err(fault) => {
+                self.failed = true;
+                Err((fault, None))
+            }
+        }
+    }
+
+    // Gives a prepared mapping up: its host cluster waits to be freed then.
+    pub(crate) fn cancel_unspent(&mut self, state: PreparedMappingState)
+        ensures { CancelsUnspent S.Storage state.claim self.old self.new }
+    {
+        if let Some(unspent) = self.take_unspent(state) {
+            give_back(&mut self.tables.space, unspent.host);
+        }
+    }
+}
