@@ -1,6 +1,6 @@
 -- Counters compared with names, cluster by cluster.
-use Rattle.std.proofs.Common.{◌≡◌, ℕ, zero, suc, ◌+◌, ◌-◌, ◌*◌, ◌/◌, ◌<◌, ◌≤◌, refl, true, false, arith, ap, sym, subst, ◌∙◌, List, [], ◌∷◌, ◌++◌, length, inl, inr}
-use Rattle.std.specs.Prelude.{nat_lt, if◌then◌else◌, slice_index, IsTrue, IsFalse, Option, Some, None}
+use Rattle.std.proofs.Common.{◌≡◌, ℕ, suc, ◌+◌, ◌-◌, ◌*◌, ◌/◌, ◌<◌, ◌≤◌, refl, true, false, arith, ap, sym, subst, ◌∙◌, List, [], ◌∷◌, ◌++◌, length, inl, inr}
+use Rattle.std.specs.Prelude.{nat_lt, if◌then◌else◌, slice_index, IsFalse, Option, Some, None}
 use Rattle.std.proofs.lemmas.Bool.{cases_lt, lt-ltb, le-ltb, ltb-true, ltb-false}
 use Rattle.std.proofs.lemmas.List.{append-nil}
 use Rattle.std.proofs.lemmas.Nat.{le-div}
@@ -8,7 +8,7 @@ use Rattle.imago_storage.specs.State.{StorageState, Rose}
 use Rattle.imago_storage.specs.Calls.{Kept}
 use Rattle.qcow2_types.specs.Bytes.{Bytes}
 use Rattle.qcow2_types.specs.Header.{Fields, refcount_table_entries}
-use Rattle.qcow2_types.specs.Counts.{count, block_at, counters_of_block}
+use Rattle.qcow2_types.specs.Counts.{count, counters_of_block}
 use Rattle.qcow2_types.specs.References.{refs}
 use Rattle.qcow2_types.specs.Consistency.{leaks_below, leak_at, leaks, is_under_counted, Nowhere, IsLeast}
 use Rattle.qcow2_types.proofs.Leaks.{leaks-skip, count-no-block}

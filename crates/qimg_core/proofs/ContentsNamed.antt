@@ -19,7 +19,7 @@ use Rattle.qimg_core.specs.declared.check.CheckFault.{CheckFault}
 use Rattle.qimg_core.specs.declared.check.CheckFault.TheVariants.{Table, Memory, Storage}
 use Rattle.qimg_core.specs.declared.check.names.Tallies.{Tallies}
 use Rattle.qimg_core.specs.Files.{file}
-use Rattle.qimg_core.specs.Names.{Adds, nothing_named, named_by, structure_part, mapped_part, copied_part}
+use Rattle.qimg_core.specs.Names.{Adds, KeepsCells, nothing_named, named_by, structure_part, mapped_part, copied_part}
 use Rattle.qimg_core.specs.CheckParts.{IsDamagedTable, IsOneDamaged, AreTables, sum_over}
 use Rattle.qimg_core.specs.Check.{Found}
 use Rattle.qimg_core.proofs.PlacesNamed.{places-step}
@@ -31,23 +31,11 @@ pub record NamedTo (old now : StorageState) (h : Fields) (before names : Tallies
   pub faults : now.faults ≡ old.faults
   pub few : times ≤ i
   pub last : i ≡ length places → times ≡ 0
+  pub cells : KeepsCells before names
   pub structure : (c : ℕ) → named_by structure_part c names ≡ named_by structure_part c before
   pub mapped : (c : ℕ) → named_by mapped_part c names + times * of_table (file old) h (of_mapping h (meets h c)) (slice_index places i) ≡ named_by mapped_part c before + sum_over (of_table (file old) h (of_mapping h (meets h c))) (take i places)
   pub copied : (c : ℕ) → named_by copied_part c names + times * of_table (file old) h (of_copied h (meets h c)) (slice_index places i) ≡ named_by copied_part c before + sum_over (of_table (file old) h (of_copied h (meets h c))) (take i places)
   pub sound : (k : ℕ) → k < i → IsTrue (l2_table_sound (file old) h (slice_index places k)) ⊎ ((0 < times) × (slice_index places k ≡ slice_index places i))
-
--- nothing is entered
-pub named-none : (old now : StorageState) (h : Fields) (names : Tallies) (places : List ℕ) → Kept old now → now.faults ≡ old.faults → NamedTo old now h names names places 0 0
-named-none old now h names places kept faults = record {
-  kept = kept;
-  faults = faults;
-  few = omega arith;
-  last = λ none. refl;
-  structure = λ c. refl;
-  mapped = λ c. omega arith;
-  copied = λ c. omega arith;
-  sound = λ k lt. absurd (omega arith);
-}
 
 module _ (old now : StorageState) (h : Fields) (before names : Tallies) (places : List ℕ) (times i : ℕ) (so_far : NamedTo old now h before names places times i) where
   -- the file is the same
@@ -61,6 +49,7 @@ module _ (old now : StorageState) (h : Fields) (before names : Tallies) (places 
     faults = so_far.faults;
     few = omega (arith, so_far.few);
     last = λ all. absurd (omega arith);
+    cells = so_far.cells;
     structure = so_far.structure;
     mapped = λ c. one-more (of_table (file old) h (of_mapping h (meets h c))) _ _ (so_far.mapped c);
     copied = λ c. one-more (of_table (file old) h (of_copied h (meets h c))) _ _ (so_far.copied c);
@@ -93,6 +82,7 @@ module _ (old now : StorageState) (h : Fields) (before names : Tallies) (places 
     faults = faults ∙ so_far.faults;
     few = omega arith;
     last = λ all. refl;
+    cells = own.cells ∙ so_far.cells;
     structure = λ c. own.structure c ∙ (no-more (named_by structure_part c names) ∙ so_far.structure c);
     mapped = λ c. all-now (of_table (file old) h (of_mapping h (meets h c))) _ _ _ (own.mapped c) (so_far.mapped c);
     copied = λ c. all-now (of_table (file old) h (of_copied h (meets h c))) _ _ _ (own.copied c) (so_far.copied c);
@@ -127,6 +117,7 @@ module _ (old now : StorageState) (h : Fields) (before names : Tallies) (places 
       structure = λ c. so_far.structure c ∙ omega arith;
       mapped = λ c. whole (of_table (file old) h (of_mapping h (meets h c))) _ _ (so_far.mapped c);
       copied = λ c. whole (of_table (file old) h (of_copied h (meets h c))) _ _ (so_far.copied c);
+      cells = so_far.cells;
     }
       where
         step : (a b s s' x times' : ℕ) → times' ≡ 0 → s ≡ s' → a + times' * x ≡ b + s → a ≡ b + s'

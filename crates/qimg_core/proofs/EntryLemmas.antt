@@ -1,8 +1,9 @@
 -- Lists of names.
-use Rattle.std.proofs.Common.{◌≡◌, ◌≢◌, ℕ, ◌+◌, ◌*◌, ◌/◌, ◌%◌, ◌^◌, ◌<◌, ◌≤◌, arith, ap, sym, subst, ◌∙◌, List, [], ◌∷◌, ◌++◌, length, take, drop, inl, inr}
+use Rattle.std.proofs.Common.{◌≡◌, ◌≢◌, ℕ, ◌+◌, ◌*◌, ◌/◌, ◌%◌, ◌^◌, ◌<◌, ◌≤◌, refl, arith, ap, sym, subst, ◌∙◌, List, [], ◌∷◌, ◌++◌, length, take, drop, inl, inr}
 use Rattle.std.specs.Prelude.{Some, slice_index, slice_index_or, if◌then◌else◌}
 use Rattle.std.specs.List.{sum_by}
 use Rattle.std.proofs.Math.Nat.{pow-le-pow_right}
+use Rattle.std.proofs.lemmas.Grind.{get_or_default_zero}
 use Rattle.std.proofs.lemmas.Bool.{cases_eq, cases_lt, eq-eqb, ne_eqb}
 use Rattle.std.proofs.lemmas.Nat.{mod-pow-add, mul-le}
 use Rattle.std.proofs.lemmas.List.{get_or_default, get_or-drop, get_or-take, length-take, length-drop}
@@ -81,11 +82,12 @@ module _ (list : List ℕ) (c start : ℕ) (bound : start ≤ length list) (befo
       omega (arith, rest, so_far, sum_by-take-drop (weight_in c) list i)
 
 -- the first name of a cluster that isn't before another
-pub next-named : (list : List ℕ) (low index : ℕ) → IsRising list → ((i : ℕ) → i < index → cluster_of (slice_index list i) < low) → low ≤ cluster_of (slice_index list index) → slice_index list index < 2 ^ 64 → IsNextIn list low (Some (cluster_of (slice_index list index)))
-next-named list low index rising before from small = record {
+pub next-named : (list : List ℕ) (low index : ℕ) → index < length list → IsRising list → ((i : ℕ) → i < index → cluster_of (slice_index list i) < low) → low ≤ cluster_of (slice_index list index) → slice_index list index < 2 ^ 64 → IsNextIn list low (Some (cluster_of (slice_index list index)))
+next-named list low index some rising before from small = record {
   none = λ c le lt. weight-none c list (λ k inside is. elim (cases_lt k index) [
     | inl less ↦ let early = before k less in absurd (omega (arith, early, is, le))
     | inr ge ↦ let late = rising index k 0 ge inside in absurd (omega (arith, late, is, lt))
   ]);
   from = (from, omega (arith, small));
+  named = (index, slice_index list index, some, get_or_default_zero list index (slice_index list index) some, refl);
 }

@@ -1,22 +1,21 @@
 -- What an image names, as the checker counts it.
-use Rattle.std.proofs.Common.{◌≡◌, ℕ, ◌+◌, ◌^◌, ◌≤◌, refl, arith, ap, sym, subst, ◌∙◌, List, length}
-use Rattle.std.specs.Prelude.{true, if◌then◌else◌, slice_index, Ok}
+use Rattle.std.proofs.Common.{◌≡◌, ℕ, ◌+◌, refl, arith, ap, sym, ◌∙◌, List}
+use Rattle.std.specs.Prelude.{if◌then◌else◌, slice_index}
 use Rattle.std.specs.List.{sum_by}
 use Rattle.qcow2_types.specs.Bytes.{Bytes, sum_below}
 use Rattle.qcow2_types.specs.Words.{Mapping}
-use Rattle.qcow2_types.specs.Header.{Header, header_of, Limited, refcount_table_entries}
+use Rattle.qcow2_types.specs.Header.{Header, refcount_table_entries}
 use Rattle.qcow2_types.specs.Entries.{l2_table}
 use Rattle.qcow2_types.specs.Counts.{block_at}
 use Rattle.qcow2_types.specs.References.{Weight, meets, of_cluster, of_mapping, of_copied, of_table, of_table_or_none, structure, contents}
-use Rattle.qcow2_types.proofs.HeaderLimits.{header-limited}
 use Rattle.qcow2_types.proofs.Sums.{sum-same}
 use Rattle.qimg_core.specs.declared.check.names.Tallies.{Tallies}
 use Rattle.qimg_core.specs.Names.{Adds, TellsNothing, nothing_named, named_by, structure_part, mapped_part, copied_part}
 use Rattle.qimg_core.specs.CheckParts.{Tells, HoldsPlaces, tables_of, sum_over, structure_over}
 use Rattle.qimg_core.proofs.ScanLemmas.{not-same}
-use Rattle.qimg_core.proofs.TablesListed.{sum-tables, sum-list, tables-few}
+use Rattle.qimg_core.proofs.TablesListed.{sum-tables, sum-list}
 
-module _ (f : Bytes) (H : Header) (loads : header_of true f ≡ Ok H) (tables blocks : List ℕ) (holds : HoldsPlaces f H.fields tables blocks) where
+module _ (f : Bytes) (H : Header) (tables blocks : List ℕ) (holds : HoldsPlaces f H.fields tables blocks) where
   -- by the list of tables, the sum over all L2 tables
   contents-listed : (of : Mapping → ℕ) → sum_over (of_table f H.fields of) tables ≡ contents f H.fields of
   unfolding contents tables_of
@@ -40,14 +39,6 @@ module _ (f : Bytes) (H : Header) (loads : header_of true f ≡ Ok H) (tables bl
       let a : sum_over (of_cluster H.fields w) blocks ≡ sum_below (refcount_table_entries H.fields) (λ i. of_cluster H.fields w (block_at f H.fields i)) = blocks-listed w in
       let b : sum_over (of_cluster H.fields w) tables ≡ sum_below H.fields.l1_entries (λ i. of_cluster H.fields w (l2_table f H.fields i)) = tables-listed w in
       omega arith
-
-  -- The lists are short.
-  pub few-tables : length tables ≤ 2 ^ 22
-  unfolding tables_of
-  few-tables =
-      let all : length tables ≤ H.fields.l1_entries = subst (λ (l : List ℕ). length l ≤ H.fields.l1_entries) (sym holds.in_order) (tables-few f H.fields H.fields.l1_entries) in
-      let limited : Limited H.fields = header-limited true f H loads in
-      omega (arith, all, limited.l1_entries)
 
   module _ (start between given : Tallies) (none : TellsNothing start) (adds-structure : Adds H.fields start between (λ w. structure_over H.fields tables blocks w) nothing_named nothing_named)
       (adds-contents : Adds H.fields between given nothing_named (λ w. sum_over (of_table f H.fields (of_mapping H.fields w)) tables) (λ w. sum_over (of_table f H.fields (of_copied H.fields w)) tables)) where

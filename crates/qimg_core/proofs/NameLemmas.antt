@@ -1,18 +1,18 @@
 -- One cluster and one more are entered.
-use Rattle.std.proofs.Common.{◌≡◌, ◌≢◌, ℕ, ◌+◌, ◌*◌, ◌<◌, ◌≤◌, arith, ap, sym, ◌∙◌, List, [], length, inl, inr}
+use Rattle.std.proofs.Common.{◌≡◌, ◌≢◌, ℕ, ◌+◌, ◌*◌, ◌<◌, ◌≤◌, refl, arith, ap, sym, ◌∙◌, List, [], length, inl, inr}
 use Rattle.std.specs.Prelude.{slice_index_or, slice_set, replicate}
 use Rattle.std.specs.List.{sum_by}
 use Rattle.std.specs.List.Sorted.{IsPermutation, IsSorted}
 use Rattle.std.specs.Ordering.{nat_cmp}
 use Rattle.std.proofs.lemmas.Bool.{cases_eq, cases_lt}
-use Rattle.std.proofs.lemmas.List.{get_or-set_same, get_or-set_other, get_or_default, get_or-replicate, get_or_past, length-replicate}
+use Rattle.std.proofs.lemmas.List.{get_or-set_same, get_or-set_other, get_or_default, get_or-replicate, get_or_past, length-replicate, length-set}
 use Rattle.std.proofs.lemmas.List.Sorted.{sum_by-IsPermutation, IsNonDecreasingBy-from_sort}
 use Rattle.qcow2_types.specs.Header.{Fields}
 use Rattle.qimg_core.specs.declared.check.names.Times.{Times}
 use Rattle.qimg_core.specs.declared.check.names.FewTimes.{FewTimes}
 use Rattle.qimg_core.specs.declared.check.names.Tallies.{Tallies}
 use Rattle.qimg_core.specs.declared.check.names.Others.{Others}
-use Rattle.qimg_core.specs.Names.{structure_part, mapped_part, copied_part, no_few_times, cell_at, weight_in, weight_of, other_at, together, times_at, named_by, is_between, IsSum, IsFewSum, IsRising, TellsNothing, Total, Adds, AddsClusters, AddsWeight, AddsEntry}
+use Rattle.qimg_core.specs.Names.{structure_part, mapped_part, copied_part, no_few_times, cell_at, weight_in, weight_of, other_at, together, times_at, named_by, is_between, KeepsCells, IsSum, IsFewSum, IsRising, TellsNothing, Total, Adds, AddsClusters, AddsWeight, AddsEntry}
 
 -- a range of no clusters
 pub adds-none : (names : Tallies) (low : ℕ) (times : Times) → AddsClusters names names low low times
@@ -20,6 +20,7 @@ adds-none names low times = record {
   structure = λ c. none (named_by structure_part c names) times.structure c;
   mapped = λ c. none (named_by mapped_part c names) times.mapped c;
   copied = λ c. none (named_by copied_part c names) times.copied c;
+  cells = refl;
 }
   where
     between : (c : ℕ) → is_between low low c ≡ 0
@@ -34,6 +35,7 @@ adds-more old now new low k times le before here = record {
   structure = λ c. more times.structure c _ _ _ (before.structure c) (here.structure c);
   mapped = λ c. more times.mapped c _ _ _ (before.mapped c) (here.mapped c);
   copied = λ c. more times.copied c _ _ _ (before.copied c) (here.copied c);
+  cells = here.cells ∙ before.cells;
 }
   where
     between : (x c : ℕ) → x * is_between low (k + 1) c ≡ x * is_between low k c + x * is_between k (k + 1) c
@@ -49,7 +51,7 @@ pub as-times : {s t m n p q : ℕ} → s ≡ t → m ≡ n → p ≡ q → times
 as-times {s} {t} {m} {n} {p} {q} is is-2 is-3 = ap (λ x. times-of x m p) is ∙ (ap (λ x. times-of t x p) is-2 ∙ ap (times-of t n) is-3)
 
 -- One cluster is entered, where no other changes.
-module _ (old new : Tallies) (k : ℕ) (times : Times) (sum : IsSum (times_at old k) times (times_at new k)) (apart : (c : ℕ) → c ≢ k → times_at new c ≡ times_at old c) where
+module _ (old new : Tallies) (k : ℕ) (times : Times) (sum : IsSum (times_at old k) times (times_at new k)) (apart : (c : ℕ) → c ≢ k → times_at new c ≡ times_at old c) (kept : KeepsCells old new) where
   at-one : (part : Times → ℕ) (x : ℕ) → part (times_at new k) ≡ part (times_at old k) + x → (c : ℕ) → part (times_at new c) ≡ part (times_at old c) + x * is_between k (k + 1) c
   at-one part x here c = elim (cases_eq c k) [
     | inl is ↦
@@ -68,6 +70,7 @@ module _ (old new : Tallies) (k : ℕ) (times : Times) (sum : IsSum (times_at ol
     structure = at-one structure_part times.structure sum.structure;
     mapped = at-one mapped_part times.mapped sum.mapped;
     copied = at-one copied_part times.copied sum.copied;
+    cells = kept;
   }
 
 -- in its cell
@@ -84,6 +87,7 @@ adds-in-cell old new k times cell sum lt is room cells others =
     (λ c ne.
     ap (λ x. together x (other_at new.others c)) (ap (λ l. cell_at l c) cells ∙ get_or-set_other old.cells.items k c sum no_few_times ne)
     ∙ ap (λ o. together (cell_at old.cells.items c) (other_at o c)) others)
+    (ap (λ (l : List FewTimes). length l) cells ∙ length-set old.cells.items k sum)
   where
     here : cell_at new.cells.items k ≡ sum
     here = ap (λ l. slice_index_or l k no_few_times) cells ∙ get_or-set_same old.cells.items k sum no_few_times lt
@@ -108,6 +112,7 @@ adds-in-entry old new k times adds cells =
       copied = step _ _ _ _ _ (ap (λ (n : FewTimes). n.copied) same) adds.here.copied;
     })
     (λ c ne. ap (λ x. together x (other_at new.others c)) (ap (λ l. cell_at l c) cells) ∙ ap (together (cell_at old.cells.items c)) (adds.others c ne))
+    (ap (λ (l : List FewTimes). length l) cells)
   where
     same : cell_at new.cells.items k ≡ cell_at old.cells.items k
     same = ap (λ l. cell_at l k) cells
@@ -143,8 +148,8 @@ sorted-same old new cells structure mapped copied c =
     ap (λ l. together (cell_at l c) (other_at new.others c)) cells
     ∙ ap (together (cell_at old.cells.items c)) (as-times (sum_by-IsPermutation (weight_in c) _ _ structure) (sum_by-IsPermutation (weight_in c) _ _ mapped) (sum_by-IsPermutation (weight_in c) _ _ copied))
 
-pub adds-since : (h : Fields) (old now new : Tallies) (s m p : Total) → ((c : ℕ) → times_at new c ≡ times_at now c) → Adds h old now s m p → Adds h old new s m p
-adds-since h old now new s m p same adds = record { structure = λ c. ap structure_part (same c) ∙ adds.structure c; mapped = λ c. ap mapped_part (same c) ∙ adds.mapped c; copied = λ c. ap copied_part (same c) ∙ adds.copied c }
+pub adds-since : (h : Fields) (old now new : Tallies) (s m p : Total) → ((c : ℕ) → times_at new c ≡ times_at now c) → KeepsCells now new → Adds h old now s m p → Adds h old new s m p
+adds-since h old now new s m p same kept adds = record { structure = λ c. ap structure_part (same c) ∙ adds.structure c; mapped = λ c. ap mapped_part (same c) ∙ adds.mapped c; copied = λ c. ap copied_part (same c) ∙ adds.copied c; cells = kept ∙ adds.cells }
 
 pub sorted-rising : (list : List ℕ) → IsSorted nat_cmp list → IsRising list
 sorted-rising list sorted i j d le lt = let up = IsNonDecreasingBy-from_sort (λ n. n) list sorted i j d le lt in omega (arith, up)

@@ -24,6 +24,7 @@ adds-no-place h old now places i lt none adds = record {
   structure = λ c. nothing c _ _ (adds.structure c) (places-step (of_cluster h (meets h c)) places i lt);
   mapped = adds.mapped;
   copied = adds.copied;
+  cells = adds.cells;
 }
   where
     nothing : (c a b : ℕ) → a ≡ b + sum_over (of_cluster h (meets h c)) (take i places) → sum_over (of_cluster h (meets h c)) (take (i + 1) places) ≡ sum_over (of_cluster h (meets h c)) (take i places) + of_cluster h (meets h c) (slice_index places i)
@@ -36,6 +37,7 @@ adds-place h old now new places i place lt is some before here = record {
   structure = λ c. more c _ _ _ (here.structure c) (before.structure c);
   mapped = λ c. as-before _ _ _ _ (here.mapped c) (before.mapped c);
   copied = λ c. as-before _ _ _ _ (here.copied c) (before.copied c);
+  cells = here.cells ∙ before.cells;
 }
   where
     own : (c : ℕ) → of_cluster h (meets h c) (slice_index places i) ≡ meets h c place (cluster_size h)
@@ -51,7 +53,7 @@ adds-place h old now new places i place lt is some before here = record {
     as-before b d e x q r = omega arith
 
 pub adds-no-places : (h : Fields) (xs : Tallies) (places : List ℕ) → AddsPlaces h xs xs (take 0 places)
-adds-no-places h xs places = record { structure = λ c. omega arith; mapped = λ c. omega arith; copied = λ c. omega arith }
+adds-no-places h xs places = record { structure = λ c. omega arith; mapped = λ c. omega arith; copied = λ c. omega arith; cells = refl }
 
 pub adds-all-places : (h : Fields) (old new : Tallies) (places : List ℕ) (i : ℕ) → i ≡ length places → AddsPlaces h old new (take i places) → AddsPlaces h old new places
 adds-all-places h old new places i all adds = subst (AddsPlaces h old new) (take_all i places (omega arith)) adds
@@ -67,6 +69,7 @@ adds_structure h old start with_blocks new tables blocks a b d = record {
   structure = λ c. chain _ _ _ _ _ _ _ (a.structure c) (b.structure c) (d.structure c);
   mapped = λ c. chain _ _ _ _ 0 0 0 (a.mapped c) (b.mapped c) (d.mapped c);
   copied = λ c. chain _ _ _ _ 0 0 0 (a.copied c) (b.copied c) (d.copied c);
+  cells = d.cells ∙ (b.cells ∙ a.cells);
 }
   where
     chain : (k l m n x y z : ℕ) → l ≡ k + x → m ≡ l + y → n ≡ m + z → n ≡ k + (x + y + z)

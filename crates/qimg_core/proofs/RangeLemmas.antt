@@ -1,5 +1,5 @@
 -- The clusters that a range of bytes meets.
-use Rattle.std.proofs.Common.{◌≡◌, ℕ, ◌+◌, ◌-◌, ◌*◌, ◌/◌, ◌^◌, ◌<◌, ◌≤◌, refl, arith, ap, sym, ◌∙◌, inl, inr, List}
+use Rattle.std.proofs.Common.{◌≡◌, ℕ, ◌+◌, ◌-◌, ◌*◌, ◌/◌, ◌^◌, ◌<◌, ◌≤◌, refl, arith, ap, sym, ◌∙◌, inl, inr}
 use Rattle.std.specs.Prelude.{◌&&◌, nat_lt, if◌then◌else◌}
 use Rattle.std.proofs.lemmas.Bool.{cases_lt, lt-ltb, le-ltb, le-leb, lt-leb}
 use Rattle.std.proofs.Math.Nat.{div-mul-le_self, lt-div-mul-add, pow-le-pow_right, mul-le-mul_left}
@@ -48,19 +48,11 @@ adds-range h old new first length low high times long at til adds = record {
   structure = λ c. adds.structure c ∙ ap (λ n. named_by structure_part c old + times.structure * n) (sym (same c));
   mapped = λ c. adds.mapped c ∙ ap (λ n. named_by mapped_part c old + times.mapped * n) (sym (same c));
   copied = λ c. adds.copied c ∙ ap (λ n. named_by copied_part c old + times.copied * n) (sym (same c));
+  cells = adds.cells;
 }
   where
     same : (c : ℕ) → meets h c first length ≡ is_between low (high + 1) c
     same c = meets-between h c first length long ∙ ap (λ a. is_between a ((first + (length - 1)) / cluster_size h + 1) c) (sym at) ∙ ap (λ b. is_between low (b + 1) c) (sym til)
-
--- no range meets a cluster with no bytes
-pub adds-nothing : (h : Fields) (xs : Tallies) (first : ℕ) (times : Times)
-    → Adds h xs xs (λ w. times.structure * w first 0) (λ w. times.mapped * w first 0) (λ w. times.copied * w first 0)
-adds-nothing h xs first times = record {
-  structure = λ c. omega arith;
-  mapped = λ c. omega arith;
-  copied = λ c. omega arith;
-}
 
 -- the cluster of an offset below 2 to the 62 leaves room for a digit and its place
 pub cluster-small : (n k : ℕ) → 9 ≤ k → n < 2 ^ 62 → n / 2 ^ k + 1 ≤ 2 ^ 53

@@ -3,6 +3,7 @@ use Rattle.std.proofs.Common.{◌≡◌, ◌⊎◌, ℕ, suc, ◌+◌, ◌-◌, 
 use Rattle.std.specs.Prelude.{Bool, Option, Some, None, IfSome, IsSomeAnd, MatchOption, max}
 use Rattle.std.proofs.lemmas.Bool.{cases_lt, cases_order}
 use Rattle.std.proofs.lemmas.List.{get_or_past}
+use Rattle.std.proofs.lemmas.Option.{IfSome_then}
 use Rattle.qcow2_types.specs.Consistency.{Nowhere, IsLeast}
 use Rattle.qimg_core.specs.declared.check.names.Times.{Times}
 use Rattle.qimg_core.specs.declared.check.names.Tallies.{Tallies}
@@ -10,7 +11,7 @@ use Rattle.qimg_core.specs.declared.check.names.Others.{Others}
 use Rattle.qimg_core.specs.declared.check.search.Question.{Question}
 use Rattle.qimg_core.specs.declared.check.search.Question.TheVariants.{Shared, FalselyCopied, AtAll}
 use Rattle.qimg_core.specs.Names.{no_times, no_few_times, cell_at, other_at, together, times_at}
-use Rattle.qimg_core.specs.Searches.{passes, is_such, IsBelow, NoneWithin, IsFirstWithin, IsNextEntry, IsNextIn}
+use Rattle.qimg_core.specs.Searches.{passes, is_such, IsBelow, NoneWithin, IsFirstWithin, IsEntry, IsNextEntry, IsNextIn}
 use Rattle.qimg_core.proofs.NameLemmas.{as-times}
 
 -- the least of the next clusters of the lists is the next one of all
@@ -19,12 +20,13 @@ pub next-entry : (others : Others) (low : ℕ) (next structure rest mapped copie
 unfolding other_at
 next-entry others low next structure rest mapped copied below is below-rest is-rest of-structure of-mapped of-copied = record {
   none = λ c le lt. let both = below-rest c (below c lt).1 in as-times (of-structure.none c le (below c lt).0) (of-mapped.none c le both.0) (of-copied.none c le both.1);
-  from = one-of next structure rest is of-structure.from (one-of rest mapped copied is-rest of-mapped.from of-copied.from);
+  from = one-of (λ c. (low ≤ c) × (c < 2 ^ 53)) next structure rest is of-structure.from (one-of (λ c. (low ≤ c) × (c < 2 ^ 53)) rest mapped copied is-rest of-mapped.from of-copied.from);
+  named = one-of (IsEntry others) next structure rest is (IfSome_then structure of-structure.named (λ c p. inl p)) (one-of (IsEntry others) rest mapped copied is-rest (IfSome_then mapped of-mapped.named (λ c p. inr (inl p))) (IfSome_then copied of-copied.named (λ c p. inr (inr p))));
 }
   where
-    one-of : (a b d : Option ℕ) → (a ≡ b) ⊎ (a ≡ d) → IfSome b (λ c. (low ≤ c) × (c < 2 ^ 53)) → IfSome d (λ c. (low ≤ c) × (c < 2 ^ 53)) → IfSome a (λ c. (low ≤ c) × (c < 2 ^ 53))
-    one-of a b d (inl same) p q = subst (λ o. IfSome o (λ c. (low ≤ c) × (c < 2 ^ 53))) (sym same) p
-    one-of a b d (inr same) p q = subst (λ o. IfSome o (λ c. (low ≤ c) × (c < 2 ^ 53))) (sym same) q
+    one-of : (P : ℕ → Type 0) (a b d : Option ℕ) → (a ≡ b) ⊎ (a ≡ d) → IfSome b P → IfSome d P → IfSome a P
+    one-of P a b d (inl same) p q = subst (λ o. IfSome o P) (sym same) p
+    one-of P a b d (inr same) p q = subst (λ o. IfSome o P) (sym same) q
 
 module _ (question : Question) (names : Tallies) where
   -- the test, by what is told of a cluster

@@ -1,12 +1,12 @@
 -- The L2 tables as a list: which there are, and sums over them.
-use Rattle.std.proofs.Common.{◌≡◌, ◌≢◌, ℕ, zero, suc, ◌+◌, ◌*◌, ◌^◌, ◌<◌, ◌≤◌, refl, arith, ap, sym, subst, ◌∙◌, List, [], ◌∷◌, ◌++◌, length, take, inl, inr}
+use Rattle.std.proofs.Common.{◌≡◌, ◌≢◌, ℕ, zero, suc, ◌+◌, ◌*◌, ◌^◌, ◌<◌, ◌≤◌, refl, arith, ap, sym, subst, ◌∙◌, List, [], ◌∷◌, length, take, inl, inr}
 use Rattle.std.specs.Prelude.{Bool, true, false, ◌&&◌, ◌||◌, ◌==◌, nat_lt, slice_index, IsTrue, IsFalse, All, Any}
 use Rattle.std.specs.List.{sum_by, Contains}
 use Rattle.std.proofs.lemmas.Bool.{cases_eq, cases_lt}
 use Rattle.std.proofs.lemmas.Bool.Decides.{nat_tests}
 use Rattle.std.proofs.lemmas.List.Elements.{All-weaker, All-contains, All-contains_itself, Contains-append_left, Contains-push, Contains-push_cases}
 use Rattle.std.proofs.lemmas.List.Sums.{sum_by_push, sum_by_more}
-use Rattle.std.proofs.lemmas.List.{take_all, length_push}
+use Rattle.std.proofs.lemmas.List.{take_all}
 use Rattle.qcow2_types.specs.Bytes.{Bytes, word, sum_below, all_below}
 use Rattle.qcow2_types.specs.Words.{l1_word_sound, is_place, max_offset}
 use Rattle.std.proofs.Math.Nat.{pow-le-pow_right}
@@ -94,20 +94,6 @@ module _ (f : Bytes) (h : Fields) where
         let more : sum_below (n + 1) (λ i. each (l2_table f h i)) ≡ each (l2_table f h n) + sum_below n (λ i. each (l2_table f h i)) = sum-more n (λ i. each (l2_table f h i)) in
         let is : each (l2_table f h n) ≡ of (l2_table f h n) = there (l2_table f h n) here in
         let one : sum_over of (tables_to f h (n + 1)) ≡ sum_over of (tables_to f h n) + of (l2_table f h n) = ap (sum_by of) (tables-more f h n (l2_table f h n) refl here) ∙ sum_by_push of (tables_to f h n) (l2_table f h n) in
-        omega arith
-  ])
-
-  -- a list of tables is no longer than the L1 table
-  pub tables-few : (n : ℕ) → length (tables_to f h n) ≤ n
-  tables-few zero = let none : length (tables_to f h 0) ≡ 0 = ap (λ (l : List ℕ). length l) tables-none in omega arith
-  tables-few (suc n) = subst (λ m. length (tables_to f h m) ≤ m) (let next : n + 1 ≡ suc n = omega arith in next) (elim (cases_eq (l2_table f h n) 0) [
-    | inl e ↦ let same : length (tables_to f h (n + 1)) ≡ length (tables_to f h n) = ap (λ (l : List ℕ). length l) (tables-skip f h n e) in
-        let before : length (tables_to f h n) ≤ n = tables-few n in
-        omega arith
-    | inr here ↦ let more : tables_to f h (n + 1) ≡ tables_to f h n ++ l2_table f h n ∷ [] = tables-more f h n (l2_table f h n) refl here in
-        let before : length (tables_to f h n) ≤ n = tables-few n in
-        let long : length (tables_to f h n ++ l2_table f h n ∷ []) ≡ length (tables_to f h n) + 1 = length_push (tables_to f h n) (l2_table f h n) in
-        let same : length (tables_to f h (n + 1)) ≡ length (tables_to f h n ++ l2_table f h n ∷ []) = ap (λ (l : List ℕ). length l) more in
         omega arith
   ])
 

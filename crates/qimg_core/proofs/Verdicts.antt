@@ -12,7 +12,7 @@ use Rattle.qimg_core.specs.declared.check.CheckFault.TheVariants as fault
 use Rattle.qimg_core.specs.declared.check.names.Tallies.{Tallies}
 use Rattle.qimg_core.specs.Files.{file}
 use Rattle.qimg_core.specs.declared.check.search.Question.TheVariants.{Shared, FalselyCopied, AtAll}
-use Rattle.qimg_core.specs.Names.{named_by, structure_part, mapped_part, copied_part, times_at}
+use Rattle.qimg_core.specs.Names.{named_by, structure_part, mapped_part, times_at}
 use Rattle.qimg_core.specs.Searches.{is_such}
 use Rattle.qimg_core.specs.CheckParts.{Tells, IsUnsound, SharesFirst, IsUnder}
 use Rattle.qimg_core.specs.Check.{Found, IsFinding}

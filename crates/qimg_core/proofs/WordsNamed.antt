@@ -34,6 +34,7 @@ adds-no-words h times xs words = record {
   structure = λ c. omega arith;
   mapped = λ c. none (named_by mapped_part c xs) (words-none h (of_mapping h (meets h c)) words);
   copied = λ c. none (named_by copied_part c xs) (words-none h (of_copied h (meets h c)) words);
+  cells = refl;
 }
   where
     none : (n : ℕ) {x : ℕ} → x ≡ 0 → n ≡ n + times * x
@@ -45,6 +46,7 @@ adds-word h times old now new words i m lt is before here = record {
   structure = λ c. here.structure c ∙ ap (λ n. n + 0) (before.structure c) ∙ omega arith;
   mapped = λ c. more (of_mapping h (meets h c)) _ _ _ (before.mapped c) (here.mapped c);
   copied = λ c. more (of_copied h (meets h c)) _ _ _ (before.copied c) (here.copied c);
+  cells = here.cells ∙ before.cells;
 }
   where
     step : (a b d x y z : ℕ) → d ≡ b + times * x → b ≡ a + times * y → z ≡ y + x → d ≡ a + times * z

@@ -1,5 +1,5 @@
 -- What the parts of the checker read of an image, and what they find.
-use Rattle.std.specs.Prelude.{◌≡◌, ◌≢◌, ℕ, zero, suc, ◌+◌, ◌-◌, ◌*◌, ◌<◌, ◌≤◌, ⊤, Bool, not, ◌==◌, nat_lt, min, if◌then◌else◌, IsTrue, IsFalse, List, [], ◌∷◌, ◌++◌, map, length, slice_index, All, Any, Option, Some, None}
+use Rattle.std.specs.Prelude.{◌≡◌, ◌≢◌, ℕ, ◌+◌, ◌*◌, ◌<◌, ◌≤◌, ⊤, not, ◌==◌, min, IsTrue, IsFalse, List, map, length, slice_index, All, Any, Option, Some, None}
 use Rattle.std.specs.Int.{div_ceil}
 use Rattle.std.specs.List.{sum_by, filter, range_with_len}
 use Rattle.imago_storage.specs.declared.fault.Fault.{Fault}
@@ -87,6 +87,10 @@ pub record IsBlocksEnd (blocks : List ℕ) (end : ℕ) : Type 0 where
 -- how many clusters of a file of so many bytes the first so many blocks count
 abbrev pub counted_clusters : Fields → ℕ → ℕ → ℕ
 counted_clusters h size blocks = min (div_ceil size (cluster_size h)) (blocks * counters_of_block h)
+
+-- There are so many cells: for the clusters of a file of so many bytes, as far as the blocks count them.
+abbrev pub HasCells : ℕ → Fields → List ℕ → Tallies → Type 0
+HasCells size h blocks names = (end : ℕ) × IsBlocksEnd blocks end × (length names.cells.items ≡ counted_clusters h size end)
 
 -- The places of the tables and of the blocks.
 pub record HoldsPlaces (f : Bytes) (h : Fields) (tables blocks : List ℕ) : Type 0 where

@@ -1,5 +1,5 @@
 -- How often each cluster is named, as the checker keeps it: by cells and lists of names, which are summed.
-use Rattle.std.specs.Prelude.{◌≡◌, ◌≢◌, ℕ, ◌+◌, ◌*◌, ◌/◌, ◌%◌, ◌^◌, ◌&&◌, ◌==◌, nat_lt, nat_le, if◌then◌else◌, List, slice_index_or}
+use Rattle.std.specs.Prelude.{◌≡◌, ◌≢◌, ℕ, ◌+◌, ◌*◌, ◌/◌, ◌%◌, ◌^◌, ◌<◌, ◌&&◌, ◌==◌, nat_lt, nat_le, if◌then◌else◌, List, length, slice_index_or}
 use Rattle.std.specs.List.{sum_by}
 use Rattle.std.specs.List.Sorted.{IsNonDecreasingBy}
 use Rattle.qcow2_types.specs.Header.{Fields}
@@ -88,11 +88,16 @@ Total = Weight → ℕ
 abbrev pub nothing_named : Total
 nothing_named w = 0
 
+-- as many cells as before
+abbrev pub KeepsCells : Tallies → Tallies → Type 0
+KeepsCells old new = length new.cells.items ≡ length old.cells.items
+
 -- these sums are entered, for each cluster
 pub record Adds (h : Fields) (old new : Tallies) (of_structure of_mapped of_copies : Total) : Type 0 where
   pub structure : (c : ℕ) → named_by structure_part c new ≡ named_by structure_part c old + of_structure (meets h c)
   pub mapped : (c : ℕ) → named_by mapped_part c new ≡ named_by mapped_part c old + of_mapped (meets h c)
   pub copied : (c : ℕ) → named_by copied_part c new ≡ named_by copied_part c old + of_copies (meets h c)
+  pub cells : KeepsCells old new
 
 -- 1 for the clusters from low up to end, else 0
 abbrev pub is_between : ℕ → ℕ → ℕ → ℕ
@@ -103,6 +108,7 @@ pub record AddsClusters (old new : Tallies) (low end : ℕ) (times : Times) : Ty
   pub structure : (c : ℕ) → named_by structure_part c new ≡ named_by structure_part c old + times.structure * is_between low end c
   pub mapped : (c : ℕ) → named_by mapped_part c new ≡ named_by mapped_part c old + times.mapped * is_between low end c
   pub copied : (c : ℕ) → named_by copied_part c new ≡ named_by copied_part c old + times.copied * is_between low end c
+  pub cells : KeepsCells old new
 
 -- two together
 pub record IsSum (one other sum : Times) : Type 0 where
@@ -115,6 +121,14 @@ pub record IsFewSum (cell : FewTimes) (more : Times) (sum : FewTimes) : Type 0 w
   pub structure : sum.structure ≡ cell.structure + more.structure
   pub mapped : sum.mapped ≡ cell.mapped + more.mapped
   pub copied : sum.copied ≡ cell.copied + more.copied
+
+-- A cell can count so much more.
+abbrev pub HasRoom : FewTimes → Times → Type 0
+HasRoom cell more = (cell.structure + more.structure < 2 ^ 8) × (cell.mapped + more.mapped < 2 ^ 16) × (cell.copied + more.copied < 2 ^ 8)
+
+-- so can that of cluster c
+abbrev pub HasRoomAt : Tallies → ℕ → Times → Type 0
+HasRoomAt names c more = (c < length names.cells.items) × HasRoom (cell_at names.cells.items c) more
 
 -- so much is entered for cluster c in a list, and no other changes
 pub record AddsWeight (old new : List ℕ) (c times : ℕ) : Type 0 where

@@ -1,12 +1,12 @@
 //! The checker: whether an image is consistent, and what it leaks, from the bytes of its file.
-ghost use Rattle.std.specs.Prelude.{◌≡◌, true, false, Ok, OnOk, IfOk, IfErr, IsTrue};
+ghost use Rattle.std.specs.Prelude.{◌≡◌, length, true, false, Ok, OnOk, IfOk, IfErr, IsTrue};
 ghost use Rattle.imago_storage.specs.Calls.{Kept};
 ghost use Rattle.qcow2_types.specs.Header.{header_of, has_external_data};
 ghost use Rattle.qcow2_types.specs.Consistency.{IsVerdict, Nowhere, tables_sound};
 ghost use Rattle.qimg_core.specs.Files.{file};
 ghost use Rattle.qimg_core.specs.Names.{AreRising};
 ghost use Rattle.qimg_core.specs.Searches.{is_such};
-ghost use Rattle.qimg_core.specs.CheckParts.{Tells, IsBlocksEnd, counted_clusters, HoldsPlaces, IsUnsound, SharesFirst, fault_of_load};
+ghost use Rattle.qimg_core.specs.CheckParts.{Tells, IsBlocksEnd, counted_clusters, HasCells, HoldsPlaces, IsUnsound, SharesFirst, fault_of_load};
 ghost use Rattle.qimg_core.specs.Check.{Found, IsFinding};
 ghost use Rattle.qimg_core.specs.declared.check.CheckFault.TheVariants.{Memory};
 ghost use Rattle.qimg_core.specs.declared.check.search.Question.TheVariants as question;
@@ -142,6 +142,7 @@ fn names_of<S: Storage>(
     requires loads { header_of true (file (S.state image.old)) ≡ Ok header.now }
     requires places { HoldsPlaces (file (S.state image.old)) header.now.fields places.tables.items places.blocks.items }
     ensures told { IfOk result (λ found. Tells (file (S.state image.old)) header.now.fields found.0) }
+    ensures cells { IfOk result (λ found. HasCells (length (S.state image.old).bytes) header.now.fields places.blocks.items found.0) }
     ensures rising { IfOk result (λ found. AreRising found.0.others) }
     ensures blocks { IfOk result (λ found. found.1.items ≡ places.blocks.items) }
     ensures sound { OnOk result (IsTrue (tables_sound (file (S.state image.old)) header.now.fields)) }

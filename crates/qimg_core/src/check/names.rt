@@ -1,6 +1,6 @@
 // How often each host cluster is named.
-ghost use Rattle.std.specs.Prelude.{◌≡◌, ℕ, ◌+◌, ◌*◌, ◌<◌, ◌≤◌, ◌^◌, length, OnOk, IfOk, IfSome, IsOkUnless};
-ghost use Rattle.qimg_core.specs.Names.{Adds, AddsClusters, AddsEntry, IsFewSum, AreRising, TellsNothing, all_times, cell_at, times_at as times_told};
+ghost use Rattle.std.specs.Prelude.{◌≡◌, ℕ, ◌+◌, ◌*◌, ◌<◌, ◌≤◌, ◌^◌, length, OnOk, IfOk, IfSome, IsSome, IsOkUnless};
+ghost use Rattle.qimg_core.specs.Names.{Adds, AddsClusters, AddsEntry, KeepsCells, IsFewSum, HasRoom, HasRoomAt, AreRising, TellsNothing, all_times, cell_at, times_at as times_told};
 
 use super::CheckFault;
 use super::entries::{enter, weight_at};
@@ -77,7 +77,8 @@ pub fn no_names(alloc: Global, count: usize) -> Result<Tallies, CheckFault>
 
 /// What a cell counts with more, if there is room.
 fn cell_with(cell: FewTimes, more: Times) -> Option<FewTimes>
-    ensures { IfSome result (IsFewSum cell more) }
+    ensures sum { IfSome result (IsFewSum cell more) }
+    ensures room { HasRoom cell more → IsSome result }
 {
     if more.structure > (u8::MAX - cell.structure) as u64
         || more.mapped > (u16::MAX - cell.mapped) as u64
@@ -118,6 +119,7 @@ fn enter_other(others: &mut Others, cluster: u64, times: Times) -> Result<(), Ch
 fn name_cluster(names: &mut Tallies, cluster: u64, times: Times) -> Result<(), CheckFault>
     requires { cluster < 2 ^ 53 }
     ensures ok { OnOk result (AddsClusters names.old names.new cluster (cluster + 1) times) }
+    ensures room { HasRoomAt names.old cluster times → names.new.others ≡ names.old.others }
     ensures err { IsOkUnless result CheckFault.Memory }
 {
     if cluster < names.cells.len() as u64 {
@@ -167,6 +169,7 @@ pub fn name_range(
 /// Puts the lists in order.
 pub fn sort_names(names: &mut Tallies)
     ensures same { (c : ℕ) → times_told names.new c ≡ times_told names.old c }
+    ensures cells { KeepsCells names.old names.new }
     ensures rising { AreRising names.new.others }
 {
     names.others.structure.sort_unstable();
@@ -175,6 +178,7 @@ pub fn sort_names(names: &mut Tallies)
 }
 
 /// How often a cluster is named.
+#[inline]
 pub fn times_at(names: &Tallies, cluster: u64) -> AllTimes
     requires { AreRising names.now.others }
     ensures value { all_times result ≡ times_told names.now cluster }

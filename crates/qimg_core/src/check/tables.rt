@@ -13,7 +13,7 @@ ghost use Rattle.qimg_core.specs.CheckParts.{tables_of, sum_over, structure_over
 ghost use Rattle.qimg_core.specs.Check.{Found};
 
 use super::names::{Tallies, Times, name_range};
-use super::{CheckFault, load_fault};
+use super::{CheckFault, blocks_end, load_fault};
 use crate::file_end::words_before;
 use imago_storage::Storage;
 use qcow2_metadata::{Header, L1Table, L2Mapping, L2Table, RefTable, Table};
@@ -94,7 +94,7 @@ fn block_places<S: Storage>(
     Ok(places)
 }
 
-/// The places of the L2 tables and of the refcount blocks.
+/// The places of the L2 tables, and of the refcount blocks up to the last one.
 pub fn places_of<S: Storage>(
     alloc: Global,
     image: &mut S,
@@ -107,7 +107,9 @@ pub fn places_of<S: Storage>(
     ensures faults { OnOk result ((S.state image.new).faults ≡ (S.state image.old).faults) }
 {
     let tables = table_places(alloc, image, header)?;
-    let blocks = block_places(alloc, image, header)?;
+    let mut blocks = block_places(alloc, image, header)?;
+    let end = blocks_end(&blocks);
+    blocks.truncate(end);
     Ok(Places { tables, blocks })
 }
 
@@ -273,8 +275,7 @@ pub fn name_contents<S: Storage>(
     mut places: Vec<u64>,
     names: &mut Tallies,
 ) -> Result<(), CheckFault>
-    requires places { AreTables header.now.fields.cluster_bits places.items }
-    requires few { length places.items ≤ 2 ^ 22 }
+    requires { AreTables header.now.fields.cluster_bits places.items }
     ensures ok { OnOk result (Adds header.now.fields names.old names.new nothing_named (λ w. sum_over (of_table (file (S.state image.old)) header.now.fields (of_mapping header.now.fields w)) places.items) (λ w. sum_over (of_table (file (S.state image.old)) header.now.fields (of_copied header.now.fields w)) places.items)) }
     ensures sound { OnOk result (All (λ place. IsTrue (l2_table_sound (file (S.state image.old)) header.now.fields place)) places.items) }
     ensures err { IfErr result (Found (S.state image.old) (S.state image.new) (IsOneDamaged (file (S.state image.old)) header.now.fields places.items)) }

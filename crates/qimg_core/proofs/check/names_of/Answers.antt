@@ -1,15 +1,15 @@
 -- The start, the tables and the blocks, then what the L2 tables name.
-use Rattle.std.proofs.Common.{true, arith, sym, subst}
+use Rattle.std.proofs.Common.{true, arith, ap, sym, subst, ◌∙◌}
 use Rattle.std.specs.Prelude.{IsTrue, All}
 use Rattle.std.proofs.lemmas.Result.{err_from_is_err_and}
 use Rattle.qcow2_types.specs.Header.{Limited}
 use Rattle.qcow2_types.specs.Entries.{l2_table_sound}
 use Rattle.qcow2_types.proofs.HeaderLimits.{header-limited, fields-shaped}
 use Rattle.qimg_core.specs.Files.{file}
-use Rattle.qimg_core.specs.CheckParts.{AreTables}
+use Rattle.qimg_core.specs.CheckParts.{AreTables, IsBlocksEnd, counted_clusters}
 use Rattle.qcow2_types.proofs.WriteBack.{place-near}
 use Rattle.qimg_core.proofs.TablesListed.{tables-placed, places-bounded, table-bytes, sound-by-list, damaged-finding}
-use Rattle.qimg_core.proofs.ImageNamed.{few-tables, given-tells}
+use Rattle.qimg_core.proofs.ImageNamed.{given-tells}
 use Rattle.qimg_core.proofs.NameLemmas.{adds-since}
 use Rattle.qimg_core.proofs.check.names_of.Goals as goal
 
@@ -26,11 +26,8 @@ name_structure-requires-clause-refcounts g c =
 pub name_structure-requires-clause-tables : goal.name_structure-requires-clause-tables
 name_structure-requires-clause-tables g c = places-bounded _ _ c.args.header.now.fields.cluster_bits c.requires.places.in_order (tables-placed (file (g.S.Storage.state c.args.image.now)) c.args.header.now.fields c.requires.places.l1_sound)
 
-pub name_contents-requires-clause-places : goal.name_contents-requires-clause-places
-name_contents-requires-clause-places g c = subst (AreTables c.args.header.now.fields.cluster_bits) (sym c.requires.places.in_order) (tables-placed (file (g.S.Storage.state c.args.image.now)) c.args.header.now.fields c.requires.places.l1_sound)
-
-pub name_contents-requires-clause-few : goal.name_contents-requires-clause-few
-name_contents-requires-clause-few g c = few-tables _ _ c.requires.loads _ _ c.requires.places
+pub name_contents-requires : goal.name_contents-requires
+name_contents-requires g c = subst (AreTables c.args.header.now.fields.cluster_bits) (sym c.requires.places.in_order) (tables-placed (file (g.S.Storage.state c.args.image.now)) c.args.header.now.fields c.requires.places.l1_sound)
 
 pub returns-in_err-name_contents-clause-err : goal.returns-in_err-name_contents-clause-err
 returns-in_err-name_contents-clause-err g c =
@@ -38,7 +35,10 @@ returns-in_err-name_contents-clause-err g c =
     rw (p.1, p.2) (damaged-finding (g.S.Storage.state c.args.image.now) (g.S.Storage.state c.name_contents.new.image) c.args.header.now.fields c.args.places.tables.items c.requires.places.in_order c.in_err-name_contents.field-0.0 c.in_err-name_contents.ensures.err)
 
 pub returns-clause-told : goal.returns-clause-told
-returns-clause-told g c = given-tells _ c.args.header.now c.requires.loads _ _ c.requires.places c.in_ok-names.names _ c.sort_names.new.names c.in_ok-names.ensures.ok c.in_ok-name_structure.ensures.ok (adds-since _ _ c.name_contents.new.names _ _ _ _ c.sort_names.ensures.same c.in_ok-name_contents.ensures.ok)
+returns-clause-told g c = given-tells _ c.args.header.now _ _ c.requires.places c.in_ok-names.names _ c.sort_names.new.names c.in_ok-names.ensures.ok c.in_ok-name_structure.ensures.ok (adds-since _ _ c.name_contents.new.names _ _ _ _ c.sort_names.ensures.same c.sort_names.ensures.cells c.in_ok-name_contents.ensures.ok)
+
+pub returns-clause-cells : goal.returns-clause-cells
+returns-clause-cells g c = (c.blocks_end.result, subst (λ l. IsBlocksEnd l c.blocks_end.result) c.deref.ensures.value c.blocks_end.ensures, c.sort_names.ensures.cells ∙ c.in_ok-name_contents.ensures.ok.cells ∙ c.in_ok-name_structure.ensures.ok.cells ∙ c.in_ok-names.ensures.cells ∙ c.cell_count-count.ensures ∙ ap (λ n. counted_clusters c.args.header.now.fields n c.blocks_end.result) c.size.ensures.value)
 
 pub returns-clause-sound : goal.returns-clause-sound
 returns-clause-sound g c = sound-by-list (file (g.S.Storage.state c.args.image.now)) c.args.header.now.fields c.requires.places.l1_sound c.requires.places.refcounts_sound (subst (All (λ place. IsTrue (l2_table_sound (file (g.S.Storage.state c.args.image.now)) c.args.header.now.fields place))) c.requires.places.in_order c.in_ok-name_contents.ensures.sound)

@@ -17,7 +17,7 @@ read places i place inside is = is ∙ get_or_default_zero places i place inside
 pub name_table-requires : goal.name_table-requires
 name_table-requires g c =
     let inside : c.loop-i.i < length c.sort_unstable.new.self.items = omega (arith, c.len-i-end.ensures, c.loop-i-test.true) in
-    let here = placed-at c.args.header.now.fields.cluster_bits c.args.places.items c.sort_unstable.new.self.items c.loop-i.i c.sort_unstable.ensures.permutation inside c.requires.places in
+    let here = placed-at c.args.header.now.fields.cluster_bits c.args.places.items c.sort_unstable.new.self.items c.loop-i.i c.sort_unstable.ensures.permutation inside c.requires in
     record { place = ap (is_place c.args.header.now.fields.cluster_bits) (read c.sort_unstable.new.self.items c.loop-i.i c.index-then-i-len.result.now inside c.index-then-i-len.ensures) ∙ here }
 
 pub returns-in_err-name_table-clause-err : goal.returns-in_err-name_table-clause-err
