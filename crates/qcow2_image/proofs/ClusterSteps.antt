@@ -1,7 +1,7 @@
 -- What single changes of its clusters leave of an image.
 use Rattle.std.proofs.Common.{◌≡◌, ◌≢◌, ℕ, ◌*◌, ◌/◌, ◌^◌, ◌<◌, refl, arith, ap, sym, subst, ◌∙◌, inl, inr, Bool, true, false, List, [], length, Option, Some, None, Result, Ok, Err}
 use Rattle.std.proofs.lemmas.Bool.{cases_eq, cases_lt, le-ltb, ne_eqb}
-use Rattle.std.specs.Prelude.{⊤, IsTrue, IsSome, IfSome, is_some, IfOk, IfErr, slice_index, ◌==◌, if◌then◌else◌}
+use Rattle.std.specs.Prelude.{⊤, IsTrue, IsSome, IfSome, is_some, IfOk, IfErr, OnOk, slice_index, ◌==◌, if◌then◌else◌}
 use Rattle.imago_storage.specs.State.{StorageState}
 use Rattle.imago_storage.specs.Calls.{Cause}
 use Rattle.imago_storage.specs.declared.fault.Fault.{Fault}
@@ -53,7 +53,7 @@ pub none-named : {A : Type 0} (o : Option A) → ((a : A) → o ≡ Some a → �
 none-named None none = refl
 none-named (Some a) none = absurd (none a refl)
 
-none-some : {A : Type 0} (o : Option Space) → o ≡ None → IsSome o → A
+pub none-some : {A : Type 0} (o : Option Space) → o ≡ None → IsSome o → A
 none-some None is some = absurd (cc some)
 none-some (Some x) is some = absurd (cc is)
 
@@ -95,6 +95,7 @@ module _ {S : Type 0} (g : Ghosts S) (old new : Qcow2 S g) (fault : Fault) (mid 
   unloaded = record {
     keeps = keeps-image-disk {T = Unit} g old new (Err fault) keeps-unloaded;
     known = tt;
+    stays = none-some old.tables.space none;
     same = keeps-unloaded;
     cause = why-from fault (subst (λ (s : StorageState). WhyNoSpace unloaded_from.faults s.faults fault) (sym state-same)
         (space-refused unloaded_from unloaded_to old.tables.file.header.fields fault loads));
@@ -318,13 +319,18 @@ pub idle-waits : (o : Option Space) → IfSome o (λ space. space.to_free.entrie
 idle-waits None idle = refl
 idle-waits (Some space) idle = rw idle refl
 
+emptied-waits : (result : Result Unit Fault) (o : Option Space) (space : Space) → o ≡ Some space → OnOk result (space.to_free.entries ≡ [])
+    → OnOk result (waits_in o ≡ false)
+emptied-waits (Ok done) o space there empty = ap waits_in there ∙ idle-waits (Some space) empty
+emptied-waits (Err fault) o space there empty = tt
+
 if-each : {A : Type 0} (o : Option A) (P : A → Type 0) → ((a : A) → P a) → IfSome o P
 if-each None P each = tt
 if-each (Some a) P each = each a
 
 -- Nothing waited to be freed.
-pub none-freed : {S : Type 0} (g : Ghosts S) (d : Qcow2 S g) → FreesPending g d (Ok tt) d
-none-freed g d = record { keeps = keeps-disk-same g ⊤ d; marks = refl; idle = λ untouched. (refl, refl); cause = tt }
+pub none-freed : {S : Type 0} (g : Ghosts S) (d : Qcow2 S g) → waits_in d.tables.space ≡ false → FreesPending g d (Ok tt) d
+none-freed g d none = record { keeps = keeps-disk-same g ⊤ d; marks = refl; idle = λ untouched. (refl, refl); emptied = none; cause = tt }
 
 freed-why : {S : Type 0} (g : Ghosts S) (old new : Qcow2 S g) (is-ready : Type 0) (fault : Fault) → (IsSafe g old → is-ready)
     → freeing.WhyNotFreed is-ready (g.state old.tables.file.image).faults (g.state new.tables.file.image).faults fault → WhyNotFreed g old new fault
@@ -364,6 +370,7 @@ module _ {S : Type 0} (g : Ghosts S) (old : Qcow2 S g) (mid : Tables S g) (space
         (λ safe. frees.progress);
     marks = refl;
     idle = λ untouched. absurd (cc (sym (idle-waits old.tables.space untouched.1) ∙ waits));
+    emptied = emptied-waits result mid.space space' there' frees.emptied;
     cause = if-err result _ (WhyNotFreed g old freed_now)
         (λ e. freed-why g old freed_now (IsReady g.state (lent old.tables.file caches space)) e freed-ready) frees.cause;
   }

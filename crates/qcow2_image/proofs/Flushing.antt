@@ -25,7 +25,7 @@ use Rattle.qcow2_image.specs.declared.qcow2.PreparedMappingState.{PreparedMappin
 use Rattle.qcow2_image.specs.declared.qcow2.Qcow2.{Qcow2}
 use Rattle.qcow2_image.proofs.ClusterSteps.{idle-waits}
 use Rattle.qcow2_image.proofs.KeepingDisks.{kept-disk, keeps-disk-both, keeps-image-disk}
-use Rattle.qcow2_image.proofs.Settling.{asked-keeps, meant, ok-whole}
+use Rattle.qcow2_image.proofs.Settling.{asked-keeps, meant, ok-whole, on-ok}
 
 -- An image that was safe but for a failure is safe where it didn't fail.
 pub safe-again : {S : Type 0} (g : Ghosts S) (d : Qcow2 S g) → d.failed ≡ false → WasSafe g d → IsSafe g d
@@ -61,10 +61,11 @@ module _ {S : Type 0} (g : Ghosts S) (old new : Qcow2 S g) (s' : StorageState) (
 -- What waited was freed, and the file was flushed.
 pub flushes-freed : {S : Type 0} (g : Ghosts S) (old mid new : Qcow2 S g) (result : Result Unit Fault) → FreesPending g old (Ok tt) mid
     → KeepsDisk g (WasNotCutOff result) mid new → CountsFaults (g.state mid.tables.file.image).faults (g.state new.tables.file.image).faults result
-    → new.failed ≡ failed_cut result mid.failed → FlushesFreed g old result new
-flushes-freed g old mid new result freed k counts failed = record {
+    → new.failed ≡ failed_cut result mid.failed → new.tables.space ≡ mid.tables.space → FlushesFreed g old result new
+flushes-freed g old mid new result freed k counts failed space = record {
   keeps = keeps-disk-both g ⊤ (WasNotCutOff result) old mid new tt freed.keeps k;
   marks = failed ∙ ap (failed_cut result) freed.marks;
+  emptied = on-ok result _ (ap waits_in space ∙ freed.emptied);
   cause = from result counts;
 } where
   from : (r : Result Unit Fault) → CountsFaults (g.state mid.tables.file.image).faults (g.state new.tables.file.image).faults r → IfErr r (WhyNotFreed g old new)

@@ -56,10 +56,12 @@ WhyNotAllocated g old new DamagedTable = IsSafe g old × IsSome old.tables.space
 WhyNotAllocated g old new Counter = IsSafe g old × IsSome old.tables.space → ⊥
 WhyNotAllocated g old new fault = ⊥
 
--- The free space is known then; a refusal leaves all as it was, but that a storage's fault marks the image.
+-- The free space is known then; a refusal leaves all as it was, but that a storage's fault marks the image. Where it was known before,
+-- nothing changes.
 pub record LoadsSpace {S : Type 0} (g : Ghosts S) (old : Qcow2 S g) (result : Result Unit Fault) (new : Qcow2 S g) : Type 0 where
   pub keeps : KeepsDisk g (WasNotCutOff result) old new
   pub known : OnOk result (IsSome new.tables.space)
+  pub stays : IsSome old.tables.space → new ≡ old
   pub same : OnErr result (KeepsImage g old result new)
   pub cause : IfErr result (WhyNotAllocated g old new)
   pub known_cause : IsSafe g old → IfErr result (Cause (g.state old.tables.file.image).faults (g.state new.tables.file.image).faults)
@@ -103,15 +105,17 @@ abbrev pub waits_in : Option Space → Bool
 waits_in None = false
 waits_in (Some space) = not (length space.to_free.entries == 0)
 
--- What waits to be freed is freed. Where nothing does, nothing is done.
+-- What waits to be freed is freed: nothing waits then. Where nothing does, nothing is done.
 pub record FreesPending {S : Type 0} (g : Ghosts S) (old : Qcow2 S g) (result : Result Unit Fault) (new : Qcow2 S g) : Type 0 where
   pub keeps : KeepsDisk g (WasNotCutOff result) old new
   pub marks : new.failed ≡ failed_cut result old.failed
   pub idle : IsUntouched g old → (result ≡ Ok tt) × (new ≡ old)
+  pub emptied : OnOk result (waits_in new.tables.space ≡ false)
   pub cause : IfErr result (WhyNotFreed g old new)
 
 -- What waits is freed, and the file is flushed.
 pub record FlushesFreed {S : Type 0} (g : Ghosts S) (old : Qcow2 S g) (result : Result Unit Fault) (new : Qcow2 S g) : Type 0 where
   pub keeps : KeepsDisk g (WasNotCutOff result) old new
   pub marks : new.failed ≡ failed_cut result old.failed
+  pub emptied : OnOk result (waits_in new.tables.space ≡ false)
   pub cause : IfErr result (WhyNotFreed g old new)

@@ -1,5 +1,5 @@
 // Prepared mappings are committed or given up.
-ghost use Rattle.std.specs.Prelude.{◌≡◌, ◌≤◌, ◌↔◌, IsTrue};
+ghost use Rattle.std.specs.Prelude.{◌≡◌, ◌≤◌, ◌-◌, ◌↔◌, IsTrue};
 ghost use Rattle.qcow2_image.specs.Committing.{CancelsUnspent, CommitsUnspent, GivesBack, IsNamable, NamesHost, TakesUnspent};
 
 use crate::qcow2::{PreparedMappingState, Qcow2};
@@ -24,7 +24,8 @@ fn is_nameable(cluster: HostCluster, cluster_bits: u32) -> bool
 
 // Lets the room for one entry go, where any is held.
 fn let_go(to_free: &mut ClustersToFreeList)
-    ensures { to_free.new.entries ≡ to_free.old.entries }
+    ensures entries { to_free.new.entries ≡ to_free.old.entries }
+    ensures held { to_free.new.held ≡ to_free.old.held - 1 }
 {
     if to_free.held() > 0 {
         to_free.release();

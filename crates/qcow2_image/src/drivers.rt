@@ -15,6 +15,7 @@ ghost use Rattle.imago_access.specs.Refusals.{barrier, own_refusal};
 ghost use Rattle.imago_access.specs.Stops.{GivesNone, IsWritten, KeepsStops, MakesNone};
 ghost use Rattle.qcow2_types.specs.Bytes.{bytes_of};
 ghost use Rattle.qcow2_types.specs.Header.{cluster_size};
+ghost use Rattle.qcow2_image.specs.Allocating.{waits_in};
 ghost use Rattle.qcow2_image.specs.ImageLayer.{blanks};
 ghost use Rattle.qcow2_image.specs.Looking.{IsWholeRunIn, answer_at};
 ghost use Rattle.qcow2_image.specs.HeldHomes.{free_loose, one_home, says_room};
@@ -386,6 +387,8 @@ impl<S: Storage> FormatDriverInstance for Qcow2<S> {
         ensures cause { let d = ⟦<Qcow2<S> as Seen>⟧ in d.safe self.old → IfErr result (RefusesFlush d self.old self.new) }
         // Where nothing waits to be freed and nothing is prepared, it is marked as failed behind a storage's fault alone.
         ensures marked { IsUntouched S.Storage self.old → self.new.failed ≡ failed_behind failed_by result self.old.failed }
+        // Where it succeeds nothing waits to be freed any more.
+        ensures freed { OnOk result (waits_in self.new.tables.space ≡ false) }
     {
         if self.failed {
             return Err(Fault::Failed);

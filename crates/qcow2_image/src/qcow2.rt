@@ -10,6 +10,7 @@ ghost use Rattle.qcow2_image.specs.contracts.qcow2.Qcow2.{the_row};
 ghost use Rattle.qcow2_image.specs.Lent.{with_image};
 ghost use Rattle.qcow2_alloc.specs.Caches.{cached_in};
 ghost use Rattle.qcow2_alloc.specs.Safety.{AreTablesClean, AreBlocksClean};
+ghost use Rattle.imago_access.specs.Layer.{IsFree};
 ghost use Rattle.qcow2_image.specs.ImageLayer.{qcow2_text};
 ghost use Rattle.qcow2_image.specs.Seen.{homes_of, layer_of, memory_of};
 ghost use Rattle.qcow2_image.specs.Rooms.{IsVacant, HasRoom, IsZeroed, IsSafe, Sees, is_sound};
@@ -150,8 +151,9 @@ impl<S: Storage> Qcow2<S> {
         ""
     }
 
-    /// The image file again. Nothing should be prepared. What waits to be freed stays counted: flush before.
+    /// The image file again. Nothing may be prepared. What waits to be freed stays counted: flush before.
     pub fn into_image(self) -> S
+        requires free { IsFree (⟦<Qcow2<S> as Seen>⟧.layer self) }
         ensures { result ≡ self.tables.file.image }
     {
         let Qcow2 {
@@ -193,9 +195,10 @@ impl<S: Storage> Qcow2<S> {
         self.tables.file.header.backing_format()
     }
 
-    /// Says whether layers are below it: places that no table maps are what these show, and else they are 0. Nothing should be prepared: a
+    /// Says whether layers are below it: places that no table maps are what these show, and else they are 0. Nothing may be prepared: a
     /// prepared cluster has what its places showed before.
     pub fn set_backing(&mut self, backing: bool)
+        requires free { IsFree (⟦<Qcow2<S> as Seen>⟧.layer self.old) }
         ensures { self.new ≡ record self.old { mode = record self.old.mode { backing = backing } } }
     {
         self.mode.backing = backing;

@@ -1,11 +1,12 @@
 use Rattle.std.proofs.Common.{ap, sym, subst, ◌∙◌}
 use Rattle.imago_access.specs.Files.{WasNotCutOff}
+use Rattle.qcow2_image.specs.Allocating.{waits_in}
 use Rattle.qcow2_image.specs.declared.qcow2.Qcow2.{Qcow2}
 use Rattle.qcow2_image.specs.Steps.{KeepsImage, failed_behind, failed_by}
 use Rattle.qcow2_image.specs.Unspent.{holding_in}
 use Rattle.qcow2_image.proofs.ClusterSteps.{idle-waits}
 use Rattle.qcow2_image.proofs.Flushing.{freed-cause, freed-failed, freed-like, freed-marks, freed-sees, freed-went, freed-written}
-use Rattle.qcow2_image.proofs.Settling.{asked-keeps, counted-faultless, meant, ok-whole}
+use Rattle.qcow2_image.proofs.Settling.{asked-keeps, counted-faultless, meant, ok-whole, on-ok}
 use Rattle.qcow2_image.proofs.Steps.{looked-kept, marks-kept}
 use Rattle.qcow2_image.proofs.drivers.Qcow2FormatDriverInstance.flush.Goals as goal
 
@@ -81,6 +82,11 @@ returns-clause-marks g c =
     (ap (λ (x : Qcow2 g.row.S.Denot g.S.Storage). x.failed) is ∙ ap (λ r. failed_behind failed_by r q.failed) (sym same)) in
     marks-kept g.row.S g.S.Storage g.S.Storage-dict g.S.Destruct-dict {T = Unit} q d c.settle.result keeps
 
+pub returns-clause-freed : goal.returns-clause-freed
+returns-clause-freed g c =
+    on-ok c.settle.result _
+    (ap (λ (x : Qcow2 g.row.S.Denot g.S.Storage). waits_in x.tables.space) c.settle.ensures.marks ∙ (sym c.has_waiting.ensures ∙ c.if-has_waiting.false))
+
 pub returns-then-has_waiting-clause-sees : goal.returns-then-has_waiting-clause-sees
 returns-then-has_waiting-clause-sees g c =
     freed-sees g.row.S g.S.Storage g.S.Storage-dict g.S.Destruct-dict c.args.self.now c.flush_freed.new.self c.flush_freed.result c.flush_freed.ensures c.if-self.false (sym c.has_waiting.ensures ∙ c.if-has_waiting.true)
@@ -112,3 +118,6 @@ returns-then-has_waiting-clause-cause g c =
 pub returns-then-has_waiting-clause-marked : goal.returns-then-has_waiting-clause-marked
 returns-then-has_waiting-clause-marked g c =
     λ untouched. absurd (cc (sym (idle-waits c.args.self.now.tables.space untouched.1) ∙ (sym c.has_waiting.ensures ∙ c.if-has_waiting.true)))
+
+pub returns-then-has_waiting-clause-freed : goal.returns-then-has_waiting-clause-freed
+returns-then-has_waiting-clause-freed g c = c.flush_freed.ensures.emptied

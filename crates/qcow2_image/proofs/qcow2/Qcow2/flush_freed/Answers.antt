@@ -29,4 +29,5 @@ returns g c =
     answer c.flush-answer.ensures.faults failed in
     subst (λ (r : Result Unit Fault). FlushesFreed g.S.Storage q r d) (sym same)
     (flushes-freed g.S.Storage q m d answer (rw c.in-Ok.is at c.free_pending.ensures) keeps
-    (subst (λ (u : StorageState). CountsFaults (g.S.Storage.state m.tables.file.image).faults u.faults answer) (sym state) c.flush-answer.ensures.faults) failed)
+    (subst (λ (u : StorageState). CountsFaults (g.S.Storage.state m.tables.file.image).faults u.faults answer) (sym state) c.flush-answer.ensures.faults) failed
+    (ap (λ (x : Qcow2 g.row.S.Denot g.S.Storage). x.tables.space) is))

@@ -6,7 +6,7 @@ use Rattle.qcow2_image.proofs.ClusterSteps.{freed, none-freed, none-waits}
 use Rattle.qcow2_image.proofs.qcow2.Qcow2.free_pending.Goals as goal
 
 pub returns-then-not-has_waiting : goal.returns-then-not-has_waiting
-returns-then-not-has_waiting g c = none-freed g.S.Storage c.args.self.now
+returns-then-not-has_waiting g c = none-freed g.S.Storage c.args.self.now (sym c.has_waiting.ensures ∙ c.if-not-has_waiting.true)
 
 pub returns-in_default : goal.returns-in_default
 returns-in_default g c = absurd (none-waits c.args.self.now.tables.space c.in_default.is (sym c.has_waiting.ensures ∙ c.if-not-has_waiting.false))
