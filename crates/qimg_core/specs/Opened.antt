@@ -60,6 +60,14 @@ IsAsked state offset n = (0 < n) × (Overflows (unit_of state.shape) offset n �
 abbrev pub IsWithin : Opened → ℕ → ℕ → Type 0
 IsWithin disk offset n = IsAsked disk.state offset n × (offset + n ≤ disk.size)
 
+-- What is so where a disk that hasn't failed is asked for a range with a padded end past 64 bits.
+abbrev pub WhereOver : Opened → ℕ → ℕ → Type 0 → Type 0
+WhereOver disk offset n P = IsFalse disk.failed → Overflows (unit_of disk.state.shape) offset n → P
+
+-- What is so where it is asked for some bytes, with a padded end that fits 64 bits, that end past the disk.
+abbrev pub WherePast : Opened → ℕ → ℕ → Type 0 → Type 0
+WherePast disk offset n P = IsFalse disk.failed → 0 < n → (Overflows (unit_of disk.state.shape) offset n → ⊥) → disk.size < offset + n → P
+
 -- Why a read is refused, and what that leaves.
 abbrev pub ReadRefused : Opened → Opened → ℕ → ℕ → Fault → Type 0
 ReadRefused old new offset n Failed = IsTrue old.failed × (new ≡ old)

@@ -118,6 +118,13 @@ word_sound layout f w = l1_word_sound layout.cluster_bits w && ((table_offset w 
 unfoldable pub word_plain : Layout → Bytes → ℕ → Bool
 word_plain layout f w = is_plain_table_word w && ((table_offset w == 0) || table_plain layout f (table_offset w))
 
+-- what is found of that word, and of that table
+abbrev pub word_verdict : Layout → Bytes → ℕ → Found
+word_verdict layout f w = verdict (word_sound layout f w) (word_plain layout f w)
+
+abbrev pub table_verdict : Layout → Bytes → ℕ → Found
+table_verdict layout f table = verdict (table_sound layout f table) (table_plain layout f table)
+
 -- what is found of the first n words of the L1 table at this place, and of the L2 tables that they name
 unfoldable pub tables_verdict : Layout → Bytes → ℕ → ℕ → Found
 tables_verdict layout f table n = verdict (all_below n (λ i. word_sound layout f (word f table i))) (all_below n (λ i. word_plain layout f (word f table i)))

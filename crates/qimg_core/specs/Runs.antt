@@ -1,5 +1,5 @@
 -- What a list of calls answers: one flat disk, which begins as what the bytes of a file mean.
-use Rattle.std.specs.Prelude.{◌≡◌, ◌⊎◌, ⊤, ◌+◌, ◌<◌, ◌≤◌, true, List, [], ◌∷◌, length, replicate, IsFalse, Ok}
+use Rattle.std.specs.Prelude.{◌≡◌, ◌⊎◌, ⊤, ◌+◌, ◌<◌, ◌≤◌, true, List, [], ◌∷◌, length, replicate, IsTrue, IsFalse, Ok}
 use Rattle.imago_storage.specs.State.{StorageState, Rose, unit_of}
 use Rattle.imago_storage.specs.Through.{Overflows}
 use Rattle.imago_storage.specs.Disk.{byte}
@@ -85,6 +85,10 @@ Run old (call ∷ calls) (Refused Storage ∷ answers) new =
     × ((Changes call → ⊥) → file new ≡ file old)
 Run old (call ∷ calls) (answer ∷ answers) new = (mid : StorageState) × Lives old mid × Moves old call answer mid × Run mid calls answers new
 Run old _ _ new = ⊥
+
+-- They do so from a consistent file, in a storage that keeps what is written.
+abbrev pub RunFrom : StorageState → List Call → List Answer → StorageState → Type 0
+RunFrom old calls answers new = IsTrue old.shape.keeps → Consistent (file old) → Run old calls answers new
 
 -- the same of the calls of a disk
 abbrev pub LeadsOn : Opened → List Call → List Answer → Opened → Type 0

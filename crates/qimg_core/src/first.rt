@@ -61,7 +61,7 @@ fn marks_failed(fault: Fault, changed: bool) -> bool
 #[tactic(auto, unfolding(crate::specs::Opened::opened))]
 impl<S: Storage> Disk<S> {
     ghost use Rattle.imago_storage.specs.Steps.{read as to_read, write as to_write, flush as to_flush, bytes_read, done};
-    ghost use Rattle.qimg_core.specs.Opened.{opened, Steps, LeaksSame, Stays, Succeeds, ReadRefused, WriteRefused, FlushRefused};
+    ghost use Rattle.qimg_core.specs.Opened.{opened, Steps, LeaksSame, Stays, Succeeds, WhereOver, WherePast, ReadRefused, WriteRefused, FlushRefused};
     ghost use Rattle.qimg_core.specs.Opens.{Opens, NotOpened};
 
     /// Opens the image in a storage, for reading and writing.
@@ -127,7 +127,7 @@ impl<S: Storage> Disk<S> {
         ensures stays { Stays (opened S.state self.old) (opened S.state self.new) }
         ensures nothing { IsFalse (opened S.state self.old).failed → length buf.old ≡ 0 → IsOk result × (opened S.state self.new ≡ opened S.state self.old) }
         ensures failed { IsTrue (opened S.state self.old).failed → IsErrOf result Fault.Failed }
-        ensures overflow { IsFalse (opened S.state self.old).failed → Overflows (unit_of (opened S.state self.old).state.shape) offset (length buf.old) → IsErrOf result Fault.RangeOverflow }
+        ensures overflow { WhereOver (opened S.state self.old) offset (length buf.old) (IsErrOf result Fault.RangeOverflow) }
     {
         if self.failed {
             return Err(Fault::Failed);
@@ -165,8 +165,8 @@ impl<S: Storage> Disk<S> {
         ensures places { (opened S.state self.new).places ≡ (opened S.state self.old).places }
         ensures nothing { IsFalse (opened S.state self.old).failed → length «data».now ≡ 0 → IsOk result × (opened S.state self.new ≡ opened S.state self.old) }
         ensures failed { IsTrue (opened S.state self.old).failed → IsErrOf result Fault.Failed }
-        ensures overflow { IsFalse (opened S.state self.old).failed → Overflows (unit_of (opened S.state self.old).state.shape) offset (length «data».now) → IsErrOf result Fault.RangeOverflow }
-        ensures past { IsFalse (opened S.state self.old).failed → 0 < length «data».now → (Overflows (unit_of (opened S.state self.old).state.shape) offset (length «data».now) → ⊥) → (opened S.state self.old).size < offset + length «data».now → IsErrOf result Fault.PastEnd }
+        ensures overflow { WhereOver (opened S.state self.old) offset (length «data».now) (IsErrOf result Fault.RangeOverflow) }
+        ensures past { WherePast (opened S.state self.old) offset (length «data».now) (IsErrOf result Fault.PastEnd) }
     {
         if self.failed {
             return Err(Fault::Failed);

@@ -5,7 +5,7 @@ ghost use Rattle.qimg_core.specs.Files.{file};
 ghost use Rattle.qimg_core.specs.Opened.{opened};
 ghost use Rattle.qimg_core.specs.Opening.{open_fault};
 ghost use Rattle.qimg_core.specs.Opens.{NotOpened};
-ghost use Rattle.qimg_core.specs.Runs.{Answered, LeadsOn, Run};
+ghost use Rattle.qimg_core.specs.Runs.{Answered, LeadsOn, RunFrom};
 
 use super::Disk;
 use imago_storage::{Fault, Storage};
@@ -84,7 +84,7 @@ fn run_calls<S: Storage>(
 pub fn serve<S: Storage>(alloc: Global, image: S, calls: &[Call]) -> Result<(S, Vec<Answer>), Fault>
     // From a consistent file that is taken, the calls read one flat disk: at opening what the file's bytes mean, and after
     // each call what they mean then. A read or a flush that the storage failed leaves the file, and so do the calls behind it.
-    ensures run { IfOk result (λ served. IsTrue (S.state image).shape.keeps → Consistent (file (S.state image)) → Run (S.state image) calls.now served.1.items (S.state served.0)) }
+    ensures run { IfOk result (λ served. RunFrom (S.state image) calls.now served.1.items (S.state served.0)) }
     ensures taken { IfOk result (λ served. open_fault (file (S.state image)) ≡ None) }
     ensures shape { IfOk result (λ served. (S.state served.0).shape ≡ (S.state image).shape) }
     ensures err { IfErr result (NotOpened (S.state image)) }

@@ -7,7 +7,7 @@ ghost use Rattle.qcow2_types.specs.Words.{mapping_of, is_damaged, l1_word_sound,
 ghost use Rattle.qcow2_types.specs.Header.{fields_of, header_of, layout_of, first_fault};
 ghost use Rattle.qimg_core.specs.Files.{file};
 ghost use Rattle.qimg_core.specs.Opening.{has_new_extensions, rules_of_form, own_fault, header_fault, Accepts, NotAccepted, is_copied_data, is_plain_table_word, is_plain_entry, verdict, worse};
-ghost use Rattle.qimg_core.specs.Opening.{table_sound, table_plain, word_sound, word_plain, tables_verdict};
+ghost use Rattle.qimg_core.specs.Opening.{table_verdict, word_verdict, tables_verdict};
 
 use super::clusters::Places;
 use super::creation::{EXTENSIONS, MAX_SIZE};
@@ -176,7 +176,7 @@ fn entry_word(word: u64, header: &Header) -> Found
 
 /// What the words of an L2 table are.
 fn entry_words(bytes: &[u8], header: &Header) -> Found
-    ensures { result ≡ verdict (table_sound (layout_of header.now.fields) (bytes_of bytes.now) 0) (table_plain (layout_of header.now.fields) (bytes_of bytes.now) 0) }
+    ensures { result ≡ table_verdict (layout_of header.now.fields) (bytes_of bytes.now) 0 }
 {
     let mut found = Found::Plain;
     for i in 0..64usize {
@@ -203,7 +203,7 @@ fn table_found<S: Storage>(
     header: &Header,
 ) -> Result<Found, Fault>
     requires unit { unit_of (S.state image.old).shape ≤ 2 ^ 20 }
-    ensures found { IfOk result (λ found. found ≡ verdict (word_sound (layout_of header.now.fields) (file (S.state image.old)) word) (word_plain (layout_of header.now.fields) (file (S.state image.old)) word)) }
+    ensures found { IfOk result (λ found. found ≡ word_verdict (layout_of header.now.fields) (file (S.state image.old)) word) }
     ensures kept { Kept (S.state image.old) (S.state image.new) }
     ensures faults { CountsFaults (S.state image.old).faults (S.state image.new).faults result }
 {

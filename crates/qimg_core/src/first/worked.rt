@@ -6,7 +6,7 @@ ghost use Rattle.imago_storage.specs.Calls.{Kept};
 ghost use Rattle.qcow2_types.specs.Consistency.{Consistent, IsVerdict};
 ghost use Rattle.qimg_core.specs.Files.{file};
 ghost use Rattle.qimg_core.specs.declared.first.worked.RunFault.TheVariants.{Memory};
-ghost use Rattle.qimg_core.specs.Runs.{Run};
+ghost use Rattle.qimg_core.specs.Runs.{RunFrom};
 ghost use Rattle.qimg_core.specs.RunFaults.{NotShown};
 ghost use Rattle.qimg_core.specs.Plain.{IsImageRead};
 ghost use Rattle.qimg_core.specs.Worked.{IsWorked, worked_bytes, worked_text};
@@ -82,7 +82,7 @@ fn serve_two<S: Storage>(
     first: Call,
     second: Call,
 ) -> Result<(S, Answer, Answer), RunFault>
-    ensures run { IfOk result (λ served. IsTrue (S.state image).shape.keeps → Consistent (file (S.state image)) → Run (S.state image) (first ∷ second ∷ []) (served.1 ∷ served.2 ∷ []) (S.state served.0)) }
+    ensures run { IfOk result (λ served. RunFrom (S.state image) (first ∷ second ∷ []) (served.1 ∷ served.2 ∷ []) (S.state served.0)) }
     ensures shape { IfOk result (λ served. (S.state served.0).shape ≡ (S.state image).shape) }
     ensures err { IsOkUnless result RunFault.Memory }
 {
@@ -98,7 +98,7 @@ fn serve_two<S: Storage>(
 
 /// Makes one call of the disk in the image.
 fn serve_one<S: Storage>(image: S, alloc: Global, call: Call) -> Result<(S, Answer), RunFault>
-    ensures run { IfOk result (λ served. IsTrue (S.state image).shape.keeps → Consistent (file (S.state image)) → Run (S.state image) (call ∷ []) (served.1 ∷ []) (S.state served.0)) }
+    ensures run { IfOk result (λ served. RunFrom (S.state image) (call ∷ []) (served.1 ∷ []) (S.state served.0)) }
     ensures shape { IfOk result (λ served. (S.state served.0).shape ≡ (S.state image).shape) }
     ensures err { IsOkUnless result RunFault.Memory }
 {
