@@ -2,7 +2,7 @@
 use Rattle.std.proofs.Common.{◌≡◌, ◌≢◌, ℕ, ◌+◌, ◌*◌, ◌/◌, ◌%◌, ◌^◌, ◌<◌, ◌≤◌, refl, arith, ap, sym, subst, ◌∙◌, List, [], ◌∷◌, ◌++◌, length, take, drop, inl, inr}
 use Rattle.std.specs.Prelude.{Some, slice_index, slice_index_or, if◌then◌else◌}
 use Rattle.std.specs.List.{sum_by}
-use Rattle.std.proofs.Math.Nat.{pow-le-pow_right}
+use Rattle.std.proofs.Math.Nat.{pow-le-pow_right, div-eq_of_lt}
 use Rattle.std.proofs.lemmas.Grind.{get_or_default_zero}
 use Rattle.std.proofs.lemmas.Bool.{cases_eq, cases_lt, eq-eqb, ne_eqb}
 use Rattle.std.proofs.lemmas.Nat.{mod-pow-add, mul-le}
@@ -47,6 +47,21 @@ adds-push old now new c n k digit is small pushed adds =
 
     more : (d : ℕ) → sum_by (weight_in d) new ≡ sum_by (weight_in d) now + weight_in d (c * 2048 + k * 256 + digit)
     more d = ap (sum_by (weight_in d)) pushed ∙ sum_by_push (weight_in d) now (c * 2048 + k * 256 + digit)
+
+-- The digits below a place are entered, by no more names than these.
+pub record EntersDigits (old now : List ℕ) (c times place : ℕ) : Type 0 where
+  pub adds : AddsWeight old now c (times % 2 ^ (8 * place))
+  pub few : length now ≤ length old + place
+  pub needed : (n : ℕ) → times < 2 ^ (8 * n) → place ≤ n
+
+-- A digit is entered only where the number has more.
+pub digits-reach : (times k : ℕ) → times / 2 ^ (8 * k) ≢ 0 → (n : ℕ) → times < 2 ^ (8 * n) → k + 1 ≤ n
+digits-reach times k some n lt = elim (cases_lt k n) [
+  | inl less ↦ omega (arith, less)
+  | inr le ↦
+      let most : 2 ^ (8 * n) ≤ 2 ^ (8 * k) = pow-le-pow_right (omega arith) (let low : 8 * n ≤ 8 * k = omega (arith, le) in low) in
+      absurd (some (div-eq_of_lt (let short : times < 2 ^ (8 * k) = omega (arith, lt, most) in short)))
+]
 
 -- A sum of names is far from 128 bits.
 pub weight-few : (c : ℕ) (list : List ℕ) → length list < 2 ^ 63 → weight_of list c + 2 ^ 63 ≤ 2 ^ 127

@@ -1,5 +1,5 @@
 -- How often each cluster is named, as the checker keeps it: by cells and lists of names, which are summed.
-use Rattle.std.specs.Prelude.{◌≡◌, ◌≢◌, ℕ, ◌+◌, ◌*◌, ◌/◌, ◌%◌, ◌^◌, ◌<◌, ◌&&◌, ◌==◌, nat_lt, nat_le, if◌then◌else◌, List, length, slice_index_or}
+use Rattle.std.specs.Prelude.{◌≡◌, ◌≢◌, ℕ, ◌+◌, ◌*◌, ◌/◌, ◌%◌, ◌^◌, ◌<◌, ◌≤◌, ◌&&◌, ◌==◌, nat_lt, nat_le, if◌then◌else◌, List, length, slice_index_or}
 use Rattle.std.specs.List.{sum_by}
 use Rattle.std.specs.List.Sorted.{IsNonDecreasingBy}
 use Rattle.qcow2_types.specs.Header.{Fields}
@@ -134,6 +134,10 @@ HasRoomAt names c more = (c < length names.cells.items) × HasRoom (cell_at name
 pub record AddsWeight (old new : List ℕ) (c times : ℕ) : Type 0 where
   pub here : weight_of new c ≡ weight_of old c + times
   pub others : (d : ℕ) → d ≢ c → weight_of new d ≡ weight_of old d
+
+-- and by no more names than the number has digits to the base of 256
+abbrev pub TakesFew : List ℕ → List ℕ → ℕ → Type 0
+TakesFew old new times = (n : ℕ) → times < 2 ^ (8 * n) → length new ≤ length old + n
 
 -- and in the lists
 pub record AddsEntry (old new : Others) (c : ℕ) (times : Times) : Type 0 where

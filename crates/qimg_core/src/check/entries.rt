@@ -1,7 +1,7 @@
 // Lists of names. A name is 2048 times its cluster, 256 times a place below 8, and a digit below 256: it counts for the digit at
 // that place of a number to the base of 256.
 ghost use Rattle.std.specs.Prelude.{◌≡◌, ℕ, ◌+◌, ◌*◌, ◌/◌, ◌<◌, ◌≤◌, ◌^◌, length, slice_index, nat_lt, OnOk, IsOkUnless};
-ghost use Rattle.qimg_core.specs.Names.{AddsWeight, IsRising, weight_of};
+ghost use Rattle.qimg_core.specs.Names.{AddsWeight, TakesFew, IsRising, weight_of};
 ghost use Rattle.qimg_core.specs.Searches.{IsNextIn};
 
 use super::CheckFault;
@@ -10,6 +10,7 @@ use super::CheckFault;
 pub fn enter(list: &mut Vec<u64>, cluster: u64, times: u64) -> Result<(), CheckFault>
     requires { cluster < 2 ^ 53 }
     ensures ok { OnOk result (AddsWeight list.old.items list.new.items cluster times) }
+    ensures few { OnOk result (TakesFew list.old.items list.new.items times) }
     ensures err { IsOkUnless result CheckFault.Memory }
 {
     for place in 0..8 {
