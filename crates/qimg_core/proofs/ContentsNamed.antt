@@ -19,11 +19,11 @@ use Rattle.qimg_core.specs.declared.check.CheckFault.{CheckFault}
 use Rattle.qimg_core.specs.declared.check.CheckFault.TheVariants.{Table, Memory, Storage}
 use Rattle.qimg_core.specs.declared.check.names.Tallies.{Tallies}
 use Rattle.qimg_core.specs.Files.{file}
-use Rattle.qimg_core.specs.Names.{Adds, KeepsCells, nothing_named, named_by, structure_part, mapped_part, copied_part}
+use Rattle.qimg_core.specs.Names.{KeepsCells, named_by, structure_part, mapped_part, copied_part}
 use Rattle.qimg_core.specs.CheckParts.{IsDamagedTable, IsOneDamaged, AreTables, sum_over}
 use Rattle.qimg_core.specs.Check.{Found}
 use Rattle.qimg_core.proofs.PlacesNamed.{places-step}
-use Rattle.qimg_core.proofs.TableNamed.{AddsTable}
+use Rattle.qimg_core.specs.Entering.{AddsTable, AddsTables}
 
 -- What the tables at the first i places name is entered, but for the last of them, so many, which are all at the place that follows.
 pub record NamedTo (old now : StorageState) (h : Fields) (before names : Tallies) (places : List ℕ) (times i : ℕ) : Type 0 where
@@ -112,7 +112,7 @@ module _ (old now : StorageState) (h : Fields) (before names : Tallies) (places 
 
   -- At the end all is entered, whatever the order of the places.
   module _ (all : i ≡ length places) (given : List ℕ) (permuted : IsPermutation given places) where
-    pub named-all : Adds h before names nothing_named (λ w. sum_over (of_table (file old) h (of_mapping h w)) given) (λ w. sum_over (of_table (file old) h (of_copied h w)) given)
+    pub named-all : AddsTables (file old) h before names given
     named-all = record {
       structure = λ c. so_far.structure c ∙ omega arith;
       mapped = λ c. whole (of_table (file old) h (of_mapping h (meets h c))) _ _ (so_far.mapped c);

@@ -10,8 +10,9 @@ use Rattle.qcow2_types.specs.Counts.{block_at}
 use Rattle.qcow2_types.specs.References.{Weight, meets, of_cluster, of_mapping, of_copied, of_table, of_table_or_none, structure, contents}
 use Rattle.qcow2_types.proofs.Sums.{sum-same}
 use Rattle.qimg_core.specs.declared.check.names.Tallies.{Tallies}
-use Rattle.qimg_core.specs.Names.{Adds, TellsNothing, nothing_named, named_by, structure_part, mapped_part, copied_part}
+use Rattle.qimg_core.specs.Names.{TellsNothing, named_by, structure_part, mapped_part, copied_part}
 use Rattle.qimg_core.specs.CheckParts.{Tells, HoldsPlaces, tables_of, sum_over, structure_over}
+use Rattle.qimg_core.specs.Entering.{AddsStructure, AddsTables}
 use Rattle.qimg_core.proofs.ScanLemmas.{not-same}
 use Rattle.qimg_core.proofs.TablesListed.{sum-tables, sum-list}
 
@@ -40,8 +41,7 @@ module _ (f : Bytes) (H : Header) (tables blocks : List ℕ) (holds : HoldsPlace
       let b : sum_over (of_cluster H.fields w) tables ≡ sum_below H.fields.l1_entries (λ i. of_cluster H.fields w (l2_table f H.fields i)) = tables-listed w in
       omega arith
 
-  module _ (start between given : Tallies) (none : TellsNothing start) (adds-structure : Adds H.fields start between (λ w. structure_over H.fields tables blocks w) nothing_named nothing_named)
-      (adds-contents : Adds H.fields between given nothing_named (λ w. sum_over (of_table f H.fields (of_mapping H.fields w)) tables) (λ w. sum_over (of_table f H.fields (of_copied H.fields w)) tables)) where
+  module _ (start between given : Tallies) (none : TellsNothing start) (adds-structure : AddsStructure H.fields start between tables blocks) (adds-contents : AddsTables f H.fields between given tables) where
     -- What is entered then is what the image names.
     told-structure : (c : ℕ) → named_by structure_part c given ≡ structure f H.fields (meets H.fields c)
     told-structure c =

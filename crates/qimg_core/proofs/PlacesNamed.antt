@@ -8,12 +8,13 @@ use Rattle.std.proofs.lemmas.Bool.{ne_eqb}
 use Rattle.qcow2_types.specs.Header.{Fields, cluster_size}
 use Rattle.qcow2_types.specs.References.{meets, of_cluster}
 use Rattle.qimg_core.specs.declared.check.names.Tallies.{Tallies}
-use Rattle.qimg_core.specs.Names.{Adds, nothing_named}
+use Rattle.qimg_core.specs.declared.check.names.Times.{Times}
+use Rattle.qimg_core.specs.Entering.{AddsRange, AddsPlaces, AddsStart, AddsStructure}
 use Rattle.qimg_core.specs.CheckParts.{sum_over, structure_over}
 
--- the clusters at these places are added
-abbrev pub AddsPlaces : Fields → Tallies → Tallies → List ℕ → Type 0
-AddsPlaces h old new places = Adds h old new (λ w. sum_over (of_cluster h w) places) nothing_named nothing_named
+-- once, as a part of the structure
+abbrev once : Times
+once = record { structure = 1; mapped = 0; copied = 0 }
 
 pub places-step : (of : ℕ → ℕ) (places : List ℕ) (i : ℕ) → i < length places → sum_over of (take (i + 1) places) ≡ sum_over of (take i places) + of (slice_index places i)
 places-step of places i lt = ap (sum_by of) (take_more places i 0 lt) ∙ sum_by_push of (take i places) (slice_index places i)
@@ -32,7 +33,7 @@ adds-no-place h old now places i lt none adds = record {
     nothing c a b p q = let zero : of_cluster h (meets h c) (slice_index places i) ≡ 0 = ap (of_cluster h (meets h c)) none in omega arith
 
 pub adds-place : (h : Fields) (old now new : Tallies) (places : List ℕ) (i place : ℕ) → i < length places → slice_index places i ≡ place → place ≢ 0 → AddsPlaces h old now (take i places)
-    → Adds h now new (λ w. 1 * w place (cluster_size h)) (λ w. 0 * w place (cluster_size h)) (λ w. 0 * w place (cluster_size h)) → AddsPlaces h old new (take (i + 1) places)
+    → AddsRange h now new place (cluster_size h) once → AddsPlaces h old new (take (i + 1) places)
 adds-place h old now new places i place lt is some before here = record {
   structure = λ c. more c _ _ _ (here.structure c) (before.structure c);
   mapped = λ c. as-before _ _ _ _ (here.mapped c) (before.mapped c);
@@ -60,10 +61,10 @@ adds-all-places h old new places i all adds = subst (AddsPlaces h old new) (take
 
 -- The start, the blocks and the tables, one after the other, are the structure.
 pub adds_structure : (h : Fields) (old start with_blocks new : Tallies) (tables blocks : List ℕ)
-    → Adds h old start (λ w. w 0 (cluster_size h) + w h.l1_offset (h.l1_entries * 8) + w h.refcount_table_offset (h.refcount_table_clusters * cluster_size h)) nothing_named nothing_named
-    → Adds h start with_blocks (λ w. sum_over (of_cluster h w) blocks) nothing_named nothing_named
-    → Adds h with_blocks new (λ w. sum_over (of_cluster h w) tables) nothing_named nothing_named
-    → Adds h old new (λ w. structure_over h tables blocks w) nothing_named nothing_named
+    → AddsStart h old start
+    → AddsPlaces h start with_blocks blocks
+    → AddsPlaces h with_blocks new tables
+    → AddsStructure h old new tables blocks
 unfolding structure_over
 adds_structure h old start with_blocks new tables blocks a b d = record {
   structure = λ c. chain _ _ _ _ _ _ _ (a.structure c) (b.structure c) (d.structure c);

@@ -8,7 +8,8 @@ use Rattle.qcow2_types.specs.Header.{Fields, cluster_size}
 use Rattle.qcow2_types.specs.References.{meets}
 use Rattle.qimg_core.specs.declared.check.names.Tallies.{Tallies}
 use Rattle.qimg_core.specs.declared.check.names.Times.{Times}
-use Rattle.qimg_core.specs.Names.{named_by, structure_part, mapped_part, copied_part, is_between, AddsClusters, Adds}
+use Rattle.qimg_core.specs.Names.{named_by, structure_part, mapped_part, copied_part, is_between, AddsClusters}
+use Rattle.qimg_core.specs.Entering.{AddsRange}
 
 -- a range meets the clusters from that of its first byte to that of its last, with clusters of s bytes
 between : (s c first length : ℕ) → 0 < s → 0 < length
@@ -43,7 +44,7 @@ meets-between h c first length long = between (2 ^ h.cluster_bits) c first lengt
 -- so the clusters of a range are what it adds
 pub adds-range : (h : Fields) (old new : Tallies) (first length low high : ℕ) (times : Times) → 0 < length → low ≡ first / cluster_size h → high ≡ (first + (length - 1)) / cluster_size h
     → AddsClusters old new low (high + 1) times
-    → Adds h old new (λ w. times.structure * w first length) (λ w. times.mapped * w first length) (λ w. times.copied * w first length)
+    → AddsRange h old new first length times
 adds-range h old new first length low high times long at til adds = record {
   structure = λ c. adds.structure c ∙ ap (λ n. named_by structure_part c old + times.structure * n) (sym (same c));
   mapped = λ c. adds.mapped c ∙ ap (λ n. named_by mapped_part c old + times.mapped * n) (sym (same c));

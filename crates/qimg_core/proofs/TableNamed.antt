@@ -20,16 +20,13 @@ use Rattle.qcow2_metadata.proofs.TableFacts.{words_long, words_more}
 use Rattle.qimg_core.specs.declared.check.CheckFault.TheVariants.{Table}
 use Rattle.qimg_core.specs.declared.check.names.Tallies.{Tallies}
 use Rattle.qimg_core.specs.Files.{file}
-use Rattle.qimg_core.specs.Names.{Adds, nothing_named, named_by, mapped_part, copied_part}
+use Rattle.qimg_core.specs.Entering.{AddsWords, AddsTable}
+use Rattle.qimg_core.specs.Names.{named_by, mapped_part, copied_part}
 use Rattle.qimg_core.specs.CheckParts.{IsDamagedTable, words_over, fault_of_load}
 use Rattle.qimg_core.specs.Check.{Found}
 use Rattle.qimg_core.proofs.FewerWords.{past-word}
 use Rattle.qimg_core.proofs.L2Words.{l2-unsound}
 use Rattle.qcow2_types.proofs.WriteBack.{place-whole}
-
--- what an L2 table names is added, so often
-abbrev pub AddsTable : Bytes → Fields → ℕ → Tallies → Tallies → ℕ → Type 0
-AddsTable f h times old new place = Adds h old new nothing_named (λ w. times * of_table f h (of_mapping h w) place) (λ w. times * of_table f h (of_copied h w) place)
 
 -- the sum over the first n words
 words-summed : (f : Bytes) (h : Fields) (of : Mapping → ℕ) (place n : ℕ) → words_over h of (words_in f place n) ≡ sum_below n (λ i. of (l2_mapping f h place i))
@@ -56,7 +53,7 @@ table-summed f h of place words is = ap (words_over h of) is ∙ words-summed f 
 
 -- So the words that are entered are the table's.
 pub adds-table : (f : Bytes) (h : Fields) (times : ℕ) (old new : Tallies) (place : ℕ) (words : List ℕ) → words ≡ words_in f place (words_of_cluster h)
-    → Adds h old new nothing_named (λ w. times * words_over h (of_mapping h w) words) (λ w. times * words_over h (of_copied h w) words) → AddsTable f h times old new place
+    → AddsWords h times old new words → AddsTable f h times old new place
 adds-table f h times old new place words is adds = record {
   structure = adds.structure;
   mapped = λ c. adds.mapped c ∙ ap (λ n. named_by mapped_part c old + times * n) (table-summed f h (of_mapping h (meets h c)) place words is);

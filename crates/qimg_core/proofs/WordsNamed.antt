@@ -10,12 +10,9 @@ use Rattle.qcow2_types.specs.Words.{Mapping, Layout, mapping_of}
 use Rattle.qcow2_types.specs.Header.{Fields, layout_of, words_of_cluster}
 use Rattle.qcow2_types.specs.References.{meets, of_mapping, of_copied}
 use Rattle.qimg_core.specs.declared.check.names.Tallies.{Tallies}
-use Rattle.qimg_core.specs.Names.{Adds, nothing_named, named_by, mapped_part, copied_part}
+use Rattle.qimg_core.specs.Entering.{AddsMapping, AddsWords}
+use Rattle.qimg_core.specs.Names.{named_by, mapped_part, copied_part}
 use Rattle.qimg_core.specs.CheckParts.{words_over}
-
--- what these words name is added, so often
-abbrev pub AddsWords : Fields → ℕ → Tallies → Tallies → List ℕ → Type 0
-AddsWords h times old new words = Adds h old new nothing_named (λ w. times * words_over h (of_mapping h w) words) (λ w. times * words_over h (of_copied h w) words)
 
 -- no words
 words-none : (h : Fields) (of : Mapping → ℕ) (words : List ℕ) → words_over h of (take 0 words) ≡ 0
@@ -41,7 +38,7 @@ adds-no-words h times xs words = record {
     none n {x} e = rw e (grind arith)
 
 pub adds-word : (h : Fields) (times : ℕ) (old now new : Tallies) (words : List ℕ) (i : ℕ) (m : Mapping) → i < length words → m ≡ mapping_of (layout_of h) (slice_index words i) → AddsWords h times old now (take i words)
-    → Adds h now new nothing_named (λ w. times * of_mapping h w m) (λ w. times * of_copied h w m) → AddsWords h times old new (take (i + 1) words)
+    → AddsMapping h times now new m → AddsWords h times old new (take (i + 1) words)
 adds-word h times old now new words i m lt is before here = record {
   structure = λ c. here.structure c ∙ ap (λ n. n + 0) (before.structure c) ∙ omega arith;
   mapped = λ c. more (of_mapping h (meets h c)) _ _ _ (before.mapped c) (here.mapped c);

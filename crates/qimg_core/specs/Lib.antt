@@ -14,5 +14,6 @@ pub mod Plain
 pub mod Names
 pub mod Searches
 pub mod CheckParts
+pub mod Entering
 pub mod Check
 pub mod Worked

@@ -1,6 +1,7 @@
 // How often each host cluster is named.
 ghost use Rattle.std.specs.Prelude.{◌≡◌, ℕ, ◌+◌, ◌*◌, ◌<◌, ◌≤◌, ◌^◌, length, OnOk, IfOk, IfSome, IsSome, IsOkUnless};
-ghost use Rattle.qimg_core.specs.Names.{Adds, AddsClusters, AddsEntry, KeepsCells, IsFewSum, HasRoom, HasRoomAt, AreRising, TellsNothing, all_times, cell_at, times_at as times_told};
+ghost use Rattle.qimg_core.specs.Entering.{AddsRange};
+ghost use Rattle.qimg_core.specs.Names.{AddsClusters, AddsEntry, KeepsCells, IsFewSum, HasRoom, HasRoomAt, AreRising, TellsNothing, all_times, cell_at, times_at as times_told};
 
 use super::CheckFault;
 use super::entries::{enter, weight_at};
@@ -154,7 +155,7 @@ pub fn name_range(
     times: Times,
 ) -> Result<(), CheckFault>
     requires { first + length < 2 ^ 62 }
-    ensures ok { OnOk result (Adds header.now.fields names.old names.new (λ w. times.structure * w first length) (λ w. times.mapped * w first length) (λ w. times.copied * w first length)) }
+    ensures ok { OnOk result (AddsRange header.now.fields names.old names.new first length times) }
     ensures err { IsOkUnless result CheckFault.Memory }
 {
     if length == 0 {

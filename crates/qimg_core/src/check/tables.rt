@@ -5,11 +5,10 @@ ghost use Rattle.qcow2_types.specs.Words.{max_offset, is_place, data_at};
 ghost use Rattle.qcow2_types.specs.Header.{cluster_size, words_of_cluster, layout_of, header_of};
 ghost use Rattle.qcow2_types.specs.Entries.{l1_table_sound, l2_table_sound};
 ghost use Rattle.qcow2_types.specs.Counts.{refcount_table_sound};
-ghost use Rattle.qcow2_types.specs.References.{of_mapping, of_copied, of_cluster, of_table};
 ghost use Rattle.qcow2_metadata.specs.MappingView.{mapping_seen, IsNamed};
 ghost use Rattle.qimg_core.specs.Files.{file};
-ghost use Rattle.qimg_core.specs.Names.{Adds, nothing_named};
-ghost use Rattle.qimg_core.specs.CheckParts.{tables_of, sum_over, structure_over, words_over, AreTables, IsBlocks, HoldsPlaces, IsUnsound, IsDamagedTable, IsOneDamaged};
+ghost use Rattle.qimg_core.specs.Entering.{AddsPlaces, AddsStart, AddsStructure, AddsMapping, AddsWords, AddsTable, AddsTables};
+ghost use Rattle.qimg_core.specs.CheckParts.{tables_of, AreTables, IsBlocks, HoldsPlaces, IsUnsound, IsDamagedTable, IsOneDamaged};
 ghost use Rattle.qimg_core.specs.Check.{Found};
 
 use super::names::{Tallies, Times, name_range};
@@ -116,7 +115,7 @@ pub fn places_of<S: Storage>(
 /// Enters the clusters at these places, as parts of the structure. A place of 0 is none.
 pub fn name_places(names: &mut Tallies, header: &Header, places: &[u64]) -> Result<(), CheckFault>
     requires { (i : ℕ) → slice_index places.now i ≤ max_offset }
-    ensures ok { OnOk result (Adds header.now.fields names.old names.new (λ w. sum_over (of_cluster header.now.fields w) places.now) nothing_named nothing_named) }
+    ensures ok { OnOk result (AddsPlaces header.now.fields names.old names.new places.now) }
     ensures err { IsOkUnless result CheckFault.Memory }
 {
     let size = header.cluster_size() as u64;
@@ -132,7 +131,7 @@ pub fn name_places(names: &mut Tallies, header: &Header, places: &[u64]) -> Resu
 fn name_start(names: &mut Tallies, header: &Header) -> Result<(), CheckFault>
     requires l1 { header.now.fields.l1_offset + header.now.fields.l1_entries * 8 < 2 ^ 62 }
     requires refcounts { header.now.fields.refcount_table_offset + header.now.fields.refcount_table_clusters * cluster_size header.now.fields < 2 ^ 62 }
-    ensures ok { OnOk result (Adds header.now.fields names.old names.new (λ w. w 0 (cluster_size header.now.fields) + w header.now.fields.l1_offset (header.now.fields.l1_entries * 8) + w header.now.fields.refcount_table_offset (header.now.fields.refcount_table_clusters * cluster_size header.now.fields)) nothing_named nothing_named) }
+    ensures ok { OnOk result (AddsStart header.now.fields names.old names.new) }
     ensures err { IsOkUnless result CheckFault.Memory }
 {
     let size = header.cluster_size() as u64;
@@ -155,7 +154,7 @@ pub fn name_structure(
     requires refcounts { header.now.fields.refcount_table_offset + header.now.fields.refcount_table_clusters * cluster_size header.now.fields < 2 ^ 62 }
     requires tables { (i : ℕ) → slice_index places.now.tables.items i ≤ max_offset }
     requires blocks { (i : ℕ) → slice_index places.now.blocks.items i ≤ max_offset }
-    ensures ok { OnOk result (Adds header.now.fields names.old names.new (λ w. structure_over header.now.fields places.now.tables.items places.now.blocks.items w) nothing_named nothing_named) }
+    ensures ok { OnOk result (AddsStructure header.now.fields names.old names.new places.now.tables.items places.now.blocks.items) }
     ensures err { IsOkUnless result CheckFault.Memory }
 {
     name_start(names, header)?;
@@ -171,7 +170,7 @@ fn name_mapping(
     times: u64,
 ) -> Result<(), CheckFault>
     requires { IsNamed header.now.fields.cluster_bits mapping }
-    ensures ok { OnOk result (Adds header.now.fields names.old names.new nothing_named (λ w. times * of_mapping header.now.fields w (mapping_seen mapping)) (λ w. times * of_copied header.now.fields w (mapping_seen mapping))) }
+    ensures ok { OnOk result (AddsMapping header.now.fields times names.old names.new (mapping_seen mapping)) }
     ensures err { IsOkUnless result CheckFault.Memory }
 {
     match mapping {
@@ -210,7 +209,7 @@ fn name_data(
     times: u64,
 ) -> Result<(), CheckFault>
     requires { cluster * 2 ^ header.now.fields.cluster_bits ≤ max_offset }
-    ensures ok { OnOk result (Adds header.now.fields names.old names.new nothing_named (λ w. times * of_mapping header.now.fields w (data_at cluster copied)) (λ w. times * of_copied header.now.fields w (data_at cluster copied))) }
+    ensures ok { OnOk result (AddsMapping header.now.fields times names.old names.new (data_at cluster copied)) }
     ensures err { IsOkUnless result CheckFault.Memory }
 {
     let HostOffset(place) = cluster.offset(header.cluster_bits());
@@ -231,7 +230,7 @@ fn name_words(
 ) -> Result<(), CheckFault>
     requires layout { table.now.layout ≡ layout_of header.now.fields }
     requires whole { length table.now.words ≡ words_of_cluster header.now.fields }
-    ensures ok { OnOk result (Adds header.now.fields names.old names.new nothing_named (λ w. times * words_over header.now.fields (of_mapping header.now.fields w) table.now.words) (λ w. times * words_over header.now.fields (of_copied header.now.fields w) table.now.words)) }
+    ensures ok { OnOk result (AddsWords header.now.fields times names.old names.new table.now.words) }
     ensures err { IsOkUnless result CheckFault.Memory }
 {
     for index in 0..table.entries() {
@@ -251,7 +250,7 @@ fn name_table<S: Storage>(
     names: &mut Tallies,
 ) -> Result<(), CheckFault>
     requires place { IsTrue (is_place header.now.fields.cluster_bits place) }
-    ensures ok { OnOk result (Adds header.now.fields names.old names.new nothing_named (λ w. times * of_table (file (S.state image.old)) header.now.fields (of_mapping header.now.fields w) place) (λ w. times * of_table (file (S.state image.old)) header.now.fields (of_copied header.now.fields w) place)) }
+    ensures ok { OnOk result (AddsTable (file (S.state image.old)) header.now.fields times names.old names.new place) }
     ensures sound { OnOk result (IsTrue (l2_table_sound (file (S.state image.old)) header.now.fields place)) }
     ensures err { IfErr result (Found (S.state image.old) (S.state image.new) (IsDamagedTable (file (S.state image.old)) header.now.fields place)) }
     ensures kept { Kept (S.state image.old) (S.state image.new) }
@@ -276,7 +275,7 @@ pub fn name_contents<S: Storage>(
     names: &mut Tallies,
 ) -> Result<(), CheckFault>
     requires { AreTables header.now.fields.cluster_bits places.items }
-    ensures ok { OnOk result (Adds header.now.fields names.old names.new nothing_named (λ w. sum_over (of_table (file (S.state image.old)) header.now.fields (of_mapping header.now.fields w)) places.items) (λ w. sum_over (of_table (file (S.state image.old)) header.now.fields (of_copied header.now.fields w)) places.items)) }
+    ensures ok { OnOk result (AddsTables (file (S.state image.old)) header.now.fields names.old names.new places.items) }
     ensures sound { OnOk result (All (λ place. IsTrue (l2_table_sound (file (S.state image.old)) header.now.fields place)) places.items) }
     ensures err { IfErr result (Found (S.state image.old) (S.state image.new) (IsOneDamaged (file (S.state image.old)) header.now.fields places.items)) }
     ensures kept { Kept (S.state image.old) (S.state image.new) }

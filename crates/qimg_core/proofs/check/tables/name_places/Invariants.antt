@@ -1,5 +1,5 @@
 use Rattle.std.proofs.Common.{take}
-use Rattle.qimg_core.proofs.PlacesNamed.{AddsPlaces}
+use Rattle.qimg_core.specs.Entering.{AddsPlaces}
 use Rattle.qimg_core.proofs.check.tables.name_places.Given as goal
 
 -- the clusters at the places before this one are entered

@@ -1,5 +1,5 @@
 use Rattle.std.proofs.Common.{take}
-use Rattle.qimg_core.proofs.WordsNamed.{AddsWords}
+use Rattle.qimg_core.specs.Entering.{AddsWords}
 use Rattle.qimg_core.proofs.check.tables.name_words.Given as goal
 
 -- what the words before this one name is entered
